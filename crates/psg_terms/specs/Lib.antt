@@ -1,0 +1,15 @@
+pub mod Terms
+pub mod TermCode
+pub mod Shapes
+pub mod Signature
+pub mod Instances
+pub mod Canonical
+pub mod Kept
+pub mod Sound
+pub mod Sizes
+pub mod Matching
+pub mod Renaming
+pub mod Text
+pub mod Weight
+pub mod Relations
+pub mod formers

@@ -1,0 +1,14 @@
+//! Sorts, terms and canonical rows.
+#![tactic(auto)]
+
+pub mod canonical;
+pub mod matching;
+pub mod seq;
+pub mod sorts;
+pub mod steps;
+pub mod term;
+
+pub use seq::{Seq, Txt};
+pub use sorts::{ConId, Constructor, Declared, Signature, SortId};
+pub use steps::Steps;
+pub use term::{Node, Term};
