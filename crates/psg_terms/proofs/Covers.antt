@@ -3,7 +3,7 @@ use Rattle.std.proofs.Common.{◌≡◌, ℕ, ◌<◌, ◌⊎◌, ◌||◌, Bool
 use Rattle.psg_terms.specs.Terms.{Term, variable, symbol, apply}
 use Rattle.psg_terms.specs.Signature.{Signature, Symbol, HasSort, HaveSorts, Takes, only_constructor}
 use Rattle.psg_terms.specs.Instances.{Substitution, substitute, IsGround, IsSorted, IsGrounding, AllGroundInstancesIn}
-use Rattle.psg_terms.specs.Canonical.{Variable, same_variable, variables, variables_of, is_among, IsWrittenOut, AreWrittenOut}
+use Rattle.psg_terms.specs.Canonical.{Variable, same_variable, variables, variables_of, is_noted, IsWrittenOut, AreWrittenOut}
 use Rattle.psg_terms.proofs.InstanceLaws.{Takes-substitute}
 use Rattle.psg_terms.proofs.Variables.{variable_cases, same_variable-refl, same_variable-sym, true_false}
 use Rattle.psg_terms.proofs.Separate.{Choices, separated, grounding, grounding-at, at, at-here, head, head-substitute, function_of, argument_of}
@@ -45,17 +45,17 @@ pub record IsFine (sig : Signature) (t : Term) : Type 0 where
   pub written : IsWrittenOut sig t
 
 abbrev pub Has : List Variable → Variable → Type 0
-Has xs x = is_among x xs ≡ true
+Has xs x = is_noted x xs ≡ true
 
-pub among-append : (x : Variable) (xs ys : List Variable) → is_among x (xs ++ ys) ≡ (is_among x xs || is_among x ys)
+pub among-append : (x : Variable) (xs ys : List Variable) → is_noted x (xs ++ ys) ≡ (is_noted x xs || is_noted x ys)
 among-append x [] ys = refl
-among-append x (y ∷ xs) ys = elim (same_variable x y) as (λ b. (b || is_among x (xs ++ ys)) ≡ ((b || is_among x xs) || is_among x ys)) [ true ↦ refl | false ↦ among-append x xs ys ]
+among-append x (y ∷ xs) ys = elim (same_variable x y) as (λ b. (b || is_noted x (xs ++ ys)) ≡ ((b || is_noted x xs) || is_noted x ys)) [ true ↦ refl | false ↦ among-append x xs ys ]
 
 pub among-left : (x : Variable) (xs ys : List Variable) → Has xs x → Has (xs ++ ys) x
-among-left x xs ys h = among-append x xs ys ∙ ap (λ b. b || is_among x ys) h
+among-left x xs ys h = among-append x xs ys ∙ ap (λ b. b || is_noted x ys) h
 
 pub among-right : (x : Variable) (xs ys : List Variable) → Has ys x → Has (xs ++ ys) x
-among-right x xs ys h = among-append x xs ys ∙ ap (λ b. is_among x xs || b) h ∙ or_true (is_among x xs)
+among-right x xs ys h = among-append x xs ys ∙ ap (λ b. is_noted x xs || b) h ∙ or_true (is_noted x xs)
 
 -- ground terms have one sort
 pub one_sort : (sig : Signature) (t : Term) (v w : List ℕ) (r s : ℕ) → IsGround t → Takes sig t v r → Takes sig t w s → (v ≡ w) × (r ≡ s)
@@ -101,7 +101,7 @@ module _ (sig : Signature) (k : Choices sig) (pick : (g : Substitution) → IsGr
     pub fine : IsFine sig term
 
   abbrev pub Told : List Variable → (Variable → Option Term) → Variable → Type 0
-  Told xs m x = ((is_among x xs ≡ false) × (m x ≡ None)) ⊎ IsTold m x
+  Told xs m x = ((is_noted x xs ≡ false) × (m x ≡ None)) ⊎ IsTold m x
 
   told_first : (m n : Variable → Option Term) (x : Variable) → IsTold m x → IsTold (λ y. or_else (m y) (n y)) x
   told_first m n x t = record { term = t.term; is = ap (λ o. or_else o (n x)) t.is; follows = t.follows; fine = t.fine }

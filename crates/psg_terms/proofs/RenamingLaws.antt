@@ -3,7 +3,7 @@ use Rattle.std.proofs.Common.{◌≡◌, ℕ, ◌+◌, ◌||◌, true, false, co
 use Rattle.psg_terms.specs.Terms.{Term, variable, symbol, apply, applied}
 use Rattle.psg_terms.specs.Signature.{Signature, only_constructor}
 use Rattle.psg_terms.specs.Instances.{substitute}
-use Rattle.psg_terms.specs.Canonical.{Variable, same_variable, variables, variables_of, is_among, noted, noted_all}
+use Rattle.psg_terms.specs.Canonical.{Variable, same_variable, variables, variables_of, is_noted, noted, noted_all}
 use Rattle.psg_terms.specs.Renaming.{key, keys, place, opens, open_first, written, numbering, Renumbered}
 use Rattle.psg_terms.specs.declared.canonical.Key.{Key}
 use Rattle.psg_terms.proofs.Variables.{cases, same_variable-refl, true_false}
@@ -19,29 +19,29 @@ pub keys-length : (xs : List Key) → length (keys xs) ≡ length xs
 keys-length [] = refl
 keys-length (x ∷ xs) = omega (arith, keys-length xs)
 
-pub place-end : (x : Variable) (xs : List Variable) → is_among x xs ≡ false → place x (xs ++ x ∷ []) ≡ length xs
+pub place-end : (x : Variable) (xs : List Variable) → is_noted x xs ≡ false → place x (xs ++ x ∷ []) ≡ length xs
 place-end x [] h = ap (λ b. cond b 0 1) (same_variable-refl x)
 place-end x (y ∷ ys) h =
     elim (cases (same_variable x y)) [
-      | inl e ↦ absurd (true_false (sym (ap (λ b. b || is_among x ys) e) ∙ h))
-      | inr e ↦ (let later = place-end x ys (ap (λ b. b || is_among x ys) (sym e) ∙ h) in ap (λ b. cond b 0 (place x (ys ++ x ∷ []) + 1)) e ∙ omega arith)
+      | inl e ↦ absurd (true_false (sym (ap (λ b. b || is_noted x ys) e) ∙ h))
+      | inr e ↦ (let later = place-end x ys (ap (λ b. b || is_noted x ys) (sym e) ∙ h) in ap (λ b. cond b 0 (place x (ys ++ x ∷ []) + 1)) e ∙ omega arith)
     ]
 
-pub noted-new : (xs : List Variable) (x : Variable) → is_among x xs ≡ false → noted xs x ≡ xs ++ x ∷ []
+pub noted-new : (xs : List Variable) (x : Variable) → is_noted x xs ≡ false → noted xs x ≡ xs ++ x ∷ []
 noted-new xs x h = ap (λ b. if b then xs else xs ++ x ∷ []) h
 
-pub place-append : (x : Variable) (xs ys : List Variable) → is_among x xs ≡ true → place x (xs ++ ys) ≡ place x xs
+pub place-append : (x : Variable) (xs ys : List Variable) → is_noted x xs ≡ true → place x (xs ++ ys) ≡ place x xs
 place-append x [] ys h = absurd (true_false (sym h))
 place-append x (y ∷ xs) ys h =
     elim (cases (same_variable x y)) [
       | inl e ↦ ap (λ b. cond b 0 (place x (xs ++ ys) + 1)) e ∙ sym (ap (λ b. cond b 0 (place x xs + 1)) e)
-      | inr e ↦ ap (λ b. cond b 0 (place x (xs ++ ys) + 1)) e ∙ ap (λ n. n + 1) (place-append x xs ys (ap (λ b. b || is_among x xs) (sym e) ∙ h)) ∙ sym (ap (λ b. cond b 0 (place x xs + 1)) e)
+      | inr e ↦ ap (λ b. cond b 0 (place x (xs ++ ys) + 1)) e ∙ ap (λ n. n + 1) (place-append x xs ys (ap (λ b. b || is_noted x xs) (sym e) ∙ h)) ∙ sym (ap (λ b. cond b 0 (place x xs + 1)) e)
     ]
 
 -- the longer list has the variables of the shorter one at the same places
 pub record Extends (old new : List Variable) : Type 0 where
-  pub among : (x : Variable) → is_among x old ≡ true → is_among x new ≡ true
-  pub places : (x : Variable) → is_among x old ≡ true → place x new ≡ place x old
+  pub among : (x : Variable) → is_noted x old ≡ true → is_noted x new ≡ true
+  pub places : (x : Variable) → is_noted x old ≡ true → place x new ≡ place x old
 
 pub extends-append : (xs ys : List Variable) → Extends xs (xs ++ ys)
 extends-append xs ys = record { among = λ x h. among-left x xs ys h; places = λ x h. place-append x xs ys h }
@@ -53,21 +53,21 @@ pub extends_trans : (xs ys zs : List Variable) → Extends xs ys → Extends ys 
 extends_trans xs ys zs a b = record { among = λ x h. b.among x (a.among x h); places = λ x h. b.places x (a.among x h) ∙ a.places x h }
 
 pub extends-noted : (xs : List Variable) (y : Variable) → Extends xs (noted xs y)
-extends-noted xs y = elim (is_among y xs) as (λ b. Extends xs (if b then xs else xs ++ y ∷ [])) [ true ↦ extends_refl xs | false ↦ extends-append xs (y ∷ []) ]
+extends-noted xs y = elim (is_noted y xs) as (λ b. Extends xs (if b then xs else xs ++ y ∷ [])) [ true ↦ extends_refl xs | false ↦ extends-append xs (y ∷ []) ]
 
 pub extends-noted_all : (xs ys : List Variable) → Extends xs (noted_all xs ys)
 extends-noted_all xs [] = extends_refl xs
 extends-noted_all xs (y ∷ ys) = extends_trans xs (noted xs y) (noted_all (noted xs y) ys) (extends-noted xs y) (extends-noted_all (noted xs y) ys)
 
-pub among-noted : (xs : List Variable) (x : Variable) → is_among x (noted xs x) ≡ true
+pub among-noted : (xs : List Variable) (x : Variable) → is_noted x (noted xs x) ≡ true
 among-noted xs x =
-    elim (cases (is_among x xs)) [
-      | inl e ↦ ap (λ b. is_among x (if b then xs else xs ++ x ∷ [])) e ∙ e
-      | inr e ↦ ap (λ b. is_among x (if b then xs else xs ++ x ∷ [])) e ∙ among-right x xs (x ∷ []) (ap (λ b. b || false) (same_variable-refl x))
+    elim (cases (is_noted x xs)) [
+      | inl e ↦ ap (λ b. is_noted x (if b then xs else xs ++ x ∷ [])) e ∙ e
+      | inr e ↦ ap (λ b. is_noted x (if b then xs else xs ++ x ∷ [])) e ∙ among-right x xs (x ∷ []) (ap (λ b. b || false) (same_variable-refl x))
     ]
 
 abbrev pub IsAmong : List Variable → Variable → Type 0
-IsAmong xs x = is_among x xs ≡ true
+IsAmong xs x = is_noted x xs ≡ true
 
 pub among-noted_all : (xs ys : List Variable) → Each (IsAmong (noted_all xs ys)) ys
 among-noted_all xs [] = tt

@@ -4,7 +4,7 @@ use Rattle.std.proofs.lemmas.Bool.Decides.{nat_tests}
 use Rattle.psg_terms.specs.Terms.{Term, variable, symbol, apply}
 use Rattle.psg_terms.specs.Signature.{Signature, HasSort, HaveSorts, only_constructor}
 use Rattle.psg_terms.specs.Instances.{Substitution, substitute, IsSorted, IsGrounding, AllGroundInstancesIn}
-use Rattle.psg_terms.specs.Canonical.{Variable, same_variable, variables, variables_of, is_among, noted, noted_all, first_occurrences, IsNumberedFrom, IsWrittenOut, AreWrittenOut, IsCanonical}
+use Rattle.psg_terms.specs.Canonical.{Variable, same_variable, variables, variables_of, is_noted, noted, noted_all, first_occurrences, IsNumberedFrom, IsWrittenOut, AreWrittenOut, IsCanonical}
 use Rattle.psg_terms.specs.Sound.{IsSound}
 use Rattle.psg_terms.specs.Renaming.{place, opens, open_first, written, numbering, Renumbered}
 use Rattle.psg_terms.proofs.Variables.{cases, same_variable-refl, same_variable-true, same_variable-sym, true_false}
@@ -34,12 +34,12 @@ nth d [] i = d
 nth d (x ∷ xs) zero = x
 nth d (x ∷ xs) (suc i) = nth d xs i
 
-pub nth-place : (d x : Variable) (xs : List Variable) → is_among x xs ≡ true → nth d xs (place x xs) ≡ x
+pub nth-place : (d x : Variable) (xs : List Variable) → is_noted x xs ≡ true → nth d xs (place x xs) ≡ x
 nth-place d x [] h = absurd (true_false (sym h))
 nth-place d x (y ∷ ys) h =
     elim (cases (same_variable x y)) [
       | inl e ↦ ap (λ b. nth d (y ∷ ys) (cond b 0 (place x ys + 1))) e ∙ sym (same_variable-true x y e)
-      | inr e ↦ ap (λ b. nth d (y ∷ ys) (cond b 0 (place x ys + 1))) e ∙ ap (nth d (y ∷ ys)) (step (place x ys)) ∙ nth-place d x ys (ap (λ b. b || is_among x ys) (sym e) ∙ h)
+      | inr e ↦ ap (λ b. nth d (y ∷ ys) (cond b 0 (place x ys + 1))) e ∙ ap (nth d (y ∷ ys)) (step (place x ys)) ∙ nth-place d x ys (ap (λ b. b || is_noted x ys) (sym e) ∙ h)
     ] where
       step : (n : ℕ) → n + 1 ≡ suc n
       step n = omega arith
@@ -57,7 +57,7 @@ denumbering-sorted sig base known s m lt = elim (((nth (s, m) known (m - base - 
 of_sort-same : (x : Variable) (m : ℕ) → of_sort x x.0 m ≡ variable x.0 x.1
 of_sort-same x m = let h : (x.0 == x.0) ≡ true = grind (arith, nat_tests) in ap (λ b. cond b (variable x.0 x.1) (variable x.0 m)) h
 
-pub denumbering-place : (base : ℕ) (known : List Variable) (x : Variable) → is_among x known ≡ true → denumbering base known x.0 (base + place x known + 1) ≡ variable x.0 x.1
+pub denumbering-place : (base : ℕ) (known : List Variable) (x : Variable) → is_noted x known ≡ true → denumbering base known x.0 (base + place x known + 1) ≡ variable x.0 x.1
 denumbering-place base known x h =
     let m : ℕ = base + place x known + 1 in
     let k : m - base - 1 ≡ place x known = omega arith in
@@ -78,7 +78,7 @@ agree_in f g (t ∷ row) e = let both = each-front (AgreeAt f g) (variables t) (
 
 -- an open variable is known
 abbrev pub IsKnown : Signature → List Variable → Variable → Type 0
-IsKnown sig known x = only_constructor sig x.0 ≡ None → is_among x known ≡ true
+IsKnown sig known x = only_constructor sig x.0 ≡ None → is_noted x known ≡ true
 
 pub all_known : (sig : Signature) (known xs : List Variable) → Each (IsAmong known) (opens sig xs) → Each (IsKnown sig known) xs
 all_known sig known [] h = tt
@@ -140,38 +140,38 @@ module _ (sig : Signature) (sound : IsSound sig) (base : ℕ) (known : List Vari
   all_open [] = tt
   all_open (x ∷ xs) = elim (only_constructor sig x.0) as (λ o. only_constructor sig x.0 ≡ o → Each IsOpen (open_first o x (opens sig xs))) [ None ↦ λ e. (e, all_open xs) | Some c ↦ λ e. all_open xs ] refl
 
-  pub is_renaming : (x : Variable) → IsOpen x → is_among x known ≡ true → IsRenaming (numbering sig base known) (denumbering base known) renamed x
+  pub is_renaming : (x : Variable) → IsOpen x → is_noted x known ≡ true → IsRenaming (numbering sig base known) (denumbering base known) renamed x
   is_renaming x o i = record { renames = ap (λ c. written c (variable x.0 (base + place x known + 1))) o; back = denumbering-place base known x i; sort = refl }
 
 -- no variable stands twice
 abbrev pub IsDistinct : List Variable → Type 0
 IsDistinct [] = Unit {0}
-IsDistinct (x ∷ xs) = (is_among x xs ≡ false) × IsDistinct xs
+IsDistinct (x ∷ xs) = (is_noted x xs ≡ false) × IsDistinct xs
 
 abbrev DiffersFrom : Variable → Variable → Type 0
 DiffersFrom y z = same_variable z y ≡ false
 
-others_differ : (y : Variable) (ys : List Variable) → is_among y ys ≡ false → Each (DiffersFrom y) ys
+others_differ : (y : Variable) (ys : List Variable) → is_noted y ys ≡ false → Each (DiffersFrom y) ys
 others_differ y [] h = tt
 others_differ y (z ∷ zs) h =
     elim (cases (same_variable y z)) [
-      | inl e ↦ absurd (true_false (sym (ap (λ b. b || is_among y zs) e) ∙ h))
-      | inr e ↦ (same_variable-sym y z e, others_differ y zs (ap (λ b. b || is_among y zs) (sym e) ∙ h))
+      | inl e ↦ absurd (true_false (sym (ap (λ b. b || is_noted y zs) e) ∙ h))
+      | inr e ↦ (same_variable-sym y z e, others_differ y zs (ap (λ b. b || is_noted y zs) (sym e) ∙ h))
     ]
 
-distinct-end : (xs : List Variable) (x : Variable) → IsDistinct xs → is_among x xs ≡ false → IsDistinct (xs ++ x ∷ [])
+distinct-end : (xs : List Variable) (x : Variable) → IsDistinct xs → is_noted x xs ≡ false → IsDistinct (xs ++ x ∷ [])
 distinct-end [] x d h = (refl, tt)
 distinct-end (y ∷ ys) x (o, d) h =
     elim (cases (same_variable x y)) [
-      | inl e ↦ absurd (true_false (sym (ap (λ b. b || is_among x ys) e) ∙ h))
+      | inl e ↦ absurd (true_false (sym (ap (λ b. b || is_noted x ys) e) ∙ h))
       | inr e ↦ (
         among-append y ys (x ∷ []) ∙ ap₂ (λ a b. a || b) o (ap (λ b. b || false) (same_variable-sym x y e)),
-        distinct-end ys x d (ap (λ b. b || is_among x ys) (sym e) ∙ h),
+        distinct-end ys x d (ap (λ b. b || is_noted x ys) (sym e) ∙ h),
       )
     ]
 
 distinct-noted : (xs : List Variable) (x : Variable) → IsDistinct xs → IsDistinct (noted xs x)
-distinct-noted xs x d = elim (is_among x xs) as (λ b. is_among x xs ≡ b → IsDistinct (if b then xs else xs ++ x ∷ [])) [ true ↦ λ e. d | false ↦ λ e. distinct-end xs x d e ] refl
+distinct-noted xs x d = elim (is_noted x xs) as (λ b. is_noted x xs ≡ b → IsDistinct (if b then xs else xs ++ x ∷ [])) [ true ↦ λ e. d | false ↦ λ e. distinct-end xs x d e ] refl
 
 pub distinct-noted_all : (seen xs : List Variable) → IsDistinct seen → IsDistinct (noted_all seen xs)
 distinct-noted_all seen [] d = d
@@ -227,12 +227,12 @@ IsAtMost n x = x.1 ≤ n
 abbrev pub IsAbove : ℕ → Variable → Type 0
 IsAbove n x = n < x.1
 
-place-length : (x : Variable) (xs : List Variable) → is_among x xs ≡ true → place x xs < length xs
+place-length : (x : Variable) (xs : List Variable) → is_noted x xs ≡ true → place x xs < length xs
 place-length x [] h = absurd (true_false (sym h))
 place-length x (y ∷ ys) h =
     elim (cases (same_variable x y)) [
       | inl e ↦ subst (λ b. cond b 0 (place x ys + 1) < length (y ∷ ys)) (sym e) (omega arith)
-      | inr e ↦ subst (λ b. cond b 0 (place x ys + 1) < length (y ∷ ys)) (sym e) (omega (arith, place-length x ys (ap (λ b. b || is_among x ys) (sym e) ∙ h)))
+      | inr e ↦ subst (λ b. cond b 0 (place x ys + 1) < length (y ∷ ys)) (sym e) (omega (arith, place-length x ys (ap (λ b. b || is_noted x ys) (sym e) ∙ h)))
     ]
 
 each_renamed : (P : Variable → Type 0) (r : Variable → Variable) (Q : Variable → Type 0) → ((x : Variable) → Q x → P (r x)) → (xs : List Variable) → Each Q xs → Each P (map r xs)

@@ -20,13 +20,13 @@ variables_of (t ∷ row) = variables t ++ variables_of row
 abbrev pub same_variable : Variable → Variable → Bool
 same_variable x y = (x.0 == y.0) && (x.1 == y.1)
 
-abbrev pub is_among : Variable → List Variable → Bool
-is_among x [] = false
-is_among x (y ∷ ys) = same_variable x y || is_among x ys
+abbrev pub is_noted : Variable → List Variable → Bool
+is_noted x [] = false
+is_noted x (y ∷ ys) = same_variable x y || is_noted x ys
 
 -- the list with a variable at its end, unless it has it
 abbrev pub noted : List Variable → Variable → List Variable
-noted seen x = if is_among x seen then seen else seen ++ x ∷ []
+noted seen x = if is_noted x seen then seen else seen ++ x ∷ []
 
 abbrev pub noted_all : List Variable → List Variable → List Variable
 noted_all seen [] = seen

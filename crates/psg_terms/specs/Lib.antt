@@ -1,3 +1,5 @@
+pub mod Names
+pub mod Words
 pub mod Terms
 pub mod TermCode
 pub mod Shapes

@@ -3,7 +3,7 @@ use Rattle.std.specs.Prelude.{ℕ, ◌≡◌, ◌+◌, true, cond, List, [], ◌
 use Rattle.psg_terms.specs.Terms.{Term, variable, symbol}
 use Rattle.psg_terms.specs.Signature.{Signature, only_constructor}
 use Rattle.psg_terms.specs.Instances.{Substitution, substitute}
-use Rattle.psg_terms.specs.Canonical.{Variable, same_variable, is_among, noted_all, variables_of}
+use Rattle.psg_terms.specs.Canonical.{Variable, same_variable, is_noted, noted_all, variables_of}
 use Rattle.psg_terms.specs.declared.canonical.Key.{Key}
 
 abbrev pub key : Key → Variable
@@ -43,4 +43,4 @@ pub record Renumbered (sig : Signature) (base : ℕ) (old new : List Variable) (
 -- each variable of the second list is in the first
 abbrev pub AreKnown : List Variable → List Variable → Type 0
 AreKnown known [] = Unit {0}
-AreKnown known (x ∷ xs) = (is_among x known ≡ true) × AreKnown known xs
+AreKnown known (x ∷ xs) = (is_noted x known ≡ true) × AreKnown known xs

@@ -1,7 +1,7 @@
 //! Rows with new numbers for their variables.
 ghost use Rattle.std.specs.Prelude.{◌≡◌, ◌↔◌, ◌+◌, ◌++◌, ◌∷◌, [], length, map, false, true, IfOk, IsTrue, MatchOption, List, ℕ};
 ghost use Rattle.psg_terms.specs.Terms.{Term as Plain};
-ghost use Rattle.psg_terms.specs.Canonical.{Variable, is_among, noted, IsCanonical};
+ghost use Rattle.psg_terms.specs.Canonical.{Variable, is_noted, noted, IsCanonical};
 ghost use Rattle.psg_terms.specs.Instances.{HasSameInstances};
 ghost use Rattle.psg_terms.specs.Signature.{HaveSorts, AreTerms};
 ghost use Rattle.psg_terms.specs.Renaming.{keys, place, Renumbered};
@@ -19,8 +19,8 @@ pub struct Key {
 
 /// The place of a variable among known ones.
 pub fn place_of(known: &[Key], sort: SortId, number: u32) -> Option<usize>
-    ensures { MatchOption result (is_among (sort.0, number) (keys known.now) ≡ false)
-        (λ i. (is_among (sort.0, number) (keys known.now) ≡ true) × (i ≡ place (sort.0, number) (keys known.now))) }
+    ensures { MatchOption result (is_noted (sort.0, number) (keys known.now) ≡ false)
+        (λ i. (is_noted (sort.0, number) (keys known.now) ≡ true) × (i ≡ place (sort.0, number) (keys known.now))) }
 {
     for i in 0..known.len() {
         if known[i].sort.0 == sort.0 && known[i].number == number {
