@@ -1,0 +1,49 @@
+-- How many nodes a tree has and how deep it is.
+use Rattle.std.specs.Prelude.{ℕ, ◌<◌, ◌+◌, ◌⊎◌, max, length}
+use Rattle.psg_grammar.specs.Fragments.{Fragment, hole, ending, cell, operator, with_child, with_name, with_number, with_text, anything, observed, children_of}
+use Rattle.psg_grammar.specs.declared.limits.TheConstants.{MOST_NODES, MOST_ELEMENTS, MOST_DEPTH}
+
+-- Nodes are placeholders, operators and lists. A list is counted at its end.
+abbrev pub nodes_of : Fragment → ℕ
+nodes_of (hole p) = 1
+nodes_of (ending l u) = 1
+nodes_of (cell l e r) = nodes_of e + nodes_of r
+nodes_of (operator o) = 1
+nodes_of (with_child f t) = nodes_of f + nodes_of t
+nodes_of (with_name f n) = nodes_of f
+nodes_of (with_number f n) = nodes_of f
+nodes_of (with_text f t) = nodes_of f
+nodes_of anything = 1
+nodes_of (observed f) = nodes_of f
+
+-- a leaf has depth 1
+abbrev pub depth_of : Fragment → ℕ
+depth_of (hole p) = 1
+depth_of (ending l u) = 1
+depth_of (cell l e r) = max (depth_of e + 1) (depth_of r)
+depth_of (operator o) = 1
+depth_of (with_child f t) = max (depth_of f) (depth_of t + 1)
+depth_of (with_name f n) = depth_of f
+depth_of (with_number f n) = depth_of f
+depth_of (with_text f t) = depth_of f
+depth_of anything = 1
+depth_of (observed f) = depth_of f
+
+-- some list has too many elements
+abbrev pub HasLongList : Fragment → Type 0
+HasLongList (cell l e r) = (MOST_ELEMENTS < length (children_of (cell l e r))) ⊎ (HasLongList e ⊎ HasLongList r)
+HasLongList (with_child f t) = HasLongList f ⊎ HasLongList t
+HasLongList (with_name f m) = HasLongList f
+HasLongList (with_number f m) = HasLongList f
+HasLongList (with_text f m) = HasLongList f
+HasLongList (observed f) = HasLongList f
+HasLongList (hole p) = ⊥
+HasLongList (ending l u) = ⊥
+HasLongList (operator o) = ⊥
+HasLongList anything = ⊥
+
+abbrev pub IsBig : Fragment → Type 0
+IsBig f = (MOST_NODES < nodes_of f) ⊎ HasLongList f
+
+abbrev pub IsDeep : Fragment → Type 0
+IsDeep f = MOST_DEPTH < depth_of f
