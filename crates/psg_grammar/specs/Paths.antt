@@ -30,6 +30,10 @@ abbrev pub change_at : (Fragment → Fragment) → Path → Fragment → Fragmen
 change_at g [] f = g f
 change_at g (k ∷ path) f = change_child (change_at g path) k f
 
+-- the node with another child of the number
+abbrev pub put_child : Fragment → ℕ → Fragment → Fragment
+put_child new k f = change_child (λ old. new) k f
+
 -- the tree with another one at the path
 abbrev pub replaced : Path → Fragment → Fragment → Fragment
 replaced path new f = change_at (λ old. new) path f
