@@ -17,3 +17,4 @@ pub mod Placed
 pub mod Insertion
 pub mod Sound
 pub mod Printable
+pub mod Marks
