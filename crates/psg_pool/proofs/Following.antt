@@ -1,5 +1,5 @@
 -- Following bindings comes to an end.
-use Rattle.std.proofs.Common.{◌≡◌, inl, inr, ℕ, ◌==◌, Option, Some, None, List, [], ◌∷◌, ◌++◌, take, drop, refl, ap, sym, ◌∙◌, subst}
+use Rattle.std.proofs.Common.{◌≡◌, inl, inr, ℕ, ◌==◌, Some, None, List, [], ◌∷◌, ◌++◌, take, drop, refl, ap, sym, ◌∙◌, subst}
 use Rattle.std.proofs.lemmas.Bool.{eqb-true}
 use Rattle.std.proofs.lemmas.List.{take-append-drop}
 use Rattle.psg_pool.specs.declared.cells.CellId.{CellId}
@@ -54,11 +54,11 @@ ends_apart bs b _ (bound id next e rest) apart =
 
 -- a binding whose target does not lead back to the bound cell keeps all ends
 pub ends_bound : (bs : List Binding) (b : Binding) → ((id : CellId) → Ends bs id) → (Leads bs b.target b.bound → ⊥) → (id : CellId) → Ends bs id
-  → Ends (bs ++ b ∷ []) id
+    → Ends (bs ++ b ∷ []) id
 ends_bound bs b all apart _ (unbound id e) = elim (either (b.bound.0 == id.0)) [
   | inl t ↦
       bound id b.target (target_of-append_none bs (b ∷ []) id e ∙ target_of_here b [] id (eqb-true b.bound.0 id.0 t))
-        (ends_apart bs b b.target (all b.target) apart)
+      (ends_apart bs b b.target (all b.target) apart)
   | inr f ↦ unbound id (target_of-append_none bs (b ∷ []) id e ∙ target_of_there b [] id f)
 ]
 ends_bound bs b all apart _ (bound id next e rest) =

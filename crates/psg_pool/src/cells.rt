@@ -16,7 +16,7 @@ pub enum Cell {
 }
 
 /// A binding: a cell that was put free, and the cell that it stands for.
-#[derive(Clone, Copy, Debug)]
+#[derive(Clone, Copy)]
 pub struct Binding {
     pub bound: CellId,
     pub target: CellId,

@@ -75,6 +75,7 @@ impl Pool {
     pub fn new(alloc: Global) -> Pool
         ensures cells { result.cells ≡ [] }
         ensures bindings { result.bindings ≡ [] }
+        ensures sound { IsSound result }
     {
         Pool {
             slots: Vec::new(alloc),
