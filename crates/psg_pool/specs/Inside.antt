@@ -1,0 +1,10 @@
+-- The fields of a pool, as contracts see them and as they are kept.
+use Rattle.psg_pool.specs.declared.pool.Pool.TheInside.{Inside}
+use Rattle.psg_pool.specs.Bindings.{Kept}
+use Rattle.psg_pool.specs.Layout.{shown, IsInOrder}
+
+abbrev pub kept_of : Inside → Kept
+kept_of p = shown p.slots.items p.arguments.items p.bindings.items
+
+abbrev pub IsKept : Inside → Type 0
+IsKept p = IsInOrder p.slots.items p.arguments.items p.bindings.items
