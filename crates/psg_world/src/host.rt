@@ -6,16 +6,15 @@ ghost use Rattle.psg_world.specs.Files.{front_of};
 use crate::faults::{Fault, keep};
 use crate::world::{Files, ReadStop, Sink, WriteStop};
 use std::alloc::Global;
-use std::fs;
 use std::io::{ErrorKind, Read, Write};
-use std::io;
 use std::marker::Model;
-use std::rt;
+use std::{fs, io, rt};
 
 // How many bytes one read asks for, at most.
 const CHUNK: usize = 8192;
 
-/// The machine's files, by their paths. What they hold isn't told.
+/// The machine's files, by their paths. What they hold isn't told. The room for an entry is taken
+/// before the machine is asked, so that a call which fails there can always keep its entry.
 #[derive(Drop)]
 pub struct HostFiles<'a, R: rt::Files> {
     runtime: &'a R,
@@ -36,7 +35,8 @@ impl<'a, R: rt::Files> Model for HostFiles<'a, R> {
 }
 
 impl<'a, R: rt::Files> HostFiles<'a, R> {
-    /// The files of the machine that `runtime` stands for. The allocator keeps the entries of the calls that fail.
+    /// The files of the machine that `runtime` stands for. Takes no memory; `alloc` keeps the
+    /// entries of the calls that fail.
     pub fn new(alloc: Global, runtime: &'a R) -> Self
         ensures { result ≡ [] }
     {
@@ -53,6 +53,8 @@ impl<'a, R: rt::Files> Files for HostFiles<'a, R> {
 
     ghost faults = { λ files. files };
 
+    /// Reads by chunks of at most 8,192 bytes, and never more than `limit + 1` bytes in all, so a
+    /// file without an end does no harm. A name that isn't there fails.
     fn read(&mut self, alloc: Global, name: &str, limit: usize) -> Result<Vec<u8>, ReadStop> {
         self.faults.try_reserve(1)?;
         let fault = Fault::reading(self.alloc, name)?;
@@ -63,6 +65,7 @@ impl<'a, R: rt::Files> Files for HostFiles<'a, R> {
         result
     }
 
+    /// Cuts the file off before it is written, so a write that fails can leave less than was there.
     fn write(&mut self, _alloc: Global, name: &str, bytes: &[u8]) -> Result<(), WriteStop> {
         self.faults.try_reserve(1)?;
         let fault = Fault::writing(self.alloc, name)?;
@@ -77,7 +80,12 @@ impl<'a, R: rt::Files> Files for HostFiles<'a, R> {
 }
 
 // The front of the machine's file.
-fn read_file<R: rt::Files>(alloc: Global, runtime: &R, name: &str, limit: usize) -> Result<Vec<u8>, ReadStop>
+fn read_file<R: rt::Files>(
+    alloc: Global,
+    runtime: &R,
+    name: &str,
+    limit: usize,
+) -> Result<Vec<u8>, ReadStop>
     ensures within { IfOk result (λ bytes. vec_len bytes ≤ limit + 1) }
 {
     match fs::open(runtime, name) {
@@ -86,10 +94,12 @@ fn read_file<R: rt::Files>(alloc: Global, runtime: &R, name: &str, limit: usize)
     }
 }
 
-// Reads to the end, or until there are more than `limit` bytes, a chunk at a time.
+// Reads to the end, or until there are more than `limit` bytes, a chunk at a time. A read that a
+// signal broke off is tried again.
 fn read_front<S: Read>(alloc: Global, source: &mut S, limit: usize) -> Result<Vec<u8>, ReadStop>
     ensures within { IfOk result (λ bytes. vec_len bytes ≤ limit + 1) }
-    ensures front { IfOk result (λ bytes. IfSome (S.remaining source.old) (λ left. bytes.items ≡ front_of limit left)) }
+    ensures front { IfOk result (λ bytes. IfSome (S.remaining source.old)
+        (λ left. bytes.items ≡ front_of limit left)) }
 {
     let mut bytes = Vec::new(alloc);
     let mut chunk = [0u8; CHUNK];
@@ -137,7 +147,7 @@ impl<'a, R: Print> Sink for HostSink<'a, R> {
 
     ghost faults = { λ sink. sink };
 
-    /// Fails where the output takes nothing or refuses, and then counts it.
+    /// Fails where the output refuses or takes nothing, and counts each time.
     fn put(&mut self, _alloc: Global, bytes: &[u8]) -> Result<usize, WriteStop> {
         match write_some(&mut io::writer(self.runtime), bytes) {
             Some(count) => Ok(count),
@@ -149,11 +159,13 @@ impl<'a, R: Print> Sink for HostSink<'a, R> {
     }
 }
 
-// Writes a front of the bytes and answers its length, or `None` where nothing is written.
+// Writes a front of the bytes and answers its length, or `None` where nothing is written. A write
+// that a signal broke off is tried again.
 fn write_some<W: Write>(output: &mut W, bytes: &[u8]) -> Option<usize>
     ensures some { IfSome result (λ count. 0 < count) }
     ensures within { IfSome result (λ count. count ≤ length bytes.now) }
-    ensures taken { IfSome result (λ count. Appends (W.contents output.old) (W.contents output.new) (take count bytes.now)) }
+    ensures taken { IfSome result (λ count.
+        Appends (W.contents output.old) (W.contents output.new) (take count bytes.now)) }
     ensures kept { IfNone result (Keeps (W.contents output.old) (W.contents output.new)) }
 {
     for _ in 0..u64::MAX {

@@ -12,7 +12,7 @@ use crate::world::{Files, ReadStop, Sink, WriteStop};
 use std::alloc::Global;
 use std::marker::Model;
 
-/// Files in memory, of which some calls are to fail.
+/// Files in memory, of which some calls are to fail. A name that isn't there can't be read.
 #[derive(Drop)]
 pub struct MemFiles {
     alloc: Global,
@@ -29,15 +29,17 @@ impl Model for MemFiles {
     ghost coded = { files_code };
 
     ghost view = { λ files. record {
-        held = files.store;
-        failing = files.calls.failing.items;
-        calls = files.calls.made;
-        faults = files.faults.items } };
+      held = files.store;
+      failing = files.calls.failing.items;
+      calls = files.calls.made;
+      faults = files.faults.items;
+    } };
 }
 
 impl MemFiles {
-    /// Files that hold `held`, of two files of one name the first one. Reads and writes are numbered together, from 1;
-    /// `failing` has the numbers of those that are to fail.
+    /// Files that hold `held`, of two files of one name the first one. Reads and writes are
+    /// numbered together, from 1; `failing` has the numbers of those that are to fail. Takes no
+    /// memory; `alloc` keeps what the files keep later.
     pub fn new(alloc: Global, held: Vec<(String, Vec<u8>)>, failing: Vec<u64>) -> Self
         ensures holds { result.held ≡ held_of held.items }
         ensures failing { result.failing ≡ failing.items }
@@ -52,7 +54,8 @@ impl MemFiles {
         }
     }
 
-    /// The bytes of the file `name`, or `None` where it isn't there. A walk over the files.
+    /// The bytes of the file `name`, or `None` exactly where it isn't there. Takes no memory, and
+    /// is no call that is counted. A walk over the files.
     pub fn held(&self, name: &str) -> Option<&[u8]>
         ensures { option_copied result ≡ map.get self.now.held name.now }
     {
@@ -65,10 +68,11 @@ impl Files for MemFiles {
 
     ghost faults = { λ files. files.faults };
 
-    /// Fails exactly where the call's number is among those that are to fail, or the name isn't there, unless memory
-    /// runs out. A walk over the files and over the numbers.
+    /// Fails exactly where the call's number is among those that are to fail, or the name isn't
+    /// there, unless memory runs out. A walk over the files and over the numbers.
     fn read(&mut self, alloc: Global, name: &str, limit: usize) -> Result<Vec<u8>, ReadStop>
-        ensures front { IfOk result (λ bytes. bytes.items ≡ front_of limit (bytes_of self.old.held name.now)) }
+        ensures front { IfOk result
+            (λ bytes. bytes.items ≡ front_of limit (bytes_of self.old.held name.now)) }
         ensures within { IfOk result (λ bytes. vec_len bytes ≤ limit + 1) }
         ensures entries { self.new.faults ≡ entries_after_read self.old.faults name.now result }
         ensures keeps { self.new.held ≡ self.old.held }
@@ -77,7 +81,9 @@ impl Files for MemFiles {
         ensures read { OnOk result (fails_read self.old name.now ≡ false) }
         ensures failed { IsErrOf result ReadStop.Failed → IsTrue (fails_read self.old name.now) }
     {
-        if !self.calls.next_fails() && let Some(bytes) = self.store.get(name) {
+        if !self.calls.next_fails()
+            && let Some(bytes) = self.store.get(name)
+        {
             return Ok(copy_front(alloc, bytes, limit)?);
         }
         let fault = Fault::reading(self.alloc, name)?;
@@ -85,8 +91,8 @@ impl Files for MemFiles {
         Err(ReadStop::Failed)
     }
 
-    /// Fails exactly where the call's number is among those that are to fail, unless memory runs out; no other name
-    /// changes, and after an `Err` none. A walk over the files and over the numbers.
+    /// Fails exactly where the call's number is among those that are to fail, unless memory runs
+    /// out; after an `Err` no file has changed. A walk over the files and over the numbers.
     fn write(&mut self, _alloc: Global, name: &str, bytes: &[u8]) -> Result<(), WriteStop>
         ensures replaces { OnOk result (self.new.held ≡ map.insert self.old.held name.now bytes.now) }
         ensures others { AgreesOutside name.now self.old.held self.new.held }
@@ -95,7 +101,8 @@ impl Files for MemFiles {
         ensures numbers { self.new.failing ≡ self.old.failing }
         ensures counted { self.new.calls ≡ raised self.old.calls }
         ensures written { OnOk result (is_due self.old.failing self.old.calls ≡ false) }
-        ensures failed { IsErrOf result WriteStop.Failed → IsTrue (is_due self.old.failing self.old.calls) }
+        ensures failed { IsErrOf result WriteStop.Failed
+            → IsTrue (is_due self.old.failing self.old.calls) }
     {
         if self.calls.next_fails() {
             let fault = Fault::writing(self.alloc, name)?;
@@ -121,14 +128,16 @@ impl Model for MemSink {
     ghost Value = { SinkInMemory };
 
     ghost view = { λ sink. record {
-        written = sink.taken.items;
-        failing = sink.calls.failing.items;
-        calls = sink.calls.made;
-        faults = sink.faults } };
+      written = sink.taken.items;
+      failing = sink.calls.failing.items;
+      calls = sink.calls.made;
+      faults = sink.faults;
+    } };
 }
 
 impl MemSink {
-    /// An empty sink. Puts are numbered from 1; `failing` has the numbers of those that are to fail.
+    /// An empty sink. Puts are numbered from 1; `failing` has the numbers of those that are to
+    /// fail. Takes no memory; `alloc` keeps what the sink takes later.
     pub fn new(alloc: Global, failing: Vec<u64>) -> Self
         ensures written { result.written ≡ [] }
         ensures failing { result.failing ≡ failing.items }
@@ -142,7 +151,7 @@ impl MemSink {
         }
     }
 
-    /// All bytes taken so far.
+    /// All bytes taken so far. Takes no memory.
     pub fn written(&self) -> &[u8]
         ensures { result.now ≡ self.now.written }
     {
@@ -155,15 +164,18 @@ impl Sink for MemSink {
 
     ghost faults = { λ sink. sink.faults };
 
-    /// Takes the whole piece. Fails exactly where the call's number is among those that are to fail. A walk over the
-    /// piece and over the numbers.
+    /// Takes the whole piece. Fails exactly where the call's number is among those that are to
+    /// fail. A walk over the piece and over the numbers.
     fn put(&mut self, _alloc: Global, bytes: &[u8]) -> Result<usize, WriteStop>
         requires { 0 < length bytes.now }
         ensures whole { IfOk result (λ count. count ≡ length bytes.now) }
-        ensures takes { self.new.written ≡ (if is_ok result then self.old.written ++ bytes.now else self.old.written) }
-        ensures failed { IsErrOf result WriteStop.Failed ↔ IsTrue (is_due self.old.failing self.old.calls) }
+        ensures takes { self.new.written
+            ≡ (if is_ok result then self.old.written ++ bytes.now else self.old.written) }
+        ensures failed { IsErrOf result WriteStop.Failed
+            ↔ IsTrue (is_due self.old.failing self.old.calls) }
+        ensures raises { self.new.faults ≡ (if is_due self.old.failing self.old.calls
+            then raised self.old.faults else self.old.faults) }
         ensures never_falls { self.old.faults ≤ self.new.faults }
-        ensures raises { self.new.faults ≡ (if is_due self.old.failing self.old.calls then raised self.old.faults else self.old.faults) }
         ensures numbers { self.new.failing ≡ self.old.failing }
         ensures counted { self.new.calls ≡ raised self.old.calls }
     {

@@ -75,6 +75,10 @@ fn position(files: &[(String, Vec<u8>)], name: &str) -> Option<usize>
 pub fn copy_front(alloc: Global, bytes: &[u8], limit: usize) -> Result<Vec<u8>, AllocError>
     ensures { IfOk result (λ front. front.items ≡ front_of limit bytes.now) }
 {
-    let front = if bytes.len() > limit { &bytes[..limit + 1] } else { bytes };
+    let front = if bytes.len() > limit {
+        &bytes[..limit + 1]
+    } else {
+        bytes
+    };
     Vec::from_slice(alloc, front)
 }

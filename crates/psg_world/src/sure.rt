@@ -28,7 +28,8 @@ impl Model for SureFiles {
 }
 
 impl SureFiles {
-    /// Files that hold `held`, of two files of one name the first one.
+    /// Files that hold `held`, of two files of one name the first one. Takes no memory; `alloc`
+    /// keeps what is written later.
     pub fn new(alloc: Global, held: Vec<(String, Vec<u8>)>) -> Self
         ensures { result ≡ held_of held.items }
     {
@@ -38,7 +39,8 @@ impl SureFiles {
         }
     }
 
-    /// The bytes of the file `name`, or `None` where it isn't there. A walk over the files.
+    /// The bytes of the file `name`, or `None` exactly where it isn't there. Takes no memory. A
+    /// walk over the files.
     pub fn held(&self, name: &str) -> Option<&[u8]>
         ensures { option_copied result ≡ map.get self.now name.now }
     {
@@ -51,9 +53,11 @@ impl Files for SureFiles {
 
     ghost faults = { λ _. [] };
 
-    /// Reads a name that isn't there as an empty file. The only error is want of memory. A walk over the files.
+    /// Reads a name that isn't there as an empty file. The only error is want of memory. A walk
+    /// over the files.
     fn read(&mut self, alloc: Global, name: &str, limit: usize) -> Result<Vec<u8>, ReadStop>
-        ensures front { IfOk result (λ bytes. bytes.items ≡ front_of limit (bytes_of self.old name.now)) }
+        ensures front { IfOk result
+            (λ bytes. bytes.items ≡ front_of limit (bytes_of self.old name.now)) }
         ensures within { IfOk result (λ bytes. vec_len bytes ≤ limit + 1) }
         ensures keeps { self.new ≡ self.old }
         ensures sure { IsOkUnless result ReadStop.Memory }
@@ -62,7 +66,7 @@ impl Files for SureFiles {
         Ok(copy_front(alloc, bytes, limit)?)
     }
 
-    /// Changes no other name, and after an `Err` none. The only error is want of memory. A walk over the files.
+    /// The only error is want of memory, and no file has then changed. A walk over the files.
     fn write(&mut self, _alloc: Global, name: &str, bytes: &[u8]) -> Result<(), WriteStop>
         ensures replaces { OnOk result (self.new ≡ map.insert self.old name.now bytes.now) }
         ensures others { AgreesOutside name.now self.old self.new }
@@ -89,7 +93,7 @@ impl Model for SureSink {
 }
 
 impl SureSink {
-    /// An empty sink.
+    /// An empty sink. Takes no memory; `alloc` keeps what the sink takes later.
     pub fn new(alloc: Global) -> Self
         ensures { result ≡ [] }
     {
@@ -98,7 +102,7 @@ impl SureSink {
         }
     }
 
-    /// All bytes taken so far.
+    /// All bytes taken so far. Takes no memory.
     pub fn written(&self) -> &[u8]
         ensures { result.now ≡ self.now }
     {

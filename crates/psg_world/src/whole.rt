@@ -6,8 +6,8 @@ ghost use Rattle.psg_world.specs.Sinks.{HasRisen, TakesFront};
 use crate::world::{Sink, WriteStop};
 use std::alloc::Global;
 
-/// Puts all the bytes, with as many puts as the sink wants; no bytes need no put. After an `Err` a front of them was
-/// taken, and not all.
+/// Puts all the bytes, with as many puts as the sink wants; for no bytes there is no put. After an
+/// `Err` a front of them was taken, and not all. `Failed` is the sink's own, `Memory` too.
 pub fn put_all<O: Sink>(alloc: Global, out: &mut O, bytes: &[u8]) -> Result<(), WriteStop>
     ensures all { OnOk result (O.written out.new ≡ append_known (O.written out.old) bytes.now) }
     ensures front { OnErr result (TakesFront (O.written out.old) bytes.now (O.written out.new)) }

@@ -64,7 +64,7 @@ impl<T: Drop> From<AllocFailed<T>> for WriteStop {
     }
 }
 
-/// Named files.
+/// Named files. A name is text; what a call keeps of it are its bytes.
 pub trait Files {
     // the bytes of each file by its name, where that is told
     ghost holds: { Self → Option Held };
@@ -72,8 +72,10 @@ pub trait Files {
     // the calls that failed, the first one first
     ghost faults: { Self → List Entry };
 
-    /// Reads the file `name`: the whole of it where it has at most `limit` bytes, otherwise its first `limit + 1` bytes,
-    /// so a result longer than `limit` says that the file is too long. A name that isn't there reads as empty, or fails.
+    /// Reads the file `name`: the whole of it where it has at most `limit` bytes, otherwise its
+    /// first `limit + 1` bytes, so a result longer than `limit` says that the file is too long.
+    /// A name that isn't there reads as an empty file, or fails. `Failed` adds an entry of this
+    /// read to the faults, `Memory` adds none.
     fn read(&mut self, alloc: Global, name: &str, limit: usize) -> Result<Vec<u8>, ReadStop>
         ensures front { IfOk result (λ bytes. IfSome (holds self.old)
             (λ held. bytes.items ≡ front_of limit (bytes_of held name.now))) }
@@ -81,11 +83,12 @@ pub trait Files {
         ensures keeps { holds self.new ≡ holds self.old }
         ensures entries { faults self.new ≡ entries_after_read (faults self.old) name.now result };
 
-    /// Makes `bytes` the whole of the file `name`, which is made where it isn't there. After an `Err` nothing is known of
-    /// this file, and the others stand.
+    /// Makes `bytes` the whole of the file `name`, which is made where it isn't there. After an
+    /// `Err` nothing is known of this file; the others stand in any case. `Failed` adds an entry
+    /// of this write to the faults, `Memory` adds none.
     fn write(&mut self, alloc: Global, name: &str, bytes: &[u8]) -> Result<(), WriteStop>
-        ensures replaces { OnOk result
-            (holds self.new ≡ option_map (λ held. map.insert held name.now bytes.now) (holds self.old)) }
+        ensures replaces { OnOk result (holds self.new
+            ≡ option_map (λ held. map.insert held name.now bytes.now) (holds self.old)) }
         ensures others { OthersStand name.now (holds self.old) (holds self.new) }
         ensures entries { faults self.new ≡ entries_after_write (faults self.old) name.now result };
 }
@@ -98,12 +101,14 @@ pub trait Sink {
     // how often a put failed
     ghost faults: { Self → ℕ };
 
-    /// Takes a front of the piece, at least one byte, and answers its length. After an `Err` nothing is taken.
+    /// Takes a front of the piece, at least one byte, and answers its length. After an `Err`
+    /// nothing is taken. `Failed` raises the count of faults.
     fn put(&mut self, alloc: Global, bytes: &[u8]) -> Result<usize, WriteStop>
         requires { 0 < length bytes.now }
         ensures some { IfOk result (λ count. 0 < count) }
         ensures within { IfOk result (λ count. count ≤ length bytes.now) }
         ensures takes { written self.new ≡ written_after_put (written self.old) bytes.now result }
-        ensures failed { IsErrOf result WriteStop.Failed → HasRisen (faults self.old) (faults self.new) }
+        ensures failed { IsErrOf result WriteStop.Failed
+            → HasRisen (faults self.old) (faults self.new) }
         ensures never_falls { faults self.old ≤ faults self.new };
 }

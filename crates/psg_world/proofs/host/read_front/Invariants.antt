@@ -5,4 +5,5 @@ use Rattle.psg_world.proofs.host.read_front.Given as goal
 abbrev pub invariant-loop : goal.invariant-loop
 invariant-loop g l = record {
   within : vec_len l.bytes ≤ l.limit + 1;
-  taken : Consumes (g.S.Read.remaining l.initial.source) (g.S.Read.remaining l.source) l.bytes.items }
+  taken : Consumes (g.S.Read.remaining l.initial.source) (g.S.Read.remaining l.source) l.bytes.items;
+}

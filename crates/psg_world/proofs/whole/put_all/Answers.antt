@@ -7,4 +7,5 @@ pub loop-taken-preserved : goal.loop-taken-preserved
 loop-taken-preserved g c = record {
   within = omega (arith, length-drop {A = ℕ}, c.in_ok-taken.ensures.within);
   put = take_more_known _ _ _ c.args.bytes.now _ _ c.loop-taken.invariant.put (rw take_rest at c.in_ok-taken.ensures.takes);
-  counted = omega (arith, c.in_ok-taken.ensures.never_falls) }
+  counted = omega (arith, c.in_ok-taken.ensures.never_falls);
+}

@@ -6,7 +6,7 @@ pub returns-in-Some : goal.returns-in-Some
 returns-in-Some c =
     let place = rw c.deref.ensures.value at c.in-Some.ensures.found in
     rw (c.as_slice.ensures.value, ← c.self.view_is)
-      (ap (λ file. Some file.1.items) c.index.ensures ∙ sym (get-place _ _ _ c.index.result.now place))
+    (ap (λ file. Some file.1.items) c.index.ensures ∙ sym (get-place _ _ _ c.index.result.now place))
 
 pub returns-in-None : goal.returns-in-None
 returns-in-None c =

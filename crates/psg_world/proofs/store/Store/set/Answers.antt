@@ -8,13 +8,13 @@ changed c =
     let place = rw c.deref.ensures.value at c.in-Some.ensures.found in
     let named = ap (λ file. string_bytes file.0) c.index_mut.ensures.value ∙ place.same c.index_mut.result.now in
     rw (← c.self.view_is, ← c.in_ok-bytes.ensures.items)
-      (held-set _ _ _ (c.index_mut.result.now.0, c.in_ok-bytes.bytes) place named)
+    (held-set _ _ _ (c.index_mut.result.now.0, c.in_ok-bytes.bytes) place named)
 
 added : goal.returns-in_ok-push-in-None-clause-ok
 added c =
     rw (c.in_ok-push-in-None.ensures.items, ← c.self.view_is, ← c.in_ok-bytes.ensures.items)
-      (held-push _ _ (c.in_ok-from_str-in-None.field-0, c.in_ok-bytes.bytes) (rw c.deref.ensures.value at c.in-None.ensures.absent)
-        c.in_ok-from_str-in-None.ensures.ok)
+    (held-push _ _ (c.in_ok-from_str-in-None.field-0, c.in_ok-bytes.bytes) (rw c.deref.ensures.value at c.in-None.ensures.absent)
+    c.in_ok-from_str-in-None.ensures.ok)
 
 pub returns-in-Some-clause-ok : goal.returns-in-Some-clause-ok
 returns-in-Some-clause-ok c = changed c
