@@ -25,7 +25,8 @@ same-is_name : (a b : List ℕ) → is_name a b ≡ true → a ≡ b
 same-is_name a b told = (bytes_eq-Decides a b).0 (texts_ties a b ∙ told)
 
 -- a tested list: the first file has the name, or the others are to be asked
-one_absent : (test : Bool) (bytes : List ℕ) (others : Option (List ℕ)) → cond test (Some bytes) others ≡ None → (test ≡ false) × (others ≡ None)
+one_absent : (test : Bool) (bytes : List ℕ) (others : Option (List ℕ))
+    → cond test (Some bytes) others ≡ None → (test ≡ false) × (others ≡ None)
 one_absent true bytes others e = absurd cc
 one_absent false bytes others e = (refl, e)
 
@@ -43,7 +44,8 @@ shadowed : (a : Bool) (x y : Option (List ℕ)) (z : Option (List ℕ)) → cond
 shadowed true x y z = refl
 shadowed false x y z = refl
 
-swapped : (a b : Bool) (x y z : Option (List ℕ)) → (a ≡ true → b ≡ true → ⊥) → cond a x (cond b y z) ≡ cond b y (cond a x z)
+swapped : (a b : Bool) (x y z : Option (List ℕ)) → (a ≡ true → b ≡ true → ⊥)
+    → cond a x (cond b y z) ≡ cond b y (cond a x z)
 swapped true true x y z apart = absurd (apart refl refl)
 swapped true false x y z apart = refl
 swapped false b x y z apart = refl
@@ -65,12 +67,14 @@ find-set (f ∷ fs) (suc i) name d new q within same first named =
 pub get-place : (files : List File) (index : ℕ) (name : List ℕ) (d : File) → IsPlaceOf name files index
     → map.get (held_of files) name ≡ Some (get_or files index d).1.items
 get-place files index name d place =
-    map.get-from_entries nat_list_cmp_total (entries_of files) name ∙ find-place files index name d place.within (place.same d) place.first
+    map.get-from_entries nat_list_cmp_total (entries_of files) name
+    ∙ find-place files index name d place.within (place.same d) place.first
 
 pub get-absent : (files : List File) (name : List ℕ) → IsAbsent name files → map.get (held_of files) name ≡ None
 get-absent files name absent = map.get-from_entries nat_list_cmp_total (entries_of files) name ∙ absent
 
-pub held-set : (files : List File) (index : ℕ) (name : List ℕ) (new : File) → IsPlaceOf name files index → string_bytes new.0 ≡ name
+pub held-set : (files : List File) (index : ℕ) (name : List ℕ) (new : File)
+    → IsPlaceOf name files index → string_bytes new.0 ≡ name
     → held_of (set files index new) ≡ map.insert (held_of files) name new.1.items
 held-set files index name new place named =
     map.same_map nat_list_cmp_total (map.slice_cmp-IsAntisymmetric map.nat_cmp-IsAntisymmetric) _ _ (λ q.
@@ -83,7 +87,8 @@ held-set files index name new place named =
 pub insert-others : (held : Held) (name bytes : List ℕ) → AgreesOutside name held (map.insert held name bytes)
 insert-others held name bytes other apart =
     map.get-insert nat_list_cmp_total held name bytes other
-    ∙ elim (is_name other name) as (λ t. is_name other name ≡ t → cond t (Some bytes) (map.get held other) ≡ map.get held other) [
+    ∙ elim (is_name other name) as (λ t. is_name other name ≡ t
+    → cond t (Some bytes) (map.get held other) ≡ map.get held other) [
       | true ↦ λ told. absurd (apart (same-is_name other name told))
       | false ↦ λ told. refl
     ] refl
@@ -96,11 +101,14 @@ pub held-push : (files : List File) (name : List ℕ) (new : File) → IsAbsent 
     → held_of (files ++ new ∷ []) ≡ map.insert (held_of files) name new.1.items
 held-push files name new absent named =
     rw (entries_of-append files (new ∷ []), named)
-    (map.from_entries_push nat_list_cmp_total (map.slice_cmp-IsAntisymmetric map.nat_cmp-IsAntisymmetric) (entries_of files) name new.1.items absent)
+    (map.from_entries_push nat_list_cmp_total (map.slice_cmp-IsAntisymmetric map.nat_cmp-IsAntisymmetric)
+    (entries_of files) name new.1.items absent)
 
-absent-append : (files : List File) (name : List ℕ) (new : File) → IsAbsent name files → string_bytes new.0 ≢ name → IsAbsent name (files ++ new ∷ [])
+absent-append : (files : List File) (name : List ℕ) (new : File)
+    → IsAbsent name files → string_bytes new.0 ≢ name → IsAbsent name (files ++ new ∷ [])
 absent-append [] name new absent other =
-    elim (is_name name (string_bytes new.0)) as (λ t. is_name name (string_bytes new.0) ≡ t → cond t (Some new.1.items) None ≡ None) [
+    elim (is_name name (string_bytes new.0)) as (λ t. is_name name (string_bytes new.0) ≡ t
+    → cond t (Some new.1.items) None ≡ None) [
       | true ↦ λ told. absurd (other (sym (same-is_name name (string_bytes new.0) told)))
       | false ↦ λ told. refl
     ] refl
@@ -109,8 +117,10 @@ absent-append (f ∷ fs) name new absent other =
     rw t.0 (absent-append fs name new t.1 other)
 
 -- the file at the index hasn't the name either
-pub absent-take : (files : List File) (index : ℕ) (name : List ℕ) (file : File) → index < length files → file ≡ get_or files index file
+pub absent-take : (files : List File) (index : ℕ) (name : List ℕ) (file : File)
+    → index < length files → file ≡ get_or files index file
     → IsAbsent name (take index files) → string_bytes file.0 ≢ name → IsAbsent name (take (index + 1) files)
 absent-take files index name file within is absent other =
-    let e : take (index + 1) files ≡ take index files ++ file ∷ [] = rw (add-one, take-suc files index file) (ap (λ f. take index files ++ f ∷ []) (sym is)) in
+    let e : take (index + 1) files ≡ take index files ++ file ∷ [] =
+    rw (add-one, take-suc files index file) (ap (λ f. take index files ++ f ∷ []) (sym is)) in
     subst (IsAbsent name) (sym e) (absent-append (take index files) name file absent other)

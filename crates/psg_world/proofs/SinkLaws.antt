@@ -4,7 +4,8 @@ use Rattle.std.proofs.Math.Seq.{take-add}
 use Rattle.std.specs.Io.KnownBytes.{append_known}
 
 append_known-take : (written : Option (List ℕ)) (bytes : List ℕ) (taken count : ℕ)
-    → append_known (append_known written (take taken bytes)) (take count (drop taken bytes)) ≡ append_known written (take (taken + count) bytes)
+    → append_known (append_known written (take taken bytes)) (take count (drop taken bytes))
+    ≡ append_known written (take (taken + count) bytes)
 append_known-take None bytes taken count = refl
 append_known-take (Some old) bytes taken count = ap Some (rw (append_assoc, take-add taken count bytes) refl)
 
@@ -13,4 +14,5 @@ pub take_more_known : (start before after : Option (List ℕ)) (bytes : List ℕ
     → before ≡ append_known start (take taken bytes) → after ≡ append_known before (take count (drop taken bytes))
     → after ≡ append_known start (take (taken + count) bytes)
 take_more_known start before after bytes taken count first then_ =
-    then_ ∙ ap (λ old. append_known old (take count (drop taken bytes))) first ∙ append_known-take start bytes taken count
+    then_ ∙ ap (λ old. append_known old (take count (drop taken bytes))) first
+    ∙ append_known-take start bytes taken count

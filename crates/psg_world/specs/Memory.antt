@@ -1,5 +1,5 @@
 -- Files and a sink in memory, as contracts see them.
-use Rattle.std.specs.Prelude.{ℕ, ◌+◌, ◌-◌, ◌^◌, ◌==◌, ◌||◌, min, Bool, List, map as map_list, is_none, Vec, refl}
+use Rattle.std.specs.Prelude.{ℕ, ◌==◌, ◌||◌, Bool, List, map as map_list, is_none, Vec, refl}
 use Rattle.std.specs.Coded.{Coded, code_by, coded×, coded_list, coded_ℕ}
 use Rattle.std.specs.declared.alloc.Global.{Global}
 use Rattle.std.specs.declared.string.String.{String}
@@ -7,6 +7,7 @@ use Rattle.std.specs.String.{string_bytes}
 use Rattle.std.specs.List.{list_any}
 use Rattle.std.specs.FinMap as map
 use Rattle.psg_world.specs.Files.{Held, Entry, held_code, entry_code}
+use Rattle.psg_world.specs.Sinks.{raised}
 
 -- Files in memory: what they hold, the numbers of the calls that are to fail, how many calls were made, and the calls
 -- that failed.
@@ -19,7 +20,8 @@ pub record FilesInMemory : Type 0 where
 -- such files are stored as the list of their fields
 abbrev pub files_code : Coded FilesInMemory
 files_code =
-    code_by (Held × (List ℕ × (ℕ × List Entry))) (coded× held_code (coded× (coded_list coded_ℕ) (coded× coded_ℕ (coded_list entry_code))))
+    code_by (Held × (List ℕ × (ℕ × List Entry)))
+    (coded× held_code (coded× (coded_list coded_ℕ) (coded× coded_ℕ (coded_list entry_code))))
     (λ files. (files.held, (files.failing, (files.calls, files.faults))))
     (λ parts. record { held = parts.0; failing = parts.1.0; calls = parts.1.1.0; faults = parts.1.1.1 })
     (λ _. refl)
@@ -31,10 +33,6 @@ pub record SinkInMemory : Type 0 where
   pub failing : List ℕ
   pub calls : ℕ
   pub faults : ℕ
-
--- One more, where a `u64` has one more.
-abbrev pub raised : ℕ → ℕ
-raised count = min (count + 1) (2 ^ 64 - 1)
 
 -- The next call is one that is to fail. The first call has number 1.
 abbrev pub is_due : List ℕ → ℕ → Bool

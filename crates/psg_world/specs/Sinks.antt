@@ -3,9 +3,14 @@ use Rattle.std.specs.Prelude.{ℕ, ◌≡◌, ◌+◌, ◌-◌, ◌^◌, ◌<◌
 use Rattle.std.specs.Io.KnownBytes.{append_known}
 use Rattle.psg_world.specs.declared.world.WriteStop.{WriteStop}
 
--- The count is greater than before, or stands at the last value that a `u64` has, where it cannot rise.
+-- One more, where a `u64` has one more: a count stands still at its last value.
+abbrev pub raised : ℕ → ℕ
+raised count = min (count + 1) (2 ^ 64 - 1)
+
+-- The count is greater than before, or stands at its last value, where it can't be greater. Asking for a
+-- greater count alone would refuse every sink that keeps its count in a `u64`.
 abbrev pub HasRisen : ℕ → ℕ → Type 0
-HasRisen before now = min (before + 1) (2 ^ 64 - 1) ≤ now
+HasRisen before now = raised before ≤ now
 
 -- What is taken, where that is told: the front of the piece that a put counts, and nothing where it stops.
 abbrev pub written_after_put : Option (List ℕ) → List ℕ → Result ℕ WriteStop → Option (List ℕ)

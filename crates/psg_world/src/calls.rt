@@ -1,6 +1,7 @@
 // The count of calls, and which of them are to fail.
 ghost use Rattle.std.specs.Prelude.{◌≡◌};
-ghost use Rattle.psg_world.specs.Memory.{is_due, raised};
+ghost use Rattle.psg_world.specs.Memory.{is_due};
+ghost use Rattle.psg_world.specs.Sinks.{raised};
 
 // Calls numbered from 1, of which some are to fail.
 #[derive(Drop)]

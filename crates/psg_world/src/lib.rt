@@ -19,16 +19,16 @@
 //! | in memory, fails no call; tells its content | `SureFiles` | `SureSink` |
 //!
 //! Contracts see files as two values: `holds`, a finite map from the bytes of a name to the bytes of its file, where
-//! that is told, and `faults`, a list of entries. They see a sink as `written`, the bytes taken, where that is told, and
-//! `faults`, a count.
+//! that is told, and `faults`, a list of entries. They see a sink as `written`, the bytes taken, where that is told,
+//! and `faults`, a count.
 //!
 //! What every implementation keeps:
 //!
 //! - A read or a write answers `Failed` exactly where it adds one entry, of its own kind and name, at the end of
 //!   `faults`. So no failed call of one name excuses another.
 //! - A read leaves `holds` as it was, a write all names but its own. What is told once is told from then on.
-//! - A put answers `Failed` only where the count rose in that call, and nothing is then taken. The count never falls; at
-//!   the last value of a `u64` it counts as risen.
+//! - A put answers `Failed` only where the count rose in that call, and nothing is then taken. The count never falls;
+//!   at the last value of a `u64` it counts as risen.
 //! - `Memory` says that memory ran out, and nothing else: no entry is added and nothing is taken.
 #![tactic(auto)]
 

@@ -3,7 +3,8 @@ ghost use Rattle.std.specs.Prelude.{◌≡◌, ◌+◌, ◌<◌, ◌≤◌, ◌�
 ghost use Rattle.std.specs.Option.{option_copied};
 ghost use Rattle.std.specs.FinMap as map;
 ghost use Rattle.psg_world.specs.Files.{bytes_of, front_of, entries_after_read, entries_after_write, AgreesOutside};
-ghost use Rattle.psg_world.specs.Memory.{held_of, is_due, fails_read, raised};
+ghost use Rattle.psg_world.specs.Memory.{held_of, is_due, fails_read};
+ghost use Rattle.psg_world.specs.Sinks.{raised};
 
 use crate::calls::Calls;
 use crate::faults::Fault;

@@ -13,7 +13,8 @@ changed c =
 added : goal.returns-in_ok-push-in-None-clause-ok
 added c =
     rw (c.in_ok-push-in-None.ensures.items, ← c.self.view_is, ← c.in_ok-bytes.ensures.items)
-    (held-push _ _ (c.in_ok-from_str-in-None.field-0, c.in_ok-bytes.bytes) (rw c.deref.ensures.value at c.in-None.ensures.absent)
+    (held-push _ _ (c.in_ok-from_str-in-None.field-0, c.in_ok-bytes.bytes)
+    (rw c.deref.ensures.value at c.in-None.ensures.absent)
     c.in_ok-from_str-in-None.ensures.ok)
 
 pub returns-in-Some-clause-ok : goal.returns-in-Some-clause-ok
