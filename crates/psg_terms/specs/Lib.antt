@@ -14,4 +14,10 @@ pub mod Renaming
 pub mod Text
 pub mod Weight
 pub mod Relations
+pub mod Declarations
+pub mod Refusals
+pub mod Numbered
+pub mod Marks
+pub mod Keeping
+pub mod Lacks
 pub mod formers

@@ -2,12 +2,15 @@
 #![tactic(auto)]
 
 pub mod canonical;
+pub mod declare;
+mod ground;
 pub mod matching;
 pub mod seq;
 pub mod sorts;
 pub mod steps;
 pub mod term;
 
+pub use declare::{ConDecl, SigFault, SortDecl};
 pub use seq::{Seq, Txt};
 pub use sorts::{ConId, Constructor, Declared, Signature, SortId};
 pub use steps::Steps;

@@ -56,7 +56,13 @@ impl Term {
         ensures { IfOk result (λ t. t ≡ applied (symbol con.0) args.items) }
     {
         Ok(Term {
-            shared: Rc::new(alloc, Node::Con { con, args: Seq::of(args) })?,
+            shared: Rc::new(
+                alloc,
+                Node::Con {
+                    con,
+                    args: Seq::of(args),
+                },
+            )?,
         })
     }
 
