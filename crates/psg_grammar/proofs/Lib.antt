@@ -6,3 +6,4 @@ pub mod CaseSteps
 pub mod CaseEdits
 pub mod CaseLegal
 pub mod CaseRelations
+pub mod CaseSound
