@@ -7,3 +7,4 @@ pub mod CaseEdits
 pub mod CaseLegal
 pub mod CaseRelations
 pub mod CaseSound
+pub mod NamePlaces
