@@ -8,3 +8,6 @@ pub mod CaseLegal
 pub mod CaseRelations
 pub mod CaseSound
 pub mod NamePlaces
+pub mod Closed
+pub mod SoundParts
+pub mod DeclaringLaws
