@@ -10,17 +10,13 @@ use Rattle.psg_grammar.specs.declared.types.Operator.{Operator}
 use Rattle.psg_grammar.specs.declared.types.ListKind.{ListKind}
 use Rattle.psg_grammar.specs.declared.types.Definition.{Definition}
 use Rattle.psg_grammar.specs.Declaring.{is_declaring, declares_within, declares_by, any_item, any_operator, element_declares}
-use Rattle.psg_grammar.specs.Kinds.{HasKind}
+use Rattle.psg_grammar.specs.Kinds.{HasKind, HasSlotKind}
 use Rattle.psg_grammar.proofs.NamePlaces.{either}
 
 abbrev one_if : Bool → ℕ
 one_if true = 1
 one_if false = 0
 
--- a slot is for a kind that is there
-abbrev pub HasSlotKind : Definition → Item → Type 0
-HasSlotKind def (items.Slot k) = HasKind def k
-HasSlotKind def _ = Unit {0}
 
 -- how many numbers below n pass the test
 abbrev below : (ℕ → Bool) → ℕ → ℕ

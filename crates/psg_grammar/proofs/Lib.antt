@@ -11,3 +11,5 @@ pub mod NamePlaces
 pub mod Closed
 pub mod SoundParts
 pub mod DeclaringLaws
+pub mod Increasing
+pub mod TableLaws

@@ -9,9 +9,8 @@ use Rattle.psg_grammar.specs.declared.types.Item.TheVariants as items
 use Rattle.psg_grammar.specs.declared.types.Operator.{Operator}
 use Rattle.psg_grammar.specs.declared.types.ListKind.{ListKind}
 use Rattle.psg_grammar.specs.declared.types.Definition.{Definition}
-use Rattle.psg_grammar.specs.Kinds.{HasKind}
+use Rattle.psg_grammar.specs.Kinds.{HasKind, HasSlotKind}
 use Rattle.psg_grammar.specs.Sound.{IsSound, IsOperator, IsListKind, IsItem, HasKindSort}
-use Rattle.psg_grammar.proofs.Closed.{HasSlotKind}
 
 -- what holds of each element holds of that at a place
 pub each_at : {X : Type 0} (P : X → Type 0) (xs : List X) → AllByRecursion P xs → (k : ℕ) (x : X) → slice_get xs k ≡ Some x → P x

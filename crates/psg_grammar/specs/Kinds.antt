@@ -4,6 +4,8 @@ use Rattle.psg_terms.specs.Names.{Name}
 use Rattle.psg_terms.specs.declared.sorts.SortId.{SortId}
 use Rattle.psg_grammar.specs.declared.types.Kind.{Kind}
 use Rattle.psg_grammar.specs.declared.types.Kind.TheVariants as kinds
+use Rattle.psg_grammar.specs.declared.types.Item.{Item}
+use Rattle.psg_grammar.specs.declared.types.Item.TheVariants as items
 use Rattle.psg_grammar.specs.declared.types.Phylum.{Phylum}
 use Rattle.psg_grammar.specs.declared.types.ListKind.{ListKind}
 use Rattle.psg_grammar.specs.declared.types.Operator.{Operator}
@@ -13,6 +15,11 @@ use Rattle.psg_grammar.specs.declared.types.Definition.{Definition}
 abbrev pub HasKind : Definition → Kind → Type 0
 HasKind def (kinds.Phylum p) = p < length def.phyla
 HasKind def (kinds.List l) = l < length def.lists
+
+-- a slot is for a kind that is there
+abbrev pub HasSlotKind : Definition → Item → Type 0
+HasSlotKind def (items.Slot k) = HasKind def k
+HasSlotKind def _ = Unit {0}
 
 abbrev pub kind_name_of : Definition → Kind → Option Name
 kind_name_of def (kinds.Phylum p) = option_map (λ (k : Phylum). k.name) (slice_get def.phyla p)

@@ -19,3 +19,4 @@ pub mod Sound
 pub mod Printable
 pub mod Kinds
 pub mod Levels
+pub mod DeclaringTables
