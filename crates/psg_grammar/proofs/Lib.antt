@@ -13,3 +13,4 @@ pub mod SoundParts
 pub mod DeclaringLaws
 pub mod Increasing
 pub mod TableLaws
+pub mod PassLaws

@@ -1,18 +1,13 @@
 -- Tables of spaces: what a write changes, and how much they can hold.
-use Rattle.std.proofs.Common.{◌≡◌, ◌≢◌, ◌↔◌, ◌⊎◌, inl, inr, ℕ, zero, suc, ◌+◌, ◌*◌, ◌<◌, ◌≤◌, Bool, true, false, List, [], ◌∷◌, ◌++◌, length, get_or, set, take, Option, Some, None, Ok, Err, slice_get, insert, Contains, All, sum_by, Vec, vec_len, refl, sym, ap, ◌∙◌, subst, true≢false, arith, not-suc-le-zero}
+use Rattle.std.proofs.Common.{◌≡◌, ◌≢◌, ◌⊎◌, inl, inr, ℕ, zero, suc, ◌+◌, ◌*◌, ◌<◌, ◌≤◌, Bool, true, false, List, [], ◌∷◌, ◌++◌, length, get_or, set, insert, Contains, Vec, vec_len, refl, sym, ap, ◌∙◌, subst, true≢false, arith, not-suc-le-zero}
 use Rattle.std.specs.declared.alloc.Global.{Global}
 use Rattle.std.specs.List.Sorted.{IsStrictlyIncreasing}
 use Rattle.std.proofs.lemmas.Bool.{cases_eq}
-use Rattle.std.proofs.lemmas.List.{get_or_default, set-get_or, length-set}
+use Rattle.std.proofs.lemmas.List.{get_or_default, length-set}
 use Rattle.std.proofs.lemmas.List.Elements.{Contains-get_or}
 use Rattle.std.proofs.lemmas.List.Edits.{length-insert}
 use Rattle.std.proofs.lemmas.List.Sums.{sum_by-cons}
-use Rattle.std.proofs.lemmas.Option.{none-some}
-use Rattle.psg_grammar.specs.declared.types.Kind.{Kind}
-use Rattle.psg_grammar.specs.declared.types.Kind.TheVariants as kinds
-use Rattle.psg_grammar.specs.declared.types.Definition.{Definition}
-use Rattle.psg_grammar.specs.Declaring.{Declares}
-use Rattle.psg_grammar.specs.DeclaringTables.{Table, spaces_at, spaces_count, Grows, Adds, IsTable}
+use Rattle.psg_grammar.specs.DeclaringTables.{Table, spaces_at, spaces_count, Grows, Adds}
 use Rattle.psg_grammar.proofs.Increasing.{increasing-insert, contains_insert_cases, contains_insert_old, contains_insert_new, length-increasing}
 
 pub spaces_at_get : (t : Table) (p : ℕ) (v : Vec ℕ Global) → p < length t → v ≡ get_or t p v → spaces_at t p ≡ v.items
@@ -34,6 +29,13 @@ spaces_at_other (x ∷ t) zero zero v ne = absurd (ne refl)
 spaces_at_other (x ∷ t) zero (suc q) v ne = refl
 spaces_at_other (x ∷ t) (suc p) zero v ne = refl
 spaces_at_other (x ∷ t) (suc p) (suc q) v ne = spaces_at_other t p q v (λ e. ne (ap suc e))
+
+-- one more phylum, without spaces
+pub spaces_at-push : (t : Table) (v : Vec ℕ Global) → v.items ≡ [] → ((p : ℕ) → spaces_at t p ≡ []) → (p : ℕ) → spaces_at (t ++ v ∷ []) p ≡ []
+spaces_at-push [] v e h zero = e
+spaces_at-push [] v e h (suc p) = refl
+spaces_at-push (x ∷ t) v e h zero = h zero
+spaces_at-push (x ∷ t) v e h (suc p) = spaces_at-push t v e (λ q. h (suc q)) p
 
 count_cons : (v : Vec ℕ Global) (t : Table) → spaces_count (v ∷ t) ≡ length v.items + spaces_count t
 count_cons v t = sum_by-cons (λ (w : Vec ℕ Global). length w.items) v t

@@ -1,15 +1,15 @@
 -- Tables of the spaces in which phyla declare.
-use Rattle.std.specs.Prelude.{ℕ, zero, suc, ◌≡◌, ◌≢◌, ◌↔◌, ◌⊎◌, ◌<◌, Bool, true, false, List, [], ◌∷◌, length, Option, Some, None, slice_get, sum_by, All, Contains, Vec}
+use Rattle.std.specs.Prelude.{ℕ, zero, suc, ◌≡◌, ◌≢◌, ◌↔◌, ◌⊎◌, ◌<◌, Bool, true, false, List, [], ◌∷◌, length, Option, Some, None, sum_by, All, Contains, Vec}
 use Rattle.std.specs.declared.alloc.Global.{Global}
 use Rattle.std.specs.List.Sorted.{IsStrictlyIncreasing}
 use Rattle.psg_grammar.specs.declared.types.Kind.{Kind}
 use Rattle.psg_grammar.specs.declared.types.Kind.TheVariants as kinds
 use Rattle.psg_grammar.specs.declared.types.Item.{Item}
 use Rattle.psg_grammar.specs.declared.types.Item.TheVariants as items
-use Rattle.psg_grammar.specs.declared.types.ListKind.{ListKind}
 use Rattle.psg_grammar.specs.declared.types.Operator.{Operator}
 use Rattle.psg_grammar.specs.declared.types.Definition.{Definition}
 use Rattle.psg_grammar.specs.Declaring.{Declares}
+use Rattle.psg_grammar.specs.Kinds.{base_phylum_of}
 
 -- the spaces in which the phylum declares, ascending
 pub record AreSpacesOf (def : Definition) (phylum : ℕ) (spaces : List ℕ) : Type 0 where
@@ -31,17 +31,16 @@ abbrev pub spaces_count : Table → ℕ
 spaces_count table = sum_by (λ (v : Vec ℕ Global). length v.items) table
 
 -- the spaces found for a kind; for a list those of its elements
-abbrev pub element_spaces : Table → Option ListKind → List ℕ
-element_spaces table None = []
-element_spaces table (Some l) = spaces_at table l.element
+abbrev pub phylum_spaces : Table → Option ℕ → List ℕ
+phylum_spaces table None = []
+phylum_spaces table (Some p) = spaces_at table p
 
 abbrev pub kind_spaces : Definition → Table → Kind → List ℕ
-kind_spaces def table (kinds.Phylum p) = spaces_at table p
-kind_spaces def table (kinds.List l) = element_spaces table (slice_get def.lists l)
+kind_spaces def table kind = phylum_spaces table (base_phylum_of def kind)
 
 -- the item declares in the space, or is for a kind for which it was found
 abbrev pub HasSpace : Definition → Table → Item → ℕ → Type 0
-HasSpace def table (items.Declares s) space = s ≡ space
+HasSpace def table (items.Declares s) space = space ≡ s
 HasSpace def table (items.Slot k) space = Contains (kind_spaces def table k) space
 HasSpace def table _ space = ⊥
 

@@ -1,5 +1,5 @@
 -- Names and sorts of kinds and operators by their numbers.
-use Rattle.std.specs.Prelude.{ℕ, ◌<◌, length, Option, slice_get, option_map}
+use Rattle.std.specs.Prelude.{ℕ, ◌<◌, length, Option, Some, slice_get, option_map}
 use Rattle.psg_terms.specs.Names.{Name}
 use Rattle.psg_terms.specs.declared.sorts.SortId.{SortId}
 use Rattle.psg_grammar.specs.declared.types.Kind.{Kind}
@@ -20,6 +20,11 @@ HasKind def (kinds.List l) = l < length def.lists
 abbrev pub HasSlotKind : Definition → Item → Type 0
 HasSlotKind def (items.Slot k) = HasKind def k
 HasSlotKind def _ = Unit {0}
+
+-- the phylum itself, or that of the list's elements
+abbrev pub base_phylum_of : Definition → Kind → Option ℕ
+base_phylum_of def (kinds.Phylum p) = Some p
+base_phylum_of def (kinds.List l) = option_map (λ (k : ListKind). k.element) (slice_get def.lists l)
 
 abbrev pub kind_name_of : Definition → Kind → Option Name
 kind_name_of def (kinds.Phylum p) = option_map (λ (k : Phylum). k.name) (slice_get def.phyla p)

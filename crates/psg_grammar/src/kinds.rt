@@ -1,7 +1,7 @@
 //! Kinds and operators by name, and their names and sorts by number.
-ghost use Rattle.std.specs.Prelude.{◌≡◌, ℕ, IfSome, Some, position, bytes_eq};
+ghost use Rattle.std.specs.Prelude.{◌≡◌, ◌<◌, ℕ, length, IfSome, Some, position, bytes_eq};
 ghost use Rattle.psg_grammar.specs.declared.types.Kind.{Kind};
-ghost use Rattle.psg_grammar.specs.Kinds.{HasKind, kind_name_of, kind_sort_of, op_name_of};
+ghost use Rattle.psg_grammar.specs.Kinds.{base_phylum_of, HasKind, kind_name_of, kind_sort_of, op_name_of};
 ghost use Rattle.psg_grammar.specs.Sound.{IsSound};
 
 use crate::types::{Definition, Kind, ListKind, Operator, Phylum};
@@ -77,5 +77,18 @@ pub fn kind_sort(definition: &Definition, kind: Kind) -> SortId
     match kind {
         Kind::Phylum(number) => definition.phyla.as_slice()[number as usize].sort,
         Kind::List(number) => definition.lists.as_slice()[number as usize].sort,
+    }
+}
+
+/// The phylum itself, or that of the list's elements.
+pub(crate) fn base_phylum(definition: &Definition, kind: Kind) -> u32
+    requires sound { IsSound definition.now }
+    requires there { HasKind definition.now kind }
+    ensures base { base_phylum_of definition.now kind ≡ Some result }
+    ensures inside { result < length definition.now.phyla }
+{
+    match kind {
+        Kind::Phylum(number) => number,
+        Kind::List(number) => definition.lists.as_slice()[number as usize].element,
     }
 }

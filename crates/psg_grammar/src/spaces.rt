@@ -7,7 +7,8 @@ ghost use Rattle.psg_grammar.specs.DeclaringTables.{Adds, AreSpacesOf, HasSpace,
 ghost use Rattle.psg_grammar.specs.Kinds.{HasSlotKind};
 ghost use Rattle.psg_grammar.specs.Sound.{IsSound};
 
-use crate::types::{Definition, Item, Kind, Operator};
+use crate::kinds::base_phylum;
+use crate::types::{Definition, Item, Operator};
 use std::alloc::{AllocError, Global};
 
 /// For each phylum the spaces in which it declares, ascending: those of the declaring positions that can be reached from it
@@ -91,9 +92,8 @@ fn add_item(
 {
     match item {
         Item::Declares(space) => add_space(found, phylum as usize, *space),
-        Item::Slot(Kind::Phylum(from)) => add_all(found, phylum as usize, *from as usize),
-        Item::Slot(Kind::List(list)) => {
-            let from = definition.lists.as_slice()[*list as usize].element;
+        Item::Slot(kind) => {
+            let from = base_phylum(definition, *kind);
             add_all(found, phylum as usize, from as usize)
         }
         _ => Ok(false),

@@ -3,7 +3,7 @@ use Rattle.std.specs.List.Sorted.{IsStrictlyIncreasing}
 use Rattle.std.proofs.lemmas.List.{set-get_or}
 use Rattle.std.proofs.lemmas.List.Elements.{Contains-get_or}
 use Rattle.std.proofs.lemmas.List.Sorted.{searched}
-use Rattle.psg_grammar.specs.DeclaringTables.{Adds, spaces_at}
+use Rattle.psg_grammar.specs.DeclaringTables.{spaces_at}
 use Rattle.psg_grammar.proofs.Increasing.{rising}
 use Rattle.psg_grammar.proofs.TableLaws.{adds_none, adds_new, spaces_at_get}
 use Rattle.psg_grammar.proofs.spaces.add_space.Goals as goal
