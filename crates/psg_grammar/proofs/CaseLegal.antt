@@ -47,9 +47,9 @@ tru_is_bool : (g : Entities) (v : Term) → Legal constants g (operator 1) [] v 
 tru_is_bool g v (seen, op, row, r, found, chosen, of_row) =
     let e : op ≡ op_tru = let f : Some op_tru ≡ Some op = found in cc in
     of_row.head ∙ ap (substitute of_row.terms) (only r row (subst (λ (o : Operator). slice_get o.rows r ≡ Some row) e chosen)) where
-  only : (r : ℕ) (row : Row) → slice_get op_tru.rows r ≡ Some row → row.head ≡ symbol 1
-  only zero row e = let k : row ≡ row_of (symbol 1) [] = let f : Some (row_of (symbol 1) []) ≡ Some row = e in cc in ap (λ (x : Row). x.head) k
-  only (suc r) row e = absurd (none-some row e)
+      only : (r : ℕ) (row : Row) → slice_get op_tru.rows r ≡ Some row → row.head ≡ symbol 1
+      only zero row e = let k : row ≡ row_of (symbol 1) [] = let f : Some (row_of (symbol 1) []) ≡ Some row = e in cc in ap (λ (x : Row). x.head) k
+      only (suc r) row e = absurd (none-some row e)
 
 -- ---- completable
 

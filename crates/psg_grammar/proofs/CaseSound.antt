@@ -108,57 +108,99 @@ no_columns_missing (s, more, e, kind, (t, rest, f, exp, others)) = cc
 
 op_blk_sound : IsOperator spaces op_blk
 op_blk_sound = record {
-  name = refl; level = tt; sort = 0; phylum_sort = item_sort; few_items = lit< tt; few_rows = lit< tt;
+  name = refl;
+  level = tt;
+  sort = 0;
+  phylum_sort = item_sort;
+  few_items = lit< tt;
+  few_rows = lit< tt;
   each_item = (tt, ((0, items_sort), (tt, tt)));
-  columns = 0 ∷ []; are_columns = (0, [], refl, items_sort, refl);
+  columns = 0 ∷ [];
+  are_columns = (0, [], refl, items_sort, refl);
   each_row = (record { of_head = ok_term; of_columns = (ok_sorted, tt); written = (tt, tt) }, tt);
 }
 
 op_let_sound : IsOperator spaces op_let
 op_let_sound = record {
-  name = refl; level = tt; sort = 0; phylum_sort = item_sort; few_items = lit< tt; few_rows = lit< tt;
+  name = refl;
+  level = tt;
+  sort = 0;
+  phylum_sort = item_sort;
+  few_items = lit< tt;
+  few_rows = lit< tt;
   each_item = (tt, ((1, (record { name = codes "val"; sort = sort_id 1 }, refl, refl)), (tt, ((1, exp_sort), tt))));
-  columns = 1 ∷ 1 ∷ []; are_columns = let_columns;
+  columns = 1 ∷ 1 ∷ [];
+  are_columns = let_columns;
   each_row = (record { of_head = ok_term; of_columns = (any_sorted, (any_sorted, tt)); written = (refl, (refl, tt)) }, tt);
 }
 
 op_mark_sound : IsOperator spaces op_mark
 op_mark_sound = record {
-  name = refl; level = tt; sort = 0; phylum_sort = item_sort; few_items = lit< tt; few_rows = lit< tt;
+  name = refl;
+  level = tt;
+  sort = 0;
+  phylum_sort = item_sort;
+  few_items = lit< tt;
+  few_rows = lit< tt;
   each_item = (tt, ((0, (record { name = codes "lab"; sort = sort_id 0 }, refl, refl)), tt));
-  columns = 0 ∷ []; are_columns = mark_columns;
+  columns = 0 ∷ [];
+  are_columns = mark_columns;
   each_row = (record { of_head = ok_term; of_columns = (ok_sorted, tt); written = (tt, tt) }, tt);
 }
 
 op_jump_sound : IsOperator spaces op_jump
 op_jump_sound = record {
-  name = refl; level = tt; sort = 0; phylum_sort = item_sort; few_items = lit< tt; few_rows = lit< tt;
+  name = refl;
+  level = tt;
+  sort = 0;
+  phylum_sort = item_sort;
+  few_items = lit< tt;
+  few_rows = lit< tt;
   each_item = (tt, ((0, (record { name = codes "lab"; sort = sort_id 0 }, refl, refl)), tt));
-  columns = 0 ∷ []; are_columns = mark_columns;
+  columns = 0 ∷ [];
+  are_columns = mark_columns;
   each_row = (record { of_head = ok_term; of_columns = (ok_sorted, tt); written = (tt, tt) }, tt);
 }
 
 op_ref_sound : IsOperator spaces op_ref
 op_ref_sound = record {
-  name = refl; level = tt; sort = 1; phylum_sort = exp_sort; few_items = lit< tt; few_rows = lit< tt;
+  name = refl;
+  level = tt;
+  sort = 1;
+  phylum_sort = exp_sort;
+  few_items = lit< tt;
+  few_rows = lit< tt;
   each_item = ((1, (record { name = codes "val"; sort = sort_id 1 }, refl, refl)), tt);
-  columns = 1 ∷ []; are_columns = (1, [], refl, (record { name = codes "val"; sort = sort_id 1 }, refl, refl), refl);
+  columns = 1 ∷ [];
+  are_columns = (1, [], refl, (record { name = codes "val"; sort = sort_id 1 }, refl, refl), refl);
   each_row = (record { of_head = any_term; of_columns = (any_sorted, tt); written = (refl, tt) }, tt);
 }
 
 op_one_sound : IsOperator spaces op_one
 op_one_sound = record {
-  name = refl; level = tt; sort = 1; phylum_sort = exp_sort; few_items = lit< tt; few_rows = lit< tt;
+  name = refl;
+  level = tt;
+  sort = 1;
+  phylum_sort = exp_sort;
+  few_items = lit< tt;
+  few_rows = lit< tt;
   each_item = (tt, tt);
-  columns = []; are_columns = refl;
+  columns = [];
+  are_columns = refl;
   each_row = (record { of_head = int_term; of_columns = tt; written = tt }, tt);
 }
 
 op_yes_sound : IsOperator spaces op_yes
 op_yes_sound = record {
-  name = refl; level = tt; sort = 1; phylum_sort = exp_sort; few_items = lit< tt; few_rows = lit< tt;
+  name = refl;
+  level = tt;
+  sort = 1;
+  phylum_sort = exp_sort;
+  few_items = lit< tt;
+  few_rows = lit< tt;
   each_item = (tt, tt);
-  columns = []; are_columns = refl;
+  columns = [];
+  are_columns = refl;
   each_row = (record { of_head = bool_term; of_columns = tt; written = tt }, tt);
 }
 
@@ -176,13 +218,19 @@ empty_specimen = record { fits = (refl, refl, refl, (list_items, refl, λ e. abs
 let_one : IsSpecimen spaces (kinds.Phylum 1) (let_it 5)
 let_one = record {
   fits = (kinds.Phylum 0, [], inr (0, (refl, op_let, refl, refl, refl)), (refl, op_one, refl, refl, refl));
-  rests = (tt, (tt, tt)); few_elements = (tt, tt); names = ((tt, refl), tt); places = tt;
+  rests = (tt, (tt, tt));
+  few_elements = (tt, tt);
+  names = ((tt, refl), tt);
+  places = tt;
 }
 
 let_yes : IsSpecimen spaces (kinds.Phylum 1) (let_it 6)
 let_yes = record {
   fits = (kinds.Phylum 0, [], inr (0, (refl, op_let, refl, refl, refl)), (refl, op_yes, refl, refl, refl));
-  rests = (tt, (tt, tt)); few_elements = (tt, tt); names = ((tt, refl), tt); places = tt;
+  rests = (tt, (tt, tt));
+  few_elements = (tt, tt);
+  names = ((tt, refl), tt);
+  places = tt;
 }
 
 abbrev rest_hole : SpecimenHole
@@ -207,20 +255,34 @@ sound = record {
   kind_names = refl;
   operator_names = refl;
   phyla = (record { name = refl; sort = lit< tt }, (record { name = refl; sort = lit< tt }, tt));
-  lists = (record {
-    name = refl; sort = lit< tt; element = 0; element_sort = item_sort; few_nils = lit< tt; few_cells = lit< tt;
-    nils = (ok_term, tt);
-    cells = (record { of_head = ok_term; of_columns = (ok_sorted, (ok_sorted, tt)); written = (tt, (tt, tt)) }, tt);
-  }, tt);
+  lists = (
+    record {
+      name = refl;
+      sort = lit< tt;
+      element = 0;
+      element_sort = item_sort;
+      few_nils = lit< tt;
+      few_cells = lit< tt;
+      nils = (ok_term, tt);
+      cells = (record { of_head = ok_term; of_columns = (ok_sorted, (ok_sorted, tt)); written = (tt, (tt, tt)) }, tt);
+    },
+    tt,
+  );
   operators = (op_blk_sound, (op_let_sound, (op_mark_sound, (op_jump_sound, (op_ref_sound, (op_one_sound, (op_yes_sound, tt)))))));
   hole_rows = (
     record { sort = 1; kind_sort = exp_sort; term = any_term; few_cases = lit< tt; each_case = (record { term = any_term; specimen = ref_specimen }, tt) },
-    (record { sort = 0; kind_sort = item_sort; term = ok_term; few_cases = lit< tt; each_case = (record { term = ok_term; specimen = mark_specimen (codes "a") refl }, tt) },
-    (record { sort = 0; kind_sort = items_sort; term = ok_term; few_cases = lit< tt; each_case = (record { term = ok_term; specimen = empty_specimen }, tt) }, tt)));
+    (
+      record { sort = 0; kind_sort = item_sort; term = ok_term; few_cases = lit< tt; each_case = (record { term = ok_term; specimen = mark_specimen (codes "a") refl }, tt) },
+      (record { sort = 0; kind_sort = items_sort; term = ok_term; few_cases = lit< tt; each_case = (record { term = ok_term; specimen = empty_specimen }, tt) }, tt),
+    ),
+  );
   declare_rows = (
     record { entity = 1; space_sort = (record { name = codes "val"; sort = sort_id 1 }, refl, refl); term = int_term; list = list_items; list_is = refl; element = 0; element_sort = item_sort; value = ok_term; specimen = let_one },
-    (record { entity = 1; space_sort = (record { name = codes "val"; sort = sort_id 1 }, refl, refl); term = bool_term; list = list_items; list_is = refl; element = 0; element_sort = item_sort; value = ok_term; specimen = let_yes },
-    (record { entity = 0; space_sort = (record { name = codes "lab"; sort = sort_id 0 }, refl, refl); term = ok_term; list = list_items; list_is = refl; element = 0; element_sort = item_sort; value = ok_term; specimen = mark_specimen (codes "it") refl }, tt)));
+    (
+      record { entity = 1; space_sort = (record { name = codes "val"; sort = sort_id 1 }, refl, refl); term = bool_term; list = list_items; list_is = refl; element = 0; element_sort = item_sort; value = ok_term; specimen = let_yes },
+      (record { entity = 0; space_sort = (record { name = codes "lab"; sort = sort_id 0 }, refl, refl); term = ok_term; list = list_items; list_is = refl; element = 0; element_sort = item_sort; value = ok_term; specimen = mark_specimen (codes "it") refl }, tt),
+    ),
+  );
   few_sorts = lit< tt;
   few_constructors = lit< tt;
   few_arguments = (lit< tt, (lit< tt, (lit< tt, tt)));

@@ -17,7 +17,6 @@ abbrev one_if : Bool → ℕ
 one_if true = 1
 one_if false = 0
 
-
 -- how many numbers below n pass the test
 abbrev below : (ℕ → Bool) → ℕ → ℕ
 below p zero = 0

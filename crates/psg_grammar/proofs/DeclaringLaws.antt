@@ -94,11 +94,11 @@ operator_makes space test p [] o op at same plain found = absurd (none-some op a
 operator_makes space test p (x ∷ ops) zero op at same plain found =
     let is : x ≡ op = let f : Some x ≡ Some op = at in cc in
     or_left ((x.phylum == p) && (not x.scope) && any_item space test x.items) (any_operator space test p ops)
-      (subst (λ (y : Operator). ((y.phylum == p) && (not y.scope) && any_item space test y.items) ≡ true) (sym is) (three (op.phylum == p) op.scope (any_item space test op.items) (eqb_same op.phylum p same) plain found)) where
-  three : (a s b : Bool) → a ≡ true → s ≡ false → b ≡ true → (a && (not s) && b) ≡ true
-  three true false b e f g = g
-  three true true b e f g = absurd (true≢false f)
-  three false s b e f g = absurd (true≢false (sym e))
+    (subst (λ (y : Operator). ((y.phylum == p) && (not y.scope) && any_item space test y.items) ≡ true) (sym is) (three (op.phylum == p) op.scope (any_item space test op.items) (eqb_same op.phylum p same) plain found)) where
+      three : (a s b : Bool) → a ≡ true → s ≡ false → b ≡ true → (a && (not s) && b) ≡ true
+      three true false b e f g = g
+      three true true b e f g = absurd (true≢false f)
+      three false s b e f g = absurd (true≢false (sym e))
 operator_makes space test p (x ∷ ops) (suc o) op at same plain found =
     or_right ((x.phylum == p) && (not x.scope) && any_item space test x.items) (any_operator space test p ops) (operator_makes space test p ops o op at same plain found)
 

@@ -45,15 +45,15 @@ increasing-insert xs i s h le below above k lt =
         ]
       ]
     ] where
-  past : (k : ℕ) → i < k → i ≤ k → k + 1 < length (insert xs i s) → get_or (insert xs i s) k 0 < get_or (insert xs i s) (k + 1) 0
-  past zero after here lt = absurd (not-suc-le-zero after)
-  past (suc j) after here lt =
-      let size : length (insert xs i s) ≡ length xs + 1 = length-insert xs i s le in
-      let up : suc j ≡ j + 1 = omega arith in
-      let p : get_or (insert xs i s) (suc j) 0 ≡ get_or xs j 0 = subst (λ k. get_or (insert xs i s) k 0 ≡ get_or xs j 0) (sym up) (get_or-insert_above xs i s 0 j (omega (arith, after)) le) in
-      let q : get_or (insert xs i s) (suc j + 1) 0 ≡ get_or xs (suc j) 0 = get_or-insert_above xs i s 0 (suc j) here le in
-      let r : get_or xs j 0 < get_or xs (suc j) 0 = subst (λ k. get_or xs j 0 < get_or xs k 0) (sym up) (h j (omega (arith, size, lt))) in
-      omega (arith, p, q, r)
+      past : (k : ℕ) → i < k → i ≤ k → k + 1 < length (insert xs i s) → get_or (insert xs i s) k 0 < get_or (insert xs i s) (k + 1) 0
+      past zero after here lt = absurd (not-suc-le-zero after)
+      past (suc j) after here lt =
+          let size : length (insert xs i s) ≡ length xs + 1 = length-insert xs i s le in
+          let up : suc j ≡ j + 1 = omega arith in
+          let p : get_or (insert xs i s) (suc j) 0 ≡ get_or xs j 0 = subst (λ k. get_or (insert xs i s) k 0 ≡ get_or xs j 0) (sym up) (get_or-insert_above xs i s 0 j (omega (arith, after)) le) in
+          let q : get_or (insert xs i s) (suc j + 1) 0 ≡ get_or xs (suc j) 0 = get_or-insert_above xs i s 0 (suc j) here le in
+          let r : get_or xs j 0 < get_or xs (suc j) 0 = subst (λ k. get_or xs j 0 < get_or xs k 0) (sym up) (h j (omega (arith, size, lt))) in
+          omega (arith, p, q, r)
 
 contains_cons : (x : ℕ) (xs : List ℕ) (t : ℕ) → Contains (x ∷ xs) t → Contains xs t ⊎ (t ≡ x)
 contains_cons x xs t (zero, lt, e) = inr (sym e)

@@ -14,3 +14,4 @@ pub mod DeclaringLaws
 pub mod Increasing
 pub mod TableLaws
 pub mod PassLaws
+pub mod CaseLittle

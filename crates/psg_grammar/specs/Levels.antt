@@ -70,8 +70,8 @@ is_last_place xs k = list_all is_mark (drop (k + 1) xs)
 abbrev pub least_level_of : Operator → ℕ → ℕ
 least_level_of op k =
     cond (is_slot_of op.phylum (slice_get op.items k))
-      (max (cond (is_first_place op.items k) (first_level op.level) 0) (cond (is_last_place op.items k) (last_level op.level) 0))
-      0
+    (max (cond (is_first_place op.items k) (first_level op.level) 0) (cond (is_last_place op.items k) (last_level op.level) 0))
+    0
 
 -- the item is a slot
 abbrev pub IsSlotAt : Operator → ℕ → Type 0

@@ -20,3 +20,4 @@ pub mod Printable
 pub mod Kinds
 pub mod Levels
 pub mod DeclaringTables
+pub mod Little

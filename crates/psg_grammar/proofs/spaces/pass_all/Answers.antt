@@ -28,8 +28,8 @@ loop-operator-preserved c =
       right = f.right;
       grows = grows_then c.args.found.now.items t u c.loop-operator.changed b c.if-branch.changed c.loop-operator.invariant.grows f.grows j;
       closed = λ e.
-        let (before, now) = j.none e in
-        operators_more def t u i def.operators op lt at (f.grows.same now) (f.closed now) (c.loop-operator.invariant.closed before);
+          let (before, now) = j.none e in
+          operators_more def t u i def.operators op lt at (f.grows.same now) (f.closed now) (c.loop-operator.invariant.closed before);
     }
 
 pub returns : goal.returns

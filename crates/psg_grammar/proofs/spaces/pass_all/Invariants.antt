@@ -6,5 +6,5 @@ abbrev pub invariant-loop-operator : goal.invariant-loop-operator
 invariant-loop-operator l = record {
   right : IsTable l.definition l.found.items;
   grows : Grows l.initial.found.items l.found.items l.changed;
-  closed : l.changed ≡ false → All (IsClosedOperator l.definition l.found.items) (take l.operator-index l.definition.operators)
+  closed : l.changed ≡ false → All (IsClosedOperator l.definition l.found.items) (take l.operator-index l.definition.operators);
 }

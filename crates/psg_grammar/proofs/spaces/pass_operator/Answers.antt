@@ -29,8 +29,8 @@ loop-item-preserved c =
       right = table_after def c.requires.sound op c.requires.part t u i item b c.if-operator.false lt at c.loop-item.invariant.right f;
       grows = grows_then c.args.found.now.items t u c.loop-item.changed b c.if-branch.changed c.loop-item.invariant.grows f.grows j;
       closed = λ e.
-        let (before, now) = j.none e in
-        closed_more def t u op.phylum i op.items item lt at (subst (λ k. Adds t op.phylum (HasSpace def t item) u k) now f) (c.loop-item.invariant.closed before);
+          let (before, now) = j.none e in
+          closed_more def t u op.phylum i op.items item lt at (subst (λ k. Adds t op.phylum (HasSpace def t item) u k) now f) (c.loop-item.invariant.closed before);
     }
 
 pub returns : goal.returns
