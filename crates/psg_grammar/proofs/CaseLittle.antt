@@ -1,12 +1,11 @@
 -- The language of the tests is sound.
-use Rattle.std.proofs.Common.{◌≡◌, ℕ, zero, suc, ◌<◌, true, false, List, [], ◌∷◌, codes, Some, None, refl, subst, lit<, inr, arith}
+use Rattle.std.proofs.Common.{◌≡◌, ℕ, zero, suc, ◌<◌, [], ◌∷◌, codes, Some, refl, subst, lit<, inr, arith}
 use Rattle.psg_terms.specs.Terms.{Term, symbol}
 use Rattle.psg_terms.specs.Signature.{HasSort, only_constructor}
 use Rattle.psg_terms.specs.Instances.{IsGround}
 use Rattle.psg_terms.specs.Sound.{IsSound as IsSoundSignature}
 use Rattle.psg_grammar.specs.declared.types.Kind.TheVariants as kinds
-use Rattle.psg_grammar.specs.Sound.{IsSound, IsItem, HasKindSort, HasSpaceSort}
-use Rattle.psg_grammar.specs.declared.types.Item.TheVariants as items
+use Rattle.psg_grammar.specs.Sound.{IsSound, HasKindSort, HasSpaceSort}
 use Rattle.psg_grammar.specs.Little.{little, unit_signature, space_named, phylum_named, items_list}
 
 ok_sorted : HasSort unit_signature (symbol 0) 0

@@ -15,3 +15,4 @@ pub mod Increasing
 pub mod TableLaws
 pub mod PassLaws
 pub mod CaseLittle
+pub mod CaseLevels
