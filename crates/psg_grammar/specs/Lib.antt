@@ -18,3 +18,7 @@ pub mod Insertion
 pub mod Sound
 pub mod Printable
 pub mod Marks
+pub mod Kinds
+pub mod Levels
+pub mod DeclaringTables
+pub mod Little

@@ -1,0 +1,48 @@
+-- The small language of the tests: blocks, groups and items. An item declares a value or a label; a block keeps what its
+-- items declare, a group does not.
+use Rattle.std.specs.Prelude.{ℕ, true, false, List, [], ◌∷◌, codes}
+use Rattle.psg_terms.specs.Signature.{Signature}
+use Rattle.psg_terms.specs.declared.sorts.SortId.{SortId}
+use Rattle.psg_grammar.specs.declared.types.Kind.TheVariants as kinds
+use Rattle.psg_grammar.specs.declared.types.Level.TheVariants as levels
+use Rattle.psg_grammar.specs.declared.types.Item.{Item}
+use Rattle.psg_grammar.specs.declared.types.Item.TheVariants as items
+use Rattle.psg_grammar.specs.declared.types.Space.{Space}
+use Rattle.psg_grammar.specs.declared.types.Phylum.{Phylum}
+use Rattle.psg_grammar.specs.declared.types.ListKind.{ListKind}
+use Rattle.psg_grammar.specs.declared.types.Operator.{Operator}
+use Rattle.psg_grammar.specs.declared.types.Definition.{Definition}
+
+abbrev pub unit : SortId
+unit = record { 0 = 0 }
+
+abbrev pub unit_signature : Signature
+unit_signature = record { sorts = codes "Unit" ∷ []; symbols = record { name = codes "ok"; arguments = []; sort = 0 } ∷ [] }
+
+abbrev pub space_named : List ℕ → Space
+space_named name = record { name = name; sort = unit }
+
+abbrev pub phylum_named : List ℕ → Phylum
+phylum_named name = record { name = name; sort = unit; bracketed = false }
+
+abbrev pub operator_named : List ℕ → ℕ → List Item → Operator
+operator_named name phylum items = record { name = name; phylum = phylum; level = levels.Plain; scope = false; items = items; rows = [] }
+
+abbrev pub little_spaces : List Space
+little_spaces = space_named (codes "val") ∷ space_named (codes "lab") ∷ []
+
+abbrev pub little_phyla : List Phylum
+little_phyla = phylum_named (codes "Exp") ∷ phylum_named (codes "Item") ∷ phylum_named (codes "Group") ∷ []
+
+abbrev pub items_list : ListKind
+items_list = record { name = codes "Items"; sort = unit; element = 1; separator = codes ";"; lines = true; unfinished = true; nil_rows = []; cell_rows = [] }
+
+abbrev pub little_operators : List Operator
+little_operators =
+    record (operator_named (codes "blk") 0 (items.Slot (kinds.List 0) ∷ [])) { scope = true }
+    ∷ operator_named (codes "group") 2 (items.Slot (kinds.List 0) ∷ [])
+    ∷ operator_named (codes "let") 1 (items.Declares 0 ∷ items.Slot (kinds.Phylum 0) ∷ [])
+    ∷ operator_named (codes "mark") 1 (items.Declares 1 ∷ []) ∷ []
+
+abbrev pub little : Definition
+little = record { version = 2; signature = unit_signature; spaces = little_spaces; phyla = little_phyla; lists = items_list ∷ []; operators = little_operators; hole_rows = []; declare_rows = [] }
