@@ -1,0 +1,17 @@
+//! Fragments: shared trees with placeholders, and the paths to their nodes.
+//!
+//! A `Tree` is made by `Tree::new` of a `Shape`, `at` finds the node at a `Path`, and `replace` gives the tree with another
+//! node there. It shares all nodes off the path with the old tree, which stays as it is.
+//!
+//! Contracts see a `Tree` as a plain fragment of `psg_grammar` and a `Path` as the list of its steps.
+#![tactic(auto)]
+
+pub mod path;
+pub mod places;
+
+pub mod tree;
+
+pub use path::Path;
+pub use places::{TreeFault, at, replace};
+
+pub use tree::{Part, Shape, Tree};
