@@ -1,11 +1,17 @@
 -- The children of a node of the program, and a change made of one of them.
-use Rattle.std.proofs.Common.{◌≡◌, ◌⊎◌, inl, inr, ℕ, zero, suc, ◌+◌, ◌<◌, ◌≤◌, ◌==◌, Bool, true, false, cond, if◌then◌else◌, List, [], ◌∷◌, ◌++◌, length, take, slice_get, refl, ap, ap₂, sym, ◌∙◌, subst, arith, append_assoc, length-append}
+use Rattle.std.proofs.Common.{◌≡◌, inl, inr, ℕ, zero, suc, ◌+◌, ◌<◌, ◌≤◌, ◌==◌, Bool, false, cond, List, [], ◌∷◌, ◌++◌, length, take, get_or, slice_get, Option, Some, None, Bor, refl, ap, ap₂, sym, ◌∙◌, arith, append_assoc, length-append}
+use Rattle.std.specs.Option.{option_copied}
+use Rattle.std.specs.Slice.{IsGetResult}
 use Rattle.std.proofs.lemmas.Bool.Decides.{eqb_tells}
+use Rattle.std.proofs.lemmas.List.{take_more, length-take-le}
+use Rattle.std.proofs.lemmas.Option.{slice_get_past, slice_get_read}
 use Rattle.psg_grammar.specs.Fragments.{Fragment, hole, ending, cell, operator, with_child, with_name, with_number, with_text, anything, observed, children_of}
 use Rattle.psg_grammar.specs.Paths.{change_child, put_child}
 use Rattle.psg_tree.specs.declared.tree.Part.{Part}
 use Rattle.psg_tree.specs.declared.tree.Part.TheVariants.{Sub, Name, Number, Text}
-use Rattle.psg_tree.specs.Shapes.{with_part, with_parts, list_of, subtrees, chosen_part, put_part, put_element}
+use Rattle.psg_tree.specs.declared.tree.Shape.{Shape}
+use Rattle.psg_tree.specs.declared.tree.Shape.TheVariants.{Op, List as ListOf}
+use Rattle.psg_tree.specs.Shapes.{tree_of, with_parts, list_of, subtrees, chosen_part, put_part, put_element}
 
 pub subtrees-append : (xs ys : List Part) → subtrees (xs ++ ys) ≡ subtrees xs ++ subtrees ys
 subtrees-append [] ys = refl
@@ -126,3 +132,41 @@ put_element-push new zero [] e = refl
 put_element-push new (suc k) [] e = ap (λ b. cond b new e ∷ []) (sym (zero_not k))
 put_element-push new zero (s ∷ es) e = ap (λ b. new ∷ (es ++ cond b new e ∷ [])) (sym (not_zero (length es)))
 put_element-push new (suc k) (s ∷ es) e = ap (λ l. s ∷ l) (put_element-push new k es e ∙ ap (λ b. put_element new k es ++ cond b new e ∷ []) (same_tests (length es) k))
+
+-- what a node that is read stands for
+pub children-op : (s : Shape) (o : ℕ) (ps : List Part) (f : Fragment) → s ≡ Op o ps → tree_of s ≡ f → children_of f ≡ subtrees ps
+children-op s o ps f e h = ap children_of (sym h ∙ ap tree_of e) ∙ children-with_parts (operator o) ps
+
+pub children-shape-list : (s : Shape) (l : ℕ) (es : List Fragment) (u : Bool) (f : Fragment) → s ≡ ListOf l es u → tree_of s ≡ f → children_of f ≡ es
+children-shape-list s l es u f e h = ap children_of (sym h ∙ ap tree_of e) ∙ children-list l es u
+
+pub put-op : (s : Shape) (o : ℕ) (ps made : List Part) (f new : Fragment) (k : ℕ) → s ≡ Op o ps → tree_of s ≡ f → made ≡ put_part new k ps → tree_of (Op o made) ≡ put_child new k f
+put-op s o ps made f new k e h m = ap (with_parts (operator o)) m ∙ sym (put-parts new k k (operator o) ps (omega arith)) ∙ ap (put_child new k) (sym (ap tree_of e) ∙ h)
+
+pub put-shape-list : (s : Shape) (l : ℕ) (es made : List Fragment) (u : Bool) (f new : Fragment) (k : ℕ) → s ≡ ListOf l es u → tree_of s ≡ f → made ≡ put_element new k es → list_of l made u ≡ put_child new k f
+put-shape-list s l es made u f new k e h m = ap (λ x. list_of l x u) m ∙ sym (put-list new k l es u) ∙ ap (put_child new k) (sym (ap tree_of e) ∙ h)
+
+-- what a slice gives at a number
+pub got : (xs : List Fragment) (i : ℕ) (r : Option (Bor Fragment)) → IsGetResult xs i i r → option_copied r ≡ slice_get xs i
+got xs i None h = sym (slice_get_past xs i h.3)
+got xs i (Some x) h = sym (slice_get_read xs (length xs) i x.now refl h.3.0 h.1)
+
+-- one more part
+pub part_more : (new : Fragment) (k : ℕ) (ps : List Part) (i seen : ℕ) (p q : Part) (made before : List Part)
+    → i < length ps → p ≡ get_or ps i p → seen ≡ length (subtrees (take i ps)) → q ≡ chosen_part (seen == k) new p
+    → before ≡ put_part new k (take i ps) → made ≡ before ++ q ∷ []
+    → (made ≡ put_part new k (take (i + 1) ps)) × (seen + length (subtrees (p ∷ [])) ≡ length (subtrees (take (i + 1) ps)))
+part_more new k ps i seen p q made before h e s c b m =
+    let t : take (i + 1) ps ≡ take i ps ++ p ∷ [] = take_more ps i p h ∙ ap (λ x. take i ps ++ x ∷ []) (sym e) in (
+      m ∙ ap₂ (λ l x. l ++ x ∷ []) b (c ∙ ap (λ n. chosen_part (n == k) new p) s) ∙ sym (put_part-push new k (take i ps) p) ∙ ap (put_part new k) (sym t),
+      ap (λ n. n + length (subtrees (p ∷ []))) s ∙ sym (length-append (subtrees (take i ps)) (subtrees (p ∷ []))) ∙ ap length (sym (subtrees-append (take i ps) (p ∷ []))) ∙ ap (λ l. length (subtrees l)) (sym t),
+    )
+
+-- one more element
+pub element_more : (new : Fragment) (k : ℕ) (es : List Fragment) (i : ℕ) (e q : Fragment) (made before : List Fragment)
+    → i < length es → e ≡ get_or es i e → q ≡ cond (i == k) new e → before ≡ put_element new k (take i es) → made ≡ before ++ q ∷ []
+    → made ≡ put_element new k (take (i + 1) es)
+element_more new k es i e q made before h r c b m =
+    let t : take (i + 1) es ≡ take i es ++ e ∷ [] = take_more es i e h ∙ ap (λ x. take i es ++ x ∷ []) (sym r) in
+    let n : length (take i es) ≡ i = length-take-le i es (omega arith) in
+    m ∙ ap₂ (λ l x. l ++ x ∷ []) b (c ∙ ap (λ n. cond (n == k) new e) (sym n)) ∙ sym (put_element-push new k (take i es) e) ∙ ap (put_element new k) (sym t)

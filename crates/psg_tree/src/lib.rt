@@ -8,10 +8,8 @@
 
 pub mod path;
 pub mod places;
-
 pub mod tree;
 
 pub use path::Path;
 pub use places::{TreeFault, at, replace};
-
 pub use tree::{Part, Shape, Tree};

@@ -92,12 +92,7 @@ fn chosen<'t>(wanted: bool, new: &'t Tree, old: &'t Tree) -> &'t Tree
 }
 
 /// One more owner of what the part has, with the new tree in place of its subtree where that is wanted.
-fn changed_part(
-    alloc: Global,
-    wanted: bool,
-    new: &Tree,
-    part: &Part,
-) -> Result<Part, AllocError>
+fn changed_part(alloc: Global, wanted: bool, new: &Tree, part: &Part) -> Result<Part, AllocError>
     ensures { IfOk result (λ p. p ≡ chosen_part wanted new.now part.now) }
 {
     match part {
@@ -189,12 +184,7 @@ fn with_child(alloc: Global, tree: &Tree, number: u32, new: &Tree) -> Result<Tre
 }
 
 /// The tree with another node behind these steps.
-fn replace_below(
-    alloc: Global,
-    tree: &Tree,
-    steps: &[u32],
-    new: &Tree,
-) -> Result<Tree, TreeFault>
+fn replace_below(alloc: Global, tree: &Tree, steps: &[u32], new: &Tree) -> Result<Tree, TreeFault>
     ensures ok { IfOk result (IsReplaced tree.now steps.now new.now) }
     ensures err { IfErr result (IsReplaceFault tree.now steps.now) }
 {
@@ -213,12 +203,7 @@ fn replace_below(
 
 /// The tree with another node at the path, for `NoNode` exactly where the path leads to no node. The nodes on the path are
 /// made anew, and all others shared.
-pub fn replace(
-    alloc: Global,
-    tree: &Tree,
-    path: &Path,
-    new: &Tree,
-) -> Result<Tree, TreeFault>
+pub fn replace(alloc: Global, tree: &Tree, path: &Path, new: &Tree) -> Result<Tree, TreeFault>
     ensures ok { IfOk result (IsReplaced tree.now path.now new.now) }
     ensures err { IfErr result (IsReplaceFault tree.now path.now) }
 {

@@ -1,4 +1,4 @@
-use Rattle.std.proofs.Common.{◌≡◌, ◌≤◌, length, take}
+use Rattle.std.proofs.Common.{◌≡◌, length, take}
 use Rattle.psg_tree.specs.Shapes.{put_part, subtrees}
 use Rattle.psg_tree.proofs.places.with_part.Given as goal
 
