@@ -101,7 +101,7 @@ same_tests m k = elim (eqb_tells m k) [
   | inr q ↦ elim (eqb_tells (suc m) (suc k)) [ inl r ↦ absurd (q.1 (omega (arith, r.1))) | inr r ↦ q.0 ∙ sym r.0 ]
 ]
 
-not_zero : (m : ℕ) → (suc m == 0) ≡ false
+pub not_zero : (m : ℕ) → (suc m == 0) ≡ false
 not_zero m = elim (eqb_tells (suc m) 0) [ inl q ↦ absurd (omega (arith, q.1)) | inr q ↦ q.0 ]
 
 zero_not : (k : ℕ) → (0 == suc k) ≡ false

@@ -1,3 +1,5 @@
 pub mod Shapes
 pub mod TreeFalls
 pub mod Faults
+pub mod AbstractText
+pub mod PartTexts

@@ -8,8 +8,10 @@
 
 pub mod path;
 pub mod places;
+pub mod text;
 pub mod tree;
 
 pub use path::Path;
 pub use places::{TreeFault, at, replace};
+pub use text::abstract_text;
 pub use tree::{Part, Shape, Tree};
