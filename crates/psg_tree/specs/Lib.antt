@@ -3,3 +3,4 @@ pub mod TreeFalls
 pub mod Faults
 pub mod AbstractText
 pub mod PartTexts
+pub mod Edits

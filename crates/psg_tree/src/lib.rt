@@ -6,11 +6,13 @@
 //! Contracts see a `Tree` as a plain fragment of `psg_grammar` and a `Path` as the list of its steps.
 #![tactic(auto)]
 
+pub mod edits;
 pub mod path;
 pub mod places;
 pub mod text;
 pub mod tree;
 
+pub use edits::{insert, remove, set_unfinished};
 pub use path::Path;
 pub use places::{TreeFault, at, replace};
 pub use text::abstract_text;
