@@ -9,7 +9,7 @@ use Rattle.psg_tree.specs.declared.tree.Shape.TheVariants.{Op, List as ListOf}
 use Rattle.psg_tree.specs.Shapes.{with_part, with_parts, list_of, tree_of}
 use Rattle.psg_tree.specs.Faults.{IsReplaced}
 use Rattle.psg_tree.specs.Edits.{IsLonger, IsShorter, IsEnded, IsInserted, IsRemoved, IsSet}
-use Rattle.psg_tree.proofs.Nodes.{children-shape-list}
+use Rattle.psg_tree.proofs.Children.{children-shape-list}
 use Rattle.psg_tree.proofs.Walks.{change_at-agree}
 
 pub inserted-list_of : (k l : ℕ) (new : Fragment) (es : List Fragment) (u : Bool) → k ≤ length es → list_of l (take k es ++ new ∷ drop k es) u ≡ inserted k new (list_of l es u)

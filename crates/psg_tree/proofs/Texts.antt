@@ -11,7 +11,7 @@ use Rattle.psg_tree.specs.declared.tree.Shape.TheVariants.{List as ListOf}
 use Rattle.psg_tree.specs.Shapes.{with_part, with_parts, list_of, tree_of}
 use Rattle.psg_tree.specs.AbstractText.{has_parts, mark, comma, closed, inner, abstract_text}
 use Rattle.psg_tree.specs.PartTexts.{part_text}
-use Rattle.psg_tree.proofs.Nodes.{not_zero}
+use Rattle.psg_tree.proofs.Children.{not_zero}
 
 -- what is still to be written of a list's elements and its end
 abbrev pub tail_text : Definition → ℕ → List Fragment → Bool → List ℕ

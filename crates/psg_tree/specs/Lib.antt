@@ -4,3 +4,4 @@ pub mod Faults
 pub mod AbstractText
 pub mod PartTexts
 pub mod Edits
+pub mod PartSizes

@@ -9,11 +9,13 @@
 pub mod edits;
 pub mod path;
 pub mod places;
+pub mod sizes;
 pub mod text;
 pub mod tree;
 
 pub use edits::{insert, remove, set_unfinished};
 pub use path::Path;
 pub use places::{TreeFault, at, replace};
+pub use sizes::{depth, nodes};
 pub use text::abstract_text;
 pub use tree::{Part, Shape, Tree};

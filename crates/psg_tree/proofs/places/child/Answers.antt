@@ -1,6 +1,6 @@
 use Rattle.std.proofs.Common.{slice_get, sym, ap, ◌∙◌}
 use Rattle.psg_tree.specs.Shapes.{child_among}
-use Rattle.psg_tree.proofs.Nodes.{children-op, children-shape-list, got}
+use Rattle.psg_tree.proofs.Children.{children-op, children-shape-list, got}
 use Rattle.psg_tree.proofs.places.child.Goals as goal
 
 pub returns-in-Op : goal.returns-in-Op

@@ -1,7 +1,7 @@
 use Rattle.std.proofs.Common.{ap, ◌∙◌}
 use Rattle.psg_tree.specs.Shapes.{tree_of, put_part, put_element}
 use Rattle.psg_tree.specs.declared.tree.Shape.TheVariants.{Op, List as ListOf}
-use Rattle.psg_tree.proofs.Nodes.{put-op, put-shape-list}
+use Rattle.psg_tree.proofs.Children.{put-op, put-shape-list}
 use Rattle.psg_tree.proofs.places.with_child.Goals as goal
 
 pub returns-in_ok-new-in-Op : goal.returns-in_ok-new-in-Op

@@ -1,5 +1,5 @@
 use Rattle.std.proofs.Common.{◌∙◌}
-use Rattle.psg_tree.proofs.Nodes.{element_more}
+use Rattle.psg_tree.proofs.Children.{element_more}
 use Rattle.psg_tree.proofs.places.with_element.Goals as goal
 
 pub loop-i-preserved : goal.loop-i-preserved

@@ -1,6 +1,6 @@
 use Rattle.std.proofs.Common.{◌≡◌, ◌+◌, ◌∷◌, [], length, take, ap, ◌∙◌, arith}
 use Rattle.std.proofs.lemmas.List.{length-take-le}
-use Rattle.psg_tree.proofs.Nodes.{part_more, length-subtrees-le}
+use Rattle.psg_tree.proofs.Children.{part_more, length-subtrees-le}
 use Rattle.psg_tree.proofs.places.with_part.Goals as goal
 
 pub overflow_add-seen : goal.overflow_add-seen
