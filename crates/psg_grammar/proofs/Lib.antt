@@ -1,0 +1,13 @@
+pub mod CaseLanguage
+pub mod CaseKeys
+pub mod CaseRegions
+pub mod CaseForms
+pub mod CaseSteps
+pub mod CaseEdits
+pub mod CaseLegal
+pub mod CaseRelations
+pub mod CaseSound
+pub mod NamePlaces
+pub mod Closed
+pub mod SoundParts
+pub mod DeclaringLaws

@@ -17,3 +17,5 @@ pub mod Placed
 pub mod Insertion
 pub mod Sound
 pub mod Printable
+pub mod Kinds
+pub mod Levels

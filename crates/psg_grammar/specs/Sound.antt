@@ -23,9 +23,9 @@ use Rattle.psg_grammar.specs.declared.types.Case.{Case}
 use Rattle.psg_grammar.specs.declared.types.HoleRow.{HoleRow}
 use Rattle.psg_grammar.specs.declared.types.DeclareRow.{DeclareRow}
 use Rattle.psg_grammar.specs.declared.types.Definition.{Definition}
-use Rattle.psg_grammar.specs.Fragments.{Fragment, hole, ending, cell, operator, with_child, with_name, with_number, with_text, anything, observed}
+use Rattle.psg_grammar.specs.Fragments.{Fragment, hole, ending, cell, operator, with_child, with_name, with_number, with_text, anything, observed, children_of}
 use Rattle.psg_grammar.specs.Lookups.{part_items}
-use Rattle.psg_grammar.specs.Specimens.{tree_of, holes_of}
+use Rattle.psg_grammar.specs.Specimens.{tree_of, holes_of, HasOwnRests}
 use Rattle.psg_grammar.specs.Placed.{FitsPlaces}
 
 -- Names begin with a letter of their case; then come letters, digits and `_`, all ASCII, at most 64 bytes.
@@ -76,6 +76,19 @@ HasSpecimenNames (observed f) = HasSpecimenNames f
 -- fewer than a 32-bit number counts
 abbrev pub IsShort : {X : Type 0} → List X → Type 0
 IsShort xs = length xs < 2 ^ 32
+
+-- each list of the tree has fewer elements than that
+abbrev pub HasShortLists : Fragment → Type 0
+HasShortLists (hole p) = Unit {0}
+HasShortLists (ending l u) = Unit {0}
+HasShortLists (cell l e r) = IsShort (children_of (cell l e r)) × HasShortLists e × HasShortLists r
+HasShortLists (operator o) = Unit {0}
+HasShortLists (with_child f t) = HasShortLists f × HasShortLists t
+HasShortLists (with_name f n) = HasShortLists f
+HasShortLists (with_number f n) = HasShortLists f
+HasShortLists (with_text f t) = HasShortLists f
+HasShortLists anything = Unit {0}
+HasShortLists (observed f) = HasShortLists f
 
 -- N of a level is 1 to 9
 abbrev pub IsBinding : ℕ → Type 0
@@ -161,6 +174,8 @@ module _ (def : Definition) where
   -- a tree of the kind with its hole places
   pub record IsSpecimen (kind : Kind) (specimen : Specimen) : Type 0 where
     pub fits : FitsPlaces def ⊥ (tree_of specimen) [] kind (map kind_of (holes_of specimen)) []
+    pub rests : HasOwnRests specimen
+    pub few_elements : HasShortLists (tree_of specimen)
     pub names : HasSpecimenNames (tree_of specimen)
     pub places : AllByRecursion IsHolePlace (holes_of specimen)
 
@@ -208,6 +223,7 @@ pub record IsSound (def : Definition) : Type 0 where
   pub declare_rows : AllByRecursion (IsDeclareRow def) def.declare_rows
   pub few_sorts : IsShort def.signature.sorts
   pub few_constructors : IsShort def.signature.symbols
+  pub few_arguments : AllByRecursion (λ (s : Symbol). IsShort s.arguments) def.signature.symbols
   pub few_spaces : IsShort def.spaces
   pub few_phyla : IsShort def.phyla
   pub few_lists : IsShort def.lists

@@ -33,7 +33,7 @@ children_count (with_child f t) = length (children_of (with_child f t))
 children_count (with_name f m) = length (children_of f)
 children_count (with_number f m) = length (children_of f)
 children_count (with_text f m) = length (children_of f)
-children_count (observed f) = length (children_of f)
+children_count (observed f) = children_count f
 children_count (hole p) = 0
 children_count (ending l u) = 0
 children_count (operator o) = 0
@@ -84,7 +84,7 @@ abbrev mutual
   steps_of def path (with_number f m) = steps_below def path 0 f ++ own_steps def path (with_number f m)
   steps_of def path (with_text f m) = steps_below def path 0 f ++ own_steps def path (with_text f m)
   steps_of def path anything = []
-  steps_of def path (observed f) = steps_below def path 0 f ++ own_steps def path (observed f)
+  steps_of def path (observed f) = steps_of def path f
 
   pub steps_below : Definition → List ℕ → ℕ → Fragment → List Place
   steps_below def path n (hole p) = []
