@@ -88,3 +88,30 @@ impl Tree {
         })
     }
 }
+
+#[cfg(test)]
+mod tests {
+    use super::*;
+    use crate::path::Path;
+    use crate::places::{at, replace};
+    use std::test::Fail;
+
+    #[test]
+    fn nodes_off_the_path_are_shared(rt: HostRuntime) -> Result<(), Fail> {
+        let alloc = rt.alloc();
+        let mut parts = Vec::new(alloc);
+        parts.push(Part::Sub(Tree::new(alloc, Shape::Hole { phylum: 1 })?))?;
+        parts.push(Part::Sub(Tree::new(alloc, Shape::Hole { phylum: 2 })?))?;
+        let parts = Seq::of(parts);
+        let tree = Tree::new(alloc, Shape::Op { op: 0, parts })?;
+        let new = Tree::new(alloc, Shape::Hole { phylum: 3 })?;
+        let changed = replace(alloc, &tree, &Path::of(alloc, &[1])?, &new)?;
+        let first = Path::of(alloc, &[0])?;
+        let old = at(&tree, &first).ok_or("a first child")?;
+        let kept = at(&changed, &first).ok_or("a first child")?;
+        assert!(rt; Rc::ptr_eq(&old.shared, &kept.shared));
+        assert_eq!(rt; Rc::strong_count(&old.shared), 2);
+        assert_eq!(rt; Rc::strong_count(&new.shared), 2);
+        Ok(())
+    }
+}
