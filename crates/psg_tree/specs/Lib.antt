@@ -5,3 +5,4 @@ pub mod AbstractText
 pub mod PartTexts
 pub mod Edits
 pub mod PartSizes
+pub mod Reaching

@@ -9,9 +9,11 @@
 pub mod edits;
 pub mod path;
 pub mod places;
+mod reach;
 pub mod sizes;
 pub mod text;
 pub mod tree;
+mod words;
 
 pub use edits::{insert, remove, set_unfinished};
 pub use path::Path;
