@@ -6,3 +6,5 @@ pub mod PartTexts
 pub mod Edits
 pub mod PartSizes
 pub mod Reaching
+pub mod WordTests
+pub mod Forms

@@ -7,6 +7,7 @@
 #![tactic(auto)]
 
 pub mod edits;
+pub mod forms;
 pub mod path;
 pub mod places;
 mod reach;
@@ -16,6 +17,7 @@ pub mod tree;
 mod words;
 
 pub use edits::{insert, remove, set_unfinished};
+pub use forms::well_formed;
 pub use path::Path;
 pub use places::{TreeFault, at, replace};
 pub use sizes::{depth, nodes};
