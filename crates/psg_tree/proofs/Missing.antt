@@ -1,7 +1,6 @@
 -- How many numbers below a bound are not in a list.
-use Rattle.std.proofs.Common.{◌≡◌, ◌⊎◌, inl, inr, ℕ, zero, suc, ◌+◌, ◌<◌, ◌≤◌, ◌==◌, ◌||◌, Bool, true, false, cond, List, [], ◌∷◌, refl, ap, sym, ◌∙◌, subst, arith, true≢false}
+use Rattle.std.proofs.Common.{◌≡◌, inl, inr, ℕ, zero, suc, ◌+◌, ◌<◌, ◌≤◌, ◌==◌, ◌||◌, Bool, true, false, cond, List, ◌∷◌, ap, sym, ◌∙◌, arith}
 use Rattle.std.proofs.lemmas.Bool.Decides.{eqb_tells}
-use Rattle.std.proofs.lemmas.Bool.{cases_lt}
 use Rattle.psg_tree.specs.Reaching.{is_in}
 
 pub missing : ℕ → List ℕ → ℕ
@@ -26,9 +25,9 @@ missing_falls zero p found h e = absurd (omega (arith, h))
 missing_falls (suc n) p found h e =
     elim (eqb_tells p n) [
       | inl q ↦
-        let new : is_in n found ≡ false = ap (λ m. is_in m found) (sym q.1) ∙ e in
-        let a : cond {A = ℕ} ((p == n) || is_in n found) 0 1 ≡ 0 = ap (λ b. cond {A = ℕ} (b || is_in n found) 0 1) q.0 in
-        let b : cond {A = ℕ} (is_in n found) 0 1 ≡ 1 = ap (λ b. cond {A = ℕ} b 0 1) new in
-        omega (arith, fewer n p found, a, b)
+          let new : is_in n found ≡ false = ap (λ m. is_in m found) (sym q.1) ∙ e in
+          let a : cond {A = ℕ} ((p == n) || is_in n found) 0 1 ≡ 0 = ap (λ b. cond {A = ℕ} (b || is_in n found) 0 1) q.0 in
+          let b : cond {A = ℕ} (is_in n found) 0 1 ≡ 1 = ap (λ b. cond {A = ℕ} b 0 1) new in
+          omega (arith, fewer n p found, a, b)
       | inr q ↦ omega (arith, missing_falls n p found (omega (arith, h, q.1)) e, least (p == n) (is_in n found))
     ]

@@ -1,7 +1,7 @@
 -- What a step of the search for a declaring position tells.
-use Rattle.std.proofs.Common.{◌≡◌, ◌⊎◌, inl, inr, ◌↔◌, ℕ, zero, suc, ◌+◌, ◌<◌, ◌==◌, ◌||◌, Bool, true, false, List, [], ◌∷◌, ◌++◌, length, take, get_or, Option, Some, None, slice_get, refl, ap, sym, ◌∙◌, subst, arith, true≢false}
+use Rattle.std.proofs.Common.{◌≡◌, inl, inr, ℕ, zero, suc, ◌+◌, ◌<◌, ◌==◌, true, false, List, [], ◌∷◌, ◌++◌, length, take, get_or, Option, Some, None, slice_get, refl, ap, sym, ◌∙◌, subst, arith, true≢false}
 use Rattle.std.specs.List.{AllByRecursion}
-use Rattle.std.proofs.lemmas.List.{take_more, take_all}
+use Rattle.std.proofs.lemmas.List.{take_more}
 use Rattle.std.proofs.lemmas.Option.{slice_get_read, none-some}
 use Rattle.psg_grammar.specs.declared.types.Kind.{Kind}
 use Rattle.psg_grammar.specs.declared.types.Kind.TheVariants as kinds
@@ -14,7 +14,7 @@ use Rattle.psg_grammar.specs.Declaring.{Declares, by_list, by_operator, AnyDecla
 use Rattle.psg_grammar.proofs.DeclaringLaws.{or_cases, or_left, or_right, eqb_true, eqb_same}
 use Rattle.psg_tree.specs.declared.reach.Step.{Step}
 use Rattle.psg_tree.specs.declared.reach.Step.TheVariants as next
-use Rattle.psg_tree.specs.Reaching.{is_in, element_of, phylum_of, AnyDeclare, PhylumDeclares, IsFoundAt, IsClosedItem, IsClosedOperator, IsKindStep, IsItemStep, IsItemsStep, IsOperatorsStep}
+use Rattle.psg_tree.specs.Reaching.{is_in, element_of, phylum_of, AnyDeclare, PhylumDeclares, IsFoundAt, IsClosedItem, IsClosedOperator, IsItemStep, IsItemsStep, IsOperatorsStep}
 
 all_push : {X : Type 0} (P : X → Type 0) (xs : List X) (y : X) → AllByRecursion P xs → P y → AllByRecursion P (xs ++ y ∷ [])
 all_push P [] y h p = (p, tt)

@@ -1,5 +1,5 @@
 -- Words as a test, from the first character or behind it.
-use Rattle.std.specs.Prelude.{ℕ, ◌&&◌, Bool, true, false, cond, not, List, [], ◌∷◌}
+use Rattle.std.specs.Prelude.{ℕ, ◌&&◌, Bool, false, cond, not, List, [], ◌∷◌}
 use Rattle.psg_terms.specs.Words.{starts_word, goes_on_word}
 
 abbrev pub is_word_from : Bool → List ℕ → Bool

@@ -175,6 +175,13 @@ fn elements_fit(def: &Definition, elements: &[Tree], phylum: u32) -> bool
     true
 }
 
+/// Whether a list may be unfinished where it is.
+fn may_end(unfinished: bool, allowed: bool) -> bool
+    ensures { IsTrue result ↔ (unfinished ≡ true → allowed ≡ true) }
+{
+    !unfinished || allowed
+}
+
 /// Whether a list of these elements is a tree of the kind.
 #[cycle(fits)]
 fn list_fits(def: &Definition, list: u32, elements: &[Tree], unfinished: bool, kind: Kind) -> bool
@@ -184,7 +191,10 @@ fn list_fits(def: &Definition, list: u32, elements: &[Tree], unfinished: bool, k
     match def.lists.as_slice().get(list as usize) {
         None => false,
         Some(own) => {
-            if !is_list(kind, list) || (unfinished && !own.unfinished) {
+            if !is_list(kind, list) {
+                return false;
+            }
+            if !may_end(unfinished, own.unfinished) {
                 return false;
             }
             elements_fit(def, elements, own.element)

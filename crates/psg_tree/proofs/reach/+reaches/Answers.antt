@@ -1,4 +1,4 @@
-use Rattle.std.proofs.Common.{◌≡◌, ◌<◌, ◌^◌, ◌∷◌, true, false, sym, subst, arith, refl, true≢false}
+use Rattle.std.proofs.Common.{◌<◌, ◌^◌, ◌∷◌, sym, subst, arith, refl, true≢false}
 use Rattle.psg_tree.specs.declared.reach.Step.TheVariants as next
 use Rattle.psg_tree.specs.Reaching.{found_list, IsOperatorsStep}
 use Rattle.psg_tree.proofs.Missing.{missing, missing_falls}

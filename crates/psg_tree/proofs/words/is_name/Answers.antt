@@ -1,4 +1,4 @@
-use Rattle.std.proofs.Common.{◌≡◌, true, false, not, refl, sym, ap, ◌∙◌, true≢false}
+use Rattle.std.proofs.Common.{not, sym, ap, ◌∙◌, true≢false}
 use Rattle.psg_grammar.specs.WellFormed.{fixed_words}
 use Rattle.psg_tree.proofs.NameTests.{free_word, free_word_is_word, free_word_is_free, not_true}
 use Rattle.psg_tree.proofs.words.is_name.Goals as goal
