@@ -1,0 +1,7 @@
+use Rattle.std.proofs.lemmas.Result.{IfOk-weaker}
+use Rattle.psg_tree.proofs.Lists.{is_set}
+use Rattle.psg_tree.proofs.edits.set_unfinished.Goals as goal
+
+pub returns-in_ok-changed-in-Some-clause-ok : goal.returns-in_ok-changed-in-Some-clause-ok
+returns-in_ok-changed-in-Some-clause-ok c =
+    IfOk-weaker c.replace.result _ _ (is_set c.args.tree.now c.in-Some.node.now c.in_ok-changed-in-Some.changed c.args.path.now c.args.unfinished c.in-Some.ensures c.in_ok-changed-in-Some.ensures.ok) c.replace.ensures.ok

@@ -1,0 +1,7 @@
+-- Words as a test, from the first character or behind it.
+use Rattle.std.specs.Prelude.{ℕ, ◌&&◌, Bool, false, cond, not, List, [], ◌∷◌}
+use Rattle.psg_terms.specs.Words.{starts_word, goes_on_word}
+
+abbrev pub is_word_from : Bool → List ℕ → Bool
+is_word_from first [] = not first
+is_word_from first (c ∷ cs) = cond first (starts_word c) (goes_on_word c) && is_word_from false cs

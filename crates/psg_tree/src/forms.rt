@@ -1,0 +1,236 @@
+//! Whether a tree is one of a kind.
+ghost use Rattle.std.specs.Prelude.{◌≡◌, ◌↔◌, ◌≤◌, true, length, drop, IsTrue, IsUtf8};
+ghost use Rattle.std.specs.List.{AllByRecursion};
+ghost use Rattle.psg_grammar.specs.Fragments.{hole, operator};
+ghost use Rattle.psg_grammar.specs.Lookups.{is_part, part_items};
+ghost use Rattle.psg_grammar.specs.Sound.{IsSound};
+ghost use Rattle.psg_grammar.specs.WellFormed.{WellFormed};
+ghost use Rattle.psg_tree.specs.Shapes.{with_parts, list_of};
+ghost use Rattle.psg_tree.specs.Forms as forms;
+
+use crate::reach::declares;
+use crate::tree::{Part, Shape, Tree};
+use crate::words::is_name;
+use psg_grammar::{Definition, Item, Kind};
+use psg_terms::Txt;
+
+/// Whether an item has a part of the tree.
+fn has_part(item: &Item) -> bool
+    ensures { result ≡ is_part item.now }
+{
+    match item {
+        Item::Slot(_) => true,
+        Item::Refers(_) => true,
+        Item::Declares(_) => true,
+        Item::Number => true,
+        Item::Text => true,
+        _ => false,
+    }
+}
+
+/// Whether a name position takes the name.
+fn name_fits(def: &Definition, name: &Txt, item: &Item) -> bool
+    ensures { IsTrue result ↔ forms.NameFits def.now name.now item.now }
+{
+    match item {
+        Item::Refers(_) => is_name(def, name.as_str()),
+        Item::Declares(_) => is_name(def, name.as_str()),
+        _ => false,
+    }
+}
+
+/// Whether the item is for a number.
+fn number_fits(value: u128, item: &Item) -> bool
+    ensures { IsTrue result ↔ forms.NumberFits value item.now }
+{
+    match item {
+        Item::Number => true,
+        _ => false,
+    }
+}
+
+/// Whether the item is for a text.
+fn text_fits(contents: &Txt, item: &Item) -> bool
+    ensures { IsTrue result ↔ forms.TextFits contents.now item.now }
+{
+    let _text = contents.as_str();
+    match item {
+        Item::Text => true,
+        _ => false,
+    }
+}
+
+/// Whether the item is a slot for the tree.
+#[cycle(fits)]
+fn tree_fits(def: &Definition, tree: &Tree, item: &Item) -> bool
+    requires { IsSound def.now }
+    ensures { IsTrue result ↔ forms.TreeFits def.now tree.now item.now }
+{
+    match item {
+        Item::Slot(kind) => well_formed(def, tree, *kind),
+        _ => false,
+    }
+}
+
+/// Whether the part is one of the item.
+#[cycle(fits)]
+fn part_fits(def: &Definition, part: &Part, item: &Item) -> bool
+    requires { IsSound def.now }
+    ensures { IsTrue result ↔ forms.PartFits def.now part.now item.now }
+{
+    match part {
+        Part::Sub(tree) => tree_fits(def, tree, item),
+        Part::Name(name) => name_fits(def, name, item),
+        Part::Number(value) => number_fits(*value, item),
+        Part::Text(contents) => text_fits(contents, item),
+    }
+}
+
+/// The number of the next part behind the item, or none where the part isn't one of it.
+#[cycle(fits)]
+fn next_part(def: &Definition, parts: &[Part], at: usize, item: &Item) -> Option<usize>
+    requires sound { IsSound def.now }
+    requires within { at ≤ length parts.now }
+    ensures { forms.IsNextPart def.now parts.now at item.now result }
+{
+    if !has_part(item) {
+        return Some(at);
+    }
+    match parts.get(at) {
+        None => None,
+        Some(part) => {
+            if part_fits(def, part, item) {
+                Some(at + 1)
+            } else {
+                None
+            }
+        }
+    }
+}
+
+/// Whether the parts are those of the items.
+#[cycle(fits)]
+fn parts_fit(def: &Definition, parts: &[Part], items: &[Item]) -> bool
+    requires { IsSound def.now }
+    ensures { IsTrue result ↔ forms.PartsFit def.now parts.now (part_items items.now) }
+{
+    let mut at: usize = 0;
+    for item in items {
+        match next_part(def, parts, at, item) {
+            None => return false,
+            Some(next) => at = next,
+        }
+    }
+    at == parts.len()
+}
+
+/// Whether the kind is that of the phylum.
+fn is_phylum(kind: Kind, phylum: u32) -> bool
+    ensures { IsTrue result ↔ (kind ≡ Kind.Phylum phylum) }
+{
+    match kind {
+        Kind::Phylum(wanted) => wanted == phylum,
+        Kind::List(_) => false,
+    }
+}
+
+/// Whether the kind is that of the lists.
+fn is_list(kind: Kind, list: u32) -> bool
+    ensures { IsTrue result ↔ (kind ≡ Kind.List list) }
+{
+    match kind {
+        Kind::Phylum(_) => false,
+        Kind::List(wanted) => wanted == list,
+    }
+}
+
+/// Whether an operator with these parts is a tree of the kind.
+#[cycle(fits)]
+fn operator_fits(def: &Definition, op: u32, parts: &[Part], kind: Kind) -> bool
+    requires { IsSound def.now }
+    ensures { IsTrue result ↔ WellFormed def.now (with_parts (operator op) parts.now) kind }
+{
+    match def.operators.as_slice().get(op as usize) {
+        None => false,
+        Some(operator) => {
+            if !is_phylum(kind, operator.phylum) {
+                return false;
+            }
+            parts_fit(def, parts, operator.items.as_slice())
+        }
+    }
+}
+
+/// Whether the elements are trees of the phylum.
+#[cycle(fits)]
+fn elements_fit(def: &Definition, elements: &[Tree], phylum: u32) -> bool
+    requires { IsSound def.now }
+    ensures { IsTrue result ↔ AllByRecursion (λ e. WellFormed def.now e (Kind.Phylum phylum)) elements.now }
+{
+    for element in elements {
+        if !well_formed(def, element, Kind::Phylum(phylum)) {
+            return false;
+        }
+    }
+    true
+}
+
+/// Whether a list may be unfinished where it is.
+fn may_end(unfinished: bool, allowed: bool) -> bool
+    ensures { IsTrue result ↔ (unfinished ≡ true → allowed ≡ true) }
+{
+    !unfinished || allowed
+}
+
+/// Whether a list of these elements is a tree of the kind.
+#[cycle(fits)]
+fn list_fits(def: &Definition, list: u32, elements: &[Tree], unfinished: bool, kind: Kind) -> bool
+    requires { IsSound def.now }
+    ensures { IsTrue result ↔ WellFormed def.now (list_of list elements.now unfinished) kind }
+{
+    match def.lists.as_slice().get(list as usize) {
+        None => false,
+        Some(own) => {
+            if !is_list(kind, list) {
+                return false;
+            }
+            if !may_end(unfinished, own.unfinished) {
+                return false;
+            }
+            elements_fit(def, elements, own.element)
+        }
+    }
+}
+
+/// Whether a placeholder is a tree of the kind.
+fn hole_fits(def: &Definition, phylum: u32, kind: Kind) -> bool
+    requires { IsSound def.now }
+    ensures { IsTrue result ↔ WellFormed def.now (hole phylum) kind }
+{
+    if !is_phylum(kind, phylum) || phylum as usize >= def.phyla.as_slice().len() {
+        return false;
+    }
+    !declares(def, phylum)
+}
+
+/// Whether the tree is one of the kind: each operator has the parts of its items, each child is of the kind of its slot or
+/// list, a list is unfinished only where its kind is, no placeholder stands for a list or for a declaring phylum, and each
+/// name is a word that isn't reserved.
+///
+/// It takes one walk over the tree and no memory. At each name it goes over the words of the definition, and at each
+/// placeholder it searches the phyla that can be reached from its own.
+#[cycle(fits)]
+pub fn well_formed(def: &Definition, tree: &Tree, kind: Kind) -> bool
+    requires { IsSound def.now }
+    ensures { IsTrue result ↔ WellFormed def.now tree.now kind }
+{
+    match tree.shape() {
+        Shape::Op { op, parts } => operator_fits(def, *op, parts.as_slice(), kind),
+        Shape::List {
+            list,
+            elements,
+            unfinished,
+        } => list_fits(def, *list, elements.as_slice(), *unfinished, kind),
+        Shape::Hole { phylum } => hole_fits(def, *phylum, kind),
+    }
+}
