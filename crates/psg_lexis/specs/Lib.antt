@@ -1,0 +1,4 @@
+pub mod Classes
+pub mod Splits
+pub mod Tokens
+pub mod Faults
