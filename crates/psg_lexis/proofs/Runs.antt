@@ -75,4 +75,4 @@ pub stops_at : (test : ℕ → Bool) (rest after : List ℕ) (c : ℕ) → IsFir
 stops_at test rest after c f h = subst (EndsBy test) (sym f.characters) h
 
 pub stops_at_end : (test : ℕ → Bool) (rest : List ℕ) → chars rest ≡ [] → EndsBy test (chars rest)
-stops_at_end test rest e = subst (EndsBy test) (sym e) tt
+stops_at_end test rest e = subst (EndsBy test) (sym e) refl

@@ -26,15 +26,23 @@ is_escape c = (c == 34) || (c == 92) || (c == 110)
 abbrev pub All : (ℕ → Bool) → Chars → Type 0
 All test = AllByRecursion (λ c. IsTrue (test c))
 
--- the first of the characters, if there is one, fails the test
-abbrev pub EndsBy : (ℕ → Bool) → Chars → Type 0
-EndsBy test [] = ⊤
-EndsBy test (c ∷ cs) = test c ≡ false
-
 -- there is a first character, and it passes the test
+abbrev pub begins_by : (ℕ → Bool) → Chars → Bool
+begins_by test [] = false
+begins_by test (c ∷ cs) = test c
+
 abbrev pub BeginsBy : (ℕ → Bool) → Chars → Type 0
-BeginsBy test [] = ⊥
-BeginsBy test (c ∷ cs) = test c ≡ true
+BeginsBy test cs = begins_by test cs ≡ true
+
+-- a run of characters that pass the test ends before these
+abbrev pub EndsBy : (ℕ → Bool) → Chars → Type 0
+EndsBy test cs = begins_by test cs ≡ false
+
+-- the characters are the longest run of those that pass the test, and not none; the others follow
+pub record IsLongest (test : ℕ → Bool) (run follow : Chars) : Type 0 where
+  pub begins : BeginsBy test run
+  pub all : All test run
+  pub ends : EndsBy test follow
 
 -- two characters that would run together into one token
 abbrev pub Glue : ℕ → ℕ → Type 0

@@ -3,8 +3,8 @@ use Rattle.std.specs.Prelude.{ℕ, ◌≡◌, ◌≢◌, ◌⊎◌, ◌<◌, ◌
 use Rattle.unicode_width.specs.Width.{char_width}
 use Rattle.psg_terms.specs.Names.{Name, is_among}
 use Rattle.psg_terms.specs.Words.{starts_word, goes_on_word, IsWord}
-use Rattle.psg_lexis.specs.Classes.{Chars, is_blank, is_digit, is_solo, is_symbol, is_escape, All, EndsBy, BeginsBy}
-use Rattle.psg_lexis.specs.Tokens.{bytes_of, value_of, is_content, quoted, IsToken, Begins}
+use Rattle.psg_lexis.specs.Classes.{Chars, is_blank, is_digit, is_solo, is_symbol, is_escape, All, EndsBy, BeginsBy, IsLongest}
+use Rattle.psg_lexis.specs.Tokens.{bytes_of, dots, value_of, is_content, quoted, IsToken, Begins}
 use Rattle.psg_lexis.specs.declared.token.Spanned.{Spanned}
 use Rattle.psg_lexis.specs.declared.token.LexFault.{LexFault}
 use Rattle.psg_lexis.specs.declared.token.LexFault.TheVariants as faults
@@ -42,18 +42,17 @@ module _ (fixed : List Name) where
         → IsFault (34 ∷ all) at (faults.BadChar (at + bytes_of (34 ∷ quoted before)))
     no_escape : (before all cs : Chars) (at : ℕ) → all ≡ quoted before ++ 92 ∷ cs → IsInside before (92 ∷ cs) → EndsBy is_escape cs
         → IsFault (34 ∷ all) at (faults.BadRun (at + bytes_of (34 ∷ quoted before)))
-    no_symbol : (c : ℕ) (cs all rest : Chars) (at : ℕ) → all ≡ cs ++ rest → All is_symbol (c ∷ cs) → EndsBy is_symbol rest
-        → is_among fixed (encode_utf8_all (c ∷ cs)) ≡ false → (c ∷ cs ≡ 46 ∷ 46 ∷ 46 ∷ [] → ⊥)
-        → IsFault (c ∷ all) at (faults.BadRun at)
-    no_number : (c : ℕ) (cs all rest : Chars) (at : ℕ) → all ≡ cs ++ rest → All is_digit (c ∷ cs) → EndsBy is_digit rest
-        → BeginsBy goes_on_word rest → IsFault (c ∷ all) at (faults.BadRun at)
+    no_symbol : (cs all rest : Chars) (at : ℕ) → all ≡ cs ++ rest → IsLongest is_symbol cs rest
+        → is_among fixed (encode_utf8_all cs) ≡ false → cs ≢ dots → IsFault all at (faults.BadRun at)
+    no_number : (cs all rest : Chars) (at : ℕ) → all ≡ cs ++ rest → IsLongest is_digit cs rest → BeginsBy goes_on_word rest
+        → IsFault all at (faults.BadRun at)
     unended : (cs : Chars) (at : ℕ) → is_closed false cs ≡ false → IsFault (34 ∷ cs) at (faults.Unended at)
     large_word : (cs all rest : Chars) (at : ℕ) → all ≡ cs ++ rest → IsWord cs → EndsBy goes_on_word rest → 255 < bytes_of cs
         → IsFault all at (faults.TooLarge at)
     large_hole : (cs all rest : Chars) (at : ℕ) → all ≡ cs ++ rest → IsWord cs → EndsBy goes_on_word rest → 255 < bytes_of cs
         → IsFault (63 ∷ all) at (faults.TooLarge (at + 1))
-    large_number : (c : ℕ) (cs all rest : Chars) (at : ℕ) → all ≡ cs ++ rest → All is_digit (c ∷ cs) → EndsBy is_digit rest
-        → EndsBy goes_on_word rest → 2 ^ 128 ≤ value_of (c ∷ cs) → IsFault (c ∷ all) at (faults.TooLarge at)
+    large_number : (cs all rest : Chars) (at : ℕ) → all ≡ cs ++ rest → IsLongest is_digit cs rest → EndsBy goes_on_word rest
+        → 2 ^ 128 ≤ value_of cs → IsFault all at (faults.TooLarge at)
     large_text : (before all rest : Chars) (at : ℕ) → all ≡ quoted before ++ 34 ∷ rest → All is_content before → 4096 < bytes_of before
         → IsFault (34 ∷ all) at (faults.TooLarge at)
 

@@ -1,9 +1,9 @@
 -- The tokens of a text, by its characters.
-use Rattle.std.specs.Prelude.{ℕ, ◌≡◌, ◌<◌, ◌≤◌, ◌+◌, ◌*◌, ◌-◌, ◌^◌, ◌==◌, ◌||◌, Bool, false, cond, is_some, List, [], ◌∷◌, ◌++◌, length, encode_utf8_all, IsTrue}
+use Rattle.std.specs.Prelude.{ℕ, ◌≡◌, ◌≢◌, ◌<◌, ◌≤◌, ◌+◌, ◌*◌, ◌-◌, ◌^◌, ◌==◌, ◌||◌, Bool, false, cond, is_some, List, [], ◌∷◌, ◌++◌, length, encode_utf8_all, codes, IsTrue}
 use Rattle.unicode_width.specs.Width.{char_width}
 use Rattle.psg_terms.specs.Names.{Name, is_among}
 use Rattle.psg_terms.specs.Words.{goes_on_word, IsWord}
-use Rattle.psg_lexis.specs.Classes.{Chars, is_blank, is_digit, is_solo, is_symbol, All, EndsBy}
+use Rattle.psg_lexis.specs.Classes.{Chars, is_blank, is_digit, is_solo, is_symbol, All, EndsBy, IsLongest}
 use Rattle.psg_lexis.specs.declared.token.Token.{Token}
 use Rattle.psg_lexis.specs.declared.token.Token.TheVariants as tokens
 use Rattle.psg_lexis.specs.declared.token.Spanned.{Spanned}
@@ -11,6 +11,10 @@ use Rattle.psg_lexis.specs.declared.token.Spanned.{Spanned}
 -- how many bytes the characters take
 abbrev pub bytes_of : Chars → ℕ
 bytes_of cs = length (encode_utf8_all cs)
+
+-- the run `...`
+abbrev pub dots : Chars
+dots = codes "..."
 
 -- the number that decimal digits stand for
 abbrev pub value_of : Chars → ℕ
@@ -35,17 +39,16 @@ module _ (fixed : List Name) where
   pub data IsToken : Chars → Chars → Token → Type 0 where
     word : (cs rest : Chars) → IsWord cs → EndsBy goes_on_word rest → bytes_of cs ≤ 255
         → IsToken cs rest (tokens.Word (encode_utf8_all cs))
-    number : (c : ℕ) (cs rest : Chars) → All is_digit (c ∷ cs) → EndsBy is_digit rest → EndsBy goes_on_word rest
-        → value_of (c ∷ cs) < 2 ^ 128 → IsToken (c ∷ cs) rest (tokens.Number (value_of (c ∷ cs)))
+    number : (cs rest : Chars) → IsLongest is_digit cs rest → EndsBy goes_on_word rest → value_of cs < 2 ^ 128
+        → IsToken cs rest (tokens.Number (value_of cs))
     text : (cs written rest : Chars) → written ≡ quoted cs ++ 34 ∷ [] → All is_content cs → bytes_of cs ≤ 4096
         → IsToken (34 ∷ written) rest (tokens.Text (encode_utf8_all cs))
     solo : (c : ℕ) (rest : Chars) → IsTrue (is_solo c) → IsToken (c ∷ []) rest (tokens.Solo c)
-    symbol : (c : ℕ) (cs rest : Chars) → All is_symbol (c ∷ cs) → EndsBy is_symbol rest
-        → IsTrue (is_among fixed (encode_utf8_all (c ∷ cs))) → (c ∷ cs ≡ 46 ∷ 46 ∷ 46 ∷ [] → ⊥)
-        → IsToken (c ∷ cs) rest (tokens.Symbol (encode_utf8_all (c ∷ cs)))
+    symbol : (cs rest : Chars) → IsLongest is_symbol cs rest → IsTrue (is_among fixed (encode_utf8_all cs)) → cs ≢ dots
+        → IsToken cs rest (tokens.Symbol (encode_utf8_all cs))
     hole : (cs rest : Chars) → IsWord cs → EndsBy goes_on_word rest → bytes_of cs ≤ 255
         → IsToken (63 ∷ cs) rest (tokens.Hole (encode_utf8_all cs))
-    more : (rest : Chars) → EndsBy is_symbol rest → IsToken (46 ∷ 46 ∷ 46 ∷ []) rest tokens.More
+    more : (rest : Chars) → EndsBy is_symbol rest → IsToken dots rest tokens.More
 
   -- the characters begin with the token, at the byte `at`
   pub record Begins (all : Chars) (at : ℕ) (s : Spanned) : Type 0 where

@@ -8,10 +8,13 @@
 #![tactic(auto)]
 
 pub mod classes;
+pub mod lexer;
 pub mod lexis;
+mod literal;
 mod splits;
 pub mod token;
 
 pub use classes::glues;
+pub use lexer::lex;
 pub use lexis::Lexis;
 pub use token::{LexFault, Spanned, Token};
