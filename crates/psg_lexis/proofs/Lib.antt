@@ -6,3 +6,7 @@ pub mod Contents
 pub mod Closing
 pub mod Literals
 pub mod Walk
+pub mod Disjoint
+pub mod Unquoting
+pub mod Laws
+pub mod Joining

@@ -64,9 +64,9 @@ content-backslash = refl
 
 pub some_left : (rest : List ℕ) (c : ℕ) (cs : Chars) → chars rest ≡ c ∷ cs → 0 < length rest
 some_left [] c cs e = absurd (nothing (sym chars-nil ∙ e))
- where
-  nothing : [] ≡ c ∷ cs → ⊥
-  nothing e = cc
+  where
+    nothing : [] ≡ c ∷ cs → ⊥
+    nothing e = cc
 some_left (b ∷ bs) c cs e = omega arith
 
 quote-size : (cs : Chars) → bytes_of (34 ∷ cs) ≡ 1 + bytes_of cs

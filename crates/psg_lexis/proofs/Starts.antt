@@ -133,9 +133,9 @@ module _ (fixed : List Name) (text front rest : List ℕ) (at : ℕ) where
     starts = refl;
     ends = ap (λ w. at + length w) (sym r.encoded);
   }
-   where
-    not_dots : IsRun is_symbol text front rest → (front ≡ dots → ⊥) → chars front ≢ dots
-    not_dots r apart same = apart (sym r.encoded ∙ ap encode_utf8_all same ∙ encodes-dots)
+    where
+      not_dots : IsRun is_symbol text front rest → (front ≡ dots → ⊥) → chars front ≢ dots
+      not_dots r apart same = apart (sym r.encoded ∙ ap encode_utf8_all same ∙ encodes-dots)
 
   pub no_fixed_symbol : IsRun is_symbol text front rest → BeginsBy is_symbol (chars text) → (front ≡ dots → ⊥) → is_among fixed front ≡ false → IsFault fixed (chars text) at (faults.BadRun at)
   no_fixed_symbol r b apart among =

@@ -24,14 +24,14 @@ blank_is false true c d h = inr (inl refl)
 blank_is false false true d h = inr (inr (inl refl))
 blank_is false false false d h = inr (inr (inr h))
 
-blank-small : (c : ℕ) → is_blank c ≡ true → c < 128
+pub blank-small : (c : ℕ) → is_blank c ≡ true → c < 128
 blank-small c h =
     elim (blank_is (c == 32) (c == 9) (c == 10) (c == 13) h) [
-    | inl e ↦ let k = eqb-true c 32 e in omega arith
-    | inr r ↦ elim r [
+      | inl e ↦ let k = eqb-true c 32 e in omega arith
+      | inr r ↦ elim r [
         | inl e ↦ let k = eqb-true c 9 e in omega arith
         | inr q ↦ elim q [ inl e ↦ let k = eqb-true c 10 e in omega arith | inr e ↦ let k = eqb-true c 13 e in omega arith ]
-        ]
+      ]
     ]
 
 pub past_blank : (rest after : List ℕ) (c : ℕ) → IsFirst rest c after → is_blank c ≡ true → length rest ≡ 1 + length after

@@ -95,7 +95,11 @@ fn escape(behind: &str) -> Piece<'_>
 fn unless_open(text: &str, at: usize, fault: LexFault) -> LexFault
     ensures { result ≡ (if is_closed false (chars text.now) then fault else LexFault.Unended at) }
 {
-    if is_closed(text) { fault } else { LexFault::Unended(at) }
+    if is_closed(text) {
+        fault
+    } else {
+        LexFault::Unended(at)
+    }
 }
 
 /// Whether a quoted text that goes on with this text is closed on its line.

@@ -13,10 +13,13 @@ returns-in_err-value c =
 
 pub loop-digit-preserved : goal.loop-digit-preserved
 loop-digit-preserved c =
-    let same : c.in_ok-value.value ≡ c.loop-digit.value * 10 + (c.in-Some.digit - 48) = omega (arith, c.from.ensures) in
-    (c.in-Some.ensures.first.utf8, digits_left _ _ _ c.in-Some.ensures.first c.loop-digit.invariant.1, subst (λ v. v < 2 ^ 128) (sym c.in_ok-value.ensures.1) c.in_ok-value.ensures.0,
+    let same : c.in_ok-value.value ≡ c.loop-digit.value * 10 + (c.in-Some.digit - 48) = omega (arith, c.from.ensures) in (
+      c.in-Some.ensures.first.utf8,
+      digits_left _ _ _ c.in-Some.ensures.first c.loop-digit.invariant.1,
+      subst (λ v. v < 2 ^ 128) (sym c.in_ok-value.ensures.1) c.in_ok-value.ensures.0,
       subst (λ v. v * 10 ^ length (chars c.in-Some.after.now) + value_of (chars c.in-Some.after.now) ≡ value_of (chars c.args.digits.now)) (sym same)
-          (digit_read _ _ _ _ _ c.in-Some.ensures.first c.loop-digit.invariant.3))
+          (digit_read _ _ _ _ _ c.in-Some.ensures.first c.loop-digit.invariant.3),
+    )
 
 pub returns : goal.returns
 returns c =

@@ -8,8 +8,7 @@ loop-first-preserved-then-is_blank c =
     let first = c.in-Some.ensures.first in
     let blank = sym c.is_blank.ensures ∙ c.if-is_blank.true in
     let one : length c.loop-first.rest.now ≡ 1 + length c.in-Some.after.now = past_blank _ _ _ first blank in
-    let within : length c.loop-first.rest.now ≤ length c.args.text.now = c.loop-first.invariant.1 in
-    (
+    let within : length c.loop-first.rest.now ≤ length c.args.text.now = c.loop-first.invariant.1 in (
       first.utf8,
       omega (arith, one),
       subst (λ n. HasWalked c.args.lexis.now c.args.text.now c.loop-first.tokens.items n c.in-Some.after.now) (omega (arith, one, within))
@@ -34,13 +33,12 @@ loop-first-preserved c =
     let left = left_length _ _ c.loop-first.invariant.0 _ _ c.in_ok-token.ensures.ok _ c.split_at.ensures.back in
     let within : length c.loop-first.rest.now ≤ length c.args.text.now = c.loop-first.invariant.1 in
     let same : c.in_ok-token.token.end ≡ length c.args.text.now - length c.split_at.result.1.now = omega (arith, left.0, left.1, within) in
-    let pushed : c.push.new.self.items ≡ c.loop-first.tokens.items ++ c.in_ok-token.token ∷ [] = c.in_ok-push.ensures.items in
-    (
+    let pushed : c.push.new.self.items ≡ c.loop-first.tokens.items ++ c.in_ok-token.token ∷ [] = c.in_ok-push.ensures.items in (
       left_utf8 _ _ c.loop-first.invariant.0 _ _ c.in_ok-token.ensures.ok _ c.split_at.ensures.back,
       omega (arith, left.0, within),
       subst (λ n. HasWalked c.args.lexis.now c.args.text.now c.push.new.self.items n c.split_at.result.1.now) same
           (subst (λ ts. HasWalked c.args.lexis.now c.args.text.now ts c.in_ok-token.token.end c.split_at.result.1.now) (sym pushed)
-              (walk_token _ _ _ _ _ _ _ c.loop-first.invariant.0 c.loop-first.invariant.2 c.in_ok-token.ensures.ok c.split_at.ensures.back)),
+          (walk_token _ _ _ _ _ _ _ c.loop-first.invariant.0 c.loop-first.invariant.2 c.in_ok-token.ensures.ok c.split_at.ensures.back)),
     )
 
 pub returns-clause-ok : goal.returns-clause-ok

@@ -11,6 +11,6 @@ returns-else-has-clause-err c = inr (no_fixed_symbol _ _ _ _ _ c.split_run.ensur
 pub returns-clause-ok : goal.returns-clause-ok
 returns-clause-ok c =
     elim c.if-eq.branch [
-    | then-eq w ↦ rw w.token-is (begins_more _ _ _ _ _ c.split_run.ensures.run (same_dots _ (sym c.eq.ensures ∙ w.if-eq.true)))
-    | else-eq+then-has+in_ok-copy_of w ↦ rw w.token-is (begins_symbol _ _ _ _ _ _ c.split_run.ensures.run c.requires.begins (apart_dots _ (sym c.eq.ensures ∙ w.if-eq.false)) (sym w.has.ensures.value ∙ w.if-has.true) w.in_ok-copy_of.ensures)
+      | then-eq w ↦ rw w.token-is (begins_more _ _ _ _ _ c.split_run.ensures.run (same_dots _ (sym c.eq.ensures ∙ w.if-eq.true)))
+      | else-eq+then-has+in_ok-copy_of w ↦ rw w.token-is (begins_symbol _ _ _ _ _ _ c.split_run.ensures.run c.requires.begins (apart_dots _ (sym c.eq.ensures ∙ w.if-eq.false)) (sym w.has.ensures.value ∙ w.if-has.true) w.in_ok-copy_of.ensures)
     ]
