@@ -1,9 +1,9 @@
 -- Where a quoted text is closed on its line.
-use Rattle.std.proofs.Common.{◌≡◌, ◌≢◌, ℕ, ◌+◌, ◌-◌, ◌<◌, ◌≤◌, Bool, true, false, cond, List, [], ◌∷◌, ◌++◌, length, sym, ap, ◌∙◌, subst, refl, append_assoc}
-use Rattle.std.specs.Prelude.{encode_utf8, IsTrue, not, ◌&&◌, ◌||◌, ◌==◌, nat_eq}
-use Rattle.std.specs.Str.{chars, IsUtf8}
-use Rattle.psg_lexis.specs.Classes.{Chars, All}
-use Rattle.psg_lexis.specs.Tokens.{is_content, escaped, quoted}
+use Rattle.std.proofs.Common.{◌≡◌, ℕ, Bool, true, false, cond, List, [], ◌∷◌, ◌++◌, sym, ap, ◌∙◌, refl, append_assoc}
+use Rattle.std.specs.Prelude.{not, ◌&&◌, ◌||◌, ◌==◌}
+use Rattle.std.specs.Str.{chars}
+use Rattle.psg_lexis.specs.Classes.{Chars}
+use Rattle.psg_lexis.specs.Tokens.{escaped, quoted}
 use Rattle.psg_lexis.specs.Faults.{is_closed}
 use Rattle.psg_lexis.specs.Splits.{IsFirst}
 

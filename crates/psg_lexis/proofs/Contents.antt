@@ -1,11 +1,10 @@
 -- The contents of a quoted text, as far as a walk has read them.
-use Rattle.std.proofs.Common.{◌≡◌, ◌≢◌, ℕ, ◌+◌, ◌-◌, ◌<◌, ◌≤◌, Bool, true, false, cond, List, [], ◌∷◌, ◌++◌, length, sym, ap, ◌∙◌, subst, refl, append_assoc, append-nil, arith, length-append}
-use Rattle.std.specs.Prelude.{encode_utf8, encode_utf8_all, IsTrue, not, ◌&&◌, ◌||◌, ◌==◌}
+use Rattle.std.proofs.Common.{◌≡◌, ℕ, ◌+◌, ◌≤◌, List, [], ◌∷◌, ◌++◌, length, sym, ap, ◌∙◌, refl, append_assoc, append-nil, arith, length-append}
+use Rattle.std.specs.Prelude.{encode_utf8, encode_utf8_all}
 use Rattle.std.specs.Str.{chars}
 use Rattle.std.proofs.lemmas.Str.{encodes-append}
 use Rattle.psg_lexis.specs.Classes.{Chars, All}
 use Rattle.psg_lexis.specs.Tokens.{bytes_of, is_content, escaped, quoted}
-use Rattle.psg_lexis.specs.Faults.{is_closed}
 use Rattle.psg_lexis.specs.Pieces.{IsContent}
 use Rattle.psg_lexis.proofs.Runs.{All-push}
 

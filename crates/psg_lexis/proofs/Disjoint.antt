@@ -1,11 +1,10 @@
 -- No character is of two classes.
-use Rattle.std.proofs.Common.{◌≡◌, ℕ, ◌<◌, ◌≤◌, Bool, true, false, List, [], ◌∷◌, sym, ap, ◌∙◌, subst, refl, arith}
-use Rattle.std.specs.Prelude.{codes, not, nat_le, nat_lt, ◌||◌, ◌&&◌, ◌==◌}
+use Rattle.std.proofs.Common.{◌≡◌, ℕ, ◌<◌, Bool, true, false, List, [], ◌∷◌, ap, ◌∙◌, subst, refl, arith}
+use Rattle.std.specs.Prelude.{codes, not, nat_lt, ◌||◌, ◌&&◌, ◌==◌}
 use Rattle.std.specs.Char.{is_ascii_alphabetic}
 use Rattle.std.specs.List.{list_any, list_all}
 use Rattle.std.proofs.lemmas.Bool.{false≢true, eqb-true, ltb-true}
 use Rattle.std.proofs.lemmas.Bool.Decides.{nat_tests}
-use Rattle.unicode_ident.specs.Ident.{is_xid_start}
 use Rattle.unicode_ident.proofs.IdentLemmas.{is_xid_start-ascii}
 use Rattle.psg_terms.specs.Words.{starts_word}
 use Rattle.psg_lexis.specs.Classes.{is_blank, is_digit, is_solo, is_symbol}
@@ -26,10 +25,10 @@ negated false h = refl
 among : (p : ℕ → Bool) (c : ℕ) (cs : List ℕ) → list_any (λ d. c == d) cs ≡ true → list_all p cs ≡ true → p c ≡ true
 among p c [] h a = absurd (false≢true h)
 among p c (d ∷ cs) h a = by (c == d) refl (λ k. among p c cs k (right (p d) (list_all p cs) a))
- where
-  by : (b : Bool) → (c == d) ≡ b → (list_any (λ x. c == x) cs ≡ true → p c ≡ true) → p c ≡ true
-  by true e later = ap p (eqb-true c d e) ∙ left (p d) (list_all p cs) a
-  by false e later = later (subst (λ b. (b || list_any (λ x. c == x) cs) ≡ true) e h)
+  where
+    by : (b : Bool) → (c == d) ≡ b → (list_any (λ x. c == x) cs ≡ true → p c ≡ true) → p c ≡ true
+    by true e later = ap p (eqb-true c d e) ∙ left (p d) (list_all p cs) a
+    by false e later = later (subst (λ b. (b || list_any (λ x. c == x) cs) ≡ true) e h)
 
 -- an ASCII character that begins no word
 abbrev no_start : ℕ → Bool
@@ -42,9 +41,9 @@ no_word c h =
 
 pub digit_no_word : (c : ℕ) → is_digit c ≡ true → starts_word c ≡ false
 digit_no_word c h = no_word c (by h)
- where
-  by : is_digit c ≡ true → no_start c ≡ true
-  by h = grind (arith, nat_tests)
+  where
+    by : is_digit c ≡ true → no_start c ≡ true
+    by h = grind (arith, nat_tests)
 
 abbrev symbol_test : ℕ → Bool
 symbol_test c = no_start c && not (is_digit c)
@@ -99,8 +98,7 @@ blank_test c = quote_test c && (not (c == 34) && not (c == 63))
 pub blank_apart : (c : ℕ) → is_blank c ≡ true → IsOther c × ((c == 34) ≡ false) × ((c == 63) ≡ false)
 blank_apart c h =
     let t = among blank_test c (32 ∷ 9 ∷ 10 ∷ 13 ∷ []) (blank_among (c == 32) (c == 9) (c == 10) (c == 13) h) refl in
-    let u = right (quote_test c) (not (c == 34) && not (c == 63)) t in
-    (
+    let u = right (quote_test c) (not (c == 34) && not (c == 63)) t in (
       other_parts c (left (quote_test c) (not (c == 34) && not (c == 63)) t),
       negated (c == 34) (left (not (c == 34)) (not (c == 63)) u),
       negated (c == 63) (right (not (c == 34)) (not (c == 63)) u),

@@ -1,15 +1,15 @@
 -- Two texts put together have the tokens of both, where the characters at the border don't run together.
-use Rattle.std.proofs.Common.{◌≡◌, ◌≢◌, ◌⊎◌, inl, inr, ℕ, ◌+◌, ◌<◌, ◌≤◌, Bool, true, false, List, [], ◌∷◌, ◌++◌, length, sym, ap, ◌∙◌, subst, refl, append_assoc, append-nil, arith, length-append}
-use Rattle.std.specs.Prelude.{encode_utf8, encode_utf8_all, IsTrue, ◌||◌, ◌==◌}
+use Rattle.std.proofs.Common.{◌≡◌, inl, inr, ℕ, ◌+◌, ◌<◌, Bool, true, false, List, [], ◌∷◌, ◌++◌, length, sym, ap, ◌∙◌, subst, refl, append_assoc, append-nil, arith, length-append}
+use Rattle.std.specs.Prelude.{encode_utf8, encode_utf8_all, ◌||◌, ◌==◌}
 use Rattle.std.specs.Char.{is_ascii_alphanumeric}
-use Rattle.std.proofs.lemmas.Bool.{false≢true, ltb-true}
+use Rattle.std.proofs.lemmas.Bool.{false≢true}
 use Rattle.std.proofs.lemmas.Bool.Decides.{nat_tests}
 use Rattle.std.proofs.lemmas.Str.{encodes-append, encode_ascii}
 use Rattle.unicode_ident.specs.Ident.{is_xid_continue}
 use Rattle.unicode_ident.proofs.IdentLemmas.{is_xid_continue-ascii}
 use Rattle.psg_terms.specs.Names.{Name}
 use Rattle.psg_terms.specs.Words.{goes_on_word, IsWord}
-use Rattle.psg_lexis.specs.Classes.{Chars, is_blank, is_digit, is_symbol, begins_by, BeginsBy, EndsBy, All, IsLongest, Glue}
+use Rattle.psg_lexis.specs.Classes.{Chars, is_digit, is_symbol, EndsBy, All, IsLongest, Glue}
 use Rattle.psg_lexis.specs.Tokens.{bytes_of, dots, IsToken, word, number, text, solo, symbol, hole, more, Begins, HasTokens, nothing, blank, next}
 use Rattle.psg_lexis.specs.declared.token.Token.{Token}
 use Rattle.psg_lexis.specs.declared.token.Spanned.{Spanned}
@@ -44,10 +44,10 @@ ends_more : (test : ℕ → Bool) (by : ℕ → Bool) (run rest ys : Chars) → 
 ends_more test by run (c ∷ cs) ys l a e g = e
 ends_more test by run [] [] l a e g = refl
 ends_more test by run [] (d ∷ ds) l a e g = decide (test d) refl
- where
-  decide : (b : Bool) → test d ≡ b → test d ≡ false
-  decide true k = absurd (a.apart l.front ds l.last d (append-nil run ∙ l.whole) refl (g l.last d l.passes k))
-  decide false k = k
+  where
+    decide : (b : Bool) → test d ≡ b → test d ≡ false
+    decide true k = absurd (a.apart l.front ds l.last d (append-nil run ∙ l.whole) refl (g l.last d l.passes k))
+    decide false k = k
 
 word_glue : (c d : ℕ) → goes_on_word c ≡ true → goes_on_word d ≡ true → Glue c d
 word_glue c d h k = inl (h, k)
@@ -117,7 +117,7 @@ module _ (fixed : List Name) where
       (joined_tokens cs (at + 1) ts ys us (cons_apart c cs ys a) t (subst (λ n. HasTokens fixed ys n us) same k))
   joined_tokens _ _ _ ys us a (next all at s ts b t) k =
       let size : bytes_of all ≡ bytes_of b.front + bytes_of b.rest =
-          ap bytes_of b.whole ∙ ap length (encodes-append b.front b.rest) ∙ length-append (encode_utf8_all b.front) (encode_utf8_all b.rest) in
+      ap bytes_of b.whole ∙ ap length (encodes-append b.front b.rest) ∙ length-append (encode_utf8_all b.front) (encode_utf8_all b.rest) in
       let same : at + bytes_of all ≡ s.end + bytes_of b.rest = omega (arith, size, b.ends) in
       next (all ++ ys) at s (ts ++ us) (begins_joined all at s ys a b)
       (joined_tokens b.rest s.end ts ys us (behind_apart b.front b.rest ys (subst (λ cs. IsApart cs ys) b.whole a)) t (subst (λ n. HasTokens fixed ys n us) same k))

@@ -1,12 +1,11 @@
 -- A text has tokens or a fault, and only one reading: where it has tokens it has no other ones and no fault, and a fault is the only one.
-use Rattle.std.proofs.Common.{◌≡◌, ◌≢◌, ℕ, zero, suc, ◌+◌, ◌<◌, ◌≤◌, ◌^◌, Bool, true, false, cond, List, [], ◌∷◌, ◌++◌, length, Option, Some, None, sym, ap, ◌∙◌, subst, refl, arith, append_assoc, ne_eqb}
-use Rattle.std.specs.Prelude.{encode_utf8_all, IsTrue, nat_lt, nat_le, not, ◌||◌, ◌&&◌, ◌==◌, bytes_eq}
+use Rattle.std.proofs.Common.{inl, inr, ◌≡◌, ◌≢◌, ℕ, ◌+◌, ◌^◌, Bool, true, false, cond, List, [], ◌∷◌, ◌++◌, length, None, sym, ap, ◌∙◌, subst, refl, append_assoc, ne_eqb}
+use Rattle.std.specs.Prelude.{encode_utf8_all, nat_lt, nat_le, ◌==◌, bytes_eq}
 use Rattle.std.proofs.lemmas.Bool.{false≢true, le-leb, lt-leb, lt-ltb, le-ltb}
 use Rattle.std.proofs.lemmas.Slice.Eq.{bytes_eq-Decides}
-use Rattle.unicode_width.specs.Width.{char_width}
 use Rattle.psg_terms.specs.Names.{Name, is_among}
 use Rattle.psg_terms.specs.Words.{starts_word, goes_on_word, IsWord}
-use Rattle.psg_lexis.specs.Classes.{Chars, is_blank, is_digit, is_solo, is_symbol, is_escape, begins_by, BeginsBy, EndsBy, All, IsLongest}
+use Rattle.psg_lexis.specs.Classes.{Chars, is_blank, is_digit, is_solo, is_symbol, begins_by, EndsBy, All, IsLongest}
 use Rattle.psg_lexis.specs.Tokens as spec
 use Rattle.psg_lexis.specs.Tokens.{bytes_of, dots, value_of, is_content, quoted, IsToken, Begins, HasTokens}
 use Rattle.psg_lexis.specs.Faults as broken
@@ -100,10 +99,10 @@ start fixed (c ∷ cs) at =
 
 not_dots : (cs : Chars) → cs ≢ dots → bytes_eq cs dots ≡ false
 not_dots cs d = by (bytes_eq cs dots) refl
- where
-  by : (b : Bool) → bytes_eq cs dots ≡ b → bytes_eq cs dots ≡ false
-  by true e = absurd (d ((bytes_eq-Decides cs dots).0 e))
-  by false e = e
+  where
+    by : (b : Bool) → bytes_eq cs dots ≡ b → bytes_eq cs dots ≡ false
+    by true e = absurd (d ((bytes_eq-Decides cs dots).0 e))
+    by false e = e
 
 module _ (fixed : List Name) where
   word_starts : (cs rest : Chars) (at : ℕ) → IsWord cs → EndsBy goes_on_word rest → start fixed (cs ++ rest) at ≡ word_start cs rest at
@@ -250,7 +249,7 @@ module _ (fixed : List Name) where
   only_tokens _ _ _ _ (spec.next all at s ts b k) (spec.next _ _ t us d l) =
       let e = same_start all at s t b d in
       let tail : ts ≡ us = only_tokens b.rest s.end ts us k
-          (subst (λ n. HasTokens fixed b.rest n us) (ap (λ (r : Spanned). r.end) (sym e.0)) (subst (λ r. HasTokens fixed r t.end us) (sym e.1) l)) in
+      (subst (λ n. HasTokens fixed b.rest n us) (ap (λ (r : Spanned). r.end) (sym e.0)) (subst (λ r. HasTokens fixed r t.end us) (sym e.1) l)) in
       λ i. e.0 i ∷ tail i
 
   pub no_fault_with_tokens : (cs : Chars) (at : ℕ) (ts : List Spanned) (f : LexFault) → HasTokens fixed cs at ts → HasFault fixed cs at f → ⊥
@@ -264,7 +263,7 @@ module _ (fixed : List Name) where
   no_fault_with_tokens _ _ _ _ (spec.next all at s ts b k) (broken.later _ _ t f d l) =
       let e = same_start all at s t b d in
       no_fault_with_tokens b.rest s.end ts f k
-          (subst (λ n. HasFault fixed b.rest n f) (ap (λ (r : Spanned). r.end) (sym e.0)) (subst (λ r. HasFault fixed r t.end f) (sym e.1) l))
+      (subst (λ n. HasFault fixed b.rest n f) (ap (λ (r : Spanned). r.end) (sym e.0)) (subst (λ r. HasFault fixed r t.end f) (sym e.1) l))
 
   pub only_fault : (cs : Chars) (at : ℕ) (f g : LexFault) → HasFault fixed cs at f → HasFault fixed cs at g → f ≡ g
   only_fault _ _ _ _ (broken.here all at f i) (broken.here _ _ g j) =
@@ -279,4 +278,14 @@ module _ (fixed : List Name) where
   only_fault _ _ _ _ (broken.later all at s f b k) (broken.later _ _ t g d l) =
       let e = same_start all at s t b d in
       only_fault b.rest s.end f g k
-          (subst (λ n. HasFault fixed b.rest n g) (ap (λ (r : Spanned). r.end) (sym e.0)) (subst (λ r. HasFault fixed r t.end g) (sym e.1) l))
+      (subst (λ n. HasFault fixed b.rest n g) (ap (λ (r : Spanned). r.end) (sym e.0)) (subst (λ r. HasFault fixed r t.end g) (sym e.1) l))
+
+  -- what a call may answer that gives tokens or a fault
+
+  pub fault_with_tokens : (cs : Chars) (at : ℕ) (ts : List Spanned) (f : LexFault) → HasTokens fixed cs at ts → broken.OrMemory (HasFault fixed cs at) f → f ≡ faults.Memory
+  fault_with_tokens cs at ts f t (inl e) = e
+  fault_with_tokens cs at ts f t (inr h) = absurd (no_fault_with_tokens cs at ts f t h)
+
+  pub fault_with_fault : (cs : Chars) (at : ℕ) (f g : LexFault) → HasFault fixed cs at g → broken.OrMemory (HasFault fixed cs at) f → broken.OrMemory (λ h. h ≡ g) f
+  fault_with_fault cs at f g k (inl e) = inl e
+  fault_with_fault cs at f g k (inr h) = inr (only_fault cs at f g h k)

@@ -1,12 +1,11 @@
 -- The token or the fault of a quoted text, from what the walk finds behind the contents that it has read.
-use Rattle.std.proofs.Common.{◌≡◌, ◌≢◌, ◌⊎◌, inl, inr, ℕ, zero, suc, ◌+◌, ◌-◌, ◌<◌, ◌≤◌, Bool, true, false, cond, Some, None, List, [], ◌∷◌, ◌++◌, length, sym, ap, ◌∙◌, subst, refl, append_assoc, append-nil, arith, length-append, lit<, eq-eqb, ne_eqb}
-use Rattle.std.specs.Prelude.{encode_utf8, encode_utf8_all, IsTrue, is_some, ◌||◌, ◌==◌, if◌then◌else◌}
+use Rattle.std.proofs.Common.{◌≡◌, ◌≢◌, ◌⊎◌, inl, inr, ℕ, ◌+◌, ◌-◌, ◌<◌, ◌≤◌, Bool, true, false, List, [], ◌∷◌, ◌++◌, length, sym, ap, ◌∙◌, subst, refl, append_assoc, append-nil, arith, length-append, lit<, ne_eqb}
+use Rattle.std.specs.Prelude.{encode_utf8, encode_utf8_all, is_some, ◌||◌, ◌==◌, if◌then◌else◌}
 use Rattle.std.specs.Str.{chars}
-use Rattle.std.specs.Char.{len_utf8}
 use Rattle.std.proofs.lemmas.Str.{encodes-append, encode_ascii, len_utf8_ascii, length-encode, chars-nil}
 use Rattle.unicode_width.specs.Width.{char_width}
 use Rattle.psg_terms.specs.Names.{Name}
-use Rattle.psg_lexis.specs.Classes.{Chars, is_escape, All, EndsBy}
+use Rattle.psg_lexis.specs.Classes.{Chars, is_escape, EndsBy}
 use Rattle.psg_lexis.specs.Splits.{IsFirst}
 use Rattle.psg_lexis.specs.Tokens.{bytes_of, is_content, escaped, quoted, IsToken, text, Begins}
 use Rattle.psg_lexis.specs.Faults.{is_closed, IsInside, IsFault, no_width, no_escape, unended, large_text}
@@ -14,7 +13,6 @@ use Rattle.psg_lexis.specs.Pieces.{IsContent, HasNoWidth}
 use Rattle.psg_lexis.specs.declared.token.Token.TheVariants as tokens
 use Rattle.psg_lexis.specs.declared.token.LexFault.{LexFault}
 use Rattle.psg_lexis.specs.declared.token.LexFault.TheVariants as faults
-use Rattle.psg_lexis.proofs.Runs.{no_chars}
 use Rattle.psg_lexis.proofs.Closing.{closed_contents}
 use Rattle.psg_lexis.proofs.Contents.{HasContents}
 

@@ -1,7 +1,7 @@
 -- Which texts are words, and which are among the fixed words.
-use Rattle.std.proofs.Common.{◌≡◌, ℕ, Bool, true, false, cond, List, [], ◌∷◌, ◌++◌, length, sym, ap, ◌∙◌, subst, refl, arith, append-nil}
-use Rattle.std.specs.Prelude.{bytes_eq, encode_utf8_all, IsTrue, ◌||◌}
-use Rattle.std.specs.Str.{IsUtf8, chars}
+use Rattle.std.proofs.Common.{◌≡◌, ℕ, Bool, true, false, cond, List, [], ◌∷◌, ◌++◌, length, sym, ap, ◌∙◌, subst, refl, append-nil}
+use Rattle.std.specs.Prelude.{bytes_eq, encode_utf8_all, ◌||◌}
+use Rattle.std.specs.Str.{chars}
 use Rattle.std.proofs.lemmas.Bool.{false≢true}
 use Rattle.std.proofs.lemmas.Str.{encodes-chars}
 use Rattle.psg_terms.specs.Names.{Name, is_among}

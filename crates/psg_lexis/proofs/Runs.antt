@@ -1,6 +1,6 @@
 -- A run of characters at the beginning of a text.
-use Rattle.std.proofs.Common.{◌≡◌, ℕ, ◌+◌, ◌-◌, ◌≤◌, ◌<◌, Bool, true, false, List, [], ◌∷◌, ◌++◌, length, take, drop, sym, ap, ◌∙◌, subst, refl, append_assoc, append-nil, arith, length-append, take-append-drop}
-use Rattle.std.specs.Prelude.{encode_utf8, encode_utf8_all, IsTrue}
+use Rattle.std.proofs.Common.{◌≡◌, ℕ, ◌-◌, ◌<◌, Bool, true, false, List, [], ◌∷◌, ◌++◌, length, take, drop, sym, ap, ◌∙◌, subst, refl, append_assoc, append-nil, arith, length-append}
+use Rattle.std.specs.Prelude.{encode_utf8, encode_utf8_all}
 use Rattle.std.specs.Str.{IsUtf8, IsCharBoundary, chars}
 use Rattle.std.proofs.lemmas.Str.{chars_past_char, IsUtf8-past_char, chars-nil, encodes-append, IsCharBoundary-at_seam, IsUtf8-take, chars_from_encodes, length-encode, len_utf8_bounds}
 use Rattle.std.proofs.Math.Seq.{take-append_seam, drop-append_seam}

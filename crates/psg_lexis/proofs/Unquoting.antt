@@ -1,5 +1,5 @@
 -- What is written between quotes says one text.
-use Rattle.std.proofs.Common.{◌≡◌, ◌≢◌, ℕ, zero, suc, ◌+◌, ◌<◌, ◌≤◌, Bool, true, false, cond, Option, Some, None, List, [], ◌∷◌, ◌++◌, length, sym, ap, ◌∙◌, subst, refl, append_assoc, arith, length-append}
+use Rattle.std.proofs.Common.{◌≡◌, ℕ, zero, suc, ◌<◌, ◌≤◌, Bool, true, false, cond, Option, Some, None, [], ◌∷◌, ◌++◌, length, sym, ap, ◌∙◌, refl, append_assoc, arith, length-append}
 use Rattle.std.specs.Prelude.{is_some, ◌||◌, ◌==◌}
 use Rattle.std.proofs.lemmas.Bool.{false≢true, eqb-true}
 use Rattle.unicode_width.specs.Width.{char_width}
@@ -60,10 +60,10 @@ none_is o e = ap is_some e
 -- a character without a width is neither a quote nor a backslash
 has_width : (c : ℕ) → char_width false c ≡ None → (d : ℕ) → is_some (char_width false d) ≡ true → (c == d) ≡ false
 has_width c e d w = by (c == d) refl
- where
-  by : (b : Bool) → (c == d) ≡ b → (c == d) ≡ false
-  by true k = absurd (false≢true (sym (none_is (char_width false c) e) ∙ ap (λ n. is_some (char_width false n)) (eqb-true c d k) ∙ w))
-  by false k = k
+  where
+    by : (b : Bool) → (c == d) ≡ b → (c == d) ≡ false
+    by true k = absurd (false≢true (sym (none_is (char_width false c) e) ∙ ap (λ n. is_some (char_width false n)) (eqb-true c d k) ∙ w))
+    by false k = k
 
 width-quote : is_some (char_width false 34) ≡ true
 unfolding char_width
@@ -103,7 +103,7 @@ contents_of-quoted (suc n) [] follow l a s = rw s refl
 contents_of-quoted zero (x ∷ xs) follow l a s = absurd (omega arith)
 contents_of-quoted (suc n) (x ∷ xs) follow l a s =
     let e : take_content ((escaped x ++ quoted xs) ++ follow) ≡ Some (x, quoted xs ++ follow) =
-        ap take_content (append_assoc (escaped x) (quoted xs) follow) ∙ take_content-escaped x (quoted xs ++ follow) a.0 in
+    ap take_content (append_assoc (escaped x) (quoted xs) follow) ∙ take_content-escaped x (quoted xs ++ follow) a.0 in
     let k : contents_of n (quoted xs ++ follow) ≡ (xs, follow) = contents_of-quoted n xs follow (omega arith) a.1 s in
     rw (e, k) refl
 

@@ -1,10 +1,10 @@
 -- The walk over a text: the tokens so far, and what those of the rest add to them.
-use Rattle.std.proofs.Common.{◌≡◌, ◌≢◌, ◌⊎◌, inl, inr, ℕ, zero, suc, ◌+◌, ◌-◌, ◌<◌, ◌≤◌, Bool, true, false, List, [], ◌∷◌, ◌++◌, length, take, drop, sym, ap, ◌∙◌, subst, refl, append_assoc, append-nil, arith, length-append, lit<}
-use Rattle.std.specs.Prelude.{encode_utf8, encode_utf8_all, IsTrue, ◌||◌, ◌==◌, ◌&&◌}
+use Rattle.std.proofs.Common.{◌≡◌, ◌⊎◌, inl, inr, ℕ, ◌+◌, ◌-◌, ◌<◌, Bool, true, false, List, [], ◌∷◌, ◌++◌, length, drop, sym, ap, ◌∙◌, subst, refl, append_assoc, append-nil, arith, length-append}
+use Rattle.std.specs.Prelude.{encode_utf8, encode_utf8_all, ◌||◌, ◌==◌, ◌&&◌}
 use Rattle.std.specs.Str.{IsUtf8, IsCharBoundary, chars, all_scalars}
 use Rattle.std.proofs.Math.Seq.{drop-append_seam}
 use Rattle.std.proofs.lemmas.Bool.{false≢true, eqb-true}
-use Rattle.std.proofs.lemmas.Str.{encodes-append, encode_ascii, encodes-chars, scalars-chars, chars-encodes, IsCharBoundary-at_seam, length-le-encodes, chars-nil}
+use Rattle.std.proofs.lemmas.Str.{encodes-append, encode_ascii, encodes-chars, scalars-chars, chars-encodes, IsCharBoundary-at_seam, length-le-encodes}
 use lib.Utf8.{scalar}
 use Rattle.psg_terms.specs.Names.{Name}
 use Rattle.psg_terms.specs.Words.{IsWord}

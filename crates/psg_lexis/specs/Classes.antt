@@ -1,7 +1,7 @@
 -- The classes of a character. No character is of two of them: all but the starts of words are ASCII marks and digits.
-use Rattle.std.specs.Prelude.{ℕ, ◌≡◌, ◌⊎◌, ◌==◌, ◌||◌, ◌&&◌, nat_le, Bool, true, false, List, [], ◌∷◌, codes, IsTrue, ⊤}
+use Rattle.std.specs.Prelude.{ℕ, ◌≡◌, ◌⊎◌, ◌==◌, ◌||◌, ◌&&◌, nat_le, Bool, true, false, List, [], ◌∷◌, codes, IsTrue}
 use Rattle.std.specs.List.{AllByRecursion, list_any}
-use Rattle.psg_terms.specs.Words.{starts_word, goes_on_word}
+use Rattle.psg_terms.specs.Words.{goes_on_word}
 
 abbrev pub Chars : Type 0
 Chars = List ℕ

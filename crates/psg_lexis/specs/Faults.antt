@@ -1,10 +1,10 @@
 -- The first place at which a text has no token.
-use Rattle.std.specs.Prelude.{ℕ, ◌≡◌, ◌≢◌, ◌⊎◌, ◌<◌, ◌≤◌, ◌+◌, ◌^◌, ◌==◌, ◌||◌, ◌&&◌, not, Bool, true, false, None, List, [], ◌∷◌, ◌++◌, encode_utf8_all, IsTrue}
+use Rattle.std.specs.Prelude.{ℕ, ◌≡◌, ◌≢◌, ◌⊎◌, ◌<◌, ◌≤◌, ◌+◌, ◌^◌, ◌==◌, ◌||◌, ◌&&◌, not, Bool, false, None, List, [], ◌∷◌, ◌++◌, encode_utf8_all, IsTrue}
 use Rattle.unicode_width.specs.Width.{char_width}
 use Rattle.psg_terms.specs.Names.{Name, is_among}
 use Rattle.psg_terms.specs.Words.{starts_word, goes_on_word, IsWord}
 use Rattle.psg_lexis.specs.Classes.{Chars, is_blank, is_digit, is_solo, is_symbol, is_escape, All, EndsBy, BeginsBy, IsLongest}
-use Rattle.psg_lexis.specs.Tokens.{bytes_of, dots, value_of, is_content, quoted, IsToken, Begins}
+use Rattle.psg_lexis.specs.Tokens.{bytes_of, dots, value_of, is_content, quoted, Begins}
 use Rattle.psg_lexis.specs.declared.token.Spanned.{Spanned}
 use Rattle.psg_lexis.specs.declared.token.LexFault.{LexFault}
 use Rattle.psg_lexis.specs.declared.token.LexFault.TheVariants as faults

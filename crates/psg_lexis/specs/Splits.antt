@@ -1,5 +1,5 @@
 -- A text cut between two of its characters.
-use Rattle.std.specs.Prelude.{ℕ, ◌≡◌, Bool, List, [], ◌∷◌, ◌++◌, encode_utf8, encode_utf8_all, chars, IsUtf8}
+use Rattle.std.specs.Prelude.{ℕ, ◌≡◌, Bool, List, ◌∷◌, ◌++◌, encode_utf8, encode_utf8_all, chars, IsUtf8}
 use Rattle.psg_terms.specs.Words.{goes_on_word}
 use Rattle.psg_lexis.specs.Classes.{is_digit, is_symbol, All, EndsBy}
 use Rattle.psg_lexis.specs.declared.classes.Run.{Run}

@@ -1,9 +1,11 @@
 //! The walk over a text that finds its tokens.
-ghost use Rattle.std.specs.Prelude.{◌≡◌, ◌+◌, ◌^◌, ◌<◌, ◌∷◌, ℕ, List, IfErr, IfOk, IsTrue, SomeIff, chars, length, not};
+ghost use Rattle.std.specs.Prelude.{◌≡◌, ◌+◌, ◌^◌, ◌<◌, ◌∷◌, ℕ, List, IfErr, IfOk, IsTrue, MatchResult, SomeIff, chars, length, not};
 ghost use Rattle.psg_terms.specs.Words.{starts_word};
 ghost use Rattle.psg_lexis.specs.Classes.{is_blank, is_digit, is_symbol, All, BeginsBy};
 ghost use Rattle.psg_lexis.specs.Splits.{IsFirst};
 ghost use Rattle.psg_lexis.specs.Tokens.{value_of, Begins, HasTokens};
+ghost use Rattle.psg_lexis.specs.declared.token.Spanned.{Spanned};
+ghost use Rattle.psg_lexis.specs.declared.token.LexFault.{LexFault};
 ghost use Rattle.psg_lexis.specs.Faults.{IsFault, HasFault, OrMemory};
 
 use crate::classes::{Run, is_blank, is_digit, is_solo, is_symbol, starts_word};
@@ -22,6 +24,10 @@ const MOST_WORD: usize = 255;
 pub fn lex(alloc: Global, lexis: &Lexis, text: &str) -> Result<Vec<Spanned>, LexFault>
     ensures ok { IfOk result (λ tokens. HasTokens lexis.now (chars text.now) 0 tokens.items) }
     ensures err { IfErr result (OrMemory (HasFault lexis.now (chars text.now) 0)) }
+
+    // A text has tokens or a fault and never both, so these are the only answers, want of memory aside.
+    ensures whole { (tokens : List Spanned) → HasTokens lexis.now (chars text.now) 0 tokens → MatchResult result (λ found. found.items ≡ tokens) (λ fault. fault ≡ LexFault.Memory) }
+    ensures broken { (fault : LexFault) → HasFault lexis.now (chars text.now) 0 fault → MatchResult result (λ _. ⊥) (OrMemory (λ found. found ≡ fault)) }
 {
     let mut tokens = Vec::new(alloc);
     let mut rest = text;

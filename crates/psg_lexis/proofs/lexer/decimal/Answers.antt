@@ -1,4 +1,4 @@
-use Rattle.std.proofs.Common.{◌≡◌, ◌+◌, ◌-◌, ◌*◌, ◌^◌, ◌<◌, ◌≤◌, chars, length, sym, ◌∙◌, ap, subst, refl, arith}
+use Rattle.std.proofs.Common.{◌≡◌, ◌+◌, ◌-◌, ◌*◌, ◌^◌, ◌<◌, chars, length, sym, subst, arith}
 use Rattle.psg_lexis.specs.Tokens.{value_of}
 use Rattle.psg_lexis.proofs.Decimals.{digit_read, digits_too_large, digits_left, all_read}
 use Rattle.psg_lexis.proofs.lexer.decimal.Goals as goal

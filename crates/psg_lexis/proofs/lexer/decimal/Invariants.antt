@@ -1,4 +1,4 @@
-use Rattle.std.proofs.Common.{◌≡◌, ◌+◌, ◌*◌, ◌^◌, ◌<◌, chars, ℕ, length}
+use Rattle.std.proofs.Common.{◌≡◌, ◌+◌, ◌*◌, ◌^◌, ◌<◌, chars, length}
 use denote.Text.{Utf8}
 use denote.Shadow.{shadow}
 use Rattle.psg_lexis.specs.Classes.{is_digit, All}

@@ -1,5 +1,6 @@
-use Rattle.std.proofs.Common.{◌≡◌, ◌+◌, ◌-◌, ◌≤◌, [], ◌∷◌, ◌++◌, length, is_ok, sym, ◌∙◌, ap, subst, arith}
+use Rattle.std.proofs.Common.{◌≡◌, ◌+◌, ◌-◌, ◌≤◌, [], ◌∷◌, ◌++◌, length, sym, ◌∙◌, subst, arith}
 use Rattle.std.proofs.lemmas.Result.{err_from_is_err_and}
+use Rattle.psg_lexis.proofs.Laws.{only_tokens, no_fault_with_tokens, fault_with_tokens, fault_with_fault}
 use Rattle.psg_lexis.proofs.Walk.{HasWalked, past_blank, walk_blank, walk_token, walk_fault, all_walked, token_boundary, left_utf8, left_length}
 use Rattle.psg_lexis.proofs.lexer.lex.Goals as goal
 
@@ -43,3 +44,21 @@ loop-first-preserved c =
 
 pub returns-clause-ok : goal.returns-clause-ok
 returns-clause-ok c = all_walked _ _ _ _ _ c.loop-first.invariant.2 c.in_default.ensures.none
+
+pub returns-clause-whole : goal.returns-clause-whole
+returns-clause-whole c =
+    λ ts h. only_tokens _ _ _ _ _ (all_walked _ _ _ _ _ c.loop-first.invariant.2 c.in_default.ensures.none) h
+
+pub returns-clause-broken : goal.returns-clause-broken
+returns-clause-broken c =
+    λ f h. no_fault_with_tokens _ _ _ _ f (all_walked _ _ _ _ _ c.loop-first.invariant.2 c.in_default.ensures.none) h
+
+pub returns-in_err-token-clause-whole : goal.returns-in_err-token-clause-whole
+returns-in_err-token-clause-whole c =
+    let p = err_from_is_err_and c.from_residual.result c.from_residual.ensures.1 in
+    λ ts h. rw (p.1, p.2) (fault_with_tokens _ _ _ _ _ h (walk_fault _ _ _ _ _ _ c.loop-first.invariant.2 c.in_err-token.ensures.err))
+
+pub returns-in_err-token-clause-broken : goal.returns-in_err-token-clause-broken
+returns-in_err-token-clause-broken c =
+    let p = err_from_is_err_and c.from_residual.result c.from_residual.ensures.1 in
+    λ f h. rw (p.1, p.2) (fault_with_fault _ _ _ _ f h (walk_fault _ _ _ _ _ _ c.loop-first.invariant.2 c.in_err-token.ensures.err))

@@ -1,4 +1,4 @@
-use Rattle.std.proofs.Common.{sym, ◌∙◌, arith}
+use Rattle.std.proofs.Common.{sym, ◌∙◌}
 use Rattle.psg_lexis.proofs.Starts.{begins_number, joined_number, too_large_number}
 use Rattle.psg_lexis.proofs.lexer.number.Goals as goal
 

@@ -1,6 +1,4 @@
-use Rattle.std.proofs.Common.{◌≡◌, ◌+◌, true, length, inr, sym, ◌∙◌, ap, subst, refl, arith}
-use Rattle.psg_lexis.specs.Tokens.{dots, Begins}
-use Rattle.psg_lexis.specs.declared.token.Token.TheVariants as tokens
+use Rattle.std.proofs.Common.{inr, sym, ◌∙◌}
 use Rattle.psg_lexis.proofs.Starts.{begins_symbol, no_fixed_symbol, begins_more, same_dots, apart_dots}
 use Rattle.psg_lexis.proofs.lexer.symbol.Goals as goal
 use Rattle.psg_lexis.proofs.lexer.symbol.Goals.{then-eq, else-eq+then-has+in_ok-copy_of}

@@ -1,4 +1,4 @@
-use Rattle.std.proofs.Common.{◌≡◌, false, chars, sym, ◌∙◌, ap, subst, refl, ne_eqb, eq-eqb}
+use Rattle.std.proofs.Common.{false, chars, sym, ◌∙◌, ap, subst, ne_eqb, eq-eqb}
 use Rattle.std.specs.Str.{IsUtf8}
 use Rattle.std.specs.Str.Iter.{chars_rest}
 use Rattle.psg_lexis.specs.Faults.{is_closed}

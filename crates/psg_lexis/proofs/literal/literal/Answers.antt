@@ -1,5 +1,5 @@
-use Rattle.std.proofs.Common.{◌≡◌, ◌+◌, ◌++◌, inr, length, chars, sym, ◌∙◌, ap, subst, arith}
-use Rattle.std.specs.Prelude.{encode_utf8, string_bytes}
+use Rattle.std.proofs.Common.{◌+◌, inr, sym, ◌∙◌, ap, subst, arith}
+use Rattle.std.specs.Prelude.{string_bytes}
 use Rattle.psg_lexis.proofs.Contents.{HasContents, more_contents}
 use Rattle.psg_lexis.proofs.Literals.{some_left, too_large_text, begins_text, open_text, bad_width, bad_escape}
 use Rattle.psg_lexis.proofs.literal.literal.Goals as goal

@@ -1,4 +1,4 @@
-use Rattle.std.proofs.Common.{◌≡◌, ◌+◌, ◌≤◌, length, chars}
+use Rattle.std.proofs.Common.{length}
 use Rattle.std.specs.Prelude.{string_bytes}
 use denote.Text.{Utf8}
 use denote.Shadow.{shadow}

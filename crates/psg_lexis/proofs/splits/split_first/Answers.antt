@@ -1,5 +1,5 @@
 -- The first character comes off the text, by what `next` says of the characters that are left.
-use Rattle.std.proofs.Common.{◌≡◌, [], chars, ℕ, List, ◌∷◌, ◌++◌, length, sym, ap, ◌∙◌, subst}
+use Rattle.std.proofs.Common.{◌++◌, length, sym, ap, ◌∙◌}
 use Rattle.std.specs.Prelude.{encode_utf8}
 use Rattle.psg_lexis.proofs.Runs.{first_off, no_chars}
 use Rattle.psg_lexis.proofs.splits.split_first.Goals as goal

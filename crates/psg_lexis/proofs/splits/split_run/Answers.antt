@@ -1,4 +1,4 @@
-use Rattle.std.proofs.Common.{◌≡◌, [], chars, sym, ap, ◌∙◌, subst}
+use Rattle.std.proofs.Common.{chars, sym, ◌∙◌}
 use Rattle.psg_lexis.specs.Classes.{EndsBy}
 use Rattle.psg_lexis.specs.Splits.{takes}
 use Rattle.psg_lexis.proofs.Runs.{past_first, more_run, run_boundary, run_split, stops_at, stops_at_end}

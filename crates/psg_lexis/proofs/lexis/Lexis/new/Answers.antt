@@ -1,6 +1,6 @@
 use Rattle.std.specs.Prelude.{bytes_eq, string_bytes, true, cond}
 use Rattle.std.specs.HashSet.{contains_text}
-use Rattle.std.proofs.Common.{◌≡◌, ◌+◌, [], ◌∷◌, ◌++◌, get_or, ◌∙◌, sym, ap, arith, rules, take}
+use Rattle.std.proofs.Common.{◌≡◌, ◌+◌, [], ◌∷◌, ◌++◌, ◌∙◌, sym, ap, arith, take}
 use Rattle.std.proofs.lemmas.Grind.{common_steps}
 use Rattle.std.proofs.lemmas.List.{take_more}
 use Rattle.std.proofs.lemmas.Map.Text.{hash_set_updates_text}

@@ -1,4 +1,4 @@
-use Rattle.std.proofs.Common.{◌≡◌, ℕ, List, take, length}
+use Rattle.std.proofs.Common.{◌≡◌, ℕ, List, take}
 use Rattle.std.specs.HashSet.{contains_text}
 use Rattle.psg_terms.specs.Names.{is_among}
 use Rattle.psg_lexis.proofs.lexis.Lexis.new.Given as goal
