@@ -1,0 +1,12 @@
+pub mod Runs
+pub mod Reserved
+pub mod Starts
+pub mod Decimals
+pub mod Contents
+pub mod Closing
+pub mod Literals
+pub mod Walk
+pub mod Disjoint
+pub mod Unquoting
+pub mod Laws
+pub mod Joining

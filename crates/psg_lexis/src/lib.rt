@@ -1,0 +1,23 @@
+//! The tokens of a fragment's text.
+//!
+//! `let lexis = Lexis::new(alloc, &fixed_words)?; let tokens = lex(alloc, &lexis, "a := 1")?;`
+//!
+//! A word, a number and a run of symbols reach as far as their characters do. A token keeps the bytes that it stands on, from its
+//! start up to its end; the ends of two tokens never overlap, and between them stand blanks alone. Which runs of symbols are tokens
+//! the fixed words of the language decide.
+#![tactic(auto)]
+
+pub mod classes;
+pub mod lexer;
+pub mod lexis;
+mod literal;
+mod splits;
+pub mod token;
+
+pub use classes::glues;
+pub use lexer::lex;
+pub use lexis::Lexis;
+pub use token::{LexFault, Spanned, Token};
+
+#[cfg(test)]
+mod tests;

@@ -1,0 +1,71 @@
+//! Tokens, and what keeps a text from having them.
+ghost use Rattle.std.specs.Prelude.{◌≡◌};
+ghost use Rattle.psg_lexis.specs.declared.token.LexFault.TheVariants.{Memory};
+
+use psg_terms::Txt;
+use std::alloc::{AllocError, AllocFailed};
+use thiserror::Error;
+
+/// A token of a text.
+#[derive(Drop)]
+pub enum Token {
+    /// A start character or `_`, and the characters that go on a word behind it.
+    Word(Txt),
+    /// A run of decimal digits, by its value.
+    Number(u128),
+    /// What a quoted text says, with its escapes resolved.
+    Text(Txt),
+    /// One of `( ) [ ] { } , ;`, by its byte.
+    Solo(u8),
+    /// A run of symbol characters that is a fixed word.
+    Symbol(Txt),
+    /// The word directly behind a `?`.
+    Hole(Txt),
+    /// The run `...`.
+    More,
+}
+
+/// A token and the bytes of the text that it stands on, from `start` up to `end`.
+#[derive(Drop)]
+pub struct Spanned {
+    pub token: Token,
+    pub start: usize,
+    pub end: usize,
+}
+
+/// The first place of a text, as a byte offset, at which it has no token.
+#[derive(Clone, Copy, Debug, PartialEq, Eq, Drop, Error)]
+pub enum LexFault {
+    /// A character that begins no token, a `?` with no word behind it, or a character without a width inside a quoted text.
+    #[error("no token begins with the character at byte {0}")]
+    BadChar(usize),
+    /// A run of symbols that is no fixed word, a number with a word character directly behind it, or a backslash inside a quoted text
+    /// that begins no escape.
+    #[error("the characters from byte {0} on are no token")]
+    BadRun(usize),
+    /// A quoted text that is not closed on its line, by its opening quote.
+    #[error("the text that is opened at byte {0} is not closed on its line")]
+    Unended(usize),
+    /// A word above 255 bytes, a number of 2^128 or more, or a quoted text above 4,096 bytes of contents, by its first byte.
+    #[error("the token at byte {0} is too large")]
+    TooLarge(usize),
+    /// There was no memory for the tokens.
+    #[error("out of memory")]
+    Memory,
+}
+
+impl From<AllocError> for LexFault {
+    ghost from_gives = { λ _ fault. fault ≡ Memory };
+
+    fn from(_error: AllocError) -> LexFault {
+        LexFault::Memory
+    }
+}
+
+impl<T: Drop> From<AllocFailed<T>> for LexFault {
+    ghost from_gives = { λ _ fault. fault ≡ Memory };
+
+    fn from(_error: AllocFailed<T>) -> LexFault {
+        LexFault::Memory
+    }
+}
