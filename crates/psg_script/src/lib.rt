@@ -1,0 +1,13 @@
+//! The lines of a script.
+//!
+//! `read_command(alloc, b"goto /0/1")` gives the command of a line, `command_text` one line of a command.
+//!
+//! A line is the words of its command with one or more spaces between them, and in four forms the rest of the line is a
+//! text of its own. A line spells at most one command.
+#![tactic(auto)]
+
+pub mod command;
+pub mod read;
+
+pub use command::{Command, CommandFault, Where};
+pub use read::read_command;
