@@ -1,1 +1,4 @@
 pub mod Forms
+pub mod Words
+pub mod Found
+pub mod Keywords

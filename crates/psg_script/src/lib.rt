@@ -7,7 +7,9 @@
 #![tactic(auto)]
 
 pub mod command;
+pub mod keyword;
 pub mod read;
+pub mod words;
 
 pub use command::{Command, CommandFault, Where};
 pub use read::read_command;
