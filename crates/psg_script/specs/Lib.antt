@@ -2,3 +2,4 @@ pub mod Forms
 pub mod Words
 pub mod Found
 pub mod Keywords
+pub mod Reading

@@ -7,6 +7,7 @@
 #![tactic(auto)]
 
 pub mod command;
+pub mod fields;
 pub mod keyword;
 pub mod read;
 pub mod words;
