@@ -1,3 +1,5 @@
 pub mod WordLemmas
 pub mod NumberLemmas
 pub mod StepLemmas
+pub mod PartLemmas
+pub mod FormLemmas

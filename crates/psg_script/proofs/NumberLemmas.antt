@@ -8,7 +8,7 @@ use Rattle.std.specs.List.{AllByRecursion}
 use Rattle.std.specs.Result.{result_ok, OkIff}
 use Rattle.std.specs.Str.Parse.{ParsesUnsigned, AllDigits, digits_value}
 use Rattle.psg_script.specs.Forms.{Text, IsInWord, IsWord, IsNumber}
-use Rattle.psg_script.specs.Reading.{Reads, IsNumeral}
+use Rattle.psg_script.specs.Reading.{Reads, IsNumeral, IsNumeralUpTo}
 
 -- the words of the standard library for texts of digits and their values
 own : IsNumeralModel (AllDigits 10) (digits_value 10)
@@ -74,3 +74,9 @@ decimal_step n h =
 
 pub same_decimal : (m n : ℕ) → IsNumber m → IsNumber n → decimal m ≡ decimal n → m ≡ n
 same_decimal m n h k e = decimal_injective m n (let p : m < 2 ^ 64 = omega (arith, h) in p) (let p : n < 2 ^ 64 = omega (arith, k) in p) e
+
+-- the number of the word isn't from 1 to the greatest one, and it is the word of no other
+pub none_up_to : (most n : ℕ) (word : Text) → IsNumeral n word → (1 ≤ n → n ≤ most → ⊥) → (k : ℕ) → IsNumeralUpTo most k word → ⊥
+none_up_to most n word h none k g =
+    let e : n ≡ k = same_decimal n k h.0 g.0.0 (sym h.1 ∙ g.0.1) in
+    none (let p : 1 ≤ n = omega (arith, g.1) in p) (let p : n ≤ most = omega (arith, g.2) in p)

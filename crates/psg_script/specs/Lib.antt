@@ -3,3 +3,4 @@ pub mod Words
 pub mod Found
 pub mod Keywords
 pub mod Reading
+pub mod Productions

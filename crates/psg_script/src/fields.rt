@@ -3,7 +3,7 @@ ghost use Rattle.std.specs.Prelude.{◌≡◌, ◌↔◌, IfOk, IsTrue};
 ghost use Rattle.std.specs.Option.{option_map};
 ghost use Rattle.psg_script.specs.Forms.{IsName, IsWord, goes_on_name};
 ghost use Rattle.std.specs.List.{AllByRecursion};
-ghost use Rattle.psg_script.specs.Reading.{Reads, IsNumeral, IsPlaceWord, IsNameWord, IsFileWord, IsStepsText};
+ghost use Rattle.psg_script.specs.Reading.{Reads, IsNumeral, IsNumeralUpTo, IsPlaceWord, IsNameWord, IsFileWord, IsStepsText, IsPlacedName};
 
 use crate::command::Where;
 use psg_terms::Txt;
@@ -21,6 +21,18 @@ pub fn read_number(word: &str) -> Option<u32>
         return None;
     }
     word.parse().ok()
+}
+
+/// The number from 1 to `most` that a word is the decimal of.
+pub fn read_up_to(most: u32, word: &str) -> Option<u32>
+    ensures { Reads (IsNumeralUpTo most) word.now result }
+{
+    let number = read_number(word)?;
+    if 1 <= number && number <= most {
+        Some(number)
+    } else {
+        None
+    }
 }
 
 /// Whether all bytes are letters, digits and `_` of ASCII.
@@ -102,4 +114,21 @@ pub fn read_place(alloc: Global, word: &str) -> Result<Option<Where>, AllocError
         Some(steps) => Ok(Some(Where::At(Path::of(alloc, steps.as_slice())?))),
         None => Ok(None),
     }
+}
+
+/// The place and the name that two words are.
+pub fn read_placed_name(
+    alloc: Global,
+    place: &str,
+    name: &str,
+) -> Result<Option<(Where, Txt)>, AllocError>
+    ensures { IfOk result (Reads IsPlacedName (place.now, name.now)) }
+{
+    let Some(name) = read_name(alloc, name)? else {
+        return Ok(None);
+    };
+    let Some(place) = read_place(alloc, place)? else {
+        return Ok(None);
+    };
+    Ok(Some((place, name)))
 }

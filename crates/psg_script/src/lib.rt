@@ -8,6 +8,7 @@
 
 pub mod command;
 pub mod fields;
+pub mod forms;
 pub mod keyword;
 pub mod read;
 pub mod words;

@@ -49,6 +49,7 @@ pub fn is_end(behind: &str) -> bool
 }
 
 /// The words behind a word, in a line that has nothing else.
+#[derive(Clone, Copy)]
 pub enum Words<'a> {
     Nothing,
     One(&'a str),
