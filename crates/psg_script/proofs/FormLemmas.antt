@@ -89,16 +89,16 @@ not_four ws behind w v u t h none f =
 
 -- Lines and their words.
 
-closed_same : (ws vs : List Text) (behind : Text) → IsClosed ws behind → IsClosed vs behind → ws ≡ vs
+pub closed_same : (ws vs : List Text) (behind : Text) → IsClosed ws behind → IsClosed vs behind → ws ≡ vs
 closed_same ws vs behind f g = same_words ws vs behind f.0 g.0 f.1 g.1
 
-closed_form : (k : Keyword) (c : Command) (behind : Text) → IsForm k c behind → tail_of c ≡ None → IsClosed (fields_of c) behind
+pub closed_form : (k : Keyword) (c : Command) (behind : Text) → IsForm k c behind → tail_of c ≡ None → IsClosed (fields_of c) behind
 closed_form k c behind h e = (fields_words c h.formed, subst (λ t. Follow (fields_of c) t behind) e h.written)
 
-open_form : (k : Keyword) (c : Command) (text behind : Text) → IsForm k c behind → IsTail text → tail_of c ≡ Some text → IsOpen (fields_of c) text behind
+pub open_form : (k : Keyword) (c : Command) (text behind : Text) → IsForm k c behind → IsTail text → tail_of c ≡ Some text → IsOpen (fields_of c) text behind
 open_form k c text behind h t e = (fields_words c h.formed, t, subst (λ u. Follow (fields_of c) u behind) e h.written)
 
-open_same : (ws vs : List Text) (t u behind : Text) → length ws ≡ length vs → IsOpen ws t behind → IsOpen vs u behind → (ws ≡ vs) × (t ≡ u)
+pub open_same : (ws vs : List Text) (t u behind : Text) → length ws ≡ length vs → IsOpen ws t behind → IsOpen vs u behind → (ws ≡ vs) × (t ≡ u)
 open_same ws vs t u behind l f g = same_open ws vs t u behind l f.0 g.0 f.1 g.1 f.2 g.2
 
 -- these words are those of the fields
@@ -118,7 +118,7 @@ four : {w a v b u c t d : Text} → w ≡ a → v ≡ b → u ≡ c → t ≡ d 
 four {w} {a} {v} {b} {u} {c} {t} {d} e f g h = ap (λ x. x ∷ v ∷ u ∷ t ∷ []) e ∙ ap (λ x. a ∷ x) (three f g h)
 
 -- the word at a place
-abbrev word : List Text → ℕ → Text
+abbrev pub word : List Text → ℕ → Text
 word ws i = get_or ws i []
 
 -- A place alone.

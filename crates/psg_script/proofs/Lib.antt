@@ -3,3 +3,4 @@ pub mod NumberLemmas
 pub mod StepLemmas
 pub mod PartLemmas
 pub mod FormLemmas
+pub mod SameLemmas

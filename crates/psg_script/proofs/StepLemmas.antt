@@ -151,3 +151,37 @@ pub no_steps : (word text : Text) → word ≡ 47 ∷ text → (text ≡ [] → 
 no_steps word text e some none Cursor h = let p : ◌≡◌ {A = ℕ} 46 47 = ap (λ t. get_or t 0 0) (sym h.1 ∙ e) in omega arith
 no_steps word text e some none (At []) h = some (let p : (47 ∷ []) ≡ 47 ∷ text = sym h.1 ∙ e in let q : text ≡ [] = cc in q)
 no_steps word text e some none (At (k ∷ ks)) h = none (k ∷ ks) (h.0, sym e ∙ h.1)
+
+-- A place is told by its text.
+
+same_steps : (ks js : List ℕ) → AllByRecursion IsNumber ks → AllByRecursion IsNumber js → steps_text ks ≡ steps_text js → ks ≡ js
+same_steps [] [] h g e = refl
+same_steps [] (j ∷ js) h g e = absurd (let p : ⊥ = cc in p)
+same_steps (k ∷ ks) [] h g e = absurd (let p : ⊥ = cc in p)
+same_steps (k ∷ ks) (j ∷ js) h g e =
+    let behind : decimal k ++ steps_text ks ≡ decimal j ++ steps_text js = cc in
+    let r = steps_apart (decimal k) (decimal j) (steps_text ks) (steps_text js) (decimal_step k h.0) (decimal_step j g.0) (begins_steps ks) (begins_steps js) behind in
+    let first : k ≡ j = same_decimal k j h.0 g.0 r.0 in
+    let rest : ks ≡ js = same_steps ks js h.1 g.1 r.1 in
+    ap (λ x. x ∷ ks) first ∙ ap (λ xs. j ∷ xs) rest
+
+-- behind the `/` of a first step there is a digit
+top_has_no_step : (k : ℕ) (ks : List ℕ) → IsNumber k → (47 ∷ []) ≡ steps_text (k ∷ ks) → ⊥
+top_has_no_step k ks h e = some_digit (decimal k) (decimal_word k h).0 (let p : [] ≡ decimal k ++ steps_text ks = cc in p) where
+  some_digit : (ds : Text) → 0 < length ds → [] ≡ ds ++ steps_text ks → ⊥
+  some_digit [] l q = omega arith
+  some_digit (d ∷ ds) l q = cc
+
+dot_is_no_slash : (x : Text) → (46 ∷ []) ≡ 47 ∷ x → ⊥
+dot_is_no_slash x e = let p : ◌≡◌ {A = ℕ} 46 47 = ap (λ t. get_or t 0 0) e in omega arith
+
+pub same_place : (w v : Where) → IsPlace w → IsPlace v → place_text w ≡ place_text v → w ≡ v
+same_place Cursor Cursor h g e = refl
+same_place Cursor (At []) h g e = absurd (dot_is_no_slash _ e)
+same_place Cursor (At (k ∷ ks)) h g e = absurd (dot_is_no_slash _ e)
+same_place (At []) Cursor h g e = absurd (dot_is_no_slash _ (sym e))
+same_place (At []) (At []) h g e = refl
+same_place (At []) (At (k ∷ ks)) h g e = absurd (top_has_no_step k ks g.0 e)
+same_place (At (k ∷ ks)) Cursor h g e = absurd (dot_is_no_slash _ (sym e))
+same_place (At (k ∷ ks)) (At []) h g e = absurd (top_has_no_step k ks h.0 (sym e))
+same_place (At (k ∷ ks)) (At (j ∷ js)) h g e = ap At (same_steps (k ∷ ks) (j ∷ js) h g e)
