@@ -4,3 +4,4 @@ pub mod StepLemmas
 pub mod PartLemmas
 pub mod FormLemmas
 pub mod SameLemmas
+pub mod LineLemmas

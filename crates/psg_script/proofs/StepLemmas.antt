@@ -76,7 +76,7 @@ pub record IsReadTo (text : Text) (steps : List ℕ) (rest : Text) : Type 0 wher
 pub read_none : (text : Text) → IsReadTo text [] text
 read_none text = record { numbers = tt; written = refl }
 
-steps_text_push : (ks : List ℕ) (k : ℕ) → steps_text (ks ++ k ∷ []) ≡ steps_text ks ++ (47 ∷ decimal k)
+pub steps_text_push : (ks : List ℕ) (k : ℕ) → steps_text (ks ++ k ∷ []) ≡ steps_text ks ++ (47 ∷ decimal k)
 steps_text_push [] k = ap (λ t. 47 ∷ t) (nil (decimal k)) where
   nil : (x : Text) → x ++ [] ≡ x
   nil [] = refl

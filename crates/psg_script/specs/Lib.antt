@@ -4,3 +4,5 @@ pub mod Found
 pub mod Keywords
 pub mod Reading
 pub mod Productions
+pub mod Lines
+pub mod Script

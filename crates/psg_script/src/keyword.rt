@@ -1,5 +1,8 @@
 //! The first words of lines.
 ghost use Rattle.std.specs.Prelude.{◌≡◌, IfNone, IfSome};
+ghost use Rattle.psg_script.specs.Keywords.{keyword_of};
+
+use crate::command::Command;
 
 /// The first word of a command's line, one for each command.
 #[derive(Clone, Copy, Debug, PartialEq, Eq)]
@@ -95,5 +98,36 @@ impl Keyword {
             Keyword::Keep => "keep",
             Keyword::Fetch => "fetch",
         }
+    }
+}
+
+/// The keyword of a command.
+pub fn keyword_of(command: &Command) -> Keyword
+    ensures { result ≡ keyword_of command.now }
+{
+    match command {
+        Command::New { .. } => Keyword::New,
+        Command::Goto { .. } => Keyword::Goto,
+        Command::Refine { .. } => Keyword::Refine,
+        Command::Insert { .. } => Keyword::Insert,
+        Command::Cut { .. } => Keyword::Cut,
+        Command::Remove { .. } => Keyword::Remove,
+        Command::Close { .. } => Keyword::Close,
+        Command::Reopen { .. } => Keyword::Reopen,
+        Command::Over { .. } => Keyword::Over,
+        Command::Range { .. } => Keyword::Range,
+        Command::Show => Keyword::Show,
+        Command::Screen { .. } => Keyword::Screen,
+        Command::Relation { .. } => Keyword::Relation,
+        Command::Own { .. } => Keyword::Own,
+        Command::Menu { .. } => Keyword::Menu,
+        Command::Names { .. } => Keyword::Names,
+        Command::Free => Keyword::Free,
+        Command::Undo => Keyword::Undo,
+        Command::Redo => Keyword::Redo,
+        Command::Save { .. } => Keyword::Save,
+        Command::Paste { .. } => Keyword::Paste,
+        Command::Keep { .. } => Keyword::Keep,
+        Command::Fetch { .. } => Keyword::Fetch,
     }
 }

@@ -11,7 +11,11 @@ pub mod fields;
 pub mod forms;
 pub mod keyword;
 pub mod read;
+pub mod script;
+pub mod text;
 pub mod words;
 
 pub use command::{Command, CommandFault, Where};
 pub use read::read_command;
+pub use script::make_script;
+pub use text::command_text;
