@@ -1,5 +1,5 @@
 -- Laws of known variables and their numbers.
-use Rattle.std.proofs.Common.{◌≡◌, ℕ, ◌+◌, ◌||◌, true, false, cond, if◌then◌else◌, List, [], ◌∷◌, ◌++◌, refl, ap, ap₂, sym, ◌∙◌, length, subst, inl, inr, Some, None, arith, append_assoc, append-nil}
+use Rattle.std.proofs.Common.{◌≡◌, ℕ, ◌+◌, ◌||◌, true, false, cond, if◌then◌else◌, List, [], ◌∷◌, ◌++◌, map, take, get_or, ◌<◌, refl, ap, ap₂, sym, ◌∙◌, length, subst, inl, inr, Some, None, arith, append_assoc, append-nil}
 use Rattle.psg_terms.specs.Terms.{Term, variable, symbol, apply, applied}
 use Rattle.psg_terms.specs.Signature.{Signature, only_constructor}
 use Rattle.psg_terms.specs.Instances.{substitute}
@@ -10,6 +10,7 @@ use Rattle.psg_terms.proofs.Variables.{cases, same_variable-refl, true_false}
 use Rattle.psg_terms.proofs.Covers.{among-left, among-right}
 use Rattle.psg_terms.proofs.Applied.{applied-substitute}
 use Rattle.psg_terms.proofs.Unique.{Each, each-front}
+use Rattle.psg_terms.proofs.DeclareLaws.{take-next}
 
 pub keys-append : (xs ys : List Key) → keys (xs ++ ys) ≡ keys xs ++ keys ys
 keys-append [] ys = refl
@@ -138,3 +139,33 @@ renumbered_con sig base old new c args parts t u e d h = record {
   known = h.known ∙ ap (λ l. noted_all old (opens sig l)) (sym (ap (λ x. variables x ++ []) e ∙ append-nil (variables (applied (symbol c) args)) ∙ variables-applied (symbol c) args));
   made = ap (λ x. x ∷ []) (d ∙ ap (applied (symbol c)) h.made ∙ sym (applied-substitute (numbering sig base new) (symbol c) args) ∙ sym (ap (substitute (numbering sig base new)) e));
 }
+
+-- a row of some variables, renumbered by more known ones
+pub numbering-extends_row : (sig : Signature) (base : ℕ) (old new : List Variable) → Extends old new → (row : List Term) → Each (IsAmong old) (opens sig (variables_of row)) → map (substitute (numbering sig base new)) row ≡ map (substitute (numbering sig base old)) row
+numbering-extends_row sig base old new h [] a = refl
+numbering-extends_row sig base old new h (t ∷ row) a =
+    let both = each-front (IsAmong old) (opens sig (variables t)) (opens sig (variables_of row)) (subst (Each (IsAmong old)) (opens-append sig (variables t) (variables_of row)) a) in
+    ap₂ (λ x xs. x ∷ xs) (numbering-extends sig base old new h t both.0) (numbering-extends_row sig base old new h row both.1)
+
+variables_of-append : (xs ys : List Term) → variables_of (xs ++ ys) ≡ variables_of xs ++ variables_of ys
+variables_of-append [] ys = refl
+variables_of-append (x ∷ xs) ys = ap (λ l. variables x ++ l) (variables_of-append xs ys) ∙ sym (append_assoc (variables x) (variables_of xs) (variables_of ys))
+
+map-append : (f : Term → Term) (xs ys : List Term) → map f (xs ++ ys) ≡ map f xs ++ map f ys
+map-append f [] ys = refl
+map-append f (x ∷ xs) ys = ap (λ l. f x ∷ l) (map-append f xs ys)
+
+pub renumbered_append : (sig : Signature) (base : ℕ) (old mid new : List Variable) (row made more done : List Term) → Renumbered sig base old mid row made → Renumbered sig base mid new more done → Renumbered sig base old new (row ++ more) (made ++ done)
+renumbered_append sig base old mid new row made more done h k = record {
+  known = k.known ∙ ap (λ m. noted_all m (opens sig (variables_of more))) h.known
+      ∙ sym (ap (λ l. noted_all old (opens sig l)) (variables_of-append row more) ∙ ap (noted_all old) (opens-append sig (variables_of row) (variables_of more))
+      ∙ noted_all-append old (opens sig (variables_of row)) (opens sig (variables_of more)));
+  made = ap₂ (λ xs ys. xs ++ ys)
+      (h.made ∙ sym (numbering-extends_row sig base mid new (subst (Extends mid) (sym k.known) (extends-noted_all mid (opens sig (variables_of more)))) row
+      (subst (λ m. Each (IsAmong m) (opens sig (variables_of row))) (sym h.known) (among-noted_all old (opens sig (variables_of row))))))
+      k.made ∙ sym (map-append (substitute (numbering sig base new)) row more);
+}
+
+pub renumbered_step : (sig : Signature) (base : ℕ) (old mid new : List Variable) (row now after : List Term) (i : ℕ) (t u : Term) → Renumbered sig base old mid (take i row) now → Renumbered sig base mid new (t ∷ []) (u ∷ []) → after ≡ now ++ u ∷ [] → i < length row → t ≡ get_or row i t → Renumbered sig base old new (take (i + 1) row) after
+renumbered_step sig base old mid new row now after i t u h k e lt at =
+    subst (λ xs. Renumbered sig base old new xs after) (sym (take-next row i t lt at)) (subst (Renumbered sig base old new (take i row ++ t ∷ [])) (sym e) (renumbered_append sig base old mid new (take i row) now (t ∷ []) (u ∷ []) h k))

@@ -3,6 +3,7 @@ pub mod Words
 pub mod Terms
 pub mod TermCode
 pub mod Shapes
+pub mod Weight
 pub mod Signature
 pub mod Instances
 pub mod Canonical
@@ -12,6 +13,13 @@ pub mod Sizes
 pub mod Matching
 pub mod Renaming
 pub mod Text
-pub mod Weight
 pub mod Relations
+pub mod Declarations
+pub mod Refusals
+pub mod Weighing
+pub mod Writing
+pub mod Numbered
+pub mod Marks
+pub mod Keeping
+pub mod Lacks
 pub mod formers

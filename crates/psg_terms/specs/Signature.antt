@@ -63,3 +63,7 @@ AreClosed sig (s ∷ rest) = AreSorts sig s.arguments × (s.sort < length sig.so
 -- terms of the signature, each of some sort
 abbrev pub AreTerms : Signature → List Term → Type 0
 AreTerms sig row = (sorts : List ℕ) × HaveSorts sig row sorts
+
+-- the arguments are the constructor's in number and sorts
+abbrev pub TakesArguments : Signature → ℕ → List Term → Type 0
+TakesArguments sig c args = (s : Symbol) × (slice_get sig.symbols c ≡ Some s) × HaveSorts sig args s.arguments

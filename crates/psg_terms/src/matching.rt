@@ -1,15 +1,17 @@
 //! Equality and instances of terms.
-ghost use Rattle.std.specs.Prelude.{◌≡◌, ◌↔◌, ◌∷◌, [], length, IfOk, IsTrue, MatchBool, List, ℕ};
+ghost use Rattle.std.specs.Prelude.{◌≡◌, ◌↔◌, ◌∷◌, [], IfOk, OnOk, IsTrue, MatchBool, List, ℕ, Some, cond};
 ghost use Rattle.std.specs.Option.{option_copied};
 ghost use Rattle.psg_terms.specs.Instances.{IsInstance, AllGroundInstancesIn};
-ghost use Rattle.psg_terms.specs.Canonical.{AreWrittenOut};
+ghost use Rattle.psg_terms.specs.Canonical.{AreWrittenOut, same_variable};
 ghost use Rattle.psg_terms.specs.Signature.{Signature as Plain, HaveSorts};
 ghost use Rattle.psg_terms.specs.Sound.{IsSound};
 ghost use Rattle.psg_terms.specs.Matching.{lookup, Matched, Unmatched};
 
+use crate::canonical::Key;
 use crate::sorts::SortId;
 use crate::term::{Node, Term};
 use std::alloc::{AllocError, Global};
+use std::collections::HashMap;
 
 /// Whether two terms are equal.
 #[cycle(same)]
@@ -39,41 +41,44 @@ pub fn same(a: &Term, b: &Term) -> bool
 pub fn same_all(a: &[Term], b: &[Term]) -> bool
     ensures { IsTrue result ↔ (a.now ≡ b.now) }
 {
-    match a {
-        [] => b.is_empty(),
-        [first, rest @ ..] => match b {
-            [] => false,
-            [other, others @ ..] => same(first, other) && same_all(rest, others),
-        },
+    if a.len() != b.len() {
+        return false;
     }
-}
-
-/// What a variable stands for.
-#[derive(Drop)]
-pub struct Binding {
-    pub sort: SortId,
-    pub number: u32,
-    pub term: Term,
-}
-
-/// The term of a variable, if it is bound.
-pub fn bound(table: &[Binding], sort: SortId, number: u32) -> Option<&Term>
-    ensures { option_copied result ≡ lookup table.now sort.0 number }
-{
-    for b in table {
-        if b.sort.0 == sort.0 && b.number == number {
-            return Some(&b.term);
+    for i in 0..a.len() {
+        if !same(&a[i], &b[i]) {
+            return false;
         }
     }
-    None
+    true
+}
+
+/// The term of a variable, if the table has it.
+pub fn bound(table: &HashMap<Key, Term>, sort: SortId, number: u32) -> Option<&Term>
+    ensures { option_copied result ≡ lookup table.now sort.0 number }
+{
+    table.get(&Key { sort, number })
+}
+
+/// Gives a variable a term, in place of another that it may have. After an error the table is as it was.
+pub fn bind(
+    table: &mut HashMap<Key, Term>,
+    sort: SortId,
+    number: u32,
+    term: Term,
+) -> Result<(), AllocError>
+    ensures { OnOk result ((s n : ℕ) → lookup table.new s n
+        ≡ cond (same_variable (sort.0, number) (s, n)) (Some term) (lookup table.old s n)) }
+{
+    table.insert(Key { sort, number }, term)?;
+    Ok(())
 }
 
 /// Whether the table, with more variables bound, makes the special term of the general one.
 #[cycle(fits)]
-fn fits(table: &mut Vec<Binding>, general: &Term, special: &Term) -> Result<bool, AllocError>
+fn fits(table: &mut HashMap<Key, Term>, general: &Term, special: &Term) -> Result<bool, AllocError>
     ensures { IfOk result (λ b. MatchBool b
-        (Matched table.old.items table.new.items (general.now ∷ []) (special.now ∷ []))
-        (Unmatched table.old.items (general.now ∷ []) (special.now ∷ []))) }
+        (Matched (lookup table.old) (lookup table.new) (general.now ∷ []) (special.now ∷ []))
+        (Unmatched (lookup table.old) (general.now ∷ []) (special.now ∷ []))) }
 {
     match general.node() {
         Node::Var { sort, number } => {
@@ -81,11 +86,7 @@ fn fits(table: &mut Vec<Binding>, general: &Term, special: &Term) -> Result<bool
                 Some(term) => Ok(same(term, special)),
                 None => {
                     let term = special.share()?;
-                    table.push(Binding {
-                        sort: *sort,
-                        number: *number,
-                        term,
-                    })?;
+                    bind(table, *sort, *number, term)?;
                     Ok(true)
                 }
             }
@@ -108,34 +109,35 @@ fn fits(table: &mut Vec<Binding>, general: &Term, special: &Term) -> Result<bool
 
 /// The same of rows.
 #[cycle(fits)]
-fn fit(table: &mut Vec<Binding>, general: &[Term], special: &[Term]) -> Result<bool, AllocError>
+fn fit(
+    table: &mut HashMap<Key, Term>,
+    general: &[Term],
+    special: &[Term],
+) -> Result<bool, AllocError>
     ensures { IfOk result (λ b. MatchBool b
-        (Matched table.old.items table.new.items general.now special.now)
-        (Unmatched table.old.items general.now special.now)) }
+        (Matched (lookup table.old) (lookup table.new) general.now special.now)
+        (Unmatched (lookup table.old) general.now special.now)) }
 {
-    match general {
-        [] => Ok(special.is_empty()),
-        [first, rest @ ..] => match special {
-            [] => Ok(false),
-            [other, others @ ..] => {
-                if !fits(table, first, other)? {
-                    return Ok(false);
-                }
-                let fitting = fit(table, rest, others)?;
-                Ok(fitting)
-            }
-        },
+    if general.len() != special.len() {
+        return Ok(false);
     }
+    for i in 0..general.len() {
+        if !fits(table, &general[i], &special[i])? {
+            return Ok(false);
+        }
+    }
+    Ok(true)
 }
 
-/// Whether one substitution of the general row's variables gives the special row.
+/// Whether one substitution of the general row's variables gives the special row. It reads each place of the general
+/// row once, and of the special one once for each occurrence of a variable that stands for it.
 pub fn is_instance(alloc: Global, special: &[Term], general: &[Term]) -> Result<bool, AllocError>
     ensures instance { IfOk result (λ b. IsTrue b ↔ IsInstance special.now general.now) }
     ensures exact { IfOk result (λ b. (sig : Plain) → IsSound sig → (sorts : List ℕ)
         → HaveSorts sig special.now sorts → HaveSorts sig general.now sorts → AreWrittenOut sig special.now
         → IsTrue b ↔ AllGroundInstancesIn sig special.now general.now) }
 {
-    let mut table = Vec::new(alloc);
+    let mut table = HashMap::new(alloc);
     let fitting = fit(&mut table, general, special)?;
     Ok(fitting)
 }

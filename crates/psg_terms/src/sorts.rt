@@ -1,13 +1,22 @@
 //! Sorts and constructors by number.
-ghost use Rattle.std.specs.Prelude.{◌≡◌, ◌<◌, length, slice_get, Some, IsTrue, ◌^◌};
-ghost use Rattle.psg_terms.specs.Kept.{number_in, symbols_of};
-ghost use Rattle.psg_terms.specs.Signature.{sole, constructors_from};
+ghost use Rattle.std.specs.Prelude.{◌≡◌, ◌<◌, ◌^◌, length, slice_get, map, Some, IfOk, IfErr, false, ℕ, vec_len};
+ghost use Rattle.psg_terms.specs.Names.{has_twice};
+ghost use Rattle.psg_terms.specs.Kept.{number_in, numbers_of, symbols_of};
+ghost use Rattle.psg_terms.specs.Marks.{con_numbers};
+ghost use Rattle.psg_terms.specs.Signature.{Symbol, AreClosed, constructors_of, only_constructor};
+ghost use Rattle.psg_terms.specs.Declarations.{constructor_names, IsSpelled};
+ghost use Rattle.psg_terms.specs.Refusals.{IsRefused, MayRefuse};
+ghost use Rattle.psg_terms.specs.Lacks.{MayLack};
+ghost use Rattle.psg_terms.specs.declared.declare.SigFault.{SigFault as Fault};
 
+use crate::declare::{SigFault, SortDecl, Spelling, spell};
+use crate::ground::{first_unmarked, first_wide, inhabited, made_by, sole_of};
 use crate::seq::{Seq, Txt};
+use std::alloc::Global;
 use std::marker::Model;
 
 /// The number of a sort.
-#[derive(Clone, Copy, Debug, PartialEq, Eq)]
+#[derive(Clone, Copy, Debug, PartialEq, Eq, Hash)]
 pub struct SortId(pub u32);
 
 /// The number of a constructor.
@@ -28,11 +37,15 @@ pub struct Declared {
     pub sort: SortId,
 }
 
-/// The sorts and constructors of a language.
+/// The sorts and constructors of a language. Sorts are numbered in order from 0, and constructors from 0 through all
+/// sorts in order. Every sort has a term without variables, and either its only constructor is a constant or it has
+/// two constructors or more.
 #[derive(Drop)]
 pub struct Signature {
     sorts: Seq<Txt>,
     declared: Seq<Declared>,
+    /// The constructors of each sort, in order.
+    made: Seq<Seq<ConId>>,
 }
 
 impl Model for Signature {
@@ -41,29 +54,33 @@ impl Model for Signature {
     ghost Value = { Plain };
 
     ghost use Rattle.psg_terms.specs.Kept.{symbols_of};
+    ghost use Rattle.psg_terms.specs.Keeping.{IsKept};
 
     ghost view = { λ s. record { sorts = s.sorts; symbols = symbols_of s.declared } };
 
-    ghost use Rattle.std.specs.Prelude.{◌<◌, ◌^◌, length};
-    ghost use Rattle.psg_terms.specs.Sound.{IsSound};
-
-    ghost invariant = { λ s. (length s.declared < 2 ^ 32) × IsSound (record { sorts = s.sorts; symbols = symbols_of s.declared }) };
+    ghost invariant = { λ s. IsKept s.sorts s.declared s.made };
 }
 
 impl Signature {
-    ghost use Rattle.psg_terms.specs.Kept.{number_in, symbols_of};
     ghost use Rattle.psg_terms.specs.Sound.{IsSound};
-    ghost use Rattle.psg_terms.specs.Signature.{only_constructor};
 
-    /// The signature of these sorts and constructors.
-    pub fn of(sorts: Vec<Txt>, declared: Vec<Declared>) -> Signature
-        requires few { length declared.items < 2 ^ 32 }
-        requires sound { IsSound (record { sorts = sorts.items; symbols = symbols_of declared.items }) }
+    /// The signature that is written. It reads each name once, and finds the sorts that have terms without variables
+    /// in at most as many rounds as there are sorts, each of which reads each argument once.
+    ///
+    /// What is wrong is looked for in the order of the faults, and each over the sorts in order: a name that stands
+    /// twice, an argument that names no sort, a sort without a term without variables, a sort whose only constructor
+    /// has arguments. `Memory` comes when memory runs out, at any time.
+    pub fn new(alloc: Global, sorts: Vec<SortDecl>) -> Result<Signature, SigFault>
+        requires few_sorts { vec_len sorts < 2 ^ 32 }
+        requires few_constructors { length (constructor_names sorts.items) < 2 ^ 32 }
+        ensures ok { IfOk result (IsSpelled sorts.items) }
+        ensures none { IfOk result (λ _. (fault : Fault) → IsRefused sorts.items fault → ⊥) }
+        ensures err { IfErr result (MayRefuse sorts.items) }
     {
-        Signature {
-            sorts: Seq::of(sorts),
-            declared: Seq::of(declared),
-        }
+        let spelling = spell(alloc, sorts.as_slice())?;
+        let signature = accept(alloc, spelling)?;
+        signature.sound();
+        Ok(signature)
     }
 
     /// Every sort has a ground term, and is one constant or has a choice.
@@ -73,6 +90,21 @@ impl Signature {
         let _ = &self.sorts;
     }
 
+    /// How many sorts there are.
+    pub fn sorts(&self) -> u32
+        ensures { result ≡ length self.now.sorts }
+    {
+        self.sorts.as_slice().len() as u32
+    }
+
+    /// How many constructors there are.
+    pub fn constructors(&self) -> u32
+        ensures { result ≡ length self.now.symbols }
+    {
+        self.declared.as_slice().len() as u32
+    }
+
+    /// The name of a sort.
     pub fn sort_name(&self, sort: SortId) -> &str
         requires { sort.0 < length self.now.sorts }
         ensures { slice_get self.now.sorts sort.0 ≡ Some result.now }
@@ -80,26 +112,65 @@ impl Signature {
         self.sorts.as_slice()[sort.0 as usize].as_str()
     }
 
+    /// The constructors of a sort, in order.
+    pub fn constructors_of(&self, sort: SortId) -> &[ConId]
+        requires { sort.0 < length self.now.sorts }
+        ensures { con_numbers result.now ≡ constructors_of self.now sort.0 }
+    {
+        self.made.as_slice()[sort.0 as usize].as_slice()
+    }
+
+    /// A constructor, with its name and the sorts of its arguments.
+    pub fn constructor(&self, con: ConId) -> &Constructor
+        requires { con.0 < length self.now.symbols }
+        ensures { (s : ℕ) × (slice_get self.now.symbols con.0
+            ≡ Some (record { name = result.now.name; arguments = numbers_of result.now.args; sort = s })) }
+    {
+        &self.declared.as_slice()[con.0 as usize].constructor
+    }
+
+    /// The sort that a constructor makes.
+    pub fn sort_of(&self, con: ConId) -> SortId
+        requires { con.0 < length self.now.symbols }
+        ensures { (s : Symbol) × (slice_get self.now.symbols con.0 ≡ Some s) × (s.sort ≡ result.0) }
+    {
+        self.declared.as_slice()[con.0 as usize].sort
+    }
+
     /// The constructor of a sort that has one alone.
     pub fn constant_of(&self, sort: SortId) -> Option<ConId>
         ensures { number_in result ≡ only_constructor self.now sort.0 }
     {
-        constant_among(self.declared.as_slice(), sort)
+        match self.made.as_slice().get(sort.0 as usize) {
+            Some(ids) => sole_of(ids.as_slice()),
+            None => None,
+        }
     }
 }
 
-fn constant_among(declared: &[Declared], sort: SortId) -> Option<ConId>
-    requires { length declared.now < 2 ^ 32 }
-    ensures { number_in result ≡ sole (constructors_from 0 sort.0 (symbols_of declared.now)) }
+/// The signature of these sorts and constructors, if each sort has terms enough.
+fn accept(alloc: Global, spelling: Spelling) -> Result<Signature, SigFault>
+    requires few_sorts { length spelling.names.items < 2 ^ 32 }
+    requires few_constructors { length spelling.declared.items < 2 ^ 32 }
+    requires sort_names { has_twice spelling.names.items ≡ false }
+    requires constructor_names { has_twice (map (λ (s : Symbol). s.name) (symbols_of spelling.declared.items)) ≡ false }
+    requires closed { AreClosed (record { sorts = spelling.names.items; symbols = symbols_of spelling.declared.items })
+        (symbols_of spelling.declared.items) }
+    ensures ok { IfOk result (λ s. s ≡ record { sorts = spelling.names.items; symbols = symbols_of spelling.declared.items }) }
+    ensures err { IfErr result (MayLack (record { sorts = spelling.names.items; symbols = symbols_of spelling.declared.items })) }
 {
-    let mut found = None;
-    for i in 0..declared.len() {
-        if declared[i].sort.0 == sort.0 {
-            if found.is_some() {
-                return None;
-            }
-            found = Some(ConId(i as u32));
-        }
+    let Spelling { names, declared } = spelling;
+    let marks = inhabited(alloc, names.len(), declared.as_slice())?;
+    if let Some(s) = first_unmarked(marks.as_slice()) {
+        return Err(SigFault::NoGround(SortId(s as u32)));
     }
-    found
+    let made = made_by(alloc, names.len(), declared.as_slice())?;
+    if let Some(s) = first_wide(made.as_slice(), declared.as_slice()) {
+        return Err(SigFault::OneWide(SortId(s as u32)));
+    }
+    Ok(Signature {
+        sorts: Seq::of(names),
+        declared: Seq::of(declared),
+        made: Seq::of(made),
+    })
 }
