@@ -1,5 +1,5 @@
 -- The steps of the walk over a line, and of the walk over the lines of a text.
-use Rattle.std.proofs.Common.{◌≡◌, ℕ, zero, suc, ◌+◌, ◌-◌, ◌<◌, ◌≤◌, min, max, Bool, true, false, cond, eqb, leb, ◌&&◌, List, [], ◌∷◌, ◌++◌, map, length, take, drop, get_or, refl, inl, inr, lit<, sym, ap, ◌∙◌, arith, append_assoc, append-nil, replicate, encode_utf8_all}
+use Rattle.std.proofs.Common.{◌≡◌, ℕ, zero, suc, ◌+◌, ◌-◌, ◌<◌, min, Bool, true, false, cond, eqb, leb, ◌&&◌, List, [], ◌∷◌, ◌++◌, map, length, take, drop, get_or, refl, inl, inr, lit<, sym, ap, ◌∙◌, arith, append_assoc, append-nil, replicate, encode_utf8_all}
 use Rattle.std.specs.List.{range_with_len}
 use Rattle.std.proofs.lemmas.Bool.Decides.{nat_tests}
 use Rattle.std.proofs.lemmas.Bool.{cases_lt}
@@ -7,7 +7,7 @@ use Rattle.std.proofs.lemmas.List.{drop_all, drop_more, get_or_past, replicate-a
 use Rattle.std.proofs.lemmas.List.Sums.{sum_by-cons}
 use Rattle.std.proofs.lemmas.Str.{encodes-append, encode_ascii, chars-nil}
 use Rattle.psg_screen.specs.declared.View.{View}
-use Rattle.psg_screen.specs.Window.{width_of, column_after, is_inside, columns_inside, is_written, ends_written, shown_for, shown_behind, shown_line}
+use Rattle.psg_screen.specs.Window.{width_of, column_after, columns_inside, is_written, ends_written, shown_for, shown_behind, shown_line}
 
 -- ---- a line
 

@@ -35,7 +35,8 @@ pub struct View {
 /// the window has in part is shown as a space for each of its columns there. One that takes no column is shown where
 /// the one before it is, and at the beginning of a line where `left` is 0. No line is filled up with spaces.
 ///
-/// Fails only for want of memory. Reads the text once, up to the window's last line.
+/// Fails only for want of memory. Reads the text once, up to the window's last line, and those lines that it shows once
+/// more.
 pub fn window(alloc: Global, text: &str, view: View) -> Result<Vec<Txt>, AllocError>
     ensures lines { IfOk result (λ lines. lines.items ≡ window_of text.now view) }
     ensures rows { IfOk result (λ lines. vec_len lines ≡ view.rows) }

@@ -1,4 +1,4 @@
-use Rattle.std.proofs.Common.{lit<, map, vec_len, List, ℕ, ◌≡◌, eqb, arith}
+use Rattle.std.proofs.Common.{lit<, eqb}
 use Rattle.std.specs.List.{slice_split}
 use Rattle.std.proofs.lemmas.Iterator.{YieldsList-from_take}
 use Rattle.std.proofs.lemmas.Iterator.Adapters.{YieldsList-from_skip}

@@ -1,4 +1,4 @@
-use Rattle.std.proofs.Common.{◌∙◌, string_bytes, lit<}
+use Rattle.std.proofs.Common.{string_bytes, lit<}
 use Rattle.std.proofs.lemmas.Str.{encode_ascii}
 use Rattle.psg_screen.proofs.WindowLaws.{spaces-step}
 use Rattle.psg_screen.proofs.line.push_spaces.Goals as goal

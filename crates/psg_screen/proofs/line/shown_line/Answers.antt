@@ -1,4 +1,4 @@
-use Rattle.std.proofs.Common.{◌≡◌, ◌<◌, ◌^◌, [], ◌∙◌, sym, ap, map-id, encode_utf8_all, arith}
+use Rattle.std.proofs.Common.{[], ◌∙◌, sym, ap, map-id, encode_utf8_all, arith}
 use Rattle.std.proofs.lemmas.Iterator.{YieldsList-from_chars}
 use Rattle.std.proofs.lemmas.Iterator.Consumers.{YieldsList-end}
 use Rattle.psg_screen.specs.Window.{shown_behind, shown_line}
