@@ -1,12 +1,11 @@
 -- What each form of a line comes to: a command where its words were read, and none where they were not.
-use Rattle.std.proofs.Common.{◌≡◌, ℕ, suc, ◌<◌, ◌≤◌, ◌^◌, List, [], ◌∷◌, ◌++◌, Option, Some, None, Result, Ok, Err, IfOk, length, get_or, refl, sym, ap, subst, ◌∙◌, arith}
+use Rattle.std.proofs.Common.{◌≡◌, ℕ, ◌<◌, ◌≤◌, ◌^◌, List, [], ◌∷◌, Option, Some, None, Result, Ok, Err, IfOk, length, get_or, refl, ap, subst, ◌∙◌, arith}
 use Rattle.std.specs.Borrow.{Bor}
 use Rattle.std.specs.declared.alloc.AllocError.{AllocError}
 use Rattle.std.specs.Fmt.{decimal}
-use Rattle.std.specs.List.{AllByRecursion}
-use Rattle.psg_script.specs.Forms.{Text, IsWord, IsName, IsFile, IsNumber, IsPlace, IsTail, IsCommand, place_text, tail_of, Follow}
+use Rattle.psg_script.specs.Forms.{Text, IsNumber, IsTail, place_text, tail_of, Follow}
 use Rattle.psg_script.specs.Found.{AreWords, found_words}
-use Rattle.psg_script.specs.Keywords.{keyword_of, fields_of}
+use Rattle.psg_script.specs.Keywords.{fields_of}
 use Rattle.psg_script.specs.Productions.{IsForm, IsPlaceAlone}
 use Rattle.psg_script.specs.Reading.{Reads, IsNumeral, IsNumeralUpTo, IsNameWord, IsFileWord, IsPlaceWord, IsPlacedName}
 use Rattle.psg_script.specs.Words.{IsOpen, IsClosed}

@@ -1,7 +1,7 @@
 -- Laws of lines that are made word by word, and of the lines of the large script.
 use Rattle.std.proofs.Common.{◌≡◌, ℕ, zero, suc, ◌+◌, ◌<◌, ◌≤◌, length, get_or, take, List, [], ◌∷◌, ◌++◌, Option, Some, None, refl, sym, ap, subst, ◌∙◌, arith, append_assoc}
 use Rattle.std.specs.Str.{IsUtf8}
-use Rattle.psg_script.specs.Forms.{Text, IsCommand, Follow, IsLineOf, Spells, spaces, words_of, tail_of}
+use Rattle.psg_script.specs.Forms.{Text, IsCommand, Follow, IsLineOf, Spells, tail_of}
 use Rattle.psg_script.specs.Keywords.{keyword_of, keyword_text, fields_of}
 use Rattle.psg_script.specs.Lines.{with_words, with_tail}
 use Rattle.psg_script.specs.declared.command.Command.{Command}

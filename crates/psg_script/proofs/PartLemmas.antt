@@ -1,10 +1,10 @@
 -- The parts of commands are words, and a form gives its parts back.
-use Rattle.std.proofs.Common.{◌≡◌, ◌≢◌, ℕ, zero, suc, ◌+◌, ◌^◌, ◌<◌, ◌≤◌, Bool, true, false, IsTrue, List, [], ◌∷◌, ◌++◌, Option, Some, None, length, refl, sym, ap, subst, ◌∙◌, arith}
+use Rattle.std.proofs.Common.{◌≡◌, ℕ, ◌^◌, ◌<◌, true, false, IsTrue, List, [], ◌∷◌, ◌++◌, Option, Some, None, refl, sym, subst, arith}
 use Rattle.std.proofs.lemmas.Bool.{true≢false}
 use Rattle.std.specs.Char.{is_ascii_alphabetic}
 use Rattle.std.specs.Fmt.{decimal}
 use Rattle.std.specs.List.{AllByRecursion}
-use Rattle.psg_script.specs.Forms.{Text, IsInWord, IsWord, IsName, IsFile, IsNumber, IsNumberIfAny, IsPlace, IsTail, IsCommand, goes_on_name, place_text, steps_text, words_of, tail_of, Follow}
+use Rattle.psg_script.specs.Forms.{Text, IsInWord, IsWord, IsName, IsNumber, IsPlace, IsCommand, goes_on_name, place_text, steps_text, words_of}
 use Rattle.psg_script.specs.Keywords.{keyword_of, keyword_text, fields_of}
 use Rattle.psg_script.specs.Productions.{IsForm}
 use Rattle.psg_script.specs.declared.command.Command.{Command}

@@ -1,17 +1,15 @@
 -- A line spells at most one command.
-use Rattle.std.proofs.Common.{◌≡◌, ℕ, suc, ◌<◌, ◌≤◌, ◌^◌, Bool, true, false, cond, not, List, [], ◌∷◌, ◌++◌, Option, Some, None, length, get_or, refl, sym, ap, subst, ◌∙◌, arith}
-use Rattle.std.proofs.lemmas.Bool.{true≢false, and_parts, ne_eqb}
+use Rattle.std.proofs.Common.{◌≡◌, ℕ, ◌<◌, ◌^◌, Bool, true, cond, not, List, [], ◌∷◌, ◌++◌, Option, Some, None, length, refl, sym, ap, subst, ◌∙◌, arith}
+use Rattle.std.proofs.lemmas.Bool.{true≢false, and_parts}
 use Rattle.std.specs.Prelude.{◌&&◌, ◌==◌, codes}
-use Rattle.std.specs.Fmt.{decimal}
 use Rattle.std.specs.List.{AllByRecursion}
 use Rattle.std.specs.Str.{bytes_eq, IsUtf8}
-use Rattle.psg_script.specs.Forms.{Text, IsInWord, IsWord, IsNumber, IsNumberIfAny, IsPlace, IsTail, IsCommand, place_text, number_words, words_of, tail_of, Follow, IsLineOf, Spells}
+use Rattle.psg_script.specs.Forms.{Text, IsInWord, IsNumberIfAny, number_words, tail_of, Follow, IsLineOf, Spells}
 use Rattle.psg_script.specs.Keywords.{keyword_of, keyword_text, fields_of}
 use Rattle.psg_script.specs.Productions.{IsForm}
-use Rattle.psg_script.specs.Words.{IsBehind, IsOpen, IsClosed}
+use Rattle.psg_script.specs.Words.{IsBehind}
 use Rattle.psg_script.specs.declared.command.Command.{Command}
 use Rattle.psg_script.specs.declared.command.Command.TheVariants as commands
-use Rattle.psg_script.specs.declared.command.Where.{Where}
 use Rattle.psg_script.specs.declared.keyword.Keyword.{Keyword}
 use Rattle.psg_script.specs.declared.keyword.Keyword.TheVariants as keywords
 use Rattle.psg_script.proofs.FormLemmas.{closed_form, open_form, closed_same, open_same, word}

@@ -1,5 +1,5 @@
 -- What the words of a line are, as the reader finds them.
-use Rattle.std.specs.Prelude.{ℕ, ◌≤◌, ◌≡◌, List, [], ◌∷◌, length, Option, Some, None, MatchOption}
+use Rattle.std.specs.Prelude.{◌≤◌, List, [], ◌∷◌, length, Option, Some, None, MatchOption}
 use Rattle.psg_script.specs.Forms.{Text}
 use Rattle.psg_script.specs.Words.{IsClosed}
 use Rattle.psg_script.specs.declared.words.Words.{Words}

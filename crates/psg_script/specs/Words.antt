@@ -1,7 +1,7 @@
 -- The words of a line, as they are found from the left.
-use Rattle.std.specs.Prelude.{ℕ, suc, ◌≤◌, ◌≡◌, List, [], ◌∷◌, ◌++◌, length, Option, Some, None, MatchOption}
+use Rattle.std.specs.Prelude.{ℕ, suc, ◌≡◌, List, [], ◌∷◌, ◌++◌, Some, None}
 use Rattle.std.specs.List.{AllByRecursion}
-use Rattle.psg_script.specs.Forms.{Text, IsInWord, IsWord, IsTail, Follow, spaces}
+use Rattle.psg_script.specs.Forms.{Text, IsWord, IsTail, Follow, spaces}
 
 -- what may stand behind a word: nothing, or a text that begins with a space
 abbrev pub IsBehind : Text → Type 0

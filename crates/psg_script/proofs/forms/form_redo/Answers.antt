@@ -1,4 +1,4 @@
-use Rattle.std.proofs.Common.{◌≡◌, sym, ◌∙◌}
+use Rattle.std.proofs.Common.{sym, ◌∙◌}
 use Rattle.std.proofs.lemmas.Bool.{true≢false}
 use Rattle.psg_script.proofs.FormLemmas.{none_redo, some_redo}
 use Rattle.psg_script.proofs.forms.form_redo.Goals as goal

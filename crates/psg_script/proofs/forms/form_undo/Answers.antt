@@ -1,4 +1,4 @@
-use Rattle.std.proofs.Common.{◌≡◌, sym, ◌∙◌}
+use Rattle.std.proofs.Common.{sym, ◌∙◌}
 use Rattle.std.proofs.lemmas.Bool.{true≢false}
 use Rattle.psg_script.proofs.FormLemmas.{none_undo, some_undo}
 use Rattle.psg_script.proofs.forms.form_undo.Goals as goal

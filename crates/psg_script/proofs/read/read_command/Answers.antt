@@ -1,4 +1,4 @@
-use Rattle.std.proofs.Common.{◌≡◌, sym, ◌∙◌}
+use Rattle.std.proofs.Common.{sym, ◌∙◌}
 use Rattle.psg_script.specs.Keywords.{keyword_of}
 use Rattle.psg_script.proofs.SameLemmas.{form_from_line, form_at, same_form}
 use Rattle.psg_script.proofs.read.read_command.Goals as goal

@@ -1,4 +1,4 @@
-use Rattle.std.proofs.Common.{◌≡◌, suc, ◌∷◌, ◌++◌, sym, ap, ◌∙◌, lit<}
+use Rattle.std.proofs.Common.{suc, ◌++◌, ap, ◌∙◌, lit<}
 use Rattle.std.proofs.lemmas.Str.{IsUtf8-past_char, encode_ascii}
 use Rattle.std.proofs.lemmas.Str.Pattern.{strip_prefix_char}
 use Rattle.psg_script.specs.Forms.{spaces}

@@ -1,4 +1,4 @@
-use Rattle.std.proofs.Common.{◌≡◌, Bool, true, false, sym, ◌∙◌}
+use Rattle.std.proofs.Common.{sym, ◌∙◌}
 use Rattle.std.proofs.lemmas.Bool.{true≢false}
 use Rattle.psg_script.proofs.WordLemmas.{no_end_closed, no_more_closed}
 use Rattle.psg_script.proofs.words.words_behind.Goals as goal
