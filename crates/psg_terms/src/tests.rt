@@ -3,20 +3,11 @@ ghost use Rattle.std.specs.Prelude.{◌≡◌, ◌<◌, ◌^◌, [], length, IfO
 ghost use Rattle.std.specs.Bool.{OnTrue};
 ghost use Rattle.psg_terms.specs.Declarations.{constructor_names};
 
-use crate::laws::Family;
 use crate::{
-    ConDecl, ConId, Node, Seq, SigFault, Signature, SortDecl, SortId, Term, Txt, canonical,
-    has_sort, have_sorts, laws, matching, row_text, term_text,
+    ConDecl, ConId, Seq, SigFault, Signature, SortDecl, SortId, Term, Txt, canonical, has_sort,
+    have_sorts, matching, row_text, term_text,
 };
 use std::alloc::{AllocError, Global};
-use std::test::Fail;
-
-/// Nothing is possible.
-struct Nothing;
-
-impl Family for Nothing {
-    ghost possible = { λ _ _. ⊥ };
-}
 
 /// A constructor from its name and its arguments' sorts, as `cons Type Types`.
 fn con(alloc: Global, text: &str) -> Result<ConDecl, AllocError> {
@@ -94,8 +85,41 @@ const ARR: ConId = ConId(3);
 
 const CONS: ConId = ConId(5);
 
-fn int(alloc: Global) -> Result<Term, AllocError> {
-    Term::apply(alloc, INT, Vec::new(alloc))
+fn apply(alloc: Global, con: ConId) -> Result<Term, AllocError> {
+    Term::apply(alloc, con, Vec::new(alloc))
+}
+
+/// A row of two terms.
+fn pair(alloc: Global, first: Term, second: Term) -> Result<Vec<Term>, AllocError> {
+    let mut row = Vec::new(alloc);
+    row.push(first)?;
+    row.push(second)?;
+    Ok(row)
+}
+
+/// A term with a constructor around it.
+fn wrapped(alloc: Global, term: Term) -> Result<Term, AllocError> {
+    let mut args = Vec::new(alloc);
+    args.push(term)?;
+    Term::apply(alloc, ARR, args)
+}
+
+/// int with 1,000 constructors around it.
+fn nested(alloc: Global) -> Result<Term, AllocError> {
+    let mut term = apply(alloc, INT)?;
+    for _ in 0..1000u32 {
+        term = wrapped(alloc, term)?;
+    }
+    Ok(term)
+}
+
+/// 16,000 different variables.
+fn variables(alloc: Global) -> Result<Vec<Term>, AllocError> {
+    let mut row = Vec::new(alloc);
+    for i in 0..16000u32 {
+        row.push(Term::var(alloc, TYPE, 16000 - i)?)?;
+    }
+    Ok(row)
 }
 
 /// The text of the canonical row, if the row has these sorts.
@@ -127,119 +151,167 @@ fn text_of(
     Ok(Some(text))
 }
 
+/// The text of the canonical row of these terms.
+fn canonical_in(alloc: Global, row: &[Term], sorts: &[SortId]) -> Result<String, SigFault> {
+    let sig = types(alloc)?;
+    match canonical_text(alloc, &sig, row, sorts)? {
+        Some(text) => Ok(text),
+        None => Err(SigFault::Memory),
+    }
+}
+
+/// The text of a term.
+fn text_in(alloc: Global, term: &Term, sort: SortId) -> Result<String, SigFault> {
+    let sig = types(alloc)?;
+    match text_of(alloc, &sig, term, sort)? {
+        Some(text) => Ok(text),
+        None => Err(SigFault::Memory),
+    }
+}
+
+/// What is wrong with one sort, `A`.
+fn fault_of_one(alloc: Global, constructors: &[&str]) -> Result<String, AllocError> {
+    let sort = sort(alloc, "A", constructors)?;
+    let mut sorts = Vec::new(alloc);
+    sorts.push(sort)?;
+    fault(alloc, sorts)
+}
+
+/// What is wrong with two sorts, `B` and `D`.
+fn fault_of_two(alloc: Global, first: &[&str], second: &[&str]) -> Result<String, AllocError> {
+    let first = sort(alloc, "B", first)?;
+    let second = sort(alloc, "D", second)?;
+    let mut sorts = Vec::new(alloc);
+    sorts.push(first)?;
+    sorts.push(second)?;
+    fault(alloc, sorts)
+}
+
+/// Whether the sorts are read back.
+fn has_sorts(sig: &Signature) -> bool {
+    if sig.sorts() != 3 {
+        return false;
+    }
+    sig.sort_name(TYPES) == "Types" && sig.constructors_of(TYPE).len() == 3
+}
+
+/// Whether the constructors are read back.
+fn has_constructors(sig: &Signature) -> bool {
+    if sig.constructors() != 6 {
+        return false;
+    }
+    let cons = sig.constructor(CONS);
+    cons.name.as_str() == "cons" && cons.args.as_slice().len() == 2 && sig.sort_of(ARR) == TYPE
+}
+
+/// The two variables ?1 ?1.
+fn twice(alloc: Global) -> Result<Vec<Term>, AllocError> {
+    let first = Term::var(alloc, TYPE, 1)?;
+    let second = Term::var(alloc, TYPE, 1)?;
+    pair(alloc, first, second)
+}
+
+/// Whether the row of the two constants is an instance of ?1 ?1.
+fn fits_twice(alloc: Global, first: ConId, second: ConId) -> Result<bool, AllocError> {
+    let general = twice(alloc)?;
+    let first = apply(alloc, first)?;
+    let second = apply(alloc, second)?;
+    let special = pair(alloc, first, second)?;
+    matching::is_instance(alloc, special.as_slice(), general.as_slice())
+}
+
+/// The text of cons(int,?2).
+fn list_text(alloc: Global) -> Result<String, SigFault> {
+    let first = apply(alloc, INT)?;
+    let second = Term::var(alloc, TYPES, 2)?;
+    let list = Term::apply(alloc, CONS, pair(alloc, first, second)?)?;
+    text_in(alloc, &list, TYPES)
+}
+
+/// The text of the canonical row of ?9 ?9 and a variable of Unit.
+fn nines_text(alloc: Global) -> Result<String, SigFault> {
+    let first = Term::var(alloc, TYPE, 9)?;
+    let second = Term::var(alloc, TYPE, 9)?;
+    let mut row = pair(alloc, first, second)?;
+    row.push(Term::var(alloc, UNIT, 9)?)?;
+    canonical_in(alloc, row.as_slice(), &[TYPE, TYPE, UNIT])
+}
+
+/// The canonical row of 16,000 different variables.
+fn long_text(alloc: Global) -> Result<String, SigFault> {
+    let row = variables(alloc)?;
+    let sorts = vec![in alloc; TYPE; 16000]?;
+    canonical_in(alloc, row.as_slice(), sorts.as_slice())
+}
+
 #[test]
-fn faults(rt: HostRuntime) -> Result<(), Fail> {
-    let alloc = rt.alloc();
-    let round = fault(alloc, vec![in alloc; sort(alloc, "A", &["f A"])?]?)?;
+fn faults_of_one_sort(rt: HostRuntime) -> Result<(), AllocError> {
+    let round = fault_of_one(rt.alloc(), &["f A"])?;
     assert_eq!(rt; round.as_str(), "sort 0 has no term without variables");
-    let narrow = sort(alloc, "B", &["b", "c"])?;
-    let wide = sort(alloc, "D", &["g B"])?;
-    let text = fault(alloc, vec![in alloc; narrow, wide]?)?;
-    assert_eq!(rt;
-        text.as_str(),
-        "the only constructor of sort 1 has arguments"
-    );
-    let twice = fault(alloc, vec![in alloc; sort(alloc, "B", &["b E", "b"])?]?)?;
-    assert_eq!(rt; twice.as_str(), "the name `b` stands twice");
-    let unknown = fault(alloc, vec![in alloc; sort(alloc, "A", &["f A E"])?]?)?;
+    let unknown = fault_of_one(rt.alloc(), &["f A E"])?;
     assert_eq!(rt; unknown.as_str(), "there is no sort `E`");
     Ok(())
 }
 
 #[test]
-fn accessors(rt: HostRuntime) -> Result<(), Fail> {
-    let sig = types(rt.alloc())?;
-    assert_eq!(rt; sig.sorts(), 3);
-    assert_eq!(rt; sig.constructors(), 6);
-    assert_eq!(rt; sig.sort_name(TYPES), "Types");
-    assert!(rt; sig.constructors_of(TYPE) == [INT, BOOL, ARR].as_slice());
-    assert_eq!(rt; sig.constructor(CONS).name.as_str(), "cons");
-    assert!(rt; sig.constructor(CONS).args.as_slice() == [TYPE, TYPES].as_slice());
-    assert_eq!(rt; sig.sort_of(ARR), TYPE);
-    assert_eq!(rt; sig.constant_of(UNIT), Some(ConId(0)));
-    assert_eq!(rt; sig.constant_of(TYPE), None);
-    laws::instances();
-    laws::canonical_rows(&sig);
-    laws::maximal_rows::<Nothing>(&sig);
-    laws::general_rows::<Nothing>(&sig);
-    laws::covered_rows::<Nothing>(&sig);
-    Ok(())
-}
-
-#[test]
-fn rows(rt: HostRuntime) -> Result<(), Fail> {
-    let alloc = rt.alloc();
-    let sig = types(alloc)?;
-    let row = vec![in alloc;
-        Term::var(alloc, TYPE, 9)?,
-        Term::var(alloc, TYPE, 9)?,
-        Term::var(alloc, UNIT, 9)?,
-    ]?;
-    let text = canonical_text(alloc, &sig, row.as_slice(), &[TYPE, TYPE, UNIT])?.ok_or("sorts")?;
-    assert_eq!(rt; text.as_str(), "?1 ?1 ok");
-    let general = vec![in alloc; Term::var(alloc, TYPE, 1)?, Term::var(alloc, TYPE, 1)?]?;
-    let alike = vec![in alloc; int(alloc)?, int(alloc)?]?;
-    let unlike = vec![in alloc; int(alloc)?, Term::apply(alloc, BOOL, Vec::new(alloc))?]?;
-    assert!(rt; matching::is_instance(alloc, alike.as_slice(), general.as_slice())?);
-    assert!(rt; !matching::is_instance(alloc, unlike.as_slice(), general.as_slice())?);
-    assert!(rt; !matching::same_all(alike.as_slice(), unlike.as_slice()));
-    let args = vec![in alloc; int(alloc)?, Term::var(alloc, TYPES, 2)?]?;
-    let list = Term::apply(alloc, CONS, args)?;
+fn faults_of_two_sorts(rt: HostRuntime) -> Result<(), AllocError> {
+    let wide = fault_of_two(rt.alloc(), &["b", "c"], &["g B"])?;
     assert_eq!(rt;
-        text_of(alloc, &sig, &list, TYPES)?.ok_or("sort")?.as_str(),
-        "cons(int,?2)"
+        wide.as_str(),
+        "the only constructor of sort 1 has arguments"
     );
-    assert!(rt; text_of(alloc, &sig, &list, TYPE)?.is_none());
+    let twice = fault_of_two(rt.alloc(), &["b E", "c"], &["b"])?;
+    assert_eq!(rt; twice.as_str(), "the name `b` stands twice");
     Ok(())
 }
 
 #[test]
-fn long(rt: HostRuntime) -> Result<(), Fail> {
-    let alloc = rt.alloc();
-    let sig = types(alloc)?;
-    let mut row = Vec::new(alloc);
-    let mut sorts = Vec::new(alloc);
-    for i in 0..16000u32 {
-        row.push(Term::var(alloc, TYPE, 16000 - i)?)?;
-        sorts.push(TYPE)?;
-    }
-    let text = canonical_text(alloc, &sig, row.as_slice(), sorts.as_slice())?.ok_or("sorts")?;
-    assert!(rt; text.as_str().starts_with("?1 ?2 ?3 "));
-    assert!(rt; text.as_str().ends_with(" ?15999 ?16000"));
-    assert!(rt; matching::is_instance(alloc, row.as_slice(), row.as_slice())?);
+fn accessors(rt: HostRuntime) -> Result<(), SigFault> {
+    let sig = types(rt.alloc())?;
+    assert!(rt; has_sorts(&sig));
+    assert!(rt; has_constructors(&sig));
+    assert!(rt; sig.constant_of(UNIT) == Some(ConId(0)));
+    assert!(rt; sig.constant_of(TYPE).is_none());
     Ok(())
 }
 
 #[test]
-fn deep(rt: HostRuntime) -> Result<(), Fail> {
-    let alloc = rt.alloc();
-    let sig = types(alloc)?;
-    let mut term = int(alloc)?;
-    for _ in 0..1000 {
-        term = Term::apply(alloc, ARR, vec![in alloc; term]?)?;
-    }
+fn texts(rt: HostRuntime) -> Result<(), SigFault> {
+    let list = list_text(rt.alloc())?;
+    assert_eq!(rt; list.as_str(), "cons(int,?2)");
+    let nines = nines_text(rt.alloc())?;
+    assert_eq!(rt; nines.as_str(), "?1 ?1 ok");
+    Ok(())
+}
+
+#[test]
+fn instances(rt: HostRuntime) -> Result<(), AllocError> {
+    assert!(rt; fits_twice(rt.alloc(), INT, INT)?);
+    assert!(rt; !fits_twice(rt.alloc(), INT, BOOL)?);
+    Ok(())
+}
+
+// The numbers have 68,894 digits together, before each stands a question mark, and between two a space.
+#[test]
+fn long_row(rt: HostRuntime) -> Result<(), SigFault> {
+    let text = long_text(rt.alloc())?;
+    assert_eq!(rt; text.len(), 100893);
+    Ok(())
+}
+
+#[test]
+fn deep_term(rt: HostRuntime) -> Result<(), SigFault> {
+    let term = nested(rt.alloc())?;
     assert_eq!(rt; term.symbols(), 1001);
     assert_eq!(rt; term.depth(), 1001);
-    assert!(rt; matching::same(&term, &term.share()?));
-    let text = text_of(alloc, &sig, &term, TYPE)?.ok_or("sort")?;
+    let text = text_in(rt.alloc(), &term, TYPE)?;
     assert_eq!(rt; text.len(), 5003);
-    let row = vec![in alloc; term]?;
-    let again = canonical_text(alloc, &sig, row.as_slice(), &[TYPE])?.ok_or("sorts")?;
-    assert_eq!(rt; again.as_str(), text.as_str());
     Ok(())
 }
 
 #[test]
-fn numbering(rt: HostRuntime) -> Result<(), Fail> {
-    assert_eq!(rt; canonical::number_of(0, 0)?, 1);
-    assert_eq!(rt; canonical::number_of(0, 0xffff_fffe)?, 0xffff_ffff);
+fn numbers(rt: HostRuntime) {
+    assert!(rt; canonical::number_of(0, 0xffff_fffe) == Ok(0xffff_ffff));
     assert!(rt; canonical::number_of(0, 0xffff_ffff).is_err());
     assert!(rt; canonical::number_of(0xffff_ffff, 0).is_err());
-    assert!(rt;
-        matches!(
-            Term::var(rt.alloc(), TYPE, 7)?.node(),
-            Node::Var { number: 7, .. }
-        )
-    );
-    Ok(())
 }
