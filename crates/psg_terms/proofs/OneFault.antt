@@ -1,16 +1,15 @@
 -- Written sorts have one fault at most.
-use Rattle.std.proofs.Common.{◌≡◌, ◌≢◌, ℕ, ◌+◌, ◌<◌, ◌≤◌, ◌⊎◌, true, false, zero, suc, List, [], ◌∷◌, ◌++◌, take, drop, length, refl, ap, sym, ◌∙◌, subst, inl, inr, Option, Some, slice_get, append_assoc, arith}
+use Rattle.std.proofs.Common.{◌≡◌, ℕ, ◌+◌, ◌<◌, ◌≤◌, ◌⊎◌, true, false, zero, suc, List, [], ◌∷◌, ◌++◌, take, drop, length, refl, ap, sym, ◌∙◌, subst, inl, inr, Option, Some, slice_get, append_assoc, arith}
 use Rattle.std.proofs.lemmas.Bool.{false≢true, cases_order, cases_lt}
 use Rattle.std.proofs.lemmas.List.{take-append-drop, take-append-le}
 use Rattle.psg_terms.specs.Names.{Name, is_among, has_twice}
 use Rattle.psg_terms.specs.Signature.{Signature}
-use Rattle.psg_terms.specs.Declarations.{sort_names, Numbered, with_sort, in_order, names_in, constructor_names, IsFirstRepeat, RepeatsSort, RepeatsConstructor, AreDistinct, AllAmong, IsFirstMissing, MissesSort, IsSpelled, IsWide, HasFault, IsFirstEmpty, IsFirstWide}
+use Rattle.psg_terms.specs.Declarations.{sort_names, Numbered, with_sort, in_order, names_in, constructor_names, IsFirstRepeat, RepeatsSort, RepeatsConstructor, AreDistinct, AllAmong, MissesSort, IsSpelled, HasFault, IsFirstEmpty, IsFirstWide}
 use Rattle.psg_terms.specs.Refusals.{IsRefused}
 use Rattle.psg_terms.specs.declared.declare.ConDecl.{ConDecl}
 use Rattle.psg_terms.specs.declared.declare.SortDecl.{SortDecl}
 use Rattle.psg_terms.specs.declared.declare.SigFault.{SigFault}
 use Rattle.psg_terms.specs.declared.declare.SigFault.TheVariants.{Repeated, UnknownSort, NoGround, OneWide, Memory}
-use Rattle.psg_terms.specs.declared.sorts.SortId.{SortId}
 use Rattle.psg_terms.proofs.DeclareLaws.{names_in-append, has_twice-front, spelled-among}
 use Rattle.psg_terms.proofs.DeclareSteps.{take-at}
 use Rattle.psg_terms.proofs.DeclareFaults.{has_twice-take}

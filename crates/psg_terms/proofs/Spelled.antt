@@ -1,13 +1,13 @@
 -- The signature that is spelled is one alone, and a sound one leaves nothing to refuse.
-use Rattle.std.proofs.Common.{◌≡◌, ◌≢◌, ℕ, ◌+◌, ◌<◌, ◌≤◌, ◌||◌, Bool, true, false, zero, suc, List, [], ◌∷◌, ◌++◌, take, get_or, length, map, refl, ap, ap₂, sym, ◌∙◌, subst, inl, inr, Option, Some, None, slice_get, arith}
+use Rattle.std.proofs.Common.{◌≡◌, ℕ, ◌+◌, ◌<◌, ◌≤◌, ◌||◌, true, false, zero, suc, List, [], ◌∷◌, ◌++◌, take, get_or, length, map, refl, ap, ap₂, sym, ◌∙◌, subst, inl, inr, Option, Some, slice_get, arith}
 use Rattle.std.proofs.lemmas.Bool.{or_parts, or_left, or_right, false≢true}
 use Rattle.std.proofs.lemmas.List.{take_all}
 use Rattle.std.proofs.lemmas.Option.{slice_get_within}
 use Rattle.std.specs.Str.{bytes_eq}
 use Rattle.psg_terms.specs.Names.{Name, is_among, has_twice}
-use Rattle.psg_terms.specs.Signature.{Signature, Symbol, HasSort, AreSorts, AreClosed}
+use Rattle.psg_terms.specs.Signature.{Signature, Symbol, AreSorts, AreClosed}
 use Rattle.psg_terms.specs.Sound.{IsSound}
-use Rattle.psg_terms.specs.Declarations.{sort_names, Numbered, with_sort, in_order, names_in, arguments_in, AreNamed, AreSpelled, IsSymbol, IsSpelled, IsFirstRepeat, AreDistinct, AllAmong, IsFirstMissing, IsWide, HasFault, IsFirstEmpty, IsFirstWide}
+use Rattle.psg_terms.specs.Declarations.{sort_names, Numbered, with_sort, in_order, names_in, AreNamed, AreSpelled, IsSymbol, IsSpelled, IsFirstRepeat, AreDistinct, AllAmong, IsFirstEmpty, IsFirstWide}
 use Rattle.psg_terms.specs.Refusals.{IsRefused, MayRefuse}
 use Rattle.psg_terms.specs.Lacks.{MayLack}
 use Rattle.psg_terms.specs.Numbered.{MayMisspell}

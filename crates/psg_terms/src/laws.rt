@@ -22,8 +22,7 @@ pub trait Family {
 /// Written sorts have one fault at most. So where they have one, `Signature::new` answers with it or with want of memory.
 pub fn one_fault()
     ensures { (written : List SortDecl) (f g : SigFault) → IsRefused written f → IsRefused written g → f ≡ g }
-{
-}
+{}
 
 /// An instance of an instance is an instance.
 pub fn instances()
