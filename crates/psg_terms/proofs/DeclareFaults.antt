@@ -1,9 +1,9 @@
 -- What is wrong with the names of written sorts.
-use Rattle.std.proofs.Common.{◌≡◌, ◌≢◌, ℕ, ◌+◌, ◌<◌, ◌≤◌, ◌⊎◌, true, false, zero, suc, List, [], ◌∷◌, ◌++◌, take, drop, get_or, length, length-append, map, refl, ap, ap₂, sym, ◌∙◌, subst, inl, inr, Option, Some, None, IfSome, IfNone, slice_get, append_assoc, append-nil, arith}
+use Rattle.std.proofs.Common.{◌≡◌, ◌≢◌, ℕ, ◌+◌, ◌<◌, ◌≤◌, false, zero, suc, List, [], ◌∷◌, ◌++◌, take, drop, get_or, length, length-append, map, refl, ap, ap₂, sym, ◌∙◌, subst, Option, Some, None, IfSome, IfNone, slice_get, append_assoc, arith}
 use Rattle.std.proofs.lemmas.List.{take-append-drop, take-take, take_all}
-use Rattle.psg_terms.specs.Names.{Name, is_among, has_twice}
-use Rattle.psg_terms.specs.Signature.{Signature, Symbol, AreSorts, AreClosed}
-use Rattle.psg_terms.specs.Declarations.{sort_names, Numbered, with_sort, in_order, names_in, arguments_in, constructor_names, AreNamed, AreSpelled, IsSymbol, IsFirstRepeat, RepeatsSort, RepeatsConstructor, AreDistinct, IsSpelled}
+use Rattle.psg_terms.specs.Names.{Name, has_twice}
+use Rattle.psg_terms.specs.Signature.{Signature, Symbol}
+use Rattle.psg_terms.specs.Declarations.{sort_names, Numbered, with_sort, in_order, names_in, constructor_names, AreSpelled, IsFirstRepeat, RepeatsSort, RepeatsConstructor, AreDistinct, IsSpelled}
 use Rattle.psg_terms.specs.Numbered.{places}
 use Rattle.psg_terms.specs.declared.declare.ConDecl.{ConDecl}
 use Rattle.psg_terms.specs.declared.declare.SortDecl.{SortDecl}

@@ -1,6 +1,6 @@
 -- Laws of sorts and constructors as they are written.
-use Rattle.std.proofs.Common.{◌≡◌, ◌≢◌, ℕ, ◌+◌, ◌<◌, ◌≤◌, ◌||◌, ◌⊎◌, Bool, true, false, cond, zero, suc, List, [], ◌∷◌, ◌++◌, take, drop, get_or, length, refl, ap, ap₂, sym, ◌∙◌, subst, inl, inr, Option, Some, None, is_some, slice_get, MatchOption, append_assoc, append-nil, arith}
-use Rattle.std.proofs.lemmas.Bool.{or_parts, or_from, or_left, or_right, false≢true, true≢false}
+use Rattle.std.proofs.Common.{◌≡◌, ℕ, ◌+◌, ◌<◌, ◌||◌, true, false, cond, zero, suc, List, [], ◌∷◌, ◌++◌, take, drop, get_or, length, refl, ap, sym, ◌∙◌, subst, inl, inr, Option, Some, None, is_some, slice_get, MatchOption, append_assoc, append-nil, arith}
+use Rattle.std.proofs.lemmas.Bool.{or_parts, or_from, or_left, or_right, false≢true}
 use Rattle.std.proofs.lemmas.List.{take_more}
 use Rattle.std.proofs.lemmas.Slice.Eq.{bytes_eq-Decides}
 use Rattle.std.proofs.lemmas.Map.Text.{hash_map_updates_str}
@@ -9,7 +9,7 @@ use Rattle.std.specs.HashMap.{get_by, UpdatesBy}
 use Rattle.std.specs.Map.{lookup}
 use Rattle.psg_terms.specs.Names.{Name, is_among, has_twice}
 use Rattle.psg_terms.specs.Signature.{Symbol}
-use Rattle.psg_terms.specs.Declarations.{sort_names, Numbered, with_sort, in_order, names_in, arguments_in, AreNamed, AreSpelled, IsSymbol, AllAmong, IsFirstMissing, IsFirstRepeat}
+use Rattle.psg_terms.specs.Declarations.{sort_names, Numbered, with_sort, in_order, names_in, arguments_in, AreNamed, AreSpelled, IsSymbol, AllAmong}
 use Rattle.psg_terms.specs.Numbered.{places, Numbers, Knows}
 use Rattle.psg_terms.specs.Kept.{numbers_of, symbols_of, symbol_of}
 use Rattle.psg_terms.specs.declared.declare.ConDecl.{ConDecl}

@@ -1,14 +1,13 @@
 -- Steps of reading sorts and constructors.
-use Rattle.std.proofs.Common.{◌≡◌, ℕ, ◌+◌, ◌<◌, ◌≤◌, ◌||◌, Bool, true, false, cond, zero, suc, List, [], ◌∷◌, ◌++◌, take, drop, get_or, length, refl, ap, ap₂, sym, ◌∙◌, subst, inl, inr, Option, Some, None, is_some, slice_get, append_assoc, arith}
-use Rattle.std.proofs.lemmas.Bool.{or_from, or_left, or_right}
-use Rattle.std.proofs.lemmas.List.{take_all, length-take-le}
+use Rattle.std.proofs.Common.{◌≡◌, ℕ, ◌+◌, ◌<◌, ◌||◌, Bool, true, false, cond, zero, suc, List, [], ◌∷◌, ◌++◌, take, drop, get_or, length, refl, ap, ap₂, sym, ◌∙◌, subst, inl, inr, Some, None, is_some, slice_get, append_assoc, arith}
+use Rattle.std.proofs.lemmas.Bool.{or_right}
+use Rattle.std.proofs.lemmas.List.{length-take-le}
 use Rattle.std.proofs.lemmas.Map.Text.{hash_map_updates_str}
 use Rattle.std.proofs.lemmas.Option.{slice_get_within}
 use Rattle.std.specs.Str.{bytes_eq}
 use Rattle.std.specs.HashMap.{get_by, UpdatesBy}
 use Rattle.psg_terms.specs.Names.{Name, is_among, has_twice}
-use Rattle.psg_terms.specs.Signature.{Symbol}
-use Rattle.psg_terms.specs.Declarations.{sort_names, Numbered, with_sort, in_order, names_in, arguments_in, AreNamed, AreSpelled, IsSymbol, IsFirstMissing, IsFirstRepeat}
+use Rattle.psg_terms.specs.Declarations.{sort_names, with_sort, in_order, arguments_in, AreNamed, AreSpelled, IsSymbol, IsFirstMissing, IsFirstRepeat}
 use Rattle.psg_terms.specs.Numbered.{places, Numbers, Knows, MayMiss}
 use Rattle.psg_terms.specs.declared.declare.SigFault.{SigFault}
 use Rattle.psg_terms.specs.declared.declare.SigFault.TheVariants.{Repeated, UnknownSort, NoGround, OneWide, Memory}
@@ -19,7 +18,7 @@ use Rattle.psg_terms.specs.declared.declare.Placed.{Placed}
 use Rattle.psg_terms.specs.declared.sorts.SortId.{SortId}
 use Rattle.psg_terms.specs.declared.sorts.Declared.{Declared}
 use Rattle.psg_terms.proofs.Variables.{cases}
-use Rattle.psg_terms.proofs.DeclareLaws.{take-next, around, with_sort-append, in_order-push, places-append, sort_names-append, is_among-append, has_twice-push, bytes_eq-same, knows-push, knows-among, Known, named-push, named-among, numbers_of-append, symbols_of-append, spelled-push, spelled-among, all_among-append, arguments_in-append}
+use Rattle.psg_terms.proofs.DeclareLaws.{take-next, around, with_sort-append, in_order-push, places-append, sort_names-append, is_among-append, has_twice-push, knows-push, knows-among, Known, named-push, named-among, numbers_of-append, symbols_of-append, spelled-push, spelled-among, all_among-append, arguments_in-append}
 
 pub placed-step : (before now after : List Placed) (p : Placed) (decls : List ConDecl) (i : ℕ) (d : ConDecl) → after ≡ now ++ p ∷ [] → places now ≡ places before ++ with_sort p.sort.0 (take i decls) → p.decl.now ≡ d → i < length decls → d ≡ get_or decls i d → places after ≡ places before ++ with_sort p.sort.0 (take (i + 1) decls)
 placed-step before now after p decls i d a h e lt at =

@@ -1,10 +1,9 @@
 -- Marks of sorts that have terms without variables.
-use Rattle.std.proofs.Common.{◌≡◌, ◌≢◌, ℕ, ◌+◌, ◌<◌, ◌≤◌, ◌==◌, ◌⊎◌, Bool, true, false, cond, zero, suc, List, [], ◌∷◌, ◌++◌, take, get_or, set, length, refl, ap, ap₂, sym, ◌∙◌, subst, inl, inr, Some, slice_get, MatchBool, append-nil, arith}
-use Rattle.std.proofs.lemmas.Bool.{true≢false, false≢true}
+use Rattle.std.proofs.Common.{◌≡◌, ◌≢◌, ℕ, ◌+◌, ◌<◌, ◌==◌, Bool, true, false, cond, zero, suc, List, [], ◌∷◌, ◌++◌, take, get_or, set, length, refl, ap, ap₂, sym, ◌∙◌, subst, inl, inr, Some, slice_get, MatchBool, append-nil, arith}
 use Rattle.std.proofs.lemmas.Bool.Decides.{nat_tests}
 use Rattle.std.proofs.lemmas.List.{take_more}
 use Rattle.psg_terms.specs.Terms.{Term, variable, symbol, apply, applied}
-use Rattle.psg_terms.specs.Signature.{Signature, Symbol, HasSort, HaveSorts, Takes, constructors_from}
+use Rattle.psg_terms.specs.Signature.{Signature, Symbol, HaveSorts, Takes, constructors_from}
 use Rattle.psg_terms.specs.Instances.{IsGround}
 use Rattle.psg_terms.specs.Declarations.{IsInhabited}
 use Rattle.psg_terms.specs.Kept.{numbers_of, symbols_of, symbol_of}
@@ -12,7 +11,7 @@ use Rattle.psg_terms.specs.Marks.{AreMarked, AreBelow, AllBelow, AreRight, Keeps
 use Rattle.psg_terms.specs.declared.sorts.SortId.{SortId}
 use Rattle.psg_terms.specs.declared.sorts.ConId.{ConId}
 use Rattle.psg_terms.specs.declared.sorts.Declared.{Declared}
-use Rattle.psg_terms.proofs.Variables.{cases, number_cases}
+use Rattle.psg_terms.proofs.Variables.{number_cases}
 use Rattle.psg_terms.proofs.Applied.{AllGround, applied-takes, applied-ground}
 use Rattle.psg_terms.proofs.DeclareLaws.{take-next, numbers_of-append, symbols_of-append}
 

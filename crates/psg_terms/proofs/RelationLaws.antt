@@ -3,7 +3,7 @@ use Rattle.std.proofs.Common.{◌≡◌, ◌↔◌, ℕ, List, map, refl, sym, s
 use Rattle.psg_terms.specs.Terms.{Term}
 use Rattle.psg_terms.specs.Signature.{Signature, HaveSorts}
 use Rattle.psg_terms.specs.Sound.{IsSound}
-use Rattle.psg_terms.specs.Instances.{Substitution, substitute, IsInstance, IsGrounding, IsGroundInstance, AllGroundInstancesIn}
+use Rattle.psg_terms.specs.Instances.{Substitution, substitute, IsInstance, IsGrounding, IsGroundInstance}
 use Rattle.psg_terms.specs.Canonical.{IsCanonical, AreWrittenOut}
 use Rattle.psg_terms.specs.Relations.{IsIn, IsShape, IsMaximal, IsRelation}
 use Rattle.psg_terms.proofs.InstanceLaws.{instance_trans}

@@ -1,10 +1,9 @@
 -- The test whether a term has a sort.
-use Rattle.std.proofs.Common.{◌≡◌, ◌≢◌, ℕ, ◌+◌, ◌<◌, ◌≤◌, ◌==◌, ◌&&◌, ◌↔◌, IsTrue, Bool, true, false, zero, suc, List, [], ◌∷◌, ◌++◌, take, get_or, length, refl, ap, sym, ◌∙◌, subst, Option, Some, slice_get, append-nil, arith}
-use Rattle.std.proofs.lemmas.Bool.{false≢true}
+use Rattle.std.proofs.Common.{◌≡◌, ◌≢◌, ℕ, ◌+◌, ◌<◌, ◌≤◌, ◌↔◌, IsTrue, Bool, zero, suc, List, [], ◌∷◌, ◌++◌, take, get_or, length, refl, ap, sym, ◌∙◌, subst, Option, Some, slice_get, append-nil, arith}
 use Rattle.std.proofs.lemmas.List.{take_all, take_more}
 use Rattle.std.proofs.lemmas.Option.{slice_get_within}
 use Rattle.psg_terms.specs.Terms.{Term, variable, symbol, applied}
-use Rattle.psg_terms.specs.Signature.{Signature, Symbol, HasSort, HaveSorts, Takes}
+use Rattle.psg_terms.specs.Signature.{Signature, Symbol, HasSort, HaveSorts}
 use Rattle.psg_terms.specs.Kept.{numbers_of}
 use Rattle.psg_terms.specs.declared.sorts.SortId.{SortId}
 use Rattle.psg_terms.proofs.Applied.{applied-sorts, applied-takes}

@@ -1,14 +1,12 @@
 -- A signature whose sorts have terms enough is sound.
-use Rattle.std.proofs.Common.{◌≡◌, ◌≢◌, ℕ, ◌+◌, ◌<◌, ◌≤◌, ◌==◌, ◌↔◌, not, IsTrue, Bool, true, false, cond, zero, suc, List, [], ◌∷◌, get_or, length, map, refl, ap, sym, ◌∙◌, subst, inl, inr, Option, Some, None, slice_get, arith}
+use Rattle.std.proofs.Common.{◌≡◌, ℕ, ◌+◌, ◌<◌, ◌≤◌, ◌==◌, ◌↔◌, not, IsTrue, Bool, true, false, cond, zero, suc, List, [], ◌∷◌, get_or, length, map, refl, ap, sym, ◌∙◌, subst, Option, Some, None, slice_get, arith}
 use Rattle.std.proofs.lemmas.Bool.Decides.{nat_tests}
 use Rattle.std.proofs.lemmas.Bool.{false≢true}
 use Rattle.std.proofs.lemmas.Option.{slice_get_within}
 use Rattle.psg_terms.specs.Names.{has_twice}
-use Rattle.psg_terms.specs.Terms.{Term, symbol}
-use Rattle.psg_terms.specs.Instances.{IsGround}
-use Rattle.psg_terms.specs.Signature.{Signature, Symbol, HasSort, AreSorts, AreClosed, constructors_from, constructors_of, sole, only_constructor}
+use Rattle.psg_terms.specs.Signature.{Signature, Symbol, AreSorts, AreClosed, constructors_from, constructors_of, sole}
 use Rattle.psg_terms.specs.Sound.{IsSound}
-use Rattle.psg_terms.specs.Declarations.{IsInhabited, IsWideAmong, IsWide, IsFirstEmpty, IsFirstWide}
+use Rattle.psg_terms.specs.Declarations.{IsInhabited, IsWideAmong, IsWide, IsFirstEmpty}
 use Rattle.psg_terms.specs.Kept.{numbers_of, symbols_of, symbol_of}
 use Rattle.psg_terms.specs.Marks.{AreBelow, AllBelow, AreRight, AllKeep, con_numbers, AreMade}
 use Rattle.psg_terms.specs.declared.sorts.SortId.{SortId}

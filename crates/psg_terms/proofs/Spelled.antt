@@ -1,13 +1,13 @@
 -- The signature that is spelled is one alone, and a sound one leaves nothing to refuse.
-use Rattle.std.proofs.Common.{◌≡◌, ◌≢◌, ℕ, ◌+◌, ◌<◌, ◌≤◌, ◌||◌, Bool, true, false, zero, suc, List, [], ◌∷◌, ◌++◌, take, get_or, length, map, refl, ap, ap₂, sym, ◌∙◌, subst, inl, inr, Option, Some, None, slice_get, arith}
+use Rattle.std.proofs.Common.{◌≡◌, ℕ, ◌+◌, ◌<◌, ◌≤◌, ◌||◌, true, false, zero, suc, List, [], ◌∷◌, ◌++◌, take, get_or, length, map, refl, ap, ap₂, sym, ◌∙◌, subst, inl, inr, Option, Some, slice_get, arith}
 use Rattle.std.proofs.lemmas.Bool.{or_parts, or_left, or_right, false≢true}
 use Rattle.std.proofs.lemmas.List.{take_all}
 use Rattle.std.proofs.lemmas.Option.{slice_get_within}
 use Rattle.std.specs.Str.{bytes_eq}
 use Rattle.psg_terms.specs.Names.{Name, is_among, has_twice}
-use Rattle.psg_terms.specs.Signature.{Signature, Symbol, HasSort, AreSorts, AreClosed}
+use Rattle.psg_terms.specs.Signature.{Signature, Symbol, AreSorts, AreClosed}
 use Rattle.psg_terms.specs.Sound.{IsSound}
-use Rattle.psg_terms.specs.Declarations.{sort_names, Numbered, with_sort, in_order, names_in, arguments_in, AreNamed, AreSpelled, IsSymbol, IsSpelled, IsFirstRepeat, AreDistinct, AllAmong, IsFirstMissing, IsWide, HasFault, IsFirstEmpty, IsFirstWide}
+use Rattle.psg_terms.specs.Declarations.{sort_names, Numbered, with_sort, in_order, names_in, AreNamed, AreSpelled, IsSymbol, IsSpelled, IsFirstRepeat, AreDistinct, AllAmong, IsFirstEmpty, IsFirstWide}
 use Rattle.psg_terms.specs.Refusals.{IsRefused, MayRefuse}
 use Rattle.psg_terms.specs.Lacks.{MayLack}
 use Rattle.psg_terms.specs.Numbered.{MayMisspell}
@@ -45,7 +45,7 @@ pub kept_as : (names n : List Name) (declared d : List Declared) (made m : List 
 kept_as names n declared d made m e f g h = subst (λ x. IsKept x d m) (sym e) (subst (λ x. IsKept names x m) (sym f) (subst (IsKept names declared) (sym g) h))
 
 -- names that stand once
-has_twice-again : (xs : List Name) (n : Name) → is_among xs n ≡ true → has_twice (xs ++ n ∷ []) ≡ true
+pub has_twice-again : (xs : List Name) (n : Name) → is_among xs n ≡ true → has_twice (xs ++ n ∷ []) ≡ true
 has_twice-again [] n h = absurd (false≢true h)
 has_twice-again (x ∷ xs) n h =
     elim (cases (bytes_eq x n)) [
@@ -54,7 +54,7 @@ has_twice-again (x ∷ xs) n h =
       | inr e ↦ or_right (is_among (xs ++ n ∷ []) x) (has_twice (xs ++ n ∷ [])) (has_twice-again xs n (ap (λ b. b || is_among xs n) (sym e) ∙ h))
     ]
 
-repeat-twice : (names : List Name) (i : ℕ) (n : Name) → IsFirstRepeat names i n → has_twice names ≡ false → ⊥
+pub repeat-twice : (names : List Name) (i : ℕ) (n : Name) → IsFirstRepeat names i n → has_twice names ≡ false → ⊥
 repeat-twice names i n r h =
     let lt = slice_get_within names i n r.at in
     let short = has_twice-take (i + 1) (length names) names (omega arith) (ap has_twice (take_all (length names) names (omega arith)) ∙ h) in
@@ -104,7 +104,7 @@ one_signature written a b d ha hb =
     made : (n : List Name) (xs : List Symbol) (n' : List Name) (xs' : List Symbol) → n ≡ n' → xs ≡ xs' → ◌≡◌ {A = Signature} (record { sorts = n; symbols = xs }) (record { sorts = n'; symbols = xs' })
     made n xs n' xs' e f = ap (λ k. record { sorts = k; symbols = xs }) e ∙ ap (λ k. record { sorts = n'; symbols = k }) f
 
-all_among-middle : (names front behind : List Name) (n : Name) → AllAmong names (front ++ n ∷ behind) → is_among names n ≡ true
+pub all_among-middle : (names front behind : List Name) (n : Name) → AllAmong names (front ++ n ∷ behind) → is_among names n ≡ true
 all_among-middle names [] behind n (p, _) = p
 all_among-middle names (x ∷ front) behind n (_, h) = all_among-middle names front behind n h
 

@@ -1,7 +1,7 @@
 -- How large a constructor with arguments is.
-use Rattle.std.proofs.Common.{◌≡◌, ℕ, ◌+◌, ◌<◌, ◌≤◌, min, max, zero, suc, List, [], ◌∷◌, ◌++◌, take, get_or, length, refl, ap, ap₂, sym, ◌∙◌, subst, slice_get, Option, Some, arith}
+use Rattle.std.proofs.Common.{◌≡◌, ℕ, ◌+◌, ◌<◌, min, max, zero, suc, List, [], ◌∷◌, ◌++◌, take, get_or, length, refl, ap, ap₂, sym, ◌∙◌, subst, slice_get, Option, Some, arith}
 use Rattle.psg_terms.specs.Terms.{Term, variable, symbol, apply, applied}
-use Rattle.psg_terms.specs.Signature.{Signature, Symbol, HasSort, HaveSorts, Takes}
+use Rattle.psg_terms.specs.Signature.{Signature, Symbol, HasSort, HaveSorts}
 use Rattle.psg_terms.specs.Weight.{symbols_of, depth_of}
 use Rattle.psg_terms.specs.Sizes.{size, sizes}
 use Rattle.psg_terms.proofs.Applied.{applied-sorts}

@@ -1,5 +1,5 @@
 -- What a signature keeps: its sorts' names, its constructors, and the constructors of each sort.
-use Rattle.std.specs.Prelude.{ℕ, ◌≡◌, ◌<◌, ◌^◌, List, length}
+use Rattle.std.specs.Prelude.{◌≡◌, ◌<◌, ◌^◌, List, length}
 use Rattle.psg_terms.specs.Names.{Name}
 use Rattle.psg_terms.specs.Sound.{IsSound}
 use Rattle.psg_terms.specs.Kept.{symbols_of}

@@ -1,5 +1,5 @@
 -- Marks of sorts: which are known to have a term without variables. And the constructors of each sort, kept as lists.
-use Rattle.std.specs.Prelude.{ℕ, ◌≡◌, ◌+◌, ◌<◌, Bool, true, false, cond, List, [], ◌∷◌, length, slice_get, Some}
+use Rattle.std.specs.Prelude.{ℕ, ◌≡◌, ◌+◌, ◌<◌, Bool, true, cond, List, [], ◌∷◌, slice_get, Some}
 use Rattle.psg_terms.specs.Signature.{Signature, Symbol, constructors_from}
 use Rattle.psg_terms.specs.Declarations.{IsInhabited}
 use Rattle.psg_terms.specs.declared.sorts.ConId.{ConId}

@@ -1,5 +1,5 @@
 -- A node that is kept with its size.
-use Rattle.std.specs.Prelude.{ℕ, ◌≡◌, ◌-◌, ◌^◌, min}
+use Rattle.std.specs.Prelude.{◌≡◌, ◌-◌, ◌^◌, min}
 use Rattle.psg_terms.specs.Terms.{Term}
 use Rattle.psg_terms.specs.Shapes.{term_of}
 use Rattle.psg_terms.specs.Weight.{symbols_of, depth_of}

@@ -4,6 +4,9 @@ ghost use Rattle.psg_terms.specs.Terms.{Term as Plain};
 ghost use Rattle.psg_terms.specs.Signature.{HaveSorts};
 ghost use Rattle.psg_terms.specs.Instances.{Substitution, substitute, IsInstance, IsGrounding, IsGroundInstance, HasSameInstances};
 ghost use Rattle.psg_terms.specs.Canonical.{IsCanonical, AreWrittenOut};
+ghost use Rattle.psg_terms.specs.Refusals.{IsRefused};
+ghost use Rattle.psg_terms.specs.declared.declare.SortDecl.{SortDecl};
+ghost use Rattle.psg_terms.specs.declared.declare.SigFault.{SigFault};
 ghost use Rattle.psg_terms.specs.Relations.{IsIn, IsMaximal, IsRelation};
 
 use crate::sorts::Signature;
@@ -15,6 +18,11 @@ pub trait Family {
 
     ghost possible: { Self → List Plain → Type 0 };
 }
+
+/// Written sorts have one fault at most. So where they have one, `Signature::new` answers with it or with want of memory.
+pub fn one_fault()
+    ensures { (written : List SortDecl) (f g : SigFault) → IsRefused written f → IsRefused written g → f ≡ g }
+{}
 
 /// An instance of an instance is an instance.
 pub fn instances()

@@ -1,4 +1,16 @@
-//! Sorts, terms and canonical rows.
+//! Sorts, first-order terms over them, and rows of terms with their variables numbered by first occurrence.
+//!
+//! ```text
+//! let sig = Signature::new(alloc, sorts)?;
+//! let row = vec![in alloc; Term::var(alloc, SortId(0), 9)?]?;
+//! let numbered = canonical::canonical(alloc, &sig, row.as_slice())?;
+//! let text = row_text(alloc, &sig, numbered.as_slice())?;
+//! ```
+//!
+//! What always holds:
+//! - Each sort of a `Signature` has a term without variables, and is one constant or has two constructors or more.
+//! - The owners of a `Term` share it, and it keeps how many symbols it has and how deep it is.
+//! - Canonical rows of the same sorts that have the same ground instances are equal.
 #![tactic(auto)]
 
 pub mod canonical;

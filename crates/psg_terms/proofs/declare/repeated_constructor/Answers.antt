@@ -2,7 +2,6 @@ use Rattle.std.proofs.Common.{ap, sym, ◌∙◌, arith}
 use Rattle.psg_terms.specs.Names.{has_twice}
 use Rattle.psg_terms.specs.Declarations.{names_in}
 use Rattle.psg_terms.specs.Numbered.{places}
-use Rattle.psg_terms.specs.declared.declare.Placed.{Placed}
 use Rattle.std.proofs.lemmas.List.{take_all}
 use Rattle.psg_terms.proofs.DeclareLaws.{names_in-at, names_in-length}
 use Rattle.psg_terms.proofs.DeclareSteps.{repeat-found, distinct-step, seen-step}

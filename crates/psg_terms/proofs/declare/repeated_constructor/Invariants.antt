@@ -1,4 +1,4 @@
-use Rattle.std.proofs.Common.{◌≡◌, ◌∷◌, take, false, List, ℕ}
+use Rattle.std.proofs.Common.{◌≡◌, take, false, List, ℕ}
 use Rattle.psg_terms.specs.Names.{has_twice, is_among}
 use Rattle.std.specs.Prelude.{is_some}
 use Rattle.std.specs.HashMap.{get_by}

@@ -1,4 +1,3 @@
-use Rattle.std.proofs.Common.{sym}
 use Rattle.std.proofs.lemmas.Bool.{false≢true}
 use Rattle.psg_terms.proofs.Marking.{below-at, marked-at, marked-step, read-at, not_marked}
 use Rattle.psg_terms.proofs.ground.all_marked.Goals as goal

@@ -1,4 +1,4 @@
-use Rattle.std.proofs.Common.{[], ◌<◌, ap, sym, subst, ◌∙◌, refl, length, arith}
+use Rattle.std.proofs.Common.{[], ap, sym, subst, ◌∙◌, refl, length, arith}
 use Rattle.std.proofs.lemmas.List.{length_push, length-take-le, length-set}
 use Rattle.psg_terms.specs.Marks.{AreMade}
 use Rattle.psg_terms.specs.declared.sorts.Declared.{Declared}

@@ -1,4 +1,4 @@
-use Rattle.std.proofs.Common.{sym, subst, ◌∙◌}
+use Rattle.std.proofs.Common.{subst}
 use Rattle.psg_terms.specs.Kept.{symbol_of, numbers_of}
 use Rattle.psg_terms.specs.Marks.{AreMarked}
 use Rattle.psg_terms.proofs.Marking.{right-set, unmarked-set}

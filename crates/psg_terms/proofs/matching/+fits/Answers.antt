@@ -1,4 +1,4 @@
-use Rattle.std.proofs.Common.{sym, ap, subst, ◌∙◌, refl, arith}
+use Rattle.std.proofs.Common.{sym, ap, subst, ◌∙◌, arith}
 use Rattle.psg_terms.specs.Terms.{symbol, applied}
 use Rattle.psg_terms.specs.Shapes.{term_of}
 use Rattle.psg_terms.specs.Sizes.{size, sizes}

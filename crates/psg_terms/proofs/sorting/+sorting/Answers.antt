@@ -1,13 +1,12 @@
 use Rattle.std.proofs.Common.{sym, ap, subst, ◌∙◌, get_or, arith}
 use Rattle.std.proofs.lemmas.Bool.{false≢true}
-use Rattle.psg_terms.specs.Terms.{symbol, applied}
 use Rattle.psg_terms.specs.Shapes.{term_of}
 use Rattle.psg_terms.specs.Sizes.{size, sizes}
 use Rattle.psg_terms.specs.Signature.{HasSort, HaveSorts}
 use Rattle.psg_terms.specs.Kept.{numbers_of}
 use Rattle.psg_terms.proofs.Nodes.{size-con}
 use Rattle.psg_terms.proofs.Weights.{sizes-at}
-use Rattle.psg_terms.proofs.SortTests.{variable_has, variable_is, symbol_past, symbol_other, arguments_decide, lengths_apart, have-at, have-step, have-all}
+use Rattle.psg_terms.proofs.SortTests.{symbol_past, symbol_other, arguments_decide, lengths_apart, have-at, have-step}
 use Rattle.psg_terms.proofs.sorting.+sorting.Goals as goal
 
 pub has_sort-have_sorts-fitting-requires : goal.has_sort-have_sorts-fitting-requires

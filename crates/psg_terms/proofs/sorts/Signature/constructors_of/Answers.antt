@@ -1,4 +1,4 @@
-use Rattle.std.proofs.Common.{ap, sym, ◌∙◌, length, get_or, arith}
+use Rattle.std.proofs.Common.{ap, ◌∙◌, length, get_or, arith}
 use Rattle.psg_terms.specs.Signature.{Signature as Plain, constructors_from}
 use Rattle.psg_terms.specs.Kept.{symbols_of}
 use Rattle.psg_terms.specs.Marks.{con_numbers}
