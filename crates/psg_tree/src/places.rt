@@ -92,7 +92,7 @@ fn chosen<'t>(wanted: bool, new: &'t Tree, old: &'t Tree) -> &'t Tree
 }
 
 /// One more owner of what the part has, with the new tree in place of its subtree where that is wanted.
-fn changed_part(alloc: Global, wanted: bool, new: &Tree, part: &Part) -> Result<Part, AllocError>
+fn changed_part(wanted: bool, new: &Tree, part: &Part) -> Result<Part, AllocError>
     ensures { IfOk result (λ p. p ≡ chosen_part wanted new.now part.now) }
 {
     match part {
@@ -125,7 +125,7 @@ fn with_part(
     let mut made = Vec::with_capacity(alloc, parts.len())?;
     let mut seen: usize = 0;
     for part in parts {
-        let copy = changed_part(alloc, seen == number as usize, new, part)?;
+        let copy = changed_part(seen == number as usize, new, part)?;
         made.push(copy)?;
         seen += subtrees_in(part);
     }

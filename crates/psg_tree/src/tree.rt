@@ -93,24 +93,28 @@ impl Tree {
 mod tests {
     use super::*;
     use crate::path::Path;
-    use crate::places::{at, replace};
+    use crate::places::replace;
     use std::test::Fail;
+
+    fn hole(alloc: Global, phylum: u32) -> Result<Tree, AllocError> {
+        Tree::new(alloc, Shape::Hole { phylum })
+    }
+
+    fn over(alloc: Global, left: Tree, right: Tree) -> Result<Tree, AllocError> {
+        let parts = Seq::of(vec![in alloc; Part::Sub(left), Part::Sub(right)]?);
+        Tree::new(alloc, Shape::Op { op: 0, parts })
+    }
 
     #[test]
     fn nodes_off_the_path_are_shared(rt: HostRuntime) -> Result<(), Fail> {
-        let alloc = rt.alloc();
-        let mut parts = Vec::new(alloc);
-        parts.push(Part::Sub(Tree::new(alloc, Shape::Hole { phylum: 1 })?))?;
-        parts.push(Part::Sub(Tree::new(alloc, Shape::Hole { phylum: 2 })?))?;
-        let parts = Seq::of(parts);
-        let tree = Tree::new(alloc, Shape::Op { op: 0, parts })?;
-        let new = Tree::new(alloc, Shape::Hole { phylum: 3 })?;
-        let changed = replace(alloc, &tree, &Path::of(alloc, &[1])?, &new)?;
-        let first = Path::of(alloc, &[0])?;
-        let old = at(&tree, &first).ok_or("a first child")?;
-        let kept = at(&changed, &first).ok_or("a first child")?;
-        assert!(rt; Rc::ptr_eq(&old.shared, &kept.shared));
-        assert_eq!(rt; Rc::strong_count(&old.shared), 2);
+        let first = hole(rt.alloc(), 1)?;
+        let new = hole(rt.alloc(), 3)?;
+        let tree = over(rt.alloc(), first.share()?, hole(rt.alloc(), 2)?)?;
+        assert_eq!(rt; Rc::strong_count(&first.shared), 2);
+        let path = Path::of(rt.alloc(), &[1])?;
+        let _changed = replace(rt.alloc(), &tree, &path, &new)?;
+        // One owner is here, one the old tree and one the changed tree.
+        assert_eq!(rt; Rc::strong_count(&first.shared), 3);
         assert_eq!(rt; Rc::strong_count(&new.shared), 2);
         Ok(())
     }
