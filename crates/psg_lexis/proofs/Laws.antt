@@ -1,4 +1,4 @@
--- A text has tokens or a fault, and only one reading: where it has tokens it has no other ones and no fault, and a fault is the only one.
+-- A text has one reading: where it has tokens, it has no others and no fault, and a fault is the only one.
 use Rattle.std.proofs.Common.{inl, inr, ◌≡◌, ◌≢◌, ℕ, ◌+◌, ◌^◌, Bool, true, false, cond, List, [], ◌∷◌, ◌++◌, length, None, sym, ap, ◌∙◌, subst, refl, append_assoc, ne_eqb}
 use Rattle.std.specs.Prelude.{encode_utf8_all, nat_lt, nat_le, ◌==◌, bytes_eq}
 use Rattle.std.proofs.lemmas.Bool.{false≢true, le-leb, lt-leb, lt-ltb, le-ltb}

@@ -25,7 +25,7 @@ pub fn lex(alloc: Global, lexis: &Lexis, text: &str) -> Result<Vec<Spanned>, Lex
     ensures ok { IfOk result (λ tokens. HasTokens lexis.now (chars text.now) 0 tokens.items) }
     ensures err { IfErr result (OrMemory (HasFault lexis.now (chars text.now) 0)) }
 
-    // A text has tokens or a fault and never both, so these are the only answers, want of memory aside.
+    // No text has two lists of tokens, two faults, or both, so no other answer is possible, want of memory aside.
     ensures whole { (tokens : List Spanned) → HasTokens lexis.now (chars text.now) 0 tokens
         → MatchResult result (λ found. found.items ≡ tokens) (λ fault. fault ≡ LexFault.Memory) }
     ensures broken { (fault : LexFault) → HasFault lexis.now (chars text.now) 0 fault
