@@ -13,7 +13,8 @@ past_open false true d h k = cc
 past_open false false d h k = refl
 
 -- a character that neither ends the line nor closes
-pub closed_past : (e : Bool) (c : ℕ) (cs : Chars) → (c == 10) ≡ false → (not e && (c == 34)) ≡ false → is_closed e (c ∷ cs) ≡ is_closed (not e && (c == 92)) cs
+pub closed_past : (e : Bool) (c : ℕ) (cs : Chars) → (c == 10) ≡ false → (not e && (c == 34)) ≡ false
+    → is_closed e (c ∷ cs) ≡ is_closed (not e && (c == 92)) cs
 closed_past e c cs h k = past_open (c == 10) (not e && (c == 34)) (is_closed (not e && (c == 92)) cs) h k
 
 open_at : (a b : Bool) → a ≡ true → (not a && b) ≡ false
@@ -28,10 +29,12 @@ closed_by true b d h k = cc
 closed_by false true d h k = refl
 closed_by false false d h k = cc
 
-pub closed_at : (e : Bool) (c : ℕ) (cs : Chars) → (c == 10) ≡ false → (not e && (c == 34)) ≡ true → is_closed e (c ∷ cs) ≡ true
+pub closed_at : (e : Bool) (c : ℕ) (cs : Chars) → (c == 10) ≡ false → (not e && (c == 34)) ≡ true
+    → is_closed e (c ∷ cs) ≡ true
 closed_at e c cs h k = closed_by (c == 10) (not e && (c == 34)) (is_closed (not e && (c == 92)) cs) h k
 
-pub at_first : (e : Bool) (rest after : List ℕ) (c : ℕ) (answer : Bool) → IsFirst rest c after → is_closed e (chars rest) ≡ answer → is_closed e (c ∷ chars after) ≡ answer
+pub at_first : (e : Bool) (rest after : List ℕ) (c : ℕ) (answer : Bool) → IsFirst rest c after
+    → is_closed e (chars rest) ≡ answer → is_closed e (c ∷ chars after) ≡ answer
 at_first e rest after c answer f h = ap (is_closed e) (sym f.characters) ∙ h
 
 -- ---- a character of the contents doesn't close

@@ -19,27 +19,42 @@ pub record HasContents (text rest : List ℕ) (size : ℕ) (kept : List ℕ) : T
   pub room : size + length rest ≤ length text
 
 pub no_contents : (text : List ℕ) → HasContents text text 0 []
-no_contents text = record { before = []; contents = tt; bytes = refl; characters = refl; counted = refl; small = λ _. refl; room = omega arith }
+no_contents text = record {
+  before = [];
+  contents = tt;
+  bytes = refl;
+  characters = refl;
+  counted = refl;
+  small =
+      λ _. refl;
+  room = omega arith;
+}
 
 quoted-push : (cs : Chars) (c : ℕ) → quoted (cs ++ c ∷ []) ≡ quoted cs ++ escaped c
 quoted-push [] c = append-nil (escaped c)
-quoted-push (d ∷ cs) c = ap (λ w. escaped d ++ w) (quoted-push cs c) ∙ sym (append_assoc (escaped d) (quoted cs) (escaped c))
+quoted-push (d ∷ cs) c = ap (λ w. escaped d ++ w) (quoted-push cs c)
+    ∙ sym (append_assoc (escaped d) (quoted cs) (escaped c))
 
 bytes-push : (cs : Chars) (c : ℕ) → encode_utf8_all (cs ++ c ∷ []) ≡ encode_utf8_all cs ++ encode_utf8 c
 bytes-push cs c = encodes-append cs (c ∷ []) ∙ ap (λ bs. encode_utf8_all cs ++ bs) (append-nil (encode_utf8 c))
 
 -- one character more, which is kept where what came before was
-pub more_contents : (text rest after kept kept' : List ℕ) (size c : ℕ) → HasContents text rest size kept → IsContent rest c after
+pub more_contents : (text rest after kept kept' : List ℕ) (size c : ℕ) → HasContents text rest size kept
+    → IsContent rest c after
     → (size ≤ 4096 → kept' ≡ kept ++ encode_utf8 c) → HasContents text after (size + length (encode_utf8 c)) kept'
 more_contents text rest after kept kept' size c h p k = record {
   before = h.before ++ c ∷ [];
   contents = All-push is_content h.before c h.contents p.content;
   bytes = h.bytes ∙ ap (λ bs. encode_utf8_all (quoted h.before) ++ bs) p.bytes
       ∙ sym (append_assoc (encode_utf8_all (quoted h.before)) (encode_utf8_all (escaped c)) after)
-      ∙ ap (λ bs. bs ++ after) (sym (encodes-append (quoted h.before) (escaped c)) ∙ ap encode_utf8_all (sym (quoted-push h.before c)));
+      ∙ ap (λ bs. bs ++ after) (sym (encodes-append (quoted h.before) (escaped c))
+      ∙ ap encode_utf8_all (sym (quoted-push h.before c)));
   characters = h.characters ∙ ap (λ cs. quoted h.before ++ cs) p.characters
-      ∙ sym (append_assoc (quoted h.before) (escaped c) (chars after)) ∙ ap (λ cs. cs ++ chars after) (sym (quoted-push h.before c));
-  counted = ap (λ n. n + length (encode_utf8 c)) h.counted ∙ sym (length-append (encode_utf8_all h.before) (encode_utf8 c)) ∙ ap length (sym (bytes-push h.before c));
-  small = λ le. k (omega arith) ∙ ap (λ bs. bs ++ encode_utf8 c) (h.small (omega arith)) ∙ sym (bytes-push h.before c);
+      ∙ sym (append_assoc (quoted h.before) (escaped c) (chars after))
+      ∙ ap (λ cs. cs ++ chars after) (sym (quoted-push h.before c));
+  counted = ap (λ n. n + length (encode_utf8 c)) h.counted
+      ∙ sym (length-append (encode_utf8_all h.before) (encode_utf8 c)) ∙ ap length (sym (bytes-push h.before c));
+  small = λ le. k (omega arith) ∙ ap (λ bs. bs ++ encode_utf8 c) (h.small (omega arith))
+      ∙ sym (bytes-push h.before c);
   room = omega (arith, h.room, p.size);
 }

@@ -37,7 +37,8 @@ no_start c = nat_lt c 128 && not (is_ascii_alphabetic c || (c == 95))
 pub no_word : (c : ℕ) → no_start c ≡ true → starts_word c ≡ false
 no_word c h =
     let small : c < 128 = ltb-true c 128 (left (nat_lt c 128) (not (is_ascii_alphabetic c || (c == 95))) h) in
-    ap (λ b. b || (c == 95)) (is_xid_start-ascii c small) ∙ negated (is_ascii_alphabetic c || (c == 95)) (right (nat_lt c 128) (not (is_ascii_alphabetic c || (c == 95))) h)
+    ap (λ b. b || (c == 95)) (is_xid_start-ascii c small)
+    ∙ negated (is_ascii_alphabetic c || (c == 95)) (right (nat_lt c 128) (not (is_ascii_alphabetic c || (c == 95))) h)
 
 pub digit_no_word : (c : ℕ) → is_digit c ≡ true → starts_word c ≡ false
 digit_no_word c h = no_word c (by h)
@@ -55,7 +56,10 @@ abbrev quote_test : ℕ → Bool
 quote_test c = solo_test c && not (is_solo c)
 
 pub symbol_parts : (c : ℕ) → symbol_test c ≡ true → (starts_word c ≡ false) × (is_digit c ≡ false)
-symbol_parts c h = (no_word c (left (no_start c) (not (is_digit c)) h), negated (is_digit c) (right (no_start c) (not (is_digit c)) h))
+symbol_parts c h = (
+  no_word c (left (no_start c) (not (is_digit c)) h),
+  negated (is_digit c) (right (no_start c) (not (is_digit c)) h),
+)
 
 pub symbol_apart : (c : ℕ) → is_symbol c ≡ true → (starts_word c ≡ false) × (is_digit c ≡ false)
 symbol_apart c h = symbol_parts c (among symbol_test c (codes "+-*/%<>=!&|^~:.@#$") h refl)
@@ -77,7 +81,13 @@ pub record IsOther (c : ℕ) : Type 0 where
 other_parts : (c : ℕ) → quote_test c ≡ true → IsOther c
 other_parts c h =
     let p = solo_parts c (left (solo_test c) (not (is_solo c)) h) in
-    record { word = p.0; digit = p.1; symbol = p.2; solo = negated (is_solo c) (right (solo_test c) (not (is_solo c)) h) }
+    record {
+      word = p.0;
+      digit = p.1;
+      symbol = p.2;
+      solo =
+          negated (is_solo c) (right (solo_test c) (not (is_solo c)) h);
+    }
 
 pub quote_apart : IsOther 34
 quote_apart = other_parts 34 refl

@@ -1,4 +1,4 @@
--- A text has tokens or a fault, and only one reading: where it has tokens it has no other ones and no fault, and a fault is the only one.
+-- A text has one reading: where it has tokens, it has no others and no fault, and a fault is the only one.
 use Rattle.std.proofs.Common.{inl, inr, ◌≡◌, ◌≢◌, ℕ, ◌+◌, ◌^◌, Bool, true, false, cond, List, [], ◌∷◌, ◌++◌, length, None, sym, ap, ◌∙◌, subst, refl, append_assoc, ne_eqb}
 use Rattle.std.specs.Prelude.{encode_utf8_all, nat_lt, nat_le, ◌==◌, bytes_eq}
 use Rattle.std.proofs.lemmas.Bool.{false≢true, le-leb, lt-leb, lt-ltb, le-ltb}
@@ -35,13 +35,15 @@ past : (ℕ → Bool) → Chars → Chars
 past test [] = []
 past test (c ∷ cs) = cond (test c) (past test cs) (c ∷ cs)
 
-run_of-run : (test : ℕ → Bool) (front rest : Chars) → All test front → EndsBy test rest → run_of test (front ++ rest) ≡ front
+run_of-run : (test : ℕ → Bool) (front rest : Chars) → All test front → EndsBy test rest
+    → run_of test (front ++ rest) ≡ front
 unfolding run_of
 run_of-run test [] [] a e = refl
 run_of-run test [] (c ∷ cs) a e = rw e refl
 run_of-run test (c ∷ front) rest a e = let h = a.0 in rw h (ap (λ cs. c ∷ cs) (run_of-run test front rest a.1 e))
 
-past-run : (test : ℕ → Bool) (front rest : Chars) → All test front → EndsBy test rest → past test (front ++ rest) ≡ rest
+past-run : (test : ℕ → Bool) (front rest : Chars) → All test front → EndsBy test rest
+    → past test (front ++ rest) ≡ rest
 unfolding past
 past-run test [] [] a e = refl
 past-run test [] (c ∷ cs) a e = rw e refl
@@ -105,7 +107,8 @@ not_dots cs d = by (bytes_eq cs dots) refl
     by false e = e
 
 module _ (fixed : List Name) where
-  word_starts : (cs rest : Chars) (at : ℕ) → IsWord cs → EndsBy goes_on_word rest → start fixed (cs ++ rest) at ≡ word_start cs rest at
+  word_starts : (cs rest : Chars) (at : ℕ) → IsWord cs → EndsBy goes_on_word rest
+      → start fixed (cs ++ rest) at ≡ word_start cs rest at
   unfolding start
   word_starts [] rest at w e = absurd w
   word_starts (c ∷ cs) rest at w e =
@@ -113,14 +116,16 @@ module _ (fixed : List Name) where
       let all : All goes_on_word (c ∷ cs) = (start_goes_on c h, w.1) in
       rw h (λ i. word_start (run_of-run goes_on_word (c ∷ cs) rest all e i) (past-run goes_on_word (c ∷ cs) rest all e i) at)
 
-  number_starts : (cs rest : Chars) (at : ℕ) → IsLongest is_digit cs rest → start fixed (cs ++ rest) at ≡ number_start cs rest at
+  number_starts : (cs rest : Chars) (at : ℕ) → IsLongest is_digit cs rest
+      → start fixed (cs ++ rest) at ≡ number_start cs rest at
   unfolding start
   number_starts [] rest at r = absurd (false≢true r.begins)
   number_starts (c ∷ cs) rest at r =
       let h : is_digit c ≡ true = r.begins in
       rw (digit_no_word c h) (rw h (λ i. number_start (run_of-run is_digit (c ∷ cs) rest r.all r.ends i) (past-run is_digit (c ∷ cs) rest r.all r.ends i) at))
 
-  symbol_starts : (cs rest : Chars) (at : ℕ) → IsLongest is_symbol cs rest → start fixed (cs ++ rest) at ≡ symbol_start fixed cs rest at
+  symbol_starts : (cs rest : Chars) (at : ℕ) → IsLongest is_symbol cs rest
+      → start fixed (cs ++ rest) at ≡ symbol_start fixed cs rest at
   unfolding start
   symbol_starts [] rest at r = absurd (false≢true r.begins)
   symbol_starts (c ∷ cs) rest at r =
@@ -136,11 +141,13 @@ module _ (fixed : List Name) where
   unfolding other_start
   quote_starts cs at = other_starts 34 cs at quote_apart ∙ refl
 
-  hole_starts : (cs : Chars) (at : ℕ) → start fixed (63 ∷ cs) at ≡ hole_start cs (run_of goes_on_word cs) (past goes_on_word cs) at
+  hole_starts : (cs : Chars) (at : ℕ)
+      → start fixed (63 ∷ cs) at ≡ hole_start cs (run_of goes_on_word cs) (past goes_on_word cs) at
   unfolding other_start
   hole_starts cs at = other_starts 63 cs at question_apart ∙ refl
 
-  solo_starts : (c : ℕ) (cs : Chars) (at : ℕ) → is_solo c ≡ true → start fixed (c ∷ cs) at ≡ a_token (span (tokens.Solo c) at (c ∷ [])) cs
+  solo_starts : (c : ℕ) (cs : Chars) (at : ℕ) → is_solo c ≡ true
+      → start fixed (c ∷ cs) at ≡ a_token (span (tokens.Solo c) at (c ∷ [])) cs
   unfolding start
   solo_starts c cs at h = let p = solo_apart c h in rw (p.0, p.1, p.2) (rw h refl)
 
@@ -149,14 +156,17 @@ module _ (fixed : List Name) where
   blank_starts c cs at h = let p = blank_apart c h in other_starts c cs at p.0 ∙ rw (p.1, p.2, h) refl
 
   -- contents up to something that isn't one
-  text_starts : (xs follow : Chars) (at : ℕ) → is_closed false (quoted xs ++ follow) ≡ true → All is_content xs → take_content follow ≡ None
+  text_starts : (xs follow : Chars) (at : ℕ) → is_closed false (quoted xs ++ follow) ≡ true → All is_content xs
+      → take_content follow ≡ None
       → text_start (quoted xs ++ follow) at ≡ text_end xs follow at
   unfolding text_start
   text_starts xs follow at k a s =
-      let e : contents_of (length (quoted xs ++ follow)) (quoted xs ++ follow) ≡ (xs, follow) = contents_of-quoted (length (quoted xs ++ follow)) xs follow (contents_small xs follow) a s in
+      let e : contents_of (length (quoted xs ++ follow)) (quoted xs ++ follow) ≡ (xs, follow) =
+      contents_of-quoted (length (quoted xs ++ follow)) xs follow (contents_small xs follow) a s in
       rw k (λ i. text_end (e i).0 (e i).1 at)
 
-  quoted_starts : (xs all follow : Chars) (at : ℕ) → all ≡ quoted xs ++ follow → is_closed false (quoted xs ++ follow) ≡ true → All is_content xs → take_content follow ≡ None
+  quoted_starts : (xs all follow : Chars) (at : ℕ) → all ≡ quoted xs ++ follow
+      → is_closed false (quoted xs ++ follow) ≡ true → All is_content xs → take_content follow ≡ None
       → start fixed (34 ∷ all) at ≡ text_end xs follow at
   quoted_starts xs all follow at e k a s =
       quote_starts all at ∙ ap (λ cs. text_start cs at) e ∙ text_starts xs follow at k a s
@@ -172,12 +182,15 @@ module _ (fixed : List Name) where
       ∙ (λ i. hole_start ((c ∷ cs) ++ rest) (run_of-run goes_on_word (c ∷ cs) rest all e i) (past-run goes_on_word (c ∷ cs) rest all e i) at)
       ∙ rw h refl
 
-  token_starts : {front rest : Chars} {t : Token} (at : ℕ) → IsToken fixed front rest t → start fixed (front ++ rest) at ≡ a_token (span t at front) rest
+  token_starts : {front rest : Chars} {t : Token} (at : ℕ) → IsToken fixed front rest t
+      → start fixed (front ++ rest) at ≡ a_token (span t at front) rest
   unfolding word_start number_start symbol_start text_end
   token_starts at (spec.word cs rest w e l) = word_starts cs rest at w e ∙ rw (le-leb (bytes_of cs) 255 l) refl
-  token_starts at (spec.number cs rest r e l) = number_starts cs rest at r ∙ rw (e, lt-ltb (value_of cs) (2 ^ 128) l) refl
+  token_starts at (spec.number cs rest r e l) = number_starts cs rest at r
+      ∙ rw (e, lt-ltb (value_of cs) (2 ^ 128) l) refl
   token_starts at (spec.text cs written rest e a l) =
-      quoted_starts cs (written ++ rest) (34 ∷ rest) at (ap (λ w. w ++ rest) e ∙ append_assoc (quoted cs) (34 ∷ []) rest) (closed_contents cs (34 ∷ rest)) a (stops-quote rest)
+      quoted_starts cs (written ++ rest) (34 ∷ rest) at (ap (λ w. w ++ rest) e
+      ∙ append_assoc (quoted cs) (34 ∷ []) rest) (closed_contents cs (34 ∷ rest)) a (stops-quote rest)
       ∙ rw (le-leb (bytes_of cs) 4096 l) (ap (λ w. a_token (span (tokens.Text (encode_utf8_all cs)) at (34 ∷ w)) rest) (sym e))
   token_starts at (spec.solo c rest s) = solo_starts c rest at s
   token_starts at (spec.symbol cs rest r i d) = symbol_starts cs rest at r ∙ rw (not_dots cs d, i) refl
@@ -185,7 +198,8 @@ module _ (fixed : List Name) where
   token_starts at (spec.more rest e) =
       symbol_starts dots rest at (record { begins = refl; all = (refl, (refl, (refl, tt))); ends = e }) ∙ refl
 
-  begins_starts : (all : Chars) (at : ℕ) (s : Spanned) (b : Begins fixed all at s) → start fixed all at ≡ a_token s b.rest
+  begins_starts : (all : Chars) (at : ℕ) (s : Spanned) (b : Begins fixed all at s)
+      → start fixed all at ≡ a_token s b.rest
   unfolding span
   begins_starts all at s b =
       ap (λ cs. start fixed cs at) b.whole ∙ token_starts at b.token
@@ -214,7 +228,8 @@ module _ (fixed : List Name) where
   fault_starts (broken.large_number cs all rest at e r n l) =
       ap (λ ds. start fixed ds at) e ∙ number_starts cs rest at r ∙ rw (n, le-ltb (value_of cs) (2 ^ 128) l) refl
   fault_starts (broken.large_text before all rest at e a l) =
-      quoted_starts before all (34 ∷ rest) at e (closed_contents before (34 ∷ rest)) a (stops-quote rest) ∙ rw (lt-leb (bytes_of before) 4096 l) refl
+      quoted_starts before all (34 ∷ rest) at e (closed_contents before (34 ∷ rest)) a (stops-quote rest)
+      ∙ rw (lt-leb (bytes_of before) 4096 l) refl
 
   -- ---- the laws
 
@@ -224,7 +239,8 @@ module _ (fixed : List Name) where
   blank_fault : (c : ℕ) (cs : Chars) (at : ℕ) (f : LexFault) → is_blank c ≡ true → IsFault fixed (c ∷ cs) at f → ⊥
   blank_fault c cs at f h i = let e = blank_starts c cs at h in let k = fault_starts i in cc
 
-  token_fault : (all : Chars) (at : ℕ) (s : Spanned) (f : LexFault) → Begins fixed all at s → IsFault fixed all at f → ⊥
+  token_fault : (all : Chars) (at : ℕ) (s : Spanned) (f : LexFault) → Begins fixed all at s → IsFault fixed all at f
+      → ⊥
   token_fault all at s f b i = let e = begins_starts all at s b in let k = fault_starts i in cc
 
   no_token_at_end : (at : ℕ) (s : Spanned) → Begins fixed [] at s → ⊥
@@ -235,11 +251,14 @@ module _ (fixed : List Name) where
   unfolding start
   no_fault_at_end at f i = let k = fault_starts i in cc
 
-  same_start : (all : Chars) (at : ℕ) (s t : Spanned) (b : Begins fixed all at s) (d : Begins fixed all at t) → (s ≡ t) × (b.rest ≡ d.rest)
+  same_start : (all : Chars) (at : ℕ) (s t : Spanned) (b : Begins fixed all at s) (d : Begins fixed all at t)
+      → (s ≡ t) × (b.rest ≡ d.rest)
   same_start all at s t b d =
-      let e : a_token s b.rest ≡ a_token t d.rest = sym (begins_starts all at s b) ∙ begins_starts all at t d in ((cc), (cc))
+      let e : a_token s b.rest ≡ a_token t d.rest = sym (begins_starts all at s b) ∙ begins_starts all at t d in
+      ((cc), (cc))
 
-  pub only_tokens : (cs : Chars) (at : ℕ) (ts us : List Spanned) → HasTokens fixed cs at ts → HasTokens fixed cs at us → ts ≡ us
+  pub only_tokens : (cs : Chars) (at : ℕ) (ts us : List Spanned) → HasTokens fixed cs at ts
+      → HasTokens fixed cs at us → ts ≡ us
   only_tokens _ _ _ _ (spec.nothing at) (spec.nothing _) = refl
   only_tokens _ _ _ _ (spec.nothing at) (spec.next _ _ s us b k) = absurd (no_token_at_end at s b)
   only_tokens _ _ _ _ (spec.blank c cs at ts h k) (spec.blank _ _ _ us i l) = only_tokens cs (at + 1) ts us k l
@@ -252,11 +271,13 @@ module _ (fixed : List Name) where
       (subst (λ n. HasTokens fixed b.rest n us) (ap (λ (r : Spanned). r.end) (sym e.0)) (subst (λ r. HasTokens fixed r t.end us) (sym e.1) l)) in
       λ i. e.0 i ∷ tail i
 
-  pub no_fault_with_tokens : (cs : Chars) (at : ℕ) (ts : List Spanned) (f : LexFault) → HasTokens fixed cs at ts → HasFault fixed cs at f → ⊥
+  pub no_fault_with_tokens : (cs : Chars) (at : ℕ) (ts : List Spanned) (f : LexFault) → HasTokens fixed cs at ts
+      → HasFault fixed cs at f → ⊥
   no_fault_with_tokens _ _ _ _ (spec.nothing at) (broken.here _ _ f i) = no_fault_at_end at f i
   no_fault_with_tokens _ _ _ _ (spec.nothing at) (broken.later _ _ s f b k) = no_token_at_end at s b
   no_fault_with_tokens _ _ _ _ (spec.blank c cs at ts h k) (broken.here _ _ f i) = blank_fault c cs at f h i
-  no_fault_with_tokens _ _ _ _ (spec.blank c cs at ts h k) (broken.blank _ _ _ f i l) = no_fault_with_tokens cs (at + 1) ts f k l
+  no_fault_with_tokens _ _ _ _ (spec.blank c cs at ts h k) (broken.blank _ _ _ f i l) =
+      no_fault_with_tokens cs (at + 1) ts f k l
   no_fault_with_tokens _ _ _ _ (spec.blank c cs at ts h k) (broken.later _ _ s f b l) = blank_token c cs at s h b
   no_fault_with_tokens _ _ _ _ (spec.next all at s ts b k) (broken.here _ _ f i) = token_fault all at s f b i
   no_fault_with_tokens _ _ _ _ (spec.next _ at s ts b k) (broken.blank c cs _ f h l) = blank_token c cs at s h b
@@ -282,10 +303,12 @@ module _ (fixed : List Name) where
 
   -- what a call may answer that gives tokens or a fault
 
-  pub fault_with_tokens : (cs : Chars) (at : ℕ) (ts : List Spanned) (f : LexFault) → HasTokens fixed cs at ts → broken.OrMemory (HasFault fixed cs at) f → f ≡ faults.Memory
+  pub fault_with_tokens : (cs : Chars) (at : ℕ) (ts : List Spanned) (f : LexFault) → HasTokens fixed cs at ts
+      → broken.OrMemory (HasFault fixed cs at) f → f ≡ faults.Memory
   fault_with_tokens cs at ts f t (inl e) = e
   fault_with_tokens cs at ts f t (inr h) = absurd (no_fault_with_tokens cs at ts f t h)
 
-  pub fault_with_fault : (cs : Chars) (at : ℕ) (f g : LexFault) → HasFault fixed cs at g → broken.OrMemory (HasFault fixed cs at) f → broken.OrMemory (λ h. h ≡ g) f
+  pub fault_with_fault : (cs : Chars) (at : ℕ) (f g : LexFault) → HasFault fixed cs at g
+      → broken.OrMemory (HasFault fixed cs at) f → broken.OrMemory (λ h. h ≡ g) f
   fault_with_fault cs at f g k (inl e) = inl e
   fault_with_fault cs at f g k (inr h) = inr (only_fault cs at f g h k)

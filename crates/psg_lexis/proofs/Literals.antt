@@ -21,14 +21,25 @@ use Rattle.psg_lexis.proofs.Contents.{HasContents}
 size-ascii : (c : ℕ) → c < 128 → length (encode_utf8 c) ≡ 1
 size-ascii c h = length-encode c ∙ len_utf8_ascii c h
 
-pub an_escape : (whole behind after : List ℕ) (written meant : ℕ) → IsFirst whole 92 behind → IsFirst behind written after
+pub an_escape : (whole behind after : List ℕ) (written meant : ℕ) → IsFirst whole 92 behind
+    → IsFirst behind written after
     → escaped meant ≡ 92 ∷ written ∷ [] → is_content meant ≡ true → meant < 128 → IsContent whole meant after
 an_escape whole behind after written meant f g e content small = record {
   content = content;
-  bytes = f.bytes ∙ ap (λ bs. encode_utf8 92 ++ bs) g.bytes ∙ sym (append_assoc (encode_utf8 92) (encode_utf8 written) after)
-      ∙ ap (λ bs. (encode_utf8 92 ++ bs) ++ after) (sym (append-nil (encode_utf8 written))) ∙ ap (λ cs. encode_utf8_all cs ++ after) (sym e);
+  bytes = f.bytes ∙ ap (λ bs. encode_utf8 92 ++ bs) g.bytes
+      ∙ sym (append_assoc (encode_utf8 92) (encode_utf8 written) after)
+      ∙ ap (λ bs. (encode_utf8 92 ++ bs) ++ after) (sym (append-nil (encode_utf8 written)))
+      ∙ ap (λ cs. encode_utf8_all cs ++ after) (sym e);
   characters = f.characters ∙ ap (λ cs. 92 ∷ cs) g.characters ∙ ap (λ cs. cs ++ chars after) (sym e);
-  size = omega (arith, size-ascii meant small, ap length f.bytes, size-ascii 92 (lit< tt), length-append (encode_utf8 92) behind, ap length g.bytes, length-append (encode_utf8 written) after);
+  size = omega (
+    arith,
+    size-ascii meant small,
+    ap length f.bytes,
+    size-ascii 92 (lit< tt),
+    length-append (encode_utf8 92) behind,
+    ap length g.bytes,
+    length-append (encode_utf8 written) after,
+  );
   utf8 = g.utf8;
 }
 
@@ -39,12 +50,14 @@ content_by : (a b : Bool) → b ≡ true → (a || b) ≡ true
 content_by true b h = refl
 content_by false b h = h
 
-pub a_plain : (whole after : List ℕ) (c : ℕ) → IsFirst whole c after → c ≢ 34 → c ≢ 92 → c ≢ 10 → is_some (char_width false c) ≡ true → IsContent whole c after
+pub a_plain : (whole after : List ℕ) (c : ℕ) → IsFirst whole c after → c ≢ 34 → c ≢ 92 → c ≢ 10
+    → is_some (char_width false c) ≡ true → IsContent whole c after
 a_plain whole after c f p q r w =
     let e : escaped c ≡ c ∷ [] = plain_escaped c (ne_eqb c 34 p) (ne_eqb c 92 q) (ne_eqb c 10 r) in
     record {
       content = content_by (c == 10) (is_some (char_width false c)) w;
-      bytes = f.bytes ∙ ap (λ bs. bs ++ after) (sym (append-nil (encode_utf8 c))) ∙ ap (λ cs. encode_utf8_all cs ++ after) (sym e);
+      bytes = f.bytes ∙ ap (λ bs. bs ++ after) (sym (append-nil (encode_utf8 c)))
+          ∙ ap (λ cs. encode_utf8_all cs ++ after) (sym e);
       characters = f.characters ∙ ap (λ cs. cs ++ chars after) (sym e);
       size = omega (arith, ap length f.bytes, length-append (encode_utf8 c) after);
       utf8 = f.utf8;
@@ -77,36 +90,55 @@ module _ (fixed : List Name) (whole rest : List ℕ) (size : ℕ) (kept : List �
   at_rest : (cs : Chars) → chars rest ≡ cs → chars whole ≡ quoted h.before ++ cs
   at_rest cs e = h.characters ∙ ap (λ ds. quoted h.before ++ ds) e
 
-  pub too_large_text : (cs : Chars) → chars rest ≡ 34 ∷ cs → 4096 < size → IsFault fixed (34 ∷ chars whole) at (faults.TooLarge at)
+  pub too_large_text : (cs : Chars) → chars rest ≡ 34 ∷ cs → 4096 < size
+      → IsFault fixed (34 ∷ chars whole) at (faults.TooLarge at)
   too_large_text cs e large =
       large_text h.before (chars whole) cs at (at_rest (34 ∷ cs) e) h.contents (subst (λ n. 4096 < n) h.counted large)
 
   written-size : bytes_of (34 ∷ (quoted h.before ++ 34 ∷ [])) ≡ bytes_of (quoted h.before) + 2
   written-size =
       quote-size (quoted h.before ++ 34 ∷ [])
-      ∙ omega (arith, ap length (encodes-append (quoted h.before) (34 ∷ [])), length-append (encode_utf8_all (quoted h.before)) (encode_utf8_all (34 ∷ [])), quote-size [])
+      ∙ omega (
+        arith,
+        ap length (encodes-append (quoted h.before) (34 ∷ [])),
+        length-append (encode_utf8_all (quoted h.before)) (encode_utf8_all (34 ∷ [])),
+        quote-size [],
+      )
 
   pub begins_text : (cs : Chars) (bytes : List ℕ) → chars rest ≡ 34 ∷ cs → size ≤ 4096 → bytes ≡ kept
-      → Begins fixed (34 ∷ chars whole) at (record { token = tokens.Text bytes; start = at; end = at + 1 + (length whole - length rest) + 1 })
+      → Begins fixed (34 ∷ chars whole) at (record {
+        token = tokens.Text bytes;
+        start = at;
+        end =
+            at + 1 + (length whole - length rest) + 1;
+      })
   begins_text cs bytes e small same = record {
     front = 34 ∷ (quoted h.before ++ 34 ∷ []);
     rest = cs;
     whole = ap (λ ds. 34 ∷ ds) (at_rest (34 ∷ cs) e ∙ sym (append_assoc (quoted h.before) (34 ∷ []) cs));
-    token = subst (λ bs. IsToken fixed (34 ∷ (quoted h.before ++ 34 ∷ [])) cs (tokens.Text bs)) (sym (same ∙ h.small small))
+    token = subst (λ bs. IsToken fixed (34 ∷ (quoted h.before ++ 34 ∷ [])) cs (tokens.Text bs)) (sym (same
+        ∙ h.small small))
         (text h.before (quoted h.before ++ 34 ∷ []) cs refl h.contents (subst (λ n. n ≤ 4096) h.counted small));
     starts = refl;
     ends = omega (arith, read, written-size);
   }
 
-  pub open_text : (chars rest ≡ []) ⊎ ((cs : Chars) × (chars rest ≡ 10 ∷ cs)) → IsFault fixed (34 ∷ chars whole) at (faults.Unended at)
+  pub open_text : (chars rest ≡ []) ⊎ ((cs : Chars) × (chars rest ≡ 10 ∷ cs))
+      → IsFault fixed (34 ∷ chars whole) at (faults.Unended at)
   open_text (inl e) = unended (chars whole) at (ap (is_closed false) (at_rest [] e) ∙ closed_contents h.before [])
-  open_text (inr (cs, e)) = unended (chars whole) at (ap (is_closed false) (at_rest (10 ∷ cs) e) ∙ closed_contents h.before (10 ∷ cs))
+  open_text (inr (cs, e)) = unended (chars whole) at (ap (is_closed false) (at_rest (10 ∷ cs) e)
+      ∙ closed_contents h.before (10 ∷ cs))
 
   inside : (cs : Chars) → chars rest ≡ cs → is_closed false (chars rest) ≡ true → IsInside h.before cs
-  inside cs e closed = record { contents = h.contents; closed = closed_contents h.before cs ∙ ap (is_closed false) (sym e) ∙ closed }
+  inside cs e closed = record {
+    contents = h.contents;
+    closed = closed_contents h.before cs
+        ∙ ap (is_closed false) (sym e) ∙ closed;
+  }
 
   open_rest : is_closed false (chars rest) ≡ false → IsFault fixed (34 ∷ chars whole) at (faults.Unended at)
-  open_rest o = unended (chars whole) at (ap (is_closed false) h.characters ∙ closed_contents h.before (chars rest) ∙ o)
+  open_rest o = unended (chars whole) at (ap (is_closed false) h.characters ∙ closed_contents h.before (chars rest)
+      ∙ o)
 
   place : at + 1 + (length whole - length rest) ≡ at + bytes_of (34 ∷ quoted h.before)
   place = omega (arith, read, quote-size (quoted h.before))
@@ -123,7 +155,8 @@ module _ (fixed : List Name) (whole rest : List ℕ) (size : ℕ) (kept : List �
       → IsFault fixed (34 ∷ chars whole) at fault
   bad_width fault n e = subst (IsFault fixed (34 ∷ chars whole) at) (sym e) (bad_width_by (is_closed false (chars rest)) refl n)
 
-  bad_escape_by : (b : Bool) → is_closed false (chars rest) ≡ b → (cs : Chars) → chars rest ≡ 92 ∷ cs → EndsBy is_escape cs
+  bad_escape_by : (b : Bool) → is_closed false (chars rest) ≡ b → (cs : Chars) → chars rest ≡ 92 ∷ cs
+      → EndsBy is_escape cs
       → IsFault fixed (34 ∷ chars whole) at (if b then faults.BadRun (at + 1 + (length whole - length rest)) else faults.Unended at)
   bad_escape_by true e cs w n =
       subst (λ p. IsFault fixed (34 ∷ chars whole) at (faults.BadRun p)) (sym place)

@@ -37,30 +37,40 @@ All-push test (d ∷ cs) c a h = (a.0, All-push test cs c a.1 h)
 encodes-push : (cs : Chars) (c : ℕ) → encode_utf8_all (cs ++ c ∷ []) ≡ encode_utf8_all cs ++ encode_utf8 c
 encodes-push cs c = encodes-append cs (c ∷ []) ∙ ap (λ bs. encode_utf8_all cs ++ bs) (append-nil (encode_utf8 c))
 
-pub more_run : (test : ℕ → Bool) (text rest after : List ℕ) (c : ℕ) → HasRun test text rest → IsFirst rest c after → test c ≡ true → HasRun test text after
+pub more_run : (test : ℕ → Bool) (text rest after : List ℕ) (c : ℕ) → HasRun test text rest → IsFirst rest c after
+    → test c ≡ true → HasRun test text after
 more_run test text rest after c h f p = record {
   front = h.front ++ c ∷ [];
-  bytes = h.bytes ∙ ap (λ bs. encode_utf8_all h.front ++ bs) f.bytes ∙ sym (append_assoc (encode_utf8_all h.front) (encode_utf8 c) after) ∙ ap (λ bs. bs ++ after) (sym (encodes-push h.front c));
-  characters = h.characters ∙ ap (λ cs. h.front ++ cs) f.characters ∙ sym (append_assoc h.front (c ∷ []) (chars after));
+  bytes = h.bytes ∙ ap (λ bs. encode_utf8_all h.front ++ bs) f.bytes
+      ∙ sym (append_assoc (encode_utf8_all h.front) (encode_utf8 c) after)
+      ∙ ap (λ bs. bs ++ after) (sym (encodes-push h.front c));
+  characters = h.characters ∙ ap (λ cs. h.front ++ cs) f.characters
+      ∙ sym (append_assoc h.front (c ∷ []) (chars after));
   run = All-push test h.front c h.run p;
 }
 
-front_len : (test : ℕ → Bool) (text rest : List ℕ) (h : HasRun test text rest) → length (encode_utf8_all h.front) ≡ length text - length rest
+front_len : (test : ℕ → Bool) (text rest : List ℕ) (h : HasRun test text rest)
+    → length (encode_utf8_all h.front) ≡ length text - length rest
 front_len test text rest h =
     omega (arith, ap length h.bytes, length-append (encode_utf8_all h.front) rest)
 
-pub run_boundary : (test : ℕ → Bool) (text rest : List ℕ) → HasRun test text rest → IsUtf8 rest → IsCharBoundary text (length text - length rest)
+pub run_boundary : (test : ℕ → Bool) (text rest : List ℕ) → HasRun test text rest → IsUtf8 rest
+    → IsCharBoundary text (length text - length rest)
 run_boundary test text rest h utf8 =
     subst (IsCharBoundary text) (front_len test text rest h) (IsCharBoundary-at_seam text (encode_utf8_all h.front) rest h.bytes utf8)
 
 pub run_split : (test : ℕ → Bool) (text rest front back : List ℕ) → IsUtf8 text → IsUtf8 rest → HasRun test text rest
-    → EndsBy test (chars rest) → front ≡ take (length text - length rest) text → back ≡ drop (length text - length rest) text → IsRun test text front back
+    → EndsBy test (chars rest) → front ≡ take (length text - length rest) text
+    → back ≡ drop (length text - length rest) text → IsRun test text front back
 run_split test text rest front back whole utf8 h ends f b =
     let n : ℕ = length text - length rest in
     let size : length (encode_utf8_all h.front) ≡ n = front_len test text rest h in
-    let f' : front ≡ encode_utf8_all h.front = f ∙ ap (λ m. take m text) (sym size) ∙ ap (take (length (encode_utf8_all h.front))) h.bytes ∙ take-append_seam (encode_utf8_all h.front) rest in
-    let b' : back ≡ rest = b ∙ ap (λ m. drop m text) (sym size) ∙ ap (drop (length (encode_utf8_all h.front))) h.bytes ∙ drop-append_seam (encode_utf8_all h.front) rest in
-    let text_front : IsUtf8 front = subst IsUtf8 (sym f) (IsUtf8-take text n whole (run_boundary test text rest h utf8)) in
+    let f' : front ≡ encode_utf8_all h.front = f ∙ ap (λ m. take m text) (sym size)
+    ∙ ap (take (length (encode_utf8_all h.front))) h.bytes ∙ take-append_seam (encode_utf8_all h.front) rest in
+    let b' : back ≡ rest = b ∙ ap (λ m. drop m text) (sym size)
+    ∙ ap (drop (length (encode_utf8_all h.front))) h.bytes ∙ drop-append_seam (encode_utf8_all h.front) rest in
+    let text_front : IsUtf8 front =
+    subst IsUtf8 (sym f) (IsUtf8-take text n whole (run_boundary test text rest h utf8)) in
     let same : h.front ≡ chars front = chars_from_encodes h.front front text_front (sym f') in
     record {
       bytes = h.bytes ∙ ap (λ bs. bs ++ rest) (sym f') ∙ ap (λ bs. front ++ bs) (sym b');
@@ -71,7 +81,8 @@ run_split test text rest front back whole utf8 h ends f b =
       utf8 = subst IsUtf8 (sym b') utf8;
     }
 
-pub stops_at : (test : ℕ → Bool) (rest after : List ℕ) (c : ℕ) → IsFirst rest c after → test c ≡ false → EndsBy test (chars rest)
+pub stops_at : (test : ℕ → Bool) (rest after : List ℕ) (c : ℕ) → IsFirst rest c after → test c ≡ false
+    → EndsBy test (chars rest)
 stops_at test rest after c f h = subst (EndsBy test) (sym f.characters) h
 
 pub stops_at_end : (test : ℕ → Bool) (rest : List ℕ) → chars rest ≡ [] → EndsBy test (chars rest)

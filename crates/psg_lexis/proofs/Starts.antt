@@ -37,12 +37,14 @@ unfolding chars
 chars-dots = refl
 
 -- a run that the characters begin with is not empty
-longest_at : (test : ℕ → Bool) (run follow : Chars) → BeginsBy test (run ++ follow) → All test run → EndsBy test follow → IsLongest test run follow
+longest_at : (test : ℕ → Bool) (run follow : Chars) → BeginsBy test (run ++ follow) → All test run
+    → EndsBy test follow → IsLongest test run follow
 longest_at test [] [] b a e = absurd (false≢true b)
 longest_at test [] (c ∷ cs) b a e = absurd (false≢true (sym e ∙ b))
 longest_at test (d ∷ run) follow b a e = record { begins = b; all = a; ends = e }
 
-word_at : (run follow : Chars) → BeginsBy starts_word (run ++ follow) → All goes_on_word run → EndsBy goes_on_word follow → IsWord run
+word_at : (run follow : Chars) → BeginsBy starts_word (run ++ follow) → All goes_on_word run
+    → EndsBy goes_on_word follow → IsWord run
 word_at [] [] b a e = absurd (false≢true b)
 word_at [] (c ∷ cs) b a e = absurd (false≢true (sym e ∙ start_goes_on c b))
 word_at (d ∷ run) follow b a e = (b, a.1)
@@ -54,21 +56,25 @@ pub apart_dots : (run : List ℕ) → bytes_eq run dots ≡ false → run ≡ do
 apart_dots run h e = false≢true (sym h ∙ (bytes_eq-Decides run dots).1 e)
 
 -- a `?` takes one byte
-hole_end : (at : ℕ) (front : List ℕ) (cs : Chars) → encode_utf8_all cs ≡ front → at + 1 + length front ≡ at + bytes_of (63 ∷ cs)
+hole_end : (at : ℕ) (front : List ℕ) (cs : Chars) → encode_utf8_all cs ≡ front
+    → at + 1 + length front ≡ at + bytes_of (63 ∷ cs)
 hole_end at front cs e =
     let one : bytes_of (63 ∷ cs) ≡ 1 + length front = rw (encode_ascii 63 (lit< tt)) (omega (arith, ap length e)) in
     omega (arith, one)
 
-pub longest_run : (test : ℕ → Bool) (text front rest : List ℕ) → IsRun test text front rest → BeginsBy test (chars text) → IsLongest test (chars front) (chars rest)
+pub longest_run : (test : ℕ → Bool) (text front rest : List ℕ) → IsRun test text front rest
+    → BeginsBy test (chars text) → IsLongest test (chars front) (chars rest)
 longest_run test text front rest r b =
     longest_at test (chars front) (chars rest) (subst (BeginsBy test) r.characters b) r.run r.ends
 
-pub run_is_word : (text front rest : List ℕ) → IsRun goes_on_word text front rest → BeginsBy starts_word (chars text) → IsWord (chars front)
+pub run_is_word : (text front rest : List ℕ) → IsRun goes_on_word text front rest
+    → BeginsBy starts_word (chars text) → IsWord (chars front)
 run_is_word text front rest r b =
     word_at (chars front) (chars rest) (subst (BeginsBy starts_word) r.characters b) r.run r.ends
 
 module _ (fixed : List Name) (text front rest : List ℕ) (at : ℕ) where
-  pub begins_word : (bytes : List ℕ) → IsRun goes_on_word text front rest → BeginsBy starts_word (chars text) → length front ≤ 255 → bytes ≡ front
+  pub begins_word : (bytes : List ℕ) → IsRun goes_on_word text front rest → BeginsBy starts_word (chars text)
+      → length front ≤ 255 → bytes ≡ front
       → Begins fixed (chars text) at (record { token = tokens.Word bytes; start = at; end = at + length front })
   begins_word bytes r b small e = record {
     front = chars front;
@@ -80,12 +86,19 @@ module _ (fixed : List Name) (text front rest : List ℕ) (at : ℕ) where
     ends = ap (λ w. at + length w) (sym r.encoded);
   }
 
-  pub too_large_word : IsRun goes_on_word text front rest → BeginsBy starts_word (chars text) → 255 < length front → IsFault fixed (chars text) at (faults.TooLarge at)
+  pub too_large_word : IsRun goes_on_word text front rest → BeginsBy starts_word (chars text) → 255 < length front
+      → IsFault fixed (chars text) at (faults.TooLarge at)
   too_large_word r b large =
       large_word (chars front) (chars text) (chars rest) at r.characters (run_is_word text front rest r b) r.ends (subst (λ w. 255 < length w) (sym r.encoded) large)
 
-  pub begins_hole : (bytes : List ℕ) → IsRun goes_on_word text front rest → BeginsBy starts_word (chars text) → length front ≤ 255 → bytes ≡ front
-      → Begins fixed (63 ∷ chars text) at (record { token = tokens.Hole bytes; start = at; end = at + 1 + length front })
+  pub begins_hole : (bytes : List ℕ) → IsRun goes_on_word text front rest → BeginsBy starts_word (chars text)
+      → length front ≤ 255 → bytes ≡ front
+      → Begins fixed (63 ∷ chars text) at (record {
+        token = tokens.Hole bytes;
+        start = at;
+        end =
+            at + 1 + length front;
+      })
   begins_hole bytes r b small e = record {
     front = 63 ∷ chars front;
     rest = chars rest;
@@ -96,11 +109,13 @@ module _ (fixed : List Name) (text front rest : List ℕ) (at : ℕ) where
     ends = hole_end at front (chars front) r.encoded;
   }
 
-  pub too_large_hole : IsRun goes_on_word text front rest → BeginsBy starts_word (chars text) → 255 < length front → IsFault fixed (63 ∷ chars text) at (faults.TooLarge (at + 1))
+  pub too_large_hole : IsRun goes_on_word text front rest → BeginsBy starts_word (chars text) → 255 < length front
+      → IsFault fixed (63 ∷ chars text) at (faults.TooLarge (at + 1))
   too_large_hole r b large =
       large_hole (chars front) (chars text) (chars rest) at r.characters (run_is_word text front rest r b) r.ends (subst (λ w. 255 < length w) (sym r.encoded) large)
 
-  pub begins_number : IsRun is_digit text front rest → BeginsBy is_digit (chars text) → EndsBy goes_on_word (chars rest) → value_of (chars front) < 2 ^ 128
+  pub begins_number : IsRun is_digit text front rest → BeginsBy is_digit (chars text)
+      → EndsBy goes_on_word (chars rest) → value_of (chars front) < 2 ^ 128
       → (value : ℕ) → value ≡ value_of (chars front)
       → Begins fixed (chars text) at (record { token = tokens.Number value; start = at; end = at + length front })
   begins_number r b e small value same = record {
@@ -113,16 +128,19 @@ module _ (fixed : List Name) (text front rest : List ℕ) (at : ℕ) where
     ends = ap (λ w. at + length w) (sym r.encoded);
   }
 
-  pub joined_number : IsRun is_digit text front rest → BeginsBy is_digit (chars text) → BeginsBy goes_on_word (chars rest) → IsFault fixed (chars text) at (faults.BadRun at)
+  pub joined_number : IsRun is_digit text front rest → BeginsBy is_digit (chars text)
+      → BeginsBy goes_on_word (chars rest) → IsFault fixed (chars text) at (faults.BadRun at)
   joined_number r b g =
       no_number (chars front) (chars text) (chars rest) at r.characters (longest_run is_digit text front rest r b) g
 
-  pub too_large_number : IsRun is_digit text front rest → BeginsBy is_digit (chars text) → EndsBy goes_on_word (chars rest) → (value_of (chars front) < 2 ^ 128 → ⊥)
+  pub too_large_number : IsRun is_digit text front rest → BeginsBy is_digit (chars text)
+      → EndsBy goes_on_word (chars rest) → (value_of (chars front) < 2 ^ 128 → ⊥)
       → IsFault fixed (chars text) at (faults.TooLarge at)
   too_large_number r b e large =
       large_number (chars front) (chars text) (chars rest) at r.characters (longest_run is_digit text front rest r b) e (at_least (value_of (chars front)) (2 ^ 128) large)
 
-  pub begins_symbol : (bytes : List ℕ) → IsRun is_symbol text front rest → BeginsBy is_symbol (chars text) → (front ≡ dots → ⊥) → is_among fixed front ≡ true → bytes ≡ front
+  pub begins_symbol : (bytes : List ℕ) → IsRun is_symbol text front rest → BeginsBy is_symbol (chars text)
+      → (front ≡ dots → ⊥) → is_among fixed front ≡ true → bytes ≡ front
       → Begins fixed (chars text) at (record { token = tokens.Symbol bytes; start = at; end = at + length front })
   begins_symbol bytes r b apart among e = record {
     front = chars front;
@@ -137,7 +155,8 @@ module _ (fixed : List Name) (text front rest : List ℕ) (at : ℕ) where
       not_dots : IsRun is_symbol text front rest → (front ≡ dots → ⊥) → chars front ≢ dots
       not_dots r apart same = apart (sym r.encoded ∙ ap encode_utf8_all same ∙ encodes-dots)
 
-  pub no_fixed_symbol : IsRun is_symbol text front rest → BeginsBy is_symbol (chars text) → (front ≡ dots → ⊥) → is_among fixed front ≡ false → IsFault fixed (chars text) at (faults.BadRun at)
+  pub no_fixed_symbol : IsRun is_symbol text front rest → BeginsBy is_symbol (chars text) → (front ≡ dots → ⊥)
+      → is_among fixed front ≡ false → IsFault fixed (chars text) at (faults.BadRun at)
   no_fixed_symbol r b apart among =
       no_symbol (chars front) (chars text) (chars rest) at r.characters (longest_run is_symbol text front rest r b) (subst (λ w. is_among fixed w ≡ false) (sym r.encoded) among)
       (λ same. apart (sym r.encoded ∙ ap encode_utf8_all same ∙ encodes-dots))
@@ -153,7 +172,8 @@ module _ (fixed : List Name) (text front rest : List ℕ) (at : ℕ) where
     ends = ap (λ w. at + length w) (e ∙ sym encodes-dots);
   }
 
-pub begins_solo : (fixed : List Name) (text after : List ℕ) (c at : ℕ) → IsFirst text c after → is_solo c ≡ true → c < 128
+pub begins_solo : (fixed : List Name) (text after : List ℕ) (c at : ℕ) → IsFirst text c after → is_solo c ≡ true
+    → c < 128
     → Begins fixed (chars text) at (record { token = tokens.Solo c; start = at; end = at + 1 })
 begins_solo fixed text after c at f s small = record {
   front = c ∷ [];
@@ -168,10 +188,19 @@ not_blank : (b : Bool) → not b ≡ true → b ≡ false
 not_blank true h = absurd (false≢true h)
 not_blank false h = refl
 
-pub begins_nothing : (fixed : List Name) (text after : List ℕ) (c at : ℕ) → IsFirst text c after → BeginsBy (λ d. not (is_blank d)) (chars text)
+pub begins_nothing : (fixed : List Name) (text after : List ℕ) (c at : ℕ) → IsFirst text c after
+    → BeginsBy (λ d. not (is_blank d)) (chars text)
     → starts_word c ≡ false → is_digit c ≡ false → is_solo c ≡ false → is_symbol c ≡ false → c ≢ 34 → c ≢ 63
     → IsFault fixed (chars text) at (faults.BadChar at)
 begins_nothing fixed text after c at f b w d s y q h =
     let blank = not_blank (is_blank c) (subst (BeginsBy (λ d. not (is_blank d))) f.characters b) in
     subst (λ cs. IsFault fixed cs at (faults.BadChar at)) (sym f.characters)
-    (no_token c (chars after) at (record { blank = blank; word = w; digit = d; solo = s; symbol = y; quote = q; question = h }))
+    (no_token c (chars after) at (record {
+      blank = blank;
+      word = w;
+      digit = d;
+      solo = s;
+      symbol = y;
+      quote = q;
+      question = h;
+    }))

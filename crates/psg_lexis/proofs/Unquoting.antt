@@ -37,7 +37,8 @@ pub stops-quote : (cs : Chars) → take_content (34 ∷ cs) ≡ None
 unfolding take_content
 stops-quote cs = refl
 
-not_escape : (a b c : Bool) (x y z : Option (ℕ × Chars)) → (a || b || c) ≡ false → cond a x (cond b y (cond c z None)) ≡ None
+not_escape : (a b c : Bool) (x y z : Option (ℕ × Chars)) → (a || b || c) ≡ false
+    → cond a x (cond b y (cond c z None)) ≡ None
 not_escape true b c x y z h = absurd (false≢true (sym h))
 not_escape false true c x y z h = absurd (false≢true (sym h))
 not_escape false false true x y z h = absurd (false≢true (sym h))
@@ -46,9 +47,13 @@ not_escape false false false x y z h = refl
 pub stops-backslash : (cs : Chars) → EndsBy is_escape cs → take_content (92 ∷ cs) ≡ None
 unfolding take_content take_escape
 stops-backslash [] e = refl
-stops-backslash (d ∷ ds) e = not_escape (d == 34) (d == 92) (d == 110) (Some (34, ds)) (Some (92, ds)) (Some (10, ds)) e
+stops-backslash (d ∷ ds) e = not_escape (d == 34) (d == 92) (d == 110) (Some (34, ds)) (Some (92, ds)) (Some (
+  10,
+  ds,
+)) e
 
-narrow : (a b d : Bool) (x y : Option (ℕ × Chars)) → a ≡ false → cond a x (cond b None (cond d None (cond false y None))) ≡ None
+narrow : (a b d : Bool) (x y : Option (ℕ × Chars)) → a ≡ false
+    → cond a x (cond b None (cond d None (cond false y None))) ≡ None
 narrow true b d x y h = absurd (false≢true (sym h))
 narrow false true d x y h = refl
 narrow false false true x y h = refl
@@ -62,7 +67,8 @@ has_width : (c : ℕ) → char_width false c ≡ None → (d : ℕ) → is_some 
 has_width c e d w = by (c == d) refl
   where
     by : (b : Bool) → (c == d) ≡ b → (c == d) ≡ false
-    by true k = absurd (false≢true (sym (none_is (char_width false c) e) ∙ ap (λ n. is_some (char_width false n)) (eqb-true c d k) ∙ w))
+    by true k = absurd (false≢true (sym (none_is (char_width false c) e)
+        ∙ ap (λ n. is_some (char_width false n)) (eqb-true c d k) ∙ w))
     by false k = k
 
 width-quote : is_some (char_width false 34) ≡ true
@@ -96,18 +102,21 @@ pub contents_of : ℕ → Chars → Chars × Chars
 contents_of zero cs = ([], cs)
 contents_of (suc n) cs = step_by (take_content cs) cs (contents_of n)
 
-pub contents_of-quoted : (n : ℕ) (xs follow : Chars) → length xs ≤ n → All is_content xs → take_content follow ≡ None → contents_of n (quoted xs ++ follow) ≡ (xs, follow)
+pub contents_of-quoted : (n : ℕ) (xs follow : Chars) → length xs ≤ n → All is_content xs
+    → take_content follow ≡ None → contents_of n (quoted xs ++ follow) ≡ (xs, follow)
 unfolding contents_of step_by
 contents_of-quoted zero [] follow l a s = refl
 contents_of-quoted (suc n) [] follow l a s = rw s refl
 contents_of-quoted zero (x ∷ xs) follow l a s = absurd (omega arith)
 contents_of-quoted (suc n) (x ∷ xs) follow l a s =
     let e : take_content ((escaped x ++ quoted xs) ++ follow) ≡ Some (x, quoted xs ++ follow) =
-    ap take_content (append_assoc (escaped x) (quoted xs) follow) ∙ take_content-escaped x (quoted xs ++ follow) a.0 in
+    ap take_content (append_assoc (escaped x) (quoted xs) follow)
+    ∙ take_content-escaped x (quoted xs ++ follow) a.0 in
     let k : contents_of n (quoted xs ++ follow) ≡ (xs, follow) = contents_of-quoted n xs follow (omega arith) a.1 s in
     rw (e, k) refl
 
-escaped_some : (a b d : Bool) (c : ℕ) → 0 < length (cond a (92 ∷ 34 ∷ []) (cond b (92 ∷ 92 ∷ []) (cond d (92 ∷ 110 ∷ []) (c ∷ []))))
+escaped_some : (a b d : Bool) (c : ℕ)
+    → 0 < length (cond a (92 ∷ 34 ∷ []) (cond b (92 ∷ 92 ∷ []) (cond d (92 ∷ 110 ∷ []) (c ∷ []))))
 escaped_some true b d c = omega arith
 escaped_some false true d c = omega arith
 escaped_some false false true c = omega arith
@@ -117,4 +126,10 @@ pub contents_small : (xs follow : Chars) → length xs ≤ length (quoted xs ++ 
 contents_small [] follow = omega arith
 contents_small (x ∷ xs) follow =
     let h = contents_small xs follow in
-    omega (arith, h, escaped_some (x == 34) (x == 92) (x == 10) x, ap length (append_assoc (escaped x) (quoted xs) follow), length-append (escaped x) (quoted xs ++ follow))
+    omega (
+      arith,
+      h,
+      escaped_some (x == 34) (x == 92) (x == 10) x,
+      ap length (append_assoc (escaped x) (quoted xs) follow),
+      length-append (escaped x) (quoted xs ++ follow),
+    )

@@ -30,11 +30,16 @@ blank-small c h =
       | inl e ↦ let k = eqb-true c 32 e in omega arith
       | inr r ↦ elim r [
         | inl e ↦ let k = eqb-true c 9 e in omega arith
-        | inr q ↦ elim q [ inl e ↦ let k = eqb-true c 10 e in omega arith | inr e ↦ let k = eqb-true c 13 e in omega arith ]
+        | inr q ↦ elim q [
+          | inl e ↦ let k = eqb-true c 10 e in omega arith
+          | inr e ↦ let k = eqb-true c 13 e in
+              omega arith
+        ]
       ]
     ]
 
-pub past_blank : (rest after : List ℕ) (c : ℕ) → IsFirst rest c after → is_blank c ≡ true → length rest ≡ 1 + length after
+pub past_blank : (rest after : List ℕ) (c : ℕ) → IsFirst rest c after → is_blank c ≡ true
+    → length rest ≡ 1 + length after
 past_blank rest after c f b =
     let small = blank-small c b in
     omega (arith, ap length f.bytes, length-append (encode_utf8 c) after, ap length (encode_ascii c small))
@@ -86,7 +91,8 @@ module _ (fixed : List Name) where
 
     -- what the cut leaves are the characters behind the token
     pub left_is : (left : List ℕ) → left ≡ drop (s.end - at) rest → left ≡ encode_utf8_all b.rest
-    left_is left e = e ∙ ap (λ n. drop n rest) token_size ∙ ap (drop (bytes_of b.front)) cut ∙ drop-append_seam (encode_utf8_all b.front) (encode_utf8_all b.rest)
+    left_is left e = e ∙ ap (λ n. drop n rest) token_size ∙ ap (drop (bytes_of b.front)) cut
+        ∙ drop-append_seam (encode_utf8_all b.front) (encode_utf8_all b.rest)
 
     pub left_chars : (left : List ℕ) → left ≡ drop (s.end - at) rest → chars left ≡ b.rest
     left_chars left e = ap chars (left_is left e) ∙ chars-encodes b.rest behind
@@ -94,21 +100,30 @@ module _ (fixed : List Name) where
     pub left_utf8 : (left : List ℕ) → left ≡ drop (s.end - at) rest → IsUtf8 left
     left_utf8 left e = subst IsUtf8 (sym (left_is left e)) (b.rest, (behind, refl))
 
-    pub left_length : (left : List ℕ) → left ≡ drop (s.end - at) rest → (length rest ≡ (s.end - at) + length left) × (0 < s.end - at)
+    pub left_length : (left : List ℕ) → left ≡ drop (s.end - at) rest → (length rest ≡ (s.end - at) + length left)
+        × (0 < s.end - at)
     left_length left e = (
-      omega (arith, ap length cut, length-append (encode_utf8_all b.front) (encode_utf8_all b.rest), ap length (left_is left e), token_size),
+      omega (
+        arith,
+        ap length cut,
+        length-append (encode_utf8_all b.front) (encode_utf8_all b.rest),
+        ap length (left_is left e),
+        token_size,
+      ),
       omega (arith, token_size, some_begin (chars rest) at s b),
     )
 
 -- the tokens found before the rest, which begins at the byte `at`, go on with those of the rest, and so do faults
 pub record HasWalked (fixed : List Name) (whole : List ℕ) (found : List Spanned) (at : ℕ) (rest : List ℕ) : Type 0 where
-  pub tokens : (ts : List Spanned) → HasTokens fixed (chars rest) at ts → HasTokens fixed (chars whole) 0 (found ++ ts)
+  pub tokens : (ts : List Spanned) → HasTokens fixed (chars rest) at ts
+      → HasTokens fixed (chars whole) 0 (found ++ ts)
   pub faults : (f : LexFault) → fault.HasFault fixed (chars rest) at f → fault.HasFault fixed (chars whole) 0 f
 
 pub not_walked : (fixed : List Name) (whole : List ℕ) → HasWalked fixed whole [] 0 whole
 not_walked fixed whole = record { tokens = λ ts h. h; faults = λ f h. h }
 
-pub walk_blank : (fixed : List Name) (whole rest after : List ℕ) (found : List Spanned) (at c : ℕ) → HasWalked fixed whole found at rest
+pub walk_blank : (fixed : List Name) (whole rest after : List ℕ) (found : List Spanned) (at c : ℕ)
+    → HasWalked fixed whole found at rest
     → IsFirst rest c after → is_blank c ≡ true → HasWalked fixed whole found (at + 1) after
 walk_blank fixed whole rest after found at c w f b = record {
   tokens = λ ts h. w.tokens ts (subst (λ cs. HasTokens fixed cs at ts) (sym f.characters) (blank c (chars after) at ts b h));
@@ -116,7 +131,8 @@ walk_blank fixed whole rest after found at c w f b = record {
 }
 
 pub walk_token : (fixed : List Name) (whole rest left : List ℕ) (found : List Spanned) (at : ℕ) (s : Spanned) (utf8 : IsUtf8 rest) → HasWalked fixed whole found at rest
-    → (b : Begins fixed (chars rest) at s) → left ≡ drop (s.end - at) rest → HasWalked fixed whole (found ++ s ∷ []) s.end left
+    → (b : Begins fixed (chars rest) at s) → left ≡ drop (s.end - at) rest
+    → HasWalked fixed whole (found ++ s ∷ []) s.end left
 walk_token fixed whole rest left found at s utf8 w b e =
     let same : chars left ≡ b.rest = left_chars fixed rest utf8 at s b left e in
     record {
@@ -125,11 +141,13 @@ walk_token fixed whole rest left found at s utf8 w b e =
       faults = λ g h. w.faults g (fault.later (chars rest) at s g b (subst (λ cs. fault.HasFault fixed cs s.end g) same h));
     }
 
-pub all_walked : (fixed : List Name) (whole rest : List ℕ) (found : List Spanned) (at : ℕ) → HasWalked fixed whole found at rest → chars rest ≡ [] → HasTokens fixed (chars whole) 0 found
+pub all_walked : (fixed : List Name) (whole rest : List ℕ) (found : List Spanned) (at : ℕ)
+    → HasWalked fixed whole found at rest → chars rest ≡ [] → HasTokens fixed (chars whole) 0 found
 all_walked fixed whole rest found at w e =
     subst (HasTokens fixed (chars whole) 0) (append-nil found) (w.tokens [] (subst (λ cs. HasTokens fixed cs at []) (sym e) (nothing at)))
 
-pub walk_fault : (fixed : List Name) (whole rest : List ℕ) (found : List Spanned) (at : ℕ) (f : LexFault) → HasWalked fixed whole found at rest
+pub walk_fault : (fixed : List Name) (whole rest : List ℕ) (found : List Spanned) (at : ℕ) (f : LexFault)
+    → HasWalked fixed whole found at rest
     → fault.OrMemory (fault.IsFault fixed (chars rest) at) f → fault.OrMemory (fault.HasFault fixed (chars whole) 0) f
 walk_fault fixed whole rest found at f w (inl e) = inl e
 walk_fault fixed whole rest found at f w (inr h) = inr (w.faults f (fault.here (chars rest) at f h))

@@ -37,23 +37,30 @@ module _ (fixed : List Name) where
   pub data IsFault : Chars → ℕ → LexFault → Type 0 where
     no_token : (c : ℕ) (cs : Chars) (at : ℕ) → BeginsNone c → IsFault (c ∷ cs) at (faults.BadChar at)
     no_hole : (cs : Chars) (at : ℕ) → EndsBy starts_word cs → IsFault (63 ∷ cs) at (faults.BadChar at)
-    no_width : (before all : Chars) (c : ℕ) (cs : Chars) (at : ℕ) → all ≡ quoted before ++ c ∷ cs → IsInside before (c ∷ cs)
+    no_width : (before all : Chars) (c : ℕ) (cs : Chars) (at : ℕ) → all ≡ quoted before ++ c ∷ cs
+        → IsInside before (c ∷ cs)
         → char_width false c ≡ None
         → IsFault (34 ∷ all) at (faults.BadChar (at + bytes_of (34 ∷ quoted before)))
-    no_escape : (before all cs : Chars) (at : ℕ) → all ≡ quoted before ++ 92 ∷ cs → IsInside before (92 ∷ cs) → EndsBy is_escape cs
+    no_escape : (before all cs : Chars) (at : ℕ) → all ≡ quoted before ++ 92 ∷ cs → IsInside before (92 ∷ cs)
+        → EndsBy is_escape cs
         → IsFault (34 ∷ all) at (faults.BadRun (at + bytes_of (34 ∷ quoted before)))
     no_symbol : (cs all rest : Chars) (at : ℕ) → all ≡ cs ++ rest → IsLongest is_symbol cs rest
         → is_among fixed (encode_utf8_all cs) ≡ false → cs ≢ dots → IsFault all at (faults.BadRun at)
-    no_number : (cs all rest : Chars) (at : ℕ) → all ≡ cs ++ rest → IsLongest is_digit cs rest → BeginsBy goes_on_word rest
+    no_number : (cs all rest : Chars) (at : ℕ) → all ≡ cs ++ rest → IsLongest is_digit cs rest
+        → BeginsBy goes_on_word rest
         → IsFault all at (faults.BadRun at)
     unended : (cs : Chars) (at : ℕ) → is_closed false cs ≡ false → IsFault (34 ∷ cs) at (faults.Unended at)
-    large_word : (cs all rest : Chars) (at : ℕ) → all ≡ cs ++ rest → IsWord cs → EndsBy goes_on_word rest → 255 < bytes_of cs
+    large_word : (cs all rest : Chars) (at : ℕ) → all ≡ cs ++ rest → IsWord cs → EndsBy goes_on_word rest
+        → 255 < bytes_of cs
         → IsFault all at (faults.TooLarge at)
-    large_hole : (cs all rest : Chars) (at : ℕ) → all ≡ cs ++ rest → IsWord cs → EndsBy goes_on_word rest → 255 < bytes_of cs
+    large_hole : (cs all rest : Chars) (at : ℕ) → all ≡ cs ++ rest → IsWord cs → EndsBy goes_on_word rest
+        → 255 < bytes_of cs
         → IsFault (63 ∷ all) at (faults.TooLarge (at + 1))
-    large_number : (cs all rest : Chars) (at : ℕ) → all ≡ cs ++ rest → IsLongest is_digit cs rest → EndsBy goes_on_word rest
+    large_number : (cs all rest : Chars) (at : ℕ) → all ≡ cs ++ rest → IsLongest is_digit cs rest
+        → EndsBy goes_on_word rest
         → 2 ^ 128 ≤ value_of cs → IsFault all at (faults.TooLarge at)
-    large_text : (before all rest : Chars) (at : ℕ) → all ≡ quoted before ++ 34 ∷ rest → All is_content before → 4096 < bytes_of before
+    large_text : (before all rest : Chars) (at : ℕ) → all ≡ quoted before ++ 34 ∷ rest → All is_content before
+        → 4096 < bytes_of before
         → IsFault (34 ∷ all) at (faults.TooLarge at)
 
   -- from the byte `at` on the characters have tokens and blanks, and then this fault

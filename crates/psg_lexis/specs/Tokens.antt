@@ -44,7 +44,8 @@ module _ (fixed : List Name) where
     text : (cs written rest : Chars) → written ≡ quoted cs ++ 34 ∷ [] → All is_content cs → bytes_of cs ≤ 4096
         → IsToken (34 ∷ written) rest (tokens.Text (encode_utf8_all cs))
     solo : (c : ℕ) (rest : Chars) → IsTrue (is_solo c) → IsToken (c ∷ []) rest (tokens.Solo c)
-    symbol : (cs rest : Chars) → IsLongest is_symbol cs rest → IsTrue (is_among fixed (encode_utf8_all cs)) → cs ≢ dots
+    symbol : (cs rest : Chars) → IsLongest is_symbol cs rest → IsTrue (is_among fixed (encode_utf8_all cs))
+        → cs ≢ dots
         → IsToken cs rest (tokens.Symbol (encode_utf8_all cs))
     hole : (cs rest : Chars) → IsWord cs → EndsBy goes_on_word rest → bytes_of cs ≤ 255
         → IsToken (63 ∷ cs) rest (tokens.Hole (encode_utf8_all cs))

@@ -28,8 +28,8 @@ impl Run {
     }
 }
 
-/// Whether the characters, written beside each other, would run together into one token: both are word characters, or both are symbol
-/// characters. A word character goes on a word, so a digit is one too.
+/// Whether the characters, written beside each other, would run together into one token: both are word characters, or
+/// both are symbol characters. A word character goes on a word, so a digit is one too.
 pub fn glues(a: char, b: char) -> bool
     ensures glue { IsTrue result ↔ Glue a b }
 {

@@ -19,15 +19,17 @@ use std::alloc::Global;
 /// The most bytes of a word.
 const MOST_WORD: usize = 255;
 
-/// The tokens of the text, each with the bytes that it stands on, or the first fault from the left. The fixed words of the lexis are the
-/// runs of symbols that are tokens. It takes one step for each byte.
+/// The tokens of the text, each with the bytes that it stands on, or the first fault from the left. The fixed words
+/// of the lexis are the runs of symbols that are tokens. It takes one step for each byte.
 pub fn lex(alloc: Global, lexis: &Lexis, text: &str) -> Result<Vec<Spanned>, LexFault>
     ensures ok { IfOk result (λ tokens. HasTokens lexis.now (chars text.now) 0 tokens.items) }
     ensures err { IfErr result (OrMemory (HasFault lexis.now (chars text.now) 0)) }
 
-    // A text has tokens or a fault and never both, so these are the only answers, want of memory aside.
-    ensures whole { (tokens : List Spanned) → HasTokens lexis.now (chars text.now) 0 tokens → MatchResult result (λ found. found.items ≡ tokens) (λ fault. fault ≡ LexFault.Memory) }
-    ensures broken { (fault : LexFault) → HasFault lexis.now (chars text.now) 0 fault → MatchResult result (λ _. ⊥) (OrMemory (λ found. found ≡ fault)) }
+    // No text has two lists of tokens, two faults, or both, so no other answer is possible, want of memory aside.
+    ensures whole { (tokens : List Spanned) → HasTokens lexis.now (chars text.now) 0 tokens
+        → MatchResult result (λ found. found.items ≡ tokens) (λ fault. fault ≡ LexFault.Memory) }
+    ensures broken { (fault : LexFault) → HasFault lexis.now (chars text.now) 0 fault
+        → MatchResult result (λ _. ⊥) (OrMemory (λ found. found ≡ fault)) }
 {
     let mut tokens = Vec::new(alloc);
     let mut rest = text;

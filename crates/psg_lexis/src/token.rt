@@ -36,17 +36,19 @@ pub struct Spanned {
 /// The first place of a text, as a byte offset, at which it has no token.
 #[derive(Clone, Copy, Debug, PartialEq, Eq, Drop, Error)]
 pub enum LexFault {
-    /// A character that begins no token, a `?` with no word behind it, or a character without a width inside a quoted text.
+    /// A character that begins no token, a `?` with no word behind it, or a character without a width inside a quoted
+    /// text.
     #[error("no token begins with the character at byte {0}")]
     BadChar(usize),
-    /// A run of symbols that is no fixed word, a number with a word character directly behind it, or a backslash inside a quoted text
-    /// that begins no escape.
+    /// A run of symbols that is no fixed word, a number with a word character directly behind it, or a backslash inside
+    /// a quoted text that begins no escape.
     #[error("the characters from byte {0} on are no token")]
     BadRun(usize),
     /// A quoted text that is not closed on its line, by its opening quote.
     #[error("the text that is opened at byte {0} is not closed on its line")]
     Unended(usize),
-    /// A word above 255 bytes, a number of 2^128 or more, or a quoted text above 4,096 bytes of contents, by its first byte.
+    /// A word above 255 bytes, a number of 2^128 or more, or a quoted text above 4,096 bytes of contents, by its first
+    /// byte. The word of a hole is behind its `?`.
     #[error("the token at byte {0} is too large")]
     TooLarge(usize),
     /// There was no memory for the tokens.

@@ -13,7 +13,8 @@ returns-in_err-value c =
 
 pub loop-digit-preserved : goal.loop-digit-preserved
 loop-digit-preserved c =
-    let same : c.in_ok-value.value ≡ c.loop-digit.value * 10 + (c.in-Some.digit - 48) = omega (arith, c.from.ensures) in (
+    let same : c.in_ok-value.value ≡ c.loop-digit.value * 10 + (c.in-Some.digit - 48) =
+    omega (arith, c.from.ensures) in (
       c.in-Some.ensures.first.utf8,
       digits_left _ _ _ c.in-Some.ensures.first c.loop-digit.invariant.1,
       subst (λ v. v < 2 ^ 128) (sym c.in_ok-value.ensures.1) c.in_ok-value.ensures.0,
@@ -23,5 +24,6 @@ loop-digit-preserved c =
 
 pub returns : goal.returns
 returns c =
-    let same : c.loop-digit.value ≡ value_of (chars c.args.digits.now) = all_read _ _ _ c.in_default.ensures.none c.loop-digit.invariant.3 in
+    let same : c.loop-digit.value ≡ value_of (chars c.args.digits.now) =
+    all_read _ _ _ c.in_default.ensures.none c.loop-digit.invariant.3 in
     (subst (λ v. v < 2 ^ 128) same c.loop-digit.invariant.2, same)

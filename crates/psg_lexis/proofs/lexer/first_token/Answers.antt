@@ -4,7 +4,8 @@ use Rattle.psg_lexis.proofs.lexer.first_token.Goals as goal
 
 pub returns-then-is_solo-clause-ok : goal.returns-then-is_solo-clause-ok
 returns-then-is_solo-clause-ok c =
-    begins_solo _ _ _ _ _ c.in-Some.ensures.first (sym c.is_solo.ensures.value ∙ c.if-is_solo.true) (c.is_solo.ensures.ascii c.if-is_solo.true)
+    begins_solo _ _ _ _ _ c.in-Some.ensures.first (sym c.is_solo.ensures.value
+    ∙ c.if-is_solo.true) (c.is_solo.ensures.ascii c.if-is_solo.true)
 
 pub returns-else-first-eq63-clause-err : goal.returns-else-first-eq63-clause-err
 returns-else-first-eq63-clause-err c =

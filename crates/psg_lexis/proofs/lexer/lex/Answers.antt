@@ -33,8 +33,10 @@ pub loop-first-preserved : goal.loop-first-preserved
 loop-first-preserved c =
     let left = left_length _ _ c.loop-first.invariant.0 _ _ c.in_ok-token.ensures.ok _ c.split_at.ensures.back in
     let within : length c.loop-first.rest.now ≤ length c.args.text.now = c.loop-first.invariant.1 in
-    let same : c.in_ok-token.token.end ≡ length c.args.text.now - length c.split_at.result.1.now = omega (arith, left.0, left.1, within) in
-    let pushed : c.push.new.self.items ≡ c.loop-first.tokens.items ++ c.in_ok-token.token ∷ [] = c.in_ok-push.ensures.items in (
+    let same : c.in_ok-token.token.end ≡ length c.args.text.now - length c.split_at.result.1.now =
+    omega (arith, left.0, left.1, within) in
+    let pushed : c.push.new.self.items ≡ c.loop-first.tokens.items ++ c.in_ok-token.token ∷ [] =
+    c.in_ok-push.ensures.items in (
       left_utf8 _ _ c.loop-first.invariant.0 _ _ c.in_ok-token.ensures.ok _ c.split_at.ensures.back,
       omega (arith, left.0, within),
       subst (λ n. HasWalked c.args.lexis.now c.args.text.now c.push.new.self.items n c.split_at.result.1.now) same

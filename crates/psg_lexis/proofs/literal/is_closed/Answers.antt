@@ -22,7 +22,8 @@ loop-c-preserved c =
 pub returns-then-c-eq10 : goal.returns-then-c-eq10
 returns-then-c-eq10 c =
     let first = first_off _ _ _ c.loop-c.invariant.utf8 c.in-Some.ensures.steps.0 in
-    sym (open_at_line_end c.loop-c.escaped _ (chars (chars_rest c.next.new.self)) (eq-eqb _ _ c.if-c-eq10.true)) ∙ at_first _ _ _ _ _ first c.loop-c.invariant.answer
+    sym (open_at_line_end c.loop-c.escaped _ (chars (chars_rest c.next.new.self)) (eq-eqb _ _ c.if-c-eq10.true))
+    ∙ at_first _ _ _ _ _ first c.loop-c.invariant.answer
 
 pub returns-then-escaped-c : goal.returns-then-escaped-c
 returns-then-escaped-c c =

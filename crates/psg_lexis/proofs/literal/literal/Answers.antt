@@ -10,7 +10,8 @@ loop-c-preserved c = (
   c.in-Content.ensures.utf8,
   subst (λ n. HasContents c.args.text.now c.in-Content.after.now (c.loop-c.size + n) (string_bytes c.if-size-le-MOST_CONTENTS.contents)) (sym c.len_utf8.ensures.len)
       (more_contents _ _ _ _ _ _ _ c.loop-c.invariant.1 c.in-Content.ensures (λ small. elim c.if-size-le-MOST_CONTENTS.branch [
-        | then-size-le-MOST_CONTENTS+in_ok-push-in-Content w ↦ ap string_bytes w.contents-is ∙ w.in_ok-push-in-Content.ensures.bytes
+        | then-size-le-MOST_CONTENTS+in_ok-push-in-Content w ↦ ap string_bytes w.contents-is
+            ∙ w.in_ok-push-in-Content.ensures.bytes
         | else-size-le-MOST_CONTENTS w ↦ absurd (omega arith)
       ])),
 )

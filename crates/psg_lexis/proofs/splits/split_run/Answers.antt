@@ -19,7 +19,8 @@ pub returns : goal.returns
 returns c =
     let ends : EndsBy (takes c.args.run) (chars c.loop-first.rest.now) =
     elim c.match-split_first.branch [
-      | in-Some+then-not-takes w ↦ stops_at _ _ _ _ w.in-Some.ensures.first (sym w.takes.ensures ∙ w.if-not-takes.true)
+      | in-Some+then-not-takes w ↦ stops_at _ _ _ _ w.in-Some.ensures.first (sym w.takes.ensures
+          ∙ w.if-not-takes.true)
       | in_default w ↦ stops_at_end _ _ w.in_default.ensures.none
     ]
     in record { run = run_split _ _ _ _ _ c.utf8.text c.loop-first.invariant.0 c.loop-first.invariant.1 ends c.split_at.ensures.front c.split_at.ensures.back }

@@ -13,7 +13,8 @@ loop-word-preserved c = record {
   shared = grind (arith, common_steps);
   table = λ w.
       let same : take (c.loop-word.word-index + 1) c.args.words.now ≡ take c.loop-word.word-index c.args.words.now ++ c.word-item.result ∷ [] = take_more _ _ c.word-item.result (omega arith) ∙ ap (λ m. take c.loop-word.word-index c.args.words.now ++ m ∷ []) (sym c.word-item.is) in
-      let bytes : string_bytes c.in_ok-from_str.field-0 ≡ c.word-item.result = c.in_ok-from_str.ensures.ok ∙ c.as_str.ensures in
+      let bytes : string_bytes c.in_ok-from_str.field-0 ≡ c.word-item.result = c.in_ok-from_str.ensures.ok
+      ∙ c.as_str.ensures in
       hash_set_updates_text (string_bytes c.in_ok-from_str.field-0) c.loop-word.table c.insert.new.self true c.in_ok-insert.ensures.updates w
       ∙ ap (λ b. cond (bytes_eq b w) true (contains_text c.loop-word.table w)) bytes
       ∙ ap (λ b. cond (bytes_eq c.word-item.result w) true b) (c.loop-word.invariant.table w)
