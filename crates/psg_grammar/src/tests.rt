@@ -4,18 +4,15 @@ ghost use Rattle.psg_grammar.specs.Little.{items_list, little_operators, little_
 
 use crate::types::{Definition, Item, Kind, Level, ListKind, Operator, Phylum, Space};
 use crate::{kind_name, kind_sort, least_level, name_positions, op_level, slots};
-use psg_terms::{Constructor, Declared, Seq, Signature, SortId, Txt};
+use psg_terms::{Seq, Signature, SortId, Txt};
 use std::alloc::{AllocError, Global};
 use std::test::Fail;
 
-fn unit(alloc: Global) -> Result<Signature, AllocError> {
-    let name = Txt::copy_of(alloc, "ok")?;
-    let args = Seq::of(Vec::new(alloc));
-    let constructor = Constructor { name, args };
-    let sort = SortId(0);
-    let sorts = vec![in alloc; Txt::copy_of(alloc, "Unit")?]?;
-    let declared = vec![in alloc; Declared { constructor, sort }]?;
-    Ok(Signature::of(sorts, declared))
+fn no_sorts(alloc: Global) -> Result<Signature, AllocError> {
+    match Signature::new(alloc, Vec::new(alloc)) {
+        Ok(signature) => Ok(signature),
+        Err(_) => Err(AllocError),
+    }
 }
 
 fn operator(
@@ -108,7 +105,7 @@ fn language(alloc: Global) -> Result<Definition, AllocError>
 {
     Ok(Definition {
         version: 2,
-        signature: unit(alloc)?,
+        signature: no_sorts(alloc)?,
         spaces: spaces(alloc)?,
         phyla: phyla(alloc)?,
         lists: lists(alloc)?,

@@ -25,6 +25,13 @@ fn operator(alloc: Global, name: &str) -> Result<Operator, AllocError> {
     })
 }
 
+fn no_sorts(alloc: Global) -> Result<Signature, AllocError> {
+    match Signature::new(alloc, Vec::new(alloc)) {
+        Ok(signature) => Ok(signature),
+        Err(_) => Err(AllocError),
+    }
+}
+
 fn language(alloc: Global) -> Result<Definition, AllocError> {
     let exp = Phylum {
         name: Txt::copy_of(alloc, "Exp")?,
@@ -39,7 +46,7 @@ fn language(alloc: Global) -> Result<Definition, AllocError> {
     phyla.push(exp)?;
     Ok(Definition {
         version: 1,
-        signature: Signature::of(Vec::new(alloc), Vec::new(alloc)),
+        signature: no_sorts(alloc)?,
         spaces: Seq::of(Vec::new(alloc)),
         phyla: Seq::of(phyla),
         lists: Seq::of(Vec::new(alloc)),
