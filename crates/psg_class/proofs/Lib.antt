@@ -1,0 +1,9 @@
+pub mod ClassFacts
+pub mod LevelLaws
+pub mod Runs
+pub mod Beginnings
+pub mod Reading
+pub mod Sameness
+pub mod Law
+pub mod Soundness
+pub mod Machine

@@ -1,0 +1,6 @@
+pub mod Terminals
+pub mod Places
+pub mod Follow
+pub mod Class
+pub mod Yields
+pub mod Only
