@@ -4,3 +4,4 @@ pub mod Follow
 pub mod Class
 pub mod Yields
 pub mod Only
+pub mod Refusal

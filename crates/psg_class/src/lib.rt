@@ -1,5 +1,9 @@
-//! The grammar class.
+//! The grammar class: in a definition of the class no list of tokens can be read in two ways.
 #![tactic(auto)]
+
+pub mod fault;
+
+pub use fault::{ClassFault, class_text};
 
 ghost use Rattle.psg_class.specs.Only.{ClassHasOnlyTrees};
 
