@@ -1,3 +1,7 @@
+pub mod WordLaws
+pub mod ShapeLaws
+pub mod Tables
+pub mod Closing
 pub mod ClassFacts
 pub mod LevelLaws
 pub mod Runs

@@ -5,3 +5,7 @@ pub mod Class
 pub mod Yields
 pub mod Only
 pub mod Refusal
+pub mod Grids
+pub mod Numbers
+pub mod Shapes
+pub mod Forms

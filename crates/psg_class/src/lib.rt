@@ -2,6 +2,10 @@
 #![tactic(auto)]
 
 pub mod fault;
+mod forms;
+mod grid;
+mod shape;
+mod vocabulary;
 
 pub use fault::{ClassFault, class_text};
 

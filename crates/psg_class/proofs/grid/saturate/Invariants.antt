@@ -1,0 +1,13 @@
+use Rattle.std.proofs.Common.{List}
+use Rattle.psg_class.specs.Grids.{IsSameSize, IsSound, Keeps, unset}
+use Rattle.psg_class.proofs.grid.saturate.Given as goal
+
+abbrev pub invariant-loop : goal.invariant-loop
+invariant-loop l = record {
+  size : IsSameSize l.initial.grid l.grid;
+  keeps : Keeps l.initial.grid l.grid;
+  sound : IsSound l.initial.grid l.links l.grid;
+}
+
+abbrev pub decreases-loop : goal.decreases-loop
+decreases-loop l = unset l.grid.cells.items

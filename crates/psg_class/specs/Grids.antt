@@ -1,0 +1,55 @@
+-- Tables of rows and columns of truth values, and what follows from one along links between rows.
+use Rattle.std.specs.Prelude.{ℕ, ◌≡◌, ◌+◌, ◌*◌, ◌<◌, ◌⊎◌, Bool, true, false, cond, List, [], ◌∷◌, length, Contains}
+use Rattle.std.proofs.Common.{get_or}
+use Rattle.psg_class.specs.declared.grid.Grid.{Grid}
+use Rattle.psg_class.specs.declared.grid.Link.{Link}
+
+-- the rows stand one behind the other
+abbrev pub IsGrid : Grid → Type 0
+IsGrid g = length g.cells.items ≡ g.height * g.width
+
+abbrev pub is_set : Grid → ℕ → ℕ → Bool
+is_set g row column = get_or g.cells.items (row * g.width + column) false
+
+-- the cell is one of the table
+abbrev pub IsCell : Grid → ℕ → ℕ → Type 0
+IsCell g row column = (row < g.height) × (column < g.width)
+
+pub record IsSameSize (old new : Grid) : Type 0 where
+  pub height : new.height ≡ old.height
+  pub width : new.width ≡ old.width
+  pub grid : IsGrid new
+
+-- how many cells are not set
+abbrev pub unset : List Bool → ℕ
+unset [] = 0
+unset (b ∷ bs) = cond b 0 1 + unset bs
+
+-- all cells that were set still are
+abbrev pub Keeps : Grid → Grid → Type 0
+Keeps old new = (row column : ℕ) → IsCell old row column → is_set old row column ≡ true → is_set new row column ≡ true
+
+-- the rows of the links are those of the table
+abbrev pub AreLinks : Grid → List Link → Type 0
+AreLinks g links = (l : Link) → Contains links l → (l.to < g.height) × (l.from < g.height)
+
+-- what is set in one row follows in the other
+abbrev pub Follows : Grid → Link → Type 0
+Follows g l = (column : ℕ) → column < g.width → is_set g l.from column ≡ true → is_set g l.to column ≡ true
+
+-- what follows from a table along links
+pub data Derives (start : Grid) (links : List Link) : ℕ → ℕ → Type 0 where
+  given : {row column : ℕ} → is_set start row column ≡ true → Derives start links row column
+  along : {column : ℕ} (l : Link) → Contains links l → Derives start links l.from column → Derives start links l.to column
+
+-- all that is set follows from the start
+abbrev pub IsSound : Grid → List Link → Grid → Type 0
+IsSound start links g = (row column : ℕ) → IsCell g row column → is_set g row column ≡ true → Derives start links row column
+
+-- more is set than before, or nothing has changed
+pub record IsStep (links : List Link) (old new : Grid) (more : Bool) : Type 0 where
+  pub size : IsSameSize old new
+  pub keeps : Keeps old new
+  pub right : (start : Grid) → IsSound start links old → IsSound start links new
+  pub fewer : more ≡ true → unset new.cells.items < unset old.cells.items
+  pub same : more ≡ false → new ≡ old

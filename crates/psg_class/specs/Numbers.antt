@@ -1,0 +1,55 @@
+-- The numbers of terminals: names, numbers, texts, the placeholders of the phyla, `...`, and then the fixed words in the
+-- order in which they were met.
+use Rattle.std.specs.Prelude.{ℕ, suc, ◌≡◌, ◌+◌, true, cond, List, [], ◌∷◌, length, map, Option, Some, None, option_map, bytes_eq, codes}
+use Rattle.std.specs.HashMap.{get_by_text}
+use Rattle.psg_terms.specs.Names.{Name, is_among}
+use Rattle.psg_grammar.specs.declared.types.Phylum.{Phylum}
+use Rattle.psg_grammar.specs.declared.types.Definition.{Definition}
+use Rattle.psg_grammar.specs.WellFormed.{fixed_words}
+use Rattle.psg_class.specs.Terminals.{Terminal, fixed, a_name, a_number, a_text, a_hole, a_more, stray}
+use Rattle.psg_class.specs.declared.vocabulary.Vocabulary.{Vocabulary}
+
+-- the first place at which the word stands
+abbrev pub place_in : List Name → Name → Option ℕ
+place_in [] w = None
+place_in (v ∷ vs) w = cond (bytes_eq v w) (Some 0) (option_map (λ k. suc k) (place_in vs w))
+
+abbrev pub phylum_names : Definition → List Name
+phylum_names def = map (λ (p : Phylum). p.name) def.phyla
+
+-- the number of a fixed word, where those of words begin at the base
+abbrev pub word_number : ℕ → List Name → Name → Option ℕ
+word_number base words w = option_map (λ k. base + k) (place_in words w)
+
+-- the map has the number of each word
+abbrev pub IsConsistent : Vocabulary → Type 0
+IsConsistent v = (w : Name) → get_by_text v.numbers w ≡ word_number v.base v.words.items w
+
+abbrev pub number_of : Definition → List Name → Terminal → Option ℕ
+number_of def words a_name = Some 0
+number_of def words a_number = Some 1
+number_of def words a_text = Some 2
+number_of def words (a_hole n) = option_map (λ p. 3 + p) (place_in (phylum_names def) n)
+number_of def words a_more = Some (length def.phyla + 3)
+number_of def words (fixed w) = word_number (length def.phyla + 4) words w
+number_of def words stray = None
+
+-- no word is lost
+abbrev pub KeepsWords : Vocabulary → Vocabulary → Type 0
+KeepsWords old new = (w : Name) → is_among old.words.items w ≡ true → is_among new.words.items w ≡ true
+
+pub record Grown (old new : Vocabulary) : Type 0 where
+  pub base : new.base ≡ old.base
+  pub consistent : IsConsistent new
+  pub keeps : KeepsWords old new
+
+-- each of the words is there
+abbrev pub HasWords : Vocabulary → List Name → Type 0
+HasWords v ws = (w : Name) → is_among ws w ≡ true → is_among v.words.items w ≡ true
+
+pub record IsVocabulary (def : Definition) (v : Vocabulary) : Type 0 where
+  pub base : v.base ≡ length def.phyla + 4
+  pub consistent : IsConsistent v
+  pub words : HasWords v (fixed_words def)
+  pub opening : is_among v.words.items (codes "(") ≡ true
+  pub closing : is_among v.words.items (codes ")") ≡ true

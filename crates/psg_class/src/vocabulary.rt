@@ -1,0 +1,111 @@
+//! The terminals of a definition, by number.
+ghost use Rattle.std.specs.Prelude.{◌≡◌, ◌<◌, IfOk, OnOk, MatchOption, codes, length, true, None, Some};
+ghost use Rattle.psg_terms.specs.Names.{is_among};
+ghost use Rattle.psg_grammar.specs.WellFormed.{separators, operator_words, words_in};
+ghost use Rattle.psg_class.specs.Numbers.{Grown, HasWords, IsConsistent, IsVocabulary, word_number};
+
+use psg_grammar::{Definition, Item, ListKind, Operator};
+use psg_terms::Txt;
+use std::alloc::{AllocError, Global};
+use std::collections::HashMap;
+
+/// The numbers of the terminals that no definition names.
+pub(crate) const NAME: usize = 0;
+pub(crate) const NUMBER: usize = 1;
+pub(crate) const TEXT: usize = 2;
+/// The number of the placeholder of the first phylum. Behind the last one stands `...`.
+pub(crate) const HOLES: usize = 3;
+
+/// The fixed words of a definition, each once, with their numbers. They are behind those of names, numbers, texts, the
+/// placeholders of the phyla, and `...`.
+#[derive(Drop)]
+pub(crate) struct Vocabulary {
+    /// The number of the first word.
+    pub(crate) base: usize,
+    pub(crate) words: Vec<Txt>,
+    pub(crate) numbers: HashMap<String, usize>,
+}
+
+impl Vocabulary {
+    /// The words of all operators, the separators of all lists, and the brackets. It takes a step for each byte of them.
+    pub(crate) fn of(alloc: Global, definition: &Definition) -> Result<Vocabulary, AllocError>
+        ensures { IfOk result (IsVocabulary definition.now) }
+    {
+        let phyla = definition.phyla.as_slice().len();
+        let Some(base) = phyla.checked_add(4) else {
+            return Err(AllocError);
+        };
+        let mut vocabulary = Vocabulary {
+            base,
+            words: Vec::new(alloc),
+            numbers: HashMap::new(alloc),
+        };
+        vocabulary.add_operators(alloc, definition.operators.as_slice())?;
+        vocabulary.add_separators(alloc, definition.lists.as_slice())?;
+        vocabulary.add(alloc, &Txt::copy_of(alloc, "(")?)?;
+        vocabulary.add(alloc, &Txt::copy_of(alloc, ")")?)?;
+        Ok(vocabulary)
+    }
+
+    fn add_operators(&mut self, alloc: Global, operators: &[Operator]) -> Result<(), AllocError>
+        requires { IsConsistent self.old }
+        ensures grown { OnOk result (Grown self.old self.new) }
+        ensures words { OnOk result (HasWords self.new (operator_words operators.now)) }
+    {
+        for operator in operators {
+            self.add_items(alloc, operator.items.as_slice())?;
+        }
+        Ok(())
+    }
+
+    fn add_items(&mut self, alloc: Global, items: &[Item]) -> Result<(), AllocError>
+        requires { IsConsistent self.old }
+        ensures grown { OnOk result (Grown self.old self.new) }
+        ensures words { OnOk result (HasWords self.new (words_in items.now)) }
+    {
+        for item in items {
+            if let Item::Word(word) = item {
+                self.add(alloc, word)?;
+            }
+        }
+        Ok(())
+    }
+
+    fn add_separators(&mut self, alloc: Global, lists: &[ListKind]) -> Result<(), AllocError>
+        requires { IsConsistent self.old }
+        ensures grown { OnOk result (Grown self.old self.new) }
+        ensures words { OnOk result (HasWords self.new (separators lists.now)) }
+    {
+        for list in lists {
+            self.add(alloc, &list.separator)?;
+        }
+        Ok(())
+    }
+
+    /// Gives the word the next number, if it has none.
+    fn add(&mut self, alloc: Global, word: &Txt) -> Result<(), AllocError>
+        requires { IsConsistent self.old }
+        ensures grown { OnOk result (Grown self.old self.new) }
+        ensures word { OnOk result (is_among self.new.words.items word.now ≡ true) }
+    {
+        if self.numbers.contains_key(word.as_str()) {
+            return Ok(());
+        }
+        let key = String::from_str(alloc, word.as_str())?;
+        let count = self.words.as_slice().len();
+        let Some(number) = self.base.checked_add(count) else {
+            return Err(AllocError);
+        };
+        self.numbers.insert(key, number)?;
+        self.words.push(word.share()?)?;
+        Ok(())
+    }
+
+    /// The number of the word.
+    pub(crate) fn number(&self, word: &str) -> Option<usize>
+        requires { IsConsistent self.now }
+        ensures { result ≡ word_number self.now.base self.now.words.items word.now }
+    {
+        self.numbers.get(word).copied()
+    }
+}
