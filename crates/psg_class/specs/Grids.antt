@@ -1,8 +1,10 @@
 -- Tables of rows and columns of truth values, and what follows from one along links between rows.
-use Rattle.std.specs.Prelude.{ℕ, ◌≡◌, ◌+◌, ◌*◌, ◌<◌, ◌⊎◌, Bool, true, false, cond, List, [], ◌∷◌, length, Contains}
+use Rattle.std.specs.Prelude.{ℕ, ◌≡◌, ◌+◌, ◌*◌, ◌<◌, ◌==◌, ◌&&◌, ◌||◌, Bool, true, false, cond, List, [], ◌∷◌, length, Contains}
+use Rattle.std.specs.List.{list_any, AllByRecursion}
 use Rattle.std.proofs.Common.{get_or}
 use Rattle.psg_class.specs.declared.grid.Grid.{Grid}
 use Rattle.psg_class.specs.declared.grid.Link.{Link}
+use Rattle.psg_class.specs.declared.grid.Cell.{Cell}
 
 -- the rows stand one behind the other
 abbrev pub IsGrid : Grid → Type 0
@@ -10,6 +12,12 @@ IsGrid g = length g.cells.items ≡ g.height * g.width
 
 abbrev pub is_set : Grid → ℕ → ℕ → Bool
 is_set g row column = get_or g.cells.items (row * g.width + column) false
+
+-- the table has this size
+pub record IsTable (height width : ℕ) (g : Grid) : Type 0 where
+  pub height_is : g.height ≡ height
+  pub width_is : g.width ≡ width
+  pub grid : IsGrid g
 
 -- the cell is one of the table
 abbrev pub IsCell : Grid → ℕ → ℕ → Type 0
@@ -53,3 +61,20 @@ pub record IsStep (links : List Link) (old new : Grid) (more : Bool) : Type 0 wh
   pub right : (start : Grid) → IsSound start links old → IsSound start links new
   pub fewer : more ≡ true → unset new.cells.items < unset old.cells.items
   pub same : more ≡ false → new ≡ old
+
+-- ---- tables of given cells
+
+abbrev pub is_at : ℕ → ℕ → Cell → Bool
+is_at row column x = (x.row == row) && (x.column == column)
+
+-- the cell is among those given
+abbrev pub once : ℕ → ℕ → List Cell → Bool
+once row column cells = list_any (is_at row column) cells
+
+-- the cell is given twice
+abbrev pub twice : ℕ → ℕ → List Cell → Bool
+twice row column [] = false
+twice row column (x ∷ xs) = (is_at row column x && once row column xs) || twice row column xs
+
+abbrev pub AreInside : ℕ → ℕ → List Cell → Type 0
+AreInside height width cells = AllByRecursion (λ x. (x.row < height) × (x.column < width)) cells

@@ -9,3 +9,4 @@ pub mod Grids
 pub mod Numbers
 pub mod Shapes
 pub mod Forms
+pub mod Sources

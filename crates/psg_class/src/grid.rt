@@ -1,7 +1,7 @@
 //! Tables of truth values, and their closure along links between rows.
-ghost use Rattle.std.specs.Prelude.{◌≡◌, ◌≢◌, ◌+◌, ◌*◌, ◌<◌, ◌≤◌, ◌⊎◌, ◌↔◌, IfOk, List, Contains, not, true, false, ℕ};
+ghost use Rattle.std.specs.Prelude.{◌≡◌, ◌||◌, ◌&&◌, ◌≢◌, ◌+◌, ◌*◌, ◌<◌, ◌≤◌, ◌⊎◌, ◌↔◌, IfOk, List, Contains, not, true, false, ℕ};
 ghost use Rattle.std.specs.Bool.{OnTrue, OnFalse};
-ghost use Rattle.psg_class.specs.Grids.{AreLinks, Derives, Follows, IsCell, IsGrid, is_set, IsSameSize, IsStep, unset};
+ghost use Rattle.psg_class.specs.Grids.{AreInside, AreLinks, Derives, once, twice, Follows, is_at, IsCell, IsGrid, is_set, IsSameSize, IsStep, IsTable, unset};
 ghost use Rattle.psg_class.specs.declared.grid.Link.{Link as Linked};
 
 use std::alloc::{AllocError, Global};
@@ -19,6 +19,13 @@ pub(crate) struct Grid {
 pub(crate) struct Link {
     pub(crate) to: usize,
     pub(crate) from: usize,
+}
+
+/// A place in a table.
+#[derive(Clone, Copy)]
+pub(crate) struct Cell {
+    pub(crate) row: usize,
+    pub(crate) column: usize,
 }
 
 impl Grid {
@@ -65,6 +72,60 @@ impl Grid {
         }
         self.cells[place] = true;
         true
+    }
+}
+
+/// The table of the cells.
+pub(crate) fn marked(
+    alloc: Global,
+    height: usize,
+    width: usize,
+    cells: &[Cell],
+) -> Result<Grid, AllocError>
+    requires { AreInside height width cells.now }
+    ensures size { IfOk result (IsTable height width) }
+    ensures exact { IfOk result (λ g. (row column : ℕ) → column < width → is_set g row column ≡ once row column cells.now) }
+{
+    let mut grid = Grid::new(alloc, height, width)?;
+    for cell in cells {
+        grid.set(cell.row, cell.column);
+    }
+    Ok(grid)
+}
+
+/// The table of the cells that stand at two places of the list.
+pub(crate) fn repeated(
+    alloc: Global,
+    height: usize,
+    width: usize,
+    cells: &[Cell],
+) -> Result<Grid, AllocError>
+    requires { AreInside height width cells.now }
+    ensures size { IfOk result (IsTable height width) }
+    ensures exact { IfOk result (λ g. (row column : ℕ) → column < width → is_set g row column ≡ twice row column cells.now) }
+{
+    let mut met = Grid::new(alloc, height, width)?;
+    let mut again = Grid::new(alloc, height, width)?;
+    for cell in cells {
+        note(&mut met, &mut again, *cell);
+    }
+    Ok(again)
+}
+
+/// Sets the cell in the first table, or in the second one if it is set there.
+fn note(met: &mut Grid, again: &mut Grid, cell: Cell)
+    requires met { IsGrid met.old }
+    requires again { IsGrid again.old }
+    requires met_cell { IsCell met.old cell.row cell.column }
+    requires again_cell { IsCell again.old cell.row cell.column }
+    requires width { again.old.width ≡ met.old.width }
+    ensures met_size { IsSameSize met.old met.new }
+    ensures again_size { IsSameSize again.old again.new }
+    ensures met { (r c : ℕ) → c < met.old.width → is_set met.new r c ≡ is_set met.old r c || is_at r c cell }
+    ensures again { (r c : ℕ) → c < met.old.width → is_set again.new r c ≡ is_set again.old r c || (is_set met.old r c && is_at r c cell) }
+{
+    if !met.set(cell.row, cell.column) {
+        again.set(cell.row, cell.column);
     }
 }
 

@@ -5,6 +5,7 @@ pub mod fault;
 mod forms;
 mod grid;
 mod shape;
+mod sources;
 mod vocabulary;
 
 pub use fault::{ClassFault, class_text};
