@@ -105,3 +105,6 @@ adds_more F E n a b d h k = adds_as (Either (Below F n) (F n)) (Either (Below E 
 
 pub still_draft : (F E : ℕ → ℕ → Type 0) (height width : ℕ) (a b : Draft) → IsDraft height width a → Adds F E a b → IsDraft height width b
 still_draft F E height width a b d h = record { table = record { height_is = h.size.height ∙ d.table.height_is; width_is = h.size.width ∙ d.table.width_is; grid = h.size.grid }; inside = h.inside }
+
+pub draft_here : {height width : ℕ} (d : Draft) → IsDraft height width d → IsDraft d.grid.height d.grid.width d
+draft_here d h = record { table = record { height_is = refl; width_is = refl; grid = h.table.grid }; inside = h.inside }

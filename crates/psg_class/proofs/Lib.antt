@@ -1,5 +1,7 @@
 pub mod WordLaws
 pub mod ShapeLaws
+pub mod BeginLaws
+pub mod SlotLaws
 pub mod Drafts
 pub mod FormCells
 pub mod Tables

@@ -1,11 +1,12 @@
 -- Rows of sets of terminals: what can begin each kind, what can stand behind it, and the second tokens of led operators.
 -- And what is in a row at once, and from which other rows its set follows.
-use Rattle.std.specs.Prelude.{ℕ, ◌≡◌, ◌+◌, ◌<◌, ◌≤◌, ◌⊎◌, ◌&&◌, Bool, true, false, List, [], ◌∷◌, length, drop, Some, Contains, slice_get}
+use Rattle.std.specs.Prelude.{ℕ, ◌≡◌, ◌+◌, ◌^◌, ◌<◌, ◌≤◌, ◌⊎◌, ◌↔◌, ◌&&◌, Bool, true, false, List, [], ◌∷◌, length, drop, Option, Some, None, Contains, slice_get}
 use Rattle.psg_grammar.specs.declared.types.Kind.{Kind}
 use Rattle.psg_grammar.specs.declared.types.Kind.TheVariants as kinds
 use Rattle.psg_class.specs.Forms.{is_own}
 use Rattle.psg_class.specs.Grids.{is_set, IsCell, IsSameSize, IsTable, AreLinks}
 use Rattle.psg_class.specs.declared.grid.Link.{Link}
+use Rattle.psg_class.specs.declared.grid.Cell.{Cell}
 use Rattle.psg_class.specs.declared.shape.Part.{Part}
 use Rattle.psg_class.specs.declared.shape.Part.TheVariants as parts
 use Rattle.psg_class.specs.declared.shape.Shape.{Shape}
@@ -28,7 +29,16 @@ led_row rows p = rows.kinds + rows.kinds + p
 pub record AreRows (phyla lists : ℕ) (rows : Rows) : Type 0 where
   pub phyla_are : rows.phyla ≡ phyla
   pub kinds_are : rows.kinds ≡ phyla + lists
-  pub height_is : rows.height ≡ rows.kinds + rows.kinds + phyla
+
+-- the rows are one behind the other
+pub record IsRows (rows : Rows) : Type 0 where
+  pub phyla_among : rows.phyla ≤ rows.kinds
+  pub height_is : rows.height ≡ rows.kinds + rows.kinds + rows.phyla
+  pub fits : rows.height < 2 ^ 64
+
+abbrev pub is_phylum_kind : Kind → Bool
+is_phylum_kind (kinds.Phylum p) = true
+is_phylum_kind (kinds.List l) = false
 
 -- the kind is one of so many
 abbrev pub IsKind : Rows → Kind → Type 0
@@ -150,3 +160,23 @@ pub record IsDraft (height width : ℕ) (d : Draft) : Type 0 where
 
 abbrev pub OneCell : ℕ → ℕ → ℕ → ℕ → Type 0
 OneCell row column r c = (r ≡ row) × (c ≡ column)
+
+-- ---- one shape among the others
+
+abbrev pub AtShape : (Shape → ℕ → ℕ → Type 0) → List Shape → ℕ → ℕ → ℕ → Type 0
+AtShape F shapes n r c = (s : Shape) × (slice_get shapes n ≡ Some s) × F s r c
+
+abbrev pub BeginFact : ℕ → List Part → ℕ → ℕ → Type 0
+BeginFact to ps r c = (r ≡ to) × TokenIn ps c
+
+abbrev pub BeginLink : Rows → ℕ → List Part → ℕ → ℕ → Type 0
+BeginLink rows to ps t f = (t ≡ to) × ((k : Kind) × SlotIn ps k × (f ≡ first_row rows k))
+
+-- the only cell, if there is one
+abbrev pub IsOnly : (ℕ → ℕ → Type 0) → Option Cell → Type 0
+IsOnly F None = (r c : ℕ) → F r c → ⊥
+IsOnly F (Some x) = (r c : ℕ) → F r c ↔ OneCell x.row x.column r c
+
+-- each part is a token or a slot of a kind
+abbrev pub ArePartsOf : Rows → ℕ → List Part → Type 0
+ArePartsOf rows width ps = (n : ℕ) (p : Part) → slice_get ps n ≡ Some p → IsPartOf rows width p
