@@ -1,5 +1,6 @@
 pub mod WordLaws
 pub mod ShapeLaws
+pub mod WholeDraft
 pub mod BeginLaws
 pub mod SlotLaws
 pub mod Drafts

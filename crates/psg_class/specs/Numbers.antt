@@ -1,6 +1,8 @@
 -- The numbers of terminals: names, numbers, texts, the placeholders of the phyla, `...`, and then the fixed words in the
 -- order in which they were met.
-use Rattle.std.specs.Prelude.{ℕ, suc, ◌≡◌, ◌+◌, true, cond, List, [], ◌∷◌, length, map, Option, Some, None, option_map, bytes_eq, codes}
+use Rattle.std.specs.Prelude.{ℕ, suc, ◌≡◌, ◌+◌, ◌-◌, nat_lt, Bool, true, false, cond, List, [], ◌∷◌, length, map, Option, Some, None, option_map, bytes_eq, codes, slice_get}
+use Rattle.std.specs.Cmp.Lexicographic.{slice_cmp}
+use Rattle.std.proofs.Common.{nat_cmp, is_lt}
 use Rattle.std.specs.HashMap.{get_by_text}
 use Rattle.psg_terms.specs.Names.{Name, is_among}
 use Rattle.psg_grammar.specs.declared.types.Phylum.{Phylum}
@@ -53,3 +55,17 @@ pub record IsVocabulary (def : Definition) (v : Vocabulary) : Type 0 where
   pub words : HasWords v (fixed_words def)
   pub opening : is_among v.words.items (codes "(") ≡ true
   pub closing : is_among v.words.items (codes ")") ≡ true
+
+-- the word of a number, if it is that of a word
+abbrev pub word_at : ℕ → List Name → ℕ → Option Name
+word_at base words k = cond (nat_lt k base) None (slice_get words (k - base))
+
+abbrev pub words_before : Option Name → Option Name → Bool → Bool
+words_before (Some v) (Some w) below = is_lt (slice_cmp nat_cmp v w)
+words_before (Some v) None below = true
+words_before None (Some w) below = false
+words_before None None below = below
+
+-- words come first, by their bytes, and then all others by number
+abbrev pub is_number_before : ℕ → List Name → ℕ → ℕ → Bool
+is_number_before base words k m = words_before (word_at base words k) (word_at base words m) (nat_lt k m)

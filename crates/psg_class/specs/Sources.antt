@@ -3,6 +3,8 @@
 use Rattle.std.specs.Prelude.{ℕ, ◌≡◌, ◌+◌, ◌^◌, ◌<◌, ◌≤◌, ◌⊎◌, ◌↔◌, ◌&&◌, Bool, true, false, List, [], ◌∷◌, length, drop, Option, Some, None, Contains, slice_get}
 use Rattle.psg_grammar.specs.declared.types.Kind.{Kind}
 use Rattle.psg_grammar.specs.declared.types.Kind.TheVariants as kinds
+use Rattle.psg_grammar.specs.declared.types.Phylum.{Phylum}
+use Rattle.psg_grammar.specs.declared.types.ListKind.{ListKind}
 use Rattle.psg_class.specs.Forms.{is_own}
 use Rattle.psg_class.specs.Grids.{is_set, IsCell, IsSameSize, IsTable, AreLinks}
 use Rattle.psg_class.specs.declared.grid.Link.{Link}
@@ -180,3 +182,70 @@ IsOnly F (Some x) = (r c : ℕ) → F r c ↔ OneCell x.row x.column r c
 -- each part is a token or a slot of a kind
 abbrev pub ArePartsOf : Rows → ℕ → List Part → Type 0
 ArePartsOf rows width ps = (n : ℕ) (p : Part) → slice_get ps n ≡ Some p → IsPartOf rows width p
+
+-- ---- phyla and lists
+
+abbrev pub If : Bool → ℕ → ℕ → ℕ → ℕ → Type 0
+If holds row column r c = (holds ≡ true) × OneCell row column r c
+
+-- a phylum's placeholder, where it has one, and its brackets
+abbrev pub PhylumFact : Rows → ℕ → ℕ → ℕ → Bool → Bool → ℕ → ℕ → Type 0
+PhylumFact rows opening closing p hole bracketed = Either (Either (If hole p (3 + p)) (If bracketed p opening)) (If bracketed (rows.kinds + p) closing)
+
+abbrev pub PhylumFactAt : Rows → ℕ → ℕ → List Phylum → List Bool → ℕ → ℕ → ℕ → Type 0
+PhylumFactAt rows opening closing phyla holes p r c = (k : Phylum) × (hole : Bool) × (slice_get phyla p ≡ Some k) × (slice_get holes p ≡ Some hole) × PhylumFact rows opening closing p hole k.bracketed r c
+
+-- `...` in front of an unfinished list, and the separator behind its elements
+abbrev pub ListFact : Rows → ℕ → ℕ → Bool → ℕ → ℕ → ℕ → Type 0
+ListFact rows l element unfinished separator = Either (If unfinished (rows.phyla + l) (rows.phyla + 3)) (OneCell (rows.kinds + element) separator)
+
+-- an element begins the list, and what stands behind the list stands behind its last element
+abbrev pub ListLink : Rows → ℕ → ℕ → ℕ → ℕ → Type 0
+ListLink rows l element = Either (OneCell (rows.phyla + l) element) (OneCell (rows.kinds + element) (rows.kinds + (rows.phyla + l)))
+
+abbrev pub ListFactAt : Rows → List ListKind → List ℕ → ℕ → ℕ → ℕ → Type 0
+ListFactAt rows lists separators l r c = (k : ListKind) × (separator : ℕ) × (slice_get lists l ≡ Some k) × (slice_get separators l ≡ Some separator) × ListFact rows l k.element k.unfinished separator r c
+
+abbrev pub ListLinkAt : Rows → List ListKind → ℕ → ℕ → ℕ → Type 0
+ListLinkAt rows lists l t f = (k : ListKind) × (slice_get lists l ≡ Some k) × ListLink rows l k.element t f
+
+-- what is given at once and what follows, of a whole definition
+pub record Parts : Type 0 where
+  pub rows : Rows
+  pub shapes : List Shape
+  pub phyla : List Phylum
+  pub lists : List ListKind
+  pub holes : List Bool
+  pub separators : List ℕ
+  pub opening : ℕ
+  pub closing : ℕ
+
+abbrev pub AllFacts : Parts → ℕ → ℕ → Type 0
+AllFacts a =
+    Either (Either (Below (AtShape (ShapeFact a.rows) a.shapes) (length a.shapes)) (Below (PhylumFactAt a.rows a.opening a.closing a.phyla a.holes) (length a.phyla)))
+    (Below (ListFactAt a.rows a.lists a.separators) (length a.lists))
+
+abbrev pub AllLinks : Parts → ℕ → ℕ → Type 0
+AllLinks a = Either (Below (AtShape (ShapeLink a.rows) a.shapes) (length a.shapes)) (Below (ListLinkAt a.rows a.lists) (length a.lists))
+
+-- the least sets with these facts and links
+pub data Grown (a : Parts) : ℕ → ℕ → Type 0 where
+  at_once : {row column : ℕ} → AllFacts a row column → Grown a row column
+  by_link : {column : ℕ} (to from : ℕ) → AllLinks a to from → Grown a from column → Grown a to column
+
+-- the numbers of phyla, kinds and terminals are in range
+pub record AreParts (width : ℕ) (a : Parts) : Type 0 where
+  pub rows : IsRows a.rows
+  pub sizes : AreRows (length a.phyla) (length a.lists) a.rows
+  pub shapes : (n : ℕ) (s : Shape) → slice_get a.shapes n ≡ Some s → IsShapeOf a.rows width s
+  pub elements : (l : ℕ) (k : ListKind) → slice_get a.lists l ≡ Some k → k.element < a.rows.phyla
+  pub holes : length a.holes ≡ length a.phyla
+  pub separators : length a.separators ≡ length a.lists
+  pub each : (l n : ℕ) → slice_get a.separators l ≡ Some n → n < width
+  pub opening : a.opening < width
+  pub closing : a.closing < width
+  pub terminals : a.rows.phyla + 4 ≤ width
+
+abbrev pub parts_with : Rows → List Shape → List Phylum → List ListKind → List Bool → List ℕ → ℕ → ℕ → Parts
+parts_with rows shapes phyla lists holes separators opening closing =
+    record { rows = rows; shapes = shapes; phyla = phyla; lists = lists; holes = holes; separators = separators; opening = opening; closing = closing }

@@ -1,15 +1,17 @@
 //! What begins each kind and what stands behind it: the terminals that are given at once, and the rows from which the
 //! others follow.
-ghost use Rattle.std.specs.Prelude.{◌≡◌, ◌<◌, ◌&&◌, IfOk, IfSome, OnOk, Some, length};
+ghost use Rattle.std.specs.Prelude.{◌≡◌, ◌<◌, ◌&&◌, ◌+◌, ◌≤◌, ◌↔◌, IfOk, IfSome, OnOk, Some, slice_get, length, true, ℕ};
 ghost use Rattle.psg_class.specs.declared.shape.Part.TheVariants as parts;
-ghost use Rattle.psg_class.specs.Grids.{IsCell};
+ghost use Rattle.psg_class.specs.Grids.{IsCell, IsTable, is_set};
+ghost use Rattle.psg_grammar.specs.declared.types.ListKind.{ListKind as List};
 ghost use Rattle.psg_class.specs.Forms.{is_own};
-ghost use Rattle.psg_class.specs.Sources.{Adds, ArePartsOf, AreRows, BeginFact, BeginLink, Below, can_end, is_phylum_kind, IsDraft, IsKind, IsOnly, IsRows, IsShapeOf, kind_index, LeadFact, NoLink, none_behind, OneCell, ShapeFact, ShapeLink, SlotFact, SlotLink};
+ghost use Rattle.psg_class.specs.Sources.{Adds, AreParts, ArePartsOf, AreRows, BeginFact, BeginLink, Below, can_end, Grown, If, is_phylum_kind, IsDraft, IsKind, IsOnly, IsRows, IsShapeOf, kind_index, LeadFact, ListFact, ListFactAt, ListLink, ListLinkAt, NoLink, none_behind, OneCell, parts_with, PhylumFactAt, ShapeFact, ShapeLink, SlotFact, SlotLink};
 
-use crate::grid::{Cell, Grid, Link};
+use crate::grid::{Cell, Grid, Link, saturate};
 use crate::shape::{Part, Shape};
-use psg_grammar::Kind;
-use std::alloc::AllocError;
+use crate::vocabulary::HOLES;
+use psg_grammar::{Kind, ListKind, Phylum};
+use std::alloc::{AllocError, Global};
 
 /// The rows of the sets, as numbers: first what begins each phylum and list, then what can stand behind each, then the
 /// second tokens of the led operators of each phylum.
@@ -60,6 +62,17 @@ impl Draft {
         ensures { Adds (OneCell row column) NoLink self.old self.new }
     {
         self.grid.set(row, column);
+    }
+
+    /// The terminal is in the row, if this holds.
+    fn put_if(&mut self, holds: bool, row: usize, column: usize)
+        requires draft { IsDraft self.old.grid.height self.old.grid.width self.old }
+        requires cell { IsCell self.old.grid row column }
+        ensures { Adds (If holds row column) NoLink self.old self.new }
+    {
+        if holds {
+            self.put(row, column);
+        }
     }
 
     /// What is in the row `from` is in the row `to`.
@@ -217,4 +230,108 @@ fn is_phylum(kind: Kind) -> bool
         Kind::Phylum(_) => true,
         Kind::List(_) => false,
     }
+}
+
+/// What the sets of a definition are made of, beside its phyla and lists.
+#[derive(Clone, Copy)]
+pub(crate) struct Numbers<'a> {
+    /// Whether each phylum has placeholders.
+    pub(crate) holes: &'a [bool],
+    /// The number of each list's separator.
+    pub(crate) separators: &'a [usize],
+    pub(crate) opening: usize,
+    pub(crate) closing: usize,
+}
+
+/// The sets of all rows.
+pub(crate) fn sets(
+    alloc: Global,
+    width: usize,
+    rows: &Rows,
+    shapes: &[Shape],
+    phyla: &[Phylum],
+    lists: &[ListKind],
+    numbers: Numbers,
+) -> Result<Grid, AllocError>
+    requires { AreParts width (parts_with rows.now shapes.now phyla.now lists.now numbers.holes.now numbers.separators.now numbers.opening numbers.closing) }
+    ensures table { IfOk result (IsTable rows.now.height width) }
+    ensures exact { IfOk result (λ g. (r c : ℕ) → r < rows.now.height → c < width →
+        (is_set g r c ≡ true) ↔ Grown (parts_with rows.now shapes.now phyla.now lists.now numbers.entry.holes.now numbers.entry.separators.now numbers.entry.opening numbers.entry.closing) r c) }
+{
+    let mut draft = Draft {
+        grid: Grid::new(alloc, rows.height, width)?,
+        links: Vec::new(alloc),
+    };
+    for shape in shapes {
+        note_shape(rows, shape, &mut draft)?;
+    }
+    note_phyla(rows, phyla, numbers, &mut draft);
+    note_lists(rows, lists, numbers.separators, &mut draft)?;
+    let Draft { mut grid, links } = draft;
+    saturate(&mut grid, links.as_slice());
+    Ok(grid)
+}
+
+fn note_phyla(rows: &Rows, phyla: &[Phylum], numbers: Numbers, draft: &mut Draft)
+    requires rows { IsRows rows.now }
+    requires draft { IsDraft rows.now.height draft.old.grid.width draft.old }
+    requires phyla { rows.now.phyla ≡ length phyla.now }
+    requires holes { length numbers.holes.now ≡ length phyla.now }
+    requires opening { numbers.opening < draft.old.grid.width }
+    requires closing { numbers.closing < draft.old.grid.width }
+    requires terminals { rows.now.phyla + 4 ≤ draft.old.grid.width }
+    ensures { Adds (Below (PhylumFactAt rows.now numbers.entry.opening numbers.entry.closing phyla.now numbers.entry.holes.now) (length phyla.now)) NoLink draft.old draft.new }
+{
+    for number in 0..phyla.len() {
+        let hole = numbers.holes[number];
+        let bracketed = phyla[number].bracketed;
+        draft.put_if(hole, number, HOLES + number);
+        draft.put_if(bracketed, number, numbers.opening);
+        draft.put_if(bracketed, rows.kinds + number, numbers.closing);
+    }
+}
+
+fn note_lists(
+    rows: &Rows,
+    lists: &[ListKind],
+    separators: &[usize],
+    draft: &mut Draft,
+) -> Result<(), AllocError>
+    requires rows { IsRows rows.now }
+    requires draft { IsDraft rows.now.height draft.old.grid.width draft.old }
+    requires lists { rows.now.kinds ≡ rows.now.phyla + length lists.now }
+    requires elements { (l : ℕ) (k : List) → slice_get lists.now l ≡ Some k → k.element < rows.now.phyla }
+    requires separators { length separators.now ≡ length lists.now }
+    requires each { (l n : ℕ) → slice_get separators.now l ≡ Some n → n < draft.old.grid.width }
+    requires terminals { rows.now.phyla + 4 ≤ draft.old.grid.width }
+    ensures { OnOk result (Adds (Below (ListFactAt rows.now lists.now separators.now) (length lists.now)) (Below (ListLinkAt rows.now lists.now) (length lists.now)) draft.old draft.new) }
+{
+    for number in 0..lists.len() {
+        note_list(rows, &lists[number], number, separators[number], draft)?;
+    }
+    Ok(())
+}
+
+fn note_list(
+    rows: &Rows,
+    list: &ListKind,
+    number: usize,
+    separator: usize,
+    draft: &mut Draft,
+) -> Result<(), AllocError>
+    requires rows { IsRows rows.now }
+    requires draft { IsDraft rows.now.height draft.old.grid.width draft.old }
+    requires list { rows.now.phyla + number < rows.now.kinds }
+    requires element { list.now.element < rows.now.phyla }
+    requires separator { separator < draft.old.grid.width }
+    requires terminals { rows.now.phyla + 4 ≤ draft.old.grid.width }
+    ensures { OnOk result (Adds (ListFact rows.now number list.now.element list.now.unfinished separator) (ListLink rows.now number list.now.element) draft.old draft.new) }
+{
+    let element = list.element as usize;
+    let begin = rows.phyla + number;
+    draft.put_if(list.unfinished, begin, rows.phyla + HOLES);
+    draft.put(rows.kinds + element, separator);
+    draft.link(begin, element)?;
+    draft.link(rows.kinds + element, rows.kinds + begin)?;
+    Ok(())
 }

@@ -1,8 +1,8 @@
 //! The terminals of a definition, by number.
-ghost use Rattle.std.specs.Prelude.{◌≡◌, ◌<◌, IfOk, OnOk, MatchOption, codes, length, true, None, Some};
+ghost use Rattle.std.specs.Prelude.{◌≡◌, ◌+◌, IfOk, IfSome, OnOk, Some, length, option_copied, true};
 ghost use Rattle.psg_terms.specs.Names.{is_among};
 ghost use Rattle.psg_grammar.specs.WellFormed.{separators, operator_words, words_in};
-ghost use Rattle.psg_class.specs.Numbers.{Grown, HasWords, IsConsistent, IsVocabulary, word_number};
+ghost use Rattle.psg_class.specs.Numbers.{Grown, HasWords, IsConsistent, is_number_before, IsVocabulary, word_at, word_number};
 
 use psg_grammar::{Definition, Item, ListKind, Operator};
 use psg_terms::Txt;
@@ -107,5 +107,51 @@ impl Vocabulary {
         ensures { result ≡ word_number self.now.base self.now.words.items word.now }
     {
         self.numbers.get(word).copied()
+    }
+
+    /// The number of a word that is there.
+    pub(crate) fn known(&self, word: &str) -> usize
+        requires consistent { IsConsistent self.now }
+        requires among { is_among self.now.words.items word.now ≡ true }
+        ensures { Some result ≡ word_number self.now.base self.now.words.items word.now }
+    {
+        match self.number(word) {
+            Some(number) => number,
+            None => 0,
+        }
+    }
+
+    /// How many terminals there are, or `None` where they are too many to count.
+    pub(crate) fn width(&self) -> Option<usize>
+        ensures { IfSome result (λ n. n ≡ self.now.base + length self.now.words.items) }
+    {
+        let words = self.words.as_slice().len();
+        self.base.checked_add(words)
+    }
+
+    /// Whether the terminal of the one number comes before that of the other in the order in which they are named: fixed
+    /// words by their bytes, and then all others by number.
+    pub(crate) fn is_before(&self, number: usize, other: usize) -> bool
+        ensures { result ≡ is_number_before self.now.base self.now.words.items number other }
+    {
+        match (self.word(number), self.word(other)) {
+            (Some(word), Some(second)) => word < second,
+            (Some(_), None) => true,
+            (None, Some(_)) => false,
+            (None, None) => number < other,
+        }
+    }
+
+    /// The word of the number, if it is that of a word.
+    fn word(&self, number: usize) -> Option<&str>
+        ensures { option_copied result ≡ word_at self.now.base self.now.words.items number }
+    {
+        if number < self.base {
+            return None;
+        }
+        match self.words.as_slice().get(number - self.base) {
+            Some(word) => Some(word.as_str()),
+            None => None,
+        }
     }
 }
