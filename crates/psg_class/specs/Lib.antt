@@ -10,3 +10,4 @@ pub mod Numbers
 pub mod Shapes
 pub mod Forms
 pub mod Sources
+pub mod Failing

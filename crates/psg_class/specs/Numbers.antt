@@ -1,6 +1,6 @@
 -- The numbers of terminals: names, numbers, texts, the placeholders of the phyla, `...`, and then the fixed words in the
 -- order in which they were met.
-use Rattle.std.specs.Prelude.{ℕ, suc, ◌≡◌, ◌+◌, ◌-◌, nat_lt, Bool, true, false, cond, List, [], ◌∷◌, length, map, Option, Some, None, option_map, bytes_eq, codes, slice_get}
+use Rattle.std.specs.Prelude.{ℕ, suc, ◌≡◌, ◌+◌, ◌-◌, ◌==◌, nat_lt, Bool, true, false, cond, List, [], ◌∷◌, length, map, Option, Some, None, option_map, bytes_eq, codes, slice_get}
 use Rattle.std.specs.Cmp.Lexicographic.{slice_cmp}
 use Rattle.std.proofs.Common.{nat_cmp, is_lt}
 use Rattle.std.specs.HashMap.{get_by_text}
@@ -69,3 +69,19 @@ words_before None None below = below
 -- words come first, by their bytes, and then all others by number
 abbrev pub is_number_before : ℕ → List Name → ℕ → ℕ → Bool
 is_number_before base words k m = words_before (word_at base words k) (word_at base words m) (nat_lt k m)
+
+-- ---- how a number's terminal is written
+
+abbrev pub hole_text : Option Phylum → List ℕ
+hole_text None = codes "..."
+hole_text (Some p) = 63 ∷ p.name
+
+abbrev pub other_text : List Phylum → ℕ → List ℕ
+other_text phyla k = cond (k == 0) (codes "name") (cond (k == 1) (codes "number") (cond (k == 2) (codes "text") (hole_text (slice_get phyla (k - 3)))))
+
+abbrev pub text_or : Option Name → List ℕ → List ℕ
+text_or None other = other
+text_or (Some w) other = w
+
+abbrev pub number_text : ℕ → List Name → List Phylum → ℕ → List ℕ
+number_text base words phyla k = text_or (word_at base words k) (other_text phyla k)

@@ -2,6 +2,7 @@
 #![tactic(auto)]
 
 pub mod fault;
+mod failing;
 mod forms;
 mod grid;
 mod shape;

@@ -1,10 +1,10 @@
 //! The terminals of a definition, by number.
-ghost use Rattle.std.specs.Prelude.{◌≡◌, ◌+◌, IfOk, IfSome, OnOk, Some, length, option_copied, true};
+ghost use Rattle.std.specs.Prelude.{◌≡◌, ◌+◌, IfOk, IfSome, OnOk, Some, length, option_copied, string_bytes, true};
 ghost use Rattle.psg_terms.specs.Names.{is_among};
 ghost use Rattle.psg_grammar.specs.WellFormed.{separators, operator_words, words_in};
-ghost use Rattle.psg_class.specs.Numbers.{Grown, HasWords, IsConsistent, is_number_before, IsVocabulary, word_at, word_number};
+ghost use Rattle.psg_class.specs.Numbers.{Grown, HasWords, IsConsistent, is_number_before, IsVocabulary, number_text, other_text, word_at, word_number};
 
-use psg_grammar::{Definition, Item, ListKind, Operator};
+use psg_grammar::{Definition, Item, ListKind, Operator, Phylum};
 use psg_terms::Txt;
 use std::alloc::{AllocError, Global};
 use std::collections::HashMap;
@@ -153,5 +153,42 @@ impl Vocabulary {
             Some(word) => Some(word.as_str()),
             None => None,
         }
+    }
+}
+
+/// How the terminal of the number is written.
+pub(crate) fn terminal_text(
+    alloc: Global,
+    vocabulary: &Vocabulary,
+    phyla: &[Phylum],
+    number: usize,
+) -> Result<String, AllocError>
+    ensures { IfOk result (λ t. string_bytes t ≡ number_text vocabulary.now.base vocabulary.now.words.items phyla.now number) }
+{
+    match vocabulary.word(number) {
+        Some(word) => String::from_str(alloc, word),
+        None => other_text(alloc, phyla, number),
+    }
+}
+
+fn other_text(alloc: Global, phyla: &[Phylum], number: usize) -> Result<String, AllocError>
+    ensures { IfOk result (λ t. string_bytes t ≡ other_text phyla.now number) }
+{
+    if number == NAME {
+        return String::from_str(alloc, "name");
+    }
+    if number == NUMBER {
+        return String::from_str(alloc, "number");
+    }
+    if number == TEXT {
+        return String::from_str(alloc, "text");
+    }
+    match phyla.get(number - HOLES) {
+        Some(phylum) => {
+            let mut text = String::from_str(alloc, "?")?;
+            text.push_str(phylum.name.as_str())?;
+            Ok(text)
+        }
+        None => String::from_str(alloc, "..."),
     }
 }

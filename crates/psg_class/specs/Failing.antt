@@ -1,0 +1,61 @@
+-- The first thing that fails, and its first token, by numbers.
+use Rattle.std.specs.Prelude.{ℕ, ◌≡◌, ◌+◌, ◌<◌, Bool, true, false, cond, List, [], ◌∷◌, ◌++◌, length, Option, Some, None, MatchOption, slice_get}
+use Rattle.psg_terms.specs.Names.{Name}
+use Rattle.psg_grammar.specs.declared.types.Phylum.{Phylum}
+use Rattle.psg_class.specs.Refusal.{IsFirst}
+use Rattle.psg_class.specs.Numbers.{is_number_before}
+use Rattle.psg_class.specs.Forms.{cell_of, first_part}
+use Rattle.psg_class.specs.Shapes.{listed}
+use Rattle.psg_class.specs.Grids.{is_set}
+use Rattle.psg_class.specs.declared.grid.Cell.{Cell}
+use Rattle.psg_class.specs.declared.grid.Grid.{Grid}
+use Rattle.psg_class.specs.declared.shape.Part.{Part}
+use Rattle.psg_class.specs.declared.shape.Part.TheVariants as parts
+use Rattle.psg_class.specs.declared.shape.Shape.{Shape}
+
+-- no number that is set comes before this one
+abbrev pub IsLeast : ℕ → List Name → (ℕ → Bool) → ℕ → ℕ → Type 0
+IsLeast base words set width k = (k < width) × (set k ≡ true) × ((m : ℕ) → m < width → set m ≡ true → is_number_before base words m k ≡ false)
+
+abbrev pub IsLeastIf : ℕ → List Name → (ℕ → Bool) → ℕ → Option ℕ → Type 0
+IsLeastIf base words set width o = MatchOption o ((m : ℕ) → m < width → set m ≡ false) (IsLeast base words set width)
+
+abbrev pub first_number : ℕ → List Name → Option ℕ → ℕ → ℕ
+first_number base words None k = k
+first_number base words (Some m) k = cond (is_number_before base words k m) k m
+
+-- some number of the row is set
+abbrev pub HasSome : Grid → ℕ → Type 0
+HasSome g row = (column : ℕ) × (column < g.width) × (is_set g row column ≡ true)
+
+abbrev pub IsFirstFailing : ℕ → List Name → Grid → Option (ℕ × ℕ) → Type 0
+IsFirstFailing base words g o = MatchOption o ((row : ℕ) → row < g.height → HasSome g row → ⊥) (λ x. (x.0 < g.height) × IsFirst (HasSome g) x.0 × IsLeast base words (is_set g x.0) g.width x.1)
+
+-- ---- cells of first tokens
+
+abbrev pub token_cell : ℕ → Option Part → Option Cell
+token_cell row (Some (parts.Token n)) = Some (cell_of row n)
+token_cell row _ = None
+
+abbrev pub lead_cell : Shape → Option Cell
+lead_cell s = token_cell s.phylum (first_part s)
+
+-- the second token, where a slot stands first
+abbrev pub behind_slot : ℕ → Option Part → Option Part → Option Cell
+behind_slot row (Some (parts.Slot k)) second = token_cell row second
+behind_slot row _ second = None
+
+abbrev pub led_cell : Shape → Option Cell
+led_cell s = behind_slot s.phylum (first_part s) (slice_get s.parts 1)
+
+abbrev pub cells_from : (Shape → Option Cell) → List Shape → List Cell
+cells_from f [] = []
+cells_from f (s ∷ rest) = listed (f s) ++ cells_from f rest
+
+abbrev pub bracket_cell : ℕ → ℕ → Bool → Option Cell
+bracket_cell p opening true = Some (cell_of p opening)
+bracket_cell p opening false = None
+
+abbrev pub bracket_cells : ℕ → ℕ → List Phylum → List Cell
+bracket_cells opening p [] = []
+bracket_cells opening p (k ∷ rest) = listed (bracket_cell p opening k.bracketed) ++ bracket_cells opening (p + 1) rest
