@@ -2,6 +2,7 @@ pub mod WordLaws
 pub mod ShapeLaws
 pub mod WholeDraft
 pub mod PartLaws
+pub mod FormLaws
 pub mod FailingLaws
 pub mod BeginLaws
 pub mod SlotLaws

@@ -134,3 +134,9 @@ IsFirstIf P o = MatchOption o (Never P) (IsFirst P)
 
 abbrev pub IsFirstPair : (ℕ → ℕ → Type 0) → Option (ℕ × ℕ) → Type 0
 IsFirstPair P o = MatchOption o ((p : ℕ) → Never (P p)) (λ r. IsFirst (λ p. (n : ℕ) × P p n) r.0 × IsFirst (P r.0) r.1)
+
+-- the shape of the number fails the test
+pub record FailsTest (test : Shape → Bool) (shapes : List Shape) (n : ℕ) : Type 0 where
+  pub shape : Shape
+  pub at : slice_get shapes n ≡ Some shape
+  pub fails : test shape ≡ false

@@ -1,8 +1,8 @@
 //! The conditions on operators that need no sets of terminals.
-ghost use Rattle.std.specs.Prelude.{◌≡◌, ◌+◌, ◌*◌, ◌-◌, ◌<◌, ◌≤◌, ◌↔◌, IfOk, IfSome, IfNone, IsTrue, map, not, position, slice_get, length, true, ℕ};
+ghost use Rattle.std.specs.Prelude.{◌≡◌, ◌+◌, ◌*◌, ◌-◌, ◌<◌, ◌≤◌, ◌↔◌, IfOk, IfSome, IfNone, IsTrue, map, slice_get, length, true, ℕ};
 ghost use Rattle.psg_grammar.specs.Levels.{first_level, last_level, level_number};
 ghost use Rattle.psg_grammar.specs.Sound.{IsLevel};
-ghost use Rattle.psg_class.specs.Forms.{AreInPhyla, asked_cell, asks, bound_cell, cells_by, codes_width, fits, form_cell, form_code, HaveLevels, is_own, is_token, IsBelow, IsFirstIf, IsFirstPair, LacksBracket, levels_width, Mixes, MixesAny, starts};
+ghost use Rattle.psg_class.specs.Forms.{AreInPhyla, asked_cell, asks, bound_cell, cells_by, codes_width, FailsTest, fits, form_cell, form_code, HaveLevels, is_own, is_token, IsBelow, IsFirstIf, IsFirstPair, LacksBracket, levels_width, Mixes, MixesAny, starts};
 ghost use Rattle.psg_class.specs.Grids.{is_set, IsTable};
 ghost use Rattle.psg_class.specs.Refusal.{IsFirst};
 
@@ -18,16 +18,26 @@ const CODES: usize = 50;
 
 /// The first operator that begins neither with a token nor with an own slot and then a token.
 pub(crate) fn first_not_starting(shapes: &[Shape]) -> Option<usize>
-    ensures { result ≡ position (λ s. not (starts s)) shapes.now }
+    ensures { IsFirstIf (FailsTest starts shapes.now) result }
 {
-    shapes.iter().position(|shape| !is_starting(shape))
+    for number in 0..shapes.len() {
+        if !is_starting(&shapes[number]) {
+            return Some(number);
+        }
+    }
+    None
 }
 
 /// The first operator whose parts are not of its form.
 pub(crate) fn first_misfit(shapes: &[Shape]) -> Option<usize>
-    ensures { result ≡ position (λ s. not (fits s)) shapes.now }
+    ensures { IsFirstIf (FailsTest fits shapes.now) result }
 {
-    shapes.iter().position(|shape| !is_fitting(shape))
+    for number in 0..shapes.len() {
+        if !is_fitting(&shapes[number]) {
+            return Some(number);
+        }
+    }
+    None
 }
 
 fn is_starting(shape: &Shape) -> bool
