@@ -3,6 +3,8 @@ pub mod ShapeLaws
 pub mod WholeDraft
 pub mod PartLaws
 pub mod FormLaws
+pub mod NumberLaws
+pub mod TokenLaws
 pub mod FailingLaws
 pub mod BeginLaws
 pub mod SlotLaws
