@@ -5,6 +5,7 @@ pub mod PartLaws
 pub mod FormLaws
 pub mod NumberLaws
 pub mod TokenLaws
+pub mod TwiceLaws
 pub mod FailingLaws
 pub mod BeginLaws
 pub mod SlotLaws
