@@ -6,6 +6,7 @@ pub mod FormLaws
 pub mod NumberLaws
 pub mod TokenLaws
 pub mod TwiceLaws
+pub mod LeadLaws
 pub mod FailingLaws
 pub mod BeginLaws
 pub mod SlotLaws
