@@ -96,7 +96,7 @@ module _ (def : Definition) (words : List Name) where
   pub part_token : (i : Item) (n : ℕ) → part_of (length def.phyla + 4) words i ≡ Some (parts.Token n) → (t : Terminal) × (item_terminal i ≡ Some t) × (number_of def words t ≡ Some n)
   part_token i n e = terminal_number i n (token_of (length def.phyla + 4) words i n e)
 
-  slot_part : (k : Kind) (p : Part) → part_of (length def.phyla + 4) words (items.Slot k) ≡ Some p → p ≡ parts.Slot k
+  pub slot_part : (k : Kind) (p : Part) → part_of (length def.phyla + 4) words (items.Slot k) ≡ Some p → p ≡ parts.Slot k
   slot_part k p e = let x : Some (parts.Slot k) ≡ Some p = e in cc
 
   -- ---- cells of first and second tokens

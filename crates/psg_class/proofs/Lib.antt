@@ -7,6 +7,7 @@ pub mod NumberLaws
 pub mod TokenLaws
 pub mod TwiceLaws
 pub mod LeadLaws
+pub mod SetLaws
 pub mod FailingLaws
 pub mod BeginLaws
 pub mod SlotLaws
