@@ -107,12 +107,12 @@ module _ (def : Definition) (words : List Name) where
   no_cell : {A : Type 0} (r c : ℕ) → ◌≡◌ {A = Option Cell} None (Some (cell_of r c)) → A
   no_cell r c e = cc
 
-  token_cell_is : (row r c : ℕ) (p : Option Part) → token_cell row p ≡ Some (cell_of r c) → (row ≡ r) × (p ≡ Some (parts.Token c))
+  pub token_cell_is : (row r c : ℕ) (p : Option Part) → token_cell row p ≡ Some (cell_of r c) → (row ≡ r) × (p ≡ Some (parts.Token c))
   token_cell_is row r c (Some (parts.Token n)) e = let (x, y) = cell_same r c (cell_of row n) e in (x, ap (λ m. Some (parts.Token m)) y)
   token_cell_is row r c (Some (parts.Slot k)) e = no_cell r c e
   token_cell_is row r c None e = no_cell r c e
 
-  behind_slot_is : (row r c : ℕ) (p q : Option Part) → behind_slot row p q ≡ Some (cell_of r c) → (row ≡ r) × ((k : Kind) × (p ≡ Some (parts.Slot k))) × (q ≡ Some (parts.Token c))
+  pub behind_slot_is : (row r c : ℕ) (p q : Option Part) → behind_slot row p q ≡ Some (cell_of r c) → (row ≡ r) × ((k : Kind) × (p ≡ Some (parts.Slot k))) × (q ≡ Some (parts.Token c))
   behind_slot_is row r c (Some (parts.Slot k)) q e = let (x, y) = token_cell_is row r c q e in (x, (k, refl), y)
   behind_slot_is row r c (Some (parts.Token n)) q e = no_cell r c e
   behind_slot_is row r c None q e = no_cell r c e
@@ -187,3 +187,16 @@ module _ (def : Definition) (words : List Name) where
           at = get_map (shape_of (length def.phyla + 4) words) def.operators n l.o l.found;
           gives = ap₂ (behind_slot l.o.phylum) e f ∙ ap (λ p. Some (cell_of p c)) l.phylum;
         })
+
+-- the row and the second part of a shape with a cell
+pub led_cell_is : (s : Shape) (r c : ℕ) → led_cell s ≡ Some (cell_of r c) → (s.phylum ≡ r) × (slice_get s.parts 1 ≡ Some (parts.Token c))
+led_cell_is s r c e = let (x, y, z) = of (first_part s) (slice_get s.parts 1) e in (x, z) where
+  token : (p : Option Part) → token_cell s.phylum p ≡ Some (cell_of r c) → (s.phylum ≡ r) × (p ≡ Some (parts.Token c))
+  token (Some (parts.Token n)) f = let h : cell_of s.phylum n ≡ cell_of r c = cc in (ap (λ (x : Cell). x.row) h, ap (λ (x : Cell). Some (parts.Token x.column)) h)
+  token (Some (parts.Slot k)) f = absurd (let h : None ≡ Some (cell_of r c) = f in cc)
+  token None f = absurd (let h : None ≡ Some (cell_of r c) = f in cc)
+
+  of : (p q : Option Part) → behind_slot s.phylum p q ≡ Some (cell_of r c) → (s.phylum ≡ r) × Unit {0} × (q ≡ Some (parts.Token c))
+  of (Some (parts.Slot k)) q f = let (x, y) = token q f in (x, tt, y)
+  of (Some (parts.Token n)) q f = absurd (let h : None ≡ Some (cell_of r c) = f in cc)
+  of None q f = absurd (let h : None ≡ Some (cell_of r c) = f in cc)

@@ -1,5 +1,5 @@
 -- The first thing that fails, and its first token, by numbers.
-use Rattle.std.specs.Prelude.{ℕ, ◌≡◌, ◌+◌, ◌<◌, Bool, true, false, cond, List, [], ◌∷◌, ◌++◌, length, Option, Some, None, MatchOption, slice_get}
+use Rattle.std.specs.Prelude.{ℕ, ◌≡◌, ◌+◌, ◌<◌, ◌==◌, ◌&&◌, ◌||◌, Bool, true, false, cond, List, [], ◌∷◌, ◌++◌, length, Option, Some, None, MatchOption, slice_get}
 use Rattle.psg_terms.specs.Names.{Name}
 use Rattle.psg_grammar.specs.declared.types.Phylum.{Phylum}
 use Rattle.psg_class.specs.Refusal.{IsFirst}
@@ -9,6 +9,8 @@ use Rattle.psg_class.specs.Shapes.{listed}
 use Rattle.psg_class.specs.Grids.{is_set}
 use Rattle.psg_class.specs.declared.grid.Cell.{Cell}
 use Rattle.psg_class.specs.declared.grid.Grid.{Grid}
+use Rattle.psg_class.specs.declared.sources.Rows.{Rows}
+use Rattle.psg_class.specs.Class.{Never}
 use Rattle.psg_class.specs.declared.shape.Part.{Part}
 use Rattle.psg_class.specs.declared.shape.Part.TheVariants as parts
 use Rattle.psg_class.specs.declared.shape.Shape.{Shape}
@@ -25,11 +27,12 @@ first_number base words None k = k
 first_number base words (Some m) k = cond (is_number_before base words k m) k m
 
 -- some number of the row is set
-abbrev pub HasSome : Grid → ℕ → Type 0
-HasSome g row = (column : ℕ) × (column < g.width) × (is_set g row column ≡ true)
+abbrev pub HasSome : (ℕ → ℕ → Bool) → ℕ → ℕ → Type 0
+HasSome set width row = (column : ℕ) × (column < width) × (set row column ≡ true)
 
-abbrev pub IsFirstFailing : ℕ → List Name → Grid → Option (ℕ × ℕ) → Type 0
-IsFirstFailing base words g o = MatchOption o ((row : ℕ) → row < g.height → HasSome g row → ⊥) (λ x. (x.0 < g.height) × IsFirst (HasSome g) x.0 × IsLeast base words (is_set g x.0) g.width x.1)
+abbrev pub IsFirstFailing : ℕ → List Name → ℕ → ℕ → (ℕ → ℕ → Bool) → Option (ℕ × ℕ) → Type 0
+IsFirstFailing base words height width set o =
+    MatchOption o ((row : ℕ) → row < height → HasSome set width row → ⊥) (λ x. (x.0 < height) × IsFirst (HasSome set width) x.0 × IsLeast base words (set x.0) width x.1)
 
 -- ---- cells of first tokens
 
@@ -59,3 +62,29 @@ bracket_cell p opening false = None
 abbrev pub bracket_cells : ℕ → ℕ → List Phylum → List Cell
 bracket_cells opening p [] = []
 bracket_cells opening p (k ∷ rest) = listed (bracket_cell p opening k.bracketed) ++ bracket_cells opening (p + 1) rest
+
+-- ---- led operators and ends of lists
+
+-- the second token of the led operator can stand behind its phylum
+abbrev pub LedBehind : Rows → Grid → Shape → ℕ → Type 0
+LedBehind rows sets s column = (led_cell s ≡ Some (cell_of s.phylum column)) × (is_set sets (rows.kinds + s.phylum) column ≡ true)
+
+pub record LedClash (rows : Rows) (sets : Grid) (shapes : List Shape) (n column : ℕ) : Type 0 where
+  pub shape : Shape
+  pub at : slice_get shapes n ≡ Some shape
+  pub behind : LedBehind rows sets shape column
+
+abbrev pub LedClashes : Rows → Grid → List Shape → ℕ → Type 0
+LedClashes rows sets shapes n = (column : ℕ) × LedClash rows sets shapes n column
+
+abbrev pub IsFirstLed : Rows → Grid → List Shape → Option (ℕ × ℕ) → Type 0
+IsFirstLed rows sets shapes o = MatchOption o (Never (LedClashes rows sets shapes)) (λ x. IsFirst (LedClashes rows sets shapes) x.0 × LedClash rows sets shapes x.0 x.1)
+
+abbrev pub is_number : Option ℕ → ℕ → Bool
+is_number None column = false
+is_number (Some n) column = column == n
+
+-- the terminal stands behind the list, and begins it or separates its elements
+abbrev pub ends : Rows → Grid → List ℕ → ℕ → ℕ → Bool
+ends rows sets separators l column =
+    is_set sets (rows.kinds + (rows.phyla + l)) column && (is_set sets (rows.phyla + l) column || is_number (slice_get separators l) column)

@@ -1,11 +1,14 @@
 //! The first things that fail, with their first tokens.
-ghost use Rattle.std.specs.Prelude.{◌≡◌, ◌++◌, ◌<◌, IfOk, OnOk};
+ghost use Rattle.std.specs.Prelude.{◌≡◌, ◌+◌, ◌++◌, ◌<◌, ℕ, IfOk, MatchOption, OnOk, Some, length, slice_get};
+ghost use Rattle.psg_class.specs.declared.shape.Shape.{Shape as Formed};
 ghost use Rattle.psg_class.specs.Shapes.{listed};
-ghost use Rattle.psg_class.specs.Failing.{bracket_cell, bracket_cells, cells_from, first_number, IsFirstFailing, IsLeastIf, lead_cell, led_cell};
-ghost use Rattle.psg_class.specs.Grids.{is_set, IsGrid};
+ghost use Rattle.psg_class.specs.Sources.{IsRows, IsShapeOf};
+ghost use Rattle.psg_class.specs.Failing.{bracket_cell, bracket_cells, cells_from, ends, first_number, IsFirstFailing, IsFirstLed, IsLeastIf, lead_cell, led_cell, LedBehind};
+ghost use Rattle.psg_class.specs.Grids.{is_set, IsGrid, IsTable};
 
 use crate::grid::{Cell, Grid};
 use crate::shape::{Part, Shape};
+use crate::sources::Rows;
 use crate::vocabulary::Vocabulary;
 use psg_grammar::Phylum;
 use std::alloc::{AllocError, Global};
@@ -13,7 +16,7 @@ use std::alloc::{AllocError, Global};
 /// The first row in which something is set, and of what is set there the one that is named first.
 pub(crate) fn first_failing(vocabulary: &Vocabulary, grid: &Grid) -> Option<(usize, usize)>
     requires { IsGrid grid.now }
-    ensures { IsFirstFailing vocabulary.now.base vocabulary.now.words.items grid.now result }
+    ensures { IsFirstFailing vocabulary.now.base vocabulary.now.words.items grid.now.height grid.now.width (is_set grid.now) result }
 {
     for row in 0..grid.height {
         if let Some(column) = least(vocabulary, grid, row) {
@@ -139,4 +142,92 @@ pub(crate) fn led_of(shape: &Shape) -> Option<Cell>
         }),
         _ => None,
     }
+}
+
+/// The first led operator whose second token can stand behind its phylum, with the number of that token.
+pub(crate) fn first_led(shapes: &[Shape], rows: &Rows, sets: &Grid) -> Option<(usize, usize)>
+    requires rows { IsRows rows.now }
+    requires sets { IsTable rows.now.height sets.now.width sets.now }
+    requires shapes { (n : ℕ) (s : Formed) → slice_get shapes.now n ≡ Some s → IsShapeOf rows.now sets.now.width s }
+    ensures { IsFirstLed rows.now sets.now shapes.now result }
+{
+    for number in 0..shapes.len() {
+        if let Some(column) = led_behind(&shapes[number], rows, sets) {
+            return Some((number, column));
+        }
+    }
+    None
+}
+
+fn led_behind(shape: &Shape, rows: &Rows, sets: &Grid) -> Option<usize>
+    requires rows { IsRows rows.now }
+    requires sets { IsTable rows.now.height sets.now.width sets.now }
+    requires shape { IsShapeOf rows.now sets.now.width shape.now }
+    ensures { MatchOption result ((c : ℕ) → LedBehind rows.now sets.now shape.now c → ⊥) (LedBehind rows.now sets.now shape.now) }
+{
+    match led_of(shape) {
+        Some(cell) => {
+            if sets.has(rows.kinds + cell.row, cell.column) {
+                return Some(cell.column);
+            }
+            None
+        }
+        None => None,
+    }
+}
+
+/// The first list behind which its separator can stand, or a terminal that begins it; and of those the one that is named
+/// first.
+pub(crate) fn first_end(
+    vocabulary: &Vocabulary,
+    rows: &Rows,
+    sets: &Grid,
+    separators: &[usize],
+) -> Option<(usize, usize)>
+    requires rows { IsRows rows.now }
+    requires lists { rows.now.kinds ≡ rows.now.phyla + length separators.now }
+    requires sets { IsTable rows.now.height sets.now.width sets.now }
+    ensures { IsFirstFailing vocabulary.now.base vocabulary.now.words.items (length separators.now) sets.now.width (ends rows.now sets.now separators.now) result }
+{
+    for list in 0..separators.len() {
+        if let Some(column) = least_end(vocabulary, rows, sets, separators, list) {
+            return Some((list, column));
+        }
+    }
+    None
+}
+
+fn least_end(
+    vocabulary: &Vocabulary,
+    rows: &Rows,
+    sets: &Grid,
+    separators: &[usize],
+    list: usize,
+) -> Option<usize>
+    requires rows { IsRows rows.now }
+    requires lists { rows.now.kinds ≡ rows.now.phyla + length separators.now }
+    requires sets { IsTable rows.now.height sets.now.width sets.now }
+    requires list { list < length separators.now }
+    ensures { IsLeastIf vocabulary.now.base vocabulary.now.words.items (ends rows.now sets.now separators.now list) sets.now.width result }
+{
+    let mut best = None;
+    for column in 0..sets.width {
+        if is_end(rows, sets, separators, list, column) {
+            best = Some(first_of(vocabulary, best, column));
+        }
+    }
+    best
+}
+
+fn is_end(rows: &Rows, sets: &Grid, separators: &[usize], list: usize, column: usize) -> bool
+    requires rows { IsRows rows.now }
+    requires lists { rows.now.kinds ≡ rows.now.phyla + length separators.now }
+    requires sets { IsTable rows.now.height sets.now.width sets.now }
+    requires list { list < length separators.now }
+    requires column { column < sets.now.width }
+    ensures { result ≡ ends rows.now sets.now separators.now list column }
+{
+    let row = rows.phyla + list;
+    sets.has(rows.kinds + row, column)
+        && (sets.has(row, column) || column == separators[list])
 }
