@@ -82,6 +82,10 @@ choose_small true false m n h k = omega arith
 choose_small false true m n h k = omega arith
 choose_small false false m n h k = omega arith
 
+-- what is asked for is a level
+pub asks_small : (s : Shape) → IsLevel s.level → asks s < 11
+asks_small s k = choose_small (own_first s) (own_last s) (first_level s.level) (last_level s.level) (first_small s.level k) (last_small s.level k)
+
 pub bound_inside : (phyla : ℕ) (shapes : List Shape) → AreInPhyla phyla shapes → HaveLevels shapes → AreInside phyla 11 (map bound_cell shapes)
 bound_inside phyla [] h k = tt
 bound_inside phyla (s ∷ rest) (h, hs) (k, ks) = ((h, bound_small s.level k), bound_inside phyla rest hs ks)

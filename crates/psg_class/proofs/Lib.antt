@@ -8,6 +8,8 @@ pub mod TokenLaws
 pub mod TwiceLaws
 pub mod LeadLaws
 pub mod SetLaws
+pub mod ReadLaws
+pub mod TableLaws
 pub mod FailingLaws
 pub mod BeginLaws
 pub mod SlotLaws

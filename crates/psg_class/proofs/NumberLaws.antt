@@ -234,3 +234,10 @@ module _ (def : Definition) (words : List Name) where
       back : (n : ℕ) → n + 3 - 3 ≡ n
       back n = omega arith
   same_text stray k e = absurd (let x : ◌≡◌ {A = Option ℕ} None (Some k) = e in cc)
+
+  -- all numbers are below those of the kinds and the words together
+  pub number_small : (t : Terminal) (k : ℕ) → number_of def words t ≡ Some k → k < length def.phyla + 4 + length words
+  number_small t k e = elim (is_low t k e) [
+    | inl x ↦ (let h = low_small t k x e in omega (arith, h))
+    | inr (w, x) ↦ (let (j, y, z) = word_of w k (ap (number_of def words) (sym x) ∙ e) in let h = get_inside words j w z in omega (arith, y, h))
+  ]

@@ -1,6 +1,7 @@
 pub mod Terminals
 pub mod Places
 pub mod Follow
+pub mod Checks
 pub mod Class
 pub mod Yields
 pub mod Only

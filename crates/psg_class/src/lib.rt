@@ -2,6 +2,8 @@
 #![tactic(auto)]
 
 pub mod fault;
+mod behind;
+mod check;
 mod failing;
 mod forms;
 mod grid;
@@ -9,6 +11,7 @@ mod shape;
 mod sources;
 mod vocabulary;
 
+pub use check::class_check;
 pub use fault::{ClassFault, class_text};
 
 ghost use Rattle.psg_class.specs.Only.{ClassHasOnlyTrees};

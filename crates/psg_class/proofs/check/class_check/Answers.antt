@@ -1,0 +1,5 @@
+use Rattle.psg_class.proofs.Law.{only_trees}
+use Rattle.psg_class.proofs.check.class_check.Goals as goal
+
+pub returns-clause-only : goal.returns-clause-only
+returns-clause-only c = ?only
