@@ -9,6 +9,7 @@ pub mod TwiceLaws
 pub mod LeadLaws
 pub mod SetLaws
 pub mod ReadLaws
+pub mod BehindLaws
 pub mod TableLaws
 pub mod FailingLaws
 pub mod BeginLaws

@@ -51,7 +51,7 @@ among_left (x ∷ xs) ys w h = elim (or_cases (bytes_eq x w) (is_among xs w) h) 
   | inr b ↦ or_right (bytes_eq x w) (is_among (xs ++ ys) w) (among_left xs ys w b)
 ]
 
-among_right : (xs ys : List Name) (w : Name) → is_among ys w ≡ true → is_among (xs ++ ys) w ≡ true
+pub among_right : (xs ys : List Name) (w : Name) → is_among ys w ≡ true → is_among (xs ++ ys) w ≡ true
 among_right [] ys w h = h
 among_right (x ∷ xs) ys w h = or_right (bytes_eq x w) (is_among (xs ++ ys) w) (among_right xs ys w h)
 
@@ -146,11 +146,18 @@ module _ (def : Definition) (words : List Name) (shapes : List Shape) (read : Is
       (lacks_back def (length def.phyla + 4) words known level_at small) (lacks_there def (length def.phyla + 4) words known level_at small) o
       (subst (λ s. IsFirstIf (LacksBracket def.phyla (cells_by bound_cell s) (cells_by asked_cell s)) o) read.shapes_are h)
 
+  -- the same where the phyla are those of the definition
+  pub bare_of : (phyla : List Phylum) → phyla ≡ def.phyla → (o : Option ℕ) → IsFirstIf (LacksBracket phyla (cells_by bound_cell shapes) (cells_by asked_cell shapes)) o → (r : Option ℕ) → o ≡ r → IsFirstIf (NoBracket def) r
+  bare_of phyla e o h r f = subst (IsFirstIf (NoBracket def)) f (first_bare o (subst (λ p. IsFirstIf (LacksBracket p (cells_by bound_cell shapes) (cells_by asked_cell shapes)) o) e h))
+
   pub first_mixed : (o : Option (ℕ × ℕ)) → IsFirstPair (Mixes (cells_by form_cell shapes)) o → IsFirstPair (MixedLevel def) o
   first_mixed o h = of o (subst (λ s. IsFirstPair (Mixes (cells_by form_cell s)) o) read.shapes_are h) where
     of : (o : Option (ℕ × ℕ)) → IsFirstPair (Mixes (cells_by form_cell all_shapes)) o → IsFirstPair (MixedLevel def) o
     of None g = λ p n m. g p n (mixes_there def (length def.phyla + 4) words level_at p n m)
     of (Some (p, n)) g = pair_of (Mixes (cells_by form_cell all_shapes)) (MixedLevel def) (mixes_back def (length def.phyla + 4) words level_at) (mixes_there def (length def.phyla + 4) words level_at) (Some (p, n)) g
+
+  pub mixed_of : (o : Option (ℕ × ℕ)) → IsFirstPair (Mixes (cells_by form_cell shapes)) o → (r : Option (ℕ × ℕ)) → o ≡ r → IsFirstPair (MixedLevel def) r
+  mixed_of o h r f = subst (IsFirstPair (MixedLevel def)) f (first_mixed o h)
 
   -- ---- parts
 

@@ -1,13 +1,14 @@
 -- The tables of the check say of which terminals a condition fails.
 use Rattle.std.proofs.Common.{◌≡◌, ◌⊎◌, inl, inr, ℕ, zero, suc, ◌+◌, ◌<◌, ◌≤◌, ◌||◌, ◌&&◌, ◌==◌, Bool, true, false, List, [], ◌∷◌, ◌++◌, length, map, Option, Some, None, slice_get, refl, ap, sym, ◌∙◌, subst, arith, true≢false, eqb-true, eq-eqb}
 use Rattle.std.specs.List.{AllByRecursion}
+use Rattle.std.specs.Prelude.{codes}
 use Rattle.psg_terms.specs.Names.{Name}
 use Rattle.psg_grammar.specs.declared.types.Kind.TheVariants as kinds
 use Rattle.psg_grammar.specs.declared.types.Operator.{Operator}
 use Rattle.psg_grammar.specs.declared.types.Phylum.{Phylum}
 use Rattle.psg_grammar.specs.declared.types.ListKind.{ListKind}
 use Rattle.psg_grammar.specs.declared.types.Definition.{Definition}
-use Rattle.psg_class.specs.Terminals.{Terminal, fixed, open_bracket}
+use Rattle.psg_class.specs.Terminals.{Terminal, fixed, open_bracket, close_bracket}
 use Rattle.psg_class.specs.Follow.{Leads, Led, FirstOfList, Follow}
 use Rattle.psg_class.specs.Class.{SameFirst, two_operators, with_bracket, SameLed, two_led, LedFollows, led_behind, ListEnd, separator_behind, first_behind, NeverAny}
 use Rattle.psg_class.specs.Refusal.{IsFirst, IsFirstTerminal, IsFirstToken, FailsSome, is_before}
@@ -37,6 +38,12 @@ use Rattle.psg_class.proofs.ReadLaws.{known, phylum_at, shape_at, among_separato
 same_number : (n m : ℕ) → Some n ≡ Some m → n ≡ m
 same_number n m e = cc
 
+from_zero : (r p : ℕ) → r ≡ 0 + p → r ≡ p
+from_zero r p e = omega (arith, e)
+
+zero_more : (r : ℕ) → 0 + r ≡ r
+zero_more r = omega arith
+
 -- an answer for a table is one for the condition
 pub table_first : (def : Definition) (words : List Name) (Fails : ℕ → Terminal → Type 0) (height width : ℕ) (set : ℕ → ℕ → Bool) → IsTableOf def words Fails height width set
     → (b h w : ℕ) → b ≡ length def.phyla + 4 → h ≡ height → w ≡ width → (o : Option (ℕ × ℕ)) → IsFirstFailing b words h w set o → IsFirstOf def words Fails height o
@@ -45,6 +52,16 @@ table_first def words Fails height width set table b h w e f g o first =
       of : (o : Option (ℕ × ℕ)) → IsFirstFailing (length def.phyla + 4) words height width set o → IsFirstOf def words Fails height o
       of None x = never def words Fails height width set table x
       of (Some (r, c)) x = (first_inside def words Fails height width set table r c x, first_token def words Fails height width set table r c x)
+
+pub wide_of : (b m n w : ℕ) → b ≡ m → w ≡ b + n → w ≡ m + n
+wide_of b m n w e f = f ∙ ap (λ z. z + n) e
+
+-- the number of the bracket that opens
+pub bracket_number : (def : Definition) (words : List Name) (b n : ℕ) → b ≡ length def.phyla + 4 → Some n ≡ word_number b words (codes "(") → number_of def words open_bracket ≡ Some n
+bracket_number def words b n e f = ap (λ z. word_number z words (codes "(")) (sym e) ∙ sym f
+
+pub closing_number : (def : Definition) (words : List Name) (b n : ℕ) → b ≡ length def.phyla + 4 → Some n ≡ word_number b words (codes ")") → number_of def words close_bracket ≡ Some n
+closing_number def words b n e f = ap (λ z. word_number z words (codes ")")) (sym e) ∙ sym f
 
 -- ---- cells in range
 
@@ -93,12 +110,16 @@ module _ (def : Definition) (words : List Name) (shapes : List Shape) (read : Is
       let (t, num, l) = led_there def words (known def words shapes read) x.row x.column n (record { shape = s; at = there n s e; gives = f }) in
       (subst (λ p. p < length def.phyla) l.phylum (phylum_at def words shapes read n l.o l.found), small t x.column num)
 
-  pub inside_leads : (opening : ℕ) → number_of def words open_bracket ≡ Some opening → AreInside (length def.phyla) width (cells_from lead_cell shapes ++ bracket_cells opening 0 def.phyla)
+  inside_leads : (opening : ℕ) → number_of def words open_bracket ≡ Some opening → AreInside (length def.phyla) width (cells_from lead_cell shapes ++ bracket_cells opening 0 def.phyla)
   inside_leads opening num = inside_both (length def.phyla) width (cells_from lead_cell shapes) (bracket_cells opening 0 def.phyla) (inside_from (length def.phyla) width lead_cell shapes lead_inside)
       (inside_brackets (length def.phyla) width opening 0 def.phyla (small open_bracket opening num) (omega arith))
 
   pub inside_leds : AreInside (length def.phyla) width (cells_from led_cell shapes)
   inside_leds = inside_from (length def.phyla) width led_cell shapes led_inside
+
+  pub leads_inside : (opening : ℕ) → number_of def words open_bracket ≡ Some opening → (phyla : List Phylum) → phyla ≡ def.phyla → (cells : List Cell) → cells ≡ cells_from lead_cell shapes ++ bracket_cells opening 0 phyla → AreInside (length phyla) width cells
+  leads_inside opening num phyla e cells f = subst (λ p. AreInside (length p) width cells) (sym e)
+      (subst (AreInside (length def.phyla) width) (sym (f ∙ ap (λ p. cells_from lead_cell shapes ++ bracket_cells opening 0 p) e)) (inside_leads opening num))
 
   -- ---- the same first token
 
@@ -120,7 +141,7 @@ module _ (def : Definition) (words : List Name) (shapes : List Shape) (read : Is
         let (n, g) = once_there lead_cell r c shapes x in
         let (t, num, l) = leads_of r c n g in
         let o = opens_there opening 0 def.phyla r c z in
-        let at : slice_get def.phyla r ≡ Some o.phylum = ap (slice_get def.phyla) o.row ∙ o.at in
+        let at : slice_get def.phyla r ≡ Some o.phylum = ap (slice_get def.phyla) (from_zero r o.place o.row) ∙ o.at in
         let is : t ≡ open_bracket = same_terminal def words t open_bracket c num (op ∙ ap Some (sym o.column)) in
         (open_bracket, op ∙ ap Some (sym o.column), with_bracket o.phylum at o.bracketed n (subst (Leads def r n) is l)))
       | inr z ↦ absurd (opens_never_twice opening 0 def.phyla r c z)
@@ -139,7 +160,7 @@ module _ (def : Definition) (words : List Name) (shapes : List Shape) (read : Is
       let same : c ≡ opening = same_number c opening (sym num ∙ op) in
       (get_inside def.phyla r phylum at,
         (c, num, small open_bracket c num, twice_each r c (cells_from lead_cell shapes) (bracket_cells opening 0 def.phyla) (once_back lead_cell r c shapes n g)
-          (subst (λ z. once r z (bracket_cells opening 0 def.phyla) ≡ true) (sym same) (opens_back opening 0 def.phyla r phylum at b))))
+          (subst (λ z. once r z (bracket_cells opening 0 def.phyla) ≡ true) (sym same) (subst (λ z. once z opening (bracket_cells opening 0 def.phyla) ≡ true) (zero_more r) (opens_back opening 0 def.phyla r phylum at b)))))
 
   pub same_first_table : (opening : ℕ) → number_of def words open_bracket ≡ Some opening → (set : ℕ → ℕ → Bool) → ((r c : ℕ) → c < width → set r c ≡ twice r c (cells_from lead_cell shapes ++ bracket_cells opening 0 def.phyla)) → IsTableOf def words (SameFirst def) (length def.phyla) width set
   same_first_table opening op set exact = record {

@@ -63,7 +63,8 @@ fn hole_flags(alloc: Global, definition: &Definition) -> Result<Vec<bool>, Alloc
     ensures { IfOk result (λ v. AreHoles definition.now v.items) }
 {
     let found = declaring(alloc, definition)?;
-    empty_flags(alloc, found.as_slice())
+    let flags = empty_flags(alloc, found.as_slice())?;
+    Ok(flags)
 }
 
 fn empty_flags(alloc: Global, found: &[Vec<u32>]) -> Result<Vec<bool>, AllocError>

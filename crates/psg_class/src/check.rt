@@ -33,7 +33,8 @@ pub fn class_check(alloc: Global, definition: &Definition) -> Result<(), ClassFa
 {
     let vocabulary = Vocabulary::of(alloc, definition)?;
     let shapes = read_shapes(alloc, &vocabulary, definition.operators.as_slice())?;
-    check_all(alloc, definition, &vocabulary, shapes.as_slice())
+    check_all(alloc, definition, &vocabulary, shapes.as_slice())?;
+    Ok(())
 }
 
 fn check_all(

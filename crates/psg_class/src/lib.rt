@@ -1,4 +1,9 @@
 //! The grammar class: in a definition of the class no list of tokens can be read in two ways.
+//!
+//! The shortest useful call is `class_check(alloc, &definition)`. Where it refuses, `class_text(alloc, &definition, &fault)`
+//! is the text, as `refused MixedLevel Exp 3`. What a tree's tokens are, with its levels and brackets, stands in
+//! `specs/Yields`; what can begin a tree and stand behind it in `specs/Follow`; the eight conditions in `specs/Class`, and
+//! that a definition which fails none of them has only one tree for each kind, level and list of tokens in `specs/Only`.
 #![tactic(auto)]
 
 pub mod fault;
@@ -13,10 +18,3 @@ mod vocabulary;
 
 pub use check::class_check;
 pub use fault::{ClassFault, class_text};
-
-ghost use Rattle.psg_class.specs.Only.{ClassHasOnlyTrees};
-
-/// In a class each kind, level and list of tokens has at most one tree.
-pub fn class_has_only_trees()
-    ensures { ClassHasOnlyTrees }
-{}
