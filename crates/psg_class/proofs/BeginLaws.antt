@@ -1,18 +1,15 @@
 -- What can begin some parts, by the first of them.
-use Rattle.std.proofs.Common.{◌≡◌, ◌≢◌, ◌⊎◌, inl, inr, ℕ, zero, suc, ◌+◌, ◌<◌, ◌≤◌, ◌&&◌, Bool, true, false, List, [], ◌∷◌, ◌++◌, length, take, drop, get_or, Option, Some, None, slice_get, refl, ap, sym, ◌∙◌, subst, arith, add-one, true≢false}
-use Rattle.std.specs.Prelude.{◌↔◌}
+use Rattle.std.proofs.Common.{◌≡◌, ◌⊎◌, inl, inr, ℕ, zero, suc, ◌+◌, ◌<◌, true, false, List, [], ◌∷◌, ◌++◌, length, take, drop, get_or, Some, None, refl, ap, sym, ◌∙◌, subst, arith, add-one, true≢false}
 use Rattle.psg_grammar.specs.declared.types.Kind.{Kind}
 use Rattle.psg_grammar.specs.declared.types.Kind.TheVariants as kinds
-use Rattle.psg_class.specs.Grids.{IsCell}
 use Rattle.psg_class.specs.declared.grid.Cell.{Cell}
 use Rattle.psg_class.specs.declared.shape.Part.{Part}
 use Rattle.psg_class.specs.declared.shape.Part.TheVariants as parts
 use Rattle.psg_class.specs.declared.shape.Shape.{Shape}
 use Rattle.psg_class.specs.declared.sources.Rows.{Rows}
 use Rattle.psg_class.specs.declared.sources.Draft.{Draft}
-use Rattle.psg_class.specs.Sources.{Adds, NoLink, OneCell, Either, Below, IsDraft, IsRows, IsKind, IsPartOf, ArePartsOf, IsShapeOf, LeadFact, IsOnly, TokenIn, SlotIn, can_end, BeginFact, BeginLink, first_row, kind_index, is_phylum_kind}
+use Rattle.psg_class.specs.Sources.{Adds, NoLink, OneCell, Either, IsRows, IsKind, IsPartOf, IsShapeOf, LeadFact, IsOnly, TokenIn, SlotIn, can_end, BeginFact, BeginLink, first_row, kind_index, is_phylum_kind}
 use Rattle.psg_class.proofs.Drafts.{adds_as, adds_both}
-use Rattle.psg_class.proofs.FormCells.{get_at}
 
 split_suc : {X : Type 0} (xs : List X) (n : ℕ) (d : X) → n < length xs → xs ≡ take n xs ++ get_or xs n d ∷ drop (suc n) xs
 split_suc [] n d h = absurd (omega arith)

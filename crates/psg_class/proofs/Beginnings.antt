@@ -6,7 +6,7 @@ use Rattle.psg_grammar.specs.declared.types.Item.TheVariants as items
 use Rattle.psg_grammar.specs.declared.types.Operator.{Operator}
 use Rattle.psg_grammar.specs.declared.types.Definition.{Definition}
 use Rattle.psg_grammar.specs.Fragments.{Fragment}
-use Rattle.psg_class.specs.Terminals.{open_bracket, close_bracket, Token, word, numeral, quoted, dots, Terminal, fixed, a_name, a_number, a_text, a_hole, a_more, terminal_of, item_terminal, next_terminal}
+use Rattle.psg_class.specs.Terminals.{Token, word, numeral, quoted, dots, Terminal, fixed, a_name, a_number, a_text, a_hole, a_more, terminal_of, item_terminal, next_terminal}
 use Rattle.psg_class.specs.Places.{solid}
 use Rattle.psg_class.specs.Follow.{First, first_operator, first_hole, first_bracket, FirstOfList, first_element, first_more, BeginsWith, CanBeEmpty}
 use Rattle.psg_class.proofs.ClassFacts.{ClassFacts}

@@ -1,5 +1,5 @@
 -- Led operators and lists, by the sets of what can stand behind them.
-use Rattle.std.proofs.Common.{◌≡◌, ◌⊎◌, inl, inr, ℕ, zero, suc, ◌+◌, ◌<◌, ◌≤◌, ◌||◌, ◌&&◌, ◌==◌, Bool, true, false, List, [], ◌∷◌, length, map, get_or, Option, Some, None, slice_get, is_some, refl, ap, ap₂, sym, ◌∙◌, subst, arith, true≢false, eqb-true, eq-eqb}
+use Rattle.std.proofs.Common.{◌≡◌, inl, inr, ℕ, suc, ◌+◌, ◌<◌, ◌||◌, ◌&&◌, ◌==◌, Bool, true, false, List, [], ◌∷◌, length, map, Option, Some, None, slice_get, is_some, refl, ap, ap₂, sym, ◌∙◌, subst, arith, true≢false, eqb-true, eq-eqb}
 use Rattle.std.specs.Prelude.{◌↔◌, IfSome, Vec, Contains}
 use Rattle.std.specs.declared.alloc.Global.{Global}
 use Rattle.psg_terms.specs.Names.{Name, is_among}
@@ -14,15 +14,14 @@ use Rattle.psg_grammar.specs.Sound.{IsListKind}
 use Rattle.psg_grammar.specs.WellFormed.{fixed_words, operator_words, separators}
 use Rattle.psg_grammar.proofs.SoundParts.{each_at}
 use Rattle.psg_class.specs.Terminals.{Terminal, fixed, open_bracket, close_bracket}
-use Rattle.psg_class.specs.Follow.{Leads, Led, HasHoles, FirstOfList, first_element, first_more, Follow}
+use Rattle.psg_class.specs.Follow.{HasHoles, FirstOfList, first_element, first_more, Follow}
 use Rattle.psg_class.specs.Class.{LedFollows, led_behind, ListEnd, separator_behind, first_behind}
-use Rattle.psg_class.specs.Refusal.{IsFirst, is_before}
-use Rattle.psg_class.specs.Numbers.{number_of, number_text, is_number_before, word_number}
+use Rattle.psg_class.specs.Numbers.{number_of, is_number_before, word_number}
 use Rattle.psg_class.specs.Shapes.{shape_of}
 use Rattle.psg_class.specs.Forms.{cell_of}
 use Rattle.psg_class.specs.Grids.{is_set, IsTable}
-use Rattle.psg_class.specs.Sources.{IsRows, AreRows, IsKind, IsShapeOf, first_row, follow_row, kind_index, Parts, AreParts, Grown, parts_with}
-use Rattle.psg_class.specs.Failing.{led_cell, LedBehind, LedClash, LedClashes, IsFirstLed, ends, is_number}
+use Rattle.psg_class.specs.Sources.{IsRows, AreRows, IsKind, follow_row, kind_index, Parts, AreParts, Grown, parts_with}
+use Rattle.psg_class.specs.Failing.{led_cell, LedClash, IsFirstLed, ends, is_number}
 use Rattle.psg_class.specs.Checks.{IsRead, IsFirstOf, IsSetOf, AreSets, AreHoles, has_none, separator_number, number_or}
 use Rattle.psg_class.specs.declared.grid.Grid.{Grid}
 use Rattle.psg_class.specs.declared.shape.Part.{Part}
@@ -90,7 +89,7 @@ holes_are def found flags one exact search e = record {
       | inl y ↦ absurd (empty v.items (sym same ∙ t) s ((are.exact s).1 ((search s (kinds.Phylum p)).0 y)))
       | inr n ↦ n
     ]),
-    (λ h. same ∙ some v.items (λ s k. true≢false (sym ((search s (kinds.Phylum p)).1 ((are.exact s).0 k)) ∙ h s)))
+    (λ h. same ∙ some v.items (λ s k. true≢false (sym ((search s (kinds.Phylum p)).1 ((are.exact s).0 k)) ∙ h s))),
   )
 
 -- ---- separators
@@ -132,16 +131,30 @@ module _ (def : Definition) (words : List Name) (among : (w : Name) → is_among
         let h = get_inside def.lists l k found in
         let (c, num, lt, e) = (sets.follows (kinds.List l) (list_kind l h)).complete (fixed k.separator) f in
         let at : slice_get s.separators.items l ≡ Some (separator_number (length def.phyla + 4) words k) = ap (λ z. slice_get z l) sets.separators ∙ get_map (separator_number (length def.phyla + 4) words) def.lists l k found in
-        let same : c ≡ separator_number (length def.phyla + 4) words k = same_number c (separator_number (length def.phyla + 4) words k) (sym num ∙ separator_known l k found) in
-        (h, (c, num, lt, and_both (is_set s.grid (s.rows.kinds + (s.rows.phyla + l)) c) (is_set s.grid (s.rows.phyla + l) c || is_number (slice_get s.separators.items l) c) e
-          (or_right (is_set s.grid (s.rows.phyla + l) c) (is_number (slice_get s.separators.items l) c) (ap (λ o. is_number o c) at ∙ eq-eqb c (separator_number (length def.phyla + 4) words k) same))))
+        let same : c ≡ separator_number (length def.phyla + 4) words k = same_number c (separator_number (length def.phyla + 4) words k) (sym num ∙ separator_known l k found) in (
+          h,
+          (
+            c,
+            num,
+            lt,
+            and_both (is_set s.grid (s.rows.kinds + (s.rows.phyla + l)) c) (is_set s.grid (s.rows.phyla + l) c || is_number (slice_get s.separators.items l) c) e
+                (or_right (is_set s.grid (s.rows.phyla + l) c) (is_number (slice_get s.separators.items l) c) (ap (λ o. is_number o c) at ∙ eq-eqb c (separator_number (length def.phyla + 4) words k) same)),
+          ),
+        )
     end_back l t (first_behind g f) =
         let h = list_there l t g in
         let (c, num, lt, e) = (sets.lists l h).complete t g in
         let (d, num', lt', e') = (sets.follows (kinds.List l) (list_kind l h)).complete t f in
-        let same : d ≡ c = same_number d c (sym num' ∙ num) in
-        (h, (c, num, lt, and_both (is_set s.grid (s.rows.kinds + (s.rows.phyla + l)) c) (is_set s.grid (s.rows.phyla + l) c || is_number (slice_get s.separators.items l) c) (subst (λ z. is_set s.grid (s.rows.kinds + (s.rows.phyla + l)) z ≡ true) same e')
-          (or_left (is_set s.grid (s.rows.phyla + l) c) (is_number (slice_get s.separators.items l) c) e)))
+        let same : d ≡ c = same_number d c (sym num' ∙ num) in (
+          h,
+          (
+            c,
+            num,
+            lt,
+            and_both (is_set s.grid (s.rows.kinds + (s.rows.phyla + l)) c) (is_set s.grid (s.rows.phyla + l) c || is_number (slice_get s.separators.items l) c) (subst (λ z. is_set s.grid (s.rows.kinds + (s.rows.phyla + l)) z ≡ true) same e')
+                (or_left (is_set s.grid (s.rows.phyla + l) c) (is_number (slice_get s.separators.items l) c) e),
+          ),
+        )
 
     pub list_end_table : IsTableOf def words (ListEnd def) (length def.lists) width (ends s.rows s.grid s.separators.items)
     list_end_table = record { sound = λ l c h lt e. end_there l c h lt e; complete = end_back }
@@ -174,12 +187,15 @@ module _ (def : Definition) (words : List Name) (shapes : List Shape) (read : Is
         let g : Gives led_cell shapes p c n = subst (λ z. Gives led_cell z p c n) (sym read.shapes_are) made in
         let (x, y) = led_cell_is g.shape p c g.gives in
         let h : p < s.rows.phyla = subst (λ z. z < s.rows.phyla) x (shape_at def words shapes read s.rows sets.sizes width wide n g.shape g.at).phylum in
-        let (d, num', lt, e) = (sets.follows (kinds.Phylum p) h).complete t f in
-        (c, num, record {
-          shape = g.shape;
-          at = g.at;
-          behind = (g.gives ∙ ap (λ q. Some (cell_of q c)) (sym x), ap₂ (λ q k. is_set s.grid (s.rows.kinds + q) k) x (same_number c d (sym num ∙ num')) ∙ e);
-        })
+        let (d, num', lt, e) = (sets.follows (kinds.Phylum p) h).complete t f in (
+          c,
+          num,
+          record {
+            shape = g.shape;
+            at = g.at;
+            behind = (g.gives ∙ ap (λ q. Some (cell_of q c)) (sym x), ap₂ (λ q k. is_set s.grid (s.rows.kinds + q) k) x (same_number c d (sym num ∙ num')) ∙ e);
+          },
+        )
 
     clash_same : (n c d : ℕ) → LedClash s.rows s.grid shapes n c → LedClash s.rows s.grid shapes n d → d ≡ c
     clash_same n c d x y =
@@ -192,11 +208,17 @@ module _ (def : Definition) (words : List Name) (shapes : List Shape) (read : Is
     led_first None h = λ n t f. (let (c, num, x) = clash_back n t f in h n (c, x))
     led_first (Some (n, c)) ((some, before), x) =
         let (t, num, f) = clash_there n c x in
-        let (o, found, e) = map_get (shape_of (length def.phyla + 4) words) def.operators n x.shape (there n x.shape x.at) in
-        (get_inside def.operators n o found,
-          (((t, f), λ m lt g. (let (d, num', y) = clash_back m g.0 g.1 in before m lt (d, y))),
-            (t, (f, λ u g. (let (d, num', y) = clash_back n u g in same_order def words u t d c num' num ∙ ap (λ z. is_number_before (length def.phyla + 4) words z c) (clash_same n c d x y) ∙ number_self (length def.phyla + 4) words c)),
-              same_text def words t c num)))
+        let (o, found, e) = map_get (shape_of (length def.phyla + 4) words) def.operators n x.shape (there n x.shape x.at) in (
+          get_inside def.operators n o found,
+          (
+            ((t, f), λ m lt g. (let (d, num', y) = clash_back m g.0 g.1 in before m lt (d, y))),
+            (
+              t,
+              (f, λ u g. (let (d, num', y) = clash_back n u g in same_order def words u t d c num' num ∙ ap (λ z. is_number_before (length def.phyla + 4) words z c) (clash_same n c d x y) ∙ number_self (length def.phyla + 4) words c)),
+              same_text def words t c num,
+            ),
+          ),
+        )
 
   -- ---- the sets
 
@@ -253,14 +275,14 @@ module _ (def : Definition) (words : List Name) (shapes : List Shape) (read : Is
       lists_are l h = record {
         sound = λ c lt e. (means def words whole width describes are_parts ((exact (rows.phyla + l) c (first_high (kinds.List l) (list_in l h)) lt).0 e)).firsts (kinds.List l) (list_in l h) refl;
         complete = λ t f. (let (c, num, x) = has_list def words whole width describes are_parts l t f in
-          (c, num, small t c num, (exact (rows.phyla + l) c (first_high (kinds.List l) (list_in l h)) (small t c num)).1 x));
+            (c, num, small t c num, (exact (rows.phyla + l) c (first_high (kinds.List l) (list_in l h)) (small t c num)).1 x));
       }
 
       pub follows_are : (k : Kind) → IsKind rows k → IsSetOf def words width (is_set g (follow_row rows k)) (Follow def k)
       follows_are k h = record {
         sound = λ c lt e. (means def words whole width describes are_parts ((exact (follow_row rows k) c (follow_high k h) lt).0 e)).follows k h refl;
         complete = λ t f. (let (c, num, x) = has_follow def words whole width describes are_parts f in
-          (c, num, small t c num, (exact (follow_row rows k) c (follow_high k h) (small t c num)).1 x));
+            (c, num, small t c num, (exact (follow_row rows k) c (follow_high k h) (small t c num)).1 x));
       }
 
   -- the same where the phyla and lists are those of the definition

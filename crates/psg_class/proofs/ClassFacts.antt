@@ -1,7 +1,5 @@
 -- What the eight conditions say of a class, as facts on its operators.
-use Rattle.std.proofs.Common.{◌≡◌, ◌≢◌, ◌⊎◌, inl, inr, ℕ, ◌==◌, ◌≤◌, ◌<◌, ◌&&◌, ◌||◌, not, length, Bool, true, false, List, [], ◌∷◌, ◌++◌, Option, Some, None, slice_get, is_some, refl, sym, ap, ◌∙◌, subst, arith, eqb-true, eq-eqb, true≢false}
-use Rattle.std.specs.Prelude.{nat_le}
-use Rattle.psg_grammar.specs.declared.types.Kind.{Kind}
+use Rattle.std.proofs.Common.{◌≡◌, ◌≢◌, ◌⊎◌, inl, inr, ℕ, ◌==◌, ◌≤◌, ◌<◌, ◌&&◌, ◌||◌, not, Bool, true, false, List, [], ◌∷◌, ◌++◌, Option, Some, None, slice_get, is_some, refl, sym, ap, ◌∙◌, arith, eqb-true, eq-eqb, true≢false}
 use Rattle.psg_grammar.specs.declared.types.Kind.TheVariants as kinds
 use Rattle.psg_grammar.specs.declared.types.Level.{Level}
 use Rattle.psg_grammar.specs.declared.types.Level.TheVariants as levels
@@ -15,7 +13,7 @@ use Rattle.psg_grammar.specs.Levels.{level_number, is_slot_of}
 use Rattle.psg_class.specs.Terminals.{Terminal, fixed, open_bracket, item_terminal}
 use Rattle.psg_class.specs.Places.{solid, is_empty, slot_level}
 use Rattle.psg_class.specs.Follow.{Leads, Led, FirstOfList, Follow}
-use Rattle.psg_class.specs.Class.{is_token, token_first, token_last, own_first, own_last, begins_well, has_form, number_of, NoFirst, BadForm, NoBracket, MixedLevel, two_operators, with_bracket, two_led, led_behind, separator_behind, first_behind, Never, IsClass}
+use Rattle.psg_class.specs.Class.{is_token, token_first, token_last, own_first, own_last, begins_well, has_form, number_of, two_operators, with_bracket, two_led, led_behind, separator_behind, first_behind, IsClass}
 
 -- a token item first
 pub record TokenFirst (o : Operator) : Type 0 where

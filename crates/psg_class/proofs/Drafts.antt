@@ -1,7 +1,7 @@
 -- Drafts: cells and links that are added one after the other.
-use Rattle.std.proofs.Common.{◌≡◌, ◌≢◌, ◌⊎◌, inl, inr, ℕ, zero, suc, ◌+◌, ◌<◌, ◌≤◌, Bool, true, false, List, [], ◌∷◌, ◌++◌, length, Contains, refl, ap, ap₂, sym, ◌∙◌, subst, arith}
+use Rattle.std.proofs.Common.{◌≡◌, ◌≢◌, ◌⊎◌, inl, inr, ℕ, ◌+◌, ◌<◌, true, List, [], ◌∷◌, ◌++◌, Contains, refl, ap, sym, ◌∙◌, subst, arith}
 use Rattle.std.proofs.lemmas.List.Elements.{Contains-append_left, Contains-push, Contains-push_cases}
-use Rattle.psg_class.specs.Grids.{IsGrid, is_set, IsCell, IsSameSize, IsTable, AreLinks}
+use Rattle.psg_class.specs.Grids.{IsGrid, is_set, IsCell, IsSameSize, AreLinks}
 use Rattle.psg_class.specs.declared.grid.Grid.{Grid}
 use Rattle.psg_class.specs.declared.grid.Link.{Link}
 use Rattle.psg_class.specs.declared.sources.Draft.{Draft}

@@ -1,8 +1,7 @@
 -- Cells in order, and the number that is named first.
-use Rattle.std.proofs.Common.{◌≡◌, ◌≢◌, ◌⊎◌, inl, inr, ℕ, zero, suc, ◌+◌, ◌<◌, ◌≤◌, Bool, true, false, cond, List, [], ◌∷◌, ◌++◌, length, take, get_or, Option, Some, None, slice_get, refl, ap, ap₂, sym, ◌∙◌, subst, arith, append_assoc, append-nil, true≢false, nat_cmp, is_lt, Ordering, Less, Equal, Greater}
-use Rattle.std.specs.Prelude.{nat_lt, MatchOption}
+use Rattle.std.proofs.Common.{◌≡◌, ◌⊎◌, inl, inr, ℕ, suc, ◌+◌, ◌<◌, Bool, true, false, cond, List, [], ◌∷◌, ◌++◌, length, take, get_or, Option, Some, None, refl, ap, sym, ◌∙◌, subst, arith, append_assoc, append-nil, true≢false, nat_cmp, is_lt, Ordering, Less, Equal, Greater}
+use Rattle.std.specs.Prelude.{nat_lt}
 use Rattle.std.specs.Ordering.{ordering_reverse}
-use Rattle.std.specs.Cmp.{IsTotalOrder}
 use Rattle.std.specs.Cmp.Lexicographic.{slice_cmp}
 use Rattle.std.proofs.lemmas.Cmp.{nat_list_cmp_total}
 use Rattle.std.proofs.lemmas.Bool.{ltb-true}
@@ -11,7 +10,7 @@ use Rattle.psg_terms.specs.Names.{Name}
 use Rattle.psg_grammar.specs.declared.types.Phylum.{Phylum}
 use Rattle.psg_class.specs.Shapes.{listed}
 use Rattle.psg_class.specs.Numbers.{is_number_before, words_before, word_at}
-use Rattle.psg_class.specs.Failing.{IsLeast, IsLeastIf, first_number, cells_from, bracket_cell, bracket_cells}
+use Rattle.psg_class.specs.Failing.{IsLeastIf, first_number, cells_from, bracket_cell, bracket_cells}
 use Rattle.psg_class.specs.declared.grid.Cell.{Cell}
 use Rattle.psg_class.specs.declared.shape.Shape.{Shape}
 use Rattle.psg_class.proofs.ClassFacts.{either}
@@ -82,25 +81,37 @@ abbrev Good : ℕ → List Name → (ℕ → Bool) → ℕ → ℕ → Type 0
 Good base words set n k = (k < n + 1) × (set k ≡ true) × ((m : ℕ) → m < n + 1 → set m ≡ true → is_number_before base words m k ≡ false)
 
 pub least_more : (base : ℕ) (words : List Name) (set : ℕ → Bool) (n : ℕ) (o : Option ℕ) → IsLeastIf base words set n o → set n ≡ true → IsLeastIf base words set (n + 1) (Some (first_number base words o n))
-least_more base words set n None h here = (omega arith, here, λ m lt e. elim (number_cases m n) [
-  | inl x ↦ subst (λ z. is_number_before base words z n ≡ false) (sym x) (number_self base words n)
-  | inr x ↦ absurd (true≢false (sym e ∙ h m (omega arith)))
-])
+least_more base words set n None h here = (
+  omega arith,
+  here,
+  λ m lt e. elim (number_cases m n) [
+    | inl x ↦ subst (λ z. is_number_before base words z n ≡ false) (sym x) (number_self base words n)
+    | inr x ↦ absurd (true≢false (sym e ∙ h m (omega arith)))
+  ],
+)
 least_more base words set n (Some b) (lt, e, h) here = choose (either (is_number_before base words n b)) where
   new : is_number_before base words n b ≡ true → Good base words set n n
-  new t = (omega arith, here, λ m lt' x. elim (number_cases m n) [
-    | inl y ↦ subst (λ z. is_number_before base words z n ≡ false) (sym y) (number_self base words n)
-    | inr y ↦ (elim (either (is_number_before base words m n)) [
-      | inl z ↦ absurd (true≢false (sym (number_trans base words m n b z t) ∙ h m (omega arith) x))
-      | inr z ↦ z
-    ])
-  ])
+  new t = (
+    omega arith,
+    here,
+    λ m lt' x. elim (number_cases m n) [
+      | inl y ↦ subst (λ z. is_number_before base words z n ≡ false) (sym y) (number_self base words n)
+      | inr y ↦ (elim (either (is_number_before base words m n)) [
+        | inl z ↦ absurd (true≢false (sym (number_trans base words m n b z t) ∙ h m (omega arith) x))
+        | inr z ↦ z
+      ])
+    ],
+  )
 
   old : is_number_before base words n b ≡ false → Good base words set n b
-  old t = (omega arith, e, λ m lt' x. elim (number_cases m n) [
-    | inl y ↦ subst (λ z. is_number_before base words z b ≡ false) (sym y) t
-    | inr y ↦ h m (omega arith) x
-  ])
+  old t = (
+    omega arith,
+    e,
+    λ m lt' x. elim (number_cases m n) [
+      | inl y ↦ subst (λ z. is_number_before base words z b ≡ false) (sym y) t
+      | inr y ↦ h m (omega arith) x
+    ],
+  )
 
   choose : (is_number_before base words n b ≡ true) ⊎ (is_number_before base words n b ≡ false) → Good base words set n (cond (is_number_before base words n b) n b)
   choose (inl t) = subst (Good base words set n) (sym (ap (λ c. cond c n b) t)) (new t)
@@ -108,7 +119,11 @@ least_more base words set n (Some b) (lt, e, h) here = choose (either (is_number
 
 pub least_same : (base : ℕ) (words : List Name) (set : ℕ → Bool) (n : ℕ) (o : Option ℕ) → IsLeastIf base words set n o → set n ≡ false → IsLeastIf base words set (n + 1) o
 least_same base words set n None h here = λ m lt. elim (number_cases m n) [ inl x ↦ subst (λ z. set z ≡ false) (sym x) here | inr x ↦ h m (omega arith) ]
-least_same base words set n (Some b) (lt, e, h) here = (omega arith, e, λ m lt' x. elim (number_cases m n) [
-  | inl y ↦ absurd (true≢false (sym (subst (λ z. set z ≡ true) y x) ∙ here))
-  | inr y ↦ h m (omega arith) x
-])
+least_same base words set n (Some b) (lt, e, h) here = (
+  omega arith,
+  e,
+  λ m lt' x. elim (number_cases m n) [
+    | inl y ↦ absurd (true≢false (sym (subst (λ z. set z ≡ true) y x) ∙ here))
+    | inr y ↦ h m (omega arith) x
+  ],
+)

@@ -1,17 +1,16 @@
 -- Cells of the levels and forms of shapes.
-use Rattle.std.proofs.Common.{◌≡◌, ◌≢◌, ◌⊎◌, inl, inr, ℕ, zero, suc, ◌+◌, ◌*◌, ◌-◌, ◌<◌, ◌≤◌, ◌==◌, ◌&&◌, ◌||◌, Bool, true, false, cond, max, List, [], ◌∷◌, map, length, get_or, Option, Some, None, slice_get, refl, ap, ap₂, sym, ◌∙◌, subst, arith, eqb-true, eq-eqb, true≢false}
+use Rattle.std.proofs.Common.{◌≡◌, ◌≢◌, inl, inr, ℕ, zero, suc, ◌+◌, ◌*◌, ◌<◌, ◌==◌, Bool, true, false, cond, max, List, [], ◌∷◌, map, length, get_or, Option, Some, None, slice_get, refl, sym, ◌∙◌, subst, arith, eqb-true, eq-eqb, true≢false}
 use Rattle.std.specs.Prelude.{MatchOption, IfSome, IfNone}
 use Rattle.psg_grammar.specs.declared.types.Level.{Level}
 use Rattle.psg_grammar.specs.declared.types.Level.TheVariants as levels
 use Rattle.psg_grammar.specs.declared.types.Phylum.{Phylum}
 use Rattle.psg_grammar.specs.Levels.{first_level, last_level, level_number}
 use Rattle.psg_grammar.specs.Sound.{IsLevel}
-use Rattle.psg_class.specs.Class.{Never}
 use Rattle.psg_class.specs.Refusal.{IsFirst}
 use Rattle.psg_class.specs.Grids.{is_at, once, AreInside}
 use Rattle.psg_class.specs.declared.grid.Cell.{Cell}
 use Rattle.psg_class.specs.declared.shape.Shape.{Shape}
-use Rattle.psg_class.specs.Forms.{own_first, own_last, asks, bound_cell, asked_cell, form_cell, form_code, AreInPhyla, HaveLevels, IsBelow, LacksBracket, Mixes, MixesAny, IsFirstIf, IsFirstPair}
+use Rattle.psg_class.specs.Forms.{own_first, own_last, asks, bound_cell, asked_cell, form_cell, form_code, AreInPhyla, HaveLevels, LacksBracket, Mixes, MixesAny, IsFirstIf, IsFirstPair}
 use Rattle.psg_class.proofs.ClassFacts.{either, and_left, and_right, or_cases}
 
 pub get_inside : {X : Type 0} (xs : List X) (n : ℕ) (x : X) → slice_get xs n ≡ Some x → n < length xs
@@ -100,9 +99,6 @@ form_inside phyla [] h k = tt
 form_inside phyla (s ∷ rest) (h, hs) (k, ks) = ((h, code_small s.level k), form_inside phyla rest hs ks)
 
 -- ---- tables that agree
-
-
-
 
 pub lacks_same : (phyla : List Phylum) (bound asked b a : ℕ → ℕ → Bool) → ((r c : ℕ) → c < 11 → bound r c ≡ b r c) → ((r c : ℕ) → c < 11 → asked r c ≡ a r c) → (p : ℕ) → LacksBracket phyla bound asked p → LacksBracket phyla b a p
 lacks_same phyla bound asked b a h k p l = record {

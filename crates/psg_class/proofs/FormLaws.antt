@@ -1,28 +1,26 @@
 -- The conditions on operators, by their shapes.
-use Rattle.std.proofs.Common.{◌≡◌, ◌≢◌, ◌⊎◌, inl, inr, ℕ, zero, suc, ◌+◌, ◌*◌, ◌-◌, ◌<◌, ◌≤◌, ◌==◌, ◌&&◌, ◌||◌, not, Bool, true, false, cond, max, List, [], ◌∷◌, ◌++◌, length, map, Option, Some, None, slice_get, refl, ap, ap₂, sym, ◌∙◌, subst, arith, true≢false, eqb-true, eq-eqb}
-use Rattle.std.specs.Prelude.{option_map, nat_lt}
+use Rattle.std.proofs.Common.{◌≡◌, ◌≢◌, ◌⊎◌, inl, inr, ℕ, zero, suc, ◌+◌, ◌*◌, ◌<◌, ◌≤◌, ◌==◌, ◌&&◌, ◌||◌, Bool, true, false, cond, max, List, [], ◌∷◌, ◌++◌, map, Option, Some, None, slice_get, refl, ap, ap₂, sym, ◌∙◌, subst, arith, true≢false, eqb-true, eq-eqb}
+use Rattle.std.specs.Prelude.{nat_lt}
 use Rattle.std.proofs.lemmas.Bool.{ltb-true}
-use Rattle.psg_terms.specs.Names.{Name, is_among}
+use Rattle.psg_terms.specs.Names.{Name}
 use Rattle.psg_grammar.specs.declared.types.Kind.TheVariants as kinds
 use Rattle.psg_grammar.specs.declared.types.Level.{Level}
 use Rattle.psg_grammar.specs.declared.types.Level.TheVariants as levels
 use Rattle.psg_grammar.specs.declared.types.Item.{Item}
 use Rattle.psg_grammar.specs.declared.types.Item.TheVariants as items
 use Rattle.psg_grammar.specs.declared.types.Operator.{Operator}
-use Rattle.psg_grammar.specs.declared.types.Phylum.{Phylum}
 use Rattle.psg_grammar.specs.declared.types.Definition.{Definition}
-use Rattle.psg_grammar.specs.Levels.{level_number, first_level, last_level, is_slot_of}
+use Rattle.psg_grammar.specs.Levels.{level_number, first_level, last_level}
 use Rattle.psg_grammar.specs.Sound.{IsLevel}
-use Rattle.psg_class.specs.Places.{solid, is_empty, slot_level, is_own as is_own_kind}
-use Rattle.psg_class.specs.Class.{own_first, own_last, number_of, NoFirst, BadForm, NoBracket, MixedLevel, Never}
+use Rattle.psg_class.specs.Places.{solid, is_empty, slot_level}
+use Rattle.psg_class.specs.Class.{own_first, own_last, number_of, NoFirst, BadForm, NoBracket, MixedLevel}
 use Rattle.psg_class.specs.Shapes.{shape_of, parts_of}
 use Rattle.psg_class.specs.Grids.{is_at, once}
-use Rattle.psg_class.specs.Forms.{starts, fits, asks, is_own, own_first as shape_own_first, own_last as shape_own_last, bound_cell, asked_cell, form_cell, form_code, cells_by, FailsTest, LacksBracket, IsBelow, Mixes, levels_width}
+use Rattle.psg_class.specs.Forms.{starts, fits, asks, own_first as shape_own_first, own_last as shape_own_last, bound_cell, asked_cell, form_cell, form_code, cells_by, FailsTest, LacksBracket, Mixes}
 use Rattle.psg_class.specs.declared.grid.Cell.{Cell}
 use Rattle.psg_class.specs.declared.shape.Shape.{Shape}
 use Rattle.psg_class.proofs.ClassFacts.{either, and_left, and_right, or_cases, own_at_end, slot_is, same_or_not}
 use Rattle.psg_class.proofs.PartLaws.{Known, starts_same, fits_same, first_own, last_own, match_of}
-use Rattle.psg_class.proofs.Closing.{number_cases}
 
 -- ---- items of a mapped list
 

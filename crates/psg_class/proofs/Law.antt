@@ -1,5 +1,5 @@
 -- In a class each kind, level and list of tokens has at most one tree.
-use Rattle.std.proofs.Common.{◌≡◌, ℕ, Bool, List, [], Some, None, subst, append-nil}
+use Rattle.std.proofs.Common.{◌≡◌, ℕ, List, [], Some, None, subst, append-nil}
 use Rattle.psg_grammar.specs.declared.types.Kind.{Kind}
 use Rattle.psg_grammar.specs.declared.types.Kind.TheVariants as kinds
 use Rattle.psg_grammar.specs.declared.types.Definition.{Definition}

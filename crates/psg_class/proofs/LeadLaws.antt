@@ -1,6 +1,5 @@
 -- First and second tokens of operators, by their shapes.
-use Rattle.std.proofs.Common.{◌≡◌, ◌≢◌, ◌⊎◌, inl, inr, ℕ, zero, suc, ◌+◌, ◌<◌, Bool, true, false, List, [], ◌∷◌, ◌++◌, length, map, drop, Option, Some, None, slice_get, refl, ap, ap₂, sym, ◌∙◌, subst, arith, add-one, true≢false}
-use Rattle.std.specs.Prelude.{option_map}
+use Rattle.std.proofs.Common.{◌≡◌, ℕ, zero, suc, ◌+◌, List, [], ◌∷◌, ◌++◌, length, map, drop, Option, Some, None, slice_get, refl, ap, ap₂, sym, ◌∙◌, subst, arith}
 use Rattle.psg_terms.specs.Names.{Name}
 use Rattle.psg_grammar.specs.declared.types.Kind.{Kind}
 use Rattle.psg_grammar.specs.declared.types.Item.{Item}
@@ -181,12 +180,15 @@ module _ (def : Definition) (words : List Name) where
 
     pub led_back : (r n : ℕ) (t : Terminal) → Led def r n t → (c : ℕ) × (number_of def words t ≡ Some c) × Gives led_cell (map (shape_of (length def.phyla + 4) words) def.operators) r c n
     led_back r n t l =
-        let (c, h, e, f) = of_led r n t l in
-        (c, h, record {
-          shape = shape_of (length def.phyla + 4) words l.o;
-          at = get_map (shape_of (length def.phyla + 4) words) def.operators n l.o l.found;
-          gives = ap₂ (behind_slot l.o.phylum) e f ∙ ap (λ p. Some (cell_of p c)) l.phylum;
-        })
+        let (c, h, e, f) = of_led r n t l in (
+          c,
+          h,
+          record {
+            shape = shape_of (length def.phyla + 4) words l.o;
+            at = get_map (shape_of (length def.phyla + 4) words) def.operators n l.o l.found;
+            gives = ap₂ (behind_slot l.o.phylum) e f ∙ ap (λ p. Some (cell_of p c)) l.phylum;
+          },
+        )
 
 -- the row and the second part of a shape with a cell
 pub led_cell_is : (s : Shape) (r c : ℕ) → led_cell s ≡ Some (cell_of r c) → (s.phylum ≡ r) × (slice_get s.parts 1 ≡ Some (parts.Token c))

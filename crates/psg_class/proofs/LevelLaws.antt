@@ -10,7 +10,7 @@ use Rattle.psg_grammar.specs.declared.types.Operator.{Operator}
 use Rattle.psg_grammar.specs.declared.types.Definition.{Definition}
 use Rattle.psg_class.specs.Terminals.{Terminal, item_terminal}
 use Rattle.psg_grammar.specs.Levels.{level_number, first_level, last_level}
-use Rattle.psg_class.specs.Places.{slot_level, is_own, is_empty, solid, is_own_last}
+use Rattle.psg_class.specs.Places.{slot_level, is_own, solid, is_own_last}
 use Rattle.psg_class.specs.Follow.{Led}
 use Rattle.psg_class.specs.Class.{number_of}
 use Rattle.psg_class.proofs.ClassFacts.{TokenFirst, OwnLast, HasForm, ClassFacts}

@@ -1,6 +1,5 @@
 -- The parser with a stack of its own: what is left to do, and that each step keeps the results.
-use Rattle.std.proofs.Common.{◌≡◌, ◌↔◌, arith, ◌⊎◌, inl, inr, ℕ, zero, suc, max, ◌+◌, ◌<◌, ◌≤◌, Bool, true, false, List, [], ◌∷◌, ◌++◌, Option, Some, None, slice_get, refl, sym, ap, ap₂, ◌∙◌, subst, append_assoc, append-nil}
-use Rattle.psg_grammar.specs.declared.types.Kind.{Kind}
+use Rattle.std.proofs.Common.{◌≡◌, ◌↔◌, arith, ℕ, suc, max, ◌<◌, ◌≤◌, Bool, true, false, List, [], ◌∷◌, ◌++◌, Option, Some, None, slice_get, refl, sym, ap, ◌∙◌, subst, append-nil}
 use Rattle.psg_grammar.specs.declared.types.Kind.TheVariants as kinds
 use Rattle.psg_grammar.specs.declared.types.Item.{Item}
 use Rattle.psg_grammar.specs.declared.types.Item.TheVariants as items
@@ -15,14 +14,13 @@ use Rattle.psg_grammar.specs.Levels.{level_number, first_level}
 use Rattle.psg_terms.specs.Names.{is_among}
 use Rattle.psg_lexis.specs.Classes.{is_solo}
 use Rattle.psg_grammar.specs.WellFormed.{fixed_words}
-use Rattle.psg_class.specs.Places.{slot_level, solid}
+use Rattle.psg_class.specs.Places.{slot_level}
 use Rattle.psg_class.specs.Follow.{Leads, Led, First, FirstOfList, first_element, first_more}
-use Rattle.psg_class.proofs.ClassFacts.{ClassFacts, TokenFirst, OwnFirst}
+use Rattle.psg_class.proofs.ClassFacts.{ClassFacts}
 use Rattle.psg_class.specs.Yields.{Yields}
-use Rattle.psg_class.specs.Only.{IsOnly}
 use Rattle.psg_class.proofs.Runs.{Reaches, Task, start, grow, parts, list, some_list, Stops, Run, run_hole, run_bracket, run_leading, run_stop, run_led, run_end, run_word, run_refers, run_declares, run_number, run_text, run_slot, run_list_slot, run_none, run_only_more, run_some, run_last, run_more, run_next}
-use Rattle.psg_class.proofs.Sameness.{Same, same, OneOf, leads_at, leads_same, led_same, no_item, kind_same, list_begins, start_begins, no_dots, no_more_first, Begun, carry, task_leads, task_led, task_grow}
-use Rattle.psg_class.proofs.Soundness.{sound, Read}
+use Rattle.psg_class.proofs.Sameness.{same, leads_at, leads_same, led_same, no_item, kind_same, list_begins, start_begins, no_dots, no_more_first, carry, task_leads, task_led, task_grow}
+use Rattle.psg_class.proofs.Soundness.{sound}
 use Rattle.psg_class.proofs.Law.{tree_is_read, list_is_read}
 
 -- what waits for a tree that is being read

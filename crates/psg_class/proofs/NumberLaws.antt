@@ -1,15 +1,14 @@
 -- Numbers of terminals.
-use Rattle.std.proofs.Common.{◌≡◌, ◌≢◌, ◌⊎◌, inl, inr, ℕ, zero, suc, ◌+◌, ◌-◌, ◌<◌, ◌≤◌, ◌==◌, Bool, true, false, cond, List, [], ◌∷◌, length, map, Option, Some, None, slice_get, refl, ap, ap₂, sym, ◌∙◌, subst, arith, true≢false, eqb-true, eq-eqb, nat_cmp, is_lt}
+use Rattle.std.proofs.Common.{◌≡◌, ◌⊎◌, inl, inr, ℕ, suc, ◌+◌, ◌-◌, ◌<◌, ◌≤◌, ◌==◌, true, false, cond, List, [], ◌∷◌, length, map, Option, Some, None, slice_get, refl, ap, ap₂, sym, ◌∙◌, arith, true≢false, eqb-true}
 use Rattle.std.specs.Prelude.{option_map, nat_lt, bytes_eq, codes}
-use Rattle.std.specs.Cmp.Lexicographic.{slice_cmp}
 use Rattle.std.proofs.lemmas.Bool.{ltb-true}
 use Rattle.std.proofs.lemmas.Option.{slice_get_past}
 use Rattle.psg_terms.specs.Names.{Name}
 use Rattle.psg_grammar.specs.declared.types.Phylum.{Phylum}
 use Rattle.psg_grammar.specs.declared.types.Definition.{Definition}
 use Rattle.psg_class.specs.Terminals.{Terminal, fixed, a_name, a_number, a_text, a_hole, a_more, stray}
-use Rattle.psg_class.specs.Refusal.{rank, place_of, is_before, terminal_text}
-use Rattle.psg_class.specs.Numbers.{place_in, phylum_names, number_of, word_number, word_at, words_before, is_number_before, number_text, other_text, hole_text, text_or}
+use Rattle.psg_class.specs.Refusal.{place_of, is_before, terminal_text}
+use Rattle.psg_class.specs.Numbers.{place_in, phylum_names, number_of, word_at, words_before, is_number_before, number_text, other_text, hole_text, text_or}
 use Rattle.psg_class.proofs.ClassFacts.{either}
 use Rattle.psg_class.proofs.WordLaws.{place_at}
 use Rattle.psg_class.proofs.FormCells.{get_inside}

@@ -1,5 +1,5 @@
 -- Items without marks for the layout, beside their parts.
-use Rattle.std.proofs.Common.{◌≡◌, ◌≢◌, ◌⊎◌, inl, inr, ℕ, zero, suc, ◌+◌, ◌-◌, ◌<◌, ◌≤◌, ◌==◌, ◌&&◌, ◌||◌, not, Bool, true, false, cond, List, [], ◌∷◌, ◌++◌, length, map, drop, Option, Some, None, slice_get, is_some, refl, ap, ap₂, sym, ◌∙◌, subst, arith, true≢false}
+use Rattle.std.proofs.Common.{◌≡◌, ℕ, suc, ◌-◌, ◌&&◌, ◌||◌, not, Bool, true, false, List, [], ◌∷◌, ◌++◌, length, Option, Some, None, slice_get, is_some, refl, ap, ap₂, sym, ◌∙◌, subst, arith, true≢false}
 use Rattle.std.specs.Prelude.{option_map, nat_le, bytes_eq}
 use Rattle.psg_terms.specs.Names.{Name, is_among}
 use Rattle.psg_terms.proofs.DeclareLaws.{bytes_eq-refl}
@@ -10,13 +10,11 @@ use Rattle.psg_grammar.specs.declared.types.Level.TheVariants as levels
 use Rattle.psg_grammar.specs.declared.types.Item.{Item}
 use Rattle.psg_grammar.specs.declared.types.Item.TheVariants as items
 use Rattle.psg_grammar.specs.declared.types.Operator.{Operator}
-use Rattle.psg_grammar.specs.declared.types.Definition.{Definition}
-use Rattle.psg_grammar.specs.Levels.{is_mark, is_slot_of}
-use Rattle.psg_grammar.specs.WellFormed.{words_in, operator_words, fixed_words, separators}
-use Rattle.psg_class.specs.Terminals.{Terminal, fixed, a_name, a_number, a_text, item_terminal}
+use Rattle.psg_grammar.specs.Levels.{is_slot_of}
+use Rattle.psg_grammar.specs.WellFormed.{words_in}
 use Rattle.psg_class.specs.Places.{solid}
 use Rattle.psg_class.specs.Class.{is_token as is_token_item, token_first, token_last, own_first, own_last, begins_well, has_form}
-use Rattle.psg_class.specs.Numbers.{word_number, number_of, HasWords, IsVocabulary}
+use Rattle.psg_class.specs.Numbers.{word_number}
 use Rattle.psg_class.specs.Shapes.{item_number, part_of, parts_of, shape_of, listed}
 use Rattle.psg_class.specs.Forms.{is_token, is_own, starts, fits_level}
 use Rattle.psg_class.specs.declared.shape.Part.{Part}

@@ -1,6 +1,5 @@
 -- What is known of the shapes of a definition that has been read.
-use Rattle.std.proofs.Common.{◌≡◌, ◌⊎◌, inl, inr, ℕ, zero, suc, ◌+◌, ◌<◌, ◌^◌, ◌||◌, Bool, true, false, cond, List, [], ◌∷◌, ◌++◌, length, map, Option, Some, None, slice_get, refl, ap, sym, ◌∙◌, subst, arith, true≢false}
-use Rattle.std.specs.Prelude.{MatchOption}
+use Rattle.std.proofs.Common.{◌≡◌, inl, inr, ℕ, zero, suc, ◌+◌, ◌<◌, ◌||◌, Bool, true, false, cond, List, [], ◌∷◌, ◌++◌, length, map, Option, Some, None, slice_get, refl, ap, sym, ◌∙◌, subst, arith, true≢false}
 use Rattle.std.specs.List.{AllByRecursion}
 use Rattle.std.specs.Prelude.{bytes_eq}
 use Rattle.psg_terms.specs.Names.{Name, is_among, has_twice}
@@ -14,12 +13,11 @@ use Rattle.psg_grammar.specs.declared.types.Phylum.{Phylum}
 use Rattle.psg_grammar.specs.declared.types.ListKind.{ListKind}
 use Rattle.psg_grammar.specs.declared.types.Definition.{Definition}
 use Rattle.psg_grammar.specs.Levels.{is_mark}
-use Rattle.psg_grammar.specs.Sound.{IsSound, IsLevel, IsItem, IsOperator, IsListKind, HasKindSort, kind_names}
+use Rattle.psg_grammar.specs.Sound.{IsSound, IsLevel, IsItem, IsOperator, HasKindSort}
 use Rattle.psg_grammar.specs.WellFormed.{words_in, operator_words, separators}
 use Rattle.psg_grammar.proofs.SoundParts.{each_at}
 use Rattle.psg_class.specs.Places.{solid}
-use Rattle.psg_class.specs.Class.{NoFirst, BadForm, NoBracket, MixedLevel, Never}
-use Rattle.psg_class.specs.Refusal.{IsFirst, MixesSome}
+use Rattle.psg_class.specs.Class.{NoFirst, BadForm, NoBracket, MixedLevel}
 use Rattle.psg_class.specs.Numbers.{phylum_names}
 use Rattle.psg_class.specs.Shapes.{parts_of, shape_of}
 use Rattle.psg_class.specs.Forms.{starts, fits, asks, bound_cell, asked_cell, form_cell, cells_by, AreInPhyla, HaveLevels, FailsTest, IsFirstIf, IsFirstPair, LacksBracket, Mixes}
@@ -31,7 +29,7 @@ use Rattle.psg_class.specs.declared.shape.Shape.{Shape}
 use Rattle.psg_class.specs.declared.sources.Rows.{Rows}
 use Rattle.psg_class.proofs.ClassFacts.{or_cases}
 use Rattle.psg_class.proofs.PartLaws.{Known, match_of, slot_of}
-use Rattle.psg_class.proofs.FormLaws.{get_map, map_get, no_first_there, no_first_back, bad_form_there, bad_form_back, lacks_there, lacks_back, mixes_there, mixes_back}
+use Rattle.psg_class.proofs.FormLaws.{map_get, no_first_there, no_first_back, bad_form_there, bad_form_back, lacks_there, lacks_back, mixes_there, mixes_back}
 use Rattle.psg_class.proofs.FormCells.{get_inside, if_same, pair_of, asks_small}
 use Rattle.psg_class.proofs.LeadLaws.{at_part, part_token}
 use Rattle.psg_class.proofs.NumberLaws.{number_small}

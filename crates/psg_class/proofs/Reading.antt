@@ -10,7 +10,7 @@ use Rattle.psg_grammar.specs.declared.types.ListKind.{ListKind}
 use Rattle.psg_grammar.specs.declared.types.Phylum.{Phylum}
 use Rattle.psg_grammar.specs.declared.types.Definition.{Definition}
 use Rattle.psg_grammar.specs.Fragments.{Fragment, operator, with_child, with_name, with_number, with_text}
-use Rattle.psg_class.specs.Terminals.{open_bracket, close_bracket, Token, solo, dots, Terminal, fixed, terminal_of, item_terminal, next_terminal}
+use Rattle.psg_class.specs.Terminals.{close_bracket, Token, dots, Terminal, fixed, terminal_of, item_terminal, next_terminal}
 use Rattle.psg_grammar.specs.Levels.{level_number, first_level, last_level}
 use Rattle.psg_class.specs.Places.{slot_level, solid, is_own_last}
 use Rattle.psg_class.specs.Follow.{Leads, Led, FirstOfList, Inside, Follow, by_rest, by_end, by_led, by_separator, by_list, by_bracket}

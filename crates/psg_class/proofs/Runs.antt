@@ -9,7 +9,7 @@ use Rattle.psg_grammar.specs.declared.types.ListKind.{ListKind}
 use Rattle.psg_grammar.specs.declared.types.Definition.{Definition}
 use Rattle.psg_grammar.specs.Fragments.{Fragment, hole, ending, cell, operator, with_child, with_name, with_number, with_text}
 use Rattle.psg_class.specs.Follow.{HasHoles}
-use Rattle.psg_class.specs.Terminals.{open_bracket, close_bracket, Token, word, numeral, quoted, solo, placeholder, dots, Terminal, fixed, a_name, terminal_of, next_terminal}
+use Rattle.psg_class.specs.Terminals.{open_bracket, close_bracket, Token, word, numeral, quoted, placeholder, dots, Terminal, fixed, a_name, terminal_of, next_terminal}
 use Rattle.psg_grammar.specs.Levels.{level_number, first_level}
 use Rattle.psg_class.specs.Places.{slot_level}
 use Rattle.psg_class.specs.Follow.{Leads, Led, FirstOfList}

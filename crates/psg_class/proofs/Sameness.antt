@@ -1,12 +1,12 @@
 -- The parser's steps are fixed by the tokens.
-use Rattle.std.proofs.Common.{◌≡◌, ℕ, suc, max, Bool, true, false, List, [], ◌∷◌, Some, None, slice_get, refl, sym, ap, ap₂, ◌∙◌, subst}
+use Rattle.std.proofs.Common.{◌≡◌, ℕ, suc, max, true, false, List, ◌∷◌, Some, None, slice_get, refl, sym, ap, ap₂, ◌∙◌, subst}
 use Rattle.psg_grammar.specs.declared.types.Item.{Item}
 use Rattle.psg_grammar.specs.declared.types.Item.TheVariants as items
 use Rattle.psg_grammar.specs.declared.types.Operator.{Operator}
 use Rattle.psg_grammar.specs.declared.types.ListKind.{ListKind}
 use Rattle.psg_grammar.specs.declared.types.Definition.{Definition}
 use Rattle.psg_grammar.specs.Fragments.{Fragment, ending, cell, operator, with_child}
-use Rattle.psg_class.specs.Terminals.{open_bracket, close_bracket, Token, solo, placeholder, dots, Terminal, fixed, a_hole, a_more, terminal_of, item_terminal, next_terminal}
+use Rattle.psg_class.specs.Terminals.{open_bracket, Token, placeholder, dots, Terminal, fixed, a_hole, a_more, terminal_of, item_terminal, next_terminal}
 use Rattle.psg_grammar.specs.Levels.{level_number}
 use Rattle.psg_class.specs.Places.{solid}
 use Rattle.psg_class.specs.Follow.{Leads, Led, First, first_operator, first_hole, first_bracket, FirstOfList, first_element, first_more}

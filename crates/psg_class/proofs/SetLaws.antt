@@ -1,5 +1,5 @@
 -- The sets that grow from facts and links are First, Led and Follow.
-use Rattle.std.proofs.Common.{◌≡◌, ◌≢◌, ◌⊎◌, inl, inr, ℕ, zero, suc, ◌+◌, ◌<◌, ◌≤◌, ◌==◌, ◌&&◌, Bool, true, false, List, [], ◌∷◌, ◌++◌, length, map, drop, get_or, Option, Some, None, slice_get, refl, ap, ap₂, sym, ◌∙◌, subst, arith, add-one, true≢false}
+use Rattle.std.proofs.Common.{◌≡◌, ◌⊎◌, inl, inr, ℕ, suc, ◌+◌, ◌<◌, ◌≤◌, ◌&&◌, Bool, true, false, List, [], ◌∷◌, ◌++◌, length, map, drop, get_or, Option, Some, None, slice_get, refl, ap, ap₂, sym, ◌∙◌, subst, arith, add-one, true≢false}
 use Rattle.psg_terms.specs.Names.{Name, has_twice}
 use Rattle.psg_grammar.specs.declared.types.Kind.{Kind}
 use Rattle.psg_grammar.specs.declared.types.Kind.TheVariants as kinds
@@ -12,10 +12,10 @@ use Rattle.psg_grammar.specs.declared.types.Definition.{Definition}
 use Rattle.psg_class.specs.Terminals.{Terminal, fixed, a_hole, a_more, open_bracket, close_bracket, item_terminal}
 use Rattle.psg_class.specs.Places.{solid, is_empty, is_own as is_own_kind, is_own_last}
 use Rattle.psg_class.specs.Follow.{Leads, Led, HasHoles, First, first_operator, first_hole, first_bracket, FirstOfList, first_element, first_more, BeginsWith, CanBeEmpty, Inside, Follow, by_rest, by_end, by_led, by_separator, by_list, by_bracket}
-use Rattle.psg_class.specs.Numbers.{number_of, phylum_names, place_in}
-use Rattle.psg_class.specs.Shapes.{part_of, parts_of, shape_of}
+use Rattle.psg_class.specs.Numbers.{number_of, phylum_names}
+use Rattle.psg_class.specs.Shapes.{parts_of, shape_of}
 use Rattle.psg_class.specs.Forms.{is_own}
-use Rattle.psg_class.specs.Sources.{IsRows, AreRows, IsKind, IsPartOf, IsShapeOf, kind_index, first_row, follow_row, led_row, TokenIn, SlotIn, can_end, none_behind, behind, IsSlot, SlotFact, SlotLink, is_end, Parts, AreParts, AllFacts, AllLinks, Grown, at_once, by_link}
+use Rattle.psg_class.specs.Sources.{IsRows, AreRows, IsKind, IsPartOf, kind_index, first_row, follow_row, led_row, TokenIn, SlotIn, can_end, none_behind, behind, IsSlot, SlotFact, SlotLink, is_end, Parts, AreParts, AllFacts, AllLinks, Grown, at_once, by_link}
 use Rattle.psg_class.specs.declared.shape.Part.{Part}
 use Rattle.psg_class.specs.declared.shape.Part.TheVariants as parts
 use Rattle.psg_class.specs.declared.shape.Shape.{Shape}
@@ -23,7 +23,7 @@ use Rattle.psg_class.specs.declared.sources.Rows.{Rows}
 use Rattle.psg_class.proofs.WordLaws.{place_distinct}
 use Rattle.psg_class.proofs.PartLaws.{Match, Known, match_of, slot_of}
 use Rattle.psg_class.proofs.FormLaws.{get_map, map_get}
-use Rattle.psg_class.proofs.FormCells.{get_at, get_inside, get_same}
+use Rattle.psg_class.proofs.FormCells.{get_at, get_inside}
 use Rattle.psg_class.proofs.BeginLaws.{kind_small}
 use Rattle.psg_class.proofs.SlotLaws.{rest_parts}
 use Rattle.psg_class.proofs.LeadLaws.{at_part, at_item, token_part, part_token, slot_part, leads_of, of_leads, led_of, of_led}
@@ -420,22 +420,28 @@ module _ (def : Definition) (words : List Name) (a : Parts) (width : ℕ) (d : D
       (λ m c x g. by_link (follow_row a.rows k) (first_row a.rows m) (slot_link n k rest p q (first_row a.rows m) (record { kind = k; slot = q.slot; to_is = refl; source = inl (m, x, refl) })) g)
   has_follow {k = k} {t = t} (by_end n rest p e h f) =
       let (c, num, g) = has_follow f in
-      let q = place_of n k rest p in
-      (c, num, by_link (follow_row a.rows k) (follow_row a.rows (kinds.Phylum p.o.phylum)) (slot_link n k rest p q (follow_row a.rows (kinds.Phylum p.o.phylum)) (record {
-        kind = k;
-        slot = q.slot;
-        to_is = refl;
-        source = inr (empty_back (length def.phyla + 4) words rest (drop (q.place + 1) (parts_of (length def.phyla + 4) words p.o.items)) q.match e, q.own ∙ h, inl refl);
-      })) g)
+      let q = place_of n k rest p in (
+        c,
+        num,
+        by_link (follow_row a.rows k) (follow_row a.rows (kinds.Phylum p.o.phylum)) (slot_link n k rest p q (follow_row a.rows (kinds.Phylum p.o.phylum)) (record {
+          kind = k;
+          slot = q.slot;
+          to_is = refl;
+          source = inr (empty_back (length def.phyla + 4) words rest (drop (q.place + 1) (parts_of (length def.phyla + 4) words p.o.items)) q.match e, q.own ∙ h, inl refl);
+        })) g,
+      )
   has_follow {k = k} {t = t} (by_led n rest p e h m l) =
       let (c, num, g) = has_led p.o.phylum m t l in
-      let q = place_of n k rest p in
-      (c, num, by_link (follow_row a.rows k) (led_row a.rows p.o.phylum) (slot_link n k rest p q (led_row a.rows p.o.phylum) (record {
-        kind = k;
-        slot = q.slot;
-        to_is = refl;
-        source = inr (empty_back (length def.phyla + 4) words rest (drop (q.place + 1) (parts_of (length def.phyla + 4) words p.o.items)) q.match e, q.own ∙ h, inr refl);
-      })) g)
+      let q = place_of n k rest p in (
+        c,
+        num,
+        by_link (follow_row a.rows k) (led_row a.rows p.o.phylum) (slot_link n k rest p q (led_row a.rows p.o.phylum) (record {
+          kind = k;
+          slot = q.slot;
+          to_is = refl;
+          source = inr (empty_back (length def.phyla + 4) words rest (drop (q.place + 1) (parts_of (length def.phyla + 4) words p.o.items)) q.match e, q.own ∙ h, inr refl);
+        })) g,
+      )
   has_follow {t = t} (by_separator {p = p} l k at e f) =
       let (m, s) = separator_at l (get_inside def.lists l k at) in
       let at' = list_found l k at in

@@ -1,6 +1,6 @@
 -- What one slot of an operator gives.
 use Rattle.std.proofs.lemmas.List.{take_all}
-use Rattle.std.proofs.Common.{◌≡◌, ◌≢◌, ◌⊎◌, inl, inr, ℕ, zero, suc, ◌+◌, ◌-◌, ◌<◌, ◌≤◌, ◌&&◌, length-drop, Bool, true, false, List, [], ◌∷◌, ◌++◌, length, take, drop, get_or, Option, Some, None, slice_get, refl, ap, ap₂, sym, ◌∙◌, subst, arith, true≢false}
+use Rattle.std.proofs.Common.{◌≡◌, ◌≢◌, inl, inr, ℕ, zero, suc, ◌+◌, ◌-◌, ◌<◌, ◌≤◌, ◌&&◌, length-drop, Bool, true, false, List, [], ◌∷◌, length, take, drop, get_or, Some, slice_get, refl, ap, sym, ◌∙◌, subst, arith, true≢false}
 use Rattle.psg_grammar.specs.declared.types.Kind.{Kind}
 use Rattle.psg_grammar.specs.declared.types.Kind.TheVariants as kinds
 use Rattle.psg_class.specs.Forms.{is_own}
@@ -9,7 +9,7 @@ use Rattle.psg_class.specs.declared.shape.Part.TheVariants as parts
 use Rattle.psg_class.specs.declared.shape.Shape.{Shape}
 use Rattle.psg_class.specs.declared.sources.Rows.{Rows}
 use Rattle.psg_class.specs.declared.sources.Draft.{Draft}
-use Rattle.psg_class.specs.Sources.{Adds, NoLink, OneCell, Either, Below, IsSlot, SlotFact, SlotLink, IsOutside, is_end, none_behind, behind, can_end, BeginFact, BeginLink, follow_row, first_row, led_row, kind_index, TokenIn, SlotIn}
+use Rattle.psg_class.specs.Sources.{Adds, NoLink, OneCell, Either, IsSlot, SlotFact, SlotLink, is_end, none_behind, behind, can_end, BeginFact, BeginLink, follow_row, led_row, kind_index}
 use Rattle.psg_class.proofs.Drafts.{adds_as, adds_both}
 use Rattle.psg_class.proofs.FormCells.{get_at}
 

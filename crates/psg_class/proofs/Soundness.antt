@@ -1,22 +1,17 @@
 -- What the parser reads is a tree that yields the tokens read.
-use Rattle.std.proofs.Common.{◌≡◌, ◌⊎◌, inl, inr, ℕ, zero, suc, max, ◌+◌, ◌<◌, ◌≤◌, Bool, true, false, List, [], ◌∷◌, ◌++◌, Option, Some, None, slice_get, refl, sym, ap, ap₂, ◌∙◌, subst, append_assoc, append-nil}
-use Rattle.psg_grammar.specs.declared.types.Kind.{Kind}
+use Rattle.std.proofs.Common.{◌≡◌, inl, inr, ℕ, max, ◌≤◌, true, false, List, [], ◌∷◌, ◌++◌, refl, sym, ap, ◌∙◌, subst, append_assoc, append-nil}
 use Rattle.psg_grammar.specs.declared.types.Kind.TheVariants as kinds
-use Rattle.psg_grammar.specs.declared.types.Item.{Item}
 use Rattle.psg_grammar.specs.declared.types.Item.TheVariants as items
-use Rattle.psg_grammar.specs.declared.types.Operator.{Operator}
-use Rattle.psg_grammar.specs.declared.types.ListKind.{ListKind}
-use Rattle.psg_grammar.specs.declared.types.Phylum.{Phylum}
 use Rattle.psg_grammar.specs.declared.types.Definition.{Definition}
-use Rattle.psg_grammar.specs.Fragments.{Fragment, hole, ending, cell, operator, with_child, with_name, with_number, with_text}
-use Rattle.psg_class.specs.Terminals.{open_bracket, close_bracket, Token, word, numeral, quoted, solo, placeholder, dots, Terminal, fixed, a_name, terminal_of, item_terminal, next_terminal}
+use Rattle.psg_grammar.specs.Fragments.{Fragment, hole, operator, with_child}
+use Rattle.psg_class.specs.Terminals.{Token, word, numeral, quoted, placeholder, dots, Terminal, terminal_of}
 use Rattle.psg_grammar.specs.Levels.{level_number, first_level}
-use Rattle.psg_class.specs.Places.{slot_level, solid}
+use Rattle.psg_class.specs.Places.{slot_level}
 use Rattle.psg_class.specs.Follow.{Leads, Led}
-use Rattle.psg_class.proofs.ClassFacts.{ClassFacts, TokenFirst, OwnFirst}
+use Rattle.psg_class.proofs.ClassFacts.{ClassFacts}
 use Rattle.psg_class.specs.Yields.{TreeYields, of_hole, of_operator, in_brackets, PartsYield, no_items, of_word, of_refers, of_declares, of_number, of_text, of_slot, of_list_slot, ListYields, no_elements, only_more, elements, SomeYield, last_element, and_more, and_elements}
 use Rattle.psg_class.proofs.LevelLaws.{not_both, first_slot}
-use Rattle.psg_class.proofs.Runs.{Reaches, Task, start, grow, parts, list, some_list, Stops, Run, run_hole, run_bracket, run_leading, run_stop, run_led, run_end, run_word, run_refers, run_declares, run_number, run_text, run_slot, run_list_slot, run_none, run_only_more, run_some, run_last, run_more, run_next}
+use Rattle.psg_class.proofs.Runs.{Reaches, Task, start, grow, parts, list, some_list, Run, run_hole, run_bracket, run_leading, run_stop, run_led, run_end, run_word, run_refers, run_declares, run_number, run_text, run_slot, run_list_slot, run_none, run_only_more, run_some, run_last, run_more, run_next}
 
 module _ (def : Definition) (c : ClassFacts def) where
   -- the tokens read, in front of the rest

@@ -1,39 +1,25 @@
 -- The tables of the check say of which terminals a condition fails.
-use Rattle.std.proofs.Common.{◌≡◌, ◌⊎◌, inl, inr, ℕ, zero, suc, ◌+◌, ◌<◌, ◌≤◌, ◌||◌, ◌&&◌, ◌==◌, Bool, true, false, List, [], ◌∷◌, ◌++◌, length, map, Option, Some, None, slice_get, refl, ap, sym, ◌∙◌, subst, arith, true≢false, eqb-true, eq-eqb}
-use Rattle.std.specs.List.{AllByRecursion}
+use Rattle.std.proofs.Common.{◌≡◌, inl, inr, ℕ, suc, ◌+◌, ◌<◌, ◌≤◌, Bool, true, false, List, [], ◌∷◌, ◌++◌, length, map, Option, Some, None, slice_get, refl, ap, sym, ◌∙◌, subst, arith}
 use Rattle.std.specs.Prelude.{codes}
 use Rattle.psg_terms.specs.Names.{Name}
-use Rattle.psg_grammar.specs.declared.types.Kind.TheVariants as kinds
-use Rattle.psg_grammar.specs.declared.types.Operator.{Operator}
 use Rattle.psg_grammar.specs.declared.types.Phylum.{Phylum}
-use Rattle.psg_grammar.specs.declared.types.ListKind.{ListKind}
 use Rattle.psg_grammar.specs.declared.types.Definition.{Definition}
-use Rattle.psg_class.specs.Terminals.{Terminal, fixed, open_bracket, close_bracket}
-use Rattle.psg_class.specs.Follow.{Leads, Led, FirstOfList, Follow}
-use Rattle.psg_class.specs.Class.{SameFirst, two_operators, with_bracket, SameLed, two_led, LedFollows, led_behind, ListEnd, separator_behind, first_behind, NeverAny}
-use Rattle.psg_class.specs.Refusal.{IsFirst, IsFirstTerminal, IsFirstToken, FailsSome, is_before}
-use Rattle.psg_class.specs.Numbers.{number_of, number_text, is_number_before, word_number}
+use Rattle.psg_class.specs.Terminals.{Terminal, open_bracket, close_bracket}
+use Rattle.psg_class.specs.Follow.{Leads, Led}
+use Rattle.psg_class.specs.Class.{SameFirst, two_operators, with_bracket, SameLed, two_led}
+use Rattle.psg_class.specs.Numbers.{number_of, word_number}
 use Rattle.psg_class.specs.Shapes.{shape_of, listed}
-use Rattle.psg_class.specs.Forms.{cell_of}
-use Rattle.psg_class.specs.Grids.{once, twice, is_set, AreInside}
-use Rattle.psg_class.specs.Sources.{IsRows, AreRows, IsShapeOf, follow_row}
-use Rattle.psg_class.specs.Failing.{lead_cell, led_cell, cells_from, bracket_cell, bracket_cells, IsFirstFailing, LedBehind, LedClash, LedClashes, IsFirstLed, ends, is_number}
-use Rattle.psg_class.specs.Checks.{IsRead, IsFirstOf, IsSetOf, AreSets, separator_number, number_or}
+use Rattle.psg_class.specs.Grids.{once, twice, AreInside}
+use Rattle.psg_class.specs.Failing.{lead_cell, led_cell, cells_from, bracket_cell, bracket_cells, IsFirstFailing}
+use Rattle.psg_class.specs.Checks.{IsRead, IsFirstOf}
 use Rattle.psg_class.specs.declared.grid.Cell.{Cell}
-use Rattle.psg_class.specs.declared.shape.Part.{Part}
-use Rattle.psg_class.specs.declared.shape.Part.TheVariants as parts
 use Rattle.psg_class.specs.declared.shape.Shape.{Shape}
-use Rattle.psg_class.specs.declared.sources.Rows.{Rows}
-use Rattle.psg_class.specs.declared.behind.Sets.{Sets}
-use Rattle.psg_class.proofs.ClassFacts.{or_cases, and_left, and_right}
-use Rattle.psg_class.proofs.FormCells.{get_inside, get_same}
-use Rattle.psg_class.proofs.FormLaws.{get_map, map_get}
+use Rattle.psg_class.proofs.FormCells.{get_inside}
 use Rattle.psg_class.proofs.TwiceLaws.{Gives, once_there, once_back, twice_there, twice_back, twice_append, twice_left, twice_each, opens_there, opens_back, opens_never_twice}
-use Rattle.psg_class.proofs.LeadLaws.{leads_there, leads_back, led_there, led_back, led_cell_is}
-use Rattle.psg_class.proofs.NumberLaws.{same_terminal, number_small, same_order, same_text}
+use Rattle.psg_class.proofs.LeadLaws.{leads_there, leads_back, led_there, led_back}
+use Rattle.psg_class.proofs.NumberLaws.{same_terminal, number_small}
 use Rattle.psg_class.proofs.TokenLaws.{IsTableOf, never, first_token, first_inside}
-use Rattle.psg_class.proofs.FailingLaws.{number_self}
-use Rattle.psg_class.proofs.ReadLaws.{known, phylum_at, shape_at, among_separator}
+use Rattle.psg_class.proofs.ReadLaws.{known, phylum_at}
 
 same_number : (n m : ℕ) → Some n ≡ Some m → n ≡ m
 same_number n m e = cc
@@ -132,18 +118,18 @@ module _ (def : Definition) (words : List Name) (shapes : List Shape) (read : Is
   same_first_there : (opening : ℕ) → number_of def words open_bracket ≡ Some opening → (r c : ℕ) → twice r c (cells_from lead_cell shapes ++ bracket_cells opening 0 def.phyla) ≡ true → (t : Terminal) × (number_of def words t ≡ Some c) × SameFirst def r t
   same_first_there opening op r c e = elim (twice_append r c (cells_from lead_cell shapes) (bracket_cells opening 0 def.phyla) e) [
     | inl x ↦ (
-      let (n, m, d, g, h) = twice_there lead_cell r c shapes x in
-      let (t, num, l) = leads_of r c n g in
-      let (u, num', l') = leads_of r c m h in
-      (t, num, two_operators n m d l (subst (Leads def r m) (same_terminal def words u t c num' num) l')))
+        let (n, m, d, g, h) = twice_there lead_cell r c shapes x in
+        let (t, num, l) = leads_of r c n g in
+        let (u, num', l') = leads_of r c m h in
+        (t, num, two_operators n m d l (subst (Leads def r m) (same_terminal def words u t c num' num) l')))
     | inr y ↦ (elim y [
       | inl (x, z) ↦ (
-        let (n, g) = once_there lead_cell r c shapes x in
-        let (t, num, l) = leads_of r c n g in
-        let o = opens_there opening 0 def.phyla r c z in
-        let at : slice_get def.phyla r ≡ Some o.phylum = ap (slice_get def.phyla) (from_zero r o.place o.row) ∙ o.at in
-        let is : t ≡ open_bracket = same_terminal def words t open_bracket c num (op ∙ ap Some (sym o.column)) in
-        (open_bracket, op ∙ ap Some (sym o.column), with_bracket o.phylum at o.bracketed n (subst (Leads def r n) is l)))
+          let (n, g) = once_there lead_cell r c shapes x in
+          let (t, num, l) = leads_of r c n g in
+          let o = opens_there opening 0 def.phyla r c z in
+          let at : slice_get def.phyla r ≡ Some o.phylum = ap (slice_get def.phyla) (from_zero r o.place o.row) ∙ o.at in
+          let is : t ≡ open_bracket = same_terminal def words t open_bracket c num (op ∙ ap Some (sym o.column)) in
+          (open_bracket, op ∙ ap Some (sym o.column), with_bracket o.phylum at o.bracketed n (subst (Leads def r n) is l)))
       | inr z ↦ absurd (opens_never_twice opening 0 def.phyla r c z)
     ])
   ]
@@ -152,15 +138,22 @@ module _ (def : Definition) (words : List Name) (shapes : List Shape) (read : Is
   same_first_back opening op r t (two_operators n m d l k) =
       let (c, num, g) = of_leads r n t l in
       let (c', num', h) = of_leads r m t k in
-      let same : c' ≡ c = same_number c' c (sym num' ∙ num) in
-      (subst (λ p. p < length def.phyla) l.phylum (phylum_at def words shapes read n l.o l.found),
-        (c, num, small t c num, twice_left r c (cells_from lead_cell shapes) (bracket_cells opening 0 def.phyla) (twice_back lead_cell r c shapes n m d g (subst (λ z. Gives lead_cell shapes r z m) same h))))
+      let same : c' ≡ c = same_number c' c (sym num' ∙ num) in (
+        subst (λ p. p < length def.phyla) l.phylum (phylum_at def words shapes read n l.o l.found),
+        (c, num, small t c num, twice_left r c (cells_from lead_cell shapes) (bracket_cells opening 0 def.phyla) (twice_back lead_cell r c shapes n m d g (subst (λ z. Gives lead_cell shapes r z m) same h))),
+      )
   same_first_back opening op r t (with_bracket phylum at b n l) =
       let (c, num, g) = of_leads r n open_bracket l in
-      let same : c ≡ opening = same_number c opening (sym num ∙ op) in
-      (get_inside def.phyla r phylum at,
-        (c, num, small open_bracket c num, twice_each r c (cells_from lead_cell shapes) (bracket_cells opening 0 def.phyla) (once_back lead_cell r c shapes n g)
-          (subst (λ z. once r z (bracket_cells opening 0 def.phyla) ≡ true) (sym same) (subst (λ z. once z opening (bracket_cells opening 0 def.phyla) ≡ true) (zero_more r) (opens_back opening 0 def.phyla r phylum at b)))))
+      let same : c ≡ opening = same_number c opening (sym num ∙ op) in (
+        get_inside def.phyla r phylum at,
+        (
+          c,
+          num,
+          small open_bracket c num,
+          twice_each r c (cells_from lead_cell shapes) (bracket_cells opening 0 def.phyla) (once_back lead_cell r c shapes n g)
+              (subst (λ z. once r z (bracket_cells opening 0 def.phyla) ≡ true) (sym same) (subst (λ z. once z opening (bracket_cells opening 0 def.phyla) ≡ true) (zero_more r) (opens_back opening 0 def.phyla r phylum at b))),
+        ),
+      )
 
   pub same_first_table : (opening : ℕ) → number_of def words open_bracket ≡ Some opening → (set : ℕ → ℕ → Bool) → ((r c : ℕ) → c < width → set r c ≡ twice r c (cells_from lead_cell shapes ++ bracket_cells opening 0 def.phyla)) → IsTableOf def words (SameFirst def) (length def.phyla) width set
   same_first_table opening op set exact = record {
@@ -187,9 +180,10 @@ module _ (def : Definition) (words : List Name) (shapes : List Shape) (read : Is
   same_led_back r t (two_led n m d l k) =
       let (c, num, g) = of_led r n t l in
       let (c', num', h) = of_led r m t k in
-      let same : c' ≡ c = same_number c' c (sym num' ∙ num) in
-      (subst (λ p. p < length def.phyla) l.phylum (phylum_at def words shapes read n l.o l.found),
-        (c, num, small t c num, twice_back led_cell r c shapes n m d g (subst (λ z. Gives led_cell shapes r z m) same h)))
+      let same : c' ≡ c = same_number c' c (sym num' ∙ num) in (
+        subst (λ p. p < length def.phyla) l.phylum (phylum_at def words shapes read n l.o l.found),
+        (c, num, small t c num, twice_back led_cell r c shapes n m d g (subst (λ z. Gives led_cell shapes r z m) same h)),
+      )
 
   pub same_led_table : (set : ℕ → ℕ → Bool) → ((r c : ℕ) → c < width → set r c ≡ twice r c (cells_from led_cell shapes)) → IsTableOf def words (SameLed def) (length def.phyla) width set
   same_led_table set exact = record {

@@ -1,14 +1,13 @@
 -- The first thing that fails and its first token, from a table of numbers.
-use Rattle.std.proofs.Common.{◌≡◌, ◌⊎◌, inl, inr, ℕ, ◌+◌, ◌<◌, Bool, true, false, List, length, Option, Some, None, refl, ap, sym, ◌∙◌, subst, true≢false}
+use Rattle.std.proofs.Common.{◌≡◌, ℕ, ◌+◌, ◌<◌, Bool, true, false, List, length, Some, None, ◌∙◌}
 use Rattle.psg_terms.specs.Names.{Name}
 use Rattle.psg_grammar.specs.declared.types.Definition.{Definition}
 use Rattle.psg_class.specs.Terminals.{Terminal}
 use Rattle.psg_class.specs.Class.{NeverAny}
-use Rattle.psg_class.specs.Refusal.{IsFirst, IsFirstTerminal, IsFirstToken, FailsSome, is_before, terminal_text}
-use Rattle.psg_class.specs.Numbers.{number_of, is_number_before, number_text}
-use Rattle.psg_class.specs.Failing.{IsLeast, HasSome, IsFirstFailing}
-use Rattle.psg_class.proofs.FormCells.{first_same}
-use Rattle.psg_class.proofs.NumberLaws.{same_order, same_terminal, same_text}
+use Rattle.psg_class.specs.Refusal.{IsFirstToken, FailsSome, is_before}
+use Rattle.psg_class.specs.Numbers.{number_of, number_text}
+use Rattle.psg_class.specs.Failing.{HasSome, IsFirstFailing}
+use Rattle.psg_class.proofs.NumberLaws.{same_order, same_text}
 
 -- the table says of which terminals it holds
 pub record IsTableOf (def : Definition) (words : List Name) (Fails : ℕ → Terminal → Type 0) (height width : ℕ) (set : ℕ → ℕ → Bool) : Type 0 where

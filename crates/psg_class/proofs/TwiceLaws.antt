@@ -1,5 +1,5 @@
 -- Cells that stand once or twice in a list.
-use Rattle.std.proofs.Common.{◌≡◌, ◌≢◌, ◌⊎◌, inl, inr, ℕ, zero, suc, ◌+◌, ◌<◌, ◌==◌, ◌&&◌, ◌||◌, Bool, true, false, List, [], ◌∷◌, ◌++◌, length, Option, Some, None, slice_get, refl, ap, ap₂, sym, ◌∙◌, subst, arith, true≢false, eqb-true, eq-eqb}
+use Rattle.std.proofs.Common.{◌≡◌, ◌≢◌, ◌⊎◌, inl, inr, ℕ, zero, suc, ◌+◌, ◌==◌, ◌&&◌, ◌||◌, Bool, true, false, List, [], ◌∷◌, ◌++◌, Option, Some, None, slice_get, refl, ap, ap₂, sym, ◌∙◌, subst, arith, true≢false, eqb-true, eq-eqb}
 use Rattle.psg_grammar.specs.declared.types.Phylum.{Phylum}
 use Rattle.psg_class.specs.Grids.{is_at, once, twice}
 use Rattle.psg_class.specs.Forms.{cell_of}
@@ -7,8 +7,7 @@ use Rattle.psg_class.specs.Shapes.{listed}
 use Rattle.psg_class.specs.Failing.{cells_from, bracket_cell, bracket_cells}
 use Rattle.psg_class.specs.declared.grid.Cell.{Cell}
 use Rattle.psg_class.specs.declared.shape.Shape.{Shape}
-use Rattle.psg_class.proofs.ClassFacts.{either, and_left, and_right, or_cases}
-use Rattle.psg_class.proofs.Closing.{number_cases}
+use Rattle.psg_class.proofs.ClassFacts.{and_left, and_right, or_cases}
 
 or_left' : (a b : Bool) → a ≡ true → a || b ≡ true
 or_left' true b e = refl

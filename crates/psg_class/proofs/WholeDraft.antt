@@ -1,14 +1,14 @@
 -- The draft of a whole definition, and the sets that follow from it.
-use Rattle.std.proofs.Common.{◌≡◌, ◌⊎◌, inl, inr, ℕ, zero, suc, ◌+◌, ◌<◌, ◌≤◌, Bool, true, false, List, [], ◌∷◌, length, Contains, Option, Some, None, slice_get, refl, ap, sym, ◌∙◌, subst, arith, true≢false}
+use Rattle.std.proofs.Common.{◌≡◌, inl, inr, ℕ, ◌+◌, ◌<◌, ◌≤◌, Bool, true, false, List, [], length, Contains, Option, Some, slice_get, sym, ◌∙◌, subst, arith, true≢false}
 use Rattle.std.specs.Prelude.{◌↔◌}
 use Rattle.psg_grammar.specs.declared.types.Phylum.{Phylum}
 use Rattle.psg_grammar.specs.declared.types.ListKind.{ListKind}
-use Rattle.psg_class.specs.Grids.{is_set, IsCell, AreLinks, Derives, given, along}
+use Rattle.psg_class.specs.Grids.{is_set, IsCell, Derives, given, along}
 use Rattle.psg_class.specs.declared.grid.Link.{Link}
 use Rattle.psg_class.specs.declared.shape.Shape.{Shape}
 use Rattle.psg_class.specs.declared.sources.Rows.{Rows}
 use Rattle.psg_class.specs.declared.sources.Draft.{Draft}
-use Rattle.psg_class.specs.Sources.{Adds, NoLink, OneCell, Either, Below, If, AtShape, ShapeFact, ShapeLink, PhylumFact, PhylumFactAt, ListFact, ListFactAt, ListLink, ListLinkAt, AllFacts, AllLinks, Parts, Grown, at_once, by_link, HasLink, link_of}
+use Rattle.psg_class.specs.Sources.{Adds, NoLink, Either, Below, If, AtShape, ShapeFact, ShapeLink, PhylumFact, PhylumFactAt, ListFact, ListFactAt, ListLink, ListLinkAt, AllFacts, AllLinks, Parts, Grown, at_once, by_link, HasLink, link_of}
 use Rattle.psg_class.proofs.Drafts.{adds_as, adds_both, adds_more}
 use Rattle.psg_class.proofs.FormCells.{get_inside}
 

@@ -1,10 +1,9 @@
 -- Words and their places.
-use Rattle.std.proofs.Common.{◌≡◌, ◌≢◌, ◌⊎◌, inl, inr, ℕ, zero, suc, ◌+◌, ◌<◌, ◌||◌, Bool, true, false, cond, List, [], ◌∷◌, ◌++◌, length, take, get_or, Option, Some, None, slice_get, is_some, refl, ap, sym, ◌∙◌, subst, arith, true≢false}
+use Rattle.std.proofs.Common.{◌≡◌, ◌⊎◌, inl, inr, ℕ, zero, suc, ◌+◌, ◌||◌, Bool, true, false, cond, List, [], ◌∷◌, ◌++◌, length, Option, Some, None, slice_get, is_some, refl, ap, sym, ◌∙◌, subst, true≢false}
 use Rattle.std.specs.Prelude.{option_map, bytes_eq, codes}
 use Rattle.std.specs.Map.{update}
-use Rattle.std.proofs.lemmas.List.{take_more}
 use Rattle.psg_terms.specs.Names.{Name, is_among, has_twice}
-use Rattle.psg_terms.proofs.DeclareLaws.{bytes_eq-same, bytes_eq-refl, is_among-append, is_among-at, has_twice-front}
+use Rattle.psg_terms.proofs.DeclareLaws.{bytes_eq-same, bytes_eq-refl, is_among-append, is_among-at}
 use Rattle.psg_grammar.specs.declared.types.Item.{Item}
 use Rattle.psg_grammar.specs.declared.types.Item.TheVariants as items
 use Rattle.psg_grammar.specs.declared.types.Operator.{Operator}
@@ -12,7 +11,7 @@ use Rattle.psg_grammar.specs.declared.types.ListKind.{ListKind}
 use Rattle.psg_grammar.specs.WellFormed.{words_in, operator_words, separators}
 use Rattle.psg_class.specs.declared.vocabulary.Vocabulary.{Vocabulary}
 use Rattle.psg_grammar.specs.declared.types.Definition.{Definition}
-use Rattle.psg_class.specs.Numbers.{place_in, word_number, HasWords, KeepsWords, Grown, IsConsistent, IsVocabulary}
+use Rattle.psg_class.specs.Numbers.{place_in, word_number, HasWords, KeepsWords, Grown, IsVocabulary}
 use Rattle.psg_class.proofs.ClassFacts.{either, or_cases}
 
 pub place_found : (ws : List Name) (w : Name) → is_some (place_in ws w) ≡ is_among ws w
@@ -51,9 +50,9 @@ place_new [] w h = ap (λ b. cond b (Some 0) None) (bytes_eq-refl w)
 place_new (u ∷ us) w h =
     let (x, y) = none (bytes_eq u w) (is_among us w) h in
     ap (λ b. cond b (Some 0) (option_map (λ k. suc k) (place_in (us ++ w ∷ []) w))) x ∙ ap (option_map (λ k. suc k)) (place_new us w y) where
-  none : (a b : Bool) → a || b ≡ false → (a ≡ false) × (b ≡ false)
-  none true b e = absurd (true≢false e)
-  none false b e = (refl, e)
+      none : (a b : Bool) → a || b ≡ false → (a ≡ false) × (b ≡ false)
+      none true b e = absurd (true≢false e)
+      none false b e = (refl, e)
 
 pub place_distinct : (ws : List Name) (w : Name) (k : ℕ) → has_twice ws ≡ false → slice_get ws k ≡ Some w → place_in ws w ≡ Some k
 place_distinct [] w k h e = absurd (let x : None ≡ Some w = e in cc)
@@ -64,9 +63,9 @@ place_distinct (v ∷ vs) w (suc k) h e =
       | inl t ↦ absurd (true≢false (sym (is_among-at vs k v (e ∙ ap Some (sym (bytes_eq-same v w t)))) ∙ x))
       | inr f ↦ ap (λ b. cond b (Some 0) (option_map (λ k. suc k) (place_in vs w))) f ∙ ap (option_map (λ k. suc k)) (place_distinct vs w k y e)
     ] where
-  none : (a b : Bool) → a || b ≡ false → (a ≡ false) × (b ≡ false)
-  none true b e' = absurd (true≢false e')
-  none false b e' = (refl, e')
+      none : (a b : Bool) → a || b ≡ false → (a ≡ false) × (b ≡ false)
+      none true b e' = absurd (true≢false e')
+      none false b e' = (refl, e')
 
 -- the map after one word more
 pub consistent_push : (base : ℕ) (old : Name → Option ℕ) (ws : List Name) (w : Name) → is_among ws w ≡ false → ((v : Name) → old v ≡ word_number base ws v) → (v : Name) → update bytes_eq old w (Some (base + length ws)) v ≡ word_number base (ws ++ w ∷ []) v

@@ -1,5 +1,5 @@
 -- What the parts of the check hand on.
-use Rattle.std.specs.Prelude.{ℕ, ◌≡◌, ◌⊎◌, ◌+◌, ◌<◌, Bool, true, List, [], ◌∷◌, length, map, Option, Some, None, MatchOption, Vec, slice_get, ◌==◌}
+use Rattle.std.specs.Prelude.{ℕ, ◌≡◌, ◌⊎◌, ◌+◌, ◌<◌, Bool, true, List, length, map, Option, Some, None, MatchOption, Vec, slice_get, ◌==◌}
 use Rattle.std.specs.declared.alloc.Global.{Global}
 use Rattle.psg_terms.specs.Names.{Name, is_among}
 use Rattle.psg_grammar.specs.declared.types.Kind.{Kind}

@@ -1,5 +1,5 @@
 -- Operators with terminals as numbers.
-use Rattle.std.specs.Prelude.{ℕ, ◌≡◌, ◌+◌, Bool, true, false, List, [], ◌∷◌, ◌++◌, length, map, Option, Some, None, option_map}
+use Rattle.std.specs.Prelude.{ℕ, List, [], ◌∷◌, ◌++◌, Option, Some, None, option_map}
 use Rattle.psg_terms.specs.Names.{Name}
 use Rattle.psg_grammar.specs.declared.types.Item.{Item}
 use Rattle.psg_grammar.specs.declared.types.Item.TheVariants as items

@@ -1,5 +1,5 @@
 -- What the grammar sees of a token: its terminal.
-use Rattle.std.specs.Prelude.{ℕ, ◌&&◌, ◌||◌, not, Bool, true, false, cond, List, [], ◌∷◌, Option, Some, None, bytes_eq, chars, encode_utf8_all, codes}
+use Rattle.std.specs.Prelude.{ℕ, ◌&&◌, not, Bool, true, false, List, [], ◌∷◌, Option, Some, None, bytes_eq, chars, encode_utf8_all, codes}
 use Rattle.std.specs.List.{list_all}
 use Rattle.psg_terms.specs.Names.{Name, is_among}
 use Rattle.psg_terms.specs.Words.{starts_word, goes_on_word}

@@ -68,11 +68,7 @@ fn check_forms(definition: &Definition, shapes: &[Shape]) -> Result<(), ClassFau
     Ok(())
 }
 
-fn check_levels(
-    alloc: Global,
-    definition: &Definition,
-    shapes: &[Shape],
-) -> Result<(), ClassFault>
+fn check_levels(alloc: Global, definition: &Definition, shapes: &[Shape]) -> Result<(), ClassFault>
     requires shapes { HasShapes definition.now shapes.now }
     requires before { Holds2 definition.now }
     ensures holds { OnOk result (Holds4 definition.now) }

@@ -84,11 +84,7 @@ pub(crate) fn led_cells(alloc: Global, shapes: &[Shape]) -> Result<Vec<Cell>, Al
     Ok(cells)
 }
 
-fn add_brackets(
-    cells: &mut Vec<Cell>,
-    phyla: &[Phylum],
-    opening: usize,
-) -> Result<(), AllocError>
+fn add_brackets(cells: &mut Vec<Cell>, phyla: &[Phylum], opening: usize) -> Result<(), AllocError>
     ensures { OnOk result (cells.new.items ≡ cells.old.items ++ bracket_cells opening 0 phyla.now) }
 {
     for row in 0..phyla.len() {
@@ -228,6 +224,5 @@ fn is_end(rows: &Rows, sets: &Grid, separators: &[usize], list: usize, column: u
     ensures { result ≡ ends rows.now sets.now separators.now list column }
 {
     let row = rows.phyla + list;
-    sets.has(rows.kinds + row, column)
-        && (sets.has(row, column) || column == separators[list])
+    sets.has(rows.kinds + row, column) && (sets.has(row, column) || column == separators[list])
 }

@@ -6,10 +6,10 @@
 //! that a definition which fails none of them has only one tree for each kind, level and list of tokens in `specs/Only`.
 #![tactic(auto)]
 
-pub mod fault;
 mod behind;
 mod check;
 mod failing;
+pub mod fault;
 mod forms;
 mod grid;
 mod shape;

@@ -89,11 +89,7 @@ impl Draft {
 
 /// Notes what the operator says of what begins its phylum, and of what stands behind its slots. For each slot it looks at
 /// the parts behind it up to the first that is no list.
-pub(crate) fn note_shape(
-    rows: &Rows,
-    shape: &Shape,
-    draft: &mut Draft,
-) -> Result<(), AllocError>
+pub(crate) fn note_shape(rows: &Rows, shape: &Shape, draft: &mut Draft) -> Result<(), AllocError>
     requires rows { IsRows rows.now }
     requires draft { IsDraft rows.now.height draft.old.grid.width draft.old }
     requires shape { IsShapeOf rows.now draft.old.grid.width shape.now }
@@ -149,12 +145,7 @@ fn note_slots(rows: &Rows, shape: &Shape, draft: &mut Draft) -> Result<(), Alloc
     Ok(())
 }
 
-fn note_slot(
-    rows: &Rows,
-    shape: &Shape,
-    place: usize,
-    draft: &mut Draft,
-) -> Result<(), AllocError>
+fn note_slot(rows: &Rows, shape: &Shape, place: usize, draft: &mut Draft) -> Result<(), AllocError>
     requires rows { IsRows rows.now }
     requires draft { IsDraft rows.now.height draft.old.grid.width draft.old }
     requires shape { IsShapeOf rows.now draft.old.grid.width shape.now }
@@ -193,12 +184,7 @@ fn is_end(phylum: u32, kind: Kind, behind: &[Part]) -> bool
 }
 
 /// Notes what can begin the parts as what is in the row; whether they can be without tokens.
-fn note_begin(
-    rows: &Rows,
-    parts: &[Part],
-    to: usize,
-    draft: &mut Draft,
-) -> Result<bool, AllocError>
+fn note_begin(rows: &Rows, parts: &[Part], to: usize, draft: &mut Draft) -> Result<bool, AllocError>
     requires rows { IsRows rows.now }
     requires draft { IsDraft rows.now.height draft.old.grid.width draft.old }
     requires to { to < rows.now.height }

@@ -11,7 +11,9 @@ use std::collections::HashMap;
 
 /// The numbers of the terminals that no definition names.
 pub(crate) const NAME: usize = 0;
+
 pub(crate) const NUMBER: usize = 1;
+
 pub(crate) const TEXT: usize = 2;
 /// The number of the placeholder of the first phylum. Behind the last one stands `...`.
 pub(crate) const HOLES: usize = 3;

@@ -1,4 +1,4 @@
-use Rattle.std.proofs.Common.{◌≡◌, map, length, ap, sym, ◌∙◌, subst}
+use Rattle.std.proofs.Common.{map, length, ap, sym, ◌∙◌}
 use Rattle.psg_class.specs.Checks.{has_none}
 use Rattle.psg_class.proofs.BehindLaws.{holes_are}
 use Rattle.psg_class.proofs.behind.hole_flags.Goals as goal

@@ -1,4 +1,4 @@
-use Rattle.std.proofs.Common.{◌≡◌, ◌+◌, length, ap, sym, ◌∙◌, subst}
+use Rattle.std.proofs.Common.{◌+◌, length, ap, ◌∙◌}
 use Rattle.psg_class.proofs.ReadLaws.{shape_at}
 use Rattle.psg_class.proofs.BehindLaws.{led_first}
 use Rattle.psg_class.proofs.behind.led_follows.Goals as goal

@@ -1,4 +1,4 @@
-use Rattle.std.proofs.Common.{◌≡◌, ◌+◌, length, ap, sym, ◌∙◌, subst}
+use Rattle.std.proofs.Common.{◌+◌, length, subst}
 use Rattle.psg_class.specs.Class.{ListEnd}
 use Rattle.psg_class.specs.Failing.{ends, IsFirstFailing}
 use Rattle.psg_class.proofs.TableLaws.{table_first}

@@ -1,7 +1,4 @@
-use Rattle.std.proofs.Common.{◌≡◌, inr, ℕ, ◌<◌, length, Some, None, sym, ◌∙◌, subst, arith}
-use Rattle.psg_class.specs.Class.{NoFirst, BadForm}
-use Rattle.psg_class.specs.Refusal.{IsFirst}
-use Rattle.psg_class.specs.Forms.{FailsTest, starts, fits, IsFirstIf}
+use Rattle.std.proofs.Common.{inr, Some, None, arith}
 use Rattle.psg_class.proofs.ReadLaws.{first_no_first, first_bad_form}
 use Rattle.psg_class.proofs.FormCells.{get_inside}
 use Rattle.psg_class.proofs.check.check_forms.Goals as goal

@@ -1,8 +1,5 @@
-use Rattle.std.proofs.Common.{◌≡◌, inr, ℕ, ◌+◌, ◌<◌, length, List, Some, None, sym, ap, ◌∙◌, subst, arith}
-use Rattle.psg_terms.specs.Names.{Name}
-use Rattle.psg_class.specs.Class.{NoBracket, MixedLevel}
-use Rattle.psg_class.specs.Forms.{AreInPhyla, IsFirstIf, IsFirstPair}
-use Rattle.psg_class.specs.Checks.{IsRead}
+use Rattle.std.proofs.Common.{inr, ◌<◌, length, Some, None, sym, subst, arith}
+use Rattle.psg_class.specs.Forms.{AreInPhyla}
 use Rattle.psg_class.proofs.ReadLaws.{bare_of, mixed_of, in_phyla, have_levels, phylum_at}
 use Rattle.psg_class.proofs.FormCells.{get_inside}
 use Rattle.psg_class.proofs.check.check_levels.Goals as goal

@@ -1,8 +1,7 @@
-use Rattle.std.proofs.Common.{◌≡◌, ◌+◌, ◌<◌, ◌++◌, length, Some, sym, ap, ◌∙◌, subst, ℕ}
+use Rattle.std.proofs.Common.{length, sym, ap, ◌∙◌, subst}
 use Rattle.psg_class.specs.Grids.{AreInside, is_set, twice}
 use Rattle.psg_class.specs.Class.{SameLed}
-use Rattle.psg_class.specs.Failing.{lead_cell, led_cell, cells_from, bracket_cells}
-use Rattle.psg_class.proofs.TableLaws.{leads_inside, inside_leds, same_first_table, same_led_table, table_first, wide_of, bracket_number}
+use Rattle.psg_class.proofs.TableLaws.{inside_leds, same_led_table, table_first, wide_of}
 use Rattle.psg_class.proofs.check.same_led.Goals as goal
 
 pub repeated-requires : goal.repeated-requires

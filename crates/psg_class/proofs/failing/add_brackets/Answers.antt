@@ -1,4 +1,4 @@
-use Rattle.std.proofs.Common.{◌++◌, length, take, ap, ap₂, sym, ◌∙◌, append_assoc, arith}
+use Rattle.std.proofs.Common.{◌++◌, take, ap, ap₂, sym, ◌∙◌, append_assoc, arith}
 use Rattle.std.proofs.lemmas.List.{length-take-le}
 use Rattle.psg_grammar.specs.declared.types.Phylum.{Phylum}
 use Rattle.psg_class.specs.Shapes.{listed}

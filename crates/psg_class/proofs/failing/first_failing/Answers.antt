@@ -1,4 +1,4 @@
-use Rattle.std.proofs.Common.{◌<◌, ℕ, true≢false, sym, ◌∙◌, arith}
+use Rattle.std.proofs.Common.{true≢false, sym, ◌∙◌, arith}
 use Rattle.psg_class.specs.Grids.{is_set}
 use Rattle.psg_class.specs.Failing.{HasSome}
 use Rattle.psg_class.proofs.FormCells.{none_more}

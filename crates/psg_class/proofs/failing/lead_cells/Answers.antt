@@ -1,4 +1,4 @@
-use Rattle.std.proofs.Common.{◌++◌, ap, sym, ◌∙◌, ap₂}
+use Rattle.std.proofs.Common.{◌++◌, sym, ◌∙◌, ap₂}
 use Rattle.psg_class.specs.Shapes.{listed}
 use Rattle.psg_class.specs.Failing.{lead_cell}
 use Rattle.psg_class.proofs.FailingLaws.{cells_more}

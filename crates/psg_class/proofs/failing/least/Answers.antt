@@ -1,4 +1,4 @@
-use Rattle.std.proofs.Common.{◌≡◌, ◌+◌, true, false, Some, subst, ap, sym, ◌∙◌}
+use Rattle.std.proofs.Common.{◌+◌, Some, subst, ap, sym, ◌∙◌}
 use Rattle.psg_class.specs.Grids.{is_set}
 use Rattle.psg_class.specs.Failing.{IsLeastIf}
 use Rattle.psg_class.proofs.FailingLaws.{least_more, least_same}

@@ -1,6 +1,4 @@
-use Rattle.std.proofs.Common.{◌≡◌, ◌+◌, ◌<◌, Some, slice_get, sym, ap, ◌∙◌, subst, arith}
-use Rattle.psg_class.specs.Failing.{led_cell, behind_slot}
-use Rattle.psg_class.specs.Forms.{cell_of, first_part}
+use Rattle.std.proofs.Common.{sym, ◌∙◌, arith}
 use Rattle.psg_class.proofs.LeadLaws.{led_cell_is}
 use Rattle.psg_class.proofs.failing.led_behind.Goals as goal
 

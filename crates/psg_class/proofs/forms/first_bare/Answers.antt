@@ -1,6 +1,6 @@
-use Rattle.std.proofs.Common.{◌≡◌, ◌<◌, ℕ, List, map, length, subst, sym, ap, ◌∙◌}
+use Rattle.std.proofs.Common.{◌≡◌, ◌<◌, ℕ, length, subst, sym, ap, ◌∙◌}
 use Rattle.psg_class.specs.Grids.{AreInside, is_set, once}
-use Rattle.psg_class.specs.Forms.{bound_cell, asked_cell, cells_by, LacksBracket, IsFirstIf}
+use Rattle.psg_class.specs.Forms.{bound_cell, asked_cell, cells_by, LacksBracket}
 use Rattle.psg_class.proofs.FormCells.{bound_inside, asked_inside, if_same, lacks_same}
 use Rattle.psg_class.proofs.forms.first_bare.Goals as goal
 

@@ -1,4 +1,4 @@
-use Rattle.std.proofs.Common.{◌≡◌, ◌<◌, ◌+◌, ℕ, true}
+use Rattle.std.proofs.Common.{◌≡◌, ◌<◌, ℕ, true}
 use Rattle.psg_class.specs.Grids.{is_set}
 use Rattle.psg_class.proofs.forms.is_below.Given as goal
 

@@ -1,6 +1,6 @@
-use Rattle.std.proofs.Common.{◌<◌, ℕ, arith}
+use Rattle.std.proofs.Common.{arith}
 use Rattle.psg_class.specs.Grids.{is_set}
-use Rattle.psg_class.specs.Forms.{Mixes, MixesAny}
+use Rattle.psg_class.specs.Forms.{MixesAny}
 use Rattle.psg_class.proofs.FormCells.{none_more}
 use Rattle.psg_class.proofs.forms.lowest_mixed.Goals as goal
 

@@ -1,7 +1,5 @@
-use Rattle.std.proofs.Common.{◌≡◌, ◌<◌, ◌||◌, ℕ, List, [], ◌∷◌, true, false, Contains, subst, sym, ap, ◌∙◌, arith}
-use Rattle.std.specs.Bool.{OnTrue, OnFalse}
-use Rattle.psg_class.specs.Grids.{IsSameSize, IsStep, is_set}
-use Rattle.psg_class.proofs.Closing.{still, same_size, joined, links_one, followed_more}
+use Rattle.std.proofs.Common.{◌<◌, [], ◌∷◌, subst, sym, arith}
+use Rattle.psg_class.proofs.Closing.{same_size, joined, links_one, followed_more}
 use Rattle.psg_class.proofs.grid.follow.Goals as goal
 
 pub copy-more-requires-clause-grid : goal.copy-more-requires-clause-grid

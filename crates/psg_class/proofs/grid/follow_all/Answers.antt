@@ -1,5 +1,4 @@
-use Rattle.std.proofs.Common.{◌<◌, get_or, subst, sym, arith}
-use Rattle.psg_class.specs.Grids.{AreLinks}
+use Rattle.std.proofs.Common.{◌<◌, get_or, subst, sym}
 use Rattle.psg_class.proofs.Closing.{contains_at, joined, followed_link, all_followed}
 use Rattle.psg_class.proofs.grid.follow_all.Goals as goal
 

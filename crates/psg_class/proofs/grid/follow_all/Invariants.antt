@@ -1,4 +1,4 @@
-use Rattle.std.proofs.Common.{◌≡◌, ◌<◌, ℕ, List, true, false, get_or}
+use Rattle.std.proofs.Common.{◌≡◌, ◌<◌, ℕ, false, get_or}
 use Rattle.psg_class.specs.Grids.{IsStep, Follows}
 use Rattle.psg_class.proofs.grid.follow_all.Given as goal
 

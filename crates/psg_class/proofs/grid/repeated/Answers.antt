@@ -1,4 +1,4 @@
-use Rattle.std.proofs.Common.{◌≡◌, ◌<◌, ◌∙◌, subst, sym}
+use Rattle.std.proofs.Common.{◌<◌, ◌∙◌, subst, sym}
 use Rattle.psg_class.specs.Grids.{is_set}
 use Rattle.psg_class.proofs.Tables.{once_more, twice_more}
 use Rattle.psg_class.proofs.grid.repeated.Goals as goal

@@ -1,4 +1,3 @@
-use Rattle.std.proofs.Common.{List}
 use Rattle.psg_class.specs.Grids.{IsSameSize, IsSound, Keeps, unset}
 use Rattle.psg_class.proofs.grid.saturate.Given as goal
 

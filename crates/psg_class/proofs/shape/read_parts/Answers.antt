@@ -1,4 +1,4 @@
-use Rattle.std.proofs.Common.{◌≡◌, ◌++◌, ◌∷◌, [], ap, sym, ◌∙◌}
+use Rattle.std.proofs.Common.{◌++◌, ◌∷◌, [], ap, sym, ◌∙◌}
 use Rattle.psg_class.proofs.ShapeLaws.{parts_more, listed_some, listed_none}
 use Rattle.psg_class.proofs.shape.read_parts.Goals as goal
 use Rattle.psg_class.proofs.shape.read_parts.Goals.{in-Some+in_ok-push, in_default}

@@ -1,8 +1,5 @@
-use Rattle.std.proofs.Common.{◌≡◌, ◌<◌, ◌+◌, ◌∷◌, ◌++◌, [], take, get_or, length, Some, true, false, refl, ap, sym, ◌∙◌, subst, arith}
+use Rattle.std.proofs.Common.{◌<◌, Some, ap, sym, ◌∙◌, subst, arith}
 use Rattle.std.proofs.lemmas.List.{take_more, take_all}
-use Rattle.psg_grammar.specs.declared.types.Kind.TheVariants as kinds
-use Rattle.psg_class.specs.Grids.{IsCell}
-use Rattle.psg_class.specs.declared.shape.Part.{Part}
 use Rattle.psg_class.specs.declared.shape.Part.TheVariants as parts
 use Rattle.psg_class.specs.Sources.{Adds, NoLink, OneCell, IsPartOf, IsKind, kind_index}
 use Rattle.psg_class.proofs.FormCells.{get_at}

@@ -1,4 +1,4 @@
-use Rattle.std.proofs.Common.{◌≡◌, Some, slice_get, subst, sym, ap, ◌∙◌, arith}
+use Rattle.std.proofs.Common.{Some, sym, ap, ◌∙◌, arith}
 use Rattle.psg_class.specs.Sources.{ListFactAt, ListLinkAt}
 use Rattle.psg_class.proofs.FormCells.{get_at}
 use Rattle.psg_class.proofs.Drafts.{adds_more}

@@ -1,4 +1,4 @@
-use Rattle.std.proofs.Common.{◌≡◌, ◌+◌, Some, slice_get, subst, sym, ap, ◌∙◌, arith}
+use Rattle.std.proofs.Common.{◌+◌, Some, subst, sym, ap, ◌∙◌, arith}
 use Rattle.psg_class.specs.Sources.{Adds, If, NoLink, PhylumFactAt}
 use Rattle.psg_class.proofs.FormCells.{get_at}
 use Rattle.psg_class.proofs.WholeDraft.{facts_more, phylum_at}

@@ -1,12 +1,11 @@
-use Rattle.std.proofs.Common.{◌≡◌, ◌<◌, ◌≤◌, ◌+◌, ◌-◌, ◌&&◌, ◌∷◌, ◌++◌, [], ℕ, List, take, drop, get_or, length, Some, true, false, not, refl, ap, sym, ◌∙◌, subst, arith, true≢false}
+use Rattle.std.proofs.Common.{◌≡◌, ◌<◌, ◌+◌, ◌&&◌, ℕ, Some, ap, sym, ◌∙◌, subst, arith, true≢false}
 use Rattle.std.specs.Prelude.{slice_get}
 use Rattle.psg_grammar.specs.declared.types.Kind.TheVariants as kinds
 use Rattle.psg_class.specs.Forms.{is_own}
-use Rattle.psg_class.specs.declared.shape.Part.{Part}
 use Rattle.psg_class.specs.declared.shape.Part.TheVariants as parts
 use Rattle.psg_class.specs.declared.shape.Shape.{Shape}
 use Rattle.psg_class.specs.declared.sources.Rows.{Rows}
-use Rattle.psg_class.specs.Sources.{Adds, NoLink, OneCell, IsRows, IsPartOf, IsKind, IsShapeOf, kind_index, behind, BeginFact, BeginLink, first_row, follow_row, led_row, can_end, is_end, none_behind}
+use Rattle.psg_class.specs.Sources.{IsRows, IsPartOf, IsKind, IsShapeOf, kind_index, follow_row, led_row, can_end, is_end, none_behind}
 use Rattle.psg_class.proofs.BeginLaws.{kind_small}
 use Rattle.psg_class.proofs.SlotLaws.{inner, outer, rest_of, rest_parts, slot_at, ends_with, place_later, moved, moved_link}
 use Rattle.psg_class.proofs.sources.note_slot.Goals as goal

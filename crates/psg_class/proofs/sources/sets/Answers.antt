@@ -1,4 +1,4 @@
-use Rattle.std.proofs.Common.{◌≡◌, ◌<◌, ◌≤◌, length, take, Some, [], true, slice_get, subst, sym, ap, ◌∙◌, refl, arith}
+use Rattle.std.proofs.Common.{◌≡◌, ◌<◌, length, Some, true, subst, sym, ap, ◌∙◌}
 use Rattle.std.specs.Prelude.{◌↔◌}
 use Rattle.psg_class.specs.Grids.{AreLinks, Derives, IsCell, IsSameSize, is_set}
 use Rattle.psg_class.specs.declared.sources.Draft.{Draft}

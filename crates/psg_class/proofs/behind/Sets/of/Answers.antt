@@ -1,4 +1,4 @@
-use Rattle.std.proofs.Common.{◌≡◌, ◌+◌, ◌<◌, length, map, ap, ap₂, sym, ◌∙◌, subst, true, ℕ}
+use Rattle.std.proofs.Common.{map, ap₂, sym, ◌∙◌, subst}
 use Rattle.psg_class.specs.Checks.{AreHoles, AreSets, separator_number}
 use Rattle.psg_class.proofs.TableLaws.{wide_of, bracket_number, closing_number}
 use Rattle.psg_class.proofs.BehindLaws.{parts_given, sets_given}

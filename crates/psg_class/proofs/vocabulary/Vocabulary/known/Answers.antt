@@ -1,4 +1,4 @@
-use Rattle.std.proofs.Common.{◌≡◌, true, false, None, ap, sym, ◌∙◌, true≢false}
+use Rattle.std.proofs.Common.{ap, sym, ◌∙◌, true≢false}
 use Rattle.std.specs.Prelude.{is_some}
 use Rattle.psg_class.proofs.WordLaws.{number_found}
 use Rattle.psg_class.proofs.vocabulary.Vocabulary.known.Goals as goal

@@ -1,4 +1,4 @@
-use Rattle.std.proofs.Common.{◌≡◌, true, arith, length, ap, subst, sym, ◌∙◌}
+use Rattle.std.proofs.Common.{◌≡◌, true, arith, length, ap, subst}
 use Rattle.psg_terms.specs.Names.{is_among}
 use Rattle.psg_grammar.specs.WellFormed.{operator_words, separators}
 use Rattle.psg_class.specs.Numbers.{HasWords}
