@@ -4,7 +4,6 @@ use Rattle.psg_grammar.specs.declared.types.Kind.{Kind}
 use Rattle.psg_grammar.specs.declared.types.Definition.{Definition}
 use Rattle.psg_grammar.specs.Fragments.{Fragment}
 use Rattle.psg_class.specs.Terminals.{Token}
-use Rattle.psg_class.specs.Class.{IsClass}
 use Rattle.psg_class.specs.Yields.{Yields}
 
 pub record IsOnly (f g : Fragment) (d e : ℕ) : Type 0 where
@@ -13,7 +12,3 @@ pub record IsOnly (f g : Fragment) (d e : ℕ) : Type 0 where
 
 abbrev pub HasOnlyTrees : Definition → Type 0
 HasOnlyTrees def = (kind : Kind) (level : ℕ) (ts : List Token) (f g : Fragment) (d e : ℕ) → Yields def f kind level d ts → Yields def g kind level e ts → IsOnly f g d e
-
--- the law
-abbrev pub ClassHasOnlyTrees : Type 0
-ClassHasOnlyTrees = (def : Definition) → IsClass def → HasOnlyTrees def
