@@ -27,3 +27,4 @@ pub mod Sameness
 pub mod Law
 pub mod Soundness
 pub mod Machine
+pub mod SumLaws

@@ -12,3 +12,4 @@ pub mod Shapes
 pub mod Forms
 pub mod Sources
 pub mod Failing
+pub mod Sums

@@ -171,3 +171,6 @@ fn check_behind(
     }
     Ok(())
 }
+
+#[cfg(test)]
+mod tests;
