@@ -64,7 +64,8 @@ fn is_culprit(
     requires constants { HasConstantsOnly definition.now }
     requires formed { IsFormed definition.now tree.now }
     requires below { AllByRecursion (IsFormed definition.now) below.now }
-    ensures { IfOk result (λ yes. IsTrue yes ↔ ((IsOpen definition.now tree.now → ⊥) × AllByRecursion (IsOpen definition.now) below.now)) }
+    ensures { IfOk result (λ yes.
+        IsTrue yes ↔ ((IsOpen definition.now tree.now → ⊥) × AllByRecursion (IsOpen definition.now) below.now)) }
 {
     let open = is_open(alloc, definition, tree)?;
     if open {

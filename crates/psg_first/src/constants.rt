@@ -36,7 +36,8 @@ pub fn constants(
     names: &[Txt],
 ) -> Result<Vec<Term>, ReadFault>
     requires { IsScope scope.now }
-    ensures ok { IfOk result (λ v. IsOnly (AreConstants scope.now.signature.symbols (numbers_of sorts.now) names.now) v.items) }
+    ensures ok { IfOk result (λ v.
+        IsOnly (AreConstants scope.now.signature.symbols (numbers_of sorts.now) names.now) v.items) }
     ensures err { IfErr result (Refuses (AreConstants scope.now.signature.symbols (numbers_of sorts.now) names.now)) }
 {
     if sorts.len() != names.len() {

@@ -119,8 +119,10 @@ fn hole_row(
 ) -> Result<HoleRow, ReadFault>
     requires scope { IsScope scope.now }
     requires names { names.now ≡ names_of_operators operators.now }
-    ensures ok { IfOk result (λ r. IsOnly (IsHoleRow scope.now.signature.symbols scope.now.phyla.items operators.now phylum.now term.now specimen.now) r) }
-    ensures err { IfErr result (Refuses (IsHoleRow scope.now.signature.symbols scope.now.phyla.items operators.now phylum.now term.now specimen.now)) }
+    ensures ok { IfOk result (λ r.
+        IsOnly (IsHoleRow scope.now.signature.symbols scope.now.phyla.items operators.now phylum.now term.now specimen.now) r) }
+    ensures err { IfErr result
+        (Refuses (IsHoleRow scope.now.signature.symbols scope.now.phyla.items operators.now phylum.now term.now specimen.now)) }
 {
     let (number, sort) = phylum_named(scope, phylum)?;
     let term = constant(alloc, scope, sort, term)?;
@@ -187,8 +189,10 @@ fn hole_rows(
 ) -> Result<Vec<HoleRow>, ReadFault>
     requires scope { IsScope scope.now }
     requires names { names.now ≡ names_of_operators operators.now }
-    ensures ok { IfOk result (λ v. IsOnly (AreHoleRows scope.now.signature.symbols scope.now.phyla.items operators.now lines.now) v.items) }
-    ensures err { IfErr result (Refuses (AreHoleRows scope.now.signature.symbols scope.now.phyla.items operators.now lines.now)) }
+    ensures ok { IfOk result (λ v.
+        IsOnly (AreHoleRows scope.now.signature.symbols scope.now.phyla.items operators.now lines.now) v.items) }
+    ensures err { IfErr result
+        (Refuses (AreHoleRows scope.now.signature.symbols scope.now.phyla.items operators.now lines.now)) }
 {
     let mut made = Vec::new(alloc);
     for line in lines {

@@ -122,7 +122,8 @@ fn line_operator(alloc: Global, parts: &[&[u8]]) -> Result<Line, ReadFault>
 
 /// The columns of a row: nothing, or a colon and one name or more.
 fn row_columns<'a>(parts: &'a [&'a [u8]]) -> Option<&'a [&'a [u8]]>
-    ensures { MatchOption result (HasNoColumns (texts parts.now)) (λ columns. columns_parts (texts columns.now) ≡ texts parts.now) }
+    ensures { MatchOption result (HasNoColumns (texts parts.now))
+        (λ columns. columns_parts (texts columns.now) ≡ texts parts.now) }
 {
     match parts {
         [] => Some(parts),

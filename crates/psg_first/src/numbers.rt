@@ -35,7 +35,8 @@ fn phylum(sorts: &Table, name: &Txt, sort: &Txt) -> Result<Phylum, ReadFault>
 
 /// Puts the phylum of a line behind the others, if it declares one.
 fn put_phylum(phyla: &mut Vec<Phylum>, sorts: &Table, line: &Line) -> Result<(), ReadFault>
-    ensures ok { OnOk result ((rest : List PlainLine) → IsPut (ArePhyla sorts.now) line.now rest phyla.old.items phyla.new.items) }
+    ensures ok { OnOk result ((rest : List PlainLine)
+        → IsPut (ArePhyla sorts.now) line.now rest phyla.old.items phyla.new.items) }
     ensures err { IfErr result (λ e. (rest : List PlainLine) → Stops (ArePhyla sorts.now) line.now rest e) }
 {
     let Line::Phylum { name, sort } = line else {
@@ -93,8 +94,10 @@ fn items(alloc: Global, scope: &Scope, parts: &[LineItem]) -> Result<Vec<Item>, 
 /// Puts the sort of a slot behind the others, if the item is a slot.
 fn put_slot_sort(sorts: &mut Vec<SortId>, scope: &Scope, part: &LineItem) -> Result<(), ReadFault>
     requires { IsScope scope.now }
-    ensures ok { OnOk result ((rest : List PlainItem) → IsPut (AreSlotSorts scope.now.phyla.items) part.now rest (numbers_of sorts.old.items) (numbers_of sorts.new.items)) }
-    ensures err { IfErr result (λ e. (rest : List PlainItem) → Stops (AreSlotSorts scope.now.phyla.items) part.now rest e) }
+    ensures ok { OnOk result ((rest : List PlainItem)
+        → IsPut (AreSlotSorts scope.now.phyla.items) part.now rest (numbers_of sorts.old.items) (numbers_of sorts.new.items)) }
+    ensures err { IfErr result (λ e. (rest : List PlainItem)
+        → Stops (AreSlotSorts scope.now.phyla.items) part.now rest e) }
 {
     let LineItem::Slot(name) = part else {
         return Ok(());
@@ -127,8 +130,10 @@ fn row(
     columns: &[Txt],
 ) -> Result<Row, ReadFault>
     requires { IsScope scope.now }
-    ensures ok { IfOk result (λ r. IsOnly (IsRow scope.now.signature.symbols sort.0 (numbers_of sorts.now) head.now columns.now) r) }
-    ensures err { IfErr result (Refuses (IsRow scope.now.signature.symbols sort.0 (numbers_of sorts.now) head.now columns.now)) }
+    ensures ok { IfOk result (λ r.
+        IsOnly (IsRow scope.now.signature.symbols sort.0 (numbers_of sorts.now) head.now columns.now) r) }
+    ensures err { IfErr result
+        (Refuses (IsRow scope.now.signature.symbols sort.0 (numbers_of sorts.now) head.now columns.now)) }
 {
     let head = constant(alloc, scope, sort, head)?;
     let columns = constants(alloc, scope, sorts, columns)?;
@@ -181,8 +186,10 @@ fn rows(
     behind: &[Line],
 ) -> Result<Vec<Row>, ReadFault>
     requires { IsScope scope.now }
-    ensures ok { IfOk result (λ v. IsOnly (AreRows scope.now.signature.symbols sort.0 (numbers_of sorts.now) behind.now) v.items) }
-    ensures err { IfErr result (Refuses (AreRows scope.now.signature.symbols sort.0 (numbers_of sorts.now) behind.now)) }
+    ensures ok { IfOk result (λ v.
+        IsOnly (AreRows scope.now.signature.symbols sort.0 (numbers_of sorts.now) behind.now) v.items) }
+    ensures err { IfErr result
+        (Refuses (AreRows scope.now.signature.symbols sort.0 (numbers_of sorts.now) behind.now)) }
 {
     let mut made = Vec::new(alloc);
     for line in behind {
@@ -204,8 +211,10 @@ fn operator(
     behind: &[Line],
 ) -> Result<Operator, ReadFault>
     requires { IsScope scope.now }
-    ensures ok { IfOk result (λ o. IsOnly (IsOperator scope.now.signature.symbols scope.now.phyla.items name.now phylum.now parts.now behind.now) o) }
-    ensures err { IfErr result (Refuses (IsOperator scope.now.signature.symbols scope.now.phyla.items name.now phylum.now parts.now behind.now)) }
+    ensures ok { IfOk result (λ o.
+        IsOnly (IsOperator scope.now.signature.symbols scope.now.phyla.items name.now phylum.now parts.now behind.now) o) }
+    ensures err { IfErr result
+        (Refuses (IsOperator scope.now.signature.symbols scope.now.phyla.items name.now phylum.now parts.now behind.now)) }
 {
     let (number, sort) = phylum_named(scope, phylum)?;
     let items = items(alloc, scope, parts)?;
@@ -231,8 +240,10 @@ fn put_operator(
     behind: &[Line],
 ) -> Result<(), ReadFault>
     requires { IsScope scope.now }
-    ensures ok { OnOk result (IsPut (AreOperators scope.now.signature.symbols scope.now.phyla.items) line.now behind.now operators.old.items operators.new.items) }
-    ensures err { IfErr result (Stops (AreOperators scope.now.signature.symbols scope.now.phyla.items) line.now behind.now) }
+    ensures ok { OnOk result
+        (IsPut (AreOperators scope.now.signature.symbols scope.now.phyla.items) line.now behind.now operators.old.items operators.new.items) }
+    ensures err { IfErr result
+        (Stops (AreOperators scope.now.signature.symbols scope.now.phyla.items) line.now behind.now) }
 {
     let Line::Operator {
         name,
@@ -250,7 +261,8 @@ fn put_operator(
 /// The operators, in order, each with its rows. It reads the rows once.
 pub fn operators(alloc: Global, scope: &Scope, lines: &[Line]) -> Result<Vec<Operator>, ReadFault>
     requires { IsScope scope.now }
-    ensures ok { IfOk result (λ v. IsOnly (AreOperators scope.now.signature.symbols scope.now.phyla.items lines.now) v.items) }
+    ensures ok { IfOk result (λ v.
+        IsOnly (AreOperators scope.now.signature.symbols scope.now.phyla.items lines.now) v.items) }
     ensures err { IfErr result (Refuses (AreOperators scope.now.signature.symbols scope.now.phyla.items lines.now)) }
 {
     let mut made = Vec::new(alloc);

@@ -17,8 +17,8 @@ hole Exp int by zero
 hole Exp bool by tru
 ";
 
-/// Numbers and truth values with operators of all five level forms: prefix, postfix, and infix to the left, to the right and
-/// to neither side. It belongs to the grammar class, and each placeholder has a number and a truth value.
+/// Numbers and truth values with operators of all five level forms: prefix, postfix, and infix to the left, to the
+/// right and to neither side. It belongs to the grammar class, and each placeholder has a number and a truth value.
 pub const LEVELS: &str = "psg 1
 sort Type = int bool
 phylum Exp : Type bracketed
