@@ -11,7 +11,7 @@ use Rattle.psg_terms.proofs.InstanceLaws.{after, substitute-after, substitute-sa
 use Rattle.psg_terms.proofs.Covers.{among-append}
 use Rattle.psg_terms.proofs.Fitting.{Grown, grown-here}
 use Rattle.psg_unify.specs.Solving.{Solves, Resolves, Solved, Extended, Apart, Answers, OfOneSort, MakesEqual}
-use Rattle.psg_unify.specs.Chains.{IsSettled}
+use Rattle.psg_unify.specs.Chains.{IsSettled, StandsFor}
 
 -- whether x occurs, by each substitution that writes the table out
 abbrev pub Tells : Lookup → Variable → Bool → Term → Type 0
@@ -193,6 +193,16 @@ bound_new old new s n t b out free grown told = record {
   holds = λ g h. solves_here old new s n t grown free g h;
   all = λ g h e. solves_after old new s n t grown free g h e;
 }
+
+-- binding it to what stands for such a term
+pub bound_short : (old new : Lookup) (s n : ℕ) (short t : Term) (b : Bool) → b ≡ false → old s n ≡ None → Grown old new (s, n) short → StandsFor old short t → Tells old (s, n) b t → Extended old new (OfOneSort (variable s n) short) (MakesEqual (variable s n) short)
+bound_short old new s n short t b out free grown stands told =
+    bound_new old new s n short b out free grown (λ f r. told f r ∙ ap (λ u. is_noted (s, n) (variables u)) (sym (stands.equal f r.bound)))
+
+-- a circle through what stands for such a term
+pub circle_short : (table : Lookup) (s n : ℕ) (short t : Term) (b : Bool) → b ≡ true → t ≢ variable s n → IsSettled table t → StandsFor table short t → Tells table (s, n) b t → Apart table (OfOneSort (variable s n) short) (MakesEqual (variable s n) short)
+circle_short table s n short t b y ne i stands told = λ sig (r, hx, ht) h g solves e.
+    circle table s n t b y ne i told sig (r, hx, stands.sorted sig h r ht) h g solves (e ∙ stands.equal g solves)
 
 -- another variable that is free doesn't have it
 tells_free : (table : Lookup) (s n p q : ℕ) → table p q ≡ None → variable s n ≢ variable p q → Tells table (s, n) false (variable p q)

@@ -10,8 +10,9 @@ use Rattle.psg_terms.proofs.Applied.{applied-substitute, applied-sorts}
 use Rattle.psg_terms.proofs.Nodes.{same_constructor, same_arguments}
 use Rattle.psg_unify.specs.declared.equations.Same.{Same}
 use Rattle.psg_unify.specs.Solving.{Solves, Solved, Extended, Apart, Answers, OfOneSort, MakesEqual, OfSameSorts, MakesRowsEqual}
-use Rattle.psg_unify.specs.Chains.{IsEnd}
+use Rattle.psg_unify.specs.Chains.{StandsFor, IsEnd}
 use Rattle.psg_unify.specs.Memories.{Alike, AreImplied, Gives, IsKept, KeepsAtMost}
+use Rattle.psg_unify.proofs.Following.{end_stands, end_value}
 
 abbrev Sames : Type 0
 Sames = Same → Bool
@@ -21,46 +22,43 @@ pub gives_plain : (d : Bool) (old new : Lookup) (s0 s1 : Sames) (Typed : Signatu
 gives_plain true old new s0 s1 Typed Holds e h = λ i. (h, λ g k. subst (Alike g) (sym e) (i g (h.before g k)))
 gives_plain false old new s0 s1 Typed Holds e h = λ i. h
 
--- an answer for the ends of two chains is one for the terms
-pub gives_ends : (d c : Bool) (old new : Lookup) (s0 s1 : Sames) (a b x y : Term) (la lb : Option Key) → c ≡ d → IsEnd old a la x → IsEnd old b lb y → Gives d old new s0 s1 (OfOneSort x y) (MakesEqual x y) → Gives c old new s0 s1 (OfOneSort a b) (MakesEqual a b)
-gives_ends d true old new s0 s1 a b x y la lb e ia ib h = λ i.
+-- an answer for terms that stand for others is one for these
+pub gives_for : (d c : Bool) (old new : Lookup) (s0 s1 : Sames) (a b x y : Term) → c ≡ d → StandsFor old a x → StandsFor old b y → Gives d old new s0 s1 (OfOneSort x y) (MakesEqual x y) → Gives c old new s0 s1 (OfOneSort a b) (MakesEqual a b)
+gives_for d true old new s0 s1 a b x y e ia ib h = λ i.
     let k = subst (λ v. Gives v old new s0 s1 (OfOneSort x y) (MakesEqual x y)) (sym e) h i in (
       record {
-        solved = λ sig (r, ha, hb) s. k.0.solved sig (r, ia.leads.sorted sig s r ha, ib.leads.sorted sig s r hb) s;
+        solved = λ sig (r, ha, hb) s. k.0.solved sig (r, ia.sorted sig s r ha, ib.sorted sig s r hb) s;
         before = k.0.before;
-        holds = λ g s. ia.leads.equal g (k.0.before g s) ∙ k.0.holds g s ∙ sym (ib.leads.equal g (k.0.before g s));
-        all = λ g s q. k.0.all g s (sym (ia.leads.equal g s) ∙ q ∙ ib.leads.equal g s);
+        holds = λ g s. ia.equal g (k.0.before g s) ∙ k.0.holds g s ∙ sym (ib.equal g (k.0.before g s));
+        all = λ g s q. k.0.all g s (sym (ia.equal g s) ∙ q ∙ ib.equal g s);
       },
       k.1,
     )
-gives_ends d false old new s0 s1 a b x y la lb e ia ib h = λ i sig (r, ha, hb) s g k q.
-    subst (λ v. Gives v old new s0 s1 (OfOneSort x y) (MakesEqual x y)) (sym e) h i sig (r, ia.leads.sorted sig s r ha, ib.leads.sorted sig s r hb) s g k (sym (ia.leads.equal g k) ∙ q ∙ ib.leads.equal g k)
-
--- the end of a chain is the value of its last variable
-end_value : (table : Lookup) (a x : Term) (la : Option Key) → IsEnd table a la x → (g : Substitution) → Solves g table → (k : Key) → la ≡ Some k → g k.sort.0 k.number ≡ substitute g x
-end_value table a x la i g s k l = s k.sort.0 k.number x (i.leads.bound k l)
+gives_for d false old new s0 s1 a b x y e ia ib h = λ i sig (r, ha, hb) s g k q.
+    subst (λ v. Gives v old new s0 s1 (OfOneSort x y) (MakesEqual x y)) (sym e) h i sig (r, ia.sorted sig s r ha, ib.sorted sig s r hb) s g k (sym (ia.equal g k) ∙ q ∙ ib.equal g k)
 
 -- variables that are known to be equal
-pub gives_known : (table : Lookup) (equal : Sames) (a b x y : Term) (la lb : Option Key) → IsEnd table a la x → IsEnd table b lb y → IsKept equal la lb → Gives true table table equal equal (OfOneSort a b) (MakesEqual a b)
-gives_known table equal a b x y la lb ia ib (p, l, r, e) = λ i. (
+pub gives_known : (table : Lookup) (equal : Sames) (a b p q x y : Term) (la lb : Option Key) → IsEnd table a la p x → IsEnd table b lb q y → IsKept equal la lb → Gives true table table equal equal (OfOneSort a b) (MakesEqual a b)
+gives_known table equal a b p q x y la lb ia ib (k, l, r, e) = λ i. (
   record {
     solved = λ sig _ s. s;
     before = λ g s. s;
-    holds = λ g s. ia.leads.equal g s ∙ sym (end_value table a x la ia g s p.left l) ∙ i g s p e ∙ end_value table b y lb ib g s p.right r ∙ sym (ib.leads.equal g s);
+    holds = λ g s. (end_stands table a p x la ia).equal g s ∙ sym (end_value table a p x la ia g s k.left l) ∙ i g s k e ∙ end_value table b q y lb ib g s k.right r ∙ sym ((end_stands table b q y lb ib).equal g s);
     all = λ g s _. s;
   },
   i,
 )
 
 -- variables that were made equal are remembered
-pub gives_kept : (d : Bool) (old new : Lookup) (s0 s1 s2 : Sames) (a b x y : Term) (la lb : Option Key) → d ≡ true → IsEnd old a la x → IsEnd old b lb y → KeepsAtMost s1 s2 la lb → Gives d old new s0 s1 (OfOneSort x y) (MakesEqual x y) → Gives true old new s0 s2 (OfOneSort a b) (MakesEqual a b)
-gives_kept d old new s0 s1 s2 a b x y la lb e ia ib more h = λ i.
-    let k = subst (λ v. Gives v old new s0 s1 (OfOneSort x y) (MakesEqual x y)) e h i in
-    let all = gives_ends d true old new s0 s1 a b x y la lb (sym e) ia ib h i in (
+pub gives_kept : (d : Bool) (old new : Lookup) (s0 s1 s2 : Sames) (a b p q x y : Term) (la lb : Option Key) → d ≡ true → IsEnd old a la p x → IsEnd old b lb q y → KeepsAtMost s1 s2 la lb → Gives d old new s0 s1 (OfOneSort p q) (MakesEqual p q) → Gives true old new s0 s2 (OfOneSort a b) (MakesEqual a b)
+gives_kept d old new s0 s1 s2 a b p q x y la lb e ia ib more h = λ i.
+    let k = subst (λ v. Gives v old new s0 s1 (OfOneSort p q) (MakesEqual p q)) e h i in
+    let all = gives_for d true old new s0 s1 a b p q (sym e) ia.reaches.near ib.reaches.near h i in (
       all.0,
-      λ g s p q. elim (more p q) [
-        | inl was ↦ k.1 g s p was
-        | inr (l, r) ↦ end_value old a x la ia g (k.0.before g s) p.left l ∙ k.0.holds g s ∙ sym (end_value old b y lb ib g (k.0.before g s) p.right r)
+      λ g s w m. elim (more w m) [
+        | inl was ↦ k.1 g s w was
+        | inr (l, r) ↦ (let before = k.0.before g s in
+            end_value old a p x la ia g before w.left l ∙ sym (ia.reaches.far.equal g before) ∙ k.0.holds g s ∙ ib.reaches.far.equal g before ∙ sym (end_value old b q y lb ib g before w.right r))
       ],
     )
 

@@ -14,6 +14,7 @@ use Rattle.psg_terms.proofs.Nodes.{take-all}
 use Rattle.psg_unify.specs.Solving.{Solves, Resolves}
 use Rattle.psg_unify.specs.Chains.{IsSettled, IsEnd}
 use Rattle.psg_unify.specs.Memories.{AreClear, Says, IsMarked, MarksAtMost}
+use Rattle.psg_unify.proofs.Following.{end_stands, end_value}
 
 abbrev Marks : Type 0
 Marks = Key → Bool
@@ -22,25 +23,25 @@ Marks = Key → Bool
 abbrev pub Lacks : Lookup → Variable → Marks → Marks → List Term → Type 0
 Lacks table x old new row = (f : Substitution) → Resolves f table → AreClear f x old → (is_noted x (variables_of (map (substitute f) row)) ≡ false) × AreClear f x new
 
--- the end of a chain is written out as its variables are
-end_of : (f : Substitution) (table : Lookup) (r : Resolves f table) (t e : Term) (last : Option Key) → IsEnd table t last e → (k : Key) → last ≡ Some k → f k.sort.0 k.number ≡ substitute f t
-end_of f table r t e last i k l = r.bound k.sort.0 k.number e (i.leads.bound k l) ∙ sym (i.leads.equal f r.bound)
+-- the last variable of a chain is written out as the term is
+end_of : (f : Substitution) (table : Lookup) (r : Resolves f table) (t short e : Term) (last : Option Key) → IsEnd table t last short e → (k : Key) → last ≡ Some k → f k.sort.0 k.number ≡ substitute f t
+end_of f table r t short e last i k l = end_value table t short e last i f r.bound k l ∙ sym ((end_stands table t short e last i).equal f r.bound)
 
-pub says_end : (table : Lookup) (x : Variable) (old new : Marks) (b c : Bool) (t e : Term) (last : Option Key) → b ≡ c → IsEnd table t last e → Says table x old new b e → Says table x old new c t
-says_end table x old new b c t e last d i h = λ f r a.
+pub says_end : (table : Lookup) (x : Variable) (old new : Marks) (b c : Bool) (t short e : Term) (last : Option Key) → b ≡ c → IsEnd table t last short e → Says table x old new b e → Says table x old new c t
+says_end table x old new b c t short e last d i h = λ f r a.
     let both = h f r a in
-    (sym d ∙ both.0 ∙ ap (λ u. is_noted x (variables u)) (sym (i.leads.equal f r.bound)), both.1)
+    (sym d ∙ both.0 ∙ ap (λ u. is_noted x (variables u)) (sym ((end_stands table t short e last i).equal f r.bound)), both.1)
 
-pub says_marked : (table : Lookup) (x : Variable) (marked : Marks) (t e : Term) (last : Option Key) → IsEnd table t last e → IsMarked marked last → Says table x marked marked false t
-says_marked table x marked t e last i (k, l, m) = λ f r a.
-    (sym (ap (λ u. is_noted x (variables u)) (sym (end_of f table r t e last i k l)) ∙ a k m), a)
+pub says_marked : (table : Lookup) (x : Variable) (marked : Marks) (t short e : Term) (last : Option Key) → IsEnd table t last short e → IsMarked marked last → Says table x marked marked false t
+says_marked table x marked t short e last i (k, l, m) = λ f r a.
+    (sym (ap (λ u. is_noted x (variables u)) (sym (end_of f table r t short e last i k l)) ∙ a k m), a)
 
-pub says_not : (table : Lookup) (x : Variable) (old mid new : Marks) (b : Bool) (t e : Term) (last : Option Key) → b ≡ false → IsEnd table t last e → MarksAtMost mid new last → Says table x old mid b e → Says table x old new false t
-says_not table x old mid new b t e last d i more h = λ f r a.
-    let both = says_end table x old mid b false t e last d i h f r a in
+pub says_not : (table : Lookup) (x : Variable) (old mid new : Marks) (b : Bool) (t short e : Term) (last : Option Key) → b ≡ false → IsEnd table t last short e → MarksAtMost mid new last → Says table x old mid b e → Says table x old new false t
+says_not table x old mid new b t short e last d i more h = λ f r a.
+    let both = says_end table x old mid b false t short e last d i h f r a in
     (both.0, λ k m. elim (more k m) [
       | inl was ↦ both.1 k was
-      | inr l ↦ ap (λ u. is_noted x (variables u)) (end_of f table r t e last i k l) ∙ sym both.0
+      | inr l ↦ ap (λ u. is_noted x (variables u)) (end_of f table r t short e last i k l) ∙ sym both.0
     ])
 
 pub says_variable : (table : Lookup) (x : Variable) (marked : Marks) (s n : ℕ) (t : Term) (b : Bool) → t ≡ variable s n → IsSettled table t → b ≡ same_variable x (s, n) → Says table x marked marked b t

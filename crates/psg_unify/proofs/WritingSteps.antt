@@ -15,6 +15,7 @@ use Rattle.psg_unify.specs.Solving.{Resolves}
 use Rattle.psg_unify.specs.Chains.{key_of, IsSettled, IsEnd}
 use Rattle.psg_unify.specs.WrittenOut.{Remembers, Writes, IsRecalled, RemembersAtMost}
 use Rattle.psg_unify.proofs.Comparing.{map-next}
+use Rattle.psg_unify.proofs.Following.{end_stands, end_value}
 
 each_known : (known xs : List Variable) → AreKnown known xs → Each (IsAmong known) xs
 each_known known [] h = tt
@@ -42,10 +43,10 @@ abbrev first_of : List Term → Term
 first_of [] = symbol 0
 first_of (t ∷ ts) = t
 
-pub writes_recalled : (sig : Signature) (table : Lookup) (known : List Variable) (memory : Lookup) (t e copy : Term) (last : Option Key) → IsEnd table t last e → IsRecalled memory last copy → Writes sig table known known memory memory (t ∷ []) (copy ∷ [])
-writes_recalled sig table known memory t e copy last i (k, l, m) = λ f r h.
+pub writes_recalled : (sig : Signature) (table : Lookup) (known : List Variable) (memory : Lookup) (t short e copy : Term) (last : Option Key) → IsEnd table t last short e → IsRecalled memory last copy → Writes sig table known known memory memory (t ∷ []) (copy ∷ [])
+writes_recalled sig table known memory t short e copy last i (k, l, m) = λ f r h.
     let both = h k.sort.0 k.number copy m in
-    let is : substitute f t ≡ f k.sort.0 k.number = i.leads.equal f r.bound ∙ sym (r.bound k.sort.0 k.number e (i.leads.bound k l)) in (
+    let is : substitute f t ≡ f k.sort.0 k.number = (end_stands table t short e last i).equal f r.bound ∙ sym (end_value table t short e last i f r.bound k l) in (
       record {
         known = sym (ap (λ y. noted_all known (opens sig (variables y ++ []))) is ∙ ap (λ xs. noted_all known (opens sig xs)) (append-nil (variables (f k.sort.0 k.number))) ∙ noted_all-known known (opens sig (variables (f k.sort.0 k.number))) both.0);
         made = ap (λ y. y ∷ []) (both.1 ∙ ap (substitute (numbering sig 0 known)) (sym is));
@@ -53,16 +54,16 @@ writes_recalled sig table known memory t e copy last i (k, l, m) = λ f r h.
       h,
     )
 
-pub writes_end : (sig : Signature) (table : Lookup) (k0 k1 : List Variable) (m0 m1 m2 : Lookup) (t e copy : Term) (last : Option Key) → IsEnd table t last e → RemembersAtMost m1 m2 last copy → Writes sig table k0 k1 m0 m1 (e ∷ []) (copy ∷ []) → Writes sig table k0 k1 m0 m2 (t ∷ []) (copy ∷ [])
-writes_end sig table k0 k1 m0 m1 m2 t e copy last i more h = λ f r m.
+pub writes_end : (sig : Signature) (table : Lookup) (k0 k1 : List Variable) (m0 m1 m2 : Lookup) (t short e copy : Term) (last : Option Key) → IsEnd table t last short e → RemembersAtMost m1 m2 last copy → Writes sig table k0 k1 m0 m1 (e ∷ []) (copy ∷ []) → Writes sig table k0 k1 m0 m2 (t ∷ []) (copy ∷ [])
+writes_end sig table k0 k1 m0 m1 m2 t short e copy last i more h = λ f r m.
     let both = h f r m in
     let noted : AreKnown k1 (opens sig (variables (substitute f e))) =
     subst (λ y. AreKnown y (opens sig (variables (substitute f e)))) (sym (both.0.known ∙ ap (λ xs. noted_all k0 (opens sig xs)) (append-nil (variables (substitute f e)))))
     (known_each (noted_all k0 (opens sig (variables (substitute f e)))) (opens sig (variables (substitute f e))) (among-noted_all k0 (opens sig (variables (substitute f e))))) in (
-      subst (λ y. Renumbered sig 0 k0 k1 (y ∷ []) (copy ∷ [])) (sym (i.leads.equal f r.bound)) both.0,
+      subst (λ y. Renumbered sig 0 k0 k1 (y ∷ []) (copy ∷ [])) (sym ((end_stands table t short e last i).equal f r.bound)) both.0,
       λ s n u l. elim (more s n u l) [
         | inl was ↦ both.1 s n u was
-        | inr (q, d) ↦ (let at : f s n ≡ substitute f e = r.bound s n e (i.leads.bound (key_of s n) q) in
+        | inr (q, d) ↦ (let at : f s n ≡ substitute f e = end_value table t short e last i f r.bound (key_of s n) q in
             (subst (λ y. AreKnown k1 (opens sig (variables y))) (sym at) noted, d ∙ ap first_of both.0.made ∙ ap (substitute (numbering sig 0 k1)) (sym at)))
       ],
     )

@@ -19,13 +19,19 @@ variable_of k = variable k.sort.0 k.number
 abbrev pub IsSettled : Lookup → Term → Type 0
 IsSettled table t = (s n : ℕ) → t ≡ variable s n → table s n ≡ None
 
--- the term leads to another one over bound variables, of which this is the last
-pub record Leads (table : Lookup) (t : Term) (last : Option Key) (end : Term) : Type 0 where
-  pub equal : (g : Substitution) → Solves g table → substitute g t ≡ substitute g end
-  pub sorted : (sig : Signature) → Solved sig table → (s : ℕ) → HasSort sig t s → HasSort sig end s
+-- another term can stand for the term: it has its values and sorts
+pub record StandsFor (table : Lookup) (t u : Term) : Type 0 where
+  pub equal : (g : Substitution) → Solves g table → substitute g t ≡ substitute g u
+  pub sorted : (sig : Signature) → Solved sig table → (s : ℕ) → HasSort sig t s → HasSort sig u s
+
+-- The term leads to the last term over bound variables. The short term is the last of these variables, or the term
+-- itself where it is not bound.
+pub record Reaches (table : Lookup) (t : Term) (last : Option Key) (short end : Term) : Type 0 where
+  pub near : StandsFor table t short
+  pub far : StandsFor table short end
   pub bound : (k : Key) → last ≡ Some k → table k.sort.0 k.number ≡ Some end
 
 -- the end of a term's chain
-pub record IsEnd (table : Lookup) (t : Term) (last : Option Key) (end : Term) : Type 0 where
-  pub leads : Leads table t last end
+pub record IsEnd (table : Lookup) (t : Term) (last : Option Key) (short end : Term) : Type 0 where
+  pub reaches : Reaches table t last short end
   pub settled : IsSettled table end

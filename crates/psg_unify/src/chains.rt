@@ -14,6 +14,8 @@ use std::collections::HashMap;
 pub struct End {
     /// The last bound variable on the way, if the chain begins with one.
     pub last: Option<Key>,
+    /// That variable as a term, or else the term itself. What is bound to it shares what it stands for.
+    pub short: Term,
     /// A constructor with its arguments, or a variable that is not bound.
     pub term: Term,
 }
@@ -42,10 +44,11 @@ fn step(table: &HashMap<Key, Term>, term: &Term) -> Result<Option<(Key, Term)>, 
 /// The end of the chain that begins with the term. It takes a step for each variable on the way. A chain without a
 /// circle has at most as many bound variables as the table.
 pub fn follow(table: &HashMap<Key, Term>, term: &Term) -> Result<End, AllocError>
-    ensures { IfOk result (λ e. IsEnd (lookup table.now) term.now e.last e.term) }
+    ensures { IfOk result (λ e. IsEnd (lookup table.now) term.now e.last e.short e.term) }
 {
     let mut reached = End {
         last: None,
+        short: term.share()?,
         term: term.share()?,
     };
     for _ in 0..=table.len() {
@@ -53,6 +56,7 @@ pub fn follow(table: &HashMap<Key, Term>, term: &Term) -> Result<End, AllocError
             Some((key, next)) => {
                 reached = End {
                     last: Some(key),
+                    short: reached.term,
                     term: next,
                 };
             }

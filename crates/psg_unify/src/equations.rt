@@ -2,11 +2,11 @@
 ghost use Rattle.std.specs.Prelude.{◌≡◌, ◌≢◌, None, IfOk, OnOk, IsTrue};
 ghost use Rattle.psg_terms.specs.Terms.{variable};
 ghost use Rattle.psg_terms.specs.Matching.{lookup};
-ghost use Rattle.psg_unify.specs.Chains.{variable_of, IsSettled};
+ghost use Rattle.psg_unify.specs.Chains.{variable_of, IsSettled, StandsFor};
 ghost use Rattle.psg_unify.specs.Memories.{has_pair, Gives, IsKept, KeepsAtMost};
 ghost use Rattle.psg_unify.specs.Solving.{Answers, Extended, OfOneSort, MakesEqual, OfSameSorts, MakesRowsEqual};
 
-use crate::chains::follow;
+use crate::chains::{End, follow};
 use crate::circle::occurs;
 use psg_terms::canonical::Key;
 use psg_terms::matching;
@@ -110,26 +110,27 @@ fn link(solution: &mut Solution, left: Key, right: Key, a: &Term, b: &Term) -> R
     Ok(())
 }
 
-/// Binds a free variable to a constructor's term, unless that makes a circle.
+/// Binds a free variable to what stands for a constructor's term, unless that makes a circle.
 fn bind(
     alloc: Global,
     depth: u32,
     table: &mut HashMap<Key, Term>,
     variable: Key,
-    term: &Term,
+    end: &End,
 ) -> Result<bool, AllocError>
     requires free { lookup table.old variable.sort.0 variable.number ≡ None }
-    requires other { term.now ≢ variable_of variable }
-    requires settled { IsSettled (lookup table.old) term.now }
+    requires other { end.now.term ≢ variable_of variable }
+    requires settled { IsSettled (lookup table.old) end.now.term }
+    requires stands { StandsFor (lookup table.old) end.now.short end.now.term }
     ensures { IfOk result (λ d. Answers d (lookup table.old) (lookup table.new)
-        (OfOneSort (variable_of variable) term.now) (MakesEqual (variable_of variable) term.now)) }
+        (OfOneSort (variable_of variable) end.now.short) (MakesEqual (variable_of variable) end.now.short)) }
 {
     let mut clear = HashSet::new(alloc);
-    if occurs(depth, table, &mut clear, variable, term)? {
+    if occurs(depth, table, &mut clear, variable, &end.term)? {
         return Ok(false);
     }
-    let term = term.share()?;
-    matching::bind(table, variable.sort, variable.number, term)?;
+    let short = end.short.share()?;
+    matching::bind(table, variable.sort, variable.number, short)?;
     Ok(true)
 }
 
@@ -151,35 +152,37 @@ pub fn unify(
     if are_equal(&solution.equal, left.last, right.last) {
         return Ok(true);
     }
-    if !compare(alloc, depth, solution, &left.term, &right.term)? {
+    if !compare(alloc, depth, solution, &left, &right)? {
         return Ok(false);
     }
     keep_equal(&mut solution.equal, left.last, right.last)?;
     Ok(true)
 }
 
-/// The same of terms that are no bound variables.
+/// The same of the ends of two chains.
 #[cycle(unify)]
 fn compare(
     alloc: Global,
     depth: u32,
     solution: &mut Solution,
-    a: &Term,
-    b: &Term,
+    left: &End,
+    right: &End,
 ) -> Result<bool, AllocError>
-    requires left { IsSettled (lookup solution.old.table) a.now }
-    requires right { IsSettled (lookup solution.old.table) b.now }
+    requires left_settled { IsSettled (lookup solution.old.table) left.now.term }
+    requires left_stands { StandsFor (lookup solution.old.table) left.now.short left.now.term }
+    requires right_settled { IsSettled (lookup solution.old.table) right.now.term }
+    requires right_stands { StandsFor (lookup solution.old.table) right.now.short right.now.term }
     ensures { IfOk result (λ d. Gives d (lookup solution.old.table) (lookup solution.new.table)
         (has_pair solution.old.equal) (has_pair solution.new.equal)
-        (OfOneSort a.now b.now) (MakesEqual a.now b.now)) }
+        (OfOneSort left.now.short right.now.short) (MakesEqual left.now.short right.now.short)) }
 {
-    match a.node() {
+    match left.term.node() {
         Node::Var { sort, number } => {
             let variable = Key {
                 sort: *sort,
                 number: *number,
             };
-            match b.node() {
+            match right.term.node() {
                 Node::Var {
                     sort: other,
                     number: count,
@@ -191,22 +194,22 @@ fn compare(
                         sort: *other,
                         number: *count,
                     };
-                    link(solution, variable, target, a, b)?;
+                    link(solution, variable, target, &left.term, &right.term)?;
                     Ok(true)
                 }
                 Node::Con { .. } => {
-                    let done = bind(alloc, depth, &mut solution.table, variable, b)?;
+                    let done = bind(alloc, depth, &mut solution.table, variable, right)?;
                     Ok(done)
                 }
             }
         }
-        Node::Con { con, args } => match b.node() {
+        Node::Con { con, args } => match right.term.node() {
             Node::Var { sort, number } => {
                 let variable = Key {
                     sort: *sort,
                     number: *number,
                 };
-                let done = bind(alloc, depth, &mut solution.table, variable, a)?;
+                let done = bind(alloc, depth, &mut solution.table, variable, left)?;
                 Ok(done)
             }
             Node::Con {

@@ -22,3 +22,4 @@ mod join;
 mod writing;
 
 pub use join::join_rows;
+

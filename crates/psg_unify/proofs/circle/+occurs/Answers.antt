@@ -9,13 +9,13 @@ use Rattle.psg_unify.proofs.circle.+occurs.Goals as goal
 pub occurs-returns-then-branch : goal.occurs-returns-then-branch
 occurs-returns-then-branch t c =
     let x : Variable = (c.args.variable.sort.0, c.args.variable.number) in
-    says_end (lookup c.args.table.now) x (has_key c.args.clear.now) (has_key c.occurs_at.new.clear) c.in_ok-occurs_at.field-0 true c.args.term.now c.in_ok-end.end.term c.in_ok-end.end.last
+    says_end (lookup c.args.table.now) x (has_key c.args.clear.now) (has_key c.occurs_at.new.clear) c.in_ok-occurs_at.field-0 true c.args.term.now c.in_ok-end.end.short c.in_ok-end.end.term c.in_ok-end.end.last
     c.if-branch.true c.in_ok-end.ensures c.in_ok-occurs_at.ensures
 
 pub occurs-returns : goal.occurs-returns
 occurs-returns t c =
     let x : Variable = (c.args.variable.sort.0, c.args.variable.number) in
-    says_not (lookup c.args.table.now) x (has_key c.args.clear.now) (has_key c.occurs_at.new.clear) (has_key c.mark.new.marked) c.in_ok-occurs_at.field-0 c.args.term.now c.in_ok-end.end.term c.in_ok-end.end.last
+    says_not (lookup c.args.table.now) x (has_key c.args.clear.now) (has_key c.occurs_at.new.clear) (has_key c.mark.new.marked) c.in_ok-occurs_at.field-0 c.args.term.now c.in_ok-end.end.short c.in_ok-end.end.term c.in_ok-end.end.last
     c.if-branch.false c.in_ok-end.ensures c.in_ok-mark.ensures c.in_ok-occurs_at.ensures
 
 pub occurs_at-returns-then-branch : goal.occurs_at-returns-then-branch

@@ -8,13 +8,13 @@ use Rattle.psg_unify.proofs.writing.+write.Goals as goal
 
 pub write-returns-in-Some : goal.write-returns-in-Some
 write-returns-in-Some t c =
-    writes_recalled c.args.sig.now (lookup c.args.table.now) (keys c.args.written.now.known.keys) (lookup c.args.written.now.memory) c.args.term.now c.in_ok-end.end.term c.in-Some.copy c.in_ok-end.end.last
+    writes_recalled c.args.sig.now (lookup c.args.table.now) (keys c.args.written.now.known.keys) (lookup c.args.written.now.memory) c.args.term.now c.in_ok-end.end.short c.in_ok-end.end.term c.in-Some.copy c.in_ok-end.end.last
     c.in_ok-end.ensures (subst (λ o. IfSome o (λ u. IsRecalled (lookup c.args.written.now.memory) c.in_ok-end.end.last u)) c.in-Some.is c.in_ok-copy.ensures)
 
 pub write-returns : goal.write-returns
 write-returns t c =
     writes_end c.args.sig.now (lookup c.args.table.now) (keys c.args.written.now.known.keys) (keys c.write_end.new.written.known.keys) (lookup c.args.written.now.memory) (lookup c.write_end.new.written.memory) (lookup c.remember.new.memory)
-    c.args.term.now c.in_ok-end.end.term c.in_ok-copy-2.copy c.in_ok-end.end.last c.in_ok-end.ensures c.in_ok-remember.ensures c.in_ok-copy-2.ensures
+    c.args.term.now c.in_ok-end.end.short c.in_ok-end.end.term c.in_ok-copy-2.copy c.in_ok-end.end.last c.in_ok-end.ensures c.in_ok-remember.ensures c.in_ok-copy-2.ensures
 
 pub write_all-loop-i-preserved : goal.write_all-loop-i-preserved
 write_all-loop-i-preserved t c =
