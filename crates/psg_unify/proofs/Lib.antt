@@ -7,3 +7,4 @@ pub mod WritingSteps
 pub mod Theorem
 pub mod Remembering
 pub mod Shallow
+pub mod ColumnSorts

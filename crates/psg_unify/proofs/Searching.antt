@@ -38,11 +38,13 @@ says_marked table x marked t short e last i (k, l, m) = λ f r a.
 
 pub says_not : (table : Lookup) (x : Variable) (old mid new : Marks) (b : Bool) (t short e : Term) (last : Option Key) → b ≡ false → IsEnd table t last short e → MarksAtMost mid new last → Says table x old mid b e → Says table x old new false t
 says_not table x old mid new b t short e last d i more h = λ f r a.
-    let both = says_end table x old mid b false t short e last d i h f r a in
-    (both.0, λ k m. elim (more k m) [
-      | inl was ↦ both.1 k was
-      | inr l ↦ ap (λ u. is_noted x (variables u)) (end_of f table r t short e last i k l) ∙ sym both.0
-    ])
+    let both = says_end table x old mid b false t short e last d i h f r a in (
+      both.0,
+      λ k m. elim (more k m) [
+        | inl was ↦ both.1 k was
+        | inr l ↦ ap (λ u. is_noted x (variables u)) (end_of f table r t short e last i k l) ∙ sym both.0
+      ],
+    )
 
 pub says_variable : (table : Lookup) (x : Variable) (marked : Marks) (s n : ℕ) (t : Term) (b : Bool) → t ≡ variable s n → IsSettled table t → b ≡ same_variable x (s, n) → Says table x marked marked b t
 says_variable table x marked s n t b e settled d = λ f r a.

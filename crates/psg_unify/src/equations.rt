@@ -9,8 +9,7 @@ ghost use Rattle.psg_unify.specs.Solving.{Answers, Extended, OfOneSort, MakesEqu
 use crate::chains::{End, follow};
 use crate::circle::occurs;
 use psg_terms::canonical::Key;
-use psg_terms::matching;
-use psg_terms::{Node, Term};
+use psg_terms::{Node, Term, matching};
 use std::alloc::{AllocError, Global};
 use std::collections::{HashMap, HashSet};
 
@@ -85,7 +84,13 @@ fn height_of(heights: &HashMap<Key, u32>, variable: Key) -> u32 {
 
 /// Binds one of two free variables to the other one. The one with the longer chain stays free, so that no chain gets
 /// longer than the logarithm of the number of variables.
-fn link(solution: &mut Solution, left: Key, right: Key, a: &Term, b: &Term) -> Result<(), AllocError>
+fn link(
+    solution: &mut Solution,
+    left: Key,
+    right: Key,
+    a: &Term,
+    b: &Term,
+) -> Result<(), AllocError>
     requires left { a.now ≡ variable_of left }
     requires right { b.now ≡ variable_of right }
     requires free_left { IsSettled (lookup solution.old.table) a.now }
@@ -222,7 +227,13 @@ fn compare(
                 if depth == 0 {
                     return Err(AllocError);
                 }
-                let done = unify_all(alloc, depth - 1, solution, args.as_slice(), parts.as_slice())?;
+                let done = unify_all(
+                    alloc,
+                    depth - 1,
+                    solution,
+                    args.as_slice(),
+                    parts.as_slice(),
+                )?;
                 Ok(done)
             }
         },

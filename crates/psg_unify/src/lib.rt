@@ -23,3 +23,5 @@ mod writing;
 
 pub use join::join_rows;
 
+#[cfg(test)]
+mod tests;

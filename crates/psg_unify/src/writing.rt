@@ -109,7 +109,15 @@ fn write_end(
                 return Err(AllocError);
             }
             let mut parts = Vec::with_capacity(alloc, args.as_slice().len())?;
-            write_all(alloc, depth - 1, sig, table, written, args.as_slice(), &mut parts)?;
+            write_all(
+                alloc,
+                depth - 1,
+                sig,
+                table,
+                written,
+                args.as_slice(),
+                &mut parts,
+            )?;
             let copy = Term::apply(alloc, *con, parts)?;
             Ok(copy)
         }
