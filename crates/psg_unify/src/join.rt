@@ -29,7 +29,7 @@ fn is_deep(row: &[Term]) -> bool
     ensures { IsTrue result ↔ Any (λ t. 1000 < depth_of t) row.now }
 {
     for term in row {
-        if term.depth() > 1_000 {
+        if term.depth() > DEPTH as u64 {
             return true;
         }
     }
@@ -100,8 +100,19 @@ fn solved(
 }
 
 /// The most general row that two rows make where they agree on pairs of columns: the left columns and then the right
-/// ones, canonical, or `None` where no ground instances of the two rows agree on the pairs. A pair is a column of the
-/// left row and one of the right row, each from 0. The rows' variables are apart, also where they have equal numbers.
+/// ones, canonical. `None` comes exactly where no ground instances of the two rows agree on the pairs. A pair is a column
+/// of the left row and one of the right row, each from 0. The rows' variables are apart, also where they have equal
+/// numbers.
+///
+/// It reads each place of both rows a few times, and looks a variable up in a hash table at each. Two bound variables
+/// are compared once, chains of variables are no longer than the logarithm of their number, and what a bound variable
+/// stands for is written once and then shared. So chains of equations are solved in time near linear in the rows, also
+/// where the row would be exponentially large in print. When a variable is bound to a constructor, what stands there is
+/// searched for it; so many variables that are bound to large terms take the product of both numbers.
+///
+/// `AllocError` comes when memory runs out, where 32 bits do not count the variables, and where more than 1,000
+/// constructors are nested in a row or in what has to be compared. Two rows whose join is at most 1,000 deep do not
+/// meet this bound.
 pub fn join_rows(
     alloc: Global,
     sig: &Signature,
