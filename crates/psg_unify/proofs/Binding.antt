@@ -1,5 +1,5 @@
 -- What binding a free variable does.
-use Rattle.std.proofs.Common.{◌≡◌, ◌≢◌, ℕ, ◌<◌, ◌||◌, ◌⊎◌, Bool, true, false, cond, List, [], ◌∷◌, ◌++◌, refl, ap, ap₂, sym, ◌∙◌, subst, inl, inr, Option, Some, None, arith}
+use Rattle.std.proofs.Common.{◌≡◌, ◌≢◌, ℕ, ◌<◌, ◌||◌, ◌⊎◌, Bool, true, false, cond, [], refl, ap, ap₂, sym, ◌∙◌, subst, inl, inr, Option, Some, None, arith}
 use Rattle.psg_terms.specs.Terms.{Term, variable, symbol, apply}
 use Rattle.psg_terms.specs.Sizes.{size}
 use Rattle.psg_terms.specs.Signature.{Signature, HasSort}

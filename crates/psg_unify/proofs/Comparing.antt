@@ -1,7 +1,7 @@
 -- Steps of making terms equal.
 use Rattle.std.proofs.Common.{◌≡◌, ◌≢◌, ℕ, ◌<◌, ◌+◌, Bool, true, false, zero, suc, List, [], ◌∷◌, ◌++◌, map, take, get_or, length, refl, ap, ap₂, sym, ◌∙◌, subst, inl, inr, Option, Some, append-nil, arith}
 use Rattle.std.proofs.lemmas.List.{take_more, take_all}
-use Rattle.psg_terms.specs.Terms.{Term, variable, symbol, applied}
+use Rattle.psg_terms.specs.Terms.{Term, symbol, applied}
 use Rattle.psg_terms.specs.Signature.{Signature, Symbol, HasSort, HaveSorts, HasSymbol}
 use Rattle.psg_terms.specs.Instances.{Substitution, substitute}
 use Rattle.psg_terms.specs.Matching.{Lookup}
@@ -9,7 +9,7 @@ use Rattle.psg_terms.specs.declared.canonical.Key.{Key}
 use Rattle.psg_terms.proofs.Applied.{applied-substitute, applied-sorts}
 use Rattle.psg_terms.proofs.Nodes.{same_constructor, same_arguments}
 use Rattle.psg_unify.specs.declared.equations.Same.{Same}
-use Rattle.psg_unify.specs.Solving.{Solves, Solved, Extended, Apart, Answers, OfOneSort, MakesEqual, OfSameSorts, MakesRowsEqual}
+use Rattle.psg_unify.specs.Solving.{Extended, Apart, Answers, OfOneSort, MakesEqual, OfSameSorts, MakesRowsEqual}
 use Rattle.psg_unify.specs.Chains.{StandsFor, IsEnd}
 use Rattle.psg_unify.specs.Memories.{Alike, AreImplied, Gives, IsKept, KeepsAtMost}
 use Rattle.psg_unify.proofs.Following.{end_stands, end_value}

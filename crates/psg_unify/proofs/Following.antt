@@ -1,12 +1,12 @@
 -- Steps over chains of variables.
-use Rattle.std.proofs.Common.{◌≡◌, ℕ, List, refl, ap, sym, ◌∙◌, subst, Option, Some, None}
-use Rattle.psg_terms.specs.Terms.{Term, variable, symbol, applied}
-use Rattle.psg_terms.specs.Signature.{Signature, HasSort}
+use Rattle.std.proofs.Common.{◌≡◌, ℕ, List, ap, sym, ◌∙◌, subst, Option, Some, None}
+use Rattle.psg_terms.specs.Terms.{Term, symbol, applied}
+use Rattle.psg_terms.specs.Signature.{HasSort}
 use Rattle.psg_terms.specs.Instances.{Substitution, substitute}
 use Rattle.psg_terms.specs.Matching.{Lookup}
 use Rattle.psg_terms.specs.declared.canonical.Key.{Key}
 use Rattle.psg_terms.proofs.Nodes.{no_variable}
-use Rattle.psg_unify.specs.Solving.{Solves, Solved}
+use Rattle.psg_unify.specs.Solving.{Solves}
 use Rattle.psg_unify.specs.Chains.{variable_of, IsSettled, StandsFor, Reaches, IsEnd}
 
 same_key_some : (k j : Key) → ◌≡◌ {A = Option Key} (Some k) (Some j) → k ≡ j

@@ -11,7 +11,7 @@ use Rattle.psg_terms.proofs.Variables.{true_false}
 use Rattle.psg_unify.specs.declared.equations.Same.{Same}
 use Rattle.psg_unify.specs.Solving.{Extended, Apart, OfOneSort, MakesEqual}
 use Rattle.psg_unify.specs.Memories.{AreImplied, Gives}
-use Rattle.psg_unify.specs.Pairs.{Pair, AgreeOn, AreOfEqualSort, AreJoinable}
+use Rattle.psg_unify.specs.Pairs.{Pair, AgreeOn, AreOfEqualSort}
 use Rattle.psg_unify.specs.Agreement.{IsJoinable, MakesAgree}
 use Rattle.psg_unify.proofs.Comparing.{gives_both, gives_neither}
 

@@ -1,6 +1,5 @@
 -- What is remembered after one step more.
-use Rattle.std.proofs.Common.{◌≡◌, ℕ, ◌&&◌, Bool, true, false, cond, refl, ap, ap₂, sym, ◌∙◌, inl, inr, Option, Some, None}
-use Rattle.std.proofs.lemmas.Bool.{false≢true}
+use Rattle.std.proofs.Common.{◌≡◌, ◌&&◌, Bool, true, false, cond, refl, ap, sym, ◌∙◌, inl, inr, Option, Some}
 use Rattle.psg_terms.specs.Terms.{Term}
 use Rattle.psg_terms.specs.Canonical.{Variable, same_variable}
 use Rattle.psg_terms.specs.Matching.{Lookup, same_key}

@@ -1,5 +1,5 @@
 -- Steps of the search for a variable.
-use Rattle.std.proofs.Common.{◌≡◌, ℕ, ◌<◌, ◌+◌, ◌||◌, inl, inr, zero, suc, Bool, true, false, List, [], ◌∷◌, ◌++◌, map, length, take, get_or, refl, ap, ap₂, sym, ◌∙◌, subst, Option, Some, append_assoc, append-nil}
+use Rattle.std.proofs.Common.{◌≡◌, ℕ, ◌<◌, ◌+◌, ◌||◌, inl, inr, zero, suc, Bool, true, false, List, [], ◌∷◌, ◌++◌, map, length, take, get_or, refl, ap, ap₂, sym, ◌∙◌, Option, Some, append_assoc, append-nil}
 use Rattle.std.proofs.lemmas.List.{take_more}
 use Rattle.psg_terms.specs.Terms.{Term, variable, symbol, applied}
 use Rattle.psg_terms.specs.Canonical.{Variable, same_variable, is_noted, variables, variables_of}
@@ -11,7 +11,7 @@ use Rattle.psg_terms.proofs.Covers.{among-append}
 use Rattle.psg_terms.proofs.RenamingLaws.{variables-applied}
 use Rattle.psg_terms.proofs.Variables.{true_false, cases}
 use Rattle.psg_terms.proofs.Nodes.{take-all}
-use Rattle.psg_unify.specs.Solving.{Solves, Resolves}
+use Rattle.psg_unify.specs.Solving.{Resolves}
 use Rattle.psg_unify.specs.Chains.{IsSettled, IsEnd}
 use Rattle.psg_unify.specs.Memories.{AreClear, Says, IsMarked, MarksAtMost}
 use Rattle.psg_unify.proofs.Following.{end_stands, end_value}

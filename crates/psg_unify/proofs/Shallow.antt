@@ -1,5 +1,5 @@
 -- Rows without deep terms.
-use Rattle.std.proofs.Common.{◌≡◌, ℕ, ◌<◌, ◌≤◌, ◌+◌, ◌^◌, ◌-◌, Any, min, List, get_or, length, refl, ap, sym, ◌∙◌, subst, inl, inr, arith}
+use Rattle.std.proofs.Common.{◌≡◌, ℕ, ◌<◌, ◌≤◌, ◌+◌, Any, List, get_or, length, refl, ap, sym, subst, inl, inr, arith}
 use Rattle.std.proofs.lemmas.List.{get_or_read_under}
 use Rattle.psg_terms.specs.Terms.{Term}
 use Rattle.psg_terms.specs.Weight.{depth_of}

@@ -1,9 +1,9 @@
 -- Steps of writing rows out with canonical numbers.
-use Rattle.std.proofs.Common.{◌≡◌, ℕ, ◌<◌, ◌+◌, inl, inr, if◌then◌else◌, List, [], ◌∷◌, ◌++◌, map, take, get_or, length, refl, ap, sym, ◌∙◌, subst, Option, Some, None, append-nil, append_assoc, arith}
+use Rattle.std.proofs.Common.{◌≡◌, ℕ, ◌<◌, ◌+◌, inl, inr, if◌then◌else◌, List, [], ◌∷◌, ◌++◌, map, take, get_or, length, refl, ap, sym, ◌∙◌, subst, Option, Some, None, append-nil, arith}
 use Rattle.std.proofs.lemmas.List.{take_all}
 use Rattle.psg_terms.specs.Terms.{Term, variable, symbol, applied}
 use Rattle.psg_terms.specs.Signature.{Signature, only_constructor}
-use Rattle.psg_terms.specs.Canonical.{Variable, variables, variables_of, noted, noted_all}
+use Rattle.psg_terms.specs.Canonical.{Variable, variables, noted, noted_all}
 use Rattle.psg_terms.specs.Instances.{Substitution, substitute}
 use Rattle.psg_terms.specs.Matching.{Lookup}
 use Rattle.psg_terms.specs.Renaming.{opens, place, numbering, Renumbered, AreKnown}

@@ -1,10 +1,10 @@
-use Rattle.std.proofs.Common.{◌≡◌, false, ap, subst, sym}
+use Rattle.std.proofs.Common.{◌≡◌, false, ap, subst}
 use Rattle.std.specs.List.{list_any}
 use Rattle.psg_terms.specs.Canonical.{Variable}
 use Rattle.psg_terms.specs.Matching.{lookup, same_key}
 use Rattle.psg_terms.specs.declared.canonical.Key.{Key}
 use Rattle.psg_terms.proofs.Fitting.{Grown}
-use Rattle.psg_unify.specs.Memories.{Keys, has_key}
+use Rattle.psg_unify.specs.Memories.{has_key}
 use Rattle.psg_unify.proofs.Binding.{circle_short, bound_short}
 use Rattle.psg_unify.proofs.Searching.{says_first}
 use Rattle.psg_unify.proofs.equations.bind.Goals as goal

@@ -1,4 +1,4 @@
-use Rattle.std.proofs.Common.{◌<◌, slice_index_or, length, arith}
+use Rattle.std.proofs.Common.{arith}
 use Rattle.psg_unify.proofs.ColumnSorts.{equal_more, equal_all}
 use Rattle.psg_unify.proofs.tests.are_of_equal_sort.Goals as goal
 
