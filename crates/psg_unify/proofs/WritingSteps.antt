@@ -1,5 +1,5 @@
 -- Steps of writing rows out with canonical numbers.
-use Rattle.std.proofs.Common.{◌≡◌, ℕ, ◌<◌, ◌+◌, inl, inr, if◌then◌else◌, List, [], ◌∷◌, ◌++◌, map, take, get_or, length, refl, ap, sym, ◌∙◌, subst, Option, Some, None, append-nil, arith}
+use Rattle.std.proofs.Common.{◌≡◌, ℕ, ◌<◌, ◌+◌, inl, inr, if◌then◌else◌, List, [], ◌∷◌, ◌++◌, map, take, get_or, length, refl, ap, sym, ◌∙◌, subst, Option, Some, None, append-nil, append_assoc, arith}
 use Rattle.std.proofs.lemmas.List.{take_all}
 use Rattle.psg_terms.specs.Terms.{Term, variable, symbol, applied}
 use Rattle.psg_terms.specs.Signature.{Signature, only_constructor}
@@ -91,6 +91,12 @@ writes_more sig table k0 k1 k2 m0 m1 m2 row made i t copy l e h k = λ f r m.
     let one = h f r m in
     let two = k f r one.1 in
     (subst (λ xs. Renumbered sig 0 k0 k2 xs (made ++ copy ∷ [])) (sym (map-next f row i t l e)) (renumbered_append sig 0 k0 k1 k2 (map (substitute f) (take i row)) made (substitute f t ∷ []) (copy ∷ []) one.0 two.0), two.1)
+
+pub pushed : (before now after made : List Term) (copy : Term) → now ≡ before ++ made → after ≡ now ++ copy ∷ [] → after ≡ before ++ (made ++ copy ∷ [])
+pushed before now after made copy e d = d ∙ ap (λ xs. xs ++ copy ∷ []) e ∙ append_assoc before made (copy ∷ [])
+
+pub begun : (before after made : List Term) → after ≡ before ++ made → before ≡ [] → after ≡ made
+begun before after made e d = e ∙ ap (λ xs. xs ++ made) d
 
 pub writes_all : (sig : Signature) (table : Lookup) (k0 k1 : List Variable) (m0 m1 : Lookup) (row made : List Term) (i : ℕ) → i ≡ length row → Writes sig table k0 k1 m0 m1 (take i row) made → Writes sig table k0 k1 m0 m1 row made
 writes_all sig table k0 k1 m0 m1 row made i e h = subst (λ xs. Writes sig table k0 k1 m0 m1 xs made) (take_all i row (omega arith)) h

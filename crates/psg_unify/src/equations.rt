@@ -139,6 +139,43 @@ fn bind(
     Ok(true)
 }
 
+/// Whether the table, with more variables bound, makes a free variable equal to the end of a chain.
+fn meet(
+    alloc: Global,
+    depth: u32,
+    solution: &mut Solution,
+    variable: Key,
+    left: &End,
+    right: &End,
+) -> Result<bool, AllocError>
+    requires variable { left.now.term ≡ variable_of variable }
+    requires left_settled { IsSettled (lookup solution.old.table) left.now.term }
+    requires left_stands { StandsFor (lookup solution.old.table) left.now.short left.now.term }
+    requires right_settled { IsSettled (lookup solution.old.table) right.now.term }
+    requires right_stands { StandsFor (lookup solution.old.table) right.now.short right.now.term }
+    ensures { IfOk result (λ d. Gives d (lookup solution.old.table) (lookup solution.new.table)
+        (has_pair solution.old.equal) (has_pair solution.new.equal)
+        (OfOneSort left.now.short right.now.short) (MakesEqual left.now.short right.now.short)) }
+{
+    match right.term.node() {
+        Node::Var { sort, number } => {
+            if variable.sort.0 == sort.0 && variable.number == *number {
+                return Ok(true);
+            }
+            let other = Key {
+                sort: *sort,
+                number: *number,
+            };
+            link(solution, variable, other, &left.term, &right.term)?;
+            Ok(true)
+        }
+        Node::Con { .. } => {
+            let done = bind(alloc, depth, &mut solution.table, variable, right)?;
+            Ok(done)
+        }
+    }
+}
+
 /// Whether the table, with more variables bound, makes two terms equal.
 #[cycle(unify)]
 pub fn unify(
@@ -187,26 +224,8 @@ fn compare(
                 sort: *sort,
                 number: *number,
             };
-            match right.term.node() {
-                Node::Var {
-                    sort: other,
-                    number: count,
-                } => {
-                    if sort.0 == other.0 && *number == *count {
-                        return Ok(true);
-                    }
-                    let target = Key {
-                        sort: *other,
-                        number: *count,
-                    };
-                    link(solution, variable, target, &left.term, &right.term)?;
-                    Ok(true)
-                }
-                Node::Con { .. } => {
-                    let done = bind(alloc, depth, &mut solution.table, variable, right)?;
-                    Ok(done)
-                }
-            }
+            let done = meet(alloc, depth, solution, variable, left, right)?;
+            Ok(done)
         }
         Node::Con { con, args } => match right.term.node() {
             Node::Var { sort, number } => {

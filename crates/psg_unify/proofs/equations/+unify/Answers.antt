@@ -1,4 +1,4 @@
-use Rattle.std.proofs.Common.{true, false, refl, sym, ap, subst, ◌∙◌, arith}
+use Rattle.std.proofs.Common.{false, refl, sym, ap, subst, ◌∙◌, arith}
 use Rattle.psg_terms.specs.Terms.{symbol, applied}
 use Rattle.psg_terms.specs.Matching.{lookup}
 use Rattle.psg_terms.specs.Shapes.{term_of}
@@ -10,66 +10,42 @@ use Rattle.psg_unify.proofs.Comparing.{gives_plain, gives_for, gives_known, give
 use Rattle.psg_unify.proofs.Following.{stands_itself}
 use Rattle.psg_unify.proofs.equations.+unify.Goals as goal
 
-pub compare-bind-requires-clause-other : goal.compare-bind-requires-clause-other
-compare-bind-requires-clause-other t c = λ e. no_variable c.in-Con-node.con.0 c.in-Var.sort.0 c.in-Var.number c.in-Con-node.args (sym (ap term_of c.in-Con-node.is) ∙ c.node-in-Var.ensures ∙ e)
-
-pub compare-bind-requires-in-Var-node-2-clause-other :
-    goal.compare-bind-requires-in-Var-node-2-clause-other
-compare-bind-requires-in-Var-node-2-clause-other t c = λ e. no_variable c.in-Con.con.0 c.in-Var-node-2.sort.0 c.in-Var-node-2.number c.in-Con.args (sym (ap term_of c.in-Con.is) ∙ c.node.ensures ∙ e)
+pub compare-bind-requires-clause-other :
+    goal.compare-bind-requires-clause-other
+compare-bind-requires-clause-other t c = λ e. no_variable c.in-Con.con.0 c.in-Var-node.sort.0 c.in-Var-node.number c.in-Con.args (sym (ap term_of c.in-Con.is) ∙ c.node.ensures ∙ e)
 
 pub compare-returns-then-con-other : goal.compare-returns-then-con-other
 compare-returns-then-con-other t c =
     let old = lookup c.args.solution.now.table in
     let s0 = has_pair c.args.solution.now.equal in
     gives_for false false old old s0 s0 c.args.left.now.short c.args.right.now.short c.args.left.now.term c.args.right.now.term refl c.requires.left_stands c.requires.right_stands
-    (λ _. at_other old c.args.left.now.term c.args.right.now.term c.in-Con.con.0 c.in-Con-node-2.other.0 c.in-Con.args c.in-Con-node-2.parts
-    (sym c.node.ensures ∙ ap term_of c.in-Con.is) (sym c.node-in-Con.ensures ∙ ap term_of c.in-Con-node-2.is) c.if-con-other.true)
+    (λ _. at_other old c.args.left.now.term c.args.right.now.term c.in-Con.con.0 c.in-Con-node.other.0 c.in-Con.args c.in-Con-node.parts
+    (sym c.node.ensures ∙ ap term_of c.in-Con.is) (sym c.node-in-Con.ensures ∙ ap term_of c.in-Con-node.is) c.if-con-other.true)
 
-pub compare-returns-in_ok-link-in-Var-node : goal.compare-returns-in_ok-link-in-Var-node
-compare-returns-in_ok-link-in-Var-node t c =
+pub compare-returns-in_ok-done-in-Var-node : goal.compare-returns-in_ok-done-in-Var-node
+compare-returns-in_ok-done-in-Var-node t c =
     let old = lookup c.args.solution.now.table in
-    let new = lookup c.link.new.solution.table in
+    let new = lookup c.bind.new.table in
     let s0 = has_pair c.args.solution.now.equal in
-    let s1 = has_pair c.link.new.solution.equal in
-    gives_for true true old new s0 s1 c.args.left.now.short c.args.right.now.short c.args.left.now.term c.args.right.now.term refl c.requires.left_stands c.requires.right_stands
-    (gives_plain true old new s0 s1 (OfOneSort c.args.left.now.term c.args.right.now.term) (MakesEqual c.args.left.now.term c.args.right.now.term)
-    (ap has_pair c.in_ok-link-in-Var-node.ensures.equal) c.in_ok-link-in-Var-node.ensures.extended)
+    let d = c.in_ok-done-in-Var-node.done in
+    let a = c.args.left.now.short in
+    gives_for d d old new s0 s0 a c.args.right.now.short a c.args.right.now.term refl (stands_itself old a a refl) c.requires.right_stands
+    (gives_plain d old new s0 s0 (OfOneSort a c.args.right.now.term) (MakesEqual a c.args.right.now.term) refl
+    (answers_flipped d old new a c.args.right.now.term (subst (λ u. Answers d old new (OfOneSort u a) (MakesEqual u a)) (sym (ap term_of c.in-Var-node.is) ∙ c.node-in-Con.ensures) c.in_ok-done-in-Var-node.ensures)))
 
 pub compare-returns-in_ok-done-in-Con-node : goal.compare-returns-in_ok-done-in-Con-node
 compare-returns-in_ok-done-in-Con-node t c =
     let old = lookup c.args.solution.now.table in
-    let new = lookup c.bind.new.table in
-    let s0 = has_pair c.args.solution.now.equal in
-    let d = c.in_ok-done-in-Con-node.done in
-    let b = c.args.right.now.short in
-    gives_for d d old new s0 s0 c.args.left.now.short b c.args.left.now.term b refl c.requires.left_stands (stands_itself old b b refl)
-    (gives_plain d old new s0 s0 (OfOneSort c.args.left.now.term b) (MakesEqual c.args.left.now.term b) refl
-    (subst (λ u. Answers d old new (OfOneSort u b) (MakesEqual u b)) (sym (ap term_of c.in-Var.is) ∙ c.node.ensures) c.in_ok-done-in-Con-node.ensures))
-
-pub compare-returns-in_ok-done-in-Var-node-2 : goal.compare-returns-in_ok-done-in-Var-node-2
-compare-returns-in_ok-done-in-Var-node-2 t c =
-    let old = lookup c.args.solution.now.table in
-    let new = lookup c.bind-in-Var-node-2.new.table in
-    let s0 = has_pair c.args.solution.now.equal in
-    let d = c.in_ok-done-in-Var-node-2.done in
-    let a = c.args.left.now.short in
-    gives_for d d old new s0 s0 a c.args.right.now.short a c.args.right.now.term refl (stands_itself old a a refl) c.requires.right_stands
-    (gives_plain d old new s0 s0 (OfOneSort a c.args.right.now.term) (MakesEqual a c.args.right.now.term) refl
-    (answers_flipped d old new a c.args.right.now.term (subst (λ u. Answers d old new (OfOneSort u a) (MakesEqual u a)) (sym (ap term_of c.in-Var-node-2.is) ∙ c.node-in-Con.ensures) c.in_ok-done-in-Var-node-2.ensures)))
-
-pub compare-returns-in_ok-done-in-Con-node-2 : goal.compare-returns-in_ok-done-in-Con-node-2
-compare-returns-in_ok-done-in-Con-node-2 t c =
-    let old = lookup c.args.solution.now.table in
     let new = lookup c.unify_all.new.solution.table in
     let s0 = has_pair c.args.solution.now.equal in
     let s1 = has_pair c.unify_all.new.solution.equal in
-    let d = c.in_ok-done-in-Con-node-2.done in
+    let d = c.in_ok-done-in-Con-node.done in
     gives_for d d old new s0 s1 c.args.left.now.short c.args.right.now.short c.args.left.now.term c.args.right.now.term refl c.requires.left_stands c.requires.right_stands
-    (gives_same d old new s0 s1 c.args.left.now.term c.args.right.now.term c.in-Con.con.0 c.in-Con.args c.in-Con-node-2.parts
+    (gives_same d old new s0 s1 c.args.left.now.term c.args.right.now.term c.in-Con.con.0 c.in-Con.args c.in-Con-node.parts
     (sym c.node.ensures ∙ ap term_of c.in-Con.is)
-    (sym c.node-in-Con.ensures ∙ ap term_of c.in-Con-node-2.is ∙ ap (λ k. applied (symbol k) c.in-Con-node-2.parts) (sym c.if-con-other.false))
-    (subst (λ xs. Gives d old new s0 s1 (OfSameSorts xs c.in-Con-node-2.parts) (MakesRowsEqual xs c.in-Con-node-2.parts)) c.as_slice.ensures
-    (subst (λ ys. Gives d old new s0 s1 (OfSameSorts c.as_slice.result.now ys) (MakesRowsEqual c.as_slice.result.now ys)) c.as_slice-in-Con-node-2.ensures c.in_ok-done-in-Con-node-2.ensures)))
+    (sym c.node-in-Con.ensures ∙ ap term_of c.in-Con-node.is ∙ ap (λ k. applied (symbol k) c.in-Con-node.parts) (sym c.if-con-other.false))
+    (subst (λ xs. Gives d old new s0 s1 (OfSameSorts xs c.in-Con-node.parts) (MakesRowsEqual xs c.in-Con-node.parts)) c.as_slice.ensures
+    (subst (λ ys. Gives d old new s0 s1 (OfSameSorts c.as_slice.result.now ys) (MakesRowsEqual c.as_slice.result.now ys)) c.as_slice-in-Con-node.ensures c.in_ok-done-in-Con-node.ensures)))
 
 pub unify-returns-then-are_equal : goal.unify-returns-then-are_equal
 unify-returns-then-are_equal t c =

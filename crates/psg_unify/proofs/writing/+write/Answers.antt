@@ -1,9 +1,9 @@
-use Rattle.std.proofs.Common.{[], ◌∷◌, ◌++◌, sym, ap, subst, ◌∙◌, ◌+◌, append_assoc, IfSome, arith}
+use Rattle.std.proofs.Common.{[], ◌∷◌, ◌++◌, sym, ap, subst, ◌∙◌, ◌+◌, IfSome, arith}
 use Rattle.psg_terms.specs.Matching.{lookup}
 use Rattle.psg_terms.specs.Renaming.{keys}
 use Rattle.psg_terms.specs.Shapes.{term_of}
 use Rattle.psg_unify.specs.WrittenOut.{Writes, IsRecalled}
-use Rattle.psg_unify.proofs.WritingSteps.{writes_recalled, writes_end, writes_open, writes_con, writes_more, writes_all}
+use Rattle.psg_unify.proofs.WritingSteps.{writes_recalled, writes_end, writes_open, writes_con, writes_more, writes_all, begun, pushed}
 use Rattle.psg_unify.proofs.writing.+write.Goals as goal
 
 pub write-returns-in-Some : goal.write-returns-in-Some
@@ -20,7 +20,7 @@ pub write_all-loop-i-preserved : goal.write_all-loop-i-preserved
 write_all-loop-i-preserved t c =
     let h = c.loop-i.invariant in (
       h.0 ++ c.in_ok-copy.copy ∷ [],
-      c.in_ok-push.ensures.items ∙ ap (λ xs. xs ++ c.in_ok-copy.copy ∷ []) h.1 ∙ append_assoc c.args.copies.now.items h.0 (c.in_ok-copy.copy ∷ []),
+      pushed c.args.copies.now.items c.loop-i.copies.items c.push.new.self.items h.0 c.in_ok-copy.copy h.1 c.in_ok-push.ensures.items,
       writes_more c.args.sig.now (lookup c.args.table.now) (keys c.args.written.now.known.keys) (keys c.loop-i.written.known.keys) (keys c.write.new.written.known.keys) (lookup c.args.written.now.memory) (lookup c.loop-i.written.memory) (lookup c.write.new.written.memory)
           c.args.row.now h.0 c.loop-i.i c.index-row-i.result c.in_ok-copy.copy c.loop-i-test.true c.index-row-i.is h.2 c.in_ok-copy.ensures,
     )
@@ -44,5 +44,5 @@ write_end-returns-in_ok-copy-in-Con t c =
     let h = c.in_ok-write_all-in-Con.ensures in
     writes_con c.args.sig.now (lookup c.args.table.now) (keys c.args.written.now.known.keys) (keys c.write_all.new.written.known.keys) (lookup c.args.written.now.memory) (lookup c.write_all.new.written.memory) c.in-Con.con.0 c.in-Con.args h.0 c.write_all.new.copies.items c.args.term.now c.in_ok-copy-in-Con.copy
     (sym c.node.ensures ∙ ap term_of c.in-Con.is) c.in_ok-copy-in-Con.ensures
-    (h.1 ∙ ap (λ xs. xs ++ h.0) c.in_ok-parts-in-Con.ensures.items)
+    (begun c.in_ok-parts-in-Con.parts.items c.write_all.new.copies.items h.0 h.1 c.in_ok-parts-in-Con.ensures.items)
     (subst (λ xs. Writes c.args.sig.now (lookup c.args.table.now) (keys c.args.written.now.known.keys) (keys c.write_all.new.written.known.keys) (lookup c.args.written.now.memory) (lookup c.write_all.new.written.memory) xs h.0) c.as_slice-in-Con.ensures h.2)
