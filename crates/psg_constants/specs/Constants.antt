@@ -26,7 +26,7 @@ IsConstant (symbol c) = Unit {0}
 IsConstant (variable s n) = ⊥
 IsConstant (apply f a) = ⊥
 
--- a word or a slot of a phylum
+-- a word or a slot; lists are not there
 abbrev pub IsPlainItem : Item → Type 0
 IsPlainItem (items.Word w) = Unit {0}
 IsPlainItem (items.Slot k) = Unit {0}

@@ -128,8 +128,8 @@ fn longer(alloc: Global, steps: &[u32], step: u32) -> Result<Vec<u32>, AllocErro
 }
 
 /// The paths of the nodes that are not open while each child is, a node before its children, children in order. It asks
-/// `is_open` of each node and again of its children, so it passes a node twice for each node above it; an open tree needs
-/// no such call.
+/// `is_open` of each node and again of its children, so it passes a node at most once and twice more for each node above
+/// it; an open tree needs no such call.
 pub fn culprits(
     alloc: Global,
     definition: &Definition,
