@@ -2,6 +2,7 @@
 -- items declare, a group does not.
 use Rattle.std.specs.Prelude.{ℕ, true, false, List, [], ◌∷◌, codes}
 use Rattle.psg_terms.specs.Signature.{Signature}
+use Rattle.psg_terms.specs.declared.declare.SortDecl.{SortDecl}
 use Rattle.psg_terms.specs.declared.sorts.SortId.{SortId}
 use Rattle.psg_grammar.specs.declared.types.Kind.TheVariants as kinds
 use Rattle.psg_grammar.specs.declared.types.Level.TheVariants as levels
@@ -15,6 +16,10 @@ use Rattle.psg_grammar.specs.declared.types.Definition.{Definition}
 
 abbrev pub unit : SortId
 unit = record { 0 = 0 }
+
+-- as it is written
+abbrev pub unit_sort : SortDecl
+unit_sort = record { name = codes "Unit"; constructors = record { name = codes "ok"; args = [] } ∷ [] }
 
 abbrev pub unit_signature : Signature
 unit_signature = record { sorts = codes "Unit" ∷ []; symbols = record { name = codes "ok"; arguments = []; sort = 0 } ∷ [] }

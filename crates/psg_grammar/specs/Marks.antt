@@ -51,15 +51,25 @@ pub data Mark : Type 0 where
 abbrev pub path_of : Located → Path
 path_of l = l.path
 
--- By the open judgement: wrong by itself, while the subtree of each child is open.
-module _ (def : Definition) where
-  abbrev pub IsCulprit : Located → Type 0
-  IsCulprit l = (IsOpen def l.node → ⊥) × AllByRecursion (IsOpen def) (children_of l.node)
+-- For what counts as good: wrong by itself, while the subtree of each child is good.
+module _ (IsGood : Fragment → Type 0) where
+  abbrev pub IsCulpritBy : Located → Type 0
+  IsCulpritBy l = (IsGood l.node → ⊥) × AllByRecursion IsGood (children_of l.node)
 
   -- the paths of the culprits among the nodes
-  abbrev pub AreCulprits : List Located → List Path → Type 0
-  AreCulprits nodes paths = (found : List Located) × Chosen IsCulprit nodes found × (paths ≡ map path_of found)
+  abbrev pub AreCulpritsBy : List Located → List Path → Type 0
+  AreCulpritsBy nodes paths = (found : List Located) × Chosen IsCulpritBy nodes found × (paths ≡ map path_of found)
 
-  abbrev pub IsMark : Fragment → Mark → Type 0
-  IsMark f good = IsOpen def f
-  IsMark f (wrong culprits) = (IsOpen def f → ⊥) × AreCulprits (nodes_from [] f) culprits
+  abbrev pub IsMarkBy : Fragment → Mark → Type 0
+  IsMarkBy f good = IsGood f
+  IsMarkBy f (wrong culprits) = (IsGood f → ⊥) × AreCulpritsBy (nodes_from [] f) culprits
+
+-- By the open judgement.
+abbrev pub IsCulprit : Definition → Located → Type 0
+IsCulprit def l = IsCulpritBy (IsOpen def) l
+
+abbrev pub AreCulprits : Definition → List Located → List Path → Type 0
+AreCulprits def nodes paths = AreCulpritsBy (IsOpen def) nodes paths
+
+abbrev pub IsMark : Definition → Fragment → Mark → Type 0
+IsMark def f mark = IsMarkBy (IsOpen def) f mark

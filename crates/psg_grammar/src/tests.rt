@@ -1,15 +1,37 @@
 //! Each public call once, over a small language.
 ghost use Rattle.std.specs.Prelude.{◌≡◌, ◌∷◌, [], slice_get, IfOk, Some};
-ghost use Rattle.psg_grammar.specs.Little.{items_list, little_operators, little_phyla, little_spaces, operator_named, phylum_named, space_named};
+ghost use Rattle.psg_grammar.specs.Little.{items_list, little, little_operators, little_phyla, little_spaces, operator_named, phylum_named, space_named, unit_sort, unit_signature};
+ghost use Rattle.psg_grammar.specs.Sound.{IsSound};
 
 use crate::types::{Definition, Item, Kind, Level, ListKind, Operator, Phylum, Space};
-use crate::{kind_name, kind_sort, least_level, name_positions, op_level, slots};
-use psg_terms::{Seq, Signature, SortId, Txt};
+use crate::{
+    declaring, kind_name, kind_named, kind_sort, least_level, name_positions, op_level, op_named,
+    slots,
+};
+use psg_terms::{ConDecl, Seq, Signature, SortDecl, SortId, Txt};
 use std::alloc::{AllocError, Global};
 use std::test::Fail;
 
-fn no_sorts(alloc: Global) -> Result<Signature, AllocError> {
-    match Signature::new(alloc, Vec::new(alloc)) {
+/// The sort of one constant, as it is written.
+fn unit_sort(alloc: Global) -> Result<SortDecl, AllocError>
+    ensures { IfOk result (λ s. s ≡ unit_sort) }
+{
+    let constructor = ConDecl {
+        name: Txt::copy_of(alloc, "ok")?,
+        args: Seq::of(Vec::new(alloc)),
+    };
+    let name = Txt::copy_of(alloc, "Unit")?;
+    Ok(SortDecl {
+        name,
+        constructors: Seq::of(vec![in alloc; constructor]?),
+    })
+}
+
+fn unit(alloc: Global) -> Result<Signature, AllocError>
+    ensures { IfOk result (λ s. s ≡ unit_signature) }
+{
+    let sorts = vec![in alloc; unit_sort(alloc)?]?;
+    match Signature::new(alloc, sorts) {
         Ok(signature) => Ok(signature),
         Err(_) => Err(AllocError),
     }
@@ -99,13 +121,12 @@ fn operators(alloc: Global) -> Result<Seq<Operator>, AllocError>
 }
 
 fn language(alloc: Global) -> Result<Definition, AllocError>
-    ensures phyla { IfOk result (λ d. d.phyla ≡ little_phyla) }
-    ensures lists { IfOk result (λ d. d.lists ≡ items_list ∷ []) }
-    ensures operators { IfOk result (λ d. d.operators ≡ little_operators) }
+    ensures little { IfOk result (λ d. d ≡ little) }
+    ensures sound { IfOk result IsSound }
 {
     Ok(Definition {
         version: 2,
-        signature: no_sorts(alloc)?,
+        signature: unit(alloc)?,
         spaces: spaces(alloc)?,
         phyla: phyla(alloc)?,
         lists: lists(alloc)?,
@@ -113,6 +134,35 @@ fn language(alloc: Global) -> Result<Definition, AllocError>
         hole_rows: Seq::of(Vec::new(alloc)),
         declare_rows: Seq::of(Vec::new(alloc)),
     })
+}
+
+#[test]
+fn kinds_by_name(rt: HostRuntime) -> Result<(), Fail> {
+    let definition = language(rt.alloc())?;
+    assert_eq!(rt; kind_named(&definition, "Item"), Some(Kind::Phylum(1)));
+    assert_eq!(rt; kind_named(&definition, "Items"), Some(Kind::List(0)));
+    assert_eq!(rt; kind_named(&definition, "blk"), None);
+    Ok(())
+}
+
+#[test]
+fn operators_by_name(rt: HostRuntime) -> Result<(), Fail> {
+    let definition = language(rt.alloc())?;
+    assert_eq!(rt; op_named(&definition, "let"), Some(2));
+    assert_eq!(rt; op_named(&definition, "Exp"), None);
+    Ok(())
+}
+
+// A block keeps what its items declare, and a group lets it out.
+#[test]
+fn spaces_of_phyla(rt: HostRuntime) -> Result<(), Fail> {
+    let definition = language(rt.alloc())?;
+    let found = declaring(rt.alloc(), &definition)?;
+    assert_eq!(rt; found.len(), 3);
+    assert!(rt; found[0].is_empty());
+    assert_eq!(rt; found[1].as_slice(), [0, 1].as_slice());
+    assert_eq!(rt; found[2].as_slice(), [0, 1].as_slice());
+    Ok(())
 }
 
 #[test]

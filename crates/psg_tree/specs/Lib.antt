@@ -8,3 +8,4 @@ pub mod PartSizes
 pub mod Reaching
 pub mod WordTests
 pub mod Forms
+pub mod Sums

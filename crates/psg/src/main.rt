@@ -1,0 +1,91 @@
+//! `psg`: an editor for a small language, from the language's definition.
+#![tactic(auto)]
+
+ghost use Rattle.std.specs.Prelude.{◌≡◌, ◌<◌};
+
+use psg_run::{Status, run};
+use psg_terms::Steps;
+use psg_world::{Files, HostFiles, HostSink, Sink, WriteStop, put_all};
+use std::alloc::Global;
+use std::env;
+use std::io::ErrorKind;
+use std::marker::Brand;
+use std::process::ExitCode;
+use std::sync::ledger::{Blank, Ledger};
+
+/// What `--help` writes.
+const HELP: &str = "psg: editors of small languages, from their definitions
+
+  psg edit DEF SCRIPT   reads the definition of a language from the file DEF, and runs each line of the file
+                        SCRIPT as a command of an editor of it; the replies go to standard output
+  psg --help            writes this text
+  psg --version         writes the version
+
+Commands of a script:
+  new PHYLUM            a new program: a placeholder of the phylum
+  refine PATH OP        the operator in place of the placeholder at the path, as / or /0/1
+  show                  the program, and then the mark: ok, or wrong with the paths of what goes wrong
+
+Exit status: 0 done, 1 the definition is refused, 2 these words have no form, 3 a file can't be read,
+4 the output can't be written, 5 out of memory, 6 a file is too long.
+";
+
+/// What `--version` writes.
+const VERSION: &str = "psg 0.1\n";
+
+/// Writes the text.
+fn tell<O: Sink>(alloc: Global, out: &mut O, text: &str) -> Status {
+    match put_all(alloc, out, text.as_bytes()) {
+        Ok(()) => Status::Done,
+        Err(WriteStop::Failed) => Status::WriteFault,
+        Err(WriteStop::Memory) => Status::Memory,
+    }
+}
+
+/// Does what the words behind the program's name say.
+fn answer<F: Files, O: Sink, L: Ledger>(
+    alloc: Global,
+    words: &[String],
+    files: &mut F,
+    out: &mut O,
+    ledger: Blank,
+) -> Status
+    requires name { ledger.name ≡ L.name }
+    requires parts { ledger.parts ≡ L.parts }
+    requires some { 0 < L.parts }
+{
+    if let [word] = words {
+        match word.as_str() {
+            "--help" => return tell(alloc, out, HELP),
+            "--version" => return tell(alloc, out, VERSION),
+            _ => {}
+        }
+    }
+    let mut steps = Steps::<L>::of(ledger);
+    run(alloc, words, files, out, &mut steps)
+}
+
+fn main(rt: HostRuntime) -> ExitCode {
+    let alloc = rt.alloc();
+    let words = match env::args(&rt) {
+        Ok(words) => words.skip(1).collect::<Vec<String>>(alloc),
+        // a word that is no text is no word of a form
+        Err(error) if error.kind() == ErrorKind::InvalidData => {
+            return ExitCode::from(Status::Words.code());
+        }
+        Err(_) => return ExitCode::from(Status::Memory.code()),
+    };
+    let Ok(words) = words else {
+        return ExitCode::from(Status::Memory.code());
+    };
+    let mut files = HostFiles::new(alloc, &rt);
+    let mut out = HostSink::new(&rt);
+    let status = answer::<_, _, Brand>(
+        alloc,
+        words.as_slice(),
+        &mut files,
+        &mut out,
+        Blank::new(1),
+    );
+    ExitCode::from(status.code())
+}

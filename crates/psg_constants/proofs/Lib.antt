@@ -1,0 +1,9 @@
+pub mod Terms
+pub mod Trees
+pub mod Sets
+pub mod Steps
+pub mod Parts
+pub mod Whole
+pub mod Formed
+pub mod Order
+pub mod LittleLaws

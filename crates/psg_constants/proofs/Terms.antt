@@ -1,0 +1,22 @@
+-- Constants.
+use Rattle.std.proofs.Common.{◌≡◌, ℕ, List, [], ◌∷◌, refl, sym, ◌∙◌, ap}
+use Rattle.psg_terms.specs.Terms.{Term, variable, symbol, apply, applied}
+use Rattle.psg_constants.specs.Constants.{IsConstant}
+
+abbrev pub head_of : Term → Term
+head_of (variable s n) = variable s n
+head_of (symbol c) = symbol c
+head_of (apply f a) = head_of f
+
+head_of-applied : (f : Term) (args : List Term) → head_of (applied f args) ≡ head_of f
+head_of-applied f [] = refl
+head_of-applied f (a ∷ rest) = head_of-applied (apply f a) rest
+
+constant_is_head : (t : Term) → IsConstant t → t ≡ head_of t
+constant_is_head (symbol c) h = refl
+constant_is_head (variable s n) h = absurd h
+constant_is_head (apply f a) h = absurd h
+
+-- a constructor with arguments that is a constant has none
+pub constant_head : (t : Term) (c : ℕ) (args : List Term) → applied (symbol c) args ≡ t → IsConstant t → t ≡ symbol c
+constant_head t c args e h = constant_is_head t h ∙ ap head_of (sym e) ∙ head_of-applied (symbol c) args

@@ -1,0 +1,17 @@
+pub mod Lists
+pub mod PartLaws
+pub mod Stages
+pub mod WrittenLaws
+pub mod NameLaws
+pub mod FormLaws
+pub mod TableLaws
+pub mod ConstantLaws
+pub mod PutLaws
+pub mod NumberLaws
+pub mod SpellLaws
+pub mod SignatureLaws
+pub mod HoleLaws
+pub mod DefinitionLaws
+pub mod CountLaws
+pub mod SoundLaws
+pub mod ReadLaws

@@ -1,0 +1,76 @@
+-- A walk from left to right whose result so far is the only one.
+use Rattle.std.proofs.Common.{◌≡◌, List, [], ◌∷◌, ◌++◌, refl, ap, sym, ◌∙◌, subst, append_assoc, append-nil}
+use Rattle.std.proofs.Common.{Result, Ok, Err}
+use Rattle.std.specs.Prelude.{IfOk, IfErr, IsErrAnd}
+use Rattle.std.proofs.lemmas.Result.{err_from_is_err_and}
+use Rattle.psg_first.specs.Only.{IsOnly, Refuses, Denies}
+use Rattle.psg_first.specs.declared.fault.ReadFault.{ReadFault}
+use Rattle.psg_first.specs.declared.fault.ReadFault.TheVariants.{Refused, Memory}
+
+-- What all gives is what is done, and then what the rest gives.
+pub record IsReadTo {S Y : Type 0} (R : S → List Y → Type 0) (all : S) (done : List Y) (rest : S) : Type 0 where
+  pub sound : (tail : List Y) → R rest tail → R all (done ++ tail)
+  pub complete : (whole : List Y) → R all whole → (tail : List Y) × (whole ≡ done ++ tail) × R rest tail
+
+pub read-none : {S Y : Type 0} (R : S → List Y → Type 0) (all : S) → IsReadTo R all [] all
+read-none R all = record { sound = λ tail h. h; complete = λ whole h. (whole, refl, h) }
+
+-- one more item
+pub read-more : {S Y : Type 0} (R : S → List Y → Type 0) (all : S) (done : List Y) (rest : S) (y : Y) (next : S) → IsReadTo R all done rest
+    → ((tail : List Y) → R next tail → R rest (y ∷ tail)) → ((whole : List Y) → R rest whole → (tail : List Y) × (whole ≡ y ∷ tail) × R next tail) → IsReadTo R all (done ++ y ∷ []) next
+read-more R all done rest y next h sound complete = record {
+  sound = λ tail k. subst (R all) (sym (append_assoc done (y ∷ []) tail)) (h.sound (y ∷ tail) (sound tail k));
+  complete = λ whole k.
+      let left = h.complete whole k in
+      let more = complete left.0 left.2 in
+      (more.0, left.1 ∙ ap (λ xs. done ++ xs) more.1 ∙ sym (append_assoc done (y ∷ []) more.0), more.2);
+}
+
+-- nothing more
+pub read-skip : {S Y : Type 0} (R : S → List Y → Type 0) (all : S) (done : List Y) (rest next : S) → IsReadTo R all done rest
+    → ((tail : List Y) → R next tail → R rest tail) → ((tail : List Y) → R rest tail → R next tail) → IsReadTo R all done next
+read-skip R all done rest next h sound complete = record {
+  sound = λ tail k. h.sound tail (sound tail k);
+  complete = λ whole k. let left = h.complete whole k in (left.0, left.1, complete left.0 left.2);
+}
+
+-- the end
+pub read-all : {S Y : Type 0} (R : S → List Y → Type 0) (all : S) (done : List Y) (rest : S) → IsReadTo R all done rest → R rest [] → ((tail : List Y) → R rest tail → tail ≡ []) → IsOnly (R all) done
+read-all R all done rest h end empty = record {
+  is = subst (R all) (append-nil done) (h.sound [] end);
+  only = λ whole k. let left = h.complete whole k in left.1 ∙ ap (λ xs. done ++ xs) (empty left.0 left.2) ∙ append-nil done;
+}
+
+-- a fault at the rest
+pub read-not : {S Y : Type 0} (R : S → List Y → Type 0) (all : S) (done : List Y) (rest : S) → IsReadTo R all done rest → ((tail : List Y) → R rest tail → ⊥) → (whole : List Y) → R all whole → ⊥
+read-not R all done rest h none whole k = let left = h.complete whole k in none left.0 left.2
+
+-- faults that say less
+pub denies-from : {P Q : Type 0} (fault : ReadFault) → (P → Q) → Denies Q fault → Denies P fault
+denies-from Refused f h = λ p. h (f p)
+denies-from Memory f h = tt
+
+pub refuses-from : {X Y : Type 0} (P : X → Type 0) (Q : Y → Type 0) (fault : ReadFault) → ((x : X) → P x → (y : Y) × Q y) → Refuses Q fault → Refuses P fault
+refuses-from P Q Refused f h = λ x p. let other = f x p in h other.0 other.1
+refuses-from P Q Memory f h = tt
+
+pub refuses-denied : {X : Type 0} (P : X → Type 0) (Q : Type 0) (fault : ReadFault) → ((x : X) → P x → Q) → Denies Q fault → Refuses P fault
+refuses-denied P Q Refused f h = λ x p. h (f x p)
+refuses-denied P Q Memory f h = tt
+
+pub denies-refused : {Y : Type 0} (P : Type 0) (Q : Y → Type 0) (fault : ReadFault) → (P → (y : Y) × Q y) → Refuses Q fault → Denies P fault
+denies-refused P Q Refused f h = λ p. let other = f p in h other.0 other.1
+denies-refused P Q Memory f h = tt
+
+-- a fault that `?` hands on
+pub passed : {T : Type 0} (P : ReadFault → Type 0) (r : Result T ReadFault) (fault : ReadFault) → IsErrAnd r (λ e. e ≡ fault) → P fault → IfErr r P
+passed P r fault h p = let q = err_from_is_err_and r h in rw q.1 (subst P (sym q.2) p)
+
+-- what a result says, said in other words
+pub ok-from : {T : Type 0} (P Q : T → Type 0) (r : Result T ReadFault) → ((x : T) → P x → Q x) → IfOk r P → IfOk r Q
+ok-from P Q (Ok x) f h = f x h
+ok-from P Q (Err e) f h = tt
+
+pub err-from : {T : Type 0} (P Q : ReadFault → Type 0) (r : Result T ReadFault) → ((e : ReadFault) → P e → Q e) → IfErr r P → IfErr r Q
+err-from P Q (Ok x) f h = tt
+err-from P Q (Err e) f h = f e h

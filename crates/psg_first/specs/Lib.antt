@@ -1,0 +1,10 @@
+pub mod Constants
+pub mod Written
+pub mod Forms
+pub mod Numbers
+pub mod Reading
+pub mod Only
+pub mod Parts
+pub mod Puts
+pub mod Decls
+pub mod Shapes

@@ -1,0 +1,32 @@
+-- Worked case: three answers of files. A keep is stored, a keep is lost, and the lost name is fetched, with any bytes.
+use Rattle.std.proofs.Common.{◌≡◌, ℕ, List, [], ◌∷◌, None, true≢false, refl}
+use Rattle.std.specs.Prelude.{codes}
+use Rattle.std.specs.FinMap as map
+use Rattle.psg_world.specs.Files.{Held, writing}
+use Rattle.psg_run.specs.PlainState.{stored, got, lost}
+use Rattle.psg_run.specs.Told.{Exchange, Known, keeping, fetching, sets, forgets, Replays, nothing, keeps, keep_lost, fetches, Told, Loses, none, stores, loses_keep, gets}
+
+exchanges : List Exchange
+exchanges =
+    record { asked = keeping (codes "f") (1 ∷ []); answer = stored }
+    ∷ record { asked = keeping (codes "g") (2 ∷ []); answer = lost }
+    ∷ record { asked = fetching (codes "g"); answer = got (9 ∷ []) }
+    ∷ []
+
+before : Known
+before = record { held = map.empty; unknown = [] }
+
+after : Known
+after = forgets (sets before (codes "f") (1 ∷ [])) (codes "g")
+
+three_answers : Told exchanges None map.empty after.held (writing (codes "g") ∷ [])
+unfolding exchanges before after
+three_answers = record {
+  last = after;
+  replays = keeps (keep_lost (fetches (λ known. absurd (true≢false known)) nothing));
+  agrees = λ name known. refl;
+}
+
+one_lost : Loses exchanges (writing (codes "g") ∷ [])
+unfolding exchanges
+one_lost = stores (loses_keep (gets none))

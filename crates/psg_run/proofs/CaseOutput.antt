@@ -1,0 +1,31 @@
+-- Worked cases: the lines of a script, the text of replies, and the output of two lines.
+use Rattle.std.proofs.Common.{◌≡◌, ℕ, List, [], ◌∷◌, ◌++◌, None, refl, arith}
+use Rattle.std.specs.Prelude.{codes}
+use Rattle.psg_grammar.specs.declared.types.Definition.{Definition}
+use Rattle.psg_grammar.specs.Fragments.{Fragment}
+use Rattle.psg_grammar.specs.Marks.{good, wrong}
+use Rattle.psg_script.specs.declared.command.Command.TheVariants.{Show}
+use Rattle.psg_script.specs.Forms.{Spells}
+use Rattle.psg_run.specs.PlainState.{State, start, not_asked}
+use Rattle.psg_run.specs.Refusals.{nothing_opened}
+use Rattle.psg_run.specs.PlainStep.{Steps, refuses, IsRefused}
+use Rattle.psg_run.specs.Replies.{refused, marked, shown, reply_text}
+use Rattle.psg_run.specs.Output.{script_lines, Prints, ends, step}
+
+-- carriage returns in front of a line feed go, and empty lines are no lines
+lines : script_lines (97 ∷ 13 ∷ 10 ∷ 10 ∷ 13 ∷ 10 ∷ 98 ∷ 13 ∷ []) ≡ codes "a" ∷ codes "b" ∷ []
+lines = refl
+
+wrong_mark : reply_text (marked (wrong ([] ∷ []))) ≡ codes "wrong /\n"
+wrong_mark = refl
+
+shown_text : reply_text (shown (codes "?Exp" ∷ []) good) ≡ codes "?Exp\nok\n"
+shown_text = refl
+
+-- before anything is opened nothing can be shown, and the state stays
+module _ (def : Definition) (IsGood : Fragment → Type 0) where
+  first_test : IsRefused def IsGood start not_asked Show nothing_opened
+  first_test = record { number = 0; test = refl; holds = refl; first = λ k other less. absurd (omega (arith, less)) }
+
+  nothing_shown : Spells (codes "show") Show → Prints def IsGood start (codes "show" ∷ []) [] None (reply_text (refused 22) ++ []) start
+  nothing_shown spells = step Show start (refused 22) (spells, tt) (λ asked w. w) (refuses first_test) ends

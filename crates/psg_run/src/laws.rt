@@ -1,0 +1,12 @@
+//! Laws of the plain editor, as contracts of calls that do nothing.
+ghost use Rattle.psg_grammar.specs.Sound.{IsSound};
+ghost use Rattle.psg_run.specs.OneOutput.{HasOneOutput};
+ghost use Rattle.psg_run.specs.Output.{IsGoodIn};
+
+use psg_grammar::Definition;
+
+/// The plain editor gives each script one output. It does nothing at run time.
+pub fn one_output(definition: &Definition)
+    requires { IsSound definition.now }
+    ensures { HasOneOutput definition.now (IsGoodIn definition.now) }
+{}

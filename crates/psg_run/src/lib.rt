@@ -1,0 +1,26 @@
+//! A run of the program: from words, files and a sink to a status.
+//!
+//! `run(alloc, &words, &mut files, &mut out, &mut steps)` does what the words say. For `edit DEF SCRIPT` it writes the replies
+//! of the plain editor, which is defined in this crate's specs and knows nothing but trees.
+#![tactic(auto)]
+
+mod editor;
+mod insertion;
+pub mod laws;
+pub mod limits;
+mod lines;
+mod play;
+pub mod program;
+mod replies;
+pub mod status;
+
+/// The small reader of definitions, which the whole one will take the place of.
+pub mod first {
+    pub use psg_first::{ReadFault, read_definition};
+}
+
+pub use program::run;
+pub use status::Status;
+
+#[cfg(test)]
+mod tests;

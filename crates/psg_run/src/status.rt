@@ -1,0 +1,39 @@
+//! How a run ends.
+ghost use Rattle.std.specs.Prelude.{◌≡◌};
+ghost use Rattle.psg_run.specs.Codes.{code_of};
+
+/// How a run of the program ends. Its number is the exit status.
+#[derive(Clone, Copy, Debug, PartialEq, Eq)]
+pub enum Status {
+    /// The script was read to its end, and every reply was written.
+    Done,
+    /// The bytes of the definition are no definition, and the line that says so was written.
+    DefinitionRefused,
+    /// The words have none of the forms; nothing was read or written.
+    Words,
+    /// A read of the definition or of the script failed; nothing was written.
+    ReadFault,
+    /// A write of the output failed; a front of the output was written.
+    WriteFault,
+    /// There was no memory left; a front of the output was written.
+    Memory,
+    /// The definition or the script is too long; nothing was written.
+    TooLong,
+}
+
+impl Status {
+    /// The exit status of the process.
+    pub fn code(self) -> u8
+        ensures { result ≡ code_of self }
+    {
+        match self {
+            Status::Done => 0,
+            Status::DefinitionRefused => 1,
+            Status::Words => 2,
+            Status::ReadFault => 3,
+            Status::WriteFault => 4,
+            Status::Memory => 5,
+            Status::TooLong => 6,
+        }
+    }
+}
