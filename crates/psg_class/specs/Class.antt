@@ -63,7 +63,7 @@ number_of (levels.InfixNone n) = Some n
 
 -- ---- what fails
 
--- the operator n begins with neither
+-- the operator n begins neither with a token item nor with a slot of its own phylum and then a token item
 pub record NoFirst (def : Definition) (n : ℕ) : Type 0 where
   pub o : Operator
   pub found : slice_get def.operators n ≡ Some o

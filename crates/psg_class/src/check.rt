@@ -16,9 +16,9 @@ use crate::vocabulary::{Vocabulary, terminal_text};
 use psg_grammar::Definition;
 use std::alloc::{AllocError, Global};
 
-/// Whether the definition is of the grammar class: whether each of its lists of tokens can be read in one way only. It
-/// refuses with the first of eight conditions that fails, for the first operator, phylum or list for which it fails,
-/// and of its tokens the first one.
+/// Whether the definition is of the grammar class, in which a list of tokens has at most one tree of a kind. It refuses
+/// with the first of eight conditions that fails, for the first operator, phylum or list for which it fails, and of its
+/// tokens the first one.
 ///
 /// The terminals are numbered and the sets of them are one table, with a row for what begins each kind, what can stand
 /// behind it, and what its led operators go on with. A round goes over all columns for each pair of rows of which one is

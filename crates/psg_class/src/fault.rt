@@ -23,7 +23,7 @@ pub enum ClassFault {
     #[error("phylum {0} mixes forms at level {1}")]
     MixedLevel(u32, u8),
     /// Two operators of the phylum, or one and its bracket, begin with the token.
-    #[error("two trees of phylum {0} begin with `{1}`")]
+    #[error("two forms of phylum {0} begin with `{1}`")]
     SameFirst(u32, String),
     /// Two operators of the phylum that begin with a slot go on with the token.
     #[error("two operators of phylum {0} go on with `{1}`")]
@@ -31,8 +31,8 @@ pub enum ClassFault {
     /// The operator begins with a slot and goes on with the token, which can stand behind a tree of its phylum.
     #[error("`{1}` of operator {0} can stand behind its phylum")]
     LedFollows(u32, String),
-    /// The token goes on or begins the list, and can stand behind it.
-    #[error("`{1}` can stand in list {0} and behind it")]
+    /// A list goes on or begins with the token, which can also stand behind it.
+    #[error("list {0} goes on or begins with `{1}`, which can also stand behind it")]
     ListEnd(u32, String),
     /// Memory ran out.
     #[error("out of memory")]

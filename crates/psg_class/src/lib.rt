@@ -1,4 +1,4 @@
-//! The grammar class: in a definition of the class no list of tokens can be read in two ways.
+//! The grammar class: in a definition of the class no list of tokens is read as two trees of one kind.
 //!
 //! The shortest useful call is `class_check(alloc, &definition)`. Where it refuses, `class_text(alloc, &definition, &fault)`
 //! is the text, as `refused MixedLevel Exp 3`. What a tree's tokens are, with its levels and brackets, stands in

@@ -76,12 +76,7 @@ fn operators(alloc: Global) -> Result<Seq<Operator>, AllocError>
     Ok(Seq::of(vec![in alloc; operator]?))
 }
 
-fn reads(
-    rt: &impl Abort,
-    alloc: Global,
-    fault: ClassFault,
-    expected: &str,
-) -> Result<(), Fail>
+fn reads(rt: &impl Abort, alloc: Global, fault: ClassFault, expected: &str) -> Result<(), Fail>
     requires { (d : Whole) → length d.phyla ≡ 1 → length d.lists ≡ 1 → length d.operators ≡ 1 → IsOf d fault }
 {
     let definition = small(alloc)?;
@@ -96,23 +91,53 @@ fn texts_of_operators(rt: HostRuntime) -> Result<(), Fail> {
     reads(&rt, alloc, ClassFault::NoFirst(0), "refused NoFirst cat")?;
     reads(&rt, alloc, ClassFault::Form(0), "refused Form cat")?;
     let token = String::from_str(alloc, "++")?;
-    reads(&rt, alloc, ClassFault::LedFollows(0, token), "refused LedFollows cat ++")
+    reads(
+        &rt,
+        alloc,
+        ClassFault::LedFollows(0, token),
+        "refused LedFollows cat ++",
+    )
 }
 
 #[test]
 fn texts_of_phyla(rt: HostRuntime) -> Result<(), Fail> {
     let alloc = rt.alloc();
-    reads(&rt, alloc, ClassFault::NoBracket(0), "refused NoBracket Exp")?;
-    reads(&rt, alloc, ClassFault::MixedLevel(0, 3), "refused MixedLevel Exp 3")?;
+    reads(
+        &rt,
+        alloc,
+        ClassFault::NoBracket(0),
+        "refused NoBracket Exp",
+    )?;
+    reads(
+        &rt,
+        alloc,
+        ClassFault::MixedLevel(0, 3),
+        "refused MixedLevel Exp 3",
+    )?;
     let token = String::from_str(alloc, "?Exp")?;
-    reads(&rt, alloc, ClassFault::SameFirst(0, token), "refused SameFirst Exp ?Exp")
+    reads(
+        &rt,
+        alloc,
+        ClassFault::SameFirst(0, token),
+        "refused SameFirst Exp ?Exp",
+    )
 }
 
 #[test]
 fn texts_of_lists(rt: HostRuntime) -> Result<(), Fail> {
     let alloc = rt.alloc();
     let token = String::from_str(alloc, "...")?;
-    reads(&rt, alloc, ClassFault::ListEnd(0, token), "refused ListEnd Items ...")?;
+    reads(
+        &rt,
+        alloc,
+        ClassFault::ListEnd(0, token),
+        "refused ListEnd Items ...",
+    )?;
     let token = String::from_str(alloc, "name")?;
-    reads(&rt, alloc, ClassFault::SameLed(0, token), "refused SameLed Exp name")
+    reads(
+        &rt,
+        alloc,
+        ClassFault::SameLed(0, token),
+        "refused SameLed Exp name",
+    )
 }

@@ -103,11 +103,7 @@ fn language(
 }
 
 /// The text of a refusal.
-fn refusal(
-    alloc: Global,
-    definition: &Definition,
-    fault: &ClassFault,
-) -> Result<String, AllocError>
+fn refusal(alloc: Global, definition: &Definition, fault: &ClassFault) -> Result<String, AllocError>
     requires { Refuses definition.now fault.now }
 {
     match fault {
@@ -126,12 +122,7 @@ fn answer(alloc: Global, definition: &Definition) -> Result<String, AllocError>
     }
 }
 
-fn is_answered(
-    rt: &impl Abort,
-    language: Result<Definition, AllocError>,
-    alloc: Global,
-    text: &str,
-)
+fn is_answered(rt: &impl Abort, language: Result<Definition, AllocError>, alloc: Global, text: &str)
     requires { IfOk language IsSound }
 {
     let Ok(language) = language else {
