@@ -2,7 +2,7 @@
 -- order in which they were met.
 use Rattle.std.specs.Prelude.{ℕ, suc, ◌≡◌, ◌+◌, ◌-◌, ◌==◌, nat_lt, Bool, true, false, cond, List, [], ◌∷◌, length, map, Option, Some, None, option_map, bytes_eq, codes, slice_get}
 use Rattle.std.specs.Cmp.Lexicographic.{slice_cmp}
-use Rattle.std.proofs.Common.{nat_cmp, is_lt}
+use Rattle.std.specs.Ordering.{nat_cmp, is_lt}
 use Rattle.std.specs.HashMap.{get_by_text}
 use Rattle.psg_terms.specs.Names.{Name, is_among}
 use Rattle.psg_grammar.specs.declared.types.Phylum.{Phylum}

@@ -1,7 +1,7 @@
 -- The first condition that fails, for its first thing and its first token.
 use Rattle.std.specs.Prelude.{ℕ, suc, ◌≡◌, ◌<◌, ◌++◌, nat_lt, Bool, false, cond, List, [], ◌∷◌, length, Option, Some, None, codes, decimal, bytes_eq, string_bytes}
 use Rattle.std.specs.Cmp.Lexicographic.{slice_cmp}
-use Rattle.std.proofs.Common.{nat_cmp, is_lt}
+use Rattle.std.specs.Ordering.{nat_cmp, is_lt}
 use Rattle.psg_terms.specs.Names.{Name}
 use Rattle.psg_grammar.specs.declared.types.Kind.TheVariants as kinds
 use Rattle.psg_grammar.specs.declared.types.Phylum.{Phylum}
