@@ -1,7 +1,9 @@
 -- Keys, each a space and a name, and lists of them in order.
 use Rattle.std.specs.Prelude.{ℕ, Bool, cond, ◌||◌, List, [], ◌∷◌}
 use Rattle.std.specs.Cmp.Lexicographic.{slice_cmp}
-use Rattle.std.specs.Ordering.{nat_cmp, Ordering, Less, Equal, Greater}
+use Rattle.std.specs.Ordering.{nat_cmp}
+use Rattle.std.specs.declared.cmp.Ordering.{Ordering}
+use Rattle.std.specs.declared.cmp.Ordering.TheVariants.{Less, Equal, Greater}
 use Rattle.psg_terms.specs.Names.{Name, is_among}
 
 -- A key is one list, the number of its space in front of the bytes of its name, so what is said of names serves keys too.
