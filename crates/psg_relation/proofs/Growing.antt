@@ -1,0 +1,93 @@
+-- Steps of keeping the most general rows.
+use Rattle.std.proofs.Common.{◌≡◌, ℕ, ◌+◌, ◌<◌, ◌⊎◌, inl, inr, List, [], ◌∷◌, ◌++◌, map, length, take, get_or, refl, ap₂, sym, ◌∙◌, subst}
+use Rattle.psg_terms.specs.Terms.{Term, variable}
+use Rattle.psg_terms.specs.Instances.{substitute, IsInstance}
+use Rattle.psg_terms.specs.Relations.{IsIn, first, later}
+use Rattle.psg_terms.proofs.InstanceLaws.{instance_trans, substitute-variable}
+use Rattle.psg_relation.specs.Sifted.{IsOnce, IsCovered, IsSifted, LeavesOut, IsGrown}
+use Rattle.psg_terms.proofs.DeclareLaws.{take-next}
+use Rattle.psg_relation.proofs.Members.{in-left, in-last, in-split, in-next, once-push, once-split}
+
+map-substitute-variable : (row : List Term) → map (substitute variable) row ≡ row
+map-substitute-variable [] = refl
+map-substitute-variable (t ∷ row) = ap₂ (λ x xs. x ∷ xs) (substitute-variable t) (map-substitute-variable row)
+
+-- a row is an instance of itself
+pub instance-refl : (row : List Term) → IsInstance row row
+instance-refl row = (variable, sym (map-substitute-variable row))
+
+pub out_none : (row : List Term) → LeavesOut row [] []
+out_none row = record { among = λ k h. h; none = λ k h. elim h [ ]; stays = λ k h. elim h [ ]; once = λ o. o }
+
+pub out_keep : (row : List Term) (done rest : List (List Term)) (k : List Term) → LeavesOut row done rest → (IsInstance k row → ⊥) → LeavesOut row (done ++ k ∷ []) (rest ++ k ∷ [])
+out_keep row done rest k l nope = record {
+  among = λ x h. elim (in-split x k rest h) [ inl a ↦ in-left x done (k ∷ []) (l.among x a) | inr e ↦ subst (λ z. IsIn z (done ++ k ∷ [])) (sym e) (in-last k done) ];
+  none = λ x h i. elim (in-split x k rest h) [ inl a ↦ l.none x a i | inr e ↦ nope (subst (λ z. IsInstance z row) e i) ];
+  stays = λ x h. elim (in-split x k done h) [
+    | inl a ↦ elim (l.stays x a) [ inl i ↦ inl i | inr b ↦ inr (in-left x rest (k ∷ []) b) ]
+    | inr e ↦ inr (subst (λ z. IsIn z (rest ++ k ∷ [])) (sym e) (in-last k rest))
+  ];
+  once = λ o. let both = once-split done k o in once-push rest k (l.once both.0) (λ h. both.1 (l.among k h));
+}
+
+pub out_drop : (row : List Term) (done rest : List (List Term)) (k : List Term) → LeavesOut row done rest → IsInstance k row → LeavesOut row (done ++ k ∷ []) rest
+out_drop row done rest k l i = record {
+  among = λ x h. in-left x done (k ∷ []) (l.among x h);
+  none = l.none;
+  stays = λ x h. elim (in-split x k done h) [ inl a ↦ l.stays x a | inr e ↦ inl (subst (λ z. IsInstance z row) (sym e) i) ];
+  once = λ o. l.once (once-split done k o).0;
+}
+
+pub sifted_none : IsSifted [] []
+sifted_none = record { among = λ k h. h; covers = λ row h. elim h [ ]; apart = λ k other h. elim h [ ]; once = tt }
+
+-- one row more
+pub sifted_more : (done kept : List (List Term)) (row : List Term) (more : List (List Term)) → IsSifted done kept → IsGrown kept row more → IsSifted (done ++ row ∷ []) more
+sifted_more done kept row more s (inl (covered, e)) = subst (IsSifted (done ++ row ∷ [])) (sym e) (record {
+  among = λ k h. in-left k done (row ∷ []) (s.among k h);
+  covers = λ r h. elim (in-split r row done h) [ inl a ↦ s.covers r a | inr d ↦ subst (IsCovered kept) (sym d) covered ];
+  apart = s.apart;
+  once = s.once;
+})
+sifted_more done kept row more s (inr (nope, (rest, l, e))) = subst (IsSifted (done ++ row ∷ [])) (sym e) (record {
+  among = λ k h. elim (in-split k row rest h) [
+    | inl a ↦ in-left k done (row ∷ []) (s.among k (l.among k a))
+    | inr d ↦ subst (λ z. IsIn z (done ++ row ∷ [])) (sym d) (in-last row done)
+  ];
+  covers = λ r h. elim (in-split r row done h) [
+    | inl a ↦ let (k, g, i) = s.covers r a in elim (l.stays k g) [
+      | inl j ↦ (row, in-last row rest, instance_trans r k row i j)
+      | inr b ↦ (k, in-left k rest (row ∷ []) b, i)
+    ]
+    | inr d ↦ (row, in-last row rest, subst (λ z. IsInstance z row) (sym d) (instance-refl row))
+  ];
+  apart = λ k other h g i. elim (in-split k row rest h) [
+    | inl a ↦ elim (in-split other row rest g) [
+      | inl b ↦ s.apart k other (l.among k a) (l.among other b) i
+      | inr d ↦ absurd (l.none k a (subst (IsInstance k) d i))
+    ]
+    | inr c ↦ elim (in-split other row rest g) [
+      | inl b ↦ absurd (nope (other, l.among other b, subst (λ z. IsInstance z other) c i))
+      | inr d ↦ c ∙ sym d
+    ]
+  ];
+  once = once-push rest row (l.once s.once) (λ h. nope (row, l.among row h, instance-refl row));
+})
+
+-- the walk over the kept rows
+pub covered_at : (kept : List (List Term)) (row other : List Term) → IsIn other kept → IsInstance row other → IsCovered kept row
+covered_at kept row other h i = (other, h, i)
+
+pub uncovered_more : (kept : List (List Term)) (i : ℕ) (row other : List Term) → i < length kept → other ≡ get_or kept i other → (IsCovered (take i kept) row → ⊥) → (IsInstance row other → ⊥) → IsCovered (take (i + 1) kept) row → ⊥
+uncovered_more kept i row other l e nope here (k, h, j) =
+    elim (in-next k kept i other l e h) [ inl a ↦ nope (k, a, j) | inr d ↦ here (subst (IsInstance row) d j) ]
+
+pub out_more : (row : List Term) (kept rest : List (List Term)) (i : ℕ) (k : List Term) (more : List (List Term)) → i < length kept → k ≡ get_or kept i k → LeavesOut row (take i kept) rest → more ≡ rest ++ k ∷ [] → (IsInstance k row → ⊥) → LeavesOut row (take (i + 1) kept) more
+out_more row kept rest i k more l e h d nope =
+    subst (λ x. LeavesOut row x more) (sym (take-next kept i k l e)) (subst (LeavesOut row (take i kept ++ k ∷ [])) (sym d) (out_keep row (take i kept) rest k h nope))
+
+pub out_less : (row : List Term) (kept rest : List (List Term)) (i : ℕ) (k : List Term) → i < length kept → k ≡ get_or kept i k → LeavesOut row (take i kept) rest → IsInstance k row → LeavesOut row (take (i + 1) kept) rest
+out_less row kept rest i k l e h j = subst (λ x. LeavesOut row x rest) (sym (take-next kept i k l e)) (out_drop row (take i kept) rest k h j)
+
+pub sifted_next : (rows kept : List (List Term)) (i : ℕ) (row : List Term) (more : List (List Term)) → i < length rows → row ≡ get_or rows i row → IsSifted (take i rows) kept → IsGrown kept row more → IsSifted (take (i + 1) rows) more
+sifted_next rows kept i row more l e h g = subst (λ x. IsSifted x more) (sym (take-next rows i row l e)) (sifted_more (take i rows) kept row more h g)

@@ -1,0 +1,113 @@
+-- Steps of splitting and ordering rows, and what the most general ones are then.
+use Rattle.std.proofs.Common.{◌≡◌, ℕ, ◌+◌, ◌<◌, ◌⊎◌, inl, inr, true, false, List, [], ◌∷◌, ◌++◌, map, length, take, get_or, refl, ap, sym, ◌∙◌, subst}
+use Rattle.std.specs.List.Sorted.{IsPermutation}
+use Rattle.std.proofs.lemmas.List.Sorted.{IsPermutation-sym, Contains-permutation}
+use Rattle.psg_terms.specs.Terms.{Term}
+use Rattle.psg_terms.specs.Relations.{IsIn, first, later}
+use Rattle.psg_terms.proofs.DeclareLaws.{take-next}
+use Rattle.psg_relation.specs.Heavy.{IsHeavy}
+use Rattle.psg_relation.specs.Sifted.{IsCovered, AreCovered, IsSifted, IsSplit, HasSameRows, IsLightly, LosesHeavy}
+use Rattle.psg_relation.proofs.Members.{in-left, in-last, in-split, in-contains, contains-in}
+
+push-in : (x row : List Term) (done more : List (List Term)) → (IsIn x done → IsIn x more) → IsIn x (done ++ row ∷ []) → IsIn x (more ++ row ∷ [])
+push-in x row done more h i = elim (in-split x row done i) [
+  | inl a ↦ in-left x more (row ∷ []) (h a)
+  | inr e ↦ subst (λ z. IsIn z (more ++ row ∷ [])) (sym e) (in-last row more)
+]
+
+pub split_none : IsSplit [] [] []
+split_none = record { lights = λ row h. elim h [ ]; heavies = λ row h. elim h [ ]; all = λ row h. elim h [ ] }
+
+split_light : (done light heavy : List (List Term)) (row : List Term) → IsSplit done light heavy → (IsHeavy row → ⊥) → IsSplit (done ++ row ∷ []) (light ++ row ∷ []) heavy
+split_light done light heavy row s small = record {
+  lights = λ x h. elim (in-split x row light h) [
+    | inl a ↦ (in-left x done (row ∷ []) (s.lights x a).0, (s.lights x a).1)
+    | inr e ↦ (subst (λ z. IsIn z (done ++ row ∷ [])) (sym e) (in-last row done), λ w. small (subst IsHeavy e w))
+  ];
+  heavies = λ x h. (in-left x done (row ∷ []) (s.heavies x h).0, (s.heavies x h).1);
+  all = λ x h. elim (in-split x row done h) [
+    | inl a ↦ elim (s.all x a) [ inl b ↦ inl (in-left x light (row ∷ []) b) | inr b ↦ inr b ]
+    | inr e ↦ inl (subst (λ z. IsIn z (light ++ row ∷ [])) (sym e) (in-last row light))
+  ];
+}
+
+split_heavy : (done light heavy : List (List Term)) (row : List Term) → IsSplit done light heavy → IsHeavy row → IsSplit (done ++ row ∷ []) light (heavy ++ row ∷ [])
+split_heavy done light heavy row s large = record {
+  lights = λ x h. (in-left x done (row ∷ []) (s.lights x h).0, (s.lights x h).1);
+  heavies = λ x h. elim (in-split x row heavy h) [
+    | inl a ↦ (in-left x done (row ∷ []) (s.heavies x a).0, (s.heavies x a).1)
+    | inr e ↦ (subst (λ z. IsIn z (done ++ row ∷ [])) (sym e) (in-last row done), subst IsHeavy (sym e) large)
+  ];
+  all = λ x h. elim (in-split x row done h) [
+    | inl a ↦ elim (s.all x a) [ inl b ↦ inl b | inr b ↦ inr (in-left x heavy (row ∷ []) b) ]
+    | inr e ↦ inr (subst (λ z. IsIn z (heavy ++ row ∷ [])) (sym e) (in-last row heavy))
+  ];
+}
+
+pub lights_more : (rows light heavy : List (List Term)) (i : ℕ) (row : List Term) (more : List (List Term)) → i < length rows → row ≡ get_or rows i row → IsSplit (take i rows) light heavy → (IsHeavy row → ⊥) → more ≡ light ++ row ∷ [] → IsSplit (take (i + 1) rows) more heavy
+lights_more rows light heavy i row more l e s small d =
+    subst (λ x. IsSplit x more heavy) (sym (take-next rows i row l e)) (subst (λ x. IsSplit (take i rows ++ row ∷ []) x heavy) (sym d) (split_light (take i rows) light heavy row s small))
+
+pub heavies_more : (rows light heavy : List (List Term)) (i : ℕ) (row : List Term) (more : List (List Term)) → i < length rows → row ≡ get_or rows i row → IsSplit (take i rows) light heavy → IsHeavy row → more ≡ heavy ++ row ∷ [] → IsSplit (take (i + 1) rows) light more
+heavies_more rows light heavy i row more l e s large d =
+    subst (λ x. IsSplit x light more) (sym (take-next rows i row l e)) (subst (IsSplit (take i rows ++ row ∷ []) light) (sym d) (split_heavy (take i rows) light heavy row s large))
+
+same_push : (done once : List (List Term)) (row : List Term) → HasSameRows done once → HasSameRows (done ++ row ∷ []) (once ++ row ∷ [])
+same_push done once row s = record { there = λ x. push-in x row done once (s.there x); back = λ x. push-in x row once done (s.back x) }
+
+same_repeat : (done once : List (List Term)) (row : List Term) → HasSameRows done once → IsIn row done → HasSameRows (done ++ row ∷ []) once
+same_repeat done once row s h = record {
+  there = λ x i. elim (in-split x row done i) [ inl a ↦ s.there x a | inr e ↦ subst (λ z. IsIn z once) (sym e) (s.there row h) ];
+  back = λ x i. in-left x done (row ∷ []) (s.back x i);
+}
+
+pub same_more : (rows once : List (List Term)) (i : ℕ) (row : List Term) (more : List (List Term)) → i < length rows → row ≡ get_or rows i row → HasSameRows (take i rows) once → more ≡ once ++ row ∷ [] → HasSameRows (take (i + 1) rows) more
+same_more rows once i row more l e s d =
+    subst (λ x. HasSameRows x more) (sym (take-next rows i row l e)) (subst (HasSameRows (take i rows ++ row ∷ [])) (sym d) (same_push (take i rows) once row s))
+
+pub same_skip : (rows once : List (List Term)) (i : ℕ) (row : List Term) → i < length rows → row ≡ get_or rows i row → HasSameRows (take i rows) once → IsIn row (take i rows) → HasSameRows (take (i + 1) rows) once
+same_skip rows once i row l e s h = subst (λ x. HasSameRows x once) (sym (take-next rows i row l e)) (same_repeat (take i rows) once row s h)
+
+same_permuted : (rows sorted : List (List Term)) → IsPermutation rows sorted → HasSameRows rows sorted
+same_permuted rows sorted p = record {
+  there = λ x h. contains-in x sorted (Contains-permutation rows sorted x p (in-contains x rows h));
+  back = λ x h. contains-in x rows (Contains-permutation sorted rows x (IsPermutation-sym rows sorted p) (in-contains x sorted h));
+}
+
+module _ (rows light heavy sorted once kept : List (List Term)) (s : IsSplit rows light heavy) (p : IsPermutation light sorted) (q : HasSameRows sorted once) (m : IsSifted once kept) where
+  to_once : (x : List Term) → IsIn x light → IsIn x once
+  to_once x h = q.there x ((same_permuted light sorted p).there x h)
+
+  from_once : (x : List Term) → IsIn x once → IsIn x light
+  from_once x h = (same_permuted light sorted p).back x (q.back x h)
+
+  sifted_light : IsSifted light kept
+  sifted_light = record {
+    among = λ k h. from_once k (m.among k h);
+    covers = λ x h. m.covers x (to_once x h);
+    apart = m.apart;
+    once = m.once;
+  }
+
+  pub all_light : AreCovered true kept heavy → IsLightly rows kept
+  all_light covered = record {
+    sifted = record {
+      among = λ k h. (s.lights k (from_once k (m.among k h))).0;
+      covers = λ x h. elim (s.all x h) [ inl a ↦ m.covers x (to_once x a) | inr b ↦ covered x b ];
+      apart = m.apart;
+      once = m.once;
+    };
+    lights = λ k h. (s.lights k (from_once k (m.among k h))).1;
+  }
+
+  pub heavy_lost : AreCovered false kept heavy → LosesHeavy rows
+  heavy_lost (row, there, uncovered) = record {
+    light = light;
+    kept = kept;
+    sifted = sifted_light;
+    lights = λ x h. (s.lights x h).0;
+    all = λ x h. elim (s.all x h) [ inl a ↦ inl a | inr b ↦ inr (s.heavies x b).1 ];
+    row = row;
+    there = (s.heavies row there).0;
+    uncovered = uncovered;
+  }

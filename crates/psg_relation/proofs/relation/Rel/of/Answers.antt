@@ -1,0 +1,28 @@
+use Rattle.std.proofs.Common.{ℕ, List, sym, subst}
+use Rattle.psg_terms.specs.Terms.{Term}
+use Rattle.psg_terms.specs.Relations.{IsRelation}
+use Rattle.psg_terms.specs.Weight.{PassesLimit}
+use Rattle.psg_relation.specs.Choices.{AllHaveSorts, IsOfRow}
+use Rattle.psg_relation.specs.Sealed.{AreCanonicalOf}
+use Rattle.psg_relation.proofs.Making.{of_made, to_made, err_map, ok_map}
+use Rattle.psg_relation.proofs.relation.Rel.of.Goals as goal
+
+pub returns-clause-relation : goal.returns-clause-relation
+returns-clause-relation c =
+    let sig = c.args.sig.now in
+    let rows = c.args.rows.now in
+    let made = c.as_slice.result.now in
+    let a : AreCanonicalOf sig rows made = subst (AreCanonicalOf sig rows) (sym c.as_slice.ensures.value) c.in_ok-made.ensures in
+    ok_map c.relation_of.result (λ rel. (sorts : List ℕ) → AllHaveSorts sig made sorts → IsRelation sig sorts (IsOfRow sig made) rel)
+    (λ rel. (sorts : List ℕ) → AllHaveSorts sig rows sorts → IsRelation sig sorts (IsOfRow sig rows) rel)
+    (λ rel h sorts sorted. of_made sig rows made a sorts rel (h sorts (a.sorted sorts sorted))) c.relation_of.ensures.relation
+
+pub returns-clause-wide : goal.returns-clause-wide
+returns-clause-wide c =
+    let sig = c.args.sig.now in
+    let rows = c.args.rows.now in
+    let made = c.as_slice.result.now in
+    let a : AreCanonicalOf sig rows made = subst (AreCanonicalOf sig rows) (sym c.as_slice.ensures.value) c.in_ok-made.ensures in
+    err_map c.relation_of.result ((sorts : List ℕ) → AllHaveSorts sig made sorts → (others : List (List Term)) → IsRelation sig sorts (IsOfRow sig made) others → PassesLimit others)
+    ((sorts : List ℕ) → AllHaveSorts sig rows sorts → (others : List (List Term)) → IsRelation sig sorts (IsOfRow sig rows) others → PassesLimit others)
+    (λ wide sorts sorted others rel. wide sorts (a.sorted sorts sorted) others (to_made sig rows made a sorts others rel)) c.relation_of.ensures.wide

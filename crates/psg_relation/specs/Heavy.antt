@@ -1,0 +1,17 @@
+-- How deep rows are, and which rows no relation within the limit has.
+use Rattle.std.specs.Prelude.{ℕ, ◌<◌, ◌⊎◌, max, List, [], ◌∷◌, sum_by}
+use Rattle.psg_terms.specs.Terms.{Term}
+use Rattle.psg_terms.specs.Weight.{symbols_of, depth_of}
+
+-- the depth of the deepest term, and 0 where there is none
+abbrev pub deepest_in : List Term → ℕ
+deepest_in [] = 0
+deepest_in (t ∷ row) = max (depth_of t) (deepest_in row)
+
+abbrev pub deepest_of : List (List Term) → ℕ
+deepest_of [] = 0
+deepest_of (row ∷ rows) = max (deepest_in row) (deepest_of rows)
+
+-- above 16,384 variables and constructors, or a term deeper than 1,000
+abbrev pub IsHeavy : List Term → Type 0
+IsHeavy row = (16384 < sum_by symbols_of row) ⊎ (1000 < deepest_in row)

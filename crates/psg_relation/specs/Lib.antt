@@ -1,0 +1,5 @@
+pub mod Heavy
+pub mod Choices
+pub mod Sifted
+pub mod Texts
+pub mod Sealed

@@ -1,0 +1,184 @@
+//! Relations.
+ghost use Rattle.std.specs.Prelude.{◌≡◌, ◌∷◌, ◌↔◌, IfOk, IfErr, IsTrue, List, ℕ, [], vec_len};
+ghost use Rattle.psg_terms.specs.Terms.{Term as Plain};
+ghost use Rattle.psg_terms.specs.Signature.{HaveSorts};
+ghost use Rattle.psg_terms.specs.Sound.{IsSound};
+ghost use Rattle.psg_terms.specs.Instances.{IsInstance};
+ghost use Rattle.psg_terms.specs.Canonical.{IsCanonical};
+ghost use Rattle.psg_terms.specs.Relations.{IsIn, IsRelation};
+ghost use Rattle.psg_terms.specs.Text.{IsInTextOrder};
+ghost use Rattle.psg_terms.specs.Weight.{PassesLimit};
+ghost use Rattle.psg_relation.specs.Choices.{AllHaveSorts, IsOfRow, MayBeWide};
+ghost use Rattle.psg_relation.specs.Sealed.{AllReady, AreCanonicalOf};
+
+use crate::order::are_in_order;
+use crate::row::RelRow;
+use crate::sifting::sift;
+use crate::weighing::{MOST_DEPTH, MOST_SYMBOLS, deepest_of, weight_of};
+use psg_terms::canonical::canonical;
+use psg_terms::{Seq, Signature};
+use std::alloc::{AllocError, Global};
+use std::marker::Model;
+use thiserror::Error;
+
+/// Why there is no relation.
+#[derive(Clone, Copy, Debug, PartialEq, Eq, Error, Drop)]
+pub enum RelFault {
+    #[error("the relation is too large")]
+    Wide,
+    #[error("there is no memory left")]
+    Memory,
+}
+
+impl From<AllocError> for RelFault {
+    ghost use Rattle.std.specs.Prelude.{◌≡◌};
+    ghost use Rattle.psg_relation.specs.declared.relation.RelFault.TheVariants.{Memory};
+
+    ghost from_gives = { λ _ e. e ≡ Memory };
+
+    fn from(_stop: AllocError) -> RelFault {
+        RelFault::Memory
+    }
+}
+
+/// Canonical rows of one width, none an instance of another one, in byte order of their texts.
+#[derive(Drop)]
+pub struct Rel {
+    kept: Seq<RelRow>,
+    weight: u64,
+    deepest: u64,
+}
+
+impl Model for Rel {
+    ghost use Rattle.std.specs.Prelude.{List};
+    ghost use Rattle.std.specs.Coded.{coded_list};
+    ghost use Rattle.psg_terms.specs.Terms.{Term as Plain};
+    ghost use Rattle.psg_terms.specs.TermCode.{coded_term};
+    ghost use Rattle.psg_relation.specs.Sealed.{IsSealed};
+
+    ghost Value = { List (List Plain) };
+
+    ghost coded = { coded_list (coded_list coded_term) };
+
+    ghost view = { λ r. r.kept };
+
+    ghost invariant = { λ r. IsSealed r.kept r.weight r.deepest };
+}
+
+impl Rel {
+    ghost use Rattle.psg_terms.specs.Weight.{weight_of, PassesLimit};
+    ghost use Rattle.psg_relation.specs.Heavy.{deepest_of};
+    ghost use Rattle.psg_relation.specs.Sealed.{AreSealed};
+
+    /// The relation of the rows: the most general ones of their canonical forms, each once.
+    ///
+    /// `Wide` comes exactly where this relation has more than 16,384 variables and constructors or a term deeper than
+    /// 1,000; a row that alone is too large does not count where it is an instance of another one. `Memory` comes when
+    /// memory runs out, and where two different rows have one text, which takes constructors with brackets, commas or
+    /// spaces in their names.
+    ///
+    /// It writes each row out once, writes the text of each row that is not too large once to sort by it, and then
+    /// compares each row with the most general ones so far.
+    pub fn of(alloc: Global, sig: &Signature, rows: &[RelRow]) -> Result<Rel, RelFault>
+        requires { (sorts : List ℕ) × AllHaveSorts sig.now rows.now sorts }
+        ensures relation { IfOk result (λ rel. (sorts : List ℕ) → AllHaveSorts sig.now rows.now sorts
+            → IsRelation sig.now sorts (IsOfRow sig.now rows.now) rel) }
+        ensures within { IfOk result (λ rel. PassesLimit rel → ⊥) }
+        ensures wide { IfErr result (MayBeWide ((sorts : List ℕ) → AllHaveSorts sig.now rows.now sorts
+            → (others : List (List Plain)) → IsRelation sig.now sorts (IsOfRow sig.now rows.now) others → PassesLimit others)) }
+    {
+        sig.sound();
+        let made = canonical_rows(alloc, sig, rows)?;
+        relation_of(alloc, sig, made.as_slice())
+    }
+
+    /// The rows, in order.
+    pub fn rows(&self) -> &[RelRow]
+        ensures rows { result.now ≡ self.now }
+        ensures sealed { AreSealed self.now }
+    {
+        self.kept.as_slice()
+    }
+
+    /// Whether there is no row.
+    pub fn is_empty(&self) -> bool
+        ensures { IsTrue result ↔ (self.now ≡ []) }
+    {
+        self.kept.as_slice().is_empty()
+    }
+
+    /// How many variables and constructors the rows have together, at most 16,384. It takes one step.
+    pub fn weight(&self) -> u64
+        ensures weight { result ≡ weight_of self.now }
+        ensures within { PassesLimit self.now → ⊥ }
+    {
+        self.weight
+    }
+
+    /// How deep the deepest term is, at most 1,000, and 0 where there is none. It takes one step.
+    pub fn deepest(&self) -> u64
+        ensures { result ≡ deepest_of self.now }
+    {
+        self.deepest
+    }
+}
+
+/// The canonical forms of rows.
+fn canonical_rows(
+    alloc: Global,
+    sig: &Signature,
+    rows: &[RelRow],
+) -> Result<Vec<RelRow>, AllocError>
+    requires { (sorts : List ℕ) × AllHaveSorts sig.now rows.now sorts }
+    ensures { IfOk result (λ made. AreCanonicalOf sig.now rows.now made.items) }
+{
+    let mut made = Vec::with_capacity(alloc, rows.len())?;
+    for row in rows {
+        let form = canonical(alloc, sig, row.terms())?;
+        made.push(RelRow::new(form))?;
+    }
+    Ok(made)
+}
+
+/// The relation of rows of which those that are not too large are canonical.
+pub fn relation_of(alloc: Global, sig: &Signature, rows: &[RelRow]) -> Result<Rel, RelFault>
+    requires sorts { (sorts : List ℕ) × AllHaveSorts sig.now rows.now sorts }
+    requires ready { AllReady sig.now rows.now }
+    ensures relation { IfOk result (λ rel. (sorts : List ℕ) → AllHaveSorts sig.now rows.now sorts
+        → IsRelation sig.now sorts (IsOfRow sig.now rows.now) rel) }
+    ensures within { IfOk result (λ rel. PassesLimit rel → ⊥) }
+    ensures wide { IfErr result (MayBeWide ((sorts : List ℕ) → AllHaveSorts sig.now rows.now sorts
+        → (others : List (List Plain)) → IsRelation sig.now sorts (IsOfRow sig.now rows.now) others → PassesLimit others)) }
+{
+    sig.sound();
+    match sift(alloc, sig, rows)? {
+        Some(kept) => sealed(alloc, sig, kept),
+        None => Err(RelFault::Wide),
+    }
+}
+
+/// The relation of the most general rows, unless they are too large together.
+fn sealed(alloc: Global, sig: &Signature, kept: Vec<RelRow>) -> Result<Rel, RelFault>
+    requires sound { IsSound sig.now }
+    requires sorted { (sorts : List ℕ) × AllHaveSorts sig.now kept.items sorts }
+    requires canonical { (row : List Plain) → IsIn row kept.items → IsCanonical sig.now row }
+    requires apart { (row other : List Plain) → IsIn row kept.items → IsIn other kept.items → IsInstance row other → row ≡ other }
+    ensures rows { IfOk result (λ rel. rel ≡ kept.items) }
+    ensures order { IfOk result (λ rel. IsInTextOrder sig.now rel) }
+    ensures within { IfOk result (λ rel. PassesLimit rel → ⊥) }
+    ensures wide { IfErr result (MayBeWide (PassesLimit kept.items)) }
+{
+    let weight = weight_of(kept.as_slice());
+    let deepest = deepest_of(kept.as_slice());
+    if weight > MOST_SYMBOLS || deepest > MOST_DEPTH {
+        return Err(RelFault::Wide);
+    }
+    if !are_in_order(alloc, sig, kept.as_slice())? {
+        return Err(RelFault::Memory);
+    }
+    Ok(Rel {
+        kept: Seq::of(kept),
+        weight,
+        deepest,
+    })
+}
