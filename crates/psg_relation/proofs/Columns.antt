@@ -8,6 +8,7 @@ use Rattle.psg_terms.specs.Instances.{Substitution, substitute, IsGroundInstance
 use Rattle.psg_terms.specs.Relations.{IsIn, first, later, IsRelation}
 use Rattle.psg_relation.specs.Choices.{AllHaveSorts, IsOfRow, pick, picked, IsProjected, all_picked}
 use Rattle.psg_terms.proofs.DeclareLaws.{take-next}
+use Rattle.psg_relation.proofs.Members.{in-map, map-in}
 use Rattle.psg_relation.proofs.Relating.{carried}
 
 map-pick : (f : Substitution) (o : Option Term) (rest : List Term) → map (substitute f) (pick o rest) ≡ pick (option_map (substitute f) o) (map (substitute f) rest)
@@ -35,16 +36,6 @@ picked_ground sig row keep x = (
   λ (f, g, e). (map (substitute f) row, (f, g, refl), e ∙ map-picked f row keep),
   λ (full, (f, g, d), e). (f, g, e ∙ ap (λ r. picked r keep) d ∙ sym (map-picked f row keep)),
 )
-
-in-map : {X Y : Type 0} (f : X → Y) (x : X) (xs : List X) → IsIn x xs → IsIn (f x) (map f xs)
-in-map f x [] h = elim h [ ]
-in-map f x (y ∷ xs) first = first
-in-map f x (y ∷ xs) (later h) = later (in-map f x xs h)
-
-map-in : {X Y : Type 0} (f : X → Y) (y : Y) (xs : List X) → IsIn y (map f xs) → (x : X) × IsIn x xs × (y ≡ f x)
-map-in f y [] h = elim h [ ]
-map-in f y (x ∷ xs) first = (x, first, refl)
-map-in f y (x ∷ xs) (later h) = let (z, i, e) = map-in f y xs h in (z, later i, e)
 
 module _ (sig : Signature) (rows : List (List Term)) (keep : List ℕ) where
   pub all_sorted : (sorts : List ℕ) → AllHaveSorts sig rows sorts → AllHaveSorts sig (all_picked rows keep) (picked sorts keep)

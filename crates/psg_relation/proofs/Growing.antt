@@ -1,11 +1,12 @@
 -- Steps of keeping the most general rows.
-use Rattle.std.proofs.Common.{◌≡◌, ℕ, ◌+◌, ◌<◌, ◌⊎◌, inl, inr, List, [], ◌∷◌, ◌++◌, map, length, take, get_or, refl, ap₂, sym, ◌∙◌, subst}
+use Rattle.std.proofs.Common.{◌≡◌, ℕ, ◌+◌, ◌<◌, inl, inr, List, [], ◌∷◌, ◌++◌, map, length, take, get_or, refl, ap₂, sym, ◌∙◌, subst}
 use Rattle.psg_terms.specs.Terms.{Term, variable}
 use Rattle.psg_terms.specs.Instances.{substitute, IsInstance}
-use Rattle.psg_terms.specs.Relations.{IsIn, first, later}
+use Rattle.psg_terms.specs.Relations.{IsIn}
 use Rattle.psg_terms.proofs.InstanceLaws.{instance_trans, substitute-variable}
-use Rattle.psg_relation.specs.Sifted.{IsOnce, IsCovered, IsSifted, LeavesOut, IsGrown}
+use Rattle.psg_relation.specs.Sifted.{IsCovered, IsSifted, LeavesOut, IsGrown}
 use Rattle.psg_terms.proofs.DeclareLaws.{take-next}
+use Rattle.psg_relation.proofs.Ordered.{order_push, order_skip}
 use Rattle.psg_relation.proofs.Members.{in-left, in-last, in-split, in-next, once-push, once-split}
 
 map-substitute-variable : (row : List Term) → map (substitute variable) row ≡ row
@@ -17,7 +18,7 @@ pub instance-refl : (row : List Term) → IsInstance row row
 instance-refl row = (variable, sym (map-substitute-variable row))
 
 pub out_none : (row : List Term) → LeavesOut row [] []
-out_none row = record { among = λ k h. h; none = λ k h. elim h [ ]; stays = λ k h. elim h [ ]; once = λ o. o }
+out_none row = record { among = λ k h. h; none = λ k h. elim h [ ]; stays = λ k h. elim h [ ]; order = λ test o. o; once = λ o. o }
 
 pub out_keep : (row : List Term) (done rest : List (List Term)) (k : List Term) → LeavesOut row done rest → (IsInstance k row → ⊥) → LeavesOut row (done ++ k ∷ []) (rest ++ k ∷ [])
 out_keep row done rest k l nope = record {
@@ -27,6 +28,7 @@ out_keep row done rest k l nope = record {
     | inl a ↦ elim (l.stays x a) [ inl i ↦ inl i | inr b ↦ inr (in-left x rest (k ∷ []) b) ]
     | inr e ↦ inr (subst (λ z. IsIn z (rest ++ k ∷ [])) (sym e) (in-last k rest))
   ];
+  order = order_push done rest k l.among l.order;
   once = λ o. let both = once-split done k o in once-push rest k (l.once both.0) (λ h. both.1 (l.among k h));
 }
 
@@ -35,6 +37,7 @@ out_drop row done rest k l i = record {
   among = λ x h. in-left x done (k ∷ []) (l.among x h);
   none = l.none;
   stays = λ x h. elim (in-split x k done h) [ inl a ↦ l.stays x a | inr e ↦ inl (subst (λ z. IsInstance z row) (sym e) i) ];
+  order = order_skip done rest k l.order;
   once = λ o. l.once (once-split done k o).0;
 }
 

@@ -2,7 +2,8 @@ pub mod Members
 pub mod Growing
 pub mod Weights
 pub mod Relating
-pub mod Rising
+pub mod Ordered
 pub mod Splitting
 pub mod Making
 pub mod Columns
+pub mod Meeting

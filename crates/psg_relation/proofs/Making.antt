@@ -5,10 +5,9 @@ use Rattle.psg_terms.specs.Terms.{Term}
 use Rattle.psg_terms.specs.Signature.{Signature, HaveSorts}
 use Rattle.psg_terms.specs.Instances.{HasSameInstances}
 use Rattle.psg_terms.specs.Canonical.{IsCanonical}
-use Rattle.psg_terms.specs.Relations.{IsIn, first, later, IsRelation}
-use Rattle.psg_terms.specs.Weight.{PassesLimit}
+use Rattle.psg_terms.specs.Relations.{IsRelation}
 use Rattle.psg_terms.proofs.DeclareLaws.{take-next}
-use Rattle.psg_relation.specs.Choices.{AllHaveSorts, IsOfRow, MayBeWide}
+use Rattle.psg_relation.specs.Choices.{IsOfRow, MayBeWide}
 use Rattle.psg_relation.specs.Sealed.{AreCanonicalOf}
 use Rattle.psg_relation.specs.declared.relation.RelFault.{RelFault}
 use Rattle.psg_relation.specs.declared.relation.RelFault.TheVariants.{Wide, Memory}
@@ -68,6 +67,6 @@ pub ok_map : {X E : Type 0} (r : Result X E) (A B : X → Type 0) → ((x : X) �
 ok_map (Ok x) A B f h = f x h
 ok_map (Err e) A B f h = h
 
-pub ok_same : {X E : Type 0} (r : Result X E) (kept : X) (A B : X → Type 0) → (A kept → B kept) → IfOk r (λ x. x ≡ kept) → IfOk r A → IfOk r B
-ok_same (Ok x) kept A B f e h = subst B (sym e) (f (subst A e h))
-ok_same (Err d) kept A B f e h = h
+pub ok_is : {X E : Type 0} (r : Result X E) (kept : X) (B : X → Type 0) → B kept → IfOk r (λ x. x ≡ kept) → IfOk r B
+ok_is (Ok x) kept B b e = subst B (sym e) b
+ok_is (Err d) kept B b e = e

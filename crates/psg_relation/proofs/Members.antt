@@ -1,5 +1,5 @@
 -- Members of lists.
-use Rattle.std.proofs.Common.{◌≡◌, ℕ, ◌+◌, ◌<◌, ◌⊎◌, inl, inr, zero, suc, List, [], ◌∷◌, ◌++◌, take, get_or, length, refl, ap, sym, ◌∙◌, subst, arith}
+use Rattle.std.proofs.Common.{◌≡◌, ℕ, ◌+◌, ◌<◌, ◌⊎◌, inl, inr, zero, suc, List, [], ◌∷◌, ◌++◌, map, take, get_or, length, refl, ap, sym, subst, arith}
 use Rattle.std.specs.List.{Contains}
 use Rattle.psg_terms.specs.Relations.{IsIn, first, later}
 use Rattle.psg_terms.proofs.DeclareLaws.{take-next}
@@ -80,3 +80,13 @@ pub at-any : {X : Type 0} (xs : List X) (i : ℕ) (d e : X) → i < length xs �
 at-any [] i d e l = absurd (omega arith)
 at-any (x ∷ xs) zero d e l = refl
 at-any (x ∷ xs) (suc i) d e l = at-any xs i d e (omega arith)
+
+pub in-map : {X Y : Type 0} (f : X → Y) (x : X) (xs : List X) → IsIn x xs → IsIn (f x) (map f xs)
+in-map f x [] h = elim h [ ]
+in-map f x (y ∷ xs) first = first
+in-map f x (y ∷ xs) (later h) = later (in-map f x xs h)
+
+pub map-in : {X Y : Type 0} (f : X → Y) (y : Y) (xs : List X) → IsIn y (map f xs) → (x : X) × IsIn x xs × (y ≡ f x)
+map-in f y [] h = elim h [ ]
+map-in f y (x ∷ xs) first = (x, first, refl)
+map-in f y (x ∷ xs) (later h) = let (z, i, e) = map-in f y xs h in (z, later i, e)

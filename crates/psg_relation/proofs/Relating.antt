@@ -1,16 +1,16 @@
 -- The kept rows are the relation of all rows, and what is told where the limit is passed.
-use Rattle.std.proofs.Common.{◌≡◌, ℕ, ◌+◌, ◌<◌, ◌↔◌, ◌⊎◌, inl, inr, List, [], ◌∷◌, map, refl, ap, ap₂, sym, ◌∙◌, subst, Option, Some, None}
+use Rattle.std.proofs.Common.{◌≡◌, ℕ, ◌+◌, ◌<◌, ◌↔◌, ◌⊎◌, inl, inr, List, [], ◌∷◌, map, refl, ap₂, sym, ◌∙◌, subst, Some, None}
 use Rattle.std.specs.Prelude.{sum_by}
 use Rattle.std.proofs.lemmas.List.Sums.{sum_by-cons}
 use Rattle.psg_terms.specs.Terms.{Term, variable, symbol, apply}
 use Rattle.psg_terms.specs.Signature.{Signature, HaveSorts, only_constructor}
 use Rattle.psg_terms.specs.Sound.{IsSound}
-use Rattle.psg_terms.specs.Instances.{Substitution, substitute, IsInstance, IsGrounding, IsGroundInstance, AllGroundInstancesIn}
+use Rattle.psg_terms.specs.Instances.{Substitution, substitute, AllGroundInstancesIn}
 use Rattle.psg_terms.specs.Canonical.{Variable, IsCanonical, AreWrittenOut, noted_all, variables_of}
 use Rattle.psg_terms.specs.Renaming.{opens, numbering, written, place, Renumbered}
-use Rattle.psg_terms.specs.Relations.{IsIn, first, later, IsShape, IsRelation}
+use Rattle.psg_terms.specs.Relations.{IsIn, IsRelation}
 use Rattle.psg_terms.specs.Text.{IsInTextOrder}
-use Rattle.psg_terms.specs.Weight.{symbols_of, depth_of, weight_of, PassesLimit}
+use Rattle.psg_terms.specs.Weight.{symbols_of, depth_of, PassesLimit}
 use Rattle.psg_terms.proofs.CanonicalLaws.{same_ground-equal}
 use Rattle.psg_terms.proofs.Exact.{instance_exact}
 use Rattle.psg_terms.proofs.Renumbering.{renumbered_canonical, renumbered_same}

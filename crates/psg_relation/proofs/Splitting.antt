@@ -1,12 +1,12 @@
 -- Steps of splitting and ordering rows, and what the most general ones are then.
-use Rattle.std.proofs.Common.{◌≡◌, ℕ, ◌+◌, ◌<◌, ◌⊎◌, inl, inr, true, false, List, [], ◌∷◌, ◌++◌, map, length, take, get_or, refl, ap, sym, ◌∙◌, subst}
+use Rattle.std.proofs.Common.{◌≡◌, ℕ, ◌+◌, ◌<◌, inl, inr, true, false, List, [], ◌∷◌, ◌++◌, length, take, get_or, sym, subst}
 use Rattle.std.specs.List.Sorted.{IsPermutation}
 use Rattle.std.proofs.lemmas.List.Sorted.{IsPermutation-sym, Contains-permutation}
 use Rattle.psg_terms.specs.Terms.{Term}
-use Rattle.psg_terms.specs.Relations.{IsIn, first, later}
+use Rattle.psg_terms.specs.Relations.{IsIn}
 use Rattle.psg_terms.proofs.DeclareLaws.{take-next}
 use Rattle.psg_relation.specs.Heavy.{IsHeavy}
-use Rattle.psg_relation.specs.Sifted.{IsCovered, AreCovered, IsSifted, IsSplit, HasSameRows, IsLightly, LosesHeavy}
+use Rattle.psg_relation.specs.Sifted.{AreCovered, IsSifted, IsSplit, HasSameRows, IsLightly, LosesHeavy}
 use Rattle.psg_relation.proofs.Members.{in-left, in-last, in-split, in-contains, contains-in}
 
 push-in : (x row : List Term) (done more : List (List Term)) → (IsIn x done → IsIn x more) → IsIn x (done ++ row ∷ []) → IsIn x (more ++ row ∷ [])

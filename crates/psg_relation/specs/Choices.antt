@@ -4,7 +4,6 @@ use Rattle.psg_terms.specs.Terms.{Term}
 use Rattle.psg_terms.specs.Signature.{Signature, HaveSorts}
 use Rattle.psg_terms.specs.Instances.{IsGroundInstance}
 use Rattle.psg_terms.specs.Relations.{IsIn}
-use Rattle.psg_terms.specs.Weight.{PassesLimit}
 use Rattle.psg_unify.specs.Pairs.{Pair as Columns, AgreeOn}
 use Rattle.psg_relation.specs.declared.relation.RelFault.{RelFault}
 use Rattle.psg_relation.specs.declared.relation.RelFault.TheVariants.{Wide, Memory}

@@ -4,6 +4,7 @@ use Rattle.psg_terms.specs.Terms.{Term}
 use Rattle.psg_terms.specs.Instances.{IsInstance}
 use Rattle.psg_terms.specs.Relations.{IsIn}
 use Rattle.psg_relation.specs.Heavy.{IsHeavy}
+use Rattle.psg_relation.specs.Ordered.{KeepsOrder}
 
 -- no member stands twice
 abbrev pub IsOnce : {X : Type 0} → List X → Type 0
@@ -26,6 +27,7 @@ pub record LeavesOut (row : List Term) (kept rest : List (List Term)) : Type 0 w
   pub among : (k : List Term) → IsIn k rest → IsIn k kept
   pub none : (k : List Term) → IsIn k rest → IsInstance k row → ⊥
   pub stays : (k : List Term) → IsIn k kept → IsInstance k row ⊎ IsIn k rest
+  pub order : KeepsOrder kept rest
   pub once : IsOnce kept → IsOnce rest
 
 -- one row more: the list, if the row is an instance of a member, and otherwise the row behind those that are not its

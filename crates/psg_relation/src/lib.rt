@@ -15,6 +15,7 @@
 //! - A `Rel` has at most 16,384 variables and constructors, and no term in it is deeper than 1,000.
 #![tactic(auto)]
 
+pub mod joining;
 mod maximal;
 mod order;
 pub mod projection;
@@ -23,6 +24,7 @@ pub mod row;
 mod sifting;
 mod weighing;
 
+pub use joining::join;
 pub use projection::project;
 pub use relation::{Rel, RelFault};
 pub use row::RelRow;

@@ -1,5 +1,6 @@
 //! The most general rows of a list.
 ghost use Rattle.std.specs.Prelude.{◌↔◌, IfOk, IsTrue};
+ghost use Rattle.psg_relation.specs.Ordered.{KeepsOrder};
 ghost use Rattle.psg_relation.specs.Sifted.{IsCovered, IsSifted, LeavesOut, IsGrown, AreCovered};
 
 use crate::row::RelRow;
@@ -51,7 +52,8 @@ fn with_row(alloc: Global, kept: Vec<RelRow>, row: &RelRow) -> Result<Vec<RelRow
 /// The most general rows, each once, in their order. It compares each row with those that are kept so far, twice at
 /// most.
 pub fn maximal(alloc: Global, rows: &[RelRow]) -> Result<Vec<RelRow>, AllocError>
-    ensures { IfOk result (λ kept. IsSifted rows.now kept.items) }
+    ensures sifted { IfOk result (λ kept. IsSifted rows.now kept.items) }
+    ensures order { IfOk result (λ kept. KeepsOrder rows.now kept.items) }
 {
     let mut kept = Vec::new(alloc);
     for row in rows {

@@ -1,9 +1,9 @@
 //! The order of rows by their texts.
-ghost use Rattle.std.specs.Prelude.{◌≡◌, IfOk, IsTrue, List, ℕ, map};
+ghost use Rattle.std.specs.Prelude.{◌≡◌, IfOk, List, ℕ};
 ghost use Rattle.std.specs.List.Sorted.{IsPermutation};
-ghost use Rattle.psg_terms.specs.Text.{IsInTextOrder};
 ghost use Rattle.psg_relation.specs.Choices.{AllHaveSorts};
-ghost use Rattle.psg_relation.specs.Texts.{rows_in};
+ghost use Rattle.psg_relation.specs.Ordered.{IsOrdered, is_not_above};
+ghost use Rattle.psg_relation.specs.Texts.{rows_in, AreTexts};
 
 use crate::row::RelRow;
 use psg_terms::{Signature, row_text};
@@ -19,7 +19,8 @@ pub struct Printed {
 /// The rows with their texts.
 fn with_texts(alloc: Global, sig: &Signature, rows: &[RelRow]) -> Result<Vec<Printed>, AllocError>
     requires { (sorts : List ℕ) × AllHaveSorts sig.now rows.now sorts }
-    ensures { IfOk result (λ p. rows_in p.items ≡ rows.now) }
+    ensures rows { IfOk result (λ p. rows_in p.items ≡ rows.now) }
+    ensures texts { IfOk result (λ p. AreTexts sig.now p.items) }
 {
     let mut printed = Vec::with_capacity(alloc, rows.len())?;
     for row in rows {
@@ -44,25 +45,11 @@ fn without_texts(alloc: Global, printed: &[Printed]) -> Result<Vec<RelRow>, Allo
 /// The rows in byte order of their texts, each of which is written once.
 pub fn in_order(alloc: Global, sig: &Signature, rows: &[RelRow]) -> Result<Vec<RelRow>, AllocError>
     requires { (sorts : List ℕ) × AllHaveSorts sig.now rows.now sorts }
-    ensures { IfOk result (λ sorted. IsPermutation rows.now sorted.items) }
+    ensures same { IfOk result (λ sorted. IsPermutation rows.now sorted.items) }
+    ensures order { IfOk result (λ sorted. IsOrdered (is_not_above sig.now) sorted.items) }
 {
     let mut printed = with_texts(alloc, sig, rows)?;
     printed.sort_by(|a, b| a.text.as_str().cmp(b.text.as_str()))?;
     let sorted = without_texts(alloc, printed.as_slice())?;
     Ok(sorted)
-}
-
-/// Whether the text of each row is below the next one's. It writes the texts.
-pub fn are_in_order(alloc: Global, sig: &Signature, rows: &[RelRow]) -> Result<bool, AllocError>
-    requires { (sorts : List ℕ) × AllHaveSorts sig.now rows.now sorts }
-    ensures { IfOk result (λ b. IsTrue b → IsInTextOrder sig.now rows.now) }
-{
-    for i in 1..rows.len() {
-        let before = row_text(alloc, sig, rows[i - 1].terms())?;
-        let behind = row_text(alloc, sig, rows[i].terms())?;
-        if !before.as_str().cmp(behind.as_str()).is_lt() {
-            return Ok(false);
-        }
-    }
-    Ok(true)
 }

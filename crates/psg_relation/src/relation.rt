@@ -11,7 +11,6 @@ ghost use Rattle.psg_terms.specs.Weight.{PassesLimit};
 ghost use Rattle.psg_relation.specs.Choices.{AllHaveSorts, IsOfRow, MayBeWide};
 ghost use Rattle.psg_relation.specs.Sealed.{AllReady, AreCanonicalOf};
 
-use crate::order::are_in_order;
 use crate::row::RelRow;
 use crate::sifting::sift;
 use crate::weighing::{MOST_DEPTH, MOST_SYMBOLS, deepest_of, weight_of};
@@ -152,19 +151,19 @@ pub fn relation_of(alloc: Global, sig: &Signature, rows: &[RelRow]) -> Result<Re
 {
     sig.sound();
     match sift(alloc, sig, rows)? {
-        Some(kept) => sealed(alloc, sig, kept),
+        Some(kept) => sealed(sig, kept),
         None => Err(RelFault::Wide),
     }
 }
 
 /// The relation of the most general rows, unless they are too large together.
-fn sealed(alloc: Global, sig: &Signature, kept: Vec<RelRow>) -> Result<Rel, RelFault>
+fn sealed(sig: &Signature, kept: Vec<RelRow>) -> Result<Rel, RelFault>
     requires sound { IsSound sig.now }
     requires sorted { (sorts : List ℕ) × AllHaveSorts sig.now kept.items sorts }
     requires canonical { (row : List Plain) → IsIn row kept.items → IsCanonical sig.now row }
     requires apart { (row other : List Plain) → IsIn row kept.items → IsIn other kept.items → IsInstance row other → row ≡ other }
+    requires order { IsInTextOrder sig.now kept.items }
     ensures rows { IfOk result (λ rel. rel ≡ kept.items) }
-    ensures order { IfOk result (λ rel. IsInTextOrder sig.now rel) }
     ensures within { IfOk result (λ rel. PassesLimit rel → ⊥) }
     ensures wide { IfErr result (MayBeWide (PassesLimit kept.items)) }
 {
@@ -172,9 +171,6 @@ fn sealed(alloc: Global, sig: &Signature, kept: Vec<RelRow>) -> Result<Rel, RelF
     let deepest = deepest_of(kept.as_slice());
     if weight > MOST_SYMBOLS || deepest > MOST_DEPTH {
         return Err(RelFault::Wide);
-    }
-    if !are_in_order(alloc, sig, kept.as_slice())? {
-        return Err(RelFault::Memory);
     }
     Ok(Rel {
         kept: Seq::of(kept),

@@ -1,6 +1,8 @@
 //! The most general rows of a list in which some are too large to be written out.
-ghost use Rattle.std.specs.Prelude.{◌<◌, IfOk, IsTrue, MatchOption, List, ℕ, length};
+ghost use Rattle.std.specs.Prelude.{◌<◌, IfOk, IfSome, IsTrue, MatchOption, List, ℕ, length};
+ghost use Rattle.psg_terms.specs.Text.{IsInTextOrder};
 ghost use Rattle.psg_relation.specs.Choices.{AllHaveSorts};
+ghost use Rattle.psg_relation.specs.Ordered.{KeepsOrder};
 ghost use Rattle.psg_relation.specs.Sifted.{IsSifted, IsSplit, LosesHeavy, HasSameRows, IsLightly, RepeatsAt};
 
 use crate::maximal::{are_covered, maximal};
@@ -44,7 +46,8 @@ fn repeats(rows: &[RelRow], place: usize) -> bool
 
 /// The rows without those that repeat the one before.
 fn without_repeats(alloc: Global, rows: &[RelRow]) -> Result<Vec<RelRow>, AllocError>
-    ensures { IfOk result (λ r. HasSameRows rows.now r.items) }
+    ensures same { IfOk result (λ r. HasSameRows rows.now r.items) }
+    ensures order { IfOk result (λ r. KeepsOrder rows.now r.items) }
 {
     let mut once = Vec::new(alloc);
     for i in 0..rows.len() {
@@ -63,7 +66,8 @@ pub fn sift(
     rows: &[RelRow],
 ) -> Result<Option<Vec<RelRow>>, AllocError>
     requires { (sorts : List ℕ) × AllHaveSorts sig.now rows.now sorts }
-    ensures { IfOk result (λ o. MatchOption o (LosesHeavy rows.now) (λ kept. IsLightly rows.now kept.items)) }
+    ensures rows { IfOk result (λ o. MatchOption o (LosesHeavy rows.now) (λ kept. IsLightly rows.now kept.items)) }
+    ensures order { IfOk result (λ o. IfSome o (λ kept. IsInTextOrder sig.now kept.items)) }
 {
     let split = by_size(alloc, rows)?;
     let sorted = in_order(alloc, sig, split.light.as_slice())?;

@@ -1,5 +1,4 @@
-use Rattle.std.proofs.Common.{List, take}
-use Rattle.psg_terms.specs.Terms.{Term}
+use Rattle.std.proofs.Common.{take}
 use Rattle.psg_relation.specs.Sifted.{IsCovered}
 use Rattle.psg_relation.proofs.maximal.is_covered.Given as goal
 

@@ -1,4 +1,4 @@
-use Rattle.std.proofs.Common.{List, take}
+use Rattle.std.proofs.Common.{take}
 use Rattle.psg_relation.specs.Sifted.{LeavesOut}
 use Rattle.psg_relation.proofs.maximal.without_instances.Given as goal
 

@@ -1,4 +1,4 @@
-use Rattle.std.proofs.Common.{◌≡◌, ◌∙◌, ℕ, List, ap₂, sym, subst}
+use Rattle.std.proofs.Common.{◌≡◌, ℕ, List, sym, subst}
 use Rattle.psg_terms.specs.Terms.{Term}
 use Rattle.psg_terms.specs.Relations.{IsRelation}
 use Rattle.psg_terms.specs.Weight.{PassesLimit}

@@ -6,26 +6,27 @@ use Rattle.psg_terms.specs.Weight.{PassesLimit}
 use Rattle.psg_relation.specs.Choices.{AllHaveSorts, IsOfRow}
 use Rattle.psg_relation.specs.Sifted.{IsLightly, LosesHeavy}
 use Rattle.psg_relation.proofs.Relating.{lightly_relation, lightly_wide, lost_wide}
-use Rattle.psg_relation.proofs.Making.{err_map, ok_same}
+use Rattle.psg_relation.proofs.Making.{err_map, ok_is}
 use Rattle.psg_relation.proofs.relation.relation_of.Goals as goal
 
 pub returns-in-Some-clause-relation : goal.returns-in-Some-clause-relation
 returns-in-Some-clause-relation c =
     let sig = c.args.sig.now in
     let rows = c.args.rows.now in
-    let l : IsLightly rows c.in-Some.kept.items = rw c.in-Some.is at c.in_ok-kept.ensures in
-    ok_same c.sealed.result c.in-Some.kept.items (IsInTextOrder sig) (λ rel. (sorts : List ℕ) → AllHaveSorts sig rows sorts → IsRelation sig sorts (IsOfRow sig rows) rel)
-    (lightly_relation sig c.sound.ensures rows c.requires.ready c.in-Some.kept.items l) c.sealed.ensures.rows c.sealed.ensures.order
+    let l : IsLightly rows c.in-Some.kept.items = rw c.in-Some.is at c.in_ok-kept.ensures.rows in
+    let order : IsInTextOrder sig c.in-Some.kept.items = rw c.in-Some.is at c.in_ok-kept.ensures.order in
+    ok_is c.sealed.result c.in-Some.kept.items (λ rel. (sorts : List ℕ) → AllHaveSorts sig rows sorts → IsRelation sig sorts (IsOfRow sig rows) rel)
+    (lightly_relation sig c.sound.ensures rows c.requires.ready c.in-Some.kept.items l order) c.sealed.ensures.rows
 
 pub returns-in-Some-clause-wide : goal.returns-in-Some-clause-wide
 returns-in-Some-clause-wide c =
     let sig = c.args.sig.now in
     let rows = c.args.rows.now in
-    let l : IsLightly rows c.in-Some.kept.items = rw c.in-Some.is at c.in_ok-kept.ensures in
+    let l : IsLightly rows c.in-Some.kept.items = rw c.in-Some.is at c.in_ok-kept.ensures.rows in
     err_map c.sealed.result (PassesLimit c.in-Some.kept.items) ((sorts : List ℕ) → AllHaveSorts sig rows sorts → (others : List (List Term)) → IsRelation sig sorts (IsOfRow sig rows) others → PassesLimit others)
     (lightly_wide sig c.sound.ensures rows c.requires.ready c.in-Some.kept.items l) c.sealed.ensures.wide
 
 pub returns-in-None-clause-wide : goal.returns-in-None-clause-wide
 returns-in-None-clause-wide c =
-    let h : LosesHeavy c.args.rows.now = rw c.in-None.is at c.in_ok-kept.ensures in
+    let h : LosesHeavy c.args.rows.now = rw c.in-None.is at c.in_ok-kept.ensures.rows in
     lost_wide c.args.sig.now c.sound.ensures c.args.rows.now c.requires.ready h

@@ -1,4 +1,4 @@
-use Rattle.std.proofs.Common.{◌≡◌, ◌∙◌, ap, min, inl, inr, sym, subst}
+use Rattle.std.proofs.Common.{◌∙◌, ap, min, inl, inr, subst}
 use Rattle.psg_terms.specs.Weight.{weight_of, PassesLimit}
 use Rattle.psg_relation.specs.Heavy.{deepest_of}
 use Rattle.psg_relation.proofs.Weights.{passes_by, within_by}
