@@ -5,7 +5,7 @@ use Rattle.std.proofs.lemmas.Option.{slice_get-map}
 use Rattle.psg_terms.specs.Terms.{Term}
 use Rattle.psg_terms.specs.Signature.{Signature, HaveSorts}
 use Rattle.psg_terms.specs.Instances.{Substitution, substitute, IsGroundInstance}
-use Rattle.psg_terms.specs.Relations.{IsIn, first, later, IsRelation}
+use Rattle.psg_terms.specs.Relations.{IsRelation}
 use Rattle.psg_relation.specs.Choices.{AllHaveSorts, IsOfRow, pick, picked, IsProjected, all_picked}
 use Rattle.psg_terms.proofs.DeclareLaws.{take-next}
 use Rattle.psg_relation.proofs.Members.{in-map, map-in}

@@ -1,12 +1,14 @@
 -- Joins of all pairs of rows.
-use Rattle.std.proofs.Common.{◌≡◌, ℕ, ◌+◌, ◌<◌, ◌↔◌, ◌⊎◌, inl, inr, List, [], ◌∷◌, ◌++◌, All, append_assoc, length, length-append, take, get_or, refl, ap, ap₂, sym, ◌∙◌, subst, Option, Some, None, slice_get, zero, suc, arith}
+use Rattle.std.proofs.Common.{◌≡◌, ℕ, ◌+◌, ◌<◌, ◌≤◌, ◌↔◌, ◌⊎◌, inl, inr, List, [], ◌∷◌, ◌++◌, All, append_assoc, length, length-append, take, get_or, refl, ap, sym, ◌∙◌, subst, slice_get, zero, suc, arith}
 use Rattle.psg_terms.specs.Terms.{Term}
 use Rattle.psg_terms.specs.Signature.{Signature, HaveSorts}
 use Rattle.psg_terms.specs.Instances.{IsGroundInstance, HasSameInstances}
 use Rattle.psg_terms.specs.Canonical.{AreWrittenOut}
+use Rattle.psg_terms.specs.Kept.{numbers_of}
+use Rattle.psg_terms.specs.declared.sorts.SortId.{SortId}
 use Rattle.psg_terms.specs.Relations.{IsIn, first, later, Pair, IsGlued, IsRelation}
 use Rattle.psg_terms.proofs.DeclareLaws.{take-next}
-use Rattle.psg_unify.specs.Pairs.{Pair as Columns, IsAgreeing, AreJoinable}
+use Rattle.psg_unify.specs.Pairs.{Pair as Columns, IsAgreeing}
 use Rattle.psg_relation.specs.Choices.{AllHaveSorts, IsOfRow, Agrees, pick, picked}
 use Rattle.psg_relation.specs.Sealed.{IsReady, AllReady}
 use Rattle.psg_relation.specs.Joining.{Joins, IsJoinOf, IsMore, Two, with_each, all_pairs, AreJoined, MayJoin, MayMeet}
@@ -170,5 +172,17 @@ within_joined sig left right joined ls rs keep hl hr hj h = λ k d l.
     let b = sorts-many sig right rs hr in
     let c = sorts-many sig joined (ls ++ rs) hj in
     let e = length-append ls rs in
+    let m = h k d l in
+    omega arith
+
+pub numbers-many : (xs : List SortId) → length (numbers_of xs) ≡ length xs
+numbers-many [] = refl
+numbers-many (x ∷ xs) = omega (arith, numbers-many xs)
+
+-- columns among as many as two rows have sorts
+pub within_sorts : (sig : Signature) (one other : List Term) (ls rs keep : List ℕ) (count : ℕ) → HaveSorts sig one ls → HaveSorts sig other rs → count ≤ length ls + length rs → All (λ (k : ℕ). k < count) keep → All (λ (k : ℕ). k < length one + length other) keep
+within_sorts sig one other ls rs keep count hl hr c h = λ k d l.
+    let a = sorts-many sig one ls hl in
+    let b = sorts-many sig other rs hr in
     let m = h k d l in
     omega arith

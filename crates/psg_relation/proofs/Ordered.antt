@@ -1,9 +1,8 @@
 -- Orders of lists with one element more, and the order that a sort gives.
-use Rattle.std.proofs.Common.{◌≡◌, ℕ, ◌+◌, ◌<◌, ◌≤◌, Bool, false, inl, inr, List, [], ◌∷◌, ◌++◌, IsTrue, get_or, length, map, take, zero, suc, refl, ap, ap₂, sym, ◌∙◌, subst, nat_cmp, is_lt, arith}
+use Rattle.std.proofs.Common.{◌≡◌, ℕ, ◌+◌, ◌<◌, ◌≤◌, Bool, false, inl, inr, List, [], ◌∷◌, ◌++◌, IsTrue, get_or, length, take, suc, refl, ap, ap₂, sym, ◌∙◌, subst, nat_cmp, is_lt, arith}
 use Rattle.std.specs.Prelude.{string_bytes}
 use Rattle.std.specs.Ordering.{is_le, ordering_reverse}
 use Rattle.std.specs.Cmp.Lexicographic.{slice_cmp, nat_list_cmp_total}
-use Rattle.std.specs.List.{Contains}
 use Rattle.std.specs.List.Sorted.{IsPermutation, IsSortedBy, IsSortedByClosure}
 use denote.Ref.{Bor}
 use denote.Param.Members.{Mut}
@@ -21,7 +20,7 @@ use Rattle.psg_terms.specs.Relations.{IsIn, first, later}
 use Rattle.psg_terms.specs.Text.{row_text, IsInTextOrder}
 use Rattle.psg_terms.proofs.DeclareLaws.{take-next}
 use Rattle.psg_relation.specs.Ordered.{IsOrdered, KeepsOrder, is_not_above}
-use Rattle.psg_relation.specs.Sifted.{HasSameRows, LeavesOut, IsSifted, IsGrown}
+use Rattle.psg_relation.specs.Sifted.{IsSifted, IsGrown}
 use Rattle.psg_relation.specs.Texts.{AreTexts, rows_in}
 use Rattle.psg_relation.specs.declared.order.Printed.{Printed}
 use Rattle.psg_relation.proofs.Members.{in-left, in-last, in-split, in-contains, contains-in, map-in}

@@ -125,11 +125,11 @@ pub fn join(
     requires { MayJoin sig.now left.now right.now pairs.now keep.now }
     ensures relation { IfOk result (λ made. (ls rs : List ℕ) → AllHaveSorts sig.now left.now ls → AllHaveSorts sig.now right.now rs
         → IsRelation sig.now (picked (ls ++ rs) keep.now)
-            (IsGlued sig.now (Agrees pairs.now keep.now) left.now right.now) made) }
+        (IsGlued sig.now (Agrees pairs.now keep.now) left.now right.now) made) }
     ensures within { IfOk result (λ made. PassesLimit made → ⊥) }
     ensures wide { IfErr result (MayBeWide ((ls rs : List ℕ) → AllHaveSorts sig.now left.now ls → AllHaveSorts sig.now right.now rs
         → (others : List (List Plain)) → IsRelation sig.now (picked (ls ++ rs) keep.now)
-            (IsGlued sig.now (Agrees pairs.now keep.now) left.now right.now) others
+        (IsGlued sig.now (Agrees pairs.now keep.now) left.now right.now) others
         → PassesLimit others)) }
 {
     let lefts = left.rows();

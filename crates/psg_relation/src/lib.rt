@@ -8,7 +8,7 @@
 //! ```
 //!
 //! A row stands for its ground instances. A relation has no row that is an instance of another one, so it is the shortest
-//! list of rows that stands for them all, and its order is that of the rows' texts, so it is the only one.
+//! list of rows that stands for them all. Its order is that of the rows' texts.
 //!
 //! What always holds:
 //! - The rows of a `Rel` are canonical, none is an instance of another one, and they stand in byte order of their texts.

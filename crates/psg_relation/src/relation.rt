@@ -73,8 +73,7 @@ impl Rel {
     ///
     /// `Wide` comes exactly where this relation has more than 16,384 variables and constructors or a term deeper than
     /// 1,000; a row that alone is too large does not count where it is an instance of another one. `Memory` comes when
-    /// memory runs out, and where two different rows have one text, which takes constructors with brackets, commas or
-    /// spaces in their names.
+    /// memory runs out.
     ///
     /// It writes each row out once, writes the text of each row that is not too large once to sort by it, and then
     /// compares each row with the most general ones so far.

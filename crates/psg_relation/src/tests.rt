@@ -5,6 +5,8 @@ ghost use Rattle.psg_terms.specs.Declarations.{constructor_names};
 ghost use Rattle.psg_terms.specs.Kept.{numbers_of};
 ghost use Rattle.psg_relation.specs.Choices.{AllHaveSorts, AllWithin};
 
+mod joins;
+
 use crate::{Rel, RelFault, RelRow, project};
 use psg_terms::{
     ConDecl, ConId, Seq, SigFault, Signature, SortDecl, SortId, Term, Txt, have_sorts, row_text,
@@ -13,7 +15,7 @@ use std::alloc::{AllocError, Global};
 
 const UNIT: SortId = SortId(0);
 
-const TYPE: SortId = SortId(1);
+pub const TYPE: SortId = SortId(1);
 
 const PAIR: ConId = ConId(5);
 
@@ -52,7 +54,7 @@ fn made(alloc: Global, sorts: Vec<SortDecl>) -> Result<Signature, SigFault> {
 }
 
 /// Unit = ok, Type = int bool arr(Type) var(Type) pair(Type, Type).
-fn types(alloc: Global) -> Result<Signature, SigFault> {
+pub fn types(alloc: Global) -> Result<Signature, SigFault> {
     let unit = SortDecl {
         name: Txt::copy_of(alloc, "Unit")?,
         constructors: Seq::of(vec![in alloc; constructor(alloc, "ok", 0)?]?),
@@ -85,7 +87,7 @@ fn constructor_of(word: &str) -> Option<(ConId, usize)> {
 
 /// The row of words with each constructor before its arguments, as `pair int ?1`. The word `?1` is a variable of `Type`,
 /// and `!` is one of `Unit`.
-fn row_of(alloc: Global, text: &str) -> Result<Vec<Term>, AllocError> {
+pub fn row_of(alloc: Global, text: &str) -> Result<Vec<Term>, AllocError> {
     let mut words = Vec::new(alloc);
     for word in text.split_whitespace() {
         words.push(word)?;
@@ -112,7 +114,7 @@ fn row_of(alloc: Global, text: &str) -> Result<Vec<Term>, AllocError> {
 }
 
 /// Whether each row has these sorts.
-fn all_sorted(sig: &Signature, rows: &[RelRow], sorts: &[SortId]) -> bool
+pub fn all_sorted(sig: &Signature, rows: &[RelRow], sorts: &[SortId]) -> bool
     ensures { IsTrue result → AllHaveSorts sig.now rows.now (numbers_of sorts.now) }
 {
     for row in rows {
@@ -124,7 +126,7 @@ fn all_sorted(sig: &Signature, rows: &[RelRow], sorts: &[SortId]) -> bool
 }
 
 /// The texts of the rows, each with a bar behind it.
-fn shown(
+pub fn shown(
     alloc: Global,
     sig: &Signature,
     rows: &[RelRow],
@@ -142,7 +144,7 @@ fn shown(
 }
 
 /// The relation of rows of these sorts.
-fn checked(
+pub fn checked(
     alloc: Global,
     sig: &Signature,
     rows: &[RelRow],
@@ -203,7 +205,7 @@ fn most_general_rows(rt: HostRuntime) -> Result<(), SigFault> {
 }
 
 /// The constant `int` in each of so many columns.
-fn wide_row(alloc: Global, width: usize) -> Result<RelRow, AllocError> {
+pub fn wide_row(alloc: Global, width: usize) -> Result<RelRow, AllocError> {
     let int = Term::apply(alloc, ConId(1), Vec::new(alloc))?;
     let mut terms = Vec::new(alloc);
     for _ in 0..width {
@@ -229,7 +231,7 @@ fn limit(rt: HostRuntime) -> Result<(), SigFault> {
 }
 
 /// Pairs of pairs of `int`, which have 2^(n + 1) - 1 symbols.
-fn doubled(alloc: Global, n: usize) -> Result<RelRow, AllocError> {
+pub fn doubled(alloc: Global, n: usize) -> Result<RelRow, AllocError> {
     let mut term = Term::apply(alloc, ConId(1), Vec::new(alloc))?;
     for _ in 0..n {
         let args = vec![in alloc; term.share()?, term.share()?]?;
@@ -309,19 +311,19 @@ fn all_within(rows: &[RelRow], keep: &[usize]) -> bool
     ensures { IsTrue result → AllWithin rows.now keep.now }
 {
     for row in rows {
-        if !within(row.terms(), keep) {
+        if !within(row.terms().len(), keep) {
             return false;
         }
     }
     true
 }
 
-/// Whether the row has the columns.
-fn within(row: &[Term], keep: &[usize]) -> bool
-    ensures { IsTrue result → All (λ k. k < length row.now) keep.now }
+/// Whether the columns are among so many.
+pub fn within(count: usize, keep: &[usize]) -> bool
+    ensures { IsTrue result → All (λ k. k < count) keep.now }
 {
     for place in keep {
-        if *place >= row.len() {
+        if *place >= count {
             return false;
         }
     }

@@ -49,9 +49,10 @@ made c =
 
 pub relation_of-requires-clause-sorts : goal.relation_of-requires-clause-sorts
 relation_of-requires-clause-sorts c =
-    let j = c.requires in
-    (picked (j.left_sorts ++ j.right_sorts) c.args.keep.now,
-    joined_sorts c.args.sig.now c.args.pairs.now c.args.keep.now c.args.left.now c.args.right.now c.as_slice.result.now (made (goal.at.relation_of-requires-clause-sorts c).After-as_slice) j.left_sorts j.right_sorts j.lefts j.rights)
+    let j = c.requires in (
+      picked (j.left_sorts ++ j.right_sorts) c.args.keep.now,
+      joined_sorts c.args.sig.now c.args.pairs.now c.args.keep.now c.args.left.now c.args.right.now c.as_slice.result.now (made (goal.at.relation_of-requires-clause-sorts c).After-as_slice) j.left_sorts j.right_sorts j.lefts j.rights,
+    )
 
 pub returns-clause-relation : goal.returns-clause-relation
 returns-clause-relation c =

@@ -1,4 +1,4 @@
-use Rattle.std.proofs.Common.{◌≡◌, ◌<◌, ◌++◌, ◌∙◌, ℕ, List, length, ap, sym, subst}
+use Rattle.std.proofs.Common.{◌≡◌, ◌<◌, ◌++◌, ◌∙◌, ℕ, length, ap, sym, subst}
 use Rattle.std.specs.List.{All}
 use Rattle.psg_terms.specs.Signature.{HaveSorts}
 use Rattle.psg_terms.specs.Instances.{HasSameInstances}

@@ -1,6 +1,6 @@
 use Rattle.std.proofs.Common.{subst}
 use Rattle.std.specs.List.Sorted.{IsPermutation}
-use Rattle.psg_relation.specs.Ordered.{IsOrdered, KeepsOrder, is_not_above}
+use Rattle.psg_relation.specs.Ordered.{KeepsOrder, is_not_above}
 use Rattle.psg_relation.specs.Sifted.{AreCovered, IsSifted, HasSameRows}
 use Rattle.psg_relation.proofs.Ordered.{texts_ordered}
 use Rattle.psg_relation.proofs.Splitting.{all_light, heavy_lost}
