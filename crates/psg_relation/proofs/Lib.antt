@@ -7,3 +7,6 @@ pub mod Splitting
 pub mod Making
 pub mod Columns
 pub mod Meeting
+pub mod Existing
+pub mod Unifying
+pub mod Solving

@@ -17,7 +17,7 @@ use Rattle.psg_relation.proofs.Relating.{carried}
 pub forms_none : (sig : Signature) → AreCanonicalOf sig [] []
 forms_none sig = record { from = λ row h. elim h [ ]; to = λ row h. elim h [ ]; canonical = λ row h. elim h [ ]; sorted = λ sorts a row h. elim h [ ] }
 
-forms_push : (sig : Signature) (done made : List (List Term)) (row form : List Term) → AreCanonicalOf sig done made → IsCanonical sig form → HasSameInstances sig form row → ((sorts : List ℕ) → HaveSorts sig row sorts → HaveSorts sig form sorts) → AreCanonicalOf sig (done ++ row ∷ []) (made ++ form ∷ [])
+pub forms_push : (sig : Signature) (done made : List (List Term)) (row form : List Term) → AreCanonicalOf sig done made → IsCanonical sig form → HasSameInstances sig form row → ((sorts : List ℕ) → HaveSorts sig row sorts → HaveSorts sig form sorts) → AreCanonicalOf sig (done ++ row ∷ []) (made ++ form ∷ [])
 forms_push sig done made row form a c same sorted = record {
   from = λ x h. elim (in-split x form made h) [
     | inl b ↦ let (r, i, k) = a.from x b in (r, in-left r done (row ∷ []) i, k)

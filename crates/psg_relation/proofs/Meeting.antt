@@ -109,7 +109,7 @@ in-each one other [] h = elim h [ ]
 in-each one other (o ∷ rest) first = first
 in-each one other (o ∷ rest) (later h) = later (in-each one other rest h)
 
-pairs-in : (p : Two) (left right : List (List Term)) → IsIn p (all_pairs left right) → IsIn p.0 left × IsIn p.1 right
+pub pairs-in : (p : Two) (left right : List (List Term)) → IsIn p (all_pairs left right) → IsIn p.0 left × IsIn p.1 right
 pairs-in p [] right h = elim h [ ]
 pairs-in p (l ∷ left) right h = elim (in-either p (with_each l right) (all_pairs left right) h) [
   | inl a ↦ let (e, i) = each-in p l right a in (subst (λ z. IsIn z (l ∷ left)) (sym e) first, i)

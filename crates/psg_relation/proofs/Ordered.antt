@@ -56,7 +56,7 @@ pub order_less : {X : Type 0} (xs kept : List X) (i : ℕ) (x : X) → i < lengt
 order_less xs kept i x l e k = subst (λ z. KeepsOrder z kept) (sym (take-next xs i x l e)) (order_skip (take i xs) kept x k)
 
 -- one row more among the most general ones
-grown : (done kept : List (List Term)) (row : List Term) (more : List (List Term)) → IsSifted done kept → KeepsOrder done kept → IsGrown kept row more → KeepsOrder (done ++ row ∷ []) more
+pub grown : (done kept : List (List Term)) (row : List Term) (more : List (List Term)) → IsSifted done kept → KeepsOrder done kept → IsGrown kept row more → KeepsOrder (done ++ row ∷ []) more
 grown done kept row more s k (inl (covered, e)) = subst (KeepsOrder (done ++ row ∷ [])) (sym e) (order_skip done kept row k)
 grown done kept row more s k (inr (uncovered, (rest, l, e))) =
     subst (KeepsOrder (done ++ row ∷ [])) (sym e) (order_push done rest row (λ y i. s.among y (l.among y i)) (λ test o. l.order test (k test o)))

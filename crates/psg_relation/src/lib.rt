@@ -16,6 +16,7 @@
 #![tactic(auto)]
 
 pub mod joining;
+pub mod laws;
 mod maximal;
 mod order;
 pub mod projection;

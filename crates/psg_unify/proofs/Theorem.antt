@@ -21,7 +21,7 @@ use Rattle.psg_unify.specs.Agreement.{IsJoinable, MakesAgree, IsEmpty, Disjoint,
 use Rattle.psg_unify.proofs.Joining.{equal_at}
 use Rattle.psg_unify.proofs.WritingSteps.{map-append}
 
-sorts-append : (sig : Signature) (xs ys : List Term) (ss rs : List ℕ) → HaveSorts sig xs ss → HaveSorts sig ys rs → HaveSorts sig (xs ++ ys) (ss ++ rs)
+pub sorts-append : (sig : Signature) (xs ys : List Term) (ss rs : List ℕ) → HaveSorts sig xs ss → HaveSorts sig ys rs → HaveSorts sig (xs ++ ys) (ss ++ rs)
 sorts-append sig [] ys [] rs h k = k
 sorts-append sig [] ys (s ∷ ss) rs h k = absurd h
 sorts-append sig (x ∷ xs) ys [] rs h k = absurd h
@@ -87,13 +87,13 @@ pub record Setting (sig : Signature) (left right : List Term) (pairs : List Pair
   pub second : Renumbered sig base [] others right rights
 
 module _ (sig : Signature) (left right : List Term) (pairs : List Pair) (lefts rights : List Term) (s : Setting sig left right pairs lefts rights) where
-  left_same : (ss : List ℕ) → HaveSorts sig left ss → AllGroundInstancesIn sig left lefts × AllGroundInstancesIn sig lefts left × HaveSorts sig lefts ss
+  pub left_same : (ss : List ℕ) → HaveSorts sig left ss → AllGroundInstancesIn sig left lefts × AllGroundInstancesIn sig lefts left × HaveSorts sig lefts ss
   left_same ss h = renumbered_same sig s.sound 0 [] s.known left lefts ss h s.first
 
-  right_same : (ss : List ℕ) → HaveSorts sig right ss → AllGroundInstancesIn sig right rights × AllGroundInstancesIn sig rights right × HaveSorts sig rights ss
+  pub right_same : (ss : List ℕ) → HaveSorts sig right ss → AllGroundInstancesIn sig right rights × AllGroundInstancesIn sig rights right × HaveSorts sig rights ss
   right_same ss h = renumbered_same sig s.sound s.base [] s.others right rights ss h s.second
 
-  joinable_again : AreJoinable sig lefts rights pairs
+  pub joinable_again : AreJoinable sig lefts rights pairs
   joinable_again = record {
     left_sorts = s.joinable.left_sorts;
     right_sorts = s.joinable.right_sorts;
@@ -108,7 +108,7 @@ module _ (sig : Signature) (left right : List Term) (pairs : List Pair) (lefts r
       (sorts-length sig rights s.joinable.right_sorts (right_same s.joinable.right_sorts s.joinable.right_sorted).2) s.joinable.equal
 
   -- one substitution for both rows
-  solution : (row : List Term) → IsAgreeing sig left right pairs row → (f : Substitution) × IsGrounding sig f × MakesAgree lefts rights pairs f × (row ≡ map (substitute f) (lefts ++ rights))
+  pub solution : (row : List Term) → IsAgreeing sig left right pairs row → (f : Substitution) × IsGrounding sig f × MakesAgree lefts rights pairs f × (row ≡ map (substitute f) (lefts ++ rights))
   solution row (l, r, il, ir, agree, e) =
       let gl = (left_same s.joinable.left_sorts s.joinable.left_sorted).0 l il in
       let gr = (right_same s.joinable.right_sorts s.joinable.right_sorted).0 r ir in

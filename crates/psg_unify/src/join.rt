@@ -22,11 +22,11 @@ use std::collections::HashMap;
 
 /// How many constructors may be nested. The functions that walk terms call themselves once for each, so this keeps the
 /// program from running out of stack.
-const DEPTH: u32 = 1_000;
+const DEPTH: u32 = 10_000;
 
 /// Whether a term of the row has too many constructors nested.
 fn is_deep(row: &[Term]) -> bool
-    ensures { IsTrue result ↔ Any (λ t. 1000 < depth_of t) row.now }
+    ensures { IsTrue result ↔ Any (λ t. 10000 < depth_of t) row.now }
 {
     for term in row {
         if term.depth() > DEPTH as u64 {
@@ -110,8 +110,8 @@ fn solved(
 /// where the row would be exponentially large in print. When a variable is bound to a constructor, what stands there is
 /// searched for it; so many variables that are bound to large terms take the product of both numbers.
 ///
-/// `AllocError` comes when memory runs out, where 32 bits do not count the variables, and where more than 1,000
-/// constructors are nested in a row or in what has to be compared. Two rows whose join is at most 1,000 deep do not
+/// `AllocError` comes when memory runs out, where 32 bits do not count the variables, and where more than 10,000
+/// constructors are nested in a row or in what has to be compared. Two rows whose join is at most 10,000 deep do not
 /// meet this bound.
 pub fn join_rows(
     alloc: Global,

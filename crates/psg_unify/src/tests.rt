@@ -415,7 +415,7 @@ fn long_rows(rt: HostRuntime) -> Result<(), SigFault> {
 
 #[test]
 fn deep_terms(rt: HostRuntime) -> Result<(), SigFault> {
-    assert!(rt; nested_size(rt.alloc(), 999)? == 1_000);
-    assert!(rt; nested_size(rt.alloc(), 1_000).is_err());
+    assert!(rt; nested_size(rt.alloc(), 9_000)? == 9_001);
+    assert!(rt; nested_size(rt.alloc(), 10_000).is_err());
     Ok(())
 }

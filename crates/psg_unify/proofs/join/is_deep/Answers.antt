@@ -7,7 +7,7 @@ use Rattle.psg_unify.proofs.join.is_deep.Goals as goal
 pub loop-term-preserved : goal.loop-term-preserved
 loop-term-preserved c =
     let own = c.depth.ensures in
-    let low : depth_of c.term-item.result ≤ 1000 = omega arith in
+    let low : depth_of c.term-item.result ≤ 10000 = omega arith in
     shallow_more c.args.row.now c.loop-term.term-index c.term-item.result c.loop-term-test.true c.term-item.is low c.loop-term.invariant
 
 pub returns : goal.returns
