@@ -1,10 +1,10 @@
 -- Steps of keeping the most general rows.
 use Rattle.std.proofs.Common.{◌≡◌, ℕ, ◌+◌, ◌<◌, inl, inr, List, [], ◌∷◌, ◌++◌, map, length, take, get_or, refl, ap₂, sym, ◌∙◌, subst}
-use Rattle.psg_terms.specs.Terms.{Term, variable}
-use Rattle.psg_terms.specs.Instances.{substitute, IsInstance}
+use Rattle.psg_terms.specs.Terms.{Term, variable, symbol, apply, applied}
+use Rattle.psg_terms.specs.Instances.{Substitution, substitute, IsGround, IsInstance}
 use Rattle.psg_terms.specs.Relations.{IsIn}
 use Rattle.psg_terms.proofs.InstanceLaws.{instance_trans, substitute-variable}
-use Rattle.psg_relation.specs.Sifted.{IsCovered, IsSifted, LeavesOut, IsGrown}
+use Rattle.psg_relation.specs.Sifted.{AreGround, IsCovered, IsSifted, LeavesOut, IsGrown}
 use Rattle.psg_terms.proofs.DeclareLaws.{take-next}
 use Rattle.psg_relation.proofs.Ordered.{order_push, order_skip}
 use Rattle.psg_relation.proofs.Members.{in-left, in-last, in-split, in-next, once-push, once-split}
@@ -94,3 +94,34 @@ out_less row kept rest i k l e h j = subst (λ x. LeavesOut row x rest) (sym (ta
 
 pub sifted_next : (rows kept : List (List Term)) (i : ℕ) (row : List Term) (more : List (List Term)) → i < length rows → row ≡ get_or rows i row → IsSifted (take i rows) kept → IsGrown kept row more → IsSifted (take (i + 1) rows) more
 sifted_next rows kept i row more l e h g = subst (λ x. IsSifted x more) (sym (take-next rows i row l e)) (sifted_more (take i rows) kept row more h g)
+
+-- a row without variables has no instance but itself
+ground-same : (f : Substitution) (t : Term) → IsGround t → substitute f t ≡ t
+ground-same f (variable s n) h = absurd h
+ground-same f (symbol c) h = refl
+ground-same f (apply g a) (h, k) = ap₂ apply (ground-same f g h) (ground-same f a k)
+
+all_ground-same : (f : Substitution) (row : List Term) → AreGround row → map (substitute f) row ≡ row
+all_ground-same f [] h = refl
+all_ground-same f (t ∷ row) (h, k) = ap₂ (λ x xs. x ∷ xs) (ground-same f t h) (all_ground-same f row k)
+
+pub grown_plain : (kept : List (List Term)) (row : List Term) (more : List (List Term)) → AreGround row → (IsCovered kept row → ⊥) → more ≡ kept ++ row ∷ [] → IsGrown kept row more
+grown_plain kept row more plain nope e = inr (nope, (kept, record {
+  among = λ k h. h;
+  none = λ k h (f, d). nope (k, h, subst (λ z. IsInstance row z) (sym (d ∙ all_ground-same f row plain)) (instance-refl row));
+  stays = λ k h. inr h;
+  order = λ test o. o;
+  once = λ o. o;
+}, e))
+
+-- the arguments of a constructor without variables
+pub applied-plain : (t : Term) (row : List Term) → IsGround t → AreGround row → IsGround (applied t row)
+applied-plain t [] h k = h
+applied-plain t (a ∷ row) h (k, l) = applied-plain (apply t a) row (h, k) l
+
+pub plain-push : (row : List Term) (t : Term) → AreGround row → IsGround t → AreGround (row ++ t ∷ [])
+plain-push [] t h k = (k, tt)
+plain-push (x ∷ row) t (h, hs) k = (h, plain-push row t hs k)
+
+pub plain_more : (row : List Term) (i : ℕ) (t : Term) → i < length row → t ≡ get_or row i t → AreGround (take i row) → IsGround t → AreGround (take (i + 1) row)
+plain_more row i t l e h k = subst AreGround (sym (take-next row i t l e)) (plain-push (take i row) t h k)

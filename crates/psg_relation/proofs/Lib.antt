@@ -10,3 +10,4 @@ pub mod Meeting
 pub mod Existing
 pub mod Unifying
 pub mod Solving
+mod CaseColumns

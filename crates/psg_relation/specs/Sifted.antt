@@ -1,7 +1,7 @@
 -- Lists of rows of which none is an instance of another one.
 use Rattle.std.specs.Prelude.{ℕ, ◌≡◌, ◌+◌, ◌⊎◌, ◌++◌, Bool, MatchBool, List, [], ◌∷◌, slice_index_or}
 use Rattle.psg_terms.specs.Terms.{Term}
-use Rattle.psg_terms.specs.Instances.{IsInstance}
+use Rattle.psg_terms.specs.Instances.{IsGround, IsInstance}
 use Rattle.psg_terms.specs.Relations.{IsIn}
 use Rattle.psg_relation.specs.Heavy.{IsHeavy}
 use Rattle.psg_relation.specs.Ordered.{KeepsOrder}
@@ -10,6 +10,11 @@ use Rattle.psg_relation.specs.Ordered.{KeepsOrder}
 abbrev pub IsOnce : {X : Type 0} → List X → Type 0
 IsOnce [] = Unit {0}
 IsOnce (x ∷ xs) = (IsIn x xs → ⊥) × IsOnce xs
+
+-- terms without variables
+abbrev pub AreGround : List Term → Type 0
+AreGround [] = Unit {0}
+AreGround (t ∷ row) = IsGround t × AreGround row
 
 -- some member has the row as an instance
 abbrev pub IsCovered : List (List Term) → List Term → Type 0

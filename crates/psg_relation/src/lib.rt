@@ -19,6 +19,7 @@ pub mod joining;
 pub mod laws;
 mod maximal;
 mod order;
+mod plain;
 pub mod projection;
 pub mod relation;
 pub mod row;

@@ -3,6 +3,7 @@ ghost use Rattle.std.specs.Prelude.{◌↔◌, IfOk, IsTrue};
 ghost use Rattle.psg_relation.specs.Ordered.{KeepsOrder};
 ghost use Rattle.psg_relation.specs.Sifted.{IsCovered, IsSifted, LeavesOut, IsGrown, AreCovered};
 
+use crate::plain::are_plain;
 use crate::row::RelRow;
 use psg_terms::Term;
 use psg_terms::matching::is_instance;
@@ -37,12 +38,18 @@ fn without_instances(
     Ok(rest)
 }
 
-/// The rows with one more in place of its instances, unless it is an instance itself.
+/// The rows with one more in place of its instances, unless it is an instance itself. A row without variables has no
+/// instance but itself.
 fn with_row(alloc: Global, kept: Vec<RelRow>, row: &RelRow) -> Result<Vec<RelRow>, AllocError>
     ensures { IfOk result (λ more. IsGrown kept.items row.now more.items) }
 {
     if is_covered(alloc, kept.as_slice(), row.terms())? {
         return Ok(kept);
+    }
+    if are_plain(row.terms()) {
+        let mut more = kept;
+        more.push(row.share(alloc)?)?;
+        return Ok(more);
     }
     let mut rest = without_instances(alloc, kept.as_slice(), row.terms())?;
     rest.push(row.share(alloc)?)?;
