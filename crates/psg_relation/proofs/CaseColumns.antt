@@ -1,9 +1,9 @@
 -- Columns of rows, and rows that agree, in full.
-use Rattle.std.proofs.Common.{◌≡◌, ℕ, List, [], ◌∷◌, codes, refl, IsTrue, sym, ◌∙◌, ap, subst, arith}
+use Rattle.std.proofs.Common.{◌≡◌, ℕ, List, [], ◌∷◌, codes, refl, ◌∙◌, ap, arith}
 use Rattle.psg_terms.specs.Terms.{Term, variable, symbol}
-use Rattle.psg_terms.specs.Signature.{Signature, Symbol, HasSort}
+use Rattle.psg_terms.specs.Signature.{Signature, Symbol}
 use Rattle.psg_terms.specs.Instances.{Substitution, IsGrounding}
-use Rattle.psg_terms.specs.Relations.{IsIn, first, later, Pair, IsGlued}
+use Rattle.psg_terms.specs.Relations.{first, Pair, IsGlued}
 use Rattle.psg_terms.specs.Text.{IsInTextOrder}
 use Rattle.psg_relation.specs.Choices.{IsProjected, Agrees, picked}
 

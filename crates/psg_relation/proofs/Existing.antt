@@ -1,5 +1,5 @@
 -- Some list is the relation of rows of equal sorts.
-use Rattle.std.proofs.Common.{◌≡◌, ◌≢◌, ℕ, ◌⊎◌, inl, inr, Bool, true, false, cond, List, [], ◌∷◌, ◌++◌, append_assoc, IsTrue, map, refl, ap, ap₂, sym, ◌∙◌, subst, Option, Some, None, nat_cmp, is_lt}
+use Rattle.std.proofs.Common.{◌≡◌, ◌≢◌, ℕ, ◌⊎◌, inl, inr, Bool, false, cond, List, [], ◌∷◌, ◌++◌, append_assoc, IsTrue, map, refl, ap, ap₂, sym, ◌∙◌, subst, Option, Some, None, nat_cmp, is_lt}
 use Rattle.std.specs.Ordering.{is_le, ordering_reverse}
 use Rattle.std.specs.Cmp.{IsStrictWeakOrder}
 use Rattle.std.specs.Cmp.Lexicographic.{slice_cmp, nat_list_cmp_total}
@@ -11,7 +11,7 @@ use Rattle.psg_terms.specs.Terms.{Term, variable, symbol, apply}
 use Rattle.psg_terms.specs.Signature.{Signature, HaveSorts}
 use Rattle.psg_terms.specs.Sound.{IsSound}
 use Rattle.psg_terms.specs.Instances.{Substitution, substitute, IsInstance, HasSameInstances}
-use Rattle.psg_terms.specs.Canonical.{Variable, IsCanonical, same_variable, noted_all, variables_of}
+use Rattle.psg_terms.specs.Canonical.{IsCanonical, same_variable, noted_all, variables_of}
 use Rattle.psg_terms.specs.Matching.{Lookup, Agrees, IsConsistent}
 use Rattle.psg_terms.specs.Renaming.{opens, numbering, Renumbered}
 use Rattle.psg_terms.specs.Relations.{IsIn, first, later, IsRelation}
@@ -63,12 +63,15 @@ Decided old Holds = ((new : Lookup) × Meets old new Holds) ⊎ Never old Holds
 both : (old : Lookup) (P Q R : Substitution → Type 0) → ((f : Substitution) → P f → Q f → R f) → ((f : Substitution) → R f → P f × Q f) → Decided old P → ((new : Lookup) → Decided new Q) → Decided old R
 both old P Q R join split (inr never) next = inr (λ f a r. never f a (split f r).0)
 both old P Q R join split (inl (mid, m)) next = elim (next mid) [
-  | inl (new, k) ↦ inl (new, record {
+  | inl (new, k) ↦ inl (
+    new,
+    record {
       consistent = λ c. k.consistent (m.consistent c);
       before = λ f a. m.before f (k.before f a);
       holds = λ f a. join f (m.holds f (k.before f a)) (k.holds f a);
       all = λ f a r. k.all f (m.all f a (split f r).0) (split f r).1;
-    })
+    },
+  )
   | inr never ↦ inr (λ f a r. never f (m.all f a (split f r).0) (split f r).1)
 ]
 
@@ -86,12 +89,15 @@ at_variable : (old : Lookup) (s n : ℕ) (special : Term) (o : Option Term) → 
 at_variable old s n special None e =
     let new : Lookup = λ p q. cond (same_variable (s, n) (p, q)) (Some special) (old p q) in
     let g : Grown old new (s, n) special = λ p q. refl in
-    inl (new, record {
-      consistent = λ (f, a). (updated f (s, n) special, grown-agrees (updated f (s, n) special) old new (s, n) special g (updated-agrees f old (s, n) special a e) (updated-here f (s, n) special));
-      before = λ f a. grown-before f old new (s, n) special g e a;
-      holds = λ f a. a s n special (grown-here old new (s, n) special g);
-      all = λ f a m. grown-agrees f old new (s, n) special g a m;
-    })
+    inl (
+      new,
+      record {
+        consistent = λ (f, a). (updated f (s, n) special, grown-agrees (updated f (s, n) special) old new (s, n) special g (updated-agrees f old (s, n) special a e) (updated-here f (s, n) special));
+        before = λ f a. grown-before f old new (s, n) special g e a;
+        holds = λ f a. a s n special (grown-here old new (s, n) special g);
+        all = λ f a m. grown-agrees f old new (s, n) special g a m;
+      },
+    )
 at_variable old s n special (Some t) e = elim (term_cases t special) [
   | inl d ↦ inl (old, record { consistent = λ c. c; before = λ f a. a; holds = λ f a. a s n t e ∙ d; all = λ f a m. a })
   | inr d ↦ inr (λ f a m. d (sym (a s n t e) ∙ m))
@@ -250,12 +256,14 @@ module _ (sig : Signature) where
   arrange [] = ([], record { ordered = tt; there = λ y i. i; back = λ y i. i })
   arrange (x ∷ xs) =
       let (ys, a) = arrange xs in
-      let (zs, h) = insert x ys a.ordered in
-      (zs, record {
-        ordered = h.ordered;
-        there = there_first x xs ys zs a h;
-        back = λ y i. elim (h.from y i) [ inl e ↦ subst (λ w. IsIn w (x ∷ xs)) (sym e) first | inr j ↦ later (a.back y j) ];
-      })
+      let (zs, h) = insert x ys a.ordered in (
+        zs,
+        record {
+          ordered = h.ordered;
+          there = there_first x xs ys zs a h;
+          back = λ y i. elim (h.from y i) [ inl e ↦ subst (λ w. IsIn w (x ∷ xs)) (sym e) first | inr j ↦ later (a.back y j) ];
+        },
+      )
 
 -- ---- the relation
 
@@ -280,6 +288,8 @@ module _ (sig : Signature) (sound : IsSound sig) where
       let (made, a) = forms_from ss [] [] rows (forms_none sig) h in
       let (arranged, w) = arrange sig made in
       let (kept, s, o) = sift_from [] [] arranged sifted_none (λ test t. t) in
-      let all : IsSifted made kept = record { among = λ k i. w.back k (s.among k i); covers = λ r i. s.covers r (w.there r i); apart = s.apart; once = s.once } in
-      (kept, of_made sig rows made a ss kept
-          (sifted_relation sig sound made ss (a.sorted ss h) (λ r i. (a.canonical r i).written) kept all (λ k i. a.canonical k (all.among k i)) (texts_ordered sig kept (o (is_not_above sig) w.ordered))))
+      let all : IsSifted made kept = record { among = λ k i. w.back k (s.among k i); covers = λ r i. s.covers r (w.there r i); apart = s.apart; once = s.once } in (
+        kept,
+        of_made sig rows made a ss kept
+            (sifted_relation sig sound made ss (a.sorted ss h) (λ r i. (a.canonical r i).written) kept all (λ k i. a.canonical k (all.among k i)) (texts_ordered sig kept (o (is_not_above sig) w.ordered))),
+      )

@@ -1,5 +1,5 @@
 -- Steps of keeping the most general rows.
-use Rattle.std.proofs.Common.{◌≡◌, ℕ, ◌+◌, ◌<◌, inl, inr, List, [], ◌∷◌, ◌++◌, map, length, take, get_or, refl, ap₂, sym, ◌∙◌, subst}
+use Rattle.std.proofs.Common.{◌≡◌, ℕ, ◌+◌, ◌<◌, zero, suc, inl, inr, List, [], ◌∷◌, ◌++◌, map, length, take, get_or, refl, ap₂, sym, ◌∙◌, subst, arith}
 use Rattle.psg_terms.specs.Terms.{Term, variable, symbol, apply, applied}
 use Rattle.psg_terms.specs.Instances.{Substitution, substitute, IsGround, IsInstance}
 use Rattle.psg_terms.specs.Relations.{IsIn}
@@ -106,13 +106,20 @@ all_ground-same f [] h = refl
 all_ground-same f (t ∷ row) (h, k) = ap₂ (λ x xs. x ∷ xs) (ground-same f t h) (all_ground-same f row k)
 
 pub grown_plain : (kept : List (List Term)) (row : List Term) (more : List (List Term)) → AreGround row → (IsCovered kept row → ⊥) → more ≡ kept ++ row ∷ [] → IsGrown kept row more
-grown_plain kept row more plain nope e = inr (nope, (kept, record {
-  among = λ k h. h;
-  none = λ k h (f, d). nope (k, h, subst (λ z. IsInstance row z) (sym (d ∙ all_ground-same f row plain)) (instance-refl row));
-  stays = λ k h. inr h;
-  order = λ test o. o;
-  once = λ o. o;
-}, e))
+grown_plain kept row more plain nope e = inr (
+  nope,
+  (
+    kept,
+    record {
+      among = λ k h. h;
+      none = λ k h (f, d). nope (k, h, subst (λ z. IsInstance row z) (sym (d ∙ all_ground-same f row plain)) (instance-refl row));
+      stays = λ k h. inr h;
+      order = λ test o. o;
+      once = λ o. o;
+    },
+    e,
+  ),
+)
 
 -- the arguments of a constructor without variables
 pub applied-plain : (t : Term) (row : List Term) → IsGround t → AreGround row → IsGround (applied t row)
@@ -125,3 +132,12 @@ plain-push (x ∷ row) t (h, hs) k = (h, plain-push row t hs k)
 
 pub plain_more : (row : List Term) (i : ℕ) (t : Term) → i < length row → t ≡ get_or row i t → AreGround (take i row) → IsGround t → AreGround (take (i + 1) row)
 plain_more row i t l e h k = subst AreGround (sym (take-next row i t l e)) (plain-push (take i row) t h k)
+
+pub plain-applied : (t : Term) (row : List Term) → IsGround (applied t row) → IsGround t × AreGround row
+plain-applied t [] h = (h, tt)
+plain-applied t (a ∷ row) h = let k = plain-applied (apply t a) row h in (k.0.0, (k.0.1, k.1))
+
+pub plain_at : (row : List Term) (i : ℕ) (t : Term) → i < length row → t ≡ get_or row i t → AreGround row → IsGround t
+plain_at [] i t l e h = absurd (omega arith)
+plain_at (x ∷ row) zero t l e (h, _) = subst IsGround (sym e) h
+plain_at (x ∷ row) (suc i) t l e (_, h) = plain_at row i t (omega arith) e h

@@ -1,21 +1,21 @@
 -- Some list is the relation of the joins of two lists of rows.
-use Rattle.std.proofs.Common.{◌≡◌, ℕ, ◌↔◌, ◌⊎◌, inl, inr, List, [], ◌∷◌, ◌++◌, append_assoc, map, zero, suc, refl, ap, ap₂, sym, ◌∙◌, subst, Option, Some, None, slice_get, length}
+use Rattle.std.proofs.Common.{◌≡◌, ℕ, ◌↔◌, ◌⊎◌, inl, inr, List, [], ◌∷◌, ◌++◌, append_assoc, map, zero, suc, refl, ap, ap₂, sym, ◌∙◌, subst, Option, Some, slice_get, length}
 use Rattle.std.specs.Option.{option_map}
 use Rattle.std.proofs.lemmas.List.{map-append}
 use Rattle.std.proofs.lemmas.Option.{slice_get-map}
 use Rattle.psg_terms.specs.Terms.{Term}
 use Rattle.psg_terms.specs.Signature.{Signature, HasSort, HaveSorts}
 use Rattle.psg_terms.specs.Sound.{IsSound}
-use Rattle.psg_terms.specs.Instances.{Substitution, substitute, IsGrounding, IsGroundInstance, HasSameInstances}
-use Rattle.psg_terms.specs.Canonical.{Variable, IsCanonical, noted_all, variables_of}
-use Rattle.psg_terms.specs.Renaming.{opens, numbering, Renumbered}
+use Rattle.psg_terms.specs.Instances.{Substitution, substitute, IsGrounding, IsGroundInstance}
+use Rattle.psg_terms.specs.Canonical.{Variable, noted_all, variables_of}
+use Rattle.psg_terms.specs.Renaming.{opens, numbering}
 use Rattle.psg_terms.specs.Relations.{IsIn, first, later, IsGlued, IsRelation}
 use Rattle.psg_terms.proofs.InstanceLaws.{after, substitute-after, map-substitute-after, substitute-same, grounding-after}
 use Rattle.psg_terms.proofs.Renumbering.{HaveSorts-substitute}
 use Rattle.psg_unify.specs.Pairs.{Pair as Columns, AgreeOn, AreOfEqualSort, AreJoinable, IsAgreeing}
 use Rattle.psg_unify.proofs.Theorem.{Setting, sorts-append, left_same, right_same, solution}
 use Rattle.psg_relation.specs.Choices.{AllHaveSorts, Agrees, picked}
-use Rattle.psg_relation.specs.Joining.{Two, IsJoinOf, IsMore, AreJoined, MayJoin, MayMeet, all_pairs}
+use Rattle.psg_relation.specs.Joining.{Two, IsMore, AreJoined, MayJoin, all_pairs}
 use Rattle.psg_relation.proofs.Columns.{picked-sorts}
 use Rattle.psg_relation.proofs.Existing.{form, relation_exists}
 use Rattle.psg_relation.proofs.Meeting.{join_of, joined_none, joined_one, joined_sorts, joined_relation, may_meet, pairs-in}
@@ -45,12 +45,14 @@ columns sig left right ls rs [] hl hr e = ([], record { typed = tt; to = λ g a.
 columns sig left right ls rs (p ∷ pairs) hl hr ((s, el, er), e) =
     let (x, ex, tx) = term_at sig left ls p.0 s hl el in
     let (y, ey, ty) = term_at sig right rs p.1 s hr er in
-    let (es, h) = columns sig left right ls rs pairs hl hr e in
-    ((x, y) ∷ es, record {
-      typed = (([], s, tx), ([], s, ty), h.typed);
-      to = λ g (d, a). (inner (substitute g x) (substitute g y) (sym (column_of g left p.0 x ex) ∙ d ∙ column_of g right p.1 y ey), h.to g a);
-      back = λ g (d, u). (column_of g left p.0 x ex ∙ ap Some d ∙ sym (column_of g right p.1 y ey), h.back g u);
-    })
+    let (es, h) = columns sig left right ls rs pairs hl hr e in (
+      (x, y) ∷ es,
+      record {
+        typed = (([], s, tx), ([], s, ty), h.typed);
+        to = λ g (d, a). (inner (substitute g x) (substitute g y) (sym (column_of g left p.0 x ex) ∙ d ∙ column_of g right p.1 y ey), h.to g a);
+        back = λ g (d, u). (column_of g left p.0 x ex ∙ ap Some d ∙ sym (column_of g right p.1 y ey), h.back g u);
+      },
+    )
 
 -- what two rows have in common is one row, or nothing
 record IsJoint (sig : Signature) (left right : List Term) (pairs : List Columns) (row : List Term) : Type 0 where
@@ -99,8 +101,7 @@ module _ (sig : Signature) (sound : IsSound sig) (left right : List Term) (pairs
     to_agreeing : (full : List Term) → IsGroundInstance sig out full → IsAgreeing sig left right pairs full
     to_agreeing full (g, grounding, e) =
         let f : Substitution = after g u.by in
-        let grounds : IsGrounding sig f = grounding-after sig g u.by grounding u.sorted in
-        (
+        let grounds : IsGrounding sig f = grounding-after sig g u.by grounding u.sorted in (
           map (substitute f) lefts,
           map (substitute f) rights,
           (left_same sig left right pairs lefts rights setting joinable.left_sorts joinable.left_sorted).1 (map (substitute f) lefts) (f, grounds, refl),
@@ -135,9 +136,15 @@ module _ (sig : Signature) (sound : IsSound sig) (left right : List Term) (pairs
     | inl (row, j) ↦
         let sorts = joinable.left_sorts ++ joinable.right_sorts in
         let kept : (ls rs : List ℕ) → HaveSorts sig left ls → HaveSorts sig right rs → HaveSorts sig (picked row keep) (picked (ls ++ rs) keep) = λ ls rs hl hr. picked-sorts sig row (ls ++ rs) keep (j.sorted ls rs hl hr) in
-        let (copy, canonical, same, sorted) = form sig sound (picked row keep) (picked sorts keep) (kept joinable.left_sorts joinable.right_sorts joinable.left_sorted joinable.right_sorted) in
-        (made ++ copy ∷ [], inr (copy, join_of sig pairs keep left right row copy (record { written = canonical.written; canonical = λ _. canonical }) same j.exact
-            (λ ls rs hl hr. sorted (picked (ls ++ rs) keep) (kept ls rs hl hr)), refl))
+        let (copy, canonical, same, sorted) = form sig sound (picked row keep) (picked sorts keep) (kept joinable.left_sorts joinable.right_sorts joinable.left_sorted joinable.right_sorted) in (
+          made ++ copy ∷ [],
+          inr (
+            copy,
+            join_of sig pairs keep left right row copy (record { written = canonical.written; canonical = λ _. canonical }) same j.exact
+                (λ ls rs hl hr. sorted (picked (ls ++ rs) keep) (kept ls rs hl hr)),
+            refl,
+          ),
+        )
   ]
 
 append-none : {X : Type 0} (xs : List X) → xs ++ [] ≡ xs

@@ -1,5 +1,5 @@
 -- Equations of terms have a most general solution, or none.
-use Rattle.std.proofs.Common.{◌≡◌, ◌≢◌, ℕ, ◌+◌, ◌<◌, ◌≤◌, ◌⊎◌, ◌||◌, inl, inr, Bool, true, false, cond, List, [], ◌∷◌, ◌++◌, length, map, zero, suc, refl, ap, ap₂, sym, ◌∙◌, subst, arith}
+use Rattle.std.proofs.Common.{◌≡◌, ◌≢◌, ℕ, ◌+◌, ◌<◌, ◌≤◌, ◌⊎◌, ◌||◌, inl, inr, Bool, true, false, cond, List, [], ◌∷◌, ◌++◌, length, zero, suc, refl, ap, ap₂, sym, ◌∙◌, subst, arith}
 use Rattle.psg_terms.specs.Terms.{Term, variable, symbol, apply}
 use Rattle.psg_terms.specs.Sizes.{size}
 use Rattle.psg_terms.specs.Signature.{Signature, Symbol, Takes, HasSort}
@@ -73,8 +73,7 @@ variables_in (e ∷ es) = variables e.0 ++ (variables e.1 ++ variables_in es)
 all_own : (es : List Equation) → AreWithin (variables_in es) es
 all_own [] = tt
 all_own (e ∷ es) =
-    let rest = variables e.1 ++ variables_in es in
-    (
+    let rest = variables e.1 ++ variables_in es in (
       within_more (variables e.0) (variables e.0 ++ rest) (λ x h. among-left x (variables e.0) rest h) e.0 (own e.0),
       within_more (variables e.1) (variables e.0 ++ rest) (λ x h. among-right x (variables e.0) rest (among-left x (variables e.1) (variables_in es) h)) e.1 (own e.1),
       all_more (variables_in es) (variables e.0 ++ rest) (λ x h. among-right x (variables e.0) rest (among-right x (variables e.1) (variables_in es) h)) es (all_own es),

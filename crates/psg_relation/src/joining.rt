@@ -111,7 +111,8 @@ fn with_joins(
 ///
 /// `Wide` comes exactly where this relation has more than 16,384 variables and constructors or a term deeper than 1,000;
 /// a joined row that alone is too large does not count where it is an instance of another one, and is not written out.
-/// `Memory` comes as in `Rel::of`, and where a joined row nests more than 1,000 constructors in what has to be compared.
+/// `Memory` comes as in `Rel::of`, and where more than 10,000 constructors are nested in what has to be
+/// compared or written.
 ///
 /// It joins each row of the one side with each row of the other side, and then costs as `Rel::of` does.
 pub fn join(

@@ -1,5 +1,5 @@
 //! Terms without variables.
-ghost use Rattle.std.specs.Prelude.{IsTrue};
+ghost use Rattle.std.specs.Prelude.{◌↔◌, IsTrue};
 ghost use Rattle.psg_terms.specs.Instances.{IsGround};
 ghost use Rattle.psg_relation.specs.Sifted.{AreGround};
 
@@ -8,7 +8,7 @@ use psg_terms::{Node, Term};
 /// Whether the term has no variable. It reads each place once.
 #[cycle(plain)]
 fn is_plain(term: &Term) -> bool
-    ensures { IsTrue result → IsGround term.now }
+    ensures { IsTrue result ↔ IsGround term.now }
 {
     match term.node() {
         Node::Var { .. } => false,
@@ -19,7 +19,7 @@ fn is_plain(term: &Term) -> bool
 /// The same of a row.
 #[cycle(plain)]
 pub fn are_plain(row: &[Term]) -> bool
-    ensures { IsTrue result → AreGround row.now }
+    ensures { IsTrue result ↔ AreGround row.now }
 {
     for i in 0..row.len() {
         if !is_plain(&row[i]) {

@@ -7,6 +7,7 @@ ghost use Rattle.psg_relation.specs.Choices.{AllHaveSorts, AllWithin};
 
 mod joins;
 
+use crate::laws::{some_join, some_projection, some_relation};
 use crate::{Rel, RelFault, RelRow, project};
 use psg_terms::{
     ConDecl, ConId, Seq, SigFault, Signature, SortDecl, SortId, Term, Txt, have_sorts, row_text,
@@ -394,5 +395,14 @@ fn sizes(alloc: Global, rows: &str) -> Result<(bool, u64, u64), SigFault> {
 fn weight_and_depth(rt: HostRuntime) -> Result<(), SigFault> {
     assert_eq!(rt; sizes(rt.alloc(), "")?, (true, 0, 0));
     assert_eq!(rt; sizes(rt.alloc(), "pair ?1 arr int")?, (false, 4, 3));
+    Ok(())
+}
+
+#[test]
+fn relations_exist(rt: HostRuntime) -> Result<(), SigFault> {
+    let sig = types(rt.alloc())?;
+    some_relation(&sig);
+    some_projection(&sig);
+    some_join(&sig);
     Ok(())
 }

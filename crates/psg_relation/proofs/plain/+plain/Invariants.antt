@@ -1,4 +1,4 @@
-use Rattle.std.proofs.Common.{◌+◌, take}
+use Rattle.std.proofs.Common.{take}
 use Rattle.psg_terms.specs.Sizes.{size, sizes}
 use Rattle.psg_relation.specs.Sifted.{AreGround}
 use Rattle.psg_relation.proofs.plain.+plain.Given as goal
