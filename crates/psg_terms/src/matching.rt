@@ -73,6 +73,26 @@ pub fn bind(
     Ok(())
 }
 
+/// How many variables and constructors terms have at most that are compared. A part that is shared is read as often as it
+/// occurs, so without a bound a comparison of small terms with much sharing would not end.
+const COMPARED: u64 = 0x10_0000;
+
+/// Whether two terms are equal. Two equally large terms of more than 2^20 variables and constructors are not compared, and
+/// the answer is want of memory.
+fn alike(a: &Term, b: &Term) -> Result<bool, AllocError>
+    ensures { IfOk result (λ d. IsTrue d ↔ (a.now ≡ b.now)) }
+{
+    let size = a.symbols();
+    let other = b.symbols();
+    if size != other {
+        return Ok(false);
+    }
+    if size > COMPARED {
+        return Err(AllocError);
+    }
+    Ok(same(a, b))
+}
+
 /// Whether the table, with more variables bound, makes the special term of the general one.
 #[cycle(fits)]
 fn fits(table: &mut HashMap<Key, Term>, general: &Term, special: &Term) -> Result<bool, AllocError>
@@ -83,7 +103,10 @@ fn fits(table: &mut HashMap<Key, Term>, general: &Term, special: &Term) -> Resul
     match general.node() {
         Node::Var { sort, number } => {
             match bound(table, *sort, *number) {
-                Some(term) => Ok(same(term, special)),
+                Some(term) => {
+                    let equal = alike(term, special)?;
+                    Ok(equal)
+                }
                 None => {
                     let term = special.share()?;
                     bind(table, *sort, *number, term)?;
@@ -130,7 +153,9 @@ fn fit(
 }
 
 /// Whether one substitution of the general row's variables gives the special row. It reads each place of the general
-/// row once, and of the special one once for each occurrence of a variable that stands for it.
+/// row once, and of the special one once for each occurrence of a variable that stands for it, but for the first. Where two
+/// terms that a variable is to stand for are equally large and have more than 2^20 variables and constructors, the answer
+/// is want of memory.
 pub fn is_instance(alloc: Global, special: &[Term], general: &[Term]) -> Result<bool, AllocError>
     ensures instance { IfOk result (λ b. IsTrue b ↔ IsInstance special.now general.now) }
     ensures exact { IfOk result (λ b. (sig : Plain) → IsSound sig → (sorts : List ℕ)

@@ -318,3 +318,56 @@ fn limit_of_joins(rt: HostRuntime) -> Result<(), SigFault> {
     assert_eq!(rt; wide_sizes(rt.alloc(), 8_192, 8_193)?, (0, 1));
     Ok(())
 }
+
+/// The rows of a chain of equations in which each variable is a pair of the one before it, and of one with a pair of
+/// equal terms at the end.
+fn chain(alloc: Global, count: usize) -> Result<Vec<RelRow>, AllocError> {
+    let mut text = String::new(alloc);
+    for i in 0..count {
+        let part = format!(in alloc; "?{i} pair ?{i} ?{i} ")?;
+        text.push_str(part.as_str())?;
+    }
+    text.push_str("int;")?;
+    for i in 1..count.saturating_mul(2) {
+        let part = format!(in alloc; "?{i} ")?;
+        text.push_str(part.as_str())?;
+    }
+    text.push_str("pair ?0 ?0 bool")?;
+    rows_of(alloc, text.as_str())
+}
+
+/// The last pair of a chain of so many equations, and of the row beside it.
+fn chained(alloc: Global, count: usize) -> Result<String, SigFault> {
+    if count < 1 || count > 1_000 {
+        return Err(SigFault::Memory);
+    }
+    let sig = types(alloc)?;
+    let lefts = chain(alloc, count)?;
+    let mut middle = String::new(alloc);
+    let mut pairs = Vec::new(alloc);
+    for i in 1..count {
+        let part = format!(in alloc; "?{i} ")?;
+        middle.push_str(part.as_str())?;
+        pairs.push((2 * i - 1, i - 1))?;
+        pairs.push((2 * i, i - 1))?;
+    }
+    let rights = rows_of(alloc, middle.as_str())?;
+    let text = told(
+        alloc,
+        &sig,
+        (lefts.as_slice(), 2 * count + 1),
+        (rights.as_slice(), count - 1),
+        pairs.as_slice(),
+        &[2 * count - 1],
+    )?;
+    Ok(text)
+}
+
+// The chain's pair has 2^(n + 1) - 1 symbols: 16,383, and 2^41 - 1, of which the halves are too large to be compared.
+#[test]
+fn chains(rt: HostRuntime) -> Result<(), SigFault> {
+    assert_eq!(rt; chained(rt.alloc(), 13)?.as_str(), "pair(?1,?1)|");
+    assert_eq!(rt; chained(rt.alloc(), 18)?.as_str(), "pair(?1,?1)|");
+    assert!(rt; chained(rt.alloc(), 40).is_err());
+    Ok(())
+}

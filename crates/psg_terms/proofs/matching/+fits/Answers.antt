@@ -19,10 +19,10 @@ fits-fit-requires t c =
     let d = ap sizes c.as_slice.ensures in
     (omega arith, tt)
 
-pub fits-returns-in-Some : goal.fits-returns-in-Some
-fits-returns-in-Some t c =
-    at_bound (lookup c.args.table.now) c.in-Var.sort.0 c.in-Var.number c.in-Some.term.now c.args.general.now c.args.special.now c.same.result
-    (sym c.in-Some.ensures) (sym c.node.ensures ∙ ap term_of c.in-Var.is) c.same.ensures
+pub fits-returns-in_ok-equal-in-Some : goal.fits-returns-in_ok-equal-in-Some
+fits-returns-in_ok-equal-in-Some t c =
+    at_bound (lookup c.args.table.now) c.in-Var.sort.0 c.in-Var.number c.in-Some.term.now c.args.general.now c.args.special.now c.in_ok-equal-in-Some.equal
+    (sym c.in-Some.ensures) (sym c.node.ensures ∙ ap term_of c.in-Var.is) c.in_ok-equal-in-Some.ensures
 
 pub fits-returns-in_ok-bind-in-None : goal.fits-returns-in_ok-bind-in-None
 fits-returns-in_ok-bind-in-None t c =
