@@ -1,5 +1,5 @@
 -- Headers of whole regions from those of their parts.
-use Rattle.std.proofs.Common.{◌≡◌, ◌⊎◌, inl, inr, ℕ, ◌+◌, ◌<◌, Bool, true, false, cond, not, ◌||◌, ◌&&◌, List, [], ◌∷◌, ◌++◌, map, Some, length, take, refl, sym, ap, ap₂, subst, ◌∙◌, arith, append-nil, add-one, get_or, bytes_eq, true≢false}
+use Rattle.std.proofs.Common.{◌≡◌, inl, inr, ℕ, ◌+◌, ◌<◌, Bool, true, false, cond, not, ◌||◌, ◌&&◌, List, [], ◌∷◌, ◌++◌, map, Some, length, take, refl, sym, ap, ap₂, subst, ◌∙◌, append-nil, add-one, get_or, bytes_eq, true≢false}
 use Rattle.std.specs.List.{AllByRecursion, slice_get}
 use Rattle.std.specs.Option.{option_map}
 use Rattle.std.proofs.lemmas.List.{map-append}
@@ -12,7 +12,7 @@ use Rattle.psg_scope.specs.declared.header.NameCol.{NameCol}
 use Rattle.psg_scope.specs.declared.header.Header.{Header}
 use Rattle.psg_scope.specs.Headers.{key_of, keys, is_declared, declared_keys, keep_if, has_space, AreAscending, IsKey, IsHeader, ArePlaces}
 use Rattle.psg_scope.specs.Merging.{merge, clashes}
-use Rattle.psg_scope.proofs.KeyLists.{either, not_true, neither, or-false, or_cases, or_left, or_right, and-false, and_left, key_is, key_refl, AreRising, IsBelow, below-all, below-among, below-absent, in_order-rising, in_order-whole, in_order-among, rising-same}
+use Rattle.psg_scope.proofs.KeyLists.{either, not_true, neither, or_left, or_right, and-false, and_left, key_is, AreRising, IsBelow, below-all, below-among, below-absent, in_order-rising, in_order-whole, in_order-among, rising-same}
 use Rattle.psg_scope.proofs.MergeLaws.{merge-among, merge-declared, merge-rising, clashes-common, common-meets, has_twice-append, undeclared}
 
 pub keys-whole : (cols : List NameCol) → AllByRecursion IsKey (keys cols)

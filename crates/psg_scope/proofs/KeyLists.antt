@@ -1,11 +1,11 @@
 -- Lists of keys in order, each once.
-use Rattle.std.proofs.Common.{◌≡◌, ◌⊎◌, inl, inr, ℕ, Bool, true, false, cond, ◌||◌, ◌&&◌, List, [], ◌∷◌, ◌++◌, refl, sym, ap, subst, ◌∙◌, bytes_eq, true≢false}
+use Rattle.std.proofs.Common.{◌≡◌, ◌⊎◌, inl, inr, Bool, true, false, ◌||◌, ◌&&◌, List, [], ◌∷◌, refl, sym, ap, subst, ◌∙◌, bytes_eq, true≢false}
 use Rattle.std.specs.List.{AllByRecursion}
 use Rattle.std.proofs.lemmas.Slice.Eq.{bytes_eq-Decides}
 use Rattle.std.specs.declared.cmp.Ordering.{Ordering}
 use Rattle.std.specs.declared.cmp.Ordering.TheVariants.{Less, Equal, Greater}
 use Rattle.psg_terms.specs.Names.{is_among}
-use Rattle.psg_grammar.specs.Keys.{Key, key_cmp, insert_key, placed, in_order, space_of, outward}
+use Rattle.psg_grammar.specs.Keys.{Key, key_cmp, insert_key, placed, in_order}
 use Rattle.psg_scope.specs.Headers.{IsKey}
 use Rattle.psg_scope.proofs.KeyOrder.{key_total, key_exact, key_same, key_turned}
 

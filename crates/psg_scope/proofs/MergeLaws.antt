@@ -1,5 +1,5 @@
 -- Two lists of keys made one.
-use Rattle.std.proofs.Common.{◌≡◌, ◌⊎◌, inl, inr, ℕ, Bool, true, false, ◌||◌, ◌&&◌, List, [], ◌∷◌, ◌++◌, map, Some, length, refl, sym, ap, ap₂, subst, ◌∙◌, arith, append_assoc, append-nil, bytes_eq, true≢false}
+use Rattle.std.proofs.Common.{◌≡◌, inl, inr, ℕ, Bool, true, false, ◌||◌, ◌&&◌, List, [], ◌∷◌, ◌++◌, map, Some, length, refl, sym, ap, ap₂, subst, ◌∙◌, arith, append_assoc, append-nil, bytes_eq, true≢false}
 use Rattle.std.specs.List.{slice_get}
 use Rattle.std.proofs.lemmas.List.{map-append, length-map}
 use Rattle.std.specs.declared.cmp.Ordering.{Ordering}
@@ -11,8 +11,8 @@ use Rattle.psg_scope.specs.Headers.{key_of, keys, is_declared, both, ArePlaces}
 use Rattle.psg_scope.specs.Merging.{by_order, merge, merge_with, clashes, clash_with, GrowsBy}
 use Rattle.psg_scope.specs.declared.header.NameCol.{NameCol}
 use Rattle.psg_scope.specs.declared.merging.Merging.{Merging}
-use Rattle.psg_scope.proofs.KeyOrder.{key_total, key_exact, key_turned}
-use Rattle.psg_scope.proofs.KeyLists.{either, not_true, both_ways, or-assoc, or-swap, or-false, or_cases, or_left, or_right, key_is, key_refl, neither, and_left, and_right, and-false, and-true, less-differs, less-differs_back, IsBelow, AreRising, below-through, below-among, below-absent, below-all}
+use Rattle.psg_scope.proofs.KeyOrder.{key_exact, key_turned}
+use Rattle.psg_scope.proofs.KeyLists.{both_ways, or-assoc, or-swap, or-false, or_cases, or_left, or_right, key_is, key_refl, neither, and_left, and_right, and-false, and-true, less-differs, IsBelow, AreRising, below-through, below-among, below-absent, below-all}
 
 same_keys : (x y : NameCol) → key_cmp (key_of x) (key_of y) ≡ Equal → key_of x ≡ key_of y
 same_keys x y e = key_exact (key_of x) (key_of y) tt tt e

@@ -1,5 +1,5 @@
 -- Two ascending lists of spaces made one.
-use Rattle.std.proofs.Common.{◌≡◌, ◌⊎◌, inl, inr, ℕ, zero, suc, ◌+◌, ◌<◌, ◌≤◌, ◌==◌, get_or, Result, Ok, Err, MatchResult, is_ok, Bool, true, false, ◌||◌, List, [], ◌∷◌, ◌++◌, length, refl, sym, ap, subst, ◌∙◌, arith, true≢false}
+use Rattle.std.proofs.Common.{◌≡◌, inl, inr, ℕ, zero, suc, ◌<◌, ◌≤◌, ◌==◌, get_or, Result, Ok, Err, MatchResult, is_ok, true, ◌||◌, List, [], ◌∷◌, ◌++◌, length, refl, sym, ap, subst, ◌∙◌, arith, true≢false}
 use Rattle.std.specs.List.{AllByRecursion}
 use Rattle.std.proofs.lemmas.Bool.Decides.{eqb_tells}
 use Rattle.std.proofs.lemmas.Bool.{cases_lt}
@@ -8,7 +8,7 @@ use Rattle.std.specs.List.Sorted.{IsBinarySearchResult}
 use Rattle.std.proofs.lemmas.List.Sorted.{searched}
 use Rattle.psg_scope.specs.Headers.{AreAscending, has_space}
 use Rattle.psg_scope.specs.Spaces.{IsLeast}
-use Rattle.psg_scope.proofs.KeyLists.{not_true, or-assoc, or-swap, or-false, or_cases, or_left, or_right}
+use Rattle.psg_scope.proofs.KeyLists.{not_true, or-assoc, or-false, or_cases, or_left, or_right}
 
 space_is : (s t : ℕ) → (s == t) ≡ true → s ≡ t
 space_is s t e = elim (eqb_tells s t) [ inl h ↦ h.1 | inr h ↦ absurd (true≢false (sym e ∙ h.0)) ]

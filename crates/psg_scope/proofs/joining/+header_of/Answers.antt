@@ -1,4 +1,4 @@
-use Rattle.std.proofs.Common.{ℕ, false, [], ◌∷◌, refl, sym, subst}
+use Rattle.std.proofs.Common.{false, [], ◌∷◌, refl, sym, subst}
 use Rattle.psg_scope.specs.Headers.{key_of, declared_keys, IsHeader}
 use Rattle.psg_scope.proofs.HeaderLaws.{of_halves, of_none, of_single}
 use Rattle.psg_scope.proofs.joining.+header_of.Goals as goal

@@ -1,5 +1,5 @@
 use Rattle.std.proofs.Common.{◌||◌, refl, ap, ◌∙◌}
-use Rattle.psg_scope.proofs.MergeLaws.{step_left, step_right, step_both, start, names_at_end, clash_at_end, placed_at_end}
+use Rattle.psg_scope.proofs.MergeLaws.{step_left, step_right, step_both, start}
 use Rattle.psg_scope.proofs.merging.merged.Goals as goal
 
 pub loop-one-preserved-in-Left : goal.loop-one-preserved-in-Left

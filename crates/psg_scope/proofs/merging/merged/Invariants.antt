@@ -1,6 +1,4 @@
-use Rattle.std.proofs.Common.{◌≡◌, ◌+◌, ◌++◌, ◌||◌, List, length}
-use Rattle.psg_grammar.specs.Keys.{Key}
-use Rattle.psg_scope.specs.Merging.{merge, clashes}
+use Rattle.std.proofs.Common.{◌+◌, length}
 use Rattle.psg_scope.proofs.MergeLaws.{IsUpTo}
 use Rattle.psg_scope.proofs.merging.merged.Given as goal
 
