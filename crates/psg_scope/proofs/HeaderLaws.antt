@@ -10,9 +10,9 @@ use Rattle.psg_terms.proofs.DeclareLaws.{is_among-append}
 use Rattle.psg_grammar.specs.Keys.{Key, space_of, in_order, outward}
 use Rattle.psg_scope.specs.declared.header.NameCol.{NameCol}
 use Rattle.psg_scope.specs.declared.header.Header.{Header}
-use Rattle.psg_scope.specs.Headers.{key_of, keys, is_declared, declared_keys, keep_if, has_space, AreAscending, IsKey, IsHeader, ArePlaces}
+use Rattle.psg_scope.specs.Headers.{key_of, keys, is_declared, declared_keys, keep_if, has_space, AreAscending, IsKey, IsHeader, IsOrdered, ArePlaces, AreRising, IsBelow}
 use Rattle.psg_scope.specs.Merging.{merge, clashes}
-use Rattle.psg_scope.proofs.KeyLists.{either, not_true, neither, or_left, or_right, and-false, and_left, key_is, AreRising, IsBelow, below-all, below-among, below-absent, in_order-rising, in_order-whole, in_order-among, rising-same}
+use Rattle.psg_scope.proofs.KeyLists.{either, not_true, neither, or_left, or_right, and-false, and_left, key_is, below-all, below-among, below-absent, in_order-rising, in_order-whole, in_order-among, rising-same}
 use Rattle.psg_scope.proofs.MergeLaws.{merge-among, merge-declared, merge-rising, clashes-common, common-meets, has_twice-append, undeclared}
 
 pub keys-whole : (cols : List NameCol) → AllByRecursion IsKey (keys cols)
@@ -288,3 +288,41 @@ skip_step {all} {names} {unfinished} {kept} {i} {key} s h e f = record {
 pub kept_at_end : {all names : List NameCol} {unfinished kept : List ℕ} {i : ℕ} → IsKeptSoFar all unfinished i names kept → i ≡ length all
     → names ≡ kept_cols (has_space unfinished) all
 kept_at_end {all} {names} {unfinished} {kept} {i} s e = s.cols ∙ ap (λ n. kept_cols (has_space unfinished) (take n all)) e ∙ ap (kept_cols (has_space unfinished)) (take-length all)
+
+-- ---- the same without a region
+
+pub ordered-of : {n d : List Key} {u : ℕ → Bool} {h : Header} → IsHeader n d u h → IsOrdered h
+ordered-of is = record { keys_rise = header-rising is; spaces_rise = is.ascending }
+
+pub union_keys : (left right : List NameCol) → AreRising (keys left) → AreRising (keys right) → keys (merge left right) ≡ in_order (keys left ++ keys right)
+union_keys left right s t = rising-same (keys (merge left right)) (in_order (keys left ++ keys right)) (merge-rising left right s t)
+    (in_order-rising (keys left ++ keys right) all) (keys-whole (merge left right)) (in_order-whole (keys left ++ keys right) all)
+    (λ k. merge-among left right k ∙ sym (is_among-append (keys left) (keys right) k) ∙ sym (in_order-among (keys left ++ keys right) k all))
+  where
+    all : AllByRecursion IsKey (keys left ++ keys right)
+    all = whole-append (keys left) (keys right) (keys-whole left) (keys-whole right)
+
+declared_by : (b : Bool) (c k : Key) (ks : List Key) (rest : Bool) → rest ≡ is_among ks k → ((b && bytes_eq c k) || rest) ≡ is_among (keep_if b c ks) k
+declared_by true c k ks rest e = ap (λ r. bytes_eq c k || r) e
+declared_by false c k ks rest e = e
+
+pub declared-among : (cols : List NameCol) (k : Key) → is_declared cols k ≡ is_among (declared_keys cols) k
+declared-among [] k = refl
+declared-among (c ∷ cols) k = declared_by c.declared (key_of c) k (declared_keys cols) (is_declared cols k) (declared-among cols k)
+
+outward_rising_by : (k : Key) (ks d : List Key) (u : ℕ → Bool) → IsBelow k ks → AreRising (outward u d ks) → (b : Bool) → AreRising (cond b (outward u d ks) (k ∷ outward u d ks))
+outward_rising_by k ks d u below h true = h
+outward_rising_by k ks d u below h false = (
+  below-all k (outward u d ks) (λ m there. below-among k m ks below
+      (and_left (is_among ks m) (not (u (space_of m) || is_among d m)) (sym (outward-among m ks d u) ∙ there))),
+  h,
+)
+
+pub outward-rising : (ks d : List Key) (u : ℕ → Bool) → AreRising ks → AreRising (outward u d ks)
+outward-rising [] d u r = tt
+outward-rising (k ∷ ks) d u r = outward_rising_by k ks d u r.0 (outward-rising ks d u r.1) (u (space_of k) || is_among d k)
+
+pub outward_keys : (cols : List NameCol) (u : ℕ → Bool) → AreRising (keys cols) → keys (kept_cols u cols) ≡ outward u (declared_keys cols) (keys cols)
+outward_keys cols u r = rising-same (keys (kept_cols u cols)) (outward u (declared_keys cols) (keys cols)) (kept-rising cols u r)
+    (outward-rising (keys cols) (declared_keys cols) u r) (keys-whole (kept_cols u cols)) (outward-whole (keys cols) (declared_keys cols) u (keys-whole cols))
+    (λ k. kept-among k cols u r ∙ ap (λ b. is_among (keys cols) k && not (u (space_of k) || b)) (declared-among cols k) ∙ sym (outward-among k (keys cols) (declared_keys cols) u))

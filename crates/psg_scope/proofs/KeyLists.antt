@@ -6,7 +6,7 @@ use Rattle.std.specs.declared.cmp.Ordering.{Ordering}
 use Rattle.std.specs.declared.cmp.Ordering.TheVariants.{Less, Equal, Greater}
 use Rattle.psg_terms.specs.Names.{is_among}
 use Rattle.psg_grammar.specs.Keys.{Key, key_cmp, insert_key, placed, in_order}
-use Rattle.psg_scope.specs.Headers.{IsKey}
+use Rattle.psg_scope.specs.Headers.{IsKey, IsBelow, AreRising}
 use Rattle.psg_scope.proofs.KeyOrder.{key_total, key_exact, key_same, key_turned}
 
 pub key_is : (n m : Key) → bytes_eq n m ≡ true → n ≡ m
@@ -92,14 +92,6 @@ less-differs_back n m h = not_true (bytes_eq n m) (λ e. absurd (clash (key_is n
         let p : key_cmp n n ≡ Less = subst (λ k. key_cmp k n ≡ Less) (sym e) h in
         let q : key_cmp n n ≡ Equal = key_same n in
         absurd (cc)
-
--- each key is below all behind it
-abbrev pub IsBelow : Key → List Key → Type 0
-IsBelow n ks = AllByRecursion (λ m. key_cmp n m ≡ Less) ks
-
-abbrev pub AreRising : List Key → Type 0
-AreRising [] = Unit {0}
-AreRising (k ∷ ks) = IsBelow k ks × AreRising ks
 
 pub below-through : (n m : Key) (ks : List Key) → key_cmp n m ≡ Less → IsBelow m ks → IsBelow n ks
 below-through n m [] h b = tt

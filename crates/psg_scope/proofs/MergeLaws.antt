@@ -7,12 +7,12 @@ use Rattle.std.specs.declared.cmp.Ordering.TheVariants.{Less, Equal, Greater}
 use Rattle.psg_terms.specs.Names.{is_among, has_twice}
 use Rattle.psg_terms.proofs.DeclareLaws.{is_among-append, slice_get-front, slice_get-end}
 use Rattle.psg_grammar.specs.Keys.{Key, key_cmp}
-use Rattle.psg_scope.specs.Headers.{key_of, keys, is_declared, both, ArePlaces}
+use Rattle.psg_scope.specs.Headers.{declare_one, key_of, keys, is_declared, both, ArePlaces, IsBelow, AreRising}
 use Rattle.psg_scope.specs.Merging.{by_order, merge, merge_with, clashes, clash_with, GrowsBy}
 use Rattle.psg_scope.specs.declared.header.NameCol.{NameCol}
 use Rattle.psg_scope.specs.declared.merging.Merging.{Merging}
 use Rattle.psg_scope.proofs.KeyOrder.{key_exact, key_turned}
-use Rattle.psg_scope.proofs.KeyLists.{both_ways, or-assoc, or-swap, or-false, or_cases, or_left, or_right, key_is, key_refl, neither, and_left, and_right, and-false, and-true, less-differs, IsBelow, AreRising, below-through, below-among, below-absent, below-all}
+use Rattle.psg_scope.proofs.KeyLists.{both_ways, or-assoc, or-swap, or-false, or_cases, or_left, or_right, key_is, key_refl, neither, and_left, and_right, and-false, and-true, less-differs, below-through, below-among, below-absent, below-all}
 
 same_keys : (x y : NameCol) → key_cmp (key_of x) (key_of y) ≡ Equal → key_of x ≡ key_of y
 same_keys x y e = key_exact (key_of x) (key_of y) tt tt e
@@ -117,36 +117,32 @@ merge-rising (x ∷ xs) ys s t = merge_with-rising x xs s.0 ys t (λ zs u. merge
 
 -- ---- keys that both lists declare
 
-abbrev pub common : List NameCol → List NameCol → Bool
-common [] ys = false
-common (x ∷ xs) ys = (x.declared && is_declared ys (key_of x)) || common xs ys
-
 pub undeclared : (ys : List NameCol) (k : Key) → is_among (keys ys) k ≡ false → is_declared ys k ≡ false
 undeclared [] k e = refl
 undeclared (y ∷ ys) k e =
     let h : (bytes_eq (key_of y) k ≡ false) × (is_among (keys ys) k ≡ false) = neither (bytes_eq (key_of y) k) (is_among (keys ys) k) e in
     ap (λ b. (y.declared && b) || is_declared ys k) h.0 ∙ ap (λ b. b || is_declared ys k) (and-false y.declared) ∙ undeclared ys k h.1
 
-common-nil : (xs : List NameCol) → common xs [] ≡ false
+common-nil : (xs : List NameCol) → declare_one xs [] ≡ false
 common-nil [] = refl
-common-nil (x ∷ xs) = ap (λ b. b || common xs []) (and-false x.declared) ∙ common-nil xs
+common-nil (x ∷ xs) = ap (λ b. b || declare_one xs []) (and-false x.declared) ∙ common-nil xs
 
 -- a key below all of one list is met in it nowhere
-common-drop : (xs : List NameCol) (y : NameCol) (ys : List NameCol) → IsBelow (key_of y) (keys xs) → common xs (y ∷ ys) ≡ common xs ys
+common-drop : (xs : List NameCol) (y : NameCol) (ys : List NameCol) → IsBelow (key_of y) (keys xs) → declare_one xs (y ∷ ys) ≡ declare_one xs ys
 common-drop [] y ys b = refl
 common-drop (x ∷ xs) y ys b =
-    ap (λ c. (x.declared && ((y.declared && c) || is_declared ys (key_of x))) || common xs (y ∷ ys)) (less-differs (key_of y) (key_of x) b.0)
-    ∙ ap (λ c. (x.declared && (c || is_declared ys (key_of x))) || common xs (y ∷ ys)) (and-false y.declared)
+    ap (λ c. (x.declared && ((y.declared && c) || is_declared ys (key_of x))) || declare_one xs (y ∷ ys)) (less-differs (key_of y) (key_of x) b.0)
+    ∙ ap (λ c. (x.declared && (c || is_declared ys (key_of x))) || declare_one xs (y ∷ ys)) (and-false y.declared)
     ∙ ap (λ c. (x.declared && is_declared ys (key_of x)) || c) (common-drop xs y ys b.1)
 
 module _ (x : NameCol) (xs : List NameCol) (below : IsBelow (key_of x) (keys xs)) where
   clash_by : (y : NameCol) (ys : List NameCol) (more : Bool) (r : Ordering) → key_cmp (key_of x) (key_of y) ≡ r → AreRising (keys (y ∷ ys))
-      → ((zs : List NameCol) → AreRising (keys zs) → clashes xs zs ≡ common xs zs) → more ≡ common (x ∷ xs) ys
-      → by_order r (clashes xs (y ∷ ys)) ((x.declared && y.declared) || clashes xs ys) more ≡ common (x ∷ xs) (y ∷ ys)
+      → ((zs : List NameCol) → AreRising (keys zs) → clashes xs zs ≡ declare_one xs zs) → more ≡ declare_one (x ∷ xs) ys
+      → by_order r (clashes xs (y ∷ ys)) ((x.declared && y.declared) || clashes xs ys) more ≡ declare_one (x ∷ xs) (y ∷ ys)
   clash_by y ys more Less e t h f =
       let all : IsBelow (key_of x) (keys (y ∷ ys)) = (e, below-through (key_of x) (key_of y) (keys ys) e t.0) in
       let none : is_declared (y ∷ ys) (key_of x) ≡ false = undeclared (y ∷ ys) (key_of x) (below-absent (key_of x) (keys (y ∷ ys)) all) in
-      h (y ∷ ys) t ∙ sym (ap (λ b. (x.declared && b) || common xs (y ∷ ys)) none ∙ ap (λ b. b || common xs (y ∷ ys)) (and-false x.declared))
+      h (y ∷ ys) t ∙ sym (ap (λ b. (x.declared && b) || declare_one xs (y ∷ ys)) none ∙ ap (λ b. b || declare_one xs (y ∷ ys)) (and-false x.declared))
   clash_by y ys more Equal e t h f =
       let same : key_of x ≡ key_of y = same_keys x y e in
       let below_ys : IsBelow (key_of x) (keys ys) = subst (λ q. IsBelow q (keys ys)) (sym same) t.0 in
@@ -154,15 +150,15 @@ module _ (x : NameCol) (xs : List NameCol) (below : IsBelow (key_of x) (keys xs)
       let here : bytes_eq (key_of y) (key_of x) ≡ true = subst (λ q. bytes_eq q (key_of x) ≡ true) same (key_refl (key_of x)) in
       let both_declare : is_declared (y ∷ ys) (key_of x) ≡ y.declared =
       ap (λ b. (y.declared && b) || is_declared ys (key_of x)) here ∙ ap (λ b. (y.declared && true) || b) none ∙ or-false (y.declared && true) ∙ and-true y.declared in
-      let rest : common xs (y ∷ ys) ≡ common xs ys = common-drop xs y ys (subst (λ q. IsBelow q (keys xs)) same below) in
+      let rest : declare_one xs (y ∷ ys) ≡ declare_one xs ys = common-drop xs y ys (subst (λ q. IsBelow q (keys xs)) same below) in
       ap (λ b. (x.declared && y.declared) || b) (h ys t.1)
-      ∙ sym (ap (λ b. (x.declared && b) || common xs (y ∷ ys)) both_declare ∙ ap (λ b. (x.declared && y.declared) || b) rest)
+      ∙ sym (ap (λ b. (x.declared && b) || declare_one xs (y ∷ ys)) both_declare ∙ ap (λ b. (x.declared && y.declared) || b) rest)
   clash_by y ys more Greater e t h f =
       let less : key_cmp (key_of y) (key_of x) ≡ Less = key_turned (key_of x) (key_of y) e in
       f ∙ sym (common-drop (x ∷ xs) y ys (less, below-through (key_of y) (key_of x) (keys xs) less below))
 
-  clash_with-common : (ys : List NameCol) → AreRising (keys ys) → ((zs : List NameCol) → AreRising (keys zs) → clashes xs zs ≡ common xs zs)
-      → clash_with x (clashes xs) ys ≡ common (x ∷ xs) ys
+  clash_with-common : (ys : List NameCol) → AreRising (keys ys) → ((zs : List NameCol) → AreRising (keys zs) → clashes xs zs ≡ declare_one xs zs)
+      → clash_with x (clashes xs) ys ≡ declare_one (x ∷ xs) ys
   clash_with-common [] t h = sym (common-nil (x ∷ xs))
   clash_with-common (y ∷ ys) t h = clash_by y ys (clash_with x (clashes xs) ys) (key_cmp (key_of x) (key_of y)) refl t h (clash_with-common ys t.1 h)
 
@@ -170,7 +166,7 @@ pub clashes-nil : (xs : List NameCol) → clashes xs [] ≡ false
 clashes-nil [] = refl
 clashes-nil (x ∷ xs) = refl
 
-pub clashes-common : (xs ys : List NameCol) → AreRising (keys xs) → AreRising (keys ys) → clashes xs ys ≡ common xs ys
+pub clashes-common : (xs ys : List NameCol) → AreRising (keys xs) → AreRising (keys ys) → clashes xs ys ≡ declare_one xs ys
 clashes-common [] ys s t = refl
 clashes-common (x ∷ xs) ys s t = clash_with-common x xs s.0 ys t (λ zs u. clashes-common xs zs s.1 u)
 
@@ -215,9 +211,9 @@ shared-meets (k ∷ ks) ds n h t = elim (or_cases (bytes_eq k n) (is_among ks n)
   | inr later ↦ or_right (is_among ds k) (meets ks ds) (shared-meets ks ds n later t)
 ]
 
-common-shared : (xs ys : List NameCol) → common xs ys ≡ true → IsShared (is_declared xs) (is_declared ys)
+common-shared : (xs ys : List NameCol) → declare_one xs ys ≡ true → IsShared (is_declared xs) (is_declared ys)
 common-shared [] ys e = absurd (true≢false (sym e))
-common-shared (x ∷ xs) ys e = elim (or_cases (x.declared && is_declared ys (key_of x)) (common xs ys) e) [
+common-shared (x ∷ xs) ys e = elim (or_cases (x.declared && is_declared ys (key_of x)) (declare_one xs ys) e) [
   | inl both_declare ↦ record {
     key = key_of x;
     here = or_left (x.declared && bytes_eq (key_of x) (key_of x)) (is_declared xs (key_of x))
@@ -229,19 +225,19 @@ common-shared (x ∷ xs) ys e = elim (or_cases (x.declared && is_declared ys (ke
       record { key = s.key; here = or_right (x.declared && bytes_eq (key_of x) s.key) (is_declared xs s.key) s.here; there = s.there }
 ]
 
-shared-common : (xs ys : List NameCol) (n : Key) → is_declared xs n ≡ true → is_declared ys n ≡ true → common xs ys ≡ true
+shared-common : (xs ys : List NameCol) (n : Key) → is_declared xs n ≡ true → is_declared ys n ≡ true → declare_one xs ys ≡ true
 shared-common [] ys n h t = absurd (true≢false (sym h))
 shared-common (x ∷ xs) ys n h t = elim (or_cases (x.declared && bytes_eq (key_of x) n) (is_declared xs n) h) [
   | inl here ↦
       let same : key_of x ≡ n = key_is (key_of x) n (and_right x.declared (bytes_eq (key_of x) n) here) in
-      or_left (x.declared && is_declared ys (key_of x)) (common xs ys)
+      or_left (x.declared && is_declared ys (key_of x)) (declare_one xs ys)
       (ap (λ b. x.declared && b) (subst (λ q. is_declared ys q ≡ true) (sym same) t) ∙ and-true x.declared ∙ and_left x.declared (bytes_eq (key_of x) n) here)
-  | inr later ↦ or_right (x.declared && is_declared ys (key_of x)) (common xs ys) (shared-common xs ys n later t)
+  | inr later ↦ or_right (x.declared && is_declared ys (key_of x)) (declare_one xs ys) (shared-common xs ys n later t)
 ]
 
 pub common-meets : (xs ys : List NameCol) (ks ds : List Key) → ((k : Key) → is_declared xs k ≡ is_among ks k) → ((k : Key) → is_declared ys k ≡ is_among ds k)
-    → common xs ys ≡ meets ks ds
-common-meets xs ys ks ds f g = both_ways (common xs ys) (meets ks ds)
+    → declare_one xs ys ≡ meets ks ds
+common-meets xs ys ks ds f g = both_ways (declare_one xs ys) (meets ks ds)
     (λ e. let s = common-shared xs ys e in shared-meets ks ds s.key (sym (f s.key) ∙ s.here) (sym (g s.key) ∙ s.there))
     (λ e. let s = meets-shared ks ds e in shared-common xs ys s.key (f s.key ∙ s.here) (g s.key ∙ s.there))
 

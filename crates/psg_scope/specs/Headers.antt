@@ -1,8 +1,9 @@
 -- What a header says of a region.
-use Rattle.std.specs.Prelude.{ℕ, ◌≡◌, ◌<◌, ◌==◌, ◌&&◌, ◌||◌, Bool, true, false, List, [], ◌∷◌, map, slice_get, Some, bytes_eq}
+use Rattle.std.specs.Prelude.{ℕ, ◌≡◌, ◌<◌, ◌==◌, ◌&&◌, ◌||◌, Bool, true, false, List, [], ◌∷◌, ◌++◌, map, slice_get, Some, bytes_eq}
 use Rattle.std.specs.List.{list_any, AllByRecursion}
+use Rattle.std.specs.declared.cmp.Ordering.TheVariants.{Less}
 use Rattle.psg_terms.specs.Names.{is_among, has_twice}
-use Rattle.psg_grammar.specs.Keys.{Key, in_order}
+use Rattle.psg_grammar.specs.Keys.{Key, key_cmp, in_order, outward}
 use Rattle.psg_scope.specs.declared.header.NameCol.{NameCol}
 use Rattle.psg_scope.specs.declared.header.Header.{Header}
 
@@ -49,9 +50,39 @@ pub record IsHeader (names declared : List Key) (unfinished : ℕ → Bool) (h :
   pub ascending : AreAscending h.unfinished
   pub repeats : h.twice ≡ has_twice declared
 
--- some region has this header
-abbrev pub IsRegionsHeader : Header → Type 0
-IsRegionsHeader h = (names declared : List Key) × (unfinished : ℕ → Bool) × IsHeader names declared unfinished h
+-- each key is below all behind it
+abbrev pub IsBelow : Key → List Key → Type 0
+IsBelow n ks = AllByRecursion (λ m. key_cmp n m ≡ Less) ks
+
+abbrev pub AreRising : List Key → Type 0
+AreRising [] = Unit {0}
+AreRising (k ∷ ks) = IsBelow k ks × AreRising ks
+
+-- the keys stand in order, each once, and so do the spaces
+pub record IsOrdered (h : Header) : Type 0 where
+  pub keys_rise : AreRising (keys h.names)
+  pub spaces_rise : AreAscending h.unfinished
+
+-- whether both lists declare one key
+abbrev pub declare_one : List NameCol → List NameCol → Bool
+declare_one [] ys = false
+declare_one (x ∷ xs) ys = (x.declared && is_declared ys (key_of x)) || declare_one xs ys
+
+-- The header has the keys of two. A key is declared where one of them declares it, and one is declared twice where one of them
+-- says so or both declare it.
+pub record IsUnion (left right h : Header) : Type 0 where
+  pub keys_are : keys h.names ≡ in_order (keys left.names ++ keys right.names)
+  pub declares : (k : Key) → is_declared h.names k ≡ (is_declared left.names k || is_declared right.names k)
+  pub spaces : (s : ℕ) → has_space h.unfinished s ≡ (has_space left.unfinished s || has_space right.unfinished s)
+  pub spaces_rise : AreAscending h.unfinished
+  pub repeats : h.twice ≡ ((left.twice || right.twice) || declare_one left.names right.names)
+
+-- The header has the keys that pass outward: those that are not declared and in whose space the region is finished.
+pub record PassesOutward (inside h : Header) : Type 0 where
+  pub keys_are : keys h.names ≡ outward (has_space inside.unfinished) (declared_keys inside.names) (keys inside.names)
+  pub undeclared : (k : Key) → is_declared h.names k ≡ false
+  pub finished : h.unfinished ≡ []
+  pub once : h.twice ≡ false
 
 -- the keys stand at these places of the list, one after the other
 abbrev pub ArePlaces : List NameCol → List ℕ → List Key → Type 0

@@ -1,7 +1,7 @@
 //! What passes outward from a region.
 ghost use Rattle.std.specs.Prelude.{◌≡◌, [], ℕ, Bool, false, not, ◌||◌, List, IfOk};
 ghost use Rattle.psg_grammar.specs.Keys.{Key, outward};
-ghost use Rattle.psg_scope.specs.Headers.{AreAscending, ArePlaces, has_space, IsHeader, IsRegionsHeader, keys};
+ghost use Rattle.psg_scope.specs.Headers.{AreAscending, ArePlaces, has_space, IsHeader, IsOrdered, keys, PassesOutward};
 
 use crate::header::{Header, NameCol};
 use psg_terms::Seq;
@@ -12,18 +12,20 @@ use std::alloc::{AllocError, Global};
 pub struct Closed {
     pub header: Header,
     /// For each key that passes outward its place in the header of the region.
-    pub kept: Vec<usize>,
+    pub kept: Seq<usize>,
 }
 
 /// The header of a scope operator from that of its inside region: the keys that the region neither declares nor may still
 /// declare. It declares none of them, and leaves no space unfinished. It takes a number of steps that is that of the keys
 /// times the logarithm of the number of unfinished spaces.
 pub fn close_region(alloc: Global, header: &Header) -> Result<Closed, AllocError>
-    requires { IsRegionsHeader header.now }
-    ensures header { IfOk result (λ c. (names declared : List Key) (unfinished : ℕ → Bool)
+    requires { IsOrdered header.now }
+    ensures outward { IfOk result (λ c. PassesOutward header.now c.header) }
+    ensures ordered { IfOk result (λ c. IsOrdered c.header) }
+    // the header of a scope operator, whatever its inside region is
+    ensures region { IfOk result (λ c. (names declared : List Key) (unfinished : ℕ → Bool)
         → IsHeader names declared unfinished header.now → IsHeader (outward unfinished declared names) [] (λ _. false) c.header) }
-    ensures region { IfOk result (λ c. IsRegionsHeader c.header) }
-    ensures kept { IfOk result (λ c. ArePlaces header.now.names c.kept.items (keys c.header.names)) }
+    ensures kept { IfOk result (λ c. ArePlaces header.now.names c.kept (keys c.header.names)) }
 {
     let mut names = Vec::new(alloc);
     let mut kept = Vec::new(alloc);
@@ -42,7 +44,7 @@ pub fn close_region(alloc: Global, header: &Header) -> Result<Closed, AllocError
             unfinished: Seq::of(Vec::new(alloc)),
             twice: false,
         },
-        kept,
+        kept: Seq::of(kept),
     })
 }
 

@@ -1,7 +1,7 @@
 //! Headers of parts made one.
 ghost use Rattle.std.specs.Prelude.{◌≡◌, ◌||◌, ◌++◌, [], ℕ, Bool, false, List, IfOk};
 ghost use Rattle.psg_grammar.specs.Keys.{Key};
-ghost use Rattle.psg_scope.specs.Headers.{ArePlaces, declared_keys, IsHeader, IsRegionsHeader, keys};
+ghost use Rattle.psg_scope.specs.Headers.{ArePlaces, declared_keys, IsHeader, IsOrdered, IsUnion, keys};
 
 use crate::header::{Header, NameCol};
 use crate::merging::{is_either, merged};
@@ -14,23 +14,25 @@ use std::alloc::{AllocError, Global};
 pub struct Joined {
     pub header: Header,
     /// For each key of the left header its place in the joined one.
-    pub left: Vec<usize>,
+    pub left: Seq<usize>,
     /// For each key of the right header its place in the joined one.
-    pub right: Vec<usize>,
+    pub right: Seq<usize>,
 }
 
 /// The header of a region that has the positions of two: its keys are those of both, in order and each once, and a key that
 /// one of them declares is declared. It declares a key twice where one of them does or both declare one key. It looks at
 /// each key once, and shares the names.
 pub fn join(alloc: Global, left: &Header, right: &Header) -> Result<Joined, AllocError>
-    requires left { IsRegionsHeader left.now }
-    requires right { IsRegionsHeader right.now }
-    ensures header { IfOk result (λ j. (names others declared others_declared : List Key) (unfinished others_unfinished : ℕ → Bool)
+    requires left { IsOrdered left.now }
+    requires right { IsOrdered right.now }
+    ensures union { IfOk result (λ j. IsUnion left.now right.now j.header) }
+    ensures ordered { IfOk result (λ j. IsOrdered j.header) }
+    // the header of two parts of a region, whatever the region is
+    ensures region { IfOk result (λ j. (names others declared others_declared : List Key) (unfinished others_unfinished : ℕ → Bool)
         → IsHeader names declared unfinished left.now → IsHeader others others_declared others_unfinished right.now
         → IsHeader (names ++ others) (declared ++ others_declared) (λ s. unfinished s || others_unfinished s) j.header) }
-    ensures region { IfOk result (λ j. IsRegionsHeader j.header) }
-    ensures left { IfOk result (λ j. ArePlaces j.header.names j.left.items (keys left.now.names)) }
-    ensures right { IfOk result (λ j. ArePlaces j.header.names j.right.items (keys right.now.names)) }
+    ensures left { IfOk result (λ j. ArePlaces j.header.names j.left (keys left.now.names)) }
+    ensures right { IfOk result (λ j. ArePlaces j.header.names j.right (keys right.now.names)) }
 {
     let all = merged(alloc, left.names.as_slice(), right.names.as_slice())?;
     let unfinished = union(
@@ -44,8 +46,8 @@ pub fn join(alloc: Global, left: &Header, right: &Header) -> Result<Joined, Allo
             unfinished: Seq::of(unfinished),
             twice: is_either(is_either(left.twice, right.twice), all.clashes),
         },
-        left: all.left,
-        right: all.right,
+        left: Seq::of(all.left),
+        right: Seq::of(all.right),
     })
 }
 
@@ -53,7 +55,7 @@ pub fn join(alloc: Global, left: &Header, right: &Header) -> Result<Joined, Allo
 /// that of the positions times its logarithm.
 pub fn header_of(alloc: Global, positions: &[NameCol]) -> Result<Header, AllocError>
     ensures header { IfOk result (IsHeader (keys positions.now) (declared_keys positions.now) (λ _. false)) }
-    ensures region { IfOk result IsRegionsHeader }
+    ensures ordered { IfOk result IsOrdered }
 {
     if positions.len() <= 1 {
         let Some(position) = positions.first() else {

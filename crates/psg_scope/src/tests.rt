@@ -1,6 +1,6 @@
 //! Headers that were worked out by hand.
-ghost use Rattle.std.specs.Prelude.{◌==◌, ◌||◌, [], false, IfOk};
-ghost use Rattle.psg_scope.specs.Headers.{IsHeader, IsRegionsHeader};
+ghost use Rattle.std.specs.Prelude.{IfOk};
+ghost use Rattle.psg_scope.specs.Headers.{IsOrdered};
 
 use crate::{Header, NameCol, close_region, header_of, join};
 use psg_terms::{Seq, Txt};
@@ -10,7 +10,7 @@ use std::alloc::{AllocError, Global};
 type Position<'a> = (u32, &'a str, bool);
 
 fn header(alloc: Global, positions: &[Position]) -> Result<Header, AllocError>
-    ensures { IfOk result IsRegionsHeader }
+    ensures { IfOk result IsOrdered }
 {
     let mut cols = Vec::new(alloc);
     for (space, name, declared) in positions {
@@ -26,7 +26,7 @@ fn header(alloc: Global, positions: &[Position]) -> Result<Header, AllocError>
 
 /// The header of a list without elements that is unfinished in the space.
 fn unfinished(alloc: Global, space: u32) -> Result<Header, AllocError>
-    ensures { IfOk result (IsHeader [] [] (λ s. (space == s) || false)) }
+    ensures { IfOk result IsOrdered }
 {
     let spaces = vec![in alloc; space]?;
     Ok(Header {
@@ -67,8 +67,8 @@ fn joins(
     inside: &str,
     outside: &str,
 ) -> Result<bool, AllocError>
-    requires left { IsRegionsHeader left.now }
-    requires right { IsRegionsHeader right.now }
+    requires left { IsOrdered left.now }
+    requires right { IsOrdered right.now }
 {
     let both = join(alloc, left, right)?;
     let outward = close_region(alloc, &both.header)?;
