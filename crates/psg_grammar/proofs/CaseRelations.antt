@@ -72,9 +72,13 @@ apart r other (later first) (later first) i = refl
 apart r other (later first) (later (later h)) i = elim h [ ]
 apart r other (later (later h)) k i = elim h [ ]
 
+once : (x : List Term) → x ≡ symbol 1 ∷ [] → IsIn x ((symbol 0 ∷ []) ∷ []) → ⊥
+once x e first = absurd (cc)
+once x e (later h) = elim h [ ]
+
 -- the placeholder has the relation of these two rows
 pub relation : IsRelationOf constants (hole 0) rows
-relation = (0 ∷ [], record { shapes = shapes; covers = covers; apart = apart; order = (refl, tt) })
+relation = (0 ∷ [], record { shapes = shapes; covers = covers; apart = apart; once = (once (symbol 1 ∷ []) refl, (λ h. elim h [ ], tt)); order = (refl, tt) })
 
 -- which weigh two
 weights : HasWeights constants (hole 0) 2

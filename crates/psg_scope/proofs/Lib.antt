@@ -1,0 +1,5 @@
+pub mod KeyOrder
+pub mod KeyLists
+pub mod MergeLaws
+pub mod SpaceLaws
+pub mod HeaderLaws

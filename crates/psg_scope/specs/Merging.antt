@@ -1,0 +1,52 @@
+-- Two lists of keys made one, key by key.
+use Rattle.std.specs.Prelude.{ℕ, ◌≡◌, ◌&&◌, ◌||◌, Bool, false, List, [], ◌∷◌, ◌++◌}
+use Rattle.std.specs.declared.cmp.Ordering.{Ordering}
+use Rattle.std.specs.declared.cmp.Ordering.TheVariants.{Less, Equal, Greater}
+use Rattle.psg_grammar.specs.Keys.{key_cmp}
+use Rattle.psg_scope.specs.Headers.{key_of, both}
+use Rattle.psg_scope.specs.declared.header.NameCol.{NameCol}
+use Rattle.psg_scope.specs.declared.merging.Merging.{Merging}
+use Rattle.psg_scope.specs.declared.merging.First.{First}
+use Rattle.psg_scope.specs.declared.merging.First.TheVariants.{Left, Right, Both, End}
+
+-- what the order of two things chooses
+abbrev pub by_order : {X : Type 0} → Ordering → X → X → X → X
+by_order Less less equal greater = less
+by_order Equal less equal greater = equal
+by_order Greater less equal greater = greater
+
+-- x and what comes behind it made one with a list
+abbrev pub merge_with : NameCol → (List NameCol → List NameCol) → List NameCol → List NameCol
+merge_with x behind [] = x ∷ behind []
+merge_with x behind (y ∷ ys) =
+    by_order (key_cmp (key_of x) (key_of y)) (x ∷ behind (y ∷ ys)) (both x y ∷ behind ys) (y ∷ merge_with x behind ys)
+
+abbrev pub merge : List NameCol → List NameCol → List NameCol
+merge [] ys = ys
+merge (x ∷ xs) ys = merge_with x (merge xs) ys
+
+-- whether a key that is declared in both lists is met
+abbrev pub clash_with : NameCol → (List NameCol → Bool) → List NameCol → Bool
+clash_with x behind [] = false
+clash_with x behind (y ∷ ys) =
+    by_order (key_cmp (key_of x) (key_of y)) (behind (y ∷ ys)) ((x.declared && y.declared) || behind ys) (clash_with x behind ys)
+
+abbrev pub clashes : List NameCol → List NameCol → Bool
+clashes [] ys = false
+clashes (x ∷ xs) ys = clash_with x (clashes xs) ys
+
+-- the key that comes next, and what both lists are behind it
+abbrev pub IsNext : List NameCol → List NameCol → First → Type 0
+IsNext xs ys (Left x rest) = (xs ≡ x.now ∷ rest.now) × (merge xs ys ≡ x.now ∷ merge rest.now ys) × (clashes xs ys ≡ clashes rest.now ys)
+IsNext xs ys (Right y rest) = (ys ≡ y.now ∷ rest.now) × (merge xs ys ≡ y.now ∷ merge xs rest.now) × (clashes xs ys ≡ clashes xs rest.now)
+IsNext xs ys (Both x lefts y rights) =
+    (xs ≡ x.now ∷ lefts.now) × (ys ≡ y.now ∷ rights.now) × (merge xs ys ≡ both x.now y.now ∷ merge lefts.now rights.now)
+    × (clashes xs ys ≡ ((x.now.declared && y.now.declared) || clashes lefts.now rights.now)) × (key_of x.now ≡ key_of y.now)
+IsNext xs ys End = (xs ≡ []) × (ys ≡ [])
+
+-- one more key, and its place for each list that has it
+pub record GrowsBy (old new : Merging) (key : NameCol) (left right : List ℕ) : Type 0 where
+  pub names : new.names.items ≡ old.names.items ++ key ∷ []
+  pub lefts : new.left.items ≡ old.left.items ++ left
+  pub rights : new.right.items ≡ old.right.items ++ right
+  pub clash : new.clashes ≡ old.clashes

@@ -1,0 +1,65 @@
+//! What passes outward from a region.
+ghost use Rattle.std.specs.Prelude.{◌≡◌, [], ℕ, Bool, false, not, ◌||◌, List, IfOk};
+ghost use Rattle.psg_grammar.specs.Keys.{Key, outward};
+ghost use Rattle.psg_scope.specs.Headers.{AreAscending, ArePlaces, has_space, IsHeader, IsOrdered, keys, PassesOutward};
+
+use crate::header::{Header, NameCol};
+use psg_terms::Seq;
+use std::alloc::{AllocError, Global};
+
+/// What passes outward from a region.
+#[derive(Drop)]
+pub struct Closed {
+    pub header: Header,
+    /// For each key that passes outward its place in the header of the region.
+    pub kept: Seq<usize>,
+}
+
+/// The header of a scope operator from that of its inside region: the keys that the region neither declares nor may still
+/// declare. It declares none of them, and leaves no space unfinished. It takes a number of steps that is that of the keys
+/// times the logarithm of the number of unfinished spaces.
+pub fn close_region(alloc: Global, header: &Header) -> Result<Closed, AllocError>
+    requires { IsOrdered header.now }
+    ensures outward { IfOk result (λ c. PassesOutward header.now c.header) }
+    ensures ordered { IfOk result (λ c. IsOrdered c.header) }
+    // the header of a scope operator, whatever its inside region is
+    ensures region { IfOk result (λ c. (names declared : List Key) (unfinished : ℕ → Bool)
+        → IsHeader names declared unfinished header.now → IsHeader (outward unfinished declared names) [] (λ _. false) c.header) }
+    ensures kept { IfOk result (λ c. ArePlaces header.now.names c.kept (keys c.header.names)) }
+{
+    let mut names = Vec::new(alloc);
+    let mut kept = Vec::new(alloc);
+    let all = header.names.as_slice();
+    let unfinished = header.unfinished.as_slice();
+    for i in 0..all.len() {
+        let key = &all[i];
+        if passes(key, unfinished) {
+            names.push(key.share(false)?)?;
+            kept.push(i)?;
+        }
+    }
+    Ok(Closed {
+        header: Header {
+            names: Seq::of(names),
+            unfinished: Seq::of(Vec::new(alloc)),
+            twice: false,
+        },
+        kept: Seq::of(kept),
+    })
+}
+
+/// Whether the key passes outward.
+fn passes(key: &NameCol, unfinished: &[u32]) -> bool
+    requires { AreAscending unfinished.now }
+    ensures { result ≡ not (has_space unfinished.now key.now.space || key.now.declared) }
+{
+    !is_among(unfinished, key.space) && !key.declared
+}
+
+/// Whether the space is among the ascending ones.
+fn is_among(spaces: &[u32], space: u32) -> bool
+    requires { AreAscending spaces.now }
+    ensures { result ≡ has_space spaces.now space }
+{
+    spaces.binary_search(&space).is_ok()
+}
