@@ -1,9 +1,8 @@
 -- Members of lists.
 use Rattle.std.proofs.Common.{◌≡◌, ℕ, ◌+◌, ◌<◌, ◌⊎◌, inl, inr, zero, suc, List, [], ◌∷◌, ◌++◌, map, take, get_or, length, refl, ap, sym, subst, arith}
 use Rattle.std.specs.List.{Contains}
-use Rattle.psg_terms.specs.Relations.{IsIn, first, later}
+use Rattle.psg_terms.specs.Relations.{IsIn, first, later, IsOnce}
 use Rattle.psg_terms.proofs.DeclareLaws.{take-next}
-use Rattle.psg_relation.specs.Sifted.{IsOnce}
 
 pub in-left : {X : Type 0} (x : X) (xs ys : List X) → IsIn x xs → IsIn x (xs ++ ys)
 in-left x [] ys h = elim h [ ]

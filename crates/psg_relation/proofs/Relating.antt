@@ -43,6 +43,7 @@ module _ (sig : Signature) (sorts : List ℕ) {C D : Type 0} (P : C → List Ter
         let (k, h, all) = rel.covers c columns ((both columns).1 q) in
         (k, h, λ x r. all x ((both x).1 r));
     apart = rel.apart;
+    once = rel.once;
     order = rel.order;
   }
 
@@ -107,6 +108,7 @@ module _ (sig : Signature) (sound : IsSound sig) where
             let (k, h, i) = s.covers row p.0 in
             (k, h, λ x q. (instance_exact sig sound k row sorts (sorted k (s.among k h)) (sorted row p.0) (written row p.0)).0 i x q.1);
         apart = s.apart;
+        once = s.once;
         order = order;
       }
 

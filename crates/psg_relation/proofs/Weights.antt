@@ -6,10 +6,9 @@ use Rattle.std.proofs.lemmas.List.Sums.{sum_by-cons, sum_by-append, sum_by_push}
 use Rattle.std.proofs.lemmas.List.Recursion.{max_push}
 use Rattle.psg_terms.specs.Terms.{Term}
 use Rattle.psg_terms.specs.Weight.{symbols_of, depth_of, weight_of, PassesLimit}
-use Rattle.psg_terms.specs.Relations.{IsIn, first, later}
+use Rattle.psg_terms.specs.Relations.{IsIn, first, later, IsOnce}
 use Rattle.psg_terms.proofs.DeclareLaws.{take-next}
 use Rattle.psg_relation.specs.Heavy.{deepest_in, deepest_of, IsHeavy}
-use Rattle.psg_relation.specs.Sifted.{IsOnce}
 use Rattle.psg_relation.proofs.Members.{in-contains, contains-in, around, beside}
 
 -- one element more in a sum that stops at m

@@ -5,12 +5,12 @@ use Rattle.psg_terms.specs.Signature.{Signature, HaveSorts}
 use Rattle.psg_terms.specs.Sound.{IsSound}
 use Rattle.psg_terms.specs.Instances.{IsInstance, HasSameInstances}
 use Rattle.psg_terms.specs.Canonical.{IsCanonical, AreWrittenOut}
-use Rattle.psg_terms.specs.Relations.{IsIn}
+use Rattle.psg_terms.specs.Relations.{IsIn, IsOnce}
 use Rattle.psg_terms.specs.Text.{IsInTextOrder}
 use Rattle.psg_terms.specs.Weight.{weight_of}
 use Rattle.psg_relation.specs.Heavy.{deepest_of, IsHeavy}
 
--- canonical rows of one width and equal sorts, none an instance of another one, in byte order of their texts
+-- canonical rows of one width and equal sorts, each once, none an instance of another one, in byte order of their texts
 pub record AreSealed (rows : List (List Term)) : Type 0 where
   pub sig : Signature
   pub sound : IsSound sig
@@ -18,6 +18,7 @@ pub record AreSealed (rows : List (List Term)) : Type 0 where
   pub sorted : (row : List Term) → IsIn row rows → HaveSorts sig row sorts
   pub canonical : (row : List Term) → IsIn row rows → IsCanonical sig row
   pub apart : (row other : List Term) → IsIn row rows → IsIn other rows → IsInstance row other → row ≡ other
+  pub once : IsOnce rows
   pub order : IsInTextOrder sig rows
 
 -- such rows, with their weight and depth, which are within the limit

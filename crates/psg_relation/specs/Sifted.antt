@@ -2,14 +2,9 @@
 use Rattle.std.specs.Prelude.{ℕ, ◌≡◌, ◌+◌, ◌⊎◌, ◌++◌, Bool, MatchBool, List, [], ◌∷◌, slice_index_or}
 use Rattle.psg_terms.specs.Terms.{Term}
 use Rattle.psg_terms.specs.Instances.{IsGround, IsInstance}
-use Rattle.psg_terms.specs.Relations.{IsIn}
+use Rattle.psg_terms.specs.Relations.{IsIn, IsOnce}
 use Rattle.psg_relation.specs.Heavy.{IsHeavy}
 use Rattle.psg_relation.specs.Ordered.{KeepsOrder}
-
--- no member stands twice
-abbrev pub IsOnce : {X : Type 0} → List X → Type 0
-IsOnce [] = Unit {0}
-IsOnce (x ∷ xs) = (IsIn x xs → ⊥) × IsOnce xs
 
 -- terms without variables
 abbrev pub AreGround : List Term → Type 0

@@ -5,7 +5,7 @@ ghost use Rattle.psg_terms.specs.Signature.{HaveSorts};
 ghost use Rattle.psg_terms.specs.Sound.{IsSound};
 ghost use Rattle.psg_terms.specs.Instances.{IsInstance};
 ghost use Rattle.psg_terms.specs.Canonical.{IsCanonical};
-ghost use Rattle.psg_terms.specs.Relations.{IsIn, IsRelation};
+ghost use Rattle.psg_terms.specs.Relations.{IsIn, IsOnce, IsRelation};
 ghost use Rattle.psg_terms.specs.Text.{IsInTextOrder};
 ghost use Rattle.psg_terms.specs.Weight.{PassesLimit};
 ghost use Rattle.psg_relation.specs.Choices.{AllHaveSorts, IsOfRow, MayBeWide};
@@ -161,6 +161,7 @@ fn sealed(sig: &Signature, kept: Vec<RelRow>) -> Result<Rel, RelFault>
     requires sorted { (sorts : List ℕ) × AllHaveSorts sig.now kept.items sorts }
     requires canonical { (row : List Plain) → IsIn row kept.items → IsCanonical sig.now row }
     requires apart { (row other : List Plain) → IsIn row kept.items → IsIn other kept.items → IsInstance row other → row ≡ other }
+    requires once { IsOnce kept.items }
     requires order { IsInTextOrder sig.now kept.items }
     ensures rows { IfOk result (λ rel. rel ≡ kept.items) }
     ensures within { IfOk result (λ rel. PassesLimit rel → ⊥) }
