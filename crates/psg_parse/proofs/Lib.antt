@@ -1,0 +1,15 @@
+pub mod Terminals
+pub mod Puts
+pub mod Kept
+pub mod Stacks
+pub mod Items
+pub mod Opens
+pub mod Starts
+pub mod Finds
+pub mod Holes
+pub mod Grown
+pub mod Leading
+pub mod ListSteps
+pub mod WorkLaws
+pub mod Formed
+pub mod Tabled
