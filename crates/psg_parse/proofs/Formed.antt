@@ -67,45 +67,45 @@ module _ (def : Definition) where
       let (w, among) = named x (is_word x) (is_among (fixed_words def) x) e in
       (chars x, sym (bytes_eq-same (encode_utf8_all (chars x)) x (second_so (are_word (chars x)) (bytes_eq (encode_utf8_all (chars x)) x) w)), is_word_says x w, among)
 
-  tree_formed : {f : Fragment} {p level d : ℕ} {ts : List Token} → TreeYields def f p level d ts → AreValues ts → WellFormed def f (kinds.Phylum p)
-  parts_formed : {o : Operator} {first : Bool} {f g : Fragment} {d e : ℕ} {more : List Item} {ts : List Token} (kind : Kind) → PartsYield def o first f d more g e ts → AreValues ts
-      → Fits def f (part_items more) kind × IsPlain f → WellFormed def g kind
-  list_formed : {f : Fragment} {l d : ℕ} {ts : List Token} → ListYields def f l d ts → AreValues ts → WellFormed def f (kinds.List l)
-  some_formed : {f : Fragment} {l d : ℕ} {ts : List Token} → SomeYield def f l d ts → AreValues ts → WellFormed def f (kinds.List l) × IsUnobserved f
+  mutual
+    tree_formed : {f : Fragment} {p level d : ℕ} {ts : List Token} → TreeYields def f p level d ts → AreValues ts → WellFormed def f (kinds.Phylum p)
+    tree_formed (of_hole {p = p} phylum found closed) v = ((refl, refl, slice_get_within def.phyla p phylum found, closed), tt)
+    tree_formed (of_operator {f = f} {p = p} n o found is least parts) v =
+        parts_formed (kinds.Phylum p) parts v ((o, found, sym (solid_parts o.items), ap kinds.Phylum (sym is)), tt)
+    tree_formed (in_brackets {ts = ts} phylum open_token close_token found bracketed opens closes y) v = tree_formed y (in_front ts (close_token ∷ []) v.1)
 
-  tree_formed (of_hole {p = p} phylum found closed) v = ((refl, refl, slice_get_within def.phyla p phylum found, closed), tt)
-  tree_formed (of_operator {f = f} {p = p} n o found is least parts) v =
-      parts_formed (kinds.Phylum p) parts v ((o, found, sym (solid_parts o.items), ap kinds.Phylum (sym is)), tt)
-  tree_formed (in_brackets {ts = ts} phylum open_token close_token found bracketed opens closes y) v = tree_formed y (in_front ts (close_token ∷ []) v.1)
+    parts_formed : {o : Operator} {first : Bool} {f g : Fragment} {d e : ℕ} {more : List Item} {ts : List Token} (kind : Kind) → PartsYield def o first f d more g e ts → AreValues ts
+        → Fits def f (part_items more) kind × IsPlain f → WellFormed def g kind
+    parts_formed kind no_items v h = h
+    parts_formed kind (of_word t is y) v h = parts_formed kind y v.1 h
+    parts_formed kind (of_refers s x is y) v h = parts_formed kind y v.1 ((inl (s, h.0), name_is x is), h.1)
+    parts_formed kind (of_declares s x is y) v h = parts_formed kind y v.1 ((inr (s, h.0), name_is x is), h.1)
+    parts_formed kind (of_number x y) v h = parts_formed kind y v.1 ((h.0, v.0), h.1)
+    parts_formed kind (of_text x y) v h = parts_formed kind y v.1 ((h.0, v.0), h.1)
+    parts_formed kind (of_slot {p = p} t depth own behind y z) v h =
+        let below = tree_formed y (in_front own behind v) in
+        parts_formed kind z (at_end own behind v) ((kinds.Phylum p, h.0, below.0), (h.1, below.1))
+    parts_formed kind (of_list_slot {l = l} t depth own behind y z) v h =
+        let below = list_formed y (in_front own behind v) in
+        parts_formed kind z (at_end own behind v) ((kinds.List l, h.0, below.0), (h.1, below.1))
 
-  parts_formed kind no_items v h = h
-  parts_formed kind (of_word t is y) v h = parts_formed kind y v.1 h
-  parts_formed kind (of_refers s x is y) v h = parts_formed kind y v.1 ((inl (s, h.0), name_is x is), h.1)
-  parts_formed kind (of_declares s x is y) v h = parts_formed kind y v.1 ((inr (s, h.0), name_is x is), h.1)
-  parts_formed kind (of_number x y) v h = parts_formed kind y v.1 ((h.0, v.0), h.1)
-  parts_formed kind (of_text x y) v h = parts_formed kind y v.1 ((h.0, v.0), h.1)
-  parts_formed kind (of_slot {p = p} t depth own behind y z) v h =
-      let below = tree_formed y (in_front own behind v) in
-      parts_formed kind z (at_end own behind v) ((kinds.Phylum p, h.0, below.0), (h.1, below.1))
-  parts_formed kind (of_list_slot {l = l} t depth own behind y z) v h =
-      let below = list_formed y (in_front own behind v) in
-      parts_formed kind z (at_end own behind v) ((kinds.List l, h.0, below.0), (h.1, below.1))
+    list_formed : {f : Fragment} {l d : ℕ} {ts : List Token} → ListYields def f l d ts → AreValues ts → WellFormed def f (kinds.List l)
+    list_formed (no_elements kind found) v = ((refl, refl, (kind, found, λ e. absurd (false≢true e))), tt)
+    list_formed (only_more kind found unfinished) v = ((refl, refl, (kind, found, λ e. unfinished)), tt)
+    list_formed (elements y) v = (some_formed y v).0
 
-  list_formed (no_elements kind found) v = ((refl, refl, (kind, found, λ e. absurd (false≢true e))), tt)
-  list_formed (only_more kind found unfinished) v = ((refl, refl, (kind, found, λ e. unfinished)), tt)
-  list_formed (elements y) v = (some_formed y v).0
-
-  some_formed (last_element kind found y) v =
-      let e = tree_formed y v in
-      (((refl, refl, kind, found, e.0, (refl, refl, (kind, found, λ h. absurd (false≢true h))), tt), (e.1, tt)), tt)
-  some_formed (and_more ts kind separator found unfinished is y) v =
-      let e = tree_formed y (in_front ts (separator ∷ dots ∷ []) v) in
-      (((refl, refl, kind, found, e.0, (refl, refl, (kind, found, λ h. unfinished)), tt), (e.1, tt)), tt)
-  some_formed (and_elements kind m n own behind separator found is y z) v =
-      let e = tree_formed y (in_front own (separator ∷ behind) v) in
-      let after = at_end own (separator ∷ behind) v in
-      let (r, plain) = some_formed z after.1 in
-      (((refl, refl, kind, found, e.0, r.0, plain), (e.1, r.1)), tt)
+    some_formed : {f : Fragment} {l d : ℕ} {ts : List Token} → SomeYield def f l d ts → AreValues ts → WellFormed def f (kinds.List l) × IsUnobserved f
+    some_formed (last_element kind found y) v =
+        let e = tree_formed y v in
+        (((refl, refl, kind, found, e.0, (refl, refl, (kind, found, λ h. absurd (false≢true h))), tt), (e.1, tt)), tt)
+    some_formed (and_more ts kind separator found unfinished is y) v =
+        let e = tree_formed y (in_front ts (separator ∷ dots ∷ []) v) in
+        (((refl, refl, kind, found, e.0, (refl, refl, (kind, found, λ h. unfinished)), tt), (e.1, tt)), tt)
+    some_formed (and_elements kind m n own behind separator found is y z) v =
+        let e = tree_formed y (in_front own (separator ∷ behind) v) in
+        let after = at_end own (separator ∷ behind) v in
+        let (r, plain) = some_formed z after.1 in
+        (((refl, refl, kind, found, e.0, r.0, plain), (e.1, r.1)), tt)
 
 pub yields_are_trees : (def : Definition) → YieldsAreTrees def
 yields_are_trees def (kinds.Phylum p) level d f ts v y = tree_formed def y v

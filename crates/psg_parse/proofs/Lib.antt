@@ -13,3 +13,5 @@ pub mod ListSteps
 pub mod WorkLaws
 pub mod Formed
 pub mod Tabled
+pub mod HoleTables
+pub mod Taken

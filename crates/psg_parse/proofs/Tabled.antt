@@ -52,11 +52,11 @@ module _ (def : Definition) (place : Place) (n : ℕ) where
   UpTo p t m = (m < n + 1) × Has def place p m t
 
   up_to_none : (p : ℕ) (t : Terminal) → (Has def place p n t → ⊥) → ((m : ℕ) → Before p t m → ⊥) → (m : ℕ) → UpTo p t m → ⊥
-  up_to_none p t no h m (lt, has) = elim (eqb_tells m n) [ inl e ↦ no (subst (λ k. Has def place p k t) e.1 has) | inr e ↦ h m (below m n lt e.1, has) ]
+  up_to_none p t lacks h m (lt, has) = elim (eqb_tells m n) [ inl e ↦ lacks (subst (λ k. Has def place p k t) e.1 has) | inr e ↦ h m (below m n lt e.1, has) ]
 
   pub more_none : (p : ℕ) (t : Terminal) (r : Option ℕ) → (Has def place p n t → ⊥) → Finds (Before p t) r → Finds (UpTo p t) r
-  more_none p t None no h = up_to_none p t no h
-  more_none p t (Some m) no (lt, has) = (omega (arith, lt), has)
+  more_none p t None lacks h = up_to_none p t lacks h
+  more_none p t (Some m) lacks (lt, has) = (omega (arith, lt), has)
 
 -- the operator at a number is one
 pub operator_is : (all ops : List Operator) → ops ≡ all → (n : ℕ) (o q : Operator) → q ≡ get_or ops n q → slice_get all n ≡ Some o → o ≡ q
@@ -65,19 +65,19 @@ operator_is all ops e n o q h found = sym (get_or_from_slice_get all n o q found
 module _ (def : Definition) (place : Place) (n : ℕ) (ops : List Operator) (same : ops ≡ def.operators) (q : Operator) (is : q ≡ get_or ops n q) where
   -- an operator without a terminal at the place
   pub has_none : terminal_at place q ≡ None → (p : ℕ) (t : Terminal) → Has def place p n t → ⊥
-  has_none h p t has = let e : None ≡ Some t = sym h ∙ ap (terminal_at place) (sym (operator_is def.operators ops same n has.o q is has.found)) ∙ has.terminal in cc
+  has_none h p t has = let e : None ≡ Some t = sym h ∙ ap (terminal_at place) (sym (operator_is def.operators ops same n has.o q is has.found)) ∙ has.begins in cc
 
   has_item : (item : Item) → terminal_at place q ≡ item_terminal item → (p : ℕ) (t : Terminal) → Has def place p n t → (p ≡ q.phylum) × (item_terminal item ≡ Some t)
   has_item item h p t has =
       let one : has.o ≡ q = operator_is def.operators ops same n has.o q is has.found in
-      (sym has.phylum ∙ ap (λ z. z.phylum) one, sym h ∙ ap (terminal_at place) (sym one) ∙ has.terminal)
+      (sym has.phylum ∙ ap (λ z. z.phylum) one, sym h ∙ ap (terminal_at place) (sym one) ∙ has.begins)
 
   -- an operator is put in at its phylum and its terminal
   pub more_put : (item : Item) → terminal_at place q ≡ item_terminal item → slice_get def.operators n ≡ Some q → (old new : List Openers) → PutsAt old q.phylum item n new
       → ((p : ℕ) (t : Terminal) → Finds (Before def place n p t) (opener_at old p t)) → (p : ℕ) (t : Terminal) → Finds (UpTo def place n p t) (opener_at new p t)
   more_put item h found old new puts before p t = elim (puts p t) [
-    | inl (phylum, terminal, e) ↦ subst (Finds (UpTo def place n p t)) (sym e) (omega arith, record { o = q; found = found; phylum = sym phylum; terminal = h ∙ terminal })
-    | inr (no, e) ↦ subst (Finds (UpTo def place n p t)) (sym e) (more_none def place n p t (opener_at old p t) (λ has. let (a, b) = has_item item h p t has in no a b) (before p t))
+    | inl (phylum, terminal, e) ↦ subst (Finds (UpTo def place n p t)) (sym e) (omega arith, record { o = q; found = found; phylum = sym phylum; begins = h ∙ terminal })
+    | inr (lacks, e) ↦ subst (Finds (UpTo def place n p t)) (sym e) (more_none def place n p t (opener_at old p t) (λ has. let (a, b) = has_item item h p t has in lacks a b) (before p t))
   ]
 
 pub all_found : (def : Definition) (place : Place) (n : ℕ) → length def.operators ≤ n → (p : ℕ) (t : Terminal) (r : Option ℕ) → Finds (Before def place n p t) r → Finds (λ m. Has def place p m t) r
@@ -140,16 +140,16 @@ finds_same A B to from (Some n) f = to n f
 
 module _ (def : Definition) (p : ℕ) (t : Terminal) where
   to_leads : (n : ℕ) → Has def places.First p n t → Leads def p n t
-  to_leads n h = let (i, more, are, is) = first_is (solid h.o.items) t h.terminal in record { o = h.o; found = h.found; phylum = h.phylum; item = i; more = more; items = are; begins = is }
+  to_leads n h = let (i, more, are, is) = first_is (solid h.o.items) t h.begins in record { o = h.o; found = h.found; phylum = h.phylum; item = i; more = more; items = are; begins = is }
 
   from_leads : (n : ℕ) → Leads def p n t → Has def places.First p n t
-  from_leads n l = record { o = l.o; found = l.found; phylum = l.phylum; terminal = ap first_terminal l.items ∙ l.begins }
+  from_leads n l = record { o = l.o; found = l.found; phylum = l.phylum; begins = ap first_terminal l.items ∙ l.begins }
 
   to_led : (n : ℕ) → Has def places.BehindSlot p n t → Led def p n t
-  to_led n h = let (k, i, more, are, is) = second_is (solid h.o.items) t h.terminal in record { o = h.o; found = h.found; phylum = h.phylum; slot = k; item = i; more = more; items = are; begins = is }
+  to_led n h = let (k, i, more, are, is) = second_is (solid h.o.items) t h.begins in record { o = h.o; found = h.found; phylum = h.phylum; slot = k; item = i; more = more; items = are; begins = is }
 
   from_led : (n : ℕ) → Led def p n t → Has def places.BehindSlot p n t
-  from_led n l = record { o = l.o; found = l.found; phylum = l.phylum; terminal = ap (λ xs. first_terminal (behind_slot xs)) l.items ∙ l.begins }
+  from_led n l = record { o = l.o; found = l.found; phylum = l.phylum; begins = ap (λ xs. first_terminal (behind_slot xs)) l.items ∙ l.begins }
 
   pub leads_finds : (r : Option ℕ) → Finds (λ n. Has def places.First p n t) r → Finds (λ n. Leads def p n t) r
   leads_finds r f = finds_same (λ n. Has def places.First p n t) (λ n. Leads def p n t) to_leads from_leads r f

@@ -24,7 +24,7 @@ said : (cs : List ℕ) → are_word cs ≡ true → IsWord cs
 said [] e = absurd (false≢true e)
 said (c ∷ cs) e = (first_so (starts_word c) (list_all goes_on_word cs) e, all_of goes_on_word cs (second_so (starts_word c) (list_all goes_on_word cs) e))
 
-is_word_says : (text : List ℕ) → is_word text ≡ true → IsWord (chars text)
+pub is_word_says : (text : List ℕ) → is_word text ≡ true → IsWord (chars text)
 is_word_says text e = said (chars text) (first_so (are_word (chars text)) (bytes_eq (encode_utf8_all (chars text)) text) e)
 
 tested : (a b d : Bool) → a ≡ true → d ≡ true → b ≡ (a && b) && d

@@ -73,7 +73,7 @@ pub record Has (def : Definition) (place : Place) (p n : ℕ) (terminal : Termin
   pub o : Operator
   pub found : slice_get def.operators n ≡ Some o
   pub phylum : o.phylum ≡ p
-  pub terminal : terminal_at place o ≡ Some terminal
+  pub begins : terminal_at place o ≡ Some terminal
 
 -- Openers of each phylum: at the phylum and the terminal of the item stands the operator, and elsewhere what stood there.
 abbrev pub PutsAt : List Openers → ℕ → Item → ℕ → List Openers → Type 0

@@ -90,7 +90,7 @@ fn holes(alloc: Global, definition: &Definition) -> Result<Vec<bool>, AllocError
     let declared = declaring(alloc, definition)?;
     let mut holes = Vec::with_capacity(alloc, declared.len())?;
     for spaces in &declared {
-        holes.push(spaces.is_empty())?;
+        holes.push(spaces.as_slice().is_empty())?;
     }
     Ok(holes)
 }
@@ -124,9 +124,10 @@ fn openers(
     let operators = definition.operators.as_slice();
     for n in 0..operators.len() {
         let operator = &operators[n];
-        if let Some(item) = item_at(operator, place) {
-            put_at(alloc, &mut found, operator.phylum, item, n as u32)?;
-        }
+        let Some(item) = item_at(operator, place) else {
+            continue;
+        };
+        put_at(alloc, &mut found, operator.phylum, item, n as u32)?;
     }
     Ok(found)
 }
@@ -154,5 +155,6 @@ fn put_at(
     ensures puts { OnOk result (PutsAt found.old.items phylum item.now op found.new.items) }
 {
     let openers = &mut found[phylum as usize];
-    openers.put(alloc, item, op)
+    openers.put(alloc, item, op)?;
+    Ok(())
 }
