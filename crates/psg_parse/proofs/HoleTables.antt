@@ -21,11 +21,14 @@ either : (b : Bool) → (b ≡ true) ⊎ (b ≡ false)
 either true = inl refl
 either false = inr refl
 
+some_not_none : (n : ℕ) → (suc n == 0) ≡ true → ⊥
+some_not_none n e = elim (eqb_tells (suc n) 0) [ inl h ↦ absurd (omega (arith, h.1)) | inr h ↦ true≢false (sym e ∙ h.0) ]
+
 module _ (def : Definition) (p : ℕ) (search : (space : ℕ) (kind : Kind) → (is_declaring def space kind ≡ true) ↔ Declares def space kind) where
   none_declared : AreSpacesOf def p [] → HasHoles def p
   none_declared are s = elim (either (is_declaring def s (kinds.Phylum p))) [
-    | inl yes ↦ absurd (let (k, lt, e) = (are.exact s).1 ((search s (kinds.Phylum p)).0 yes) in omega (arith, lt))
-    | inr no ↦ no
+    | inl same ↦ absurd (let (k, lt, e) = (are.exact s).1 ((search s (kinds.Phylum p)).0 same) in omega (arith, lt))
+    | inr other ↦ other
   ]
 
   one_declared : (x : ℕ) (xs : List ℕ) → AreSpacesOf def p (x ∷ xs) → HasHoles def p → ⊥
@@ -33,7 +36,7 @@ module _ (def : Definition) (p : ℕ) (search : (space : ℕ) (kind : Kind) → 
 
   holes_iff : (xs : List ℕ) (b : Bool) → b ≡ (length xs == 0) → AreSpacesOf def p xs → (b ≡ true) ↔ HasHoles def p
   holes_iff [] b e are = (λ t. none_declared are, λ h. e)
-  holes_iff (x ∷ xs) b e are = (λ t. absurd (true≢false (sym t ∙ e)), λ h. absurd (one_declared x xs are h))
+  holes_iff (x ∷ xs) b e are = (λ t. absurd (some_not_none (length xs) (sym e ∙ t)), λ h. absurd (one_declared x xs are h))
 
 module _ (def : Definition) (found : List (Vec ℕ Global)) (exact : (p : ℕ) → IfSome (slice_get found p) (λ v. AreSpacesOf def p v.items)) (search : (space : ℕ) (kind : Kind) → (is_declaring def space kind ≡ true) ↔ Declares def space kind) where
   pub holes_more : (old new : List Bool) (b : Bool) (v : Vec ℕ Global) (n : ℕ) → new ≡ old ++ b ∷ [] → length old ≡ n → n < length found → v ≡ get_or found n v → b ≡ (length v.items == 0)

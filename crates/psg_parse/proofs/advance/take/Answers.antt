@@ -1,4 +1,4 @@
-use Rattle.std.proofs.Common.{◌≡◌, length, ◌∙◌, subst}
+use Rattle.std.proofs.Common.{◌≡◌, length, arith, ◌∙◌, subst}
 use Rattle.psg_parse.specs.Answers.{tokens_of}
 use Rattle.psg_parse.specs.States.{Leads, LeftBy}
 use Rattle.psg_parse.specs.Work.{Advances, state_work}
@@ -13,7 +13,7 @@ steps-preserved c =
       goes = λ aim st h. let before = LeftBy def aim st (tokens_of c.args.state.rest.now) in
           subst (Leads def before) c.in-Go.is (led_on def before c.steps.state (c.steps.invariant.goes aim st h) c.in_ok-next.field-0 c.in_ok-next.ensures.leads);
       same = (none_taken (length c.steps.state.rest.now) (state_work c.steps.state) c.in-Go.next
-          (subst (Advances (length c.steps.state.rest.now) (state_work c.steps.state)) c.in-Go.is c.in_ok-next.ensures.advances) ?).0 ∙ c.steps.invariant.same;
+          (subst (Advances (length c.steps.state.rest.now) (state_work c.steps.state)) c.in-Go.is c.in_ok-next.ensures.advances) (omega (arith, c.if-next-tokens.false, c.steps.invariant.same))).0 ∙ c.steps.invariant.same;
     }
 
 pub returns-in-Done-clause-leads : goal.returns-in-Done-clause-leads

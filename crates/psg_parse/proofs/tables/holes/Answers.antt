@@ -1,4 +1,4 @@
-use Rattle.std.proofs.Common.{◌≡◌, ◌<◌, length, get_or, sym, ap, ◌∙◌, subst, arith}
+use Rattle.std.proofs.Common.{◌≡◌, ◌<◌, ◌==◌, length, get_or, sym, ap, ◌∙◌, subst, arith}
 use Rattle.psg_parse.proofs.HoleTables.{holes_more}
 use Rattle.psg_parse.proofs.tables.holes.Goals as goal
 
@@ -10,6 +10,6 @@ loop-spaces-preserved c = record {
       (omega (arith, c.loop-spaces.holes.ok.0, c.loop-spaces.invariant.count))
       (let e : length c.deref-spaces-items.result.now ≡ length c.in_ok-declared.declared.items = ap length c.deref-spaces-items.ensures.value in omega (arith, e, c.loop-spaces-test.true))
       (c.spaces-item.is ∙ ap (λ xs. get_or xs c.loop-spaces.spaces-index c.spaces-item.result) c.deref-spaces-items.ensures.value)
-      ?
+      (c.is_empty.ensures ∙ ap (λ xs. length xs == 0) c.as_slice.ensures.value)
       c.loop-spaces.invariant.exact;
 }
