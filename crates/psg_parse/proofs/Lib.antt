@@ -11,7 +11,6 @@ pub mod Grown
 pub mod Leading
 pub mod ListSteps
 pub mod WorkLaws
-pub mod Formed
 pub mod Tabled
 pub mod HoleTables
 pub mod Taken

@@ -22,10 +22,10 @@ use Rattle.psg_parse.specs.declared.state.Step.TheVariants as steps
 use Rattle.psg_parse.specs.Answers.{Reads, IsParsed, HasDeep, IsFault, tokens_of}
 use Rattle.psg_parse.specs.Standing.{IsTree}
 use Rattle.psg_parse.specs.States.{Aim, GoesOn, IsBegun, IsState, LeftBy, Leads, Same, Steps, aim_of}
-use Rattle.psg_parse.specs.Values.{IsValue}
+use Rattle.psg_class.specs.Only.{IsValue}
 use Rattle.psg_parse.specs.Within.{IsWithin, IsBeyond}
 use Rattle.psg_parse.specs.Work.{Falls, Advances, state_work}
-use Rattle.psg_parse.proofs.Formed.{yields_are_trees}
+use Rattle.psg_class.proofs.FormedLaws.{yields_are_trees}
 use Rattle.psg_parse.proofs.Leading.{leads_via}
 
 pub values_of : (ts : List Spanned) → ((k : ℕ) (s : Spanned) → slice_get ts k ≡ Some s → IsValue s.token) → AllByRecursion IsValue (tokens_of ts)

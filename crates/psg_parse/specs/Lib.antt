@@ -5,5 +5,4 @@ pub mod Answers
 pub mod States
 pub mod Tables
 pub mod Work
-pub mod Values
 pub mod Within

@@ -6,7 +6,7 @@ ghost use Rattle.psg_grammar.specs.Sound.{IsSound};
 ghost use Rattle.psg_grammar.specs.WellFormed.{WellFormed};
 ghost use Rattle.psg_grammar.specs.declared.limits.TheConstants.{MOST_BRACKETS};
 ghost use Rattle.psg_class.specs.Class.{IsClass};
-ghost use Rattle.psg_parse.specs.Values.{IsValue};
+ghost use Rattle.psg_class.specs.Only.{IsValue};
 ghost use Rattle.psg_parse.specs.Answers.{IsFault, IsParsed, tokens_of};
 ghost use Rattle.psg_parse.specs.Standing.{IsTree};
 ghost use Rattle.psg_parse.specs.States.{IsBegun};

@@ -1,6 +1,6 @@
 use Rattle.std.proofs.Common.{◌≡◌, ◌<◌, ℕ, Some, slice_get}
 use Rattle.psg_lexis.specs.declared.token.Spanned.{Spanned}
-use Rattle.psg_parse.specs.Values.{IsValue}
+use Rattle.psg_class.specs.Only.{IsValue}
 use Rattle.psg_parse.proofs.parser.read_values.Given as goal
 
 abbrev pub invariant-loop-spanned : goal.invariant-loop-spanned

@@ -1,4 +1,4 @@
--- What tokens are read as is well formed.
+-- What yields tokens is well formed.
 use Rattle.std.proofs.Common.{◌≡◌, ◌<◌, ◌^◌, ◌⊎◌, inl, inr, ℕ, suc, max, Bool, true, false, cond, ◌&&◌, List, [], ◌∷◌, ◌++◌, Some, slice_get, refl, sym, ap, ◌∙◌, subst}
 use Rattle.std.specs.Prelude.{chars, encode_utf8_all, bytes_eq, IsUtf8}
 use Rattle.std.specs.List.{AllByRecursion}
@@ -22,8 +22,8 @@ use Rattle.psg_grammar.specs.WellFormed.{Fits, IsPlain, IsName, IsUnobserved, We
 use Rattle.psg_class.specs.Places.{solid}
 use Rattle.psg_class.specs.Terminals.{Token, word, numeral, quoted, dots, Terminal, fixed, a_name, stray, are_word, is_word, word_terminal, terminal_of}
 use Rattle.psg_class.specs.Yields.{TreeYields, of_hole, of_operator, in_brackets, PartsYield, no_items, of_word, of_refers, of_declares, of_number, of_text, of_slot, of_list_slot, ListYields, no_elements, only_more, elements, SomeYield, last_element, and_more, and_elements, Yields}
-use Rattle.psg_parse.specs.Values.{IsValue, YieldsAreTrees}
-use Rattle.psg_parse.proofs.Terminals.{is_word_says}
+use Rattle.psg_class.specs.Only.{IsValue, YieldsAreTrees}
+use Rattle.psg_class.proofs.WordForms.{is_word_says, second_so}
 
 abbrev AreValues : List Token → Type 0
 AreValues ts = AllByRecursion IsValue ts
@@ -50,10 +50,6 @@ solid_parts (items.Tight ∷ is) = solid_parts is
 solid_parts (items.Line ∷ is) = solid_parts is
 solid_parts (items.In ∷ is) = solid_parts is
 solid_parts (items.Out ∷ is) = solid_parts is
-
-second_so : (a b : Bool) → a && b ≡ true → b ≡ true
-second_so true b e = e
-second_so false b e = absurd (false≢true e)
 
 -- a word's terminal is that of names where it is a word and no fixed one
 named : (x : Name) (w among : Bool) → word_terminal x w among ≡ a_name → (w ≡ true) × (among ≡ false)
