@@ -6,3 +6,4 @@ pub mod States
 pub mod Tables
 pub mod Work
 pub mod Within
+pub mod Expressions

@@ -17,3 +17,6 @@ pub(crate) mod tables;
 
 pub use fault::{Goal, ParseFault};
 pub use parser::parse;
+
+#[cfg(test)]
+mod tests;

@@ -101,16 +101,10 @@ fn within(goal: Goal, tree: Grown) -> Result<Tree, ParseFault>
         depth,
         nesting,
     } = tree;
-    let Some(tree) = tree else {
-        return Err(ParseFault::Deep);
-    };
-    if u64::from(depth) > MOST_DEPTH {
+    if u64::from(depth) > MOST_DEPTH || nesting > MOST_BRACKETS - goal.around {
         return Err(ParseFault::Deep);
     }
-    if nesting > MOST_BRACKETS - goal.around {
-        return Err(ParseFault::Deep);
-    }
-    Ok(tree)
+    tree.ok_or(ParseFault::Deep)
 }
 
 /// Reads the numbers and texts of the tokens. What it ensures holds of the values of their types, and is known of what a
