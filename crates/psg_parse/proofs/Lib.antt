@@ -15,3 +15,4 @@ pub mod Tabled
 pub mod HoleTables
 pub mod Taken
 pub mod ExpressionLaws
+pub mod CaseReads

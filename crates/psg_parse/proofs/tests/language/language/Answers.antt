@@ -1,6 +1,6 @@
 use Rattle.std.proofs.Common.{◌∙◌}
 use Rattle.psg_parse.proofs.ExpressionLaws.{same_sound}
-use Rattle.psg_parse.proofs.tests.language.Goals as goal
+use Rattle.psg_parse.proofs.tests.language.language.Goals as goal
 
 pub returns : goal.returns
 returns c = same_sound c.args.minus c.args.unfinished c.requires c.in_ok-unit.field-0 c.in_ok-spaces.field-0 c.in_ok-phyla.field-0 c.in_ok-lists.field-0 c.in_ok-operators.field-0 c.of.result c.of-2.result
