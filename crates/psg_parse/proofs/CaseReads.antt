@@ -1,13 +1,13 @@
 -- What some texts are read as, in the language of the tests.
-use Rattle.std.proofs.Common.{◌≡◌, ◌≤◌, ◌+◌, inl, inr, ℕ, suc, max, true, false, List, [], ◌∷◌, ◌++◌, codes, refl, lit<, lit≤, arith}
+use Rattle.std.proofs.Common.{◌≤◌, inr, ℕ, true, [], ◌∷◌, codes, refl, lit<, lit≤}
 use Rattle.psg_grammar.specs.declared.types.Kind.TheVariants as kinds
 use Rattle.psg_grammar.specs.declared.types.Level.TheVariants as levels
 use Rattle.psg_grammar.specs.declared.types.Item.TheVariants as items
 use Rattle.psg_grammar.specs.declared.types.Definition.{Definition}
 use Rattle.psg_grammar.specs.Fragments.{Fragment, hole, ending, cell, operator, with_child, with_number}
 use Rattle.psg_lexis.specs.declared.token.Spanned.{Spanned}
-use Rattle.psg_class.specs.Terminals.{Token, numeral, solo, symbols, placeholder, dots, fixed, open_bracket, close_bracket, terminal_of}
-use Rattle.psg_class.specs.Yields.{TreeYields, of_hole, of_operator, in_brackets, no_items, of_word, of_number, of_slot, of_list_slot, ListYields, no_elements, only_more, elements, SomeYield, and_more}
+use Rattle.psg_class.specs.Terminals.{Token, numeral, solo, symbols, placeholder, dots}
+use Rattle.psg_class.specs.Yields.{TreeYields, of_hole, of_operator, in_brackets, no_items, of_word, of_number, of_slot, of_list_slot, elements, and_more}
 use Rattle.psg_parse.specs.declared.fault.Goal.{Goal}
 use Rattle.psg_parse.specs.Answers.{HasDeep, IsParsed}
 use Rattle.psg_parse.specs.Expressions.{phylum_of, args_list, leaf_of, infix_of, list_of, expressions}
@@ -68,7 +68,7 @@ placed level = of_hole (phylum_of (codes "Exp") true) refl (λ s. refl)
 listed : TreeYields def (with_child (operator 9) (cell 0 ex (ending 0 true))) 0 0 0 (solo 91 ∷ x ∷ solo 44 ∷ dots ∷ solo 93 ∷ [])
 listed = of_operator 9 list_of refl refl (lit≤ tt)
     (of_word {w = codes "["} (solo 91) refl (of_list_slot (cell 0 ex (ending 0 true)) 0 (x ∷ solo 44 ∷ dots ∷ []) (solo 93 ∷ [])
-        (elements (and_more (x ∷ []) (args_list true) (solo 44) refl refl refl (ex_reads 0 (lit≤ tt)))) (of_word {w = codes "]"} (solo 93) refl no_items)))
+    (elements (and_more (x ∷ []) (args_list true) (solo 44) refl refl refl (ex_reads 0 (lit≤ tt)))) (of_word {w = codes "]"} (solo 93) refl no_items)))
 
 -- ---- within the limits and past them
 

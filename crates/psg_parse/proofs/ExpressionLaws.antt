@@ -4,7 +4,6 @@ use Rattle.psg_terms.specs.Signature.{Signature}
 use Rattle.psg_grammar.specs.declared.types.Kind.TheVariants as kinds
 use Rattle.psg_grammar.specs.declared.types.Level.{Level}
 use Rattle.psg_grammar.specs.declared.types.Level.TheVariants as levels
-use Rattle.psg_grammar.specs.declared.types.Item.{Item}
 use Rattle.psg_grammar.specs.declared.types.Item.TheVariants as items
 use Rattle.psg_grammar.specs.declared.types.Space.{Space}
 use Rattle.psg_grammar.specs.declared.types.Phylum.{Phylum}
@@ -16,7 +15,7 @@ use Rattle.psg_grammar.specs.declared.types.Definition.{Definition}
 use Rattle.psg_grammar.specs.Little.{unit_signature}
 use Rattle.psg_grammar.specs.Sound.{IsSound, IsLevel, IsOperator, HasKindSort, HasSpaceSort, is_name_from, is_lower}
 use Rattle.psg_grammar.proofs.CaseLittle.{unit_sound}
-use Rattle.psg_parse.specs.Expressions.{only_space, phylum_of, args_list, expression, leaf_of, infix_of, prefix_of, factorial, list_of, doing, letting, operators_with, expressions}
+use Rattle.psg_parse.specs.Expressions.{only_space, phylum_of, args_list, leaf_of, infix_of, prefix_of, factorial, list_of, doing, letting, operators_with, expressions}
 
 module _ (minus : Level) (unfinished : Bool) (fits : IsLevel minus) where
   abbrev def : Definition
@@ -75,8 +74,25 @@ module _ (minus : Level) (unfinished : Bool) (fits : IsLevel minus) where
     operator_names = refl;
     phyla = (record { name = refl; sort = lit< tt }, (record { name = refl; sort = lit< tt }, tt));
     lists = (record { name = refl; sort = lit< tt; element = 0; element_sort = exp; few_nils = lit< tt; few_cells = lit< tt; nils = tt; cells = tt }, tt);
-    operators = (ex_sound, (num_sound, (str_sound, (var_sound, (infix_sound (codes "plus") (levels.InfixLeft 4) (codes "+") refl (lit≤ tt, lit≤ tt), (infix_sound (codes "minus") minus (codes "-") refl fits,
-        (prefix_sound (codes "not") 3 (codes "not") refl (lit≤ tt, lit≤ tt), (prefix_sound (codes "neg") 6 (codes "~") refl (lit≤ tt, lit≤ tt), (factorial_sound, (list_sound, (doing_sound, (letting_sound, tt))))))))))));
+    operators = (
+      ex_sound,
+      (
+        num_sound,
+        (
+          str_sound,
+          (
+            var_sound,
+            (
+              infix_sound (codes "plus") (levels.InfixLeft 4) (codes "+") refl (lit≤ tt, lit≤ tt),
+              (
+                infix_sound (codes "minus") minus (codes "-") refl fits,
+                (prefix_sound (codes "not") 3 (codes "not") refl (lit≤ tt, lit≤ tt), (prefix_sound (codes "neg") 6 (codes "~") refl (lit≤ tt, lit≤ tt), (factorial_sound, (list_sound, (doing_sound, (letting_sound, tt)))))),
+              ),
+            ),
+          ),
+        ),
+      ),
+    );
     hole_rows = tt;
     declare_rows = tt;
     few_sorts = lit< tt;

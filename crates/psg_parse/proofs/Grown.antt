@@ -1,5 +1,5 @@
 -- The step of a tree of a phylum that goes on, or is finished.
-use Rattle.std.proofs.Common.{◌≡◌, ◌↔◌, ℕ, suc, max, ◌<◌, ◌≤◌, ◌+◌, false, List, [], ◌∷◌, Option, Some, None, length, refl, sym, ap, ◌∙◌, subst, arith}
+use Rattle.std.proofs.Common.{◌≡◌, ◌↔◌, ℕ, suc, max, ◌<◌, ◌≤◌, false, List, [], ◌∷◌, Option, Some, None, length, sym, ap, ◌∙◌, subst, arith}
 use Rattle.psg_grammar.specs.declared.types.Item.{Item}
 use Rattle.psg_grammar.specs.declared.types.Item.TheVariants as items
 use Rattle.psg_grammar.specs.declared.types.Operator.{Operator}
@@ -7,7 +7,7 @@ use Rattle.psg_grammar.specs.declared.types.Definition.{Definition}
 use Rattle.psg_grammar.specs.Fragments.{Fragment, operator, with_child}
 use Rattle.psg_grammar.specs.Levels.{level_number, first_level}
 use Rattle.psg_lexis.specs.declared.token.Spanned.{Spanned}
-use Rattle.psg_class.specs.Terminals.{Token, Terminal, terminal_of, next_terminal}
+use Rattle.psg_class.specs.Terminals.{Token, Terminal, terminal_of}
 use Rattle.psg_class.specs.Places.{solid}
 use Rattle.psg_class.specs.Follow.{Led}
 use Rattle.psg_class.specs.Class.{IsClass}
@@ -51,7 +51,7 @@ module _ (def : Definition) (k : IsClass def) (p m : ℕ) where
       subst (λ x. Completes def (grow p m tree n level) st (t ∷ ts) F D ↔ Completes def x (then_grow p m (Some (level_number o.level)) ∷ st) ts F D) task
       (subst (λ x. Completes def (grow p m tree n level) st (t ∷ ts) F D ↔ Completes def (parts l.o false (taken l.item t (with_child (operator op) tree)) (max 0 n) l.more) x ts F D) frame
       (chain (step_led def (facts def k) F D p m tree n level st t ts op l (subst (λ x. m ≤ level_number x.level) (sym same) least) (subst (λ x. Reaches (first_level x.level) level) (sym same) reach))
-        (step_item def (facts def k) F D l.o false (with_child (operator op) tree) (max 0 n) l.item l.more (then_grow p m (Some (level_number l.o.level)) ∷ st) t ts l.begins)))
+      (step_item def (facts def k) F D l.o false (with_child (operator op) tree) (max 0 n) l.item l.more (then_grow p m (Some (level_number l.o.level)) ∷ st) t ts l.begins)))
 
 -- the two first solid items
 pub two_items : (o : Operator) (left : List Item) (slot : Item) (behind left' : List Item) (item : Item) (more : List Item) → solid left ≡ solid o.items → IsBare left → left ≡ slot ∷ behind

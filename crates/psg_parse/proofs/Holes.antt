@@ -1,5 +1,5 @@
 -- The placeholder of a phylum, by its name.
-use Rattle.std.proofs.Common.{IsTrue, ◌≡◌, ◌↔◌, ℕ, Bool, Some, slice_get, bytes_eq, sym, ap, ◌∙◌, subst}
+use Rattle.std.proofs.Common.{IsTrue, ◌≡◌, ◌↔◌, ℕ, Bool, Some, slice_get, bytes_eq, sym, ap, ◌∙◌}
 use Rattle.std.proofs.lemmas.Slice.Eq.{bytes_eq-Decides}
 use Rattle.psg_terms.specs.Names.{Name}
 use Rattle.psg_grammar.specs.declared.types.Phylum.{Phylum}

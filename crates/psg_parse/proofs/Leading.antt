@@ -1,5 +1,5 @@
 -- A step from results that are the same as those of another state.
-use Rattle.std.proofs.Common.{◌≡◌, ◌↔◌, ℕ}
+use Rattle.std.proofs.Common.{◌↔◌, ℕ}
 use Rattle.psg_grammar.specs.Fragments.{Fragment}
 use Rattle.psg_grammar.specs.declared.types.Definition.{Definition}
 use Rattle.psg_parse.specs.declared.state.Step.{Step}

@@ -1,5 +1,5 @@
 -- The steps of a list that begins.
-use Rattle.std.proofs.Common.{◌≡◌, ◌↔◌, ◌⊎◌, inl, inr, ℕ, suc, ◌+◌, Bool, true, false, List, [], ◌∷◌, Option, Some, None, slice_get, length, refl, sym, ap, ◌∙◌, subst, arith, true≢false}
+use Rattle.std.proofs.Common.{◌≡◌, ◌↔◌, ℕ, suc, Bool, true, false, List, [], ◌∷◌, Some, None, slice_get, length, refl, sym, ◌∙◌, subst, arith}
 use Rattle.psg_terms.specs.Names.{Name, is_among}
 use Rattle.psg_lexis.specs.Classes.{is_solo}
 use Rattle.psg_lexis.specs.declared.token.Spanned.{Spanned}
@@ -7,7 +7,7 @@ use Rattle.psg_grammar.specs.WellFormed.{fixed_words}
 use Rattle.psg_grammar.specs.declared.types.ListKind.{ListKind}
 use Rattle.psg_grammar.specs.declared.types.Definition.{Definition}
 use Rattle.psg_grammar.specs.Fragments.{Fragment, ending}
-use Rattle.psg_class.specs.Terminals.{Token, word, numeral, quoted, solo, symbols, placeholder, dots, Terminal, a_number, a_text, a_hole, a_more, fixed_if, is_run, is_word, word_terminal, terminal_of, next_terminal}
+use Rattle.psg_class.specs.Terminals.{Token, word, numeral, quoted, solo, symbols, placeholder, dots, Terminal, a_number, a_text, a_hole, a_more, fixed_if, is_run, is_word, word_terminal, terminal_of}
 use Rattle.psg_class.specs.Follow.{First, FirstOfList, first_element, first_more}
 use Rattle.psg_class.specs.Class.{IsClass}
 use Rattle.psg_class.proofs.ClassFacts.{facts}

@@ -1,9 +1,9 @@
 -- How trees begin, by the terminal of their first token.
-use Rattle.std.proofs.Common.{IsTrue, ◌≡◌, ◌⊎◌, inl, inr, ◌↔◌, ℕ, Bool, true, false, List, Option, Some, None, slice_get, refl, sym, ap, ◌∙◌, subst, true≢false}
+use Rattle.std.proofs.Common.{IsTrue, ◌≡◌, ◌⊎◌, inl, inr, ◌↔◌, ℕ, Bool, true, false, Option, Some, None, refl, sym, ap, ◌∙◌, subst, true≢false}
 use Rattle.std.specs.Prelude.{is_some}
 use Rattle.psg_grammar.specs.declared.types.Definition.{Definition}
 use Rattle.psg_terms.specs.Names.{Name}
-use Rattle.psg_class.specs.Terminals.{Token, word, numeral, quoted, solo, symbols, placeholder, dots, Terminal, fixed, a_name, a_number, a_text, a_hole, a_more, stray, fixed_if, is_run, is_word, word_terminal, terminal_of}
+use Rattle.psg_class.specs.Terminals.{Token, word, numeral, quoted, solo, symbols, placeholder, dots, Terminal, a_number, a_text, a_hole, a_more, fixed_if, is_run, is_word, word_terminal, terminal_of}
 use Rattle.psg_lexis.specs.Classes.{is_solo}
 use Rattle.psg_terms.specs.Names.{is_among}
 use Rattle.psg_grammar.specs.WellFormed.{fixed_words}

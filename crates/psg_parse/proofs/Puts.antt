@@ -1,5 +1,5 @@
 -- A word that is put into a map of openers.
-use Rattle.std.proofs.Common.{◌≡◌, ◌⊎◌, inl, inr, ℕ, Bool, true, false, cond, List, Option, Some, None, refl, sym, ap, ◌∙◌, subst}
+use Rattle.std.proofs.Common.{◌≡◌, ◌⊎◌, inl, inr, ℕ, Bool, true, false, cond, Some, refl, sym, ap, ◌∙◌, subst}
 use Rattle.std.specs.Prelude.{bytes_eq}
 use Rattle.std.specs.HashMap.{get_by_text}
 use Rattle.std.specs.Map.{update}
@@ -7,7 +7,7 @@ use Rattle.psg_terms.specs.Names.{Name}
 use Rattle.psg_terms.proofs.DeclareLaws.{bytes_eq-same, bytes_eq-refl}
 use Rattle.psg_grammar.specs.declared.types.Item.{Item}
 use Rattle.psg_grammar.specs.declared.types.Item.TheVariants as items
-use Rattle.psg_class.specs.Terminals.{Terminal, fixed, a_name, a_number, a_text, a_hole, a_more, stray, item_terminal}
+use Rattle.psg_class.specs.Terminals.{fixed, a_name, a_number, a_text, a_hole, a_more, stray, item_terminal}
 use Rattle.psg_parse.specs.declared.lookup.Openers.{Openers}
 use Rattle.psg_parse.specs.Lookups.{opener, Puts as PutsIn}
 

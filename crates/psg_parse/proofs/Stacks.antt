@@ -1,5 +1,5 @@
 -- Frames that are put on a stack and taken from it.
-use Rattle.std.proofs.Common.{◌≡◌, ℕ, suc, length, arith, Some, None, List, [], ◌∷◌, ◌++◌, refl, ap, sym, ◌∙◌, subst}
+use Rattle.std.proofs.Common.{◌≡◌, suc, length, arith, Some, None, List, [], ◌∷◌, ◌++◌, refl, ap, sym, ◌∙◌, subst}
 use Rattle.psg_grammar.specs.declared.types.Definition.{Definition}
 use Rattle.psg_lexis.specs.declared.token.Spanned.{Spanned}
 use Rattle.psg_class.specs.Terminals.{Terminal, terminal_of, next_terminal}

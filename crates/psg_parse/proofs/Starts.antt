@@ -1,11 +1,11 @@
 -- The step of a tree of a phylum that begins.
-use Rattle.std.proofs.Common.{◌≡◌, ◌↔◌, ℕ, suc, ◌<◌, ◌≤◌, ◌+◌, true, false, List, [], ◌∷◌, Option, Some, None, slice_get, length, refl, sym, ap, ◌∙◌, subst, arith}
+use Rattle.std.proofs.Common.{◌≡◌, ◌↔◌, ℕ, ◌<◌, ◌≤◌, true, false, List, ◌∷◌, Some, None, refl, sym, ap, ◌∙◌, subst}
 use Rattle.psg_grammar.specs.declared.types.Item.{Item}
 use Rattle.psg_grammar.specs.declared.types.Operator.{Operator}
 use Rattle.psg_grammar.specs.declared.types.Definition.{Definition}
 use Rattle.psg_grammar.specs.Fragments.{Fragment, hole, operator}
 use Rattle.psg_grammar.specs.Levels.{level_number}
-use Rattle.psg_class.specs.Terminals.{Token, Terminal, placeholder, terminal_of, next_terminal}
+use Rattle.psg_class.specs.Terminals.{Token, terminal_of}
 use Rattle.psg_class.specs.Places.{solid}
 use Rattle.psg_class.specs.Follow.{Leads, First}
 use Rattle.psg_class.specs.Class.{IsClass}
@@ -44,4 +44,4 @@ module _ (def : Definition) (k : IsClass def) (p m : ℕ) (st : List Frame) (t :
       subst (λ x. Completes def (start p m) st (t ∷ ts) F D ↔ Completes def x (then_grow p m (Some (level_number o.level)) ∷ st) ts F D) task
       (subst (λ x. Completes def (start p m) st (t ∷ ts) F D ↔ Completes def (parts l.o false (taken l.item t (operator op)) 0 l.more) x ts F D) frame
       (chain (step_leading def (facts def k) F D p m st t ts op l (subst (λ x. m ≤ level_number x.level) (sym same) least))
-        (step_item def (facts def k) F D l.o true (operator op) 0 l.item l.more (then_grow p m (Some (level_number l.o.level)) ∷ st) t ts l.begins)))
+      (step_item def (facts def k) F D l.o true (operator op) 0 l.item l.more (then_grow p m (Some (level_number l.o.level)) ∷ st) t ts l.begins)))

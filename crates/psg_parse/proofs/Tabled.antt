@@ -1,5 +1,5 @@
 -- The tables of a definition as they are filled.
-use Rattle.std.proofs.Common.{◌≡◌, ◌≢◌, ◌↔◌, ◌<◌, ◌≤◌, ◌+◌, ◌⊎◌, inl, inr, ℕ, zero, suc, Bool, true, false, List, [], ◌∷◌, ◌++◌, Option, Some, None, length, get_or, set, slice_get, refl, sym, ap, ◌∙◌, subst, arith}
+use Rattle.std.proofs.Common.{◌≡◌, ◌≢◌, ◌<◌, ◌≤◌, ◌+◌, ◌⊎◌, inl, inr, ℕ, zero, suc, List, [], ◌∷◌, ◌++◌, Option, Some, None, length, get_or, set, slice_get, refl, sym, ap, ◌∙◌, subst, arith}
 use Rattle.std.proofs.lemmas.Bool.Decides.{eqb_tells}
 use Rattle.std.proofs.lemmas.Option.{none-some, slice_get_within, get_or_from_slice_get}
 use Rattle.psg_grammar.specs.declared.types.Kind.{Kind}
@@ -13,7 +13,7 @@ use Rattle.psg_class.specs.Follow.{Leads, Led}
 use Rattle.psg_parse.specs.declared.lookup.Openers.{Openers}
 use Rattle.psg_parse.specs.declared.tables.Place.{Place}
 use Rattle.psg_parse.specs.declared.tables.Place.TheVariants as places
-use Rattle.psg_parse.specs.Lookups.{IsBare, Finds, Has, Puts as PutsIn, PutsAt, opener, opener_at, behind_slot, first_terminal, from_place, terminal_at}
+use Rattle.psg_parse.specs.Lookups.{IsBare, Finds, Has, Puts as PutsIn, PutsAt, opener, opener_at, behind_slot, first_terminal, terminal_at}
 use Rattle.psg_parse.proofs.Items.{bare_solid}
 
 -- ---- one place of the table

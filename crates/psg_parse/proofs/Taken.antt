@@ -1,5 +1,5 @@
 -- The parser from its beginning to its end.
-use Rattle.std.proofs.Common.{◌≡◌, ◌↔◌, ◌<◌, ◌≤◌, ◌+◌, ◌-◌, ◌⊎◌, inl, inr, ℕ, zero, suc, List, [], ◌∷◌, Some, slice_get, length, refl, sym, ap, ◌∙◌, subst, arith}
+use Rattle.std.proofs.Common.{◌≡◌, ◌<◌, ◌≤◌, ◌+◌, ◌-◌, inl, inr, ℕ, suc, List, [], ◌∷◌, Some, slice_get, length, refl, sym, subst, arith}
 use Rattle.std.specs.List.{AllByRecursion}
 use Rattle.psg_grammar.specs.declared.types.Kind.{Kind}
 use Rattle.psg_grammar.specs.declared.types.Kind.TheVariants as kinds
@@ -14,7 +14,6 @@ use Rattle.psg_class.proofs.ClassFacts.{facts}
 use Rattle.psg_class.proofs.Machine.{Frame as Plain, begins_tree, begins_list}
 use Rattle.psg_parse.specs.declared.fault.Goal.{Goal}
 use Rattle.psg_parse.specs.declared.fault.ParseFault.{ParseFault}
-use Rattle.psg_parse.specs.declared.fault.ParseFault.TheVariants as faults
 use Rattle.psg_parse.specs.declared.standing.Grown.{Grown}
 use Rattle.psg_parse.specs.declared.state.State.{State}
 use Rattle.psg_parse.specs.declared.state.Step.{Step}
@@ -24,7 +23,7 @@ use Rattle.psg_parse.specs.Standing.{IsTree}
 use Rattle.psg_parse.specs.States.{Aim, GoesOn, IsBegun, IsState, LeftBy, Leads, Same, Steps, aim_of}
 use Rattle.psg_class.specs.Only.{IsValue}
 use Rattle.psg_parse.specs.Within.{IsWithin, IsBeyond}
-use Rattle.psg_parse.specs.Work.{Falls, Advances, state_work}
+use Rattle.psg_parse.specs.Work.{Advances, state_work}
 use Rattle.psg_class.proofs.FormedLaws.{yields_are_trees}
 use Rattle.psg_parse.proofs.Leading.{leads_via}
 

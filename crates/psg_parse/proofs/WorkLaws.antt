@@ -1,9 +1,9 @@
 -- The work of stacks, and steps that fall.
-use Rattle.std.proofs.Common.{◌≡◌, ℕ, suc, ◌<◌, ◌≤◌, ◌+◌, ◌⊎◌, inl, inr, arith, List, [], ◌∷◌, ◌++◌, length, refl, sym, ap, ◌∙◌, subst}
+use Rattle.std.proofs.Common.{◌≡◌, ℕ, suc, ◌<◌, ◌≤◌, ◌+◌, inl, inr, arith, List, [], ◌∷◌, ◌++◌, length, ap, ◌∙◌}
 use Rattle.psg_parse.specs.declared.state.Frame.{Frame}
 use Rattle.psg_parse.specs.declared.state.Step.{Step}
 use Rattle.psg_parse.specs.declared.state.Step.TheVariants as steps
-use Rattle.psg_parse.specs.Work.{frame_work, stack_work, state_work, Falls, Advances}
+use Rattle.psg_parse.specs.Work.{frame_work, stack_work, Falls, Advances}
 
 pushed_on : (frames : List Frame) (frame : Frame) → stack_work (frames ++ frame ∷ []) ≡ stack_work frames + frame_work frame
 pushed_on [] frame = omega arith

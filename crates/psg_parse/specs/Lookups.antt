@@ -1,14 +1,11 @@
 -- What the look-up of a definition's operators finds.
-use Rattle.std.specs.Prelude.{ℕ, ◌≡◌, ◌<◌, ◌⊎◌, Bool, true, false, List, [], ◌∷◌, Option, Some, None, length, slice_get}
+use Rattle.std.specs.Prelude.{ℕ, ◌≡◌, ◌⊎◌, false, List, [], ◌∷◌, Option, Some, None, slice_get}
 use Rattle.std.specs.HashMap.{get_by_text}
 use Rattle.psg_grammar.specs.declared.types.Item.{Item}
-use Rattle.psg_grammar.specs.declared.types.Kind.TheVariants as kinds
 use Rattle.psg_grammar.specs.declared.types.Item.TheVariants as items
-use Rattle.psg_grammar.specs.declared.types.Phylum.{Phylum}
 use Rattle.psg_grammar.specs.declared.types.Definition.{Definition}
 use Rattle.psg_grammar.specs.Levels.{is_mark}
 use Rattle.psg_class.specs.Terminals.{Terminal, fixed, a_name, a_number, a_text, a_hole, a_more, stray, item_terminal}
-use Rattle.psg_class.specs.Follow.{HasHoles}
 use Rattle.psg_grammar.specs.declared.types.Operator.{Operator}
 use Rattle.psg_class.specs.Places.{solid}
 use Rattle.psg_parse.specs.declared.lookup.Openers.{Openers}

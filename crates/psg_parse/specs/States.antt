@@ -1,6 +1,6 @@
 -- What is left to do in a state of the parser. The program's frames hold no tree past the limits, so each stands for a
 -- plain frame, which has one.
-use Rattle.std.specs.Prelude.{ℕ, ◌≡◌, ◌↔◌, ◌≤◌, false, List, [], ◌∷◌, length}
+use Rattle.std.specs.Prelude.{ℕ, ◌≡◌, ◌↔◌, false, List, [], ◌∷◌}
 use Rattle.psg_grammar.specs.declared.types.Definition.{Definition}
 use Rattle.psg_grammar.specs.Fragments.{Fragment}
 use Rattle.psg_lexis.specs.declared.token.Token.{Token}

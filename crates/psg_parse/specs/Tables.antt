@@ -1,5 +1,5 @@
 -- What the look-up of a definition holds.
-use Rattle.std.specs.Prelude.{ℕ, ◌≡◌, ◌↔◌, Bool, true, List, Some, length, slice_get}
+use Rattle.std.specs.Prelude.{ℕ, ◌≡◌, ◌↔◌, Bool, true, Some, length, slice_get}
 use Rattle.psg_grammar.specs.declared.types.Definition.{Definition}
 use Rattle.psg_grammar.specs.declared.types.Phylum.{Phylum}
 use Rattle.psg_grammar.specs.WellFormed.{fixed_words}

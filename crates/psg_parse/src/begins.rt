@@ -9,7 +9,6 @@ ghost use Rattle.psg_parse.specs.Lookups.{Finds, opener_at};
 ghost use Rattle.psg_parse.specs.Seen.{terminal_seen};
 ghost use Rattle.psg_parse.specs.States.{IsStack, running, Steps};
 ghost use Rattle.psg_parse.specs.Tables.{IsLookup, OpensBracket, OpensHole};
-
 ghost use Rattle.psg_parse.specs.Work.{Falls, stack_work};
 
 use crate::lookup::{Openers, without_marks};
@@ -23,12 +22,7 @@ use psg_lexis::Spanned;
 use std::alloc::{AllocError, Global};
 
 /// Whether the token is the placeholder of the phylum, and it has one.
-pub(crate) fn opens_hole(
-    definition: &Definition,
-    lookup: &Lookup,
-    phylum: u32,
-    seen: Seen,
-) -> bool
+pub(crate) fn opens_hole(definition: &Definition, lookup: &Lookup, phylum: u32, seen: Seen) -> bool
     requires { IsLookup definition.now lookup.now }
     ensures { IsTrue result ↔ OpensHole definition.now phylum (terminal_seen seen.entry) }
 {

@@ -7,7 +7,6 @@ ghost use Rattle.psg_class.proofs.Machine.{Frame as Plain};
 ghost use Rattle.psg_parse.specs.Answers.{tokens_of};
 ghost use Rattle.psg_parse.specs.Standing.{IsTree};
 ghost use Rattle.psg_parse.specs.States.{giving, IsStack, Steps};
-
 ghost use Rattle.psg_parse.specs.Work.{Advances, stack_work};
 
 use crate::lists::tail;

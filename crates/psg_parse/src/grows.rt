@@ -11,7 +11,6 @@ ghost use Rattle.psg_parse.specs.Seen.{terminal_seen};
 ghost use Rattle.psg_parse.specs.Standing.{IsTree};
 ghost use Rattle.psg_parse.specs.States.{IsStack, running, Steps};
 ghost use Rattle.psg_parse.specs.Tables.{IsLookup};
-
 ghost use Rattle.psg_parse.specs.Work.{Falls, stack_work};
 
 use crate::begins::find_at;

@@ -10,7 +10,6 @@ ghost use Rattle.psg_parse.specs.Answers.{tokens_of};
 ghost use Rattle.psg_parse.specs.Standing.{AreElements};
 ghost use Rattle.psg_parse.specs.States.{giving, IsStack, running, Steps};
 ghost use Rattle.psg_parse.specs.Tables.{IsLookup};
-
 ghost use Rattle.psg_parse.specs.Work.{Falls, stack_work};
 
 use crate::begins::opens;

@@ -137,11 +137,7 @@ impl Built {
     }
 
     /// The tree with the part that the item takes of the token.
-    pub(crate) fn with_token(
-        self,
-        item: &Item,
-        token: &Token,
-    ) -> Result<Built, AllocError>
+    pub(crate) fn with_token(self, item: &Item, token: &Token) -> Result<Built, AllocError>
         ensures { IfOk result (λ b. (f : Fragment) (d : ℕ) → IsPartly self f d → IsPartly b (taken item.now token.now f) d) }
     {
         let Built {
@@ -292,7 +288,11 @@ impl Listed {
 fn deeper(depth: u32) -> u32
     ensures { result ≡ min (depth + 1) 201 }
 {
-    if depth < TOO_DEEP { depth + 1 } else { TOO_DEEP }
+    if depth < TOO_DEEP {
+        depth + 1
+    } else {
+        TOO_DEEP
+    }
 }
 
 /// The part that the item takes of the token, if it takes one.

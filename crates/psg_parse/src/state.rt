@@ -21,7 +21,10 @@ pub(crate) enum Frame<'a> {
     /// A bracket is open.
     Close,
     /// An element of a list, behind these ones.
-    List { list: u32, listed: Listed },
+    List {
+        list: u32,
+        listed: Listed,
+    },
 }
 
 /// What is done next.

@@ -13,7 +13,6 @@ ghost use Rattle.psg_parse.specs.Answers.{tokens_of};
 ghost use Rattle.psg_parse.specs.Seen.{terminal_seen};
 ghost use Rattle.psg_parse.specs.Standing.{IsPartly};
 ghost use Rattle.psg_parse.specs.States.{IsStack, running, Steps};
-
 ghost use Rattle.psg_parse.specs.Work.{Falls, stack_work};
 
 use crate::lookup::without_marks;

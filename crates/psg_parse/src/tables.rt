@@ -112,11 +112,7 @@ fn item_at<'a>(operator: &'a Operator, place: Place) -> Option<&'a Item>
 }
 
 /// For each phylum its operators by the token at the place.
-fn openers(
-    alloc: Global,
-    definition: &Definition,
-    place: Place,
-) -> Result<Vec<Openers>, AllocError>
+fn openers(alloc: Global, definition: &Definition, place: Place) -> Result<Vec<Openers>, AllocError>
     requires { IsSound definition.now }
     ensures { IfOk result (λ found. (p : ℕ) (terminal : Terminal) → Finds (λ n. Has definition.now place p n terminal) (opener_at found.items p terminal)) }
 {

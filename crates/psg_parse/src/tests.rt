@@ -108,7 +108,14 @@ fn differences_to_the_left(rt: HostRuntime) -> Result<(), Fail> {
         ("1 + 2 - 3", "minus(plus(num(1),num(2)),num(3))"),
         ("1 - (2 - 3)", "minus(num(1),minus(num(2),num(3)))"),
     ];
-    reads(&rt, rt.alloc(), Level::InfixLeft(4), true, EXPRESSION, &rows)
+    reads(
+        &rt,
+        rt.alloc(),
+        Level::InfixLeft(4),
+        true,
+        EXPRESSION,
+        &rows,
+    )
 }
 
 #[test]
@@ -119,7 +126,14 @@ fn differences_to_the_right(rt: HostRuntime) -> Result<(), Fail> {
         ("1 + 2 - 3", "plus(num(1),minus(num(2),num(3)))"),
         ("(1 - 2) - 3", "minus(minus(num(1),num(2)),num(3))"),
     ];
-    reads(&rt, rt.alloc(), Level::InfixRight(5), true, EXPRESSION, &rows)
+    reads(
+        &rt,
+        rt.alloc(),
+        Level::InfixRight(5),
+        true,
+        EXPRESSION,
+        &rows,
+    )
 }
 
 #[test]
@@ -127,9 +141,19 @@ fn differences_neither_way(rt: HostRuntime) -> Result<(), Fail> {
     let rows = [
         ("1 - 2 - 3", "no tree"),
         ("(1 - 2) - 3", "minus(minus(num(1),num(2)),num(3))"),
-        ("1 - 2 + 3 - 4", "plus(minus(num(1),num(2)),minus(num(3),num(4)))"),
+        (
+            "1 - 2 + 3 - 4",
+            "plus(minus(num(1),num(2)),minus(num(3),num(4)))",
+        ),
     ];
-    reads(&rt, rt.alloc(), Level::InfixNone(5), true, EXPRESSION, &rows)
+    reads(
+        &rt,
+        rt.alloc(),
+        Level::InfixNone(5),
+        true,
+        EXPRESSION,
+        &rows,
+    )
 }
 
 #[test]
@@ -152,7 +176,14 @@ fn operators_with_one_side(rt: HostRuntime) -> Result<(), Fail> {
         ("! 1", "no tree"),
         ("1 ! 2", "no tree"),
     ];
-    reads(&rt, rt.alloc(), Level::InfixLeft(4), true, EXPRESSION, &rows)
+    reads(
+        &rt,
+        rt.alloc(),
+        Level::InfixLeft(4),
+        true,
+        EXPRESSION,
+        &rows,
+    )
 }
 
 #[test]
@@ -171,7 +202,14 @@ fn lists_that_may_be_unfinished(rt: HostRuntime) -> Result<(), Fail> {
         ("[1 2]", "no tree"),
         ("...", "no tree"),
     ];
-    reads(&rt, rt.alloc(), Level::InfixLeft(4), true, EXPRESSION, &rows)
+    reads(
+        &rt,
+        rt.alloc(),
+        Level::InfixLeft(4),
+        true,
+        EXPRESSION,
+        &rows,
+    )
 }
 
 #[test]
@@ -182,7 +220,14 @@ fn lists_that_are_finished(rt: HostRuntime) -> Result<(), Fail> {
         ("[...]", "no tree"),
         ("[1, ...]", "no tree"),
     ];
-    reads(&rt, rt.alloc(), Level::InfixLeft(4), false, EXPRESSION, &rows)
+    reads(
+        &rt,
+        rt.alloc(),
+        Level::InfixLeft(4),
+        false,
+        EXPRESSION,
+        &rows,
+    )
 }
 
 #[test]
@@ -202,7 +247,14 @@ fn names_texts_and_placeholders(rt: HostRuntime) -> Result<(), Fail> {
         ("?Args", "no tree"),
         ("do ?Stm", "no tree"),
     ];
-    reads(&rt, rt.alloc(), Level::InfixLeft(4), true, EXPRESSION, &rows)
+    reads(
+        &rt,
+        rt.alloc(),
+        Level::InfixLeft(4),
+        true,
+        EXPRESSION,
+        &rows,
+    )
 }
 
 #[test]
@@ -218,7 +270,14 @@ fn brackets(rt: HostRuntime) -> Result<(), Fail> {
         // statements have none
         ("do (let a be 1 end)", "no tree"),
     ];
-    reads(&rt, rt.alloc(), Level::InfixLeft(4), true, EXPRESSION, &rows)
+    reads(
+        &rt,
+        rt.alloc(),
+        Level::InfixLeft(4),
+        true,
+        EXPRESSION,
+        &rows,
+    )
 }
 
 #[test]
@@ -266,13 +325,27 @@ fn goals_of_other_kinds(rt: HostRuntime) -> Result<(), Fail> {
         least: 0,
         around: 0,
     };
-    reads(&rt, alloc, Level::InfixLeft(4), true, missing, &[("1", "no tree")])?;
+    reads(
+        &rt,
+        alloc,
+        Level::InfixLeft(4),
+        true,
+        missing,
+        &[("1", "no tree")],
+    )?;
     let missing = Goal {
         kind: Kind::List(1),
         least: 0,
         around: 0,
     };
-    reads(&rt, alloc, Level::InfixLeft(4), true, missing, &[("", "no tree")])
+    reads(
+        &rt,
+        alloc,
+        Level::InfixLeft(4),
+        true,
+        missing,
+        &[("", "no tree")],
+    )
 }
 
 /// A text with a part that stands a number of times in front, and one that stands as often behind.
@@ -318,12 +391,7 @@ fn outcome(
     }
 }
 
-fn ends(
-    rt: &impl Abort,
-    alloc: Global,
-    nested: Nested,
-    expected: &str,
-) -> Result<(), Fail>
+fn ends(rt: &impl Abort, alloc: Global, nested: Nested, expected: &str) -> Result<(), Fail>
     requires { nested.around ≤ MOST_BRACKETS }
 {
     let definition = accepted(alloc, Level::InfixLeft(4), true)?;
@@ -333,7 +401,13 @@ fn ends(
 }
 
 /// A text of these parts.
-fn text_of<'a>(around: u32, front: &'a str, times: usize, middle: &'a str, behind: &'a str) -> Nested<'a>
+fn text_of<'a>(
+    around: u32,
+    front: &'a str,
+    times: usize,
+    middle: &'a str,
+    behind: &'a str,
+) -> Nested<'a>
     ensures { result.around ≡ around }
 {
     Nested {

@@ -187,9 +187,9 @@ fn operators(alloc: Global, minus: Level) -> Result<Seq<Operator>, AllocError>
     let list = list(alloc)?;
     let act = doing(alloc)?;
     let declare = letting(alloc)?;
-    Ok(Seq::of(
-        vec![in alloc; ex, num, text, var, plus, minus, not, neg, fact, list, act, declare]?,
-    ))
+    Ok(Seq::of(vec![in alloc;
+        ex, num, text, var, plus, minus, not, neg, fact, list, act, declare,
+    ]?))
 }
 
 /// Expressions with differences of this level, and with lists that may be unfinished or not.

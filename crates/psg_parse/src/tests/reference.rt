@@ -171,7 +171,7 @@ fn all_short_texts_to_the_right(rt: HostRuntime) -> Result<(), Fail> {
         left: 6,
         right: 5,
     };
-    for count in 0..6 {
+    for count in 0..7 {
         agrees_on_all(&rt, rt.alloc(), Level::InfixRight(5), minus, count)?;
     }
     Ok(())
@@ -184,7 +184,7 @@ fn all_short_texts_neither_way(rt: HostRuntime) -> Result<(), Fail> {
         left: 3,
         right: 3,
     };
-    for count in 0..6 {
+    for count in 0..7 {
         agrees_on_all(&rt, rt.alloc(), Level::InfixNone(2), minus, count)?;
     }
     Ok(())

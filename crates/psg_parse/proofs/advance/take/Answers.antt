@@ -1,8 +1,7 @@
-use Rattle.std.proofs.Common.{◌≡◌, length, arith, ◌∙◌, subst}
+use Rattle.std.proofs.Common.{length, arith, ◌∙◌, subst}
 use Rattle.psg_parse.specs.Answers.{tokens_of}
 use Rattle.psg_parse.specs.States.{Leads, LeftBy}
 use Rattle.psg_parse.specs.Work.{Advances, state_work}
-use Rattle.psg_parse.specs.declared.state.Step.TheVariants as steps
 use Rattle.psg_parse.proofs.Taken.{led_on, none_taken}
 use Rattle.psg_parse.proofs.advance.take.Goals as goal
 

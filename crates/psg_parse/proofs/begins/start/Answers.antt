@@ -1,11 +1,11 @@
-use Rattle.std.proofs.Common.{◌≡◌, ◌↔◌, ◌<◌, ◌≤◌, ◌∷◌, [], ◌++◌, ℕ, List, Some, None, false, length, arith, refl, sym, ap, ◌∙◌, subst, inl}
-use Rattle.psg_grammar.specs.Fragments.{Fragment, hole, operator}
+use Rattle.std.proofs.Common.{◌≡◌, ◌↔◌, ◌<◌, ◌≤◌, ◌∷◌, Some, None, false, arith, refl, sym, ap, ◌∙◌, subst, inl}
+use Rattle.psg_grammar.specs.Fragments.{hole, operator}
 use Rattle.psg_grammar.specs.Levels.{level_number}
 use Rattle.psg_class.specs.Places.{solid}
 use Rattle.psg_class.specs.Follow.{Leads, First}
-use Rattle.psg_class.specs.Terminals.{Token, terminal_of}
+use Rattle.psg_class.specs.Terminals.{terminal_of}
 use Rattle.psg_class.proofs.Runs.{parts, grow as growing, start as starting}
-use Rattle.psg_class.proofs.Machine.{Frame as Plain, Completes, then_grow, then_close, taken}
+use Rattle.psg_class.proofs.Machine.{Completes, then_grow, then_close, taken}
 use Rattle.psg_parse.specs.Answers.{tokens_of}
 use Rattle.psg_parse.specs.Seen.{terminal_seen}
 use Rattle.psg_parse.specs.States.{IsStack, running}
@@ -42,7 +42,7 @@ returns-then-opens_bracket-clause-leads c st h =
     let plain = then_grow c.args.phylum c.args.least None in
     let one : IsStack c.push.new.self.items (plain ∷ st) = subst (λ s. IsStack s (plain ∷ st)) (sym c.in_ok-push.ensures.items) (pushed c.args.stack.items st (frames.Grow c.args.phylum c.args.least None) plain refl h) in
     let two : IsStack c.push-then-opens_bracket.new.self.items (then_close ∷ plain ∷ st) =
-        subst (λ s. IsStack s (then_close ∷ plain ∷ st)) (sym c.in_ok-push-2.ensures.items) (pushed c.push.new.self.items (plain ∷ st) frames.Close then_close refl one) in
+    subst (λ s. IsStack s (then_close ∷ plain ∷ st)) (sym c.in_ok-push-2.ensures.items) (pushed c.push.new.self.items (plain ∷ st) frames.Close then_close refl one) in
     record {
       aim = running (starting c.args.phylum 0);
       st = then_close ∷ plain ∷ st;
@@ -57,7 +57,7 @@ returns-in_default-leading-clause-leads c st h F D y =
     let ts : tokens_of c.args.rest.now ≡ c.in-Some.spanned.now.token ∷ tokens_of c.in-Some.others.now = ap tokens_of c.in-Some.ensures.cases.0 in
     starts_nothing def c.requires.class c.args.phylum c.args.least st c.in-Some.spanned.now.token (tokens_of c.in-Some.others.now) F D
     (λ x. nothing_opens def c.args.phylum (terminal_seen c.see-seen.result) c.opens_hole.result c.opens_bracket.result c.opens_hole.ensures.1 c.if-opens_hole.false c.opens_bracket.ensures.1 c.if-opens_bracket.false c.in_default-leading.ensures
-        (subst (First def c.args.phylum) (sym c.see-seen.ensures) x))
+    (subst (First def c.args.phylum) (sym c.see-seen.ensures) x))
     (subst (λ z. Completes def (starting c.args.phylum c.args.least) st z F D) ts y)
 
 pub bounds-as_slice-op : goal.bounds-as_slice-op
@@ -99,7 +99,7 @@ returns-clause-leads c st h =
     let plain = then_grow c.args.phylum c.args.least (Some (level_number c.index-as_slice-op.result.level)) in
     let frame : then_grow c.args.phylum c.args.least (Some (level_number c.index-as_slice-op.result.level)) ≡ then_grow c.args.phylum c.args.least (Some c.from-binding.result) = ap (λ n. then_grow c.args.phylum c.args.least (Some n)) (sym bound) in
     let stack : IsStack c.push-2.new.self.items (plain ∷ st) =
-        subst (λ s. IsStack s (plain ∷ st)) (sym c.in_ok-push-3.ensures.items) (pushed c.args.stack.items st (frames.Grow c.args.phylum c.args.least (Some c.from-binding.result)) plain frame h) in
+    subst (λ s. IsStack s (plain ∷ st)) (sym c.in_ok-push-3.ensures.items) (pushed c.args.stack.items st (frames.Grow c.args.phylum c.args.least (Some c.from-binding.result)) plain frame h) in
     record {
       aim = running (parts o false (taken item t (operator op)) 0 more);
       st = plain ∷ st;

@@ -1,9 +1,8 @@
-use Rattle.std.proofs.Common.{◌≡◌, ◌↔◌, ◌∷◌, [], ◌++◌, ℕ, List, Some, None, false, suc, max, refl, sym, ap, ◌∙◌, subst, true≢false, inl, inr, arith, ◌+◌, ◌*◌, length}
-use Rattle.std.specs.Prelude.{codes}
+use Rattle.std.proofs.Common.{◌≡◌, ◌↔◌, ◌∷◌, ℕ, List, false, suc, max, refl, sym, ap, ◌∙◌, subst, true≢false, inl, inr, arith, ◌+◌, ◌*◌, length}
 use Rattle.std.proofs.lemmas.Result.{IfOk-weaker}
 use Rattle.psg_grammar.specs.Fragments.{Fragment, with_child}
 use Rattle.psg_class.specs.Places.{solid}
-use Rattle.psg_class.specs.Terminals.{Token, next_terminal, close_bracket}
+use Rattle.psg_class.specs.Terminals.{close_bracket}
 use Rattle.psg_class.proofs.ClassFacts.{facts}
 use Rattle.psg_class.proofs.Runs.{grow, parts}
 use Rattle.psg_class.proofs.Machine.{Frame as Plain, Ends, then_grow, then_parts, then_close, then_list, step_close, step_open}
@@ -59,7 +58,7 @@ returns-then-not-is_fixed-clause-leads c st f n h x F D y =
     let frame : st ≡ then_close ∷ left = e ∙ ap (λ z. z ∷ left) is in
     step_open def (facts def c.requires.class) F D left f n (tokens_of c.args.rest.now)
     (other_next def c.args.rest.now c.in-Some-split_first.spanned.now c.in-Some-split_first.others.now close_bracket c.in-Some-split_first.ensures.cases.0
-        (λ t. true≢false (sym (c.is_fixed.ensures.1 (c.see.ensures ∙ t)) ∙ c.if-not-is_fixed.true)))
+    (λ t. true≢false (sym (c.is_fixed.ensures.1 (c.see.ensures ∙ t)) ∙ c.if-not-is_fixed.true)))
     (subst (λ z. Ends def z f n (tokens_of c.args.rest.now) F D) frame y)
 
 pub returns-else-not-is_fixed-clause-leads : goal.returns-else-not-is_fixed-clause-leads
@@ -82,9 +81,9 @@ pub returns-in_ok-listed-in-List-clause-leads : goal.returns-in_ok-listed-in-Lis
 returns-in_ok-listed-in-List-clause-leads c =
     IfOk-weaker c.tail.result _ (λ s. (st : List Plain) (f : Fragment) (n : ℕ) → _ → _ → Steps c.args.definition.now (giving f n) st (tokens_of c.args.rest.now) s)
     (λ s k st f n h x.
-      let (plain, left, e, (before, d, are, is), on) = top c.args.stack.items c.pop.new.self.items c.in-Some.frame (frames.List c.in-List.list c.in-List.listed) st c.in-Some.ensures.items c.in-List.is h in
-      let frame : st ≡ then_list c.in-List.list before d ∷ left = e ∙ ap (λ y. y ∷ left) is in
-      subst (λ z. Steps c.args.definition.now (giving f n) z (tokens_of c.args.rest.now) s) (sym frame) (k left before f d n on (c.in_ok-listed-in-List.ensures before f d n are x)))
+    let (plain, left, e, (before, d, are, is), on) = top c.args.stack.items c.pop.new.self.items c.in-Some.frame (frames.List c.in-List.list c.in-List.listed) st c.in-Some.ensures.items c.in-List.is h in
+    let frame : st ≡ then_list c.in-List.list before d ∷ left = e ∙ ap (λ y. y ∷ left) is in
+    subst (λ z. Steps c.args.definition.now (giving f n) z (tokens_of c.args.rest.now) s) (sym frame) (k left before f d n on (c.in_ok-listed-in-List.ensures before f d n are x)))
     c.tail.ensures.leads
 
 pub returns-in-Grow-clause-advances : goal.returns-in-Grow-clause-advances

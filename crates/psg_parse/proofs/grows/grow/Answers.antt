@@ -1,13 +1,13 @@
-use Rattle.std.proofs.Common.{◌≡◌, ◌↔◌, ◌<◌, ◌≤◌, ◌∷◌, [], ◌++◌, ℕ, max, List, Some, None, true, false, length, arith, refl, sym, ap, ◌∙◌, subst, true≢false, inl, inr}
+use Rattle.std.proofs.Common.{◌≡◌, ◌↔◌, ◌<◌, ◌≤◌, ◌∷◌, max, Some, false, arith, refl, sym, ap, ◌∙◌, subst, true≢false, inl, inr}
 use Rattle.psg_grammar.specs.declared.types.Item.TheVariants as items
-use Rattle.psg_grammar.specs.Fragments.{Fragment, operator, with_child}
+use Rattle.psg_grammar.specs.Fragments.{operator, with_child}
 use Rattle.psg_grammar.specs.Levels.{level_number, first_level}
 use Rattle.psg_class.specs.Places.{solid}
 use Rattle.psg_class.specs.Follow.{Led}
-use Rattle.psg_class.specs.Terminals.{Token, terminal_of}
+use Rattle.psg_class.specs.Terminals.{terminal_of}
 use Rattle.psg_class.proofs.ClassFacts.{facts}
 use Rattle.psg_class.proofs.Runs.{Reaches, Stops, parts, grow as growing}
-use Rattle.psg_class.proofs.Machine.{Frame as Plain, Completes, Ends, then_grow, taken, step_stop, step_unreached}
+use Rattle.psg_class.proofs.Machine.{Completes, then_grow, taken, step_stop, step_unreached}
 use Rattle.psg_parse.specs.Answers.{tokens_of}
 use Rattle.psg_parse.specs.Seen.{terminal_seen}
 use Rattle.psg_parse.specs.States.{IsStack, giving, running}
@@ -38,7 +38,7 @@ returns-in_default-led-clause-leads c st f n h x =
       stands = record { mode = (f, n, x, refl); stack = h };
       same = λ F D. step_stop def (facts def c.requires.class) F D c.args.phylum c.args.least f n c.args.level st (tokens_of c.args.rest.now)
           (subst (Stops def c.args.phylum c.args.least) (sym ts) (stops_none def c.requires.class c.args.phylum c.args.least c.in-Some.spanned.now.token (tokens_of c.in-Some.others.now)
-              (λ k l. c.in_default-led.ensures k (subst (Led def c.args.phylum k) (sym c.see.ensures) l))));
+          (λ k l. c.in_default-led.ensures k (subst (Led def c.args.phylum k) (sym c.see.ensures) l))));
     }
 
 pub bounds-as_slice-op : goal.bounds-as_slice-op
@@ -101,11 +101,11 @@ returns-clause-leads c st f n h x =
     let least : c.args.least ≤ level_number c.index-as_slice-op.result.level = omega (arith, bound, c.if-binding-least.false) in
     let reach : Reaches (first_level c.index-as_slice-op.result.level) c.args.level = c.reaches.ensures.0 c.if-not-reaches.false in
     let are = two_items o c.without_marks.result.now c.in-Some-split_first.field-0-0.now c.in-Some-split_first.behind.now c.without_marks-2.result.now item c.in-Some-split_first-2.more.now
-        (c.without_marks.ensures.same ∙ ap solid c.as_slice-2.ensures) c.without_marks.ensures.bare c.in-Some-split_first.ensures.cases.0 c.without_marks-2.ensures.same c.without_marks-2.ensures.bare c.in-Some-split_first-2.ensures.cases.0 in
+    (c.without_marks.ensures.same ∙ ap solid c.as_slice-2.ensures) c.without_marks.ensures.bare c.in-Some-split_first.ensures.cases.0 c.without_marks-2.ensures.same c.without_marks-2.ensures.bare c.in-Some-split_first-2.ensures.cases.0 in
     let plain = then_grow c.args.phylum c.args.least (Some (level_number c.index-as_slice-op.result.level)) in
     let frame : then_grow c.args.phylum c.args.least (Some (level_number c.index-as_slice-op.result.level)) ≡ then_grow c.args.phylum c.args.least (Some c.from-binding.result) = ap (λ k. then_grow c.args.phylum c.args.least (Some k)) (sym bound) in
     let stack : IsStack c.push.new.self.items (plain ∷ st) =
-        subst (λ s. IsStack s (plain ∷ st)) (sym c.in_ok-push.ensures.items) (pushed c.args.stack.items st (frames.Grow c.args.phylum c.args.least (Some c.from-binding.result)) plain frame h) in
+    subst (λ s. IsStack s (plain ∷ st)) (sym c.in_ok-push.ensures.items) (pushed c.args.stack.items st (frames.Grow c.args.phylum c.args.least (Some c.from-binding.result)) plain frame h) in
     let made = taken item t (with_child (operator op) f) in
     record {
       aim = running (parts o false made (max 0 n) more);

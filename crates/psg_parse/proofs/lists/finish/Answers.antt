@@ -1,4 +1,4 @@
-use Rattle.std.proofs.Common.{◌↔◌, refl, inr, arith}
+use Rattle.std.proofs.Common.{refl, inr, arith}
 use Rattle.psg_grammar.specs.Fragments.{ending}
 use Rattle.psg_class.proofs.Machine.{behind_all}
 use Rattle.psg_parse.specs.States.{giving}

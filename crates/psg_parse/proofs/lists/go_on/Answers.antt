@@ -20,6 +20,6 @@ returns-clause-leads c st before n h x = record {
 }
 
 pub returns-clause-falls : goal.returns-clause-falls
-returns-clause-falls c = 
+returns-clause-falls c =
     let e : stack_work c.push.new.self.items ≡ stack_work c.args.stack.items + 1 = pushed_work c.push.new.self.items c.args.stack.items (frames.List c.args.list c.args.listed) c.in_ok-push.ensures.items in
     inr (refl, omega (arith, e))

@@ -1,9 +1,8 @@
-use Rattle.std.proofs.Common.{◌≡◌, ◌<◌, ◌+◌, length, ap, ◌∙◌, subst}
+use Rattle.std.proofs.Common.{◌<◌, ◌+◌, length, ap, subst}
 use Rattle.std.proofs.lemmas.Result.{IfOk-weaker, IfErr-weaker}
 use Rattle.psg_parse.specs.Answers.{IsParsed, Reads}
 use Rattle.psg_parse.specs.States.{Leads}
 use Rattle.psg_parse.specs.Work.{Takes}
-use Rattle.psg_parse.specs.declared.state.Step.TheVariants as steps
 use Rattle.psg_parse.proofs.Taken.{begun, formed, led_on, parsed, refused, ticked}
 use Rattle.psg_parse.proofs.parser.parse.Goals as goal
 

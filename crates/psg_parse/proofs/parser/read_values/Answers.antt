@@ -1,6 +1,5 @@
-use Rattle.std.proofs.Common.{◌≡◌, ◌<◌, ℕ, Some, slice_get, length, sym, ap, ◌∙◌, subst, arith}
+use Rattle.std.proofs.Common.{◌<◌, length, arith}
 use Rattle.std.proofs.lemmas.Option.{slice_get_within}
-use Rattle.psg_class.specs.Only.{IsValue}
 use Rattle.psg_parse.proofs.Taken.{values_of}
 use Rattle.psg_parse.proofs.parser.read_values.Goals as goal
 

@@ -1,6 +1,5 @@
-use Rattle.std.proofs.Common.{◌≡◌, IsTrue, sym, ap, ◌∙◌, subst}
+use Rattle.std.proofs.Common.{IsTrue, sym, ◌∙◌, subst}
 use Rattle.psg_terms.specs.Names.{is_among}
-use Rattle.psg_class.specs.Terminals.{is_word}
 use Rattle.psg_parse.proofs.Terminals.{name_by}
 use Rattle.psg_parse.proofs.seen.see_word.Goals as goal
 

@@ -1,17 +1,14 @@
-use Rattle.std.proofs.Common.{◌≡◌, ◌↔◌, ◌∷◌, [], ℕ, List, Some, false, refl, sym, ap, ◌∙◌, subst, true≢false, inl, inr, arith, ◌+◌, ◌*◌, ◌<◌, length}
+use Rattle.std.proofs.Common.{◌≡◌, ◌↔◌, ◌∷◌, ℕ, List, Some, false, refl, sym, ap, ◌∙◌, subst, true≢false, inl, inr, arith, ◌+◌, ◌*◌, ◌<◌, length}
 use Rattle.psg_grammar.specs.declared.types.Item.TheVariants as items
-use Rattle.psg_grammar.specs.declared.types.Kind.TheVariants as kinds
 use Rattle.psg_grammar.specs.Fragments.{Fragment}
 use Rattle.psg_class.specs.Places.{solid}
-use Rattle.psg_class.specs.Terminals.{Token, next_terminal, terminal_of}
+use Rattle.psg_class.specs.Terminals.{Token, next_terminal}
 use Rattle.psg_class.proofs.Runs.{parts as reading, start, list}
-use Rattle.psg_class.proofs.Machine.{Frame as Plain, Completes, then_parts, taken}
+use Rattle.psg_class.proofs.Machine.{Completes, then_parts, taken}
 use Rattle.psg_parse.specs.Answers.{tokens_of}
 use Rattle.psg_parse.specs.States.{GoesOn, IsStack, giving, running, LeftBy}
-use Rattle.psg_parse.specs.declared.state.State.{State}
 use Rattle.psg_parse.specs.declared.state.Frame.TheVariants as frames
 use Rattle.psg_parse.specs.declared.state.Mode.{Mode}
-use Rattle.psg_parse.specs.declared.state.Mode.TheVariants as modes
 use Rattle.psg_parse.specs.declared.state.Step.TheVariants as steps
 use Rattle.psg_parse.proofs.Stacks.{pushed}
 use Rattle.psg_parse.proofs.Items.{items_end, items_slot, items_list, items_token, items_mismatch}
@@ -33,7 +30,7 @@ returns-in-Slot-clause-leads c st f n h x =
     let def = c.args.definition.now in
     let plain = then_parts c.args.operator.now f n (solid c.in-Some.behind.now) in
     let stack : IsStack c.push.new.self.items (plain ∷ st) =
-        subst (λ s. IsStack s (plain ∷ st)) (sym c.in_ok-push.ensures.items) (pushed c.args.stack.items st (frames.Parts c.args.operator c.args.built c.in-Some.behind) plain (f, n, x, refl) h) in
+    subst (λ s. IsStack s (plain ∷ st)) (sym c.in_ok-push.ensures.items) (pushed c.args.stack.items st (frames.Parts c.args.operator c.args.built c.in-Some.behind) plain (f, n, x, refl) h) in
     let goes = λ (m : Mode). GoesOn def (LeftBy def (running (reading c.args.operator.now false f n (solid c.args.more.now))) st (tokens_of c.args.rest.now)) (record { mode = m; stack = c.push.new.self; rest = c.args.rest }) in
     elim c.match-kind.branch [
       | in-Phylum w ↦ subst goes (sym w.mode-is) (record {
@@ -82,10 +79,10 @@ pub returns-in_default-clause-falls : goal.returns-in_default-clause-falls
 returns-in_default-clause-falls c = inr (refl, omega arith)
 
 pub returns-in-Slot-clause-falls : goal.returns-in-Slot-clause-falls
-returns-in-Slot-clause-falls c = 
+returns-in-Slot-clause-falls c =
     let n : length c.in-Some.behind.now < length c.without_marks.result.now = shorter c.without_marks.result.now c.in-Some.item.now c.in-Some.behind.now c.in-Some.ensures.cases.0 in
     let e : stack_work c.push.new.self.items ≡ stack_work c.args.stack.items + (4 * length c.in-Some.behind.now + 2) =
-        pushed_work c.push.new.self.items c.args.stack.items (frames.Parts c.args.operator c.args.built c.in-Some.behind) c.in_ok-push.ensures.items in
+    pushed_work c.push.new.self.items c.args.stack.items (frames.Parts c.args.operator c.args.built c.in-Some.behind) c.in_ok-push.ensures.items in
     let falls = λ (m : Mode). Falls (length c.args.rest.now) (4 * length c.args.more.now + 1 + stack_work c.args.stack.items) (steps.Go (record { mode = m; stack = c.push.new.self; rest = c.args.rest })) in
     elim c.match-kind.branch [
       | in-Phylum w ↦ subst falls (sym w.mode-is) (inr (refl, omega (arith, n, e, c.without_marks.ensures.short)))

@@ -1,4 +1,4 @@
-use Rattle.std.proofs.Common.{◌≡◌, ◌<◌, ◌==◌, length, get_or, sym, ap, ◌∙◌, subst, arith}
+use Rattle.std.proofs.Common.{◌≡◌, ◌==◌, length, get_or, ap, ◌∙◌, arith}
 use Rattle.psg_parse.proofs.HoleTables.{holes_more}
 use Rattle.psg_parse.proofs.tables.holes.Goals as goal
 

@@ -1,7 +1,7 @@
-use Rattle.std.proofs.Common.{◌≡◌, ◌<◌, ◌≤◌, ◌+◌, ◌^◌, Some, slice_get, length, get_or, sym, ap, ◌∙◌, subst, arith}
+use Rattle.std.proofs.Common.{◌≡◌, ◌<◌, Some, slice_get, length, sym, ap, ◌∙◌, subst, arith}
 use Rattle.std.proofs.lemmas.Option.{slice_get-get_or}
 use Rattle.psg_grammar.proofs.SoundParts.{phylum_in}
-use Rattle.psg_parse.specs.Lookups.{PutsAt, opener_at}
+use Rattle.psg_parse.specs.Lookups.{opener_at}
 use Rattle.psg_parse.proofs.Tabled.{all_found, has_none, more_none, more_put}
 use Rattle.psg_parse.proofs.tables.openers.Goals as goal
 
@@ -18,8 +18,8 @@ put_at-requires c =
     let def = c.args.definition.now in
     let lt : c.loop-n.n < length c.as_slice-operators.result.now = omega (arith, c.loop-n-test.true) in
     let found : slice_get c.args.definition.now.operators c.loop-n.n ≡ Some c.index-operators-n.result =
-        subst (λ xs. slice_get xs c.loop-n.n ≡ Some c.index-operators-n.result) c.as_slice-operators.ensures
-        (slice_get-get_or c.as_slice-operators.result.now c.loop-n.n c.index-operators-n.result lt ∙ ap Some (sym c.index-operators-n.is)) in
+    subst (λ xs. slice_get xs c.loop-n.n ≡ Some c.index-operators-n.result) c.as_slice-operators.ensures
+    (slice_get-get_or c.as_slice-operators.result.now c.loop-n.n c.index-operators-n.result lt ∙ ap Some (sym c.index-operators-n.is)) in
     let in_range : c.index-operators-n.result.phylum < length c.args.definition.now.phyla = phylum_in def c.requires c.loop-n.n c.index-operators-n.result found in
     omega (arith, in_range, c.loop-n.invariant.count)
 
@@ -28,8 +28,8 @@ loop-n-preserved c =
     let def = c.args.definition.now in
     let lt : c.loop-n.n < length c.as_slice-operators.result.now = omega (arith, c.loop-n-test.true) in
     let found : slice_get c.args.definition.now.operators c.loop-n.n ≡ Some c.index-operators-n.result =
-        subst (λ xs. slice_get xs c.loop-n.n ≡ Some c.index-operators-n.result) c.as_slice-operators.ensures
-        (slice_get-get_or c.as_slice-operators.result.now c.loop-n.n c.index-operators-n.result lt ∙ ap Some (sym c.index-operators-n.is)) in
+    subst (λ xs. slice_get xs c.loop-n.n ≡ Some c.index-operators-n.result) c.as_slice-operators.ensures
+    (slice_get-get_or c.as_slice-operators.result.now c.loop-n.n c.index-operators-n.result lt ∙ ap Some (sym c.index-operators-n.is)) in
     record {
       count = c.in_ok-put_at.ensures.count ∙ c.loop-n.invariant.count;
       finds = more_put def c.args.place c.loop-n.n c.as_slice-operators.result.now c.as_slice-operators.ensures c.index-operators-n.result c.index-operators-n.is c.in-Some.item.now c.in-Some.ensures found
