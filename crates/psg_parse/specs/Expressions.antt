@@ -20,13 +20,24 @@ abbrev pub phylum_of : List ℕ → Bool → Phylum
 phylum_of name bracketed = record { name = name; sort = unit; bracketed = bracketed }
 
 abbrev pub args_list : Bool → ListKind
-args_list unfinished = record { name = codes "Args"; sort = unit; element = 0; separator = codes ","; lines = false; unfinished = unfinished; nil_rows = []; cell_rows = [] }
+args_list unfinished =
+    record {
+      name = codes "Args";
+      sort = unit;
+      element = 0;
+      separator = codes ",";
+      lines = false;
+      unfinished = unfinished;
+      nil_rows = [];
+      cell_rows = [];
+    }
 
 abbrev pub expression : Item
 expression = items.Slot (kinds.Phylum 0)
 
 abbrev pub operator_of : List ℕ → ℕ → Level → List Item → Operator
-operator_of name phylum level items = record { name = name; phylum = phylum; level = level; scope = false; items = items; rows = [] }
+operator_of name phylum level items =
+    record { name = name; phylum = phylum; level = level; scope = false; items = items; rows = [] }
 
 abbrev pub leaf_of : List ℕ → Item → Operator
 leaf_of name item = operator_of name 0 levels.Plain (item ∷ [])
@@ -41,21 +52,30 @@ abbrev pub factorial : Operator
 factorial = operator_of (codes "fact") 0 (levels.Postfix 8) (expression ∷ items.Tight ∷ items.Word (codes "!") ∷ [])
 
 abbrev pub list_of : Operator
-list_of = operator_of (codes "list") 0 levels.Plain (items.Word (codes "[") ∷ items.Tight ∷ items.Slot (kinds.List 0) ∷ items.Tight ∷ items.Word (codes "]") ∷ [])
+list_of = operator_of (codes "list") 0 levels.Plain
+    (items.Word (codes "[") ∷ items.Tight ∷ items.Slot (kinds.List 0) ∷ items.Tight ∷ items.Word (codes "]") ∷ [])
+
+abbrev pub doing_items : List Item
+doing_items = items.Word (codes "do") ∷ items.Slot (kinds.Phylum 1) ∷ []
 
 abbrev pub doing : Operator
-doing = record { name = codes "do"; phylum = 0; level = levels.Plain; scope = true; items = items.Word (codes "do") ∷ items.Slot (kinds.Phylum 1) ∷ []; rows = [] }
+doing = record { name = codes "do"; phylum = 0; level = levels.Plain; scope = true; items = doing_items; rows = [] }
 
 abbrev pub letting : Operator
-letting = operator_of (codes "let") 1 levels.Plain (items.Word (codes "let") ∷ items.Declares 0 ∷ items.Word (codes "be") ∷ expression ∷ items.Word (codes "end") ∷ [])
-
-abbrev pub leaves : List Operator → List Operator
-leaves more = leaf_of (codes "ex") (items.Word (codes "x")) ∷ leaf_of (codes "num") items.Number ∷ leaf_of (codes "str") items.Text ∷ leaf_of (codes "var") (items.Refers 0) ∷ more
+letting = operator_of (codes "let") 1 levels.Plain
+    (items.Word (codes "let") ∷ items.Declares 0 ∷ items.Word (codes "be") ∷ expression ∷ items.Word (codes "end") ∷ [])
 
 abbrev pub operators_with : Level → List Operator
 operators_with minus =
-    leaves (infix_of (codes "plus") (levels.InfixLeft 4) (codes "+") ∷ infix_of (codes "minus") minus (codes "-") ∷ prefix_of (codes "not") 3 (codes "not") ∷ prefix_of (codes "neg") 6 (codes "~")
-    ∷ factorial ∷ list_of ∷ doing ∷ letting ∷ [])
+    leaf_of (codes "ex") (items.Word (codes "x"))
+    ∷ leaf_of (codes "num") items.Number
+    ∷ leaf_of (codes "str") items.Text
+    ∷ leaf_of (codes "var") (items.Refers 0)
+    ∷ infix_of (codes "plus") (levels.InfixLeft 4) (codes "+")
+    ∷ infix_of (codes "minus") minus (codes "-")
+    ∷ prefix_of (codes "not") 3 (codes "not")
+    ∷ prefix_of (codes "neg") 6 (codes "~")
+    ∷ factorial ∷ list_of ∷ doing ∷ letting ∷ []
 
 abbrev pub expressions : Level → Bool → Definition
 expressions minus unfinished = record {

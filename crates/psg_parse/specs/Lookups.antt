@@ -72,7 +72,7 @@ pub record Has (def : Definition) (place : Place) (p n : ℕ) (terminal : Termin
   pub phylum : o.phylum ≡ p
   pub begins : terminal_at place o ≡ Some terminal
 
--- Openers of each phylum: at the phylum and the terminal of the item stands the operator, and elsewhere what stood there.
+-- Openers of each phylum: at the phylum and the terminal of the item stands the operator, elsewhere what stood there.
 abbrev pub PutsAt : List Openers → ℕ → Item → ℕ → List Openers → Type 0
 PutsAt old phylum item op new =
     (p : ℕ) (terminal : Terminal)

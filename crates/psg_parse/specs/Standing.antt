@@ -1,5 +1,5 @@
--- What the trees that the parser keeps stand for. Past the limits it keeps none, and counts the depth and the nesting of
--- brackets no further than one above the limit.
+-- What the trees that the parser keeps stand for. Past the limits it keeps none, and counts the depth and the nesting
+-- of brackets no further than one above the limit.
 use Rattle.std.specs.Prelude.{ℕ, ◌≡◌, ◌<◌, ◌⊎◌, ◌+◌, min, max, List, [], ◌∷◌, Option, Some, None}
 use Rattle.psg_grammar.specs.Fragments.{Fragment, operator}
 use Rattle.psg_grammar.specs.Sizes.{depth_of}

@@ -36,9 +36,11 @@ LeftBy def (giving f n) st ts F D = Ends def st f n ts F D
 
 abbrev pub IsFrame : Frame → Plain → Type 0
 IsFrame (frames.Grow p m level) plain = plain ≡ then_grow p m level
-IsFrame (frames.Parts o built more) plain = (f : Fragment) × (n : ℕ) × IsPartly built f n × (plain ≡ then_parts o.now f n (solid more.now))
+IsFrame (frames.Parts o built more) plain =
+    (f : Fragment) × (n : ℕ) × IsPartly built f n × (plain ≡ then_parts o.now f n (solid more.now))
 IsFrame frames.Close plain = plain ≡ then_close
-IsFrame (frames.List l listed) plain = (before : List Fragment) × (n : ℕ) × AreElements listed before n × (plain ≡ then_list l before n)
+IsFrame (frames.List l listed) plain =
+    (before : List Fragment) × (n : ℕ) × AreElements listed before n × (plain ≡ then_list l before n)
 
 -- the frames, the last one on top, stand for plain ones on top of these
 abbrev pub IsStackOn : List Plain → List Frame → List Plain → Type 0
@@ -51,8 +53,10 @@ IsStack stack st = IsStackOn [] stack st
 abbrev pub IsMode : Mode → Aim → Type 0
 IsMode (modes.Start p m) aim = aim ≡ running (start p m)
 IsMode (modes.List l) aim = aim ≡ running (list l)
-IsMode (modes.Grow p m tree level) aim = (f : Fragment) × (n : ℕ) × IsTree tree f n × (aim ≡ running (grow p m f n level))
-IsMode (modes.Parts o built more) aim = (f : Fragment) × (n : ℕ) × IsPartly built f n × (aim ≡ running (parts o.now false f n (solid more.now)))
+IsMode (modes.Grow p m tree level) aim =
+    (f : Fragment) × (n : ℕ) × IsTree tree f n × (aim ≡ running (grow p m f n level))
+IsMode (modes.Parts o built more) aim =
+    (f : Fragment) × (n : ℕ) × IsPartly built f n × (aim ≡ running (parts o.now false f n (solid more.now)))
 IsMode (modes.Give tree) aim = (f : Fragment) × (n : ℕ) × IsTree tree f n × (aim ≡ giving f n)
 
 pub record IsState (s : State) (aim : Aim) (st : List Plain) : Type 0 where

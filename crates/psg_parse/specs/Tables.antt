@@ -12,7 +12,8 @@ pub record IsLookup (def : Definition) (l : Lookup) : Type 0 where
   pub words : l.lexis ≡ fixed_words def
   pub count : length l.holes.items ≡ length def.phyla
   pub holes : (p : ℕ) (b : Bool) → slice_get l.holes.items p ≡ Some b → (b ≡ true) ↔ HasHoles def p
-  pub leading : (p : ℕ) (terminal : Terminal) → Finds (λ n. Leads def p n terminal) (opener_at l.leading.items p terminal)
+  pub leading : (p : ℕ) (terminal : Terminal)
+      → Finds (λ n. Leads def p n terminal) (opener_at l.leading.items p terminal)
   pub led : (p : ℕ) (terminal : Terminal) → Finds (λ n. Led def p n terminal) (opener_at l.led.items p terminal)
 
 -- the terminal is a placeholder of the phylum

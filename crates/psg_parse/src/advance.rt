@@ -26,7 +26,8 @@ fn advance<'a>(
 ) -> Result<Step<'a>, AllocError>
     requires class { IsClass definition.now }
     requires lookup { IsLookup definition.now lookup.now }
-    ensures leads { IfOk result (λ s. (aim : Aim) (st : List Plain) → IsState state.entry aim st → Steps definition.now aim st (tokens_of state.entry.rest.now) s) }
+    ensures leads { IfOk result (λ s. (aim : Aim) (st : List Plain) → IsState state.entry aim st
+        → Steps definition.now aim st (tokens_of state.entry.rest.now) s) }
     ensures advances { IfOk result (Advances (length state.entry.rest.now) (state_work state.entry)) }
 {
     let State { mode, stack, rest } = state;
@@ -71,7 +72,8 @@ pub(crate) fn take<'a>(
 ) -> Result<Step<'a>, AllocError>
     requires class { IsClass definition.now }
     requires lookup { IsLookup definition.now lookup.now }
-    ensures leads { IfOk result (λ s. (aim : Aim) (st : List Plain) → IsState state.entry aim st → Steps definition.now aim st (tokens_of state.entry.rest.now) s) }
+    ensures leads { IfOk result (λ s. (aim : Aim) (st : List Plain) → IsState state.entry aim st
+        → Steps definition.now aim st (tokens_of state.entry.rest.now) s) }
     ensures takes { IfOk result (Takes (length state.entry.rest.now)) }
 {
     let tokens = state.rest.len();

@@ -100,7 +100,8 @@ pub(crate) fn start<'a>(
 ) -> Result<Step<'a>, AllocError>
     requires class { IsClass definition.now }
     requires lookup { IsLookup definition.now lookup.now }
-    ensures leads { IfOk result (λ s. (st : List Plain) → IsStack stack.entry.items st → Steps definition.now (running (starting phylum least)) st (tokens_of rest.now) s) }
+    ensures leads { IfOk result (λ s. (st : List Plain) → IsStack stack.entry.items st
+        → Steps definition.now (running (starting phylum least)) st (tokens_of rest.now) s) }
     ensures falls { IfOk result (Falls (length rest.now) (stack_work stack.entry.items)) }
 {
     let mut stack = stack;

@@ -29,7 +29,8 @@ pub(crate) fn give<'a>(
 ) -> Result<Step<'a>, AllocError>
     requires class { IsClass definition.now }
     requires words { lexis.now ≡ fixed_words definition.now }
-    ensures leads { IfOk result (λ s. (st : List Plain) (f : Fragment) (n : ℕ) → IsStack stack.entry.items st → IsTree tree f n → Steps definition.now (giving f n) st (tokens_of rest.now) s) }
+    ensures leads { IfOk result (λ s. (st : List Plain) (f : Fragment) (n : ℕ) → IsStack stack.entry.items st
+        → IsTree tree f n → Steps definition.now (giving f n) st (tokens_of rest.now) s) }
     ensures advances { IfOk result (Advances (length rest.now) (stack_work stack.entry.items)) }
 {
     let mut stack = stack;

@@ -46,7 +46,9 @@ pub(crate) fn grow<'a>(
 ) -> Result<Step<'a>, AllocError>
     requires class { IsClass definition.now }
     requires lookup { IsLookup definition.now lookup.now }
-    ensures leads { IfOk result (λ s. (st : List Plain) (f : Fragment) (n : ℕ) → IsStack stack.entry.items st → IsTree tree f n → Steps definition.now (running (growing phylum least f n level)) st (tokens_of rest.now) s) }
+    ensures leads { IfOk result (λ s. (st : List Plain) (f : Fragment) (n : ℕ) → IsStack stack.entry.items st
+        → IsTree tree f n
+        → Steps definition.now (running (growing phylum least f n level)) st (tokens_of rest.now) s) }
     ensures falls { IfOk result (Falls (length rest.now) (1 + stack_work stack.entry.items)) }
 {
     let mut stack = stack;

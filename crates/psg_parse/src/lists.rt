@@ -32,7 +32,9 @@ pub(crate) fn finish<'a>(
     stack: Vec<Frame<'a>>,
     rest: &'a [Spanned],
 ) -> Result<Step<'a>, AllocError>
-    ensures leads { IfOk result (λ s. (st : List Plain) (before : List Fragment) (n : ℕ) → IsStack stack.entry.items st → AreElements listed before n → Steps definition.now (giving (behind_all list before (ending list unfinished)) n) st (tokens_of rest.now) s) }
+    ensures leads { IfOk result (λ s. (st : List Plain) (before : List Fragment) (n : ℕ)
+        → IsStack stack.entry.items st → AreElements listed before n
+        → Steps definition.now (giving (behind_all list before (ending list unfinished)) n) st (tokens_of rest.now) s) }
     ensures falls { IfOk result (Falls (length rest.now) (1 + stack_work stack.entry.items)) }
 {
     let tree = listed.finish(alloc, list, unfinished)?;
@@ -52,7 +54,9 @@ pub(crate) fn go_on<'a>(
     stack: Vec<Frame<'a>>,
     rest: &'a [Spanned],
 ) -> Result<Step<'a>, AllocError>
-    ensures leads { IfOk result (λ s. (st : List Plain) (before : List Fragment) (n : ℕ) → IsStack stack.entry.items st → AreElements listed before n → Steps definition.now (running (starting element 0)) (then_list list before n ∷ st) (tokens_of rest.now) s) }
+    ensures leads { IfOk result (λ s. (st : List Plain) (before : List Fragment) (n : ℕ)
+        → IsStack stack.entry.items st → AreElements listed before n
+        → Steps definition.now (running (starting element 0)) (then_list list before n ∷ st) (tokens_of rest.now) s) }
     ensures falls { IfOk result (Falls (length rest.now) (2 + stack_work stack.entry.items)) }
 {
     let mut stack = stack;
@@ -85,7 +89,8 @@ pub(crate) fn list<'a>(
 ) -> Result<Step<'a>, AllocError>
     requires class { IsClass definition.now }
     requires lookup { IsLookup definition.now lookup.now }
-    ensures leads { IfOk result (λ s. (st : List Plain) → IsStack stack.entry.items st → Steps definition.now (running (listing list)) st (tokens_of rest.now) s) }
+    ensures leads { IfOk result (λ s. (st : List Plain) → IsStack stack.entry.items st
+        → Steps definition.now (running (listing list)) st (tokens_of rest.now) s) }
     ensures falls { IfOk result (Falls (length rest.now) (2 + stack_work stack.entry.items)) }
 {
     let Some(kind) = definition.lists.as_slice().get(list as usize) else {
@@ -117,7 +122,9 @@ pub(crate) fn tail<'a>(
 ) -> Result<Step<'a>, AllocError>
     requires class { IsClass definition.now }
     requires words { lexis.now ≡ fixed_words definition.now }
-    ensures leads { IfOk result (λ s. (st : List Plain) (before : List Fragment) (e : Fragment) (d n : ℕ) → IsStack stack.entry.items st → AreElements listed (e ∷ before) (max d n) → Steps definition.now (giving e n) (then_list list before d ∷ st) (tokens_of rest.now) s) }
+    ensures leads { IfOk result (λ s. (st : List Plain) (before : List Fragment) (e : Fragment) (d n : ℕ)
+        → IsStack stack.entry.items st → AreElements listed (e ∷ before) (max d n)
+        → Steps definition.now (giving e n) (then_list list before d ∷ st) (tokens_of rest.now) s) }
     ensures falls { IfOk result (Falls (length rest.now) (1 + stack_work stack.entry.items)) }
 {
     let Some(kind) = definition.lists.as_slice().get(list as usize) else {

@@ -24,8 +24,8 @@ use psg_tree::Tree;
 use std::alloc::Global;
 use std::sync::ledger::Ledger;
 
-/// The only tree of the goal's kind and level that has these tokens. It is well formed, at most 200 deep, and its brackets
-/// and those around it nest at most 400 deep.
+/// The only tree of the goal's kind and level that has these tokens. It is well formed, at most 200 deep, and its
+/// brackets and those around it nest at most 400 deep.
 ///
 /// It refuses with `NoTree` where no tree has the tokens, and with `Deep` where one has them that is past a limit. It
 /// takes a step of the counter for each token that it reads. Work and memory are linear in the tokens, and deep input
@@ -107,8 +107,8 @@ fn within(goal: Goal, tree: Grown) -> Result<Tree, ParseFault>
     tree.ok_or(ParseFault::Deep)
 }
 
-/// Reads the numbers and texts of the tokens. What it ensures holds of the values of their types, and is known of what a
-/// program reads.
+/// Reads the numbers and texts of the tokens. What it ensures holds of all values of their types, and is known of those
+/// that a program reads.
 fn read_values(tokens: &[Spanned])
     ensures { AllByRecursion IsValue (tokens_of tokens.now) }
 {

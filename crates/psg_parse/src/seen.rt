@@ -25,8 +25,8 @@ pub(crate) enum Seen<'a> {
     Stray,
 }
 
-/// What the grammar sees of the token, where the lexis has the fixed words of the definition. It takes a step for each byte
-/// of a word or a run of symbols.
+/// What the grammar sees of the token, where the lexis has the fixed words of the definition. It takes a step for each
+/// byte of a word or a run of symbols.
 pub(crate) fn see<'a>(definition: &Definition, lexis: &Lexis, token: &'a Token) -> Seen<'a>
     requires { lexis.now ≡ fixed_words definition.now }
     ensures { terminal_seen result ≡ terminal_of definition.now token.now }
@@ -44,7 +44,8 @@ pub(crate) fn see<'a>(definition: &Definition, lexis: &Lexis, token: &'a Token) 
 
 fn see_word<'a>(definition: &Definition, lexis: &Lexis, text: &'a str) -> Seen<'a>
     requires { lexis.now ≡ fixed_words definition.now }
-    ensures { terminal_seen result ≡ word_terminal text.now (is_word text.now) (is_among (fixed_words definition.now) text.now) }
+    ensures { terminal_seen result
+        ≡ word_terminal text.now (is_word text.now) (is_among (fixed_words definition.now) text.now) }
 {
     if !is_word(text) {
         return Seen::Stray;

@@ -95,7 +95,8 @@ impl Built {
 
     /// The tree with one more child.
     pub(crate) fn with_child(self, child: Grown) -> Result<Built, AllocError>
-        ensures { IfOk result (λ b. (f t : Fragment) (d e : ℕ) → IsPartly self f d → IsTree child t e → IsPartly b (with_child f t) (max d e)) }
+        ensures { IfOk result (λ b. (f t : Fragment) (d e : ℕ) → IsPartly self f d → IsTree child t e
+            → IsPartly b (with_child f t) (max d e)) }
     {
         let Built {
             op,
@@ -138,7 +139,8 @@ impl Built {
 
     /// The tree with the part that the item takes of the token.
     pub(crate) fn with_token(self, item: &Item, token: &Token) -> Result<Built, AllocError>
-        ensures { IfOk result (λ b. (f : Fragment) (d : ℕ) → IsPartly self f d → IsPartly b (taken item.now token.now f) d) }
+        ensures { IfOk result (λ b. (f : Fragment) (d : ℕ) → IsPartly self f d
+            → IsPartly b (taken item.now token.now f) d) }
     {
         let Built {
             op,
@@ -211,7 +213,8 @@ impl Listed {
 
     /// One more element.
     pub(crate) fn with_element(self, element: Grown) -> Result<Listed, AllocError>
-        ensures { IfOk result (λ l. (before : List Fragment) (e : Fragment) (d n : ℕ) → AreElements self before d → IsTree element e n → AreElements l (e ∷ before) (max d n)) }
+        ensures { IfOk result (λ l. (before : List Fragment) (e : Fragment) (d n : ℕ) → AreElements self before d
+            → IsTree element e n → AreElements l (e ∷ before) (max d n)) }
     {
         let Listed {
             elements,
@@ -255,7 +258,8 @@ impl Listed {
         list: u32,
         unfinished: bool,
     ) -> Result<Grown, AllocError>
-        ensures { IfOk result (λ g. (before : List Fragment) (d : ℕ) → AreElements self before d → IsTree g (behind_all list before (ending list unfinished)) d) }
+        ensures { IfOk result (λ g. (before : List Fragment) (d : ℕ) → AreElements self before d
+            → IsTree g (behind_all list before (ending list unfinished)) d) }
     {
         let Listed {
             elements,

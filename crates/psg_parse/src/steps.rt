@@ -93,7 +93,9 @@ pub(crate) fn parts<'a>(
 ) -> Result<Step<'a>, AllocError>
     requires class { IsClass definition.now }
     requires words { lexis.now ≡ fixed_words definition.now }
-    ensures leads { IfOk result (λ s. (st : List Plain) (f : Fragment) (n : ℕ) → IsStack stack.entry.items st → IsPartly built f n → Steps definition.now (running (reading operator.now false f n (solid more.now))) st (tokens_of rest.now) s) }
+    ensures leads { IfOk result (λ s. (st : List Plain) (f : Fragment) (n : ℕ) → IsStack stack.entry.items st
+        → IsPartly built f n
+        → Steps definition.now (running (reading operator.now false f n (solid more.now))) st (tokens_of rest.now) s) }
     ensures falls { IfOk result (Falls (length rest.now) (4 * length more.now + 1 + stack_work stack.entry.items)) }
 {
     let mut stack = stack;

@@ -1,5 +1,6 @@
 //! All that the parser looks up of a definition, made once.
-ghost use Rattle.std.specs.Prelude.{◌≡◌, ◌<◌, ◌↔◌, ◌++◌, ℕ, Bool, true, IfOk, MatchOption, None, OnOk, Some, length, slice_get, vec_len};
+ghost use Rattle.std.specs.Prelude.{◌≡◌, ◌<◌, ◌↔◌, ◌++◌};
+ghost use Rattle.std.specs.Prelude.{ℕ, Bool, true, IfOk, MatchOption, None, OnOk, Some, length, slice_get, vec_len};
 ghost use Rattle.psg_grammar.specs.Sound.{IsSound};
 ghost use Rattle.psg_grammar.specs.WellFormed.{fixed_words, separators, words_in};
 ghost use Rattle.psg_class.specs.Follow.{HasHoles};
@@ -85,7 +86,8 @@ fn add_separators(words: &mut Vec<Txt>, lists: &[ListKind]) -> Result<(), AllocE
 fn holes(alloc: Global, definition: &Definition) -> Result<Vec<bool>, AllocError>
     requires { IsSound definition.now }
     ensures count { IfOk result (λ holes. vec_len holes ≡ length definition.now.phyla) }
-    ensures exact { IfOk result (λ holes. (p : ℕ) (b : Bool) → slice_get holes.items p ≡ Some b → (b ≡ true) ↔ HasHoles definition.now p) }
+    ensures exact { IfOk result (λ holes. (p : ℕ) (b : Bool) → slice_get holes.items p ≡ Some b
+        → (b ≡ true) ↔ HasHoles definition.now p) }
 {
     let declared = declaring(alloc, definition)?;
     let mut holes = Vec::with_capacity(alloc, declared.len())?;
@@ -97,7 +99,8 @@ fn holes(alloc: Global, definition: &Definition) -> Result<Vec<bool>, AllocError
 
 /// The item of the operator at the place.
 fn item_at<'a>(operator: &'a Operator, place: Place) -> Option<&'a Item>
-    ensures { MatchOption result (terminal_at place operator.now ≡ None) (λ item. terminal_at place operator.now ≡ item_terminal item.now) }
+    ensures { MatchOption result (terminal_at place operator.now ≡ None)
+        (λ item. terminal_at place operator.now ≡ item_terminal item.now) }
 {
     let Some((first, behind)) = without_marks(operator.items.as_slice()).split_first() else {
         return None;
@@ -114,7 +117,8 @@ fn item_at<'a>(operator: &'a Operator, place: Place) -> Option<&'a Item>
 /// For each phylum its operators by the token at the place.
 fn openers(alloc: Global, definition: &Definition, place: Place) -> Result<Vec<Openers>, AllocError>
     requires { IsSound definition.now }
-    ensures { IfOk result (λ found. (p : ℕ) (terminal : Terminal) → Finds (λ n. Has definition.now place p n terminal) (opener_at found.items p terminal)) }
+    ensures { IfOk result (λ found. (p : ℕ) (terminal : Terminal)
+        → Finds (λ n. Has definition.now place p n terminal) (opener_at found.items p terminal)) }
 {
     let mut found = no_openers(alloc, definition.phyla.as_slice().len())?;
     let operators = definition.operators.as_slice();

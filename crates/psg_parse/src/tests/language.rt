@@ -3,7 +3,8 @@ ghost use Rattle.std.specs.Prelude.{◌≡◌, ◌∷◌, [], IfOk, codes, true,
 ghost use Rattle.psg_grammar.specs.Little.{unit_signature, unit_sort};
 ghost use Rattle.psg_grammar.specs.Sound.{IsLevel, IsSound};
 ghost use Rattle.psg_class.specs.Class.{IsClass};
-ghost use Rattle.psg_parse.specs.Expressions.{args_list, doing, factorial, infix_of, leaf_of, letting, list_of, only_space, operator_of, operators_with, phylum_of, prefix_of};
+ghost use Rattle.psg_parse.specs.Expressions.{args_list, doing, factorial, infix_of, leaf_of, letting};
+ghost use Rattle.psg_parse.specs.Expressions.{list_of, only_space, operator_of, operators_with, phylum_of, prefix_of};
 
 use psg_class::class_check;
 use psg_grammar::{Definition, Item, Kind, Level, ListKind, Operator, Phylum, Space};
