@@ -28,3 +28,5 @@ pub mod Law
 pub mod Soundness
 pub mod Machine
 pub mod SumLaws
+pub mod WordForms
+pub mod FormedLaws

@@ -12,6 +12,7 @@ mod failing;
 pub mod fault;
 mod forms;
 mod grid;
+pub mod laws;
 mod shape;
 mod sources;
 mod vocabulary;

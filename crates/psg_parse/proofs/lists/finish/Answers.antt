@@ -1,0 +1,16 @@
+use Rattle.std.proofs.Common.{refl, inr, arith}
+use Rattle.psg_grammar.specs.Fragments.{ending}
+use Rattle.psg_class.proofs.Machine.{behind_all}
+use Rattle.psg_parse.specs.States.{giving}
+use Rattle.psg_parse.proofs.lists.finish.Goals as goal
+
+pub returns-clause-leads : goal.returns-clause-leads
+returns-clause-leads c st before n h x = record {
+  aim = giving (behind_all c.args.list before (ending c.args.list c.args.unfinished)) n;
+  st = st;
+  stands = record { mode = (behind_all c.args.list before (ending c.args.list c.args.unfinished), n, c.in_ok-tree.ensures before n x, refl); stack = h };
+  same = λ F D. (λ y. y, λ y. y);
+}
+
+pub returns-clause-falls : goal.returns-clause-falls
+returns-clause-falls c = inr (refl, omega arith)

@@ -1,0 +1,13 @@
+use Rattle.std.proofs.Common.{◌≡◌, ◌+◌, length}
+use Rattle.psg_parse.specs.Answers.{Reads}
+use Rattle.psg_parse.specs.States.{GoesOn}
+use Rattle.psg_parse.proofs.parser.parse.Given as goal
+
+abbrev pub invariant-tokens : goal.invariant-tokens
+invariant-tokens g l = record {
+  goes : GoesOn l.definition (Reads l.definition l.goal l.tokens) l.state;
+  ticks : l.steps + length l.state.rest.now ≡ l.fn.steps + length l.tokens;
+}
+
+abbrev pub decreases-tokens : goal.decreases-tokens
+decreases-tokens g l = length l.state.rest.now

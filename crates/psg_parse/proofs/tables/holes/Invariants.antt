@@ -1,0 +1,9 @@
+use Rattle.std.proofs.Common.{◌≡◌, ◌↔◌, ℕ, Bool, true, Some, slice_get, vec_len}
+use Rattle.psg_class.specs.Follow.{HasHoles}
+use Rattle.psg_parse.proofs.tables.holes.Given as goal
+
+abbrev pub invariant-loop-spaces : goal.invariant-loop-spaces
+invariant-loop-spaces l = record {
+  count : vec_len l.holes ≡ l.spaces-index;
+  exact : (p : ℕ) (b : Bool) → slice_get l.holes.items p ≡ Some b → (b ≡ true) ↔ HasHoles l.definition p;
+}

@@ -1,0 +1,97 @@
+-- What is left to do in a state of the parser. The program's frames hold no tree past the limits, so each stands for a
+-- plain frame, which has one.
+use Rattle.std.specs.Prelude.{ℕ, ◌≡◌, ◌↔◌, false, List, [], ◌∷◌}
+use Rattle.psg_grammar.specs.declared.types.Definition.{Definition}
+use Rattle.psg_grammar.specs.Fragments.{Fragment}
+use Rattle.psg_lexis.specs.declared.token.Token.{Token}
+use Rattle.psg_class.specs.Places.{solid}
+use Rattle.psg_class.proofs.Runs.{Task, start, grow, parts, list}
+use Rattle.psg_class.proofs.Machine.{Frame as Plain, then_grow, then_parts, then_close, then_list, Ends, Completes}
+use Rattle.psg_parse.specs.Answers.{tokens_of}
+use Rattle.psg_parse.specs.Standing.{IsTree, IsPartly, AreElements}
+use Rattle.psg_grammar.specs.declared.types.Kind.{Kind}
+use Rattle.psg_grammar.specs.declared.types.Kind.TheVariants as kinds
+use Rattle.psg_lexis.specs.declared.token.Spanned.{Spanned}
+use Rattle.psg_parse.specs.declared.fault.Goal.{Goal}
+use Rattle.psg_parse.specs.declared.state.Frame.{Frame}
+use Rattle.psg_parse.specs.declared.state.Frame.TheVariants as frames
+use Rattle.psg_parse.specs.declared.state.Mode.{Mode}
+use Rattle.psg_parse.specs.declared.state.Mode.TheVariants as modes
+use Rattle.psg_parse.specs.declared.state.State.{State}
+use Rattle.psg_parse.specs.declared.state.Step.{Step}
+use Rattle.psg_parse.specs.declared.state.Step.TheVariants as steps
+
+-- ---- plain states
+
+-- a task to be run, or a finished tree with its nesting
+pub data Aim : Type 0 where
+  running : (task : Task) → Aim
+  giving : (f : Fragment) (nesting : ℕ) → Aim
+
+abbrev pub LeftBy : Definition → Aim → List Plain → List Token → Fragment → ℕ → Type 0
+LeftBy def (running task) st ts F D = Completes def task st ts F D
+LeftBy def (giving f n) st ts F D = Ends def st f n ts F D
+
+-- ---- what the program's states stand for
+
+abbrev pub IsFrame : Frame → Plain → Type 0
+IsFrame (frames.Grow p m level) plain = plain ≡ then_grow p m level
+IsFrame (frames.Parts o built more) plain =
+    (f : Fragment) × (n : ℕ) × IsPartly built f n × (plain ≡ then_parts o.now f n (solid more.now))
+IsFrame frames.Close plain = plain ≡ then_close
+IsFrame (frames.List l listed) plain =
+    (before : List Fragment) × (n : ℕ) × AreElements listed before n × (plain ≡ then_list l before n)
+
+-- the frames, the last one on top, stand for plain ones on top of these
+abbrev pub IsStackOn : List Plain → List Frame → List Plain → Type 0
+IsStackOn below [] st = st ≡ below
+IsStackOn below (frame ∷ rest) st = (plain : Plain) × IsFrame frame plain × IsStackOn (plain ∷ below) rest st
+
+abbrev pub IsStack : List Frame → List Plain → Type 0
+IsStack stack st = IsStackOn [] stack st
+
+abbrev pub IsMode : Mode → Aim → Type 0
+IsMode (modes.Start p m) aim = aim ≡ running (start p m)
+IsMode (modes.List l) aim = aim ≡ running (list l)
+IsMode (modes.Grow p m tree level) aim =
+    (f : Fragment) × (n : ℕ) × IsTree tree f n × (aim ≡ running (grow p m f n level))
+IsMode (modes.Parts o built more) aim =
+    (f : Fragment) × (n : ℕ) × IsPartly built f n × (aim ≡ running (parts o.now false f n (solid more.now)))
+IsMode (modes.Give tree) aim = (f : Fragment) × (n : ℕ) × IsTree tree f n × (aim ≡ giving f n)
+
+pub record IsState (s : State) (aim : Aim) (st : List Plain) : Type 0 where
+  pub mode : IsMode s.mode aim
+  pub stack : IsStack s.stack.items st
+
+-- ---- steps
+
+-- these and those results are the same
+abbrev pub Same : (Fragment → ℕ → Type 0) → (Fragment → ℕ → Type 0) → Type 0
+Same Before After = (F : Fragment) (D : ℕ) → Before F D ↔ After F D
+
+-- the state leaves the same results
+pub record GoesOn (def : Definition) (Before : Fragment → ℕ → Type 0) (s : State) : Type 0 where
+  pub aim : Aim
+  pub st : List Plain
+  pub stands : IsState s aim st
+  pub same : Same Before (LeftBy def aim st (tokens_of s.rest.now))
+
+-- what a step comes to leaves the same results
+abbrev pub Leads : Definition → (Fragment → ℕ → Type 0) → Step → Type 0
+Leads def Before (steps.Go s) = GoesOn def Before s
+Leads def Before (steps.Done tree) = (f : Fragment) × (n : ℕ) × IsTree tree f n × Same Before (λ F D. (F ≡ f) × (D ≡ n))
+Leads def Before steps.NoTree = (F : Fragment) (D : ℕ) → Before F D → ⊥
+
+-- a step from a state of the aim, at these tokens
+abbrev pub Steps : Definition → Aim → List Plain → List Token → Step → Type 0
+Steps def aim st ts step = Leads def (LeftBy def aim st ts) step
+
+-- ---- the beginning
+
+abbrev pub aim_of : Kind → ℕ → Aim
+aim_of (kinds.Phylum p) least = running (start p least)
+aim_of (kinds.List l) least = running (list l)
+
+pub record IsBegun (goal : Goal) (ts : List Spanned) (s : State) : Type 0 where
+  pub stands : IsState s (aim_of goal.kind goal.least) []
+  pub rest : s.rest.now ≡ ts
