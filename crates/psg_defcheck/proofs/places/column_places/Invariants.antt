@@ -1,0 +1,7 @@
+use Rattle.std.proofs.Common.{◌≡◌, take}
+use Rattle.psg_defcheck.specs.Meanings as meanings
+use Rattle.psg_defcheck.specs.Sorting.{places_told}
+use Rattle.psg_defcheck.proofs.places.column_places.Given as goal
+
+abbrev pub invariant-loop-item : goal.invariant-loop-item
+invariant-loop-item l = places_told l.places.items ≡ meanings.column_places l.scope (take l.item-index l.items)

@@ -1,0 +1,14 @@
+use Rattle.std.proofs.Common.{ap, ◌∙◌}
+use Rattle.psg_defcheck.specs.Meanings as meanings
+use Rattle.psg_defcheck.specs.Sorting.{part_place_told}
+use Rattle.psg_defcheck.proofs.PlaceLaws.{part_places-append, step-some, step-none}
+use Rattle.psg_defcheck.proofs.places.part_places.Goals as goal
+use Rattle.psg_defcheck.proofs.places.part_places.Goals.{in-Some+in_ok-push, in_default}
+
+pub loop-item-preserved : goal.loop-item-preserved
+loop-item-preserved c = elim c.match-part_place.branch [
+  | in-Some+in_ok-push w ↦ step-some part_place_told (meanings.part_places c.args.scope.now) (part_places-append c.args.scope.now) c.args.items.now c.loop-item.item-index c.item-item.result c.loop-item.places.items c.match-part_place.places.items w.in-Some.place
+      c.loop-item-test.true c.item-item.is c.loop-item.invariant (ap (λ v. v.items) w.places-is ∙ w.in_ok-push.ensures.items) w.in-Some.ensures
+  | in_default w ↦ step-none part_place_told (meanings.part_places c.args.scope.now) (part_places-append c.args.scope.now) c.args.items.now c.loop-item.item-index c.item-item.result c.loop-item.places.items c.match-part_place.places.items
+      c.loop-item-test.true c.item-item.is c.loop-item.invariant (ap (λ v. v.items) w.places-is) w.in_default.ensures
+]

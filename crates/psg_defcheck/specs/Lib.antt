@@ -1,0 +1,9 @@
+pub mod Scopes
+pub mod Meanings
+pub mod Faults
+pub mod Tables
+pub mod Parts
+pub mod NameSets
+pub mod Aboves
+pub mod Sorting
+pub mod Grounds

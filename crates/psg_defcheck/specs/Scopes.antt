@@ -1,0 +1,149 @@
+-- What the names of a file stand for. A name that several lines declare stands for its first declaration.
+use Rattle.std.specs.Prelude.{ℕ, Bool, true, false, cond, bytes_eq, is_some, Option, Some, None, option_and_then, List, [], ◌∷◌, ◌++◌}
+use Rattle.psg_terms.specs.Names.{Name, is_among}
+use Rattle.psg_terms.specs.declared.declare.ConDecl.{ConDecl}
+use Rattle.psg_terms.specs.declared.declare.SortDecl.{SortDecl}
+use Rattle.psg_deflines.specs.declared.lines.LineItem.{LineItem}
+use Rattle.psg_deflines.specs.declared.lines.Line.{Line}
+use Rattle.psg_deflines.specs.declared.lines.Line.TheVariants as lines
+
+-- the names that lines declare, in order
+abbrev pub sort_names : List Line → List Name
+sort_names [] = []
+sort_names (lines.Sort d ∷ rest) = d.name ∷ sort_names rest
+sort_names (_ ∷ rest) = sort_names rest
+
+abbrev pub names_of : List ConDecl → List Name
+names_of [] = []
+names_of (c ∷ rest) = c.name ∷ names_of rest
+
+abbrev pub constructor_names : List Line → List Name
+constructor_names [] = []
+constructor_names (lines.Sort d ∷ rest) = names_of d.constructors ++ constructor_names rest
+constructor_names (_ ∷ rest) = constructor_names rest
+
+abbrev pub kind_names : List Line → List Name
+kind_names [] = []
+kind_names (lines.Phylum name sort bracketed ∷ rest) = name ∷ kind_names rest
+kind_names (lines.List name sort element separator on_lines unfinished ∷ rest) = name ∷ kind_names rest
+kind_names (_ ∷ rest) = kind_names rest
+
+abbrev pub operator_names : List Line → List Name
+operator_names [] = []
+operator_names (lines.Operator name phylum scope level made ∷ rest) = name ∷ operator_names rest
+operator_names (_ ∷ rest) = operator_names rest
+
+-- the sorts of the entity lines, in order; the first one counts
+abbrev pub entity_sorts : List Line → List Name
+entity_sorts [] = []
+entity_sorts (lines.Entity sort ∷ rest) = sort ∷ entity_sorts rest
+entity_sorts (_ ∷ rest) = entity_sorts rest
+
+abbrev pub entity_sort : List Line → Option Name
+entity_sort [] = None
+entity_sort (lines.Entity sort ∷ rest) = Some sort
+entity_sort (_ ∷ rest) = entity_sort rest
+
+-- the first line that declares the sort
+abbrev pub sort_declared : List Line → Name → Option SortDecl
+sort_declared [] n = None
+sort_declared (lines.Sort d ∷ rest) n = cond (bytes_eq d.name n) (Some d) (sort_declared rest n)
+sort_declared (_ ∷ rest) n = sort_declared rest n
+
+-- a constructor with the name of its sort
+abbrev pub Constructor : Type 0
+Constructor = Name × ConDecl
+
+abbrev pub constructor_among : Name → List ConDecl → Name → Option Constructor → Option Constructor
+constructor_among sort [] n behind = behind
+constructor_among sort (c ∷ rest) n behind = cond (bytes_eq c.name n) (Some (sort, c)) (constructor_among sort rest n behind)
+
+abbrev pub constructor_declared : List Line → Name → Option Constructor
+constructor_declared [] n = None
+constructor_declared (lines.Sort d ∷ rest) n = constructor_among d.name d.constructors n (constructor_declared rest n)
+constructor_declared (_ ∷ rest) n = constructor_declared rest n
+
+-- what a kind's line tells: its sort, and for a list the name of its elements' phylum
+pub data KindDecl : Type 0 where
+  a_phylum : (sort : List ℕ) → KindDecl
+  a_list : (sort element : List ℕ) → KindDecl
+
+-- phyla and lists share their names
+abbrev pub kind_declared : List Line → Name → Option KindDecl
+kind_declared [] n = None
+kind_declared (lines.Phylum name sort bracketed ∷ rest) n = cond (bytes_eq name n) (Some (a_phylum sort)) (kind_declared rest n)
+kind_declared (lines.List name sort element separator on_lines unfinished ∷ rest) n = cond (bytes_eq name n) (Some (a_list sort element)) (kind_declared rest n)
+kind_declared (_ ∷ rest) n = kind_declared rest n
+
+-- what an operator's line tells of its trees
+pub record OpDecl : Type 0 where
+  pub phylum : Name
+  pub made : List LineItem
+
+abbrev pub operator_declared : List Line → Name → Option OpDecl
+operator_declared [] n = None
+operator_declared (lines.Operator name phylum scope level made ∷ rest) n =
+    cond (bytes_eq name n) (Some (record { phylum = phylum; made = made })) (operator_declared rest n)
+operator_declared (_ ∷ rest) n = operator_declared rest n
+
+-- the operator to which a row behind the lines belongs
+abbrev pub last_operator : Option OpDecl → List Line → Option OpDecl
+last_operator last [] = last
+last_operator last (lines.Operator name phylum scope level made ∷ rest) = last_operator (Some (record { phylum = phylum; made = made })) rest
+last_operator last (_ ∷ rest) = last_operator last rest
+
+-- the kind of the hole row to which a case behind the lines belongs
+abbrev pub last_hole : Option Name → List Line → Option Name
+last_hole last [] = last
+last_hole last (lines.Hole kind term specimen ∷ rest) = last_hole (Some kind) rest
+last_hole last (_ ∷ rest) = last_hole last rest
+
+-- a phylum, a list, either
+abbrev pub is_phylum : List Line → Name → Bool
+is_phylum file n = told (kind_declared file n)
+  where
+    told : Option KindDecl → Bool
+    told (Some (a_phylum sort)) = true
+    told _ = false
+
+abbrev pub is_list : List Line → Name → Bool
+is_list file n = told (kind_declared file n)
+  where
+    told : Option KindDecl → Bool
+    told (Some (a_list sort element)) = true
+    told _ = false
+
+abbrev pub is_kind : List Line → Name → Bool
+is_kind file n = is_some (kind_declared file n)
+
+-- A place's sort, phylum or list, where lines declare it; where none does, nothing is of another one there.
+abbrev pub Place : Type 0
+Place = Option Name
+
+abbrev pub sort_place : List Line → Name → Place
+sort_place file n = cond (is_among (sort_names file) n) (Some n) None
+
+abbrev pub kind_place : List Line → Name → Place
+kind_place file n = cond (is_kind file n) (Some n) None
+
+abbrev pub phylum_place : List Line → Name → Place
+phylum_place file n = cond (is_phylum file n) (Some n) None
+
+abbrev pub sort_told : KindDecl → Name
+sort_told (a_phylum sort) = sort
+sort_told (a_list sort element) = sort
+
+abbrev pub element_told : KindDecl → Option Name
+element_told (a_phylum sort) = None
+element_told (a_list sort element) = Some element
+
+-- the sort of the values of a kind's trees
+abbrev pub value_place : List Line → Name → Place
+value_place file n = option_and_then (λ d. sort_place file (sort_told d)) (kind_declared file n)
+
+-- the phylum of a list's elements
+abbrev pub element_place : List Line → Name → Place
+element_place file n = option_and_then (phylum_place file) (option_and_then element_told (kind_declared file n))
+
+abbrev pub entity_place : List Line → Place
+entity_place file = option_and_then (sort_place file) (entity_sort file)

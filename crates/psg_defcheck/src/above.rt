@@ -1,0 +1,93 @@
+//! What the lines above a line declare.
+ghost use Rattle.std.specs.Prelude.{List, OnOk, ◌++◌, ◌∷◌, []};
+ghost use Rattle.psg_terms.specs.Names.{Name};
+ghost use Rattle.psg_deflines.specs.declared.lines.Line.{Line as Plain};
+ghost use Rattle.psg_defcheck.specs.Scopes.{names_of};
+ghost use Rattle.psg_defcheck.specs.NameSets.{AreNames};
+
+use crate::names::Names;
+use crate::tables::Operator;
+use psg_deflines::Line;
+use psg_terms::ConDecl;
+use std::alloc::{AllocError, Global};
+
+/// The names that lines declare, and to which operator and hole row a row and a case behind them belong.
+#[derive(Drop)]
+pub struct Above<'a> {
+    pub sorts: Names<'a>,
+    pub constructors: Names<'a>,
+    pub kinds: Names<'a>,
+    pub operators: Names<'a>,
+    pub entity: bool,
+    pub operator: Option<Operator<'a>>,
+    pub hole: Option<&'a str>,
+}
+
+/// Puts the names of constructors among names.
+fn add_constructors<'a>(
+    names: &mut Names<'a>,
+    constructors: &'a [ConDecl],
+) -> Result<(), AllocError>
+    ensures { (before : List Name) → AreNames before names.old → OnOk result (AreNames (before ++ names_of constructors.now) names.new) }
+{
+    for constructor in constructors {
+        names.insert(constructor.name.as_str())?;
+    }
+    Ok(())
+}
+
+impl<'a> Above<'a> {
+    ghost use Rattle.psg_defcheck.specs.Aboves.{IsAbove};
+
+    /// Above the first line.
+    pub fn nothing(alloc: Global) -> Above<'a>
+        ensures { IsAbove [] result }
+    {
+        Above {
+            sorts: Names::none(alloc),
+            constructors: Names::none(alloc),
+            kinds: Names::none(alloc),
+            operators: Names::none(alloc),
+            entity: false,
+            operator: None,
+            hole: None,
+        }
+    }
+
+    /// Goes on behind a line.
+    pub fn add(&mut self, line: &'a Line) -> Result<(), AllocError>
+        ensures { (lines : List Plain) → IsAbove lines self.old → OnOk result (IsAbove (lines ++ line.now ∷ []) self.new) }
+    {
+        match line {
+            Line::Sort(d) => {
+                self.sorts.insert(d.name.as_str())?;
+                add_constructors(&mut self.constructors, d.constructors.as_slice())?;
+            }
+            Line::Entity { .. } => {
+                self.entity = true;
+            }
+            Line::Phylum { name, .. } => {
+                self.kinds.insert(name.as_str())?;
+            }
+            Line::List { name, .. } => {
+                self.kinds.insert(name.as_str())?;
+            }
+            Line::Operator {
+                name,
+                phylum,
+                items,
+                ..
+            } => {
+                self.operators.insert(name.as_str())?;
+                let phylum = phylum.as_str();
+                let items = items.as_slice();
+                self.operator = Some(Operator { phylum, items });
+            }
+            Line::Hole { kind, .. } => {
+                self.hole = Some(kind.as_str());
+            }
+            _ => {}
+        }
+        Ok(())
+    }
+}

@@ -1,0 +1,28 @@
+//! What the lines of a definition mean, tested line by line.
+//!
+//! ```text
+//! // the second line of a sort is the first fault
+//! let fault = first_fault(alloc, entries.as_slice())?;
+//! ```
+//!
+//! Each test is a property of one line among the lines of its file, those above it and all of them, since names may be used
+//! before they are declared. The names are kept in tables, so a file is tested in time linear in its bytes but for the
+//! look-ups.
+#![tactic(auto)]
+
+mod above;
+pub mod checking;
+mod counted;
+mod ground;
+mod known;
+mod names;
+mod new_names;
+mod places;
+mod rest;
+mod scope;
+mod sorted;
+mod sorted_lines;
+mod sorted_trees;
+mod tables;
+
+pub use checking::first_fault;

@@ -1,0 +1,34 @@
+-- What the lines of a file are together is sound.
+use Rattle.std.specs.Prelude.{ℕ, ◌<◌, ◌+◌, ◌^◌, List, [], ◌∷◌, length}
+use Rattle.std.specs.List.{AllByRecursion}
+use Rattle.psg_terms.specs.Sound.{IsSound as IsSoundSignature}
+use Rattle.psg_grammar.specs.declared.types.Item.{Item}
+use Rattle.psg_grammar.specs.declared.types.Item.TheVariants as items
+use Rattle.psg_grammar.specs.declared.types.ListKind.{ListKind}
+use Rattle.psg_grammar.specs.declared.types.Operator.{Operator}
+use Rattle.psg_grammar.specs.declared.types.Definition.{Definition}
+use Rattle.psg_grammar.specs.Sound.{IsSound}
+use Rattle.psg_deflines.specs.Entries.{Entry, written, AreEntries, IsPlain}
+use Rattle.psg_deflines.specs.Forms.{IsFixedWord}
+use Rattle.psg_defnumber.specs.Numbers.{IsNumbered}
+
+-- the bytes of all texts
+abbrev pub total : List (List ℕ) → ℕ
+total [] = 0
+total (text ∷ texts) = length text + total texts
+
+abbrev pub NumberedIsSound : Type 0
+NumberedIsSound = (texts : List (List ℕ)) (entries : List Entry) (def : Definition) → total texts < 2 ^ 32 → AreEntries [] texts entries
+    → IsNumbered (written entries) def → IsSoundSignature def.signature → IsSound def
+
+abbrev pub IsFixed : Item → Type 0
+IsFixed (items.Word w) = IsFixedWord w
+IsFixed _ = Unit {0}
+
+-- each fixed word and each separator is one token
+pub record HasTokenWords (def : Definition) : Type 0 where
+  pub words : AllByRecursion (λ (o : Operator). AllByRecursion IsFixed o.items) def.operators
+  pub separators : AllByRecursion (λ (l : ListKind). IsFixedWord l.separator) def.lists
+
+abbrev pub WordsAreTokens : Type 0
+WordsAreTokens = (entries : List Entry) (def : Definition) → AllByRecursion IsPlain (written entries) → IsNumbered (written entries) def → HasTokenWords def

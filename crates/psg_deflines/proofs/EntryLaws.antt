@@ -1,0 +1,116 @@
+-- What stands in a text behind lines.
+use Rattle.std.proofs.Common.{◌≡◌, ℕ, Bool, true, false, cond, List, [], ◌∷◌, ◌++◌, length, codes, inl, inr, refl, ap, sym, ◌∙◌, subst, arith}
+use Rattle.std.specs.Prelude.{Option, Some, None, MatchBool, IsTrue, ◌↔◌, ◌⊎◌}
+use Rattle.std.proofs.lemmas.Bool.{false≢true}
+use Rattle.psg_deflines.specs.Forms.{parts_of, HasFixedWords, IsShallow}
+use Rattle.psg_deflines.specs.FormReads.{IsForm, HasNoForm}
+use Rattle.psg_deflines.specs.LineReads.{IsFormRead}
+use Rattle.psg_deflines.specs.Entries.{IsSkipped, IsLineBehind, IsEntry, Entry, HasPlace, IsPlain, takes_rows, takes_cases}
+use Rattle.psg_deflines.specs.EntryReads.{IsEntryRead, IsPlainEntry}
+use Rattle.psg_deflines.specs.Refusals.{IsFirstOf, PassesForm, form_codes}
+use Rattle.psg_deflines.specs.declared.fault.DefCode.TheVariants as codes_of
+use Rattle.psg_deflines.specs.Parts.{HasParts, HasNoParts}
+use Rattle.psg_deflines.specs.Only.{IsOnly}
+use Rattle.psg_deflines.specs.TermWalks.{Parts}
+use Rattle.psg_deflines.specs.declared.lines.Line.{Line}
+use Rattle.psg_deflines.specs.declared.lines.Line.TheVariants as lines
+use Rattle.psg_deflines.specs.declared.entries.EntryRead.{EntryRead}
+use Rattle.psg_deflines.specs.declared.entries.EntryRead.TheVariants as reads
+use Rattle.psg_deflines.proofs.SpellLaws.{spells-form, form-spells, spells-no_parts}
+use Rattle.psg_deflines.proofs.PartReads.{first_of}
+use Rattle.psg_deflines.proofs.LineInverses.{Is_row, row_line, row-inverse, Is_case, case_line, case-inverse}
+
+-- ---- places
+
+pub placed : (above : List Line) (ps : Parts) → (first_of ps ≡ codes "row" → takes_rows above ≡ true) → (first_of ps ≡ codes "case" → takes_cases false above ≡ true) → (line : Line) → IsForm ps line → HasPlace above line
+placed above ps rows cases (lines.Sort d) h = tt
+placed above ps rows cases (lines.Entity s) h = tt
+placed above ps rows cases (lines.Phylum n s b) h = tt
+placed above ps rows cases (lines.List n s e w l u) h = tt
+placed above ps rows cases (lines.Operator n k s l ms) h = tt
+placed above ps rows cases (lines.Row t ts) h = rows (ap first_of (sym h.written))
+placed above ps rows cases (lines.Nil n t) h = tt
+placed above ps rows cases (lines.Cell n t u v) h = tt
+placed above ps rows cases (lines.Hole n t w) h = tt
+placed above ps rows cases (lines.Case t w) h = cases (ap first_of (sym h.written))
+placed above ps rows cases (lines.Declare n t u w) h = tt
+
+not-row : (above : List Line) (rest : Parts) → takes_rows above ≡ false → (line : Line) → IsForm (codes "row" ∷ rest) line → HasPlace above line → ⊥
+not-row above rest e line h place = by_line line (row-inverse rest line h.written) place
+  where
+    by_line : (line : Line) → Is_row rest line → HasPlace above line → ⊥
+    by_line _ (row_line t ts f) p = false≢true (sym e ∙ p)
+
+not-case : (above : List Line) (rest : Parts) → takes_cases false above ≡ false → (line : Line) → IsForm (codes "case" ∷ rest) line → HasPlace above line → ⊥
+not-case above rest e line h place = by_line line (case-inverse rest line h.written) place
+  where
+    by_line : (line : Line) → Is_case rest line → HasPlace above line → ⊥
+    by_line _ (case_line t w f) p = false≢true (sym e ∙ p)
+
+abbrev pub IsPlaced : List Line → Parts → Bool → Type 0
+IsPlaced above ps b = MatchBool b ((line : Line) → IsForm ps line → HasPlace above line) ((line : Line) → IsForm ps line → HasPlace above line → ⊥)
+
+differs : (v w : List ℕ) → (v ≡ w → ⊥) → (p : List ℕ) → p ≡ v → p ≡ w → ⊥
+differs v w d p e f = d (sym e ∙ f)
+
+pub place-row : (above : List Line) (ps rest : Parts) (b : Bool) → ps ≡ codes "row" ∷ rest → takes_rows above ≡ b → IsPlaced above ps b
+place-row above ps rest true e rows = placed above ps (λ f. rows) (λ f. absurd (row-case (sym (ap first_of e) ∙ f)))
+  where
+    row-case : codes "row" ≡ codes "case" → ⊥
+    row-case e = omega (arith, ap length e)
+place-row above ps rest false e rows = λ line h. not-row above rest rows line (subst (λ x. IsForm x line) e h)
+
+pub place-case : (above : List Line) (ps rest : Parts) (b : Bool) → ps ≡ codes "case" ∷ rest → takes_cases false above ≡ b → IsPlaced above ps b
+place-case above ps rest true e cases = placed above ps (λ f. absurd (case-row (sym (ap first_of e) ∙ f))) (λ f. cases)
+  where
+    case-row : codes "case" ≡ codes "row" → ⊥
+    case-row e = omega (arith, ap length e)
+place-case above ps rest false e cases = λ line h. not-case above rest cases line (subst (λ x. IsForm x line) e h)
+
+pub place-else : (above : List Line) (ps rest : Parts) (p : List ℕ) → ps ≡ p ∷ rest → (p ≡ codes "row" → ⊥) → (p ≡ codes "case" → ⊥) → IsPlaced above ps true
+place-else above ps rest p e row case_word = placed above ps (λ f. absurd (row (sym (ap first_of e) ∙ f))) (λ f. absurd (case_word (sym (ap first_of e) ∙ f)))
+
+pub place-none : (above : List Line) (ps : Parts) → ps ≡ [] → IsPlaced above ps true
+place-none above ps e = placed above ps (λ f. absurd (omega (arith, ap length (sym (ap first_of e) ∙ f)))) (λ f. absurd (omega (arith, ap length (sym (ap first_of e) ∙ f))))
+
+-- ---- entries
+
+pub skipped-only : (above : List Line) (text : List ℕ) → IsSkipped text → IsOnly (IsEntry above text) None
+skipped-only above text s = record { is = s; only = λ e h. by_entry e h }
+  where
+    by_entry : (e : Entry) → IsEntry above text e → e ≡ None
+    by_entry None h = refl
+    by_entry (Some line) h = absurd (h.no_comment s)
+
+module _ (above : List Line) (text : List ℕ) (parts : Parts) (no_comment : IsSkipped text → ⊥) (o : IsOnly (HasParts text) parts) where
+  behind-form : (line : Line) → IsLineBehind above text line → IsForm parts line
+  behind-form line h = spells-form text parts line o h.spelled
+
+  pub no-form : ((line : Line) → IsForm parts line → HasPlace above line → ⊥) → IsFirstOf (PassesForm above text) form_codes codes_of.Form
+  no-form none = inl (λ passes. elim passes [ inl s ↦ no_comment s | inr found ↦ none found.0 (behind-form found.0 found.1) found.1.place ], refl)
+
+  is-line : (line : Line) → IsForm parts line → HasPlace above line → IsLineBehind above text line
+  is-line line f place = record { no_comment = no_comment; spelled = form-spells text parts line o f; place = place }
+
+  pub too-deep : (line : Line) → IsOnly (IsForm parts) line → HasPlace above line → HasFixedWords line → (IsShallow line → ⊥) → IsFirstOf (PassesForm above text) form_codes codes_of.Nested
+  too-deep line f place fixed deep =
+      let here = is-line line f.is place in
+      inr (inr (line, here), inr (λ other h. subst HasFixedWords (sym (f.only other (behind-form other h))) fixed, inl (λ passes. deep (passes line here), refl)))
+
+  pub no-token : (line : Line) → IsOnly (IsForm parts) line → HasPlace above line → (HasFixedWords line → ⊥) → IsFirstOf (PassesForm above text) form_codes codes_of.Token
+  no-token line f place loose = let here = is-line line f.is place in inr (inr (line, here), inl (λ passes. loose (passes line here), refl))
+
+  pub line-only : (line : Line) → IsOnly (IsForm parts) line → HasPlace above line → IsOnly (IsEntry above text) (Some line)
+  line-only line f place = record { is = is-line line f.is place; only = λ e h. by_entry e h }
+    where
+      by_entry : (e : Entry) → IsEntry above text e → e ≡ Some line
+      by_entry None h = absurd (no_comment h)
+      by_entry (Some other) h = ap Some (f.only other (behind-form other h))
+
+  pub line-read : (line : Line) (fixed : Bool) (entry : EntryRead) → entry ≡ cond fixed (reads.Found (Some line)) (reads.Fault codes_of.Token) → (IsTrue fixed ↔ HasFixedWords line) → IsOnly (IsForm parts) line → IsShallow line
+      → HasPlace above line → IsEntryRead above text entry
+  line-read line true entry e words f shallow place = subst (IsEntryRead above text) (sym e) (line-only line f place, record { words = words.0 refl; shallow = shallow })
+  line-read line false entry e words f shallow place = subst (IsEntryRead above text) (sym e) (no-token line f place (λ w. false≢true (words.1 w)))
+
+pub no-parts : (above : List Line) (text : List ℕ) → (IsSkipped text → ⊥) → HasNoParts text → IsFirstOf (PassesForm above text) form_codes codes_of.Form
+no-parts above text no_comment none = inl (λ passes. elim passes [ inl s ↦ no_comment s | inr found ↦ spells-no_parts text found.0 none found.1.spelled ], refl)

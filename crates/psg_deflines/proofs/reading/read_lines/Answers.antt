@@ -1,0 +1,29 @@
+use Rattle.std.proofs.Common.{◌≡◌, ◌+◌, take, ap, List, sym, ◌∙◌}
+use Rattle.std.specs.Str.Lines.{lines}
+use Rattle.psg_deflines.specs.Entries.{HasHead, behind_head, Entry}
+use Rattle.psg_deflines.specs.EntryReads.{AreEntriesRead, IsTextFault}
+use Rattle.psg_deflines.specs.Refusals.{IsFormFault, line_feeds}
+use Rattle.psg_deflines.specs.Reading.{HasEntries, AreLinesOf, HasNoFormFault}
+use Rattle.psg_deflines.proofs.Options.{ok-from, err-from}
+use Rattle.psg_deflines.proofs.FileLaws.{file-lines, file-only, file-faultless, file-fault, file-bytes}
+use Rattle.psg_deflines.proofs.reading.read_lines.Goals as goal
+
+pub returns-in-Err-clause-err : goal.returns-in-Err-clause-err
+returns-in-Err-clause-err c = file-bytes c.args.bytes.now _ c.not_text.result c.in-Err.ensures.cases.1 (c.not_text.ensures.line ∙ ap (λ n. line_feeds (take n c.args.bytes.now) + 1) c.valid_up_to.ensures) c.not_text.ensures.code
+
+pub returns-clause-ok : goal.returns-clause-ok
+returns-clause-ok c =
+    ok-from _ (λ found. AreLinesOf c.args.bytes.now found.items) c.read_text.result (λ found r. file-lines c.args.bytes.now c.in-Ok.text.now c.in-Ok.ensures.cases.0 c.in-Ok.ensures.cases.1 found.items r) c.read_text.ensures.ok
+
+pub returns-clause-only : goal.returns-clause-only
+returns-clause-only c =
+    ok-from _ (λ found. (other : List Entry) → HasEntries c.args.bytes.now other → other ≡ found.items) c.read_text.result
+    (λ found r. file-only c.args.bytes.now c.in-Ok.text.now c.in-Ok.ensures.cases.0 c.in-Ok.ensures.cases.1 found.items r) c.read_text.ensures.ok
+
+pub returns-clause-faultless : goal.returns-clause-faultless
+returns-clause-faultless c =
+    ok-from _ (λ _. HasNoFormFault c.args.bytes.now) c.read_text.result (λ found r. file-faultless c.args.bytes.now c.in-Ok.text.now c.in-Ok.ensures.cases.0 c.in-Ok.ensures.cases.1 found.items r) c.read_text.ensures.ok
+
+pub returns-clause-err : goal.returns-clause-err
+returns-clause-err c =
+    err-from _ (IsFormFault c.args.bytes.now) c.read_text.result (λ e f. file-fault c.args.bytes.now c.in-Ok.text.now c.in-Ok.ensures.cases.0 c.in-Ok.ensures.cases.1 e f) c.read_text.ensures.err

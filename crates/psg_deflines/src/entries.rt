@@ -1,0 +1,255 @@
+//! The texts of a file as lines.
+ghost use Rattle.std.specs.Prelude.{ℕ, cond, Some, MatchBool, ◌≡◌, ◌||◌, ◌∷◌, ◌<◌, ◌+◌, ◌^◌, length, false, List, IfOk, IfErr, IsTrue, ◌↔◌, MatchOption, codes};
+ghost use Rattle.std.specs.List.{AllByRecursion};
+ghost use Rattle.psg_deflines.specs.Parts.{texts, HasParts};
+ghost use Rattle.psg_deflines.specs.Forms.{HasFixedWords, IsFixedItem, IsShallow};
+ghost use Rattle.psg_deflines.specs.FormReads.{IsForm, HasNoForm, IsNoPlainWord};
+ghost use Rattle.psg_deflines.specs.LineReads.{IsFormRead};
+ghost use Rattle.psg_deflines.specs.TermWalks.{Parts};
+ghost use Rattle.psg_deflines.specs.Entries.{IsSkipped, HasPlace, takes_rows, takes_cases};
+ghost use Rattle.psg_deflines.specs.EntryReads.{is_operator, cases_behind, rows_after, cases_after, IsEntryRead, AreEntriesRead, IsEntryFault};
+ghost use Rattle.psg_deflines.specs.Only.{IsOnly};
+ghost use Rattle.psg_deflines.specs.declared.lines.Line.{Line as Plain};
+
+use crate::fault::{DefCode, DefFault, ReadFault};
+use crate::forms::{line_entity, line_list, line_operator, line_phylum, line_sort};
+use crate::lines::{Line, LineItem};
+use crate::names::is;
+use crate::parts::parts;
+use crate::term_forms::{
+    FormRead, line_case, line_cell, line_declare, line_hole, line_nil, line_row,
+};
+use crate::words::is_fixed_word;
+use std::alloc::{AllocError, Global};
+
+/// What stands in a text, or what is wrong with it.
+#[derive(Drop)]
+pub enum EntryRead {
+    /// A line, or none for an empty text and a comment.
+    Found(Option<Line>),
+    Fault(DefCode),
+}
+
+/// A line without terms, if it was read.
+fn without_terms(line: Option<Line>) -> FormRead
+    ensures { (ps : Parts) → MatchOption line (HasNoForm ps) (IsOnly (IsForm ps)) → ((l : Plain) → IsForm ps l → IsShallow l) → IsFormRead ps result }
+{
+    match line {
+        Some(line) => FormRead::Read(line),
+        None => FormRead::Nothing,
+    }
+}
+
+/// The line of terms with these parts.
+fn term_form(alloc: Global, keyword: &[u8], behind: &[&[u8]]) -> Result<FormRead, AllocError>
+    ensures { IfOk result (λ read. IsNoPlainWord keyword.now → IsFormRead (keyword.now ∷ texts behind.now) read) }
+{
+    if is(keyword, "row") {
+        line_row(alloc, behind)
+    } else if is(keyword, "nil") {
+        line_nil(alloc, behind)
+    } else if is(keyword, "cell") {
+        line_cell(alloc, behind)
+    } else if is(keyword, "hole") {
+        line_hole(alloc, behind)
+    } else if is(keyword, "case") {
+        line_case(alloc, behind)
+    } else if is(keyword, "declare") {
+        line_declare(alloc, behind)
+    } else {
+        Ok(FormRead::Nothing)
+    }
+}
+
+/// The line with these parts.
+fn form(alloc: Global, parts: &[&[u8]]) -> Result<FormRead, AllocError>
+    ensures { IfOk result (IsFormRead (texts parts.now)) }
+{
+    let Some((keyword, behind)) = parts.split_first() else {
+        return Ok(FormRead::Nothing);
+    };
+    if is(keyword, "sort") {
+        return Ok(without_terms(line_sort(alloc, behind)?));
+    }
+    if is(keyword, "entity") {
+        return Ok(without_terms(line_entity(alloc, behind)?));
+    }
+    if is(keyword, "phylum") {
+        return Ok(without_terms(line_phylum(alloc, behind)?));
+    }
+    if is(keyword, "list") {
+        return Ok(without_terms(line_list(alloc, behind)?));
+    }
+    if is(keyword, "op") {
+        return Ok(without_terms(line_operator(alloc, behind)?));
+    }
+    Ok(term_form(alloc, keyword, behind)?)
+}
+
+/// Whether the item is no quoted word, or one that is one token.
+fn is_fixed_item(alloc: Global, item: &LineItem) -> Result<bool, AllocError>
+    ensures { IfOk result (λ b. IsTrue b ↔ IsFixedItem item.now) }
+{
+    match item {
+        LineItem::Word(word) => Ok(is_fixed_word(alloc, word)?),
+        _ => Ok(true),
+    }
+}
+
+/// Whether each of the items is no quoted word, or one that is one token.
+fn are_fixed_items(alloc: Global, items: &[LineItem]) -> Result<bool, AllocError>
+    ensures { IfOk result (λ b. IsTrue b ↔ AllByRecursion IsFixedItem items.now) }
+{
+    for item in items {
+        if !is_fixed_item(alloc, item)? {
+            return Ok(false);
+        }
+    }
+    Ok(true)
+}
+
+/// Whether each quoted word of the line is one token.
+fn has_fixed_words(alloc: Global, line: &Line) -> Result<bool, AllocError>
+    ensures { IfOk result (λ b. IsTrue b ↔ HasFixedWords line.now) }
+{
+    match line {
+        Line::List { separator, .. } => Ok(is_fixed_word(alloc, separator)?),
+        Line::Operator { items, .. } => Ok(are_fixed_items(alloc, items.as_slice())?),
+        _ => Ok(true),
+    }
+}
+
+/// Whether a row may follow the line where none may follow those before.
+fn is_operator(line: &Line) -> bool
+    ensures { result ≡ is_operator line.now }
+{
+    matches!(line, Line::Operator { .. })
+}
+
+/// Whether a case may follow the line, where it is known for the lines before.
+fn cases_behind(so_far: bool, line: &Line) -> bool
+    ensures { result ≡ cases_behind so_far line.now }
+{
+    match line {
+        Line::Hole { specimen, .. } => specimen.is_none(),
+        _ => so_far,
+    }
+}
+
+/// Whether the line with these parts may stand behind others: a row behind an operator, a case behind a hole row that has
+/// no specimen.
+fn has_place(parts: &[&[u8]], rows: bool, cases: bool) -> bool
+    ensures { (above : List Plain) → takes_rows above ≡ rows → takes_cases false above ≡ cases
+        → MatchBool result ((line : Plain) → IsForm (texts parts.now) line → HasPlace above line)
+            ((line : Plain) → IsForm (texts parts.now) line → HasPlace above line → ⊥) }
+{
+    let Some((keyword, _)) = parts.split_first() else {
+        return true;
+    };
+    if is(keyword, "row") {
+        rows
+    } else if is(keyword, "case") {
+        cases
+    } else {
+        true
+    }
+}
+
+/// The line, if its words are tokens.
+fn found(line: Line, fixed: bool) -> EntryRead
+    ensures { result ≡ cond fixed (EntryRead.Found (Some line)) (EntryRead.Fault DefCode.Token) }
+{
+    if fixed {
+        EntryRead::Found(Some(line))
+    } else {
+        EntryRead::Fault(DefCode::Token)
+    }
+}
+
+/// The line that is read as one, or what is wrong with it: one of its words, or how it is nested.
+fn checked(alloc: Global, read: FormRead) -> Result<EntryRead, AllocError>
+    ensures { IfOk result (λ entry. (above : List Plain) (text : List ℕ) (parts : Parts) → (IsSkipped text → ⊥) → IsOnly (HasParts text) parts
+        → ((line : Plain) → IsForm parts line → HasPlace above line) → IsFormRead parts read → IsEntryRead above text entry) }
+{
+    match read {
+        FormRead::Nothing => Ok(EntryRead::Fault(DefCode::Form)),
+        FormRead::TooDeep => Ok(EntryRead::Fault(DefCode::Nested)),
+        FormRead::Read(line) => {
+            let fixed = has_fixed_words(alloc, &line)?;
+            Ok(found(line, fixed))
+        }
+    }
+}
+
+/// Whether the line is empty or a comment.
+fn is_skipped(text: &str) -> bool
+    ensures { IsTrue result ↔ IsSkipped text.now }
+{
+    match text.as_bytes().first() {
+        Some(c) => *c == b'#',
+        None => true,
+    }
+}
+
+/// What stands in the text behind lines, where it is known whether a row and whether a case may follow them.
+fn entry(alloc: Global, text: &str, rows: bool, cases: bool) -> Result<EntryRead, AllocError>
+    ensures { IfOk result (λ entry. (above : List Plain) → takes_rows above ≡ rows → takes_cases false above ≡ cases → IsEntryRead above text.now entry) }
+{
+    if is_skipped(text) {
+        return Ok(EntryRead::Found(None));
+    }
+    let Some(parts) = parts(alloc, text.as_bytes())? else {
+        return Ok(EntryRead::Fault(DefCode::Form));
+    };
+    let parts = parts.as_slice();
+    if !has_place(parts, rows, cases) {
+        return Ok(EntryRead::Fault(DefCode::Form));
+    }
+    let read = form(alloc, parts)?;
+    Ok(checked(alloc, read)?)
+}
+
+/// Whether a row may follow what stands in a text, where it is known for what stands before.
+fn rows_after(rows: bool, entry: &Option<Line>) -> bool
+    ensures { result ≡ rows_after rows entry.now }
+{
+    match entry {
+        Some(line) => rows | is_operator(line),
+        None => rows,
+    }
+}
+
+/// Whether a case may follow it.
+fn cases_after(cases: bool, entry: &Option<Line>) -> bool
+    ensures { result ≡ cases_after cases entry.now }
+{
+    match entry {
+        Some(line) => cases_behind(cases, line),
+        None => cases,
+    }
+}
+
+/// What stands in the texts behind the first one of a file, or their first fault by its line.
+pub fn entries(alloc: Global, written: &[&str]) -> Result<Vec<Option<Line>>, ReadFault>
+    requires { length written.now + 1 < 2 ^ 32 }
+    ensures ok { IfOk result (λ v. AreEntriesRead (texts written.now) v.items) }
+    ensures err { IfErr result (IsEntryFault (texts written.now)) }
+{
+    let mut entries = Vec::new(alloc);
+    let mut rows = false;
+    let mut cases = false;
+    for text in written {
+        match entry(alloc, text, rows, cases)? {
+            EntryRead::Found(found) => {
+                rows = rows_after(rows, &found);
+                cases = cases_after(cases, &found);
+                entries.push(found)?;
+            }
+            EntryRead::Fault(code) => {
+                let line = entries.len() as u32 + 2;
+                return Err(ReadFault::Def(DefFault { line, code }));
+            }
+        }
+    }
+    Ok(entries)
+}

@@ -1,0 +1,14 @@
+//! Definitions from their lines: names become the positions of what they name.
+//!
+//! ```text
+//! let definition = numbered(alloc, entries.as_slice())?;
+//! ```
+//!
+//! `IsNumbered` says what the lines mean together, in the direction of a writer: each part of the definition has a line that
+//! writes it. Sorts, constructors, phyla, lists and operators are numbered in the order of their lines, variables in the
+//! order in which they first occur in their own line.
+#![tactic(auto)]
+
+pub mod numbering;
+
+pub use numbering::numbered;
