@@ -41,11 +41,14 @@ pub record IsPlainOperator (o : Operator) : Type 0 where
   pub items : AllByRecursion IsPlainItem o.items
   pub rows : AllByRecursion IsPlainRow o.rows
 
+abbrev pub IsConstantHole : HoleRow → Type 0
+IsConstantHole row = IsConstant row.term
+
 -- Constants alone, no lists, no names. Each sort has a term, as in every signature.
 pub record HasConstantsOnly (def : Definition) : Type 0 where
   pub lists : def.lists ≡ []
   pub operators : AllByRecursion IsPlainOperator def.operators
-  pub holes : AllByRecursion (λ r. IsConstant r.term) def.hole_rows
+  pub holes : AllByRecursion IsConstantHole def.hole_rows
   pub no_spaces : def.spaces ≡ []
   pub inhabited : (terms : Substitution) × IsGrounding def.signature terms
 

@@ -16,9 +16,11 @@
 //! - A culprit is a node that is not open while all its children are.
 #![tactic(auto)]
 
+pub mod languages;
 pub mod marks;
 pub mod values;
 
+pub use languages::has_constants_only;
 pub use marks::culprits;
 pub use values::is_open;
 

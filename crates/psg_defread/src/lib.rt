@@ -10,8 +10,6 @@
 #![tactic(auto)]
 
 pub mod reading;
-pub mod writing;
 
 pub use psg_deflines::{DefCode, DefFault, ReadFault, fault_text};
 pub use reading::read_definition;
-pub use writing::definition_text;

@@ -6,14 +6,17 @@ ghost use Rattle.psg_deflaws.specs.Soundness.{HasTokenWords};
 ghost use Rattle.psg_defread.specs.Refusals.{IsReadFault};
 ghost use Rattle.psg_defread.specs.Reading.{Spells, IsFaultless};
 
-use psg_deflines::ReadFault;
+use psg_defcheck::first_fault;
+use psg_deflaws::laws::{numbered_is_sound, one_numbering, words_are_tokens};
+use psg_deflines::{ReadFault, read_lines};
+use psg_defnumber::numbered;
 use psg_grammar::Definition;
 use std::alloc::Global;
 
 /// The definition that the bytes spell without a fault, or their first fault: the line, from 1, and what is wrong with it.
 /// The bytes are tested as UTF-8 first, then the head, then the form of each line, then the meaning of each line among all of
 /// them. `Memory` comes when memory runs out, at any time.
-pub fn read_definition(_alloc: Global, bytes: &[u8]) -> Result<Definition, ReadFault>
+pub fn read_definition(alloc: Global, bytes: &[u8]) -> Result<Definition, ReadFault>
     requires { length bytes.now < 2 ^ 32 }
     ensures ok { IfOk result (λ d. Spells bytes.now d) }
     ensures faultless { IfOk result (λ _. IsFaultless bytes.now) }
@@ -22,6 +25,13 @@ pub fn read_definition(_alloc: Global, bytes: &[u8]) -> Result<Definition, ReadF
     ensures sound { IfOk result IsSound }
     ensures words { IfOk result HasTokenWords }
 {
-    let _ = bytes;
-    Err(ReadFault::Memory)
+    let entries = read_lines(alloc, bytes)?;
+    if let Some(fault) = first_fault(alloc, entries.as_slice())? {
+        return Err(ReadFault::Def(fault));
+    }
+    let definition = numbered(alloc, entries.as_slice())?;
+    one_numbering();
+    numbered_is_sound();
+    words_are_tokens();
+    Ok(definition)
 }

@@ -9,7 +9,6 @@ pub mod Feeds
 pub mod Filling
 pub mod Built
 pub mod Ending
-pub mod Languages
 pub mod Words
 pub mod OneOutputLines
 pub mod OneOutputSteps

@@ -1,13 +1,20 @@
 -- The words of a run.
-use Rattle.std.proofs.Common.{◌≡◌, ℕ, ◌<◌, ◌≤◌, List, [], ◌∷◌, length, get_or, refl, sym, ap, ap₂, ◌∙◌, subst, arith}
-use Rattle.std.specs.Prelude.{String, string_bytes}
+use Rattle.std.proofs.Common.{◌≡◌, ◌≢◌, ℕ, ◌<◌, ◌≤◌, List, [], ◌∷◌, length, get_or, refl, sym, ap, ap₂, ◌∙◌, subst, arith}
+use Rattle.std.specs.Prelude.{String, string_bytes, codes}
 use Rattle.std.specs.declared.alloc.Global.{Global}
 use Rattle.psg_terms.specs.Names.{Name}
 use Rattle.psg_run.specs.declared.status.Status.{Status}
-use Rattle.psg_run.specs.Headline.{World, Form, edit, IsForm, IsRunOf, IsRun, Edits, texts_of}
-use Rattle.std.specs.Prelude.{codes}
+use Rattle.psg_run.specs.declared.words.Form.{Form as Found}
+use Rattle.psg_run.specs.Wanted.{form_told, HasNoForm, IsWanted}
+use Rattle.psg_run.specs.Headline.{World, Form, check, edit, IsForm, IsRunOf, IsRun, texts_of}
 
--- three words
+pub two_words : (words : List (String Global)) (a b : String Global) → 2 ≤ length words → length words < 3 → a ≡ get_or words 0 a → b ≡ get_or words 1 b
+    → texts_of words ≡ string_bytes a ∷ string_bytes b ∷ []
+two_words [] a b more less ea eb = absurd (omega (arith, more))
+two_words (x ∷ []) a b more less ea eb = absurd (omega (arith, more))
+two_words (x ∷ y ∷ []) a b more less ea eb = ap₂ (λ p q. string_bytes p ∷ string_bytes q ∷ []) (sym ea) (sym eb)
+two_words (x ∷ y ∷ z ∷ more_words) a b more less ea eb = absurd (omega (arith, less))
+
 pub three_words : (words : List (String Global)) (a b c : String Global) → 3 ≤ length words → length words < 4 → a ≡ get_or words 0 a → b ≡ get_or words 1 b → c ≡ get_or words 2 c
     → texts_of words ≡ string_bytes a ∷ string_bytes b ∷ string_bytes c ∷ []
 three_words [] a b c more less ea eb ec = absurd (omega (arith, more))
@@ -17,19 +24,43 @@ three_words (x ∷ y ∷ z ∷ []) a b c more less ea eb ec =
     ap₂ (λ p q. string_bytes p ∷ string_bytes q ∷ string_bytes z ∷ []) (sym ea) (sym eb) ∙ ap (λ r. string_bytes a ∷ string_bytes b ∷ string_bytes r ∷ []) (sym ec)
 three_words (x ∷ y ∷ z ∷ w ∷ more_words) a b c more less ea eb ec = absurd (omega (arith, less))
 
-second : {a b c x d s : Name} → x ∷ d ∷ s ∷ [] ≡ a ∷ b ∷ c ∷ [] → b ≡ d
-second e = cc
+-- ---- forms
 
-third : {a b c x d s : Name} → x ∷ d ∷ s ∷ [] ≡ a ∷ b ∷ c ∷ [] → c ≡ s
-third e = cc
+pub two_other : (a b : Name) → (a ≡ codes "check" → ⊥) → HasNoForm (a ∷ b ∷ [])
+two_other a b never (check d) e = never cc
+two_other a b never (edit d s) e = absurd (ends (ap length e))
+  where
+    ends : 2 ≡ 3 → ⊥
+    ends q = omega (arith, q)
 
--- a run of `edit`
-pub is_edit : (words : List Name) (a b c d s : Name) (old new : World) (status : Status) → words ≡ a ∷ b ∷ c ∷ [] → a ≡ codes "edit" → d ≡ b → s ≡ c → Edits old new d s status → IsRun words old new status
-is_edit words a b c d s old new status is form same_d same_s edits = record {
-  of_form = go;
-  no_form = λ never. absurd (never (edit b c) (is ∙ ap (λ w. w ∷ b ∷ c ∷ []) form));
-} where
-  go : (f : Form) → IsForm words f → IsRunOf f old new status
-  go (edit p q) e =
-      let whole : codes "edit" ∷ p ∷ q ∷ [] ≡ a ∷ b ∷ c ∷ [] = sym e ∙ is in
-      subst (λ x. Edits old new p x status) (same_s ∙ third whole) (subst (λ x. Edits old new x s status) (same_d ∙ second whole) edits)
+pub three_other : (a b c : Name) → (a ≡ codes "edit" → ⊥) → HasNoForm (a ∷ b ∷ c ∷ [])
+three_other a b c never (check d) e = absurd (ends (ap length e))
+  where
+    ends : 3 ≡ 2 → ⊥
+    ends q = omega (arith, q)
+three_other a b c never (edit d s) e = never cc
+
+-- neither two words nor three
+pub other_count : (words : List (String Global)) → (length words ≡ 2 → ⊥) → (length words ≡ 3 → ⊥) → HasNoForm (texts_of words)
+other_count [] two three (check d) e = cc
+other_count [] two three (edit d s) e = cc
+other_count (x ∷ []) two three (check d) e = cc
+other_count (x ∷ []) two three (edit d s) e = cc
+other_count (x ∷ y ∷ []) two three form e = two refl
+other_count (x ∷ y ∷ z ∷ []) two three form e = three refl
+other_count (x ∷ y ∷ z ∷ w ∷ more) two three (check d) e = cc
+other_count (x ∷ y ∷ z ∷ w ∷ more) two three (edit d s) e = cc
+
+-- ---- runs
+
+one_form : (words : List Name) (a b : Form) → IsForm words a → IsForm words b → a ≡ b
+one_form words (check d) (check e) p q = let whole : codes "check" ∷ d ∷ [] ≡ codes "check" ∷ e ∷ [] = sym p ∙ q in cc
+one_form words (check d) (edit e s) p q = let whole : codes "check" ∷ d ∷ [] ≡ codes "edit" ∷ e ∷ s ∷ [] = sym p ∙ q in cc
+one_form words (edit d s) (check e) p q = let whole : codes "edit" ∷ d ∷ s ∷ [] ≡ codes "check" ∷ e ∷ [] = sym p ∙ q in cc
+one_form words (edit d s) (edit e t) p q = let whole : codes "edit" ∷ d ∷ s ∷ [] ≡ codes "edit" ∷ e ∷ t ∷ [] = sym p ∙ q in cc
+
+pub of_form : (words : List Name) (found : Found) (old new : World) (status : Status) → IsWanted words found → IsRunOf (form_told found) old new status → IsRun words old new status
+of_form words found old new status wanted ran = record {
+  of_form = λ form is. subst (λ f. IsRunOf f old new status) (one_form words (form_told found) form wanted is) ran;
+  no_form = λ never. absurd (never (form_told found) wanted);
+}

@@ -3,9 +3,9 @@ use Rattle.std.specs.Prelude.{ℕ, ◌≡◌, ◌⊎◌, List, [], ◌∷◌, �
 use Rattle.std.specs.Io.KnownBytes.{append_known}
 use Rattle.psg_terms.specs.Names.{Name}
 use Rattle.psg_grammar.specs.declared.types.Definition.{Definition}
-use Rattle.psg_first.specs.declared.fault.ReadFault.{ReadFault}
-use Rattle.psg_first.specs.declared.fault.ReadFault.TheVariants as faults
-use Rattle.psg_world.specs.Files.{reading}
+use Rattle.psg_deflines.specs.FaultText.{fault_text}
+use Rattle.psg_deflines.specs.declared.fault.ReadFault.{ReadFault}
+use Rattle.psg_deflines.specs.declared.fault.ReadFault.TheVariants as faults
 use Rattle.psg_world.specs.Sinks.{HasRisen, TakesFront}
 use Rattle.psg_world.specs.declared.world.ReadStop.{ReadStop}
 use Rattle.psg_world.specs.declared.world.ReadStop.TheVariants as read_stops
@@ -13,11 +13,11 @@ use Rattle.psg_world.specs.declared.world.WriteStop.{WriteStop}
 use Rattle.psg_world.specs.declared.world.WriteStop.TheVariants as write_stops
 use Rattle.psg_run.specs.declared.status.Status.{Status}
 use Rattle.psg_run.specs.declared.status.Status.TheVariants as ends_with
-use Rattle.psg_run.specs.declared.limits.TheConstants.{MOST_SCRIPT_BYTES}
+use Rattle.psg_run.specs.declared.limits.TheConstants.{MOST_DEFINITION_BYTES, MOST_SCRIPT_BYTES}
 use Rattle.psg_run.specs.Replies.{feed}
 use Rattle.psg_run.specs.Output.{script_lines}
 use Rattle.psg_run.specs.Played.{PrintsAll, PrintsFront}
-use Rattle.psg_run.specs.Headline.{World, KeepsFiles, WroteNothing, IsWithin, IsLong}
+use Rattle.psg_run.specs.Headline.{World, KeepsFiles, WroteNothing, IsWithin, IsFaultLine, IsDefinition, IsQuiet, Says, SaysFront, FailsToRead, IsTooLong}
 
 abbrev pub read_status : ReadStop → Status
 read_status read_stops.Failed = ends_with.ReadFault
@@ -36,23 +36,35 @@ abbrev pub Plays : World → World → Definition → Name → Status → Type 0
 Plays old new def script ends_with.Done = OfScript old new script (λ lines. PrintsAll def lines old.written new.written)
 Plays old new def script ends_with.DefinitionRefused = ⊥
 Plays old new def script ends_with.Words = ⊥
-Plays old new def script ends_with.ReadFault = (new.held ≡ old.held) × (new.entries ≡ old.entries ++ reading script ∷ []) × WroteNothing old new
+Plays old new def script ends_with.ReadFault = FailsToRead old new script
 Plays old new def script ends_with.WriteFault = OfScript old new script (λ lines. PrintsFront def lines old.written new.written) × HasRisen old.count new.count
-Plays old new def script ends_with.Memory = OfScript old new script (λ lines. PrintsFront def lines old.written new.written) ⊎ (KeepsFiles old new × WroteNothing old new)
-Plays old new def script ends_with.TooLong = IsLong old.held script MOST_SCRIPT_BYTES × KeepsFiles old new × WroteNothing old new
+Plays old new def script ends_with.Memory = OfScript old new script (λ lines. PrintsFront def lines old.written new.written) ⊎ IsQuiet old new
+Plays old new def script ends_with.TooLong = IsTooLong old new script MOST_SCRIPT_BYTES
 
--- the line that refuses a definition
-abbrev pub refused_line : List ℕ
-refused_line = feed (codes "line 1 code 10")
+-- the line was put, as far as the status says; `done` is the status where it was put whole
+pub data PutsLine (line : List ℕ) (done : Status) (written written' : Option (List ℕ)) (count count' : ℕ) (status : Status) : Type 0 where
+  put_whole : status ≡ done → written' ≡ append_known written (feed line) → PutsLine line done written written' count count' status
+  put_failed : status ≡ ends_with.WriteFault → TakesFront written (feed line) written' → HasRisen count count' → PutsLine line done written written' count count' status
+  put_in_part : status ≡ ends_with.Memory → TakesFront written (feed line) written' → PutsLine line done written written' count count' status
 
--- the line that refuses a definition was put, as far as the status says
-abbrev pub Refuses : Option (List ℕ) → Option (List ℕ) → ℕ → ℕ → Status → Type 0
-Refuses written written' count count' ends_with.DefinitionRefused = written' ≡ append_known written refused_line
-Refuses written written' count count' ends_with.WriteFault = TakesFront written refused_line written' × HasRisen count count'
-Refuses written written' count count' ends_with.Memory = TakesFront written refused_line written'
-Refuses written written' count count' _ = ⊥
+-- the definition was read
+pub record IsRead (old new : World) (definition : Name) (def : Definition) : Type 0 where
+  pub is_definition : IsDefinition old.held definition def
+  pub files : KeepsFiles old new
+  pub wrote : WroteNothing old new
+  pub count : new.count ≡ old.count
 
--- where no definition was read
+-- how a run ends that read no definition
+abbrev pub IsUnread : World → World → Name → Status → Type 0
+IsUnread old new definition ends_with.Done = ⊥
+IsUnread old new definition ends_with.DefinitionRefused = Says IsFaultLine old new definition
+IsUnread old new definition ends_with.Words = ⊥
+IsUnread old new definition ends_with.ReadFault = FailsToRead old new definition
+IsUnread old new definition ends_with.WriteFault = SaysFront IsFaultLine old new definition × HasRisen old.count new.count
+IsUnread old new definition ends_with.Memory = SaysFront IsFaultLine old new definition ⊎ IsQuiet old new
+IsUnread old new definition ends_with.TooLong = IsTooLong old new definition MOST_DEFINITION_BYTES
+
+-- where the bytes are no definition
 abbrev pub EndsFault : ReadFault → Option (List ℕ) → Option (List ℕ) → ℕ → ℕ → Status → Type 0
 EndsFault faults.Memory written written' count count' status = (status ≡ ends_with.Memory) × (written' ≡ written)
-EndsFault faults.Refused written written' count count' status = Refuses written written' count count' status
+EndsFault (faults.Def fault) written written' count count' status = PutsLine (fault_text fault) ends_with.DefinitionRefused written written' count count' status

@@ -4,7 +4,11 @@ use Rattle.std.specs.declared.alloc.Global.{Global}
 use Rattle.std.specs.Io.KnownBytes.{append_known}
 use Rattle.psg_terms.specs.Names.{Name}
 use Rattle.psg_grammar.specs.declared.types.Definition.{Definition}
-use Rattle.psg_first.specs.Reading.{IsReadAs}
+use Rattle.psg_constants.specs.Constants.{HasConstantsOnly}
+use Rattle.psg_deflines.specs.FaultText.{fault_text}
+use Rattle.psg_deflines.specs.declared.fault.DefFault.{DefFault}
+use Rattle.psg_defread.specs.Reading.{IsReadAs}
+use Rattle.psg_defread.specs.Refusals.{Refusal}
 use Rattle.psg_world.specs.Files.{Held, Entry, reading, bytes_of}
 use Rattle.psg_world.specs.Sinks.{HasRisen}
 use Rattle.psg_run.specs.declared.status.Status.{Status}
@@ -28,9 +32,11 @@ texts_of words = map string_bytes words
 
 -- What the words ask for.
 pub data Form : Type 0 where
+  check : (definition : Name) → Form
   edit : (definition script : Name) → Form
 
 abbrev pub IsForm : List Name → Form → Type 0
+IsForm words (check definition) = words ≡ codes "check" ∷ definition ∷ []
 IsForm words (edit definition script) = words ≡ codes "edit" ∷ definition ∷ script ∷ []
 
 -- these bytes were put behind those written before, where that is told
@@ -60,12 +66,30 @@ IsLong held name limit = (bytes : List ℕ) × Tells held name bytes × (limit <
 abbrev pub IsDefinition : Option Held → Name → Definition → Type 0
 IsDefinition held name def = (bytes : List ℕ) × IsWithin held name MOST_DEFINITION_BYTES bytes × IsReadAs bytes def
 
--- The bytes are read as no definition, and this line says so.
-abbrev pub IsNoDefinition : List ℕ → List ℕ → Type 0
-IsNoDefinition bytes line = ((def : Definition) → IsReadAs bytes def → ⊥) × (line ≡ codes "line 1 code 10")
+-- What is said of the bytes of a definition's file in one line: their first fault; that they are a definition; that they are
+-- one that the editor does not take.
+abbrev pub IsFaultLine : List ℕ → List ℕ → Type 0
+IsFaultLine bytes line = (fault : DefFault) × Refusal bytes fault × (line ≡ fault_text fault)
 
-abbrev pub IsRefusedDefinition : Option Held → Name → List ℕ → Type 0
-IsRefusedDefinition held name line = (bytes : List ℕ) × IsWithin held name MOST_DEFINITION_BYTES bytes × IsNoDefinition bytes line
+abbrev pub IsAcceptedLine : List ℕ → List ℕ → Type 0
+IsAcceptedLine bytes line = ((def : Definition) × IsReadAs bytes def) × (line ≡ codes "accepted")
+
+-- The editor takes languages of constants.
+abbrev pub IsTaken : Definition → Type 0
+IsTaken def = HasConstantsOnly def
+
+abbrev pub IsLaterLine : List ℕ → List ℕ → Type 0
+IsLaterLine bytes line = (def : Definition) × IsReadAs bytes def × (IsTaken def → ⊥) × (line ≡ codes "refused Later")
+
+abbrev pub IsCheckLine : List ℕ → List ℕ → Type 0
+IsCheckLine bytes line = IsFaultLine bytes line ⊎ IsAcceptedLine bytes line
+
+abbrev pub IsRefusedLine : List ℕ → List ℕ → Type 0
+IsRefusedLine bytes line = IsFaultLine bytes line ⊎ IsLaterLine bytes line
+
+-- the file of the name is read as the definition, and the editor takes it
+abbrev pub IsEdited : Option Held → Name → Definition → Type 0
+IsEdited held name def = IsDefinition held name def × IsTaken def
 
 -- Where both maps are told, the exchanges go from the one to the other. In any case the failed calls are those of the answers
 -- that were lost.
@@ -85,7 +109,7 @@ pub record HasAsked (exchanges : List Exchange) (unanswered : Option Asked) (old
 -- The whole output of the plain editor was written.
 pub record WritesAll (old new : World) (definition script : Name) : Type 0 where
   pub def : Definition
-  pub is_definition : IsDefinition old.held definition def
+  pub is_definition : IsEdited old.held definition def
   pub bytes : List ℕ
   pub is_script : IsWithin old.held script MOST_SCRIPT_BYTES bytes
   pub exchanges : List Exchange
@@ -99,7 +123,7 @@ pub record WritesAll (old new : World) (definition script : Name) : Type 0 where
 -- answered.
 pub record WritesFront (unanswered : Option Asked) (old new : World) (definition script : Name) : Type 0 where
   pub def : Definition
-  pub is_definition : IsDefinition old.held definition def
+  pub is_definition : IsEdited old.held definition def
   pub bytes : List ℕ
   pub is_script : IsWithin old.held script MOST_SCRIPT_BYTES bytes
   pub count : ℕ
@@ -112,49 +136,71 @@ pub record WritesFront (unanswered : Option Asked) (old new : World) (definition
   pub wrote : Wrote old new front
   pub asked : HasAsked exchanges unanswered old new
 
--- the definition was refused, and the line that says so was written
-pub record RefusesDefinition (old new : World) (definition : Name) : Type 0 where
+-- A line was written that says this of the bytes of the definition's file.
+pub record Says (IsSaid : List ℕ → List ℕ → Type 0) (old new : World) (definition : Name) : Type 0 where
+  pub bytes : List ℕ
+  pub short : IsWithin old.held definition MOST_DEFINITION_BYTES bytes
   pub line : List ℕ
-  pub is_refused : IsRefusedDefinition old.held definition line
+  pub says : IsSaid bytes line
   pub wrote : Wrote old new (feed line)
   pub files : KeepsFiles old new
 
--- the definition was refused, and a front of the line that says so was written
-pub record RefusesFront (old new : World) (definition : Name) : Type 0 where
+-- a front of such a line was written
+pub record SaysFront (IsSaid : List ℕ → List ℕ → Type 0) (old new : World) (definition : Name) : Type 0 where
+  pub bytes : List ℕ
+  pub short : IsWithin old.held definition MOST_DEFINITION_BYTES bytes
   pub line : List ℕ
-  pub is_refused : IsRefusedDefinition old.held definition line
+  pub says : IsSaid bytes line
   pub front : List ℕ
   pub is_front : IsFrontOf front (feed line)
   pub wrote : Wrote old new front
   pub files : KeepsFiles old new
 
--- A read of one of the two files failed, by the one entry that this run added. Nothing was written.
-pub record FailsToRead (old new : World) (definition script : Name) : Type 0 where
+-- The read of the file failed, by the one entry that this run added. Nothing was written.
+pub record FailsToRead (old new : World) (file : Name) : Type 0 where
   pub held : new.held ≡ old.held
-  pub entry : (new.entries ≡ old.entries ++ reading definition ∷ [])
-      ⊎ ((new.entries ≡ old.entries ++ reading script ∷ []) × (def : Definition) × IsDefinition old.held definition def)
+  pub entry : new.entries ≡ old.entries ++ reading file ∷ []
   pub wrote : WroteNothing old new
 
--- One of the two files is too long. Nothing was written.
-pub record IsTooLong (old new : World) (definition script : Name) : Type 0 where
+-- The file is too long. Nothing was written.
+pub record IsTooLong (old new : World) (file : Name) (limit : ℕ) : Type 0 where
   pub files : KeepsFiles old new
   pub wrote : WroteNothing old new
-  pub long : IsLong old.held definition MOST_DEFINITION_BYTES
-      ⊎ (((def : Definition) × IsDefinition old.held definition def) × IsLong old.held script MOST_SCRIPT_BYTES)
+  pub long : IsLong old.held file limit
+
+-- no call of the files failed, and nothing was written
+abbrev pub IsQuiet : World → World → Type 0
+IsQuiet old new = KeepsFiles old new × WroteNothing old new
+
+-- What stands at each status of `check`. Each but Memory stands with its cause.
+abbrev pub Checks : World → World → Name → Status → Type 0
+Checks old new definition ends_with.Done = Says IsAcceptedLine old new definition
+Checks old new definition ends_with.DefinitionRefused = Says IsFaultLine old new definition
+Checks old new definition ends_with.Words = ⊥
+Checks old new definition ends_with.ReadFault = FailsToRead old new definition
+Checks old new definition ends_with.WriteFault = SaysFront IsCheckLine old new definition × HasRisen old.count new.count
+Checks old new definition ends_with.Memory = SaysFront IsCheckLine old new definition ⊎ IsQuiet old new
+Checks old new definition ends_with.TooLong = IsTooLong old new definition MOST_DEFINITION_BYTES
 
 -- What stands at each status of `edit`. Each but Memory stands with its cause. Where the files tell what they hold, the
--- definition is read, both files are short, no read of them failed and the count has not risen, the status is Done or Memory.
+-- definition is read and taken, both files are short, no read of them failed and the count has not risen, the status is Done
+-- or Memory. The script is read where the definition is taken.
 abbrev pub Edits : World → World → Name → Name → Status → Type 0
 Edits old new definition script ends_with.Done = WritesAll old new definition script
-Edits old new definition script ends_with.DefinitionRefused = RefusesDefinition old new definition
+Edits old new definition script ends_with.DefinitionRefused = Says IsRefusedLine old new definition
 Edits old new definition script ends_with.Words = ⊥
-Edits old new definition script ends_with.ReadFault = FailsToRead old new definition script
-Edits old new definition script ends_with.WriteFault = (WritesFront None old new definition script ⊎ RefusesFront old new definition) × HasRisen old.count new.count
+Edits old new definition script ends_with.ReadFault =
+    FailsToRead old new definition ⊎ (((def : Definition) × IsEdited old.held definition def) × FailsToRead old new script)
+Edits old new definition script ends_with.WriteFault =
+    (WritesFront None old new definition script ⊎ SaysFront IsRefusedLine old new definition) × HasRisen old.count new.count
 Edits old new definition script ends_with.Memory =
-    (((unanswered : Option Asked) × WritesFront unanswered old new definition script) ⊎ RefusesFront old new definition) ⊎ (KeepsFiles old new × WroteNothing old new)
-Edits old new definition script ends_with.TooLong = IsTooLong old new definition script
+    (((unanswered : Option Asked) × WritesFront unanswered old new definition script) ⊎ SaysFront IsRefusedLine old new definition) ⊎ IsQuiet old new
+Edits old new definition script ends_with.TooLong =
+    IsTooLong old new definition MOST_DEFINITION_BYTES
+    ⊎ (((def : Definition) × IsEdited old.held definition def) × IsTooLong old new script MOST_SCRIPT_BYTES)
 
 abbrev pub IsRunOf : Form → World → World → Status → Type 0
+IsRunOf (check definition) old new status = Checks old new definition status
 IsRunOf (edit definition script) old new status = Edits old new definition script status
 
 -- The words have no form: no call of the files failed, and nothing was put.

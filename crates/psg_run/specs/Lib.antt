@@ -12,3 +12,4 @@ pub mod OneOutput
 pub mod Headline
 pub mod Endings
 pub mod Codes
+pub mod Wanted

@@ -1,7 +1,8 @@
 //! A run of the program: from words, files and a sink to a status.
 //!
-//! `run(alloc, &words, &mut files, &mut out, &mut steps)` does what the words say. For `edit DEF SCRIPT` it writes the replies
-//! of the plain editor, which is defined in this crate's specs and knows nothing but trees.
+//! `run(alloc, &words, &mut files, &mut out, &mut steps)` does what the words say. For `check DEF` it says whether a file has a
+//! definition. For `edit DEF SCRIPT` it writes the replies of the plain editor, which is defined in this crate's specs and knows
+//! nothing but trees.
 #![tactic(auto)]
 
 mod editor;
@@ -12,12 +13,9 @@ mod lines;
 mod play;
 pub mod program;
 mod replies;
+mod source;
 pub mod status;
-
-/// The small reader of definitions, which the whole one will take the place of.
-pub mod first {
-    pub use psg_first::{ReadFault, read_definition};
-}
+mod words;
 
 pub use program::run;
 pub use status::Status;

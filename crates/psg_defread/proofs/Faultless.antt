@@ -1,0 +1,50 @@
+-- A file whose lines pass all tests has no fault.
+use Rattle.std.proofs.Common.{◌≡◌, ◌⊎◌, inl, inr, ℕ, List, [], ◌∷◌, ◌++◌, Option, Some, None, refl, sym, ◌∙◌, ap, subst}
+use Rattle.std.specs.List.{AllByRecursion}
+use Rattle.std.specs.Str.Lines.{lines}
+use Rattle.std.proofs.lemmas.List.{append-assoc}
+use Rattle.psg_grammar.specs.declared.types.Definition.{Definition}
+use Rattle.psg_deflines.specs.Entries.{Entry, written, AreEntries, behind_head}
+use Rattle.psg_deflines.specs.Reading.{HasEntries, AreLinesOf, HasNoFormFault}
+use Rattle.psg_deflines.specs.Refusals.{IsFirstOf}
+use Rattle.psg_deflines.specs.declared.fault.DefCode.{DefCode}
+use Rattle.psg_deflines.specs.declared.fault.DefFault.{DefFault}
+use Rattle.psg_deflines.specs.declared.lines.Line.{Line}
+use Rattle.psg_defcheck.specs.Faults.{meaning_codes, PassesMeaning, ArePassed, IsMeaningFault, IsFirstFault}
+use Rattle.psg_defread.specs.Refusals.{HasMeaningFault, Refusal, no_form, no_meaning}
+use Rattle.psg_defread.specs.Reading.{IsFaultless}
+
+written_append : (xs ys : List Entry) → written (xs ++ ys) ≡ written xs ++ written ys
+written_append [] ys = refl
+written_append (None ∷ xs) ys = written_append xs ys
+written_append (Some x ∷ xs) ys = ap (λ r. x ∷ r) (written_append xs ys)
+
+-- what passes all tests has no first one that fails
+all_pass : (Passes : DefCode → Type 0) (tests : List DefCode) (code : DefCode) → AllByRecursion Passes tests → IsFirstOf Passes tests code → ⊥
+all_pass Passes [] code all first = first
+all_pass Passes (t ∷ tests) code all (inl (fails, is)) = fails all.0
+all_pass Passes (t ∷ tests) code all (inr (passes, first)) = all_pass Passes tests code all.1 first
+
+passed_at : (file above front : List Line) (line : Line) (behind : List Line) → ArePassed file above (front ++ line ∷ behind) → AllByRecursion (PassesMeaning file (above ++ front) line) meaning_codes
+passed_at file above [] line behind h = subst (λ a. AllByRecursion (PassesMeaning file a line) meaning_codes) (sym (append-nil above)) h.0
+passed_at file above (x ∷ front) line behind h =
+    subst (λ a. AllByRecursion (PassesMeaning file a line) meaning_codes) (append-assoc above (x ∷ []) front) (passed_at file (above ++ x ∷ []) front line behind h.1)
+
+no_meaning_fault : (entries : List Entry) (fault : DefFault) → ArePassed (written entries) [] (written entries) → IsMeaningFault entries fault → ⊥
+no_meaning_fault entries fault passed m =
+    all_pass _ meaning_codes fault.code
+    (passed_at (written entries) [] (written m.front) m.line (written m.behind)
+    (subst (ArePassed (written entries) []) (ap written m.split ∙ written_append m.front (Some m.line ∷ m.behind)) passed))
+    m.first
+
+-- the only entries are those that were read
+pub faultless : (bytes : List ℕ) (entries : List Entry) → AreLinesOf bytes entries → ((other : List Entry) → HasEntries bytes other → other ≡ entries)
+    → HasNoFormFault bytes → IsFirstFault entries None → IsFaultless bytes
+faultless bytes entries read only none passed fault (no_form f) = none fault f
+faultless bytes entries read only none passed fault (no_meaning utf8 head m) =
+    let same : m.entries ≡ entries = only m.entries (record { utf8 = utf8; spelled = record { head = head; each = m.each } }) in
+    no_meaning_fault entries fault passed (subst (λ es. IsMeaningFault es fault) same m.meaning)
+
+pub meaning_refused : (bytes : List ℕ) (entries : List Entry) (fault : DefFault) → AreLinesOf bytes entries → IsMeaningFault entries fault → Refusal bytes fault
+meaning_refused bytes entries fault read meaning =
+    no_meaning read.spelled.utf8 read.spelled.spelled.head (record { entries = entries; each = read.spelled.spelled.each; plain = read.plain; meaning = meaning })

@@ -1,0 +1,51 @@
+//! What the words of a run ask for.
+ghost use Rattle.std.specs.Prelude.{◌≡◌, ◌∷◌, [], MatchOption, codes};
+ghost use Rattle.psg_run.specs.Headline.{texts_of};
+ghost use Rattle.psg_run.specs.Wanted.{HasNoForm, IsWanted};
+
+/// A form of words.
+#[derive(Drop)]
+pub enum Form<'a> {
+    /// `check DEF`
+    Check { definition: &'a str },
+    /// `edit DEF SCRIPT`
+    Edit {
+        definition: &'a str,
+        script: &'a str,
+    },
+}
+
+/// What two words ask for.
+fn of_two<'a>(form: &str, definition: &'a str) -> Option<Form<'a>>
+    ensures { MatchOption result (HasNoForm (form.now ∷ definition.now ∷ [])) (IsWanted (form.now ∷ definition.now ∷ [])) }
+{
+    if form == "check" {
+        Some(Form::Check { definition })
+    } else {
+        None
+    }
+}
+
+/// What three words ask for.
+fn of_three<'a>(form: &str, definition: &'a str, script: &'a str) -> Option<Form<'a>>
+    ensures { MatchOption result (HasNoForm (form.now ∷ definition.now ∷ script.now ∷ [])) (IsWanted (form.now ∷ definition.now ∷ script.now ∷ [])) }
+{
+    if form == "edit" {
+        Some(Form::Edit { definition, script })
+    } else {
+        None
+    }
+}
+
+/// What the words ask for, or none where they have no form.
+pub fn form_of(words: &[String]) -> Option<Form<'_>>
+    ensures { MatchOption result (HasNoForm (texts_of words.now)) (IsWanted (texts_of words.now)) }
+{
+    match words {
+        [form, definition] => of_two(form.as_str(), definition.as_str()),
+        [form, definition, script] => {
+            of_three(form.as_str(), definition.as_str(), script.as_str())
+        }
+        _ => None,
+    }
+}
