@@ -7,3 +7,4 @@ pub mod Whole
 pub mod Formed
 pub mod Order
 pub mod LittleLaws
+pub mod PlainLanguages

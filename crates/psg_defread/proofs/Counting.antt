@@ -1,5 +1,5 @@
 -- How long the texts of a file are, and how many there are.
-use Rattle.std.proofs.Common.{◌≡◌, ◌==◌, ◌-◌, ◌×◌, ℕ, ◌+◌, ◌<◌, ◌≤◌, ◌^◌, Bool, true, false, cond, List, [], ◌∷◌, ◌++◌, take, length, length-append, replicate, ap, sym, ◌∙◌, arith}
+use Rattle.std.proofs.Common.{◌≡◌, ◌==◌, ◌-◌, ℕ, ◌+◌, ◌<◌, ◌≤◌, ◌^◌, Bool, true, false, cond, List, [], ◌∷◌, ◌++◌, take, length, length-append, replicate, refl, ap, sym, ◌∙◌, arith}
 use Rattle.std.specs.List.{slice_split, onto_first}
 use Rattle.std.specs.Str.Lines.{lines, lines_of_parts, strip_carriage_return}
 use Rattle.std.specs.Prelude.{slice_index, if◌then◌else◌, codes}
@@ -10,7 +10,7 @@ use Rattle.psg_deflines.specs.declared.lines.Line.{Line}
 use Rattle.psg_deflaws.specs.Soundness.{total}
 
 -- the bytes of the parts, and one for each
-weight : List (List ℕ) → ℕ
+abbrev weight : List (List ℕ) → ℕ
 weight parts = total parts + length parts
 
 onto_weight : (x : ℕ) (parts : List (List ℕ)) → 1 ≤ length parts → weight (onto_first x parts) ≤ weight parts + 1

@@ -1,17 +1,23 @@
 -- A file whose lines pass all tests has no fault.
 use Rattle.std.proofs.Common.{◌≡◌, ◌⊎◌, inl, inr, ℕ, List, [], ◌∷◌, ◌++◌, Option, Some, None, refl, sym, ◌∙◌, ap, subst}
+use Rattle.std.proofs.Common.{Result, Ok, Err}
+use Rattle.std.specs.Prelude.{IfErr, IsErrAnd}
+use Rattle.std.proofs.lemmas.Result.{err_from_is_err_and}
 use Rattle.std.specs.List.{AllByRecursion}
 use Rattle.std.specs.Str.Lines.{lines}
-use Rattle.std.proofs.lemmas.List.{append-assoc}
+use Rattle.std.proofs.lemmas.List.{append_assoc, append-nil}
 use Rattle.psg_grammar.specs.declared.types.Definition.{Definition}
 use Rattle.psg_deflines.specs.Entries.{Entry, written, AreEntries, behind_head}
 use Rattle.psg_deflines.specs.Reading.{HasEntries, AreLinesOf, HasNoFormFault}
 use Rattle.psg_deflines.specs.Refusals.{IsFirstOf}
 use Rattle.psg_deflines.specs.declared.fault.DefCode.{DefCode}
 use Rattle.psg_deflines.specs.declared.fault.DefFault.{DefFault}
+use Rattle.psg_deflines.specs.declared.fault.ReadFault.{ReadFault}
+use Rattle.psg_deflines.specs.declared.fault.ReadFault.TheVariants.{Def, Memory}
+use Rattle.psg_deflines.specs.Refusals.{IsFormFault}
 use Rattle.psg_deflines.specs.declared.lines.Line.{Line}
 use Rattle.psg_defcheck.specs.Faults.{meaning_codes, PassesMeaning, ArePassed, IsMeaningFault, IsFirstFault}
-use Rattle.psg_defread.specs.Refusals.{HasMeaningFault, Refusal, no_form, no_meaning}
+use Rattle.psg_defread.specs.Refusals.{HasMeaningFault, IsReadFault, Refusal, no_form, no_meaning}
 use Rattle.psg_defread.specs.Reading.{IsFaultless}
 
 written_append : (xs ys : List Entry) → written (xs ++ ys) ≡ written xs ++ written ys
@@ -28,11 +34,11 @@ all_pass Passes (t ∷ tests) code all (inr (passes, first)) = all_pass Passes t
 passed_at : (file above front : List Line) (line : Line) (behind : List Line) → ArePassed file above (front ++ line ∷ behind) → AllByRecursion (PassesMeaning file (above ++ front) line) meaning_codes
 passed_at file above [] line behind h = subst (λ a. AllByRecursion (PassesMeaning file a line) meaning_codes) (sym (append-nil above)) h.0
 passed_at file above (x ∷ front) line behind h =
-    subst (λ a. AllByRecursion (PassesMeaning file a line) meaning_codes) (append-assoc above (x ∷ []) front) (passed_at file (above ++ x ∷ []) front line behind h.1)
+    subst (λ a. AllByRecursion (PassesMeaning file a line) meaning_codes) (append_assoc above (x ∷ []) front) (passed_at file (above ++ x ∷ []) front line behind h.1)
 
 no_meaning_fault : (entries : List Entry) (fault : DefFault) → ArePassed (written entries) [] (written entries) → IsMeaningFault entries fault → ⊥
 no_meaning_fault entries fault passed m =
-    all_pass _ meaning_codes fault.code
+    all_pass (PassesMeaning (written entries) (written m.front) m.line) meaning_codes fault.code
     (passed_at (written entries) [] (written m.front) m.line (written m.behind)
     (subst (ArePassed (written entries) []) (ap written m.split ∙ written_append m.front (Some m.line ∷ m.behind)) passed))
     m.first
@@ -48,3 +54,11 @@ faultless bytes entries read only none passed fault (no_meaning utf8 head m) =
 pub meaning_refused : (bytes : List ℕ) (entries : List Entry) (fault : DefFault) → AreLinesOf bytes entries → IsMeaningFault entries fault → Refusal bytes fault
 meaning_refused bytes entries fault read meaning =
     no_meaning read.spelled.utf8 read.spelled.spelled.head (record { entries = entries; each = read.spelled.spelled.each; plain = read.plain; meaning = meaning })
+
+form_refused : (bytes : List ℕ) (fault : ReadFault) → IsFormFault bytes fault → IsReadFault bytes fault
+form_refused bytes (Def fault) f = no_form f
+form_refused bytes Memory f = f
+
+-- a fault of the lines, handed on
+pub form_passed : {T : Type 0} (bytes : List ℕ) (r : Result T ReadFault) (fault : ReadFault) → IsErrAnd r (λ e. e ≡ fault) → IsFormFault bytes fault → IfErr r (IsReadFault bytes)
+form_passed bytes r fault h f = let q = err_from_is_err_and r h in rw q.1 (subst (IsReadFault bytes) (sym q.2) (form_refused bytes fault f))

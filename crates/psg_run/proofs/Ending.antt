@@ -79,12 +79,12 @@ module _ (old mid : World) (written : Option (List ℕ)) (count : ℕ) (file : N
     }
 
     -- what stands where the line was put, as far as the status says
-    pub line_put : (Ends : Status → Type 0) (done status : Status) → (Says IsSaid old last file → Ends done)
+    pub line_put : (Ends : Status → Type 0) (whole_end status : Status) → (Says IsSaid old last file → Ends whole_end)
         → (SaysFront IsSaid old last file → HasRisen old.count count → Ends ends_with.WriteFault) → (SaysFront IsSaid old last file → Ends ends_with.Memory)
-        → PutsLine line done mid.written written mid.count count status → Ends status
-    line_put Ends done status whole failed part (put_whole is put) = subst Ends (sym is) (whole (said put))
-    line_put Ends done status whole failed part (put_failed is takes risen) = subst Ends (sym is) (failed (said_front takes) (subst (λ c. HasRisen c count) same risen))
-    line_put Ends done status whole failed part (put_in_part is takes) = subst Ends (sym is) (part (said_front takes))
+        → PutsLine line whole_end mid.written written mid.count count status → Ends status
+    line_put Ends whole_end status whole failed part (put_whole is put) = subst Ends (sym is) (whole (said put))
+    line_put Ends whole_end status whole failed part (put_failed is takes risen) = subst Ends (sym is) (failed (said_front takes) (subst (λ c. HasRisen c count) same risen))
+    line_put Ends whole_end status whole failed part (put_in_part is takes) = subst Ends (sym is) (part (said_front takes))
 
 -- ---- the definition's file
 

@@ -9,7 +9,7 @@ pub mod Feeds
 pub mod Filling
 pub mod Built
 pub mod Ending
-pub mod Words
+pub mod WordForms
 pub mod OneOutputLines
 pub mod OneOutputSteps
 pub mod OneOutput

@@ -58,10 +58,10 @@ fn check<F: Files, O: Sink>(
         (record { held = F.holds files.new; entries = F.faults files.new; written = O.written out.new; count = O.faults out.new })
         definition.now result }
 {
-    match read_language(alloc, definition, files, out) {
-        Ok(_) => put_line(alloc, out, "accepted", Status::Done),
-        Err(status) => status,
+    if let Err(status) = read_language(alloc, definition, files, out) {
+        return status;
     }
+    put_line(alloc, out, "accepted", Status::Done)
 }
 
 /// Plays the script on the definition. The order of tests is: the definition is read, its length, whether it is one, whether

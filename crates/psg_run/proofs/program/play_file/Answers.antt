@@ -6,12 +6,12 @@ use Rattle.psg_run.proofs.Ending.{read_short, read_long, stopped_play}
 use Rattle.psg_run.proofs.program.play_file.Goals as goal
 
 pub returns-then-lines-gt-MOST_SCRIPT_BYTES : goal.returns-then-lines-gt-MOST_SCRIPT_BYTES
-returns-then-lines-gt-MOST_SCRIPT_BYTES g c = (
-  read_long (g.F.Files.holds c.args.files.now) c.args.script.now MOST_SCRIPT_BYTES c.in-Ok.bytes.items c.in-Ok.ensures.front
-      (subst (λ l. MOST_SCRIPT_BYTES < length l) c.as_slice-lines.ensures.value c.if-lines-gt-MOST_SCRIPT_BYTES.true),
-  (c.in-Ok.ensures.keeps, c.in-Ok.ensures.entries),
-  refl,
-)
+returns-then-lines-gt-MOST_SCRIPT_BYTES g c = record {
+  long = read_long (g.F.Files.holds c.args.files.now) c.args.script.now MOST_SCRIPT_BYTES c.in-Ok.bytes.items c.in-Ok.ensures.front
+      (subst (λ l. MOST_SCRIPT_BYTES < length l) c.as_slice-lines.ensures.value c.if-lines-gt-MOST_SCRIPT_BYTES.true);
+  files = (c.in-Ok.ensures.keeps, c.in-Ok.ensures.entries);
+  wrote = refl;
+}
 
 pub returns-in-Ok-play : goal.returns-in-Ok-play
 returns-in-Ok-play g c = (

@@ -28,16 +28,10 @@ three_words (x ∷ y ∷ z ∷ w ∷ more_words) a b c more less ea eb ec = absu
 
 pub two_other : (a b : Name) → (a ≡ codes "check" → ⊥) → HasNoForm (a ∷ b ∷ [])
 two_other a b never (check d) e = never cc
-two_other a b never (edit d s) e = absurd (ends (ap length e))
-  where
-    ends : 2 ≡ 3 → ⊥
-    ends q = omega (arith, q)
+two_other a b never (edit d s) e = cc
 
 pub three_other : (a b c : Name) → (a ≡ codes "edit" → ⊥) → HasNoForm (a ∷ b ∷ c ∷ [])
-three_other a b c never (check d) e = absurd (ends (ap length e))
-  where
-    ends : 3 ≡ 2 → ⊥
-    ends q = omega (arith, q)
+three_other a b c never (check d) e = cc
 three_other a b c never (edit d s) e = never cc
 
 -- neither two words nor three
