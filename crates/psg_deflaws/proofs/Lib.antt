@@ -1,0 +1,3 @@
+pub mod TermSorts
+pub mod TreeWeights
+pub mod SpecimenLaws

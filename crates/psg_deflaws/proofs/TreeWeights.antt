@@ -1,0 +1,65 @@
+-- A text is at least as long as its specimens have elements of lists.
+use Rattle.std.proofs.Common.{◌≡◌, ℕ, zero, suc, ◌+◌, ◌≤◌, ◌<◌, Bool, true, false, List, [], ◌∷◌, ◌++◌, length, length-append, refl, ap, sym, subst, codes, arith}
+use Rattle.std.proofs.lemmas.Bool.{false≢true}
+use Rattle.psg_deflines.specs.WrittenTrees.{WrittenTree, operator, with_tree, with_name, with_number, with_text, list_end, list_rest, element, place, tree_parts, opened, follow, is_front, is_list, HasTreeForm, quoted_part, place_parts}
+use Rattle.psg_deflines.specs.WrittenTerms.{WrittenTerm, term_parts}
+use Rattle.psg_deflaws.specs.Soundness.{total}
+
+pub total-append : (xs ys : List (List ℕ)) → total (xs ++ ys) ≡ total xs + total ys
+total-append [] ys = omega arith
+total-append (x ∷ xs) ys = omega (arith, total-append xs ys)
+
+-- the elements of all lists
+abbrev pub weight : WrittenTree → ℕ
+weight (operator o) = 0
+weight (with_tree f t) = weight f + weight t
+weight (with_name f n) = weight f
+weight (with_number f d) = weight f
+weight (with_text f w) = weight f
+weight list_end = 0
+weight (list_rest l t) = 0
+weight (element e r) = 1 + (weight e + weight r)
+weight (place k t) = 0
+
+-- Where it is a front, what it opens is as long as that; where it is a list, what follows an element is.
+record IsLong (w : WrittenTree) : Type 0 where
+  whole : weight w ≤ total (tree_parts w)
+  front : is_front w ≡ true → weight w ≤ total (opened w)
+  behind : is_list w ≡ true → weight w ≤ total (follow w)
+
+long-part : (before more : List (List ℕ)) (n : ℕ) → n ≤ total before → n ≤ total (before ++ more)
+long-part before more n h = omega (arith, total-append before more)
+
+long-two : (before middle more : List (List ℕ)) (m n : ℕ) → m ≤ total before → n ≤ total middle → m + n ≤ total ((before ++ middle) ++ more)
+long-two before middle more m n h k = omega (arith, total-append (before ++ middle) more, total-append before middle)
+
+is-long : (w : WrittenTree) → HasTreeForm w → IsLong w
+is-long (operator o) form = record { whole = omega arith; front = λ e. omega arith; behind = λ e. omega arith }
+is-long (with_tree f t) form =
+    let a = is-long f form.1 in
+    let b = is-long t form.2 in
+    record {
+      whole = long-two (opened f) (tree_parts t) (codes ")" ∷ []) (weight f) (weight t) (a.front form.0) b.whole;
+      front = λ e. long-two (opened f) (tree_parts t) (codes "," ∷ []) (weight f) (weight t) (a.front form.0) b.whole;
+      behind = λ e. absurd (false≢true e);
+    }
+is-long (with_name f n) form =
+    let a = is-long f form.1 in
+    record { whole = long-part (opened f) ((36 ∷ n) ∷ codes ")" ∷ []) (weight f) (a.front form.0); front = λ e. long-part (opened f) ((36 ∷ n) ∷ codes "," ∷ []) (weight f) (a.front form.0); behind = λ e. absurd (false≢true e) }
+is-long (with_number f d) form =
+    let a = is-long f form.1 in
+    record { whole = long-part (opened f) (d ∷ codes ")" ∷ []) (weight f) (a.front form.0); front = λ e. long-part (opened f) (d ∷ codes "," ∷ []) (weight f) (a.front form.0); behind = λ e. absurd (false≢true e) }
+is-long (with_text f w) form =
+    let a = is-long f form.1 in
+    record { whole = long-part (opened f) (quoted_part w ∷ codes ")" ∷ []) (weight f) (a.front form.0); front = λ e. long-part (opened f) (quoted_part w ∷ codes "," ∷ []) (weight f) (a.front form.0); behind = λ e. absurd (false≢true e) }
+is-long list_end form = record { whole = omega arith; front = λ e. omega arith; behind = λ e. omega arith }
+is-long (list_rest l t) form = record { whole = omega arith; front = λ e. omega arith; behind = λ e. omega arith }
+is-long (element e r) form =
+    let a = is-long e form.1 in
+    let b = is-long r form.2 in
+    let both : weight e + weight r ≤ total (tree_parts e ++ follow r) = omega (arith, total-append (tree_parts e) (follow r), a.whole, b.behind form.0) in
+    record { whole = omega (arith, both); front = λ h. absurd (false≢true h); behind = λ h. omega (arith, both) }
+is-long (place k t) form = record { whole = omega arith; front = λ e. omega arith; behind = λ e. omega arith }
+
+pub tree-long : (w : WrittenTree) → HasTreeForm w → weight w ≤ total (tree_parts w)
+tree-long w form = (is-long w form).whole
