@@ -1,3 +1,6 @@
 pub mod TermSorts
 pub mod TreeWeights
 pub mod SpecimenLaws
+pub mod LineSizes
+pub mod SymbolLaws
+pub mod NameLaws
