@@ -1,5 +1,5 @@
 -- The hole rows and the declare rows of a file's lines.
-use Rattle.std.proofs.Common.{◌≡◌, ℕ, zero, suc, ◌+◌, ◌≤◌, ◌<◌, ◌^◌, ◌++◌, Option, Some, None, List, [], ◌∷◌, length, codes, refl, ap, sym, ◌∙◌, subst, arith}
+use Rattle.std.proofs.Common.{ℕ, ◌≤◌, ◌<◌, ◌^◌, ◌++◌, Option, Some, None, List, [], ◌∷◌, length, codes, ap, sym, subst, arith}
 use Rattle.std.specs.List.{AllByRecursion}
 use Rattle.psg_terms.specs.Names.{Name}
 use Rattle.psg_terms.specs.Terms.{Term}
@@ -12,7 +12,7 @@ use Rattle.psg_grammar.specs.declared.types.DeclareRow.{DeclareRow}
 use Rattle.psg_grammar.specs.declared.types.Definition.{Definition}
 use Rattle.psg_grammar.specs.Sound.{IsTermOf, IsShort, IsCase, IsHoleRow, IsDeclareRow, HasSpaceSort}
 use Rattle.psg_deflines.specs.WrittenTerms.{WrittenTerm, term_parts}
-use Rattle.psg_deflines.specs.WrittenTrees.{WrittenTree, tree_parts, HasTreeForm}
+use Rattle.psg_deflines.specs.WrittenTrees.{WrittenTree, HasTreeForm}
 use Rattle.psg_deflines.specs.Forms.{HasForm, HasFormBehindBy, by_parts}
 use Rattle.psg_deflines.specs.declared.lines.Line.{Line}
 use Rattle.psg_deflines.specs.declared.lines.Line.TheVariants as lines
@@ -21,7 +21,7 @@ use Rattle.psg_defnumber.specs.Numbers.{AreCases, HasCases, AreHoleRows, AreDecl
 use Rattle.psg_deflaws.specs.Soundness.{total}
 use Rattle.psg_deflaws.proofs.TermSorts.{term-takes}
 use Rattle.psg_deflaws.proofs.TreeWeights.{weight, tree-long, total-append}
-use Rattle.psg_deflaws.proofs.SpecimenLaws.{AreInside, HaveColumns, IsThere, kind-inside, space-inside, kind-there, specimen-is}
+use Rattle.psg_deflaws.proofs.SpecimenLaws.{IsInside, AreInside, HaveColumns, IsThere, kind-inside, space-inside, kind-there, specimen-is}
 use Rattle.psg_deflaws.proofs.LineSizes.{lines_total, few-lines}
 use Rattle.psg_deflaws.proofs.RowLaws.{nil-is}
 
@@ -30,15 +30,17 @@ by-long : (w : WrittenTree) → HasTreeForm w → weight w ≤ total (by_parts (
 by-long w form = omega (arith, tree-long w form)
 
 module _ (def : Definition) (sound : IsSoundSignature def.signature) (inside : AreInside def) (columns : HaveColumns def) where
-  case-is : (kind : Kind) (sort : ℕ) (w : WrittenTerm) (tree : WrittenTree) (one : Case) → IsThere def kind → sort < length def.signature.sorts → HasTreeForm tree → weight tree < 2 ^ 32
-      → numbers.IsCase def kind sort w tree one → IsCase def kind sort one
+  case-is : (kind : Kind) (sort : ℕ) (w : WrittenTerm) (tree : WrittenTree) (one : Case) → IsThere def kind
+      → IsInside def sort → HasTreeForm tree → weight tree < 2 ^ 32 → numbers.IsCase def kind sort w tree one
+      → IsCase def kind sort one
   case-is kind sort w tree one there within form limit h = record {
     term = term-takes def.signature sound h.names w [] sort one.term within h.of_term;
     specimen = specimen-is def sound inside columns h.names one.specimen kind tree there form limit h.of_specimen;
   }
 
-  cases-are : (kind : Kind) (sort : ℕ) (behind : List Line) (cases : List Case) → IsThere def kind → sort < length def.signature.sorts → AllByRecursion HasForm behind → lines_total behind < 2 ^ 32
-      → AreCases def kind sort behind cases → AllByRecursion (IsCase def kind sort) cases
+  cases-are : (kind : Kind) (sort : ℕ) (behind : List Line) (cases : List Case) → IsThere def kind → IsInside def sort
+      → AllByRecursion HasForm behind → lines_total behind < 2 ^ 32 → AreCases def kind sort behind cases
+      → AllByRecursion (IsCase def kind sort) cases
   cases-are kind sort [] cases there within form limit e = subst (AllByRecursion (IsCase def kind sort)) (sym e) tt
   cases-are kind sort (lines.Hole of_kind w specimen ∷ behind) cases there within form limit e = subst (AllByRecursion (IsCase def kind sort)) (sym e) tt
   cases-are kind sort (lines.Case w specimen ∷ behind) cases there within form limit (one, rest, e, h, hs) =
@@ -49,7 +51,8 @@ module _ (def : Definition) (sound : IsSoundSignature def.signature) (inside : A
       )
   cases-are kind sort (line ∷ behind) cases there within form limit h = cases-are kind sort behind cases there within form.1 (omega arith) h
 
-  few-cases : (kind : Kind) (sort : ℕ) (behind : List Line) (cases : List Case) → AreCases def kind sort behind cases → length cases ≤ length behind
+  few-cases : (kind : Kind) (sort : ℕ) (behind : List Line) (cases : List Case) → AreCases def kind sort behind cases
+      → length cases ≤ length behind
   few-cases kind sort [] cases e = omega (arith, ap length e)
   few-cases kind sort (lines.Hole of_kind w specimen ∷ behind) cases e = omega (arith, ap length e)
   few-cases kind sort (lines.Case w specimen ∷ behind) cases (one, rest, e, h, hs) = omega (arith, ap length e, few-cases kind sort behind rest hs)
@@ -61,8 +64,10 @@ module _ (def : Definition) (sound : IsSoundSignature def.signature) (inside : A
     few : IsShort cases
     each : AllByRecursion (IsCase def kind sort) cases
 
-  has-cases : (kind : Kind) (sort : ℕ) (w : WrittenTerm) (specimen : Option WrittenTree) (behind : List Line) (t : Term) (cases : List Case) → IsThere def kind → sort < length def.signature.sorts
-      → HasFormBehindBy specimen → total (by_parts specimen) < 2 ^ 32 → AllByRecursion HasForm behind → lines_total behind < 2 ^ 32 → HasCases def kind sort w specimen behind t cases → AreCasesOf kind sort t cases
+  has-cases : (kind : Kind) (sort : ℕ) (w : WrittenTerm) (specimen : Option WrittenTree) (behind : List Line) (t : Term) (cases : List Case)
+      → IsThere def kind → IsInside def sort → HasFormBehindBy specimen → total (by_parts specimen) < 2 ^ 32
+      → AllByRecursion HasForm behind → lines_total behind < 2 ^ 32 → HasCases def kind sort w specimen behind t cases
+      → AreCasesOf kind sort t cases
   has-cases kind sort w (Some tree) behind t cases there within form small forms limit (one, e, same, h) =
       let found = case-is kind sort w tree one there within form (omega (arith, by-long tree form)) h in
       record {
@@ -76,12 +81,13 @@ module _ (def : Definition) (sound : IsSoundSignature def.signature) (inside : A
     each = cases-are kind sort behind cases there within forms limit hs;
   }
 
-  pub hole-rows-sound : (file : List Line) (all : List HoleRow) → AllByRecursion HasForm file → lines_total file < 2 ^ 32 → AreHoleRows def file all → AllByRecursion (IsHoleRow def) all
+  pub hole-rows-sound : (file : List Line) (all : List HoleRow) → AllByRecursion HasForm file
+      → lines_total file < 2 ^ 32 → AreHoleRows def file all → AllByRecursion (IsHoleRow def) all
   hole-rows-sound [] all form limit e = subst (AllByRecursion (IsHoleRow def)) (sym e) tt
   hole-rows-sound (lines.Hole kind w specimen ∷ behind) all form limit (row, rest, e, h, hs) =
       let size = total-append (term_parts w) (by_parts specimen) in
       let found = has-cases row.kind h.sort w specimen behind row.term row.cases (kind-there def row.kind h.sort h.kind_sort) (kind-inside def inside row.kind h.sort h.kind_sort)
-          form.0.2 (omega (arith, size)) form.1 (omega arith) h.has_cases in
+      form.0.2 (omega (arith, size)) form.1 (omega arith) h.has_cases in
       subst (AllByRecursion (IsHoleRow def)) (sym e) (
         record { sort = h.sort; kind_sort = h.kind_sort; term = found.term; few_cases = found.few; each_case = found.each },
         hole-rows-sound behind rest form.1 (omega arith) hs,
@@ -93,8 +99,8 @@ module _ (def : Definition) (sound : IsSoundSignature def.signature) (inside : A
   few-hole-rows (lines.Hole kind w specimen ∷ behind) all (row, rest, e, h, hs) = omega (arith, ap length e, few-hole-rows behind rest hs)
   few-hole-rows (line ∷ behind) all h = omega (arith, few-hole-rows behind all h)
 
-  declare-is : (list : Name) (entity value : WrittenTerm) (tree : WrittenTree) (row : DeclareRow) → HasTreeForm tree → weight tree < 2 ^ 32
-      → numbers.IsDeclareRow def list entity value tree row → IsDeclareRow def row
+  declare-is : (list : Name) (entity value : WrittenTerm) (tree : WrittenTree) (row : DeclareRow) → HasTreeForm tree
+      → weight tree < 2 ^ 32 → numbers.IsDeclareRow def list entity value tree row → IsDeclareRow def row
   declare-is list entity value tree row form limit h =
       let element = kinds.Phylum h.found.element in
       let space : HasSpaceSort def row.space h.entity_sort = subst (λ n. HasSpaceSort def n h.entity_sort) (sym h.space) h.space_sort in
@@ -110,7 +116,8 @@ module _ (def : Definition) (sound : IsSoundSignature def.signature) (inside : A
         specimen = specimen-is def sound inside columns h.names row.specimen element tree (kind-there def element h.value_sort h.elements_sort) form limit h.of_specimen;
       }
 
-  pub declare-rows-sound : (file : List Line) (all : List DeclareRow) → AllByRecursion HasForm file → lines_total file < 2 ^ 32 → AreDeclareRows def file all → AllByRecursion (IsDeclareRow def) all
+  pub declare-rows-sound : (file : List Line) (all : List DeclareRow) → AllByRecursion HasForm file
+      → lines_total file < 2 ^ 32 → AreDeclareRows def file all → AllByRecursion (IsDeclareRow def) all
   declare-rows-sound [] all form limit e = subst (AllByRecursion (IsDeclareRow def)) (sym e) tt
   declare-rows-sound (lines.Declare list entity value tree ∷ behind) all form limit (row, rest, e, h, hs) =
       let front = total-append (term_parts entity) (codes ":" ∷ (term_parts value ++ by_parts (Some tree))) in
@@ -121,7 +128,8 @@ module _ (def : Definition) (sound : IsSoundSignature def.signature) (inside : A
       )
   declare-rows-sound (line ∷ behind) all form limit h = declare-rows-sound behind all form.1 (omega arith) h
 
-  pub few-declare-rows : (file : List Line) (all : List DeclareRow) → AreDeclareRows def file all → length all ≤ length file
+  pub few-declare-rows : (file : List Line) (all : List DeclareRow) → AreDeclareRows def file all
+      → length all ≤ length file
   few-declare-rows [] all e = omega (arith, ap length e)
   few-declare-rows (lines.Declare list entity value tree ∷ behind) all (row, rest, e, h, hs) = omega (arith, ap length e, few-declare-rows behind rest hs)
   few-declare-rows (line ∷ behind) all h = omega (arith, few-declare-rows behind all h)

@@ -1,11 +1,11 @@
 -- What the lines of a file are together is sound.
-use Rattle.std.proofs.Common.{◌≡◌, ℕ, ◌+◌, ◌≤◌, ◌<◌, ◌^◌, false, List, [], ◌∷◌, ◌++◌, length, map, refl, ap, ap₂, sym, ◌∙◌, subst, arith}
+use Rattle.std.proofs.Common.{◌<◌, ◌^◌, List, [], ◌++◌, length, ap, ap₂, ◌∙◌, arith}
 use Rattle.std.specs.List.{AllByRecursion}
 use Rattle.psg_terms.specs.Names.{Name, has_twice}
 use Rattle.psg_terms.specs.Sound.{IsSound as IsSoundSignature}
 use Rattle.psg_grammar.specs.declared.types.Definition.{Definition}
 use Rattle.psg_grammar.specs.Sound.{IsSound}
-use Rattle.psg_deflines.specs.Entries.{Entry, written, AreEntries}
+use Rattle.psg_deflines.specs.Entries.{written}
 use Rattle.psg_deflines.specs.Forms.{HasForm}
 use Rattle.psg_deflines.specs.declared.lines.Line.{Line}
 use Rattle.psg_defcheck.specs.Scopes.{entity_sorts}
@@ -19,7 +19,8 @@ use Rattle.psg_deflaws.proofs.ListLaws.{lists-sound, few-lists, lists-named}
 use Rattle.psg_deflaws.proofs.OperatorLaws.{operators-sound, few-operators, operators-named, have-columns}
 use Rattle.psg_deflaws.proofs.CaseLaws.{hole-rows-sound, few-hole-rows, declare-rows-sound, few-declare-rows}
 
-file-is-sound : (file : List Line) (def : Definition) → lines_total file < 2 ^ 32 → AllByRecursion HasForm file → IsNumbered file def → IsSoundSignature def.signature → IsSound def
+file-is-sound : (file : List Line) (def : Definition) → lines_total file < 2 ^ 32 → AllByRecursion HasForm file
+    → IsNumbered file def → IsSoundSignature def.signature → IsSound def
 file-is-sound file def limit form h sound =
     let short : length file < 2 ^ 32 = omega (arith, few-lines file) in
     let inside = are-inside def file h in

@@ -1,3 +1,4 @@
+pub mod Lists
 pub mod TermSorts
 pub mod TreeWeights
 pub mod SpecimenLaws

@@ -1,5 +1,5 @@
 -- The texts of a file are together at least as long as its lines have parts.
-use Rattle.std.proofs.Common.{◌≡◌, ℕ, zero, suc, ◌+◌, ◌≤◌, ◌<◌, Bool, true, false, Some, None, List, [], ◌∷◌, ◌++◌, length, length-append, map, codes, refl, ap, sym, ◌∙◌, subst, replicate, arith}
+use Rattle.std.proofs.Common.{◌≡◌, ℕ, suc, ◌+◌, ◌≤◌, Some, None, List, [], ◌∷◌, ◌++◌, length, length-append, map, ap, replicate, arith}
 use Rattle.std.specs.Prelude.{chars, encode_utf8_all}
 use Rattle.std.specs.List.{AllByRecursion}
 use Rattle.std.proofs.lemmas.Bool.{false≢true}
@@ -30,7 +30,8 @@ abbrev pub lines_total : List Line → ℕ
 lines_total [] = 0
 lines_total (line ∷ rest) = total (parts_of line) + lines_total rest
 
-pub entries-total : (above : List Line) (texts : List (List ℕ)) (entries : List Entry) → AreEntries above texts entries → lines_total (written entries) ≤ total texts
+pub entries-total : (above : List Line) (texts : List (List ℕ)) (entries : List Entry)
+    → AreEntries above texts entries → lines_total (written entries) ≤ total texts
 entries-total above [] [] h = omega arith
 entries-total above [] (e ∷ entries) h = absurd h
 entries-total above (t ∷ texts) [] h = absurd h
@@ -38,7 +39,8 @@ entries-total above (t ∷ texts) (None ∷ entries) h = omega (arith, entries-t
 entries-total above (t ∷ texts) (Some line ∷ entries) h =
     omega (arith, written-total (parts_of line) t h.0.spelled.written, entries-total (above ++ line ∷ []) texts entries h.1)
 
-pub entries-formed : (above : List Line) (texts : List (List ℕ)) (entries : List Entry) → AreEntries above texts entries → AllByRecursion HasForm (written entries)
+pub entries-formed : (above : List Line) (texts : List (List ℕ)) (entries : List Entry)
+    → AreEntries above texts entries → AllByRecursion HasForm (written entries)
 entries-formed above [] [] h = tt
 entries-formed above [] (e ∷ entries) h = absurd h
 entries-formed above (t ∷ texts) [] h = absurd h
@@ -83,7 +85,8 @@ pub arguments-long : (args : List Name) → length args ≤ total (argument_part
 arguments-long [] = omega arith
 arguments-long (n ∷ rest) = omega (arith, closed-long n rest)
 
-pub constructors-long : (cs : List ConDecl) → AllByRecursion HasConstructorForm cs → length cs ≤ total (constructor_parts cs)
+pub constructors-long : (cs : List ConDecl) → AllByRecursion HasConstructorForm cs
+    → length cs ≤ total (constructor_parts cs)
 constructors-long [] h = omega arith
 constructors-long (c ∷ rest) h =
     omega (arith, total-append (c.name ∷ argument_parts c.args) (constructor_parts rest), own-name-long c.name h.0.0, constructors-long rest h.1)

@@ -1,5 +1,5 @@
 -- The lists of a file's lines.
-use Rattle.std.proofs.Common.{◌≡◌, ℕ, zero, suc, ◌+◌, ◌≤◌, ◌<◌, ◌^◌, List, [], ◌∷◌, length, map, refl, ap, ap₂, sym, ◌∙◌, subst, arith}
+use Rattle.std.proofs.Common.{◌≡◌, ◌≤◌, ◌<◌, ◌^◌, List, [], ◌∷◌, length, map, ap, ap₂, sym, ◌∙◌, subst, arith}
 use Rattle.std.specs.List.{AllByRecursion}
 use Rattle.psg_terms.specs.Names.{Name}
 use Rattle.psg_terms.specs.Sound.{IsSound as IsSoundSignature}
@@ -11,13 +11,19 @@ use Rattle.psg_deflines.specs.Forms.{HasForm}
 use Rattle.psg_deflines.specs.declared.lines.Line.{Line}
 use Rattle.psg_deflines.specs.declared.lines.Line.TheVariants as lines
 use Rattle.psg_defnumber.specs.Numbers.{AreLists}
+use Rattle.psg_deflaws.proofs.Lists.{cons-same}
 use Rattle.psg_deflaws.proofs.SpecimenLaws.{AreInside, kind-inside}
 use Rattle.psg_deflaws.proofs.NameLaws.{list_names}
 use Rattle.psg_deflaws.proofs.KindLaws.{sort-inside}
 use Rattle.psg_deflaws.proofs.RowLaws.{nils-are, few-nils, cells-are, few-cells}
 
+abbrev pub list_name : ListKind → Name
+list_name l = l.name
+
 module _ (def : Definition) where
-  pub lists-sound : IsSoundSignature def.signature → AreInside def → (file behind : List Line) (all : List ListKind) → length file < 2 ^ 32 → AllByRecursion HasForm behind → AreLists def file behind all → AllByRecursion (IsListKind def) all
+  pub lists-sound : IsSoundSignature def.signature → AreInside def → (file behind : List Line) (all : List ListKind)
+      → length file < 2 ^ 32 → AllByRecursion HasForm behind → AreLists def file behind all
+      → AllByRecursion (IsListKind def) all
   lists-sound sound inside file [] all short form e = subst (AllByRecursion (IsListKind def)) (sym e) tt
   lists-sound sound inside file (lines.List name sort elements separator on_lines unfinished ∷ behind) all short form (l, rest, e, h, hs) =
       let there = sort-inside def sort l.sort h.of_sort in
@@ -37,13 +43,15 @@ module _ (def : Definition) where
       )
   lists-sound sound inside file (line ∷ behind) all short form h = lists-sound sound inside file behind all short form.1 h
 
-  pub few-lists : (file behind : List Line) (all : List ListKind) → AreLists def file behind all → length all ≤ length behind
+  pub few-lists : (file behind : List Line) (all : List ListKind) → AreLists def file behind all
+      → length all ≤ length behind
   few-lists file [] all e = omega (arith, ap length e)
   few-lists file (lines.List name sort elements separator on_lines unfinished ∷ behind) all (l, rest, e, h, hs) = omega (arith, ap length e, few-lists file behind rest hs)
   few-lists file (line ∷ behind) all h = omega (arith, few-lists file behind all h)
 
-  pub lists-named : (file behind : List Line) (all : List ListKind) → AreLists def file behind all → map (λ (l : ListKind). l.name) all ≡ list_names behind
-  lists-named file [] all e = ap (map (λ (l : ListKind). l.name)) e
+  pub lists-named : (file behind : List Line) (all : List ListKind) → AreLists def file behind all
+      → map list_name all ≡ list_names behind
+  lists-named file [] all e = ap (map list_name) e
   lists-named file (lines.List name sort elements separator on_lines unfinished ∷ behind) all (l, rest, e, h, hs) =
-      ap (map (λ (l : ListKind). l.name)) e ∙ ap₂ (λ (n : Name) (ns : List Name). n ∷ ns) h.named (lists-named file behind rest hs)
+      ap (map list_name) e ∙ cons-same l.name name (map list_name rest) (list_names behind) h.named (lists-named file behind rest hs)
   lists-named file (line ∷ behind) all h = lists-named file behind all h

@@ -1,10 +1,11 @@
 -- The operators of a file's lines.
-use Rattle.std.proofs.Common.{◌≡◌, ℕ, zero, suc, ◌+◌, ◌≤◌, ◌<◌, ◌^◌, ◌++◌, List, [], ◌∷◌, length, map, codes, refl, ap, ap₂, sym, ◌∙◌, subst, arith}
+use Rattle.std.proofs.Common.{◌≡◌, Bool, ℕ, ◌≤◌, ◌<◌, ◌^◌, ◌++◌, List, [], ◌∷◌, length, map, codes, ap, ap₂, sym, ◌∙◌, subst, arith}
 use Rattle.std.specs.List.{AllByRecursion}
 use Rattle.psg_terms.specs.Names.{Name}
 use Rattle.psg_terms.specs.Signature.{AreSorts}
 use Rattle.psg_terms.specs.Sound.{IsSound as IsSoundSignature}
 use Rattle.psg_grammar.specs.declared.types.Kind.TheVariants as kinds
+use Rattle.psg_grammar.specs.declared.types.Level.{Level}
 use Rattle.psg_grammar.specs.declared.types.Item.{Item}
 use Rattle.psg_grammar.specs.declared.types.Item.TheVariants as made
 use Rattle.psg_grammar.specs.declared.types.Operator.{Operator}
@@ -17,23 +18,28 @@ use Rattle.psg_deflines.specs.declared.lines.LineItem.{LineItem}
 use Rattle.psg_deflines.specs.declared.lines.Line.{Line}
 use Rattle.psg_deflines.specs.declared.lines.Line.TheVariants as lines
 use Rattle.psg_defcheck.specs.Scopes.{operator_names}
-use Rattle.psg_defnumber.specs.Numbers as numbers
 use Rattle.psg_defnumber.specs.Numbers.{AreItems, AreOperators}
 use Rattle.psg_deflaws.specs.Soundness.{total}
+use Rattle.psg_deflaws.proofs.Lists.{cons-same}
 use Rattle.psg_deflaws.proofs.SpecimenLaws.{AreInside, HaveColumns, kind-inside, space-inside}
 use Rattle.psg_deflaws.proofs.TreeWeights.{total-append}
 use Rattle.psg_deflaws.proofs.LineSizes.{lines_total, few-lines, items-long}
 use Rattle.psg_deflaws.proofs.RowLaws.{rows-are, few-rows}
 
+abbrev pub operator_name : Operator → Name
+operator_name o = o.name
+
 module _ (def : Definition) where
-  columns-inside : AreInside def → (xs : List Item) (sorts : List ℕ) → AreColumns def (part_items xs) sorts → AreSorts def.signature sorts
+  columns-inside : AreInside def → (xs : List Item) (sorts : List ℕ) → AreColumns def (part_items xs) sorts
+      → AreSorts def.signature sorts
   columns-inside inside [] sorts e = subst (AreSorts def.signature) (sym e) tt
   columns-inside inside (made.Slot k ∷ xs) sorts (s, more, e, sort, h) = subst (AreSorts def.signature) (sym e) (kind-inside def inside k s sort, columns-inside inside xs more h)
   columns-inside inside (made.Refers n ∷ xs) sorts (s, more, e, sort, h) = subst (AreSorts def.signature) (sym e) (space-inside def inside n s sort, columns-inside inside xs more h)
   columns-inside inside (made.Declares n ∷ xs) sorts (s, more, e, sort, h) = subst (AreSorts def.signature) (sym e) (space-inside def inside n s sort, columns-inside inside xs more h)
   columns-inside inside (i ∷ xs) sorts h = columns-inside inside xs sorts h
 
-  items-are : (xs : List Item) (sorts : List ℕ) → AreColumns def (part_items xs) sorts → AllByRecursion (IsItem def) xs
+  items-are : (xs : List Item) (sorts : List ℕ) → AreColumns def (part_items xs) sorts
+      → AllByRecursion (IsItem def) xs
   items-are [] sorts e = tt
   items-are (made.Slot k ∷ xs) sorts (s, more, e, sort, h) = ((s, sort), items-are xs more h)
   items-are (made.Refers n ∷ xs) sorts (s, more, e, sort, h) = ((s, sort), items-are xs more h)
@@ -44,11 +50,14 @@ module _ (def : Definition) where
   items-length [] xs e = ap length e
   items-length (w ∷ ws) xs (i, rest, e, h, hs) = omega (arith, ap length e, items-length ws rest hs)
 
-  operator-long : (name phylum : Name) (scope : _) (level : _) (parts : List LineItem) → total (map item_part parts) ≤ total (parts_of (lines.Operator name phylum scope level parts))
+  operator-long : (name phylum : Name) (scope : Bool) (level : Level) (parts : List LineItem)
+      → total (map item_part parts) ≤ total (parts_of (lines.Operator name phylum scope level parts))
   operator-long name phylum scope level parts =
       omega (arith, total-append (word_if scope (codes "scope")) (level_parts level ++ (codes "=" ∷ map item_part parts)), total-append (level_parts level) (codes "=" ∷ map item_part parts))
 
-  pub operators-sound : IsSoundSignature def.signature → AreInside def → (file : List Line) (all : List Operator) → lines_total file < 2 ^ 32 → AllByRecursion HasForm file → AreOperators def file all → AllByRecursion (IsOperator def) all
+  pub operators-sound : IsSoundSignature def.signature → AreInside def → (file : List Line) (all : List Operator)
+      → lines_total file < 2 ^ 32 → AllByRecursion HasForm file → AreOperators def file all
+      → AllByRecursion (IsOperator def) all
   operators-sound sound inside [] all limit form e = subst (AllByRecursion (IsOperator def)) (sym e) tt
   operators-sound sound inside (lines.Operator name phylum scope level parts ∷ behind) all limit form (op, rest, e, h, hs) =
       subst (AllByRecursion (IsOperator def)) (sym e) (
@@ -73,10 +82,11 @@ module _ (def : Definition) where
   few-operators (lines.Operator name phylum scope level parts ∷ behind) all (op, rest, e, h, hs) = omega (arith, ap length e, few-operators behind rest hs)
   few-operators (line ∷ behind) all h = omega (arith, few-operators behind all h)
 
-  pub operators-named : (file : List Line) (all : List Operator) → AreOperators def file all → map (λ (o : Operator). o.name) all ≡ operator_names file
-  operators-named [] all e = ap (map (λ (o : Operator). o.name)) e
+  pub operators-named : (file : List Line) (all : List Operator) → AreOperators def file all
+      → map operator_name all ≡ operator_names file
+  operators-named [] all e = ap (map operator_name) e
   operators-named (lines.Operator name phylum scope level parts ∷ behind) all (op, rest, e, h, hs) =
-      ap (map (λ (o : Operator). o.name)) e ∙ ap₂ (λ (n : Name) (ns : List Name). n ∷ ns) h.named (operators-named behind rest hs)
+      ap (map operator_name) e ∙ cons-same op.name name (map operator_name rest) (operator_names behind) h.named (operators-named behind rest hs)
   operators-named (line ∷ behind) all h = operators-named behind all h
 
   abbrev HasColumns : Operator → Type 0

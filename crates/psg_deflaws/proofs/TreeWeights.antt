@@ -1,8 +1,7 @@
 -- A text is at least as long as its specimens have elements of lists.
-use Rattle.std.proofs.Common.{◌≡◌, ℕ, zero, suc, ◌+◌, ◌≤◌, ◌<◌, Bool, true, false, List, [], ◌∷◌, ◌++◌, length, length-append, refl, ap, sym, subst, codes, arith}
+use Rattle.std.proofs.Common.{◌≡◌, ℕ, ◌+◌, ◌≤◌, true, List, [], ◌∷◌, ◌++◌, codes, arith}
 use Rattle.std.proofs.lemmas.Bool.{false≢true}
-use Rattle.psg_deflines.specs.WrittenTrees.{WrittenTree, operator, with_tree, with_name, with_number, with_text, list_end, list_rest, element, place, tree_parts, opened, follow, is_front, is_list, HasTreeForm, quoted_part, place_parts}
-use Rattle.psg_deflines.specs.WrittenTerms.{WrittenTerm, term_parts}
+use Rattle.psg_deflines.specs.WrittenTrees.{WrittenTree, operator, with_tree, with_name, with_number, with_text, list_end, list_rest, element, place, tree_parts, opened, follow, is_front, is_list, HasTreeForm, quoted_part}
 use Rattle.psg_deflaws.specs.Soundness.{total}
 
 pub total-append : (xs ys : List (List ℕ)) → total (xs ++ ys) ≡ total xs + total ys
@@ -30,7 +29,8 @@ record IsLong (w : WrittenTree) : Type 0 where
 long-part : (before more : List (List ℕ)) (n : ℕ) → n ≤ total before → n ≤ total (before ++ more)
 long-part before more n h = omega (arith, total-append before more)
 
-long-two : (before middle more : List (List ℕ)) (m n : ℕ) → m ≤ total before → n ≤ total middle → m + n ≤ total ((before ++ middle) ++ more)
+long-two : (before middle more : List (List ℕ)) (m n : ℕ) → m ≤ total before → n ≤ total middle
+    → m + n ≤ total ((before ++ middle) ++ more)
 long-two before middle more m n h k = omega (arith, total-append (before ++ middle) more, total-append before middle)
 
 is-long : (w : WrittenTree) → HasTreeForm w → IsLong w

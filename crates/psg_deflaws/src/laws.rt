@@ -4,11 +4,9 @@ ghost use Rattle.psg_deflaws.specs.Soundness.{NumberedIsSound, WordsAreTokens};
 /// A definition that the lines of a file of fewer than 2^32 bytes are together is sound.
 pub fn numbered_is_sound()
     ensures { NumberedIsSound }
-{
-}
+{}
 
 /// Each fixed word and each separator of such a definition is one token.
 pub fn words_are_tokens()
     ensures { WordsAreTokens }
-{
-}
+{}
