@@ -29,7 +29,8 @@ use Rattle.psg_deflaws.proofs.RowLaws.{nil-is}
 by-long : (w : WrittenTree) → HasTreeForm w → weight w ≤ total (by_parts (Some w))
 by-long w form = omega (arith, tree-long w form)
 
-module _ (def : Definition) (sound : IsSoundSignature def.signature) (inside : AreInside def) (columns : HaveColumns def) where
+module _ (def : Definition) (sound : IsSoundSignature def.signature) (inside : AreInside def)
+    (columns : HaveColumns def) where
   case-is : (kind : Kind) (sort : ℕ) (w : WrittenTerm) (tree : WrittenTree) (one : Case) → IsThere def kind
       → IsInside def sort → HasTreeForm tree → weight tree < 2 ^ 32 → numbers.IsCase def kind sort w tree one
       → IsCase def kind sort one
@@ -42,20 +43,23 @@ module _ (def : Definition) (sound : IsSoundSignature def.signature) (inside : A
       → AllByRecursion HasForm behind → lines_total behind < 2 ^ 32 → AreCases def kind sort behind cases
       → AllByRecursion (IsCase def kind sort) cases
   cases-are kind sort [] cases there within form limit e = subst (AllByRecursion (IsCase def kind sort)) (sym e) tt
-  cases-are kind sort (lines.Hole of_kind w specimen ∷ behind) cases there within form limit e = subst (AllByRecursion (IsCase def kind sort)) (sym e) tt
+  cases-are kind sort (lines.Hole of_kind w specimen ∷ behind) cases there within form limit e =
+      subst (AllByRecursion (IsCase def kind sort)) (sym e) tt
   cases-are kind sort (lines.Case w specimen ∷ behind) cases there within form limit (one, rest, e, h, hs) =
       let size = total-append (term_parts w) (by_parts (Some specimen)) in
       subst (AllByRecursion (IsCase def kind sort)) (sym e) (
         case-is kind sort w specimen one there within form.0.1 (omega (arith, size, by-long specimen form.0.1)) h,
         cases-are kind sort behind rest there within form.1 (omega arith) hs,
       )
-  cases-are kind sort (line ∷ behind) cases there within form limit h = cases-are kind sort behind cases there within form.1 (omega arith) h
+  cases-are kind sort (line ∷ behind) cases there within form limit h =
+      cases-are kind sort behind cases there within form.1 (omega arith) h
 
   few-cases : (kind : Kind) (sort : ℕ) (behind : List Line) (cases : List Case) → AreCases def kind sort behind cases
       → length cases ≤ length behind
   few-cases kind sort [] cases e = omega (arith, ap length e)
   few-cases kind sort (lines.Hole of_kind w specimen ∷ behind) cases e = omega (arith, ap length e)
-  few-cases kind sort (lines.Case w specimen ∷ behind) cases (one, rest, e, h, hs) = omega (arith, ap length e, few-cases kind sort behind rest hs)
+  few-cases kind sort (lines.Case w specimen ∷ behind) cases (one, rest, e, h, hs) =
+      omega (arith, ap length e, few-cases kind sort behind rest hs)
   few-cases kind sort (line ∷ behind) cases h = omega (arith, few-cases kind sort behind cases h)
 
   -- what a hole row's line, and the cases behind it, make
@@ -64,7 +68,8 @@ module _ (def : Definition) (sound : IsSoundSignature def.signature) (inside : A
     few : IsShort cases
     each : AllByRecursion (IsCase def kind sort) cases
 
-  has-cases : (kind : Kind) (sort : ℕ) (w : WrittenTerm) (specimen : Option WrittenTree) (behind : List Line) (t : Term) (cases : List Case)
+  has-cases : (kind : Kind) (sort : ℕ) (w : WrittenTerm) (specimen : Option WrittenTree) (behind : List Line)
+      (t : Term) (cases : List Case)
       → IsThere def kind → IsInside def sort → HasFormBehindBy specimen → total (by_parts specimen) < 2 ^ 32
       → AllByRecursion HasForm behind → lines_total behind < 2 ^ 32 → HasCases def kind sort w specimen behind t cases
       → AreCasesOf kind sort t cases
@@ -86,34 +91,48 @@ module _ (def : Definition) (sound : IsSoundSignature def.signature) (inside : A
   hole-rows-sound [] all form limit e = subst (AllByRecursion (IsHoleRow def)) (sym e) tt
   hole-rows-sound (lines.Hole kind w specimen ∷ behind) all form limit (row, rest, e, h, hs) =
       let size = total-append (term_parts w) (by_parts specimen) in
-      let found = has-cases row.kind h.sort w specimen behind row.term row.cases (kind-there def row.kind h.sort h.kind_sort) (kind-inside def inside row.kind h.sort h.kind_sort)
+      let there = kind-there def row.kind h.sort h.kind_sort in
+      let within = kind-inside def inside row.kind h.sort h.kind_sort in
+      let found = has-cases row.kind h.sort w specimen behind row.term row.cases there within
       form.0.2 (omega (arith, size)) form.1 (omega arith) h.has_cases in
       subst (AllByRecursion (IsHoleRow def)) (sym e) (
-        record { sort = h.sort; kind_sort = h.kind_sort; term = found.term; few_cases = found.few; each_case = found.each },
+        record {
+          sort = h.sort;
+          kind_sort = h.kind_sort;
+          term = found.term;
+          few_cases = found.few;
+          each_case = found.each;
+        },
         hole-rows-sound behind rest form.1 (omega arith) hs,
       )
   hole-rows-sound (line ∷ behind) all form limit h = hole-rows-sound behind all form.1 (omega arith) h
 
   pub few-hole-rows : (file : List Line) (all : List HoleRow) → AreHoleRows def file all → length all ≤ length file
   few-hole-rows [] all e = omega (arith, ap length e)
-  few-hole-rows (lines.Hole kind w specimen ∷ behind) all (row, rest, e, h, hs) = omega (arith, ap length e, few-hole-rows behind rest hs)
+  few-hole-rows (lines.Hole kind w specimen ∷ behind) all (row, rest, e, h, hs) =
+      omega (arith, ap length e, few-hole-rows behind rest hs)
   few-hole-rows (line ∷ behind) all h = omega (arith, few-hole-rows behind all h)
 
   declare-is : (list : Name) (entity value : WrittenTerm) (tree : WrittenTree) (row : DeclareRow) → HasTreeForm tree
       → weight tree < 2 ^ 32 → numbers.IsDeclareRow def list entity value tree row → IsDeclareRow def row
   declare-is list entity value tree row form limit h =
       let element = kinds.Phylum h.found.element in
-      let space : HasSpaceSort def row.space h.entity_sort = subst (λ n. HasSpaceSort def n h.entity_sort) (sym h.space) h.space_sort in
+      let space : HasSpaceSort def row.space h.entity_sort =
+      subst (λ n. HasSpaceSort def n h.entity_sort) (sym h.space) h.space_sort in
+      let entity-within = space-inside def inside row.space h.entity_sort space in
+      let value-within = kind-inside def inside element h.value_sort h.elements_sort in
+      let there = kind-there def element h.value_sort h.elements_sort in
       record {
         entity = h.entity_sort;
         space_sort = space;
-        term = term-takes def.signature sound h.names entity [] h.entity_sort row.term (space-inside def inside row.space h.entity_sort space) h.of_entity;
+        term = term-takes def.signature sound h.names entity [] h.entity_sort row.term entity-within h.of_entity;
         list = h.found;
         list_is = h.list_is;
         element = h.value_sort;
         element_sort = h.elements_sort;
-        value = term-takes def.signature sound h.names value [] h.value_sort row.value (kind-inside def inside element h.value_sort h.elements_sort) h.of_value;
-        specimen = specimen-is def sound inside columns h.names row.specimen element tree (kind-there def element h.value_sort h.elements_sort) form limit h.of_specimen;
+        value = term-takes def.signature sound h.names value [] h.value_sort row.value value-within h.of_value;
+        specimen =
+            specimen-is def sound inside columns h.names row.specimen element tree there form limit h.of_specimen;
       }
 
   pub declare-rows-sound : (file : List Line) (all : List DeclareRow) → AllByRecursion HasForm file
@@ -131,5 +150,6 @@ module _ (def : Definition) (sound : IsSoundSignature def.signature) (inside : A
   pub few-declare-rows : (file : List Line) (all : List DeclareRow) → AreDeclareRows def file all
       → length all ≤ length file
   few-declare-rows [] all e = omega (arith, ap length e)
-  few-declare-rows (lines.Declare list entity value tree ∷ behind) all (row, rest, e, h, hs) = omega (arith, ap length e, few-declare-rows behind rest hs)
+  few-declare-rows (lines.Declare list entity value tree ∷ behind) all (row, rest, e, h, hs) =
+      omega (arith, ap length e, few-declare-rows behind rest hs)
   few-declare-rows (line ∷ behind) all h = omega (arith, few-declare-rows behind all h)

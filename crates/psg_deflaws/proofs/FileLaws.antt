@@ -1,10 +1,10 @@
 -- What the lines of a file are together is sound.
-use Rattle.std.proofs.Common.{◌<◌, ◌^◌, List, [], ◌++◌, length, ap, ap₂, ◌∙◌, arith}
+use Rattle.std.proofs.Common.{◌≡◌, ◌<◌, ◌^◌, List, [], ◌++◌, length, ap, ap₂, ◌∙◌, arith}
 use Rattle.std.specs.List.{AllByRecursion}
 use Rattle.psg_terms.specs.Names.{Name, has_twice}
 use Rattle.psg_terms.specs.Sound.{IsSound as IsSoundSignature}
 use Rattle.psg_grammar.specs.declared.types.Definition.{Definition}
-use Rattle.psg_grammar.specs.Sound.{IsSound}
+use Rattle.psg_grammar.specs.Sound.{IsSound, kind_names}
 use Rattle.psg_deflines.specs.Entries.{written}
 use Rattle.psg_deflines.specs.Forms.{HasForm}
 use Rattle.psg_deflines.specs.declared.lines.Line.{Line}
@@ -13,7 +13,7 @@ use Rattle.psg_defnumber.specs.Numbers.{IsNumbered}
 use Rattle.psg_deflaws.specs.Soundness.{NumberedIsSound}
 use Rattle.psg_deflaws.proofs.LineSizes.{lines_total, few-lines, entries-total, entries-formed}
 use Rattle.psg_deflaws.proofs.SymbolLaws.{small-signature}
-use Rattle.psg_deflaws.proofs.NameLaws.{kinds-once}
+use Rattle.psg_deflaws.proofs.NameLaws.{kinds-once, phylum_names, list_names}
 use Rattle.psg_deflaws.proofs.KindLaws.{phyla-sound, few-phyla, phyla-named, spaces-inside, space-count, space-names, are-inside}
 use Rattle.psg_deflaws.proofs.ListLaws.{lists-sound, few-lists, lists-named}
 use Rattle.psg_deflaws.proofs.OperatorLaws.{operators-sound, few-operators, operators-named, have-columns}
@@ -25,6 +25,10 @@ file-is-sound file def limit form h sound =
     let short : length file < 2 ^ 32 = omega (arith, few-lines file) in
     let inside = are-inside def file h in
     let columns = have-columns def file h.operators in
+    let phyla = phyla-named def file def.phyla h.phyla in
+    let lists = lists-named def file file def.lists h.lists in
+    let named : kind_names def ≡ phylum_names file ++ list_names file =
+    ap₂ (λ (xs ys : List Name). xs ++ ys) phyla lists in
     let small = small-signature file def.signature form limit short h.signature in
     record {
       signature = sound;
@@ -32,7 +36,7 @@ file-is-sound file def limit form h sound =
       constructor_names = small.constructor_names;
       spaces = space-names def file h;
       space_sorts = spaces-inside def (entity_sorts file) def.spaces h.spaces;
-      kind_names = ap has_twice (ap₂ (λ (xs ys : List Name). xs ++ ys) (phyla-named def file def.phyla h.phyla) (lists-named def file file def.lists h.lists)) ∙ kinds-once file h.kinds_once;
+      kind_names = ap has_twice named ∙ kinds-once file h.kinds_once;
       operator_names = ap has_twice (operators-named def file def.operators h.operators) ∙ h.operators_once;
       phyla = phyla-sound def file def.phyla form h.phyla;
       lists = lists-sound def sound inside file file def.lists short form h.lists;
@@ -52,4 +56,5 @@ file-is-sound file def limit form h sound =
 
 pub file-sound : NumberedIsSound
 file-sound texts entries def limit h numbered sound =
-    file-is-sound (written entries) def (omega (arith, entries-total [] texts entries h)) (entries-formed [] texts entries h) numbered sound
+    let short : lines_total (written entries) < 2 ^ 32 = omega (arith, entries-total [] texts entries h) in
+    file-is-sound (written entries) def short (entries-formed [] texts entries h) numbered sound

@@ -1,5 +1,5 @@
 -- The phyla and the spaces of a file's lines, and the sorts of all kinds.
-use Rattle.std.proofs.Common.{◌≡◌, inl, ◌≤◌, ◌<◌, List, [], ◌∷◌, length, map, ap, ap₂, sym, ◌∙◌, subst, arith}
+use Rattle.std.proofs.Common.{◌≡◌, inl, ◌≤◌, List, [], ◌∷◌, length, map, ap, sym, ◌∙◌, subst, arith}
 use Rattle.std.specs.List.{AllByRecursion}
 use Rattle.std.proofs.lemmas.Option.{slice_get_within}
 use Rattle.psg_terms.specs.Names.{Name}
@@ -39,28 +39,36 @@ module _ (def : Definition) where
 
   pub few-phyla : (file : List Line) (all : List Phylum) → ArePhyla def file all → length all ≤ length file
   few-phyla [] all e = omega (arith, ap length e)
-  few-phyla (lines.Phylum name sort bracketed ∷ behind) all (p, rest, e, h, hs) = omega (arith, ap length e, few-phyla behind rest hs)
+  few-phyla (lines.Phylum name sort bracketed ∷ behind) all (p, rest, e, h, hs) =
+      omega (arith, ap length e, few-phyla behind rest hs)
   few-phyla (line ∷ behind) all h = omega (arith, few-phyla behind all h)
 
   pub phyla-named : (file : List Line) (all : List Phylum) → ArePhyla def file all
       → map phylum_name all ≡ phylum_names file
   phyla-named [] all e = ap (map phylum_name) e
   phyla-named (lines.Phylum name sort bracketed ∷ behind) all (p, rest, e, h, hs) =
-      ap (map phylum_name) e ∙ cons-same p.name name (map phylum_name rest) (phylum_names behind) h.named (phyla-named behind rest hs)
+      let more = phyla-named behind rest hs in
+      ap (map phylum_name) e ∙ cons-same p.name name (map phylum_name rest) (phylum_names behind) h.named more
   phyla-named (line ∷ behind) all h = phyla-named behind all h
 
   phyla-inside : (file : List Line) (all : List Phylum) → ArePhyla def file all
       → AllByRecursion (HasPhylumInside def) all
   phyla-inside [] all e = subst (AllByRecursion (HasPhylumInside def)) (sym e) tt
   phyla-inside (lines.Phylum name sort bracketed ∷ behind) all (p, rest, e, h, hs) =
-      subst (AllByRecursion (HasPhylumInside def)) (sym e) (sort-inside sort p.sort h.of_sort, phyla-inside behind rest hs)
+      subst (AllByRecursion (HasPhylumInside def)) (sym e) (
+        sort-inside sort p.sort h.of_sort,
+        phyla-inside behind rest hs,
+      )
   phyla-inside (line ∷ behind) all h = phyla-inside behind all h
 
   lists-inside : (file behind : List Line) (all : List ListKind) → AreLists def file behind all
       → AllByRecursion (HasListInside def) all
   lists-inside file [] all e = subst (AllByRecursion (HasListInside def)) (sym e) tt
   lists-inside file (lines.List name sort elements separator on_lines unfinished ∷ behind) all (l, rest, e, h, hs) =
-      subst (AllByRecursion (HasListInside def)) (sym e) (sort-inside sort l.sort h.of_sort, lists-inside file behind rest hs)
+      subst (AllByRecursion (HasListInside def)) (sym e) (
+        sort-inside sort l.sort h.of_sort,
+        lists-inside file behind rest hs,
+      )
   lists-inside file (line ∷ behind) all h = lists-inside file behind all h
 
   -- ---- spaces
@@ -71,7 +79,8 @@ module _ (def : Definition) where
   spaces-unnamed : (sorts : List Name) (all : List Space) → AreSpaces def sorts all
       → AllByRecursion (λ (s : Space). s.name ≡ []) all
   spaces-unnamed [] all e = subst (AllByRecursion IsUnnamed) (sym e) tt
-  spaces-unnamed (sort ∷ sorts) all (s, rest, e, none, of, h) = subst (AllByRecursion IsUnnamed) (sym e) (none, spaces-unnamed sorts rest h)
+  spaces-unnamed (sort ∷ sorts) all (s, rest, e, none, of, h) =
+      subst (AllByRecursion IsUnnamed) (sym e) (none, spaces-unnamed sorts rest h)
 
   spaces-length : (sorts : List Name) (all : List Space) → AreSpaces def sorts all → length all ≡ length sorts
   spaces-length [] all e = ap length e

@@ -23,7 +23,13 @@ written-total : (parts : List (List ℕ)) (text : List ℕ) → IsWritten parts 
 written-total [] text e = omega arith
 written-total (part ∷ []) text e = omega (arith, ap length e)
 written-total (part ∷ next ∷ parts) text (spaces, rest, e, apart, w) =
-    omega (arith, ap length e, length-append part (replicate spaces 32 ++ rest), length-append (replicate spaces 32) rest, written-total (next ∷ parts) rest w)
+    omega (
+      arith,
+      ap length e,
+      length-append part (replicate spaces 32 ++ rest),
+      length-append (replicate spaces 32) rest,
+      written-total (next ∷ parts) rest w,
+    )
 
 -- the bytes of all parts of the lines
 abbrev pub lines_total : List Line → ℕ
@@ -37,7 +43,11 @@ entries-total above [] (e ∷ entries) h = absurd h
 entries-total above (t ∷ texts) [] h = absurd h
 entries-total above (t ∷ texts) (None ∷ entries) h = omega (arith, entries-total (above ++ []) texts entries h.1)
 entries-total above (t ∷ texts) (Some line ∷ entries) h =
-    omega (arith, written-total (parts_of line) t h.0.spelled.written, entries-total (above ++ line ∷ []) texts entries h.1)
+    omega (
+      arith,
+      written-total (parts_of line) t h.0.spelled.written,
+      entries-total (above ++ line ∷ []) texts entries h.1,
+    )
 
 pub entries-formed : (above : List Line) (texts : List (List ℕ)) (entries : List Entry)
     → AreEntries above texts entries → AllByRecursion HasForm (written entries)
@@ -45,7 +55,8 @@ entries-formed above [] [] h = tt
 entries-formed above [] (e ∷ entries) h = absurd h
 entries-formed above (t ∷ texts) [] h = absurd h
 entries-formed above (t ∷ texts) (None ∷ entries) h = entries-formed (above ++ []) texts entries h.1
-entries-formed above (t ∷ texts) (Some line ∷ entries) h = (h.0.spelled.form, entries-formed (above ++ line ∷ []) texts entries h.1)
+entries-formed above (t ∷ texts) (Some line ∷ entries) h =
+    (h.0.spelled.form, entries-formed (above ++ line ∷ []) texts entries h.1)
 
 -- each line has a word in front
 line-long : (line : Line) → 1 ≤ total (parts_of line)
@@ -89,13 +100,19 @@ pub constructors-long : (cs : List ConDecl) → AllByRecursion HasConstructorFor
     → length cs ≤ total (constructor_parts cs)
 constructors-long [] h = omega arith
 constructors-long (c ∷ rest) h =
-    omega (arith, total-append (c.name ∷ argument_parts c.args) (constructor_parts rest), own-name-long c.name h.0.0, constructors-long rest h.1)
+    omega (
+      arith,
+      total-append (c.name ∷ argument_parts c.args) (constructor_parts rest),
+      own-name-long c.name h.0.0,
+      constructors-long rest h.1,
+    )
 
 -- ---- items
 
 quoted-long : (w : List ℕ) → 1 ≤ length (quoted_part w)
 quoted-long w =
-    let begins : quoted_part w ≡ 34 ∷ encode_utf8_all (quoted (chars w) ++ 34 ∷ []) = ap (λ xs. xs ++ encode_utf8_all (quoted (chars w) ++ 34 ∷ [])) (encode_ascii 34 (omega arith)) in
+    let begins : quoted_part w ≡ 34 ∷ encode_utf8_all (quoted (chars w) ++ 34 ∷ []) =
+    ap (λ xs. xs ++ encode_utf8_all (quoted (chars w) ++ 34 ∷ [])) (encode_ascii 34 (omega arith)) in
     omega (arith, ap length begins)
 
 item-long : (i : LineItem) → HasItemForm i → 1 ≤ length (item_part i)

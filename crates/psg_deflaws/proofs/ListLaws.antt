@@ -1,5 +1,5 @@
 -- The lists of a file's lines.
-use Rattle.std.proofs.Common.{◌≡◌, ◌≤◌, ◌<◌, ◌^◌, List, [], ◌∷◌, length, map, ap, ap₂, sym, ◌∙◌, subst, arith}
+use Rattle.std.proofs.Common.{◌≡◌, ◌≤◌, ◌<◌, ◌^◌, List, [], ◌∷◌, length, map, ap, sym, ◌∙◌, subst, arith}
 use Rattle.std.specs.List.{AllByRecursion}
 use Rattle.psg_terms.specs.Names.{Name}
 use Rattle.psg_terms.specs.Sound.{IsSound as IsSoundSignature}
@@ -25,7 +25,7 @@ module _ (def : Definition) where
       → length file < 2 ^ 32 → AllByRecursion HasForm behind → AreLists def file behind all
       → AllByRecursion (IsListKind def) all
   lists-sound sound inside file [] all short form e = subst (AllByRecursion (IsListKind def)) (sym e) tt
-  lists-sound sound inside file (lines.List name sort elements separator on_lines unfinished ∷ behind) all short form (l, rest, e, h, hs) =
+  lists-sound sound inside file (lines.List name sort _ _ _ _ ∷ behind) all short form (l, rest, e, h, hs) =
       let there = sort-inside def sort l.sort h.of_sort in
       let element-there = kind-inside def inside (kinds.Phylum l.element) h.element_sort h.elements_sort in
       subst (AllByRecursion (IsListKind def)) (sym e) (
@@ -41,17 +41,20 @@ module _ (def : Definition) where
         },
         lists-sound sound inside file behind rest short form.1 hs,
       )
-  lists-sound sound inside file (line ∷ behind) all short form h = lists-sound sound inside file behind all short form.1 h
+  lists-sound sound inside file (line ∷ behind) all short form h =
+      lists-sound sound inside file behind all short form.1 h
 
   pub few-lists : (file behind : List Line) (all : List ListKind) → AreLists def file behind all
       → length all ≤ length behind
   few-lists file [] all e = omega (arith, ap length e)
-  few-lists file (lines.List name sort elements separator on_lines unfinished ∷ behind) all (l, rest, e, h, hs) = omega (arith, ap length e, few-lists file behind rest hs)
+  few-lists file (lines.List name sort elements separator on_lines unfinished ∷ behind) all (l, rest, e, h, hs) =
+      omega (arith, ap length e, few-lists file behind rest hs)
   few-lists file (line ∷ behind) all h = omega (arith, few-lists file behind all h)
 
   pub lists-named : (file behind : List Line) (all : List ListKind) → AreLists def file behind all
       → map list_name all ≡ list_names behind
   lists-named file [] all e = ap (map list_name) e
   lists-named file (lines.List name sort elements separator on_lines unfinished ∷ behind) all (l, rest, e, h, hs) =
-      ap (map list_name) e ∙ cons-same l.name name (map list_name rest) (list_names behind) h.named (lists-named file behind rest hs)
+      let more = lists-named file behind rest hs in
+      ap (map list_name) e ∙ cons-same l.name name (map list_name rest) (list_names behind) h.named more
   lists-named file (line ∷ behind) all h = lists-named file behind all h

@@ -30,7 +30,8 @@ among-middle : (xs ys : List Name) (y n : Name) → is_among (xs ++ ys) n ≡ fa
     → is_among (xs ++ y ∷ ys) n ≡ false
 among-middle xs ys y n h k =
     let parts = neither (is_among xs n) (is_among ys n) (sym (is_among-append xs ys n) ∙ h) in
-    is_among-append xs (y ∷ ys) n ∙ both-false (is_among xs n) (bytes_eq y n || is_among ys n) parts.0 (both-false (bytes_eq y n) (is_among ys n) k parts.1)
+    let behind = both-false (bytes_eq y n) (is_among ys n) k parts.1 in
+    is_among-append xs (y ∷ ys) n ∙ both-false (is_among xs n) (bytes_eq y n || is_among ys n) parts.0 behind
 
 once-middle : (xs ys : List Name) (y : Name) → has_twice (xs ++ ys) ≡ false → is_among (xs ++ ys) y ≡ false
     → has_twice (xs ++ y ∷ ys) ≡ false
@@ -38,7 +39,8 @@ once-middle [] ys y h k = both-false (is_among ys y) (has_twice ys) k h
 once-middle (x ∷ xs) ys y h k =
     let once = neither (is_among (xs ++ ys) x) (has_twice (xs ++ ys)) h in
     let apart = neither (bytes_eq x y) (is_among (xs ++ ys) y) k in
-    both-false (is_among (xs ++ y ∷ ys) x) (has_twice (xs ++ y ∷ ys)) (among-middle xs ys y x once.0 (bytes_eq-sym x y apart.0)) (once-middle xs ys y once.1 apart.1)
+    let here = among-middle xs ys y x once.0 (bytes_eq-sym x y apart.0) in
+    both-false (is_among (xs ++ y ∷ ys) x) (has_twice (xs ++ y ∷ ys)) here (once-middle xs ys y once.1 apart.1)
 
 not-among : (file : List Line) (n : Name) → is_among (kind_names file) n ≡ false
     → is_among (phylum_names file ++ list_names file) n ≡ false
@@ -56,7 +58,8 @@ pub kinds-once : (file : List Line) → has_twice (kind_names file) ≡ false
 kinds-once [] h = refl
 kinds-once (lines.Phylum name sort bracketed ∷ rest) h =
     let parts = neither (is_among (kind_names rest) name) (has_twice (kind_names rest)) h in
-    both-false (is_among (phylum_names rest ++ list_names rest) name) (has_twice (phylum_names rest ++ list_names rest)) (not-among rest name parts.0) (kinds-once rest parts.1)
+    let names = phylum_names rest ++ list_names rest in
+    both-false (is_among names name) (has_twice names) (not-among rest name parts.0) (kinds-once rest parts.1)
 kinds-once (lines.List name sort element separator on_lines unfinished ∷ rest) h =
     let parts = neither (is_among (kind_names rest) name) (has_twice (kind_names rest)) h in
     once-middle (phylum_names rest) (list_names rest) name (kinds-once rest parts.1) (not-among rest name parts.0)

@@ -1,5 +1,5 @@
 -- The operators of a file's lines.
-use Rattle.std.proofs.Common.{◌≡◌, Bool, ℕ, ◌≤◌, ◌<◌, ◌^◌, ◌++◌, List, [], ◌∷◌, length, map, codes, ap, ap₂, sym, ◌∙◌, subst, arith}
+use Rattle.std.proofs.Common.{◌≡◌, Bool, ℕ, ◌≤◌, ◌<◌, ◌^◌, ◌++◌, List, [], ◌∷◌, length, map, codes, ap, sym, ◌∙◌, subst, arith}
 use Rattle.std.specs.List.{AllByRecursion}
 use Rattle.psg_terms.specs.Names.{Name}
 use Rattle.psg_terms.specs.Signature.{AreSorts}
@@ -33,9 +33,12 @@ module _ (def : Definition) where
   columns-inside : AreInside def → (xs : List Item) (sorts : List ℕ) → AreColumns def (part_items xs) sorts
       → AreSorts def.signature sorts
   columns-inside inside [] sorts e = subst (AreSorts def.signature) (sym e) tt
-  columns-inside inside (made.Slot k ∷ xs) sorts (s, more, e, sort, h) = subst (AreSorts def.signature) (sym e) (kind-inside def inside k s sort, columns-inside inside xs more h)
-  columns-inside inside (made.Refers n ∷ xs) sorts (s, more, e, sort, h) = subst (AreSorts def.signature) (sym e) (space-inside def inside n s sort, columns-inside inside xs more h)
-  columns-inside inside (made.Declares n ∷ xs) sorts (s, more, e, sort, h) = subst (AreSorts def.signature) (sym e) (space-inside def inside n s sort, columns-inside inside xs more h)
+  columns-inside inside (made.Slot k ∷ xs) sorts (s, more, e, sort, h) =
+      subst (AreSorts def.signature) (sym e) (kind-inside def inside k s sort, columns-inside inside xs more h)
+  columns-inside inside (made.Refers n ∷ xs) sorts (s, more, e, sort, h) =
+      subst (AreSorts def.signature) (sym e) (space-inside def inside n s sort, columns-inside inside xs more h)
+  columns-inside inside (made.Declares n ∷ xs) sorts (s, more, e, sort, h) =
+      subst (AreSorts def.signature) (sym e) (space-inside def inside n s sort, columns-inside inside xs more h)
   columns-inside inside (i ∷ xs) sorts h = columns-inside inside xs sorts h
 
   items-are : (xs : List Item) (sorts : List ℕ) → AreColumns def (part_items xs) sorts
@@ -53,40 +56,54 @@ module _ (def : Definition) where
   operator-long : (name phylum : Name) (scope : Bool) (level : Level) (parts : List LineItem)
       → total (map item_part parts) ≤ total (parts_of (lines.Operator name phylum scope level parts))
   operator-long name phylum scope level parts =
-      omega (arith, total-append (word_if scope (codes "scope")) (level_parts level ++ (codes "=" ∷ map item_part parts)), total-append (level_parts level) (codes "=" ∷ map item_part parts))
+      omega (
+        arith,
+        total-append (word_if scope (codes "scope")) (level_parts level ++ (codes "=" ∷ map item_part parts)),
+        total-append (level_parts level) (codes "=" ∷ map item_part parts),
+      )
 
   pub operators-sound : IsSoundSignature def.signature → AreInside def → (file : List Line) (all : List Operator)
       → lines_total file < 2 ^ 32 → AllByRecursion HasForm file → AreOperators def file all
       → AllByRecursion (IsOperator def) all
   operators-sound sound inside [] all limit form e = subst (AllByRecursion (IsOperator def)) (sym e) tt
-  operators-sound sound inside (lines.Operator name phylum scope level parts ∷ behind) all limit form (op, rest, e, h, hs) =
+  operators-sound sound inside (lines.Operator n p scope level parts ∷ behind) all limit form (op, rest, e, h, hs) =
+      let there = kind-inside def inside (kinds.Phylum op.phylum) h.sort h.phylum_sort in
+      let columns = columns-inside inside op.items h.columns h.are_columns in
       subst (AllByRecursion (IsOperator def)) (sym e) (
         record {
           name = subst IsOwnName (sym h.named) form.0.0;
           level = subst IsLevel (sym h.same_level) form.0.2;
           sort = h.sort;
           phylum_sort = h.phylum_sort;
-          few_items = omega (arith, items-length parts op.items h.each_item, items-long parts form.0.4, operator-long name phylum scope level parts);
+          few_items = omega (
+            arith,
+            items-length parts op.items h.each_item,
+            items-long parts form.0.4,
+            operator-long n p scope level parts,
+          );
           few_rows = omega (arith, few-rows def sound h.sort h.columns behind op.rows h.each_row, few-lines behind);
           each_item = items-are op.items h.columns h.are_columns;
           columns = h.columns;
           are_columns = h.are_columns;
-          each_row = rows-are def sound h.sort h.columns behind op.rows (kind-inside def inside (kinds.Phylum op.phylum) h.sort h.phylum_sort) (columns-inside inside op.items h.columns h.are_columns) h.each_row;
+          each_row = rows-are def sound h.sort h.columns behind op.rows there columns h.each_row;
         },
         operators-sound sound inside behind rest (omega arith) form.1 hs,
       )
-  operators-sound sound inside (line ∷ behind) all limit form h = operators-sound sound inside behind all (omega arith) form.1 h
+  operators-sound sound inside (line ∷ behind) all limit form h =
+      operators-sound sound inside behind all (omega arith) form.1 h
 
   pub few-operators : (file : List Line) (all : List Operator) → AreOperators def file all → length all ≤ length file
   few-operators [] all e = omega (arith, ap length e)
-  few-operators (lines.Operator name phylum scope level parts ∷ behind) all (op, rest, e, h, hs) = omega (arith, ap length e, few-operators behind rest hs)
+  few-operators (lines.Operator name phylum scope level parts ∷ behind) all (op, rest, e, h, hs) =
+      omega (arith, ap length e, few-operators behind rest hs)
   few-operators (line ∷ behind) all h = omega (arith, few-operators behind all h)
 
   pub operators-named : (file : List Line) (all : List Operator) → AreOperators def file all
       → map operator_name all ≡ operator_names file
   operators-named [] all e = ap (map operator_name) e
   operators-named (lines.Operator name phylum scope level parts ∷ behind) all (op, rest, e, h, hs) =
-      ap (map operator_name) e ∙ cons-same op.name name (map operator_name rest) (operator_names behind) h.named (operators-named behind rest hs)
+      let more = operators-named behind rest hs in
+      ap (map operator_name) e ∙ cons-same op.name name (map operator_name rest) (operator_names behind) h.named more
   operators-named (line ∷ behind) all h = operators-named behind all h
 
   abbrev HasColumns : Operator → Type 0
@@ -94,7 +111,8 @@ module _ (def : Definition) where
 
   each-columns : (file : List Line) (all : List Operator) → AreOperators def file all → AllByRecursion HasColumns all
   each-columns [] all e = subst (AllByRecursion HasColumns) (sym e) tt
-  each-columns (lines.Operator name phylum scope level parts ∷ behind) all (op, rest, e, h, hs) = subst (AllByRecursion HasColumns) (sym e) ((h.columns, h.are_columns), each-columns behind rest hs)
+  each-columns (lines.Operator name phylum scope level parts ∷ behind) all (op, rest, e, h, hs) =
+      subst (AllByRecursion HasColumns) (sym e) ((h.columns, h.are_columns), each-columns behind rest hs)
   each-columns (line ∷ behind) all h = each-columns behind all h
 
   pub have-columns : (file : List Line) → AreOperators def file def.operators → HaveColumns def

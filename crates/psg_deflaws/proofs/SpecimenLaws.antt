@@ -1,5 +1,5 @@
 -- A specimen as it is written is a tree of its kind.
-use Rattle.std.proofs.Common.{◌≡◌, inl, inr, ℕ, ◌≤◌, ◌<◌, ◌^◌, List, [], ◌∷◌, ◌++◌, length, map, Option, Some, None, slice_get, refl, ap, sym, ◌∙◌, subst, append-nil, append_assoc, arith}
+use Rattle.std.proofs.Common.{◌≡◌, inl, inr, ℕ, ◌+◌, ◌≤◌, ◌<◌, ◌^◌, List, [], ◌∷◌, ◌++◌, length, map, Option, Some, None, slice_get, refl, ap, sym, ◌∙◌, subst, append-nil, append_assoc, arith}
 use Rattle.std.proofs.lemmas.Bool.{false≢true}
 use Rattle.std.proofs.lemmas.List.{map-append}
 use Rattle.std.specs.List.{AllByRecursion}
@@ -50,11 +50,14 @@ pub record AreInside (def : Definition) : Type 0 where
   pub spaces : AllByRecursion (HasSpaceInside def) def.spaces
 
 pub kind-inside : (def : Definition) → AreInside def → (kind : Kind) (s : ℕ) → HasKindSort def kind s → IsInside def s
-kind-inside def inside (kinds.Phylum p) s (k, at, e) = subst (IsInside def) e (each_at (HasPhylumInside def) def.phyla inside.phyla p k at)
-kind-inside def inside (kinds.List l) s (k, at, e) = subst (IsInside def) e (each_at (HasListInside def) def.lists inside.lists l k at)
+kind-inside def inside (kinds.Phylum p) s (k, at, e) =
+    subst (IsInside def) e (each_at (HasPhylumInside def) def.phyla inside.phyla p k at)
+kind-inside def inside (kinds.List l) s (k, at, e) =
+    subst (IsInside def) e (each_at (HasListInside def) def.lists inside.lists l k at)
 
 pub space-inside : (def : Definition) → AreInside def → (n s : ℕ) → HasSpaceSort def n s → IsInside def s
-space-inside def inside n s (k, at, e) = subst (IsInside def) e (each_at (HasSpaceInside def) def.spaces inside.spaces n k at)
+space-inside def inside n s (k, at, e) =
+    subst (IsInside def) e (each_at (HasSpaceInside def) def.spaces inside.spaces n k at)
 
 -- a list is there
 abbrev pub IsThere : Definition → Kind → Type 0
@@ -66,7 +69,8 @@ IsSlotThere def _ = Unit {0}
 
 pub kind-there : (def : Definition) (kind : Kind) (s : ℕ) → HasKindSort def kind s → IsThere def kind
 kind-there def (kinds.Phylum p) s h l e = absurd (cc)
-kind-there def (kinds.List m) s (k, at, sort) l e = let same : m ≡ l = cc in (k, subst (λ n. slice_get def.lists n ≡ Some k) same at)
+kind-there def (kinds.List m) s (k, at, sort) l e =
+    let same : m ≡ l = cc in (k, subst (λ n. slice_get def.lists n ≡ Some k) same at)
 
 slots-there : (def : Definition) (xs : List Item) (sorts : List ℕ) → AreColumns def (part_items xs) sorts
     → AllByRecursion (IsSlotThere def) (part_items xs)
@@ -85,15 +89,20 @@ slots-there def (made.Out ∷ xs) sorts h = slots-there def xs sorts h
 
 -- the operators' columns are of sorts that are there
 abbrev pub HaveColumns : Definition → Type 0
-HaveColumns def = (o : ℕ) (op : Operator) → slice_get def.operators o ≡ Some op → (sorts : List ℕ) × AreColumns def (part_items op.items) sorts
+HaveColumns def =
+    (o : ℕ) (op : Operator) → slice_get def.operators o ≡ Some op
+    → (sorts : List ℕ) × AreColumns def (part_items op.items) sorts
 
 -- a part's front has its form and no more elements
 abbrev IsBelow : WrittenTree → WrittenTree → Type 0
 IsBelow front w = HasTreeForm front × (weight front ≤ weight w)
 
-module _ (def : Definition) (sound : IsSoundSignature def.signature) (inside : AreInside def) (columns : HaveColumns def) (names : List Name) where
+module _ (def : Definition) (sound : IsSoundSignature def.signature) (inside : AreInside def)
+    (columns : HaveColumns def) (names : List Name) where
   place-is : (n : Name) (t : WrittenTerm) (h : SpecimenHole) → IsPlace def names n t h → IsHolePlace def h
-  place-is n t h p = (p.sort, p.kind_sort, term-takes def.signature sound names t [] p.sort h.term (kind-inside def inside h.kind p.sort p.kind_sort) p.of_term)
+  place-is n t h p =
+      let within = kind-inside def inside h.kind p.sort p.kind_sort in
+      (p.sort, p.kind_sort, term-takes def.signature sound names t [] p.sort h.term within p.of_term)
 
   -- what is in front of a part, and of all parts
   part-below : (i : Item) (p : SpecimenPart) (front next : WrittenTree) → IsPart def names i p front next
@@ -105,7 +114,10 @@ module _ (def : Definition) (sound : IsSoundSignature def.signature) (inside : A
   part-below (made.Declares x) (NamePart n) front next e form =
       let whole : HasTreeForm (with_name front n) = subst HasTreeForm e form in (whole.1, omega (arith, ap weight e))
   part-below made.Number (Number v) front next (digits, value, e) form =
-      let whole : HasTreeForm (with_number front digits) = subst HasTreeForm e form in (whole.1, omega (arith, ap weight e))
+      let whole : HasTreeForm (with_number front digits) = subst HasTreeForm e form in (
+        whole.1,
+        omega (arith, ap weight e),
+      )
   part-below made.Text (Text t) front next e form =
       let whole : HasTreeForm (with_text front t) = subst HasTreeForm e form in (whole.1, omega (arith, ap weight e))
   part-below _ _ front next h form = absurd h
@@ -139,7 +151,8 @@ module _ (def : Definition) (sound : IsSoundSignature def.signature) (inside : A
 
   kinds-two : (hs more : List SpecimenHole) (left : List Kind)
       → kinds_in (hs ++ more) ++ left ≡ kinds_in hs ++ (kinds_in more ++ left)
-  kinds-two hs more left = ap (λ ks. ks ++ left) (map-append (kind_of def) hs more) ∙ append_assoc (kinds_in hs) (kinds_in more) left
+  kinds-two hs more left =
+      ap (λ ks. ks ++ left) (map-append (kind_of def) hs more) ∙ append_assoc (kinds_in hs) (kinds_in more) left
 
   -- what holds of a specimen of the kind
   record IsTreeOf (kind : Kind) (s : Specimen) : Type 0 where
@@ -167,28 +180,31 @@ module _ (def : Definition) (sound : IsSoundSignature def.signature) (inside : A
     named : (f : Fragment) → HasSpecimenNames f → HasSpecimenNames (with_row f parts)
     places : AllByRecursion (IsHolePlace def) (holes_of_row parts)
 
-  record AreElements {m : _} (l : ℕ) (elements : Row_of-Specimen m) (rest : Option SpecimenHole) (count : ℕ) : Type 0 where
-    fits : (left : List Kind)
-        → Fits (list_tree l elements rest) [] (kinds.List l) (element_kinds elements rest ++ left) left
-    rests : ListHasOwnRests elements
-    own : IsRestOf l rest
-    short : length (children_of (list_tree l elements rest)) ≤ count
-    few : HasShortLists (list_tree l elements rest)
-    named : HasSpecimenNames (list_tree l elements rest)
-    places : AllByRecursion (IsHolePlace def) (holes_of_list elements rest)
+  record AreElements {m : _} (l : ℕ) (elements : Row_of-Specimen m) (rest : Option SpecimenHole) (count : ℕ) : Type 0
+    where
+      fits : (left : List Kind)
+          → Fits (list_tree l elements rest) [] (kinds.List l) (element_kinds elements rest ++ left) left
+      rests : ListHasOwnRests elements
+      own : IsRestOf l rest
+      short : length (children_of (list_tree l elements rest)) ≤ count
+      few : HasShortLists (list_tree l elements rest)
+      named : HasSpecimenNames (list_tree l elements rest)
+      places : AllByRecursion (IsHolePlace def) (holes_of_list elements rest)
 
   part-then : {m : _} (i : Item) (wanted : List Item) (p : SpecimenPart) (rest : Row_of-SpecimenPart m) → IsPartOf i p
       → AreAllParts wanted rest → AreAllParts (i ∷ wanted) (more_of-SpecimenPart p rest)
   part-then i wanted p rest first behind = record {
     fits = λ f kind places left h. behind.fits (part_of p f) kind places left
-        (first.fits f wanted kind places (part_kinds rest ++ left) (subst (Fits f (i ∷ wanted) kind places) (kinds-two (holes_of_part p) (holes_of_row rest) left) h));
+        (first.fits f wanted kind places (part_kinds rest ++ left)
+        (subst (Fits f (i ∷ wanted) kind places) (kinds-two (holes_of_part p) (holes_of_row rest) left) h));
     rests = (first.rests, behind.rests);
     few = λ f h. behind.few (part_of p f) (first.few f h);
     named = λ f h. behind.named (part_of p f) (first.named f h);
     places = all-append (IsHolePlace def) (holes_of_part p) (holes_of_row rest) first.places behind.places;
   }
 
-  element-then : {m : _} (l count more : ℕ) (list : ListKind) (s : Specimen) (elements : Row_of-Specimen m) (rest : Option SpecimenHole)
+  element-then : {m : _} (l count more : ℕ) (list : ListKind) (s : Specimen) (elements : Row_of-Specimen m)
+      (rest : Option SpecimenHole)
       → slice_get def.lists l ≡ Some list → IsTreeOf (kinds.Phylum list.element) s → AreElements l elements rest more
       → more < count → count < 2 ^ 32 → AreElements l (more_of-Specimen s elements) rest count
   element-then l count more list s elements rest at first behind below limit = record {
@@ -198,7 +214,9 @@ module _ (def : Definition) (sound : IsSoundSignature def.signature) (inside : A
       element_kinds elements rest ++ left,
       list,
       at,
-      subst (λ places. Fits (tree_of s) [] (kinds.Phylum list.element) places (element_kinds elements rest ++ left)) (sym (kinds-two (holes_of s) (holes_of_list elements rest) left)) (first.fits (element_kinds elements rest ++ left)),
+      subst (λ places. Fits (tree_of s) [] (kinds.Phylum list.element) places (element_kinds elements rest ++ left))
+          (sym (kinds-two (holes_of s) (holes_of_list elements rest) left))
+          (first.fits (element_kinds elements rest ++ left)),
       behind.fits left,
     );
     rests = (first.rests, behind.rests);
@@ -235,7 +253,9 @@ module _ (def : Definition) (sound : IsSoundSignature def.signature) (inside : A
     tree-is : (s : Specimen) (kind : Kind) (w : WrittenTree) → IsThere def kind → HasTreeForm w → weight w < 2 ^ 32
         → IsTree def names kind s w → IsTreeOf kind s
     tree-is (Op' o shape parts) kind w there form limit (n, op, (at, name), of, h) =
-        let all = parts-are (part_items op.items) parts (operator n) w (slots-there def op.items (columns o op at).0 (columns o op at).1) form limit h in
+        let (sorts, are) = columns o op at in
+        let slots = slots-there def op.items sorts are in
+        let all = parts-are (part_items op.items) parts (operator n) w slots form limit h in
         record {
           fits = λ left. all.fits (Fragment.operator o) kind (part_kinds parts ++ left) left (refl, op, at, refl, of);
           rests = all.rests;
@@ -247,7 +267,8 @@ module _ (def : Definition) (sound : IsSoundSignature def.signature) (inside : A
         let (list, at) = there l is in
         let all = elements-are l list elements rest w at form limit h in
         record {
-          fits = λ left. subst (λ k. Fits (list_tree l elements rest) [] k (element_kinds elements rest ++ left) left) (sym is) (all.fits left);
+          fits = λ left. subst (λ k. Fits (list_tree l elements rest) [] k (element_kinds elements rest ++ left) left)
+              (sym is) (all.fits left);
           rests = (all.own, all.rests);
           few = all.few;
           named = all.named;
@@ -275,37 +296,65 @@ module _ (def : Definition) (sound : IsSoundSignature def.signature) (inside : A
         }
     part-is (made.Refers x) (NamePart n) front next there form limit e =
         let whole : HasTreeForm (with_name front n) = subst HasTreeForm e form in
-        record { fits = λ f more kind places left h. inl (x, h); rests = tt; few = λ f h. h; named = λ f h. (h, whole.2); places = tt }
+        record {
+          fits = λ f more kind places left h. inl (x, h);
+          rests = tt;
+          few = λ f h. h;
+          named = λ f h. (h, whole.2);
+          places = tt;
+        }
     part-is (made.Declares x) (NamePart n) front next there form limit e =
         let whole : HasTreeForm (with_name front n) = subst HasTreeForm e form in
-        record { fits = λ f more kind places left h. inr (x, h); rests = tt; few = λ f h. h; named = λ f h. (h, whole.2); places = tt }
+        record {
+          fits = λ f more kind places left h. inr (x, h);
+          rests = tt;
+          few = λ f h. h;
+          named = λ f h. (h, whole.2);
+          places = tt;
+        }
     part-is made.Number (Number v) front next there form limit (digits, value, e) =
         let whole : HasTreeForm (with_number front digits) = subst HasTreeForm e form in
-        record { fits = λ f more kind places left h. (h, subst (λ n. n < 2 ^ 128) value whole.3); rests = tt; few = λ f h. h; named = λ f h. h; places = tt }
+        record {
+          fits = λ f more kind places left h. (h, subst (λ n. n < 2 ^ 128) value whole.3);
+          rests = tt;
+          few = λ f h. h;
+          named = λ f h. h;
+          places = tt;
+        }
     part-is made.Text (Text t) front next there form limit e =
         let whole : HasTreeForm (with_text front t) = subst HasTreeForm e form in
-        record { fits = λ f more kind places left h. (h, whole.2.utf8); rests = tt; few = λ f h. h; named = λ f h. h; places = tt }
+        record {
+          fits = λ f more kind places left h. (h, whole.2.utf8);
+          rests = tt;
+          few = λ f h. h;
+          named = λ f h. h;
+          places = tt;
+        }
     part-is _ _ front next there form limit h = absurd h
 
     parts-are : {m : _} (wanted : List Item) (parts : Row_of-SpecimenPart m) (front w : WrittenTree)
         → AllByRecursion (IsSlotThere def) wanted → HasTreeForm w → weight w < 2 ^ 32
         → AreParts def names wanted parts front w → AreAllParts wanted parts
-    parts-are [] end_of-SpecimenPart front w there form limit e = record { fits = λ f kind places left h. h; rests = tt; few = λ f h. h; named = λ f h. h; places = tt }
+    parts-are [] end_of-SpecimenPart front w there form limit e =
+        record { fits = λ f kind places left h. h; rests = tt; few = λ f h. h; named = λ f h. h; places = tt }
     parts-are [] (more_of-SpecimenPart p rest) front w there form limit h = absurd h
     parts-are (i ∷ wanted) end_of-SpecimenPart front w there form limit h = absurd h
     parts-are (i ∷ wanted) (more_of-SpecimenPart p rest) front w there form limit (next, h, hs) =
         let below = parts-below wanted rest next w hs form in
-        part-then i wanted p rest (part-is i p front next there.0 below.0 (omega (arith, below.1)) h) (parts-are wanted rest next w there.1 form limit hs)
+        let first = part-is i p front next there.0 below.0 (omega (arith, below.1)) h in
+        part-then i wanted p rest first (parts-are wanted rest next w there.1 form limit hs)
 
-    elements-are : {m : _} (l : ℕ) (list : ListKind) (elements : Row_of-Specimen m) (rest : Option SpecimenHole) (w : WrittenTree)
+    elements-are : {m : _} (l : ℕ) (list : ListKind) (elements : Row_of-Specimen m) (rest : Option SpecimenHole)
+        (w : WrittenTree)
         → slice_get def.lists l ≡ Some list → HasTreeForm w → weight w < 2 ^ 32
         → IsListFrom def names l elements rest w → AreElements l elements rest (weight w)
     elements-are l list end_of-Specimen rest w at form limit h = no-elements l list rest w at h
     elements-are l list (more_of-Specimen s elements) rest w at form limit (found, e, r, is, h, hs, whole) =
         let forms : HasTreeForm (element e r) = subst HasTreeForm whole form in
-        let first = tree-is s (kinds.Phylum found.element) e (λ l no. absurd (cc)) forms.1 (omega (arith, ap weight whole)) h in
-        let behind = elements-are l list elements rest r at forms.2 (omega (arith, ap weight whole)) hs in
-        element-then l (weight w) (weight r) found s elements rest is first behind (omega (arith, ap weight whole)) limit
+        let size : weight w ≡ 1 + (weight e + weight r) = ap weight whole in
+        let first = tree-is s (kinds.Phylum found.element) e (λ l no. absurd (cc)) forms.1 (omega arith) h in
+        let behind = elements-are l list elements rest r at forms.2 (omega arith) hs in
+        element-then l (weight w) (weight r) found s elements rest is first behind (omega arith) limit
 
   pub specimen-is : (s : Specimen) (kind : Kind) (w : WrittenTree) → IsThere def kind → HasTreeForm w
       → weight w < 2 ^ 32 → IsTree def names kind s w → IsSpecimen def kind s

@@ -1,5 +1,5 @@
 -- The sorts and constructors of a signature that a file spells.
-use Rattle.std.proofs.Common.{◌≡◌, ℕ, ◌+◌, ◌≤◌, ◌<◌, ◌^◌, List, [], ◌∷◌, ◌++◌, length, length-append, refl, ap, sym, subst, arith}
+use Rattle.std.proofs.Common.{◌≡◌, ℕ, ◌+◌, ◌≤◌, ◌<◌, ◌^◌, List, [], ◌∷◌, length, length-append, refl, ap, sym, subst, arith}
 use Rattle.std.specs.List.{AllByRecursion}
 use Rattle.psg_terms.specs.Names.{Name}
 use Rattle.psg_terms.specs.Signature.{Signature, Symbol}
@@ -42,7 +42,9 @@ all-small : (n : ℕ) (file : List Line) → AllByRecursion HasForm file → lin
     → AllByRecursion IsSmall (in_order n (sort_decls file))
 all-small n [] h limit = tt
 all-small n (lines.Sort d ∷ rest) h limit =
-    all-append IsSmall (with_sort n d.constructors) (in_order (n + 1) (sort_decls rest)) (constructors-small n d.constructors h.0.2 (omega arith)) (all-small (n + 1) rest h.1 (omega arith))
+    let first = constructors-small n d.constructors h.0.2 (omega arith) in
+    let more = all-small (n + 1) rest h.1 (omega arith) in
+    all-append IsSmall (with_sort n d.constructors) (in_order (n + 1) (sort_decls rest)) first more
 all-small n (line ∷ rest) h limit = all-small n rest h.1 (omega arith)
 
 sort-length : (s : ℕ) (cs : List ConDecl) → length (with_sort s cs) ≡ length cs
@@ -53,7 +55,13 @@ pub few-numbered : (n : ℕ) (file : List Line) → AllByRecursion HasForm file
     → length (in_order n (sort_decls file)) ≤ lines_total file
 few-numbered n [] h = omega arith
 few-numbered n (lines.Sort d ∷ rest) h =
-    omega (arith, length-append (with_sort n d.constructors) (in_order (n + 1) (sort_decls rest)), sort-length n d.constructors, constructors-long d.constructors h.0.2, few-numbered (n + 1) rest h.1)
+    omega (
+      arith,
+      length-append (with_sort n d.constructors) (in_order (n + 1) (sort_decls rest)),
+      sort-length n d.constructors,
+      constructors-long d.constructors h.0.2,
+      few-numbered (n + 1) rest h.1,
+    )
 few-numbered n (line ∷ rest) h = omega (arith, few-numbered n rest h.1)
 
 named-length : (sorts ns : List Name) (ss : List ℕ) → AreNamed sorts ns ss → length ss ≡ length ns
@@ -81,7 +89,8 @@ spelled-short : (sorts : List Name) (cs : List Numbered) (xs : List Symbol) → 
 spelled-short sorts [] [] h k = tt
 spelled-short sorts [] (x ∷ xs) h k = absurd h
 spelled-short sorts (c ∷ cs) [] h k = absurd h
-spelled-short sorts (c ∷ cs) (x ∷ xs) h k = (omega (arith, named-length sorts c.1.args x.arguments h.0.arguments, k.0.1), spelled-short sorts cs xs h.1 k.1)
+spelled-short sorts (c ∷ cs) (x ∷ xs) h k =
+    (omega (arith, named-length sorts c.1.args x.arguments h.0.arguments, k.0.1), spelled-short sorts cs xs h.1 k.1)
 
 -- what a file says of the signature
 pub record HasSmallSignature (sig : Signature) : Type 0 where

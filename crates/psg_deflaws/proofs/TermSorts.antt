@@ -14,8 +14,10 @@ use Rattle.psg_defnumber.specs.Numbers.{IsTerm, AreTerms}
 takes-sorts : (sig : Signature) → AreClosed sig sig.symbols → (t : Term) (arguments : List ℕ) (sort : ℕ)
     → Takes sig t arguments sort → AreSorts sig arguments
 takes-sorts sig closed (terms.variable s n) arguments sort h = subst (AreSorts sig) (sym h.1) tt
-takes-sorts sig closed (terms.symbol c) arguments sort (s, at, e, _) = subst (AreSorts sig) e (closed_at sig sig.symbols c s closed at)
-takes-sorts sig closed (terms.apply f a) arguments sort (first, hf, ha) = (takes-sorts sig closed f (first ∷ arguments) sort hf).1
+takes-sorts sig closed (terms.symbol c) arguments sort (s, at, e, _) =
+    subst (AreSorts sig) e (closed_at sig sig.symbols c s closed at)
+takes-sorts sig closed (terms.apply f a) arguments sort (first, hf, ha) =
+    (takes-sorts sig closed f (first ∷ arguments) sort hf).1
 
 module _ (sig : Signature) (sound : IsSound sig) (names : List Name) where
   abbrev TakesWrittenOut : List ℕ → ℕ → Term → Type 0
@@ -24,7 +26,10 @@ module _ (sig : Signature) (sound : IsSound sig) (names : List Name) where
   pub term-takes : (w : WrittenTerm) (arguments : List ℕ) (sort : ℕ) (t : Term) → sort < length sig.sorts
       → IsTerm sig names arguments sort w t → Takes sig t arguments sort × IsWrittenOut sig t
   term-takes (variable n) arguments sort t inside (none, inl (c, only, is)) =
-      subst (TakesWrittenOut arguments sort) (sym is) (subst (λ sorts. Takes sig (terms.symbol c) sorts sort) (sym none) (sound.constant sort c inside only), tt)
+      subst (TakesWrittenOut arguments sort) (sym is) (
+        subst (λ sorts. Takes sig (terms.symbol c) sorts sort) (sym none) (sound.constant sort c inside only),
+        tt,
+      )
   term-takes (variable n) arguments sort t inside (none, inr (k, many, at, is)) =
       subst (TakesWrittenOut arguments sort) (sym is) ((inside, none, refl), many)
   term-takes (named n) arguments sort t inside (c, s, at, name, takes, of, is) =

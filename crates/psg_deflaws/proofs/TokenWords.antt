@@ -31,7 +31,8 @@ module _ (def : Definition) where
   items-fixed : (ws : List LineItem) (xs : List Item) → AllByRecursion IsFixedItem ws → AreItems def ws xs
       → AllByRecursion IsFixed xs
   items-fixed [] xs h e = subst (AllByRecursion IsFixed) (sym e) tt
-  items-fixed (w ∷ ws) xs h (i, rest, e, is, more) = subst (AllByRecursion IsFixed) (sym e) (item-fixed w i h.0 is, items-fixed ws rest h.1 more)
+  items-fixed (w ∷ ws) xs h (i, rest, e, is, more) =
+      subst (AllByRecursion IsFixed) (sym e) (item-fixed w i h.0 is, items-fixed ws rest h.1 more)
 
   abbrev HasFixed : Operator → Type 0
   HasFixed o = AllByRecursion IsFixed o.items
@@ -40,7 +41,10 @@ module _ (def : Definition) where
       → AllByRecursion HasFixed all
   operators-fixed [] all plain e = subst (AllByRecursion HasFixed) (sym e) tt
   operators-fixed (lines.Operator name phylum scope level parts ∷ behind) all plain (op, rest, e, h, hs) =
-      subst (AllByRecursion HasFixed) (sym e) (items-fixed parts op.items plain.0.words h.each_item, operators-fixed behind rest plain.1 hs)
+      subst (AllByRecursion HasFixed) (sym e) (
+        items-fixed parts op.items plain.0.words h.each_item,
+        operators-fixed behind rest plain.1 hs,
+      )
   operators-fixed (line ∷ behind) all plain h = operators-fixed behind all plain.1 h
 
   abbrev IsSeparated : ListKind → Type 0
@@ -49,8 +53,11 @@ module _ (def : Definition) where
   separators-fixed : (file behind : List Line) (all : List ListKind) → AllByRecursion IsPlain behind
       → AreLists def file behind all → AllByRecursion IsSeparated all
   separators-fixed file [] all plain e = subst (AllByRecursion IsSeparated) (sym e) tt
-  separators-fixed file (lines.List name sort elements separator on_lines unfinished ∷ behind) all plain (l, rest, e, h, hs) =
-      subst (AllByRecursion IsSeparated) (sym e) (subst IsFixedWord (sym h.same_separator) plain.0.words, separators-fixed file behind rest plain.1 hs)
+  separators-fixed file (lines.List name sort elements separator ls u ∷ behind) all plain (l, rest, e, h, hs) =
+      subst (AllByRecursion IsSeparated) (sym e) (
+        subst IsFixedWord (sym h.same_separator) plain.0.words,
+        separators-fixed file behind rest plain.1 hs,
+      )
   separators-fixed file (line ∷ behind) all plain h = separators-fixed file behind all plain.1 h
 
 pub token-words : WordsAreTokens

@@ -26,8 +26,9 @@ record IsLong (w : WrittenTree) : Type 0 where
   front : is_front w ≡ true → weight w ≤ total (opened w)
   behind : is_list w ≡ true → weight w ≤ total (follow w)
 
-long-part : (before more : List (List ℕ)) (n : ℕ) → n ≤ total before → n ≤ total (before ++ more)
-long-part before more n h = omega (arith, total-append before more)
+long-part : (f : WrittenTree) (part close : List ℕ) → weight f ≤ total (opened f)
+    → weight f ≤ total (opened f ++ part ∷ close ∷ [])
+long-part f part close h = omega (arith, total-append (opened f) (part ∷ close ∷ []))
 
 long-two : (before middle more : List (List ℕ)) (m n : ℕ) → m ≤ total before → n ≤ total middle
     → m + n ≤ total ((before ++ middle) ++ more)
@@ -44,20 +45,33 @@ is-long (with_tree f t) form =
       behind = λ e. absurd (false≢true e);
     }
 is-long (with_name f n) form =
-    let a = is-long f form.1 in
-    record { whole = long-part (opened f) ((36 ∷ n) ∷ codes ")" ∷ []) (weight f) (a.front form.0); front = λ e. long-part (opened f) ((36 ∷ n) ∷ codes "," ∷ []) (weight f) (a.front form.0); behind = λ e. absurd (false≢true e) }
+    let h = (is-long f form.1).front form.0 in
+    record {
+      whole = long-part f (36 ∷ n) (codes ")") h;
+      front = λ e. long-part f (36 ∷ n) (codes ",") h;
+      behind = λ e. absurd (false≢true e);
+    }
 is-long (with_number f d) form =
-    let a = is-long f form.1 in
-    record { whole = long-part (opened f) (d ∷ codes ")" ∷ []) (weight f) (a.front form.0); front = λ e. long-part (opened f) (d ∷ codes "," ∷ []) (weight f) (a.front form.0); behind = λ e. absurd (false≢true e) }
+    let h = (is-long f form.1).front form.0 in
+    record {
+      whole = long-part f d (codes ")") h;
+      front = λ e. long-part f d (codes ",") h;
+      behind = λ e. absurd (false≢true e);
+    }
 is-long (with_text f w) form =
-    let a = is-long f form.1 in
-    record { whole = long-part (opened f) (quoted_part w ∷ codes ")" ∷ []) (weight f) (a.front form.0); front = λ e. long-part (opened f) (quoted_part w ∷ codes "," ∷ []) (weight f) (a.front form.0); behind = λ e. absurd (false≢true e) }
+    let h = (is-long f form.1).front form.0 in
+    record {
+      whole = long-part f (quoted_part w) (codes ")") h;
+      front = λ e. long-part f (quoted_part w) (codes ",") h;
+      behind = λ e. absurd (false≢true e);
+    }
 is-long list_end form = record { whole = omega arith; front = λ e. omega arith; behind = λ e. omega arith }
 is-long (list_rest l t) form = record { whole = omega arith; front = λ e. omega arith; behind = λ e. omega arith }
 is-long (element e r) form =
     let a = is-long e form.1 in
     let b = is-long r form.2 in
-    let both : weight e + weight r ≤ total (tree_parts e ++ follow r) = omega (arith, total-append (tree_parts e) (follow r), a.whole, b.behind form.0) in
+    let size = total-append (tree_parts e) (follow r) in
+    let both : weight e + weight r ≤ total (tree_parts e ++ follow r) = omega (arith, size, a.whole, b.behind form.0) in
     record { whole = omega (arith, both); front = λ h. absurd (false≢true h); behind = λ h. omega (arith, both) }
 is-long (place k t) form = record { whole = omega arith; front = λ e. omega arith; behind = λ e. omega arith }
 
