@@ -2,7 +2,6 @@
 use Rattle.std.proofs.Common.{ℕ, ◌≤◌, ◌<◌, ◌^◌, ◌++◌, Option, Some, None, List, [], ◌∷◌, length, codes, ap, sym, subst, arith}
 use Rattle.std.specs.List.{AllByRecursion}
 use Rattle.psg_terms.specs.Names.{Name}
-use Rattle.psg_terms.specs.Terms.{Term}
 use Rattle.psg_terms.specs.Sound.{IsSound as IsSoundSignature}
 use Rattle.psg_grammar.specs.declared.types.Kind.{Kind}
 use Rattle.psg_grammar.specs.declared.types.Kind.TheVariants as kinds
@@ -63,27 +62,26 @@ module _ (def : Definition) (sound : IsSoundSignature def.signature) (inside : A
   few-cases kind sort (line ∷ behind) cases h = omega (arith, few-cases kind sort behind cases h)
 
   -- what a hole row's line, and the cases behind it, make
-  record AreCasesOf (kind : Kind) (sort : ℕ) (t : Term) (cases : List Case) : Type 0 where
-    term : IsTermOf def t sort
-    few : IsShort cases
-    each : AllByRecursion (IsCase def kind sort) cases
+  record AreCasesOf (row : HoleRow) (sort : ℕ) : Type 0 where
+    term : IsTermOf def row.term sort
+    few : IsShort row.cases
+    each : AllByRecursion (IsCase def row.kind sort) row.cases
 
-  has-cases : (kind : Kind) (sort : ℕ) (w : WrittenTerm) (specimen : Option WrittenTree) (behind : List Line)
-      (t : Term) (cases : List Case)
-      → IsThere def kind → IsInside def sort → HasFormBehindBy specimen → total (by_parts specimen) < 2 ^ 32
-      → AllByRecursion HasForm behind → lines_total behind < 2 ^ 32 → HasCases def kind sort w specimen behind t cases
-      → AreCasesOf kind sort t cases
-  has-cases kind sort w (Some tree) behind t cases there within form small forms limit (one, e, same, h) =
-      let found = case-is kind sort w tree one there within form (omega (arith, by-long tree form)) h in
+  has-cases : (row : HoleRow) (sort : ℕ) (w : WrittenTerm) (specimen : Option WrittenTree) (behind : List Line)
+      → IsThere def row.kind → IsInside def sort → HasFormBehindBy specimen → total (by_parts specimen) < 2 ^ 32
+      → AllByRecursion HasForm behind → lines_total behind < 2 ^ 32
+      → HasCases def row.kind sort w specimen behind row.term row.cases → AreCasesOf row sort
+  has-cases row sort w (Some tree) behind there within form small forms limit (one, e, same, h) =
+      let found = case-is row.kind sort w tree one there within form (omega (arith, by-long tree form)) h in
       record {
         term = subst (λ u. IsTermOf def u sort) same found.term;
         few = omega (arith, ap length e);
-        each = subst (AllByRecursion (IsCase def kind sort)) (sym e) (found, tt);
+        each = subst (AllByRecursion (IsCase def row.kind sort)) (sym e) (found, tt);
       }
-  has-cases kind sort w None behind t cases there within form small forms limit (h, hs) = record {
-    term = nil-is def sound sort w t within h;
-    few = omega (arith, few-cases kind sort behind cases hs, few-lines behind);
-    each = cases-are kind sort behind cases there within forms limit hs;
+  has-cases row sort w None behind there within form small forms limit (h, hs) = record {
+    term = nil-is def sound sort w row.term within h;
+    few = omega (arith, few-cases row.kind sort behind row.cases hs, few-lines behind);
+    each = cases-are row.kind sort behind row.cases there within forms limit hs;
   }
 
   pub hole-rows-sound : (file : List Line) (all : List HoleRow) → AllByRecursion HasForm file
@@ -93,8 +91,8 @@ module _ (def : Definition) (sound : IsSoundSignature def.signature) (inside : A
       let size = total-append (term_parts w) (by_parts specimen) in
       let there = kind-there def row.kind h.sort h.kind_sort in
       let within = kind-inside def inside row.kind h.sort h.kind_sort in
-      let found = has-cases row.kind h.sort w specimen behind row.term row.cases there within
-      form.0.2 (omega (arith, size)) form.1 (omega arith) h.has_cases in
+      let small : total (by_parts specimen) < 2 ^ 32 = omega (arith, size) in
+      let found = has-cases row h.sort w specimen behind there within form.0.2 small form.1 (omega arith) h.has_cases in
       subst (AllByRecursion (IsHoleRow def)) (sym e) (
         record {
           sort = h.sort;
@@ -117,8 +115,7 @@ module _ (def : Definition) (sound : IsSoundSignature def.signature) (inside : A
       → weight tree < 2 ^ 32 → numbers.IsDeclareRow def list entity value tree row → IsDeclareRow def row
   declare-is list entity value tree row form limit h =
       let element = kinds.Phylum h.found.element in
-      let space : HasSpaceSort def row.space h.entity_sort =
-      subst (λ n. HasSpaceSort def n h.entity_sort) (sym h.space) h.space_sort in
+      let space = subst (λ n. HasSpaceSort def n h.entity_sort) (sym h.space) h.space_sort in
       let entity-within = space-inside def inside row.space h.entity_sort space in
       let value-within = kind-inside def inside element h.value_sort h.elements_sort in
       let there = kind-there def element h.value_sort h.elements_sort in

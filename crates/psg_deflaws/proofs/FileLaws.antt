@@ -19,16 +19,18 @@ use Rattle.psg_deflaws.proofs.ListLaws.{lists-sound, few-lists, lists-named}
 use Rattle.psg_deflaws.proofs.OperatorLaws.{operators-sound, few-operators, operators-named, have-columns}
 use Rattle.psg_deflaws.proofs.CaseLaws.{hole-rows-sound, few-hole-rows, declare-rows-sound, few-declare-rows}
 
+kinds-named : (file : List Line) (def : Definition) → IsNumbered file def
+    → kind_names def ≡ phylum_names file ++ list_names file
+kinds-named file def h =
+    let phyla = phyla-named def file def.phyla h.phyla in
+    ap₂ (λ (xs ys : List Name). xs ++ ys) phyla (lists-named def file file def.lists h.lists)
+
 file-is-sound : (file : List Line) (def : Definition) → lines_total file < 2 ^ 32 → AllByRecursion HasForm file
     → IsNumbered file def → IsSoundSignature def.signature → IsSound def
 file-is-sound file def limit form h sound =
     let short : length file < 2 ^ 32 = omega (arith, few-lines file) in
     let inside = are-inside def file h in
     let columns = have-columns def file h.operators in
-    let phyla = phyla-named def file def.phyla h.phyla in
-    let lists = lists-named def file file def.lists h.lists in
-    let named : kind_names def ≡ phylum_names file ++ list_names file =
-    ap₂ (λ (xs ys : List Name). xs ++ ys) phyla lists in
     let small = small-signature file def.signature form limit short h.signature in
     record {
       signature = sound;
@@ -36,7 +38,7 @@ file-is-sound file def limit form h sound =
       constructor_names = small.constructor_names;
       spaces = space-names def file h;
       space_sorts = spaces-inside def (entity_sorts file) def.spaces h.spaces;
-      kind_names = ap has_twice named ∙ kinds-once file h.kinds_once;
+      kind_names = ap has_twice (kinds-named file def h) ∙ kinds-once file h.kinds_once;
       operator_names = ap has_twice (operators-named def file def.operators h.operators) ∙ h.operators_once;
       phyla = phyla-sound def file def.phyla form h.phyla;
       lists = lists-sound def sound inside file file def.lists short form h.lists;
