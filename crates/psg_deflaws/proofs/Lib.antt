@@ -1,0 +1,14 @@
+pub mod Lists
+pub mod TermSorts
+pub mod TreeWeights
+pub mod SpecimenLaws
+pub mod LineSizes
+pub mod SymbolLaws
+pub mod NameLaws
+pub mod KindLaws
+pub mod RowLaws
+pub mod ListLaws
+pub mod OperatorLaws
+pub mod CaseLaws
+pub mod TokenWords
+pub mod FileLaws
