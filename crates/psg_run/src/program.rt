@@ -47,12 +47,7 @@ fn play_file<F: Files, O: Sink>(
 }
 
 /// Says whether the file has a definition: `accepted`, or the line of its first fault.
-fn check<F: Files, O: Sink>(
-    alloc: Global,
-    definition: &str,
-    files: &mut F,
-    out: &mut O,
-) -> Status
+fn check<F: Files, O: Sink>(alloc: Global, definition: &str, files: &mut F, out: &mut O) -> Status
     ensures { Checks
         (record { held = F.holds files.old; entries = F.faults files.old; written = O.written out.old; count = O.faults out.old })
         (record { held = F.holds files.new; entries = F.faults files.new; written = O.written out.new; count = O.faults out.new })

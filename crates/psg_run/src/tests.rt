@@ -1,8 +1,8 @@
 // Runs of `edit` over files and a sink in memory.
 ghost use Rattle.std.specs.Prelude.{◌≡◌, ◌<◌};
 
-use crate::{Status, first, run};
-use psg_langs::CONSTS;
+use crate::{Status, run};
+use psg_langs::{CONSTS, LEVELS, MINI, TINY};
 use psg_terms::Steps;
 use psg_world::{MemFiles, MemSink};
 use std::alloc::{AllocError, Global};
@@ -155,20 +155,124 @@ fn scripts_are_answered(rt: HostRuntime) {
     }
 }
 
+fn check(alloc: Global, definition: &[u8], failing: Failing) -> Result<Run, AllocError> {
+    run_words(alloc, &["check", "lang"], definition, b"", failing)
+}
+
+#[test]
+fn definitions_are_accepted(rt: HostRuntime) {
+    let alloc = rt.alloc();
+    for definition in [CONSTS, LEVELS, MINI, TINY, BASE, "psg 1"] {
+        let run = check(alloc, definition.as_bytes(), none(alloc));
+        ends(&rt, run, Status::Done, "accepted\n");
+    }
+    // references may point to later lines
+    let early = b"psg 1\nhole P ?T by x\nsort T = a b\nphylum P : T\nop x : P = \"x\"\nrow a\n";
+    ends(
+        &rt,
+        check(alloc, early, none(alloc)),
+        Status::Done,
+        "accepted\n",
+    );
+}
+
+// A small definition whose lines each get a fault in turn.
+const BASE: &str = "psg 1\nsort T = a b\nphylum P : T\nop x : P = \"x\"\nrow a\nhole P ?T by x\n";
+
 #[test]
 fn definitions_are_refused(rt: HostRuntime) {
     let alloc = rt.alloc();
-    for definition in [
-        b"".as_slice(),
-        b"psg 2\n".as_slice(),
-        b"psg 1\nsort Type = int bool\nentity Type\n".as_slice(),
-        b"psg 1\n\xff\n".as_slice(),
-        b"psg 1\nsort Type = arr(Type)\n".as_slice(),
+    for (definition, output) in [
+        (b"".as_slice(), "line 1 code 3\n"),
+        (b"psg 3\nsort T = a b\n".as_slice(), "line 1 code 3\n"),
+        (
+            b"psg 1\nsort T = f(T)\nphylum P : T\n".as_slice(),
+            "line 2 code 12\n",
+        ),
+        (
+            b"psg 1\nsort T = a b\nphylum P : T\nop x : P = \"...\"\n".as_slice(),
+            "line 4 code 8\n",
+        ),
+        (
+            b"psg 1\nsort T = a b\nphylum P : T\nop x : P = refers\nrow a\n".as_slice(),
+            "line 4 code 9\n",
+        ),
+        (
+            b"psg 1\nsort T = a b\nphylum P : T\nop x : P = \"x\"\nrow c\n".as_slice(),
+            "line 5 code 5\n",
+        ),
+        (
+            b"psg 1\nsort T = a b\nphylum P : T\nop x : P = \"x\"\nrow a : a\n".as_slice(),
+            "line 5 code 7\n",
+        ),
+        (
+            b"psg 1\nsort T = a b\nphylum P : T\nphylum P : T\n".as_slice(),
+            "line 4 code 4\n",
+        ),
+        (
+            b"psg 1\nsort T = a b\nphylum P : T\nrow a\nop x : P = \"x\"\n".as_slice(),
+            "line 4 code 2\n",
+        ),
+        (
+            b"psg 1\nsort T = a b\nphylum P : T\xff\n".as_slice(),
+            "line 3 code 1\n",
+        ),
+        (
+            b"psg 1\nsort T = a b\nsort U = c d\nphylum P : T\nhole P c by x\nop x : P = \"x\"\n".as_slice(),
+            "line 5 code 6\n",
+        ),
+        (
+            b"psg 1\nsort T = a b\nsort U = f(T)\n".as_slice(),
+            "line 3 code 13\n",
+        ),
     ] {
+        let run = check(alloc, definition, none(alloc));
+        ends(&rt, run, Status::DefinitionRefused, output);
         let run = edit(alloc, definition, SUM.as_bytes(), none(alloc));
-        ends(&rt, run, Status::DefinitionRefused, "line 1 code 10\n");
+        ends(&rt, run, Status::DefinitionRefused, output);
     }
-    assert!(rt; first::read_definition(alloc, CONSTS.as_bytes()).is_ok());
+}
+
+#[test]
+fn other_languages_are_for_later(rt: HostRuntime) {
+    let alloc = rt.alloc();
+    for definition in [MINI, TINY] {
+        let run = edit(alloc, definition.as_bytes(), SUM.as_bytes(), none(alloc));
+        ends(&rt, run, Status::DefinitionRefused, "refused Later\n");
+    }
+}
+
+#[test]
+fn a_check_fails(rt: HostRuntime) -> Result<(), Fail> {
+    let alloc = rt.alloc();
+    let failing = Failing {
+        reads: Vec::new(alloc),
+        puts: vec![in alloc; 1]?,
+    };
+    ends(
+        &rt,
+        check(alloc, CONSTS.as_bytes(), failing),
+        Status::WriteFault,
+        "",
+    );
+    let failing = Failing {
+        reads: vec![in alloc; 1]?,
+        puts: Vec::new(alloc),
+    };
+    ends(
+        &rt,
+        check(alloc, CONSTS.as_bytes(), failing),
+        Status::ReadFault,
+        "",
+    );
+    let long = filled(alloc, CONSTS, b'\n', 1_048_577)?;
+    ends(
+        &rt,
+        check(alloc, long.as_slice(), none(alloc)),
+        Status::TooLong,
+        "",
+    );
+    Ok(())
 }
 
 #[test]
@@ -230,6 +334,9 @@ fn other_words_have_no_form(rt: HostRuntime) {
     has_no_form(&rt, alloc, &["edit", "lang"]);
     has_no_form(&rt, alloc, &["edit", "lang", "script", "script"]);
     has_no_form(&rt, alloc, &["Edit", "lang", "script"]);
+    has_no_form(&rt, alloc, &["check"]);
+    has_no_form(&rt, alloc, &["check", "lang", "script"]);
+    has_no_form(&rt, alloc, &["edit", "check"]);
     has_no_form(&rt, alloc, &["--help"]);
     assert!(rt; Status::TooLong.code() == 6);
 }

@@ -7,7 +7,9 @@ ghost use Rattle.psg_run.specs.Wanted.{HasNoForm, IsWanted};
 #[derive(Drop)]
 pub enum Form<'a> {
     /// `check DEF`
-    Check { definition: &'a str },
+    Check {
+        definition: &'a str,
+    },
     /// `edit DEF SCRIPT`
     Edit {
         definition: &'a str,
