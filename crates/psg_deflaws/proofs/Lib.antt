@@ -12,3 +12,10 @@ pub mod OperatorLaws
 pub mod CaseLaws
 pub mod TokenWords
 pub mod FileLaws
+pub mod OnceNames
+pub mod OnceTerms
+pub mod OnceTrees
+pub mod OnceSignature
+pub mod OnceKinds
+pub mod OnceRows
+pub mod OnceWhole

@@ -30,7 +30,7 @@ pub fn read_definition(alloc: Global, bytes: &[u8]) -> Result<Definition, ReadFa
         return Err(ReadFault::Def(fault));
     }
     let definition = numbered(alloc, entries.as_slice())?;
-    one_numbering()?;
+    one_numbering();
     numbered_is_sound();
     words_are_tokens();
     Ok(definition)
