@@ -11,6 +11,9 @@ mod ItemLaws
 mod LineInverses
 mod Lists
 mod Options
+mod NumberLaws
+mod PieceLaws
+mod PlaceLaws
 mod PartLaws
 mod PartReads
 mod QuoteLaws
@@ -23,7 +26,12 @@ mod TermFormLaws
 mod TermFormReads
 mod TermFound
 mod TermWalkLaws
+mod TreeFitLaws
+mod TreeFound
+mod TreeLeads
+mod TreeMoves
 mod TreeOverLaws
+mod TreeStageLaws
 mod TreeWalkLaws
 mod WrittenLaws
 mod LineTextLaws

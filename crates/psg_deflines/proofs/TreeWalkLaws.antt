@@ -26,7 +26,7 @@ leads-same : (t u : WrittenTerm) (r q : Parts) (s : terms.Stage) (ps : Parts) �
 leads-same t u r q s ps ends k = let e = leads-end u q s ps k t refl in (sym e.0, sym e.1)
 leads-same t u r q s ps (goes s2 n2 p2 b2 step l) k = leads-same t u r q n2 b2 l (leads-next u q s2 p2 k n2 b2 step)
 
-not-opened-close : (ps : Parts) → IsNotOpened (codes ")" ∷ ps)
+pub not-opened-close : (ps : Parts) → IsNotOpened (codes ")" ∷ ps)
 not-opened-close ps rest e = omega (arith, ap (λ x. byte_of (first_of x)) e)
 
 pub terms-same : (t u : WrittenTerm) (r q : Parts) → HasTermForm t → HasTermForm u → term_parts t ++ (codes ")" ∷ r) ≡ term_parts u ++ (codes ")" ∷ q) → (t ≡ u) × (r ≡ q)
@@ -36,7 +36,7 @@ terms-same t u r q h k e =
     let same = leads-same t u (codes ")" ∷ r) (codes ")" ∷ q) (terms.expects []) (term_parts t ++ (codes ")" ∷ r)) a (subst (Leads u (codes ")" ∷ q) (terms.expects [])) (sym e) b) in
     (same.0, ap rest_of same.1)
 
-place-whole : (k : Name) (t : WrittenTerm) (rest : Parts) → place_parts k t ++ rest ≡ codes "hole" ∷ codes "(" ∷ k ∷ codes "," ∷ (term_parts t ++ (codes ")" ∷ rest))
+pub place-whole : (k : Name) (t : WrittenTerm) (rest : Parts) → place_parts k t ++ rest ≡ codes "hole" ∷ codes "(" ∷ k ∷ codes "," ∷ (term_parts t ++ (codes ")" ∷ rest))
 place-whole k t rest = ap (λ x. codes "hole" ∷ codes "(" ∷ k ∷ codes "," ∷ x) (append_assoc (term_parts t) (codes ")" ∷ []) rest)
 
 pub place-same : (k l : Name) (t u : WrittenTerm) (r q : Parts) → HasTermForm t → HasTermForm u → place_parts k t ++ r ≡ place_parts l u ++ q → (k ≡ l) × (t ≡ u) × (r ≡ q)
@@ -92,13 +92,13 @@ tag_by a b c =
 abbrev tag : Parts → ℕ
 tag ps = tag_by (first_of ps) (first_of (rest_of ps)) (first_of (rest_of (rest_of ps)))
 
-differ : (v w : List ℕ) → (v ≡ w → ⊥) → bytes_eq v w ≡ false
+pub differ : (v w : List ℕ) → (v ≡ w → ⊥) → bytes_eq v w ≡ false
 differ v w h = elim (cases_Bool (bytes_eq v w)) [ inl e ↦ absurd (h ((bytes_eq-Decides v w).0 e)) | inr e ↦ e ]
 
-own-no_list : (o : Name) → IsOwnName o → bytes_eq o (codes "[") ≡ false
+pub own-no_list : (o : Name) → IsOwnName o → bytes_eq o (codes "[") ≡ false
 own-no_list o h = differ o (codes "[") (λ e. false≢true (subst IsOwnName e h))
 
-literal-no_list : (l : LinePart) → IsLiteral l → bytes_eq (literal_part l) (codes "[") ≡ false
+pub literal-no_list : (l : LinePart) → IsLiteral l → bytes_eq (literal_part l) (codes "[") ≡ false
 literal-no_list (parts.Tree t) h = absurd h
 literal-no_list (parts.Name n) h = refl
 literal-no_list (parts.Number d) h = differ d (codes "[") (λ e. not-digit d 91 h.0 (ap byte_of e) refl)
@@ -114,7 +114,7 @@ between-bounds low high c h = let both = and_parts (nat_le low c) (nat_le c high
 lower-digit : (c : ℕ) → is_digit c ≡ true → is_lower c ≡ false
 lower-digit c h = elim (cases_Bool (is_lower c)) [ inr e ↦ e | inl e ↦ absurd (omega (arith, (between-bounds 48 57 c h), (between-bounds 97 122 c e))) ]
 
-literal-no_own : (l : LinePart) → IsLiteral l → is_name_from is_lower (literal_part l) ≡ false
+pub literal-no_own : (l : LinePart) → IsLiteral l → is_name_from is_lower (literal_part l) ≡ false
 literal-no_own (parts.Tree t) h = absurd h
 literal-no_own (parts.Name n) h = refl
 literal-no_own (parts.Number d) h = not-own d (lower-digit (byte_of d) (digits-byte d h.0))

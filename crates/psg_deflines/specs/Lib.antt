@@ -22,4 +22,6 @@ pub mod TailReads
 pub mod LineReads
 pub mod EntryReads
 pub mod TreeWalks
+pub mod TreePieces
+pub mod TreeStages
 pub mod LineTexts

@@ -9,6 +9,18 @@
 //! order in which they first occur in their own line.
 #![tactic(auto)]
 
+mod found;
+mod holes;
+mod kinds;
+mod list_rows;
+mod lookups;
+mod names;
 pub mod numbering;
+mod operators;
+mod rows;
+mod signatures;
+mod specimens;
+mod terms;
+mod variables;
 
 pub use numbering::numbered;

@@ -1,0 +1,55 @@
+use Rattle.std.proofs.Common.{rules, ℕ, ◌≤◌, length, drop, refl, sym, ◌∙◌, subst, arith, ◌+◌, ◌≡◌, false}
+use Rattle.std.proofs.lemmas.Bool.{false≢true}
+use Rattle.psg_deflines.specs.Parts.{texts}
+use Rattle.psg_deflines.specs.TreeStages.{IsTreeAdvanced, IsTreeStepMade, HasNoTreeStep, is_deep, IsTreeDone}
+use Rattle.psg_deflines.specs.declared.tree_reading.TreeWalk.{TreeWalk}
+use Rattle.psg_deflines.proofs.Options.{when-some, when-none}
+use Rattle.psg_deflines.proofs.TermFound.{texts-from, texts-length}
+use Rattle.psg_deflines.proofs.TreeFound.{IsTreeWalked, walked-start, walked-more, walked-none, walked-done, made-longer}
+use Rattle.psg_deflines.proofs.tree_reading.line_tree.Goals as goal
+
+pub steps-init : goal.steps-init
+steps-init c = (omega arith, walked-start (texts c.args.parts.now) _ c.new.ensures.items refl)
+
+pub returns-in_default : goal.returns-in_default
+returns-in_default c =
+    let h = c.steps.invariant.1 in
+    let ps = texts c.args.parts.now in
+    let none : HasNoTreeStep h.stage (drop c.steps.taken ps) =
+    when-none (HasNoTreeStep h.stage (drop c.steps.taken ps)) (λ (r : TreeWalk × ℕ). IsTreeStepMade h.stage (is_deep c.steps.walk) (drop c.steps.taken ps) r.0 r.1) c.in_ok-next.field-0 c.in_default.is
+    (subst (λ xs. IsTreeAdvanced h.stage (is_deep c.steps.walk) xs c.in_ok-next.field-0) (texts-from c.args.parts.now c.steps.taken) (c.in_ok-next.ensures h.stage h.shown)) in
+    walked-none ps c.steps.walk c.steps.taken h (λ d. false≢true (sym c.steps-test.true ∙ c.is_done.ensures.1 d)) none
+
+pub steps-preserved : goal.steps-preserved
+steps-preserved c =
+    let h = c.steps.invariant.1 in
+    let ps = texts c.args.parts.now in
+    let made : IsTreeStepMade h.stage (is_deep c.steps.walk) (drop c.steps.taken ps) c.in-Some.next c.in-Some.more =
+    when-some (HasNoTreeStep h.stage (drop c.steps.taken ps)) (λ (r : TreeWalk × ℕ). IsTreeStepMade h.stage (is_deep c.steps.walk) (drop c.steps.taken ps) r.0 r.1) c.in_ok-next.field-0 (c.in-Some.next, c.in-Some.more) c.in-Some.is
+    (subst (λ xs. IsTreeAdvanced h.stage (is_deep c.steps.walk) xs c.in_ok-next.field-0) (texts-from c.args.parts.now c.steps.taken) (c.in_ok-next.ensures h.stage h.shown)) in
+    let next = walked-more ps c.steps.walk c.in-Some.next c.steps.taken c.in-Some.more h made in
+    (omega (arith, next.fits, texts-length c.args.parts.now), next)
+
+pub steps-smaller : goal.steps-smaller
+steps-smaller c =
+    let h = c.steps.invariant.1 in
+    let ps = texts c.args.parts.now in
+    let made : IsTreeStepMade h.stage (is_deep c.steps.walk) (drop c.steps.taken ps) c.in-Some.next c.in-Some.more =
+    when-some (HasNoTreeStep h.stage (drop c.steps.taken ps)) (λ (r : TreeWalk × ℕ). IsTreeStepMade h.stage (is_deep c.steps.walk) (drop c.steps.taken ps) r.0 r.1) c.in_ok-next.field-0 (c.in-Some.next, c.in-Some.more) c.in-Some.is
+    (subst (λ xs. IsTreeAdvanced h.stage (is_deep c.steps.walk) xs c.in_ok-next.field-0) (texts-from c.args.parts.now c.steps.taken) (c.in_ok-next.ensures h.stage h.shown)) in
+    let next = walked-more ps c.steps.walk c.in-Some.next c.steps.taken c.in-Some.more h made in
+    omega (arith, made-longer h.stage (is_deep c.steps.walk) (drop c.steps.taken ps) c.in-Some.next c.in-Some.more made, next.fits, texts-length c.args.parts.now)
+
+pub returns : goal.returns
+returns c = walked-done (texts c.args.parts.now) c.steps.walk _ c.steps.invariant.1 (c.is_done.ensures.0 c.steps-test.false) c.kept_tree-tree.ensures
+
+pub overflow_add-taken : goal.overflow_add-taken
+overflow_add-taken c =
+    let h = c.steps.invariant.1 in
+    let ps = texts c.args.parts.now in
+    let made : IsTreeStepMade h.stage (is_deep c.steps.walk) (drop c.steps.taken ps) c.in-Some.next c.in-Some.more =
+    when-some (HasNoTreeStep h.stage (drop c.steps.taken ps)) (λ (r : TreeWalk × ℕ). IsTreeStepMade h.stage (is_deep c.steps.walk) (drop c.steps.taken ps) r.0 r.1) c.in_ok-next.field-0 (c.in-Some.next, c.in-Some.more) c.in-Some.is
+    (subst (λ xs. IsTreeAdvanced h.stage (is_deep c.steps.walk) xs c.in_ok-next.field-0) (texts-from c.args.parts.now c.steps.taken) (c.in_ok-next.ensures h.stage h.shown)) in
+    let next = walked-more ps c.steps.walk c.in-Some.next c.steps.taken c.in-Some.more h made in
+    let small : c.steps.taken + c.in-Some.more ≤ length c.args.parts.now = omega (arith, next.fits, texts-length c.args.parts.now) in
+    search (rules, small)

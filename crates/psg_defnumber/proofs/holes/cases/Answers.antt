@@ -1,0 +1,18 @@
+use Rattle.std.proofs.Common.{◌+◌, drop, refl}
+use Rattle.psg_defnumber.specs.Putting.{ReadsCases}
+use Rattle.psg_defnumber.proofs.PutLaws.{reads-next, reads-end, reads-stop}
+use Rattle.psg_defnumber.proofs.LineLaws.{cases-stop}
+use Rattle.psg_defnumber.proofs.holes.cases.Goals as goal
+
+pub returns-then-is_hole : goal.returns-then-is_hole
+returns-then-is_hole c =
+    reads-stop c.args.def.now (ReadsCases c.args.kind c.args.sort.0) c.args.behind.now c.loop-entry.entry-index c.entry-item.result c.loop-entry.made.items c.loop-entry-test.true c.entry-item.is
+    (λ full. cases-stop full c.args.kind c.args.sort.0 c.entry-item.result (drop (c.loop-entry.entry-index + 1) c.args.behind.now) (c.is_hole.ensures.0 c.if-is_hole.true)) c.loop-entry.invariant
+
+pub loop-entry-preserved : goal.loop-entry-preserved
+loop-entry-preserved c =
+    reads-next c.args.def.now (ReadsCases c.args.kind c.args.sort.0) c.args.behind.now c.loop-entry.entry-index c.entry-item.result c.loop-entry.made.items c.put_case.new.made.items c.loop-entry-test.true c.entry-item.is c.loop-entry.invariant
+    (c.in_ok-put_case.ensures (drop (c.loop-entry.entry-index + 1) c.args.behind.now))
+
+pub returns : goal.returns
+returns c = reads-end c.args.def.now (ReadsCases c.args.kind c.args.sort.0) c.args.behind.now c.loop-entry.entry-index c.loop-entry.made.items c.loop-entry-test.false (λ full. refl) c.loop-entry.invariant

@@ -1,0 +1,15 @@
+use Rattle.std.proofs.Common.{take}
+use Rattle.psg_deflines.specs.Entries.{written}
+use Rattle.psg_defnumber.proofs.ListRowLaws.{fills-none, fills-next, fills-all}
+use Rattle.psg_defnumber.proofs.list_rows.fill_lists.Goals as goal
+
+pub loop-entry-init : goal.loop-entry-init
+loop-entry-init c = fills-none c.args.def.now c.args.lists.now.items
+
+pub loop-entry-preserved : goal.loop-entry-preserved
+loop-entry-preserved c =
+    fills-next c.args.def.now c.args.entries.now c.loop-entry.entry-index c.entry-item.result c.args.lists.now.items c.loop-entry.lists.items c.put_list_row.new.lists.items c.loop-entry-test.true c.entry-item.is c.loop-entry.invariant
+    (c.in_ok-put_list_row.ensures (written (take c.loop-entry.entry-index c.args.entries.now)))
+
+pub returns : goal.returns
+returns c = fills-all c.args.def.now c.args.entries.now c.loop-entry.entry-index c.args.lists.now.items c.loop-entry.lists.items c.loop-entry-test.false c.loop-entry.invariant

@@ -1,0 +1,12 @@
+use Rattle.std.proofs.Common.{◌+◌, drop, refl}
+use Rattle.psg_defnumber.specs.Putting.{ReadsColumns}
+use Rattle.psg_defnumber.proofs.PutLaws.{reads-next, reads-end}
+use Rattle.psg_defnumber.proofs.operators.columns.Goals as goal
+
+pub loop-item-preserved : goal.loop-item-preserved
+loop-item-preserved c =
+    reads-next c.args.def.now ReadsColumns c.args.items.now c.loop-item.item-index c.item-item.result c.loop-item.sorts.items c.put_column.new.sorts.items c.loop-item-test.true c.item-item.is c.loop-item.invariant
+    (c.in_ok-put_column.ensures (drop (c.loop-item.item-index + 1) c.args.items.now))
+
+pub returns : goal.returns
+returns c = reads-end c.args.def.now ReadsColumns c.args.items.now c.loop-item.item-index c.loop-item.sorts.items c.loop-item-test.false (λ full. refl) c.loop-item.invariant

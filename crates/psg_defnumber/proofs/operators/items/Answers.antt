@@ -1,0 +1,13 @@
+use Rattle.std.proofs.Common.{◌+◌, drop, refl}
+use Rattle.psg_defnumber.specs.Putting.{ReadsItems}
+use Rattle.psg_defnumber.proofs.PutLaws.{reads-next, reads-end}
+use Rattle.psg_defnumber.proofs.LineLaws.{item-put}
+use Rattle.psg_defnumber.proofs.operators.items.Goals as goal
+
+pub loop-part-preserved : goal.loop-part-preserved
+loop-part-preserved c =
+    reads-next c.args.def.now ReadsItems c.args.parts.now c.loop-part.part-index c.part-item.result c.loop-part.made.items c.push.new.self.items c.loop-part-test.true c.part-item.is c.loop-part.invariant
+    (item-put c.args.def.now c.part-item.result (drop (c.loop-part.part-index + 1) c.args.parts.now) c.loop-part.made.items c.push.new.self.items c.in_ok-one.one c.in_ok-push.ensures.items c.in_ok-one.ensures)
+
+pub returns : goal.returns
+returns c = reads-end c.args.def.now ReadsItems c.args.parts.now c.loop-part.part-index c.loop-part.made.items c.loop-part-test.false (λ full. refl) c.loop-part.invariant

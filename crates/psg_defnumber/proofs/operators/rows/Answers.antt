@@ -1,0 +1,19 @@
+use Rattle.std.proofs.Common.{◌+◌, drop, refl}
+use Rattle.psg_terms.specs.Kept.{numbers_of}
+use Rattle.psg_defnumber.specs.Putting.{ReadsRows}
+use Rattle.psg_defnumber.proofs.PutLaws.{reads-next, reads-end, reads-stop}
+use Rattle.psg_defnumber.proofs.LineLaws.{rows-stop}
+use Rattle.psg_defnumber.proofs.operators.rows.Goals as goal
+
+pub returns-then-is_operator : goal.returns-then-is_operator
+returns-then-is_operator c =
+    reads-stop c.args.def.now (ReadsRows c.args.sort.0 (numbers_of c.args.sorts.now)) c.args.behind.now c.loop-entry.entry-index c.entry-item.result c.loop-entry.made.items c.loop-entry-test.true c.entry-item.is
+    (λ full. rows-stop full c.args.sort.0 (numbers_of c.args.sorts.now) c.entry-item.result (drop (c.loop-entry.entry-index + 1) c.args.behind.now) (c.is_operator.ensures.0 c.if-is_operator.true)) c.loop-entry.invariant
+
+pub loop-entry-preserved : goal.loop-entry-preserved
+loop-entry-preserved c =
+    reads-next c.args.def.now (ReadsRows c.args.sort.0 (numbers_of c.args.sorts.now)) c.args.behind.now c.loop-entry.entry-index c.entry-item.result c.loop-entry.made.items c.put_row.new.made.items c.loop-entry-test.true c.entry-item.is c.loop-entry.invariant
+    (c.in_ok-put_row.ensures (drop (c.loop-entry.entry-index + 1) c.args.behind.now))
+
+pub returns : goal.returns
+returns c = reads-end c.args.def.now (ReadsRows c.args.sort.0 (numbers_of c.args.sorts.now)) c.args.behind.now c.loop-entry.entry-index c.loop-entry.made.items c.loop-entry-test.false (λ full. refl) c.loop-entry.invariant

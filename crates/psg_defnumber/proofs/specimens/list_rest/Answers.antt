@@ -1,0 +1,6 @@
+use Rattle.psg_defnumber.proofs.FitLaws.{rest-made}
+use Rattle.psg_defnumber.proofs.specimens.list_rest.Goals as goal
+
+pub returns-in_ok-same_kind-in-Some : goal.returns-in_ok-same_kind-in-Some
+returns-in_ok-same_kind-in-Some c =
+    rest-made c.args.def.now c.args.known.now.entries c.place.new.known.entries c.args.list c.in_ok-made-in-Some.made c.in-Some.own c.args.written.now c.in-Some.is c.in_ok-same_kind-in-Some.ensures c.in_ok-made-in-Some.ensures

@@ -1,0 +1,199 @@
+//! Hole rows with their cases, and declare rows.
+ghost use Rattle.std.specs.Prelude.{◌↔◌, List, IfOk, IsTrue, OnOk};
+ghost use Rattle.psg_deflines.specs.Entries.{Entry, written};
+ghost use Rattle.psg_defnumber.specs.Growing.{Lasts};
+ghost use Rattle.psg_defnumber.specs.Numbers.{AreCases, IsHoleRow, AreHoleRows, AreDeclareRows};
+ghost use Rattle.psg_defnumber.specs.Putting.{Puts, ReadsCases, ReadsHoleRows, ReadsDeclareRows, IsHoleEntry};
+
+use crate::lookups::{kind_named, kind_sort};
+use crate::names::Names;
+use crate::rows::{case, declare_row, lone_term};
+use psg_deflines::{Line, LineTerm, LineTree};
+use psg_grammar::{Case, DeclareRow, Definition, HoleRow, Kind};
+use psg_terms::{Seq, SortId, Txt};
+use std::alloc::{AllocError, Global};
+
+/// Whether the line declares a hole row.
+fn is_hole(entry: &Option<Line>) -> bool
+    ensures { IsTrue result ↔ IsHoleEntry entry.now }
+{
+    match entry {
+        None => false,
+        Some(line) => match line {
+            Line::Hole { .. } => true,
+            _ => false,
+        },
+    }
+}
+
+/// Puts the case of a line behind the others, if it declares one.
+fn put_case(
+    alloc: Global,
+    def: &Definition,
+    names: &Names,
+    kind: Kind,
+    sort: SortId,
+    made: &mut Vec<Case>,
+    entry: &Option<Line>,
+) -> Result<(), AllocError>
+    requires inside { IsHoleEntry entry.now → ⊥ }
+    ensures { OnOk result ((rest : List Entry) → Puts def.now (ReadsCases kind sort.0) entry.now rest made.old.items made.new.items) }
+{
+    let Some(line) = entry else {
+        return Ok(());
+    };
+    let Line::Case { term, specimen } = line else {
+        return Ok(());
+    };
+    let one = case(alloc, def, names, kind, sort, term, specimen)?;
+    made.push(one)?;
+    Ok(())
+}
+
+/// The cases in front of the next hole row's line, in order.
+fn cases(
+    alloc: Global,
+    def: &Definition,
+    names: &Names,
+    kind: Kind,
+    sort: SortId,
+    behind: &[Option<Line>],
+) -> Result<Vec<Case>, AllocError>
+    ensures { IfOk result (λ v. Lasts def.now (λ full. AreCases full kind sort.0 (written behind.now) v.items)) }
+{
+    let mut made = Vec::new(alloc);
+    for entry in behind {
+        if is_hole(entry) {
+            return Ok(made);
+        }
+        put_case(alloc, def, names, kind, sort, &mut made, entry)?;
+    }
+    Ok(made)
+}
+
+/// A hole row. Its specimen makes its one case; without one its cases stand behind its line.
+fn hole_row(
+    alloc: Global,
+    def: &Definition,
+    names: &Names,
+    kind: &Txt,
+    term: &LineTerm,
+    specimen: &Option<LineTree>,
+    behind: &[Option<Line>],
+) -> Result<HoleRow, AllocError>
+    ensures { IfOk result (λ r. Lasts def.now (λ full. IsHoleRow full kind.now term.now specimen.now (written behind.now) r)) }
+{
+    let kind = kind_named(def, names, kind)?;
+    let sort = kind_sort(def, kind)?;
+    let Some(tree) = specimen else {
+        let term = lone_term(alloc, def, names, sort, term)?;
+        let cases = cases(alloc, def, names, kind, sort, behind)?;
+        return Ok(HoleRow {
+            kind,
+            term,
+            cases: Seq::of(cases),
+        });
+    };
+    let one = case(alloc, def, names, kind, sort, term, tree)?;
+    let term = one.term.share()?;
+    let mut cases = Vec::with_capacity(alloc, 1)?;
+    cases.push(one)?;
+    Ok(HoleRow {
+        kind,
+        term,
+        cases: Seq::of(cases),
+    })
+}
+
+/// Puts the hole row of a line behind the others, if it declares one, with the cases behind the line.
+fn put_hole_row(
+    alloc: Global,
+    def: &Definition,
+    names: &Names,
+    made: &mut Vec<HoleRow>,
+    entry: &Option<Line>,
+    behind: &[Option<Line>],
+) -> Result<(), AllocError>
+    ensures { OnOk result (Puts def.now ReadsHoleRows entry.now behind.now made.old.items made.new.items) }
+{
+    let Some(line) = entry else {
+        return Ok(());
+    };
+    let Line::Hole {
+        kind,
+        term,
+        specimen,
+    } = line
+    else {
+        return Ok(());
+    };
+    let one = hole_row(alloc, def, names, kind, term, specimen, behind)?;
+    made.push(one)?;
+    Ok(())
+}
+
+/// The hole rows, in order, each with its cases. It reads the cases once.
+pub fn hole_rows(
+    alloc: Global,
+    def: &Definition,
+    names: &Names,
+    entries: &[Option<Line>],
+) -> Result<Vec<HoleRow>, AllocError>
+    ensures { IfOk result (λ v. Lasts def.now (λ full. AreHoleRows full (written entries.now) v.items)) }
+{
+    let mut made = Vec::new(alloc);
+    for i in 0..entries.len() {
+        put_hole_row(
+            alloc,
+            def,
+            names,
+            &mut made,
+            &entries[i],
+            &entries[i + 1..],
+        )?;
+    }
+    Ok(made)
+}
+
+/// Puts the declare row of a line behind the others, if it declares one.
+fn put_declare_row(
+    alloc: Global,
+    def: &Definition,
+    names: &Names,
+    made: &mut Vec<DeclareRow>,
+    entry: &Option<Line>,
+) -> Result<(), AllocError>
+    ensures { OnOk result ((rest : List Entry) → Puts def.now ReadsDeclareRows entry.now rest made.old.items made.new.items) }
+{
+    let Some(line) = entry else {
+        return Ok(());
+    };
+    let Line::Declare {
+        list,
+        entity,
+        value,
+        specimen,
+    } = line
+    else {
+        return Ok(());
+    };
+    let one = declare_row(alloc, def, names, list, entity, value, specimen)?;
+    made.push(one)?;
+    Ok(())
+}
+
+/// The declare rows, in order.
+pub fn declare_rows(
+    alloc: Global,
+    def: &Definition,
+    names: &Names,
+    entries: &[Option<Line>],
+) -> Result<Vec<DeclareRow>, AllocError>
+    ensures { IfOk result (λ v. Lasts def.now (λ full. AreDeclareRows full (written entries.now) v.items)) }
+{
+    let mut made = Vec::new(alloc);
+    for entry in entries {
+        put_declare_row(alloc, def, names, &mut made, entry)?;
+    }
+    Ok(made)
+}

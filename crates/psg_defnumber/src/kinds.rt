@@ -1,0 +1,155 @@
+//! Spaces, phyla and lists from their lines.
+ghost use Rattle.std.specs.Prelude.{List, [], IfOk, OnOk};
+ghost use Rattle.psg_deflines.specs.Entries.{Entry, written};
+ghost use Rattle.psg_defcheck.specs.Scopes.{entity_sorts};
+ghost use Rattle.psg_defnumber.specs.Growing.{Lasts};
+ghost use Rattle.psg_defnumber.specs.Numbers.{AreSpaces, ArePhyla, AreLists};
+ghost use Rattle.psg_defnumber.specs.Putting.{Puts, ReadsSpaces, ReadsPhyla, ReadsLists};
+
+use crate::lookups::{phylum_named, sort_named};
+use crate::names::Names;
+use psg_deflines::Line;
+use psg_grammar::{Definition, ListKind, Phylum, Space};
+use psg_terms::{Seq, Txt};
+use std::alloc::{AllocError, Global};
+
+/// Puts the space of a line behind the others, if it declares one. It has no name.
+fn put_space(
+    alloc: Global,
+    def: &Definition,
+    names: &Names,
+    made: &mut Vec<Space>,
+    entry: &Option<Line>,
+) -> Result<(), AllocError>
+    ensures { OnOk result ((rest : List Entry) → Puts def.now ReadsSpaces entry.now rest made.old.items made.new.items) }
+{
+    let Some(line) = entry else {
+        return Ok(());
+    };
+    let Line::Entity { sort } = line else {
+        return Ok(());
+    };
+    let sort = sort_named(def, names, sort)?;
+    let name = Txt::copy_of(alloc, "")?;
+    made.push(Space { name, sort })?;
+    Ok(())
+}
+
+/// The spaces, in order.
+pub fn spaces(
+    alloc: Global,
+    def: &Definition,
+    names: &Names,
+    entries: &[Option<Line>],
+) -> Result<Vec<Space>, AllocError>
+    ensures { IfOk result (λ v. Lasts def.now (λ full. AreSpaces full (entity_sorts (written entries.now)) v.items)) }
+{
+    let mut made = Vec::new(alloc);
+    for entry in entries {
+        put_space(alloc, def, names, &mut made, entry)?;
+    }
+    Ok(made)
+}
+
+/// Puts the phylum of a line behind the others, if it declares one.
+fn put_phylum(
+    def: &Definition,
+    names: &Names,
+    made: &mut Vec<Phylum>,
+    entry: &Option<Line>,
+) -> Result<(), AllocError>
+    ensures { OnOk result ((rest : List Entry) → Puts def.now ReadsPhyla entry.now rest made.old.items made.new.items) }
+{
+    let Some(line) = entry else {
+        return Ok(());
+    };
+    let Line::Phylum {
+        name,
+        sort,
+        bracketed,
+    } = line
+    else {
+        return Ok(());
+    };
+    let sort = sort_named(def, names, sort)?;
+    let name = name.share()?;
+    made.push(Phylum {
+        name,
+        sort,
+        bracketed: *bracketed,
+    })?;
+    Ok(())
+}
+
+/// The phyla, in order.
+pub fn phyla(
+    alloc: Global,
+    def: &Definition,
+    names: &Names,
+    entries: &[Option<Line>],
+) -> Result<Vec<Phylum>, AllocError>
+    ensures { IfOk result (λ v. Lasts def.now (λ full. ArePhyla full (written entries.now) v.items)) }
+{
+    let mut made = Vec::new(alloc);
+    for entry in entries {
+        put_phylum(def, names, &mut made, entry)?;
+    }
+    Ok(made)
+}
+
+/// Puts the list of a line behind the others, if it declares one. It has no rows yet.
+fn put_list(
+    alloc: Global,
+    def: &Definition,
+    names: &Names,
+    made: &mut Vec<ListKind>,
+    entry: &Option<Line>,
+) -> Result<(), AllocError>
+    ensures { OnOk result ((rest : List Entry) → Puts def.now ReadsLists entry.now rest made.old.items made.new.items) }
+{
+    let Some(line) = entry else {
+        return Ok(());
+    };
+    let Line::List {
+        name,
+        sort,
+        element,
+        separator,
+        lines,
+        unfinished,
+    } = line
+    else {
+        return Ok(());
+    };
+    let sort = sort_named(def, names, sort)?;
+    let element = phylum_named(def, names, element)?;
+    let name = name.share()?;
+    let separator = separator.share()?;
+    made.push(ListKind {
+        name,
+        sort,
+        element,
+        separator,
+        lines: *lines,
+        unfinished: *unfinished,
+        nil_rows: Seq::of(Vec::new(alloc)),
+        cell_rows: Seq::of(Vec::new(alloc)),
+    })?;
+    Ok(())
+}
+
+/// The lists without their rows, in order.
+pub fn lists(
+    alloc: Global,
+    def: &Definition,
+    names: &Names,
+    entries: &[Option<Line>],
+) -> Result<Vec<ListKind>, AllocError>
+    ensures { IfOk result (λ v. Lasts def.now (λ full. AreLists full [] (written entries.now) v.items)) }
+{
+    let mut made = Vec::new(alloc);
+    for entry in entries {
+        put_list(alloc, def, names, &mut made, entry)?;
+    }
+    Ok(made)
+}

@@ -1,0 +1,225 @@
+//! Operators with their rows.
+ghost use Rattle.std.specs.Prelude.{◌↔◌, List, IfOk, IsTrue, OnOk};
+ghost use Rattle.psg_terms.specs.Kept.{numbers_of};
+ghost use Rattle.psg_grammar.specs.declared.types.Item.{Item as PlainItem};
+ghost use Rattle.psg_grammar.specs.Sound.{AreColumns};
+ghost use Rattle.psg_deflines.specs.Entries.{Entry, written};
+ghost use Rattle.psg_defnumber.specs.Growing.{Lasts};
+ghost use Rattle.psg_defnumber.specs.Numbers.{IsItem, AreItems, AreRows, AreOperators};
+ghost use Rattle.psg_defnumber.specs.Putting.{Puts, ReadsColumns, ReadsRows, ReadsOperators, IsOperatorEntry};
+
+use crate::lookups::{kind_named, kind_sort, phylum_named, phylum_sort, space_sort};
+use crate::names::Names;
+use crate::rows::row;
+use psg_deflines::{Line, LineItem};
+use psg_grammar::{Definition, Item, Operator, Row};
+use psg_terms::{Seq, SortId};
+use std::alloc::{AllocError, Global};
+
+/// An item of an operator. Names are of the space of all names.
+fn item(def: &Definition, names: &Names, part: &LineItem) -> Result<Item, AllocError>
+    ensures { IfOk result (λ i. Lasts def.now (λ full. IsItem full part.now i)) }
+{
+    match part {
+        LineItem::Word(word) => {
+            let word = word.share()?;
+            Ok(Item::Word(word))
+        }
+        LineItem::Slot(name) => {
+            let kind = kind_named(def, names, name)?;
+            Ok(Item::Slot(kind))
+        }
+        LineItem::Refers => Ok(Item::Refers(0)),
+        LineItem::Declares => Ok(Item::Declares(0)),
+        LineItem::Number => Ok(Item::Number),
+        LineItem::Text => Ok(Item::Text),
+        LineItem::Space => Ok(Item::Space),
+        LineItem::Tight => Ok(Item::Tight),
+        LineItem::Line => Ok(Item::Line),
+        LineItem::In => Ok(Item::In),
+        LineItem::Out => Ok(Item::Out),
+    }
+}
+
+/// The items of an operator, in order.
+fn items(
+    alloc: Global,
+    def: &Definition,
+    names: &Names,
+    parts: &[LineItem],
+) -> Result<Vec<Item>, AllocError>
+    ensures { IfOk result (λ v. Lasts def.now (λ full. AreItems full parts.now v.items)) }
+{
+    let mut made = Vec::with_capacity(alloc, parts.len())?;
+    for part in parts {
+        let one = item(def, names, part)?;
+        made.push(one)?;
+    }
+    Ok(made)
+}
+
+/// Puts the sort of an item's column behind the others, if it has one.
+fn put_column(
+    def: &Definition,
+    sorts: &mut Vec<SortId>,
+    item: &Item,
+) -> Result<(), AllocError>
+    ensures { OnOk result ((rest : List PlainItem) → Puts def.now ReadsColumns item.now rest sorts.old.items sorts.new.items) }
+{
+    match item {
+        Item::Slot(kind) => {
+            let sort = kind_sort(def, *kind)?;
+            sorts.push(sort)?;
+            Ok(())
+        }
+        Item::Refers(space) => {
+            let sort = space_sort(def, *space)?;
+            sorts.push(sort)?;
+            Ok(())
+        }
+        Item::Declares(space) => {
+            let sort = space_sort(def, *space)?;
+            sorts.push(sort)?;
+            Ok(())
+        }
+        _ => Ok(()),
+    }
+}
+
+/// The sorts of the columns of an operator's rows, in order.
+fn columns(alloc: Global, def: &Definition, items: &[Item]) -> Result<Vec<SortId>, AllocError>
+    ensures { IfOk result (λ v. Lasts def.now (λ full. AreColumns full items.now (numbers_of v.items))) }
+{
+    let mut sorts = Vec::with_capacity(alloc, items.len())?;
+    for item in items {
+        put_column(def, &mut sorts, item)?;
+    }
+    Ok(sorts)
+}
+
+/// Whether the line declares an operator.
+fn is_operator(entry: &Option<Line>) -> bool
+    ensures { IsTrue result ↔ IsOperatorEntry entry.now }
+{
+    match entry {
+        None => false,
+        Some(line) => match line {
+            Line::Operator { .. } => true,
+            _ => false,
+        },
+    }
+}
+
+/// Puts the row of a line behind the others, if it declares one.
+fn put_row(
+    alloc: Global,
+    def: &Definition,
+    names: &Names,
+    sort: SortId,
+    sorts: &[SortId],
+    made: &mut Vec<Row>,
+    entry: &Option<Line>,
+) -> Result<(), AllocError>
+    requires inside { IsOperatorEntry entry.now → ⊥ }
+    ensures { OnOk result ((rest : List Entry)
+        → Puts def.now (ReadsRows sort.0 (numbers_of sorts.now)) entry.now rest made.old.items made.new.items) }
+{
+    let Some(line) = entry else {
+        return Ok(());
+    };
+    let Line::Row {
+        head,
+        columns: written,
+    } = line
+    else {
+        return Ok(());
+    };
+    let one = row(alloc, def, names, sort, sorts, head, written.as_slice())?;
+    made.push(one)?;
+    Ok(())
+}
+
+/// The rows in front of the next operator's line, in order.
+fn rows(
+    alloc: Global,
+    def: &Definition,
+    names: &Names,
+    sort: SortId,
+    sorts: &[SortId],
+    behind: &[Option<Line>],
+) -> Result<Vec<Row>, AllocError>
+    ensures { IfOk result (λ v. Lasts def.now (λ full. AreRows full sort.0 (numbers_of sorts.now) (written behind.now) v.items)) }
+{
+    let mut made = Vec::new(alloc);
+    for entry in behind {
+        if is_operator(entry) {
+            return Ok(made);
+        }
+        put_row(alloc, def, names, sort, sorts, &mut made, entry)?;
+    }
+    Ok(made)
+}
+
+/// Puts the operator of a line behind the others, if it declares one, with the rows behind the line.
+fn put_operator(
+    alloc: Global,
+    def: &Definition,
+    names: &Names,
+    made: &mut Vec<Operator>,
+    entry: &Option<Line>,
+    behind: &[Option<Line>],
+) -> Result<(), AllocError>
+    ensures { OnOk result (Puts def.now ReadsOperators entry.now behind.now made.old.items made.new.items) }
+{
+    let Some(line) = entry else {
+        return Ok(());
+    };
+    let Line::Operator {
+        name,
+        phylum,
+        scope,
+        level,
+        items: parts,
+    } = line
+    else {
+        return Ok(());
+    };
+    let phylum = phylum_named(def, names, phylum)?;
+    let sort = phylum_sort(def, phylum)?;
+    let items = items(alloc, def, names, parts.as_slice())?;
+    let sorts = columns(alloc, def, items.as_slice())?;
+    let rows = rows(alloc, def, names, sort, sorts.as_slice(), behind)?;
+    let name = name.share()?;
+    made.push(Operator {
+        name,
+        phylum,
+        level: *level,
+        scope: *scope,
+        items: Seq::of(items),
+        rows: Seq::of(rows),
+    })?;
+    Ok(())
+}
+
+/// The operators, in order, each with its rows. It reads the rows once.
+pub fn operators(
+    alloc: Global,
+    def: &Definition,
+    names: &Names,
+    entries: &[Option<Line>],
+) -> Result<Vec<Operator>, AllocError>
+    ensures { IfOk result (λ v. Lasts def.now (λ full. AreOperators full (written entries.now) v.items)) }
+{
+    let mut made = Vec::new(alloc);
+    for i in 0..entries.len() {
+        put_operator(
+            alloc,
+            def,
+            names,
+            &mut made,
+            &entries[i],
+            &entries[i + 1..],
+        )?;
+    }
+    Ok(made)
+}

@@ -1,0 +1,104 @@
+//! Rows from their lines.
+ghost use Rattle.std.specs.Prelude.{List, ◌∷◌, [], IfOk};
+ghost use Rattle.psg_terms.specs.Kept.{numbers_of};
+ghost use Rattle.psg_grammar.specs.declared.types.Kind.TheVariants as kinds;
+ghost use Rattle.psg_defnumber.specs.Growing.{Lasts};
+ghost use Rattle.psg_defnumber.specs.Numbers.{IsRow, IsNil, IsCase, IsDeclareRow};
+
+use crate::lookups::{list_at, list_named, phylum_sort, space_sort};
+use crate::names::Names;
+use crate::specimens::specimen;
+use crate::terms::{term, terms};
+use crate::variables::Known;
+use indexmap::IndexMap;
+use psg_deflines::{LineTerm, LineTree};
+use psg_grammar::{Case, DeclareRow, Definition, Kind, Row};
+use psg_terms::{Seq, SortId, Term, Txt};
+use std::alloc::{AllocError, Global};
+
+/// A row: the term of the sort, and terms of these sorts.
+pub fn row(
+    alloc: Global,
+    def: &Definition,
+    names: &Names,
+    sort: SortId,
+    sorts: &[SortId],
+    head: &LineTerm,
+    columns: &[LineTerm],
+) -> Result<Row, AllocError>
+    ensures { IfOk result (λ r. Lasts def.now (λ full. IsRow full sort.0 (numbers_of sorts.now) head.now columns.now r)) }
+{
+    let mut known: Known = IndexMap::new(alloc);
+    let head = term(alloc, &def.signature, names, &mut known, sort, head)?;
+    let columns = terms(alloc, &def.signature, names, &mut known, sorts, columns)?;
+    Ok(Row {
+        head,
+        columns: Seq::of(columns),
+    })
+}
+
+/// The term of a line that has one alone.
+pub fn lone_term(
+    alloc: Global,
+    def: &Definition,
+    names: &Names,
+    sort: SortId,
+    written: &LineTerm,
+) -> Result<Term, AllocError>
+    ensures { IfOk result (λ t. Lasts def.now (λ full. IsNil full sort.0 written.now t)) }
+{
+    let mut known: Known = IndexMap::new(alloc);
+    let made = term(alloc, &def.signature, names, &mut known, sort, written)?;
+    Ok(made)
+}
+
+/// A part of a kind's values with a specimen.
+pub fn case(
+    alloc: Global,
+    def: &Definition,
+    names: &Names,
+    kind: Kind,
+    sort: SortId,
+    written: &LineTerm,
+    tree: &LineTree,
+) -> Result<Case, AllocError>
+    ensures { IfOk result (λ one. Lasts def.now (λ full. IsCase full kind sort.0 written.now tree.now one)) }
+{
+    let mut known: Known = IndexMap::new(alloc);
+    let made = term(alloc, &def.signature, names, &mut known, sort, written)?;
+    let shown = specimen(alloc, def, names, &mut known, kind, tree)?;
+    Ok(Case {
+        term: made,
+        specimen: shown,
+    })
+}
+
+/// A declare row of the list.
+pub fn declare_row(
+    alloc: Global,
+    def: &Definition,
+    names: &Names,
+    list: &Txt,
+    entity: &LineTerm,
+    value: &LineTerm,
+    tree: &LineTree,
+) -> Result<DeclareRow, AllocError>
+    ensures { IfOk result (λ r. Lasts def.now (λ full. IsDeclareRow full list.now entity.now value.now tree.now r)) }
+{
+    let list = list_named(def, names, list)?;
+    let own = list_at(def, list)?;
+    let entities = space_sort(def, 0)?;
+    let values = phylum_sort(def, own.element)?;
+    let mut known: Known = IndexMap::new(alloc);
+    let entity = term(alloc, &def.signature, names, &mut known, entities, entity)?;
+    let value = term(alloc, &def.signature, names, &mut known, values, value)?;
+    let kind = Kind::Phylum(own.element);
+    let shown = specimen(alloc, def, names, &mut known, kind, tree)?;
+    Ok(DeclareRow {
+        space: 0,
+        list,
+        term: entity,
+        value,
+        specimen: shown,
+    })
+}

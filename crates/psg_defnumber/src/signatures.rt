@@ -1,0 +1,100 @@
+//! The signature from the lines of sorts.
+ghost use Rattle.std.specs.Prelude.{◌≡◌, ◌+◌, ◌<◌, ◌^◌, ◌∷◌, ◌++◌, [], length, IfOk, OnOk};
+ghost use Rattle.psg_terms.specs.Declarations.{constructor_names, IsSpelled};
+ghost use Rattle.psg_deflines.specs.Entries.{written};
+ghost use Rattle.psg_defnumber.specs.Numbers.{sort_decls};
+
+use crate::found::holds;
+use psg_deflines::Line;
+use psg_terms::{ConDecl, Seq, Signature, SortDecl, Txt};
+use std::alloc::{AllocError, Global};
+
+/// The same texts, shared.
+fn shared(alloc: Global, texts: &[Txt]) -> Result<Vec<Txt>, AllocError>
+    ensures { IfOk result (λ v. v.items ≡ texts.now) }
+{
+    let mut made = Vec::with_capacity(alloc, texts.len())?;
+    for text in texts {
+        let one = text.share()?;
+        made.push(one)?;
+    }
+    Ok(made)
+}
+
+/// The same constructors, with shared names.
+fn con_decls(alloc: Global, decls: &[ConDecl]) -> Result<Vec<ConDecl>, AllocError>
+    ensures { IfOk result (λ v. v.items ≡ decls.now) }
+{
+    let mut made = Vec::with_capacity(alloc, decls.len())?;
+    for decl in decls {
+        let args = shared(alloc, decl.args.as_slice())?;
+        let name = decl.name.share()?;
+        made.push(ConDecl {
+            name,
+            args: Seq::of(args),
+        })?;
+    }
+    Ok(made)
+}
+
+/// Puts the sort of a line behind the others, if it declares one.
+fn put_sort(
+    alloc: Global,
+    made: &mut Vec<SortDecl>,
+    entry: &Option<Line>,
+) -> Result<(), AllocError>
+    ensures { OnOk result (made.new.items ≡ made.old.items ++ sort_decls (written (entry.now ∷ []))) }
+{
+    let Some(line) = entry else {
+        return Ok(());
+    };
+    let Line::Sort(decl) = line else {
+        return Ok(());
+    };
+    let constructors = con_decls(alloc, decl.constructors.as_slice())?;
+    let name = decl.name.share()?;
+    made.push(SortDecl {
+        name,
+        constructors: Seq::of(constructors),
+    })?;
+    Ok(())
+}
+
+/// The sorts as a signature takes them, in order.
+fn sort_lines(alloc: Global, entries: &[Option<Line>]) -> Result<Vec<SortDecl>, AllocError>
+    ensures { IfOk result (λ v. v.items ≡ sort_decls (written entries.now)) }
+{
+    let mut made = Vec::new(alloc);
+    for entry in entries {
+        put_sort(alloc, &mut made, entry)?;
+    }
+    Ok(made)
+}
+
+/// Each constructor can have a number.
+fn few_constructors(decls: &[SortDecl]) -> Result<(), AllocError>
+    ensures { OnOk result (length (constructor_names decls.now) < 2 ^ 32) }
+{
+    let mut count = 0usize;
+    for decl in decls {
+        let more = decl.constructors.as_slice().len();
+        holds(count < 0x1_0000_0000)?;
+        holds(more < 0x1_0000_0000)?;
+        count += more;
+    }
+    holds(count < 0x1_0000_0000)?;
+    Ok(())
+}
+
+/// The sorts and constructors. The tests of meaning leave no fault, so as with look-ups only memory can be wanting.
+pub fn signature(alloc: Global, entries: &[Option<Line>]) -> Result<Signature, AllocError>
+    ensures { IfOk result (IsSpelled (sort_decls (written entries.now))) }
+{
+    let decls = sort_lines(alloc, entries)?;
+    holds(decls.len() < 0x1_0000_0000)?;
+    few_constructors(decls.as_slice())?;
+    match Signature::new(alloc, decls) {
+        Ok(signature) => Ok(signature),
+        Err(_) => Err(AllocError),
+    }
+}

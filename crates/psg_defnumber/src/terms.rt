@@ -1,0 +1,73 @@
+//! Terms from the terms of a line.
+ghost use Rattle.std.specs.Prelude.{IfOk};
+ghost use Rattle.psg_terms.specs.Kept.{numbers_of};
+ghost use Rattle.psg_defnumber.specs.Naming.{IsMadeTerm, AreMadeTerms};
+
+use crate::found::holds;
+use crate::lookups::constructor_named;
+use crate::names::Names;
+use crate::variables::{Known, variable};
+use psg_deflines::{LineTerm, TermShape};
+use psg_terms::{Signature, SortId, Term};
+use std::alloc::{AllocError, Global};
+
+/// The term of the sort. Its variables are numbered behind those that are known.
+#[cycle(term)]
+pub fn term<'a>(
+    alloc: Global,
+    sig: &Signature,
+    names: &Names,
+    known: &mut Known<'a>,
+    sort: SortId,
+    written: &'a LineTerm,
+) -> Result<Term, AllocError>
+    ensures { IfOk result (IsMadeTerm sig.now known.old.entries known.new.entries sort.0 written.now) }
+{
+    match &written.shape {
+        TermShape::Variable(name) => match sig.constant_of(sort) {
+            Some(con) => {
+                let made = Term::apply(alloc, con, Vec::new(alloc))?;
+                Ok(made)
+            }
+            None => {
+                let number = variable(known, name.as_str(), sort)?;
+                let made = Term::var(alloc, sort, number)?;
+                Ok(made)
+            }
+        },
+        TermShape::Named { name, args } => {
+            let (con, own) = constructor_named(sig, names, sort, name)?;
+            let args = terms(
+                alloc,
+                sig,
+                names,
+                known,
+                own.args.as_slice(),
+                args.as_slice(),
+            )?;
+            let made = Term::apply(alloc, con, args)?;
+            Ok(made)
+        }
+    }
+}
+
+/// Terms of these sorts, one by one.
+#[cycle(term)]
+pub fn terms<'a>(
+    alloc: Global,
+    sig: &Signature,
+    names: &Names,
+    known: &mut Known<'a>,
+    sorts: &[SortId],
+    written: &'a [LineTerm],
+) -> Result<Vec<Term>, AllocError>
+    ensures { IfOk result (λ v. AreMadeTerms sig.now known.old.entries known.new.entries (numbers_of sorts.now) written.now v.items) }
+{
+    holds(sorts.len() == written.len())?;
+    let mut made = Vec::with_capacity(alloc, written.len())?;
+    for i in 0..written.len() {
+        let one = term(alloc, sig, names, known, sorts[i], &written[i])?;
+        made.push(one)?;
+    }
+    Ok(made)
+}

@@ -1,0 +1,36 @@
+//! The variables of a line.
+ghost use Rattle.std.specs.Prelude.{IfOk};
+ghost use Rattle.psg_defnumber.specs.Naming.{IsMet};
+
+use crate::found::{found, holds};
+use indexmap::IndexMap;
+use psg_terms::SortId;
+use psg_terms::canonical::number_of;
+use std::alloc::AllocError;
+
+/// The names of a line's variables in the order of their first places, with the sorts of these.
+pub type Known<'a> = IndexMap<&'a str, SortId>;
+
+/// The number of the variable of the name, which stands at a place of the sort.
+pub fn variable<'a>(
+    known: &mut Known<'a>,
+    name: &'a str,
+    sort: SortId,
+) -> Result<u32, AllocError>
+    ensures { IfOk result (IsMet known.old.entries known.new.entries name.now sort.0) }
+{
+    match known.get_index_of(name) {
+        Some(place) => {
+            let (own, own_sort) = found(known.get_index(place))?;
+            holds(*own == name)?;
+            holds(*own_sort == sort)?;
+            Ok(number_of(0, place)?)
+        }
+        None => {
+            let place = known.len();
+            let before = known.insert(name, sort)?;
+            holds(before.is_none())?;
+            Ok(number_of(0, place)?)
+        }
+    }
+}
