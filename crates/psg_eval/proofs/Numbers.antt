@@ -13,7 +13,7 @@ use Rattle.psg_eval.specs.declared.summary.EvalFault.{EvalFault}
 use Rattle.psg_eval.specs.declared.summary.EvalFault.TheVariants as faults
 use Rattle.psg_eval.specs.Partials.{MatchStep}
 use Rattle.psg_eval.specs.Stages.{IsNumbered, MatchMade}
-use Rattle.psg_eval.specs.Summaries.{IsFirstPassing}
+use Rattle.psg_eval.specs.Summaries.{Answers, IsFirstPassing}
 
 pub numbered_if : (Q : Partial → Type 0) (made : Result Partial RelFault) (n : ℕ) (q : Partial) → IsNumbered made n (Ok q) → IfOk made Q → Q q
 numbered_if Q (Ok p) n q e h = subst Q (sym e) h
@@ -33,3 +33,8 @@ numbered_fault def f m P (Err rel.Wide) n (faults.Wide k) d (h, rows, p, passes)
 numbered_fault def f m P (Err rel.Wide) n faults.Memory d s first = tt
 numbered_fault def f m P (Err rel.Memory) n (faults.Wide k) d s first = absurd d
 numbered_fault def f m P (Err rel.Memory) n faults.Memory d s first = tt
+
+-- where there is no node, there is no summary
+pub fault_answers : (def : Definition) (f : Fragment) (n : ℕ) (e : EvalFault) → MatchMade def f n (Err e) → Answers def f (Err e)
+fault_answers def f n (faults.Wide k) h = h
+fault_answers def f n faults.Memory h = tt

@@ -1,6 +1,7 @@
 //! Summaries of nodes, cells, ends and placeholders.
-ghost use Rattle.std.specs.Prelude.{◌≡◌, ◌+◌, ◌<◌, ℕ, true, length, IfOk, List};
+ghost use Rattle.std.specs.Prelude.{◌≡◌, ◌+◌, ◌<◌, ◌||◌, ℕ, true, length, IfOk, List};
 ghost use Rattle.psg_grammar.specs.Fragments.{Fragment, hole, ending, cell};
+ghost use Rattle.psg_grammar.specs.declared.types.Kind.TheVariants.{List as OfList};
 ghost use Rattle.psg_grammar.specs.Sound.{IsSound};
 ghost use Rattle.psg_grammar.specs.WellFormed.{IsListEnd};
 ghost use Rattle.psg_eval.specs.Trees.{IsNode};
@@ -71,6 +72,8 @@ pub fn eval_cell<L: Ledger>(
     ensures answer { (e r : Fragment) → IsSummaryOf definition.now e element.now → IsSummaryOf definition.now r rest.now
         → Answers definition.now (cell list e r) result }
     ensures summary { IfOk result (IsSummary definition.now) }
+    ensures kind { IfOk result (λ s. s.kind ≡ OfList list) }
+    ensures report { IfOk result (λ s. s.report ≡ (element.now.report || rest.now.report)) }
     ensures ticks { steps.new ≡ steps.old + 1 }
 {
     steps.tick();
