@@ -1,5 +1,6 @@
 -- The cell rows of a list, and the answer for a cell.
 use Rattle.std.proofs.Common.{◌≡◌, ℕ, ◌+◌, ◌≤◌, ◌||◌, Bool, true, false, cond, List, [], ◌∷◌, ◌++◌, map, length, refl, ap, ap₂, sym, ◌∙◌, subst, Some, slice_get, append-nil, arith}
+use Rattle.std.specs.Prelude.{Result, Ok, IfOk}
 use Rattle.std.specs.List.{AllByRecursion}
 use Rattle.psg_terms.specs.Terms.{Term}
 use Rattle.psg_terms.specs.Signature.{HaveSorts}
@@ -15,18 +16,20 @@ use Rattle.psg_grammar.specs.Sound.{IsListKind, IsRow, IsSound}
 use Rattle.psg_grammar.proofs.SoundParts.{list_sound}
 use Rattle.psg_relation.specs.Choices.{AllHaveSorts}
 use Rattle.psg_relation.proofs.Members.{map-in}
+use Rattle.psg_relation.specs.declared.relation.RelFault.{RelFault}
 use Rattle.psg_scope.specs.declared.header.Header.{Header}
 use Rattle.psg_scope.proofs.HeaderLaws.{ordered-of}
 use Rattle.psg_eval.specs.declared.partial.Partial.{Partial}
 use Rattle.psg_eval.specs.declared.summary.Known.{Known}
 use Rattle.psg_eval.specs.OwnRows.{whole_row}
 use Rattle.psg_eval.specs.Partials.{IsAdded, IsPartial}
-use Rattle.psg_eval.specs.Stages.{IsCellStart, IsMade}
-use Rattle.psg_eval.specs.Summaries.{AreKeySorts, IsFirstPassing, IsSummary, IsSummaryOf, reporting, StaysWithin}
+use Rattle.psg_eval.specs.Stages.{IsCellStart, IsMade, IsNumbered}
+use Rattle.psg_eval.specs.Summaries.{AreKeySorts, IsFirstPassing, IsSummary, IsSummaryOf, reporting, StaysWithin, TakesCell}
 use Rattle.psg_eval.proofs.Assembling.{made_first, made_more, wide_first, wide_more}
 use Rattle.psg_eval.proofs.CellSteps.{cell_one, cell_start, cell_two}
 use Rattle.psg_eval.proofs.Cells.{list_no_scope}
 use Rattle.psg_eval.proofs.LeafAnswers.{no_header}
+use Rattle.psg_eval.proofs.Numbers.{numbered_if}
 use Rattle.psg_eval.proofs.Stepping.{open_ok}
 
 pub each_in : {X : Type 0} (P : X → Type 0) (x : X) (xs : List X) → AllByRecursion P xs → IsIn x xs → P x
@@ -90,6 +93,25 @@ module _ (def : Definition) (sound : IsSound def) (l : ℕ) (list : ListKind) (f
     keys_sorted = subst (λ (x : Header). AreKeySorts def x.names []) (sym none) refl;
     sorted = sorted;
   }
+
+-- what the steps keep, by the kinds that a cell takes
+module _ (def : Definition) (l : ℕ) (element rest : Known) (t : TakesCell def l element rest) where
+  pub start_partial : (made : Result Partial RelFault) (begin : Partial) → IsNumbered made 0 (Ok begin)
+      → IfOk made (λ (p : Partial). (kind : ListKind) → slice_get def.lists l ≡ Some kind → IsPartial def (kinds.List l) (kinds.Phylum kind.element ∷ kinds.List l ∷ []) p)
+      → IsPartial def (kinds.List l) (element.kind ∷ rest.kind ∷ []) begin
+  start_partial made begin e h =
+      let part = numbered_if (λ (p : Partial). (kind : ListKind) → slice_get def.lists l ≡ Some kind → IsPartial def (kinds.List l) (kinds.Phylum kind.element ∷ kinds.List l ∷ []) p) made 0 begin e h in
+      subst (λ (k : Kind). IsPartial def (kinds.List l) (k ∷ rest.kind ∷ []) begin) (sym t.element_kind)
+      (subst (λ (k : Kind). IsPartial def (kinds.List l) (kinds.Phylum t.list.element ∷ k ∷ []) begin) (sym t.rest_kind) (part t.list t.found))
+
+-- a step keeps what is known of the node
+pub next_step : (def : Definition) (kind child : Kind) (others : List Kind) (before : Partial) (made : Result Partial RelFault) (n : ℕ) (after : Partial) → IsNumbered made n (Ok after)
+    → IfOk made (λ (p : Partial). (k : Kind) (ks : List Kind) → IsPartial def k (child ∷ ks) before → IsPartial def k ks p) → IsPartial def kind (child ∷ others) before → IsPartial def kind others after
+next_step def kind child others before made n after e h part =
+    numbered_if (λ (p : Partial). (k : Kind) (ks : List Kind) → IsPartial def k (child ∷ ks) before → IsPartial def k ks p) made n after e h kind others part
+
+pub next_report : (b c : Bool) (made : Result Partial RelFault) (n : ℕ) (after : Partial) → IsNumbered made n (Ok after) → IfOk made (λ (p : Partial). p.report ≡ (b || c)) → b ≡ false → after.report ≡ c
+next_report b c made n after e h silent = numbered_if (λ (p : Partial). p.report ≡ (b || c)) made n after e h ∙ ap (λ x. x || c) silent
 
 module _ (def : Definition) (sound : IsSound def) (l : ℕ) (e r : Fragment) (element rest : Known) (one : IsSummaryOf def e element) (two : IsSummaryOf def r rest) where
   -- ---- the steps

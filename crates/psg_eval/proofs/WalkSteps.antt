@@ -8,12 +8,12 @@ use Rattle.psg_unify.specs.Pairs.{Pair as Columns}
 use Rattle.psg_eval.specs.Walks.{GrowsBy, IsWalk, walk_none, walk_left, walk_right, walk_both}
 use Rattle.psg_eval.specs.declared.placing.Placed.{Placed}
 
-drop_at : {X : Type 0} (xs : List X) (i : ℕ) (x : X) → slice_get xs i ≡ Some x → drop i xs ≡ x ∷ drop (i + 1) xs
+pub drop_at : {X : Type 0} (xs : List X) (i : ℕ) (x : X) → slice_get xs i ≡ Some x → drop i xs ≡ x ∷ drop (i + 1) xs
 drop_at [] i x e = absurd (cc)
 drop_at (y ∷ xs) zero x e = let d : y ≡ x = cc in let z : zero + 1 ≡ suc zero = omega arith in ap₂ (λ a as_. a ∷ as_) d (ap (λ n. drop n (y ∷ xs)) (sym z))
 drop_at (y ∷ xs) (suc i) x e = let z : suc i + 1 ≡ suc (i + 1) = omega arith in drop_at xs i x e ∙ ap (λ l. x ∷ l) (ap (λ n. drop n (y ∷ xs)) (sym z))
 
-drop_end : {X : Type 0} (xs : List X) (i : ℕ) → length xs ≤ i → drop i xs ≡ []
+pub drop_end : {X : Type 0} (xs : List X) (i : ℕ) → length xs ≤ i → drop i xs ≡ []
 drop_end [] zero h = refl
 drop_end [] (suc i) h = refl
 drop_end (x ∷ xs) zero h = absurd (omega arith)

@@ -1,13 +1,17 @@
 //! Summaries of nodes, cells, ends and placeholders.
-ghost use Rattle.std.specs.Prelude.{◌≡◌, ◌+◌, ◌<◌, ◌||◌, ℕ, true, length, IfOk, List};
+ghost use Rattle.std.specs.Prelude.{◌≡◌, ◌+◌, ◌<◌, ◌||◌, ℕ, true, length, slice_get, Some, IfOk, List};
 ghost use Rattle.psg_grammar.specs.Fragments.{Fragment, hole, ending, cell};
-ghost use Rattle.psg_grammar.specs.declared.types.Kind.TheVariants.{List as OfList};
+ghost use Rattle.psg_grammar.specs.declared.types.Kind.TheVariants.{List as OfList, Phylum as OfPhylum};
+ghost use Rattle.psg_grammar.specs.declared.types.Operator.{Operator};
+ghost use Rattle.psg_eval.specs.declared.summary.Known.{Known as Kept};
+ghost use Rattle.std.specs.List.{list_any};
 ghost use Rattle.psg_grammar.specs.Sound.{IsSound};
 ghost use Rattle.psg_grammar.specs.WellFormed.{IsListEnd};
 ghost use Rattle.psg_eval.specs.Trees.{IsNode};
 ghost use Rattle.psg_eval.specs.Summaries.{Answers, AreSpacesOfList, AreSummariesOf, IsSummary, IsSummaryOf, TakesAt, TakesCell};
 
 use crate::cell::cell_parts;
+use crate::node::node;
 use crate::leaves::{closed_end, open_end, placeholder};
 use crate::partial::summary_of;
 use crate::summary::{EvalFault, Summary};
@@ -52,10 +56,14 @@ pub fn eval_op<L: Ledger>(
     // whatever the children are: for every tree whose children have these summaries
     ensures answer { (f : Fragment) → IsNode definition.now op names.now f → AreSummariesOf definition.now f children.now → Answers definition.now f result }
     ensures summary { IfOk result (IsSummary definition.now) }
+    ensures kind { IfOk result (λ s. (o : Operator) → slice_get definition.now.operators op ≡ Some o → s.kind ≡ OfPhylum o.phylum) }
+    ensures report { IfOk result (λ s. s.report ≡ list_any (λ (c : Kept). c.report) children.now) }
     ensures ticks { steps.new ≡ steps.old + 1 }
 {
     steps.tick();
-    Err(EvalFault::Memory)
+    let operator = &definition.operators.as_slice()[op as usize];
+    let summary = node(alloc, definition, operator, names, children)?;
+    Ok(summary)
 }
 
 /// The summary of a list from those of its first element and of the list behind it, in the steps 0 to 2.

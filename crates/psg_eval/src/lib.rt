@@ -13,7 +13,9 @@
 mod cell;
 pub mod evaluating;
 mod leaves;
+mod node;
 mod outside;
+mod own;
 mod partial;
 mod placing;
 pub mod summary;

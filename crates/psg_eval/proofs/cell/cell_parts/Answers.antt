@@ -1,13 +1,11 @@
-use Rattle.std.proofs.Common.{rules, Err, ◌≡◌, ◌||◌, ◌∷◌, [], ◌∙◌, true, false, true≢false, slice_get, Some, sym, subst, ap, List}
+use Rattle.std.proofs.Common.{rules, Err, ◌≡◌, ◌||◌, ◌∷◌, [], ◌∙◌, false, true≢false, sym, subst, ap}
 use Rattle.std.proofs.lemmas.Option.{slice_get_within}
 use Rattle.psg_grammar.specs.Fragments.{cell}
-use Rattle.psg_grammar.specs.declared.types.Kind.{Kind}
 use Rattle.psg_grammar.specs.declared.types.Kind.TheVariants as kinds
-use Rattle.psg_grammar.specs.declared.types.ListKind.{ListKind}
 use Rattle.psg_eval.specs.declared.partial.Partial.{Partial}
 use Rattle.psg_eval.specs.Partials.{IsAdded, IsPartial}
 use Rattle.psg_eval.specs.Stages.{IsCellStart, MatchMade}
-use Rattle.psg_eval.proofs.CellRows.{one_reports, start_made, start_wide, element_made, element_wide, rest_made, rest_wide}
+use Rattle.psg_eval.proofs.CellRows.{next_report, next_step, one_reports, start_made, start_partial, start_wide, element_made, element_wide, rest_made, rest_wide}
 use Rattle.psg_eval.proofs.Numbers.{numbered_fault, numbered_if, numbered_step}
 use Rattle.psg_eval.proofs.cell.cell_parts.Goals as goal
 use Rattle.psg_eval.proofs.cell.cell_parts.Goals.{In_ok-first, In_ok-begun}
@@ -17,26 +15,18 @@ first_silent c = numbered_if (λ (p : Partial). p.report ≡ false) c.cell_start
 
 first_partial : (c : In_ok-first) → IsPartial c.args.definition.now (kinds.List c.args.list) (c.args.element.now.kind ∷ c.args.rest.now.kind ∷ []) c.in_ok-first.first
 first_partial c =
-    let def = c.args.definition.now in
-    let l = c.args.list in
-    let first = c.in_ok-first.first in
-    let t = c.requires.takes in
-    let part = numbered_if (λ (p : Partial). (kind : ListKind) → slice_get def.lists l ≡ Some kind → IsPartial def (kinds.List l) (kinds.Phylum kind.element ∷ kinds.List l ∷ []) p)
-    c.cell_start.result 0 first c.in_ok-first.ensures c.cell_start.ensures.partial in
-    subst (λ (k : Kind). IsPartial def (kinds.List l) (k ∷ c.args.rest.now.kind ∷ []) first) (sym t.element_kind)
-    (subst (λ (k : Kind). IsPartial def (kinds.List l) (kinds.Phylum t.list.element ∷ k ∷ []) first) (sym t.rest_kind) (part t.list t.found))
+    start_partial c.args.definition.now c.args.list c.args.element.now c.args.rest.now c.requires.takes c.cell_start.result c.in_ok-first.first c.in_ok-first.ensures c.cell_start.ensures.partial
 
 begun_partial : (c : In_ok-begun) → IsPartial c.args.definition.now (kinds.List c.args.list) (c.args.rest.now.kind ∷ []) c.in_ok-begun.begun
 begun_partial c =
     let def = c.args.definition.now in
-    let part = numbered_if (λ (p : Partial). (kind : Kind) (others : List Kind) → IsPartial def kind (c.args.element.now.kind ∷ others) c.in_ok-first.first → IsPartial def kind others p)
-    c.with_child.result 1 c.in_ok-begun.begun c.in_ok-begun.ensures c.with_child.ensures.partial in
-    part (kinds.List c.args.list) (c.args.rest.now.kind ∷ []) (first_partial c.In_ok-first)
+    next_step def (kinds.List c.args.list) c.args.element.now.kind (c.args.rest.now.kind ∷ []) c.in_ok-first.first c.with_child.result 1 c.in_ok-begun.begun c.in_ok-begun.ensures c.with_child.ensures.partial
+    (start_partial def c.args.list c.args.element.now c.args.rest.now c.requires.takes c.cell_start.result c.in_ok-first.first c.in_ok-first.ensures c.cell_start.ensures.partial)
 
 begun_report : (c : In_ok-begun) → c.in_ok-begun.begun.report ≡ c.args.element.now.report
 begun_report c =
-    numbered_if (λ (p : Partial). p.report ≡ (c.in_ok-first.first.report || c.args.element.now.report)) c.with_child.result 1 c.in_ok-begun.begun c.in_ok-begun.ensures c.with_child.ensures.report
-    ∙ ap (λ b. b || c.args.element.now.report) (first_silent c.In_ok-first)
+    next_report c.in_ok-first.first.report c.args.element.now.report c.with_child.result 1 c.in_ok-begun.begun c.in_ok-begun.ensures c.with_child.ensures.report
+    (numbered_if (λ (p : Partial). p.report ≡ false) c.cell_start.result 0 c.in_ok-first.first c.in_ok-first.ensures c.cell_start.ensures.report)
 
 pub cell_start-requires-clause-there : goal.cell_start-requires-clause-there
 cell_start-requires-clause-there c = slice_get_within c.args.definition.now.lists c.args.list c.requires.takes.list c.requires.takes.found
@@ -59,7 +49,7 @@ returns-in_err-first-clause-made c = λ e r one two.
     let def = c.args.definition.now in
     let l = c.args.list in
     let fault = c.in_err-first.field-0.0 in
-    let d : c.from_residual-in_err-first.result ≡ Err fault = search rules in
+    let d : c.from_residual.result ≡ Err fault = search rules in
     subst (MatchMade def (cell l e r) 2) (sym d)
     (numbered_fault def (cell l e r) 2 (IsCellStart def l) c.cell_start.result 0 fault c.in_err-first.ensures c.cell_start.ensures.step
     (start_wide def c.requires.sound l e r c.args.element.now c.args.rest.now one two))
@@ -114,10 +104,8 @@ returns-clause-made c = λ e r one two.
 
 pub returns-clause-partial : goal.returns-clause-partial
 returns-clause-partial c =
-    let def = c.args.definition.now in
-    let part = numbered_if (λ (p : Partial). (kind : Kind) (others : List Kind) → IsPartial def kind (c.args.rest.now.kind ∷ others) c.in_ok-begun.begun → IsPartial def kind others p)
-    c.with_child-2.result 2 c.in_ok-whole.whole c.in_ok-whole.ensures c.with_child-2.ensures.partial in
-    part (kinds.List c.args.list) [] (begun_partial (goal.at.returns-clause-partial c).In_ok-begun)
+    next_step c.args.definition.now (kinds.List c.args.list) c.args.rest.now.kind [] c.in_ok-begun.begun c.with_child-2.result 2 c.in_ok-whole.whole c.in_ok-whole.ensures c.with_child-2.ensures.partial
+    (begun_partial (goal.at.returns-clause-partial c).In_ok-begun)
 
 pub returns-clause-report : goal.returns-clause-report
 returns-clause-report c =
