@@ -31,3 +31,4 @@ pub mod LeafAnswers
 pub mod CellSteps
 pub mod Numbers
 pub mod CellRows
+pub mod NodeSteps
