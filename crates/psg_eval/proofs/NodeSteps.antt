@@ -187,3 +187,6 @@ slot_count def (_ ∷ xs) = let h = slot_count def xs in omega arith
 -- what is read at a place that is there
 pub place_there : {X : Type 0} (xs : List X) (i : ℕ) (x y : X) → slice_get xs i ≡ Some x → y ≡ get_or xs i y → slice_get xs i ≡ Some y
 place_there xs i x y e d = at_place xs i y (slice_get_within xs i x e) d
+
+pub same_there : {X : Type 0} (xs : List X) (i : ℕ) (x y : X) → slice_get xs i ≡ Some x → slice_get xs i ≡ Some y → x ≡ y
+same_there xs i x y e d = let q : Some x ≡ Some y = sym e ∙ d in cc
