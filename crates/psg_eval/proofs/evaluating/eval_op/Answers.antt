@@ -7,9 +7,6 @@ use Rattle.psg_eval.specs.Summaries.{Answers, Takes}
 use Rattle.psg_eval.proofs.NodeSteps.{place_there, same_there}
 use Rattle.psg_eval.proofs.evaluating.eval_op.Goals as goal
 
-pub index-requires : goal.index-requires
-index-requires g c = subst (λ (os : List Operator). c.args.op < length os) (sym c.as_slice.ensures) (slice_get_within c.args.definition.now.operators c.args.op c.requires.takes.0 c.requires.takes.1)
-
 pub node-requires-clause-operator : goal.node-requires-clause-operator
 node-requires-clause-operator g c =
     let def = c.args.definition.now in
