@@ -22,3 +22,6 @@ pub mod summary;
 
 pub use evaluating::{eval_cell, eval_end, eval_hole, eval_op};
 pub use summary::{EvalFault, Summary};
+
+#[cfg(test)]
+mod tests;

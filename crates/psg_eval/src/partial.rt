@@ -71,7 +71,7 @@ pub(crate) fn push_run(
 }
 
 /// So many numbers from one on.
-fn numbers(alloc: Global, from: usize, count: usize) -> Result<Vec<usize>, AllocError>
+pub(crate) fn numbers(alloc: Global, from: usize, count: usize) -> Result<Vec<usize>, AllocError>
     requires { from + count < 2 ^ 64 }
     ensures { IfOk result (λ v. v.items ≡ run from count) }
 {
