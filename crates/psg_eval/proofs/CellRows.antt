@@ -1,5 +1,5 @@
 -- The cell rows of a list, and the answer for a cell.
-use Rattle.std.proofs.Common.{◌≡◌, ℕ, ◌+◌, ◌≤◌, ◌||◌, Bool, true, false, cond, List, [], ◌∷◌, ◌++◌, map, length, refl, ap, ap₂, sym, ◌∙◌, subst, Some, slice_get, append-nil, arith}
+use Rattle.std.proofs.Common.{◌≡◌, ℕ, ◌≤◌, ◌||◌, Bool, true, false, cond, List, [], ◌∷◌, ◌++◌, map, length, refl, ap, ap₂, sym, ◌∙◌, subst, Some, slice_get, append-nil, arith}
 use Rattle.std.specs.Prelude.{Result, Ok, IfOk}
 use Rattle.std.specs.List.{AllByRecursion}
 use Rattle.psg_terms.specs.Terms.{Term}

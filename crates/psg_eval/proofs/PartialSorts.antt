@@ -17,7 +17,7 @@ use Rattle.psg_relation.specs.declared.relation.RelFault.TheVariants.{Wide, Memo
 use Rattle.psg_relation.specs.Choices.{AllHaveSorts, Agrees, MayBeWide, picked}
 use Rattle.psg_relation.specs.Joining.{MayJoin}
 use Rattle.psg_relation.proofs.Meeting.{within_sorts}
-use Rattle.psg_scope.specs.Headers.{AreRising, IsOrdered, IsUnion, keys, key_of}
+use Rattle.psg_scope.specs.Headers.{IsOrdered, IsUnion, keys, key_of}
 use Rattle.psg_scope.specs.declared.header.Header.{Header}
 use Rattle.psg_scope.specs.declared.header.NameCol.{NameCol}
 use Rattle.psg_eval.specs.Glues.{NextGlue}

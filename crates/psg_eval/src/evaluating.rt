@@ -11,8 +11,8 @@ ghost use Rattle.psg_eval.specs.Trees.{IsNode};
 ghost use Rattle.psg_eval.specs.Summaries.{Answers, AreSpacesOfList, AreSummariesOf, IsSummary, IsSummaryOf, TakesAt, TakesCell};
 
 use crate::cell::cell_parts;
-use crate::node::node;
 use crate::leaves::{closed_end, open_end, placeholder};
+use crate::node::node;
 use crate::partial::summary_of;
 use crate::summary::{EvalFault, Summary};
 use psg_grammar::{Definition, Kind};

@@ -1,5 +1,4 @@
-use Rattle.std.proofs.Common.{rules, Err, ◌≡◌, ◌<◌, ◌∙◌, List, length, get_or, slice_get, Some, sym, subst, ap}
-use Rattle.std.proofs.lemmas.Option.{slice_get_within}
+use Rattle.std.proofs.Common.{rules, Err, ◌≡◌, ◌∙◌, List, get_or, sym, subst, ap}
 use Rattle.psg_grammar.specs.declared.types.Kind.TheVariants as kinds
 use Rattle.psg_grammar.specs.declared.types.Operator.{Operator}
 use Rattle.psg_grammar.proofs.SoundParts.{operator_sound}
