@@ -32,3 +32,5 @@ pub mod CellSteps
 pub mod Numbers
 pub mod CellRows
 pub mod NodeSteps
+pub mod ItemSteps
+pub mod Halves

@@ -60,7 +60,8 @@ impl Places {
 
 /// The places of the items' names and slots. The head has column 0.
 fn item_places(alloc: Global, items: &[Item], names: &[Txt]) -> Result<Places, AllocError>
-    requires { (definition : Language) × (length (are_names definition items.now) ≡ length names.now) }
+    requires fits { (definition : Language) × (length (are_names definition items.now) ≡ length names.now) }
+    requires few { length items.now < 2 ^ 32 }
     ensures positions { IfOk result (λ p. p.positions.items ≡ positions items.now names.now) }
     ensures names { IfOk result (λ p. p.names.items ≡ name_columns 1 items.now) }
     ensures slots { IfOk result (λ p. p.slots.items ≡ slot_columns 1 items.now) }
@@ -79,12 +80,14 @@ fn item_places(alloc: Global, items: &[Item], names: &[Txt]) -> Result<Places, A
                 column += 1;
             }
             Item::Refers(space) => {
-                found.add_name(column, *space, &names[next], false)?;
+                let name = &names[next];
+                found.add_name(column, *space, name, false)?;
                 column += 1;
                 next += 1;
             }
             Item::Declares(space) => {
-                found.add_name(column, *space, &names[next], true)?;
+                let name = &names[next];
+                found.add_name(column, *space, name, true)?;
                 column += 1;
                 next += 1;
             }
@@ -114,13 +117,9 @@ fn own_keys(alloc: Global, positions: &[NameCol], columns: &[usize]) -> Result<O
     let left = own_keys(alloc, front, fronts)?;
     let right = own_keys(alloc, behind, behinds)?;
     let joined = join(alloc, &left.header, &right.header)?;
-    let placed = key_columns(
-        alloc,
-        &joined,
-        left.columns.as_slice(),
-        right.columns.as_slice(),
-        0,
-    )?;
+    let lefts = left.columns.as_slice();
+    let rights = right.columns.as_slice();
+    let placed = key_columns(alloc, &joined, lefts, rights, 0)?;
     let mut pairs = left.pairs;
     pairs.extend_from_slice(right.pairs.as_slice())?;
     pairs.extend_from_slice(placed.pairs.as_slice())?;
