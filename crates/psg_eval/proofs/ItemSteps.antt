@@ -1,5 +1,5 @@
 -- The walk over an operator's items, item by item: what remains of them completes what is found.
-use Rattle.std.proofs.Common.{◌≡◌, ℕ, ◌+◌, ◌<◌, ◌≤◌, zero, suc, Bool, true, false, List, [], ◌∷◌, ◌++◌, length, drop, get_or, refl, ap, ap₂, sym, ◌∙◌, append_assoc, length-drop, arith}
+use Rattle.std.proofs.Common.{◌≡◌, ℕ, ◌+◌, ◌<◌, ◌≤◌, zero, suc, Bool, true, false, List, [], ◌∷◌, ◌++◌, length, drop, get_or, refl, ap, ap₂, sym, subst, ◌∙◌, append_assoc, length-drop, arith}
 use Rattle.std.proofs.lemmas.List.{append-nil}
 use Rattle.psg_terms.specs.Names.{Name}
 use Rattle.psg_grammar.specs.declared.types.Definition.{Definition}
@@ -60,6 +60,18 @@ Named (items.Refers s) t declared = (s ≡ t) × (declared ≡ false)
 Named (items.Declares s) t declared = (s ≡ t) × (declared ≡ true)
 Named _ t declared = ⊥
 
+abbrev pub IsOther : Item → Type 0
+IsOther (items.Slot k) = ⊥
+IsOther (items.Refers s) = ⊥
+IsOther (items.Declares s) = ⊥
+IsOther _ = Unit {0}
+
+pub is_other : (item : Item) → ((k : Kind) → item ≡ items.Slot k → ⊥) → ((s : ℕ) → item ≡ items.Refers s → ⊥) → ((s : ℕ) → item ≡ items.Declares s → ⊥) → IsOther item
+is_other (items.Slot k) h i j = h k refl
+is_other (items.Refers s) h i j = i s refl
+is_other (items.Declares s) h i j = j s refl
+is_other _ h i j = tt
+
 module _ (xs : List Item) (names : List Name) (i column next : ℕ) (ps : List NameCol) (ns ss : List ℕ) (f : IsFoundUpTo xs names i column next ps ns ss) where
   one_more : (cs : List ℕ) (rest : List ℕ → List ℕ) → cs ++ (column ∷ rest cs) ≡ (cs ++ column ∷ []) ++ rest cs
   one_more cs rest = sym (append_assoc cs (column ∷ []) (rest cs))
@@ -116,12 +128,6 @@ module _ (xs : List Item) (names : List Name) (i column next : ℕ) (ps : List N
       }
       step _ h e = absurd h
 
-  abbrev pub IsOther : Item → Type 0
-  IsOther (items.Slot k) = ⊥
-  IsOther (items.Refers s) = ⊥
-  IsOther (items.Declares s) = ⊥
-  IsOther _ = Unit {0}
-
   pub found_other : (item : Item) → IsOther item → drop i xs ≡ item ∷ drop (i + 1) xs → IsFoundUpTo xs names (i + 1) column next ps ns ss
   found_other (items.Slot k) h e = absurd h
   found_other (items.Refers s) h e = absurd h
@@ -139,3 +145,13 @@ module _ (xs : List Item) (names : List Name) (i column next : ℕ) (ps : List N
   name_there s declared (items.Refers t) h e = let m = sym (ap names_count e) ∙ f.fits in omega (arith, m, length-drop next names)
   name_there s declared (items.Declares t) h e = let m = sym (ap names_count e) ∙ f.fits in omega (arith, m, length-drop next names)
   name_there s declared _ h e = absurd h
+
+-- the item and the name that the loop is at
+pub item_at : (xs : List Item) (i : ℕ) (x y : Item) → i < length xs → x ≡ get_or xs i x → x ≡ y → drop i xs ≡ y ∷ drop (i + 1) xs
+item_at xs i x y l e d = taken xs i x l e ∙ ap (λ z. z ∷ drop (i + 1) xs) d
+
+pub name_at : (names : List Name) (i : ℕ) (x : Name) → i < length names → x ≡ get_or names i x → drop i names ≡ x ∷ drop (i + 1) names
+name_at names i x l e = taken names i x l e
+
+pub settled : (xs : List Item) (names : List Name) (i column next c n : ℕ) (ps : List NameCol) (ns ss : List ℕ) → c ≡ column → n ≡ next → IsFoundUpTo xs names i column next ps ns ss → IsFoundUpTo xs names i c n ps ns ss
+settled xs names i column next c n ps ns ss ec en f = subst (λ k. IsFoundUpTo xs names i k n ps ns ss) (sym ec) (subst (λ k. IsFoundUpTo xs names i column k ps ns ss) (sym en) f)
