@@ -34,3 +34,6 @@ pub mod CellRows
 pub mod NodeSteps
 pub mod ItemSteps
 pub mod Halves
+pub mod OwnColumns
+pub mod OwnPlaces
+pub mod OwnSelect

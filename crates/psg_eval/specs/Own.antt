@@ -1,5 +1,5 @@
 -- The columns of an operator's rows, and its first step.
-use Rattle.std.specs.Prelude.{ℕ, suc, ◌≡◌, true, false, List, [], ◌∷◌, ◌++◌}
+use Rattle.std.specs.Prelude.{ℕ, suc, ◌≡◌, true, false, List, [], ◌∷◌, ◌++◌, length}
 use Rattle.psg_terms.specs.Names.{Name}
 use Rattle.psg_terms.specs.Terms.{Term}
 use Rattle.psg_terms.specs.Relations.{IsRelation}
@@ -10,9 +10,11 @@ use Rattle.psg_grammar.specs.declared.types.Operator.{Operator}
 use Rattle.psg_grammar.specs.Keys.{Key}
 use Rattle.psg_unify.specs.Pairs.{Pair as Columns}
 use Rattle.psg_scope.specs.declared.header.Header.{Header}
-use Rattle.psg_scope.specs.Headers.{declared_keys, IsHeader, keys}
+use Rattle.psg_scope.specs.Headers.{declared_keys, IsHeader, IsOrdered, keys}
 use Rattle.psg_eval.specs.OwnRows.{OwnRow, positions}
+use Rattle.psg_eval.specs.Summaries.{are_names}
 use Rattle.psg_eval.specs.Walks.{IsWalk}
+use Rattle.psg_eval.specs.declared.own.OwnKeys.{OwnKeys}
 
 -- the columns of the slots among the items, the first of which has this number
 abbrev pub slot_columns : ℕ → List Item → List ℕ
@@ -37,6 +39,14 @@ pub data IsOwn : (ks : List Key) (cs : List ℕ) (M : List Key) (columns : List 
   own_one : (k : Key) (c : ℕ) → IsOwn (k ∷ []) (c ∷ []) (k ∷ []) (c ∷ []) []
   own_two : {ks ls K L M : List Key} {cs ds A B columns : List ℕ} {ps qs rs : List Columns} → IsOwn ks cs K A ps → IsOwn ls ds L B qs
       → IsWalk 0 A B K L M rs columns → IsOwn (ks ++ ls) (cs ++ ds) M columns (ps ++ qs ++ rs)
+
+-- the columns of the operator's slots, and its own keys where it has these names
+pub record AreOwn (def : Definition) (op : Operator) (names : List Name) (slots : List ℕ) (own : OwnKeys) : Type 0 where
+  pub fits : length (are_names def op.items) ≡ length names
+  pub slots_are : slots ≡ slot_columns 1 op.items
+  pub region : IsHeader (keys (positions op.items names)) (declared_keys (positions op.items names)) (λ _. false) own.header
+  pub ordered : IsOrdered own.header
+  pub columns : IsOwn (keys (positions op.items names)) (name_columns 1 op.items) (keys own.header.names) own.columns.items own.pairs.items
 
 -- header and rows of an operator without children
 pub record IsOwnStep (def : Definition) (op : Operator) (names : List Name) (header : Header) (rows : List (List Term)) : Type 0 where

@@ -1,13 +1,15 @@
 //! The first step of an operator: its own rows and keys.
-ghost use Rattle.std.specs.Prelude.{◌≡◌, ◌+◌, ◌<◌, ◌^◌, ◌++◌, ◌∷◌, [], false, map, ℕ, List, Some, IfOk, OnOk, length, slice_get};
-ghost use Rattle.std.specs.List.{AllByRecursion};
+ghost use Rattle.std.specs.Prelude.{◌≡◌, ◌<◌, ◌^◌, ◌++◌, ◌∷◌, [], false, ℕ, List, IfErr, IfOk, OnOk, length};
 ghost use Rattle.psg_terms.specs.Names.{Name};
+ghost use Rattle.psg_terms.specs.Relations.{IsRelation};
+ghost use Rattle.psg_terms.specs.Weight.{PassesLimit};
 ghost use Rattle.psg_grammar.specs.declared.types.Kind.TheVariants.{Phylum};
 ghost use Rattle.psg_grammar.specs.declared.types.Definition.{Definition as Language};
 ghost use Rattle.psg_grammar.specs.Sound.{IsOperator};
+ghost use Rattle.psg_relation.specs.Choices.{HasWide, MayBeWide};
 ghost use Rattle.psg_scope.specs.Headers.{declared_keys, IsHeader, IsOrdered, keys};
-ghost use Rattle.psg_eval.specs.Own.{IsOwn, IsOwnStep, name_columns, slot_columns};
-ghost use Rattle.psg_eval.specs.OwnRows.{positions};
+ghost use Rattle.psg_eval.specs.Own.{AreOwn, IsOwn, IsOwnStep, name_columns, slot_columns};
+ghost use Rattle.psg_eval.specs.OwnRows.{OwnRow, positions};
 ghost use Rattle.psg_eval.specs.Partials.{IsPartial, MatchStep};
 ghost use Rattle.psg_eval.specs.Summaries.{are_names, slot_kinds};
 
@@ -137,7 +139,18 @@ fn own_rows(
     operator: &Operator,
     slots: &[usize],
     own: &OwnKeys,
-) -> Result<Rel, RelFault> {
+) -> Result<Rel, RelFault>
+    requires operator { IsOperator definition.now operator.now }
+    requires own { (names : List Name) × AreOwn definition.now operator.now names slots.now own.now }
+    ensures sorted { IfOk result (λ rel. (names : List Name) → AreOwn definition.now operator.now names slots.now own.now
+        → IsPartial definition.now (Phylum operator.now.phylum) (slot_kinds definition.now operator.now.items)
+        (record { header = own.now.header; report = false; wanted = length slots.now; rel = rel })) }
+    ensures rows { IfOk result (λ rel. (names : List Name) → AreOwn definition.now operator.now names slots.now own.now
+        → (ss : List ℕ) × IsRelation definition.now.signature ss (OwnRow definition.now.signature operator.now names) rel) }
+    ensures within { IfOk result (λ rel. PassesLimit rel → ⊥) }
+    ensures wide { IfErr result (MayBeWide ((names : List Name) → AreOwn definition.now operator.now names slots.now own.now
+        → (ss : List ℕ) × HasWide definition.now.signature ss (OwnRow definition.now.signature operator.now names))) }
+{
     let rows = whole_rows(alloc, operator.rows.as_slice())?;
     let mut keep = numbers(alloc, 0, 1)?;
     keep.extend_from_slice(slots)?;
