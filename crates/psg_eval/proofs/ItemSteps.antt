@@ -155,3 +155,13 @@ name_at names i x l e = taken names i x l e
 
 pub settled : (xs : List Item) (names : List Name) (i column next c n : ℕ) (ps : List NameCol) (ns ss : List ℕ) → c ≡ column → n ≡ next → IsFoundUpTo xs names i column next ps ns ss → IsFoundUpTo xs names i c n ps ns ss
 settled xs names i column next c n ps ns ss ec en f = subst (λ k. IsFoundUpTo xs names i k n ps ns ss) (sym ec) (subst (λ k. IsFoundUpTo xs names i column k ps ns ss) (sym en) f)
+
+-- each name position has a column
+pub columns_many : (xs : List Item) (names : List Name) (n : ℕ) → names_count xs ≡ length names → length (name_columns n xs) ≡ length (positions xs names)
+columns_many [] names n e = refl
+columns_many (items.Slot k ∷ xs) names n e = columns_many xs names (suc n) e
+columns_many (items.Refers s ∷ xs) [] n e = absurd (omega arith)
+columns_many (items.Refers s ∷ xs) (name ∷ names) n e = ap suc (columns_many xs names (suc n) (omega arith))
+columns_many (items.Declares s ∷ xs) [] n e = absurd (omega arith)
+columns_many (items.Declares s ∷ xs) (name ∷ names) n e = ap suc (columns_many xs names (suc n) (omega arith))
+columns_many (_ ∷ xs) names n e = columns_many xs names n e

@@ -55,7 +55,7 @@ slot_count def (items.Refers k ∷ xs) n = slot_count def xs (suc n)
 slot_count def (items.Declares k ∷ xs) n = slot_count def xs (suc n)
 slot_count def (_ ∷ xs) n = slot_count def xs n
 
-slot_few : (xs : List Item) (n : ℕ) → length (slot_columns n xs) ≤ length xs
+pub slot_few : (xs : List Item) (n : ℕ) → length (slot_columns n xs) ≤ length xs
 slot_few [] n = omega arith
 slot_few (items.Slot k ∷ xs) n = omega (arith, slot_few xs (suc n))
 slot_few (items.Refers k ∷ xs) n = omega (arith, slot_few xs (suc n))

@@ -179,15 +179,16 @@ pub(crate) fn first_step(
 {
     let found = item_places(alloc, operator.items.as_slice(), names)?;
     let own = own_keys(alloc, found.positions.as_slice(), found.names.as_slice())?;
+    let slots = found.slots.as_slice();
     let rel = if own.header.twice {
         Rel::empty(alloc, &definition.signature)
     } else {
-        own_rows(alloc, definition, operator, found.slots.as_slice(), &own)?
+        own_rows(alloc, definition, operator, slots, &own)?
     };
     Ok(Partial {
         header: own.header,
         report: false,
-        wanted: found.slots.len() as u32,
+        wanted: slots.len() as u32,
         rel,
     })
 }
