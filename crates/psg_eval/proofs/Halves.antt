@@ -1,5 +1,5 @@
 -- The keys of an operator's own positions, put together from those of both halves.
-use Rattle.std.proofs.Common.{◌≡◌, ℕ, ◌+◌, ◌≤◌, suc, List, [], ◌∷◌, ◌++◌, map, length, refl, ap, sym, ◌∙◌, subst, length-append, arith}
+use Rattle.std.proofs.Common.{◌≡◌, ℕ, ◌≤◌, suc, List, [], ◌∷◌, ◌++◌, length, refl, ap, sym, ◌∙◌, subst, length-append, arith}
 use Rattle.psg_grammar.specs.Keys.{Key, in_order}
 use Rattle.psg_unify.specs.Pairs.{Pair as Columns}
 use Rattle.psg_scope.specs.Headers.{key_of, keys}

@@ -1,5 +1,5 @@
 -- The rows of an operator in which positions with one key agree are the own rows of its nodes.
-use Rattle.std.proofs.Common.{◌≡◌, ℕ, ◌+◌, ◌<◌, ◌≤◌, ◌↔◌, ◌^◌, suc, zero, false, cond, List, [], ◌∷◌, ◌++◌, map, length, All, refl, ap, ap₂, sym, ◌∙◌, subst, Option, Some, slice_get, append-nil, arith}
+use Rattle.std.proofs.Common.{◌≡◌, ℕ, ◌<◌, ◌≤◌, suc, zero, false, cond, List, [], ◌∷◌, ◌++◌, map, length, All, refl, ap, sym, ◌∙◌, subst, Option, Some, slice_get, arith}
 use Rattle.std.proofs.lemmas.List.{length-map}
 use Rattle.psg_terms.specs.Names.{Name}
 use Rattle.psg_terms.specs.Terms.{Term}
@@ -23,15 +23,14 @@ use Rattle.psg_scope.specs.declared.header.Header.{Header}
 use Rattle.psg_eval.specs.Own.{AreOwn, name_columns, slot_columns}
 use Rattle.psg_eval.specs.OwnRows.{OwnRow, name_terms, positions, slot_terms, whole_row}
 use Rattle.psg_eval.specs.Partials.{IsPartial}
-use Rattle.psg_eval.specs.Summaries.{AreKeySorts, are_names, slot_kinds}
+use Rattle.psg_eval.specs.Summaries.{AreKeySorts, slot_kinds}
 use Rattle.psg_eval.specs.declared.own.OwnKeys.{OwnKeys}
 use Rattle.psg_eval.specs.declared.partial.Partial.{Partial}
-use Rattle.psg_eval.proofs.KeySorts.{key_sort}
 use Rattle.psg_eval.proofs.Halves.{own_width}
 use Rattle.psg_eval.proofs.OwnColumns.{own_back, own_pairs, own_to, picks_many}
 use Rattle.psg_eval.proofs.OwnPlaces.{SortsPlaced, items_columns, sorts_placed, terms_placed}
-use Rattle.psg_eval.proofs.PartialSorts.{IsKeySort, key_sort_same, kind_sorts_many, sorts_along}
-use Rattle.psg_eval.proofs.Uniqueness.{instance_sorts, sorts_length}
+use Rattle.psg_eval.proofs.PartialSorts.{IsKeySort, key_sort_same, sorts_along}
+use Rattle.psg_eval.proofs.Uniqueness.{sorts_length}
 use Rattle.psg_eval.proofs.Walking.{Along, IsEntity, IsThere, Matches, Picks, along_any, along_length, along_map, entities, map_along, matches_agree, picks_append, picks_picked, picks_within}
 
 entity_same : (g : Key → Term) (k : Key) (x y : Term) → IsEntity g k x → IsEntity g k y → x ≡ y

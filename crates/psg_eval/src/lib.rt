@@ -22,6 +22,3 @@ pub mod summary;
 
 pub use evaluating::{eval_cell, eval_end, eval_hole, eval_op};
 pub use summary::{EvalFault, Summary};
-
-#[cfg(test)]
-mod tests;

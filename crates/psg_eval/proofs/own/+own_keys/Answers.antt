@@ -1,4 +1,4 @@
-use Rattle.std.proofs.Common.{◌≡◌, ◌+◌, ◌++◌, length, sym, ◌∙◌, ap, ap₂, subst, arith}
+use Rattle.std.proofs.Common.{◌++◌, length, sym, ◌∙◌, ap, ap₂, subst, arith}
 use Rattle.std.proofs.lemmas.List.{length-map}
 use Rattle.psg_scope.specs.Headers.{keys, key_of}
 use Rattle.psg_scope.proofs.HeaderLaws.{of_halves}

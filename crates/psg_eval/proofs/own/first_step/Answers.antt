@@ -1,4 +1,4 @@
-use Rattle.std.proofs.Common.{◌≡◌, ◌<◌, ◌^◌, [], false, length, List, ℕ, refl, sym, subst, ap, ap₂, ◌∙◌, arith}
+use Rattle.std.proofs.Common.{◌≡◌, [], false, length, List, ℕ, refl, sym, subst, ap, ◌∙◌, arith}
 use Rattle.psg_grammar.specs.declared.types.Item.{Item}
 use Rattle.psg_grammar.specs.declared.types.Kind.TheVariants.{Phylum}
 use Rattle.psg_relation.specs.declared.relation.Rel.{Rel}
@@ -8,7 +8,6 @@ use Rattle.psg_eval.specs.Own.{AreOwn, IsOwn, name_columns, slot_columns}
 use Rattle.psg_eval.specs.OwnRows.{positions}
 use Rattle.psg_eval.specs.Partials.{IsPartial}
 use Rattle.psg_eval.specs.Summaries.{are_names, slot_kinds}
-use Rattle.psg_eval.specs.declared.partial.Partial.{Partial}
 use Rattle.psg_eval.proofs.ItemSteps.{columns_many, names_counted}
 use Rattle.psg_eval.proofs.OwnSelect.{own_partial, slot_few}
 use Rattle.psg_eval.proofs.own.first_step.Goals as goal

@@ -1,4 +1,4 @@
-use Rattle.std.proofs.Common.{◌≡◌, ◌+◌, true, false, refl, sym, subst, ap, arith}
+use Rattle.std.proofs.Common.{◌+◌, true, false, refl, sym, subst}
 use Rattle.psg_grammar.specs.declared.types.Item.TheVariants as items
 use Rattle.psg_eval.specs.declared.own.Places.{Places}
 use Rattle.psg_eval.proofs.ItemSteps.{IsFoundUpTo, found_all, found_none, found_name, found_other, found_slot, is_other, item_at, name_at, name_there, settled}

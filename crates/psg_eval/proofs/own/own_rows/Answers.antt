@@ -10,7 +10,7 @@ use Rattle.psg_eval.specs.Own.{AreOwn}
 use Rattle.psg_eval.specs.OwnRows.{OwnRow, whole_row}
 use Rattle.psg_eval.specs.Partials.{IsPartial}
 use Rattle.psg_eval.specs.Summaries.{slot_kinds}
-use Rattle.psg_eval.proofs.OwnSelect.{kept, own_equal, own_partial, own_sorted, own_within, row_sorts, selected_relation}
+use Rattle.psg_eval.proofs.OwnSelect.{own_equal, own_partial, own_sorted, own_within, row_sorts, selected_relation}
 use Rattle.psg_eval.proofs.own.own_rows.Goals as goal
 use Rattle.psg_eval.proofs.own.own_rows.Goals.{After-as_slice-5}
 
