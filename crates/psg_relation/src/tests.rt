@@ -308,7 +308,7 @@ fn projected(
 }
 
 /// Whether each row has the columns.
-fn all_within(rows: &[RelRow], keep: &[usize]) -> bool
+pub fn all_within(rows: &[RelRow], keep: &[usize]) -> bool
     ensures { IsTrue result → AllWithin rows.now keep.now }
 {
     for row in rows {

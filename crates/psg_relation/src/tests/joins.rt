@@ -3,8 +3,8 @@ ghost use Rattle.std.specs.Prelude.{IsTrue};
 ghost use Rattle.psg_terms.specs.Kept.{numbers_of};
 ghost use Rattle.psg_unify.specs.Pairs.{AreOfEqualSort};
 
-use super::{TYPE, all_sorted, checked, doubled, row_of, shown, types, within};
-use crate::{Rel, RelFault, RelRow, join};
+use super::{TYPE, all_sorted, all_within, checked, doubled, row_of, shown, types, within};
+use crate::{Rel, RelFault, RelRow, join, select};
 use psg_terms::{ConId, SigFault, Signature, SortId, Term};
 use std::alloc::{AllocError, Global};
 
@@ -369,5 +369,66 @@ fn chains(rt: HostRuntime) -> Result<(), SigFault> {
     assert_eq!(rt; chained(rt.alloc(), 13)?.as_str(), "pair(?1,?1)|");
     assert_eq!(rt; chained(rt.alloc(), 18)?.as_str(), "pair(?1,?1)|");
     assert!(rt; chained(rt.alloc(), 40).is_err());
+    Ok(())
+}
+
+/// What the rows make where their own columns agree on the pairs.
+fn selected(
+    alloc: Global,
+    sig: &Signature,
+    rows: &[RelRow],
+    sorts: &[SortId],
+    pairs: &[(usize, usize)],
+    keep: &[usize],
+) -> Result<Rel, RelFault> {
+    if !all_sorted(sig, rows, sorts) {
+        return Err(RelFault::Memory);
+    }
+    if !are_of_equal_sort(sorts, sorts, pairs) {
+        return Err(RelFault::Memory);
+    }
+    if !all_within(rows, keep) {
+        return Err(RelFault::Memory);
+    }
+    select(alloc, sig, rows, pairs, keep)
+}
+
+/// The text of one column of the rows of two whose columns agree, or of all rows where there are no pairs.
+fn column(
+    alloc: Global,
+    rows: &str,
+    pairs: &[(usize, usize)],
+    keep: usize,
+) -> Result<String, SigFault> {
+    let sig = types(alloc)?;
+    let made = rows_of(alloc, rows)?;
+    let sorts = vec![in alloc; TYPE; 2]?;
+    let text = match selected(
+        alloc,
+        &sig,
+        made.as_slice(),
+        sorts.as_slice(),
+        pairs,
+        &[keep],
+    ) {
+        Ok(rel) => shown(alloc, &sig, rel.rows(), &[TYPE])?,
+        Err(_) => String::from_str(alloc, "fault")?,
+    };
+    Ok(text)
+}
+
+// Raw rows would give `?1`, which has the selected one as an instance.
+#[test]
+fn equal_columns(rt: HostRuntime) -> Result<(), SigFault> {
+    let alloc = rt.alloc();
+    let rows = "arr ?1 ?2;int bool;?1 arr ?1;bool bool";
+    assert_eq!(rt;
+        column(alloc, rows, &[(0, 1)], 1)?.as_str(),
+        "arr(?1)|bool|"
+    );
+    assert_eq!(rt;
+        column(alloc, "int bool;bool bool", &[], 1)?.as_str(),
+        "bool|"
+    );
     Ok(())
 }
