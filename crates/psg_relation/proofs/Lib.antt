@@ -11,3 +11,5 @@ pub mod Existing
 pub mod Unifying
 pub mod Solving
 mod CaseColumns
+pub mod Passing
+pub mod Selected

@@ -3,7 +3,8 @@ use Rattle.std.specs.Prelude.{ℕ, ◌≡◌, ◌<◌, ◌++◌, List, [], ◌�
 use Rattle.psg_terms.specs.Terms.{Term}
 use Rattle.psg_terms.specs.Signature.{Signature, HaveSorts}
 use Rattle.psg_terms.specs.Instances.{IsGroundInstance}
-use Rattle.psg_terms.specs.Relations.{IsIn}
+use Rattle.psg_terms.specs.Relations.{IsIn, IsRelation}
+use Rattle.psg_terms.specs.Weight.{PassesLimit}
 use Rattle.psg_unify.specs.Pairs.{Pair as Columns, AgreeOn}
 use Rattle.psg_relation.specs.declared.relation.RelFault.{RelFault}
 use Rattle.psg_relation.specs.declared.relation.RelFault.TheVariants.{Wide, Memory}
@@ -44,3 +45,12 @@ AllWithin rows keep = (row : List Term) → IsIn row rows → All (λ k. k < len
 
 abbrev pub all_picked : List (List Term) → List ℕ → List (List Term)
 all_picked rows keep = map (λ row. picked row keep) rows
+
+-- the family has a relation that passes the limit
+abbrev pub HasWide : Signature → List ℕ → {C : Type 0} → (C → List Term → Type 0) → Type 0
+HasWide sig sorts possible = (rows : List (List Term)) × IsRelation sig sorts possible rows × PassesLimit rows
+
+-- a row's own columns agree on the pairs
+abbrev pub IsSelected : Signature → List (List Term) → List Columns → List ℕ → List Term → List Term → Type 0
+IsSelected sig rows pairs keep row columns =
+    IsIn row rows × ((full : List Term) × IsGroundInstance sig row full × AgreeOn pairs full full × (columns ≡ picked full keep))

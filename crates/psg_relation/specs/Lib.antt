@@ -5,3 +5,4 @@ pub mod Sifted
 pub mod Texts
 pub mod Sealed
 pub mod Joining
+pub mod Selecting

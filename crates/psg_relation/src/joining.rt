@@ -7,7 +7,7 @@ ghost use Rattle.psg_terms.specs.Canonical.{AreWrittenOut};
 ghost use Rattle.psg_terms.specs.Relations.{IsIn, IsRelation, IsGlued};
 ghost use Rattle.psg_terms.specs.Weight.{PassesLimit};
 ghost use Rattle.psg_unify.specs.Pairs.{AreJoinable};
-ghost use Rattle.psg_relation.specs.Choices.{AllHaveSorts, Agrees, MayBeWide, picked};
+ghost use Rattle.psg_relation.specs.Choices.{AllHaveSorts, Agrees, HasWide, MayBeWide, picked};
 ghost use Rattle.psg_relation.specs.Sealed.{IsReady};
 ghost use Rattle.psg_relation.specs.Joining.{Joins, IsJoinOf, IsMore, Two, with_each, AreJoined, MayJoin, MayMeet};
 
@@ -61,7 +61,7 @@ fn joined_row(
 }
 
 /// The rows, and behind them the join of two rows, where they can be made to agree.
-fn with_join(
+pub fn with_join(
     alloc: Global,
     sig: &Signature,
     made: Vec<RelRow>,
@@ -132,6 +132,8 @@ pub fn join(
         → (others : List (List Plain)) → IsRelation sig.now (picked (ls ++ rs) keep.now)
         (IsGlued sig.now (Agrees pairs.now keep.now) left.now right.now) others
         → PassesLimit others)) }
+    ensures some { IfErr result (MayBeWide ((ls rs : List ℕ) → AllHaveSorts sig.now left.now ls → AllHaveSorts sig.now right.now rs
+        → HasWide sig.now (picked (ls ++ rs) keep.now) (IsGlued sig.now (Agrees pairs.now keep.now) left.now right.now))) }
 {
     let lefts = left.rows();
     let rights = right.rows();

@@ -23,6 +23,7 @@ mod plain;
 pub mod projection;
 pub mod relation;
 pub mod row;
+pub mod selecting;
 mod sifting;
 mod weighing;
 
@@ -30,6 +31,7 @@ pub use joining::join;
 pub use projection::project;
 pub use relation::{Rel, RelFault};
 pub use row::RelRow;
+pub use selecting::select;
 
 #[cfg(test)]
 mod tests;

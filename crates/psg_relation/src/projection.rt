@@ -3,7 +3,7 @@ ghost use Rattle.std.specs.Prelude.{◌≡◌, ◌<◌, All, IfOk, IfErr, List, 
 ghost use Rattle.psg_terms.specs.Terms.{Term as Plain};
 ghost use Rattle.psg_terms.specs.Relations.{IsRelation};
 ghost use Rattle.psg_terms.specs.Weight.{PassesLimit};
-ghost use Rattle.psg_relation.specs.Choices.{AllHaveSorts, AllWithin, IsProjected, MayBeWide, picked, all_picked};
+ghost use Rattle.psg_relation.specs.Choices.{AllHaveSorts, AllWithin, HasWide, IsProjected, MayBeWide, picked, all_picked};
 
 use crate::relation::{Rel, RelFault};
 use crate::row::RelRow;
@@ -24,7 +24,11 @@ pub fn kept_columns(alloc: Global, row: &[Term], keep: &[usize]) -> Result<RelRo
 }
 
 /// The columns of these numbers of each row.
-fn all_columns(alloc: Global, rows: &[RelRow], keep: &[usize]) -> Result<Vec<RelRow>, AllocError>
+pub fn all_columns(
+    alloc: Global,
+    rows: &[RelRow],
+    keep: &[usize],
+) -> Result<Vec<RelRow>, AllocError>
     requires { AllWithin rows.now keep.now }
     ensures { IfOk result (λ made. made.items ≡ all_picked rows.now keep.now) }
 {
@@ -49,6 +53,8 @@ pub fn project(alloc: Global, sig: &Signature, rel: &Rel, keep: &[usize]) -> Res
     ensures wide { IfErr result (MayBeWide ((sorts : List ℕ) → AllHaveSorts sig.now rel.now sorts
         → (others : List (List Plain)) → IsRelation sig.now (picked sorts keep.now) (IsProjected sig.now rel.now keep.now) others
         → PassesLimit others)) }
+    ensures some { IfErr result (MayBeWide ((sorts : List ℕ) → AllHaveSorts sig.now rel.now sorts
+        → HasWide sig.now (picked sorts keep.now) (IsProjected sig.now rel.now keep.now))) }
 {
     let columns = all_columns(alloc, rel.rows(), keep)?;
     Rel::of(alloc, sig, columns.as_slice())

@@ -8,7 +8,7 @@ ghost use Rattle.psg_terms.specs.Canonical.{IsCanonical};
 ghost use Rattle.psg_terms.specs.Relations.{IsIn, IsOnce, IsRelation};
 ghost use Rattle.psg_terms.specs.Text.{IsInTextOrder};
 ghost use Rattle.psg_terms.specs.Weight.{PassesLimit};
-ghost use Rattle.psg_relation.specs.Choices.{AllHaveSorts, IsOfRow, MayBeWide};
+ghost use Rattle.psg_relation.specs.Choices.{AllHaveSorts, HasWide, IsOfRow, MayBeWide};
 ghost use Rattle.psg_relation.specs.Sealed.{AllReady, AreCanonicalOf};
 
 use crate::row::RelRow;
@@ -84,6 +84,8 @@ impl Rel {
         ensures within { IfOk result (λ rel. PassesLimit rel → ⊥) }
         ensures wide { IfErr result (MayBeWide ((sorts : List ℕ) → AllHaveSorts sig.now rows.now sorts
             → (others : List (List Plain)) → IsRelation sig.now sorts (IsOfRow sig.now rows.now) others → PassesLimit others)) }
+        ensures some { IfErr result (MayBeWide ((sorts : List ℕ) → AllHaveSorts sig.now rows.now sorts
+            → HasWide sig.now sorts (IsOfRow sig.now rows.now))) }
     {
         sig.sound();
         let made = canonical_rows(alloc, sig, rows)?;
@@ -96,6 +98,18 @@ impl Rel {
         ensures sealed { AreSealed self.now }
     {
         self.kept.as_slice()
+    }
+
+    /// The relation without rows.
+    pub fn empty(alloc: Global, sig: &Signature) -> Rel
+        ensures { result ≡ [] }
+    {
+        sig.sound();
+        Rel {
+            kept: Seq::of(Vec::new(alloc)),
+            weight: 0,
+            deepest: 0,
+        }
     }
 
     /// Whether there is no row.
@@ -147,6 +161,8 @@ pub fn relation_of(alloc: Global, sig: &Signature, rows: &[RelRow]) -> Result<Re
     ensures within { IfOk result (λ rel. PassesLimit rel → ⊥) }
     ensures wide { IfErr result (MayBeWide ((sorts : List ℕ) → AllHaveSorts sig.now rows.now sorts
         → (others : List (List Plain)) → IsRelation sig.now sorts (IsOfRow sig.now rows.now) others → PassesLimit others)) }
+    ensures some { IfErr result (MayBeWide ((sorts : List ℕ) → AllHaveSorts sig.now rows.now sorts
+        → HasWide sig.now sorts (IsOfRow sig.now rows.now))) }
 {
     sig.sound();
     match sift(alloc, sig, rows)? {

@@ -3,7 +3,7 @@ use Rattle.std.proofs.lemmas.List.{take_all}
 use Rattle.psg_terms.specs.Terms.{Term}
 use Rattle.psg_terms.specs.Relations.{IsRelation, IsGlued}
 use Rattle.psg_terms.specs.Weight.{PassesLimit}
-use Rattle.psg_relation.specs.Choices.{AllHaveSorts, IsOfRow, Agrees, picked}
+use Rattle.psg_relation.specs.Choices.{AllHaveSorts, HasWide, IsOfRow, Agrees, picked}
 use Rattle.psg_relation.specs.Joining.{AreJoined, MayJoin, MayMeet, all_pairs, with_each}
 use Rattle.psg_relation.proofs.Making.{err_map, ok_map}
 use Rattle.psg_relation.proofs.Meeting.{may_meet, pairs_step, joined_sorts, joined_relation, unjoined_relation}
@@ -81,3 +81,19 @@ returns-clause-wide c =
     ((ls rs : List ℕ) → AllHaveSorts sig left ls → AllHaveSorts sig right rs → (others : List (List Term)) → IsRelation sig (picked (ls ++ rs) keep) (IsGlued sig (Agrees pairs keep) left right) others → PassesLimit others)
     (λ wide ls rs hl hr others q. wide (picked (ls ++ rs) keep) (joined_sorts sig pairs keep left right rows a ls rs hl hr) others (unjoined_relation sig pairs keep left right rows a (picked (ls ++ rs) keep) others q))
     c.relation_of.ensures.wide
+
+pub returns-clause-some : goal.returns-clause-some
+returns-clause-some c =
+    let sig = c.args.sig.now in
+    let pairs = c.args.pairs.now in
+    let keep = c.args.keep.now in
+    let left = c.args.left.now in
+    let right = c.args.right.now in
+    let rows = c.as_slice.result.now in
+    let a = made (goal.at.returns-clause-some c).After-as_slice in
+    err_map c.relation_of.result ((sorts : List ℕ) → AllHaveSorts sig rows sorts → HasWide sig sorts (IsOfRow sig rows))
+    ((ls rs : List ℕ) → AllHaveSorts sig left ls → AllHaveSorts sig right rs → HasWide sig (picked (ls ++ rs) keep) (IsGlued sig (Agrees pairs keep) left right))
+    (λ some ls rs hl hr.
+    let (others, q, passes) = some (picked (ls ++ rs) keep) (joined_sorts sig pairs keep left right rows a ls rs hl hr) in
+    (others, joined_relation sig pairs keep left right rows a (picked (ls ++ rs) keep) others q, passes))
+    c.relation_of.ensures.some

@@ -2,7 +2,7 @@ use Rattle.std.proofs.Common.{◌≡◌, ℕ, List, sym, subst}
 use Rattle.psg_terms.specs.Terms.{Term}
 use Rattle.psg_terms.specs.Relations.{IsRelation}
 use Rattle.psg_terms.specs.Weight.{PassesLimit}
-use Rattle.psg_relation.specs.Choices.{AllHaveSorts, IsOfRow, IsProjected, picked, all_picked}
+use Rattle.psg_relation.specs.Choices.{AllHaveSorts, HasWide, IsOfRow, IsProjected, picked, all_picked}
 use Rattle.psg_relation.proofs.Columns.{all_sorted, projected, unprojected}
 use Rattle.psg_relation.proofs.Making.{err_map, ok_map}
 use Rattle.psg_relation.proofs.projection.project.Goals as goal
@@ -42,3 +42,17 @@ of-requires c =
     let sorts = c.requires.sorts.0 in
     let e : c.as_slice.result.now ≡ all_picked rel keep = cc (c.as_slice.ensures.value, c.in_ok-columns.ensures, c.rows.ensures.rows) in
     (picked sorts keep, subst (λ m. AllHaveSorts sig m (picked sorts keep)) (sym e) (all_sorted sig rel keep sorts c.requires.sorts.1))
+
+pub returns-clause-some : goal.returns-clause-some
+returns-clause-some c =
+    let sig = c.args.sig.now in
+    let rel = c.args.rel.now in
+    let keep = c.args.keep.now in
+    let made = c.as_slice.result.now in
+    let e : made ≡ all_picked rel keep = cc (c.as_slice.ensures.value, c.in_ok-columns.ensures, c.rows.ensures.rows) in
+    err_map c.of.result ((sorts : List ℕ) → AllHaveSorts sig made sorts → HasWide sig sorts (IsOfRow sig made))
+    ((sorts : List ℕ) → AllHaveSorts sig rel sorts → HasWide sig (picked sorts keep) (IsProjected sig rel keep))
+    (λ some sorts sorted.
+    let (others, q, passes) = some (picked sorts keep) (subst (λ m. AllHaveSorts sig m (picked sorts keep)) (sym e) (all_sorted sig rel keep sorts sorted)) in
+    (others, projected sig rel keep (picked sorts keep) others (subst (λ m. IsRelation sig (picked sorts keep) (IsOfRow sig m) others) e q), passes))
+    c.of.ensures.some

@@ -1,0 +1,192 @@
+-- The steps of an operator by the children of its node.
+use Rattle.std.proofs.Common.{◌≡◌, inl, inr, ℕ, zero, suc, ◌+◌, ◌-◌, ◌<◌, ◌≤◌, ◌||◌, Bool, true, false, cond, List, [], ◌∷◌, ◌++◌, length, take, drop, get_or, Some, refl, ap, sym, ◌∙◌, subst, true≢false, arith}
+use Rattle.std.specs.Prelude.{Result, Ok, Err}
+use Rattle.std.specs.List.{slice_get, list_any}
+use Rattle.std.proofs.lemmas.List.{length-drop, length-map}
+use Rattle.psg_terms.specs.Terms.{Term}
+use Rattle.psg_terms.specs.Names.{Name}
+use Rattle.psg_terms.specs.Weight.{PassesLimit}
+use Rattle.psg_terms.proofs.DeclareLaws.{take-next}
+use Rattle.std.proofs.lemmas.Option.{slice_get_within}
+use Rattle.psg_grammar.specs.declared.types.Item.{Item}
+use Rattle.psg_grammar.specs.declared.types.Item.TheVariants as items
+use Rattle.psg_grammar.specs.declared.types.Kind.{Kind}
+use Rattle.psg_grammar.specs.declared.types.Kind.TheVariants as kinds
+use Rattle.psg_grammar.specs.declared.types.Operator.{Operator}
+use Rattle.psg_grammar.specs.declared.types.Definition.{Definition}
+use Rattle.psg_grammar.specs.Fragments.{Fragment, children_of}
+use Rattle.psg_grammar.specs.Lookups.{is_scope}
+use Rattle.psg_grammar.specs.Sound.{IsSound}
+use Rattle.psg_grammar.specs.Steps.{children_count}
+use Rattle.psg_scope.specs.declared.header.Header.{Header}
+use Rattle.psg_scope.proofs.KeyLists.{or-assoc, or-false, or_cases}
+use Rattle.psg_eval.specs.declared.partial.Partial.{Partial}
+use Rattle.psg_eval.specs.declared.summary.EvalFault.{EvalFault}
+use Rattle.psg_eval.specs.declared.summary.EvalFault.TheVariants as faults
+use Rattle.psg_eval.specs.declared.summary.Known.{Known}
+use Rattle.psg_eval.specs.Outside.{IsClosed}
+use Rattle.psg_eval.specs.Own.{IsOwnStep}
+use Rattle.psg_eval.specs.Partials.{IsAdded, IsPartial}
+use Rattle.psg_eval.specs.Stages.{kinds_of, IsMade, IsStep, MatchMade, MatchOuter, MatchWhole}
+use Rattle.psg_eval.specs.Summaries.{Answers, AreSummariesOf, IsFirstPassing, reporting, slot_kinds}
+use Rattle.psg_eval.specs.Trees.{HasParts, IsNode, IsOfKind, reports}
+use Rattle.psg_eval.proofs.Assembling.{made_first, made_next, wide_first, wide_next, open_answer, closed_answer, closed_wide}
+use Rattle.psg_eval.proofs.LeafAnswers.{at_place}
+use Rattle.psg_eval.proofs.Nodes.{as_many, child_at, node_count, node_kind, node_reports, node_scope}
+use Rattle.psg_eval.proofs.Stepping.{first_ok, first_twice}
+use Rattle.psg_eval.proofs.WalkSteps.{drop_at, drop_end}
+
+-- ---- which children report
+
+abbrev pub any_report : List Known → Bool
+any_report xs = list_any (λ (s : Known). s.report) xs
+
+any_push : (xs : List Known) (s : Known) → any_report (xs ++ s ∷ []) ≡ (any_report xs || s.report)
+any_push [] s = or-false s.report
+any_push (x ∷ xs) s = ap (λ b. x.report || b) (any_push xs s) ∙ sym (or-assoc x.report (any_report xs) s.report)
+
+module _ (def : Definition) where
+  count_more : (b : Bool) (x : Known) (rest : List Known) → length rest ≤ length (cond b (x ∷ rest) rest)
+  count_more true x rest = omega arith
+  count_more false x rest = omega arith
+
+  count_one : (b : Bool) (x : Known) (rest : List Known) → b ≡ true → length rest + 1 ≤ length (cond b (x ∷ rest) rest)
+  count_one true x rest e = omega arith
+  count_one false x rest e = absurd (true≢false (sym e))
+
+  some_reports : (xs : List Known) (i : ℕ) (s : Known) → slice_get xs i ≡ Some s → s.report ≡ true → 1 ≤ length (reporting def xs)
+  some_reports [] i s at e = absurd (cc)
+  some_reports (x ∷ xs) zero s at e =
+      let same : s ≡ x = cc in
+      let h = count_one x.report x (reporting def xs) (ap (λ (z : Known). z.report) (sym same) ∙ e) in
+      omega arith
+  some_reports (x ∷ xs) (suc i) s at e =
+      let h = some_reports xs i s at e in
+      let k = count_more x.report x (reporting def xs) in
+      omega arith
+
+  -- where one of the first children reports, no later one does
+  pub reports_apart : (xs : List Known) (i : ℕ) (s : Known) → slice_get xs i ≡ Some s → length (reporting def xs) ≤ 1 → any_report (take i xs) ≡ true → s.report ≡ true → ⊥
+  reports_apart [] i s at few e d = absurd (cc)
+  reports_apart (x ∷ xs) zero s at few e d = true≢false (sym e)
+  reports_apart (x ∷ xs) (suc i) s at few e d = elim (or_cases x.report (any_report (take i xs)) e) [
+    | inl r ↦
+        let h = some_reports xs i s at d in
+        let k = count_one x.report x (reporting def xs) r in
+        absurd (omega arith)
+    | inr r ↦
+        let k = count_more x.report x (reporting def xs) in
+        reports_apart xs i s at (omega arith) r d
+  ]
+
+-- ---- the first children
+
+-- what is known of the node with the first i children
+pub record IsGoneUpTo (def : Definition) (children : List Known) (begin now : Partial) (i : ℕ) : Type 0 where
+  pub made : (f : Fragment) → HasParts def f [] → AreSummariesOf def f children → IsMade def f 0 begin → IsMade def f i now
+  pub partial : (kind : Kind) → IsPartial def kind (kinds_of children) begin → IsPartial def kind (kinds_of (drop i children)) now
+  pub report : now.report ≡ any_report (take i children)
+
+pub gone_none : (def : Definition) (children : List Known) (begin : Partial) → begin.report ≡ false → IsGoneUpTo def children begin begin 0
+gone_none def children begin silent = record { made = λ f parts all is. is; partial = λ kind part. part; report = silent }
+
+module _ (def : Definition) (children : List Known) (begin now : Partial) (i : ℕ) (s : Known) (at : slice_get children i ≡ Some s) (gone : IsGoneUpTo def children begin now i) where
+  pub now_partial : (kind : Kind) → IsPartial def kind (kinds_of children) begin → IsPartial def kind (s.kind ∷ kinds_of (drop (i + 1) children)) now
+  now_partial kind part = subst (λ l. IsPartial def kind (kinds_of l) now) (drop_at children i s at) (gone.partial kind part)
+
+  pub now_apart : length (reporting def children) ≤ 1 → now.report ≡ true → s.report ≡ true → ⊥
+  now_apart few e d = reports_apart def children i s at few (sym gone.report ∙ e) d
+
+  module _ (sound : IsSound def) (kind : Kind) (part : IsPartial def kind (kinds_of children) begin) (f : Fragment) (parts : HasParts def f []) (all : AreSummariesOf def f children) (is : IsMade def f 0 begin) where
+    abbrev child : Fragment
+    child = (child_at def (children_of f) children all i s at).0
+
+    many : length (s.kind ∷ kinds_of (drop (i + 1) children)) ≡ length (children_of f) - i
+    many =
+        let a = as_many def (children_of f) children all in
+        let b = length-map (drop (i + 1) children) (λ (x : Known). x.kind) in
+        let d = length-drop (i + 1) children in
+        let w = within children i s at in
+        omega arith
+      where
+        within : (xs : List Known) (k : ℕ) (x : Known) → slice_get xs k ≡ Some x → k < length xs
+        within [] k x e = absurd (cc)
+        within (y ∷ xs) zero x e = omega arith
+        within (y ∷ xs) (suc k) x e = omega (arith, within xs k x e)
+
+    pub child_made : (next : Partial) → IsAdded def now s next.header next.rel → (PassesLimit next.rel → ⊥) → IsMade def f (i + 1) next
+    child_made next added light =
+        let found = child_at def (children_of f) children all i s at in
+        made_next def f parts sound.signature i found.0 found.1 kind (kinds_of (drop (i + 1) children)) now s many (now_partial kind part) found.2 (gone.made f parts all is) next added light
+
+    pub child_wide : (h : Header) (rows : List (List Term)) → IsAdded def now s h rows → PassesLimit rows → IsFirstPassing def f (i + 1)
+    child_wide h rows added passes =
+        let found = child_at def (children_of f) children all i s at in
+        wide_next def f parts sound.signature i found.0 found.1 kind (kinds_of (drop (i + 1) children)) now s many (now_partial kind part) found.2 (gone.made f parts all is) h rows added passes
+
+-- the report with one child more
+pub report_more : (children : List Known) (i : ℕ) (s : Known) (b : Bool) → i < length children → s ≡ get_or children i s → b ≡ (any_report (take i children) || s.report) → b ≡ any_report (take (i + 1) children)
+report_more children i s b l e h = h ∙ sym (any_push (take i children) s) ∙ sym (ap any_report (take-next children i s l e))
+
+pub all_gone : (def : Definition) (children : List Known) (begin now : Partial) (i : ℕ) → i ≡ length children → IsGoneUpTo def children begin now i → (kind : Kind) → IsPartial def kind (kinds_of children) begin → IsPartial def kind [] now
+all_gone def children begin now i e gone kind part = subst (λ l. IsPartial def kind (kinds_of l) now) (drop_end children i (omega arith)) (gone.partial kind part)
+
+-- ---- the operator
+
+module _ (def : Definition) (sound : IsSound def) (o : ℕ) (op : Operator) (found : slice_get def.operators o ≡ Some op) (names : List Name) (f : Fragment) (node : IsNode def o names f) where
+  own_step : (h : Header) (rows : List (List Term)) → IsOwnStep def op names h rows → IsStep def f 0 h rows
+  own_step h rows is = by (h.twice) refl where
+    by : (b : Bool) → h.twice ≡ b → IsStep def f 0 h rows
+    by true e = subst (IsStep def f 0 h) (sym (is.none e)) (first_twice def f o op found names node h is.region e)
+    by false e = let (ss, rel) = is.made e in first_ok def f o op found names node h is.region ss rows sound e rel
+
+  pub own_made : (p : Partial) → IsOwnStep def op names p.header p.rel → (PassesLimit p.rel → ⊥) → IsMade def f 0 p
+  own_made p is light = made_first def f sound.signature p (own_step p.header p.rel is) light
+
+  pub own_wide : (h : Header) (rows : List (List Term)) → IsOwnStep def op names h rows → PassesLimit rows → IsFirstPassing def f 0
+  own_wide h rows is passes = wide_first def f sound.signature h rows (own_step h rows is) passes
+
+  -- from the answer for the operator to that for the tree
+  module _ (children : List Known) (all : AreSummariesOf def f children) (whole : Partial) (report : whole.report ≡ any_report children) where
+    pub whole_answer : (result : Result Partial EvalFault) → MatchWhole def op whole (length children) result → IsMade def f (length children) whole → MatchOuter def f (kinds.Phylum op.phylum) result
+    whole_answer result h made =
+        h f node.parts (node_kind def o op found names f node) (node_scope def o op found names f node) (node_count def o op found names f children node all)
+        (report ∙ node_reports def f children node.parts all) made
+
+-- ---- what stands outside sees
+
+module _ (def : Definition) (sound : IsSound def) (op : Operator) (whole : Partial) (count : ℕ) (f : Fragment) (parts : HasParts def f []) (of_kind : IsOfKind def f (kinds.Phylum op.phylum))
+    (scope : is_scope def f ≡ op.scope) (many : children_count f ≡ count) (report : whole.report ≡ reports f) (made : IsMade def f count whole) where
+  whole_made : IsMade def f (children_count f) whole
+  whole_made = subst (λ n. IsMade def f n whole) (sym many) made
+
+  pub same_outside : op.scope ≡ false → MatchOuter def f (kinds.Phylum op.phylum) (Ok whole)
+  same_outside e = open_answer def f parts sound.signature (kinds.Phylum op.phylum) whole of_kind report whole_made (scope ∙ e)
+
+  pub closed_outside : op.scope ≡ true → (q : Partial) → IsClosed def whole q.header q.rel → q.report ≡ whole.report → (PassesLimit q.rel → ⊥) → MatchOuter def f (kinds.Phylum op.phylum) (Ok q)
+  closed_outside e q is same light = closed_answer def f parts sound.signature (kinds.Phylum op.phylum) whole of_kind report whole_made (scope ∙ e) q is same light
+
+  pub outside_wide : op.scope ≡ true → (h : Header) (rows : List (List Term)) → IsClosed def whole h rows → PassesLimit rows → IsFirstPassing def f (count + 1)
+  outside_wide e h rows is passes =
+      subst (λ n. IsFirstPassing def f (n + 1)) many (closed_wide def f parts sound.signature (kinds.Phylum op.phylum) whole of_kind report whole_made (scope ∙ e) h rows is passes)
+
+pub made_outer : (def : Definition) (f : Fragment) (kind : Kind) (n : ℕ) (e : EvalFault) → MatchMade def f n (Err e) → MatchOuter def f kind (Err e)
+made_outer def f kind n (faults.Wide k) h = h
+made_outer def f kind n faults.Memory h = tt
+
+pub outer_answers : (def : Definition) (f : Fragment) (kind : Kind) (e : EvalFault) → MatchOuter def f kind (Err e) → Answers def f (Err e)
+outer_answers def f kind (faults.Wide k) h = h
+outer_answers def f kind faults.Memory h = tt
+
+-- an operator has no more slots than items
+pub slot_count : (def : Definition) (xs : List Item) → length (slot_kinds def xs) ≤ length xs
+slot_count def [] = omega arith
+slot_count def (items.Slot k ∷ xs) = let h = slot_count def xs in omega arith
+slot_count def (_ ∷ xs) = let h = slot_count def xs in omega arith
+
+-- what is read at a place that is there
+pub place_there : {X : Type 0} (xs : List X) (i : ℕ) (x y : X) → slice_get xs i ≡ Some x → y ≡ get_or xs i y → slice_get xs i ≡ Some y
+place_there xs i x y e d = at_place xs i y (slice_get_within xs i x e) d
+
+pub same_there : {X : Type 0} (xs : List X) (i : ℕ) (x y : X) → slice_get xs i ≡ Some x → slice_get xs i ≡ Some y → x ≡ y
+same_there xs i x y e d = let q : Some x ≡ Some y = sym e ∙ d in cc

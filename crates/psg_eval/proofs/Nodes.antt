@@ -1,0 +1,94 @@
+-- What a node is by its parts, and its children by their summaries.
+use Rattle.std.proofs.Common.{◌≡◌, inl, inr, ℕ, zero, suc, ◌+◌, ◌||◌, cond, List, [], ◌∷◌, ◌++◌, length, Option, Some, refl, ap, sym, ◌∙◌, subst}
+use Rattle.std.specs.List.{slice_get, list_any}
+use Rattle.std.specs.Option.{option_and_then}
+use Rattle.psg_terms.specs.Names.{Name}
+use Rattle.psg_grammar.specs.declared.types.Item.{Item}
+use Rattle.psg_grammar.specs.declared.types.Item.TheVariants as items
+use Rattle.psg_grammar.specs.declared.types.Kind.TheVariants as kinds
+use Rattle.psg_grammar.specs.declared.types.Operator.{Operator}
+use Rattle.psg_grammar.specs.declared.types.Definition.{Definition}
+use Rattle.psg_grammar.specs.Fragments.{Fragment, hole, ending, cell, operator, with_child, with_name, with_number, with_text, anything, observed, top_operator, children_of}
+use Rattle.psg_grammar.specs.Lookups.{is_scope, operator_at, scopes}
+use Rattle.psg_grammar.specs.Steps.{children_count, last_step}
+use Rattle.psg_scope.proofs.KeyLists.{or-assoc, or-false}
+use Rattle.psg_eval.specs.declared.summary.Known.{Known}
+use Rattle.psg_eval.specs.Trees.{reports, IsOfKind, HasParts, IsNode}
+use Rattle.psg_eval.specs.Summaries.{IsSummaryOf, AllSummaries}
+use Rattle.psg_eval.proofs.RegionSteps.{count_is}
+
+module _ (def : Definition) where
+  -- ---- children and their summaries
+
+  pub as_many : (fs : List Fragment) (ss : List Known) → AllSummaries def fs ss → length fs ≡ length ss
+  as_many [] [] h = refl
+  as_many [] (s ∷ ss) h = absurd h
+  as_many (f ∷ fs) [] h = absurd h
+  as_many (f ∷ fs) (s ∷ ss) h = ap suc (as_many fs ss h.1)
+
+  pub child_at : (fs : List Fragment) (ss : List Known) → AllSummaries def fs ss → (n : ℕ) (s : Known) → slice_get ss n ≡ Some s → (t : Fragment) × (slice_get fs n ≡ Some t) × IsSummaryOf def t s
+  child_at [] [] h n s e = absurd (cc)
+  child_at [] (r ∷ ss) h n s e = absurd h
+  child_at (f ∷ fs) [] h n s e = absurd h
+  child_at (f ∷ fs) (r ∷ ss) h zero s e = (f, refl, let same : r ≡ s = let d : Some r ≡ Some s = e in cc in subst (IsSummaryOf def f) same h.0)
+  child_at (f ∷ fs) (r ∷ ss) h (suc n) s e = child_at fs ss h.1 n s e
+
+  any-append : (fs gs : List Fragment) → list_any reports (fs ++ gs) ≡ (list_any reports fs || list_any reports gs)
+  any-append [] gs = refl
+  any-append (f ∷ fs) gs = ap (λ b. reports f || b) (any-append fs gs) ∙ sym (or-assoc (reports f) (list_any reports fs) (list_any reports gs))
+
+  reports-children : (f : Fragment) (more : List Item) → HasParts def f more → reports f ≡ list_any reports (children_of f)
+  reports-children (operator o) more h = refl
+  reports-children (with_child f t) more (k, h, _) =
+      ap (λ b. b || reports t) (reports-children f (items.Slot k ∷ more) h) ∙ ap (λ b. list_any reports (children_of f) || b) (sym (or-false (reports t))) ∙ sym (any-append (children_of f) (t ∷ []))
+  reports-children (with_name f n) more (inl (s, h)) = reports-children f (items.Refers s ∷ more) h
+  reports-children (with_name f n) more (inr (s, h)) = reports-children f (items.Declares s ∷ more) h
+  reports-children (with_number f n) more h = reports-children f (items.Number ∷ more) h
+  reports-children (with_text f n) more h = reports-children f (items.Text ∷ more) h
+  reports-children (hole p) more h = absurd h
+  reports-children (ending l u) more h = absurd h
+  reports-children (cell l e r) more h = absurd h
+  reports-children anything more h = absurd h
+  reports-children (observed f) more h = absurd h
+
+  reports-summaries : (fs : List Fragment) (ss : List Known) → AllSummaries def fs ss → list_any reports fs ≡ list_any (λ (s : Known). s.report) ss
+  reports-summaries [] [] h = refl
+  reports-summaries [] (s ∷ ss) h = absurd h
+  reports-summaries (f ∷ fs) [] h = absurd h
+  reports-summaries (f ∷ fs) (s ∷ ss) (h, hs) = ap (λ b. b || list_any reports fs) (sym h.report) ∙ ap (λ b. s.report || b) (reports-summaries fs ss hs)
+
+  -- a node reports where one of its children does
+  pub node_reports : (f : Fragment) (ss : List Known) → HasParts def f [] → AllSummaries def (children_of f) ss → list_any (λ (s : Known). s.report) ss ≡ reports f
+  node_reports f ss h all = sym (reports-children f [] h ∙ reports-summaries (children_of f) ss all)
+
+  -- ---- the operator
+
+  module _ (o : ℕ) (op : Operator) (found : slice_get def.operators o ≡ Some op) where
+    kind_by : (f : Fragment) (more : List Item) → top_operator f ≡ Some o → HasParts def f more → IsOfKind def f (kinds.Phylum op.phylum)
+    kind_by (operator p) more top h =
+        let same : o ≡ p = cc in
+        (op, ap (slice_get def.operators) (sym same) ∙ found, refl)
+    kind_by (with_child f t) more top (k, h, _) = kind_by f (items.Slot k ∷ more) top h
+    kind_by (with_name f n) more top (inl (s, h)) = kind_by f (items.Refers s ∷ more) top h
+    kind_by (with_name f n) more top (inr (s, h)) = kind_by f (items.Declares s ∷ more) top h
+    kind_by (with_number f n) more top h = kind_by f (items.Number ∷ more) top h
+    kind_by (with_text f n) more top h = kind_by f (items.Text ∷ more) top h
+    kind_by (hole p) more top h = absurd h
+    kind_by (ending l u) more top h = absurd h
+    kind_by (cell l e r) more top h = absurd h
+    kind_by anything more top h = absurd h
+    kind_by (observed f) more top h = absurd h
+
+    pub node_kind : (names : List Name) (f : Fragment) → IsNode def o names f → IsOfKind def f (kinds.Phylum op.phylum)
+    node_kind names f node = kind_by f [] node.top node.parts
+
+    pub node_scope : (names : List Name) (f : Fragment) → IsNode def o names f → is_scope def f ≡ op.scope
+    node_scope names f node =
+        ap (λ (t : Option ℕ). scopes (option_and_then (operator_at def) t)) node.top ∙ ap (λ (x : Option Operator). scopes x) found
+
+    pub node_count : (names : List Name) (f : Fragment) (ss : List Known) → IsNode def o names f → AllSummaries def (children_of f) ss → children_count f ≡ length ss
+    node_count names f ss node all = count_is def f [] node.parts ∙ as_many (children_of f) ss all
+
+    pub node_last : (names : List Name) (f : Fragment) (ss : List Known) → IsNode def o names f → AllSummaries def (children_of f) ss → last_step def f ≡ cond op.scope (length ss + 1) (length ss)
+    node_last names f ss node all =
+        ap (λ b. cond b (children_count f + 1) (children_count f)) (node_scope names f node) ∙ ap (λ n. cond op.scope (n + 1) n) (node_count names f ss node all)

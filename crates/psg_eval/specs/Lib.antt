@@ -1,0 +1,10 @@
+pub mod Trees
+pub mod Summaries
+pub mod Glues
+pub mod OwnRows
+pub mod Own
+pub mod Walks
+pub mod Partials
+pub mod Outside
+pub mod Leaves
+pub mod Stages

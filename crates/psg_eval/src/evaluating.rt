@@ -1,0 +1,117 @@
+//! Summaries of nodes, cells, ends and placeholders.
+ghost use Rattle.std.specs.Prelude.{◌≡◌, ◌+◌, ◌<◌, ◌||◌, ℕ, true, length, slice_get, Some, IfOk, List};
+ghost use Rattle.psg_grammar.specs.Fragments.{Fragment, hole, ending, cell};
+ghost use Rattle.psg_grammar.specs.declared.types.Kind.TheVariants.{List as OfList, Phylum as OfPhylum};
+ghost use Rattle.psg_grammar.specs.declared.types.Operator.{Operator};
+ghost use Rattle.psg_eval.specs.declared.summary.Known.{Known as Kept};
+ghost use Rattle.std.specs.List.{list_any};
+ghost use Rattle.psg_grammar.specs.Sound.{IsSound};
+ghost use Rattle.psg_grammar.specs.WellFormed.{IsListEnd};
+ghost use Rattle.psg_eval.specs.Trees.{IsNode};
+ghost use Rattle.psg_eval.specs.Summaries.{Answers, AreSpacesOfList, AreSummariesOf, IsSummary, IsSummaryOf, TakesAt, TakesCell};
+
+use crate::cell::cell_parts;
+use crate::leaves::{closed_end, open_end, placeholder};
+use crate::node::node;
+use crate::partial::summary_of;
+use crate::summary::{EvalFault, Summary};
+use psg_grammar::{Definition, Kind};
+use psg_terms::{Steps, Txt};
+use std::alloc::Global;
+use std::sync::ledger::Ledger;
+
+/// The summary of a placeholder: its values are those of the hole rows of its phylum. It declares nothing.
+///
+/// It takes one step of its own, number 0, and `Wide` names it exactly where its relation passes the limit.
+pub fn eval_hole<L: Ledger>(
+    alloc: Global,
+    definition: &Definition,
+    phylum: u32,
+    steps: &mut Steps<L>,
+) -> Result<Summary, EvalFault>
+    requires sound { IsSound definition.now }
+    requires phylum { phylum < length definition.now.phyla }
+    ensures answer { Answers definition.now (hole phylum) result }
+    ensures summary { IfOk result (IsSummary definition.now) }
+    ensures ticks { steps.new ≡ steps.old + 1 }
+{
+    steps.tick();
+    placeholder(alloc, definition, phylum)
+}
+
+/// The summary of an operator's node, from its names and the summaries of its children.
+///
+/// Step 0 has the operator's rows and own keys, step k adds the child k - 1, and a scope operator has one step more, in which
+/// the keys that end there are dropped. `Wide` names the first step whose relation passes the limit.
+pub fn eval_op<L: Ledger>(
+    alloc: Global,
+    definition: &Definition,
+    op: u32,
+    names: &[Txt],
+    children: &[Summary],
+    steps: &mut Steps<L>,
+) -> Result<Summary, EvalFault>
+    requires sound { IsSound definition.now }
+    requires takes { TakesAt definition.now op names.now children.now }
+    // whatever the children are: for every tree whose children have these summaries
+    ensures answer { (f : Fragment) → IsNode definition.now op names.now f → AreSummariesOf definition.now f children.now → Answers definition.now f result }
+    ensures summary { IfOk result (IsSummary definition.now) }
+    ensures kind { IfOk result (λ s. (o : Operator) → slice_get definition.now.operators op ≡ Some o → s.kind ≡ OfPhylum o.phylum) }
+    ensures report { IfOk result (λ s. s.report ≡ list_any (λ (c : Kept). c.report) children.now) }
+    ensures ticks { steps.new ≡ steps.old + 1 }
+{
+    steps.tick();
+    let operator = &definition.operators.as_slice()[op as usize];
+    let summary = node(alloc, definition, operator, names, children)?;
+    Ok(summary)
+}
+
+/// The summary of a list from those of its first element and of the list behind it, in the steps 0 to 2.
+pub fn eval_cell<L: Ledger>(
+    alloc: Global,
+    definition: &Definition,
+    list: u32,
+    element: &Summary,
+    rest: &Summary,
+    steps: &mut Steps<L>,
+) -> Result<Summary, EvalFault>
+    requires sound { IsSound definition.now }
+    requires takes { TakesCell definition.now list element.now rest.now }
+    ensures answer { (e r : Fragment) → IsSummaryOf definition.now e element.now → IsSummaryOf definition.now r rest.now
+        → Answers definition.now (cell list e r) result }
+    ensures summary { IfOk result (IsSummary definition.now) }
+    ensures kind { IfOk result (λ s. s.kind ≡ OfList list) }
+    ensures report { IfOk result (λ s. s.report ≡ (element.now.report || rest.now.report)) }
+    ensures ticks { steps.new ≡ steps.old + 1 }
+{
+    steps.tick();
+    let whole = cell_parts(alloc, definition, list, element, rest)?;
+    let summary = summary_of(alloc, Kind::List(list), whole)?;
+    Ok(summary)
+}
+
+/// The summary of a list's end: its values are those of the list's nil rows, or of its hole rows where it is unfinished. An
+/// unfinished end may still declare in the spaces in which the list's elements do. They are handed in, ascending, since they
+/// are found once for a definition (`declaring` tells them of the element phylum).
+pub fn eval_end<L: Ledger>(
+    alloc: Global,
+    definition: &Definition,
+    spaces: &[u32],
+    list: u32,
+    unfinished: bool,
+    steps: &mut Steps<L>,
+) -> Result<Summary, EvalFault>
+    requires sound { IsSound definition.now }
+    requires end { IsListEnd definition.now list unfinished }
+    requires spaces { AreSpacesOfList definition.now list spaces.now }
+    ensures answer { Answers definition.now (ending list unfinished) result }
+    ensures summary { IfOk result (IsSummary definition.now) }
+    ensures ticks { steps.new ≡ steps.old + 1 }
+{
+    steps.tick();
+    if unfinished {
+        open_end(alloc, definition, spaces, list)
+    } else {
+        closed_end(alloc, definition, list)
+    }
+}

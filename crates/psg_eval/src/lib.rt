@@ -1,0 +1,24 @@
+//! The summary of a tree from those of its children.
+//!
+//! ```text
+//! let left = eval_hole(alloc, &definition, expression, &mut steps)?;
+//! let sum = eval_op(alloc, &definition, plus, &[], &[left.share()?, left], &mut steps)?;
+//! ```
+//!
+//! A summary has the kind of a tree, its header, and its relation: the most general rows of what its value and the entities
+//! of its keys can be. That of a node is made step by step, from its own rows and one child after the other, so no tree is
+//! needed, and what a step keeps is as small as its most general rows.
+#![tactic(auto)]
+
+mod cell;
+pub mod evaluating;
+mod leaves;
+mod node;
+mod outside;
+mod own;
+mod partial;
+mod placing;
+pub mod summary;
+
+pub use evaluating::{eval_cell, eval_end, eval_hole, eval_op};
+pub use summary::{EvalFault, Summary};

@@ -1,0 +1,199 @@
+//! A node with its first children, and one child more.
+ghost use Rattle.std.specs.Prelude.{◌≡◌, ◌+◌, ◌<◌, ◌≤◌, ◌∷◌, ◌||◌, ◌^◌, true, false, cond, ℕ, List, IfOk, IfErr, OnOk, ◌++◌, length};
+ghost use Rattle.psg_terms.specs.Relations.{IsGlued, IsRelation};
+ghost use Rattle.psg_terms.specs.Weight.{PassesLimit};
+ghost use Rattle.psg_grammar.specs.declared.types.Definition.{Definition as Language};
+ghost use Rattle.psg_grammar.specs.declared.types.Kind.{Kind as PlainKind};
+ghost use Rattle.psg_relation.specs.Choices.{HasWide, MayBeWide};
+ghost use Rattle.psg_scope.specs.Headers.{ArePlaces, IsOrdered, keys};
+ghost use Rattle.psg_eval.specs.Glues.{NextGlue};
+ghost use Rattle.psg_eval.specs.Partials.{IsAdded, IsPartial, MatchStep};
+ghost use Rattle.psg_eval.specs.Stages.{IsNumbered};
+ghost use Rattle.psg_eval.specs.Summaries.{IsSummary};
+ghost use Rattle.psg_eval.specs.Walks.{IsLayout, run};
+
+use crate::placing::key_columns;
+use crate::summary::{EvalFault, Known, Summary, at_step};
+use psg_grammar::{Definition, Kind};
+use psg_relation::{Rel, RelFault};
+use psg_scope::{Header, Joined};
+use std::alloc::{AllocError, Global};
+
+/// What is known of a node with its first children.
+#[derive(Drop)]
+pub(crate) struct Partial {
+    /// The keys of the region so far.
+    pub(crate) header: Header,
+    /// Whether one of the children reports a value.
+    pub(crate) report: bool,
+    /// How many children are still to be added.
+    pub(crate) wanted: u32,
+    /// The columns are the value, the reported value where there is one, a value for each child to come, and the entities
+    /// of the keys.
+    pub(crate) rel: Rel,
+}
+
+/// The pairs of columns on which a child's rows are joined, and the columns that are kept.
+#[derive(Drop)]
+pub(crate) struct Layout {
+    pub(crate) pairs: Vec<(usize, usize)>,
+    pub(crate) keep: Vec<usize>,
+}
+
+/// How many values are reported.
+pub(crate) fn count(report: bool) -> usize
+    ensures value { result ≡ cond report 1 0 }
+    ensures small { result ≤ 1 }
+{
+    if report { 1 } else { 0 }
+}
+
+/// Without a branch, so that what follows is proved once.
+fn is_either(one: bool, two: bool) -> bool
+    ensures { result ≡ (one || two) }
+{
+    one || two
+}
+
+/// Puts so many numbers from one on at the end.
+pub(crate) fn push_run(
+    numbers: &mut Vec<usize>,
+    from: usize,
+    count: usize,
+) -> Result<(), AllocError>
+    requires { from + count < 2 ^ 64 }
+    ensures { OnOk result (numbers.new.items ≡ numbers.old.items ++ run from count) }
+{
+    for step in 0..count {
+        numbers.push(from + step)?;
+    }
+    Ok(())
+}
+
+/// So many numbers from one on.
+fn numbers(alloc: Global, from: usize, count: usize) -> Result<Vec<usize>, AllocError>
+    requires { from + count < 2 ^ 64 }
+    ensures { IfOk result (λ v. v.items ≡ run from count) }
+{
+    let mut made = Vec::with_capacity(alloc, count)?;
+    push_run(&mut made, from, count)?;
+    Ok(made)
+}
+
+/// The columns of the next child's rows, by one walk over the keys.
+fn child_layout(
+    alloc: Global,
+    before: &Partial,
+    child: &Summary,
+    joined: &Joined,
+) -> Result<Layout, AllocError>
+    requires some { 0 < before.now.wanted }
+    requires left { ArePlaces joined.now.header.names joined.now.left (keys before.now.header.names) }
+    requires right { ArePlaces joined.now.header.names joined.now.right (keys child.now.header.names) }
+    ensures { IfOk result (λ l. IsLayout (cond before.now.report 1 0) before.now.wanted (cond child.now.report 1 0) (keys before.now.header.names) (keys child.now.header.names)
+        (keys joined.now.header.names) l.pairs.items l.keep.items) }
+{
+    let first = 1 + count(before.report);
+    let more = count(child.report());
+    let wanted = before.wanted as usize;
+    let lefts = before.header.names.as_slice().len();
+    let rights = child.header().names.as_slice().len();
+    let width = first + wanted + lefts;
+    let left = numbers(alloc, first + wanted, lefts)?;
+    let right = numbers(alloc, 1 + more, rights)?;
+    let placed = key_columns(alloc, joined, left.as_slice(), right.as_slice(), width)?;
+    let mut keep = numbers(alloc, 0, first)?;
+    push_run(&mut keep, width + 1, more)?;
+    push_run(&mut keep, first + 1, wanted - 1)?;
+    keep.extend_from_slice(placed.columns.as_slice())?;
+    let mut pairs = vec![in alloc; (first, 0)]?;
+    pairs.extend_from_slice(placed.pairs.as_slice())?;
+    Ok(Layout { pairs, keep })
+}
+
+/// The rows of a node with one child more.
+fn joined_rows(
+    alloc: Global,
+    definition: &Definition,
+    before: &Partial,
+    child: &Summary,
+    joined: &Joined,
+) -> Result<Rel, RelFault>
+    requires partial { (kind : PlainKind) × (kinds : List PlainKind) × IsPartial definition.now kind (child.now.kind ∷ kinds) before.now }
+    requires child { IsSummary definition.now child.now }
+    requires ordered { IsOrdered joined.now.header }
+    requires left { ArePlaces joined.now.header.names joined.now.left (keys before.now.header.names) }
+    requires right { ArePlaces joined.now.header.names joined.now.right (keys child.now.header.names) }
+    ensures sorted { IfOk result (λ rel. (kind : PlainKind) (kinds : List PlainKind) → IsPartial definition.now kind (child.now.kind ∷ kinds) before.now
+        → (before.now.report ≡ true → child.now.report ≡ true → ⊥)
+        → (more : ℕ) → more + 1 ≡ before.now.wanted
+        → IsPartial definition.now kind kinds (record { header = joined.now.header; report = before.now.report || child.now.report; wanted = more; rel = rel })) }
+    ensures rows { IfOk result (λ rel. (ss : List ℕ) × IsRelation definition.now.signature ss
+        (IsGlued definition.now.signature (NextGlue (cond before.now.report 1 0) (keys before.now.header.names) (keys child.now.header.names) (keys joined.now.header.names)) before.now.rel child.now.rel) rel) }
+    ensures within { IfOk result (λ rel. PassesLimit rel → ⊥) }
+    ensures wide { IfErr result (MayBeWide ((ss : List ℕ) × HasWide definition.now.signature ss
+        (IsGlued definition.now.signature (NextGlue (cond before.now.report 1 0) (keys before.now.header.names) (keys child.now.header.names) (keys joined.now.header.names)) before.now.rel child.now.rel))) }
+{
+    let layout = child_layout(alloc, before, child, joined)?;
+    psg_relation::join(
+        alloc,
+        &definition.signature,
+        &before.rel,
+        child.rel(),
+        layout.pairs.as_slice(),
+        layout.keep.as_slice(),
+    )
+}
+
+/// The node with one child more. Where the region then declares a key twice, there are no rows.
+pub(crate) fn with_child(
+    alloc: Global,
+    definition: &Definition,
+    before: &Partial,
+    child: &Summary,
+) -> Result<Partial, RelFault>
+    requires partial { (kind : PlainKind) × (kinds : List PlainKind) × IsPartial definition.now kind (child.now.kind ∷ kinds) before.now }
+    requires child { IsSummary definition.now child.now }
+    requires report { before.now.report ≡ true → child.now.report ≡ true → ⊥ }
+    ensures step { MatchStep (IsAdded definition.now before.now child.now) result }
+    ensures partial { IfOk result (λ p. (kind : PlainKind) (kinds : List PlainKind) → IsPartial definition.now kind (child.now.kind ∷ kinds) before.now
+        → IsPartial definition.now kind kinds p) }
+    ensures report { IfOk result (λ p. p.report ≡ (before.now.report || child.now.report)) }
+{
+    let joined = psg_scope::join(alloc, &before.header, child.header())?;
+    let rel = if joined.header.twice {
+        Rel::empty(alloc, &definition.signature)
+    } else {
+        joined_rows(alloc, definition, before, child, &joined)?
+    };
+    Ok(Partial {
+        header: joined.header,
+        report: is_either(before.report, child.report()),
+        wanted: before.wanted - 1,
+        rel,
+    })
+}
+
+/// The step's answer, with its number.
+pub(crate) fn numbered(made: Result<Partial, RelFault>, step: usize) -> Result<Partial, EvalFault>
+    ensures { IsNumbered made step result }
+{
+    match made {
+        Ok(partial) => Ok(partial),
+        Err(fault) => Err(at_step(fault, step)),
+    }
+}
+
+/// The summary of a node of this kind, all of whose children are added.
+pub(crate) fn summary_of(alloc: Global, kind: Kind, whole: Partial) -> Result<Summary, AllocError>
+    ensures { IfOk result (λ s. s ≡ record { kind = kind; header = whole.header; report = whole.report; rel = whole.rel }) }
+{
+    let known = Known {
+        kind,
+        header: whole.header,
+        report: whole.report,
+        rel: whole.rel,
+    };
+    let summary = Summary::new(alloc, known)?;
+    Ok(summary)
+}

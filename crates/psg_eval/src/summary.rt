@@ -1,0 +1,134 @@
+//! What is known of a tree.
+ghost use Rattle.std.specs.Prelude.{◌≡◌, IfOk};
+ghost use Rattle.psg_eval.specs.Leaves.{IsFaultAt};
+
+use psg_grammar::Kind;
+use psg_relation::{Rel, RelFault};
+use psg_scope::Header;
+use std::alloc::{AllocError, AllocFailed, Global};
+use std::marker::Model;
+use std::rc::Rc;
+use thiserror::Error;
+
+/// What a summary keeps.
+#[derive(Drop)]
+pub struct Known {
+    /// The phylum or list of the tree.
+    pub kind: Kind,
+    /// The keys of its region, or those that pass outward from it where it is a scope operator.
+    pub header: Header,
+    /// Whether the value of some node is reported, in a column of its own behind the value.
+    pub report: bool,
+    /// The columns are the value, the reported value where there is one, and the entities of the header's keys. Where a
+    /// region declares a key twice there are no rows.
+    pub rel: Rel,
+}
+
+/// The kind, header and relation of a tree, shared by its owners. Only the calls of this crate make one.
+#[derive(Drop)]
+pub struct Summary {
+    shared: Rc<Known>,
+}
+
+impl Model for Summary {
+    ghost use Rattle.psg_eval.specs.declared.summary.Known.{Known as Kept};
+    ghost use Rattle.psg_eval.specs.contracts.summary.Known as known;
+
+    ghost Value = { Kept };
+
+    ghost coded = { known.the_row.coded };
+
+    ghost view = { λ s. s.shared.value };
+}
+
+impl Summary {
+    pub(crate) fn new(alloc: Global, known: Known) -> Result<Summary, AllocError>
+        ensures { IfOk result (λ s. s ≡ known) }
+    {
+        Ok(Summary {
+            shared: Rc::new(alloc, known)?,
+        })
+    }
+
+    /// The phylum or list of the tree.
+    pub fn kind(&self) -> Kind
+        ensures { result ≡ self.now.kind }
+    {
+        self.shared.as_ref().kind
+    }
+
+    /// The keys of its region, or those that pass outward from it where it is a scope operator.
+    pub fn header(&self) -> &Header
+        ensures { result.now ≡ self.now.header }
+    {
+        &self.shared.as_ref().header
+    }
+
+    /// Whether the value of some node is reported, in a column of its own behind the value.
+    pub fn report(&self) -> bool
+        ensures { result ≡ self.now.report }
+    {
+        self.shared.as_ref().report
+    }
+
+    /// The most general rows: the value, the reported value where there is one, and the entities of the header's keys.
+    pub fn rel(&self) -> &Rel
+        ensures { result.now ≡ self.now.rel }
+    {
+        &self.shared.as_ref().rel
+    }
+
+    /// One more owner of the same summary.
+    pub fn share(&self) -> Result<Summary, AllocError>
+        ensures { IfOk result (λ s. s ≡ self.now) }
+    {
+        Ok(Summary {
+            shared: self.shared.clone()?,
+        })
+    }
+}
+
+/// Why there is no summary.
+#[derive(Clone, Copy, Debug, PartialEq, Eq, Drop, Error)]
+pub enum EvalFault {
+    /// The relation of the step is the first that is too large.
+    #[error("the relation of step {step} is too large")]
+    Wide { step: u32 },
+    #[error("out of memory")]
+    Memory,
+}
+
+impl From<AllocError> for EvalFault {
+    ghost use Rattle.std.specs.Prelude.{◌≡◌};
+    ghost use Rattle.psg_eval.specs.declared.summary.EvalFault.TheVariants.{Memory};
+
+    ghost from_gives = { λ _ fault. fault ≡ Memory };
+
+    fn from(_error: AllocError) -> EvalFault {
+        EvalFault::Memory
+    }
+}
+
+impl<T: Drop> From<AllocFailed<T>> for EvalFault {
+    ghost use Rattle.std.specs.Prelude.{◌≡◌};
+    ghost use Rattle.psg_eval.specs.declared.summary.EvalFault.TheVariants.{Memory};
+
+    ghost from_gives = { λ _ fault. fault ≡ Memory };
+
+    fn from(_error: AllocFailed<T>) -> EvalFault {
+        EvalFault::Memory
+    }
+}
+
+/// The fault of a step's relation. A step that 32 bits do not count is answered by `Memory`.
+pub(crate) fn at_step(fault: RelFault, step: usize) -> EvalFault
+    ensures { IsFaultAt fault step result }
+{
+    match fault {
+        RelFault::Wide => match u32::try_from(step) {
+            Ok(step) => EvalFault::Wide { step },
+            Err(_) => EvalFault::Memory,
+        },
+        RelFault::Memory => EvalFault::Memory,
+    }
+}
