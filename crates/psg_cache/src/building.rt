@@ -1,0 +1,70 @@
+//! Notes from trees.
+ghost use Rattle.std.specs.Prelude.{◌↔◌, IfErr, IfOk, IsTrue};
+ghost use Rattle.psg_grammar.specs.Sizes.{IsBig};
+ghost use Rattle.psg_grammar.specs.Sound.{IsSound};
+ghost use Rattle.psg_cache.specs.Notes.{AreDeclaringSpaces, IsFormed, IsNoteFault, IsNoteOf};
+
+use crate::lengths::has_long_list;
+use crate::note::{Note, NoteFault, Noted};
+use crate::walking::{Found, walk};
+use psg_grammar::Definition;
+use psg_grammar::limits::{MOST_DEPTH, MOST_NODES, MOST_WEIGHTS};
+use psg_terms::{Seq, Steps};
+use psg_tree::{Tree, depth, nodes};
+use std::alloc::Global;
+use std::sync::ledger::Ledger;
+
+/// The note of a tree. Each node and each list suffix is evaluated once, from the summaries of its children: children in
+/// order, then the node; of a list its elements in order, then its end, then its cells from the last to the first.
+/// `declaring` has the spaces in which each phylum declares, as psg_grammar's `declaring` gives them.
+///
+/// The faults are tested in their order: `Deep`, `Big`, then `Wide` with the first step whose relation passes the limit, then
+/// `Heavy`. `Memory` comes when memory runs out, at any time. The functions call each other as deep as the tree is, at most
+/// 200.
+pub fn build<L: Ledger>(
+    alloc: Global,
+    definition: &Definition,
+    declaring: &[Vec<u32>],
+    tree: &Tree,
+    steps: &mut Steps<L>,
+) -> Result<Note, NoteFault>
+    requires sound { IsSound definition.now }
+    requires declaring { AreDeclaringSpaces definition.now declaring.now }
+    requires formed { IsFormed definition.now tree.now }
+    ensures note { IfOk result (IsNoteOf definition.now tree.now) }
+    ensures fault { IfErr result (IsNoteFault definition.now tree.now) }
+{
+    if depth(tree) > MOST_DEPTH {
+        return Err(NoteFault::Deep);
+    }
+    if is_big(tree) {
+        return Err(NoteFault::Big);
+    }
+    let mut found = Found {
+        weight: 0,
+        culprits: Vec::new(alloc),
+    };
+    let root = walk(alloc, definition, declaring, tree, &[], &mut found, steps)?;
+    if found.weight > MOST_WEIGHTS {
+        return Err(NoteFault::Heavy);
+    }
+    let Found { weight, culprits } = found;
+    let noted = Noted {
+        tree: tree.share()?,
+        root,
+        weight,
+        culprits: Seq::of(culprits),
+    };
+    let note = Note::new(alloc, noted)?;
+    Ok(note)
+}
+
+/// Whether the tree has too many nodes, or a list of it too many elements.
+fn is_big(tree: &Tree) -> bool
+    ensures { IsTrue result ↔ IsBig tree.now }
+{
+    if nodes(tree) > MOST_NODES {
+        return true;
+    }
+    has_long_list(tree)
+}
