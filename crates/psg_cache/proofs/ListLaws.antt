@@ -11,7 +11,7 @@ use Rattle.psg_grammar.specs.declared.types.Definition.{Definition}
 use Rattle.psg_grammar.specs.Fragments.{Fragment, hole, ending, cell, children_of}
 use Rattle.psg_grammar.specs.Paths.{Path}
 use Rattle.psg_grammar.specs.Steps.{own_steps, list_steps, HasWeights}
-use Rattle.psg_grammar.specs.WellFormed.{Fits, IsPlain, IsUnobserved, WellFormed}
+use Rattle.psg_grammar.specs.WellFormed.{Fits, IsPlain, WellFormed}
 use Rattle.psg_tree.specs.Shapes.{list_of}
 use Rattle.psg_tree.proofs.Children.{children-list}
 use Rattle.psg_tree.proofs.FormLaws.{list_parts, AreElements}
@@ -31,10 +31,6 @@ each_at : {X : Type 0} (P : X → Type 0) (xs : List X) (i : ℕ) (x : X) → Al
 each_at P [] i x h l e = absurd (omega (arith, l))
 each_at P (y ∷ ys) zero x h l e = subst P (sym e) h.0
 each_at P (y ∷ ys) (suc i) x h l e = each_at P ys i x h.1 (omega (arith, l)) e
-
-unobserved : (l : ℕ) (es : List Fragment) (u : Bool) → IsUnobserved (list_of l es u)
-unobserved l [] u = tt
-unobserved l (x ∷ es) u = tt
 
 module _ (def : Definition) where
   pub answered_ok : (f : Fragment) (r : Result Known EvalFault) (s : Known) → Answers def f r → r ≡ Ok s → IsSummaryOf def f s × StaysWithin def f
@@ -110,7 +106,7 @@ module _ (def : Definition) where
   -- ---- a cell
 
   abbrev pub AnswersCell : ℕ → Known → Known → Result Known EvalFault → Type 0
-  AnswersCell l element rest answer = (e r : Fragment) → IsSummaryOf def e element → IsSummaryOf def r rest → IsUnobserved r → Answers def (cell l e r) answer
+  AnswersCell l element rest answer = (e r : Fragment) → IsSummaryOf def e element → IsSummaryOf def r rest → Answers def (cell l e r) answer
 
   pub cell_takes : (path : Path) (l : ℕ) (u : Bool) (elements : List Known) (takes : TakesElements def l u elements) (left now : ℕ) (old mid : Found) (element rest : Known) → now < length elements → element ≡ get_or elements now element
       → ((es : List Fragment) → AllSummaries def es elements → IsTopped def path (list_of l (drop left es) u) old mid rest) → TakesCell def l element rest
@@ -131,7 +127,7 @@ module _ (def : Definition) where
       → IsSummaryOf def e element → IsTopped def path (list_of l es u) old mid rest → AnswersCell l element rest answer → IfOk answer (IsSummary def) → IsAdded answer mid new s → IsTopped def path (list_of l (e ∷ es) u) old new s
   cell_made path l u e es old mid new element rest s answer of_element before h usual added =
       let r : Fragment = list_of l es u in
-      let (summary, within) = answered_ok (cell l e r) answer s (h e r of_element before.summary (unobserved l es u)) added.answered in
+      let (summary, within) = answered_ok (cell l e r) answer s (h e r of_element before.summary) added.answered in
       record {
         summary = summary;
         usual = usual_ok answer s usual added.answered;
@@ -161,7 +157,7 @@ module _ (def : Definition) where
       fault_of_rest path l u fault now es
       (subst (λ (x : List Fragment). IsStepFault def (list_steps def path (list_of l x u)) fault) (sym split)
         (fault-behind def (list_steps def path r) (own_steps def path (cell l e r)) fault (subst (IsClean def) (top_list_steps path l (drop (suc now) es) u) before.clean)
-          (own_fault def path (cell l e r) answer fault (h e r of_element before.summary (unobserved l (drop (suc now) es) u)) f)))
+          (own_fault def path (cell l e r) answer fault (h e r of_element before.summary) f)))
 
   -- ---- what a list takes
 

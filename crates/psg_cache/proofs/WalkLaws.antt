@@ -19,7 +19,7 @@ use Rattle.psg_cache.specs.declared.note.NoteFault.{NoteFault}
 use Rattle.psg_cache.specs.declared.note.NoteFault.TheVariants as faults
 use Rattle.psg_cache.specs.declared.walking.Found.{Found}
 use Rattle.psg_cache.specs.Notes.{mark_by, IsNoteFault, IsNoteOf}
-use Rattle.psg_cache.specs.Walks.{each_nodes, each_steps, top_steps, AreWalked, IsBlamed, IsClean, IsStepFault, IsTopped, IsWalked, WeighTogether}
+use Rattle.psg_cache.specs.Walks.{each_nodes, each_steps, top_steps, AreWalked, IsBlamed, IsClean, IsKept, IsStepFault, IsTopped, IsWalked, WeighTogether}
 use Rattle.psg_cache.proofs.RealTrees.{IsReal}
 use Rattle.psg_cache.proofs.OpenTrees.{rows_open}
 use Rattle.psg_cache.proofs.CulpritLaws.{all-append, each_nodes-push, culprits-append, culprits-none, no_culprits, open_from, tree_culprits}
@@ -108,9 +108,10 @@ module _ (def : Definition) where
             (fault-left def (steps_of def pushed child) (each_steps def path (i + 1) behind) fault k))))
 
   -- all children were walked
-  pub walked_all : (path : Path) (f : Fragment) (children : List Fragment) (i : ℕ) (below : List Known) (start middle : Found) → children ≡ children_of f → length children ≤ i
-      → AreWalked def path (take i children) below start middle → AreWalked def path (children_of f) below start middle
-  walked_all path f children i below start middle are past h = subst (λ l. AreWalked def path l below start middle) (take_all i children past ∙ are) h
+  pub walked_all : (path : Path) (f : Fragment) (children : List Fragment) (i : ℕ) (below slice : List Known) (start middle : Found) → children ≡ children_of f → length children ≤ i → slice ≡ below
+      → AreWalked def path (take i children) below start middle → AreWalked def path (children_of f) slice start middle
+  walked_all path f children i below slice start middle are past same h =
+      subst (λ k. AreWalked def path (children_of f) k start middle) (sym same) (subst (λ l. AreWalked def path l below start middle) (take_all i children past ∙ are) h)
 
   pub top_fault : (path : Path) (f : Fragment) → IsReal f → (below : List Known) (start middle : Found) (fault : NoteFault) → AreWalked def path (children_of f) below start middle → IsStepFault def (top_steps def path f) fault
       → IsStepFault def (steps_of def path f) fault
@@ -151,13 +152,13 @@ module _ (def : Definition) where
     not_none e = cc
 
   pub noted : (f : Fragment) → IsSound def → IsReal f → (start final : Found) (s : Known) → start.weight ≡ 0 → start.culprits.items ≡ [] → IsWalked def [] f start final s
-      → (IsDeep f → ⊥) → (IsBig f → ⊥) → final.weight ≤ MOST_WEIGHTS → (n : Noted) → n.tree ≡ f → n.root ≡ s → n.weight ≡ final.weight → n.culprits ≡ final.culprits.items → IsNoteOf def f n
-  noted f sound real start final s none empty h shallow small light n tree root weight culprits =
-      let total : h.added ≡ n.weight = let a = h.sum in omega (arith, a, none, weight) in
-      let paths : h.more ≡ n.culprits = ap (λ l. l ++ h.more) (sym empty) ∙ sym h.pushed ∙ sym culprits in
+      → (IsDeep f → ⊥) → (IsBig f → ⊥) → final.weight ≤ MOST_WEIGHTS → (n : Noted) → IsKept f s final n → IsNoteOf def f n
+  noted f sound real start final s none empty h shallow small light n kept =
+      let total : h.added ≡ n.weight = let a = h.sum in let b = kept.weight in omega (arith, a, none, b) in
+      let paths : h.more ≡ n.culprits = ap (λ l. l ++ h.more) (sym empty) ∙ sym h.pushed ∙ sym kept.culprits in
       record {
-        tree = tree;
-        root = subst (IsSummaryOf def f) (sym root) h.summary;
+        tree = kept.tree;
+        root = subst (IsSummaryOf def f) (sym kept.root) h.summary;
         weight = subst (HasWeights def f) total h.weights;
         mark = subst (λ l. IsMark def f (mark_by l)) paths (mark_is f real s h.summary h.more h.culprits h.good);
         within = record {

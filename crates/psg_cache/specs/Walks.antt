@@ -19,6 +19,7 @@ use Rattle.psg_eval.specs.declared.summary.EvalFault.{EvalFault}
 use Rattle.psg_eval.specs.declared.summary.EvalFault.TheVariants as evals
 use Rattle.psg_eval.specs.Summaries.{AllSummaries, IsSummary, IsSummaryOf}
 use Rattle.psg_cache.specs.declared.walking.Found.{Found}
+use Rattle.psg_cache.specs.declared.note.Noted.{Noted}
 use Rattle.psg_cache.specs.declared.note.NoteFault.{NoteFault}
 use Rattle.psg_cache.specs.declared.note.NoteFault.TheVariants as faults
 
@@ -46,6 +47,13 @@ pub record IsBlamed (s : Known) (below : List Known) (path : Path) (old new : Fo
   pub pushed : List Path
   pub all : new.culprits.items ≡ old.culprits.items ++ pushed
   pub exact : ((s.rel ≡ []) × AllByRecursion (λ (b : Known). b.rel ≡ [] → ⊥) below × (pushed ≡ path ∷ [])) ⊎ ((((s.rel ≡ []) × AllByRecursion (λ (b : Known). b.rel ≡ [] → ⊥) below) → ⊥) × (pushed ≡ []))
+
+-- the note keeps the tree, its summary and what was found
+pub record IsKept (f : Fragment) (root : Known) (found : Found) (n : Noted) : Type 0 where
+  pub tree : n.tree ≡ f
+  pub root : n.root ≡ root
+  pub weight : n.weight ≡ found.weight
+  pub culprits : n.culprits ≡ found.culprits.items
 
 -- the nodes of trees that follow one another, the first of which has the number n
 abbrev pub each_nodes : Path → ℕ → List Fragment → List Located

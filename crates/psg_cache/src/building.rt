@@ -3,15 +3,17 @@ ghost use Rattle.std.specs.Prelude.{◌↔◌, IfErr, IfOk, IsTrue};
 ghost use Rattle.psg_grammar.specs.Sizes.{IsBig};
 ghost use Rattle.psg_grammar.specs.Sound.{IsSound};
 ghost use Rattle.psg_cache.specs.Notes.{AreDeclaringSpaces, IsFormed, IsNoteFault, IsNoteOf};
+ghost use Rattle.psg_cache.specs.Walks.{IsKept};
 
 use crate::lengths::has_long_list;
 use crate::note::{Note, NoteFault, Noted};
 use crate::walking::{Found, walk};
+use psg_eval::Summary;
 use psg_grammar::Definition;
 use psg_grammar::limits::{MOST_DEPTH, MOST_NODES, MOST_WEIGHTS};
 use psg_terms::{Seq, Steps};
 use psg_tree::{Tree, depth, nodes};
-use std::alloc::Global;
+use std::alloc::{AllocError, Global};
 use std::sync::ledger::Ledger;
 
 /// The note of a tree. Each node and each list suffix is evaluated once, from the summaries of its children: children in
@@ -48,6 +50,14 @@ pub fn build<L: Ledger>(
     if found.weight > MOST_WEIGHTS {
         return Err(NoteFault::Heavy);
     }
+    let note = kept(alloc, tree, root, found)?;
+    Ok(note)
+}
+
+/// The note of a tree, of its root's summary and of what the walk found.
+fn kept(alloc: Global, tree: &Tree, root: Summary, found: Found) -> Result<Note, AllocError>
+    ensures { IfOk result (IsKept tree.now root found) }
+{
     let Found { weight, culprits } = found;
     let noted = Noted {
         tree: tree.share()?,

@@ -280,16 +280,8 @@ pub(crate) fn walk<L: Ledger>(
         )?;
         below.push(summary)?;
     }
-    let summary = top(
-        alloc,
-        definition,
-        declaring,
-        tree,
-        below.as_slice(),
-        path,
-        found,
-        steps,
-    )?;
-    blame(alloc, &summary, below.as_slice(), path, found)?;
-    Ok(summary)
+    let summaries = below.as_slice();
+    let whole = top(alloc, definition, declaring, tree, summaries, path, found, steps)?;
+    blame(alloc, &whole, summaries, path, found)?;
+    Ok(whole)
 }
