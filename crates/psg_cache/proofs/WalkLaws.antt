@@ -48,8 +48,8 @@ module _ (def : Definition) where
   summaries-push (d ∷ cs) [] c x h s = absurd h
   summaries-push (d ∷ cs) (y ∷ ys) c x h s = (h.0, summaries-push cs ys c x h.1 s)
 
-  pub walked-none : (path : Path) (found : Found) → AreWalked def path [] [] found found
-  walked-none path found = record {
+  walked-nothing : (path : Path) (found : Found) → AreWalked def path [] [] found found
+  walked-nothing path found = record {
     summaries_of = tt;
     usual = tt;
     clean = clean-none def;
@@ -61,6 +61,9 @@ module _ (def : Definition) where
     pushed = sym (append-nil found.culprits.items);
     good = λ e. tt;
   }
+
+  pub walked-none : (path : Path) (below : List Known) (found : Found) → below ≡ [] → AreWalked def path [] below found found
+  walked-none path below found e = subst (λ k. AreWalked def path [] k found found) (sym e) (walked-nothing path found)
 
   walked-push : (path pushed : Path) (cs : List Fragment) (below : List Known) (start middle after : Found) (c : Fragment) (s : Known)
       → pushed ≡ path ++ (0 + length cs) ∷ [] → AreWalked def path cs below start middle → IsWalked def pushed c middle after s → AreWalked def path (cs ++ c ∷ []) (below ++ s ∷ []) start after

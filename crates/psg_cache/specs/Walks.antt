@@ -49,9 +49,9 @@ pub record IsBlamed (s : Known) (below : List Known) (path : Path) (old new : Fo
   pub exact : ((s.rel ≡ []) × AllByRecursion (λ (b : Known). b.rel ≡ [] → ⊥) below × (pushed ≡ path ∷ [])) ⊎ ((((s.rel ≡ []) × AllByRecursion (λ (b : Known). b.rel ≡ [] → ⊥) below) → ⊥) × (pushed ≡ []))
 
 -- the note keeps the tree, its summary and what was found
-pub record IsKept (f : Fragment) (root : Known) (found : Found) (n : Noted) : Type 0 where
+pub record IsKept (f : Fragment) (s : Known) (found : Found) (n : Noted) : Type 0 where
   pub tree : n.tree ≡ f
-  pub root : n.root ≡ root
+  pub root : n.root ≡ s
   pub weight : n.weight ≡ found.weight
   pub culprits : n.culprits ≡ found.culprits.items
 

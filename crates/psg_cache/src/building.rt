@@ -1,6 +1,6 @@
 //! Notes from trees.
 ghost use Rattle.std.specs.Prelude.{◌↔◌, IfErr, IfOk, IsTrue};
-ghost use Rattle.psg_grammar.specs.Sizes.{IsBig};
+ghost use Rattle.psg_grammar.specs.Sizes.{IsBig, IsDeep};
 ghost use Rattle.psg_grammar.specs.Sound.{IsSound};
 ghost use Rattle.psg_cache.specs.Notes.{AreDeclaringSpaces, IsFormed, IsNoteFault, IsNoteOf};
 ghost use Rattle.psg_cache.specs.Walks.{IsKept};
@@ -36,7 +36,7 @@ pub fn build<L: Ledger>(
     ensures note { IfOk result (IsNoteOf definition.now tree.now) }
     ensures fault { IfErr result (IsNoteFault definition.now tree.now) }
 {
-    if depth(tree) > MOST_DEPTH {
+    if is_deep(tree) {
         return Err(NoteFault::Deep);
     }
     if is_big(tree) {
@@ -67,6 +67,13 @@ fn kept(alloc: Global, tree: &Tree, root: Summary, found: Found) -> Result<Note,
     };
     let note = Note::new(alloc, noted)?;
     Ok(note)
+}
+
+/// Whether the tree is too deep.
+fn is_deep(tree: &Tree) -> bool
+    ensures { IsTrue result ↔ IsDeep tree.now }
+{
+    depth(tree) > MOST_DEPTH
 }
 
 /// Whether the tree has too many nodes, or a list of it too many elements.

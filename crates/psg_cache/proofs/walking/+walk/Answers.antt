@@ -11,10 +11,10 @@ use Rattle.psg_cache.proofs.WalkLaws.{child_fault, top_fault, walked-none, walke
 use Rattle.psg_cache.proofs.walking.+walk.Goals as goal
 
 pub loop-i-init : goal.loop-i-init
-loop-i-init g t c = walked-none c.args.definition.now c.args.path.now c.args.found.now
+loop-i-init g t c = walked-none c.args.definition.now c.args.path.now c.new-below.result.items c.args.found.now c.new-below.ensures.items
 
 pub walk-requires : goal.walk-requires
-walk-requires g t c =
+walk-requires g t c κs within =
     let are : c.as_slice-inner.result.now ≡ children_of c.args.tree.now = c.as_slice-inner.ensures.value ∙ c.in_ok-all.ensures in
     let h = child_formed c.args.definition.now c.args.tree.now c.requires.formed c.as_slice-inner.result.now are c.loop-i.i c.index-inner-i.result c.loop-i-test.true c.index-inner-i.is in
     let d : height c.args.tree.now ≡ t = c.decreases in
@@ -24,7 +24,7 @@ pub loop-i-preserved : goal.loop-i-preserved
 loop-i-preserved g t c =
     walked_more c.args.definition.now c.args.path.now c.in_ok-place.place.items c.as_slice-inner.result.now c.loop-i.i c.in_ok-step.step c.index-inner-i.result c.loop-i.below.items _ c.args.found.now c.loop-i.found _ c.in_ok-summary.summary
     c.loop-i-test.true c.index-inner-i.is c.in_ok-step.ensures c.in_ok-place.ensures c.in_ok-push.ensures.items c.loop-i.invariant
-    (subst (λ q. IsWalked c.args.definition.now q c.index-inner-i.result c.loop-i.found c.walk-summary.new.found c.in_ok-summary.summary) c.as_slice.ensures.value c.in_ok-summary.ensures.ok)
+    (subst (λ q. IsWalked c.args.definition.now q c.index-inner-i.result c.loop-i.found c.walk.new.found c.in_ok-summary.summary) c.as_slice.ensures.value c.in_ok-summary.ensures.ok)
 
 pub returns-in_err-summary-clause-err : goal.returns-in_err-summary-clause-err
 returns-in_err-summary-clause-err g t c =
