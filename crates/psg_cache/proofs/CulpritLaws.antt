@@ -118,10 +118,12 @@ module _ (def : Definition) where
         (o, all-append OpenNode (nodes_from (path ++ 0 ∷ []) e) (nodes_below path 1 r) (open_from (path ++ 0 ∷ []) e real.0 h.0) (open_under path 1 r real.1 h.1))
     open_from path (operator o) real h = (h, tt)
     open_from path (with_child f t) real o =
-        let h = children_open def (with_child f t) real o in
-        (o, all-append OpenNode (nodes_below path 0 f) (nodes_from (path ++ length (children_of f) ∷ []) t)
-          (open_under path 0 f real.0 (all-front (IsOpen def) (children_of f) (t ∷ []) h))
-          (open_from (path ++ length (children_of f) ∷ []) t real.1 (all-back (IsOpen def) (children_of f) (t ∷ []) h).0))
+        let h = children_open def (with_child f t) real o in (
+          o,
+          all-append OpenNode (nodes_below path 0 f) (nodes_from (path ++ length (children_of f) ∷ []) t)
+              (open_under path 0 f real.0 (all-front (IsOpen def) (children_of f) (t ∷ []) h))
+              (open_from (path ++ length (children_of f) ∷ []) t real.1 (all-back (IsOpen def) (children_of f) (t ∷ []) h).0),
+        )
     open_from path (with_name f n) real o = (o, open_under path 0 f real.0 (children_open def (with_name f n) real o))
     open_from path (with_number f n) real o = (o, open_under path 0 f real.0 (children_open def (with_number f n) real o))
     open_from path (with_text f t) real o = (o, open_under path 0 f real.0 (children_open def (with_text f t) real o))

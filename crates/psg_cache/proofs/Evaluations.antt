@@ -319,13 +319,16 @@ module _ (def : Definition) where
       let h = has_items f [] kind fits plain spine in
       let number : h.number ≡ o = same_number h.number o (sym h.top ∙ ap top_operator (sym made) ∙ top_parts (operator o) ps) in
       let whole : part_items h.op.items ≡ h.done = h.all ∙ append-nil h.done in
-      let none = none_reporting summaries (all_quiet (children_of f) summaries real are) in
-      (h.op, subst (λ n. slice_get def.operators n ≡ Some h.op) number h.found, record {
-        names_fit = ap length (sym (names-parts h.op.items) ∙ ap (are_names def) whole) ∙ h.names ∙ ap length (ap own_names (sym made) ∙ own_parts (operator o) ps);
-        kinds_fit = kinds_known (children_of f) h.child_kinds summaries h.children are ∙ sym h.slots ∙ ap (slot_kinds def) (sym whole) ∙ slots-parts h.op.items;
-        summaries = usual;
-        reported = omega (arith, none);
-      })
+      let none = none_reporting summaries (all_quiet (children_of f) summaries real are) in (
+        h.op,
+        subst (λ n. slice_get def.operators n ≡ Some h.op) number h.found,
+        record {
+          names_fit = ap length (sym (names-parts h.op.items) ∙ ap (are_names def) whole) ∙ h.names ∙ ap length (ap own_names (sym made) ∙ own_parts (operator o) ps);
+          kinds_fit = kinds_known (children_of f) h.child_kinds summaries h.children are ∙ sym h.slots ∙ ap (slot_kinds def) (sym whole) ∙ slots-parts h.op.items;
+          summaries = usual;
+          reported = omega (arith, none);
+        },
+      )
 
   pub is_node : (o : ℕ) (ps : List Part) (f : Fragment) (kind : Kind) → with_parts (operator o) ps ≡ f → Fits def f [] kind → IsPlain f → IsNode def o (names_in ps) f
   is_node o ps f kind made fits plain = record {

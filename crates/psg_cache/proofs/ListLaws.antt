@@ -156,8 +156,8 @@ module _ (def : Definition) where
       let r : Fragment = list_of l (drop (suc now) es) u in
       fault_of_rest path l u fault now es
       (subst (λ (x : List Fragment). IsStepFault def (list_steps def path (list_of l x u)) fault) (sym split)
-        (fault-behind def (list_steps def path r) (own_steps def path (cell l e r)) fault (subst (IsClean def) (top_list_steps path l (drop (suc now) es) u) before.clean)
-          (own_fault def path (cell l e r) answer fault (h e r of_element before.summary) f)))
+      (fault-behind def (list_steps def path r) (own_steps def path (cell l e r)) fault (subst (IsClean def) (top_list_steps path l (drop (suc now) es) u) before.clean)
+      (own_fault def path (cell l e r) answer fault (h e r of_element before.summary) f)))
 
   -- ---- what a list takes
 

@@ -106,9 +106,9 @@ module _ (def : Definition) where
       ∙ ap (λ q. each_steps def path 0 (take i children) ++ (steps_of def q child ++ each_steps def path (i + 1) behind)) (ap (λ j. path ++ j ∷ []) (sym same) ∙ sym place) in
       subst (λ l. IsStepFault def l fault) (sym (steps_split def path f real))
       (fault-left def (each_steps def path 0 (children_of f)) (top_steps def path f) fault
-        (subst (λ l. IsStepFault def l fault) (sym steps)
-          (fault-behind def (each_steps def path 0 (take i children)) (steps_of def pushed child ++ each_steps def path (i + 1) behind) fault h.clean
-            (fault-left def (steps_of def pushed child) (each_steps def path (i + 1) behind) fault k))))
+      (subst (λ l. IsStepFault def l fault) (sym steps)
+      (fault-behind def (each_steps def path 0 (take i children)) (steps_of def pushed child ++ each_steps def path (i + 1) behind) fault h.clean
+      (fault-left def (steps_of def pushed child) (each_steps def path (i + 1) behind) fault k))))
 
   -- all children were walked
   pub walked_all : (path : Path) (f : Fragment) (children : List Fragment) (i : ℕ) (below slice : List Known) (start middle : Found) → children ≡ children_of f → length children ≤ i → slice ≡ below

@@ -281,7 +281,9 @@ pub(crate) fn walk<L: Ledger>(
         below.push(summary)?;
     }
     let summaries = below.as_slice();
-    let whole = top(alloc, definition, declaring, tree, summaries, path, found, steps)?;
+    let whole = top(
+        alloc, definition, declaring, tree, summaries, path, found, steps,
+    )?;
     blame(alloc, &whole, summaries, path, found)?;
     Ok(whole)
 }

@@ -9,9 +9,9 @@ pub returns-in_err-root-clause-fault : goal.returns-in_err-root-clause-fault
 returns-in_err-root-clause-fault g c =
     passed (IsNoteFault c.args.definition.now c.args.tree.now) _ c.in_err-root.field-0.0 c.from_residual.ensures.1
     (fault_noted c.args.definition.now c.args.tree.now c.in_err-root.field-0.0
-      (λ deep. true≢false (sym (c.is_deep.ensures.1 deep) ∙ c.if-is_deep.false))
-      (λ big. true≢false (sym (c.is_big.ensures.1 big) ∙ c.if-is_big.false))
-      c.in_err-root.ensures.err)
+    (λ deep. true≢false (sym (c.is_deep.ensures.1 deep) ∙ c.if-is_deep.false))
+    (λ big. true≢false (sym (c.is_big.ensures.1 big) ∙ c.if-is_big.false))
+    c.in_err-root.ensures.err)
 
 pub returns-clause-note : goal.returns-clause-note
 returns-clause-note g c =

@@ -31,8 +31,8 @@ returns-in_err-summary-clause-err g t c =
     let are : c.as_slice-inner.result.now ≡ children_of c.args.tree.now = c.as_slice-inner.ensures.value ∙ c.in_ok-all.ensures in
     passed (IsStepFault c.args.definition.now (steps_of c.args.definition.now c.args.path.now c.args.tree.now)) _ c.in_err-summary.field-0.0 c.from_residual-in_err-summary.ensures.1
     (child_fault c.args.definition.now c.args.path.now c.in_ok-place.place.items c.args.tree.now (real c.args.definition.now c.args.tree.now c.requires.formed) c.as_slice-inner.result.now c.loop-i.i c.in_ok-step.step c.index-inner-i.result
-      c.loop-i.below.items c.args.found.now c.loop-i.found c.in_err-summary.field-0.0 are c.loop-i-test.true c.index-inner-i.is c.in_ok-step.ensures c.in_ok-place.ensures c.loop-i.invariant
-      (subst (λ q. IsStepFault c.args.definition.now (steps_of c.args.definition.now q c.index-inner-i.result) c.in_err-summary.field-0.0) c.as_slice.ensures.value c.in_err-summary.ensures.err))
+    c.loop-i.below.items c.args.found.now c.loop-i.found c.in_err-summary.field-0.0 are c.loop-i-test.true c.index-inner-i.is c.in_ok-step.ensures c.in_ok-place.ensures c.loop-i.invariant
+    (subst (λ q. IsStepFault c.args.definition.now (steps_of c.args.definition.now q c.index-inner-i.result) c.in_err-summary.field-0.0) c.as_slice.ensures.value c.in_err-summary.ensures.err))
 
 pub returns-in_err-whole-clause-err : goal.returns-in_err-whole-clause-err
 returns-in_err-whole-clause-err g t c =

@@ -21,7 +21,7 @@ pub returns-in_err-summary-in-Op-clause-err : goal.returns-in_err-summary-in-Op-
 returns-in_err-summary-in-Op-clause-err g c =
     passed (IsStepFault c.args.definition.now (top_steps c.args.definition.now c.args.path.now c.args.tree.now)) _ c.in_err-summary-in-Op.field-0.0 c.from_residual-in_err-summary-in-Op.ensures.1
     (operator_fault c.args.definition.now c.args.path.now c.shape.result.now c.in-Op.op c.in-Op.parts c.args.tree.now _ c.args.below.now c.eval_op-made.result c.in_err-summary-in-Op.field-0.0 c.in-Op.is c.shape.ensures c.requires.formed
-      (c.as_slice-in-Op.ensures.value ∙ c.in_ok-names-in-Op.ensures ∙ ap names_in c.as_slice.ensures) c.requires.summaries c.eval_op-made.ensures.answer c.in_err-summary-in-Op.ensures.err)
+    (c.as_slice-in-Op.ensures.value ∙ c.in_ok-names-in-Op.ensures ∙ ap names_in c.as_slice.ensures) c.requires.summaries c.eval_op-made.ensures.answer c.in_err-summary-in-Op.ensures.err)
 
 pub returns-in_ok-summary-in-Op-clause-ok : goal.returns-in_ok-summary-in-Op-clause-ok
 returns-in_ok-summary-in-Op-clause-ok g c =

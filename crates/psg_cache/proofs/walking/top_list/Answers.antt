@@ -30,11 +30,11 @@ pub returns-in_err-whole-2-clause-err : goal.returns-in_err-whole-2-clause-err
 returns-in_err-whole-2-clause-err g c =
     passed (IsListFault c.args.definition.now c.args.path.now c.args.list c.args.unfinished c.args.elements.now) _ c.in_err-whole-2.field-0.0 c.from_residual-in_err-whole-2.ensures.1
     (cell_fault c.args.definition.now c.args.path.now c.args.list c.args.unfinished c.args.elements.now c.loop-left.left (c.loop-left.left - 1) c.args.found.now c.loop-left.found c.index-elements-left.result c.loop-left.whole c.eval_cell-made.result c.in_err-whole-2.field-0.0 (omega arith) (omega arith) c.index-elements-left.is
-      c.loop-left.invariant.1 c.eval_cell-made.ensures.answer c.in_err-whole-2.ensures.err)
+    c.loop-left.invariant.1 c.eval_cell-made.ensures.answer c.in_err-whole-2.ensures.err)
 
 pub loop-left-preserved : goal.loop-left-preserved
 loop-left-preserved g c = (
   omega arith,
   cell_topped c.args.definition.now c.args.path.now c.args.list c.args.unfinished c.args.elements.now c.loop-left.left (c.loop-left.left - 1) c.args.found.now c.loop-left.found _ c.index-elements-left.result c.loop-left.whole _ c.eval_cell-made.result (omega arith) (omega arith) c.index-elements-left.is
-    c.loop-left.invariant.1 c.eval_cell-made.ensures.answer c.eval_cell-made.ensures.summary c.in_ok-whole-2.ensures.ok,
+      c.loop-left.invariant.1 c.eval_cell-made.ensures.answer c.eval_cell-made.ensures.summary c.in_ok-whole-2.ensures.ok,
 )
