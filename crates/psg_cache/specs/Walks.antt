@@ -9,6 +9,7 @@ use Rattle.psg_grammar.specs.declared.types.Definition.{Definition}
 use Rattle.psg_grammar.specs.Fragments.{Fragment, hole, ending, cell, operator, with_child, with_name, with_number, with_text, anything, observed, children_of}
 use Rattle.psg_grammar.specs.Marks.{Located, nodes_from, AreCulprits}
 use Rattle.psg_grammar.specs.Paths.{Path}
+use Rattle.psg_grammar.specs.Sound.{IsSound}
 use Rattle.psg_grammar.specs.Steps.{Place, own_steps, list_steps, steps_of, HasWeights, PassesAt}
 use Rattle.psg_tree.specs.Shapes.{list_of}
 use Rattle.psg_terms.specs.Names.{Name}
@@ -19,9 +20,16 @@ use Rattle.psg_eval.specs.declared.summary.EvalFault.{EvalFault}
 use Rattle.psg_eval.specs.declared.summary.EvalFault.TheVariants as evals
 use Rattle.psg_eval.specs.Summaries.{AllSummaries, IsSummary, IsSummaryOf}
 use Rattle.psg_cache.specs.declared.walking.Found.{Found}
+use Rattle.psg_cache.specs.declared.walking.Language.{Language}
 use Rattle.psg_cache.specs.declared.note.Noted.{Noted}
+use Rattle.psg_cache.specs.Notes.{AreDeclaringSpaces}
 use Rattle.psg_cache.specs.declared.note.NoteFault.{NoteFault}
 use Rattle.psg_cache.specs.declared.note.NoteFault.TheVariants as faults
+
+-- a sound definition, and for each phylum the spaces in which it declares
+pub record IsKnown (language : Language) : Type 0 where
+  pub sound : IsSound language.definition.now
+  pub declaring : AreDeclaringSpaces language.definition.now language.declaring.now
 
 -- the names among the parts, in order
 abbrev pub names_in : List Part → List Name

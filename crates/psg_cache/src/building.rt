@@ -7,7 +7,7 @@ ghost use Rattle.psg_cache.specs.Walks.{IsKept};
 
 use crate::lengths::has_long_list;
 use crate::note::{Note, NoteFault, Noted};
-use crate::walking::{Found, walk};
+use crate::walking::{Found, Language, walk};
 use psg_eval::Summary;
 use psg_grammar::Definition;
 use psg_grammar::limits::{MOST_DEPTH, MOST_NODES, MOST_WEIGHTS};
@@ -46,7 +46,11 @@ pub fn build<L: Ledger>(
         weight: 0,
         culprits: Vec::new(alloc),
     };
-    let root = walk(alloc, definition, declaring, tree, &[], &mut found, steps)?;
+    let language = Language {
+        definition,
+        declaring,
+    };
+    let root = walk(alloc, language, tree, &[], &mut found, steps)?;
     if found.weight > MOST_WEIGHTS {
         return Err(NoteFault::Heavy);
     }

@@ -4,13 +4,12 @@ ghost use Rattle.std.specs.List.{AllByRecursion};
 ghost use Rattle.psg_terms.specs.Weight.{weight_of};
 ghost use Rattle.psg_grammar.specs.Fragments.{children_of};
 ghost use Rattle.psg_grammar.specs.Steps.{steps_of};
-ghost use Rattle.psg_grammar.specs.Sound.{IsSound};
 ghost use Rattle.psg_tree.specs.Shapes.{subtrees};
 ghost use Rattle.psg_eval.specs.declared.summary.Known.{Known};
 ghost use Rattle.psg_eval.specs.Summaries.{AreSummariesOf, IsSummary, IsSummaryOf};
 ghost use Rattle.psg_cache.specs.declared.note.NoteFault.TheVariants as faults;
-ghost use Rattle.psg_cache.specs.Notes.{AreDeclaringSpaces, IsFormed};
-ghost use Rattle.psg_cache.specs.Walks.{IsAdded, IsAnswerFault, IsBlamed, IsListFault, IsListTopped, IsStepFault, IsTopped, IsWalked, names_in, TakesElements, top_steps};
+ghost use Rattle.psg_cache.specs.Notes.{IsFormed};
+ghost use Rattle.psg_cache.specs.Walks.{IsAdded, IsAnswerFault, IsBlamed, IsKnown, IsListFault, IsListTopped, IsStepFault, IsTopped, IsWalked, names_in, TakesElements, top_steps};
 
 use crate::note::NoteFault;
 use psg_eval::{EvalFault, Summary, eval_cell, eval_end, eval_hole, eval_op};
@@ -27,6 +26,14 @@ pub struct Found {
     pub weight: u64,
     /// The nodes that go wrong by themselves.
     pub culprits: Vec<Path>,
+}
+
+/// The language of a walk.
+#[derive(Clone, Copy)]
+pub(crate) struct Language<'a> {
+    pub(crate) definition: &'a Definition,
+    /// For each phylum the spaces in which it declares.
+    pub(crate) declaring: &'a [Vec<u32>],
 }
 
 /// The subtrees among the parts, each with one more owner.
@@ -137,8 +144,7 @@ fn added(
 /// The summary of a list from those of its elements: of its end, and then of its cells from the last to the first.
 fn top_list<L: Ledger>(
     alloc: Global,
-    definition: &Definition,
-    declaring: &[Vec<u32>],
+    language: Language,
     list: u32,
     elements: &[Summary],
     unfinished: bool,
@@ -146,14 +152,14 @@ fn top_list<L: Ledger>(
     found: &mut Found,
     steps: &mut Steps<L>,
 ) -> Result<Summary, NoteFault>
-    requires sound { IsSound definition.now }
-    requires declaring { AreDeclaringSpaces definition.now declaring.now }
-    requires takes { TakesElements definition.now list unfinished elements.now }
-    ensures ok { IfOk result (λ s. IsListTopped definition.now path.now list unfinished elements.now found.old found.new s) }
-    ensures err { IfErr result (IsListFault definition.now path.now list unfinished elements.now) }
+    requires language { IsKnown language }
+    requires takes { TakesElements language.definition.now list unfinished elements.now }
+    ensures ok { IfOk result (λ s. IsListTopped language.entry.definition.now path.now list unfinished elements.now found.old found.new s) }
+    ensures err { IfErr result (IsListFault language.entry.definition.now path.now list unfinished elements.now) }
 {
+    let definition = language.definition;
     let kind = &definition.lists.as_slice()[list as usize];
-    let spaces = declaring[kind.element as usize].as_slice();
+    let spaces = language.declaring[kind.element as usize].as_slice();
     let ended = eval_end(alloc, definition, spaces, list, unfinished, steps);
     let mut whole = added(alloc, path, ended, found)?;
     let mut left = elements.len();
@@ -168,22 +174,21 @@ fn top_list<L: Ledger>(
 /// The summary of a tree from those of its children or elements.
 fn top<L: Ledger>(
     alloc: Global,
-    definition: &Definition,
-    declaring: &[Vec<u32>],
+    language: Language,
     tree: &Tree,
     below: &[Summary],
     path: &[u32],
     found: &mut Found,
     steps: &mut Steps<L>,
 ) -> Result<Summary, NoteFault>
-    requires sound { IsSound definition.now }
-    requires declaring { AreDeclaringSpaces definition.now declaring.now }
-    requires formed { IsFormed definition.now tree.now }
-    requires summaries { AreSummariesOf definition.now tree.now below.now }
-    requires usual { AllByRecursion (IsSummary definition.now) below.now }
-    ensures ok { IfOk result (λ s. IsTopped definition.now path.now tree.now found.old found.new s) }
-    ensures err { IfErr result (IsStepFault definition.now (top_steps definition.now path.now tree.now)) }
+    requires language { IsKnown language }
+    requires formed { IsFormed language.definition.now tree.now }
+    requires summaries { AreSummariesOf language.definition.now tree.now below.now }
+    requires usual { AllByRecursion (IsSummary language.definition.now) below.now }
+    ensures ok { IfOk result (λ s. IsTopped language.entry.definition.now path.now tree.now found.old found.new s) }
+    ensures err { IfErr result (IsStepFault language.entry.definition.now (top_steps language.entry.definition.now path.now tree.now)) }
 {
+    let definition = language.definition;
     match tree.shape() {
         Shape::Hole { phylum } => {
             let made = eval_hole(alloc, definition, *phylum, steps);
@@ -198,13 +203,12 @@ fn top<L: Ledger>(
         }
         Shape::List {
             list,
-            elements: _,
             unfinished,
+            ..
         } => {
             let summary = top_list(
                 alloc,
-                definition,
-                declaring,
+                language,
                 *list,
                 below,
                 *unfinished,
@@ -250,18 +254,16 @@ fn blame(
 /// The summary of the tree at the path: its children in order, and then the node.
 pub(crate) fn walk<L: Ledger>(
     alloc: Global,
-    definition: &Definition,
-    declaring: &[Vec<u32>],
+    language: Language,
     tree: &Tree,
     path: &[u32],
     found: &mut Found,
     steps: &mut Steps<L>,
 ) -> Result<Summary, NoteFault>
-    requires sound { IsSound definition.now }
-    requires declaring { AreDeclaringSpaces definition.now declaring.now }
-    requires formed { IsFormed definition.now tree.now }
-    ensures ok { IfOk result (λ s. IsWalked definition.now path.now tree.now found.old found.new s) }
-    ensures err { IfErr result (IsStepFault definition.now (steps_of definition.now path.now tree.now)) }
+    requires language { IsKnown language }
+    requires formed { IsFormed language.definition.now tree.now }
+    ensures ok { IfOk result (λ s. IsWalked language.entry.definition.now path.now tree.now found.old found.new s) }
+    ensures err { IfErr result (IsStepFault language.entry.definition.now (steps_of language.entry.definition.now path.now tree.now)) }
 {
     let all = children(alloc, tree)?;
     let inner = all.as_slice();
@@ -269,21 +271,11 @@ pub(crate) fn walk<L: Ledger>(
     for i in 0..inner.len() {
         let step = step_of(i)?;
         let place = longer(alloc, path, step)?;
-        let summary = walk(
-            alloc,
-            definition,
-            declaring,
-            &inner[i],
-            place.as_slice(),
-            found,
-            steps,
-        )?;
+        let summary = walk(alloc, language, &inner[i], place.as_slice(), found, steps)?;
         below.push(summary)?;
     }
     let summaries = below.as_slice();
-    let whole = top(
-        alloc, definition, declaring, tree, summaries, path, found, steps,
-    )?;
+    let whole = top(alloc, language, tree, summaries, path, found, steps)?;
     blame(alloc, &whole, summaries, path, found)?;
     Ok(whole)
 }

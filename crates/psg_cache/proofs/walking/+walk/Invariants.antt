@@ -5,7 +5,7 @@ use Rattle.psg_cache.proofs.walking.+walk.Given as goal
 
 -- the children so far were walked
 abbrev pub invariant-loop-i : goal.invariant-loop-i
-invariant-loop-i g l = AreWalked l.definition l.path (take l.i l.inner) l.below.items l.fn.found l.found
+invariant-loop-i g l = AreWalked l.language.definition.now l.path (take l.i l.inner) l.below.items l.fn.found l.found
 
 abbrev pub decreases-walk : goal.decreases-walk
 decreases-walk g l = height l.tree.now
