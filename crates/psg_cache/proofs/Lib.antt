@@ -11,3 +11,4 @@ pub mod Passing
 pub mod ChildLaws
 pub mod TopLaws
 pub mod WalkLaws
+pub mod LittleLaws

@@ -16,3 +16,6 @@ mod walking;
 
 pub use building::build;
 pub use note::{Note, NoteFault};
+
+#[cfg(test)]
+mod tests;
