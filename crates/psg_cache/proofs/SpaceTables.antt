@@ -1,6 +1,6 @@
 -- The spaces in which a list declares are those of its elements.
-use Rattle.std.proofs.Common.{◌≡◌, ◌↔◌, inl, inr, ℕ, zero, suc, ◌+◌, ◌<◌, ◌==◌, Bool, true, false, ◌||◌, List, [], ◌∷◌, length, get_or, slice_get, Option, Some, refl, sym, ◌∙◌, ap, subst, true≢false, arith}
-use Rattle.std.specs.Prelude.{Vec, IfSome}
+use Rattle.std.proofs.Common.{◌≡◌, ◌↔◌, inl, inr, ℕ, zero, suc, ◌+◌, ◌<◌, ◌==◌, Bool, true, false, ◌||◌, List, [], ◌∷◌, length, get_or, slice_get, Some, refl, sym, ◌∙◌, ap, subst, true≢false, arith}
+use Rattle.std.specs.Prelude.{Vec}
 use Rattle.std.specs.declared.alloc.Global.{Global}
 use Rattle.std.specs.List.{AllByRecursion}
 use Rattle.std.specs.List.Sorted.{IsStrictlyIncreasing}
@@ -12,7 +12,6 @@ use Rattle.psg_grammar.specs.declared.types.Definition.{Definition}
 use Rattle.psg_grammar.specs.Sound.{IsSound}
 use Rattle.psg_grammar.proofs.SoundParts.{elements_in}
 use Rattle.std.proofs.lemmas.Option.{get_or_from_slice_get, slice_get_read}
-use Rattle.psg_grammar.specs.DeclaringTables.{AreSpacesOf}
 use Rattle.psg_grammar.specs.Declaring.{Declares, by_list, is_declaring}
 use Rattle.psg_grammar.proofs.DeclaringLaws.{or_cases, or_left, or_right, eqb_true, eqb_same, found_declares, declares_found}
 use Rattle.psg_scope.specs.Headers.{has_space, AreAscending}
@@ -84,10 +83,3 @@ module _ (def : Definition) (sound : IsSound def) (table : List (Vec ℕ Global)
       let there : slice_get table own.element ≡ Some spaces =
       subst (λ (k : ListKind). slice_get table k.element ≡ Some spaces) same (slice_get_read table (length table) kind.element spaces refl (element_below l own kind found same) at) in
       subst (AreSpacesOfList def l) (sym is) (spaces_of_list def sound table are l own found spaces there)
-
--- a table with the spaces of each phylum
-pub declaring_spaces : (def : Definition) (table : List (Vec ℕ Global)) → length table ≡ length def.phyla → ((p : ℕ) → IfSome (slice_get table p) (λ spaces. AreSpacesOf def p spaces.items)) → AreDeclaringSpaces def table
-declaring_spaces def table one_each exact = record {
-  one_each = one_each;
-  exact = λ p spaces at. let P : Option (Vec ℕ Global) → Type 0 = λ o. IfSome o (λ found. AreSpacesOf def p found.items) in subst P at (exact p);
-}
