@@ -6,8 +6,11 @@ use Rattle.psg_cache.proofs.walking.top.Goals as goal
 
 pub returns-in_err-summary-in-Hole-clause-err : goal.returns-in_err-summary-in-Hole-clause-err
 returns-in_err-summary-in-Hole-clause-err g c =
-    passed (IsStepFault c.args.language.definition.now (top_steps c.args.language.definition.now c.args.path.now c.args.tree.now)) _ c.in_err-summary-in-Hole.field-0.0 c.from_residual.ensures.1
-    (hole_fault c.args.language.definition.now c.args.path.now c.shape.result.now c.in-Hole.phylum c.args.tree.now c.eval_hole-made.result c.in_err-summary-in-Hole.field-0.0 c.in-Hole.is c.shape.ensures c.eval_hole-made.ensures.answer c.in_err-summary-in-Hole.ensures.err)
+    let def = c.args.language.definition.now in
+    let path = c.args.path.now in
+    let tree = c.args.tree.now in
+    passed (IsStepFault def (top_steps def path tree)) _ c.in_err-summary-in-Hole.field-0.0 c.from_residual.ensures.1
+    (hole_fault def path c.shape.result.now c.in-Hole.phylum tree c.eval_hole-made.result c.in_err-summary-in-Hole.field-0.0 c.in-Hole.is c.shape.ensures c.eval_hole-made.ensures.answer c.in_err-summary-in-Hole.ensures.err)
 
 pub returns-in_ok-summary-in-Hole-clause-ok : goal.returns-in_ok-summary-in-Hole-clause-ok
 returns-in_ok-summary-in-Hole-clause-ok g c =
@@ -19,8 +22,11 @@ eval_op-made-requires-clause-takes g c =
 
 pub returns-in_err-summary-in-Op-clause-err : goal.returns-in_err-summary-in-Op-clause-err
 returns-in_err-summary-in-Op-clause-err g c =
-    passed (IsStepFault c.args.language.definition.now (top_steps c.args.language.definition.now c.args.path.now c.args.tree.now)) _ c.in_err-summary-in-Op.field-0.0 c.from_residual-in_err-summary-in-Op.ensures.1
-    (operator_fault c.args.language.definition.now c.args.path.now c.shape.result.now c.in-Op.op c.in-Op.parts c.args.tree.now _ c.args.below.now c.eval_op-made.result c.in_err-summary-in-Op.field-0.0 c.in-Op.is c.shape.ensures c.requires.formed
+    let def = c.args.language.definition.now in
+    let path = c.args.path.now in
+    let tree = c.args.tree.now in
+    passed (IsStepFault def (top_steps def path tree)) _ c.in_err-summary-in-Op.field-0.0 c.from_residual-in_err-summary-in-Op.ensures.1
+    (operator_fault def path c.shape.result.now c.in-Op.op c.in-Op.parts tree _ c.args.below.now c.eval_op-made.result c.in_err-summary-in-Op.field-0.0 c.in-Op.is c.shape.ensures c.requires.formed
     (c.as_slice-in-Op.ensures.value ∙ c.in_ok-names-in-Op.ensures ∙ ap names_in c.as_slice.ensures) c.requires.summaries c.eval_op-made.ensures.answer c.in_err-summary-in-Op.ensures.err)
 
 pub returns-in_ok-summary-in-Op-clause-ok : goal.returns-in_ok-summary-in-Op-clause-ok
@@ -34,8 +40,11 @@ top_list-requires-clause-takes g c =
 
 pub returns-in_err-summary-in-List-clause-err : goal.returns-in_err-summary-in-List-clause-err
 returns-in_err-summary-in-List-clause-err g c =
-    passed (IsStepFault c.args.language.definition.now (top_steps c.args.language.definition.now c.args.path.now c.args.tree.now)) _ c.in_err-summary-in-List.field-0.0 c.from_residual-in_err-summary-in-List.ensures.1
-    (list_fault c.args.language.definition.now c.args.path.now c.shape.result.now c.in-List.list c.in-List.elements c.in-List.unfinished c.args.tree.now c.args.below.now c.in_err-summary-in-List.field-0.0 c.in-List.is c.shape.ensures c.requires.summaries c.in_err-summary-in-List.ensures.err)
+    let def = c.args.language.definition.now in
+    let path = c.args.path.now in
+    let tree = c.args.tree.now in
+    passed (IsStepFault def (top_steps def path tree)) _ c.in_err-summary-in-List.field-0.0 c.from_residual-in_err-summary-in-List.ensures.1
+    (list_fault def path c.shape.result.now c.in-List.list c.in-List.elements c.in-List.unfinished tree c.args.below.now c.in_err-summary-in-List.field-0.0 c.in-List.is c.shape.ensures c.requires.summaries c.in_err-summary-in-List.ensures.err)
 
 pub returns-in_ok-summary-in-List-clause-ok : goal.returns-in_ok-summary-in-List-clause-ok
 returns-in_ok-summary-in-List-clause-ok g c =

@@ -16,13 +16,18 @@ eval_end-ended-requires-clause-spaces g c =
 
 pub returns-in_err-whole-clause-err : goal.returns-in_err-whole-clause-err
 returns-in_err-whole-clause-err g c =
-    passed (IsListFault c.args.language.definition.now c.args.path.now c.args.list c.args.unfinished c.args.elements.now) _ c.in_err-whole.field-0.0 c.from_residual.ensures.1
-    (end_fault c.args.language.definition.now c.args.path.now c.args.list c.args.unfinished c.eval_end-ended.result c.in_err-whole.field-0.0 c.args.elements.now c.eval_end-ended.ensures.answer c.in_err-whole.ensures.err)
+    let def = c.args.language.definition.now in
+    let path = c.args.path.now in
+    let elements = c.args.elements.now in
+    passed (IsListFault def path c.args.list c.args.unfinished elements) _ c.in_err-whole.field-0.0 c.from_residual.ensures.1
+    (end_fault def path c.args.list c.args.unfinished c.eval_end-ended.result c.in_err-whole.field-0.0 elements c.eval_end-ended.ensures.answer c.in_err-whole.ensures.err)
 
 pub loop-left-init : goal.loop-left-init
-loop-left-init g c = (
+loop-left-init g c =
+    let elements = c.args.elements.now in
+    (
   omega arith,
-  end_topped c.args.language.definition.now c.args.path.now c.args.list c.args.unfinished c.eval_end-ended.result c.args.found.now c.added.new.found c.in_ok-whole.whole c.eval_end-ended.ensures.answer c.eval_end-ended.ensures.summary c.in_ok-whole.ensures.ok c.args.elements.now (length c.args.elements.now) refl,
+  end_topped c.args.language.definition.now c.args.path.now c.args.list c.args.unfinished c.eval_end-ended.result c.args.found.now c.added.new.found c.in_ok-whole.whole c.eval_end-ended.ensures.answer c.eval_end-ended.ensures.summary c.in_ok-whole.ensures.ok elements (length elements) refl,
 )
 
 pub eval_cell-made-requires-clause-takes : goal.eval_cell-made-requires-clause-takes
@@ -31,8 +36,11 @@ eval_cell-made-requires-clause-takes g c =
 
 pub returns-in_err-whole-2-clause-err : goal.returns-in_err-whole-2-clause-err
 returns-in_err-whole-2-clause-err g c =
-    passed (IsListFault c.args.language.definition.now c.args.path.now c.args.list c.args.unfinished c.args.elements.now) _ c.in_err-whole-2.field-0.0 c.from_residual-in_err-whole-2.ensures.1
-    (cell_fault c.args.language.definition.now c.args.path.now c.args.list c.args.unfinished c.args.elements.now c.loop-left.left (c.loop-left.left - 1) c.args.found.now c.loop-left.found c.index-elements-left.result c.loop-left.whole c.eval_cell-made.result c.in_err-whole-2.field-0.0 (omega arith) (omega arith) c.index-elements-left.is
+    let def = c.args.language.definition.now in
+    let path = c.args.path.now in
+    let elements = c.args.elements.now in
+    passed (IsListFault def path c.args.list c.args.unfinished elements) _ c.in_err-whole-2.field-0.0 c.from_residual-in_err-whole-2.ensures.1
+    (cell_fault def path c.args.list c.args.unfinished elements c.loop-left.left (c.loop-left.left - 1) c.args.found.now c.loop-left.found c.index-elements-left.result c.loop-left.whole c.eval_cell-made.result c.in_err-whole-2.field-0.0 (omega arith) (omega arith) c.index-elements-left.is
     c.loop-left.invariant.1 c.eval_cell-made.ensures.answer c.in_err-whole-2.ensures.err)
 
 pub loop-left-preserved : goal.loop-left-preserved
