@@ -52,7 +52,9 @@ names-cons (Text t) ps = refl
 
 pub own_parts : (f : Fragment) (ps : List Part) → own_names (with_parts f ps) ≡ own_names f ++ names_in ps
 own_parts f [] = sym (append-nil (own_names f))
-own_parts f (p ∷ ps) = own_parts (with_part f p) ps ∙ ap (λ x. x ++ names_in ps) (own_part f p) ∙ append_assoc (own_names f) (names_in (p ∷ [])) (names_in ps) ∙ ap (λ x. own_names f ++ x) (names-cons p ps)
+own_parts f (p ∷ ps) =
+    own_parts (with_part f p) ps ∙ ap (λ x. x ++ names_in ps) (own_part f p)
+    ∙ append_assoc (own_names f) (names_in (p ∷ [])) (names_in ps) ∙ ap (λ x. own_names f ++ x) (names-cons p ps)
 
 top_part : (f : Fragment) (p : Part) → top_operator (with_part f p) ≡ top_operator f
 top_part f (Sub t) = refl
@@ -75,7 +77,8 @@ spine_parts f [] s = s
 spine_parts f (p ∷ ps) s = spine_parts (with_part f p) ps (spine_part f p s)
 
 module _ (def : Definition) where
-  pub kind_fits : (f : Fragment) (more : List Item) (kind : Kind) → Fits def f more kind → IsPlain f → IsOfKind def f kind
+  pub kind_fits : (f : Fragment) (more : List Item) (kind : Kind) → Fits def f more kind → IsPlain f
+      → IsOfKind def f kind
   kind_fits (hole p) more kind h plain = h.1
   kind_fits (ending l u) more kind h plain = h.1
   kind_fits (cell l e r) more kind h plain = h.1
@@ -95,7 +98,8 @@ module _ (def : Definition) where
   one_kind (hole p) j k h i = h ∙ sym i
   one_kind (ending l u) j k h i = h ∙ sym i
   one_kind (cell l e r) j k h i = h ∙ sym i
-  one_kind (operator o) j k (a, at, e) (b, there, f) = e ∙ ap (λ (z : Operator). kinds.Phylum z.phylum) (same_operator a b (sym at ∙ there)) ∙ sym f
+  one_kind (operator o) j k (a, at, e) (b, there, f) =
+      e ∙ ap (λ (z : Operator). kinds.Phylum z.phylum) (same_operator a b (sym at ∙ there)) ∙ sym f
   one_kind (with_child f t) j k h i = one_kind f j k h i
   one_kind (with_name f n) j k h i = one_kind f j k h i
   one_kind (with_number f n) j k h i = one_kind f j k h i
@@ -104,14 +108,19 @@ module _ (def : Definition) where
   one_kind (observed f) j k h i = one_kind f j k h i
 
   -- the kind of a summary is the one by which the tree is formed
-  pub kind_known : (f : Fragment) (kind : Kind) (s : Known) → Fits def f [] kind → IsPlain f → IsSummaryOf def f s → s.kind ≡ kind
+  pub kind_known : (f : Fragment) (kind : Kind) (s : Known) → Fits def f [] kind → IsPlain f → IsSummaryOf def f s
+      → s.kind ≡ kind
   kind_known f kind s h plain summary = one_kind f s.kind kind summary.kind (kind_fits f [] kind h plain)
 
-  has_parts : (f : Fragment) (more : List Item) (kind : Kind) → Fits def f more kind → IsPlain f → IsSpine f → HasParts def f more
+  has_parts : (f : Fragment) (more : List Item) (kind : Kind) → Fits def f more kind → IsPlain f → IsSpine f
+      → HasParts def f more
   has_parts (operator o) more kind (op, found, e, k) plain s = (op, found, e)
-  has_parts (with_child f t) more kind (k, hf, ht) plain s = (k, has_parts f (items.Slot k ∷ more) kind hf plain.0 s, kind_fits t [] k ht plain.1)
-  has_parts (with_name f n) more kind (inl (a, h), name) plain s = inl (a, has_parts f (items.Refers a ∷ more) kind h plain s)
-  has_parts (with_name f n) more kind (inr (a, h), name) plain s = inr (a, has_parts f (items.Declares a ∷ more) kind h plain s)
+  has_parts (with_child f t) more kind (k, hf, ht) plain s =
+      (k, has_parts f (items.Slot k ∷ more) kind hf plain.0 s, kind_fits t [] k ht plain.1)
+  has_parts (with_name f n) more kind (inl (a, h), name) plain s =
+      inl (a, has_parts f (items.Refers a ∷ more) kind h plain s)
+  has_parts (with_name f n) more kind (inr (a, h), name) plain s =
+      inr (a, has_parts f (items.Declares a ∷ more) kind h plain s)
   has_parts (with_number f n) more kind (h, small) plain s = has_parts f (items.Number ∷ more) kind h plain s
   has_parts (with_text f t) more kind (h, text) plain s = has_parts f (items.Text ∷ more) kind h plain s
   has_parts (hole p) more kind h plain s = absurd s
@@ -185,19 +194,22 @@ module _ (def : Definition) where
   AreOfKinds (c ∷ cs) [] = ⊥
   AreOfKinds (c ∷ cs) (k ∷ ks) = Fits def c [] k × IsPlain c × AreOfKinds cs ks
 
-  kinds-push : (cs : List Fragment) (ks : List Kind) (c : Fragment) (k : Kind) → AreOfKinds cs ks → Fits def c [] k → IsPlain c → AreOfKinds (cs ++ c ∷ []) (ks ++ k ∷ [])
+  kinds-push : (cs : List Fragment) (ks : List Kind) (c : Fragment) (k : Kind) → AreOfKinds cs ks → Fits def c [] k
+      → IsPlain c → AreOfKinds (cs ++ c ∷ []) (ks ++ k ∷ [])
   kinds-push [] [] c k h f p = (f, p, tt)
   kinds-push [] (j ∷ ks) c k h f p = absurd h
   kinds-push (d ∷ cs) [] c k h f p = absurd h
   kinds-push (d ∷ cs) (j ∷ ks) c k h f p = (h.0, h.1, kinds-push cs ks c k h.2 f p)
 
-  kinds_known : (cs : List Fragment) (ks : List Kind) (summaries : List Known) → AreOfKinds cs ks → AllSummaries def cs summaries → map (λ (s : Known). s.kind) summaries ≡ ks
+  kinds_known : (cs : List Fragment) (ks : List Kind) (summaries : List Known) → AreOfKinds cs ks
+      → AllSummaries def cs summaries → map (λ (s : Known). s.kind) summaries ≡ ks
   kinds_known [] [] [] h s = refl
   kinds_known [] [] (x ∷ xs) h s = absurd s
   kinds_known [] (k ∷ ks) xs h s = absurd h
   kinds_known (c ∷ cs) [] xs h s = absurd h
   kinds_known (c ∷ cs) (k ∷ ks) [] h s = absurd s
-  kinds_known (c ∷ cs) (k ∷ ks) (x ∷ xs) h s = ap₂ (λ a b. a ∷ b) (kind_known c k x h.0 h.1 s.0) (kinds_known cs ks xs h.2 s.1)
+  kinds_known (c ∷ cs) (k ∷ ks) (x ∷ xs) h s =
+      ap₂ (λ a b. a ∷ b) (kind_known c k x h.0 h.1 s.0) (kinds_known cs ks xs h.2 s.1)
 
   -- the items whose parts are there
   record HasItems (f : Fragment) (more : List Item) : Type 0 where
@@ -212,9 +224,23 @@ module _ (def : Definition) where
     slots : slot_kinds def done ≡ child_kinds
     names : length (are_names def done) ≡ length (own_names f)
 
-  has_items : (f : Fragment) (more : List Item) (kind : Kind) → Fits def f more kind → IsPlain f → IsSpine f → HasItems f more
+  has_items : (f : Fragment) (more : List Item) (kind : Kind) → Fits def f more kind → IsPlain f → IsSpine f
+      → HasItems f more
   has_items (operator o) more kind (op, found, e, k) plain s =
-      record { number = o; top = refl; op = op; found = found; done = []; all = sym e; child_kinds = []; children = tt; slots = refl; names = refl }
+      record {
+        number =
+            o;
+        top = refl;
+        op = op;
+        found = found;
+        done = [];
+        all = sym e;
+        child_kinds = [];
+        children = tt;
+        slots =
+            refl;
+        names = refl;
+      }
   has_items (with_child f t) more kind (k, hf, ht) plain s =
       let h = has_items f (items.Slot k ∷ more) kind hf plain.0 s in
       record {
@@ -232,7 +258,8 @@ module _ (def : Definition) where
   has_items (with_name f n) more kind (inl (a, hf), name) plain s =
       let h = has_items f (items.Refers a ∷ more) kind hf plain s in
       let longer : length (own_names f ++ n ∷ []) ≡ length (own_names f) + 1 = length-append (own_names f) (n ∷ []) in
-      let with_one : length (are_names def h.done ++ items.Refers a ∷ []) ≡ length (are_names def h.done) + 1 = length-append (are_names def h.done) (items.Refers a ∷ []) in
+      let with_one : length (are_names def h.done ++ items.Refers a ∷ []) ≡ length (are_names def h.done) + 1 =
+      length-append (are_names def h.done) (items.Refers a ∷ []) in
       record {
         number = h.number;
         top = h.top;
@@ -248,7 +275,8 @@ module _ (def : Definition) where
   has_items (with_name f n) more kind (inr (a, hf), name) plain s =
       let h = has_items f (items.Declares a ∷ more) kind hf plain s in
       let longer : length (own_names f ++ n ∷ []) ≡ length (own_names f) + 1 = length-append (own_names f) (n ∷ []) in
-      let with_one : length (are_names def h.done ++ items.Declares a ∷ []) ≡ length (are_names def h.done) + 1 = length-append (are_names def h.done) (items.Declares a ∷ []) in
+      let with_one : length (are_names def h.done ++ items.Declares a ∷ []) ≡ length (are_names def h.done) + 1 =
+      length-append (are_names def h.done) (items.Declares a ∷ []) in
       record {
         number = h.number;
         top = h.top;
@@ -259,7 +287,8 @@ module _ (def : Definition) where
         child_kinds = h.child_kinds;
         children = h.children;
         slots = slots-append h.done (items.Declares a ∷ []) ∙ append-nil (slot_kinds def h.done) ∙ h.slots;
-        names = ap length (names-append h.done (items.Declares a ∷ [])) ∙ with_one ∙ ap (λ k. k + 1) h.names ∙ sym longer;
+        names =
+            ap length (names-append h.done (items.Declares a ∷ [])) ∙ with_one ∙ ap (λ k. k + 1) h.names ∙ sym longer;
       }
   has_items (with_number f n) more kind (hf, small) plain s =
       let h = has_items f (items.Number ∷ more) kind hf plain s in
@@ -295,42 +324,54 @@ module _ (def : Definition) where
   has_items anything more kind h plain s = absurd s
   has_items (observed f) more kind h plain s = absurd s
 
-  all_quiet : (cs : List Fragment) (summaries : List Known) → AllByRecursion IsReal cs → AllSummaries def cs summaries → AllByRecursion (λ (s : Known). s.report ≡ false) summaries
+  all_quiet : (cs : List Fragment) (summaries : List Known) → AllByRecursion IsReal cs → AllSummaries def cs summaries
+      → AllByRecursion (λ (s : Known). s.report ≡ false) summaries
   all_quiet [] [] real s = tt
   all_quiet [] (x ∷ xs) real s = absurd s
   all_quiet (c ∷ cs) [] real s = absurd s
   all_quiet (c ∷ cs) (x ∷ xs) real s = (s.0.report ∙ quiet c real.0, all_quiet cs xs real.1 s.1)
 
-  pub none_reporting : (summaries : List Known) → AllByRecursion (λ (s : Known). s.report ≡ false) summaries → length (reporting def summaries) ≡ 0
+  pub none_reporting : (summaries : List Known) → AllByRecursion (λ (s : Known). s.report ≡ false) summaries
+      → length (reporting def summaries) ≡ 0
   none_reporting [] h = refl
-  none_reporting (x ∷ xs) h = ap (λ b. length (cond b (x ∷ reporting def xs) (reporting def xs))) h.0 ∙ none_reporting xs h.1
+  none_reporting (x ∷ xs) h =
+      ap (λ b. length (cond b (x ∷ reporting def xs) (reporting def xs))) h.0 ∙ none_reporting xs h.1
 
-  pub quiet_children : (cs : List Fragment) (summaries : List Known) → AllByRecursion IsReal cs → AllSummaries def cs summaries → AllByRecursion (λ (s : Known). s.report ≡ false) summaries
+  pub quiet_children : (cs : List Fragment) (summaries : List Known) → AllByRecursion IsReal cs
+      → AllSummaries def cs summaries → AllByRecursion (λ (s : Known). s.report ≡ false) summaries
   quiet_children cs summaries real s = all_quiet cs summaries real s
 
   same_number : (a b : ℕ) → Some a ≡ Some b → a ≡ b
   same_number a b e = cc
 
   -- an operator takes the names and children of its node
-  pub takes_at : (o : ℕ) (ps : List Part) (f : Fragment) (kind : Kind) → with_parts (operator o) ps ≡ f → Fits def f [] kind → IsPlain f → AllByRecursion IsReal (children_of f)
-      → (summaries : List Known) → AllSummaries def (children_of f) summaries → AllByRecursion (IsSummary def) summaries → TakesAt def o (names_in ps) summaries
+  pub takes_at : (o : ℕ) (ps : List Part) (f : Fragment) (kind : Kind) → with_parts (operator o) ps ≡ f
+      → Fits def f [] kind → IsPlain f → AllByRecursion IsReal (children_of f)
+      → (summaries : List Known) → AllSummaries def (children_of f) summaries
+      → AllByRecursion (IsSummary def) summaries → TakesAt def o (names_in ps) summaries
   takes_at o ps f kind made fits plain real summaries are usual =
       let spine : IsSpine f = subst IsSpine made (spine_parts (operator o) ps tt) in
       let h = has_items f [] kind fits plain spine in
-      let number : h.number ≡ o = same_number h.number o (sym h.top ∙ ap top_operator (sym made) ∙ top_parts (operator o) ps) in
+      let number : h.number ≡ o = same_number h.number o
+      (sym h.top ∙ ap top_operator (sym made) ∙ top_parts (operator o) ps) in
       let whole : part_items h.op.items ≡ h.done = h.all ∙ append-nil h.done in
       let none = none_reporting summaries (all_quiet (children_of f) summaries real are) in (
         h.op,
         subst (λ n. slice_get def.operators n ≡ Some h.op) number h.found,
         record {
-          names_fit = ap length (sym (names-parts h.op.items) ∙ ap (are_names def) whole) ∙ h.names ∙ ap length (ap own_names (sym made) ∙ own_parts (operator o) ps);
-          kinds_fit = kinds_known (children_of f) h.child_kinds summaries h.children are ∙ sym h.slots ∙ ap (slot_kinds def) (sym whole) ∙ slots-parts h.op.items;
+          names_fit =
+              ap length (sym (names-parts h.op.items) ∙ ap (are_names def) whole) ∙ h.names
+              ∙ ap length (ap own_names (sym made) ∙ own_parts (operator o) ps);
+          kinds_fit =
+              kinds_known (children_of f) h.child_kinds summaries h.children are ∙ sym h.slots
+              ∙ ap (slot_kinds def) (sym whole) ∙ slots-parts h.op.items;
           summaries = usual;
           reported = omega (arith, none);
         },
       )
 
-  pub is_node : (o : ℕ) (ps : List Part) (f : Fragment) (kind : Kind) → with_parts (operator o) ps ≡ f → Fits def f [] kind → IsPlain f → IsNode def o (names_in ps) f
+  pub is_node : (o : ℕ) (ps : List Part) (f : Fragment) (kind : Kind) → with_parts (operator o) ps ≡ f
+      → Fits def f [] kind → IsPlain f → IsNode def o (names_in ps) f
   is_node o ps f kind made fits plain = record {
     top = ap top_operator (sym made) ∙ top_parts (operator o) ps;
     parts = has_parts f [] kind fits plain (subst IsSpine made (spine_parts (operator o) ps tt));

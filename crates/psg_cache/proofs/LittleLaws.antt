@@ -21,7 +21,15 @@ bool_sorted : HasSort types (symbol 1) 0
 bool_sorted = (record { name = codes "bool"; arguments = []; sort = 0 }, refl, refl, refl)
 
 types_sound : IsSoundSignature types
-types_sound = record { sort_names = refl; constructor_names = refl; closed = (tt, lit< tt, (tt, lit< tt, tt)); inhabited = inhabited; constant = constant } where
+types_sound = record {
+  sort_names =
+      refl;
+  constructor_names = refl;
+  closed = (tt, lit< tt, (tt, lit< tt, tt));
+  inhabited = inhabited;
+  constant =
+      constant;
+} where
   inhabited : (s : ℕ) → s < 1 → (t : _) × IsGround t × HasSort types t s
   inhabited zero lt = (symbol 0, tt, int_sorted)
   inhabited (suc s) lt = absurd (omega arith)
@@ -53,10 +61,59 @@ little_sound = record {
   operator_names = refl;
   phyla = (record { name = refl; sort = lit< tt }, (record { name = refl; sort = lit< tt }, tt));
   lists = (
-    record { name = refl; sort = lit< tt; element = 0; element_sort = number; few_nils = lit< tt; few_cells = lit< tt; nils = (int, tt); cells = (record { of_head = int; of_columns = (int_sorted, (int_sorted, tt)); written = (tt, (tt, tt)) }, tt) },
+    record {
+      name =
+          refl;
+      sort = lit< tt;
+      element = 0;
+      element_sort = number;
+      few_nils = lit< tt;
+      few_cells = lit< tt;
+      nils =
+          (int, tt);
+      cells = (
+        record {
+          of_head = int;
+          of_columns = (int_sorted, (int_sorted, tt));
+          written = (tt, (tt, tt));
+        },
+        tt,
+      );
+    },
     (
-      record { name = refl; sort = lit< tt; element = 0; element_sort = number; few_nils = lit< tt; few_cells = lit< tt; nils = (bool, tt); cells = (record { of_head = bool; of_columns = (bool_sorted, (bool_sorted, tt)); written = (tt, (tt, tt)) }, tt) },
-      (record { name = refl; sort = lit< tt; element = 0; element_sort = none; few_nils = lit< tt; few_cells = lit< tt; nils = (int, tt); cells = (record { of_head = int; of_columns = (int_sorted, (int_sorted, tt)); written = (tt, (tt, tt)) }, tt) }, tt),
+      record {
+        name =
+            refl;
+        sort = lit< tt;
+        element = 0;
+        element_sort = number;
+        few_nils = lit< tt;
+        few_cells = lit< tt;
+        nils =
+            (bool, tt);
+        cells = (
+          record {
+            of_head = bool;
+            of_columns = (bool_sorted, (bool_sorted, tt));
+            written = (tt, (tt, tt));
+          },
+          tt,
+        );
+      },
+      (
+        record {
+          name = refl;
+          sort = lit< tt;
+          element = 0;
+          element_sort = none;
+          few_nils = lit< tt;
+          few_cells = lit< tt;
+          nils = (int, tt);
+          cells =
+              (record { of_head = int; of_columns = (int_sorted, (int_sorted, tt)); written = (tt, (tt, tt)) }, tt);
+        },
+        tt,
+      ),
     ),
   );
   operators = tt;
@@ -82,24 +139,39 @@ unobserved : (l : ℕ) (es : List Fragment) → IsUnobserved (list_of l es false
 unobserved l [] = tt
 unobserved l (e ∷ es) = tt
 
-row_fits : (l p : ℕ) (list : ListKind) → slice_get little.lists l ≡ Some list → list.element ≡ p → p < 2 → (es : List Fragment) → AreHoles p es
+row_fits : (l p : ℕ) (list : ListKind) → slice_get little.lists l ≡ Some list → list.element ≡ p → p < 2
+    → (es : List Fragment) → AreHoles p es
     → Fits little (list_of l es false) [] (kinds.List l) × IsPlain (list_of l es false)
 row_fits l p list found element small [] are = ((refl, refl, (list, found, λ e. absurd (true≢false (sym e)))), tt)
 row_fits l p list found element small (e ∷ es) are =
     let rest = row_fits l p list found element small es are.1 in
     let fits : Fits little e [] (kinds.Phylum list.element) =
-    subst (λ x. Fits little x [] (kinds.Phylum list.element)) (sym are.0) (subst (λ q. Fits little (hole p) [] (kinds.Phylum q)) (sym element) (hole_fits p small)) in
+    subst (λ x. Fits little x [] (kinds.Phylum list.element)) (sym are.0)
+    (subst (λ q. Fits little (hole p) [] (kinds.Phylum q)) (sym element) (hole_fits p small)) in
     ((refl, refl, list, found, fits, rest.0, unobserved l es), (subst IsPlain (sym are.0) tt, rest.1))
 
 pub row_formed : (l p : ℕ) → IsListOf l p → (es : List Fragment) → AreHoles p es → IsFormed little (list_of l es false)
-row_formed l p (inl (inl e, f)) es are =
-    (kinds.List l, row_fits l p (list_with (codes "Nums") 0 0) (subst (λ k. slice_get little.lists k ≡ Some (list_with (codes "Nums") 0 0)) (sym e) refl) (sym f) (omega (arith, f)) es are)
-row_formed l p (inl (inr e, f)) es are =
-    (kinds.List l, row_fits l p (list_with (codes "Truths") 0 1) (subst (λ k. slice_get little.lists k ≡ Some (list_with (codes "Truths") 0 1)) (sym e) refl) (sym f) (omega (arith, f)) es are)
-row_formed l p (inr (e, f)) es are =
-    (kinds.List l, row_fits l p (list_with (codes "Nones") 1 0) (subst (λ k. slice_get little.lists k ≡ Some (list_with (codes "Nones") 1 0)) (sym e) refl) (sym f) (omega (arith, f)) es are)
+row_formed l p (inl (inl e, f)) es are = (
+  kinds.List l,
+  row_fits l p (list_with (codes "Nums") 0 0)
+      (subst (λ k. slice_get little.lists k ≡ Some (list_with (codes "Nums") 0 0)) (sym e) refl) (sym f)
+      (omega (arith, f)) es are,
+)
+row_formed l p (inl (inr e, f)) es are = (
+  kinds.List l,
+  row_fits l p (list_with (codes "Truths") 0 1)
+      (subst (λ k. slice_get little.lists k ≡ Some (list_with (codes "Truths") 0 1)) (sym e) refl) (sym f)
+      (omega (arith, f)) es are,
+)
+row_formed l p (inr (e, f)) es are = (
+  kinds.List l,
+  row_fits l p (list_with (codes "Nones") 1 0)
+      (subst (λ k. slice_get little.lists k ≡ Some (list_with (codes "Nones") 1 0)) (sym e) refl) (sym f)
+      (omega (arith, f)) es are,
+)
 
-pub holes-push : (p : ℕ) (es longer : List Fragment) (e : Fragment) → AreHoles p es → longer ≡ es ++ e ∷ [] → e ≡ hole p → AreHoles p longer
+pub holes-push : (p : ℕ) (es longer : List Fragment) (e : Fragment) → AreHoles p es → longer ≡ es ++ e ∷ []
+    → e ≡ hole p → AreHoles p longer
 holes-push p es longer e are made is = subst (AreHoles p) (sym made) (behind es are) where
   behind : (xs : List Fragment) → AreHoles p xs → AreHoles p (xs ++ e ∷ [])
   behind [] h = (is, tt)

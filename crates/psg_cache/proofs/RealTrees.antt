@@ -58,7 +58,8 @@ module _ (def : Definition) where
   spine (observed f) i more kind h = absurd (not_nil i more h.0)
 
   -- an operator is of a phylum
-  phylum : (f : Fragment) (more : List Item) (kind : Kind) → IsSpine f → Fits def f more kind → (p : _) × (kind ≡ kinds.Phylum p)
+  phylum : (f : Fragment) (more : List Item) (kind : Kind) → IsSpine f → Fits def f more kind
+      → (p : _) × (kind ≡ kinds.Phylum p)
   phylum (operator o) more kind s (op, found, e, k) = (op.phylum, k)
   phylum (with_child f t) more kind s (k, hf, ht) = phylum f (items.Slot k ∷ more) kind s hf
   phylum (with_name f n) more kind s (inl (a, h), name) = phylum f (items.Refers a ∷ more) kind s h
@@ -93,11 +94,19 @@ module _ (def : Definition) where
       let rest = real_tree r [] (kinds.List l) fr plain.1 in
       (real_tree e [] (kinds.Phylum k.element) fe plain.0, rest, listed r l rest plain.1 fr)
   real_tree (operator o) more kind h plain = tt
-  real_tree (with_child f t) more kind (k, hf, ht) plain = (real_tree f (items.Slot k ∷ more) kind hf plain.0, real_tree t [] k ht plain.1, spine f (items.Slot k) more kind hf)
-  real_tree (with_name f n) more kind (inl (s, h), name) plain = (real_tree f (items.Refers s ∷ more) kind h plain, spine f (items.Refers s) more kind h)
-  real_tree (with_name f n) more kind (inr (s, h), name) plain = (real_tree f (items.Declares s ∷ more) kind h plain, spine f (items.Declares s) more kind h)
-  real_tree (with_number f n) more kind (h, small) plain = (real_tree f (items.Number ∷ more) kind h plain, spine f items.Number more kind h)
-  real_tree (with_text f t) more kind (h, text) plain = (real_tree f (items.Text ∷ more) kind h plain, spine f items.Text more kind h)
+  real_tree (with_child f t) more kind (k, hf, ht) plain = (
+    real_tree f (items.Slot k ∷ more) kind hf plain.0,
+    real_tree t [] k ht plain.1,
+    spine f (items.Slot k) more kind hf,
+  )
+  real_tree (with_name f n) more kind (inl (s, h), name) plain =
+      (real_tree f (items.Refers s ∷ more) kind h plain, spine f (items.Refers s) more kind h)
+  real_tree (with_name f n) more kind (inr (s, h), name) plain =
+      (real_tree f (items.Declares s ∷ more) kind h plain, spine f (items.Declares s) more kind h)
+  real_tree (with_number f n) more kind (h, small) plain =
+      (real_tree f (items.Number ∷ more) kind h plain, spine f items.Number more kind h)
+  real_tree (with_text f t) more kind (h, text) plain =
+      (real_tree f (items.Text ∷ more) kind h plain, spine f items.Text more kind h)
   real_tree anything more kind h plain = absurd h
   real_tree (observed f) more kind h plain = absurd plain
 

@@ -47,34 +47,45 @@ module _ (sig : Signature) where
         both : (s r : ℕ) (ss rs : List ℕ) → s ≡ r → ss ≡ rs → s ∷ ss ≡ r ∷ rs
         both s r ss rs e f = cc
 
-  sorts-substitute : (f : Substitution) → IsSorted sig f → (row : List Term) (ss : List ℕ) → HaveSorts sig row ss → HaveSorts sig (map (substitute f) row) ss
+  sorts-substitute : (f : Substitution) → IsSorted sig f → (row : List Term) (ss : List ℕ) → HaveSorts sig row ss
+      → HaveSorts sig (map (substitute f) row) ss
   sorts-substitute f sorted [] [] h = tt
   sorts-substitute f sorted [] (s ∷ ss) h = absurd h
   sorts-substitute f sorted (t ∷ row) [] h = absurd h
-  sorts-substitute f sorted (t ∷ row) (s ∷ ss) h = (Takes-substitute sig f sorted t [] s h.0, sorts-substitute f sorted row ss h.1)
+  sorts-substitute f sorted (t ∷ row) (s ∷ ss) h =
+      (Takes-substitute sig f sorted t [] s h.0, sorts-substitute f sorted row ss h.1)
 
-  instance-sorts : (row columns : List Term) (ss : List ℕ) → HaveSorts sig row ss → IsGroundInstance sig row columns → HaveSorts sig columns ss
-  instance-sorts row columns ss h (f, ground, e) = subst (λ x. HaveSorts sig x ss) (sym e) (sorts-substitute f ground.sorted row ss h)
+  instance-sorts : (row columns : List Term) (ss : List ℕ) → HaveSorts sig row ss → IsGroundInstance sig row columns
+      → HaveSorts sig columns ss
+  instance-sorts row columns ss h (f, ground, e) =
+      subst (λ x. HaveSorts sig x ss) (sym e) (sorts-substitute f ground.sorted row ss h)
 
   module _ (sound : IsSoundSignature sig) {C : Type 0} (Possible : C → List Term → Type 0) where
     -- two relations of one family have the same rows
-    rows_in : (ss rs : List ℕ) (rows others : List (List Term)) → IsRelation sig ss Possible rows → IsRelation sig rs Possible others → (row : List Term) → IsIn row rows → IsIn row others
+    rows_in : (ss rs : List ℕ) (rows others : List (List Term)) → IsRelation sig ss Possible rows
+        → IsRelation sig rs Possible others → (row : List Term) → IsIn row rows → IsIn row others
     rows_in ss rs rows others rel other row h =
         let shape = rel.shapes row h in
         let (columns, p) = shape.some in
         let (greater, there, all) = other.covers shape.choice columns p in
-        let e : ss ≡ rs = sorts_once columns ss rs (instance-sorts row columns ss shape.sorted ((shape.exact columns).1 p)) (instance-sorts greater columns rs (other.shapes greater there).sorted (all columns p)) in
-        (row_is_maximal sig sound ss Possible others (subst (λ s. IsRelation sig s Possible others) (sym e) other) row).1 ((row_is_maximal sig sound ss Possible rows rel row).0 h)
+        let e : ss ≡ rs = sorts_once columns ss rs
+        (instance-sorts row columns ss shape.sorted ((shape.exact columns).1 p))
+        (instance-sorts greater columns rs (other.shapes greater there).sorted (all columns p)) in
+        (row_is_maximal sig sound ss Possible others (subst (λ s. IsRelation sig s Possible others) (sym e) other)
+        row).1 ((row_is_maximal sig sound ss Possible rows rel row).0 h)
 
-    weights_same : (ss rs : List ℕ) (rows others : List (List Term)) → IsRelation sig ss Possible rows → IsRelation sig rs Possible others → weight_of rows ≡ weight_of others
+    weights_same : (ss rs : List ℕ) (rows others : List (List Term)) → IsRelation sig ss Possible rows
+        → IsRelation sig rs Possible others → weight_of rows ≡ weight_of others
     weights_same ss rs rows others rel other =
         let a = sum-some (sum_by symbols_of) rows others rel.once (rows_in ss rs rows others rel other) in
         let b = sum-some (sum_by symbols_of) others rows other.once (rows_in rs ss others rows other rel) in
         omega arith
 
 module _ (def : Definition) (sound : IsSound def) where
-  relation_weight : (f : Fragment) (rows others : List (List Term)) → IsRelationOf def f rows → IsRelationOf def f others → weight_of rows ≡ weight_of others
-  relation_weight f rows others (ss, rel) (rs, other) = weights_same def.signature sound.signature (IsPossible def f) ss rs rows others rel other
+  relation_weight : (f : Fragment) (rows others : List (List Term)) → IsRelationOf def f rows
+      → IsRelationOf def f others → weight_of rows ≡ weight_of others
+  relation_weight f rows others (ss, rel) (rs, other) =
+      weights_same def.signature sound.signature (IsPossible def f) ss rs rows others rel other
 
   mutual
     pub weights_once : {f : Fragment} {n k : ℕ} → HasWeights def f n → HasWeights def f k → n ≡ k
@@ -87,8 +98,10 @@ module _ (def : Definition) (sound : IsSound def) where
     below_once below_hole below_hole = refl
     below_once below_ending below_ending = refl
     below_once below_operator below_operator = refl
-    below_once (below_cell m n a b) (below_cell k l c d) = let p : m ≡ k = weights_once a c in let q : n ≡ l = weights_once b d in omega arith
-    below_once (below_child m n a b) (below_child k l c d) = let p : m ≡ k = below_once a c in let q : n ≡ l = weights_once b d in omega arith
+    below_once (below_cell m n a b) (below_cell k l c d) =
+        let p : m ≡ k = weights_once a c in let q : n ≡ l = weights_once b d in omega arith
+    below_once (below_child m n a b) (below_child k l c d) =
+        let p : m ≡ k = below_once a c in let q : n ≡ l = weights_once b d in omega arith
     below_once (below_name a) (below_name b) = below_once a b
     below_once (below_number a) (below_number b) = below_once a b
     below_once (below_text a) (below_text b) = below_once a b
@@ -98,11 +111,14 @@ module _ (def : Definition) (sound : IsSound def) where
   not_heavy f n h l (m, k, more) = let e : n ≡ m = weights_once h k in omega arith
 
 module _ (def : Definition) where
-  pub weigh-push : (cs : List Fragment) (c : Fragment) (n k : ℕ) → WeighTogether def cs n → HasWeights def c k → WeighTogether def (cs ++ c ∷ []) (n + k)
+  pub weigh-push : (cs : List Fragment) (c : Fragment) (n k : ℕ) → WeighTogether def cs n → HasWeights def c k
+      → WeighTogether def (cs ++ c ∷ []) (n + k)
   weigh-push [] c n k h w = let e : n + k ≡ k + 0 = omega arith in (k, 0, w, refl, e)
-  weigh-push (d ∷ cs) c n k (m, l, first, rest, e) w = let s : n + k ≡ m + (l + k) = omega arith in (m, l + k, first, weigh-push cs c l k rest w, s)
+  weigh-push (d ∷ cs) c n k (m, l, first, rest, e) w =
+      let s : n + k ≡ m + (l + k) = omega arith in (m, l + k, first, weigh-push cs c l k rest w, s)
 
-  weigh-last : (cs : List Fragment) (c : Fragment) (n : ℕ) → WeighTogether def (cs ++ c ∷ []) n → (m : ℕ) × (k : ℕ) × WeighTogether def cs m × HasWeights def c k × (n ≡ m + k)
+  weigh-last : (cs : List Fragment) (c : Fragment) (n : ℕ) → WeighTogether def (cs ++ c ∷ []) n
+      → (m : ℕ) × (k : ℕ) × WeighTogether def cs m × HasWeights def c k × (n ≡ m + k)
   weigh-last [] c n (m, k, first, rest, e) = let s : n ≡ 0 + m = omega arith in (0, m, refl, first, s)
   weigh-last (d ∷ cs) c n (m, l, first, rest, e) =
       let (a, b, front, last, s) = weigh-last cs c l rest in
@@ -110,7 +126,8 @@ module _ (def : Definition) where
       let u : m + a ≡ m + a = refl in
       (m + a, b, (m, a, first, front, u), last, t)
 
-  spine_weigh : (f : Fragment) → IsReal f → IsSpine f → (n : ℕ) → WeighTogether def (children_of f) n → BelowWeigh def f n
+  spine_weigh : (f : Fragment) → IsReal f → IsSpine f → (n : ℕ) → WeighTogether def (children_of f) n
+      → BelowWeigh def f n
   spine_weigh (operator o) real s n h = subst (BelowWeigh def (operator o)) (sym h) below_operator
   spine_weigh (with_child f t) real s n h =
       let (m, k, front, last, e) = weigh-last (children_of f) t n h in
@@ -125,14 +142,18 @@ module _ (def : Definition) where
   spine_weigh (observed f) real s n h = absurd s
 
   -- the weight of an operator's node
-  pub node_weighs : (f : Fragment) → IsReal f → IsSpine f → (rows : List (List Term)) → IsRelationOf def f rows → (n : ℕ) → WeighTogether def (children_of f) n → HasWeights def f (n + weight_of rows)
+  pub node_weighs : (f : Fragment) → IsReal f → IsSpine f → (rows : List (List Term)) → IsRelationOf def f rows
+      → (n : ℕ) → WeighTogether def (children_of f) n → HasWeights def f (n + weight_of rows)
   node_weighs f real s rows rel n h = of_node n rows (spine_weigh f real s n h) rel
 
-  pub hole_weighs : (p : ℕ) (rows : List (List Term)) → IsRelationOf def (hole p) rows → (n : ℕ) → n ≡ 0 → HasWeights def (hole p) (n + weight_of rows)
+  pub hole_weighs : (p : ℕ) (rows : List (List Term)) → IsRelationOf def (hole p) rows → (n : ℕ) → n ≡ 0
+      → HasWeights def (hole p) (n + weight_of rows)
   hole_weighs p rows rel n e = of_node n rows (subst (BelowWeigh def (hole p)) (sym e) below_hole) rel
 
-  pub end_weighs : (l : ℕ) (u : _) (rows : List (List Term)) → IsRelationOf def (ending l u) rows → (n : ℕ) → n ≡ 0 → HasWeights def (ending l u) (n + weight_of rows)
+  pub end_weighs : (l : ℕ) (u : _) (rows : List (List Term)) → IsRelationOf def (ending l u) rows → (n : ℕ) → n ≡ 0
+      → HasWeights def (ending l u) (n + weight_of rows)
   end_weighs l u rows rel n e = of_node n rows (subst (BelowWeigh def (ending l u)) (sym e) below_ending) rel
 
-  pub cell_weighs : (l : ℕ) (e r : Fragment) (rows : List (List Term)) → IsRelationOf def (cell l e r) rows → (m n : ℕ) → HasWeights def e m → HasWeights def r n → HasWeights def (cell l e r) (m + n + weight_of rows)
+  pub cell_weighs : (l : ℕ) (e r : Fragment) (rows : List (List Term)) → IsRelationOf def (cell l e r) rows
+      → (m n : ℕ) → HasWeights def e m → HasWeights def r n → HasWeights def (cell l e r) (m + n + weight_of rows)
   cell_weighs l e r rows rel m n a b = of_node (m + n) rows (below_cell m n a b) rel

@@ -7,7 +7,8 @@ use Rattle.psg_cache.proofs.LongLists.{many_long, element_in, elements_behind, p
 use Rattle.psg_cache.proofs.lengths.+lengths.Goals as goal
 
 pub elements_have_long-returns-then-elements-gt-MOST_ELEMENTS : goal.elements_have_long-returns-then-elements-gt-MOST_ELEMENTS
-elements_have_long-returns-then-elements-gt-MOST_ELEMENTS t c = (λ _. many_long 0 c.args.elements.now false (omega arith), λ _. refl)
+elements_have_long-returns-then-elements-gt-MOST_ELEMENTS t c =
+    (λ _. many_long 0 c.args.elements.now false (omega arith), λ _. refl)
 
 pub has_long_list-parts_have_long-requires : goal.has_long_list-parts_have_long-requires
 has_long_list-parts_have_long-requires t c =
@@ -33,12 +34,16 @@ has_long_list-returns-in-List t c =
     (λ h. x.0 (c.elements_have_long.ensures.0 h), λ h. c.elements_have_long.ensures.1 (x.1 h))
 
 pub parts_have_long-returns-then-part_has_long : goal.parts_have_long-returns-then-part_has_long
-parts_have_long-returns-then-part_has_long t c =
-    (λ _. part_in (operator 0) c.args.parts.now c.loop-part.part-index c.part-item.result c.loop-part-test.true c.part-item.is (c.part_has_long.ensures.0 c.if-part_has_long.true), λ _. refl)
+parts_have_long-returns-then-part_has_long t c = (
+  λ _. part_in (operator 0) c.args.parts.now c.loop-part.part-index c.part-item.result c.loop-part-test.true
+      c.part-item.is (c.part_has_long.ensures.0 c.if-part_has_long.true),
+  λ _. refl,
+)
 
 pub parts_have_long-part_has_long-requires : goal.parts_have_long-part_has_long-requires
 parts_have_long-part_has_long-requires t c =
-    let e = part_height (operator 0) c.args.parts.now c.loop-part.part-index c.part-item.result c.loop-part-test.true c.part-item.is in
+    let e = part_height (operator 0) c.args.parts.now c.loop-part.part-index c.part-item.result c.loop-part-test.true
+    c.part-item.is in
     (omega arith, tt)
 
 pub parts_have_long-loop-part-preserved : goal.parts_have_long-loop-part-preserved
@@ -48,14 +53,20 @@ parts_have_long-loop-part-preserved t c = λ h.
 
 pub elements_have_long-has_long_list-requires : goal.elements_have_long-has_long_list-requires
 elements_have_long-has_long_list-requires t c =
-    let e = element_height 0 c.args.elements.now false c.loop-element.element-index c.element-item.result c.loop-element-test.true c.element-item.is in
+    let e = element_height 0 c.args.elements.now false c.loop-element.element-index c.element-item.result
+    c.loop-element-test.true c.element-item.is in
     (omega arith, tt)
 
 pub elements_have_long-returns-then-has_long_list : goal.elements_have_long-returns-then-has_long_list
-elements_have_long-returns-then-has_long_list t c =
-    (λ _. element_in 0 c.args.elements.now false c.loop-element.element-index c.element-item.result c.loop-element-test.true c.element-item.is (c.has_long_list.ensures.0 c.if-has_long_list.true), λ _. refl)
+elements_have_long-returns-then-has_long_list t c = (
+  λ _. element_in 0 c.args.elements.now false c.loop-element.element-index c.element-item.result
+      c.loop-element-test.true c.element-item.is (c.has_long_list.ensures.0 c.if-has_long_list.true),
+  λ _. refl,
+)
 
 pub elements_have_long-loop-element-preserved : goal.elements_have_long-loop-element-preserved
 elements_have_long-loop-element-preserved t c = λ h.
-    elements_behind c.args.elements.now c.loop-element.element-index c.element-item.result c.loop-element-test.true c.element-item.is
-    (λ long. true≢false (sym (c.has_long_list.ensures.1 long) ∙ c.if-has_long_list.false)) (omega arith) (c.loop-element.invariant h)
+    elements_behind c.args.elements.now c.loop-element.element-index c.element-item.result c.loop-element-test.true
+    c.element-item.is
+    (λ long. true≢false (sym (c.has_long_list.ensures.1 long) ∙ c.if-has_long_list.false)) (omega arith)
+    (c.loop-element.invariant h)

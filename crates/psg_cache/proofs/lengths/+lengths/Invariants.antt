@@ -18,7 +18,9 @@ decreases-has_long_list l = 3 * height l.tree.now + 2
 
 -- no list was too long so far
 abbrev pub invariant-parts_have_long-loop-part : goal.invariant-parts_have_long-loop-part
-invariant-parts_have_long-loop-part l = HasLongList (with_parts (operator 0) l.parts) → HasLongList (with_parts (operator 0) (drop l.part-index l.parts))
+invariant-parts_have_long-loop-part l =
+    HasLongList (with_parts (operator 0) l.parts) → HasLongList (with_parts (operator 0) (drop l.part-index l.parts))
 
 abbrev pub invariant-elements_have_long-loop-element : goal.invariant-elements_have_long-loop-element
-invariant-elements_have_long-loop-element l = HasLongList (list_of 0 l.elements false) → HasLongList (list_of 0 (drop l.element-index l.elements) false)
+invariant-elements_have_long-loop-element l =
+    HasLongList (list_of 0 l.elements false) → HasLongList (list_of 0 (drop l.element-index l.elements) false)

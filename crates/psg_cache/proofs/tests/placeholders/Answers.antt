@@ -9,7 +9,9 @@ pub loop-number-init : goal.loop-number-init
 loop-number-init c = subst (AreHoles c.args.phylum) (sym c.new-elements.ensures.items) tt
 
 pub loop-number-preserved : goal.loop-number-preserved
-loop-number-preserved c = holes-push c.args.phylum c.loop-number.elements.items _ c.in_ok-element.element c.loop-number.invariant c.in_ok-push.ensures.items c.in_ok-element.ensures
+loop-number-preserved c =
+    holes-push c.args.phylum c.loop-number.elements.items _ c.in_ok-element.element c.loop-number.invariant
+    c.in_ok-push.ensures.items c.in_ok-element.ensures
 
 pub returns : goal.returns
 returns c =

@@ -9,7 +9,9 @@ use Rattle.psg_cache.proofs.walking.top_list.Given as goal
 -- the cells from the number on are done
 abbrev pub invariant-loop-left : goal.invariant-loop-left
 invariant-loop-left g l =
-    (l.left ≤ length l.elements) × ((es : List Fragment) → AllSummaries l.language.definition.now es l.elements → IsTopped l.language.definition.now l.path (list_of l.list (drop l.left es) l.unfinished) l.fn.found l.found l.whole)
+    (l.left ≤ length l.elements) × ((es : List Fragment) → AllSummaries l.language.definition.now es l.elements
+    → IsTopped l.language.definition.now l.path (list_of l.list (drop l.left es) l.unfinished) l.fn.found l.found
+    l.whole)
 
 abbrev pub decreases-loop-left : goal.decreases-loop-left
 decreases-loop-left g l = l.left
