@@ -10,7 +10,7 @@ use Rattle.psg_grammar.specs.Open.{IsOpen}
 use Rattle.psg_grammar.specs.Relations.{IsRelationOf}
 use Rattle.psg_eval.specs.declared.summary.Known.{Known}
 use Rattle.psg_eval.specs.Summaries.{AllSummaries, IsSummaryOf}
-use Rattle.psg_cache.specs.Walks.{each_nodes}
+use Rattle.psg_cache.specs.Walks.{each_nodes, HaveRows, IsBlame}
 use Rattle.psg_cache.proofs.RealTrees.{IsReal, IsSpine}
 use Rattle.psg_cache.proofs.OpenTrees.{children_open, open_rows, rows_open}
 
@@ -196,14 +196,14 @@ module _ (def : Definition) where
     not_none e = cc
 
   all_open : (cs : List Fragment) (summaries : List Known) → AllByRecursion IsReal cs → AllSummaries def cs summaries
-      → AllByRecursion (λ (b : Known). b.rel ≡ [] → ⊥) summaries → AllByRecursion (IsOpen def) cs
+      → HaveRows summaries → AllByRecursion (IsOpen def) cs
   all_open [] [] real s h = tt
   all_open [] (k ∷ ks) real s h = absurd s
   all_open (c ∷ cs) [] real s h = absurd s
   all_open (c ∷ cs) (k ∷ ks) real s h = (rows_open def c real.0 k.rel s.0.rows h.0, all_open cs ks real.1 s.1 h.1)
 
   all_rows : (cs : List Fragment) (summaries : List Known) → AllSummaries def cs summaries
-      → AllByRecursion (IsOpen def) cs → AllByRecursion (λ (b : Known). b.rel ≡ [] → ⊥) summaries
+      → AllByRecursion (IsOpen def) cs → HaveRows summaries
   all_rows [] [] s h = tt
   all_rows [] (k ∷ ks) s h = absurd s
   all_rows (c ∷ cs) [] s h = absurd s
@@ -213,11 +213,9 @@ module _ (def : Definition) where
   pub tree_culprits : (path : Path) (f : Fragment) → IsReal f → (s : Known) → IsSummaryOf def f s
       → (below : List Known) → AllSummaries def (children_of f) below
       → (more pushed : List Path) → AreCulprits def (each_nodes path 0 (children_of f)) more
-      → (((s.rel ≡ []) × AllByRecursion (λ (b : Known). b.rel ≡ []
-      → ⊥) below × (pushed ≡ path ∷ [])) ⊎ ((((s.rel ≡ []) × AllByRecursion (λ (b : Known). b.rel ≡ [] → ⊥) below)
-      → ⊥) × (pushed ≡ [])))
+      → IsBlame s below path pushed
       → AreCulprits def (nodes_from path f) (more ++ pushed)
-  tree_culprits path f real s summary below are more pushed culprits (inl (empty, rows, p)) =
+  tree_culprits path f real s summary below are more pushed culprits (inl ((empty, rows), p)) =
       let children = all_open (children_of f) below (real_children f real) are rows in
       let nodes = subst (AllByRecursion OpenNode) (below_nodes path f real) (open_under path 0 f real children) in
       let none : more ≡ [] = no_culprits (each_nodes path 0 (children_of f)) more nodes culprits in

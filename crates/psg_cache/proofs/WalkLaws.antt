@@ -172,7 +172,7 @@ module _ (def : Definition) where
         b.all ∙ ap (λ v. v.items ++ b.pushed) t.same ∙ ap (λ l. l ++ b.pushed) h.pushed
         ∙ append_assoc start.culprits.items h.more b.pushed;
     good = λ e empty. elim b.exact [
-      | inl x ↦ not_one path b.pushed x.2 (nil-back h.more b.pushed e)
+      | inl x ↦ not_one path b.pushed x.1 (nil-back h.more b.pushed e)
       | inr x ↦ x.0 (empty, h.good (nil-front h.more b.pushed e))
     ];
   }

@@ -1,8 +1,10 @@
--- The small language of the tests: lists of placeholders. Those of the first phylum are numbers, the second one has no values.
+-- The small language of the tests: lists of placeholders. Those of the first phylum are numbers, those of the second one
+-- have no value.
 use Rattle.std.specs.Prelude.{ℕ, ◌≡◌, ◌⊎◌, false, List, [], ◌∷◌, codes}
 use Rattle.std.specs.List.{AllByRecursion}
 use Rattle.psg_terms.specs.Terms.{Term, symbol}
-use Rattle.psg_terms.specs.Signature.{Signature}
+use Rattle.psg_terms.specs.Signature.{Signature, Symbol}
+use Rattle.psg_terms.specs.declared.declare.ConDecl.{ConDecl}
 use Rattle.psg_terms.specs.declared.declare.SortDecl.{SortDecl}
 use Rattle.psg_terms.specs.declared.sorts.SortId.{SortId}
 use Rattle.psg_grammar.specs.declared.types.Kind.TheVariants as kinds
@@ -13,12 +15,18 @@ use Rattle.psg_grammar.specs.declared.types.HoleRow.{HoleRow}
 use Rattle.psg_grammar.specs.declared.types.Definition.{Definition}
 use Rattle.psg_grammar.specs.Fragments.{Fragment, hole}
 
--- as it is written
+-- a constant, as it is written
+abbrev pub written : List ℕ → ConDecl
+written name = record { name = name; args = [] }
+
 abbrev pub type_sort : SortDecl
-type_sort = record { name = codes "Type"; constructors = record { name = codes "int"; args = [] } ∷ record { name = codes "bool"; args = [] } ∷ [] }
+type_sort = record { name = codes "Type"; constructors = written (codes "int") ∷ written (codes "bool") ∷ [] }
+
+abbrev pub constant_named : List ℕ → Symbol
+constant_named name = record { name = name; arguments = []; sort = 0 }
 
 abbrev pub types : Signature
-types = record { sorts = codes "Type" ∷ []; symbols = record { name = codes "int"; arguments = []; sort = 0 } ∷ record { name = codes "bool"; arguments = []; sort = 0 } ∷ [] }
+types = record { sorts = codes "Type" ∷ []; symbols = constant_named (codes "int") ∷ constant_named (codes "bool") ∷ [] }
 
 abbrev pub only : SortId
 only = record { 0 = 0 }
@@ -50,7 +58,16 @@ abbrev pub number_hole : HoleRow
 number_hole = record { kind = kinds.Phylum 0; term = symbol 0; cases = [] }
 
 abbrev pub little : Definition
-little = record { version = 1; signature = types; spaces = []; phyla = little_phyla; lists = little_lists; operators = []; hole_rows = number_hole ∷ []; declare_rows = [] }
+little = record {
+  version = 1;
+  signature = types;
+  spaces = [];
+  phyla = little_phyla;
+  lists = little_lists;
+  operators = [];
+  hole_rows = number_hole ∷ [];
+  declare_rows = [];
+}
 
 -- the list and the phylum of its elements
 abbrev pub IsListOf : ℕ → ℕ → Type 0

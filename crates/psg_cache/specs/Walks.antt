@@ -47,14 +47,27 @@ pub record IsAdded (answer : Result Known EvalFault) (old new : Found) (s : Know
 
 -- the fault of the step that the answer names, for the part at the path, or want of memory
 abbrev pub IsAnswerFault : Path → Result Known EvalFault → NoteFault → Type 0
-IsAnswerFault path answer fault = (fault ≡ faults.Memory) ⊎ ((step : ℕ) × (answer ≡ Err (evals.Wide step)) × (fault ≡ faults.Wide path step))
+IsAnswerFault path answer fault =
+    (fault ≡ faults.Memory) ⊎ ((step : ℕ) × (answer ≡ Err (evals.Wide step)) × (fault ≡ faults.Wide path step))
 
--- the path was put behind the culprits where the relation has no row and those of the children have
+-- each of the relations has a row
+abbrev pub HaveRows : List Known → Type 0
+HaveRows summaries = AllByRecursion (λ (s : Known). s.rel ≡ [] → ⊥) summaries
+
+-- a tree goes wrong by itself: its relation has no row, and those of its children have
+abbrev pub GoesWrong : Known → List Known → Type 0
+GoesWrong s below = (s.rel ≡ []) × HaveRows below
+
+-- the path where the tree goes wrong by itself, and no path otherwise
+abbrev pub IsBlame : Known → List Known → Path → List Path → Type 0
+IsBlame s below path pushed = (GoesWrong s below × (pushed ≡ path ∷ [])) ⊎ ((GoesWrong s below → ⊥) × (pushed ≡ []))
+
+-- the blame was put behind the culprits
 pub record IsBlamed (s : Known) (below : List Known) (path : Path) (old new : Found) : Type 0 where
   pub weight : new.weight ≡ old.weight
   pub pushed : List Path
   pub all : new.culprits.items ≡ old.culprits.items ++ pushed
-  pub exact : ((s.rel ≡ []) × AllByRecursion (λ (b : Known). b.rel ≡ [] → ⊥) below × (pushed ≡ path ∷ [])) ⊎ ((((s.rel ≡ []) × AllByRecursion (λ (b : Known). b.rel ≡ [] → ⊥) below) → ⊥) × (pushed ≡ []))
+  pub exact : IsBlame s below path pushed
 
 -- the note keeps the tree, its summary and what was found
 pub record IsKept (f : Fragment) (s : Known) (found : Found) (n : Noted) : Type 0 where
@@ -100,7 +113,8 @@ module _ (def : Definition) where
     pub passes : PassesAt def place.part place.step
 
   abbrev pub IsStepFault : List Place → NoteFault → Type 0
-  IsStepFault places (faults.Wide path step) = (part : Fragment) × IsFirstOf places (record { path = path; part = part; step = step })
+  IsStepFault places (faults.Wide path step) =
+      (part : Fragment) × IsFirstOf places (record { path = path; part = part; step = step })
   IsStepFault places faults.Memory = Unit {0}
   IsStepFault places faults.Deep = ⊥
   IsStepFault places faults.Big = ⊥
@@ -122,7 +136,7 @@ module _ (def : Definition) where
     pub more : List Path
     pub culprits : AreCulprits def (each_nodes path 0 cs) more
     pub pushed : new.culprits.items ≡ old.culprits.items ++ more
-    pub good : more ≡ [] → AllByRecursion (λ (b : Known). b.rel ≡ [] → ⊥) summaries
+    pub good : more ≡ [] → HaveRows summaries
 
   -- this was added for the tree without its children
   pub record IsTopped (path : Path) (f : Fragment) (old new : Found) (s : Known) : Type 0 where
@@ -160,7 +174,9 @@ module _ (def : Definition) where
 
   -- this was added for the end and the cells of each list of trees with these summaries
   abbrev pub IsListTopped : Path → ℕ → Bool → List Known → Found → Found → Known → Type 0
-  IsListTopped path l u elements old new s = (es : List Fragment) → AllSummaries def es elements → IsTopped path (list_of l es u) old new s
+  IsListTopped path l u elements old new s =
+      (es : List Fragment) → AllSummaries def es elements → IsTopped path (list_of l es u) old new s
 
   abbrev pub IsListFault : Path → ℕ → Bool → List Known → NoteFault → Type 0
-  IsListFault path l u elements fault = (es : List Fragment) → AllSummaries def es elements → IsStepFault (list_steps def path (list_of l es u)) fault
+  IsListFault path l u elements fault =
+      (es : List Fragment) → AllSummaries def es elements → IsStepFault (list_steps def path (list_of l es u)) fault

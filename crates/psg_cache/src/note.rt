@@ -17,7 +17,8 @@ pub struct Noted {
     pub root: Summary,
     /// How many variables and constructors the relations of all nodes and list suffixes have together.
     pub weight: u64,
-    /// The nodes that go wrong by themselves, a node before its children, children in order; none where the tree is good.
+    /// The nodes that go wrong by themselves, a node before its children, children in order; none where the tree is
+    /// good.
     pub culprits: Seq<Path>,
 }
 
@@ -68,7 +69,8 @@ impl Note {
         self.shared.as_ref().weight
     }
 
-    /// The nodes that go wrong by themselves, a node before its children, children in order; none where the tree is good.
+    /// The nodes that go wrong by themselves, a node before its children, children in order; none where the tree is
+    /// good.
     pub fn culprits(&self) -> &[Path]
         ensures { result.now ≡ self.now.culprits }
     {

@@ -1,7 +1,7 @@
 //! Notes of lists of placeholders.
 ghost use Rattle.std.specs.Prelude.{◌≡◌, ◌<◌, ◌∷◌, [], IfOk};
 ghost use Rattle.psg_terms.specs.Terms.{symbol};
-ghost use Rattle.psg_cache.specs.Little.{IsListOf, list_with, little, little_lists, little_phyla, number_hole, phylum_named, type_sort, types};
+ghost use Rattle.psg_cache.specs.Little.{IsListOf, list_with, little, little_lists, little_phyla, number_hole, phylum_named, type_sort, types, written};
 ghost use Rattle.psg_cache.specs.Notes.{IsFormed};
 
 use crate::{Note, NoteFault, build};
@@ -14,7 +14,7 @@ use std::sync::ledger::{Blank, Ledger};
 use std::test::Fail;
 
 fn constructor(alloc: Global, name: &str) -> Result<ConDecl, AllocError>
-    ensures { IfOk result (λ c. c ≡ record { name = name.now; args = [] }) }
+    ensures { IfOk result (λ c. c ≡ written name.now) }
 {
     Ok(ConDecl {
         name: Txt::copy_of(alloc, name)?,

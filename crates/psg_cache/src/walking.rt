@@ -9,7 +9,7 @@ ghost use Rattle.psg_eval.specs.declared.summary.Known.{Known};
 ghost use Rattle.psg_eval.specs.Summaries.{AreSummariesOf, IsSummary, IsSummaryOf};
 ghost use Rattle.psg_cache.specs.declared.note.NoteFault.TheVariants as faults;
 ghost use Rattle.psg_cache.specs.Notes.{IsFormed};
-ghost use Rattle.psg_cache.specs.Walks.{IsAdded, IsAnswerFault, IsBlamed, IsKnown, IsListFault, IsListTopped, IsStepFault, IsTopped, IsWalked, names_in, TakesElements, top_steps};
+ghost use Rattle.psg_cache.specs.Walks.{HaveRows, IsAdded, IsAnswerFault, IsBlamed, IsKnown, IsListFault, IsListTopped, IsStepFault, IsTopped, IsWalked, names_in, TakesElements, top_steps};
 
 use crate::note::NoteFault;
 use psg_eval::{EvalFault, Summary, eval_cell, eval_end, eval_hole, eval_op};
@@ -111,8 +111,8 @@ fn longer(alloc: Global, steps: &[u32], step: u32) -> Result<Vec<u32>, AllocErro
     Ok(all)
 }
 
-/// Adds the weight of a summary, or names the path beside the step whose relation is too large. A sum that 64 bits do not
-/// hold is want of memory.
+/// Adds the weight of a summary, or names the path beside the step whose relation is too large. A sum that 64 bits do
+/// not hold is want of memory.
 fn added(
     alloc: Global,
     path: &[u32],
@@ -154,7 +154,8 @@ fn top_list<L: Ledger>(
 ) -> Result<Summary, NoteFault>
     requires language { IsKnown language }
     requires takes { TakesElements language.definition.now list unfinished elements.now }
-    ensures ok { IfOk result (λ s. IsListTopped language.entry.definition.now path.now list unfinished elements.now found.old found.new s) }
+    ensures ok { IfOk result (λ s.
+        IsListTopped language.entry.definition.now path.now list unfinished elements.now found.old found.new s) }
     ensures err { IfErr result (IsListFault language.entry.definition.now path.now list unfinished elements.now) }
 {
     let definition = language.definition;
@@ -186,7 +187,8 @@ fn top<L: Ledger>(
     requires summaries { AreSummariesOf language.definition.now tree.now below.now }
     requires usual { AllByRecursion (IsSummary language.definition.now) below.now }
     ensures ok { IfOk result (λ s. IsTopped language.entry.definition.now path.now tree.now found.old found.new s) }
-    ensures err { IfErr result (IsStepFault language.entry.definition.now (top_steps language.entry.definition.now path.now tree.now)) }
+    ensures err { IfErr result
+        (IsStepFault language.entry.definition.now (top_steps language.entry.definition.now path.now tree.now)) }
 {
     let definition = language.definition;
     match tree.shape() {
@@ -223,7 +225,7 @@ fn top<L: Ledger>(
 
 /// Whether each of the relations has a row.
 fn have_rows(summaries: &[Summary]) -> bool
-    ensures { IsTrue result ↔ AllByRecursion (λ s. s.rel ≡ [] → ⊥) summaries.now }
+    ensures { IsTrue result ↔ HaveRows summaries.now }
 {
     for summary in summaries {
         if summary.rel().is_empty() {
@@ -263,7 +265,8 @@ pub(crate) fn walk<L: Ledger>(
     requires language { IsKnown language }
     requires formed { IsFormed language.definition.now tree.now }
     ensures ok { IfOk result (λ s. IsWalked language.entry.definition.now path.now tree.now found.old found.new s) }
-    ensures err { IfErr result (IsStepFault language.entry.definition.now (steps_of language.entry.definition.now path.now tree.now)) }
+    ensures err { IfErr result
+        (IsStepFault language.entry.definition.now (steps_of language.entry.definition.now path.now tree.now)) }
 {
     let all = children(alloc, tree)?;
     let inner = all.as_slice();

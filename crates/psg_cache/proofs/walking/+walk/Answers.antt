@@ -28,7 +28,7 @@ pub loop-i-preserved : goal.loop-i-preserved
 loop-i-preserved g t c =
     let def = c.args.language.definition.now in
     walked_more def c.args.path.now c.in_ok-place.place.items c.as_slice-inner.result.now c.loop-i.i c.in_ok-step.step
-    c.index-inner-i.result c.loop-i.below.items _ c.args.found.now c.loop-i.found _ c.in_ok-summary.summary
+    c.index-inner-i.result c.loop-i.below.items c.push.new.self.items c.args.found.now c.loop-i.found c.walk.new.found c.in_ok-summary.summary
     c.loop-i-test.true c.index-inner-i.is c.in_ok-step.ensures c.in_ok-place.ensures c.in_ok-push.ensures.items
     c.loop-i.invariant
     (subst (λ q. IsWalked def q c.index-inner-i.result c.loop-i.found c.walk.new.found c.in_ok-summary.summary)
