@@ -1,27 +1,25 @@
 -- The summaries of a list: of its end, and of its cells from the last to the first.
-use Rattle.std.proofs.Common.{◌≡◌, inl, inr, ℕ, zero, suc, ◌+◌, ◌<◌, ◌≤◌, Bool, true, false, ◌||◌, List, [], ◌∷◌, ◌++◌, length, drop, get_or, slice_get, Some, refl, sym, ◌∙◌, ap, ap₂, subst, arith}
-use Rattle.std.specs.Prelude.{Result, Ok, Err, IfOk}
+use Rattle.std.proofs.Common.{◌≡◌, ℕ, zero, suc, ◌+◌, ◌<◌, Bool, false, ◌||◌, List, [], ◌∷◌, length, drop, get_or, slice_get, Some, refl, sym, ◌∙◌, ap₂, subst, arith}
+use Rattle.std.specs.Prelude.{Result, Ok, IfOk}
 use Rattle.std.specs.List.{AllByRecursion}
-use Rattle.std.proofs.lemmas.Option.{slice_get_within}
 use Rattle.psg_terms.specs.Weight.{weight_of}
 use Rattle.psg_grammar.specs.declared.types.Kind.{Kind}
 use Rattle.psg_grammar.specs.declared.types.Kind.TheVariants as kinds
 use Rattle.psg_grammar.specs.declared.types.ListKind.{ListKind}
 use Rattle.psg_grammar.specs.declared.types.Definition.{Definition}
-use Rattle.psg_grammar.specs.Fragments.{Fragment, hole, ending, cell, children_of}
+use Rattle.psg_grammar.specs.Fragments.{Fragment, ending, cell}
 use Rattle.psg_grammar.specs.Paths.{Path}
 use Rattle.psg_grammar.specs.Steps.{own_steps, list_steps, HasWeights}
-use Rattle.psg_grammar.specs.WellFormed.{Fits, IsPlain, WellFormed}
+use Rattle.psg_grammar.specs.WellFormed.{WellFormed}
 use Rattle.psg_tree.specs.Shapes.{list_of}
-use Rattle.psg_tree.proofs.Children.{children-list}
 use Rattle.psg_tree.proofs.FormLaws.{list_parts, AreElements}
 use Rattle.psg_eval.specs.declared.summary.Known.{Known}
 use Rattle.psg_eval.specs.declared.summary.EvalFault.{EvalFault}
 use Rattle.psg_eval.specs.Trees.{reports}
-use Rattle.psg_eval.specs.Summaries.{AllSummaries, Answers, IsSummary, IsSummaryOf, StaysWithin, TakesCell, reporting}
+use Rattle.psg_eval.specs.Summaries.{AllSummaries, Answers, IsSummary, IsSummaryOf, StaysWithin, TakesCell}
 use Rattle.psg_cache.specs.declared.walking.Found.{Found}
 use Rattle.psg_cache.specs.declared.note.NoteFault.{NoteFault}
-use Rattle.psg_cache.specs.Walks.{IsAdded, IsAnswerFault, IsClean, IsStepFault, IsTopped, IsListTopped, IsListFault, TakesElements, top_steps, WeighTogether}
+use Rattle.psg_cache.specs.Walks.{IsAdded, IsAnswerFault, IsClean, IsStepFault, IsTopped, IsListFault, TakesElements, top_steps}
 use Rattle.psg_cache.proofs.RealTrees.{IsReal}
 use Rattle.psg_cache.proofs.StepLaws.{clean-append, fault-left, fault-behind, own_clean, own_fault}
 use Rattle.psg_cache.proofs.WeightLaws.{cell_weighs, end_weighs}

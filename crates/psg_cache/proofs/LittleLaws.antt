@@ -1,6 +1,5 @@
 -- The language of the tests is sound, and lists of placeholders are trees of it.
-use Rattle.std.proofs.Common.{◌≡◌, ◌⊎◌, inl, inr, ℕ, zero, suc, ◌<◌, false, List, [], ◌∷◌, ◌++◌, codes, Some, slice_get, refl, sym, subst, true≢false, lit<, lit≤, arith}
-use Rattle.std.specs.List.{AllByRecursion}
+use Rattle.std.proofs.Common.{◌≡◌, inl, inr, ℕ, zero, suc, ◌<◌, false, List, [], ◌∷◌, ◌++◌, codes, Some, slice_get, refl, sym, subst, true≢false, lit<, lit≤, arith}
 use Rattle.psg_terms.specs.Terms.{symbol}
 use Rattle.psg_terms.specs.Signature.{HasSort, only_constructor}
 use Rattle.psg_terms.specs.Instances.{IsGround}
@@ -8,7 +7,7 @@ use Rattle.psg_terms.specs.Sound.{IsSound as IsSoundSignature}
 use Rattle.psg_grammar.specs.declared.types.Kind.TheVariants as kinds
 use Rattle.psg_grammar.specs.declared.types.ListKind.{ListKind}
 use Rattle.psg_grammar.specs.Fragments.{Fragment, hole}
-use Rattle.psg_grammar.specs.Sound.{IsSound, HasKindSort, IsListKind, IsTermOf}
+use Rattle.psg_grammar.specs.Sound.{IsSound, HasKindSort, IsTermOf}
 use Rattle.psg_grammar.specs.WellFormed.{Fits, IsPlain, IsUnobserved}
 use Rattle.psg_tree.specs.Shapes.{list_of}
 use Rattle.psg_cache.specs.Notes.{IsFormed}

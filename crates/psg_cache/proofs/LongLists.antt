@@ -1,6 +1,6 @@
 -- Too long lists, part by part and element by element.
-use Rattle.std.proofs.Common.{◌≡◌, ◌↔◌, ◌⊎◌, inl, inr, ℕ, zero, suc, ◌+◌, ◌<◌, ◌≤◌, Bool, false, List, [], ◌∷◌, length, drop, get_or, refl, ap, sym, ◌∙◌, subst, add-one, drop-cons, arith}
-use Rattle.psg_grammar.specs.Fragments.{Fragment, operator, cell, children_of}
+use Rattle.std.proofs.Common.{◌≡◌, ◌↔◌, ◌⊎◌, inl, inr, ℕ, zero, suc, ◌+◌, ◌<◌, ◌≤◌, Bool, false, List, [], ◌∷◌, length, drop, get_or, ap, sym, ◌∙◌, subst, add-one, drop-cons, arith}
+use Rattle.psg_grammar.specs.Fragments.{Fragment, operator}
 use Rattle.psg_grammar.specs.Sizes.{HasLongList}
 use Rattle.psg_grammar.specs.declared.limits.TheConstants.{MOST_ELEMENTS}
 use Rattle.psg_tree.specs.declared.tree.Part.{Part}

@@ -1,5 +1,5 @@
 -- Openness: by the rows of a relation, and of the children of an open tree.
-use Rattle.std.proofs.Common.{◌≡◌, ◌↔◌, inl, inr, Bool, true, false, cond, ◌||◌, List, [], ◌∷◌, ◌++◌, map, refl, sym, ◌∙◌, subst, true≢false}
+use Rattle.std.proofs.Common.{◌≡◌, Bool, true, false, cond, ◌||◌, List, [], ◌∷◌, ◌++◌, map, refl, sym, ◌∙◌, subst, true≢false}
 use Rattle.std.specs.List.{AllByRecursion}
 use Rattle.psg_terms.specs.Terms.{Term}
 use Rattle.psg_terms.specs.Names.{has_twice}
@@ -9,7 +9,7 @@ use Rattle.psg_grammar.specs.Fragments.{Fragment, hole, ending, cell, operator, 
 use Rattle.psg_grammar.specs.Keys.{Key}
 use Rattle.psg_grammar.specs.Lookups.{is_scope, is_declares, next_item, key_at}
 use Rattle.psg_grammar.specs.Legal.{Entities, AreEntities}
-use Rattle.psg_grammar.specs.Regions.{declared_inside, names_of, AreDistinct, DistinctBelow, IsDistinct}
+use Rattle.psg_grammar.specs.Regions.{declared_inside, names_of, AreDistinct, DistinctBelow}
 use Rattle.psg_grammar.specs.Open.{Choice, Holds, IsOpen}
 use Rattle.psg_grammar.specs.Relations.{IsPossible, IsRelationOf}
 use Rattle.psg_scope.proofs.MergeLaws.{meets, has_twice-append}

@@ -1,6 +1,6 @@
 -- The steps of a tree in their order, and the first of them that passes the limit.
-use Rattle.std.proofs.Common.{◌≡◌, ◌⊎◌, inl, inr, ℕ, zero, suc, ◌+◌, ◌<◌, ◌≤◌, List, [], ◌∷◌, ◌++◌, length, slice_get, Option, Some, None, refl, sym, ◌∙◌, ap, ap₂, subst, append_assoc, append-nil, arith}
-use Rattle.std.specs.Prelude.{Result, Ok, Err}
+use Rattle.std.proofs.Common.{◌≡◌, ◌⊎◌, inl, inr, ℕ, zero, suc, ◌+◌, ◌<◌, ◌≤◌, List, [], ◌∷◌, ◌++◌, length, slice_get, Some, refl, sym, ◌∙◌, ap, ap₂, subst, append_assoc, append-nil, arith}
+use Rattle.std.specs.Prelude.{Result}
 use Rattle.psg_terms.specs.Relations.{IsIn, first, later}
 use Rattle.psg_grammar.specs.declared.types.Definition.{Definition}
 use Rattle.psg_grammar.specs.Fragments.{Fragment, hole, ending, cell, operator, with_child, with_name, with_number, with_text, anything, observed, children_of}
@@ -8,7 +8,6 @@ use Rattle.psg_grammar.specs.Paths.{Path, IsList}
 use Rattle.psg_grammar.specs.Steps.{Place, PassesAt, last_step, steps_up_to, own_steps, list_steps, steps_of, steps_below, IsFirstWide, IsWide}
 use Rattle.psg_eval.specs.declared.summary.Known.{Known}
 use Rattle.psg_eval.specs.declared.summary.EvalFault.{EvalFault}
-use Rattle.psg_eval.specs.declared.summary.EvalFault.TheVariants as evals
 use Rattle.psg_eval.specs.Summaries.{IsFirstPassing, StaysWithin, Answers}
 use Rattle.psg_cache.specs.declared.note.NoteFault.{NoteFault}
 use Rattle.psg_cache.specs.declared.note.NoteFault.TheVariants as faults

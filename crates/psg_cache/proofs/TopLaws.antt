@@ -1,5 +1,5 @@
 -- The top of a tree whose children are evaluated: a placeholder, an operator or a list.
-use Rattle.std.proofs.Common.{◌≡◌, ℕ, ◌<◌, Bool, List, [], length, refl, sym, ◌∙◌, ap, subst}
+use Rattle.std.proofs.Common.{◌≡◌, ℕ, ◌<◌, Bool, List, length, refl, sym, ◌∙◌, ap, subst}
 use Rattle.std.specs.Prelude.{Result, IfOk}
 use Rattle.std.specs.List.{AllByRecursion}
 use Rattle.psg_terms.specs.Names.{Name}
@@ -7,8 +7,8 @@ use Rattle.psg_terms.specs.Weight.{weight_of}
 use Rattle.psg_grammar.specs.declared.types.Definition.{Definition}
 use Rattle.psg_grammar.specs.Fragments.{Fragment, hole, ending, cell, operator, with_child, with_name, with_number, with_text, anything, observed, children_of}
 use Rattle.psg_grammar.specs.Paths.{Path}
-use Rattle.psg_grammar.specs.Steps.{own_steps, list_steps}
-use Rattle.psg_grammar.specs.WellFormed.{Fits, IsPlain, WellFormed}
+use Rattle.psg_grammar.specs.Steps.{own_steps}
+use Rattle.psg_grammar.specs.WellFormed.{WellFormed}
 use Rattle.psg_tree.specs.declared.tree.Part.{Part}
 use Rattle.psg_tree.specs.declared.tree.Shape.{Shape}
 use Rattle.psg_tree.specs.declared.tree.Shape.TheVariants.{Op, List as ListOf, Hole}

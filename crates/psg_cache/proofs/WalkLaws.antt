@@ -1,6 +1,5 @@
 -- What a walk found in a tree, from what it found in its children and at its top.
-use Rattle.std.proofs.Common.{◌≡◌, inl, inr, ℕ, zero, suc, ◌+◌, ◌<◌, ◌≤◌, List, [], ◌∷◌, ◌++◌, length, take, drop, get_or, refl, sym, ◌∙◌, ap, ap₂, subst, append_assoc, append-nil, drop-cons, arith}
-use Rattle.std.specs.List.{AllByRecursion}
+use Rattle.std.proofs.Common.{◌≡◌, inl, inr, ℕ, suc, ◌+◌, ◌<◌, ◌≤◌, List, [], ◌∷◌, ◌++◌, length, take, drop, get_or, refl, sym, ◌∙◌, ap, subst, append_assoc, append-nil, drop-cons, arith}
 use Rattle.std.proofs.lemmas.List.{take_all, take-append-drop, length-take-le}
 use Rattle.psg_terms.proofs.DeclareLaws.{take-next}
 use Rattle.psg_grammar.specs.declared.types.Definition.{Definition}
@@ -8,18 +7,17 @@ use Rattle.psg_grammar.specs.declared.limits.TheConstants.{MOST_WEIGHTS}
 use Rattle.psg_grammar.specs.Fragments.{Fragment, children_of}
 use Rattle.psg_grammar.specs.Paths.{Path}
 use Rattle.psg_grammar.specs.Marks.{nodes_from, AreCulprits, IsMark}
-use Rattle.psg_grammar.specs.Open.{IsOpen}
 use Rattle.psg_grammar.specs.Sizes.{IsBig, IsDeep}
 use Rattle.psg_grammar.specs.Sound.{IsSound}
 use Rattle.psg_grammar.specs.Steps.{steps_of, HasWeights}
 use Rattle.psg_eval.specs.declared.summary.Known.{Known}
-use Rattle.psg_eval.specs.Summaries.{AllSummaries, AreSummariesOf, IsSummary, IsSummaryOf}
+use Rattle.psg_eval.specs.Summaries.{AllSummaries, IsSummary, IsSummaryOf}
 use Rattle.psg_cache.specs.declared.note.Noted.{Noted}
 use Rattle.psg_cache.specs.declared.note.NoteFault.{NoteFault}
 use Rattle.psg_cache.specs.declared.note.NoteFault.TheVariants as faults
 use Rattle.psg_cache.specs.declared.walking.Found.{Found}
 use Rattle.psg_cache.specs.Notes.{mark_by, IsNoteFault, IsNoteOf}
-use Rattle.psg_cache.specs.Walks.{each_nodes, each_steps, top_steps, AreWalked, IsBlamed, IsClean, IsKept, IsStepFault, IsTopped, IsWalked, WeighTogether}
+use Rattle.psg_cache.specs.Walks.{each_nodes, each_steps, top_steps, AreWalked, IsBlamed, IsClean, IsKept, IsStepFault, IsTopped, IsWalked}
 use Rattle.psg_cache.proofs.RealTrees.{IsReal}
 use Rattle.psg_cache.proofs.OpenTrees.{rows_open}
 use Rattle.psg_cache.proofs.CulpritLaws.{all-append, each_nodes-push, culprits-append, culprits-none, no_culprits, open_from, tree_culprits}

@@ -2,7 +2,7 @@
 -- have no value.
 use Rattle.std.specs.Prelude.{ℕ, ◌≡◌, ◌⊎◌, false, List, [], ◌∷◌, codes}
 use Rattle.std.specs.List.{AllByRecursion}
-use Rattle.psg_terms.specs.Terms.{Term, symbol}
+use Rattle.psg_terms.specs.Terms.{symbol}
 use Rattle.psg_terms.specs.Signature.{Signature, Symbol}
 use Rattle.psg_terms.specs.declared.declare.ConDecl.{ConDecl}
 use Rattle.psg_terms.specs.declared.declare.SortDecl.{SortDecl}
@@ -10,7 +10,6 @@ use Rattle.psg_terms.specs.declared.sorts.SortId.{SortId}
 use Rattle.psg_grammar.specs.declared.types.Kind.TheVariants as kinds
 use Rattle.psg_grammar.specs.declared.types.Phylum.{Phylum}
 use Rattle.psg_grammar.specs.declared.types.ListKind.{ListKind}
-use Rattle.psg_grammar.specs.declared.types.Row.{Row}
 use Rattle.psg_grammar.specs.declared.types.HoleRow.{HoleRow}
 use Rattle.psg_grammar.specs.declared.types.Definition.{Definition}
 use Rattle.psg_grammar.specs.Fragments.{Fragment, hole}

@@ -1,6 +1,5 @@
-use Rattle.std.proofs.Common.{◌≡◌, ◌↔◌, IsTrue, false, refl, ap, sym, ◌∙◌, true≢false, arith}
+use Rattle.std.proofs.Common.{false, refl, ap, sym, ◌∙◌, true≢false, arith}
 use Rattle.psg_grammar.specs.Fragments.{operator}
-use Rattle.psg_grammar.specs.Sizes.{HasLongList}
 use Rattle.psg_tree.specs.Shapes.{height, with_parts, list_of}
 use Rattle.psg_tree.proofs.Heights.{part_in as part_height, element_in as element_height, op_height, list_height, height-list_of}
 use Rattle.psg_cache.proofs.LongLists.{many_long, element_in, elements_behind, part_in, parts_behind, op_long, list_long}

@@ -1,4 +1,4 @@
-use Rattle.std.proofs.Common.{[], subst, sym, false, ap, ◌∙◌}
+use Rattle.std.proofs.Common.{subst, sym, false, ap, ◌∙◌}
 use Rattle.psg_tree.specs.Shapes.{list_of}
 use Rattle.psg_cache.specs.Little.{AreHoles, little}
 use Rattle.psg_cache.specs.Notes.{IsFormed}

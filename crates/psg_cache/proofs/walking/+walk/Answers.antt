@@ -1,7 +1,6 @@
-use Rattle.std.proofs.Common.{◌≡◌, ◌≤◌, ap, sym, subst, ◌∙◌, arith}
+use Rattle.std.proofs.Common.{◌≡◌, subst, ◌∙◌, arith}
 use Rattle.psg_grammar.specs.Fragments.{children_of}
 use Rattle.psg_grammar.specs.Steps.{steps_of}
-use Rattle.psg_eval.specs.Summaries.{AreSummariesOf}
 use Rattle.psg_tree.specs.Shapes.{height}
 use Rattle.psg_cache.specs.Walks.{IsStepFault, IsWalked}
 use Rattle.psg_cache.proofs.RealTrees.{real}

@@ -1,7 +1,6 @@
-use Rattle.std.proofs.Common.{◌≡◌, ◌≤◌, List, length, drop}
+use Rattle.std.proofs.Common.{◌≤◌, List, length, drop}
 use Rattle.psg_grammar.specs.Fragments.{Fragment}
 use Rattle.psg_tree.specs.Shapes.{list_of}
-use Rattle.psg_grammar.specs.declared.types.Kind.TheVariants as kinds
 use Rattle.psg_eval.specs.Summaries.{AllSummaries}
 use Rattle.psg_cache.specs.Walks.{IsTopped}
 use Rattle.psg_cache.proofs.walking.top_list.Given as goal
