@@ -9,6 +9,7 @@ pub mod Evaluations
 pub mod ListLaws
 pub mod Passing
 pub mod ChildLaws
+pub mod Counting
 pub mod TopLaws
 pub mod WalkLaws
 pub mod LittleLaws

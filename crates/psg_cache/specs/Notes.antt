@@ -1,10 +1,10 @@
 -- What a note says of its tree, and what is said where there is none.
-use Rattle.std.specs.Prelude.{ℕ, ◌≡◌, List, [], ◌∷◌, length, Vec, slice_get, Some}
+use Rattle.std.specs.Prelude.{ℕ, ◌≡◌, List, [], ◌∷◌, length, Vec, slice_get, Some, ◌+◌}
 use Rattle.std.specs.declared.alloc.Global.{Global}
 use Rattle.psg_grammar.specs.declared.types.Kind.{Kind}
 use Rattle.psg_grammar.specs.declared.types.Definition.{Definition}
 use Rattle.psg_grammar.specs.DeclaringTables.{AreSpacesOf}
-use Rattle.psg_grammar.specs.Fragments.{Fragment}
+use Rattle.psg_grammar.specs.Fragments.{Fragment, hole, ending, cell, operator, with_child, with_name, with_number, with_text, anything, observed}
 use Rattle.psg_grammar.specs.Marks.{Mark, good, wrong, IsMark}
 use Rattle.psg_grammar.specs.Paths.{Path}
 use Rattle.psg_grammar.specs.Sizes.{IsBig, IsDeep}
@@ -23,6 +23,19 @@ IsFormed def f = (kind : Kind) × WellFormed def f kind
 pub record AreDeclaringSpaces (def : Definition) (found : List (Vec ℕ Global)) : Type 0 where
   pub one_each : length found ≡ length def.phyla
   pub exact : (p : ℕ) (spaces : Vec ℕ Global) → slice_get found p ≡ Some spaces → AreSpacesOf def p spaces.items
+
+-- how many evaluations a tree takes: one of each node, and of a list one of its end and one of each cell
+abbrev pub evaluations_of : Fragment → ℕ
+evaluations_of (hole p) = 1
+evaluations_of (ending l u) = 1
+evaluations_of (cell l e r) = evaluations_of e + evaluations_of r + 1
+evaluations_of (operator o) = 1
+evaluations_of (with_child f t) = evaluations_of f + evaluations_of t
+evaluations_of (with_name f n) = evaluations_of f
+evaluations_of (with_number f n) = evaluations_of f
+evaluations_of (with_text f t) = evaluations_of f
+evaluations_of anything = 1
+evaluations_of (observed f) = evaluations_of f
 
 -- a tree that goes wrong has a node at which it does
 abbrev pub mark_by : List Path → Mark

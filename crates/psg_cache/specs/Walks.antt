@@ -50,6 +50,19 @@ abbrev pub IsAnswerFault : Path → Result Known EvalFault → NoteFault → Typ
 IsAnswerFault path answer fault =
     (fault ≡ faults.Memory) ⊎ ((step : ℕ) × (answer ≡ Err (evals.Wide step)) × (fault ≡ faults.Wide path step))
 
+-- the evaluations at the top of a tree: one of a node, and of a list one of its end and one of each cell
+abbrev pub top_evaluations : Fragment → ℕ
+top_evaluations (hole p) = 1
+top_evaluations (ending l u) = 1
+top_evaluations (cell l e r) = top_evaluations r + 1
+top_evaluations (operator o) = 1
+top_evaluations (with_child f t) = top_evaluations f
+top_evaluations (with_name f n) = top_evaluations f
+top_evaluations (with_number f n) = top_evaluations f
+top_evaluations (with_text f t) = top_evaluations f
+top_evaluations anything = 1
+top_evaluations (observed f) = top_evaluations f
+
 -- each of the relations has a row
 abbrev pub HaveRows : List Known → Type 0
 HaveRows summaries = AllByRecursion (λ (s : Known). s.rel ≡ [] → ⊥) summaries

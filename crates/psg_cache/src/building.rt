@@ -1,8 +1,8 @@
 //! Notes from trees.
-ghost use Rattle.std.specs.Prelude.{◌↔◌, IfErr, IfOk, IsTrue};
+ghost use Rattle.std.specs.Prelude.{◌≡◌, ◌↔◌, ◌+◌, IfErr, IfOk, IsTrue};
 ghost use Rattle.psg_grammar.specs.Sizes.{IsBig, IsDeep};
 ghost use Rattle.psg_grammar.specs.Sound.{IsSound};
-ghost use Rattle.psg_cache.specs.Notes.{AreDeclaringSpaces, IsFormed, IsNoteFault, IsNoteOf};
+ghost use Rattle.psg_cache.specs.Notes.{AreDeclaringSpaces, evaluations_of, IsFormed, IsNoteFault, IsNoteOf};
 ghost use Rattle.psg_cache.specs.Walks.{IsKept};
 
 use crate::lengths::has_long_list;
@@ -34,6 +34,7 @@ pub fn build<L: Ledger>(
     requires declaring { AreDeclaringSpaces definition.now declaring.now }
     requires formed { IsFormed definition.now tree.now }
     ensures note { IfOk result (IsNoteOf definition.now tree.now) }
+    ensures ticks { IfOk result (λ _. steps.new ≡ steps.old + evaluations_of tree.now) }
     ensures fault { IfErr result (IsNoteFault definition.now tree.now) }
 {
     if is_deep(tree) {

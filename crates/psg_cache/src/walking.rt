@@ -1,5 +1,5 @@
 //! One walk over a tree, in which each node and list suffix is evaluated once.
-ghost use Rattle.std.specs.Prelude.{◌≡◌, ◌↔◌, ◌+◌, ◌++◌, ◌∷◌, [], true, IfErr, IfOk, IsTrue};
+ghost use Rattle.std.specs.Prelude.{◌≡◌, ◌↔◌, ◌+◌, ◌++◌, ◌∷◌, [], true, IfErr, IfOk, IsTrue, length};
 ghost use Rattle.std.specs.List.{AllByRecursion};
 ghost use Rattle.psg_terms.specs.Weight.{weight_of};
 ghost use Rattle.psg_grammar.specs.Fragments.{children_of};
@@ -8,8 +8,8 @@ ghost use Rattle.psg_tree.specs.Shapes.{subtrees};
 ghost use Rattle.psg_eval.specs.declared.summary.Known.{Known};
 ghost use Rattle.psg_eval.specs.Summaries.{AreSummariesOf, IsSummary, IsSummaryOf};
 ghost use Rattle.psg_cache.specs.declared.note.NoteFault.TheVariants as faults;
-ghost use Rattle.psg_cache.specs.Notes.{IsFormed};
-ghost use Rattle.psg_cache.specs.Walks.{HaveRows, IsAdded, IsAnswerFault, IsBlamed, IsKnown, IsListFault, IsListTopped, IsStepFault, IsTopped, IsWalked, names_in, TakesElements, top_steps};
+ghost use Rattle.psg_cache.specs.Notes.{evaluations_of, IsFormed};
+ghost use Rattle.psg_cache.specs.Walks.{HaveRows, IsAdded, IsAnswerFault, IsBlamed, IsKnown, IsListFault, IsListTopped, IsStepFault, IsTopped, IsWalked, names_in, TakesElements, top_evaluations, top_steps};
 
 use crate::note::NoteFault;
 use psg_eval::{EvalFault, Summary, eval_cell, eval_end, eval_hole, eval_op};
@@ -156,6 +156,7 @@ fn top_list<L: Ledger>(
     requires takes { TakesElements language.definition.now list unfinished elements.now }
     ensures ok { IfOk result (λ s.
         IsListTopped language.entry.definition.now path.now list unfinished elements.now found.old found.new s) }
+    ensures ticks { IfOk result (λ _. steps.new ≡ steps.old + (length elements.now + 1)) }
     ensures err { IfErr result (IsListFault language.entry.definition.now path.now list unfinished elements.now) }
 {
     let definition = language.definition;
@@ -187,6 +188,7 @@ fn top<L: Ledger>(
     requires summaries { AreSummariesOf language.definition.now tree.now below.now }
     requires usual { AllByRecursion (IsSummary language.definition.now) below.now }
     ensures ok { IfOk result (λ s. IsTopped language.entry.definition.now path.now tree.now found.old found.new s) }
+    ensures ticks { IfOk result (λ _. steps.new ≡ steps.old + top_evaluations tree.now) }
     ensures err { IfErr result
         (IsStepFault language.entry.definition.now (top_steps language.entry.definition.now path.now tree.now)) }
 {
@@ -265,6 +267,7 @@ pub(crate) fn walk<L: Ledger>(
     requires language { IsKnown language }
     requires formed { IsFormed language.definition.now tree.now }
     ensures ok { IfOk result (λ s. IsWalked language.entry.definition.now path.now tree.now found.old found.new s) }
+    ensures ticks { IfOk result (λ _. steps.new ≡ steps.old + evaluations_of tree.now) }
     ensures err { IfErr result
         (IsStepFault language.entry.definition.now (steps_of language.entry.definition.now path.now tree.now)) }
 {

@@ -1,5 +1,6 @@
-use Rattle.std.proofs.Common.{◌∙◌, ap}
+use Rattle.std.proofs.Common.{arith, ◌∙◌, ap}
 use Rattle.psg_cache.specs.Walks.{IsStepFault, names_in, top_steps}
+use Rattle.psg_cache.proofs.Counting.{hole_once, list_once, operator_once}
 use Rattle.psg_cache.proofs.Passing.{passed}
 use Rattle.psg_cache.proofs.TopLaws.{elements_taken, hole_fault, hole_topped, list_fault, list_topped, operator_fault, operator_takes, operator_topped}
 use Rattle.psg_cache.proofs.walking.top.Goals as goal
@@ -69,3 +70,20 @@ returns-in_ok-summary-in-List-clause-ok g c =
     list_topped c.args.language.definition.now c.args.path.now c.shape.result.now c.in-List.list c.in-List.elements
     c.in-List.unfinished c.args.tree.now c.args.below.now c.args.found.now _ c.in_ok-summary-in-List.summary
     c.in-List.is c.shape.ensures c.requires.summaries c.in_ok-summary-in-List.ensures.ok
+
+pub returns-in_ok-summary-in-Hole-clause-ticks : goal.returns-in_ok-summary-in-Hole-clause-ticks
+returns-in_ok-summary-in-Hole-clause-ticks g c =
+    let once = hole_once c.shape.result.now c.in-Hole.phylum c.args.tree.now c.in-Hole.is c.shape.ensures in
+    omega (arith, once, c.eval_hole-made.ensures.ticks)
+
+pub returns-in_ok-summary-in-Op-clause-ticks : goal.returns-in_ok-summary-in-Op-clause-ticks
+returns-in_ok-summary-in-Op-clause-ticks g c =
+    let once = operator_once c.shape.result.now c.in-Op.op c.in-Op.parts c.args.tree.now c.in-Op.is c.shape.ensures in
+    omega (arith, once, c.eval_op-made.ensures.ticks)
+
+pub returns-in_ok-summary-in-List-clause-ticks : goal.returns-in_ok-summary-in-List-clause-ticks
+returns-in_ok-summary-in-List-clause-ticks g c =
+    let once = list_once c.args.language.definition.now c.shape.result.now c.in-List.list c.in-List.elements
+    c.in-List.unfinished
+    c.args.tree.now c.args.below.now c.in-List.is c.shape.ensures c.requires.summaries in
+    omega (arith, once, c.in_ok-summary-in-List.ensures.ticks)

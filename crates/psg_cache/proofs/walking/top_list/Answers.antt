@@ -29,18 +29,22 @@ returns-in_err-whole-clause-err g c =
 
 pub loop-left-init : goal.loop-left-init
 loop-left-init g c =
-    let elements = c.args.elements.now in (
-      omega arith,
-      end_topped c.args.language.definition.now c.args.path.now c.args.list c.args.unfinished c.eval_end-ended.result
+    let elements = c.args.elements.now in
+    record {
+      within = omega arith;
+      counted = omega (arith, c.eval_end-ended.ensures.ticks);
+      topped =
+          end_topped c.args.language.definition.now c.args.path.now c.args.list c.args.unfinished
+          c.eval_end-ended.result
           c.args.found.now c.added.new.found c.in_ok-whole.whole c.eval_end-ended.ensures.answer
-          c.eval_end-ended.ensures.summary c.in_ok-whole.ensures.ok elements (length elements) refl,
-    )
+          c.eval_end-ended.ensures.summary c.in_ok-whole.ensures.ok elements (length elements) refl;
+    }
 
 pub eval_cell-made-requires-clause-takes : goal.eval_cell-made-requires-clause-takes
 eval_cell-made-requires-clause-takes g c =
     cell_takes c.args.language.definition.now c.args.path.now c.args.list c.args.unfinished c.args.elements.now
     c.requires.takes c.loop-left.left (c.loop-left.left - 1) c.args.found.now c.loop-left.found
-    c.index-elements-left.result c.loop-left.whole (omega arith) c.index-elements-left.is c.loop-left.invariant.1
+    c.index-elements-left.result c.loop-left.whole (omega arith) c.index-elements-left.is c.loop-left.invariant.topped
 
 pub returns-in_err-whole-2-clause-err : goal.returns-in_err-whole-2-clause-err
 returns-in_err-whole-2-clause-err g c =
@@ -52,14 +56,16 @@ returns-in_err-whole-2-clause-err g c =
     (cell_fault def path c.args.list c.args.unfinished elements c.loop-left.left (c.loop-left.left - 1)
     c.args.found.now c.loop-left.found c.index-elements-left.result c.loop-left.whole c.eval_cell-made.result
     c.in_err-whole-2.field-0.0 (omega arith) (omega arith) c.index-elements-left.is
-    c.loop-left.invariant.1 c.eval_cell-made.ensures.answer c.in_err-whole-2.ensures.err)
+    c.loop-left.invariant.topped c.eval_cell-made.ensures.answer c.in_err-whole-2.ensures.err)
 
 pub loop-left-preserved : goal.loop-left-preserved
-loop-left-preserved g c = (
-  omega arith,
-  cell_topped c.args.language.definition.now c.args.path.now c.args.list c.args.unfinished c.args.elements.now
+loop-left-preserved g c = record {
+  within = omega arith;
+  counted = omega (arith, c.eval_cell-made.ensures.ticks, c.loop-left.invariant.counted);
+  topped =
+      cell_topped c.args.language.definition.now c.args.path.now c.args.list c.args.unfinished c.args.elements.now
       c.loop-left.left (c.loop-left.left - 1) c.args.found.now c.loop-left.found _ c.index-elements-left.result
       c.loop-left.whole _ c.eval_cell-made.result (omega arith) (omega arith) c.index-elements-left.is
-      c.loop-left.invariant.1 c.eval_cell-made.ensures.answer c.eval_cell-made.ensures.summary
-      c.in_ok-whole-2.ensures.ok,
-)
+      c.loop-left.invariant.topped c.eval_cell-made.ensures.answer c.eval_cell-made.ensures.summary
+      c.in_ok-whole-2.ensures.ok;
+}
