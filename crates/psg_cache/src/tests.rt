@@ -7,7 +7,7 @@ ghost use Rattle.psg_cache.specs.Notes.{IsFormed};
 use crate::{Note, NoteFault, build};
 use psg_grammar::{Definition, HoleRow, Kind, ListKind, Phylum, Row, declaring};
 use psg_terms::{ConDecl, ConId, Seq, Signature, SortDecl, SortId, Steps, Term, Txt};
-use psg_tree::{Path, Shape, Tree};
+use psg_tree::{Path, Shape, Tree, nodes};
 use std::alloc::{AllocError, Global};
 use std::marker::Brand;
 use std::sync::ledger::{Blank, Ledger};
@@ -214,11 +214,16 @@ fn told(alloc: Global, note: &Note) -> Result<String, AllocError> {
     Ok(text)
 }
 
-/// What is noted of a sample, or why nothing is.
-fn noted(alloc: Global, which: Sample, count: usize) -> Result<String, AllocError> {
+/// The note of a sample.
+fn noted(alloc: Global, which: Sample, count: usize) -> Result<Note, NoteFault> {
     let definition = language(alloc)?;
     let tree = sample_tree(alloc, which, count)?;
-    let given = counted::<Brand>(alloc, &definition, &tree, Blank::new(1));
+    counted::<Brand>(alloc, &definition, &tree, Blank::new(1))
+}
+
+/// What is noted of a sample, or why nothing is.
+fn answer(alloc: Global, which: Sample, count: usize) -> Result<String, AllocError> {
+    let given = noted(alloc, which, count);
     match given {
         Ok(note) => told(alloc, &note),
         Err(fault) => format!(in alloc; "{fault}"),
@@ -240,8 +245,18 @@ fn notes_of_lists(rt: HostRuntime) -> Result<(), Fail> {
         (Sample::Numbers, 4_097, "the tree is too big"),
     ];
     for (which, count, expected) in cases {
-        let given = noted(rt.alloc(), which, count)?;
+        let given = answer(rt.alloc(), which, count)?;
         assert_eq!(rt; given.as_str(), expected, "{count}");
     }
+    Ok(())
+}
+
+#[test]
+fn owners_of_one_note(rt: HostRuntime) -> Result<(), Fail> {
+    let note = noted(rt.alloc(), Sample::Numbers, 2)?;
+    let other = note.share()?;
+    assert_eq!(rt; nodes(other.tree()), 3);
+    assert_eq!(rt; other.root().kind(), Kind::List(0));
+    assert_eq!(rt; other.weight(), note.weight());
     Ok(())
 }
