@@ -10,17 +10,7 @@ use Rattle.psg_grammar.specs.Fragments.{Fragment, hole, ending, cell, operator, 
 use Rattle.psg_grammar.specs.WellFormed.{Fits, IsPlain}
 use Rattle.psg_tree.specs.Shapes.{height}
 use Rattle.psg_cache.specs.Notes.{IsFormed}
-
-each_append : {X : Type 0} (P : X → Type 0) (xs : List X) (x : X) → AllByRecursion P xs → P x
-    → AllByRecursion P (xs ++ x ∷ [])
-each_append P [] x h p = (p, tt)
-each_append P (y ∷ ys) x h p = (h.0, each_append P ys x h.1 p)
-
-each_at : {X : Type 0} (P : X → Type 0) (xs : List X) (i : ℕ) (x : X) → AllByRecursion P xs → i < length xs
-    → x ≡ get_or xs i x → P x
-each_at P [] i x h l e = absurd (omega (arith, l))
-each_at P (y ∷ ys) zero x h l e = subst P (sym e) h.0
-each_at P (y ∷ ys) (suc i) x h l e = each_at P ys i x h.1 (omega (arith, l)) e
+use Rattle.psg_cache.proofs.Each.{each_at, each_push}
 
 lower : (g : Fragment) (n : ℕ) → height g ≤ n → AllByRecursion (λ c. height c + 1 ≤ n) (children_of g)
 lower (hole p) n h = tt
@@ -28,7 +18,7 @@ lower (ending l u) n h = tt
 lower (cell l e r) n h = (omega (arith, h), lower r n (omega (arith, h)))
 lower (operator o) n h = tt
 lower (with_child g t) n h =
-    each_append (λ c. height c + 1 ≤ n) (children_of g) t (lower g n (omega (arith, h))) (omega (arith, h))
+    each_push (λ c. height c + 1 ≤ n) (children_of g) t (lower g n (omega (arith, h))) (omega (arith, h))
 lower (with_name g m) n h = lower g n h
 lower (with_number g m) n h = lower g n h
 lower (with_text g m) n h = lower g n h
@@ -44,7 +34,7 @@ module _ (def : Definition) where
       ((kinds.Phylum k.element, (fe, plain.0)), formed_below r [] (kinds.List l) fr plain.1)
   formed_below (operator o) more kind h plain = tt
   formed_below (with_child f t) more kind (k, hf, ht) plain =
-      each_append (IsFormed def) (children_of f) t (formed_below f (items.Slot k ∷ more) kind hf plain.0)
+      each_push (IsFormed def) (children_of f) t (formed_below f (items.Slot k ∷ more) kind hf plain.0)
       (k, (ht, plain.1))
   formed_below (with_name f n) more kind (inl (s, h), name) plain = formed_below f (items.Refers s ∷ more) kind h plain
   formed_below (with_name f n) more kind (inr (s, h), name) plain =

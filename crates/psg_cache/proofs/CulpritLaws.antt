@@ -11,21 +11,9 @@ use Rattle.psg_grammar.specs.Relations.{IsRelationOf}
 use Rattle.psg_eval.specs.declared.summary.Known.{Known}
 use Rattle.psg_eval.specs.Summaries.{AllSummaries, IsSummaryOf}
 use Rattle.psg_cache.specs.Walks.{each_nodes, HaveRows, IsBlame}
+use Rattle.psg_cache.proofs.Each.{each_append, each_back, each_front, not_nil}
 use Rattle.psg_cache.proofs.RealTrees.{IsReal, IsSpine}
 use Rattle.psg_cache.proofs.OpenTrees.{children_open, open_rows, rows_open}
-
-pub all-append : {X : Type 0} (P : X → Type 0) (xs ys : List X) → AllByRecursion P xs → AllByRecursion P ys
-    → AllByRecursion P (xs ++ ys)
-all-append P [] ys h k = k
-all-append P (x ∷ xs) ys h k = (h.0, all-append P xs ys h.1 k)
-
-all-front : {X : Type 0} (P : X → Type 0) (xs ys : List X) → AllByRecursion P (xs ++ ys) → AllByRecursion P xs
-all-front P [] ys h = tt
-all-front P (x ∷ xs) ys h = (h.0, all-front P xs ys h.1)
-
-all-back : {X : Type 0} (P : X → Type 0) (xs ys : List X) → AllByRecursion P (xs ++ ys) → AllByRecursion P ys
-all-back P [] ys h = h
-all-back P (x ∷ xs) ys h = all-back P xs ys h.1
 
 pub each_nodes-push : (path : Path) (n : ℕ) (cs : List Fragment) (c : Fragment)
     → each_nodes path n (cs ++ c ∷ []) ≡ each_nodes path n cs ++ nodes_from (path ++ (n + length cs) ∷ []) c
@@ -98,7 +86,7 @@ real_children (hole p) real = tt
 real_children (ending l u) real = tt
 real_children (cell l e r) real = (real.0, real_children r real.1)
 real_children (operator o) real = tt
-real_children (with_child f t) real = all-append IsReal (children_of f) (t ∷ []) (real_children f real.0) (real.1, tt)
+real_children (with_child f t) real = each_append IsReal (children_of f) (t ∷ []) (real_children f real.0) (real.1, tt)
 real_children (with_name f n) real = real_children f real.0
 real_children (with_number f n) real = real_children f real.0
 real_children (with_text f t) real = real_children f real.0
@@ -127,17 +115,17 @@ module _ (def : Definition) where
     open_from path (cell l e r) real o =
         let h = children_open def (cell l e r) real o in (
           o,
-          all-append OpenNode (nodes_from (path ++ 0 ∷ []) e) (nodes_below path 1 r)
+          each_append OpenNode (nodes_from (path ++ 0 ∷ []) e) (nodes_below path 1 r)
               (open_from (path ++ 0 ∷ []) e real.0 h.0) (open_under path 1 r real.1 h.1),
         )
     open_from path (operator o) real h = (h, tt)
     open_from path (with_child f t) real o =
         let h = children_open def (with_child f t) real o in (
           o,
-          all-append OpenNode (nodes_below path 0 f) (nodes_from (path ++ length (children_of f) ∷ []) t)
-              (open_under path 0 f real.0 (all-front (IsOpen def) (children_of f) (t ∷ []) h))
+          each_append OpenNode (nodes_below path 0 f) (nodes_from (path ++ length (children_of f) ∷ []) t)
+              (open_under path 0 f real.0 (each_front (IsOpen def) (children_of f) (t ∷ []) h))
               (open_from (path ++ length (children_of f) ∷ []) t real.1
-              (all-back (IsOpen def) (children_of f) (t ∷ []) h).0),
+              (each_back (IsOpen def) (children_of f) (t ∷ []) h).0),
         )
     open_from path (with_name f n) real o = (o, open_under path 0 f real.0 (children_open def (with_name f n) real o))
     open_from path (with_number f n) real o =
@@ -151,13 +139,13 @@ module _ (def : Definition) where
     open_under path n (hole p) real h = tt
     open_under path n (ending l u) real h = tt
     open_under path n (cell l e r) real h =
-        all-append OpenNode (nodes_from (path ++ n ∷ []) e) (nodes_below path (n + 1) r)
+        each_append OpenNode (nodes_from (path ++ n ∷ []) e) (nodes_below path (n + 1) r)
         (open_from (path ++ n ∷ []) e real.0 h.0) (open_under path (n + 1) r real.1 h.1)
     open_under path n (operator o) real h = tt
     open_under path n (with_child f t) real h =
-        all-append OpenNode (nodes_below path n f) (nodes_from (path ++ length (children_of f) ∷ []) t)
-        (open_under path n f real.0 (all-front (IsOpen def) (children_of f) (t ∷ []) h))
-        (open_from (path ++ length (children_of f) ∷ []) t real.1 (all-back (IsOpen def) (children_of f) (t ∷ []) h).0)
+        each_append OpenNode (nodes_below path n f) (nodes_from (path ++ length (children_of f) ∷ []) t)
+        (open_under path n f real.0 (each_front (IsOpen def) (children_of f) (t ∷ []) h))
+        (open_from (path ++ length (children_of f) ∷ []) t real.1 (each_back (IsOpen def) (children_of f) (t ∷ []) h).0)
     open_under path n (with_name f x) real h = open_under path n f real.0 h
     open_under path n (with_number f x) real h = open_under path n f real.0 h
     open_under path n (with_text f x) real h = open_under path n f real.0 h
@@ -191,9 +179,7 @@ module _ (def : Definition) where
   pub closed_rows : (f : Fragment) → IsReal f → (rows : List (List Term)) → IsRelationOf def f rows
       → (IsOpen def f → ⊥) → rows ≡ []
   closed_rows f real [] rel h = refl
-  closed_rows f real (row ∷ rows) rel h = absurd (h (rows_open def f real (row ∷ rows) rel not_none)) where
-    not_none : row ∷ rows ≡ [] → ⊥
-    not_none e = cc
+  closed_rows f real (row ∷ rows) rel h = absurd (h (rows_open def f real (row ∷ rows) rel (not_nil row rows)))
 
   all_open : (cs : List Fragment) (summaries : List Known) → AllByRecursion IsReal cs → AllSummaries def cs summaries
       → HaveRows summaries → AllByRecursion (IsOpen def) cs

@@ -18,6 +18,7 @@ use Rattle.psg_eval.specs.declared.summary.Known.{Known}
 use Rattle.psg_eval.specs.Trees.{IsOfKind, HasParts, IsNode, own_names, reports}
 use Rattle.psg_eval.specs.Summaries.{AllSummaries, IsSummary, IsSummaryOf, slot_kinds, are_names, reporting, TakesAt}
 use Rattle.psg_cache.specs.Walks.{names_in}
+use Rattle.psg_cache.proofs.Each.{same_some}
 use Rattle.psg_cache.proofs.RealTrees.{IsReal, IsSpine}
 
 neither : (a b : Bool) → a ≡ false → b ≡ false → (a || b) ≡ false
@@ -90,15 +91,12 @@ module _ (def : Definition) where
   kind_fits anything more kind h plain = absurd h
   kind_fits (observed f) more kind h plain = absurd plain
 
-  same_operator : (a b : Operator) → Some a ≡ Some b → a ≡ b
-  same_operator a b e = cc
-
   one_kind : (f : Fragment) (j k : Kind) → IsOfKind def f j → IsOfKind def f k → j ≡ k
   one_kind (hole p) j k h i = h ∙ sym i
   one_kind (ending l u) j k h i = h ∙ sym i
   one_kind (cell l e r) j k h i = h ∙ sym i
   one_kind (operator o) j k (a, at, e) (b, there, f) =
-      e ∙ ap (λ (z : Operator). kinds.Phylum z.phylum) (same_operator a b (sym at ∙ there)) ∙ sym f
+      e ∙ ap (λ (z : Operator). kinds.Phylum z.phylum) (same_some a b (sym at ∙ there)) ∙ sym f
   one_kind (with_child f t) j k h i = one_kind f j k h i
   one_kind (with_name f n) j k h i = one_kind f j k h i
   one_kind (with_number f n) j k h i = one_kind f j k h i
@@ -340,9 +338,6 @@ module _ (def : Definition) where
       → AllSummaries def cs summaries → AllByRecursion (λ (s : Known). s.report ≡ false) summaries
   quiet_children cs summaries real s = all_quiet cs summaries real s
 
-  same_number : (a b : ℕ) → Some a ≡ Some b → a ≡ b
-  same_number a b e = cc
-
   -- an operator takes the names and children of its node
   pub takes_at : (o : ℕ) (ps : List Part) (f : Fragment) (kind : Kind) → with_parts (operator o) ps ≡ f
       → Fits def f [] kind → IsPlain f → AllByRecursion IsReal (children_of f)
@@ -351,7 +346,7 @@ module _ (def : Definition) where
   takes_at o ps f kind made fits plain real summaries are usual =
       let spine : IsSpine f = subst IsSpine made (spine_parts (operator o) ps tt) in
       let h = has_items f [] kind fits plain spine in
-      let number : h.number ≡ o = same_number h.number o
+      let number : h.number ≡ o = same_some h.number o
       (sym h.top ∙ ap top_operator (sym made) ∙ top_parts (operator o) ps) in
       let whole : part_items h.op.items ≡ h.done = h.all ∙ append-nil h.done in
       let none = none_reporting summaries (all_quiet (children_of f) summaries real are) in (

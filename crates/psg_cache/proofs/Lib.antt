@@ -1,3 +1,4 @@
+pub mod Each
 pub mod RealTrees
 pub mod OpenTrees
 pub mod LongLists

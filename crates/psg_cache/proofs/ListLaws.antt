@@ -20,16 +20,11 @@ use Rattle.psg_eval.specs.Summaries.{AllSummaries, Answers, IsSummary, IsSummary
 use Rattle.psg_cache.specs.declared.walking.Found.{Found}
 use Rattle.psg_cache.specs.declared.note.NoteFault.{NoteFault}
 use Rattle.psg_cache.specs.Walks.{IsAdded, IsAnswerFault, IsClean, IsStepFault, IsTopped, IsListFault, TakesElements, top_steps}
+use Rattle.psg_cache.proofs.Each.{each_at}
 use Rattle.psg_cache.proofs.RealTrees.{IsReal}
 use Rattle.psg_cache.proofs.StepLaws.{clean-append, fault-left, fault-behind, own_clean, own_fault}
 use Rattle.psg_cache.proofs.WeightLaws.{cell_weighs, end_weighs}
 use Rattle.psg_cache.proofs.Evaluations.{kind_known, none_reporting, quiet_children}
-
-each_at : {X : Type 0} (P : X → Type 0) (xs : List X) (i : ℕ) (x : X) → AllByRecursion P xs → i < length xs
-    → x ≡ get_or xs i x → P x
-each_at P [] i x h l e = absurd (omega (arith, l))
-each_at P (y ∷ ys) zero x h l e = subst P (sym e) h.0
-each_at P (y ∷ ys) (suc i) x h l e = each_at P ys i x h.1 (omega (arith, l)) e
 
 module _ (def : Definition) where
   pub answered_ok : (f : Fragment) (r : Result Known EvalFault) (s : Known) → Answers def f r → r ≡ Ok s

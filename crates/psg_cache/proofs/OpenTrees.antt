@@ -13,6 +13,7 @@ use Rattle.psg_grammar.specs.Regions.{declared_inside, names_of, AreDistinct, Di
 use Rattle.psg_grammar.specs.Open.{Choice, Holds, IsOpen}
 use Rattle.psg_grammar.specs.Relations.{IsPossible, IsRelationOf}
 use Rattle.psg_scope.proofs.MergeLaws.{meets, has_twice-append}
+use Rattle.psg_cache.proofs.Each.{each_push}
 use Rattle.psg_cache.proofs.RealTrees.{IsReal}
 
 neither : (a b c : Bool) → ((a || b) || c) ≡ false → (a ≡ false) × (b ≡ false)
@@ -28,11 +29,6 @@ inside : (scope : Bool) (xs : List Key) → has_twice (cond scope [] xs) ≡ fal
     → has_twice xs ≡ false
 inside true xs e d = d refl
 inside false xs e d = e
-
-each_append : {X : Type 0} (P : X → Type 0) (xs : List X) (x : X) → AllByRecursion P xs → P x
-    → AllByRecursion P (xs ++ x ∷ [])
-each_append P [] x h p = (p, tt)
-each_append P (y ∷ ys) x h p = (h.0, each_append P ys x h.1 p)
 
 module _ (def : Definition) where
   -- nothing is observed in such a tree
@@ -120,7 +116,7 @@ module _ (def : Definition) where
   open_below (operator o) real g eg c columns v before after h once d = tt
   open_below (with_child f t) real g eg c columns v before after (u, mid, inner, hf, are, agree, ht) once (df, dt, at) =
       let parts = once_each (declared_inside def f) (cond (is_scope def t) [] (declared_inside def t)) once in
-      each_append (IsOpen def) (children_of f) t
+      each_push (IsOpen def) (children_of f) t
       (open_below f real.0 g eg c.0 (u ∷ columns) v before mid hf parts.0 df) (record {
         distinct = (inside (is_scope def t) (declared_inside def t) parts.1 at, dt);
         choice = c.1;

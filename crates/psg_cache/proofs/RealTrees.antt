@@ -9,6 +9,7 @@ use Rattle.psg_grammar.specs.Fragments.{Fragment, hole, ending, cell, operator, 
 use Rattle.psg_grammar.specs.Paths.{IsList}
 use Rattle.psg_grammar.specs.WellFormed.{Fits, IsPlain}
 use Rattle.psg_cache.specs.Notes.{IsFormed}
+use Rattle.psg_cache.proofs.Each.{not_nil}
 
 -- an operator with some of its parts
 abbrev pub IsSpine : Fragment → Type 0
@@ -35,9 +36,6 @@ IsReal (with_number f n) = IsReal f × IsSpine f
 IsReal (with_text f t) = IsReal f × IsSpine f
 IsReal anything = ⊥
 IsReal (observed f) = ⊥
-
-not_nil : {X : Type 0} (x : X) (xs : List X) → x ∷ xs ≡ [] → ⊥
-not_nil x xs e = cc
 
 no_both : (p l : _) → kinds.List l ≡ kinds.Phylum p → ⊥
 no_both p l e = cc

@@ -17,6 +17,7 @@ use Rattle.psg_grammar.proofs.DeclaringLaws.{or_cases, or_left, or_right, eqb_tr
 use Rattle.psg_scope.specs.Headers.{has_space, AreAscending}
 use Rattle.psg_eval.specs.Summaries.{AreSpacesOfList}
 use Rattle.psg_cache.specs.Notes.{AreDeclaringSpaces}
+use Rattle.psg_cache.proofs.Each.{same_some}
 
 tail : (x : ℕ) (xs : List ℕ) → IsStrictlyIncreasing (x ∷ xs) → IsStrictlyIncreasing xs
 tail x xs h k l =
@@ -57,9 +58,7 @@ module _ (def : Definition) where
       → Declares def s (kinds.Phylum list.element)
   of_elements s l list found (by_list k at d) =
       let same : k ≡ list = same_some k list (sym at ∙ found) in
-      subst (λ (z : ListKind). Declares def s (kinds.Phylum z.element)) same d where
-        same_some : (a b : ListKind) → Some a ≡ Some b → a ≡ b
-        same_some a b e = cc
+      subst (λ (z : ListKind). Declares def s (kinds.Phylum z.element)) same d
 
   pub spaces_of_list : IsSound def → (table : List (Vec ℕ Global)) → AreDeclaringSpaces def table
       → (l : ℕ) (list : ListKind) → slice_get def.lists l ≡ Some list

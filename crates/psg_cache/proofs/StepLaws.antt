@@ -12,6 +12,7 @@ use Rattle.psg_eval.specs.Summaries.{IsFirstPassing, StaysWithin, Answers}
 use Rattle.psg_cache.specs.declared.note.NoteFault.{NoteFault}
 use Rattle.psg_cache.specs.declared.note.NoteFault.TheVariants as faults
 use Rattle.psg_cache.specs.Walks.{each_steps, top_steps, IsClean, IsFirstOf, IsStepFault, IsAnswerFault}
+use Rattle.psg_cache.proofs.Each.{same_some}
 use Rattle.psg_cache.proofs.RealTrees.{IsReal, IsSpine}
 
 in_either : {X : Type 0} (x : X) (xs ys : List X) → IsIn x (xs ++ ys) → IsIn x xs ⊎ IsIn x ys
@@ -21,9 +22,7 @@ in_either x (y ∷ xs) ys (later h) = elim (in_either x xs ys h) [ inl a ↦ inl
 
 got_in : {X : Type 0} (x : X) (xs ys : List X) (k : ℕ) → k < length xs → slice_get (xs ++ ys) k ≡ Some x → IsIn x xs
 got_in x [] ys k h e = absurd (omega (arith, h))
-got_in x (y ∷ xs) ys zero h e = let same : y ≡ x = same_some y x e in subst (λ z. IsIn z (y ∷ xs)) same first where
-  same_some : {Y : Type 0} (a b : Y) → Some a ≡ Some b → a ≡ b
-  same_some a b e = cc
+got_in x (y ∷ xs) ys zero h e = let same : y ≡ x = same_some y x e in subst (λ z. IsIn z (y ∷ xs)) same first
 got_in x (y ∷ xs) ys (suc k) h e = later (got_in x xs ys k (omega (arith, h)) e)
 
 got_there : {X : Type 0} (x : X) (xs ys : List X) → slice_get (xs ++ x ∷ ys) (length xs) ≡ Some x

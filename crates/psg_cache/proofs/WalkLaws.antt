@@ -18,23 +18,20 @@ use Rattle.psg_cache.specs.declared.note.NoteFault.TheVariants as faults
 use Rattle.psg_cache.specs.declared.walking.Found.{Found}
 use Rattle.psg_cache.specs.Notes.{mark_by, IsNoteFault, IsNoteOf}
 use Rattle.psg_cache.specs.Walks.{each_nodes, each_steps, top_steps, AreWalked, IsBlamed, IsClean, IsKept, IsStepFault, IsTopped, IsWalked}
+use Rattle.psg_cache.proofs.Each.{each_append, not_nil}
 use Rattle.psg_cache.proofs.RealTrees.{IsReal}
 use Rattle.psg_cache.proofs.OpenTrees.{rows_open}
-use Rattle.psg_cache.proofs.CulpritLaws.{all-append, each_nodes-push, culprits-append, culprits-none, no_culprits, open_from, tree_culprits}
+use Rattle.psg_cache.proofs.CulpritLaws.{each_nodes-push, culprits-append, culprits-none, no_culprits, open_from, tree_culprits}
 use Rattle.psg_cache.proofs.StepLaws.{each_steps-append, each_steps-push, clean-append, clean-none, fault-behind, fault-left, first_wide, not_wide, steps_split}
 use Rattle.psg_cache.proofs.WeightLaws.{not_heavy, weigh-push}
 
 nil-front : {X : Type 0} (xs ys : List X) → xs ++ ys ≡ [] → xs ≡ []
 nil-front [] ys e = refl
-nil-front (x ∷ xs) ys e = absurd (cons_nil x (xs ++ ys) e) where
-  cons_nil : {Y : Type 0} (y : Y) (ys : List Y) → y ∷ ys ≡ [] → ⊥
-  cons_nil y ys e = cc
+nil-front (x ∷ xs) ys e = absurd (not_nil x (xs ++ ys) e)
 
 nil-back : {X : Type 0} (xs ys : List X) → xs ++ ys ≡ [] → ys ≡ []
 nil-back [] ys e = e
-nil-back (x ∷ xs) ys e = absurd (cons_nil x (xs ++ ys) e) where
-  cons_nil : {Y : Type 0} (y : Y) (ys : List Y) → y ∷ ys ≡ [] → ⊥
-  cons_nil y ys e = cc
+nil-back (x ∷ xs) ys e = absurd (not_nil x (xs ++ ys) e)
 
 not_one : {X : Type 0} (x : X) (xs : List X) → xs ≡ x ∷ [] → xs ≡ [] → ⊥
 not_one x xs e f = cc
@@ -76,7 +73,7 @@ module _ (def : Definition) where
       each_steps-push def path 0 cs c ∙ ap (λ q. each_steps def path 0 cs ++ steps_of def q c) (sym place) in
       record {
         summaries_of = summaries-push cs below c s h.summaries_of k.summary;
-        usual = all-append (IsSummary def) below (s ∷ []) h.usual (k.usual, tt);
+        usual = each_append (IsSummary def) below (s ∷ []) h.usual (k.usual, tt);
         clean =
             subst (IsClean def) (sym steps)
             (clean-append def (each_steps def path 0 cs) (steps_of def pushed c) h.clean k.clean);
@@ -89,7 +86,7 @@ module _ (def : Definition) where
             (culprits-append def (each_nodes path 0 cs) (nodes_from pushed c) h.more k.more h.culprits k.culprits);
         pushed = k.pushed ∙ ap (λ l. l ++ k.more) h.pushed ∙ append_assoc start.culprits.items h.more k.more;
         good =
-            λ e. all-append (λ (b : Known). b.rel ≡ [] → ⊥) below (s ∷ []) (h.good (nil-front h.more k.more e))
+            λ e. each_append (λ (b : Known). b.rel ≡ [] → ⊥) below (s ∷ []) (h.good (nil-front h.more k.more e))
             (k.good (nil-back h.more k.more e), tt);
       }
 
@@ -190,9 +187,7 @@ module _ (def : Definition) where
       → AreCulprits def (nodes_from [] f) paths → (paths ≡ [] → s.rel ≡ [] → ⊥) → IsMark def f (mark_by paths)
   mark_is f real s summary [] culprits good = rows_open def f real s.rel summary.rows (good refl)
   mark_is f real s summary (p ∷ ps) culprits good =
-      (λ o. not_none (no_culprits def (nodes_from [] f) (p ∷ ps) (open_from def [] f real o) culprits), culprits) where
-        not_none : p ∷ ps ≡ [] → ⊥
-        not_none e = cc
+      (λ o. not_nil p ps (no_culprits def (nodes_from [] f) (p ∷ ps) (open_from def [] f real o) culprits), culprits)
 
   pub noted : (f : Fragment) → IsSound def → IsReal f → (start final : Found) (s : Known) → start.weight ≡ 0
       → start.culprits.items ≡ [] → IsWalked def [] f start final s

@@ -17,6 +17,7 @@ use Rattle.psg_grammar.specs.Relations.{IsPossible, IsRelationOf}
 use Rattle.psg_grammar.specs.Steps.{HasWeights, of_node, BelowWeigh, below_hole, below_ending, below_operator, below_cell, below_child, below_name, below_number, below_text, below_observed, IsHeavy}
 use Rattle.psg_grammar.specs.declared.limits.TheConstants.{MOST_WEIGHTS}
 use Rattle.psg_cache.specs.Walks.{WeighTogether}
+use Rattle.psg_cache.proofs.Each.{same_some}
 use Rattle.psg_cache.proofs.RealTrees.{IsReal, IsSpine}
 
 module _ (sig : Signature) where
@@ -25,9 +26,7 @@ module _ (sig : Signature) where
   takes_once (variable a n) v w s r (i, e, f) (j, g, h) = (e ∙ sym g, sym f ∙ h)
   takes_once (symbol c) v w s r (x, at, e, f) (y, there, g, h) =
       let same : x ≡ y = same_some x y (sym at ∙ there) in
-      (sym e ∙ ap (λ (z : Symbol). z.arguments) same ∙ g, sym f ∙ ap (λ (z : Symbol). z.sort) same ∙ h) where
-        same_some : (x y : Symbol) → Some x ≡ Some y → x ≡ y
-        same_some x y e = cc
+      (sym e ∙ ap (λ (z : Symbol). z.arguments) same ∙ g, sym f ∙ ap (λ (z : Symbol). z.sort) same ∙ h)
   takes_once (apply f a) v w s r (x, hf, ha) (y, kf, ka) =
       let both = takes_once f (x ∷ v) (y ∷ w) s r hf kf in
       (behind x y v w both.0, both.1) where
