@@ -1,5 +1,5 @@
--- The small language of the tests: lists of placeholders. Those of the first phylum are numbers, those of the second one
--- have no value.
+-- The small language of the tests: lists of placeholders. Those of the first phylum are numbers, those of the second
+-- one have no value.
 use Rattle.std.specs.Prelude.{ℕ, ◌≡◌, ◌⊎◌, false, List, [], ◌∷◌, codes}
 use Rattle.std.specs.List.{AllByRecursion}
 use Rattle.psg_terms.specs.Terms.{symbol}
@@ -25,7 +25,10 @@ abbrev pub constant_named : List ℕ → Symbol
 constant_named name = record { name = name; arguments = []; sort = 0 }
 
 abbrev pub types : Signature
-types = record { sorts = codes "Type" ∷ []; symbols = constant_named (codes "int") ∷ constant_named (codes "bool") ∷ [] }
+types = record {
+  sorts = codes "Type" ∷ [];
+  symbols = constant_named (codes "int") ∷ constant_named (codes "bool") ∷ [];
+}
 
 abbrev pub only : SortId
 only = record { 0 = 0 }

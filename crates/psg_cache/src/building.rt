@@ -18,12 +18,12 @@ use std::sync::ledger::Ledger;
 
 /// The note of a tree. Each node and each list suffix is evaluated once, from the summaries of its children: children
 /// in order, then the node; of a list its elements in order, then its end, then its cells from the last to the first.
-/// `declaring` has the spaces in which each phylum declares, as psg_grammar's `declaring` gives them. `steps` counts the
-/// evaluations.
+/// `steps` counts the evaluations. `declaring` has the spaces in which each phylum declares, as psg_grammar's
+/// `declaring` gives them.
 ///
-/// The faults are tested in their order: `Deep`, `Big`, then `Wide` with the first step whose relation passes the limit,
-/// then `Heavy`. `Memory` comes when memory runs out, at any time. The functions call each other as deep as the tree is,
-/// at most 200.
+/// The faults are tested in their order: `Deep`, `Big`, then `Wide` with the first step whose relation passes the
+/// limit, then `Heavy`. `Memory` comes when memory runs out, at any time. The functions call each other as deep as the
+/// tree is, at most 200.
 pub fn build<L: Ledger>(
     alloc: Global,
     definition: &Definition,

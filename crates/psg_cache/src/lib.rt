@@ -5,8 +5,8 @@
 //! let good = note.is_open();
 //! ```
 //!
-//! A note has a tree, the summary of its root, how much the relations of its nodes weigh together, and the nodes at which
-//! it goes wrong. It is made of the summaries of all nodes and list suffixes, each from those of its children.
+//! A note has a tree, the summary of its root, how much the relations of its nodes weigh together, and the nodes at
+//! which it goes wrong. It is made of the summaries of all nodes and list suffixes, each from those of its children.
 #![tactic(auto)]
 
 pub mod building;
