@@ -7,7 +7,7 @@ use std::marker::Model;
 
 /// The way from the top of a tree down to a node. Each step is the number of a child, from 0: of a slot under an operator,
 /// of an element under a list. Up to eight steps take no memory.
-#[derive(Drop)]
+#[derive(Debug, Drop)]
 pub struct Path {
     kept: SmallVec<u32, 8>,
 }

@@ -1,0 +1,96 @@
+-- How many evaluations a tree takes: those of its children, and those at its top.
+use Rattle.std.proofs.Common.{◌≡◌, ℕ, ◌+◌, ◌<◌, ◌≤◌, Bool, List, [], ◌∷◌, length, take, get_or, refl, sym, ◌∙◌, ap, arith}
+use Rattle.std.specs.Prelude.{sum_by}
+use Rattle.std.proofs.lemmas.List.{take_all}
+use Rattle.std.proofs.lemmas.List.Sums.{sum_by-cons, sum_by_push}
+use Rattle.psg_terms.proofs.DeclareLaws.{take-next}
+use Rattle.psg_grammar.specs.declared.types.Definition.{Definition}
+use Rattle.psg_grammar.specs.Fragments.{Fragment, hole, ending, cell, operator, with_child, with_name, with_number, with_text, anything, observed, children_of}
+use Rattle.psg_tree.specs.declared.tree.Part.{Part}
+use Rattle.psg_tree.specs.declared.tree.Part.TheVariants.{Sub, Name as Named, Number, Text}
+use Rattle.psg_tree.specs.declared.tree.Shape.{Shape}
+use Rattle.psg_tree.specs.declared.tree.Shape.TheVariants.{Op, List as ListOf, Hole}
+use Rattle.psg_tree.specs.Shapes.{with_parts, list_of, tree_of}
+use Rattle.psg_tree.proofs.Children.{children-shape-list}
+use Rattle.psg_eval.specs.declared.summary.Known.{Known}
+use Rattle.psg_eval.specs.Summaries.{AllSummaries, AreSummariesOf}
+use Rattle.psg_cache.specs.Notes.{evaluations_of}
+use Rattle.psg_cache.specs.Walks.{top_evaluations}
+
+-- of the trees together
+abbrev pub together : List Fragment → ℕ
+together cs = sum_by evaluations_of cs
+
+evaluations_split : (f : Fragment) → evaluations_of f ≡ together (children_of f) + top_evaluations f
+evaluations_split (hole p) = refl
+evaluations_split (ending l u) = refl
+evaluations_split (cell l e r) =
+    let h = evaluations_split r in
+    let both : together (children_of (cell l e r)) ≡ evaluations_of e + together (children_of r) =
+    sum_by-cons evaluations_of e (children_of r) in
+    omega (arith, h, both)
+evaluations_split (operator o) = refl
+evaluations_split (with_child f t) =
+    let h = evaluations_split f in
+    let both : together (children_of (with_child f t)) ≡ together (children_of f) + evaluations_of t =
+    sum_by_push evaluations_of (children_of f) t in
+    omega (arith, h, both)
+evaluations_split (with_name f n) = evaluations_split f
+evaluations_split (with_number f n) = evaluations_split f
+evaluations_split (with_text f t) = evaluations_split f
+evaluations_split anything = refl
+evaluations_split (observed f) = evaluations_split f
+
+-- ---- at the top
+
+operator_top : (f : Fragment) (ps : List Part) → top_evaluations (with_parts f ps) ≡ top_evaluations f
+operator_top f [] = refl
+operator_top f (Sub t ∷ ps) = operator_top (with_child f t) ps
+operator_top f (Named n ∷ ps) = operator_top (with_name f n) ps
+operator_top f (Number n ∷ ps) = operator_top (with_number f n) ps
+operator_top f (Text t ∷ ps) = operator_top (with_text f t) ps
+
+list_top : (l : ℕ) (es : List Fragment) (u : Bool) → top_evaluations (list_of l es u) ≡ length es + 1
+list_top l [] u = refl
+list_top l (e ∷ es) u = let h = list_top l es u in omega (arith, h)
+
+pub hole_once : (s : Shape) (p : ℕ) (f : Fragment) → s ≡ Hole p → tree_of s ≡ f → top_evaluations f ≡ 1
+hole_once s p f e there = ap top_evaluations (sym there ∙ ap tree_of e)
+
+pub operator_once : (s : Shape) (o : ℕ) (ps : List Part) (f : Fragment) → s ≡ Op o ps → tree_of s ≡ f
+    → top_evaluations f ≡ 1
+operator_once s o ps f e there = ap top_evaluations (sym there ∙ ap tree_of e) ∙ operator_top (operator o) ps
+
+as_many : (def : Definition) (cs : List Fragment) (below : List Known) → AllSummaries def cs below
+    → length cs ≡ length below
+as_many def [] [] h = refl
+as_many def [] (s ∷ ss) h = absurd h
+as_many def (c ∷ cs) [] h = absurd h
+as_many def (c ∷ cs) (s ∷ ss) h = let e = as_many def cs ss h.1 in omega (arith, e)
+
+pub list_once : (def : Definition) (s : Shape) (l : ℕ) (es : List Fragment) (u : Bool) (f : Fragment)
+    (below : List Known)
+    → s ≡ ListOf l es u → tree_of s ≡ f → AreSummariesOf def f below → top_evaluations f ≡ length below + 1
+list_once def s l es u f below e there are =
+    let top : top_evaluations f ≡ length es + 1 = ap top_evaluations (sym there ∙ ap tree_of e) ∙ list_top l es u in
+    let many : length (children_of f) ≡ length below = as_many def (children_of f) below are in
+    let same : length (children_of f) ≡ length es = ap length (children-shape-list s l es u f e there) in
+    omega (arith, top, many, same)
+
+-- ---- of a walk
+
+pub counted_more : (children : List Fragment) (i : ℕ) (child : Fragment) (start before after : ℕ) → i < length children
+    → child ≡ get_or children i child → before ≡ start + together (take i children)
+    → after ≡ before + evaluations_of child → after ≡ start + together (take (i + 1) children)
+counted_more children i child start before after small at h k =
+    let e : together (take (i + 1) children) ≡ together (take i children) + evaluations_of child =
+    ap together (take-next children i child small at) ∙ sum_by_push evaluations_of (take i children) child in
+    omega (arith, h, k, e)
+
+pub counted_tree : (f : Fragment) (children : List Fragment) (i : ℕ) (start before after : ℕ) → children ≡ children_of f
+    → length children ≤ i → before ≡ start + together (take i children) → after ≡ before + top_evaluations f
+    → after ≡ start + evaluations_of f
+counted_tree f children i start before after are past h k =
+    let all : together (take i children) ≡ together (children_of f) = ap together (take_all i children past ∙ are) in
+    let split = evaluations_split f in
+    omega (arith, h, k, all, split)

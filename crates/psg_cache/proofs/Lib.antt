@@ -1,0 +1,16 @@
+pub mod Each
+pub mod RealTrees
+pub mod OpenTrees
+pub mod LongLists
+pub mod CulpritLaws
+pub mod StepLaws
+pub mod WeightLaws
+pub mod SpaceTables
+pub mod Evaluations
+pub mod ListLaws
+pub mod Passing
+pub mod ChildLaws
+pub mod Counting
+pub mod TopLaws
+pub mod WalkLaws
+pub mod LittleLaws

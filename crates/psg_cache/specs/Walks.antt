@@ -1,0 +1,195 @@
+-- What a walk over a tree finds: the first step that passes the limit, the weight, and where the tree goes wrong.
+use Rattle.std.specs.Prelude.{ℕ, ◌≡◌, ◌⊎◌, ◌+◌, Bool, true, false, List, [], ◌∷◌, ◌++◌, slice_get, Some, Result, Ok, Err}
+use Rattle.std.specs.List.{AllByRecursion}
+use Rattle.psg_terms.specs.Relations.{IsIn}
+use Rattle.psg_terms.specs.Weight.{weight_of}
+use Rattle.psg_grammar.specs.declared.types.Kind.TheVariants as kinds
+use Rattle.psg_grammar.specs.declared.types.ListKind.{ListKind}
+use Rattle.psg_grammar.specs.declared.types.Definition.{Definition}
+use Rattle.psg_grammar.specs.Fragments.{Fragment, hole, ending, cell, operator, with_child, with_name, with_number, with_text, anything, observed, children_of}
+use Rattle.psg_grammar.specs.Marks.{Located, nodes_from, AreCulprits}
+use Rattle.psg_grammar.specs.Paths.{Path}
+use Rattle.psg_grammar.specs.Sound.{IsSound}
+use Rattle.psg_grammar.specs.Steps.{Place, own_steps, list_steps, steps_of, HasWeights, PassesAt}
+use Rattle.psg_tree.specs.Shapes.{list_of}
+use Rattle.psg_terms.specs.Names.{Name}
+use Rattle.psg_tree.specs.declared.tree.Part.{Part}
+use Rattle.psg_tree.specs.declared.tree.Part.TheVariants.{Sub, Name as Named, Number, Text}
+use Rattle.psg_eval.specs.declared.summary.Known.{Known}
+use Rattle.psg_eval.specs.declared.summary.EvalFault.{EvalFault}
+use Rattle.psg_eval.specs.declared.summary.EvalFault.TheVariants as evals
+use Rattle.psg_eval.specs.Summaries.{AllSummaries, IsSummary, IsSummaryOf}
+use Rattle.psg_cache.specs.declared.walking.Found.{Found}
+use Rattle.psg_cache.specs.declared.walking.Language.{Language}
+use Rattle.psg_cache.specs.declared.note.Noted.{Noted}
+use Rattle.psg_cache.specs.Notes.{AreDeclaringSpaces}
+use Rattle.psg_cache.specs.declared.note.NoteFault.{NoteFault}
+use Rattle.psg_cache.specs.declared.note.NoteFault.TheVariants as faults
+
+-- a sound definition, and for each phylum the spaces in which it declares
+pub record IsKnown (language : Language) : Type 0 where
+  pub sound : IsSound language.definition.now
+  pub declaring : AreDeclaringSpaces language.definition.now language.declaring.now
+
+-- the names among the parts, in order
+abbrev pub names_in : List Part → List Name
+names_in [] = []
+names_in (Sub t ∷ rest) = names_in rest
+names_in (Named n ∷ rest) = n ∷ names_in rest
+names_in (Number n ∷ rest) = names_in rest
+names_in (Text t ∷ rest) = names_in rest
+
+-- the answer was the summary, and its weight was added
+pub record IsAdded (answer : Result Known EvalFault) (old new : Found) (s : Known) : Type 0 where
+  pub answered : answer ≡ Ok s
+  pub sum : new.weight ≡ old.weight + weight_of s.rel
+  pub same : new.culprits ≡ old.culprits
+
+-- the fault of the step that the answer names, for the part at the path, or want of memory
+abbrev pub IsAnswerFault : Path → Result Known EvalFault → NoteFault → Type 0
+IsAnswerFault path answer fault =
+    (fault ≡ faults.Memory) ⊎ ((step : ℕ) × (answer ≡ Err (evals.Wide step)) × (fault ≡ faults.Wide path step))
+
+-- the evaluations at the top of a tree: one of a node, and of a list one of its end and one of each cell
+abbrev pub top_evaluations : Fragment → ℕ
+top_evaluations (hole p) = 1
+top_evaluations (ending l u) = 1
+top_evaluations (cell l e r) = top_evaluations r + 1
+top_evaluations (operator o) = 1
+top_evaluations (with_child f t) = top_evaluations f
+top_evaluations (with_name f n) = top_evaluations f
+top_evaluations (with_number f n) = top_evaluations f
+top_evaluations (with_text f t) = top_evaluations f
+top_evaluations anything = 1
+top_evaluations (observed f) = top_evaluations f
+
+-- each of the relations has a row
+abbrev pub HaveRows : List Known → Type 0
+HaveRows summaries = AllByRecursion (λ (s : Known). s.rel ≡ [] → ⊥) summaries
+
+-- a tree goes wrong by itself: its relation has no row, and those of its children have
+abbrev pub GoesWrong : Known → List Known → Type 0
+GoesWrong s below = (s.rel ≡ []) × HaveRows below
+
+-- the path where the tree goes wrong by itself, and no path otherwise
+abbrev pub IsBlame : Known → List Known → Path → List Path → Type 0
+IsBlame s below path pushed = (GoesWrong s below × (pushed ≡ path ∷ [])) ⊎ ((GoesWrong s below → ⊥) × (pushed ≡ []))
+
+-- the blame was put behind the culprits
+pub record IsBlamed (s : Known) (below : List Known) (path : Path) (old new : Found) : Type 0 where
+  pub weight : new.weight ≡ old.weight
+  pub pushed : List Path
+  pub all : new.culprits.items ≡ old.culprits.items ++ pushed
+  pub exact : IsBlame s below path pushed
+
+-- the note keeps the tree, its summary and what was found
+pub record IsKept (f : Fragment) (s : Known) (found : Found) (n : Noted) : Type 0 where
+  pub tree : n.tree ≡ f
+  pub root : n.root ≡ s
+  pub weight : n.weight ≡ found.weight
+  pub culprits : n.culprits ≡ found.culprits.items
+
+-- the nodes of trees that follow one another, the first of which has the number n
+abbrev pub each_nodes : Path → ℕ → List Fragment → List Located
+each_nodes path n [] = []
+each_nodes path n (c ∷ cs) = nodes_from (path ++ n ∷ []) c ++ each_nodes path (n + 1) cs
+
+module _ (def : Definition) where
+  -- their steps
+  abbrev pub each_steps : Path → ℕ → List Fragment → List Place
+  each_steps path n [] = []
+  each_steps path n (c ∷ cs) = steps_of def (path ++ n ∷ []) c ++ each_steps path (n + 1) cs
+
+  -- the steps of the tree behind those of its children; of a list those of its end and cells
+  abbrev pub top_steps : Path → Fragment → List Place
+  top_steps path (hole p) = own_steps def path (hole p)
+  top_steps path (ending l u) = list_steps def path (ending l u)
+  top_steps path (cell l e r) = list_steps def path (cell l e r)
+  top_steps path (operator o) = own_steps def path (operator o)
+  top_steps path (with_child f t) = own_steps def path (with_child f t)
+  top_steps path (with_name f n) = own_steps def path (with_name f n)
+  top_steps path (with_number f n) = own_steps def path (with_number f n)
+  top_steps path (with_text f t) = own_steps def path (with_text f t)
+  top_steps path anything = []
+  top_steps path (observed f) = []
+
+  -- none of the steps passes the limit
+  abbrev pub IsClean : List Place → Type 0
+  IsClean places = (place : Place) → IsIn place places → PassesAt def place.part place.step → ⊥
+
+  -- the step passes the limit, and none in front of it does
+  pub record IsFirstOf (places : List Place) (place : Place) : Type 0 where
+    pub front : List Place
+    pub rest : List Place
+    pub split : places ≡ front ++ place ∷ rest
+    pub clean : IsClean front
+    pub passes : PassesAt def place.part place.step
+
+  abbrev pub IsStepFault : List Place → NoteFault → Type 0
+  IsStepFault places (faults.Wide path step) =
+      (part : Fragment) × IsFirstOf places (record { path = path; part = part; step = step })
+  IsStepFault places faults.Memory = Unit {0}
+  IsStepFault places faults.Deep = ⊥
+  IsStepFault places faults.Big = ⊥
+  IsStepFault places faults.Heavy = ⊥
+
+  -- the weights of the trees add up to n
+  abbrev pub WeighTogether : List Fragment → ℕ → Type 0
+  WeighTogether [] n = n ≡ 0
+  WeighTogether (c ∷ cs) n = (m : ℕ) × (k : ℕ) × HasWeights def c m × WeighTogether cs k × (n ≡ m + k)
+
+  -- this was added for the trees, which are the first children of a node at the path
+  pub record AreWalked (path : Path) (cs : List Fragment) (summaries : List Known) (old new : Found) : Type 0 where
+    pub summaries_of : AllSummaries def cs summaries
+    pub usual : AllByRecursion (IsSummary def) summaries
+    pub clean : IsClean (each_steps path 0 cs)
+    pub added : ℕ
+    pub weights : WeighTogether cs added
+    pub sum : new.weight ≡ old.weight + added
+    pub more : List Path
+    pub culprits : AreCulprits def (each_nodes path 0 cs) more
+    pub pushed : new.culprits.items ≡ old.culprits.items ++ more
+    pub good : more ≡ [] → HaveRows summaries
+
+  -- this was added for the tree without its children
+  pub record IsTopped (path : Path) (f : Fragment) (old new : Found) (s : Known) : Type 0 where
+    pub summary : IsSummaryOf def f s
+    pub usual : IsSummary def s
+    pub clean : IsClean (top_steps path f)
+    pub own : ℕ
+    pub weights : (below : ℕ) → WeighTogether (children_of f) below → HasWeights def f (below + own)
+    pub sum : new.weight ≡ old.weight + own
+    pub same : new.culprits ≡ old.culprits
+
+  -- this was added for the tree
+  pub record IsWalked (path : Path) (f : Fragment) (old new : Found) (s : Known) : Type 0 where
+    pub summary : IsSummaryOf def f s
+    pub usual : IsSummary def s
+    pub clean : IsClean (steps_of def path f)
+    pub added : ℕ
+    pub weights : HasWeights def f added
+    pub sum : new.weight ≡ old.weight + added
+    pub more : List Path
+    pub culprits : AreCulprits def (nodes_from path f) more
+    pub pushed : new.culprits.items ≡ old.culprits.items ++ more
+    pub good : more ≡ [] → s.rel ≡ [] → ⊥
+
+  -- a list takes these elements, which are those of some trees
+  pub record TakesElements (l : ℕ) (unfinished : Bool) (elements : List Known) : Type 0 where
+    pub list : ListKind
+    pub found : slice_get def.lists l ≡ Some list
+    pub may_end : unfinished ≡ true → list.unfinished ≡ true
+    pub trees : List Fragment
+    pub summaries_of : AllSummaries def trees elements
+    pub element_kinds : AllByRecursion (λ (s : Known). s.kind ≡ kinds.Phylum list.element) elements
+    pub silent : AllByRecursion (λ (s : Known). s.report ≡ false) elements
+    pub usual : AllByRecursion (IsSummary def) elements
+
+  -- this was added for the end and the cells of each list of trees with these summaries
+  abbrev pub IsListTopped : Path → ℕ → Bool → List Known → Found → Found → Known → Type 0
+  IsListTopped path l u elements old new s =
+      (es : List Fragment) → AllSummaries def es elements → IsTopped path (list_of l es u) old new s
+
+  abbrev pub IsListFault : Path → ℕ → Bool → List Known → NoteFault → Type 0
+  IsListFault path l u elements fault =
+      (es : List Fragment) → AllSummaries def es elements → IsStepFault (list_steps def path (list_of l es u)) fault

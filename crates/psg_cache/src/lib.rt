@@ -1,0 +1,21 @@
+//! Trees with what is known of them.
+//!
+//! ```text
+//! let note = build(alloc, &definition, declaring.as_slice(), &tree, &mut steps)?;
+//! let good = note.is_open();
+//! ```
+//!
+//! A note has a tree, the summary of its root, how much the relations of its nodes weigh together, and the nodes at
+//! which it goes wrong. It is made of the summaries of all nodes and list suffixes, each from those of its children.
+#![tactic(auto)]
+
+pub mod building;
+mod lengths;
+pub mod note;
+mod walking;
+
+pub use building::build;
+pub use note::{Note, NoteFault};
+
+#[cfg(test)]
+mod tests;
