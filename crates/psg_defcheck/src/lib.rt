@@ -26,3 +26,6 @@ mod sorted_trees;
 mod tables;
 
 pub use checking::first_fault;
+
+#[cfg(test)]
+mod tests;

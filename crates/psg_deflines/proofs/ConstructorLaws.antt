@@ -1,7 +1,7 @@
 -- Constructors from parts of a line.
-use Rattle.std.proofs.Common.{◌≡◌, ℕ, ◌+◌, ◌<◌, ◌≤◌, zero, suc, List, [], ◌∷◌, ◌++◌, take, drop, get_or, ◌-◌, length, length-append, length-drop, append_assoc, codes, refl, ap, ap₂, sym, ◌∙◌, subst, arith}
+use Rattle.std.proofs.Common.{◌≡◌, ℕ, ◌+◌, ◌<◌, ◌≤◌, List, [], ◌∷◌, ◌++◌, take, drop, get_or, ◌-◌, length, length-drop, codes, refl, ap, ap₂, sym, ◌∙◌, subst, arith}
 use Rattle.std.specs.List.{AllByRecursion}
-use Rattle.std.proofs.lemmas.List.{drop-drop, append_cancel_left}
+use Rattle.std.proofs.lemmas.List.{drop-drop}
 use Rattle.std.proofs.lemmas.Bool.{false≢true}
 use Rattle.psg_terms.specs.Names.{Name}
 use Rattle.psg_terms.specs.declared.declare.ConDecl.{ConDecl}
@@ -10,12 +10,11 @@ use Rattle.psg_deflines.specs.Forms.{closed_names, argument_parts, constructor_p
 use Rattle.psg_deflines.specs.TermWalks.{Parts, IsOpened, IsNotOpened}
 use Rattle.psg_deflines.specs.FormReads.{AreNamesRead, HasNoNames, con_parts, IsConRead, HasNoCon, AreCons, HasNoCons}
 use Rattle.psg_deflines.specs.Only.{IsOnly}
-use Rattle.psg_deflines.proofs.Lists.{drop-all, all-more}
-use Rattle.psg_deflines.proofs.Stages.{IsReadTo, read-none, read-more, read-all, read-not}
+use Rattle.psg_deflines.proofs.Stages.{IsReadTo, read-more, read-all, read-not}
 use Rattle.std.specs.Borrow.{Bor}
 use Rattle.psg_deflines.specs.Parts.{texts}
 use Rattle.psg_deflines.proofs.TermFound.{texts-length, texts-from}
-use Rattle.psg_deflines.proofs.PartReads.{Slices, left-two, first_byte, rest_of, first_of, byte_of}
+use Rattle.psg_deflines.proofs.PartReads.{Slices, left-two, rest_of, first_of, byte_of}
 
 -- ---- names to a bracket
 

@@ -1,12 +1,11 @@
 -- What stands in a text behind lines.
-use Rattle.std.proofs.Common.{◌≡◌, ℕ, Bool, true, false, cond, List, [], ◌∷◌, ◌++◌, length, codes, inl, inr, refl, ap, sym, ◌∙◌, subst, arith}
-use Rattle.std.specs.Prelude.{Option, Some, None, MatchBool, IsTrue, ◌↔◌, ◌⊎◌}
+use Rattle.std.proofs.Common.{◌≡◌, ℕ, Bool, true, false, cond, List, [], ◌∷◌, length, codes, inl, inr, refl, ap, sym, ◌∙◌, subst, arith}
+use Rattle.std.specs.Prelude.{Some, None, MatchBool, IsTrue, ◌↔◌}
 use Rattle.std.proofs.lemmas.Bool.{false≢true}
-use Rattle.psg_deflines.specs.Forms.{parts_of, HasFixedWords, IsShallow}
-use Rattle.psg_deflines.specs.FormReads.{IsForm, HasNoForm}
-use Rattle.psg_deflines.specs.LineReads.{IsFormRead}
-use Rattle.psg_deflines.specs.Entries.{IsSkipped, IsLineBehind, IsEntry, Entry, HasPlace, IsPlain, takes_rows, takes_cases}
-use Rattle.psg_deflines.specs.EntryReads.{IsEntryRead, IsPlainEntry}
+use Rattle.psg_deflines.specs.Forms.{HasFixedWords, IsShallow}
+use Rattle.psg_deflines.specs.FormReads.{IsForm}
+use Rattle.psg_deflines.specs.Entries.{IsSkipped, IsLineBehind, IsEntry, Entry, HasPlace, takes_rows, takes_cases}
+use Rattle.psg_deflines.specs.EntryReads.{IsEntryRead}
 use Rattle.psg_deflines.specs.Refusals.{IsFirstOf, PassesForm, form_codes}
 use Rattle.psg_deflines.specs.declared.fault.DefCode.TheVariants as codes_of
 use Rattle.psg_deflines.specs.Parts.{HasParts, HasNoParts}

@@ -1,14 +1,14 @@
 -- What the lines of a file tell of the file.
-use Rattle.std.proofs.Common.{◌≡◌, ℕ, ◌+◌, ◌<◌, ◌≤◌, ◌==◌, Bool, true, false, cond, List, [], ◌∷◌, take, get_or, length, inl, inr, refl, ap, sym, ◌∙◌, subst, arith}
-use Rattle.std.specs.Prelude.{IsUtf8, ◌⊎◌}
+use Rattle.std.proofs.Common.{◌≡◌, ℕ, ◌+◌, ◌<◌, cond, List, [], ◌∷◌, take, get_or, length, inl, inr, refl, ap, sym, ◌∙◌, subst, arith}
+use Rattle.std.specs.Prelude.{IsUtf8}
 use Rattle.std.specs.Str.{IsValidUpTo}
 use Rattle.std.specs.Str.Lines.{lines}
 use Rattle.std.proofs.lemmas.List.{take_all}
 use Rattle.std.proofs.lemmas.Bool.Decides.{eqb_tells}
 use Rattle.psg_deflines.specs.Written.{IsWritten}
-use Rattle.psg_deflines.specs.Entries.{Entry, HasHead, behind_head, head_parts, AreSpelled}
+use Rattle.psg_deflines.specs.Entries.{Entry, HasHead, behind_head, head_parts}
 use Rattle.psg_deflines.specs.EntryReads.{AreEntriesRead, IsEntryFault, IsTextFault}
-use Rattle.psg_deflines.specs.Refusals.{FormRefusal, no_text, no_head, no_form, IsFirstBad, IsFormFault, line_feeds}
+use Rattle.psg_deflines.specs.Refusals.{FormRefusal, no_text, no_head, no_form, IsFormFault, line_feeds}
 use Rattle.psg_deflines.specs.Reading.{HasEntries, AreLinesOf, HasNoFormFault}
 use Rattle.psg_deflines.specs.declared.fault.DefCode.TheVariants as codes_of
 use Rattle.psg_deflines.specs.declared.fault.DefFault.{DefFault}

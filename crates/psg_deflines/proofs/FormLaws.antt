@@ -1,26 +1,23 @@
 -- Lines without terms from their parts.
-use Rattle.std.proofs.Common.{◌≡◌, ℕ, ◌+◌, ◌-◌, ◌<◌, ◌≤◌, Bool, true, false, cond, zero, suc, List, [], ◌∷◌, ◌++◌, take, drop, get_or, length, length-append, append_assoc, map, codes, refl, ap, sym, ◌∙◌, subst, arith}
-use Rattle.std.specs.Prelude.{Some, None}
+use Rattle.std.proofs.Common.{◌≡◌, ℕ, ◌-◌, ◌<◌, ◌≤◌, Bool, true, false, cond, List, [], ◌∷◌, ◌++◌, take, drop, get_or, length, append_assoc, map, codes, refl, ap, sym, ◌∙◌, subst, arith}
 use Rattle.std.specs.List.{AllByRecursion}
-use Rattle.std.specs.Borrow.{Bor}
 use Rattle.psg_terms.specs.Names.{Name}
 use Rattle.psg_terms.specs.declared.declare.ConDecl.{ConDecl}
-use Rattle.psg_terms.specs.declared.declare.SortDecl.{SortDecl}
 use Rattle.psg_grammar.specs.Sound.{IsKindName, IsOwnName, IsLevel}
 use Rattle.psg_grammar.specs.declared.types.Level.{Level}
 use Rattle.psg_deflines.specs.Parts.{texts}
 use Rattle.psg_deflines.specs.WrittenTrees.{quoted_part, IsQuotable}
-use Rattle.psg_deflines.specs.Quotes.{IsQuoteOf, HasNoQuote}
-use Rattle.psg_deflines.specs.Forms.{constructor_parts, word_if, level_parts, item_part, parts_of, HasForm, HasItemForm}
+use Rattle.psg_deflines.specs.Quotes.{IsQuoteOf}
+use Rattle.psg_deflines.specs.Forms.{constructor_parts, word_if, level_parts, item_part, HasForm, HasItemForm}
 use Rattle.psg_deflines.specs.TermWalks.{Parts}
-use Rattle.psg_deflines.specs.FormReads.{AreItemParts, HasNoItems, header_parts, equals_behind, IsHeaderRead, HasNoHeader, IsForm, HasNoForm, IsNeither}
+use Rattle.psg_deflines.specs.FormReads.{AreItemParts, HasNoItems, header_parts, IsHeaderRead, HasNoHeader, IsForm, HasNoForm, IsNeither}
 use Rattle.psg_deflines.specs.Only.{IsOnly}
 use Rattle.psg_deflines.specs.declared.lines.LineItem.{LineItem}
 use Rattle.psg_deflines.specs.declared.lines.Line.{Line}
 use Rattle.psg_deflines.specs.declared.lines.Line.TheVariants as lines
 use Rattle.psg_deflines.proofs.Lists.{rest-whole}
-use Rattle.psg_deflines.proofs.TermFound.{texts-length, texts-from}
-use Rattle.psg_deflines.proofs.PartReads.{Slices, no-slice, left-one, rest_of, first_of, byte_of}
+use Rattle.psg_deflines.proofs.TermFound.{texts-length}
+use Rattle.psg_deflines.proofs.PartReads.{Slices, no-slice, rest_of, first_of, byte_of}
 use Rattle.psg_deflines.proofs.LineInverses.{Is_sort, sort_line, sort-inverse, Is_entity, entity_line, entity-inverse, Is_phylum, phylum_line, phylum-inverse, Is_list, list_line, list-inverse, Is_op, op_line, op-inverse}
 
 abbrev at : Slices → ℕ → List ℕ
@@ -159,28 +156,28 @@ list-only ts n s e w l u long p0 p1 p2 p3 p4 p5 p6 p7 = record {
   is = record {
     form = (subst IsKindName (sym p0.0) p0.1, subst IsKindName (sym p2.0) p2.1, subst IsKindName (sym p4.0) p4.1, p5.is.quotable);
     written = ap (λ x. codes "list" ∷ x) (
-      ap (λ x. x ∷ codes ":" ∷ s ∷ codes "of" ∷ e ∷ quoted_part w ∷ layout l ∷ close u ∷ []) p0.0
-      ∙ ap (λ x. at ts 0 ∷ x ∷ s ∷ codes "of" ∷ e ∷ quoted_part w ∷ layout l ∷ close u ∷ []) (sym p1)
-      ∙ ap (λ x. at ts 0 ∷ at ts 1 ∷ x ∷ codes "of" ∷ e ∷ quoted_part w ∷ layout l ∷ close u ∷ []) p2.0
-      ∙ ap (λ x. at ts 0 ∷ at ts 1 ∷ at ts 2 ∷ x ∷ e ∷ quoted_part w ∷ layout l ∷ close u ∷ []) (sym p3)
-      ∙ ap (λ x. at ts 0 ∷ at ts 1 ∷ at ts 2 ∷ at ts 3 ∷ x ∷ quoted_part w ∷ layout l ∷ close u ∷ []) p4.0
-      ∙ ap (λ x. at ts 0 ∷ at ts 1 ∷ at ts 2 ∷ at ts 3 ∷ at ts 4 ∷ x ∷ layout l ∷ close u ∷ []) p5.is.written
-      ∙ ap (λ x. at ts 0 ∷ at ts 1 ∷ at ts 2 ∷ at ts 3 ∷ at ts 4 ∷ at ts 5 ∷ x ∷ close u ∷ []) (sym p6)
-      ∙ ap (λ x. at ts 0 ∷ at ts 1 ∷ at ts 2 ∷ at ts 3 ∷ at ts 4 ∷ at ts 5 ∷ at ts 6 ∷ x ∷ []) (sym p7)
-      ∙ sym (eight ts long)
-    );
+        ap (λ x. x ∷ codes ":" ∷ s ∷ codes "of" ∷ e ∷ quoted_part w ∷ layout l ∷ close u ∷ []) p0.0
+        ∙ ap (λ x. at ts 0 ∷ x ∷ s ∷ codes "of" ∷ e ∷ quoted_part w ∷ layout l ∷ close u ∷ []) (sym p1)
+        ∙ ap (λ x. at ts 0 ∷ at ts 1 ∷ x ∷ codes "of" ∷ e ∷ quoted_part w ∷ layout l ∷ close u ∷ []) p2.0
+        ∙ ap (λ x. at ts 0 ∷ at ts 1 ∷ at ts 2 ∷ x ∷ e ∷ quoted_part w ∷ layout l ∷ close u ∷ []) (sym p3)
+        ∙ ap (λ x. at ts 0 ∷ at ts 1 ∷ at ts 2 ∷ at ts 3 ∷ x ∷ quoted_part w ∷ layout l ∷ close u ∷ []) p4.0
+        ∙ ap (λ x. at ts 0 ∷ at ts 1 ∷ at ts 2 ∷ at ts 3 ∷ at ts 4 ∷ x ∷ layout l ∷ close u ∷ []) p5.is.written
+        ∙ ap (λ x. at ts 0 ∷ at ts 1 ∷ at ts 2 ∷ at ts 3 ∷ at ts 4 ∷ at ts 5 ∷ x ∷ close u ∷ []) (sym p6)
+        ∙ ap (λ x. at ts 0 ∷ at ts 1 ∷ at ts 2 ∷ at ts 3 ∷ at ts 4 ∷ at ts 5 ∷ at ts 6 ∷ x ∷ []) (sym p7)
+        ∙ sym (eight ts long)
+        );
   };
   only = λ line h. (
-    let o = list-parts ts line h in
-    let a : o.name ≡ n = sym o.p0 ∙ sym p0.0 in
-    let b : o.sort ≡ s = sym o.p2 ∙ sym p2.0 in
-    let c : o.elem ≡ e = sym o.p4 ∙ sym p4.0 in
-    let d : o.word ≡ w = p5.only o.word (record { quotable = o.forms.3; written = sym o.p5 }) in
-    let f : o.on_lines ≡ l = layout-same o.on_lines l (sym o.p6 ∙ p6) in
-    let g : o.unfinished ≡ u = close-same o.unfinished u (sym o.p7 ∙ p7) in
-    let k : lines.List o.name o.sort o.elem o.word o.on_lines o.unfinished ≡ lines.List n s e w l u = cc in
-    o.is ∙ k
-  );
+      let o = list-parts ts line h in
+      let a : o.name ≡ n = sym o.p0 ∙ sym p0.0 in
+      let b : o.sort ≡ s = sym o.p2 ∙ sym p2.0 in
+      let c : o.elem ≡ e = sym o.p4 ∙ sym p4.0 in
+      let d : o.word ≡ w = p5.only o.word (record { quotable = o.forms.3; written = sym o.p5 }) in
+      let f : o.on_lines ≡ l = layout-same o.on_lines l (sym o.p6 ∙ p6) in
+      let g : o.unfinished ≡ u = close-same o.unfinished u (sym o.p7 ∙ p7) in
+      let k : lines.List o.name o.sort o.elem o.word o.on_lines o.unfinished ≡ lines.List n s e w l u = cc in
+      o.is ∙ k
+      );
 }
 
 -- ---- operators
@@ -264,24 +261,24 @@ module _ (ts : Slices) (long : 3 ≤ length ts) where
     is = record {
       form = (subst IsOwnName (sym p0.0) p0.1, subst IsKindName (sym p2.0) p2.1, header.form, omega (arith, ap length items.is.written, map-length ms), items.is.each);
       written = ap (λ x. codes "op" ∷ x) (
-        ap (λ x. x ∷ codes ":" ∷ k ∷ word_if s (codes "scope") ++ (level_parts l ++ (codes "=" ∷ map item_part ms))) p0.0
-        ∙ ap (λ x. at ts 0 ∷ x ∷ k ∷ word_if s (codes "scope") ++ (level_parts l ++ (codes "=" ∷ map item_part ms))) (sym p1)
-        ∙ ap (λ x. at ts 0 ∷ at ts 1 ∷ x ∷ word_if s (codes "scope") ++ (level_parts l ++ (codes "=" ∷ map item_part ms))) p2.0
-        ∙ ap (λ x. at ts 0 ∷ at ts 1 ∷ at ts 2 ∷ x) (group (word_if s (codes "scope")) (level_parts l) (map item_part ms) ∙ ap (λ x. header_parts s l ++ x) items.is.written ∙ sym header.written)
-        ∙ sym (three ts long)
-      );
+          ap (λ x. x ∷ codes ":" ∷ k ∷ word_if s (codes "scope") ++ (level_parts l ++ (codes "=" ∷ map item_part ms))) p0.0
+          ∙ ap (λ x. at ts 0 ∷ x ∷ k ∷ word_if s (codes "scope") ++ (level_parts l ++ (codes "=" ∷ map item_part ms))) (sym p1)
+          ∙ ap (λ x. at ts 0 ∷ at ts 1 ∷ x ∷ word_if s (codes "scope") ++ (level_parts l ++ (codes "=" ∷ map item_part ms))) p2.0
+          ∙ ap (λ x. at ts 0 ∷ at ts 1 ∷ at ts 2 ∷ x) (group (word_if s (codes "scope")) (level_parts l) (map item_part ms) ∙ ap (λ x. header_parts s l ++ x) items.is.written ∙ sym header.written)
+          ∙ sym (three ts long)
+          );
     };
     only = λ line h. (
-      let o = op-parts ts line long h in
-      let same = header.only o.scope o.level (map item_part o.made) o.forms.2 o.behind in
-      let a : o.name ≡ n = sym o.p0 ∙ sym p0.0 in
-      let b : o.kind ≡ k = sym o.p2 ∙ sym p2.0 in
-      let c : o.scope ≡ s = same.0 in
-      let d : o.level ≡ l = same.1 in
-      let e : o.made ≡ ms = items.only o.made (record { each = o.forms.4; written = same.2 }) in
-      let f : lines.Operator o.name o.kind o.scope o.level o.made ≡ lines.Operator n k s l ms = cc in
-      o.is ∙ f
-    );
+        let o = op-parts ts line long h in
+        let same = header.only o.scope o.level (map item_part o.made) o.forms.2 o.behind in
+        let a : o.name ≡ n = sym o.p0 ∙ sym p0.0 in
+        let b : o.kind ≡ k = sym o.p2 ∙ sym p2.0 in
+        let c : o.scope ≡ s = same.0 in
+        let d : o.level ≡ l = same.1 in
+        let e : o.made ≡ ms = items.only o.made (record { each = o.forms.4; written = same.2 }) in
+        let f : lines.Operator o.name o.kind o.scope o.level o.made ≡ lines.Operator n k s l ms = cc in
+        o.is ∙ f
+        );
   }
     where
       group : (a b c : Parts) → a ++ (b ++ (codes "=" ∷ c)) ≡ (a ++ (b ++ codes "=" ∷ [])) ++ c

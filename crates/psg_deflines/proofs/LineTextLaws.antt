@@ -8,8 +8,8 @@ use Rattle.std.proofs.lemmas.Str.{encodes-append, encode_ascii}
 use Rattle.psg_lexis.specs.Tokens.{escaped, quoted}
 use Rattle.psg_terms.specs.Names.{Name}
 use Rattle.psg_deflines.specs.Written.{IsWritten, ends_word}
-use Rattle.psg_deflines.specs.WrittenTerms.{WrittenTerm, variable, named, apply, applied, term_parts, opened}
-use Rattle.psg_deflines.specs.WrittenTrees.{WrittenTree, operator, with_tree, with_name, with_number, with_text, list_end, list_rest, element, place, tree_parts, follow, quoted_part, opened as opened_tree}
+use Rattle.psg_deflines.specs.WrittenTerms.{WrittenTerm, named, apply, applied, term_parts, opened}
+use Rattle.psg_deflines.specs.WrittenTrees.{WrittenTree, operator, tree_parts, follow, opened as opened_tree}
 use Rattle.psg_deflines.specs.TreeShapes.{with_part, with_parts, list_of, ending, tree_height, tree_of}
 use Rattle.psg_deflines.specs.Shapes.{term_of}
 use Rattle.psg_deflines.specs.declared.terms.TermShape.{TermShape}
@@ -168,7 +168,7 @@ closed-parts (q ∷ rest) f p =
     ∙ ap (λ t. t ++ (part_parts q ++ (flat_map (λ r. codes "," ∷ part_parts r) rest ++ codes ")" ∷ []))) (opened-part f p)
     ∙ append_assoc (opened_tree f) (part_parts p ++ codes "," ∷ []) _
     ∙ ap (λ t. opened_tree f ++ t) (append_assoc (part_parts p) (codes "," ∷ []) _
-      ∙ ap (λ t. part_parts p ++ codes "," ∷ t) (sym (append_assoc (part_parts q) (flat_map (λ r. codes "," ∷ part_parts r) rest) (codes ")" ∷ []))))
+    ∙ ap (λ t. part_parts p ++ codes "," ∷ t) (sym (append_assoc (part_parts q) (flat_map (λ r. codes "," ∷ part_parts r) rest) (codes ")" ∷ []))))
 
 pub operator-closed : (o : List ℕ) (ps : List LinePart) → tree_parts (with_parts (operator o) ps) ≡ o ∷ separated (codes "(") part_parts ps ++ closing (length ps)
 operator-closed o [] = refl
@@ -219,8 +219,8 @@ pub term-end : (t : WrittenTerm) (sh : TermShape) (n : List ℕ) (kept args : Li
     → after ≡ before ++ behind (closing (length args)) → after ≡ old ++ behind (term_parts t)
 term-end t sh n kept args i old first before after s v k l f g h =
     three old first before after (n ∷ []) (separated (codes "(") term_parts args) (closing (length args)) (term_parts t) f
-      (g ∙ ap (λ x. first ++ behind (separated (codes "(") term_parts x)) (take-whole args i l)) h
-      (ap term_parts (sym v ∙ ap term_of s ∙ ap (applied (named n)) (sym k)) ∙ term-closed n args)
+    (g ∙ ap (λ x. first ++ behind (separated (codes "(") term_parts x)) (take-whole args i l)) h
+    (ap term_parts (sym v ∙ ap term_of s ∙ ap (applied (named n)) (sym k)) ∙ term-closed n args)
 
 pub operator-end : (t : WrittenTree) (sh : TreeShape) (n : List ℕ) (kept ps : List LinePart) (i : ℕ) (old first before after : List ℕ)
     → sh ≡ Operator n kept → tree_of sh ≡ t → ps ≡ kept → length ps ≤ i
@@ -228,8 +228,8 @@ pub operator-end : (t : WrittenTree) (sh : TreeShape) (n : List ℕ) (kept ps : 
     → after ≡ before ++ behind (closing (length ps)) → after ≡ old ++ behind (tree_parts t)
 operator-end t sh n kept ps i old first before after s v k l f g h =
     three old first before after (n ∷ []) (separated (codes "(") part_parts ps) (closing (length ps)) (tree_parts t) f
-      (g ∙ ap (λ x. first ++ behind (separated (codes "(") part_parts x)) (take-whole ps i l)) h
-      (ap tree_parts (sym v ∙ ap tree_of s ∙ ap (with_parts (operator n)) (sym k)) ∙ operator-closed n ps)
+    (g ∙ ap (λ x. first ++ behind (separated (codes "(") part_parts x)) (take-whole ps i l)) h
+    (ap tree_parts (sym v ∙ ap tree_of s ∙ ap (with_parts (operator n)) (sym k)) ∙ operator-closed n ps)
 
 pub list-end : (t : WrittenTree) (sh : TreeShape) (kept es : List WrittenTree) (o : Option LinePlace) (i : ℕ) (old first before after : List ℕ)
     → sh ≡ ListOf kept o → tree_of sh ≡ t → es ≡ kept → length es ≤ i
@@ -237,8 +237,8 @@ pub list-end : (t : WrittenTree) (sh : TreeShape) (kept es : List WrittenTree) (
     → after ≡ before ++ behind (ending_parts o) → after ≡ old ++ behind (tree_parts t)
 list-end t sh kept es o i old first before after s v k l f g h =
     three old first before after (cond (length es == 0) (codes "[" ∷ []) []) (separated (codes "[") tree_parts es) (ending_parts o) (tree_parts t) f
-      (g ∙ ap (λ x. first ++ behind (separated (codes "[") tree_parts x)) (take-whole es i l)) h
-      (ap tree_parts (sym v ∙ ap tree_of s ∙ ap (list_of (ending o)) (sym k)) ∙ list-closed o es)
+    (g ∙ ap (λ x. first ++ behind (separated (codes "[") tree_parts x)) (take-whole es i l)) h
+    (ap tree_parts (sym v ∙ ap tree_of s ∙ ap (list_of (ending o)) (sym k)) ∙ list-closed o es)
 
 -- ---- heights
 

@@ -1,9 +1,8 @@
 -- Parts of a line at their indices.
-use Rattle.std.proofs.Common.{◌≡◌, ℕ, ◌+◌, ◌<◌, ◌≤◌, zero, suc, List, [], ◌∷◌, ◌++◌, drop, get_or, length, codes, refl, ap, sym, ◌∙◌, subst, arith}
+use Rattle.std.proofs.Common.{◌≡◌, ℕ, ◌+◌, ◌<◌, ◌≤◌, zero, suc, List, [], ◌∷◌, drop, get_or, length, refl, ap, ◌∙◌, arith}
 use Rattle.std.specs.Borrow.{Bor}
 use Rattle.psg_deflines.specs.Parts.{texts}
 use Rattle.psg_deflines.specs.TermWalks.{Parts}
-use Rattle.psg_deflines.proofs.TermFound.{texts-length}
 
 abbrev pub Slices : Type 0
 Slices = List (Bor (List ℕ))

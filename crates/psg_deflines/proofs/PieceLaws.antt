@@ -1,15 +1,13 @@
 -- What begins in a specimen, and what ends there, by the first parts.
-use Rattle.std.proofs.Common.{◌≡◌, ℕ, ◌+◌, ◌<◌, ◌≤◌, Bool, true, false, cond, zero, suc, List, [], ◌∷◌, ◌++◌, drop, length, codes, inl, inr, refl, ap, ap₂, sym, ◌∙◌, subst, arith}
-use Rattle.std.specs.Prelude.{Option, Some, None, MatchOption, MatchBool, option_map, is_some, ◌⊎◌}
+use Rattle.std.proofs.Common.{◌≡◌, ℕ, ◌+◌, Bool, true, false, cond, suc, List, ◌∷◌, drop, length, codes, inl, inr, refl, ap, ap₂, sym, ◌∙◌, subst, arith}
+use Rattle.std.specs.Prelude.{Option, Some, None, MatchOption, MatchBool, option_map, is_some}
 use Rattle.std.proofs.lemmas.Bool.{false≢true}
-use Rattle.psg_terms.specs.Names.{Name}
-use Rattle.psg_grammar.specs.Sound.{is_upper, is_lower, is_name_from, IsKindName, IsOwnName}
-use Rattle.psg_deflines.specs.WrittenTerms.{WrittenTerm}
-use Rattle.psg_deflines.specs.WrittenTrees.{WrittenTree, operator, list_end, list_rest, place, place_parts, is_digits}
-use Rattle.psg_deflines.specs.TreeShapes.{ending, list_of}
+use Rattle.psg_grammar.specs.Sound.{is_upper, is_lower, is_name_from, IsOwnName}
+use Rattle.psg_deflines.specs.WrittenTrees.{WrittenTree, operator, list_end, list_rest, place, is_digits}
+use Rattle.psg_deflines.specs.TreeShapes.{ending}
 use Rattle.psg_deflines.specs.TermWalks.{Parts, IsNotOpened}
-use Rattle.psg_deflines.specs.TreeWalks.{TreeFrame, in_operator, in_list, literal_part, IsLiteral, Begin, a_part, a_tree, a_frame, first_of, GoesOn, Begins, a_place, an_empty, a_rest, a_list, an_operator, a_leaf, a_literal, Finish, a_comma, a_close, an_end, Finishes, comma, close, bracket, bar}
-use Rattle.psg_deflines.specs.TreePieces.{HasNoPlace, IsPlaceKept, IsPlaceFound, Ends, a_plain_end, a_rest_end, HasNoEnd, AreShallow, ShowsEnd, IsEndFound, CanEnd, frame_of, IsFresh, HasNoLiteral, IsKeptTree, HasNoBegin, IsBeginRead, HasNoFinish, IsFinishRead}
+use Rattle.psg_deflines.specs.TreeWalks.{in_operator, literal_part, IsLiteral, a_part, a_tree, a_frame, first_of, Begins, a_place, an_empty, a_rest, a_list, an_operator, a_leaf, a_literal, an_end, Finishes, comma, close, bracket, bar}
+use Rattle.psg_deflines.specs.TreePieces.{HasNoPlace, IsPlaceKept, IsPlaceFound, Ends, a_plain_end, a_rest_end, HasNoEnd, AreShallow, IsEndFound, CanEnd, frame_of, IsFresh, HasNoLiteral, IsKeptTree, HasNoBegin, IsBeginRead, HasNoFinish, IsFinishRead}
 use Rattle.psg_deflines.specs.declared.trees.LinePart.{LinePart}
 use Rattle.psg_deflines.specs.declared.trees.LinePart.TheVariants as LineParts
 use Rattle.psg_deflines.specs.declared.trees.LinePlace.{LinePlace}

@@ -1,14 +1,13 @@
 -- Hole places, and the ends of lists, from parts of a line.
-use Rattle.std.proofs.Common.{◌≡◌, ℕ, ◌+◌, ◌<◌, ◌≤◌, Bool, true, false, cond, zero, suc, List, [], ◌∷◌, ◌++◌, drop, length, length-append, length-drop, append_assoc, append-nil, codes, inl, inr, refl, ap, ap₂, sym, ◌∙◌, subst, arith}
-use Rattle.std.specs.Prelude.{Option, Some, None, MatchOption, MatchBool, option_map, is_some, not}
-use Rattle.std.proofs.lemmas.Bool.{false≢true}
+use Rattle.std.proofs.Common.{◌≡◌, ℕ, ◌+◌, Bool, true, false, zero, suc, List, [], ◌∷◌, ◌++◌, drop, length, length-drop, codes, refl, ap, ap₂, sym, ◌∙◌, subst, arith}
+use Rattle.std.specs.Prelude.{Option, Some, None, MatchBool, option_map, is_some, not}
 use Rattle.psg_terms.specs.Names.{Name}
 use Rattle.psg_grammar.specs.Sound.{IsKindName}
-use Rattle.psg_deflines.specs.WrittenTerms.{WrittenTerm, term_parts, HasTermForm, IsShallowTerm}
-use Rattle.psg_deflines.specs.WrittenTrees.{WrittenTree, list_end, list_rest, place_parts}
+use Rattle.psg_deflines.specs.WrittenTerms.{WrittenTerm, term_parts}
+use Rattle.psg_deflines.specs.WrittenTrees.{list_end, list_rest, place_parts}
 use Rattle.psg_deflines.specs.TreeShapes.{ending}
-use Rattle.psg_deflines.specs.TermWalks.{Parts, IsNotOpened, HasNoTerm, IsTermFound, IsTermRead, IsKept}
-use Rattle.psg_deflines.specs.TreePieces.{HasNoHead, HasNoPlace, place_of, IsPlaceKept, IsPlaceFound, Ends, a_plain_end, a_rest_end, HasNoEnd, AreShallow, ShowsEnd, IsEndFound}
+use Rattle.psg_deflines.specs.TermWalks.{Parts, HasNoTerm, IsTermFound, IsKept}
+use Rattle.psg_deflines.specs.TreePieces.{HasNoHead, HasNoPlace, place_of, IsPlaceKept, IsPlaceFound, a_plain_end, a_rest_end, HasNoEnd, AreShallow, IsEndFound}
 use Rattle.psg_deflines.specs.declared.trees.LinePlace.{LinePlace}
 use Rattle.psg_deflines.specs.declared.term_reading.TermRead.{TermRead}
 use Rattle.psg_deflines.specs.declared.places.PlaceRead.{PlaceRead}
@@ -115,8 +114,11 @@ module _ (ps inside : Parts) (whole : ps ≡ codes "|" ∷ inside) where
     end = list_rest h.kind h.term;
     fits = omega (arith, taken, ap length whole, ap length closed, length-drop found.taken inside);
     ends = a_rest_end h.kind h.term (whole ∙ ap (λ x. codes "|" ∷ x) (h.written ∙ ap (λ x. place_parts h.kind h.term ++ x) (closed ∙ ap (λ x. codes "]" ∷ x) (sym (drop-behind found.taken rest closed) ∙ ap (λ n. drop n ps) (sym taken))))) h.name h.form refl;
-    shown = (refl, subst (λ b. MatchBool b (AreShallow (list_rest h.kind h.term) → ⊥) ((ending read.end.rest ≡ list_rest h.kind h.term) × AreShallow (list_rest h.kind h.term))) (sym deep)
-        (subst (λ o. MatchBool (not (is_some found.place)) (AreShallow (list_rest h.kind h.term) → ⊥) ((ending o ≡ list_rest h.kind h.term) × AreShallow (list_rest h.kind h.term))) (sym place) (shown found.place h.kept)));
+    shown = (
+      refl,
+      subst (λ b. MatchBool b (AreShallow (list_rest h.kind h.term) → ⊥) ((ending read.end.rest ≡ list_rest h.kind h.term) × AreShallow (list_rest h.kind h.term))) (sym deep)
+          (subst (λ o. MatchBool (not (is_some found.place)) (AreShallow (list_rest h.kind h.term) → ⊥) ((ending o ≡ list_rest h.kind h.term) × AreShallow (list_rest h.kind h.term))) (sym place) (shown found.place h.kept)),
+    );
   }
     where
       shown : (o : Option LinePlace) → IsPlaceKept o h.kind h.term → MatchBool (not (is_some o)) (AreShallow (list_rest h.kind h.term) → ⊥) ((ending o ≡ list_rest h.kind h.term) × AreShallow (list_rest h.kind h.term))

@@ -1,10 +1,7 @@
 -- Quoted texts as parts of a line.
-use Rattle.std.proofs.Common.{◌≡◌, ◌≢◌, ◌==◌, ℕ, ◌+◌, ◌<◌, ◌≤◌, ◌&&◌, Bool, true, false, cond, zero, suc, List, [], ◌∷◌, ◌++◌, get_or, length, length-append, append_assoc, append-nil, inl, inr, refl, ap, sym, ◌∙◌, subst, arith}
-use Rattle.std.specs.Prelude.{chars, encode_utf8, encode_utf8_all, not, Option, Some, None, option_map, IsUtf8}
-use Rattle.std.proofs.lemmas.Bool.{cases_lt, and_parts, and_from, false≢true}
-use Rattle.std.specs.List.{list_all}
-use Rattle.psg_grammar.specs.Sound.{goes_on_name}
-use Rattle.psg_deflines.specs.Written.{ends_word, begins_word}
+use Rattle.std.proofs.Common.{◌≡◌, ◌≢◌, ℕ, ◌+◌, ◌<◌, true, false, suc, List, [], ◌∷◌, ◌++◌, get_or, length, length-append, append_assoc, append-nil, inl, inr, refl, ap, sym, ◌∙◌, subst, arith}
+use Rattle.std.specs.Prelude.{chars, encode_utf8, encode_utf8_all, Some, option_map, IsUtf8}
+use Rattle.std.proofs.lemmas.Bool.{and_parts, and_from}
 use Rattle.std.proofs.lemmas.Bool.Decides.{eqb_tells}
 use Rattle.std.proofs.lemmas.Str.{encodes-chars, encodes-append, encode_ascii, chars_from_encodes, scalars-chars, inside_one}
 use Rattle.std.specs.Str.{all_scalars}
@@ -19,7 +16,6 @@ use Rattle.psg_deflines.specs.WrittenTrees.{IsQuotable, quoted_part}
 use Rattle.psg_deflines.specs.Quotes.{closing, IsTextAlone, IsQuoteOf, HasNoQuote}
 use Rattle.psg_deflines.proofs.FixedLaws.{whole-token}
 use Rattle.psg_deflines.specs.Only.{IsOnly}
-use Rattle.psg_deflines.specs.Parts.{IsPart, a_word, a_mark, a_sigil, a_quoted, IsApart, IsFirst, HasNoFirst, is_mark, is_sigil}
 
 abbrev Chosen : ℕ → Type 0
 Chosen b = (b ≢ 34) × (b ≢ 92)
@@ -124,8 +120,7 @@ text-token w q part e u =
     let s : Spanned = record { token = t; start = 0; end = 0 + bytes_of (chars part) } in
     let back : encode_utf8_all (chars w) ≡ w = encodes-chars w q.utf8 in
     let token : IsToken [] (34 ∷ cs) [] (tokens.Text (encode_utf8_all (chars w))) = text (chars w) cs [] refl q.contents (omega (arith, ap length back, q.short)) in
-    let token2 : IsToken [] (chars part) [] t = subst (λ ds. IsToken [] ds [] t) same (subst (λ v. IsToken [] (34 ∷ cs) [] (tokens.Text v)) back token) in
-    (
+    let token2 : IsToken [] (chars part) [] t = subst (λ ds. IsToken [] ds [] t) same (subst (λ v. IsToken [] (34 ∷ cs) [] (tokens.Text v)) back token) in (
       s ∷ [],
       next (chars part) 0 s [] (record { front = chars part; rest = []; whole = sym (append-nil (chars part)); token = token2; starts = refl; ends = refl }) (nothing (0 + bytes_of (chars part))),
       record { token = s; only = refl; starts = refl; ends = omega (arith, ap length (encodes-chars part u)); kind = refl },

@@ -1,19 +1,15 @@
 -- The texts of a file, one after the other.
-use Rattle.std.proofs.Common.{◌≡◌, ◌==◌, ℕ, ◌+◌, ◌<◌, ◌≤◌, ◌||◌, Bool, true, false, zero, suc, List, [], ◌∷◌, ◌++◌, take, drop, get_or, length, length-append, append_assoc, append-nil, inl, inr, refl, ap, sym, ◌∙◌, subst, arith}
-use Rattle.std.specs.Prelude.{Option, Some, None, IsUtf8, map, ◌⊎◌}
+use Rattle.std.proofs.Common.{◌≡◌, ℕ, ◌+◌, ◌<◌, ◌≤◌, ◌||◌, Bool, true, false, zero, suc, List, [], ◌∷◌, ◌++◌, take, drop, get_or, length, length-append, append_assoc, append-nil, inl, inr, refl, ap, sym, ◌∙◌, subst, arith}
+use Rattle.std.specs.Prelude.{Some, None, map, ◌⊎◌}
 use Rattle.std.specs.List.{AllByRecursion}
 use Rattle.std.specs.Borrow.{Bor}
-use Rattle.std.specs.Str.Lines.{lines}
-use Rattle.std.proofs.lemmas.List.{take-append-drop, append_cancel_left, length-take, take_all}
+use Rattle.std.proofs.lemmas.List.{take-append-drop, length-take, take_all}
 use Rattle.std.proofs.Math.Seq.{take-append_seam}
-use Rattle.std.proofs.lemmas.Bool.{false≢true}
 use Rattle.std.proofs.lemmas.Bool.Decides.{eqb_tells}
 use Rattle.psg_deflines.specs.Parts.{texts}
-use Rattle.psg_deflines.specs.Forms.{HasFixedWords, IsShallow}
-use Rattle.psg_deflines.specs.Entries.{IsSkipped, IsLineBehind, IsEntry, Entry, written, AreEntries, AreSpelled, HasHead, behind_head, IsPlain, takes_rows, takes_cases}
+use Rattle.psg_deflines.specs.Entries.{IsSkipped, IsLineBehind, IsEntry, Entry, written, AreEntries, IsPlain, takes_rows, takes_cases}
 use Rattle.psg_deflines.specs.EntryReads.{is_operator, cases_behind, rows_after, cases_after, IsPlainEntry, IsEntryRead, AreEntriesRead}
-use Rattle.psg_deflines.specs.Refusals.{IsFirstOf, PassesForm, form_codes, HasFormFault, FormRefusal, no_text, no_head, no_form, IsFirstBad}
-use Rattle.psg_deflines.specs.Reading.{HasEntries, AreLinesOf, HasNoFormFault}
+use Rattle.psg_deflines.specs.Refusals.{IsFirstOf, PassesForm, form_codes, HasFormFault}
 use Rattle.psg_deflines.specs.declared.fault.DefCode.{DefCode}
 use Rattle.psg_deflines.specs.declared.fault.DefCode.TheVariants as codes_of
 use Rattle.psg_deflines.specs.declared.fault.DefFault.{DefFault}
@@ -21,7 +17,7 @@ use Rattle.psg_deflines.specs.declared.lines.Line.{Line}
 use Rattle.psg_deflines.specs.declared.lines.Line.TheVariants as lines_of
 use Rattle.psg_deflines.specs.declared.entries.EntryRead.TheVariants as reads
 use Rattle.psg_deflines.specs.Only.{IsOnly}
-use Rattle.psg_deflines.proofs.Lists.{take-next, all-more, nil-length}
+use Rattle.psg_deflines.proofs.Lists.{take-next, all-more}
 
 -- ---- one more entry
 

@@ -1,5 +1,5 @@
 -- A line that a text spells has the text's parts.
-use Rattle.std.proofs.Common.{◌≡◌, ◌==◌, ◌&&◌, ◌||◌, nat_le, ℕ, ◌+◌, ◌<◌, ◌≤◌, Bool, true, false, cond, zero, suc, List, [], ◌∷◌, ◌++◌, length, map, codes, refl, ap, sym, ◌∙◌, subst, arith}
+use Rattle.std.proofs.Common.{◌≡◌, ◌==◌, ◌&&◌, ◌||◌, nat_le, ℕ, ◌+◌, ◌<◌, Bool, true, false, cond, zero, suc, List, [], ◌∷◌, ◌++◌, length, map, codes, refl, sym, subst, arith}
 use Rattle.std.specs.Prelude.{Option, Some, None}
 use Rattle.std.specs.List.{AllByRecursion, list_all}
 use Rattle.std.proofs.lemmas.Bool.{and_parts, and_from, or_left, or_right, false≢true}
@@ -14,7 +14,7 @@ use Rattle.psg_deflines.specs.WrittenTrees.{WrittenTree, operator, with_tree, wi
 use Rattle.psg_deflines.specs.Written.{IsWritten}
 use Rattle.psg_deflines.specs.Parts.{IsPart, a_word, a_mark, a_sigil, a_quoted, HasParts, HasNoParts, is_mark}
 use Rattle.psg_deflines.specs.Forms.{closed_names, argument_parts, constructor_parts, word_if, level_parts, item_part, terms_parts, columns_parts, by_parts, parts_of, HasConstructorForm, HasItemForm, HasFormBehindBy, HasForm, SpellsLine}
-use Rattle.psg_deflines.specs.FormReads.{IsForm, HasNoForm}
+use Rattle.psg_deflines.specs.FormReads.{IsForm}
 use Rattle.psg_deflines.specs.Only.{IsOnly}
 use Rattle.psg_deflines.specs.declared.lines.LineItem.{LineItem}
 use Rattle.psg_deflines.specs.declared.lines.LineItem.TheVariants as items

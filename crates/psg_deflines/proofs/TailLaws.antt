@@ -1,14 +1,14 @@
 -- Terms and a specimen from parts of a line.
-use Rattle.std.proofs.Common.{◌≡◌, ℕ, ◌+◌, ◌-◌, ◌<◌, ◌≤◌, zero, suc, List, [], ◌∷◌, ◌++◌, drop, length, length-append, length-drop, append_assoc, append-nil, codes, inl, inr, refl, ap, sym, ◌∙◌, subst, arith}
-use Rattle.std.specs.Prelude.{Option, Some, None, MatchOption, ◌⊎◌}
+use Rattle.std.proofs.Common.{◌≡◌, ℕ, ◌+◌, ◌<◌, ◌≤◌, List, [], ◌∷◌, ◌++◌, drop, length, length-append, length-drop, append_assoc, append-nil, codes, inl, inr, refl, ap, sym, ◌∙◌, subst, arith}
+use Rattle.std.specs.Prelude.{Option, Some, None, ◌⊎◌}
 use Rattle.std.specs.List.{AllByRecursion}
 use Rattle.std.proofs.lemmas.List.{drop-drop}
 use Rattle.std.proofs.lemmas.Bool.{false≢true}
 use Rattle.psg_grammar.specs.Sound.{IsOwnName}
-use Rattle.psg_deflines.specs.WrittenTerms.{WrittenTerm, variable, named, apply, term_parts, opened, HasTermForm, IsShallowTerm}
-use Rattle.psg_deflines.specs.WrittenTrees.{WrittenTree, tree_parts, HasTreeForm}
+use Rattle.psg_deflines.specs.WrittenTerms.{WrittenTerm, variable, named, apply, term_parts, opened, HasTermForm}
+use Rattle.psg_deflines.specs.WrittenTrees.{WrittenTree, tree_parts}
 use Rattle.psg_deflines.specs.Forms.{terms_parts, columns_parts, by_parts, HasFormBehindBy}
-use Rattle.psg_deflines.specs.TermWalks.{Parts, IsNotOpened, IsTermRead, HasNoTerm, IsKept, IsTermFound}
+use Rattle.psg_deflines.specs.TermWalks.{Parts, IsNotOpened, HasNoTerm, IsKept, IsTermFound}
 use Rattle.psg_deflines.specs.TailReads.{AreTerms, AreKept, AreTermsFound, HaveNoTerms, IsNotColon, IsBehind, IsBehindFound, HasNothingBehind, IsTail, IsTailFound, HasNoTail, AreColumns, AreColumnsFound, HaveNoColumns}
 use Rattle.psg_deflines.specs.declared.term_reading.TermRead.{TermRead}
 use Rattle.psg_deflines.specs.TreeReads.{HasNoTree, IsTreeFound, IsTreeKept}
@@ -17,7 +17,7 @@ use Rattle.psg_deflines.specs.declared.tails.TermsRead.{TermsRead}
 use Rattle.psg_deflines.specs.declared.tails.Behind.{Behind}
 use Rattle.psg_deflines.specs.declared.tails.Tail.{Tail}
 use Rattle.psg_deflines.proofs.Lists.{nil-length}
-use Rattle.psg_deflines.proofs.PartReads.{first_byte, rest_of, first_of, byte_of}
+use Rattle.psg_deflines.proofs.PartReads.{first_byte, rest_of, byte_of}
 
 -- a term begins with no bracket, no colon, and with a part
 own-no_bracket : (n : List ℕ) → IsOwnName n → n ≡ codes "(" → ⊥

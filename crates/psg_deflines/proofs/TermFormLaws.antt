@@ -1,21 +1,19 @@
 -- Lines of terms from their parts.
-use Rattle.std.proofs.Common.{◌≡◌, ℕ, ◌+◌, ◌<◌, ◌≤◌, Bool, true, false, zero, suc, List, [], ◌∷◌, ◌++◌, drop, length, length-append, append_assoc, append-nil, codes, inl, inr, refl, ap, sym, ◌∙◌, subst, arith}
-use Rattle.std.specs.Prelude.{Option, Some, None, MatchOption, ◌⊎◌}
+use Rattle.std.proofs.Common.{◌≡◌, ℕ, ◌≤◌, List, [], ◌∷◌, ◌++◌, drop, length, length-append, append-nil, codes, inl, inr, refl, ap, sym, ◌∙◌, subst, arith}
+use Rattle.std.specs.Prelude.{Option, Some, None, ◌⊎◌}
 use Rattle.std.specs.List.{AllByRecursion}
 use Rattle.psg_terms.specs.Names.{Name}
 use Rattle.psg_grammar.specs.Sound.{IsKindName}
 use Rattle.psg_deflines.specs.WrittenTerms.{WrittenTerm, term_parts, HasTermForm, IsShallowTerm}
-use Rattle.psg_deflines.specs.WrittenTrees.{WrittenTree, tree_parts, HasTreeForm, IsShallowTree}
-use Rattle.psg_deflines.specs.Forms.{terms_parts, columns_parts, by_parts, parts_of, HasForm, HasFormBehindBy, HasFixedWords, IsShallow, IsShallowBehindBy}
+use Rattle.psg_deflines.specs.WrittenTrees.{WrittenTree}
+use Rattle.psg_deflines.specs.Forms.{terms_parts, columns_parts, by_parts, HasForm, HasFormBehindBy}
 use Rattle.psg_deflines.specs.TermWalks.{Parts, IsKept}
 use Rattle.psg_deflines.specs.FormReads.{IsForm, HasNoForm}
-use Rattle.psg_deflines.specs.TailReads.{AreKept, IsBehind, IsTail, IsTailFound, HasNoTail, IsNamedTail, HasNoNamedTail, IsNamedTailFound}
+use Rattle.psg_deflines.specs.TailReads.{AreKept, IsTail, IsTailFound, HasNoTail, IsNamedTail, HasNoNamedTail}
 use Rattle.psg_deflines.specs.Only.{IsOnly}
 use Rattle.psg_deflines.specs.declared.lines.Line.{Line}
 use Rattle.psg_deflines.specs.declared.lines.Line.TheVariants as lines
 use Rattle.psg_deflines.specs.declared.tails.Tail.{Tail}
-use Rattle.psg_deflines.specs.declared.tails.Behind.TheVariants as behinds
-use Rattle.psg_deflines.proofs.Lists.{nil-length}
 use Rattle.psg_deflines.proofs.PartReads.{rest_of, first_of}
 use Rattle.psg_deflines.proofs.TailLaws.{term-long}
 use Rattle.psg_deflines.proofs.LineInverses.{Is_row, row_line, row-inverse, Is_nil, nil_line, nil-inverse, Is_cell, cell_line, cell-inverse, Is_hole, hole_line, hole-inverse, Is_case, case_line, case-inverse, Is_declare, declare_line, declare-inverse}
@@ -113,7 +111,7 @@ module _ (n : Name) (ps : Parts) where
     only = λ line k. (let r = nil-tail line k in r.1 ∙ ap (lines.Nil n) (h.only r.0 [] None r.2).0);
   }
 
--- ---- cell rows
+  -- ---- cell rows
 
   cell-tail : (line : Line) → IsForm (codes "cell" ∷ n ∷ ps) line → (t u v : WrittenTerm) × (line ≡ lines.Cell n t u v) × IsTail 2 ps t (u ∷ v ∷ []) None
   cell-tail line h = by_line line (cell-inverse (n ∷ ps) line h.written) h.form
@@ -145,21 +143,21 @@ module _ (n : Name) (ps : Parts) where
     is = record {
       form = (let forms = subst (AllByRecursion HasTermForm) two h.is.columns in (kind, h.is.head, forms.0, forms.1.0));
       written = ap (λ x. codes "cell" ∷ n ∷ x) (
-        ap (λ x. term_parts h.head ++ (codes ":" ∷ x)) (ap (λ x. term_parts u ++ x) (sym (append-nil (term_parts v))) ∙ sym (append-nil (term_parts u ++ (term_parts v ++ []))))
-        ∙ ap (λ x. term_parts h.head ++ (columns_parts x ++ [])) (sym two) ∙ ap (λ x. term_parts h.head ++ (columns_parts h.columns ++ by_parts x)) (sym none) ∙ sym h.is.written
-      );
+          ap (λ x. term_parts h.head ++ (codes ":" ∷ x)) (ap (λ x. term_parts u ++ x) (sym (append-nil (term_parts v))) ∙ sym (append-nil (term_parts u ++ (term_parts v ++ []))))
+          ∙ ap (λ x. term_parts h.head ++ (columns_parts x ++ [])) (sym two) ∙ ap (λ x. term_parts h.head ++ (columns_parts h.columns ++ by_parts x)) (sym none) ∙ sym h.is.written
+          );
     };
     only = λ line k. (
-      let r = cell-tail line k in
-      let same = h.only r.0 (r.1 ∷ r.2 ∷ []) None r.4 in
-      let both : r.1 ∷ r.2 ∷ [] ≡ u ∷ v ∷ [] = same.1 ∙ two in
-      let head : r.0 ≡ h.head = same.0 in
-      let e : lines.Cell n r.0 r.1 r.2 ≡ lines.Cell n h.head u v = cc in
-      r.3 ∙ e
-    );
+        let r = cell-tail line k in
+        let same = h.only r.0 (r.1 ∷ r.2 ∷ []) None r.4 in
+        let both : r.1 ∷ r.2 ∷ [] ≡ u ∷ v ∷ [] = same.1 ∙ two in
+        let head : r.0 ≡ h.head = same.0 in
+        let e : lines.Cell n r.0 r.1 r.2 ≡ lines.Cell n h.head u v = cc in
+        r.3 ∙ e
+        );
   }
 
--- ---- hole rows
+  -- ---- hole rows
 
   hole-tail : (line : Line) → IsForm (codes "hole" ∷ n ∷ ps) line → (t : WrittenTerm) × (w : Option WrittenTree) × (line ≡ lines.Hole n t w) × IsTail 0 ps t [] w
   hole-tail line h = by_line line (hole-inverse (n ∷ ps) line h.written) h.form
@@ -181,7 +179,7 @@ module _ (n : Name) (ps : Parts) where
     only = λ line k. (let r = hole-tail line k in let same = h.only r.0 [] r.1 r.3 in r.2 ∙ ap (λ x. lines.Hole n x r.1) same.0 ∙ ap (lines.Hole n h.head) same.2);
   }
 
--- ---- declare rows
+  -- ---- declare rows
 
   declare-tail : (line : Line) → IsForm (codes "declare" ∷ n ∷ ps) line → (t u : WrittenTerm) × (w : WrittenTree) × (line ≡ lines.Declare n t u w) × IsTail 1 ps t (u ∷ []) (Some w)
   declare-tail line h = by_line line (declare-inverse (n ∷ ps) line h.written) h.form
@@ -213,19 +211,19 @@ module _ (n : Name) (ps : Parts) where
     is = record {
       form = (kind, h.is.head, (subst (AllByRecursion HasTermForm) one h.is.columns).0, subst HasFormBehindBy some h.is.specimen);
       written = ap (λ x. codes "declare" ∷ n ∷ x) (
-        ap (λ x. term_parts h.head ++ (codes ":" ∷ (x ++ by_parts (Some w)))) (sym (append-nil (term_parts u)))
-        ∙ ap (λ x. term_parts h.head ++ (columns_parts x ++ by_parts (Some w))) (sym one) ∙ ap (λ x. term_parts h.head ++ (columns_parts h.columns ++ by_parts x)) (sym some) ∙ sym h.is.written
-      );
+          ap (λ x. term_parts h.head ++ (codes ":" ∷ (x ++ by_parts (Some w)))) (sym (append-nil (term_parts u)))
+          ∙ ap (λ x. term_parts h.head ++ (columns_parts x ++ by_parts (Some w))) (sym one) ∙ ap (λ x. term_parts h.head ++ (columns_parts h.columns ++ by_parts x)) (sym some) ∙ sym h.is.written
+          );
     };
     only = λ line k. (
-      let r = declare-tail line k in
-      let same = h.only r.0 (r.1 ∷ []) (Some r.2) r.4 in
-      let columns : r.1 ∷ [] ≡ u ∷ [] = same.1 ∙ one in
-      let tree : Some r.2 ≡ Some w = same.2 ∙ some in
-      let head : r.0 ≡ h.head = same.0 in
-      let e : lines.Declare n r.0 r.1 r.2 ≡ lines.Declare n h.head u w = cc in
-      r.3 ∙ e
-    );
+        let r = declare-tail line k in
+        let same = h.only r.0 (r.1 ∷ []) (Some r.2) r.4 in
+        let columns : r.1 ∷ [] ≡ u ∷ [] = same.1 ∙ one in
+        let tree : Some r.2 ≡ Some w = same.2 ∙ some in
+        let head : r.0 ≡ h.head = same.0 in
+        let e : lines.Declare n r.0 r.1 r.2 ≡ lines.Declare n h.head u w = cc in
+        r.3 ∙ e
+        );
   }
 
 -- ---- cases
@@ -251,13 +249,13 @@ module _ (ps : Parts) where
       written = ap (λ x. codes "case" ∷ x) (ap (λ x. term_parts h.head ++ (columns_parts x ++ by_parts (Some w))) (sym (no-columns h.columns h.is.few)) ∙ ap (λ x. term_parts h.head ++ (columns_parts h.columns ++ by_parts x)) (sym some) ∙ sym h.is.written);
     };
     only = λ line k. (
-      let r = case-tail line k in
-      let same = h.only r.0 [] (Some r.1) r.3 in
-      let tree : Some r.1 ≡ Some w = same.2 ∙ some in
-      let head : r.0 ≡ h.head = same.0 in
-      let e : lines.Case r.0 r.1 ≡ lines.Case h.head w = cc in
-      r.2 ∙ e
-    );
+        let r = case-tail line k in
+        let same = h.only r.0 [] (Some r.1) r.3 in
+        let tree : Some r.1 ≡ Some w = same.2 ∙ some in
+        let head : r.0 ≡ h.head = same.0 in
+        let e : lines.Case r.0 r.1 ≡ lines.Case h.head w = cc in
+        r.2 ∙ e
+        );
   }
 
 -- ---- names in front

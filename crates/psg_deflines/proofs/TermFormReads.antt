@@ -1,6 +1,6 @@
 -- What a form of a line of terms is read as.
-use Rattle.std.proofs.Common.{◌≡◌, ℕ, ◌≤◌, ◌==◌, ◌&&◌, Bool, true, false, cond, List, [], ◌∷◌, drop, length, codes, inl, inr, refl, ap, sym, ◌∙◌, subst, arith}
-use Rattle.std.specs.Prelude.{Option, Some, None, MatchOption, not, ◌⊎◌}
+use Rattle.std.proofs.Common.{◌≡◌, ℕ, ◌≤◌, ◌==◌, ◌&&◌, Bool, true, false, cond, List, [], ◌∷◌, length, codes, inl, inr, refl, ap, sym, ◌∙◌, subst, arith}
+use Rattle.std.specs.Prelude.{Option, Some, None, not, ◌⊎◌}
 use Rattle.std.specs.List.{AllByRecursion}
 use Rattle.std.proofs.lemmas.Bool.{false≢true, and_parts, and_cases, eqb-true}
 use Rattle.std.proofs.lemmas.Bool.Decides.{eqb_tells}
@@ -8,21 +8,19 @@ use Rattle.psg_terms.specs.Names.{Name}
 use Rattle.psg_grammar.specs.Sound.{IsKindName}
 use Rattle.psg_deflines.specs.WrittenTerms.{WrittenTerm, IsShallowTerm}
 use Rattle.psg_deflines.specs.WrittenTrees.{WrittenTree, IsShallowTree}
-use Rattle.psg_deflines.specs.Forms.{IsShallow, IsShallowBehindBy}
-use Rattle.psg_deflines.specs.TermWalks.{Parts, IsKept}
+use Rattle.psg_deflines.specs.Forms.{IsShallowBehindBy}
+use Rattle.psg_deflines.specs.TermWalks.{Parts}
 use Rattle.psg_deflines.specs.FormReads.{IsForm, HasNoForm}
-use Rattle.psg_deflines.specs.TailReads.{AreKept, IsBehind, IsTail, IsTailFound, HasNoTail, IsNamedTail, HasNoNamedTail, IsNamedTailFound, is_nothing, specimen_of, tree_behind}
+use Rattle.psg_deflines.specs.TailReads.{IsBehind, IsTailFound, is_nothing, specimen_of, tree_behind}
 use Rattle.psg_deflines.specs.LineReads.{IsFormRead}
 use Rattle.psg_deflines.specs.Only.{IsOnly}
-use Rattle.psg_deflines.specs.declared.lines.Line.{Line}
 use Rattle.psg_deflines.specs.declared.lines.Line.TheVariants as lines
 use Rattle.psg_deflines.specs.declared.tails.Tail.{Tail}
 use Rattle.psg_deflines.specs.declared.tails.Behind.{Behind}
 use Rattle.psg_deflines.specs.declared.tails.Behind.TheVariants as behinds
 use Rattle.psg_deflines.specs.declared.term_forms.FormRead.{FormRead}
 use Rattle.psg_deflines.specs.declared.term_forms.FormRead.TheVariants as reads
-use Rattle.psg_deflines.proofs.Lists.{nil-length}
-use Rattle.psg_deflines.proofs.TermFormLaws.{kept-none, kept-some, all-none, all-some, row-none, row-ended, row-only, nil-ended, nil-only, cell-short, cell-ended, cell-only, hole-only, declare-short, declare-ended, declare-only, case-none, case-ended, case-only}
+use Rattle.psg_deflines.proofs.TermFormLaws.{kept-none, kept-some, all-none, all-some, row-ended, row-only, nil-ended, nil-only, cell-short, cell-ended, cell-only, hole-only, declare-short, declare-ended, declare-only, case-ended, case-only}
 
 pub only-if : (ps : Parts) (b : Bool) (read outcome : FormRead) → outcome ≡ cond b read reads.Nothing → (b ≡ true → IsFormRead ps read) → (b ≡ false → HasNoForm ps) → IsFormRead ps outcome
 only-if ps true read outcome e holds fails = subst (IsFormRead ps) (sym e) (holds refl)
@@ -94,7 +92,7 @@ module _ (n : Name) (ps : Parts) (kind : IsKindName n) (tail : Tail) where
   pub nil-other : (h : IsTailFound 0 ps tail) → is_nothing tail.behind ≡ false → HasNoForm (codes "nil" ∷ n ∷ ps)
   nil-other h e = nil-ended n ps tail h (something-some tail.behind h.specimen h.specimen_kept e)
 
--- ---- cell rows
+  -- ---- cell rows
 
   two-terms : (ts : List WrittenTerm) → length ts ≡ 2 → (u v : WrittenTerm) × (ts ≡ u ∷ v ∷ [])
   two-terms [] e = absurd (omega arith)
@@ -138,8 +136,7 @@ module _ (n : Name) (ps : Parts) (kind : IsKindName n) (tail : Tail) where
   pub cell-deep : (h : IsTailFound 2 ps tail) → ((tail.count == 2) && is_nothing tail.behind) ≡ true → (pair : Option (WrittenTerm × WrittenTerm)) → IsPair pair → (tail.head ≡ None) ⊎ (pair ≡ None) → IsFormRead (codes "cell" ∷ n ∷ ps) reads.TooDeep
   cell-deep h e pair p lost =
       let holds = cell-holds h e in
-      let two = two-terms h.columns holds.0 in
-      (
+      let two = two-terms h.columns holds.0 in (
         lines.Cell n h.head two.0 two.1,
         cell-only n ps kind tail h holds.1 two.0 two.1 two.2,
         tt,
@@ -164,7 +161,7 @@ module _ (n : Name) (ps : Parts) (kind : IsKindName n) (tail : Tail) where
       not-two : (m : ℕ) → m ≡ 2 → (m == 2) ≡ false → ⊥
       not-two m e f = elim (eqb_tells m 2) [ inl g ↦ false≢true (sym f ∙ g.0) | inr g ↦ g.1 e ]
 
--- ---- hole rows
+  -- ---- hole rows
 
   pub hole-kept : (h : IsTailFound 0 ps tail) → (x : WrittenTerm) (w : Option WrittenTree) → tail.head ≡ Some x → specimen_of tail.behind ≡ Some w → IsFormRead (codes "hole" ∷ n ∷ ps) (reads.Read (lines.Hole n x w))
   hole-kept h x w e f =
@@ -191,7 +188,7 @@ module _ (n : Name) (ps : Parts) (kind : IsKindName n) (tail : Tail) where
       hidden behinds.TooDeep w k e s = k.2 (subst IsShallowBehindBy k.1 s)
       hidden (behinds.Tree y) w k e s = cc
 
--- ---- declare rows
+  -- ---- declare rows
 
   one-term : (ts : List WrittenTerm) → length ts ≡ 1 → (u : WrittenTerm) × (ts ≡ u ∷ [])
   one-term [] e = absurd (omega arith)
@@ -228,8 +225,7 @@ module _ (n : Name) (ps : Parts) (kind : IsKindName n) (tail : Tail) where
   declare-deep h e single p lost =
       let holds = declare-holds h e in
       let one = one-term h.columns holds.0 in
-      let some = some-tree tail.behind h.specimen h.specimen_kept holds.1 in
-      (
+      let some = some-tree tail.behind h.specimen h.specimen_kept holds.1 in (
         lines.Declare n h.head one.0 some.0,
         declare-only n ps kind tail h one.0 some.0 one.1 some.1,
         tt,
@@ -271,8 +267,7 @@ module _ (ps : Parts) (tail : Tail) (h : IsTailFound 0 ps tail) where
   pub case-deep : not (is_nothing tail.behind) ≡ true → (tail.head ≡ None) ⊎ (tree_behind tail.behind ≡ None) → IsFormRead (codes "case" ∷ ps) reads.TooDeep
   case-deep e lost =
       let off = not-true (is_nothing tail.behind) e in
-      let some = some-tree tail.behind h.specimen h.specimen_kept off in
-      (
+      let some = some-tree tail.behind h.specimen h.specimen_kept off in (
         lines.Case h.head some.0,
         case-only ps tail h some.0 some.1,
         tt,

@@ -1,18 +1,18 @@
 -- A walk over the parts of a term, from its beginning to its end.
-use Rattle.std.proofs.Common.{◌≡◌, ℕ, ◌+◌, ◌-◌, ◌<◌, ◌≤◌, ◌||◌, nat_le, Bool, true, false, zero, suc, List, [], ◌∷◌, ◌++◌, take, drop, length, length-drop, refl, ap, sym, ◌∙◌, subst, arith, inl, inr}
+use Rattle.std.proofs.Common.{◌≡◌, ℕ, ◌+◌, ◌-◌, ◌<◌, ◌≤◌, ◌||◌, nat_le, Bool, true, false, zero, suc, List, [], ◌∷◌, ◌++◌, take, drop, length, length-drop, refl, ap, sym, ◌∙◌, subst, arith}
 use Rattle.std.specs.Prelude.{Option, Some, None, MatchOption}
 use Rattle.std.specs.Borrow.{Bor}
-use Rattle.std.proofs.lemmas.Bool.{false≢true, or_cases, leb-true, leb-false, cases_Bool}
+use Rattle.std.proofs.lemmas.Bool.{false≢true, leb-true, leb-false}
 use Rattle.std.proofs.lemmas.List.{drop-drop}
 use Rattle.psg_deflines.specs.Parts.{texts}
 use Rattle.psg_deflines.specs.WrittenTerms.{WrittenTerm, term_parts, HasTermForm, IsShallowTerm, most_nested}
-use Rattle.psg_deflines.specs.TermWalks.{Parts, IsNotOpened, IsTermRead, HasNoTerm, IsKept, IsTermFound, Stage, expects, has, IsStep, HasNoStep, IsStepMade, framed_behind, AreOpen, IsWalk, is_deep, height, IsDone, IsFinished, IsAdvanced}
+use Rattle.psg_deflines.specs.TermWalks.{Parts, IsNotOpened, HasNoTerm, IsKept, IsTermFound, Stage, expects, has, IsStep, HasNoStep, IsStepMade, framed_behind, AreOpen, IsWalk, is_deep, height, IsDone, IsFinished, IsAdvanced}
 use Rattle.psg_deflines.specs.declared.term_reading.Brackets.{Brackets}
 use Rattle.psg_deflines.specs.declared.term_reading.Walk.{Walk}
 use Rattle.psg_deflines.specs.declared.term_reading.Walk.TheVariants as walks
 use Rattle.psg_deflines.specs.declared.term_reading.TermRead.{TermRead}
 use Rattle.psg_deflines.proofs.Lists.{rest-whole, nil-length}
-use Rattle.psg_deflines.proofs.TermWalkLaws.{IsGood, walked, step-good, step-walked, step-shorter, Leads, ends, goes, leads-next, leads-not, leads-end, walked-over, Fits, AreFit, IsFit, leads-fit, step-fit, step-deep, step-fit-has}
+use Rattle.psg_deflines.proofs.TermWalkLaws.{IsGood, walked, step-good, step-walked, step-shorter, Leads, ends, goes, leads-next, leads-not, leads-end, walked-over, Fits, IsFit, leads-fit, step-fit, step-deep, step-fit-has}
 
 pub texts-drop : (ts : List (Bor (List ℕ))) (n : ℕ) → texts (drop n ts) ≡ drop n (texts ts)
 texts-drop [] zero = refl

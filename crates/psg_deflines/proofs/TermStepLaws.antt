@@ -1,12 +1,10 @@
 -- What the frames of a walk hold after a step.
-use Rattle.std.proofs.Common.{◌≡◌, ℕ, ◌+◌, ◌<◌, ◌≤◌, ◌||◌, nat_le, Bool, true, false, zero, suc, List, [], ◌∷◌, ◌++◌, drop, length, length-append, codes, refl, ap, sym, ◌∙◌, subst, arith}
-use Rattle.std.specs.Prelude.{Option, Some, None, MatchOption, option_to_list}
+use Rattle.std.proofs.Common.{◌≡◌, ℕ, ◌||◌, nat_le, Bool, true, false, List, [], ◌∷◌, ◌++◌, drop, length, length-append, codes, refl, ap, sym, ◌∙◌, subst, arith}
 use Rattle.std.specs.Borrow.{Bor}
-use Rattle.std.proofs.lemmas.Bool.{false≢true, or_cases}
 use Rattle.psg_grammar.specs.Sound.{IsOwnName}
 use Rattle.psg_deflines.specs.Parts.{texts}
 use Rattle.psg_deflines.specs.WrittenTerms.{WrittenTerm, variable, named, apply, applied, is_variable_name, most_nested}
-use Rattle.psg_deflines.specs.TermWalks.{Parts, IsOpened, IsNotOpened, Stage, expects, has, IsStep, variable_step, constant_step, opened_step, comma_step, closed_step, IsStepMade, frame_term, framed_behind, AreOpen, height}
+use Rattle.psg_deflines.specs.TermWalks.{Parts, IsOpened, IsNotOpened, expects, has, variable_step, constant_step, opened_step, comma_step, closed_step, IsStepMade, frame_term, framed_behind, AreOpen, height}
 use Rattle.psg_deflines.specs.declared.term_reading.Frame.{Frame}
 use Rattle.psg_deflines.specs.declared.term_reading.Brackets.{Brackets}
 use Rattle.psg_deflines.specs.declared.term_reading.Walk.TheVariants as walks

@@ -1,10 +1,9 @@
 -- Laws of the walk over the parts of a term.
-use Rattle.std.proofs.Common.{◌≡◌, ℕ, ◌+◌, ◌<◌, ◌≤◌, ◌||◌, max, nat_le, Bool, true, false, zero, suc, List, [], ◌∷◌, ◌++◌, length, length-append, append_assoc, append-nil, codes, refl, ap, sym, ◌∙◌, subst, arith}
-use Rattle.std.specs.Prelude.{Option, Some, None, MatchOption}
+use Rattle.std.proofs.Common.{◌≡◌, ℕ, ◌+◌, ◌<◌, ◌≤◌, true, List, [], ◌∷◌, ◌++◌, length, append_assoc, codes, refl, ap, sym, ◌∙◌, subst, arith}
 use Rattle.std.proofs.lemmas.Bool.{false≢true}
 use Rattle.psg_grammar.specs.Sound.{IsOwnName}
-use Rattle.psg_deflines.specs.WrittenTerms.{WrittenTerm, variable, named, apply, term_parts, opened, is_head, is_variable_name, HasTermForm, IsShallowTerm, term_depth, most_nested}
-use Rattle.psg_deflines.specs.TermWalks.{Parts, IsNotOpened, Stage, expects, has, IsStep, variable_step, constant_step, opened_step, comma_step, closed_step, IsTermRead, HasNoTerm, HasNoStep}
+use Rattle.psg_deflines.specs.WrittenTerms.{WrittenTerm, variable, named, apply, term_parts, opened, is_head, HasTermForm, term_depth, most_nested}
+use Rattle.psg_deflines.specs.TermWalks.{Parts, IsNotOpened, Stage, expects, has, IsStep, variable_step, constant_step, opened_step, comma_step, closed_step, HasNoStep}
 
 -- ---- steps
 

@@ -1,14 +1,13 @@
 -- How deep the specimens are that a walk over a specimen's parts holds.
-use Rattle.std.proofs.Common.{◌≡◌, ℕ, ◌+◌, ◌<◌, ◌≤◌, ◌||◌, max, nat_le, Bool, true, false, zero, suc, List, [], ◌∷◌, ◌++◌, length, inl, inr, refl, ap, sym, ◌∙◌, subst, arith}
-use Rattle.std.specs.Prelude.{Option, Some, None}
+use Rattle.std.proofs.Common.{◌≡◌, ℕ, ◌+◌, ◌≤◌, suc, List, [], ◌∷◌, ◌++◌, length, refl, sym, subst, arith}
+use Rattle.std.specs.Prelude.{Some}
 use Rattle.std.specs.List.{AllByRecursion}
-use Rattle.psg_deflines.specs.WrittenTerms.{WrittenTerm, IsShallowTerm, most_nested}
+use Rattle.psg_deflines.specs.WrittenTerms.{WrittenTerm, IsShallowTerm}
 use Rattle.psg_deflines.specs.WrittenTrees.{WrittenTree, operator, with_tree, with_name, with_number, with_text, list_end, list_rest, element, place, tree_depth, place_terms}
 use Rattle.psg_deflines.specs.TreeShapes.{with_part, list_of}
 use Rattle.psg_deflines.specs.TermWalks.{Parts}
-use Rattle.psg_deflines.specs.TreeWalks.{TreeFrame, in_operator, in_list, TreeStage, expects, after, done, placed, IsLiteral, Begin, a_part, a_tree, a_frame, Finish, a_comma, a_close, an_end, begun, finished, IsTreeStep, Begins, a_place, an_empty, a_rest, a_list, an_operator, a_leaf, a_literal, Finishes, comma, close, bracket, bar}
-use Rattle.psg_deflines.specs.TreePieces.{AreShallow, IsFresh}
-use Rattle.psg_deflines.specs.TreeStages.{Fits, FrameFits, AreFit, IsFit}
+use Rattle.psg_deflines.specs.TreeWalks.{TreeFrame, in_operator, in_list, TreeStage, expects, after, done, placed, IsLiteral, Begin, a_part, a_tree, a_frame, Finish, a_comma, a_close, an_end, begun, finished, IsTreeStep, Begins, a_place, an_empty, a_rest, a_list, an_operator, a_leaf, a_literal}
+use Rattle.psg_deflines.specs.TreeStages.{Fits, AreFit, IsFit}
 use Rattle.psg_deflines.specs.declared.trees.LinePart.{LinePart}
 use Rattle.psg_deflines.specs.declared.trees.LinePart.TheVariants as parts
 

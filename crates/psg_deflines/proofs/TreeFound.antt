@@ -1,13 +1,13 @@
 -- A walk over the parts of a specimen, from its beginning to its end.
-use Rattle.std.proofs.Common.{◌≡◌, ℕ, ◌+◌, ◌<◌, ◌≤◌, Bool, true, false, zero, suc, List, [], ◌∷◌, ◌++◌, drop, map, length, length-drop, refl, ap, sym, ◌∙◌, subst, arith, inl, inr}
-use Rattle.std.specs.Prelude.{Option, Some, None, MatchOption, is_some, not, ◌⊎◌}
+use Rattle.std.proofs.Common.{◌≡◌, ℕ, ◌+◌, ◌<◌, ◌≤◌, Bool, true, false, zero, suc, List, [], ◌++◌, drop, map, length, length-drop, refl, ap, sym, ◌∙◌, subst, arith, inl, inr}
+use Rattle.std.specs.Prelude.{Option, Some, None, MatchOption}
 use Rattle.std.proofs.lemmas.Bool.{false≢true}
 use Rattle.std.proofs.lemmas.List.{drop-drop}
 use Rattle.psg_deflines.specs.WrittenTrees.{WrittenTree, tree_parts, HasTreeForm, IsShallowTree}
 use Rattle.psg_deflines.specs.TermWalks.{Parts, IsNotOpened}
-use Rattle.psg_deflines.specs.TreeReads.{IsTreeRead, HasNoTree, IsTreeKept, IsTreeFound}
-use Rattle.psg_deflines.specs.TreeWalks.{TreeFrame, TreeStage, expects, after, done, IsTreeStep}
-use Rattle.psg_deflines.specs.TreeStages.{Fits, AreFit, IsFit, framed_behind, is_operator, AreTreesOpen, IsTreeWalk, is_deep, HasNoTreeStep, IsTreeStepMade, IsTreeAdvanced, IsTreeDone, kept_tree}
+use Rattle.psg_deflines.specs.TreeReads.{HasNoTree, IsTreeKept, IsTreeFound}
+use Rattle.psg_deflines.specs.TreeWalks.{TreeFrame, TreeStage, expects, after, done}
+use Rattle.psg_deflines.specs.TreeStages.{Fits, IsFit, framed_behind, is_operator, AreTreesOpen, IsTreeWalk, is_deep, HasNoTreeStep, IsTreeStepMade, IsTreeAdvanced, IsTreeDone, kept_tree}
 use Rattle.psg_deflines.specs.declared.tree_reading.OpenTrees.{OpenTrees}
 use Rattle.psg_deflines.specs.declared.tree_reading.TreeWalk.{TreeWalk}
 use Rattle.psg_deflines.specs.declared.tree_reading.TreeWalk.TheVariants as walks

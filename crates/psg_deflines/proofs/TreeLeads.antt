@@ -1,18 +1,17 @@
 -- The parts of a specimen lead a walk over them to it.
-use Rattle.std.proofs.Common.{◌≡◌, ℕ, ◌+◌, ◌<◌, ◌≤◌, Bool, true, false, zero, suc, List, [], ◌∷◌, ◌++◌, length, append_assoc, append-nil, codes, inl, inr, refl, ap, sym, ◌∙◌, subst, arith}
-use Rattle.std.specs.Prelude.{Option, Some, None, ◌⊎◌}
+use Rattle.std.proofs.Common.{◌≡◌, ℕ, true, false, List, [], ◌∷◌, ◌++◌, append_assoc, codes, inl, inr, refl, ap, sym, ◌∙◌, subst, arith}
+use Rattle.std.specs.Prelude.{Some, ◌⊎◌}
 use Rattle.std.proofs.lemmas.Bool.{false≢true}
-use Rattle.psg_terms.specs.Names.{Name}
-use Rattle.psg_grammar.specs.Sound.{is_upper, is_name_from, IsKindName, IsOwnName}
+use Rattle.psg_grammar.specs.Sound.{is_upper, is_name_from, IsOwnName}
 use Rattle.psg_deflines.specs.WrittenTrees.{WrittenTree, operator, with_tree, with_name, with_number, with_text, list_end, list_rest, element, place, tree_parts, opened, follow, place_parts, is_front, is_list, HasTreeForm, quoted_part}
 use Rattle.psg_deflines.specs.TreeShapes.{with_part, list_of}
 use Rattle.psg_deflines.specs.TermWalks.{Parts, IsNotOpened}
-use Rattle.psg_deflines.specs.TreeWalks.{TreeFrame, in_operator, in_list, TreeStage, expects, after, done, placed, literal_part, IsLiteral, Begin, a_part, a_tree, a_frame, first_of, GoesOn, Begins, a_place, an_empty, a_rest, a_list, an_operator, a_leaf, a_literal, Finish, a_comma, a_close, an_end, Finishes, comma, close, bracket, bar, begun, finished, IsTreeStep}
+use Rattle.psg_deflines.specs.TreeWalks.{TreeFrame, in_operator, in_list, expects, after, placed, literal_part, IsLiteral, a_part, a_tree, a_frame, first_of, GoesOn, Begins, a_place, an_empty, a_rest, a_list, an_operator, a_leaf, a_literal, a_comma, a_close, an_end, Finishes, comma, close, bracket, bar, begun}
 use Rattle.psg_deflines.specs.declared.trees.LinePart.{LinePart}
 use Rattle.psg_deflines.specs.declared.trees.LinePart.TheVariants as parts
 use Rattle.psg_deflines.proofs.PartReads.{byte_of}
 use Rattle.psg_deflines.proofs.TreeWalkLaws.{literal-no_kind, own-no_kind}
-use Rattle.psg_deflines.proofs.TreeOverLaws.{Leads, ends, goes}
+use Rattle.psg_deflines.proofs.TreeOverLaws.{Leads, goes}
 
 -- ---- how a specimen begins
 

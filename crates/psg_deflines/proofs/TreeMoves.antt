@@ -1,15 +1,15 @@
 -- Where a walk over the parts of a specimen comes to in one step.
-use Rattle.std.proofs.Common.{◌≡◌, ℕ, ◌+◌, ◌<◌, ◌≤◌, ◌||◌, nat_le, Bool, true, false, cond, zero, suc, List, [], ◌∷◌, ◌++◌, drop, length, inl, inr, refl, ap, sym, ◌∙◌, subst, arith}
+use Rattle.std.proofs.Common.{◌≡◌, ℕ, ◌+◌, ◌<◌, ◌≤◌, ◌||◌, nat_le, Bool, true, false, cond, List, [], ◌∷◌, ◌++◌, drop, length, inl, inr, refl, ap, sym, ◌∙◌, subst, arith}
 use Rattle.std.specs.Prelude.{Option, Some, None, MatchOption, MatchBool, is_some, not, ◌⊎◌}
 use Rattle.std.specs.List.{AllByRecursion}
 use Rattle.std.proofs.lemmas.Bool.{false≢true, leb-true, leb-false}
 use Rattle.psg_deflines.specs.WrittenTerms.{most_nested}
-use Rattle.psg_deflines.specs.WrittenTrees.{WrittenTree, tree_depth, place_terms}
+use Rattle.psg_deflines.specs.WrittenTrees.{WrittenTree, tree_depth}
 use Rattle.psg_deflines.specs.TreeShapes.{with_part, list_of, ending}
 use Rattle.psg_deflines.specs.TermWalks.{Parts}
-use Rattle.psg_deflines.specs.TreeWalks.{TreeFrame, in_operator, in_list, TreeStage, expects, after, done, placed, IsLiteral, Begin, a_part, a_tree, a_frame, Begins, Finish, a_comma, a_close, an_end, Finishes, begun, finished, IsTreeStep}
-use Rattle.psg_deflines.specs.TreePieces.{AreShallow, ShowsEnd, frame_of, IsKeptTree, IsFresh, ShowsBegin, IsBeginRead, HasNoBegin, ShowsFinish, IsFinishRead, HasNoFinish}
-use Rattle.psg_deflines.specs.TreeStages.{Fits, FrameFits, AreFit, IsFit, is_operator, AreTreesOpen, IsTreeWalk, is_deep, IsPlaced, IsLed, IsMoved, HasNoTreeStep, IsTreeStepMade, IsTreeAdvanced}
+use Rattle.psg_deflines.specs.TreeWalks.{TreeFrame, in_operator, in_list, TreeStage, expects, after, placed, IsLiteral, Begin, a_part, a_tree, a_frame, a_comma, a_close, an_end, begun, finished}
+use Rattle.psg_deflines.specs.TreePieces.{AreShallow, ShowsEnd, frame_of, IsKeptTree, IsFresh, IsBeginRead, HasNoBegin, IsFinishRead, HasNoFinish}
+use Rattle.psg_deflines.specs.TreeStages.{Fits, FrameFits, AreFit, IsFit, is_operator, AreTreesOpen, IsTreeWalk, is_deep, IsPlaced, IsLed, HasNoTreeStep, IsTreeStepMade}
 use Rattle.psg_deflines.specs.declared.trees.LinePart.{LinePart}
 use Rattle.psg_deflines.specs.declared.places.ListEnd.{ListEnd}
 use Rattle.psg_deflines.specs.declared.tree_pieces.OpenTree.{OpenTree}
@@ -178,8 +178,8 @@ module _ (b c : OpenTrees) (x : OpenTree) (fs : List TreeFrame) (h : AreTreesOpe
       (λ n. subst (λ o. MatchOption o (Unit {0}) (λ z. z ≡ list_of last gs)) (sym is) (ended end.deep (ending end.rest) shown.1 gs (same (sym deep ∙ n))))))
       (λ n fit. shallow-not end.deep (ending end.rest) shown.1 (sym is ∙ n) (list-unfits (length popped.rest) gs last fit).1.1)
       (λ z n small fit.
-          let k = subst AreFit split fit in
-          (k.1, list-fits (length popped.rest) gs last k.0.1 (last-fits z (length popped.rest) end.deep (ending end.rest) shown.1 (sym is ∙ n) k.0.0)))
+      let k = subst AreFit split fit in
+      (k.1, list-fits (length popped.rest) gs last k.0.1 (last-fits z (length popped.rest) end.deep (ending end.rest) shown.1 (sym is ∙ n) k.0.0)))
     where
       ended : (d : Bool) (o : WrittenTree) → MatchBool d (AreShallow last → ⊥) ((o ≡ last) × AreShallow last) → (gs : List WrittenTree) → es ≡ gs → MatchOption (cond d None (Some (list_of o es))) (Unit {0}) (λ z. z ≡ list_of last gs)
       ended true o k gs s = tt

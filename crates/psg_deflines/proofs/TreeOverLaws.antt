@@ -1,19 +1,14 @@
 -- What a walk over the parts of a specimen has read, where it leads, and how deep it is.
-use Rattle.std.proofs.Common.{◌≡◌, ℕ, ◌+◌, ◌<◌, ◌≤◌, ◌&&◌, max, Bool, true, false, zero, suc, List, [], ◌∷◌, ◌++◌, length, length-append, append_assoc, append-nil, codes, inl, inr, refl, ap, sym, ◌∙◌, subst, arith}
-use Rattle.std.specs.Prelude.{Option, Some, None}
+use Rattle.std.proofs.Common.{◌≡◌, ◌<◌, true, List, [], ◌∷◌, ◌++◌, length, length-append, append_assoc, codes, refl, ap, sym, ◌∙◌, subst, arith}
+use Rattle.std.specs.Prelude.{Some}
 use Rattle.std.specs.List.{AllByRecursion}
-use Rattle.std.proofs.lemmas.Bool.{false≢true}
-use Rattle.psg_terms.specs.Names.{Name}
-use Rattle.psg_grammar.specs.Sound.{is_upper, is_lower, is_digit, is_name_from, IsKindName, IsOwnName}
-use Rattle.psg_deflines.specs.WrittenTerms.{WrittenTerm, term_parts, HasTermForm, IsShallowTerm, most_nested}
-use Rattle.psg_deflines.specs.WrittenTrees.{WrittenTree, operator, with_tree, with_name, with_number, with_text, list_end, list_rest, element, place, tree_parts, opened, follow, place_parts, is_front, is_list, HasTreeForm, tree_depth, place_terms, IsShallowTree, quoted_part}
+use Rattle.psg_deflines.specs.WrittenTrees.{WrittenTree, operator, with_tree, with_name, with_number, with_text, list_end, list_rest, element, place, tree_parts, opened, follow, place_parts, is_front, is_list, HasTreeForm, quoted_part}
 use Rattle.psg_deflines.specs.TreeShapes.{with_part, list_of}
-use Rattle.psg_deflines.specs.TermWalks.{Parts, IsNotOpened}
-use Rattle.psg_deflines.specs.TreeWalks.{TreeFrame, in_operator, in_list, TreeStage, expects, after, done, placed, literal_part, IsLiteral, Begin, a_part, a_tree, a_frame, first_of, GoesOn, Begins, a_place, an_empty, a_rest, a_list, an_operator, a_leaf, a_literal, Finish, a_comma, a_close, an_end, Finishes, comma, close, bracket, bar, begun, finished, IsTreeStep}
+use Rattle.psg_deflines.specs.TermWalks.{Parts}
+use Rattle.psg_deflines.specs.TreeWalks.{TreeFrame, in_operator, in_list, TreeStage, expects, after, done, placed, literal_part, IsLiteral, Begin, a_part, a_tree, a_frame, Begins, a_place, an_empty, a_rest, a_list, an_operator, a_leaf, a_literal, Finish, a_comma, a_close, an_end, Finishes, comma, close, bracket, bar, begun, finished, IsTreeStep}
 use Rattle.psg_deflines.specs.declared.trees.LinePart.{LinePart}
 use Rattle.psg_deflines.specs.declared.trees.LinePart.TheVariants as parts
-use Rattle.psg_deflines.proofs.PartReads.{rest_of, byte_of}
-use Rattle.psg_deflines.proofs.TreeWalkLaws.{step-only, literal-no_kind, own-no_kind}
+use Rattle.psg_deflines.proofs.TreeWalkLaws.{step-only}
 
 -- ---- what was read
 
@@ -216,8 +211,7 @@ finished-both (in_operator g ∷ fs) a_close next f h k =
 finished-both (in_list es ∷ fs) a_close next f h k = absurd (cc)
 finished-both (in_operator g ∷ fs) (an_end end) next f h k = absurd (cc)
 finished-both (in_list es ∷ fs) (an_end end) next f h k =
-    let same : placed fs (list_of end es) ≡ next = cc in
-    (
+    let same : placed fs (list_of end es) ≡ next = cc in (
       subst IsGood same (placed-good fs (list_of end es) h.0.1 (list-good es end h.0.0 k.0 k.1).1),
       ap walked (sym same) ∙ placed-walked fs (list_of end es) ∙ ap (λ x. opens fs ++ x) (sym (list-walked es end h.1)) ∙ sym (append_assoc (opens fs) (codes "[" ∷ joined es) (follow end)),
     )

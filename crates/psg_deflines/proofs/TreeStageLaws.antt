@@ -1,18 +1,17 @@
 -- What the open operators and lists of a walk hold after a step.
-use Rattle.std.proofs.Common.{◌≡◌, ℕ, ◌+◌, ◌<◌, ◌≤◌, ◌||◌, nat_le, Bool, true, false, cond, zero, suc, List, [], ◌∷◌, ◌++◌, map, length, length-append, inl, inr, refl, ap, ap₂, sym, ◌∙◌, subst, arith}
+use Rattle.std.proofs.Common.{◌≡◌, ℕ, ◌+◌, ◌||◌, nat_le, Bool, true, false, cond, List, [], ◌∷◌, ◌++◌, map, length, length-append, inl, inr, refl, ap, ap₂, sym, ◌∙◌, subst, arith}
 use Rattle.std.specs.Prelude.{Option, Some, None, MatchOption, is_some, not, ◌⊎◌}
-use Rattle.std.proofs.lemmas.Bool.{false≢true, leb-true, leb-false}
+use Rattle.std.proofs.lemmas.Bool.{false≢true}
 use Rattle.psg_deflines.specs.WrittenTerms.{most_nested}
-use Rattle.psg_deflines.specs.WrittenTrees.{WrittenTree, operator, with_tree}
+use Rattle.psg_deflines.specs.WrittenTrees.{WrittenTree, operator}
 use Rattle.psg_deflines.specs.TreeShapes.{with_part, with_parts}
-use Rattle.psg_deflines.specs.TreeWalks.{TreeFrame, in_operator, in_list, TreeStage, expects, after, done, placed}
+use Rattle.psg_deflines.specs.TreeWalks.{TreeFrame, in_operator, in_list, after, placed}
 use Rattle.psg_deflines.specs.TreePieces.{frame_of}
-use Rattle.psg_deflines.specs.TreeStages.{is_operator, framed_behind, AreTreesOpen, IsTreeWalk, is_deep, filled_with, IsFilledBy, IsPlaced}
+use Rattle.psg_deflines.specs.TreeStages.{is_operator, framed_behind, AreTreesOpen, IsTreeWalk, filled_with, IsFilledBy, IsPlaced}
 use Rattle.psg_deflines.specs.declared.trees.LinePart.{LinePart}
 use Rattle.psg_deflines.specs.declared.trees.LinePart.TheVariants as LineParts
 use Rattle.psg_deflines.specs.declared.tree_pieces.OpenTree.{OpenTree}
 use Rattle.psg_deflines.specs.declared.tree_reading.OpenTrees.{OpenTrees}
-use Rattle.psg_deflines.specs.declared.tree_reading.TreeWalk.{TreeWalk}
 use Rattle.psg_deflines.specs.declared.tree_reading.TreeWalk.TheVariants as walks
 
 pub parts-snoc : (f : WrittenTree) (ps : List LinePart) (p : LinePart) → with_parts f (ps ++ p ∷ []) ≡ with_part (with_parts f ps) p
@@ -154,7 +153,7 @@ placed-after b c d kept tree len x y fs t h items deep size is filled more noted
     let popped = open-less b c x fs h items deep in
     let off : d.deep ≡ false → b.deep ≡ false = λ n. (or-false b.deep (not (is_some kept) || nat_le most_nested len) (sym noted ∙ n)).0 in
     let whole : d.deep ≡ false → frame_of y ≡ filled_with popped.first t = λ n.
-        subst (λ o. MatchOption o (Unit {0}) (λ z. frame_of y ≡ filled_with (frame_of x) z)) (is ∙ kept-some b.deep kept len t same (sym noted ∙ n)) filled.filled ∙ ap (λ f. filled_with f t) (popped.kept (off n)) in
+    subst (λ o. MatchOption o (Unit {0}) (λ z. frame_of y ≡ filled_with (frame_of x) z)) (is ∙ kept-some b.deep kept len t same (sym noted ∙ n)) filled.filled ∙ ap (λ f. filled_with f t) (popped.kept (off n)) in
     record {
       shown = subst (λ gs. IsTreeWalk (walks.After d) (placed gs t)) (sym popped.split) (subst (IsTreeWalk (walks.After d)) (sym (placed-filled popped.first popped.rest t))
           (open-more c d popped.rest (filled_with popped.first t) y popped.left more (λ n. deep ∙ off n) (filled.kind ∙ popped.kind ∙ sym (filled-kind popped.first t)) whole));

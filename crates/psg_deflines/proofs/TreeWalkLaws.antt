@@ -1,19 +1,19 @@
 -- Laws of the walk over the parts of a specimen.
-use Rattle.std.proofs.Common.{◌≡◌, ◌==◌, ℕ, ◌+◌, ◌<◌, ◌≤◌, ◌&&◌, ◌||◌, nat_le, Bool, true, false, cond, zero, suc, List, [], ◌∷◌, ◌++◌, length, length-append, append_assoc, append-nil, codes, inl, inr, refl, ap, ap₂, sym, ◌∙◌, subst, arith}
-use Rattle.std.specs.Prelude.{Option, Some, None, chars, encode_utf8_all, bytes_eq}
-use Rattle.std.specs.List.{AllByRecursion, list_all}
+use Rattle.std.proofs.Common.{◌≡◌, ℕ, ◌≤◌, ◌&&◌, nat_le, true, false, cond, List, [], ◌∷◌, ◌++◌, length, append_assoc, codes, inl, inr, refl, ap, ap₂, sym, ◌∙◌, subst, arith}
+use Rattle.std.specs.Prelude.{Some, chars, encode_utf8_all, bytes_eq}
+use Rattle.std.specs.List.{list_all}
 use Rattle.std.proofs.lemmas.Bool.{false≢true, and_parts, cases_Bool, leb-true}
 use Rattle.std.proofs.lemmas.Str.{encodes_same, encodes-chars}
 use Rattle.std.proofs.lemmas.Slice.Eq.{bytes_eq-Decides}
 use Rattle.psg_terms.specs.Names.{Name}
-use Rattle.psg_grammar.specs.Sound.{is_upper, is_lower, is_digit, is_name_from, IsKindName, IsOwnName, is_specimen_name, goes_on_name, between}
+use Rattle.psg_grammar.specs.Sound.{is_upper, is_lower, is_digit, is_name_from, IsOwnName, goes_on_name, between}
 use Rattle.psg_lexis.specs.Tokens.{quoted}
 use Rattle.psg_lexis.proofs.Unquoting.{contents_of, contents_of-quoted, contents_small, stops-quote}
 use Rattle.psg_deflines.specs.WrittenTerms.{WrittenTerm, term_parts, HasTermForm}
-use Rattle.psg_deflines.specs.WrittenTrees.{WrittenTree, operator, list_end, list_rest, place, place_parts, is_digits, IsQuotable, quoted_part}
+use Rattle.psg_deflines.specs.WrittenTrees.{operator, list_rest, place, place_parts, is_digits, IsQuotable, quoted_part}
 use Rattle.psg_deflines.specs.TermWalks as terms
 use Rattle.psg_deflines.specs.TermWalks.{Parts, IsNotOpened}
-use Rattle.psg_deflines.specs.TreeWalks.{TreeFrame, in_operator, in_list, TreeStage, expects, after, done, literal_part, IsLiteral, Begin, a_part, a_tree, a_frame, first_of, GoesOn, Begins, a_place, an_empty, a_rest, a_list, an_operator, a_leaf, a_literal, Finish, a_comma, a_close, an_end, Finishes, comma, close, bracket, bar, begun, finished, IsTreeStep}
+use Rattle.psg_deflines.specs.TreeWalks.{in_operator, TreeStage, expects, after, done, literal_part, IsLiteral, Begin, a_part, a_tree, a_frame, first_of, Begins, a_place, an_empty, a_rest, a_list, an_operator, a_leaf, a_literal, Finish, an_end, Finishes, comma, close, bracket, bar, begun, finished, IsTreeStep}
 use Rattle.psg_deflines.specs.declared.trees.LinePart.{LinePart}
 use Rattle.psg_deflines.specs.declared.trees.LinePart.TheVariants as parts
 use Rattle.psg_deflines.proofs.QuoteLaws.{quoted-whole}

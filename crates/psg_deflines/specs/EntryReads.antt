@@ -1,5 +1,5 @@
 -- What stands in a text of a file, from the text.
-use Rattle.std.specs.Prelude.{◌≡◌, ◌||◌, ◌⊎◌, Bool, true, false, Option, Some, None, List, [], ℕ}
+use Rattle.std.specs.Prelude.{◌≡◌, ◌||◌, ◌⊎◌, Bool, true, false, Some, None, List, [], ℕ}
 use Rattle.std.specs.List.{AllByRecursion}
 use Rattle.psg_deflines.specs.Entries.{IsEntry, Entry, written, AreEntries, IsPlain, HasHead, behind_head}
 use Rattle.psg_deflines.specs.declared.fault.DefCode.TheVariants as codes_of

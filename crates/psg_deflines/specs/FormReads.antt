@@ -1,15 +1,12 @@
 -- Lines and what stands in them, from their parts.
-use Rattle.std.specs.Prelude.{ℕ, ◌≡◌, ◌<◌, ◌≤◌, ◌⊎◌, Bool, Option, Some, None, MatchOption, List, [], ◌∷◌, ◌++◌, length, drop, map, codes}
+use Rattle.std.specs.Prelude.{ℕ, ◌≡◌, ◌<◌, ◌≤◌, Bool, List, [], ◌∷◌, ◌++◌, length, drop, map, codes}
 use Rattle.std.specs.List.{AllByRecursion}
 use Rattle.psg_terms.specs.Names.{Name}
 use Rattle.psg_terms.specs.declared.declare.ConDecl.{ConDecl}
-use Rattle.psg_grammar.specs.Sound.{IsKindName, IsOwnName, IsLevel}
+use Rattle.psg_grammar.specs.Sound.{IsKindName, IsLevel}
 use Rattle.psg_grammar.specs.declared.types.Level.{Level}
-use Rattle.psg_deflines.specs.WrittenTerms.{WrittenTerm, term_parts, HasTermForm, IsShallowTerm}
-use Rattle.psg_deflines.specs.WrittenTrees.{WrittenTree, tree_parts, HasTreeForm, IsShallowTree}
-use Rattle.psg_deflines.specs.Forms.{closed_names, argument_parts, constructor_parts, level_parts, word_if, item_part, terms_parts, columns_parts, by_parts, parts_of, HasConstructorForm, HasItemForm, HasFormBehindBy, HasForm, HasFixedWords, IsShallow, IsShallowBehindBy}
+use Rattle.psg_deflines.specs.Forms.{closed_names, argument_parts, constructor_parts, level_parts, word_if, item_part, parts_of, HasConstructorForm, HasItemForm, HasForm}
 use Rattle.psg_deflines.specs.TermWalks.{Parts, IsNotOpened}
-use Rattle.psg_deflines.specs.Only.{IsOnly}
 use Rattle.psg_deflines.specs.declared.lines.LineItem.{LineItem}
 use Rattle.psg_deflines.specs.declared.lines.LineItem.TheVariants as items
 use Rattle.psg_deflines.specs.declared.lines.Line.{Line}

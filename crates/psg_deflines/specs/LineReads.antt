@@ -1,5 +1,4 @@
 -- Lines of terms from their parts.
-use Rattle.std.specs.Prelude.{◌≡◌}
 use Rattle.psg_deflines.specs.Forms.{HasFixedWords, IsShallow}
 use Rattle.psg_deflines.specs.TermWalks.{Parts}
 use Rattle.psg_deflines.specs.FormReads.{IsForm, HasNoForm}

@@ -4,7 +4,7 @@ use Rattle.std.specs.List.{AllByRecursion}
 use Rattle.psg_grammar.specs.Sound.{IsKindName}
 use Rattle.psg_deflines.specs.WrittenTerms.{WrittenTerm, term_parts, HasTermForm, IsShallowTerm}
 use Rattle.psg_deflines.specs.WrittenTrees.{WrittenTree, IsShallowTree}
-use Rattle.psg_deflines.specs.Forms.{terms_parts, columns_parts, by_parts, HasFormBehindBy, IsShallowBehindBy}
+use Rattle.psg_deflines.specs.Forms.{terms_parts, columns_parts, by_parts, HasFormBehindBy}
 use Rattle.psg_deflines.specs.TermWalks.{Parts, IsNotOpened, IsKept}
 use Rattle.psg_deflines.specs.declared.tails.TermsRead.{TermsRead}
 use Rattle.psg_deflines.specs.declared.tails.Behind.{Behind}

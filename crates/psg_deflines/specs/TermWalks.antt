@@ -1,5 +1,5 @@
 -- A term that is read from left to right, part by part.
-use Rattle.std.specs.Prelude.{ℕ, ◌≡◌, ◌+◌, ◌≤◌, ◌||◌, nat_le, Bool, true, false, Option, Some, None, MatchOption, List, [], ◌∷◌, ◌++◌, length, drop, codes}
+use Rattle.std.specs.Prelude.{ℕ, ◌≡◌, ◌≤◌, ◌||◌, nat_le, Bool, true, false, Option, None, MatchOption, List, [], ◌∷◌, ◌++◌, length, drop, codes}
 use Rattle.psg_grammar.specs.Sound.{IsOwnName}
 use Rattle.psg_deflines.specs.WrittenTerms.{WrittenTerm, variable, named, apply, applied, term_parts, is_variable_name, HasTermForm, IsShallowTerm, most_nested}
 use Rattle.psg_deflines.specs.declared.term_reading.Frame.{Frame}

@@ -1,5 +1,5 @@
 -- Specimens from the parts of a line.
-use Rattle.std.specs.Prelude.{ℕ, ◌≡◌, ◌≤◌, Option, MatchOption, List, ◌++◌, length, drop}
+use Rattle.std.specs.Prelude.{◌≡◌, ◌≤◌, Option, MatchOption, ◌++◌, length, drop}
 use Rattle.psg_deflines.specs.WrittenTrees.{WrittenTree, tree_parts, HasTreeForm, IsShallowTree}
 use Rattle.psg_deflines.specs.TermWalks.{Parts, IsNotOpened}
 use Rattle.psg_deflines.specs.declared.tree_reading.TreeRead.{TreeRead}

@@ -1,12 +1,11 @@
 -- A specimen that is read from left to right, part by part.
-use Rattle.std.specs.Prelude.{ℕ, ◌≡◌, ◌+◌, ◌<◌, ◌≤◌, ◌^◌, Bool, true, false, is_some, not, Option, Some, None, MatchOption, List, [], ◌∷◌, ◌++◌, length, map, drop, codes}
-use Rattle.std.specs.List.{AllByRecursion}
+use Rattle.std.specs.Prelude.{ℕ, ◌≡◌, ◌<◌, ◌^◌, true, false, Option, Some, None, List, [], ◌∷◌, ◌++◌, codes}
 use Rattle.psg_terms.specs.Names.{Name}
 use Rattle.psg_grammar.specs.Sound.{is_upper, is_name_from, IsKindName, IsOwnName, is_specimen_name}
 use Rattle.psg_lexis.specs.Tokens.{value_of}
-use Rattle.psg_deflines.specs.WrittenTerms.{WrittenTerm, HasTermForm, IsShallowTerm, most_nested}
-use Rattle.psg_deflines.specs.WrittenTrees.{WrittenTree, operator, with_tree, with_name, with_number, with_text, list_end, list_rest, element, place, place_parts, place_terms, tree_depth, is_digits, IsQuotable, quoted_part}
-use Rattle.psg_deflines.specs.TreeShapes.{with_part, with_parts, list_of}
+use Rattle.psg_deflines.specs.WrittenTerms.{WrittenTerm, HasTermForm}
+use Rattle.psg_deflines.specs.WrittenTrees.{WrittenTree, operator, with_tree, list_end, list_rest, place, place_parts, is_digits, IsQuotable, quoted_part}
+use Rattle.psg_deflines.specs.TreeShapes.{with_part, list_of}
 use Rattle.psg_deflines.specs.TermWalks.{Parts, IsNotOpened}
 use Rattle.psg_deflines.specs.declared.trees.LinePart.{LinePart}
 use Rattle.psg_deflines.specs.declared.trees.LinePart.TheVariants as parts

@@ -61,7 +61,10 @@ fn constructor(alloc: Global, parts: &[&[u8]]) -> Result<Option<ConRead>, AllocE
     if !is_opened(rest) {
         let args = Seq::of(Vec::new(alloc));
         let constructor = ConDecl { name, args };
-        return Ok(Some(ConRead { constructor, taken: 1 }));
+        return Ok(Some(ConRead {
+            constructor,
+            taken: 1,
+        }));
     }
     let Some(read) = names_to_bracket(alloc, &parts[2..])? else {
         return Ok(None);
@@ -69,7 +72,10 @@ fn constructor(alloc: Global, parts: &[&[u8]]) -> Result<Option<ConRead>, AllocE
     let NamesRead { names, taken } = read;
     let args = Seq::of(names);
     let constructor = ConDecl { name, args };
-    Ok(Some(ConRead { constructor, taken: taken + 2 }))
+    Ok(Some(ConRead {
+        constructor,
+        taken: taken + 2,
+    }))
 }
 
 /// The constructors that the parts are.
@@ -82,7 +88,10 @@ pub fn constructors(alloc: Global, parts: &[&[u8]]) -> Result<Option<Vec<ConDecl
         let Some(read) = constructor(alloc, &parts[taken..])? else {
             return Ok(None);
         };
-        let ConRead { constructor, taken: more } = read;
+        let ConRead {
+            constructor,
+            taken: more,
+        } = read;
         constructors.push(constructor)?;
         taken += more;
     }

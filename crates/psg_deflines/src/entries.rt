@@ -141,7 +141,7 @@ fn cases_behind(so_far: bool, line: &Line) -> bool
 fn has_place(parts: &[&[u8]], rows: bool, cases: bool) -> bool
     ensures { (above : List Plain) → takes_rows above ≡ rows → takes_cases false above ≡ cases
         → MatchBool result ((line : Plain) → IsForm (texts parts.now) line → HasPlace above line)
-            ((line : Plain) → IsForm (texts parts.now) line → HasPlace above line → ⊥) }
+        ((line : Plain) → IsForm (texts parts.now) line → HasPlace above line → ⊥) }
 {
     let Some((keyword, _)) = parts.split_first() else {
         return true;

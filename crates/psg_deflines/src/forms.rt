@@ -76,7 +76,11 @@ pub fn line_phylum(alloc: Global, parts: &[&[u8]]) -> Result<Option<Line>, Alloc
     let Some(sort) = kind_name(alloc, sort)? else {
         return Ok(None);
     };
-    Ok(Some(Line::Phylum { name, sort, bracketed }))
+    Ok(Some(Line::Phylum {
+        name,
+        sort,
+        bracketed,
+    }))
 }
 
 /// Which of two words the part is.

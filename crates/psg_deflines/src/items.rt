@@ -127,8 +127,16 @@ pub fn header(parts: &[&[u8]]) -> Option<HeaderRead>
     if is(first, "scope") {
         let (level, taken) = level_and_equals(rest)?;
         let taken = taken + 1;
-        return Some(HeaderRead { scope: true, level, taken });
+        return Some(HeaderRead {
+            scope: true,
+            level,
+            taken,
+        });
     }
     let (level, taken) = level_and_equals(parts)?;
-    Some(HeaderRead { scope: false, level, taken })
+    Some(HeaderRead {
+        scope: false,
+        level,
+        taken,
+    })
 }

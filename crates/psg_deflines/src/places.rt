@@ -91,7 +91,10 @@ pub fn line_place(alloc: Global, parts: &[&[u8]]) -> Result<Option<PlaceRead>, A
         return Ok(None);
     };
     let place = kept_place(kind, term);
-    Ok(Some(PlaceRead { place, taken: taken + 5 }))
+    Ok(Some(PlaceRead {
+        place,
+        taken: taken + 5,
+    }))
 }
 
 /// Whether the parts begin as the end of a list does.
@@ -109,7 +112,10 @@ pub fn list_end(alloc: Global, parts: &[&[u8]]) -> Result<Option<EndRead>, Alloc
     ensures { IfOk result (λ o. MatchOption o (HasNoEnd (texts parts.now)) (IsEndFound (texts parts.now))) }
 {
     if behind(parts, "]").is_some() {
-        let end = ListEnd { rest: None, deep: false };
+        let end = ListEnd {
+            rest: None,
+            deep: false,
+        };
         return Ok(Some(EndRead { end, taken: 1 }));
     }
     let Some(inside) = behind(parts, "|") else {
@@ -124,5 +130,8 @@ pub fn list_end(alloc: Global, parts: &[&[u8]]) -> Result<Option<EndRead>, Alloc
     };
     let deep = place.is_none();
     let end = ListEnd { rest: place, deep };
-    Ok(Some(EndRead { end, taken: taken + 2 }))
+    Ok(Some(EndRead {
+        end,
+        taken: taken + 2,
+    }))
 }

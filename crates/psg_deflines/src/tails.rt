@@ -42,7 +42,10 @@ pub struct Tail {
 }
 
 /// The terms with one more, if all of them are kept.
-fn with_term(kept: Option<Seq<LineTerm>>, term: Option<LineTerm>) -> Result<Option<Seq<LineTerm>>, AllocError>
+fn with_term(
+    kept: Option<Seq<LineTerm>>,
+    term: Option<LineTerm>,
+) -> Result<Option<Seq<LineTerm>>, AllocError>
     ensures { IfOk result (λ more. (ts : List WrittenTerm) (t : WrittenTerm) → AreKept kept ts → IsKept term t → AreKept more (ts ++ t ∷ [])) }
 {
     let Some(mut terms) = kept else {
@@ -71,7 +74,11 @@ fn terms(alloc: Global, parts: &[&[u8]], most: usize) -> Result<Option<TermsRead
         count += 1;
         taken += more;
     }
-    Ok(Some(TermsRead { terms, count, taken }))
+    Ok(Some(TermsRead {
+        terms,
+        count,
+        taken,
+    }))
 }
 
 /// Whether the parts begin with a colon.
@@ -90,16 +97,28 @@ fn columns(alloc: Global, parts: &[&[u8]], most: usize) -> Result<Option<TermsRe
 {
     if !is_colon(parts) {
         let terms = Some(Seq::of(Vec::new(alloc)));
-        return Ok(Some(TermsRead { terms, count: 0, taken: 0 }));
+        return Ok(Some(TermsRead {
+            terms,
+            count: 0,
+            taken: 0,
+        }));
     }
     let Some(read) = terms(alloc, &parts[1..], most)? else {
         return Ok(None);
     };
-    let TermsRead { terms, count, taken } = read;
+    let TermsRead {
+        terms,
+        count,
+        taken,
+    } = read;
     if count == 0 {
         return Ok(None);
     }
-    Ok(Some(TermsRead { terms, count, taken: taken + 1 }))
+    Ok(Some(TermsRead {
+        terms,
+        count,
+        taken: taken + 1,
+    }))
 }
 
 /// The specimen at the end of a line, if it is kept.

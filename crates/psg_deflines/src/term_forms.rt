@@ -90,7 +90,11 @@ fn only_if(holds: bool, read: FormRead) -> FormRead
 }
 
 /// A name of a list or phylum, and what stands behind it.
-fn named_tail(alloc: Global, parts: &[&[u8]], most: usize) -> Result<Option<(Txt, Tail)>, AllocError>
+fn named_tail(
+    alloc: Global,
+    parts: &[&[u8]],
+    most: usize,
+) -> Result<Option<(Txt, Tail)>, AllocError>
     ensures { IfOk result (λ o. MatchOption o (HasNoNamedTail most (texts parts.now)) (λ r. IsNamedTailFound most (texts parts.now) r.0 r.1)) }
 {
     let Some((first, rest)) = parts.split_first() else {

@@ -73,7 +73,7 @@ fn begin(
 ) -> Result<Option<(Walk, usize)>, AllocError>
     ensures { IfOk result (λ o. (fs : List WrittenTerm) → AreOpen brackets fs
         → MatchOption o (HasNoStep (expects fs) (texts parts.now))
-            (λ r. IsStepMade (expects fs) brackets.deep (texts parts.now) r.0 r.1)) }
+        (λ r. IsStepMade (expects fs) brackets.deep (texts parts.now) r.0 r.1)) }
 {
     let Brackets { mut frames, deep } = brackets;
     let deep = deep | (frames.len() >= MOST_NESTED);
@@ -120,7 +120,7 @@ fn go_on(
     requires { 0 < length brackets.frames.items }
     ensures { IfOk result (λ o. (fs : List WrittenTerm) (t : WrittenTerm) → AreOpen brackets fs → (brackets.deep ≡ false → term ≡ t)
         → MatchOption o (HasNoStep (has fs t) (texts parts.now))
-            (λ r. IsStepMade (has fs t) brackets.deep (texts parts.now) r.0 r.1)) }
+        (λ r. IsStepMade (has fs t) brackets.deep (texts parts.now) r.0 r.1)) }
 {
     let Brackets { mut frames, deep } = brackets;
     let Some((first, _)) = parts.split_first() else {
@@ -160,18 +160,12 @@ fn finished(walk: Walk) -> Option<LineTerm>
 {
     match walk {
         Walk::Expects(_) => None,
-        Walk::Has(brackets, term) => {
-            if brackets.deep { None } else { Some(term) }
-        }
+        Walk::Has(brackets, term) => { if brackets.deep { None } else { Some(term) } }
     }
 }
 
 /// A step of the walk, if one is possible.
-fn advance(
-    alloc: Global,
-    walk: Walk,
-    parts: &[&[u8]],
-) -> Result<Option<(Walk, usize)>, AllocError>
+fn advance(alloc: Global, walk: Walk, parts: &[&[u8]]) -> Result<Option<(Walk, usize)>, AllocError>
     requires { IsDone walk → ⊥ }
     ensures { IfOk result (λ o. (s : Stage) → IsWalk walk s → IsAdvanced s (is_deep walk) (texts parts.now) o) }
 {

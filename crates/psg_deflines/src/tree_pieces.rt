@@ -195,7 +195,10 @@ fn begin_list(alloc: Global, parts: &[&[u8]]) -> Result<Option<BeginRead>, Alloc
     };
     let EndRead { end, taken } = read;
     let begin = TreeBegin::Tree(list_tree(Vec::new(alloc), end));
-    Ok(Some(BeginRead { begin, taken: taken + 1 }))
+    Ok(Some(BeginRead {
+        begin,
+        taken: taken + 1,
+    }))
 }
 
 /// The hole place as a specimen, if it is kept.

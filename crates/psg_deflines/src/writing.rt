@@ -6,7 +6,9 @@ ghost use Rattle.psg_deflines.specs.LineTexts.{behind, spaced, style_parts};
 ghost use Rattle.psg_deflines.specs.declared.lines.Line.TheVariants as lines;
 
 use crate::lines::{Line, LineItem};
-use crate::part_writing::{write_closing, write_if, write_mark, write_quoted, write_term, write_tree, write_word};
+use crate::part_writing::{
+    write_closing, write_if, write_mark, write_quoted, write_term, write_tree, write_word,
+};
 use crate::terms::LineTerm;
 use crate::trees::LineTree;
 use psg_grammar::Level;
@@ -185,7 +187,12 @@ fn write_phylum(out: &mut String, name: &Txt, sort: &Txt, bracketed: bool) -> Re
 }
 
 /// Writes what a list line has behind its element: the separator, and how it is written.
-fn write_style(out: &mut String, separator: &Txt, lines: bool, unfinished: bool) -> Result<(), AllocError>
+fn write_style(
+    out: &mut String,
+    separator: &Txt,
+    lines: bool,
+    unfinished: bool,
+) -> Result<(), AllocError>
     ensures { OnOk result (string_bytes out.new ≡ string_bytes out.old ++ behind (style_parts separator.now lines unfinished)) }
 {
     write_quoted(out, separator.as_str())?;
@@ -224,12 +231,29 @@ fn write_line(out: &mut String, line: &Line) -> Result<(), AllocError>
     match line {
         Line::Sort(sort) => write_sort(out, sort),
         Line::Entity { sort } => write_head(out, "entity", sort.as_str()),
-        Line::Phylum { name, sort, bracketed } => write_phylum(out, name, sort, *bracketed),
-        Line::List { name, sort, element, separator, lines, unfinished } => {
+        Line::Phylum {
+            name,
+            sort,
+            bracketed,
+        } => write_phylum(out, name, sort, *bracketed),
+        Line::List {
+            name,
+            sort,
+            element,
+            separator,
+            lines,
+            unfinished,
+        } => {
             write_list(out, name, sort, element)?;
             write_style(out, separator, *lines, *unfinished)
         }
-        Line::Operator { name, phylum, scope, level, items } => {
+        Line::Operator {
+            name,
+            phylum,
+            scope,
+            level,
+            items,
+        } => {
             write_operator(out, name, phylum, *scope)?;
             write_level(out, level)?;
             write_word(out, "=")?;
@@ -244,14 +268,23 @@ fn write_line(out: &mut String, line: &Line) -> Result<(), AllocError>
             write_head(out, "nil", list.as_str())?;
             write_term(out, term)
         }
-        Line::Cell { list, term, element, rest } => {
+        Line::Cell {
+            list,
+            term,
+            element,
+            rest,
+        } => {
             write_head(out, "cell", list.as_str())?;
             write_term(out, term)?;
             write_word(out, ":")?;
             write_term(out, element)?;
             write_term(out, rest)
         }
-        Line::Hole { kind, term, specimen } => {
+        Line::Hole {
+            kind,
+            term,
+            specimen,
+        } => {
             write_head(out, "hole", kind.as_str())?;
             write_term(out, term)?;
             write_by(out, specimen)
@@ -261,7 +294,12 @@ fn write_line(out: &mut String, line: &Line) -> Result<(), AllocError>
             write_term(out, term)?;
             write_specimen(out, specimen)
         }
-        Line::Declare { list, entity, value, specimen } => {
+        Line::Declare {
+            list,
+            entity,
+            value,
+            specimen,
+        } => {
             write_head(out, "declare", list.as_str())?;
             write_term(out, entity)?;
             write_word(out, ":")?;

@@ -1,5 +1,5 @@
 -- Specimens and their parts.
-use Rattle.std.proofs.Common.{◌≡◌, ℕ, ◌+◌, ◌<◌, ◌≤◌, List, [], ◌∷◌, ◌++◌, take, get_or, length, map, refl, ap, ap₂, sym, ◌∙◌, subst, Option, Some, None, Bool, true, false, cond, slice_get, arith, append_assoc, append-nil}
+use Rattle.std.proofs.Common.{◌≡◌, ℕ, ◌+◌, ◌<◌, List, [], ◌∷◌, ◌++◌, take, get_or, length, map, refl, ap, ap₂, sym, ◌∙◌, subst, Option, Some, None, Bool, true, false, cond, slice_get, arith, append_assoc, append-nil}
 use Rattle.std.specs.Borrow.{Bor}
 use mathlib.Core.Former.{Count}
 use Rattle.psg_terms.specs.Names.{Name}
@@ -25,12 +25,12 @@ use Rattle.psg_deflines.specs.TreeShapes.{with_part, with_parts, list_of, ending
 use Rattle.psg_deflines.specs.declared.trees.LinePlace.{LinePlace}
 use Rattle.psg_deflines.specs.declared.trees.LinePart.{LinePart}
 use Rattle.psg_deflines.specs.declared.trees.LinePart.TheVariants as parts
-use Rattle.psg_defnumber.specs.Numbers.{IsKind, IsPlace, IsTree, IsPart, AreParts, IsListFrom, IsOperatorNamed, IsTerm, terms_of}
-use Rattle.psg_defnumber.specs.Growing.{Keeps, Lasts}
+use Rattle.psg_defnumber.specs.Numbers.{IsKind, IsPlace, IsTree, AreParts, IsListFrom, IsOperatorNamed, IsTerm, terms_of}
+use Rattle.psg_defnumber.specs.Growing.{Lasts}
 use Rattle.psg_defnumber.specs.Naming.{Known, IsMadeTerm}
 use Rattle.psg_defnumber.specs.Fitting.{IsMade, hole_terms, part_terms, element_terms, PartFits, PartsFit, ElementsFit, RestFits}
 use Rattle.psg_defnumber.proofs.ListLaws.{map-append}
-use Rattle.psg_defnumber.proofs.MadeLaws.{made-as, made-both, made-term, made-empty}
+use Rattle.psg_defnumber.proofs.MadeLaws.{made-as, made-both, made-term}
 
 -- a hole place
 pub place-made : (def : Definition) (a b : List Known) (n : Name) (kind : Kind) (sort : ℕ) (w : WrittenTerm) (t : Term) → Lasts def (λ full. IsKind full n kind) → Lasts def (λ full. HasKindSort full kind sort)
@@ -79,15 +79,15 @@ pub parts-next : (def : Definition) (a b c : List Known) (items : List (Bor Item
     → IsMade def a c (part_terms new) (λ full names. PartsFit full names (items_now (take (i + 1) items)) new (take (i + 1) ws))
 parts-next def a b c items ws old new i x w p same atx lt at e h k =
     let more_items : items_now (take (i + 1) items) ≡ items_now (take i items) ++ x.now ∷ [] =
-        ap items_now (take-next items i x (omega arith) atx) ∙ map-append (λ (b : Bor Item). b.now) (take i items) (x ∷ []) in
+    ap items_now (take-next items i x (omega arith) atx) ∙ map-append (λ (b : Bor Item). b.now) (take i items) (x ∷ []) in
     subst (λ l. IsMade def a c (part_terms new) (λ full names. PartsFit full names l new (take (i + 1) ws))) (sym more_items)
     (subst (λ l. IsMade def a c (part_terms new) (λ full names. PartsFit full names (items_now (take i items) ++ x.now ∷ []) new l)) (sym (take-next ws i w lt at))
     (subst (λ l. IsMade def a c (part_terms l) (λ full names. PartsFit full names (items_now (take i items) ++ x.now ∷ []) l (take i ws ++ w ∷ []))) (sym e)
     (made-as def a c (part_terms old ++ hole_terms (holes_of_part p)) (part_terms (old ++ p ∷ []))
-      (λ full names. PartsFit full names (items_now (take i items)) old (take i ws) × PartFits full names x.now p w)
-      (λ full names. PartsFit full names (items_now (take i items) ++ x.now ∷ []) (old ++ p ∷ []) (take i ws ++ w ∷ []))
-      (sym (part_terms-snoc old p)) (λ full names keeps both. fit-snoc full names (items_now (take i items)) old (take i ws) x.now p w both.0 both.1)
-      (made-both def a b c (part_terms old) (hole_terms (holes_of_part p)) _ _ h k))))
+    (λ full names. PartsFit full names (items_now (take i items)) old (take i ws) × PartFits full names x.now p w)
+    (λ full names. PartsFit full names (items_now (take i items) ++ x.now ∷ []) (old ++ p ∷ []) (take i ws ++ w ∷ []))
+    (sym (part_terms-snoc old p)) (λ full names keeps both. fit-snoc full names (items_now (take i items)) old (take i ws) x.now p w both.0 both.1)
+    (made-both def a b c (part_terms old) (hole_terms (holes_of_part p)) _ _ h k))))
 
 pub elements-next : (def : Definition) (a b c : List Known) (l : ℕ) (ws : List WrittenTree) (old new : List Specimen) (i : ℕ) (w : WrittenTree) (s : Specimen)
     → i < length ws → w ≡ get_or ws i w → new ≡ old ++ s ∷ []
@@ -98,10 +98,10 @@ elements-next def a b c l ws old new i w s lt at e h k =
     subst (λ r. IsMade def a c (element_terms new) (λ full names. ElementsFit full names l new r)) (sym (take-next ws i w lt at))
     (subst (λ r. IsMade def a c (element_terms r) (λ full names. ElementsFit full names l r (take i ws ++ w ∷ []))) (sym e)
     (made-as def a c (element_terms old ++ hole_terms (holes_of s)) (element_terms (old ++ s ∷ []))
-      (λ full names. ElementsFit full names l old (take i ws) × IsTree full names (kinds.Phylum l) s w)
-      (λ full names. ElementsFit full names l (old ++ s ∷ []) (take i ws ++ w ∷ []))
-      (sym (element_terms-snoc old s)) (λ full names keeps both. elements-snoc full names l old (take i ws) s w both.0 both.1)
-      (made-both def a b c (element_terms old) (hole_terms (holes_of s)) _ _ h k)))
+    (λ full names. ElementsFit full names l old (take i ws) × IsTree full names (kinds.Phylum l) s w)
+    (λ full names. ElementsFit full names l (old ++ s ∷ []) (take i ws ++ w ∷ []))
+    (sym (element_terms-snoc old s)) (λ full names keeps both. elements-snoc full names l old (take i ws) s w both.0 both.1)
+    (made-both def a b c (element_terms old) (hole_terms (holes_of s)) _ _ h k)))
 
 -- rows of parts and of elements
 parts-of-row : (full : Definition) (names : List Name) (is : List Item) (n : Count) (row : Row_of-SpecimenPart n) (ws : List LinePart) (front : WrittenTree) → PartsFit full names is (items-the_row-SpecimenPart n row) ws
@@ -152,9 +152,14 @@ operator-made def a b kind n o op items ps ws w e of_kind its named h =
     let same = items_hidden-the_row-SpecimenPart-0 ps in
     made-as def a b (part_terms ps) (terms_of def (Op o ps)) (λ full names. PartsFit full names items ps ws) (λ full names. IsTree full names kind (Op o ps) w)
     (sym (terms-of-row row.0 row.1 ∙ ap part_terms same))
-    (λ full names k fit. (n, op, named full k, of_kind,
+    (λ full names k fit. (
+      n,
+      op,
+      named full k,
+      of_kind,
       subst (AreParts full names (part_items op.items) row.1 (operator n)) e
-      (parts-of-row full names (part_items op.items) row.0 row.1 ws (operator n) (subst (λ l. PartsFit full names (part_items op.items) l ws) (sym same) (subst (λ l. PartsFit full names l ps ws) its fit)))))
+          (parts-of-row full names (part_items op.items) row.0 row.1 ws (operator n) (subst (λ l. PartsFit full names (part_items op.items) l ws) (sym same) (subst (λ l. PartsFit full names l ps ws) its fit))),
+    ))
     h
 
 pub list-made : (def : Definition) (a b c : List Known) (kind : Kind) (l : ℕ) (list : ListKind) (ss : List Specimen) (end : Option SpecimenHole) (ws : List WrittenTree) (rest : Option LinePlace) (w : WrittenTree)
@@ -167,9 +172,11 @@ list-made def a b c kind l list ss end ws rest w e of_kind at h k =
     made-as def a c (element_terms ss ++ hole_terms (rest_hole end)) (terms_of def (ListOf l ss end))
     (λ full names. ElementsFit full names list.element ss ws × RestFits full names l end rest) (λ full names. IsTree full names kind (ListOf l ss end) w)
     (sym (terms-of-list row.0 row.1 end ∙ ap (λ x. element_terms x ++ hole_terms (rest_hole end)) same))
-    (λ full names keeps fit. (of_kind,
+    (λ full names keeps fit. (
+      of_kind,
       subst (IsListFrom full names l row.1 end) e
-      (list-of-row full names l list end rest row.0 row.1 ws (keeps.lists l list at) fit.1 (subst (λ x. ElementsFit full names list.element x ws) (sym same) fit.0))))
+          (list-of-row full names l list end rest row.0 row.1 ws (keeps.lists l list at) fit.1 (subst (λ x. ElementsFit full names list.element x ws) (sym same) fit.0)),
+    ))
     (made-both def a b c (element_terms ss) (hole_terms (rest_hole end)) _ _ h k)
 
 pub hole-made : (def : Definition) (a b : List Known) (kind : Kind) (h : SpecimenHole) (n : Name) (t : WrittenTerm) (w : WrittenTree) → trees.place n t ≡ w → h.kind ≡ kind → IsMade def a b (h.term ∷ []) (λ full names. IsPlace full names n t h)

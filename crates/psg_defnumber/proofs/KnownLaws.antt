@@ -1,17 +1,16 @@
 -- A variable that is met, for the first time or again.
-use Rattle.std.proofs.Common.{◌≡◌, ℕ, ◌+◌, ◌<◌, ◌≤◌, ◌==◌, ◌&&◌, ◌||◌, Bool, false, true, cond, if◌then◌else◌, zero, suc, List, [], ◌∷◌, ◌++◌, length, map, refl, ap, ap₂, sym, ◌∙◌, subst, inl, inr, Option, Some, None, slice_get, position, is_some, not, arith, append-nil}
+use Rattle.std.proofs.Common.{◌≡◌, ℕ, ◌+◌, ◌≤◌, ◌==◌, ◌&&◌, ◌||◌, Bool, false, true, cond, if◌then◌else◌, zero, suc, List, [], ◌∷◌, ◌++◌, length, refl, ap, ap₂, sym, ◌∙◌, inl, inr, Option, Some, None, slice_get, is_some, not, arith, append-nil}
 use Rattle.std.specs.Str.{bytes_eq}
 use Rattle.std.specs.Borrow.{Bor}
 use Rattle.std.specs.Map.{lookup}
 use Rattle.std.proofs.lemmas.Bool.Decides.{nat_tests}
 use Rattle.std.proofs.lemmas.Bool.{or_right, or_left, true≢false}
 use Rattle.psg_terms.specs.Names.{Name, is_among, has_twice}
-use Rattle.psg_terms.specs.Canonical.{Variable, same_variable, is_noted, noted}
-use Rattle.psg_terms.specs.declared.sorts.SortId.{SortId}
+use Rattle.psg_terms.specs.Canonical.{same_variable, is_noted}
 use Rattle.psg_terms.proofs.Variables.{same_variable-refl, cases}
 use Rattle.psg_terms.proofs.RenamingLaws.{noted-new}
 use Rattle.psg_terms.proofs.DeclareLaws.{slice_get-end, has_twice-push, bytes_eq-sym}
-use Rattle.psg_defnumber.specs.Naming.{Known, names_of, numbered_from, Meets, IsMet}
+use Rattle.psg_defnumber.specs.Naming.{Known, names_of, numbered_from, IsMet}
 use Rattle.psg_defnumber.proofs.ListLaws.{map-append, map-at}
 
 noted-at : (m : ℕ) (known : List Known) (k : ℕ) (own : Known) → slice_get known k ≡ Some own → is_noted (own.1.0, m + k) (numbered_from m known) ≡ true
@@ -19,7 +18,7 @@ noted-at m [] k own e = absurd (cc)
 noted-at m (x ∷ known) zero own e =
     let same : x ≡ own = cc in
     let first : same_variable (own.1.0, m + 0) (x.1.0, m) ≡ true =
-        ap₂ (λ (y : Known) n. same_variable (own.1.0, n) (y.1.0, m)) same (plus-zero m) ∙ same_variable-refl (own.1.0, m) in
+    ap₂ (λ (y : Known) n. same_variable (own.1.0, n) (y.1.0, m)) same (plus-zero m) ∙ same_variable-refl (own.1.0, m) in
     or_left (same_variable (own.1.0, m + 0) (x.1.0, m)) (is_noted (own.1.0, m + 0) (numbered_from (m + 1) known)) first
   where
     plus-zero : (n : ℕ) → n + 0 ≡ n

@@ -1,5 +1,5 @@
 -- What a line adds.
-use Rattle.std.proofs.Common.{◌≡◌, ℕ, ◌+◌, Bool, List, [], ◌∷◌, ◌++◌, Option, Some, None, refl, ap, sym, ◌∙◌, subst}
+use Rattle.std.proofs.Common.{◌≡◌, ℕ, Bool, List, [], ◌∷◌, ◌++◌, Option, Some, None, refl, ap, sym, ◌∙◌, subst}
 use Rattle.psg_terms.specs.Names.{Name}
 use Rattle.psg_terms.specs.Kept.{numbers_of}
 use Rattle.psg_terms.specs.declared.sorts.SortId.{SortId}

@@ -1,5 +1,5 @@
 -- Laws of lists that grow.
-use Rattle.std.proofs.Common.{◌≡◌, ℕ, ◌+◌, ◌-◌, ◌<◌, ◌≤◌, zero, suc, List, [], ◌∷◌, ◌++◌, take, drop, get_or, length, length-drop, map, refl, ap, sym, ◌∙◌, subst, Some, slice_get, arith, append_assoc, append-nil}
+use Rattle.std.proofs.Common.{◌≡◌, ℕ, ◌+◌, ◌-◌, ◌<◌, ◌≤◌, zero, suc, List, [], ◌∷◌, ◌++◌, take, drop, get_or, length, length-drop, map, refl, ap, sym, ◌∙◌, subst, Some, slice_get, arith}
 use Rattle.std.proofs.lemmas.List.{take_all}
 use Rattle.psg_terms.proofs.DeclareLaws.{slice_get-front}
 use Rattle.psg_defnumber.specs.Growing.{Grows}

@@ -1,5 +1,5 @@
 -- Rows that are put into their lists.
-use Rattle.std.proofs.Common.{◌≡◌, ◌≢◌, ℕ, ◌+◌, ◌<◌, ◌≤◌, Bool, false, true, ◌||◌, zero, suc, List, [], ◌∷◌, ◌++◌, take, get_or, length, refl, ap, sym, ◌∙◌, subst, inl, inr, Option, Some, None, slice_get, slice_set, arith, append-nil}
+use Rattle.std.proofs.Common.{◌≡◌, ◌≢◌, ℕ, ◌+◌, ◌<◌, ◌≤◌, Bool, false, true, zero, suc, List, [], ◌∷◌, ◌++◌, take, get_or, length, refl, ap, sym, ◌∙◌, subst, inl, inr, Option, Some, None, slice_get, slice_set, append-nil}
 use Rattle.std.specs.List.{AllByRecursion}
 use Rattle.std.specs.Str.{bytes_eq}
 use Rattle.std.proofs.lemmas.Bool.{or_parts, or_left, or_right, false≢true}
@@ -102,14 +102,22 @@ lists-put full file line n k new misses hits named (lines.List name sort element
     go : (p : ℕ) → ((q : ℕ) → slice_get rest q ≡ Some k → AreLists full (file ++ line ∷ []) all (slice_set rest q new)) → slice_get (l ∷ rest) p ≡ Some k → AreLists full (file ++ line ∷ []) (lines.List name sort elements separator on unfinished ∷ all) (slice_set (l ∷ rest) p new)
     go zero later a =
         let same : l ≡ k = cc in
-        let own : n ≡ name = sym named ∙ ap (λ (x : ListKind). x.name) (sym same) ∙ is.named in
-        (new, rest, refl, hits name sort elements separator on unfinished (subst (IsList full file name sort elements separator on unfinished) same is),
-          lists-same full file line all rest (but (Skips full line) n misses (kind_names all) (ap (is_among (kind_names all)) own ∙ parts.0)) more)
+        let own : n ≡ name = sym named ∙ ap (λ (x : ListKind). x.name) (sym same) ∙ is.named in (
+          new,
+          rest,
+          refl,
+          hits name sort elements separator on unfinished (subst (IsList full file name sort elements separator on unfinished) same is),
+          lists-same full file line all rest (but (Skips full line) n misses (kind_names all) (ap (is_among (kind_names all)) own ∙ parts.0)) more,
+        )
     go (suc p) later a =
         let among : is_among (kind_names all) n ≡ true = ap (is_among (kind_names all)) (sym named) ∙ lists-among full file k all rest p more a in
-        let other : n ≢ name = λ same. false≢true (sym parts.0 ∙ ap (is_among (kind_names all)) (sym same) ∙ among) in
-        (l, slice_set rest p new, refl, list-same full file line name sort elements separator on unfinished l (misses name other) is,
-          later p a)
+        let other : n ≢ name = λ same. false≢true (sym parts.0 ∙ ap (is_among (kind_names all)) (sym same) ∙ among) in (
+          l,
+          slice_set rest p new,
+          refl,
+          list-same full file line name sort elements separator on unfinished l (misses name other) is,
+          later p a,
+        )
 lists-put full file line n k new misses hits named (lines.Phylum name sort bracketed ∷ all) ls p once at h =
     lists-put full file line n k new misses hits named all ls p (or_parts (is_among (kind_names all) name) (has_twice (kind_names all)) once).1 at h
 lists-put full file line n k new misses hits named (_ ∷ all) ls p once at h = lists-put full file line n k new misses hits named all ls p once at h

@@ -2,13 +2,12 @@
 use Rattle.std.proofs.Common.{◌≡◌, ℕ, List, [], ◌∷◌, ◌++◌, refl, ap, sym, ◌∙◌, subst, append_assoc, append-nil}
 use Rattle.psg_terms.specs.Names.{Name}
 use Rattle.psg_terms.specs.Terms.{Term}
-use Rattle.psg_terms.specs.Signature.{Signature}
 use Rattle.psg_terms.specs.Canonical.{variables, variables_of}
 use Rattle.psg_grammar.specs.declared.types.Definition.{Definition}
 use Rattle.psg_deflines.specs.WrittenTerms.{WrittenTerm}
 use Rattle.psg_defnumber.specs.Numbers.{IsTerm, AreTerms, IsNaming}
-use Rattle.psg_defnumber.specs.Growing.{Grows, Keeps, Lasts}
-use Rattle.psg_defnumber.specs.Naming.{Known, names_of, Meets, Named, IsMadeTerm, AreMadeTerms}
+use Rattle.psg_defnumber.specs.Growing.{Keeps, Lasts}
+use Rattle.psg_defnumber.specs.Naming.{Known, names_of, Meets, IsMadeTerm, AreMadeTerms}
 use Rattle.psg_defnumber.specs.Fitting.{IsMade}
 use Rattle.psg_defnumber.proofs.ListLaws.{grows-refl}
 use Rattle.psg_defnumber.proofs.MeetLaws.{meets-none, meets-then, named-later, naming}

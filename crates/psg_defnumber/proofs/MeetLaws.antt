@@ -1,11 +1,11 @@
 -- Variables that are met one after the other, and the terms that have them.
-use Rattle.std.proofs.Common.{◌≡◌, ℕ, ◌+◌, ◌<◌, ◌≤◌, false, true, zero, suc, List, [], ◌∷◌, ◌++◌, take, get_or, length, map, refl, ap, sym, ◌∙◌, subst, inl, inr, Some, None, slice_get, arith, append_assoc, append-nil}
+use Rattle.std.proofs.Common.{◌≡◌, ℕ, ◌+◌, ◌<◌, List, [], ◌∷◌, ◌++◌, take, get_or, length, refl, ap, sym, ◌∙◌, subst, inl, inr, Some, None, slice_get, arith, append_assoc, append-nil}
 use Rattle.std.proofs.lemmas.List.{take_more}
-use Rattle.psg_terms.specs.Names.{Name, has_twice}
+use Rattle.psg_terms.specs.Names.{Name}
 use Rattle.psg_terms.specs.Terms.{Term}
 use Rattle.psg_terms.specs.Terms as terms
 use Rattle.psg_terms.specs.Signature.{Signature, Symbol, only_constructor}
-use Rattle.psg_terms.specs.Canonical.{Variable, variables, variables_of, noted_all, first_occurrences, IsNumberedFrom}
+use Rattle.psg_terms.specs.Canonical.{Variable, variables, variables_of, noted_all, IsNumberedFrom}
 use Rattle.psg_terms.specs.Kept.{numbers_of}
 use Rattle.psg_terms.specs.declared.sorts.SortId.{SortId}
 use Rattle.psg_terms.proofs.RenamingLaws.{noted_all-append, variables-applied}
@@ -14,7 +14,7 @@ use Rattle.psg_deflines.specs.WrittenTerms.{WrittenTerm, variable, named, apply,
 use Rattle.psg_defnumber.specs.Numbers.{IsTerm, AreTerms, IsNaming}
 use Rattle.psg_defnumber.specs.Growing.{Grows}
 use Rattle.psg_defnumber.specs.Naming.{Known, names_of, numbered_from, Meets, Named, IsMet, IsMadeTerm, AreMadeTerms}
-use Rattle.psg_defnumber.proofs.ListLaws.{grows-trans, grows-append, grows-refl, map-append}
+use Rattle.psg_defnumber.proofs.ListLaws.{grows-trans, grows-append, map-append}
 
 pub meets-none : (a : List Known) → Meets a a []
 meets-none a = record { more = []; grown = sym (append-nil a); noted = refl; once = λ h. h }
@@ -105,7 +105,7 @@ pub made-next : (sig : Signature) (a b c : List Known) (sorts : List SortId) (ws
     → AreMadeTerms sig a b (numbers_of (take i sorts)) (take i ws) old → IsMadeTerm sig b c (get_or sorts i d).0 w t → AreMadeTerms sig a c (numbers_of (take (i + 1) sorts)) (take (i + 1) ws) new
 made-next sig a b c sorts ws old new i d w t same lw ew n h k =
     let grown_sorts : numbers_of (take (i + 1) sorts) ≡ numbers_of (take i sorts) ++ (get_or sorts i d).0 ∷ [] =
-        ap numbers_of (take_more sorts i d (omega arith)) ∙ numbers_of-append (take i sorts) (get_or sorts i d ∷ []) in
+    ap numbers_of (take_more sorts i d (omega arith)) ∙ numbers_of-append (take i sorts) (get_or sorts i d ∷ []) in
     subst (λ l. AreMadeTerms sig a c l (take (i + 1) ws) new) (sym grown_sorts)
     (subst (λ l. AreMadeTerms sig a c (numbers_of (take i sorts) ++ (get_or sorts i d).0 ∷ []) l new) (sym (take-next ws i w lw ew))
     (subst (AreMadeTerms sig a c (numbers_of (take i sorts) ++ (get_or sorts i d).0 ∷ []) (take i ws ++ w ∷ [])) (sym n)

@@ -1,7 +1,7 @@
 -- No name is declared twice.
-use Rattle.std.proofs.Common.{◌≡◌, ℕ, ◌+◌, ◌<◌, ◌≤◌, false, true, List, [], ◌∷◌, ◌++◌, Option, Some, None, map, length, refl, ap, sym, ◌∙◌, subst, arith, append_assoc, append-nil}
-use Rattle.psg_terms.specs.Names.{Name, is_among, has_twice}
-use Rattle.psg_terms.specs.Signature.{Signature, Symbol}
+use Rattle.std.proofs.Common.{◌≡◌, ℕ, ◌+◌, ◌≤◌, false, List, [], ◌∷◌, ◌++◌, None, length, refl, ap, sym, ◌∙◌, subst, arith, append_assoc, append-nil}
+use Rattle.psg_terms.specs.Names.{Name, has_twice}
+use Rattle.psg_terms.specs.Signature.{Signature}
 use Rattle.psg_terms.specs.Sound.{IsSound}
 use Rattle.psg_terms.specs.Declarations as written
 use Rattle.psg_terms.specs.declared.declare.ConDecl.{ConDecl}

@@ -1,7 +1,7 @@
 -- Lists that are made part by part.
-use Rattle.std.proofs.Common.{◌≡◌, ℕ, ◌+◌, ◌<◌, ◌≤◌, List, [], ◌∷◌, ◌++◌, drop, get_or, length, refl, ap, sym, ◌∙◌, subst, append_assoc, append-nil}
+use Rattle.std.proofs.Common.{◌≡◌, ℕ, ◌+◌, ◌<◌, ◌≤◌, List, [], ◌∷◌, ◌++◌, drop, get_or, length, sym, ◌∙◌, subst, append_assoc, append-nil}
 use Rattle.psg_grammar.specs.declared.types.Definition.{Definition}
-use Rattle.psg_defnumber.specs.Growing.{Keeps, Lasts}
+use Rattle.psg_defnumber.specs.Growing.{Lasts}
 use Rattle.psg_defnumber.specs.Putting.{Read, Puts}
 use Rattle.psg_defnumber.proofs.ListLaws.{drop-next, drop-all}
 

@@ -1,5 +1,5 @@
 -- Rows, cases and declare rows, each with the variables of its own line.
-use Rattle.std.proofs.Common.{◌≡◌, ℕ, List, [], ◌∷◌, ◌++◌, refl, sym, subst, slice_get, Some}
+use Rattle.std.proofs.Common.{◌≡◌, ℕ, List, [], ◌∷◌, refl, sym, subst, slice_get, Some}
 use Rattle.psg_terms.specs.Names.{Name}
 use Rattle.psg_terms.specs.Terms.{Term}
 use Rattle.psg_grammar.specs.declared.types.Kind.{Kind}
@@ -13,7 +13,7 @@ use Rattle.psg_grammar.specs.Sound.{HasKindSort, HasSpaceSort}
 use Rattle.psg_deflines.specs.WrittenTerms.{WrittenTerm}
 use Rattle.psg_deflines.specs.WrittenTrees.{WrittenTree}
 use Rattle.psg_defnumber.specs.Numbers.{IsTerm, AreTerms, IsTree, IsKind, IsRow, IsNil, IsCase, IsDeclareRow, terms_of}
-use Rattle.psg_defnumber.specs.Growing.{Keeps, Lasts}
+use Rattle.psg_defnumber.specs.Growing.{Lasts}
 use Rattle.psg_defnumber.specs.Naming.{Known, IsMadeTerm, AreMadeTerms}
 use Rattle.psg_defnumber.specs.Fitting.{IsMade}
 use Rattle.psg_defnumber.proofs.MeetLaws.{made-none, made-snoc}

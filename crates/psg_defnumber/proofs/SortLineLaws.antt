@@ -1,5 +1,5 @@
 -- Sorts that are taken from their lines.
-use Rattle.std.proofs.Common.{◌≡◌, ℕ, ◌+◌, ◌<◌, ◌≤◌, List, [], ◌∷◌, ◌++◌, Some, None, take, get_or, length, length-append, refl, ap, ap₂, sym, ◌∙◌, subst, arith, append-nil}
+use Rattle.std.proofs.Common.{◌≡◌, ℕ, ◌+◌, ◌<◌, ◌≤◌, List, [], ◌∷◌, ◌++◌, Some, None, take, get_or, length, length-append, refl, ap, ap₂, sym, ◌∙◌, arith, append-nil}
 use Rattle.std.proofs.lemmas.List.{take_all}
 use Rattle.psg_terms.specs.Declarations.{with_sort, in_order, names_in, constructor_names}
 use Rattle.psg_terms.specs.declared.declare.ConDecl.{ConDecl}
@@ -64,8 +64,8 @@ pub count-next : (decls : List SortDecl) (i : ℕ) (d : SortDecl) (count more : 
     → count + more ≡ length (constructor_names (take (i + 1) decls))
 count-next decls i d count more lt at h e =
     let grown : length (constructor_names (take (i + 1) decls)) ≡ length (constructor_names (take i decls) ++ names_in (with_sort (0 + length (take i decls)) d.constructors)) =
-        ap (λ l. length (constructor_names l)) (take-next decls i d lt at) ∙ ap (λ l. length (names_in l)) (in_order-push 0 (take i decls) d)
-        ∙ ap length (names_in-append (in_order 0 (take i decls)) (with_sort (0 + length (take i decls)) d.constructors)) in
+    ap (λ l. length (constructor_names l)) (take-next decls i d lt at) ∙ ap (λ l. length (names_in l)) (in_order-push 0 (take i decls) d)
+    ∙ ap length (names_in-append (in_order 0 (take i decls)) (with_sort (0 + length (take i decls)) d.constructors)) in
     omega (arith, grown, length-append (constructor_names (take i decls)) (names_in (with_sort (0 + length (take i decls)) d.constructors)), own-count (0 + length (take i decls)) d.constructors)
 
 pub count-all : (decls : List SortDecl) (i count : ℕ) → length decls ≤ i → count ≡ length (constructor_names (take i decls)) → length (constructor_names decls) ≡ count

@@ -1,5 +1,5 @@
 -- A definition that is made in stages.
-use Rattle.std.proofs.Common.{◌≡◌, ℕ, false, List, [], ◌∷◌, refl, sym, subst}
+use Rattle.std.proofs.Common.{◌≡◌, false, List, [], refl, subst}
 use Rattle.psg_terms.specs.Names.{has_twice}
 use Rattle.psg_terms.specs.Signature.{Signature}
 use Rattle.psg_terms.specs.Declarations.{IsSpelled}

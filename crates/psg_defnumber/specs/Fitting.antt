@@ -3,21 +3,20 @@ use Rattle.std.specs.Prelude.{ℕ, ◌≡◌, List, [], ◌∷◌, ◌++◌, map
 use Rattle.psg_terms.specs.Names.{Name}
 use Rattle.psg_terms.specs.Terms.{Term}
 use Rattle.psg_terms.specs.Canonical.{variables_of}
-use Rattle.psg_grammar.specs.declared.types.Kind.{Kind}
 use Rattle.psg_grammar.specs.declared.types.Kind.TheVariants as kinds
 use Rattle.psg_grammar.specs.declared.types.Item.{Item}
 use Rattle.psg_grammar.specs.declared.types.SpecimenHole.{SpecimenHole}
 use Rattle.psg_grammar.specs.declared.types.SpecimenPart.{SpecimenPart}
 use Rattle.psg_grammar.specs.declared.types.Specimen.{Specimen}
 use Rattle.psg_grammar.specs.declared.types.Definition.{Definition}
-use Rattle.psg_grammar.specs.Specimens.{holes_of, holes_of_part, rest_hole}
-use Rattle.psg_deflines.specs.WrittenTrees.{WrittenTree, list_end, list_rest}
+use Rattle.psg_grammar.specs.Specimens.{holes_of, holes_of_part}
+use Rattle.psg_deflines.specs.WrittenTrees.{WrittenTree}
 use Rattle.psg_deflines.specs.TreeShapes.{with_part}
 use Rattle.psg_deflines.specs.declared.trees.LinePlace.{LinePlace}
 use Rattle.psg_deflines.specs.declared.trees.LinePart.{LinePart}
 use Rattle.psg_defnumber.specs.Growing.{Lasts}
 use Rattle.psg_defnumber.specs.Naming.{Known, Meets, Named}
-use Rattle.psg_defnumber.specs.Numbers.{IsPlace, IsTree, IsPart, terms_of}
+use Rattle.psg_defnumber.specs.Numbers.{IsPlace, IsTree, IsPart}
 
 -- The terms are made by variables that are met. It holds with whatever names are met later, in each definition of which this is a part.
 pub record IsMade (def : Definition) (old new : List Known) (row : List Term) (Holds : Definition → List Name → Type 0) : Type 0 where

@@ -3,8 +3,8 @@ ghost use Rattle.std.specs.Prelude.{◌≡◌, IfOk, OnOk, IsTrue, Some};
 
 use std::alloc::AllocError;
 
-/// What a look-up found. Lines that pass the tests of meaning leave no look-up without an answer, so the error stands for
-/// want of memory, and for nothing else.
+/// What a look-up found. Lines that pass the tests of meaning leave no look-up without an answer, so the error comes
+/// for want of memory alone.
 pub fn found<T: Drop>(answer: Option<T>) -> Result<T, AllocError>
     ensures { IfOk result (λ x. answer ≡ Some x) }
 {

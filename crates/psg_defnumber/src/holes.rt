@@ -37,7 +37,8 @@ fn put_case(
     entry: &Option<Line>,
 ) -> Result<(), AllocError>
     requires inside { IsHoleEntry entry.now → ⊥ }
-    ensures { OnOk result ((rest : List Entry) → Puts def.now (ReadsCases kind sort.0) entry.now rest made.old.items made.new.items) }
+    ensures { OnOk result ((rest : List Entry)
+        → Puts def.now (ReadsCases kind sort.0) entry.now rest made.old.items made.new.items) }
 {
     let Some(line) = entry else {
         return Ok(());
@@ -81,7 +82,8 @@ fn hole_row(
     specimen: &Option<LineTree>,
     behind: &[Option<Line>],
 ) -> Result<HoleRow, AllocError>
-    ensures { IfOk result (λ r. Lasts def.now (λ full. IsHoleRow full kind.now term.now specimen.now (written behind.now) r)) }
+    ensures { IfOk result (λ r. Lasts def.now (λ full.
+        IsHoleRow full kind.now term.now specimen.now (written behind.now) r)) }
 {
     let kind = kind_named(def, names, kind)?;
     let sort = kind_sort(def, kind)?;
@@ -143,14 +145,7 @@ pub fn hole_rows(
 {
     let mut made = Vec::new(alloc);
     for i in 0..entries.len() {
-        put_hole_row(
-            alloc,
-            def,
-            names,
-            &mut made,
-            &entries[i],
-            &entries[i + 1..],
-        )?;
+        put_hole_row(alloc, def, names, &mut made, &entries[i], &entries[i + 1..])?;
     }
     Ok(made)
 }
@@ -163,7 +158,8 @@ fn put_declare_row(
     made: &mut Vec<DeclareRow>,
     entry: &Option<Line>,
 ) -> Result<(), AllocError>
-    ensures { OnOk result ((rest : List Entry) → Puts def.now ReadsDeclareRows entry.now rest made.old.items made.new.items) }
+    ensures { OnOk result ((rest : List Entry)
+        → Puts def.now ReadsDeclareRows entry.now rest made.old.items made.new.items) }
 {
     let Some(line) = entry else {
         return Ok(());

@@ -21,7 +21,8 @@ fn put_space(
     made: &mut Vec<Space>,
     entry: &Option<Line>,
 ) -> Result<(), AllocError>
-    ensures { OnOk result ((rest : List Entry) → Puts def.now ReadsSpaces entry.now rest made.old.items made.new.items) }
+    ensures { OnOk result ((rest : List Entry)
+        → Puts def.now ReadsSpaces entry.now rest made.old.items made.new.items) }
 {
     let Some(line) = entry else {
         return Ok(());

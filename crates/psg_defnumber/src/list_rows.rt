@@ -39,7 +39,8 @@ fn put_nil(
     list: &Txt,
     term: &LineTerm,
 ) -> Result<(), AllocError>
-    ensures { OnOk result ((file : List PlainLine) → Fills def.now file (file ++ lines.Nil list.now term.now ∷ []) lists.old.items lists.new.items) }
+    ensures { OnOk result ((file : List PlainLine)
+        → Fills def.now file (file ++ lines.Nil list.now term.now ∷ []) lists.old.items lists.new.items) }
 {
     let place = place_of(names, lists.as_slice(), list)?;
     let own = &mut lists[place];
@@ -85,7 +86,8 @@ fn put_cell(
     rest: &LineTerm,
 ) -> Result<(), AllocError>
     ensures { OnOk result ((file : List PlainLine)
-        → Fills def.now file (file ++ lines.Cell list.now term.now element.now rest.now ∷ []) lists.old.items lists.new.items) }
+        → Fills def.now file (file ++ lines.Cell list.now term.now element.now rest.now ∷ [])
+        lists.old.items lists.new.items) }
 {
     let place = place_of(names, lists.as_slice(), list)?;
     let own = &mut lists[place];
@@ -103,7 +105,8 @@ fn put_list_row(
     lists: &mut Vec<ListKind>,
     entry: &Option<Line>,
 ) -> Result<(), AllocError>
-    ensures { OnOk result ((file : List PlainLine) → Fills def.now file (file ++ written (entry.now ∷ [])) lists.old.items lists.new.items) }
+    ensures { OnOk result ((file : List PlainLine)
+        → Fills def.now file (file ++ written (entry.now ∷ [])) lists.old.items lists.new.items) }
 {
     let Some(line) = entry else {
         return Ok(());

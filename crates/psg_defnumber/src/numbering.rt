@@ -22,7 +22,16 @@ use std::alloc::{AllocError, Global};
 
 /// A definition of the sorts alone.
 fn of_sorts(alloc: Global, signature: Signature) -> Definition
-    ensures { result ≡ record { version = 1; signature = signature; spaces = []; phyla = []; lists = []; operators = []; hole_rows = []; declare_rows = [] } }
+    ensures { result ≡ record {
+      version = 1;
+      signature = signature;
+      spaces = [];
+      phyla = [];
+      lists = [];
+      operators = [];
+      hole_rows = [];
+      declare_rows = [];
+    } }
 {
     Definition {
         version: 1,

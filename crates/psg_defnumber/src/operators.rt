@@ -59,12 +59,9 @@ fn items(
 }
 
 /// Puts the sort of an item's column behind the others, if it has one.
-fn put_column(
-    def: &Definition,
-    sorts: &mut Vec<SortId>,
-    item: &Item,
-) -> Result<(), AllocError>
-    ensures { OnOk result ((rest : List PlainItem) → Puts def.now ReadsColumns item.now rest sorts.old.items sorts.new.items) }
+fn put_column(def: &Definition, sorts: &mut Vec<SortId>, item: &Item) -> Result<(), AllocError>
+    ensures { OnOk result ((rest : List PlainItem)
+        → Puts def.now ReadsColumns item.now rest sorts.old.items sorts.new.items) }
 {
     match item {
         Item::Slot(kind) => {
@@ -148,7 +145,8 @@ fn rows(
     sorts: &[SortId],
     behind: &[Option<Line>],
 ) -> Result<Vec<Row>, AllocError>
-    ensures { IfOk result (λ v. Lasts def.now (λ full. AreRows full sort.0 (numbers_of sorts.now) (written behind.now) v.items)) }
+    ensures { IfOk result (λ v. Lasts def.now (λ full.
+        AreRows full sort.0 (numbers_of sorts.now) (written behind.now) v.items)) }
 {
     let mut made = Vec::new(alloc);
     for entry in behind {
@@ -212,14 +210,7 @@ pub fn operators(
 {
     let mut made = Vec::new(alloc);
     for i in 0..entries.len() {
-        put_operator(
-            alloc,
-            def,
-            names,
-            &mut made,
-            &entries[i],
-            &entries[i + 1..],
-        )?;
+        put_operator(alloc, def, names, &mut made, &entries[i], &entries[i + 1..])?;
     }
     Ok(made)
 }

@@ -26,7 +26,8 @@ pub fn row(
     head: &LineTerm,
     columns: &[LineTerm],
 ) -> Result<Row, AllocError>
-    ensures { IfOk result (λ r. Lasts def.now (λ full. IsRow full sort.0 (numbers_of sorts.now) head.now columns.now r)) }
+    ensures { IfOk result (λ r. Lasts def.now (λ full.
+        IsRow full sort.0 (numbers_of sorts.now) head.now columns.now r)) }
 {
     let mut known: Known = IndexMap::new(alloc);
     let head = term(alloc, &def.signature, names, &mut known, sort, head)?;

@@ -38,11 +38,7 @@ fn con_decls(alloc: Global, decls: &[ConDecl]) -> Result<Vec<ConDecl>, AllocErro
 }
 
 /// Puts the sort of a line behind the others, if it declares one.
-fn put_sort(
-    alloc: Global,
-    made: &mut Vec<SortDecl>,
-    entry: &Option<Line>,
-) -> Result<(), AllocError>
+fn put_sort(alloc: Global, made: &mut Vec<SortDecl>, entry: &Option<Line>) -> Result<(), AllocError>
     ensures { OnOk result (made.new.items ≡ made.old.items ++ sort_decls (written (entry.now ∷ []))) }
 {
     let Some(line) = entry else {

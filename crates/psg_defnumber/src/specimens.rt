@@ -6,7 +6,8 @@ ghost use Rattle.psg_grammar.specs.declared.types.Item.{Item as PlainItem};
 ghost use Rattle.psg_grammar.specs.Lookups.{is_part, part_items};
 ghost use Rattle.psg_grammar.specs.Specimens.{holes_of_part, rest_hole};
 ghost use Rattle.psg_defnumber.specs.Numbers.{IsPlace, IsTree, terms_of};
-ghost use Rattle.psg_defnumber.specs.Fitting.{IsMade, hole_terms, part_terms, element_terms, PartFits, PartsFit, ElementsFit, RestFits};
+ghost use Rattle.psg_defnumber.specs.Fitting.{IsMade, hole_terms, part_terms, element_terms};
+ghost use Rattle.psg_defnumber.specs.Fitting.{PartFits, PartsFit, ElementsFit, RestFits};
 
 use crate::found::{found, holds};
 use crate::lookups::{kind_named, kind_sort, list_at, operator_named, same_kind};
@@ -200,7 +201,10 @@ pub fn specimen<'a>(
         (λ full names. IsTree full names kind s written.now)) }
 {
     match &written.shape {
-        TreeShape::Operator { name, parts: written } => {
+        TreeShape::Operator {
+            name,
+            parts: written,
+        } => {
             let (op, own) = operator_named(def, names, name)?;
             same_kind(kind, Kind::Phylum(own.phylum))?;
             let items = items_of(alloc, own.items.as_slice())?;

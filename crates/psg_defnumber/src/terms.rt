@@ -61,7 +61,8 @@ pub fn terms<'a>(
     sorts: &[SortId],
     written: &'a [LineTerm],
 ) -> Result<Vec<Term>, AllocError>
-    ensures { IfOk result (λ v. AreMadeTerms sig.now known.old.entries known.new.entries (numbers_of sorts.now) written.now v.items) }
+    ensures { IfOk result (λ v.
+        AreMadeTerms sig.now known.old.entries known.new.entries (numbers_of sorts.now) written.now v.items) }
 {
     holds(sorts.len() == written.len())?;
     let mut made = Vec::with_capacity(alloc, written.len())?;

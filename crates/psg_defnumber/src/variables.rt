@@ -12,11 +12,7 @@ use std::alloc::AllocError;
 pub type Known<'a> = IndexMap<&'a str, SortId>;
 
 /// The number of the variable of the name, which stands at a place of the sort.
-pub fn variable<'a>(
-    known: &mut Known<'a>,
-    name: &'a str,
-    sort: SortId,
-) -> Result<u32, AllocError>
+pub fn variable<'a>(known: &mut Known<'a>, name: &'a str, sort: SortId) -> Result<u32, AllocError>
     ensures { IfOk result (IsMet known.old.entries known.new.entries name.now sort.0) }
 {
     match known.get_index_of(name) {

@@ -1,4 +1,4 @@
-use Rattle.std.proofs.Common.{◌≡◌, ◌+◌, ◌≤◌, ap, refl, arith, rules, sym, ◌∙◌, length}
+use Rattle.std.proofs.Common.{◌≡◌, ◌+◌, ◌≤◌, ap, arith, rules, length}
 use Rattle.psg_grammar.specs.Sound.{IsOwnName}
 use Rattle.psg_deflines.specs.Parts.{texts}
 use Rattle.psg_deflines.specs.FormReads.{HasNoNames, AreNamesRead}

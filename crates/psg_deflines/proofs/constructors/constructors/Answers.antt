@@ -1,8 +1,7 @@
-use Rattle.std.proofs.Common.{◌≡◌, ◌+◌, ◌≤◌, ap, refl, arith, rules, sym, ◌∙◌, length, length-drop, drop, subst}
+use Rattle.std.proofs.Common.{◌+◌, ◌≤◌, ap, arith, rules, sym, length, length-drop, drop, subst}
 use Rattle.std.proofs.lemmas.List.{drop-drop}
 use Rattle.psg_deflines.specs.Parts.{texts}
 use Rattle.psg_deflines.specs.FormReads.{HasNoCon, IsConRead, AreCons}
-use Rattle.psg_deflines.specs.TermWalks.{Parts}
 use Rattle.psg_deflines.specs.declared.constructors.ConRead.{ConRead}
 use Rattle.psg_deflines.proofs.Lists.{drop-all}
 use Rattle.psg_deflines.proofs.Options.{when-some, when-none}
@@ -28,8 +27,7 @@ pub constructors-preserved : goal.constructors-preserved
 constructors-preserved c =
     let ps = texts c.args.parts.now in
     let read = subst (λ xs. IsConRead xs c.in-Some.read.constructor c.in-Some.read.taken) (texts-from c.args.parts.now c.constructors.taken)
-    (when-some (HasNoCon _) (λ (r : ConRead). IsConRead _ r.constructor r.taken) c.in_ok-read.field-0 c.in-Some.read c.in-Some.is c.in_ok-read.ensures) in
-    (
+    (when-some (HasNoCon _) (λ (r : ConRead). IsConRead _ r.constructor r.taken) c.in_ok-read.field-0 c.in-Some.read c.in-Some.is c.in_ok-read.ensures) in (
       omega (arith, read.fits, length-drop c.constructors.taken ps, texts-length c.args.parts.now),
       subst (λ xs. IsReadTo AreCons ps xs (drop (c.constructors.taken + c.in-Some.read.taken) ps)) (sym c.in_ok-push.ensures.items)
           (subst (IsReadTo AreCons ps _) (drop-drop c.in-Some.read.taken c.constructors.taken ps)

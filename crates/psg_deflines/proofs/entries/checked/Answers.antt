@@ -1,6 +1,5 @@
-use Rattle.std.proofs.Common.{subst, sym, ◌∙◌}
+use Rattle.std.proofs.Common.{subst}
 use Rattle.psg_deflines.specs.LineReads.{IsFormRead}
-use Rattle.psg_deflines.specs.declared.term_forms.FormRead.TheVariants as reads
 use Rattle.psg_deflines.proofs.EntryLaws.{no-form, too-deep, line-read}
 use Rattle.psg_deflines.proofs.entries.checked.Goals as goal
 

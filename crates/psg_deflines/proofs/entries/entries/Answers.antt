@@ -1,8 +1,7 @@
-use Rattle.std.proofs.Common.{◌≡◌, ◌+◌, List, ℕ, refl, sym, ap, subst, arith, get_or}
-use Rattle.std.specs.Borrow.{Bor}
+use Rattle.std.proofs.Common.{◌+◌, sym, subst, arith, get_or}
 use Rattle.psg_deflines.specs.Parts.{texts}
-use Rattle.psg_deflines.specs.Entries.{written, takes_rows, takes_cases}
-use Rattle.psg_deflines.specs.EntryReads.{IsEntryRead, rows_after, cases_after}
+use Rattle.psg_deflines.specs.Entries.{written}
+use Rattle.psg_deflines.specs.EntryReads.{IsEntryRead, rows_after}
 use Rattle.psg_deflines.proofs.PartReads.{no-slice}
 use Rattle.psg_deflines.proofs.TermFound.{texts-length}
 use Rattle.psg_deflines.proofs.ReadLaws.{IsReadUpTo, read-start, read-next, read-fault, read-all, text-at}

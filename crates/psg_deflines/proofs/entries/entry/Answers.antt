@@ -1,4 +1,4 @@
-use Rattle.std.proofs.Common.{subst, sym, ◌∙◌, refl, ap}
+use Rattle.std.proofs.Common.{subst, sym, refl}
 use Rattle.std.proofs.lemmas.Bool.{false≢true}
 use Rattle.psg_deflines.specs.Parts.{HasParts, HasNoParts, texts}
 use Rattle.psg_deflines.specs.Only.{IsOnly}

@@ -1,4 +1,4 @@
-use Rattle.std.proofs.Common.{refl, ap, ◌∙◌, ◌∷◌, sym}
+use Rattle.std.proofs.Common.{refl, ap, ◌∙◌, ◌∷◌}
 use Rattle.std.proofs.lemmas.Bool.{false≢true}
 use Rattle.psg_deflines.specs.Parts.{texts}
 use Rattle.psg_deflines.proofs.Lists.{nil-length}

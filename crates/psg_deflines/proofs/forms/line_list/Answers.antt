@@ -1,4 +1,4 @@
-use Rattle.std.proofs.Common.{◌≡◌, ℕ, Bool, arith, ap, refl, sym, ◌∙◌, get_or}
+use Rattle.std.proofs.Common.{◌≡◌, ℕ, arith, refl, sym, get_or}
 use Rattle.std.proofs.lemmas.Bool.{false≢true}
 use Rattle.psg_terms.specs.Names.{Name}
 use Rattle.psg_grammar.specs.Sound.{IsKindName}
@@ -27,10 +27,10 @@ returns-in_default-which-2 c = λ line h. (let o = list-parts c.args.parts.now l
 
 pub returns-in_default-5 : goal.returns-in_default-5
 returns-in_default-5 c = λ line h. (
-  let o = list-parts c.args.parts.now line h in
-  when-none (HasNoQuote (get_or c.args.parts.now 5 no-slice).now) (IsOnly (IsQuoteOf (get_or c.args.parts.now 5 no-slice).now)) c.in_ok-separator.field-0 c.in_default-5.is c.in_ok-separator.ensures o.word
-  (record { quotable = o.forms.3; written = sym o.p5 })
-)
+    let o = list-parts c.args.parts.now line h in
+    when-none (HasNoQuote (get_or c.args.parts.now 5 no-slice).now) (IsOnly (IsQuoteOf (get_or c.args.parts.now 5 no-slice).now)) c.in_ok-separator.field-0 c.in_default-5.is c.in_ok-separator.ensures o.word
+    (record { quotable = o.forms.3; written = sym o.p5 })
+    )
 
 pub returns : goal.returns
 returns c =

@@ -1,5 +1,5 @@
-use Rattle.std.proofs.Common.{◌≡◌, ℕ, ◌-◌, ◌<◌, Bool, false, arith, ap, refl, sym, ◌∙◌, get_or, take, drop, length, subst}
-use Rattle.std.proofs.lemmas.Bool.{false≢true, eqb-true}
+use Rattle.std.proofs.Common.{◌≡◌, ℕ, ◌-◌, ◌<◌, arith, ap, refl, sym, ◌∙◌, get_or, take, drop, length, subst}
+use Rattle.std.proofs.lemmas.Bool.{eqb-true}
 use Rattle.psg_terms.specs.Names.{Name}
 use Rattle.psg_grammar.specs.Sound.{IsKindName, IsOwnName}
 use Rattle.psg_deflines.specs.Parts.{texts}

@@ -1,4 +1,4 @@
-use Rattle.std.proofs.Common.{◌-◌, length, take, drop, length-drop, arith, ap, sym}
+use Rattle.std.proofs.Common.{length, length-drop, arith, ap, sym}
 use Rattle.std.proofs.lemmas.Bool.{false≢true, eqb-true}
 use Rattle.psg_deflines.proofs.Lists.{rest-whole}
 use Rattle.psg_deflines.proofs.FormLaws.{sort-long, sort-equals}

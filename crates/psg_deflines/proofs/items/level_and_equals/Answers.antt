@@ -1,4 +1,4 @@
-use Rattle.std.proofs.Common.{sym, ◌∙◌, []}
+use Rattle.std.proofs.Common.{[]}
 use Rattle.std.proofs.lemmas.Bool.{false≢true}
 use Rattle.psg_deflines.proofs.ItemLaws.{no-level}
 use Rattle.psg_deflines.proofs.items.level_and_equals.Goals as goal

@@ -12,5 +12,5 @@ loop-i-preserved t c =
 pub returns-after-loop-i : goal.returns-after-loop-i
 returns-after-loop-i t c =
     on-ok c.write_closing.result c.write_closing.ensures (λ h.
-      term-end c.args.term.now c.term.inside.shape c.in-Named.name c.in-Named.args c.as_slice-args.result.now c.loop-i.i (string_bytes c.args.out.now) (string_bytes c.write_word.new.out) (string_bytes c.loop-i.out) (string_bytes c.write_closing.new.out)
-      c.in-Named.is c.term.view_is c.as_slice-args.ensures (omega (arith, c.loop-i-test.false)) (c.in_ok-write_word-in-Named.ensures ∙ ap (λ n. string_bytes c.args.out.now ++ behind (n ∷ [])) c.as_str-in-Named.ensures) c.loop-i.invariant h)
+    term-end c.args.term.now c.term.inside.shape c.in-Named.name c.in-Named.args c.as_slice-args.result.now c.loop-i.i (string_bytes c.args.out.now) (string_bytes c.write_word.new.out) (string_bytes c.loop-i.out) (string_bytes c.write_closing.new.out)
+    c.in-Named.is c.term.view_is c.as_slice-args.ensures (omega (arith, c.loop-i-test.false)) (c.in_ok-write_word-in-Named.ensures ∙ ap (λ n. string_bytes c.args.out.now ++ behind (n ∷ [])) c.as_str-in-Named.ensures) c.loop-i.invariant h)

@@ -1,4 +1,4 @@
-use Rattle.std.proofs.Common.{◌≡◌, ◌++◌, ◌∷◌, string_bytes}
+use Rattle.std.proofs.Common.{◌≡◌, ◌++◌, string_bytes}
 use Rattle.std.specs.Prelude.{encode_utf8_all}
 use Rattle.psg_lexis.specs.Tokens.{quoted}
 use Rattle.psg_deflines.proofs.part_writing.write_quoted.Given as goal

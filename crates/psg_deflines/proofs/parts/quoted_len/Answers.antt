@@ -1,7 +1,6 @@
-use Rattle.std.proofs.Common.{◌≡◌, ℕ, List, ◌+◌, ◌-◌, ◌<◌, ◌≤◌, rules, ap, length, take, drop, false, sym, ◌∙◌, subst, arith, length-drop}
-use Rattle.std.specs.Prelude.{Some, None}
+use Rattle.std.proofs.Common.{ℕ, List, ◌+◌, ◌-◌, ◌<◌, ◌≤◌, rules, ap, length, take, drop, false, sym, subst, arith, length-drop}
 use Rattle.psg_deflines.specs.Only.{IsOnly}
-use Rattle.psg_deflines.specs.Quotes.{closing, IsQuoteOf, HasNoQuote}
+use Rattle.psg_deflines.specs.Quotes.{IsQuoteOf, HasNoQuote}
 use Rattle.psg_deflines.proofs.Lists.{rest-whole}
 use Rattle.psg_deflines.proofs.Options.{when-some, when-none}
 use Rattle.psg_deflines.proofs.ClosingLaws.{quote-open, quote-bad, quote-first, closing-inside}

@@ -1,4 +1,4 @@
-use Rattle.std.proofs.Common.{rules, ℕ, ◌≡◌, ◌∷◌, ◌+◌, ◌≤◌, List, length, drop, ap, sym, ◌∙◌, refl, subst, arith, length-drop}
+use Rattle.std.proofs.Common.{rules, ◌≡◌, ◌∷◌, ◌+◌, ◌≤◌, length, drop, ap, sym, ◌∙◌, refl, arith, length-drop}
 use Rattle.std.specs.Prelude.{option_map, codes}
 use Rattle.psg_terms.specs.Names.{Name}
 use Rattle.psg_grammar.specs.Sound.{IsKindName}

@@ -1,4 +1,4 @@
-use Rattle.std.proofs.Common.{rules, ℕ, ◌≡◌, ◌∷◌, ◌+◌, ◌≤◌, List, length, drop, ap, sym, ◌∙◌, refl, subst, arith, length-drop}
+use Rattle.std.proofs.Common.{rules, ◌≡◌, ◌∷◌, ◌+◌, ◌≤◌, length, drop, ap, sym, ◌∙◌, refl, subst, arith, length-drop}
 use Rattle.std.specs.Prelude.{codes}
 use Rattle.psg_deflines.specs.Parts.{texts}
 use Rattle.psg_deflines.specs.TermWalks.{Parts}

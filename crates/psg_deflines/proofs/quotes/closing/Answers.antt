@@ -1,4 +1,4 @@
-use Rattle.std.proofs.Common.{false, drop, ap, sym, ◌∙◌, arith}
+use Rattle.std.proofs.Common.{ap, sym, ◌∙◌, arith}
 use Rattle.std.specs.Prelude.{option_map, Some, ◌+◌}
 use Rattle.psg_deflines.specs.Quotes.{closing}
 use Rattle.psg_deflines.proofs.Lists.{drop-all}

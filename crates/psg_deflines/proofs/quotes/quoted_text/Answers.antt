@@ -1,4 +1,4 @@
-use Rattle.std.proofs.Common.{◌≡◌, ◌≢◌, length, ap, sym, ◌∙◌, subst, []}
+use Rattle.std.proofs.Common.{◌≢◌, length, ◌∙◌, subst}
 use Rattle.std.specs.Prelude.{IsUtf8}
 use Rattle.psg_deflines.specs.Quotes.{IsTextAlone, HasNoTextAlone}
 use Rattle.psg_lexis.specs.declared.token.LexFault.TheVariants.{Memory}

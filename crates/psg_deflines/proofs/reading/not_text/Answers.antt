@@ -1,6 +1,4 @@
-use Rattle.std.proofs.Common.{◌+◌, ◌<◌, ◌^◌, ap, arith, rules, length}
-use Rattle.std.proofs.lemmas.List.{length-take}
-use Rattle.psg_deflines.specs.Refusals.{line_feeds}
+use Rattle.std.proofs.Common.{◌+◌, ◌<◌, ◌^◌, arith, rules}
 use Rattle.psg_deflines.proofs.CountLaws.{feeds-few}
 use Rattle.psg_deflines.proofs.reading.not_text.Goals as goal
 

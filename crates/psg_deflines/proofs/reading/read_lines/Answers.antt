@@ -1,7 +1,5 @@
-use Rattle.std.proofs.Common.{◌≡◌, ◌+◌, take, ap, List, sym, ◌∙◌}
-use Rattle.std.specs.Str.Lines.{lines}
-use Rattle.psg_deflines.specs.Entries.{HasHead, behind_head, Entry}
-use Rattle.psg_deflines.specs.EntryReads.{AreEntriesRead, IsTextFault}
+use Rattle.std.proofs.Common.{◌≡◌, ◌+◌, take, ap, List, ◌∙◌}
+use Rattle.psg_deflines.specs.Entries.{Entry}
 use Rattle.psg_deflines.specs.Refusals.{IsFormFault, line_feeds}
 use Rattle.psg_deflines.specs.Reading.{HasEntries, AreLinesOf, HasNoFormFault}
 use Rattle.psg_deflines.proofs.Options.{ok-from, err-from}

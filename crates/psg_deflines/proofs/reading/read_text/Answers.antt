@@ -1,11 +1,11 @@
-use Rattle.std.proofs.Common.{◌≡◌, ℕ, List, ◌∷◌, ◌∙◌, sym, ap, arith, false, length}
+use Rattle.std.proofs.Common.{◌≡◌, ℕ, List, ◌∙◌, sym, ap, arith, length}
 use Rattle.std.proofs.lemmas.Bool.{false≢true}
 use Rattle.std.specs.Prelude.{map}
 use Rattle.std.specs.Str.Lines.{lines}
 use Rattle.psg_deflines.proofs.PartReads.{Slices}
 use Rattle.psg_deflines.specs.Parts.{texts}
 use Rattle.psg_deflines.specs.Entries.{HasHead, behind_head}
-use Rattle.psg_deflines.specs.EntryReads.{AreEntriesRead, IsEntryFault, IsTextFault}
+use Rattle.psg_deflines.specs.EntryReads.{AreEntriesRead, IsTextFault}
 use Rattle.psg_deflines.proofs.Lists.{nil-length}
 use Rattle.psg_deflines.proofs.Options.{ok-from, err-from}
 use Rattle.psg_deflines.proofs.TermFound.{texts-length}

@@ -1,7 +1,6 @@
-use Rattle.std.proofs.Common.{◌≡◌, ◌+◌, ◌≤◌, ap, refl, arith, rules, sym, ◌∙◌, length, length-drop, drop, subst}
+use Rattle.std.proofs.Common.{◌+◌, ◌≤◌, ap, refl, arith, rules, length, length-drop, drop, subst}
 use Rattle.psg_deflines.specs.Parts.{texts}
 use Rattle.psg_deflines.specs.TailReads.{HaveNoTerms, AreTermsFound}
-use Rattle.psg_deflines.specs.declared.tails.TermsRead.{TermsRead}
 use Rattle.psg_deflines.proofs.Options.{when-some, when-none}
 use Rattle.psg_deflines.proofs.TermFound.{texts-length, texts-from}
 use Rattle.psg_deflines.proofs.TailLaws.{columns-none, columns-zero, columns-found}

@@ -1,4 +1,4 @@
-use Rattle.std.proofs.Common.{◌≡◌, ap, refl, arith, sym, ◌∙◌, length, ◌∷◌}
+use Rattle.std.proofs.Common.{ap, refl, arith, ◌∙◌, ◌∷◌}
 use Rattle.psg_deflines.specs.Parts.{texts}
 use Rattle.psg_deflines.specs.TreeReads.{HasNoTree, IsTreeFound}
 use Rattle.psg_deflines.proofs.Options.{when-some, when-none}

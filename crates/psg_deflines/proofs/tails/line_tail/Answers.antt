@@ -1,4 +1,4 @@
-use Rattle.std.proofs.Common.{ℕ, ◌≡◌, ap, refl, arith, sym, ◌∙◌, length, length-drop, drop, subst}
+use Rattle.std.proofs.Common.{ℕ, ◌≡◌, ap, refl, arith, ◌∙◌, drop, subst}
 use Rattle.psg_deflines.specs.Parts.{texts}
 use Rattle.psg_deflines.specs.TermWalks.{HasNoTerm, IsTermFound}
 use Rattle.psg_deflines.specs.TailReads.{HaveNoColumns, AreColumnsFound, HasNothingBehind, IsBehindFound}

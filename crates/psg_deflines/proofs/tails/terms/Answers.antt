@@ -1,8 +1,7 @@
-use Rattle.std.proofs.Common.{◌≡◌, ◌+◌, ◌<◌, ◌≤◌, ap, inl, inr, refl, arith, rules, sym, ◌∙◌, length, length-drop, drop, subst}
+use Rattle.std.proofs.Common.{◌+◌, ◌≤◌, ap, inl, inr, arith, rules, ◌∙◌, length, length-drop, drop, subst}
 use Rattle.std.specs.Prelude.{Some}
 use Rattle.psg_deflines.specs.Parts.{texts}
 use Rattle.psg_deflines.specs.TermWalks.{HasNoTerm, IsTermFound}
-use Rattle.psg_deflines.specs.declared.term_reading.TermRead.{TermRead}
 use Rattle.psg_deflines.proofs.Options.{when-some, when-none}
 use Rattle.psg_deflines.proofs.TermFound.{texts-length, texts-from}
 use Rattle.psg_deflines.proofs.TailLaws.{terms-start, terms-more, terms-not, terms-end}
@@ -29,8 +28,7 @@ pub terms-preserved : goal.terms-preserved
 terms-preserved c =
     let ps = texts c.args.parts.now in
     let found : IsTermFound (drop c.terms.taken ps) c.in-Some.read =
-    subst (λ xs. IsTermFound xs c.in-Some.read) (texts-from c.args.parts.now c.terms.taken) (when-some (HasNoTerm _) (IsTermFound _) c.in_ok-read.field-0 c.in-Some.read c.in-Some.is c.in_ok-read.ensures) in
-    (
+    subst (λ xs. IsTermFound xs c.in-Some.read) (texts-from c.args.parts.now c.terms.taken) (when-some (HasNoTerm _) (IsTermFound _) c.in_ok-read.field-0 c.in-Some.read c.in-Some.is c.in_ok-read.ensures) in (
       omega (arith, found.fits, length-drop c.terms.taken ps, texts-length c.args.parts.now),
       omega arith,
       terms-more c.args.most ps c.terms.terms c.in_ok-terms.terms c.terms.count c.terms.taken c.in-Some.read c.terms.invariant.2 (omega arith) (omega (arith, texts-length c.args.parts.now)) found c.in_ok-terms.ensures,

@@ -1,9 +1,6 @@
-use Rattle.std.proofs.Common.{◌≡◌, ◌==◌, ◌&&◌, true, false, sym, ap, ◌∙◌, subst, inl, inr, codes, ◌∷◌}
-use Rattle.std.specs.Prelude.{Some, None, not, ◌⊎◌}
-use Rattle.psg_deflines.specs.WrittenTerms.{WrittenTerm}
+use Rattle.std.proofs.Common.{sym, ap, ◌∙◌, subst, inl, inr, codes, ◌∷◌}
+use Rattle.std.specs.Prelude.{not}
 use Rattle.psg_deflines.specs.LineReads.{IsFormRead}
-use Rattle.psg_deflines.specs.TailReads.{is_nothing}
-use Rattle.psg_deflines.proofs.Options.{when-some, when-none}
 use Rattle.psg_deflines.proofs.TermFormReads.{only-if, case-kept, case-deep, case-other}
 use Rattle.psg_deflines.proofs.term_forms.case_of.Goals.{in-Some, in-None}
 use Rattle.psg_deflines.proofs.term_forms.case_of.Goals as goal

@@ -1,8 +1,7 @@
-use Rattle.std.proofs.Common.{◌≡◌, ◌==◌, ◌&&◌, true, false, sym, ap, ◌∙◌, subst, inl, inr, codes, ◌∷◌}
+use Rattle.std.proofs.Common.{◌≡◌, ◌==◌, ◌&&◌, sym, ap, ◌∙◌, subst, inl, inr, codes, ◌∷◌}
 use Rattle.std.specs.Prelude.{Some, None, not, ◌⊎◌}
 use Rattle.psg_deflines.specs.WrittenTerms.{WrittenTerm}
 use Rattle.psg_deflines.specs.LineReads.{IsFormRead}
-use Rattle.psg_deflines.specs.TailReads.{is_nothing}
 use Rattle.psg_deflines.proofs.Options.{when-some, when-none}
 use Rattle.psg_deflines.proofs.TermFormReads.{only-if, IsSingle, declare-kept, declare-deep, declare-other}
 use Rattle.psg_deflines.proofs.term_forms.declare_of.Goals.{in-Some, in-None}

@@ -1,4 +1,4 @@
-use Rattle.std.proofs.Common.{◌≡◌, sym, ◌∙◌, inl, inr}
+use Rattle.std.proofs.Common.{sym, ◌∙◌, inl, inr}
 use Rattle.psg_deflines.proofs.TermFormReads.{hole-kept, hole-deep}
 use Rattle.psg_deflines.proofs.term_forms.hole_of.Goals as goal
 

@@ -1,7 +1,7 @@
-use Rattle.std.proofs.Common.{sym, subst, ◌≡◌}
-use Rattle.std.specs.Prelude.{IfOk, MatchOption}
+use Rattle.std.proofs.Common.{sym, subst}
+use Rattle.std.specs.Prelude.{IfOk}
 use Rattle.psg_deflines.specs.Parts.{texts}
-use Rattle.psg_deflines.specs.TermWalks.{IsAdvanced, IsWalk, is_deep, AreOpen, HasNoStep, IsStepMade, expects, has, Stage}
+use Rattle.psg_deflines.specs.TermWalks.{IsAdvanced, IsWalk, is_deep, Stage}
 use Rattle.psg_deflines.specs.declared.term_reading.Walk.TheVariants as walks
 use Rattle.psg_deflines.proofs.Options.{ok-from}
 use Rattle.psg_deflines.proofs.TermFound.{advance-expects, advance-has}

@@ -1,7 +1,5 @@
-use Rattle.std.proofs.Common.{refl, ap, sym, ◌∙◌, subst, true, ◌∷◌, arith, length, ◌≡◌}
-use Rattle.std.specs.Prelude.{MatchBool, vec_len}
+use Rattle.std.proofs.Common.{refl, ap, sym, ◌∙◌, ◌∷◌, arith}
 use Rattle.psg_deflines.specs.Parts.{texts}
-use Rattle.psg_deflines.specs.TermWalks.{IsOpened, IsNotOpened}
 use Rattle.psg_deflines.proofs.TermStepLaws.{texts-first, variable-made, constant-made, opened-made}
 use Rattle.psg_deflines.proofs.term_reading.begin.Goals as goal
 

@@ -1,4 +1,4 @@
-use Rattle.std.proofs.Common.{refl, ap, sym, ◌∙◌, subst, true, ◌∷◌, ◌++◌, [], codes}
+use Rattle.std.proofs.Common.{refl, ap, ◌∙◌, ◌∷◌}
 use Rattle.psg_deflines.specs.Parts.{texts}
 use Rattle.psg_deflines.specs.WrittenTerms.{applied, named}
 use Rattle.psg_deflines.proofs.TermStepLaws.{texts-first, comma-made, closed-made}

@@ -1,4 +1,4 @@
-use Rattle.std.proofs.Common.{◌≡◌, ℕ, List, Bool, true, false, refl, codes, subst, ◌∷◌}
+use Rattle.std.proofs.Common.{◌≡◌, ℕ, List, Bool, true, false, refl, codes, ◌∷◌}
 use Rattle.std.specs.Prelude.{MatchBool, IsTrue, ◌↔◌}
 use Rattle.std.proofs.lemmas.Bool.{false≢true}
 use Rattle.psg_deflines.specs.Parts.{texts}

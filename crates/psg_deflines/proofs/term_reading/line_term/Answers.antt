@@ -1,10 +1,10 @@
-use Rattle.std.proofs.Common.{ℕ, drop, refl, sym, ◌∙◌, subst, arith, ◌+◌, ◌≡◌, false}
+use Rattle.std.proofs.Common.{ℕ, drop, refl, sym, ◌∙◌, subst, arith}
 use Rattle.std.proofs.lemmas.Bool.{false≢true}
 use Rattle.psg_deflines.specs.Parts.{texts}
-use Rattle.psg_deflines.specs.TermWalks.{IsAdvanced, IsStepMade, HasNoStep, is_deep, IsDone}
+use Rattle.psg_deflines.specs.TermWalks.{IsAdvanced, IsStepMade, HasNoStep, is_deep}
 use Rattle.psg_deflines.specs.declared.term_reading.Walk.{Walk}
 use Rattle.psg_deflines.proofs.Options.{when-some, when-none}
-use Rattle.psg_deflines.proofs.TermFound.{IsWalked, walked-start, walked-more, walked-none, walked-done, made-longer, texts-from, texts-length}
+use Rattle.psg_deflines.proofs.TermFound.{walked-start, walked-more, walked-none, walked-done, made-longer, texts-from, texts-length}
 use Rattle.psg_deflines.proofs.term_reading.line_term.Goals as goal
 
 pub steps-init : goal.steps-init

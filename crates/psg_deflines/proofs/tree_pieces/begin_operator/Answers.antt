@@ -1,4 +1,4 @@
-use Rattle.std.proofs.Common.{sym, ◌∙◌, ap}
+use Rattle.std.proofs.Common.{sym, ◌∙◌}
 use Rattle.psg_deflines.specs.Parts.{texts}
 use Rattle.psg_deflines.proofs.TermStepLaws.{texts-first}
 use Rattle.psg_deflines.proofs.PieceLaws.{leaf-begun, frame-begun}

@@ -1,4 +1,4 @@
-use Rattle.std.proofs.Common.{◌≡◌, ◌+◌, ◌-◌, ◌*◌, ◌^◌, ◌<◌, true, length, sym, subst, arith}
+use Rattle.std.proofs.Common.{◌≡◌, ◌+◌, ◌-◌, ◌*◌, ◌^◌, ◌<◌, length, sym, subst, arith}
 use Rattle.psg_lexis.specs.Tokens.{value_of}
 use Rattle.psg_deflines.proofs.NumberLaws.{digit-read, digits-too-large, digits-left}
 use Rattle.psg_deflines.proofs.tree_pieces.value.Goals as goal

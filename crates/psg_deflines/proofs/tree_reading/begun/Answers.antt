@@ -1,6 +1,6 @@
-use Rattle.std.proofs.Common.{◌≡◌, subst, sym, ap}
+use Rattle.std.proofs.Common.{subst}
 use Rattle.psg_deflines.specs.TreePieces.{ShowsBegin}
-use Rattle.psg_deflines.proofs.TreeMoves.{tree-moved, frame-moved}
+use Rattle.psg_deflines.proofs.TreeMoves.{tree-moved}
 use Rattle.psg_deflines.proofs.tree_reading.begun.Goals as goal
 
 pub returns-in_ok-walk-in-Tree : goal.returns-in_ok-walk-in-Tree

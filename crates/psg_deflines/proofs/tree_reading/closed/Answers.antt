@@ -1,4 +1,4 @@
-use Rattle.std.proofs.Common.{◌≡◌, refl, ap, sym, ◌∙◌}
+use Rattle.std.proofs.Common.{refl}
 use Rattle.psg_deflines.proofs.TreeMoves.{no-close, close-moved}
 use Rattle.psg_deflines.proofs.tree_reading.closed.Goals as goal
 

@@ -1,11 +1,11 @@
-use Rattle.std.proofs.Common.{rules, ℕ, ◌≤◌, length, drop, refl, sym, ◌∙◌, subst, arith, ◌+◌, ◌≡◌, false}
+use Rattle.std.proofs.Common.{rules, ℕ, ◌≤◌, length, drop, refl, sym, ◌∙◌, subst, arith, ◌+◌}
 use Rattle.std.proofs.lemmas.Bool.{false≢true}
 use Rattle.psg_deflines.specs.Parts.{texts}
-use Rattle.psg_deflines.specs.TreeStages.{IsTreeAdvanced, IsTreeStepMade, HasNoTreeStep, is_deep, IsTreeDone}
+use Rattle.psg_deflines.specs.TreeStages.{IsTreeAdvanced, IsTreeStepMade, HasNoTreeStep, is_deep}
 use Rattle.psg_deflines.specs.declared.tree_reading.TreeWalk.{TreeWalk}
 use Rattle.psg_deflines.proofs.Options.{when-some, when-none}
 use Rattle.psg_deflines.proofs.TermFound.{texts-from, texts-length}
-use Rattle.psg_deflines.proofs.TreeFound.{IsTreeWalked, walked-start, walked-more, walked-none, walked-done, made-longer}
+use Rattle.psg_deflines.proofs.TreeFound.{walked-start, walked-more, walked-none, walked-done, made-longer}
 use Rattle.psg_deflines.proofs.tree_reading.line_tree.Goals as goal
 
 pub steps-init : goal.steps-init

@@ -1,8 +1,8 @@
-use Rattle.std.proofs.Common.{◌≡◌, ◌||◌, nat_le, refl, ap, sym, ◌∙◌, arith}
+use Rattle.std.proofs.Common.{◌≡◌, ◌||◌, nat_le, refl, ap, ◌∙◌, arith}
 use Rattle.std.specs.Prelude.{cond, None, not, is_some}
 use Rattle.psg_deflines.specs.WrittenTerms.{most_nested}
 use Rattle.psg_deflines.proofs.PlaceLaws.{turned}
-use Rattle.psg_deflines.proofs.TreeStageLaws.{placed-after, placed-done, noted_deep}
+use Rattle.psg_deflines.proofs.TreeStageLaws.{placed-after, noted_deep}
 use Rattle.psg_deflines.proofs.tree_reading.placed.Goals as goal
 
 pub returns : goal.returns

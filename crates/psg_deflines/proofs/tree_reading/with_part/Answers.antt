@@ -1,4 +1,4 @@
-use Rattle.std.proofs.Common.{◌≡◌, ◌++◌, ◌∷◌, [], refl, ap, sym, ◌∙◌}
+use Rattle.std.proofs.Common.{refl, ap, ◌∙◌}
 use Rattle.psg_deflines.specs.WrittenTrees.{operator}
 use Rattle.psg_deflines.specs.TreeShapes.{with_parts}
 use Rattle.psg_deflines.specs.TreeWalks.{in_operator}

@@ -12,4 +12,4 @@ loop-i-preserved c =
 pub returns : goal.returns
 returns c =
     on-ok c.write_closing.result c.write_closing.ensures (λ h.
-      names-end c.args.names.now c.loop-i.i (string_bytes c.args.out.now) (string_bytes c.loop-i.out) (string_bytes c.write_closing.new.out) (omega (arith, c.loop-i-test.false)) c.loop-i.invariant h)
+    names-end c.args.names.now c.loop-i.i (string_bytes c.args.out.now) (string_bytes c.loop-i.out) (string_bytes c.write_closing.new.out) (omega (arith, c.loop-i-test.false)) c.loop-i.invariant h)

@@ -1,7 +1,6 @@
-use Rattle.std.proofs.Common.{string_bytes, map, ◌∷◌, [], arith}
-use Rattle.psg_deflines.specs.WrittenTerms.{term_parts}
-use Rattle.psg_deflines.specs.Forms.{argument_parts, constructor_parts, item_part, terms_parts}
-use Rattle.psg_deflines.proofs.LineTextLaws.{each, each-end, constructor-snoc, items-snoc, terms-snoc}
+use Rattle.std.proofs.Common.{string_bytes, ◌∷◌, arith}
+use Rattle.psg_deflines.specs.Forms.{argument_parts, constructor_parts}
+use Rattle.psg_deflines.proofs.LineTextLaws.{each, each-end, constructor-snoc}
 use Rattle.psg_deflines.proofs.writing.write_constructors.Goals as goal
 
 pub loop-i-preserved : goal.loop-i-preserved

@@ -1,5 +1,5 @@
 use Rattle.std.proofs.Common.{◌≡◌, ◌++◌, map, take, string_bytes}
-use Rattle.psg_deflines.specs.Forms.{constructor_parts, item_part, terms_parts}
+use Rattle.psg_deflines.specs.Forms.{item_part}
 use Rattle.psg_deflines.specs.LineTexts.{behind}
 use Rattle.psg_deflines.proofs.writing.write_items.Given as goal
 

@@ -1,7 +1,7 @@
-use Rattle.std.proofs.Common.{string_bytes, map, take, ◌∷◌, [], arith}
+use Rattle.std.proofs.Common.{string_bytes, take, arith}
 use Rattle.psg_deflines.specs.WrittenTerms.{term_parts}
-use Rattle.psg_deflines.specs.Forms.{argument_parts, constructor_parts, item_part, terms_parts}
-use Rattle.psg_deflines.proofs.LineTextLaws.{each, each-end, constructor-snoc, items-snoc, terms-snoc}
+use Rattle.psg_deflines.specs.Forms.{terms_parts}
+use Rattle.psg_deflines.proofs.LineTextLaws.{each, each-end, terms-snoc}
 use Rattle.psg_deflines.proofs.writing.write_terms.Goals as goal
 
 pub loop-i-preserved : goal.loop-i-preserved

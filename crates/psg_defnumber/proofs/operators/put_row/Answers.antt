@@ -1,7 +1,7 @@
-use Rattle.std.proofs.Common.{ap, subst, refl, sym, ◌∙◌}
+use Rattle.std.proofs.Common.{ap, sym, ◌∙◌}
 use Rattle.psg_terms.specs.Kept.{numbers_of}
 use Rattle.psg_deflines.specs.declared.lines.Line.TheVariants as lines
-use Rattle.psg_defnumber.proofs.LineLaws.{row-put, row-passed}
+use Rattle.psg_defnumber.proofs.LineLaws.{row-put}
 use Rattle.psg_defnumber.proofs.operators.put_row.Goals as goal
 
 pub returns : goal.returns

@@ -1,4 +1,4 @@
-use Rattle.std.proofs.Common.{◌≡◌, ◌+◌, ◌<◌, ◌^◌, length, take}
+use Rattle.std.proofs.Common.{◌≡◌, ◌<◌, ◌^◌, length, take}
 use Rattle.psg_terms.specs.Declarations.{constructor_names}
 use Rattle.psg_defnumber.proofs.signatures.few_constructors.Given as goal
 

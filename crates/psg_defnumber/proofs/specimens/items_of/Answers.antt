@@ -1,4 +1,4 @@
-use Rattle.std.proofs.Common.{ap, refl, sym, ◌∙◌, List, Vec, Global}
+use Rattle.std.proofs.Common.{ap, refl, ◌∙◌, Vec, Global}
 use Rattle.std.specs.Borrow.{Bor}
 use Rattle.psg_grammar.specs.declared.types.Item.{Item}
 use Rattle.psg_defnumber.proofs.FitLaws.{items-taken, items-passed}

@@ -1,4 +1,4 @@
-use Rattle.std.proofs.Common.{ap, ap₂, sym, subst, ◌∙◌}
+use Rattle.std.proofs.Common.{ap, sym, ◌∙◌}
 use Rattle.psg_terms.specs.Kept.{numbers_of}
 use Rattle.std.proofs.lemmas.Bool.{eqb-true}
 use Rattle.psg_deflines.specs.WrittenTerms.{named, applied}
