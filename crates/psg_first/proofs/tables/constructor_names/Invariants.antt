@@ -1,7 +1,0 @@
-use Rattle.std.proofs.Common.{◌≡◌, take}
-use Rattle.psg_first.specs.Parts.{texts}
-use Rattle.psg_first.specs.Numbers.{constructor_names}
-use Rattle.psg_first.proofs.tables.constructor_names.Given as goal
-
-abbrev pub invariant-loop-line : goal.invariant-loop-line
-invariant-loop-line l = texts l.names.items ≡ constructor_names (take l.line-index l.lines)
