@@ -2,7 +2,7 @@
 //!
 //! ```text
 //! let note = build(alloc, &definition, declaring.as_slice(), &tree, &mut steps)?;
-//! let good = note.is_open();
+//! let good = note.is_good();
 //! ```
 //!
 //! A note has a tree, the summary of its root, how much the relations of its nodes weigh together, and the nodes at
