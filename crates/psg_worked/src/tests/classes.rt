@@ -155,3 +155,71 @@ fn what_follows_unfinished_lists(rt: HostRuntime) -> Result<(), Fail> {
     )];
     judges(&rt, rt.alloc(), "", "unfinished", &rows)
 }
+
+#[test]
+fn accepted_neighbours(rt: HostRuntime) -> Result<(), Fail> {
+    let rows = [
+        ("op u : P = \"q\" Q\n", "accepted"),
+        ("op u : P = \"y\" L \"x\"\n", "accepted"),
+        ("op u : P = space \"x\" line\n", "accepted"),
+        ("op x : P = \"x\"\nop v : P = \"y\" P \"z\"\n", "accepted"),
+        ("op n : P = number\nop d : P = \".\" number\n", "accepted"),
+        ("op z : P = \"z\"\nop d : P = \".\" \"z\"\n", "accepted"),
+        ("op x : P = \"x\"\nop v : Q = \"y\" L \".\"\n", "accepted"),
+        (
+            "op n : P = number\nop y : R = \"y\"\nop o : Q = \"b\" L R\n",
+            "accepted",
+        ),
+    ];
+    judges(&rt, rt.alloc(), "", "fixed", &rows)
+}
+
+#[test]
+fn accepted_neighbours_with_brackets(rt: HostRuntime) -> Result<(), Fail> {
+    let rows = [
+        (
+            "op x : P = \"x\"\nop v : P prefix 3 = \"y\" P\n",
+            "accepted",
+        ),
+        (
+            "op x : P = \"x\"\nop plus : P infixl 3 = P \"+\" P\n",
+            "accepted",
+        ),
+        (
+            "op x : P = \"x\"\nop minus : P prefix 5 = \"-\" P\nop fac : P postfix 3 = P \"!\"\n",
+            "accepted",
+        ),
+        (
+            "op x : P = \"x\"\nop c : P infixl 2 = P \"=\" P\nop d : P infix 3 = P \"<\" P\n",
+            "accepted",
+        ),
+        ("op o : P = \"[\" \"y\" \"]\"\n", "accepted"),
+        (
+            "op x : P = \"x\"\nop plus : P infixl 4 = P \"+\" P\nop up : P postfix 5 = P \"!\"\n",
+            "accepted",
+        ),
+        (
+            "op x : P = \"x\"\nop plus : P infixl 4 = P \"+\" P\nop o : P = \"b\" P \"end\"\n",
+            "accepted",
+        ),
+    ];
+    judges(&rt, rt.alloc(), " bracketed", "fixed", &rows)
+}
+
+/// The language, one of whose operators has another form.
+const MIXED: &str = "psg 1
+sort Type = int bool
+phylum Exp : Type bracketed
+op tru : Exp = \"true\"
+op not : Exp prefix 6 = \"not\" Exp
+op plus : Exp infixl 4 = Exp \"+\" Exp
+op cat : Exp infixl 3 = Exp \"&\" Exp
+op eq : Exp infix 3 = Exp \"=\" Exp
+";
+
+#[test]
+fn two_forms_at_one_level(rt: HostRuntime) -> Result<(), Fail> {
+    let said = verdict(rt.alloc(), MIXED)?;
+    assert_eq!(rt; said.as_str(), "refused MixedLevel Exp 3");
+    Ok(())
+}

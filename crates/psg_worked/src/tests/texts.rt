@@ -82,6 +82,11 @@ fn statements_with_lists(rt: HostRuntime) -> Result<(), Fail> {
         ),
         ("begin do end", "block([],[])"),
         ("begin do skip skip end", "no tree"),
+        ("while true do od", "while(tru,[])"),
+        ("while true do ... od", "while(tru,[|...])"),
+        ("?Exp", "no tree"),
+        ("a := ?TypeX", "no tree"),
+        ("call p(, 1)", "no tree"),
     ];
     reads(&rt, rt.alloc(), MINI, "Stat", &rows)
 }
@@ -94,7 +99,41 @@ fn lists_by_themselves(rt: HostRuntime) -> Result<(), Fail> {
         ("skip", "[skip]"),
         ("skip; skip; ...", "[skip,skip|...]"),
         ("skip;", "no tree"),
+        ("skip; ;", "no tree"),
+        ("skip ...", "no tree"),
         ("... ; skip", "no tree"),
     ];
     reads(&rt, rt.alloc(), MINI, "Stats", &rows)
+}
+
+/// A definition of that many operators, each a word of its own, and of lists of them.
+fn words(alloc: Global, count: u32) -> Result<String, AllocError> {
+    let mut text = String::from_str(
+        alloc,
+        "psg 1\nsort S = s\nphylum P : S\nlist L : S of P \";\" inline fixed\n",
+    )?;
+    for n in 0..count {
+        write!(text, "op o{n} : P = \"w{n}\"\n")?;
+    }
+    Ok(text)
+}
+
+/// That many elements, each of them one of the first 500 words.
+fn elements(alloc: Global, count: u32) -> Result<String, AllocError> {
+    let mut text = String::from_str(alloc, "w0")?;
+    for n in 1..count {
+        let word = n % 500;
+        write!(text, "; w{word}")?;
+    }
+    Ok(text)
+}
+
+#[test]
+fn a_long_text_in_a_wide_language(rt: HostRuntime) -> Result<(), Fail> {
+    let language = words(rt.alloc(), 500)?;
+    let definition = accepted(rt.alloc(), language.as_str())?;
+    let text = elements(rt.alloc(), 100_000)?;
+    let tree = tree(rt.alloc(), &definition, "L", text.as_str())?;
+    assert!(rt; tree.is_some());
+    Ok(())
 }
