@@ -32,6 +32,14 @@ fn counted<L: Ledger>(
     build(alloc, definition, spaces.as_slice(), tree, &mut steps)
 }
 
+/// The note of the tree.
+fn noted(alloc: Global, definition: &Definition, tree: &Tree) -> Result<Note, NoteFault>
+    requires sound { IsSound definition.now }
+    requires formed { IsFormed definition.now tree.now }
+{
+    counted::<Brand>(alloc, definition, tree, Blank::new(1))
+}
+
 fn put_path(text: &mut String, path: &Path) -> Result<(), AllocError> {
     text.push_str(" .")?;
     for step in path.steps() {
@@ -56,7 +64,7 @@ fn notes(rt: &impl Abort, alloc: Global, kind: &str, rows: &[(&str, &str)]) -> R
         let Some(tree) = tree(alloc, &definition, kind, text)? else {
             panic!(rt; "no tree: {text}");
         };
-        let said = match counted::<Brand>(alloc, &definition, &tree, Blank::new(1)) {
+        let said = match noted(alloc, &definition, &tree) {
             Ok(note) => told(alloc, &note)?,
             Err(_) => return Err(Fail::from(AllocError)),
         };
