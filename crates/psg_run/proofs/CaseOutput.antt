@@ -6,10 +6,10 @@ use Rattle.psg_grammar.specs.Fragments.{Fragment}
 use Rattle.psg_grammar.specs.Marks.{good, wrong}
 use Rattle.psg_script.specs.declared.command.Command.TheVariants.{Show}
 use Rattle.psg_script.specs.Forms.{Spells}
-use Rattle.psg_run.specs.PlainState.{State, start, not_asked}
-use Rattle.psg_run.specs.Refusals.{nothing_opened}
-use Rattle.psg_run.specs.PlainStep.{Steps, refuses, IsRefused}
-use Rattle.psg_run.specs.Replies.{refused, marked, shown, reply_text}
+use Rattle.psg_session.specs.PlainState.{State, start, not_asked}
+use Rattle.psg_session.specs.Refusals.{nothing_opened}
+use Rattle.psg_session.specs.PlainStep.{Steps, refuses, IsRefused}
+use Rattle.psg_session.specs.Replies.{refused, marked, shown, reply_text}
 use Rattle.psg_run.specs.Output.{script_lines, Prints, ends, step}
 
 -- carriage returns in front of a line feed go, and empty lines are no lines

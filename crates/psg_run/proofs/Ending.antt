@@ -21,8 +21,8 @@ use Rattle.psg_run.specs.declared.limits.TheConstants.{MOST_DEFINITION_BYTES, MO
 use Rattle.psg_run.specs.Output.{script_lines}
 use Rattle.psg_run.specs.Played.{PrintsAll, PrintsFront}
 use Rattle.psg_run.specs.Told.{none, nothing}
-use Rattle.psg_run.specs.Replies.{feed}
-use Rattle.psg_run.specs.Headline.{World, Tells, IsWithin, IsLong, KeepsFiles, WroteNothing, IsDefinition, IsEdited, IsTaken, IsToldOf, HasAsked, IsFaultLine, IsAcceptedLine, IsLaterLine, IsCheckLine, IsRefusedLine, IsQuiet, WritesAll, WritesFront, Says, SaysFront, FailsToRead, IsTooLong, Checks, Edits}
+use Rattle.psg_session.specs.Replies.{feed}
+use Rattle.psg_run.specs.Headline.{World, Tells, IsWithin, IsLong, KeepsFiles, WroteNothing, IsDefinition, IsToldOf, HasAsked, IsFaultLine, IsAcceptedLine, IsCheckLine, IsQuiet, WritesAll, WritesFront, Says, SaysFront, FailsToRead, IsTooLong, Checks, Edits}
 use Rattle.psg_run.specs.Endings.{write_status, OfScript, Plays, PutsLine, put_whole, put_failed, put_in_part, IsRead, IsUnread, EndsFault}
 
 whole_front : (limit : ℕ) (bytes : List ℕ) → length (front_of limit bytes) ≤ limit → front_of limit bytes ≡ bytes
@@ -91,9 +91,6 @@ module _ (old mid : World) (written : Option (List ℕ)) (count : ℕ) (file : N
 weaker : (P Q : List ℕ → List ℕ → Type 0) → ((bytes line : List ℕ) → P bytes line → Q bytes line) → (old new : World) (file : Name) → SaysFront P old new file → SaysFront Q old new file
 weaker P Q all old new file h = record { bytes = h.bytes; short = h.short; line = h.line; says = all h.bytes h.line h.says; front = h.front; is_front = h.is_front; wrote = h.wrote; files = h.files }
 
-weaker_line : (P Q : List ℕ → List ℕ → Type 0) → ((bytes line : List ℕ) → P bytes line → Q bytes line) → (old new : World) (file : Name) → Says P old new file → Says Q old new file
-weaker_line P Q all old new file h = record { bytes = h.bytes; short = h.short; line = h.line; says = all h.bytes h.line h.says; wrote = h.wrote; files = h.files }
-
 -- bytes that were not read as a definition
 pub unread : (old mid : World) (written : Option (List ℕ)) (count : ℕ) (file : Name) → KeepsFiles old mid → WroteNothing old mid → mid.count ≡ old.count
     → (bytes : List ℕ) → IsWithin old.held file MOST_DEFINITION_BYTES bytes → (fault : ReadFault) (status : Status) → IsReadFault bytes fault
@@ -116,11 +113,11 @@ unread_checks old new file ends_with.TooLong h = h
 
 pub unread_edits : (old new : World) (file script : Name) (status : Status) → IsUnread old new file status → Edits old new file script status
 unread_edits old new file script ends_with.Done h = absurd h
-unread_edits old new file script ends_with.DefinitionRefused h = weaker_line IsFaultLine IsRefusedLine (λ bytes line says. inl says) old new file h
+unread_edits old new file script ends_with.DefinitionRefused h = h
 unread_edits old new file script ends_with.Words h = h
 unread_edits old new file script ends_with.ReadFault h = inl h
-unread_edits old new file script ends_with.WriteFault (h, risen) = (inr (weaker IsFaultLine IsRefusedLine (λ bytes line says. inl says) old new file h), risen)
-unread_edits old new file script ends_with.Memory (inl h) = inl (inr (weaker IsFaultLine IsRefusedLine (λ bytes line says. inl says) old new file h))
+unread_edits old new file script ends_with.WriteFault (h, risen) = (inr h, risen)
+unread_edits old new file script ends_with.Memory (inl h) = inl (inr h)
 unread_edits old new file script ends_with.Memory (inr h) = inr h
 unread_edits old new file script ends_with.TooLong h = inl h
 
@@ -134,17 +131,6 @@ accepted old mid written count file def status read put =
     (λ h risen. (weaker IsAcceptedLine IsCheckLine (λ bytes line says. inr says) old (after_line mid written count) file h, risen))
     (λ h. inl (weaker IsAcceptedLine IsCheckLine (λ bytes line says. inr says) old (after_line mid written count) file h)) put
 
--- a definition that was read, and that the editor does not take
-pub later : (old mid : World) (written : Option (List ℕ)) (count : ℕ) (file script : Name) (def : Definition) (status : Status) → IsRead old mid file def → (IsTaken def → ⊥)
-    → PutsLine (codes "refused Later") ends_with.DefinitionRefused mid.written written mid.count count status → Edits old (after_line mid written count) file script status
-later old mid written count file script def status read never put =
-    let found = read.is_definition in
-    line_put old mid written count file read.files read.wrote read.count IsLaterLine found.0 found.1 (codes "refused Later") (def, found.2, never, refl)
-    (Edits old (after_line mid written count) file script) ends_with.DefinitionRefused status
-    (λ h. weaker_line IsLaterLine IsRefusedLine (λ bytes line says. inr says) old (after_line mid written count) file h)
-    (λ h risen. (inr (weaker IsLaterLine IsRefusedLine (λ bytes line says. inr says) old (after_line mid written count) file h), risen))
-    (λ h. inl (inr (weaker IsLaterLine IsRefusedLine (λ bytes line says. inr says) old (after_line mid written count) file h))) put
-
 -- ---- the script
 
 module _ (old new : World) (definition script : Name) where
@@ -152,7 +138,7 @@ module _ (old new : World) (definition script : Name) where
   quiet : KeepsFiles old new → HasAsked [] None old new
   quiet files = record { fresh = []; entries = files.1 ∙ sym (append-nil old.entries); answers = told old.held new.held files.0; quiet = λ none asked. files }
 
-  module _ (def : Definition) (is : IsEdited old.held definition def) where
+  module _ (def : Definition) (is : IsDefinition old.held definition def) where
     written_all : OfScript old new script (λ lines. PrintsAll def lines old.written new.written) → WritesAll old new definition script
     written_all (files, bytes, short, prints) = record {
       def = def;
@@ -202,8 +188,12 @@ same_world old mid files wrote count =
     the_world : Option Held → List Entry → Option (List ℕ) → ℕ → World
     the_world h e w c = record { held = h; entries = e; written = w; count = c }
 
-pub played : (old mid new : World) (definition script : Name) (def : Definition) (status : Status) → IsRead old mid definition def → IsTaken def
+pub played : (old mid new : World) (definition script : Name) (def : Definition) (status : Status) → IsRead old mid definition def
     → Plays mid new def script status → Edits old new definition script status
-played old mid new definition script def status read taken plays =
-    played_edit old new definition script def (read.is_definition, taken) status
+played old mid new definition script def status read plays =
+    played_edit old new definition script def read.is_definition status
     (subst (λ w. Plays w new def script status) (same_world old mid read.files read.wrote read.count) plays)
+
+-- a definition that was read, where there was no room for what is made of it
+pub unmade : (old mid : World) (definition script : Name) (def : Definition) → IsRead old mid definition def → Edits old mid definition script ends_with.Memory
+unmade old mid definition script def read = inr (read.files, read.wrote)

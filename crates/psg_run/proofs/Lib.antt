@@ -1,17 +1,9 @@
-pub mod Trees
-pub mod StepLaws
 pub mod Playing
-pub mod Cutting
-pub mod Shapes
 pub mod Options
-pub mod Bounds
 pub mod Feeds
-pub mod Filling
-pub mod Built
 pub mod Ending
 pub mod WordForms
 pub mod OneOutputLines
-pub mod OneOutputSteps
 pub mod OneOutput
 pub mod CaseOutput
 pub mod CaseFiles

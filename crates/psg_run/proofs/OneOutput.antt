@@ -4,15 +4,15 @@ use Rattle.psg_grammar.specs.declared.types.Definition.{Definition}
 use Rattle.psg_grammar.specs.Fragments.{Fragment}
 use Rattle.psg_grammar.specs.Sound.{IsSound}
 use Rattle.psg_script.specs.declared.command.Command.{Command}
-use Rattle.psg_run.specs.PlainState.{State, Answer, not_asked}
-use Rattle.psg_run.specs.Replies.{Reply, refused, reply_text}
-use Rattle.psg_run.specs.PlainStep.{Steps}
+use Rattle.psg_session.specs.PlainState.{State, Answer, not_asked}
+use Rattle.psg_session.specs.Replies.{Reply, refused, reply_text}
+use Rattle.psg_session.specs.PlainStep.{Steps}
 use Rattle.psg_run.specs.Told.{Asked, Exchange}
 use Rattle.psg_run.specs.Output.{IsLineOf, Asks, Prints, ends, no_command, step, asks, wants}
 use Rattle.psg_run.specs.Played.{IsFrontOf}
 use Rattle.psg_run.specs.OneOutput.{HasOneOutput}
 use Rattle.psg_run.proofs.OneOutputLines.{line_once}
-use Rattle.psg_run.proofs.OneOutputSteps.{step_once}
+use Rattle.psg_session.proofs.OneStep.{step_once}
 
 -- the same bytes before both leave the one a front of the other
 front_behind : (text a b : List ℕ) → IsFrontOf a b → IsFrontOf (text ++ a) (text ++ b)

@@ -11,17 +11,17 @@ use Rattle.psg_script.specs.declared.command.Command.{Command}
 use Rattle.psg_script.specs.declared.command.CommandFault.{CommandFault}
 use Rattle.psg_script.specs.declared.command.CommandFault.TheVariants as faults
 use Rattle.psg_script.specs.Forms.{Spells, IsCommandFault}
-use Rattle.psg_run.specs.declared.editor.Editor.{Editor}
-use Rattle.psg_run.specs.declared.editor.Outcome.{Outcome}
-use Rattle.psg_run.specs.declared.editor.Outcome.TheVariants.{Stays, Becomes}
-use Rattle.psg_run.specs.declared.replies.Reply.{Reply as CodeReply}
-use Rattle.psg_run.specs.declared.replies.Reply.TheVariants.{Refused}
-use Rattle.psg_run.specs.PlainState.{State, start}
-use Rattle.psg_run.specs.Replies.{Reply, refused, reply_text}
+use Rattle.psg_session.specs.declared.editor.Editor.{Editor}
+use Rattle.psg_session.specs.declared.editor.Outcome.{Outcome}
+use Rattle.psg_session.specs.declared.editor.Outcome.TheVariants.{Stays, Becomes}
+use Rattle.psg_session.specs.declared.replies.Reply.{Reply as CodeReply}
+use Rattle.psg_session.specs.declared.replies.Reply.TheVariants.{Refused}
+use Rattle.psg_session.specs.PlainState.{State, start}
+use Rattle.psg_session.specs.Replies.{Reply, refused, reply_text}
 use Rattle.psg_run.specs.Output.{IsLineOf, ends, no_command, step, is_feed, is_empty, kept_lines}
-use Rattle.psg_run.specs.Views.{reply_of, Represents, IsEditor}
-use Rattle.psg_run.specs.Outcomes.{IsSettled, IsOutcome}
-use Rattle.psg_run.specs.PlainStep.{IsBuilt}
+use Rattle.psg_session.specs.Views.{reply_of, Represents, IsEditor}
+use Rattle.psg_session.specs.Outcomes.{IsSettled, IsOutcome}
+use Rattle.psg_session.specs.PlainStep.{IsBuilt}
 use Rattle.psg_run.specs.Played.{RepliesLine, Replies, PrintsAlone, to_nothing, to_command, FollowsLine, PlaysLine, PlaysLineFront, IsFrontOf, PrintsAll, PrintsFront}
 
 pub append_known-nil : (known : Option (List ℕ)) → known ≡ append_known known []

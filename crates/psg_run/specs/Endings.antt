@@ -14,7 +14,7 @@ use Rattle.psg_world.specs.declared.world.WriteStop.TheVariants as write_stops
 use Rattle.psg_run.specs.declared.status.Status.{Status}
 use Rattle.psg_run.specs.declared.status.Status.TheVariants as ends_with
 use Rattle.psg_run.specs.declared.limits.TheConstants.{MOST_DEFINITION_BYTES, MOST_SCRIPT_BYTES}
-use Rattle.psg_run.specs.Replies.{feed}
+use Rattle.psg_session.specs.Replies.{feed}
 use Rattle.psg_run.specs.Output.{script_lines}
 use Rattle.psg_run.specs.Played.{PrintsAll, PrintsFront}
 use Rattle.psg_run.specs.Headline.{World, KeepsFiles, WroteNothing, IsWithin, IsFaultLine, IsDefinition, IsQuiet, Says, SaysFront, FailsToRead, IsTooLong}

@@ -4,7 +4,6 @@ use Rattle.std.specs.declared.alloc.Global.{Global}
 use Rattle.std.specs.Io.KnownBytes.{append_known}
 use Rattle.psg_terms.specs.Names.{Name}
 use Rattle.psg_grammar.specs.declared.types.Definition.{Definition}
-use Rattle.psg_constants.specs.Constants.{HasConstantsOnly}
 use Rattle.psg_deflines.specs.FaultText.{fault_text}
 use Rattle.psg_deflines.specs.declared.fault.DefFault.{DefFault}
 use Rattle.psg_defread.specs.Reading.{IsReadAs}
@@ -14,10 +13,11 @@ use Rattle.psg_world.specs.Sinks.{HasRisen}
 use Rattle.psg_run.specs.declared.status.Status.{Status}
 use Rattle.psg_run.specs.declared.status.Status.TheVariants as ends_with
 use Rattle.psg_run.specs.declared.limits.TheConstants.{MOST_DEFINITION_BYTES, MOST_SCRIPT_BYTES}
-use Rattle.psg_run.specs.PlainState.{State, start}
-use Rattle.psg_run.specs.Replies.{feed}
+use Rattle.psg_session.specs.PlainState.{State, start}
+use Rattle.psg_session.specs.Replies.{feed}
 use Rattle.psg_run.specs.Told.{Asked, Exchange, Loses, Told}
-use Rattle.psg_run.specs.Output.{IsGoodIn, script_lines, Prints}
+use Rattle.psg_session.specs.Good.{IsGoodIn}
+use Rattle.psg_run.specs.Output.{script_lines, Prints}
 use Rattle.psg_run.specs.Played.{IsFrontOf}
 
 -- what files and a sink tell: what they hold and have taken, where that is told, and the faults of both
@@ -66,30 +66,15 @@ IsLong held name limit = (bytes : List ℕ) × Tells held name bytes × (limit <
 abbrev pub IsDefinition : Option Held → Name → Definition → Type 0
 IsDefinition held name def = (bytes : List ℕ) × IsWithin held name MOST_DEFINITION_BYTES bytes × IsReadAs bytes def
 
--- What is said of the bytes of a definition's file in one line: their first fault; that they are a definition; that they are
--- one that the editor does not take.
+-- What is said of the bytes of a definition's file in one line: their first fault; or that they are a definition.
 abbrev pub IsFaultLine : List ℕ → List ℕ → Type 0
 IsFaultLine bytes line = (fault : DefFault) × Refusal bytes fault × (line ≡ fault_text fault)
 
 abbrev pub IsAcceptedLine : List ℕ → List ℕ → Type 0
 IsAcceptedLine bytes line = ((def : Definition) × IsReadAs bytes def) × (line ≡ codes "accepted")
 
--- The editor takes languages of constants.
-abbrev pub IsTaken : Definition → Type 0
-IsTaken def = HasConstantsOnly def
-
-abbrev pub IsLaterLine : List ℕ → List ℕ → Type 0
-IsLaterLine bytes line = (def : Definition) × IsReadAs bytes def × (IsTaken def → ⊥) × (line ≡ codes "refused Later")
-
 abbrev pub IsCheckLine : List ℕ → List ℕ → Type 0
 IsCheckLine bytes line = IsFaultLine bytes line ⊎ IsAcceptedLine bytes line
-
-abbrev pub IsRefusedLine : List ℕ → List ℕ → Type 0
-IsRefusedLine bytes line = IsFaultLine bytes line ⊎ IsLaterLine bytes line
-
--- the file of the name is read as the definition, and the editor takes it
-abbrev pub IsEdited : Option Held → Name → Definition → Type 0
-IsEdited held name def = IsDefinition held name def × IsTaken def
 
 -- Where both maps are told, the exchanges go from the one to the other. In any case the failed calls are those of the answers
 -- that were lost.
@@ -109,7 +94,7 @@ pub record HasAsked (exchanges : List Exchange) (unanswered : Option Asked) (old
 -- The whole output of the plain editor was written.
 pub record WritesAll (old new : World) (definition script : Name) : Type 0 where
   pub def : Definition
-  pub is_definition : IsEdited old.held definition def
+  pub is_definition : IsDefinition old.held definition def
   pub bytes : List ℕ
   pub is_script : IsWithin old.held script MOST_SCRIPT_BYTES bytes
   pub exchanges : List Exchange
@@ -123,7 +108,7 @@ pub record WritesAll (old new : World) (definition script : Name) : Type 0 where
 -- answered.
 pub record WritesFront (unanswered : Option Asked) (old new : World) (definition script : Name) : Type 0 where
   pub def : Definition
-  pub is_definition : IsEdited old.held definition def
+  pub is_definition : IsDefinition old.held definition def
   pub bytes : List ℕ
   pub is_script : IsWithin old.held script MOST_SCRIPT_BYTES bytes
   pub count : ℕ
@@ -183,21 +168,21 @@ Checks old new definition ends_with.Memory = SaysFront IsCheckLine old new defin
 Checks old new definition ends_with.TooLong = IsTooLong old new definition MOST_DEFINITION_BYTES
 
 -- What stands at each status of `edit`. Each but Memory stands with its cause. Where the files tell what they hold, the
--- definition is read and taken, both files are short, no read of them failed and the count has not risen, the status is Done
--- or Memory. The script is read where the definition is taken.
+-- definition is read, both files are short, no read of them failed and the count has not risen, the status is Done
+-- or Memory.
 abbrev pub Edits : World → World → Name → Name → Status → Type 0
 Edits old new definition script ends_with.Done = WritesAll old new definition script
-Edits old new definition script ends_with.DefinitionRefused = Says IsRefusedLine old new definition
+Edits old new definition script ends_with.DefinitionRefused = Says IsFaultLine old new definition
 Edits old new definition script ends_with.Words = ⊥
 Edits old new definition script ends_with.ReadFault =
-    FailsToRead old new definition ⊎ (((def : Definition) × IsEdited old.held definition def) × FailsToRead old new script)
+    FailsToRead old new definition ⊎ (((def : Definition) × IsDefinition old.held definition def) × FailsToRead old new script)
 Edits old new definition script ends_with.WriteFault =
-    (WritesFront None old new definition script ⊎ SaysFront IsRefusedLine old new definition) × HasRisen old.count new.count
+    (WritesFront None old new definition script ⊎ SaysFront IsFaultLine old new definition) × HasRisen old.count new.count
 Edits old new definition script ends_with.Memory =
-    (((unanswered : Option Asked) × WritesFront unanswered old new definition script) ⊎ SaysFront IsRefusedLine old new definition) ⊎ IsQuiet old new
+    (((unanswered : Option Asked) × WritesFront unanswered old new definition script) ⊎ SaysFront IsFaultLine old new definition) ⊎ IsQuiet old new
 Edits old new definition script ends_with.TooLong =
     IsTooLong old new definition MOST_DEFINITION_BYTES
-    ⊎ (((def : Definition) × IsEdited old.held definition def) × IsTooLong old new script MOST_SCRIPT_BYTES)
+    ⊎ (((def : Definition) × IsDefinition old.held definition def) × IsTooLong old new script MOST_SCRIPT_BYTES)
 
 abbrev pub IsRunOf : Form → World → World → Status → Type 0
 IsRunOf (check definition) old new status = Checks old new definition status

@@ -1,10 +1,3 @@
-pub mod PlainState
-pub mod Marked
-pub mod Replies
-pub mod Refusals
-pub mod PlainStep
-pub mod Views
-pub mod Outcomes
 pub mod Told
 pub mod Output
 pub mod Played

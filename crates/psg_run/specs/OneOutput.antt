@@ -2,7 +2,7 @@
 use Rattle.std.specs.Prelude.{ℕ, ◌≡◌, List, [], ◌++◌, take, Option, None}
 use Rattle.psg_grammar.specs.declared.types.Definition.{Definition}
 use Rattle.psg_grammar.specs.Fragments.{Fragment}
-use Rattle.psg_run.specs.PlainState.{State}
+use Rattle.psg_session.specs.PlainState.{State}
 use Rattle.psg_run.specs.Told.{Asked, Exchange}
 use Rattle.psg_run.specs.Output.{Prints}
 use Rattle.psg_run.specs.Played.{IsFrontOf}

@@ -4,12 +4,11 @@ use Rattle.std.specs.List.{slice_split}
 use Rattle.std.specs.Str.Lines.{strip_carriage_return}
 use Rattle.psg_grammar.specs.declared.types.Definition.{Definition}
 use Rattle.psg_grammar.specs.Fragments.{Fragment}
-use Rattle.psg_grammar.specs.Open.{IsOpen}
 use Rattle.psg_script.specs.declared.command.Command.{Command}
 use Rattle.psg_script.specs.Forms.{Spells}
-use Rattle.psg_run.specs.PlainState.{State, not_asked}
-use Rattle.psg_run.specs.PlainStep.{IsBuilt, Steps}
-use Rattle.psg_run.specs.Replies.{Reply, refused, reply_text}
+use Rattle.psg_session.specs.PlainState.{State, not_asked}
+use Rattle.psg_session.specs.PlainStep.{IsBuilt, Steps}
+use Rattle.psg_session.specs.Replies.{Reply, refused, reply_text}
 use Rattle.psg_run.specs.Told.{Asked, Exchange}
 
 abbrev pub is_feed : ℕ → Bool
@@ -31,10 +30,6 @@ script_lines bytes = kept_lines (slice_split is_feed bytes)
 -- the line is one of the command, which is built
 abbrev pub IsLineOf : List ℕ → Command → Type 0
 IsLineOf line command = Spells line command × IsBuilt command
-
--- what counts as good: by the open judgement
-abbrev pub IsGoodIn : Definition → Fragment → Type 0
-IsGoodIn def f = IsOpen def f
 
 -- What a command asks of the files, where no test before that refuses it. No command so far asks.
 abbrev pub Asks : Definition → State → Command → Asked → Type 0

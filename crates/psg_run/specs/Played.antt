@@ -3,14 +3,15 @@ use Rattle.std.specs.Prelude.{ℕ, ◌≡◌, ◌⊎◌, List, [], ◌++◌, tak
 use Rattle.std.specs.Io.KnownBytes.{append_known}
 use Rattle.psg_grammar.specs.declared.types.Definition.{Definition}
 use Rattle.psg_script.specs.declared.command.Command.{Command}
-use Rattle.psg_run.specs.declared.editor.Editor.{Editor}
-use Rattle.psg_run.specs.declared.editor.Outcome.{Outcome}
-use Rattle.psg_run.specs.declared.editor.Outcome.TheVariants.{Stays, Becomes}
-use Rattle.psg_run.specs.PlainState.{State, start, not_asked}
-use Rattle.psg_run.specs.PlainStep.{Steps}
-use Rattle.psg_run.specs.Replies.{Reply, refused, reply_text}
-use Rattle.psg_run.specs.Output.{IsGoodIn, IsLineOf, Prints}
-use Rattle.psg_run.specs.Views.{reply_of, Represents, IsEditor}
+use Rattle.psg_session.specs.declared.editor.Editor.{Editor}
+use Rattle.psg_session.specs.declared.editor.Outcome.{Outcome}
+use Rattle.psg_session.specs.declared.editor.Outcome.TheVariants.{Stays, Becomes}
+use Rattle.psg_session.specs.PlainState.{State, start, not_asked}
+use Rattle.psg_session.specs.PlainStep.{Steps}
+use Rattle.psg_session.specs.Replies.{Reply, refused, reply_text}
+use Rattle.psg_session.specs.Good.{IsGoodIn}
+use Rattle.psg_run.specs.Output.{IsLineOf, Prints}
+use Rattle.psg_session.specs.Views.{reply_of, Represents, IsEditor}
 
 -- the plain editor's reply to a line: that to its command, or a refusal with 1 where it has none
 pub data Replies (def : Definition) (s : State) (line : List ℕ) : State → Reply → Type 0 where

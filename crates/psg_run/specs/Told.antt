@@ -3,7 +3,7 @@ use Rattle.std.specs.Prelude.{ℕ, ◌≡◌, ◌≢◌, Bool, false, cond, List
 use Rattle.std.specs.FinMap as map
 use Rattle.psg_terms.specs.Names.{Name, is_among}
 use Rattle.psg_world.specs.Files.{Held, Entry, reading, writing, bytes_of, front_of}
-use Rattle.psg_run.specs.PlainState.{Answer, stored, got, lost}
+use Rattle.psg_session.specs.PlainState.{Answer, stored, got, lost}
 
 -- what a command asked of the files
 pub data Asked : Type 0 where

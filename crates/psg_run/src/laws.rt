@@ -1,7 +1,7 @@
 //! Laws of the plain editor, as contracts of calls that do nothing.
 ghost use Rattle.psg_grammar.specs.Sound.{IsSound};
 ghost use Rattle.psg_run.specs.OneOutput.{HasOneOutput};
-ghost use Rattle.psg_run.specs.Output.{IsGoodIn};
+ghost use Rattle.psg_session.specs.Good.{IsGoodIn};
 
 use psg_grammar::Definition;
 

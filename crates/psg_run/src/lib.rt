@@ -5,14 +5,11 @@
 //! nothing but trees.
 #![tactic(auto)]
 
-mod editor;
-mod insertion;
 pub mod laws;
 pub mod limits;
 mod lines;
 mod play;
 pub mod program;
-mod replies;
 mod source;
 pub mod status;
 mod words;

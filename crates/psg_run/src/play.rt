@@ -1,23 +1,21 @@
 //! A script played on a new editor.
 ghost use Rattle.std.specs.Prelude.{◌≡◌, ◌≤◌, IfOk, OnOk, OnErr, IsErrOf};
 ghost use Rattle.psg_script.specs.declared.command.CommandFault.TheVariants as CommandFault;
-ghost use Rattle.psg_run.specs.declared.editor.Outcome.TheVariants as Outcome;
-ghost use Rattle.psg_run.specs.declared.replies.Reply.TheVariants as Reply;
-ghost use Rattle.psg_grammar.specs.Sound.{IsSound};
-ghost use Rattle.psg_constants.specs.Constants.{HasConstantsOnly};
+ghost use Rattle.psg_session.specs.declared.editor.Outcome.TheVariants as Outcome;
+ghost use Rattle.psg_session.specs.declared.replies.Reply.TheVariants as Reply;
 ghost use Rattle.psg_world.specs.Sinks.{HasRisen};
 ghost use Rattle.psg_run.specs.Output.{script_lines};
-ghost use Rattle.psg_run.specs.Views.{IsEditor};
+ghost use Rattle.psg_session.specs.Views.{IsEditor, IsLanguage};
 ghost use Rattle.psg_run.specs.Played.{PrintsAll, PrintsFront, PlaysLine, PlaysLineFront, RepliesLine};
 
-use crate::editor::{Editor, Outcome, step};
 use crate::lines::{cut_line, without_return};
-use crate::replies::{Reply, reply_lines};
-use psg_grammar::Definition;
 use psg_script::{CommandFault, read_command};
+use psg_session::{Editor, Language, Outcome, Reply, reply_lines, step};
+use psg_terms::Steps;
 use psg_tree::Path;
 use psg_world::{Sink, WriteStop, put_all};
 use std::alloc::{AllocError, Global};
+use std::sync::ledger::Ledger;
 
 /// What a line without a command is answered.
 fn refuse_line(fault: CommandFault) -> Result<Outcome, AllocError>
@@ -30,16 +28,16 @@ fn refuse_line(fault: CommandFault) -> Result<Outcome, AllocError>
 }
 
 /// What the editor does at a line.
-fn reply_to(
+fn reply_to<L: Ledger>(
     alloc: Global,
-    definition: &Definition,
+    language: &Language,
     editor: &Editor,
     line: &[u8],
+    steps: &mut Steps<L>,
 ) -> Result<Outcome, AllocError>
-    requires sound { IsSound definition.now }
-    requires constants { HasConstantsOnly definition.now }
-    requires editor { IsEditor definition.now editor.now }
-    ensures { IfOk result (RepliesLine definition.now editor.now line.now) }
+    requires language { IsLanguage language.now }
+    requires editor { IsEditor language.now.definition editor.now }
+    ensures { IfOk result (RepliesLine language.now.definition editor.now line.now) }
 {
     let command = match read_command(alloc, line) {
         Ok(command) => command,
@@ -48,7 +46,7 @@ fn reply_to(
             return Ok(outcome);
         }
     };
-    let answer = step(alloc, definition, editor, &command);
+    let answer = step(alloc, language, editor, &command, steps);
     // here and not at the end, where the proof would take each command apart on each way out
     drop(command);
     match answer? {
@@ -58,22 +56,22 @@ fn reply_to(
 }
 
 /// Puts the reply to a line, and gives the editor that follows.
-fn play_line<O: Sink>(
+fn play_line<O: Sink, L: Ledger>(
     alloc: Global,
-    definition: &Definition,
+    language: &Language,
     editor: Editor,
     line: &[u8],
     out: &mut O,
+    steps: &mut Steps<L>,
 ) -> Result<Editor, WriteStop>
-    requires sound { IsSound definition.now }
-    requires constants { HasConstantsOnly definition.now }
-    requires editor { IsEditor definition.now editor }
-    ensures ok { IfOk result (λ new. PlaysLine definition.now editor line.now new (O.written out.old) (O.written out.new)) }
-    ensures err { OnErr result (PlaysLineFront definition.now editor line.now (O.written out.old) (O.written out.new)) }
+    requires language { IsLanguage language.now }
+    requires editor { IsEditor language.now.definition editor }
+    ensures ok { IfOk result (λ new. PlaysLine language.now.definition editor line.now new (O.written out.old) (O.written out.new)) }
+    ensures err { OnErr result (PlaysLineFront language.now.definition editor line.now (O.written out.old) (O.written out.new)) }
     ensures failed { IsErrOf result WriteStop.Failed → HasRisen (O.faults out.old) (O.faults out.new) }
     ensures never_falls { O.faults out.old ≤ O.faults out.new }
 {
-    let outcome = reply_to(alloc, definition, &editor, line)?;
+    let outcome = reply_to(alloc, language, &editor, line, steps)?;
     let (next, reply) = outcome.settle(editor);
     let text = reply_lines(alloc, &reply)?;
     put_all(alloc, out, text.as_bytes())?;
@@ -82,16 +80,16 @@ fn play_line<O: Sink>(
 
 /// Puts the replies to the lines of the script, those of each line before the next one is looked at. It takes the time of the
 /// script and of its commands.
-pub fn play<O: Sink>(
+pub fn play<O: Sink, L: Ledger>(
     alloc: Global,
-    definition: &Definition,
+    language: &Language,
     script: &[u8],
     out: &mut O,
+    steps: &mut Steps<L>,
 ) -> Result<(), WriteStop>
-    requires sound { IsSound definition.now }
-    requires constants { HasConstantsOnly definition.now }
-    ensures ok { OnOk result (PrintsAll definition.now (script_lines script.now) (O.written out.old) (O.written out.new)) }
-    ensures err { OnErr result (PrintsFront definition.now (script_lines script.now) (O.written out.old) (O.written out.new)) }
+    requires language { IsLanguage language.now }
+    ensures ok { OnOk result (PrintsAll language.now.definition (script_lines script.now) (O.written out.old) (O.written out.new)) }
+    ensures err { OnErr result (PrintsFront language.now.definition (script_lines script.now) (O.written out.old) (O.written out.new)) }
     ensures failed { IsErrOf result WriteStop.Failed → HasRisen (O.faults out.old) (O.faults out.new) }
     ensures never_falls { O.faults out.old ≤ O.faults out.new }
 {
@@ -104,7 +102,7 @@ pub fn play<O: Sink>(
         let cut = cut_line(rest);
         let line = without_return(cut.line);
         if !line.is_empty() {
-            editor = play_line(alloc, definition, editor, line, out)?;
+            editor = play_line(alloc, language, editor, line, out, steps)?;
         }
         rest = cut.rest;
     }

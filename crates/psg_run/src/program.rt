@@ -1,7 +1,6 @@
 //! The whole program.
 ghost use Rattle.std.specs.Prelude.{◌≡◌, ◌≤◌, map, string_bytes, IfOk, IfErr};
-ghost use Rattle.psg_grammar.specs.Sound.{IsSound};
-ghost use Rattle.psg_constants.specs.Constants.{HasConstantsOnly};
+ghost use Rattle.psg_session.specs.Views.{IsLanguage};
 ghost use Rattle.psg_run.specs.Endings.{Plays};
 ghost use Rattle.psg_run.specs.Headline.{texts_of, IsRun, Checks, Edits};
 
@@ -10,27 +9,26 @@ use crate::play::play;
 use crate::source::{put_line, read_language, read_status, write_status};
 use crate::status::Status;
 use crate::words::{Form, form_of};
-use psg_constants::has_constants_only;
-use psg_grammar::Definition;
+use psg_session::Language;
 use psg_terms::Steps;
 use psg_world::{Files, Sink};
 use std::alloc::Global;
 use std::sync::ledger::Ledger;
 
 /// Reads the script and plays it on the language.
-fn play_file<F: Files, O: Sink>(
+fn play_file<F: Files, O: Sink, L: Ledger>(
     alloc: Global,
-    language: &Definition,
+    language: &Language,
     script: &str,
     files: &mut F,
     out: &mut O,
+    steps: &mut Steps<L>,
 ) -> Status
-    requires sound { IsSound language.now }
-    requires constants { HasConstantsOnly language.now }
+    requires language { IsLanguage language.now }
     ensures { Plays
         (record { held = F.holds files.old; entries = F.faults files.old; written = O.written out.old; count = O.faults out.old })
         (record { held = F.holds files.new; entries = F.faults files.new; written = O.written out.new; count = O.faults out.new })
-        language.now script.now result }
+        language.now.definition script.now result }
 {
     let bytes = match files.read(alloc, script, MOST_SCRIPT_BYTES) {
         Ok(bytes) => bytes,
@@ -40,7 +38,7 @@ fn play_file<F: Files, O: Sink>(
     if lines.len() > MOST_SCRIPT_BYTES {
         return Status::TooLong;
     }
-    match play(alloc, language, lines, out) {
+    match play(alloc, language, lines, out, steps) {
         Ok(()) => Status::Done,
         Err(stop) => write_status(stop),
     }
@@ -59,33 +57,34 @@ fn check<F: Files, O: Sink>(alloc: Global, definition: &str, files: &mut F, out:
     put_line(alloc, out, "accepted", Status::Done)
 }
 
-/// Plays the script on the definition. The order of tests is: the definition is read, its length, whether it is one, whether
-/// the editor takes it, the script is read, its length, then its lines.
-fn edit<F: Files, O: Sink>(
+/// Plays the script on the definition. The order of tests is: the definition is read, its length, whether it is one, the
+/// script is read, its length, then its lines.
+fn edit<F: Files, O: Sink, L: Ledger>(
     alloc: Global,
     definition: &str,
     script: &str,
     files: &mut F,
     out: &mut O,
+    steps: &mut Steps<L>,
 ) -> Status
     ensures { Edits
         (record { held = F.holds files.old; entries = F.faults files.old; written = O.written out.old; count = O.faults out.old })
         (record { held = F.holds files.new; entries = F.faults files.new; written = O.written out.new; count = O.faults out.new })
         definition.now script.now result }
 {
-    let language = match read_language(alloc, definition, files, out) {
-        Ok(language) => language,
+    let definition = match read_language(alloc, definition, files, out) {
+        Ok(definition) => definition,
         Err(status) => return status,
     };
-    if !has_constants_only(&language) {
-        return put_line(alloc, out, "refused Later", Status::DefinitionRefused);
-    }
-    play_file(alloc, &language, script, files, out)
+    let Ok(language) = Language::of(alloc, definition) else {
+        return Status::Memory;
+    };
+    play_file(alloc, &language, script, files, out, steps)
 }
 
 /// Does what the words say, and answers how that ended. `check DEF` says in one line whether the file DEF has a definition.
 /// `edit DEF SCRIPT` plays each line of the file SCRIPT, a command, on an editor of the definition; the replies go to `out`.
-/// `steps` counts evaluations of nodes; no form so far counts any.
+/// `steps` counts evaluations of nodes and list suffixes: each command that changes the fragment evaluates all of it.
 pub fn run<F: Files, O: Sink, L: Ledger>(
     alloc: Global,
     words: &[String],
@@ -100,7 +99,9 @@ pub fn run<F: Files, O: Sink, L: Ledger>(
 {
     match form_of(words) {
         Some(Form::Check { definition }) => check(alloc, definition, files, out),
-        Some(Form::Edit { definition, script }) => edit(alloc, definition, script, files, out),
+        Some(Form::Edit { definition, script }) => {
+            edit(alloc, definition, script, files, out, steps)
+        }
         None => Status::Words,
     }
 }

@@ -1,4 +1,4 @@
-use Rattle.psg_run.specs.Output.{IsGoodIn}
+use Rattle.psg_session.specs.Good.{IsGoodIn}
 use Rattle.psg_run.proofs.OneOutput.{has_one_output}
 use Rattle.psg_run.proofs.laws.one_output.Goals as goal
 

@@ -1,0 +1,51 @@
+-- The lines that questions are answered with.
+use Rattle.std.specs.Prelude.{ℕ, Bool, cond, List, [], ◌∷◌, ◌++◌, map, codes}
+use Rattle.psg_terms.specs.Names.{Name, is_among}
+use Rattle.psg_terms.specs.Signature.{Signature}
+use Rattle.psg_terms.specs.Terms.{Term}
+use Rattle.psg_terms.specs.Text.{term_text}
+use Rattle.psg_grammar.specs.declared.types.Definition.{Definition}
+use Rattle.psg_grammar.specs.Fragments.{Fragment}
+use Rattle.psg_grammar.specs.Keys.{Key, name_in}
+use Rattle.psg_grammar.specs.Regions.{declared_in, names_of}
+use Rattle.psg_scope.specs.declared.header.NameCol.{NameCol}
+
+-- each key's name with the text of its entity, `x=int`, after a space
+abbrev pub entities_text : Signature → List Key → List Term → List ℕ
+entities_text sig [] terms = []
+entities_text sig (k ∷ ks) [] = []
+entities_text sig (k ∷ ks) (t ∷ ts) = 32 ∷ (name_in k ++ (61 ∷ (term_text sig t ++ entities_text sig ks ts)))
+
+-- a row of a relation whose columns are the value and the entities of the keys
+abbrev pub row_line : Signature → List Key → List Term → List ℕ
+row_line sig keys [] = []
+row_line sig keys (value ∷ entities) = term_text sig value ++ entities_text sig keys entities
+
+-- a line for each row, or `none`
+abbrev pub rows_lines : Signature → List Key → List (List Term) → List (List ℕ)
+rows_lines sig keys [] = codes "none" ∷ []
+rows_lines sig keys (row ∷ rows) = row_line sig keys row ∷ map (row_line sig keys) rows
+
+-- the keys that are not declared
+abbrev pub undeclared : List Key → List Key → List Key
+undeclared declared [] = []
+undeclared declared (k ∷ ks) = cond (is_among declared k) (undeclared declared ks) (k ∷ undeclared declared ks)
+
+-- The names that a fragment uses and its outermost region does not declare: they may be declared outside.
+abbrev pub free_names : Definition → Fragment → List Name
+free_names def f = map name_in (undeclared (declared_in def f) (names_of def f))
+
+-- each name after a space
+abbrev pub more_names : List Name → List ℕ
+more_names [] = []
+more_names (n ∷ ns) = 32 ∷ (n ++ more_names ns)
+
+-- the names on one line, a space between two, or `none`
+abbrev pub names_line : List Name → List ℕ
+names_line [] = codes "none"
+names_line (n ∷ ns) = n ++ more_names ns
+
+-- the names of the columns that are not declared
+abbrev pub names_without : List NameCol → List Name
+names_without [] = []
+names_without (c ∷ cs) = cond c.declared (names_without cs) (c.name ∷ names_without cs)

@@ -1,0 +1,10 @@
+pub mod PlainState
+pub mod Marked
+pub mod Replies
+pub mod Refusals
+pub mod Good
+pub mod Leaves
+pub mod Answers
+pub mod PlainStep
+pub mod Views
+pub mod Outcomes

@@ -1,0 +1,174 @@
+-- What the plain editor does at a command: the first of the command's tests that holds refuses it, otherwise it is done.
+use Rattle.std.specs.Prelude.{ℕ, ◌≡◌, ◌<◌, ◌≤◌, ◌⊎◌, Bool, true, false, List, [], ◌∷◌, ◌++◌, length, Option, Some, None, slice_get}
+use Rattle.psg_terms.specs.Names.{Name}
+use Rattle.psg_terms.specs.Terms.{Term}
+use Rattle.psg_grammar.specs.declared.types.Kind.{Kind}
+use Rattle.psg_grammar.specs.declared.types.Kind.TheVariants as kinds
+use Rattle.psg_grammar.specs.declared.types.ListKind.{ListKind}
+use Rattle.psg_grammar.specs.declared.types.Operator.{Operator}
+use Rattle.psg_grammar.specs.declared.types.Definition.{Definition}
+use Rattle.psg_grammar.specs.Declaring.{is_declaring}
+use Rattle.psg_grammar.specs.Fragments.{Fragment, hole, ending, cell, children_of}
+use Rattle.psg_grammar.specs.Paths.{Path, node_at, change_at, replaced, removed, ended, IsList}
+use Rattle.psg_grammar.specs.Insertion.{Leaf, blank, with_operator}
+use Rattle.psg_grammar.specs.Kinds.{kind_name_of, op_name_of}
+use Rattle.psg_grammar.specs.Regions.{names_of}
+use Rattle.psg_grammar.specs.Relations.{IsRelationOf}
+use Rattle.psg_grammar.specs.Sizes.{IsBig, IsDeep}
+use Rattle.psg_grammar.specs.Steps.{IsWide, IsHeavy}
+use Rattle.psg_grammar.specs.Marks.{Mark, IsMarkBy}
+use Rattle.psg_tree.specs.AbstractText.{abstract_text}
+use Rattle.psg_eval.specs.Trees.{IsOfKind}
+use Rattle.psg_script.specs.declared.command.Where.{Where}
+use Rattle.psg_script.specs.declared.command.Command.{Command}
+use Rattle.psg_script.specs.declared.command.Command.TheVariants.{New, Refine, Insert, Cut, Remove, Close, Reopen, Show, Own, Free}
+use Rattle.psg_session.specs.PlainState.{State, Opened, Answer, named_path, with_new, with_change}
+use Rattle.psg_session.specs.Refusals.{Refusal, no_node, not_hole, unknown, other_phylum, arguments, no_place, big, deep, wide, heavy, inadmissible, no_placeholder_here, nothing_opened, number_of, tests_of, place_of}
+use Rattle.psg_session.specs.Replies.{Reply, refused, answered, marked, shown}
+use Rattle.psg_session.specs.Leaves.{GivesLeaves}
+use Rattle.psg_session.specs.Answers.{rows_lines, free_names, names_line}
+
+-- The commands that the editor has so far. A line with another one counts as a line without a command.
+abbrev pub IsBuilt : Command → Type 0
+IsBuilt (New name) = Unit {0}
+IsBuilt (Refine place op args) = Unit {0}
+IsBuilt (Insert place k op args) = Unit {0}
+IsBuilt (Cut place) = Unit {0}
+IsBuilt (Remove place k) = Unit {0}
+IsBuilt (Close place) = Unit {0}
+IsBuilt (Reopen place) = Unit {0}
+IsBuilt Show = Unit {0}
+IsBuilt (Own place) = Unit {0}
+IsBuilt Free = Unit {0}
+IsBuilt _ = ⊥
+
+-- how a list ends, finished or not; no other node has an end
+abbrev pub end_of : Fragment → Option Bool
+end_of (ending l u) = Some u
+end_of (cell l e r) = end_of r
+end_of _ = None
+
+module _ (def : Definition) where
+  abbrev pub HasName : Kind → Name → Type 0
+  HasName kind name = kind_name_of def kind ≡ Some name
+
+  abbrev pub IsOperator : ℕ → Name → Type 0
+  IsOperator o name = op_name_of def o ≡ Some name
+
+  -- the number of the phylum of an operator of the name
+  abbrev pub IsOfPhylum : ℕ → ℕ → Type 0
+  IsOfPhylum o p = (op : Operator) × (slice_get def.operators o ≡ Some op) × (op.phylum ≡ p)
+
+  -- a phylum that declares names; a placeholder of it would not say which
+  abbrev pub IsDeclaringPhylum : Kind → Type 0
+  IsDeclaringPhylum (kinds.Phylum p) = (space : ℕ) × (is_declaring def space (kinds.Phylum p) ≡ true)
+  IsDeclaringPhylum (kinds.List l) = ⊥
+
+  -- the node is a list of the kind
+  abbrev pub IsListOf : Fragment → ListKind → Type 0
+  IsListOf node list = (l : ℕ) × IsOfKind def node (kinds.List l) × (slice_get def.lists l ≡ Some list)
+
+  -- The phylum that an operator at the node must have: that of the placeholder, or, for a new element, that of the list's
+  -- elements.
+  abbrev pub IsWanted : Option ℕ → Fragment → ℕ → Type 0
+  IsWanted None node p = node ≡ hole p
+  IsWanted (Some k) node p = (list : ListKind) × IsListOf node list × (p ≡ list.element)
+
+  -- the list is finished, and its kind may be unfinished
+  abbrev pub MayReopen : Fragment → Type 0
+  MayReopen node = (list : ListKind) × IsListOf node list × (list.unfinished ≡ true) × (end_of node ≡ Some false)
+
+  -- the opened fragment, if there is one, has the property with the node at the place
+  abbrev pub AtNode : State → Where → (Opened → Fragment → Type 0) → Type 0
+  AtNode s place P = (old : Opened) × (s.opened ≡ Some old) × (node : Fragment) × (node_at old.tree (named_path place s.cursor) ≡ Some node) × P old node
+
+  -- the place leads to no node of the opened fragment
+  abbrev pub IsNoNode : State → Where → Type 0
+  IsNoNode s place = (old : Opened) × (s.opened ≡ Some old) × (node_at old.tree (named_path place s.cursor) ≡ None)
+
+  -- the operator of the name is not of the phylum that is wanted at the place
+  abbrev pub IsOther : State → Where → Option ℕ → Name → Type 0
+  IsOther s place k name = AtNode s place (λ old node. (p : ℕ) (o : ℕ) → IsWanted k node p → IsOperator o name → IsOfPhylum o p → ⊥)
+
+  abbrev pub GivesNone : Name → List ℕ → Type 0
+  GivesNone name args = (o : ℕ) (leaves : List Leaf) → IsOperator o name → GivesLeaves def o args leaves → ⊥
+
+  -- Makes s command tree path: what a change of the opened fragment gives before it is tested, and where the cursor stands
+  -- then. Undo, redo and fetch have no case here, since a case is a new version.
+  pub data Makes (s : State) : Command → Fragment → Path → Type 0 where
+    by_refine : {place : Where} {name : Name} {args : List ℕ} (old : Opened) (o : ℕ) (leaves : List Leaf) → s.opened ≡ Some old → IsOperator o name → GivesLeaves def o args leaves
+        → Makes s (Refine place name args) (with_operator def old.tree (named_path place s.cursor) None o leaves) (named_path place s.cursor)
+    by_insert : {place : Where} {k : ℕ} {name : Name} {args : List ℕ} (old : Opened) (o : ℕ) (leaves : List Leaf) → s.opened ≡ Some old → IsOperator o name → GivesLeaves def o args leaves
+        → Makes s (Insert place k name args) (with_operator def old.tree (named_path place s.cursor) (Some k) o leaves) (named_path place s.cursor ++ k ∷ [])
+    by_cut : {place : Where} (old : Opened) (node : Fragment) (kind : Kind) → s.opened ≡ Some old → node_at old.tree (named_path place s.cursor) ≡ Some node → IsOfKind def node kind
+        → Makes s (Cut place) (replaced (named_path place s.cursor) (blank def kind) old.tree) (named_path place s.cursor)
+    by_remove : {place : Where} {k : ℕ} (old : Opened) → s.opened ≡ Some old
+        → Makes s (Remove place k) (change_at (removed k) (named_path place s.cursor) old.tree) (named_path place s.cursor)
+    by_close : {place : Where} (old : Opened) → s.opened ≡ Some old
+        → Makes s (Close place) (change_at (ended false) (named_path place s.cursor) old.tree) (named_path place s.cursor)
+    by_reopen : {place : Where} (old : Opened) → s.opened ≡ Some old
+        → Makes s (Reopen place) (change_at (ended true) (named_path place s.cursor) old.tree) (named_path place s.cursor)
+
+  -- what a command gives before it is tested: what a change makes, or the new tree of a kind
+  pub data Gives (s : State) : Command → Fragment → Type 0 where
+    by_change : {command : Command} {tree : Fragment} {path : Path} → Makes s command tree path → Gives s command tree
+    by_new : {name : Name} (kind : Kind) → HasName kind name → Gives s (New name) (blank def kind)
+
+  -- what the command gives has the property
+  abbrev pub OfResult : State → Command → (Fragment → Type 0) → Type 0
+  OfResult s command P = (tree : Fragment) × Gives s command tree × P tree
+
+-- The step of a definition's editor, for what counts as good: the mark says where a fragment isn't good, and a change that
+-- makes one that isn't is refused.
+module _ (def : Definition) (IsGood : Fragment → Type 0) where
+  -- When a test holds, where none before it does. The clauses of 8, 9, 10, 11 and 12 speak of what the command gives; a command
+  -- with causes of its own for one of them gets a clause in front. A test without a clause never holds so far.
+  abbrev pub Applies : State → Answer → Command → Refusal → Type 0
+  Applies s answer command nothing_opened = s.opened ≡ None
+  Applies s answer command no_node = (place : Where) × (place_of command ≡ Some place) × IsNoNode def s place
+  Applies s answer (New name) unknown = (kind : Kind) → HasName def kind name → ⊥
+  Applies s answer (New name) no_placeholder_here = (kind : Kind) × HasName def kind name × IsDeclaringPhylum def kind
+  Applies s answer (Refine place name args) not_hole = AtNode def s place (λ old node. (p : ℕ) → node ≡ hole p → ⊥)
+  Applies s answer (Refine place name args) unknown = (o : ℕ) → IsOperator def o name → ⊥
+  Applies s answer (Refine place name args) other_phylum = IsOther def s place None name
+  Applies s answer (Refine place name args) arguments = GivesNone def name args
+  Applies s answer (Insert place k name args) no_place = AtNode def s place (λ old node. (IsList node → ⊥) ⊎ (length (children_of node) < k))
+  Applies s answer (Insert place k name args) unknown = (o : ℕ) → IsOperator def o name → ⊥
+  Applies s answer (Insert place k name args) other_phylum = IsOther def s place (Some k) name
+  Applies s answer (Insert place k name args) arguments = GivesNone def name args
+  Applies s answer (Cut place) no_placeholder_here = AtNode def s place (λ old node. (kind : Kind) × IsOfKind def node kind × IsDeclaringPhylum def kind)
+  Applies s answer (Remove place k) no_place = AtNode def s place (λ old node. (IsList node → ⊥) ⊎ (length (children_of node) ≤ k))
+  Applies s answer (Close place) no_place = AtNode def s place (λ old node. end_of node ≡ Some true → ⊥)
+  Applies s answer (Reopen place) no_place = AtNode def s place (λ old node. MayReopen def node → ⊥)
+  Applies s answer command deep = OfResult def s command IsDeep
+  Applies s answer command big = OfResult def s command IsBig
+  Applies s answer command wide = OfResult def s command (IsWide def)
+  Applies s answer command heavy = OfResult def s command (IsHeavy def)
+  Applies s answer command inadmissible = OfResult def s command (λ f. IsGood f → ⊥)
+  Applies s answer command _ = ⊥
+
+  -- the first test that holds
+  pub record IsRefused (s : State) (answer : Answer) (command : Command) (r : Refusal) : Type 0 where
+    pub number : ℕ
+    pub test : slice_get (tests_of command) number ≡ Some r
+    pub holds : Applies s answer command r
+    pub first : (k : ℕ) (other : Refusal) → k < number → slice_get (tests_of command) k ≡ Some other → Applies s answer command other → ⊥
+
+  -- no test holds
+  abbrev pub IsTaken : State → Answer → Command → Type 0
+  IsTaken s answer command = (k : ℕ) (r : Refusal) → slice_get (tests_of command) k ≡ Some r → Applies s answer command r → ⊥
+
+  -- Steps s answer command new reply: at the command, with the answer of the files where it asks for one, the plain editor
+  -- goes from the state to the new one with the reply.
+  pub data Steps (s : State) (answer : Answer) : Command → State → Reply → Type 0 where
+    refuses : {command : Command} {r : Refusal} → IsRefused s answer command r → Steps s answer command s (refused (number_of r))
+    opens : {name : Name} (kind : Kind) (mark : Mark) → IsTaken s answer (New name) → HasName def kind name → IsMarkBy IsGood (blank def kind) mark
+        → Steps s answer (New name) (with_new s kind (blank def kind)) (marked mark)
+    changes : {command : Command} {tree : Fragment} {path : Path} (old : Opened) (mark : Mark) → IsTaken s answer command → s.opened ≡ Some old
+        → Makes def s command tree path → IsMarkBy IsGood tree mark → Steps s answer command (with_change s old tree path) (marked mark)
+    shows : (old : Opened) (mark : Mark) → IsTaken s answer Show → s.opened ≡ Some old → IsMarkBy IsGood old.tree mark
+        → Steps s answer Show s (shown (abstract_text def old.tree ∷ []) mark)
+    owns : {place : Where} (old : Opened) (node : Fragment) (rows : List (List Term)) → IsTaken s answer (Own place) → s.opened ≡ Some old
+        → node_at old.tree (named_path place s.cursor) ≡ Some node → IsRelationOf def node rows
+        → Steps s answer (Own place) s (answered (rows_lines def.signature (names_of def node) rows))
+    frees : (old : Opened) → IsTaken s answer Free → s.opened ≡ Some old → Steps s answer Free s (answered (names_line (free_names def old.tree) ∷ []))

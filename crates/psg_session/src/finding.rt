@@ -1,0 +1,41 @@
+//! The node that a command names.
+ghost use Rattle.std.specs.Prelude.{◌≡◌, IfErr, IfOk};
+ghost use Rattle.psg_session.specs.Outcomes.{IsFound, IsNotFound};
+ghost use Rattle.psg_session.specs.PlainState.{named_path};
+
+use crate::editor::{Editor, OpenedTree};
+use psg_script::Where;
+use psg_tree::{Path, Tree, at};
+
+/// The opened fragment, the path of the place, and the node there.
+#[derive(Clone, Copy)]
+pub struct Found<'a> {
+    pub held: &'a OpenedTree,
+    pub path: &'a Path,
+    pub node: &'a Tree,
+}
+
+/// The path that a command names.
+fn path_named<'a>(place: &'a Where, cursor: &'a Path) -> &'a Path
+    ensures { result.now ≡ named_path place.now cursor.now }
+{
+    match place {
+        Where::Cursor => cursor,
+        Where::At(path) => path,
+    }
+}
+
+/// The node of the place; otherwise the number of the refusal: 22 where nothing is opened, 2 where no node is there.
+pub fn find<'a>(editor: &'a Editor, place: &'a Where) -> Result<Found<'a>, u8>
+    ensures ok { IfOk result (IsFound editor.now place.now) }
+    ensures err { IfErr result (IsNotFound editor.now place.now) }
+{
+    let Some(held) = &editor.opened else {
+        return Err(22);
+    };
+    let path = path_named(place, &editor.cursor);
+    match at(held.note.tree(), path) {
+        Some(node) => Ok(Found { held, path, node }),
+        None => Err(2),
+    }
+}

@@ -1,0 +1,76 @@
+//! A definition with what an editor makes of it once.
+ghost use Rattle.std.specs.Prelude.{◌≡◌, ◌++◌, ◌↔◌, IfOk, IsTrue};
+ghost use Rattle.psg_grammar.specs.Sound.{IsSound};
+ghost use Rattle.psg_grammar.specs.WellFormed.{fixed_words as fixed_words_of, operator_words, words_in};
+ghost use Rattle.psg_grammar.specs.Kinds.{HasKind};
+ghost use Rattle.psg_session.specs.PlainStep.{IsDeclaringPhylum};
+ghost use Rattle.psg_session.specs.Views.{IsLanguage};
+
+use psg_grammar::{Definition, Item, Kind, declaring};
+use psg_lexis::Lexis;
+use psg_terms::Txt;
+use std::alloc::{AllocError, Global};
+
+/// A definition, for each phylum the spaces in which it declares, and its fixed words.
+#[derive(Drop)]
+pub struct Language {
+    pub definition: Definition,
+    pub declaring: Vec<Vec<u32>>,
+    pub lexis: Lexis,
+}
+
+impl Language {
+    /// The language of a definition. It walks the definition once for its words, and searches it for what declares.
+    pub fn of(alloc: Global, definition: Definition) -> Result<Language, AllocError>
+        requires { IsSound definition }
+        ensures definition { IfOk result (λ l. l.definition ≡ definition) }
+        ensures language { IfOk result IsLanguage }
+    {
+        let words = fixed_words(alloc, &definition)?;
+        let lexis = Lexis::new(alloc, words.as_slice())?;
+        let declaring = declaring(alloc, &definition)?;
+        Ok(Language {
+            definition,
+            declaring,
+            lexis,
+        })
+    }
+
+    /// Whether the kind is a phylum that declares names.
+    pub fn is_declaring(&self, kind: Kind) -> bool
+        requires language { IsLanguage self.now }
+        requires kind { HasKind self.now.definition kind }
+        ensures { IsTrue result ↔ IsDeclaringPhylum self.now.definition kind }
+    {
+        match kind {
+            Kind::Phylum(phylum) => !self.declaring.as_slice()[phylum as usize].is_empty(),
+            Kind::List(_) => false,
+        }
+    }
+}
+
+/// The words of the operators in order, and then the separators of the lists.
+fn fixed_words(alloc: Global, definition: &Definition) -> Result<Vec<Txt>, AllocError>
+    ensures { IfOk result (λ found. found.items ≡ fixed_words_of definition.now) }
+{
+    let mut words = Vec::new(alloc);
+    for operator in definition.operators.as_slice() {
+        push_words(&mut words, operator.items.as_slice())?;
+    }
+    for list in definition.lists.as_slice() {
+        words.push(list.separator.share()?)?;
+    }
+    Ok(words)
+}
+
+/// Puts the words among the items behind those that are there.
+fn push_words(words: &mut Vec<Txt>, items: &[Item]) -> Result<(), AllocError>
+    ensures { IfOk result (λ _. words.new.items ≡ words.old.items ++ words_in items.now) }
+{
+    for item in items {
+        if let Item::Word(word) = item {
+            words.push(word.share()?)?;
+        }
+    }
+    Ok(())
+}

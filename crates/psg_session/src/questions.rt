@@ -1,0 +1,158 @@
+//! The answers to questions about the opened fragment.
+ghost use Rattle.std.specs.Prelude.{◌≡◌, ◌++◌, map, string_bytes, IfOk};
+ghost use Rattle.psg_scope.specs.Headers.{keys};
+ghost use Rattle.psg_script.specs.declared.command.Command.TheVariants as commands;
+ghost use Rattle.psg_session.specs.Answers.{entities_text, names_line, names_without, row_line as row_line_of, rows_lines as rows_lines_of};
+ghost use Rattle.psg_session.specs.Outcomes.{IsOutcome};
+ghost use Rattle.psg_session.specs.Views.{IsEditor, IsLanguage};
+
+use crate::editor::{Editor, Outcome};
+use crate::finding::find;
+use crate::judging::note_mark;
+use crate::language::Language;
+use crate::replies::Reply;
+use psg_cache::build;
+use psg_eval::Summary;
+use psg_relation::RelRow;
+use psg_scope::NameCol;
+use psg_script::Where;
+use psg_terms::{Signature, Steps, Term, term_text};
+use psg_tree::abstract_text;
+use std::alloc::{AllocError, Global};
+use std::sync::ledger::Ledger;
+
+/// The abstract text of the opened fragment, and its mark.
+pub fn show(alloc: Global, language: &Language, editor: &Editor) -> Result<Outcome, AllocError>
+    requires language { IsLanguage language.now }
+    requires editor { IsEditor language.now.definition editor.now }
+    ensures { IfOk result (IsOutcome language.now.definition editor.now commands.Show) }
+{
+    let Some(held) = &editor.opened else {
+        return Ok(Outcome::Stays(Reply::Refused(22)));
+    };
+    let text = abstract_text(alloc, &language.definition, held.note.tree())?;
+    let mark = note_mark(alloc, &held.note)?;
+    Ok(Outcome::Stays(Reply::Shown(text, mark)))
+}
+
+/// The names that the opened fragment uses and its outermost region does not declare.
+pub fn free(alloc: Global, language: &Language, editor: &Editor) -> Result<Outcome, AllocError>
+    requires language { IsLanguage language.now }
+    requires editor { IsEditor language.now.definition editor.now }
+    ensures { IfOk result (IsOutcome language.now.definition editor.now commands.Free) }
+{
+    let Some(held) = &editor.opened else {
+        return Ok(Outcome::Stays(Reply::Refused(22)));
+    };
+    let line = free_line(alloc, held.note.root().header().names.as_slice())?;
+    let mut lines = Vec::new(alloc);
+    lines.push(line)?;
+    Ok(Outcome::Stays(Reply::Answered(lines)))
+}
+
+/// The names of a header that are not declared, with a space between two, or `none`.
+fn free_line(alloc: Global, names: &[NameCol]) -> Result<String, AllocError>
+    ensures { IfOk result (λ text. string_bytes text ≡ names_line (names_without names.now)) }
+{
+    let mut text = String::new(alloc);
+    let mut some = false;
+    for column in names {
+        if !column.declared {
+            if some {
+                text.push_str(" ")?;
+            }
+            text.push_str(column.name.as_str())?;
+            some = true;
+        }
+    }
+    if !some {
+        text.push_str("none")?;
+    }
+    Ok(text)
+}
+
+/// The rows of the relation of the node at the place, each on a line: the value, and the entity of each name. It evaluates the
+/// node's tree anew, and `steps` counts the evaluations.
+pub fn own<L: Ledger>(
+    alloc: Global,
+    language: &Language,
+    editor: &Editor,
+    place: &Where,
+    steps: &mut Steps<L>,
+) -> Result<Outcome, AllocError>
+    requires language { IsLanguage language.now }
+    requires editor { IsEditor language.now.definition editor.now }
+    ensures { IfOk result (IsOutcome language.now.definition editor.now (commands.Own place.now)) }
+{
+    let found = match find(editor, place) {
+        Ok(found) => found,
+        Err(number) => return Ok(Outcome::Stays(Reply::Refused(number))),
+    };
+    let declaring = language.declaring.as_slice();
+    // the opened fragment is within the limits, and so is each part of it
+    let Ok(note) = build(alloc, &language.definition, declaring, found.node, steps) else {
+        return Err(AllocError);
+    };
+    let lines = rows_lines(alloc, &language.definition.signature, note.root())?;
+    Ok(Outcome::Stays(Reply::Answered(lines)))
+}
+
+/// A line for each row of the summary, or `none`.
+fn rows_lines(
+    alloc: Global,
+    signature: &Signature,
+    summary: &Summary,
+) -> Result<Vec<String>, AllocError>
+    ensures { IfOk result (λ lines. map string_bytes lines.items ≡ rows_lines_of signature.now (keys summary.now.header.names) summary.now.rel) }
+{
+    let names = summary.header().names.as_slice();
+    let rows = summary.rel().rows();
+    let mut lines = Vec::new(alloc);
+    for row in rows {
+        lines.push(row_line(alloc, signature, names, row.terms())?)?;
+    }
+    if rows.is_empty() {
+        lines.push(String::from_str(alloc, "none")?)?;
+    }
+    Ok(lines)
+}
+
+/// A row: the value, and behind it each name with its entity.
+fn row_line(
+    alloc: Global,
+    signature: &Signature,
+    names: &[NameCol],
+    row: &[Term],
+) -> Result<String, AllocError>
+    ensures { IfOk result (λ text. string_bytes text ≡ row_line_of signature.now (keys names.now) row.now) }
+{
+    let mut text = String::new(alloc);
+    if let [value, entities @ ..] = row {
+        text.push_str(term_text(alloc, signature, value)?.as_str())?;
+        push_entities(alloc, &mut text, signature, names, entities)?;
+    }
+    Ok(text)
+}
+
+/// Writes each name with its entity behind the text, as far as there are both.
+fn push_entities(
+    alloc: Global,
+    text: &mut String,
+    signature: &Signature,
+    names: &[NameCol],
+    entities: &[Term],
+) -> Result<(), AllocError>
+    ensures { IfOk result (λ _. string_bytes text.new ≡ string_bytes text.old ++ entities_text signature.now (keys names.now) entities.now) }
+{
+    let mut rest = entities;
+    for column in names {
+        if let [entity, more @ ..] = rest {
+            text.push_str(" ")?;
+            text.push_str(column.name.as_str())?;
+            text.push_str("=")?;
+            text.push_str(term_text(alloc, signature, entity)?.as_str())?;
+            rest = more;
+        }
+    }
+    Ok(())
+}

@@ -1,0 +1,120 @@
+//! Replies and how they are written.
+ghost use Rattle.std.specs.Prelude.{◌≡◌, ◌++◌, map, IfOk, string_bytes};
+ghost use Rattle.psg_session.specs.Marked.{path_text, paths_text, mark_text};
+ghost use Rattle.psg_session.specs.Replies.{feed_all, reply_text};
+ghost use Rattle.psg_script.specs.Forms.{steps_text};
+ghost use Rattle.psg_session.specs.Views.{mark_of, reply_of};
+
+use itoa::Buffer;
+use psg_tree::Path;
+use std::alloc::{AllocError, Global};
+
+/// Whether the fragment is open, and otherwise the paths of its culprits, a node before its children, children in order.
+#[derive(Drop)]
+pub enum Mark {
+    Good,
+    Wrong(Vec<Path>),
+}
+
+/// What a command is answered.
+#[derive(Drop)]
+pub enum Reply {
+    /// The number of the refusal.
+    Refused(u8),
+    /// The mark of the fragment.
+    Marked(Mark),
+    /// A line of text, and then the mark.
+    Shown(String, Mark),
+    /// Lines of text.
+    Answered(Vec<String>),
+}
+
+/// Writes the path behind the text.
+fn push_path(text: &mut String, path: &Path) -> Result<(), AllocError>
+    ensures { IfOk result (λ _. string_bytes text.new ≡ string_bytes text.old ++ path_text path.now) }
+{
+    let steps = path.steps();
+    if steps.is_empty() {
+        text.push_str("/")?;
+        return Ok(());
+    }
+    push_steps(text, steps)?;
+    Ok(())
+}
+
+/// Writes each step behind a slash.
+fn push_steps(text: &mut String, steps: &[u32]) -> Result<(), AllocError>
+    ensures { IfOk result (λ _. string_bytes text.new ≡ string_bytes text.old ++ steps_text steps.now) }
+{
+    for step in steps {
+        let mut digits = Buffer::new();
+        text.push_str("/")?;
+        text.push_str(digits.format(*step))?;
+    }
+    Ok(())
+}
+
+/// Writes each path behind a space.
+fn push_paths(text: &mut String, paths: &[Path]) -> Result<(), AllocError>
+    ensures { IfOk result (λ _. string_bytes text.new ≡ string_bytes text.old ++ paths_text paths.now) }
+{
+    for path in paths {
+        text.push_str(" ")?;
+        push_path(text, path)?;
+    }
+    Ok(())
+}
+
+/// Writes the mark behind the text.
+fn push_mark(text: &mut String, mark: &Mark) -> Result<(), AllocError>
+    ensures { IfOk result (λ _. string_bytes text.new ≡ string_bytes text.old ++ mark_text (mark_of mark.now)) }
+{
+    match mark {
+        Mark::Good => {
+            text.push_str("ok")?;
+            Ok(())
+        }
+        Mark::Wrong(culprits) => {
+            text.push_str("wrong")?;
+            push_paths(text, culprits.as_slice())?;
+            Ok(())
+        }
+    }
+}
+
+/// The lines of a reply, each with its line feed.
+pub fn reply_lines(alloc: Global, reply: &Reply) -> Result<String, AllocError>
+    ensures { IfOk result (λ text. string_bytes text ≡ reply_text (reply_of reply.now)) }
+{
+    let mut text = String::new(alloc);
+    match reply {
+        Reply::Refused(number) => {
+            let mut digits = Buffer::new();
+            text.push_str("refused ")?;
+            text.push_str(digits.format(*number))?;
+        }
+        Reply::Marked(mark) => push_mark(&mut text, mark)?,
+        Reply::Shown(line, mark) => {
+            text.push_str(line.as_str())?;
+            text.push_str("\n")?;
+            push_mark(&mut text, mark)?;
+        }
+        Reply::Answered(lines) => {
+            push_lines(&mut text, lines.as_slice())?;
+            return Ok(text);
+        }
+    }
+    text.push_str("\n")?;
+    Ok(text)
+}
+
+/// Writes each line with its line feed behind the text.
+fn push_lines(text: &mut String, lines: &[String]) -> Result<(), AllocError>
+    ensures { IfOk result (λ _. string_bytes text.new ≡ string_bytes text.old ++ feed_all (map string_bytes lines.now)) }
+{
+    for line in lines {
+        text.push_str(line.as_str())?;
+        text.push_str("\n")?;
+    }
+    Ok(())
+}
