@@ -65,7 +65,7 @@ struct Listed<'a> {
 }
 
 /// The list that the tree is, if it is one.
-fn listed<'a>(definition: &'a Definition, tree: &Tree) -> Option<Listed<'a>>
+fn as_list<'a>(definition: &'a Definition, tree: &Tree) -> Option<Listed<'a>>
     requires shaped { (kind : Kind) × IsShaped definition.now tree.now kind }
     ensures some { IfSome result (λ l. IsListed definition.now tree.now l) }
     ensures none { IfNone result (IsList tree.now → ⊥) }
