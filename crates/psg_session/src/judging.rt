@@ -25,7 +25,7 @@ pub enum Change {
     Grows,
     /// It finishes a list: the tree may be too wide or too heavy, and has to be open.
     Closes,
-    /// It takes something away: the tree may be too wide or too heavy.
+    /// It takes something away or lets a list go on: the tree may be too wide or too heavy.
     Loosens,
 }
 
