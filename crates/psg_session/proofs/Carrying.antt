@@ -162,3 +162,17 @@ opened_new def name kind named only usual e outcome h = go outcome h
     )
     go (Becomes new (Shown text mark)) h = absurd h
     go (Becomes new (Answered lines)) h = absurd h
+
+-- a plan that refuses
+pub refused_plan : (def : Definition) (e : Editor) (command : Command) (change : Change) (n : ℕ) → IsPlan def e command change (RefusedBy n) → IsOutcome def e command (Stays (Refused n))
+refused_plan def e command change n plan = λ s same.
+    let (r, is_refused, number) = plan s same in (s, same, subst (PlainSteps def s command s) (sym number) (refuses is_refused))
+
+-- nothing has the name
+pub new_unknown : (def : Definition) (name : Name) → ((kind : Kind) → HasName def kind name → ⊥) → (e : Editor) → IsOutcome def e (New name) (Stays (Refused 4))
+new_unknown def name never e = λ s same. (s, same, refuses (refused_behind def s (New name) [] (no_placeholder_here ∷ wide ∷ []) unknown refl tt never))
+
+-- the name is that of a phylum that declares
+pub new_declaring : (def : Definition) (name : Name) (kind : Kind) → HasName def kind name → IsDeclaringPhylum def kind → (e : Editor) → IsOutcome def e (New name) (Stays (Refused 21))
+new_declaring def name kind named declares e = λ s same.
+    (s, same, refuses (refused_behind def s (New name) (unknown ∷ []) (wide ∷ []) no_placeholder_here refl ((λ h. h kind named), tt) (kind, named, declares)))

@@ -1,6 +1,8 @@
 pub mod Options
 pub mod StepLaws
 pub mod Carrying
+pub mod Opening
+pub mod Verdicts
 pub mod Cutting
 pub mod Shapes
 pub mod Bounds
