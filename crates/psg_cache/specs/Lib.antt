@@ -1,3 +1,4 @@
+pub mod Shaped
 pub mod Notes
 pub mod Walks
 pub mod Little

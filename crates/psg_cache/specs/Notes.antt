@@ -9,15 +9,15 @@ use Rattle.psg_grammar.specs.Marks.{Mark, good, wrong, IsMark}
 use Rattle.psg_grammar.specs.Paths.{Path}
 use Rattle.psg_grammar.specs.Sizes.{IsBig, IsDeep}
 use Rattle.psg_grammar.specs.Steps.{HasWeights, IsFirstWide, IsHeavy, IsWide}
-use Rattle.psg_grammar.specs.WellFormed.{WellFormed}
 use Rattle.psg_eval.specs.Summaries.{IsSummaryOf}
+use Rattle.psg_cache.specs.Shaped.{IsShaped}
 use Rattle.psg_cache.specs.declared.note.Noted.{Noted}
 use Rattle.psg_cache.specs.declared.note.NoteFault.{NoteFault}
 use Rattle.psg_cache.specs.declared.note.NoteFault.TheVariants as faults
 
 -- a tree of some kind
 abbrev pub IsFormed : Definition → Fragment → Type 0
-IsFormed def f = (kind : Kind) × WellFormed def f kind
+IsFormed def f = (kind : Kind) × IsShaped def f kind
 
 -- for each phylum the spaces in which it declares
 pub record AreDeclaringSpaces (def : Definition) (found : List (Vec ℕ Global)) : Type 0 where
