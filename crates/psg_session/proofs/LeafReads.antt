@@ -1,0 +1,46 @@
+-- Which leaves the text of a command's arguments gives, from its tokens.
+use Rattle.std.proofs.Common.{◌≡◌, ℕ, ◌<◌, List, map, length, get_or, Some, chars, sym, ◌∙◌, ap, subst}
+use Rattle.std.proofs.lemmas.Option.{slice_get-get_or}
+use Rattle.psg_grammar.specs.declared.types.Operator.{Operator}
+use Rattle.psg_grammar.specs.declared.types.Definition.{Definition}
+use Rattle.psg_grammar.specs.Insertion.{Leaf as PlainLeaf, AreLeaves}
+use Rattle.psg_grammar.specs.Lookups.{operator_at, items_of, part_items}
+use Rattle.psg_grammar.specs.WellFormed.{fixed_words}
+use Rattle.psg_lexis.specs.Tokens.{HasTokens}
+use Rattle.psg_lexis.specs.declared.token.Spanned.{Spanned}
+use Rattle.psg_lexis.proofs.Laws.{only_tokens}
+use Rattle.psg_session.specs.declared.language.Language.{Language}
+use Rattle.psg_session.specs.Leaves.{given, GivesLeaves}
+use Rattle.psg_session.specs.Views.{IsLanguage}
+use Rattle.psg_session.proofs.LeafWords.{same_leaves}
+
+-- the items of an operator's parts
+pub own_items : (def : Definition) (o : ℕ) (d : Operator) → o < length def.operators → part_items (get_or def.operators o d).items ≡ items_of (operator_at def o)
+own_items def o d lt = sym (ap items_of (slice_get-get_or def.operators o d lt))
+
+-- a text gives one list of leaves
+pub one_list : (def : Definition) (o p : ℕ) (args : List ℕ) (xs ys : List PlainLeaf) → GivesLeaves def o args xs → GivesLeaves def p args ys → xs ≡ ys
+one_list def o p args xs ys (ts, has, e, are) (us, other, f, also) =
+    same_leaves xs ys (sym e ∙ ap (map given) (only_tokens (fixed_words def) (chars args) 0 ts us has other) ∙ f)
+
+module _ (l : Language) (is : IsLanguage l) (o : ℕ) (args : List ℕ) where
+  -- the text has no tokens
+  pub without_tokens : ((ts : List Spanned) → HasTokens l.lexis (chars args) 0 ts → ⊥) → (xs : List PlainLeaf) → GivesLeaves l.definition o args xs → ⊥
+  without_tokens never xs (ts, has, e, are) = never ts (subst (λ ws. HasTokens ws (chars args) 0 ts) (sym is.words) has)
+
+  module _ (ts : List Spanned) (has : HasTokens l.lexis (chars args) 0 ts) where
+    same_tokens : (us : List Spanned) → HasTokens (fixed_words l.definition) (chars args) 0 us → ts ≡ us
+    same_tokens us other = only_tokens l.lexis (chars args) 0 ts us has (subst (λ ws. HasTokens ws (chars args) 0 us) (sym is.words) other)
+
+    -- not each token is a leaf
+    pub without_leaves : ((xs : List PlainLeaf) → map given ts ≡ map Some xs → ⊥) → (xs : List PlainLeaf) → GivesLeaves l.definition o args xs → ⊥
+    without_leaves never xs (us, other, e, are) = never xs (ap (map given) (same_tokens us other) ∙ e)
+
+    module _ (leaves : List PlainLeaf) (e : map given ts ≡ map Some leaves) where
+      pub gives : AreLeaves l.definition (items_of (operator_at l.definition o)) leaves → GivesLeaves l.definition o args leaves
+      gives are = (ts, subst (λ ws. HasTokens ws (chars args) 0 ts) is.words has, e, are)
+
+      -- the leaves are not those of the operator
+      pub gives_no_other : (AreLeaves l.definition (items_of (operator_at l.definition o)) leaves → ⊥) → (xs : List PlainLeaf) → GivesLeaves l.definition o args xs → ⊥
+      gives_no_other never xs (us, other, f, are) =
+          never (subst (AreLeaves l.definition (items_of (operator_at l.definition o))) (same_leaves xs leaves (sym f ∙ ap (map given) (sym (same_tokens us other)) ∙ e)) are)
