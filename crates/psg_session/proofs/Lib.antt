@@ -6,3 +6,13 @@ pub mod Shapes
 pub mod Bounds
 pub mod Filling
 pub mod OneStep
+pub mod LeafLaws
+pub mod LeafWords
+pub mod LeafReads
+pub mod ChangeLaws
+pub mod ChangeRefine
+pub mod ChangeInsert
+pub mod ChangeCut
+pub mod ChangeRemove
+pub mod ChangeClose
+pub mod ChangeReopen
