@@ -9,6 +9,7 @@ pub mod OneStep
 pub mod LeafLaws
 pub mod LeafWords
 pub mod LeafReads
+pub mod LeafNames
 pub mod ChangeLaws
 pub mod ChangeRefine
 pub mod ChangeInsert
