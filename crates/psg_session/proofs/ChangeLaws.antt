@@ -1,5 +1,5 @@
 -- What the changes of a found node have in common.
-use Rattle.std.proofs.Common.{◌≡◌, ◌⊎◌, inl, inr, ℕ, ◌<◌, Bool, true, false, true≢false, List, [], ◌∷◌, length, slice_get, Some, None, Option, Result, Ok, IfOk, refl, sym, ◌∙◌, ap, subst}
+use Rattle.std.proofs.Common.{◌≡◌, ◌⊎◌, inl, inr, ℕ, ◌<◌, Bool, true, false, true≢false, List, [], ◌∷◌, length, slice_get, Some, None, Option, Result, Ok, IfOk, option_map, refl, sym, ◌∙◌, ap, subst}
 use Rattle.std.proofs.lemmas.Option.{none-some, slice_get_within}
 use Rattle.psg_terms.specs.Names.{Name}
 use Rattle.psg_grammar.specs.declared.types.Kind.{Kind}
@@ -7,6 +7,7 @@ use Rattle.psg_grammar.specs.declared.types.Kind.TheVariants as kinds
 use Rattle.psg_grammar.specs.declared.types.Item.{Item}
 use Rattle.psg_grammar.specs.declared.types.Item.TheVariants as items
 use Rattle.psg_grammar.specs.declared.types.ListKind.{ListKind}
+use Rattle.psg_grammar.specs.declared.types.Operator.{Operator}
 use Rattle.psg_grammar.specs.declared.types.Definition.{Definition}
 use Rattle.psg_grammar.specs.Fragments.{Fragment, hole, ending, cell, operator, with_child, with_name, with_number, with_text, anything, observed}
 use Rattle.psg_grammar.specs.Insertion.{Leaf, fresh_operator}
@@ -39,6 +40,13 @@ some_once x y o e f = let d : Some x ≡ Some y = sym e ∙ f in cc
 -- what is known of the value of a call that went well
 pub ok_at : {X E : Type 0} (P : X → Type 0) (r : Result X E) (x : X) → r ≡ Ok x → IfOk r P → P x
 ok_at P r x e h = subst (λ q. IfOk q P) e h
+
+-- an operator with a name is there
+pub operator_there : (def : Definition) (o : ℕ) (name : Name) → IsOperator def o name → o < length def.operators
+operator_there def o name named = go (slice_get def.operators o) refl named where
+  go : (found : Option Operator) → slice_get def.operators o ≡ found → option_map (λ (op : Operator). op.name) found ≡ Some name → o < length def.operators
+  go None at e = absurd (none-some name e)
+  go (Some op) at e = slice_get_within def.operators o op at
 
 -- ---- kinds of nodes
 

@@ -1,11 +1,11 @@
 -- What it is answered that a list is opened again, before its tree is tested.
-use Rattle.std.proofs.Common.{◌≡◌, ℕ, Bool, true, false, true≢false, not, ◌&&◌, List, [], ◌∷◌, Some, None, refl, sym, ◌∙◌, ap, subst}
+use Rattle.std.proofs.Common.{◌≡◌, ◌↔◌, ℕ, Bool, true, false, true≢false, not, ◌&&◌, IsTrue, List, [], ◌∷◌, Some, None, refl, sym, ◌∙◌, ap, subst}
 use Rattle.psg_grammar.specs.declared.types.Kind.TheVariants as kinds
 use Rattle.psg_grammar.specs.declared.types.ListKind.{ListKind}
 use Rattle.psg_grammar.specs.declared.types.Kind.{Kind}
 use Rattle.psg_grammar.specs.declared.types.Definition.{Definition}
 use Rattle.psg_grammar.specs.Fragments.{Fragment}
-use Rattle.psg_grammar.specs.Paths.{change_at, ended}
+use Rattle.psg_grammar.specs.Paths.{change_at, ended, IsList}
 use Rattle.psg_cache.specs.Shaped.{IsShaped}
 use Rattle.psg_cache.proofs.ShapedTrees.{ended_shaped}
 use Rattle.psg_script.specs.declared.command.Where.{Where}
@@ -21,7 +21,7 @@ use Rattle.psg_session.specs.Refusals.{nothing_opened, no_node, no_place, wide, 
 use Rattle.psg_session.specs.Views.{Represents}
 use Rattle.psg_session.specs.Outcomes.{IsFound, IsListed, IsNotFound, IsPlan, NoneOf}
 use Rattle.psg_session.proofs.StepLaws.{plain, at_node, found_before, has_node, not_found_plan, opened_is, path_is, refusal_plan}
-use Rattle.psg_session.proofs.ChangeLaws.{early_none, kind_is, one_list_kind, same_old}
+use Rattle.psg_session.proofs.ChangeLaws.{early_none, end_is_list, kind_is, one_list_kind, same_old}
 use Rattle.psg_session.specs.declared.changes.Listed.{Listed}
 
 module _ (def : Definition) (e : Editor) (place : Where) where
@@ -72,13 +72,26 @@ parts_true true false e f = refl
 parts_true true true e f = absurd (true≢false f)
 parts_true false b e f = absurd (true≢false (sym e))
 
--- by what is told of a list
-pub may_reopen_by : (def : Definition) (node : Fragment) (list : Listed) → IsListed def node list → (list.kind.now.unfinished && not list.unfinished) ≡ true → MayReopen def node
-may_reopen_by def node list listed e =
-    let (a, b) = true_parts list.kind.now.unfinished list.unfinished e in (list.kind.now, listed.kind, a, listed.end ∙ ap Some b)
+-- ---- by what is told of a list
 
-pub reopens_by : (def : Definition) (node : Fragment) (list : Listed) → IsListed def node list → MayReopen def node → (list.kind.now.unfinished && not list.unfinished) ≡ true
-reopens_by def node list listed (own, of, may, ends) =
-    let d : Some list.unfinished ≡ Some false = sym listed.end ∙ ends in
-    let finished : list.unfinished ≡ false = cc in
-    parts_true list.kind.now.unfinished list.unfinished (sym (ap (λ (x : ListKind). x.unfinished) (one_list_kind def node own list.kind.now of listed.kind)) ∙ may) finished
+module _ (def : Definition) (node : Fragment) where
+  pub unfinished_by : (list : Listed) → IsListed def node list → IsTrue list.unfinished ↔ (end_of node ≡ Some true)
+  unfinished_by list listed = (
+    λ h. listed.end ∙ ap Some h,
+    λ ends. let d : Some list.unfinished ≡ Some true = sym listed.end ∙ ends in let is : list.unfinished ≡ true = cc in is,
+  )
+
+  pub no_end : (IsList node → ⊥) → IsTrue false ↔ (end_of node ≡ Some true)
+  no_end never = (λ h. absurd (true≢false (sym h)), λ ends. absurd (never (end_is_list def node true ends)))
+
+  pub reopens_if : (list : Listed) → IsListed def node list → IsTrue (list.kind.now.unfinished && not list.unfinished) ↔ MayReopen def node
+  reopens_if list listed = (
+    λ h. let (a, b) = true_parts list.kind.now.unfinished list.unfinished h in (list.kind.now, listed.kind, a, listed.end ∙ ap Some b),
+    λ (own, of, may, ends).
+      let d : Some list.unfinished ≡ Some false = sym listed.end ∙ ends in
+      let finished : list.unfinished ≡ false = cc in
+      parts_true list.kind.now.unfinished list.unfinished (sym (ap (λ (x : ListKind). x.unfinished) (one_list_kind def node own list.kind.now of listed.kind)) ∙ may) finished,
+  )
+
+  pub never_reopens : (IsList node → ⊥) → IsTrue false ↔ MayReopen def node
+  never_reopens never = (λ h. absurd (true≢false (sym h)), λ (own, of, may, ends). absurd (never (end_is_list def node false ends)))

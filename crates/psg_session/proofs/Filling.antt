@@ -30,11 +30,10 @@ pub next_items : (its : List Item) (i : ℕ) (item : Item) → i < length its �
 next_items its i item h e = drop-cons its i item h ∙ ap (λ y. y ∷ drop (suc i) its) (sym e) ∙ ap (λ j. item ∷ drop j its) (sym (add-one i))
 
 -- a slot among the items of a sound operator is of a kind that is there
-pub slot_there : (def : Definition) → IsSound def → (o : ℕ) (d : Operator) (its : List Item) → o < length def.operators → its ≡ (get_or def.operators o d).items
+pub slot_there : (def : Definition) → IsSound def → (o : ℕ) (op : Operator) (its : List Item) → slice_get def.operators o ≡ Some op → its ≡ op.items
     → (i : ℕ) (item : Item) → i < length its → item ≡ get_or its i item → HasSlotKind def item
-slot_there def sound o d its lt same i item small at =
-    let op = get_or def.operators o d in
-    let all : AllByRecursion (HasSlotKind def) its = subst (AllByRecursion (HasSlotKind def)) (sym same) (items_in def sound o op (slice_get-get_or def.operators o d lt)) in
+slot_there def sound o op its found same i item small at =
+    let all : AllByRecursion (HasSlotKind def) its = subst (AllByRecursion (HasSlotKind def)) (sym same) (items_in def sound o op found) in
     each_at (HasSlotKind def) its all i item (slice_get-get_or its i item small ∙ ap Some (sym at))
 
 module _ (def : Definition) where

@@ -1,6 +1,6 @@
 -- Nodes by their shapes.
-use Rattle.std.proofs.Common.{◌≡◌, inl, inr, ℕ, ◌<◌, Bool, List, [], ◌∷◌, length, Option, Some, None, slice_get, refl, sym, ◌∙◌, ap, subst}
-use Rattle.std.proofs.lemmas.Option.{none-some, slice_get_within}
+use Rattle.std.proofs.Common.{◌≡◌, inl, inr, ℕ, ◌<◌, Bool, List, [], ◌∷◌, length, get_or, Option, Some, None, slice_get, refl, sym, ◌∙◌, ap, subst}
+use Rattle.std.proofs.lemmas.Option.{none-some, slice_get_within, slice_get_read}
 use Rattle.psg_grammar.specs.declared.types.Kind.{Kind}
 use Rattle.psg_grammar.specs.declared.types.Kind.TheVariants as kinds
 use Rattle.psg_grammar.specs.declared.types.Item.{Item}
@@ -20,6 +20,10 @@ use Rattle.psg_cache.specs.Shaped.{HasShape, IsShaped}
 use Rattle.psg_session.specs.declared.changes.Listed.{Listed}
 use Rattle.psg_session.specs.PlainStep.{end_of}
 use Rattle.psg_session.specs.Outcomes.{IsListed}
+
+-- what stands in a list at a place that was read from an equal one
+pub read_at : {X : Type 0} (xs ys : List X) (i : ℕ) (x : X) → xs ≡ ys → i < length ys → x ≡ get_or xs i x → slice_get ys i ≡ Some x
+read_at xs ys i x same lt at = slice_get_read ys (length ys) i x refl lt (at ∙ ap (λ zs. get_or zs i x) same)
 
 top_part : (f : Fragment) (p : Part) → top_operator (with_part f p) ≡ top_operator f
 top_part f (Sub t) = refl

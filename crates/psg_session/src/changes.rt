@@ -1,10 +1,11 @@
 //! What the changing commands make of the opened fragment, before it is tested.
-ghost use Rattle.std.specs.Prelude.{◌≡◌, ◌++◌, ◌∷◌, [], ℕ, Ok, IfNone, IfOk, IfSome};
+ghost use Rattle.std.specs.Prelude.{◌≡◌, ◌↔◌, ◌++◌, ◌∷◌, [], ℕ, true, Ok, Some, IfNone, IfOk, IfSome, IsTrue};
 ghost use Rattle.psg_eval.specs.Trees.{IsOfKind};
 ghost use Rattle.psg_cache.specs.Shaped.{IsShaped};
 ghost use Rattle.psg_grammar.specs.Fragments.{hole};
 ghost use Rattle.psg_script.specs.declared.command.Command.TheVariants as commands;
 ghost use Rattle.psg_grammar.specs.Paths.{IsList};
+ghost use Rattle.psg_session.specs.PlainStep.{MayReopen, end_of};
 ghost use Rattle.psg_session.specs.Outcomes.{IsFreshAnswer, IsListed, IsPlan, IsPlanShaped};
 ghost use Rattle.psg_session.specs.Views.{IsEditor, IsLanguage};
 ghost use Rattle.psg_session.specs.declared.judging.Change.TheVariants.{Closes, Grows, Loosens};
@@ -81,6 +82,28 @@ fn as_list<'a>(definition: &'a Definition, tree: &Tree) -> Option<Listed<'a>>
             unfinished: *unfinished,
         }),
         _ => None,
+    }
+}
+
+/// Whether the tree is an unfinished list.
+fn is_unfinished(definition: &Definition, tree: &Tree) -> bool
+    requires shaped { (kind : Kind) × IsShaped definition.now tree.now kind }
+    ensures { IsTrue result ↔ (end_of tree.now ≡ Some true) }
+{
+    match as_list(definition, tree) {
+        Some(list) => list.unfinished,
+        None => false,
+    }
+}
+
+/// Whether the tree is a finished list of a kind that may be unfinished.
+fn may_reopen(definition: &Definition, tree: &Tree) -> bool
+    requires shaped { (kind : Kind) × IsShaped definition.now tree.now kind }
+    ensures { IsTrue result ↔ MayReopen definition.now tree.now }
+{
+    match as_list(definition, tree) {
+        Some(list) => list.kind.unfinished && !list.unfinished,
+        None => false,
     }
 }
 
@@ -200,7 +223,8 @@ fn longer(alloc: Global, path: &Path, step: u32) -> Result<Path, AllocError>
         steps.push(*known)?;
     }
     steps.push(step)?;
-    Path::of(alloc, steps.as_slice())
+    let longer = Path::of(alloc, steps.as_slice())?;
+    Ok(longer)
 }
 
 /// What `cut` makes: a new tree of the node's kind in its place.
@@ -275,11 +299,7 @@ pub fn close(
         Ok(found) => found,
         Err(number) => return Ok(Plan::RefusedBy(number)),
     };
-    let unfinished = match as_list(&language.definition, found.node) {
-        Some(list) => list.unfinished,
-        None => false,
-    };
-    if !unfinished {
+    if !is_unfinished(&language.definition, found.node) {
         return Ok(Plan::RefusedBy(7));
     }
     let tree = tree_of(set_unfinished(alloc, found.held.note.tree(), found.path, false))?;
@@ -304,11 +324,7 @@ pub fn reopen(
         Ok(found) => found,
         Err(number) => return Ok(Plan::RefusedBy(number)),
     };
-    let may_reopen = match as_list(&language.definition, found.node) {
-        Some(list) => list.kind.unfinished && !list.unfinished,
-        None => false,
-    };
-    if !may_reopen {
+    if !may_reopen(&language.definition, found.node) {
         return Ok(Plan::RefusedBy(7));
     }
     let tree = tree_of(set_unfinished(alloc, found.held.note.tree(), found.path, true))?;
