@@ -1,5 +1,5 @@
 -- Well-formed trees are trees of a kind by their parts.
-use Rattle.std.proofs.Common.{◌≡◌, inl, inr, List, [], ◌∷◌}
+use Rattle.std.proofs.Common.{inl, inr, List, [], ◌∷◌}
 use Rattle.psg_grammar.specs.declared.types.Kind.{Kind}
 use Rattle.psg_grammar.specs.declared.types.Kind.TheVariants as kinds
 use Rattle.psg_grammar.specs.declared.types.Item.{Item}

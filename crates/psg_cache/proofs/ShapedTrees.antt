@@ -1,5 +1,5 @@
 -- Trees stay of their kind as commands change them.
-use Rattle.std.proofs.Common.{◌≡◌, inl, inr, ℕ, zero, suc, ◌<◌, ◌==◌, Bool, true, cond, List, [], ◌∷◌, ◌++◌, length, slice_get, Some, None, Option, refl, sym, ◌∙◌, ap, subst}
+use Rattle.std.proofs.Common.{◌≡◌, inl, inr, ℕ, zero, suc, Bool, true, cond, List, [], ◌∷◌, ◌++◌, length, slice_get, Some, None, Option, refl, sym, ◌∙◌, ap, subst}
 use Rattle.std.specs.List.{AllByRecursion}
 use Rattle.std.specs.Option.{option_and_then}
 use Rattle.std.proofs.lemmas.Option.{none-some, slice_get_within}
@@ -15,7 +15,7 @@ use Rattle.psg_grammar.specs.Fragments.{Fragment, hole, ending, cell, operator, 
 use Rattle.psg_grammar.specs.Insertion.{AreLeaves, Leaf, a_name, a_number, a_text, blank, filled, fresh_operator, may_be_unfinished}
 use Rattle.psg_grammar.specs.Kinds.{HasKind, HasSlotKind}
 use Rattle.psg_grammar.specs.Lookups.{part_items, items_of, operator_at}
-use Rattle.psg_grammar.specs.Paths.{Path, node_at, change_child, change_at, inserted, removed, ended}
+use Rattle.psg_grammar.specs.Paths.{Path, node_at, change_child, change_at, replaced, inserted, removed, ended}
 use Rattle.psg_grammar.specs.Sound.{IsSound, IsItem, IsOperator}
 use Rattle.psg_grammar.specs.WellFormed.{IsPlain, IsUnobserved}
 use Rattle.psg_eval.specs.Trees.{IsOfKind}
@@ -176,6 +176,14 @@ module _ (def : Definition) where
       let (c, child, below) = first_step path (slice_get (children_of f) k) node at in
       child_changed (change_at g path) f [] kind k c fits plain child
       (λ K h. changed_shaped g c K path node h below keeps)
+
+  -- a tree in place of a node of its kind
+  pub replaced_shaped : (f : Fragment) (kind : Kind) (path : Path) (node new : Fragment) (K : Kind)
+      → IsShaped def f kind → node_at f path ≡ Some node → IsOfKind def node K → IsShaped def new K
+      → IsShaped def (replaced path new f) kind
+  replaced_shaped f kind path node new K h at same_kind fresh =
+      changed_shaped (λ old. new) f kind path node h at
+      (λ J shaped. subst (IsShaped def new) (kind_once node K J same_kind (shape_is_kind node J shaped)) fresh)
 
   -- a node of a tree is a tree of some kind
   pub node_shaped : (f : Fragment) (kind : Kind) (path : Path) (node : Fragment) → IsShaped def f kind
