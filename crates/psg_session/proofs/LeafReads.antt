@@ -1,6 +1,6 @@
 -- Which leaves the text of a command's arguments gives, from its tokens.
-use Rattle.std.proofs.Common.{◌≡◌, ℕ, ◌<◌, List, map, length, get_or, Some, chars, sym, ◌∙◌, ap, subst}
-use Rattle.std.proofs.lemmas.Option.{slice_get-get_or}
+use Rattle.std.proofs.Common.{◌≡◌, ◌↔◌, ℕ, List, map, Some, slice_get, chars, sym, ◌∙◌, ap, subst}
+use Rattle.psg_grammar.specs.declared.types.Item.{Item}
 use Rattle.psg_grammar.specs.declared.types.Operator.{Operator}
 use Rattle.psg_grammar.specs.declared.types.Definition.{Definition}
 use Rattle.psg_grammar.specs.Insertion.{Leaf as PlainLeaf, AreLeaves}
@@ -10,13 +10,19 @@ use Rattle.psg_lexis.specs.Tokens.{HasTokens}
 use Rattle.psg_lexis.specs.declared.token.Spanned.{Spanned}
 use Rattle.psg_lexis.proofs.Laws.{only_tokens}
 use Rattle.psg_session.specs.declared.language.Language.{Language}
+use Rattle.psg_session.specs.declared.leaves.Leaf.{Leaf}
 use Rattle.psg_session.specs.Leaves.{given, GivesLeaves}
-use Rattle.psg_session.specs.Views.{IsLanguage}
+use Rattle.psg_session.specs.Views.{plain_leaf, IsLanguage}
 use Rattle.psg_session.proofs.LeafWords.{same_leaves}
 
--- the items of an operator's parts
-pub own_items : (def : Definition) (o : ℕ) (d : Operator) → o < length def.operators → part_items (get_or def.operators o d).items ≡ items_of (operator_at def o)
-own_items def o d lt = sym (ap items_of (slice_get-get_or def.operators o d lt))
+-- the leaves are those of the operator
+pub own_leaves : (def : Definition) (o : ℕ) (op : Operator) (its : List Item) (xs ys : List Leaf) → slice_get def.operators o ≡ Some op → its ≡ op.items → xs ≡ ys
+    → AreLeaves def (part_items its) (map plain_leaf xs) ↔ AreLeaves def (items_of (operator_at def o)) (map plain_leaf ys)
+own_leaves def o op its xs ys found same equal =
+    let parts : part_items its ≡ items_of (operator_at def o) = ap part_items same ∙ sym (ap items_of found) in (
+      λ h. subst (λ is. AreLeaves def is (map plain_leaf ys)) parts (subst (λ zs. AreLeaves def (part_items its) (map plain_leaf zs)) equal h),
+      λ h. subst (λ zs. AreLeaves def (part_items its) (map plain_leaf zs)) (sym equal) (subst (λ is. AreLeaves def is (map plain_leaf ys)) (sym parts) h),
+    )
 
 -- a text gives one list of leaves
 pub one_list : (def : Definition) (o p : ℕ) (args : List ℕ) (xs ys : List PlainLeaf) → GivesLeaves def o args xs → GivesLeaves def p args ys → xs ≡ ys

@@ -104,15 +104,15 @@ module _ (fixed : List Name) where
       → AllByRecursion HasWord xs
   words_of (nothing at) s [] e = tt
   words_of (nothing at) s (x ∷ xs) e = let d : [] ≡ Some x ∷ map Some xs = e in absurd (cc)
-  words_of (blank c cs at ts is_blank more) s xs e = words_of more (second_so (scalar c) (all_scalars cs) s) xs e
-  words_of (next all at t ts begins more) s [] e = let d : given t ∷ map given ts ≡ [] = e in absurd (cc)
-  words_of (next all at t ts begins more) s (x ∷ xs) e =
+  words_of (blank c cs at ts is_blank behind) s xs e = words_of behind (second_so (scalar c) (all_scalars cs) s) xs e
+  words_of (next all at t ts begins behind) s [] e = let d : given t ∷ map given ts ≡ [] = e in absurd (cc)
+  words_of (next all at t ts begins behind) s (x ∷ xs) e =
       let d : given t ∷ map given ts ≡ Some x ∷ map Some xs = e in
       let head : given t ≡ Some x = cc in
       let tail : map given ts ≡ map Some xs = cc in
       let scalars : all_scalars (begins.front ++ begins.rest) ≡ true = ap all_scalars (sym begins.whole) ∙ s in (
         word_of begins.token (front_scalars begins.front begins.rest scalars) x head,
-        words_of more (rest_scalars begins.front begins.rest scalars) xs tail,
+        words_of behind (rest_scalars begins.front begins.rest scalars) xs tail,
       )
 
   -- the names that a text gives are words

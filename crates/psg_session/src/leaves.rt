@@ -36,8 +36,12 @@ pub fn read_leaves(
 {
     let tokens = match lex(alloc, &language.lexis, arguments) {
         Ok(tokens) => tokens,
-        Err(LexFault::Memory) => return Err(AllocError),
-        Err(_) => return Ok(None),
+        Err(fault) => {
+            if is_memory(fault) {
+                return Err(AllocError);
+            }
+            return Ok(None);
+        }
     };
     let Some(leaves) = leaves_of(alloc, tokens.as_slice())? else {
         return Ok(None);
@@ -47,6 +51,16 @@ pub fn read_leaves(
         Ok(Some(leaves))
     } else {
         Ok(None)
+    }
+}
+
+/// Whether there was no memory for the tokens, so that the text may have some.
+fn is_memory(fault: LexFault) -> bool
+    ensures { IsTrue result ↔ (fault ≡ LexFault.Memory) }
+{
+    match fault {
+        LexFault::Memory => true,
+        _ => false,
     }
 }
 

@@ -1,5 +1,9 @@
-use Rattle.std.proofs.Common.{◌≡◌, ◌<◌, inl, inr, Some, length, refl, sym, ap, subst, ◌∙◌}
+use Rattle.std.proofs.Common.{◌≡◌, ◌<◌, inl, inr, List, map, Vec, Global, Some, length, refl, sym, ap, subst, ◌∙◌}
 use Rattle.psg_grammar.specs.declared.types.Operator.{Operator}
+use Rattle.psg_grammar.specs.Insertion.{Leaf as PlainLeaf, fresh_operator}
+use Rattle.psg_session.specs.declared.leaves.Leaf.{Leaf}
+use Rattle.psg_session.specs.Views.{plain_leaf}
+use Rattle.psg_session.proofs.LeafLaws.{some_in, none_in}
 use Rattle.psg_session.proofs.ChangeLaws.{operator_there, some_once}
 use Rattle.psg_session.proofs.Shapes.{read_at}
 use Rattle.psg_session.specs.PlainStep.{IsOfPhylum, IsOperator}
@@ -30,11 +34,18 @@ returns-in_default-2 c =
     let at = read_at c.as_slice.result.now def.operators c.in-Some.op c.index-as_slice-op.result c.as_slice.ensures (operator_there def c.in-Some.op c.as_str.result.now c.in-Some.ensures.found) c.index-as_slice-op.is in
     inr (inr (
       refl, c.in-Some.op, c.in-Some.ensures.found ∙ ap Some c.as_str.ensures, (c.index-as_slice-op.result, at, c.if-as_slice-op.false),
-      λ leaves gives. c.in_default-2.ensures.none leaves (subst (λ t. GivesLeaves def c.in-Some.op t leaves) (sym c.as_str-2.ensures) gives),
+      λ leaves gives. none_in ((xs : List PlainLeaf) → GivesLeaves def c.in-Some.op c.as_str-2.result.now xs → ⊥) c.in_ok-leaves.field-0 c.in_default-2.is c.in_ok-leaves.ensures.none leaves
+          (subst (λ t. GivesLeaves def c.in-Some.op t leaves) (sym c.as_str-2.ensures) gives),
     ))
 
 pub fresh_operator-requires-clause-found : goal.fresh_operator-requires-clause-found
 fresh_operator-requires-clause-found c = operator_there c.args.language.now.definition c.in-Some.op c.as_str.result.now c.in-Some.ensures.found
 
 pub returns : goal.returns
-returns c = ?
+returns c =
+    let def = c.args.language.now.definition in
+    let at = read_at c.as_slice.result.now def.operators c.in-Some.op c.index-as_slice-op.result c.as_slice.ensures (operator_there def c.in-Some.op c.as_str.result.now c.in-Some.ensures.found) c.index-as_slice-op.is in
+    let leaves = map plain_leaf c.in-Some-2.leaves.items in
+    let gives = subst (λ t. GivesLeaves def c.in-Some.op t leaves) c.as_str-2.ensures
+    (some_in (λ (v : Vec Leaf Global). GivesLeaves def c.in-Some.op c.as_str-2.result.now (map plain_leaf v.items)) c.in_ok-leaves.field-0 c.in-Some-2.leaves c.in-Some-2.is c.in_ok-leaves.ensures.some) in
+    (c.in-Some.op, leaves, c.in-Some.ensures.found ∙ ap Some c.as_str.ensures, (c.index-as_slice-op.result, at, c.if-as_slice-op.false), gives, c.in_ok-fresh.ensures ∙ ap (λ ls. fresh_operator def c.in-Some.op (map plain_leaf ls)) c.as_slice-2.ensures.value)

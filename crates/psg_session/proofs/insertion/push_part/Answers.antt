@@ -10,7 +10,7 @@ blank-requires c = subst (HasSlotKind c.args.definition.now) c.in-Slot.is c.requ
 
 pub returns-in-Slot : goal.returns-in-Slot
 returns-in-Slot c = λ f rest.
-    slot_filled c.args.definition.now f c.args.parts.now.items c.in_ok-push.parts.items c.args.item.now c.in-Slot.kind c.in_ok-child.child _ c.in-Slot.is c.in_ok-child.ensures c.in_ok-push.ensures.items rest
+    slot_filled c.args.definition.now f c.args.parts.now.items _ c.args.item.now c.in-Slot.kind c.in_ok-child.child _ c.in-Slot.is c.in_ok-child.ensures c.in_ok-push.ensures.items rest
 
 pub returns-then-not-takes_leaf : goal.returns-then-not-takes_leaf
 returns-then-not-takes_leaf c = λ f rest. other_filled c.args.definition.now f c.args.parts.now.items c.args.item.now _ c.in_default.not-Slot (sym c.takes_leaf.ensures ∙ c.if-not-takes_leaf.true) rest
