@@ -56,7 +56,7 @@ module _ (def : Definition) (e : Editor) (place : Where) where
           tt,
         ) in
         let opened = opened_is def e s same place f found in
-        let (node_at_path : node_at f.held.now.note.tree (named_path place s.cursor) ≡ Some f.node.now) = ap (node_at f.held.now.note.tree) here ∙ found.node in
+        let node_at_path : node_at f.held.now.note.tree (named_path place s.cursor) ≡ Some f.node.now = ap (node_at f.held.now.note.tree) here ∙ found.node in
         record {
           early = nothing_opened ∷ no_node ∷ no_placeholder_here ∷ [];
           tests = refl;

@@ -1,5 +1,5 @@
 -- What it is answered that a list is opened again, before its tree is tested.
-use Rattle.std.proofs.Common.{◌≡◌, ◌↔◌, ℕ, Bool, true, false, true≢false, not, ◌&&◌, IsTrue, List, [], ◌∷◌, Some, None, refl, sym, ◌∙◌, ap, subst}
+use Rattle.std.proofs.Common.{◌≡◌, ◌↔◌, ℕ, Bool, true, false, true≢false, not, IsTrue, List, [], ◌∷◌, Some, None, refl, sym, ◌∙◌, ap, subst}
 use Rattle.psg_grammar.specs.declared.types.Kind.TheVariants as kinds
 use Rattle.psg_grammar.specs.declared.types.ListKind.{ListKind}
 use Rattle.psg_grammar.specs.declared.types.Kind.{Kind}
@@ -62,15 +62,9 @@ reopen_keeps def node (own, (l, of, at), may, ends) K shaped =
     let is : K ≡ kinds.List l = kind_is def node K (kinds.List l) shaped of in
     subst (IsShaped def (ended true node)) (sym is) (ended_shaped def true node l own (subst (IsShaped def node) is shaped) at (λ e. may))
 
-true_parts : (a b : Bool) → (a && not b) ≡ true → (a ≡ true) × (b ≡ false)
-true_parts true false e = (refl, refl)
-true_parts true true e = absurd (true≢false (sym e))
-true_parts false b e = absurd (true≢false (sym e))
-
-parts_true : (a b : Bool) → a ≡ true → b ≡ false → (a && not b) ≡ true
-parts_true true false e f = refl
-parts_true true true e f = absurd (true≢false f)
-parts_true false b e f = absurd (true≢false (sym e))
+not_unfinished : (b : Bool) → IsTrue (not b) → b ≡ false
+not_unfinished true h = absurd (true≢false (sym h))
+not_unfinished false h = refl
 
 -- ---- by what is told of a list
 
@@ -84,14 +78,21 @@ module _ (def : Definition) (node : Fragment) where
   pub no_end : (IsList node → ⊥) → IsTrue false ↔ (end_of node ≡ Some true)
   no_end never = (λ h. absurd (true≢false (sym h)), λ ends. absurd (never (end_is_list def node true ends)))
 
-  pub reopens_if : (list : Listed) → IsListed def node list → IsTrue (list.kind.now.unfinished && not list.unfinished) ↔ MayReopen def node
-  reopens_if list listed = (
-    λ h. let (a, b) = true_parts list.kind.now.unfinished list.unfinished h in (list.kind.now, listed.kind, a, listed.end ∙ ap Some b),
-    λ (own, of, may, ends).
-      let d : Some list.unfinished ≡ Some false = sym listed.end ∙ ends in
-      let finished : list.unfinished ≡ false = cc in
-      parts_true list.kind.now.unfinished list.unfinished (sym (ap (λ (x : ListKind). x.unfinished) (one_list_kind def node own list.kind.now of listed.kind)) ∙ may) finished,
-  )
+  module _ (list : Listed) (listed : IsListed def node list) where
+    pub reopens_if : list.kind.now.unfinished ≡ true → IsTrue (not list.unfinished) ↔ MayReopen def node
+    reopens_if may = (
+      λ h. (list.kind.now, listed.kind, may, listed.end ∙ ap Some (not_unfinished list.unfinished h)),
+      λ (own, of, also, ends).
+        let d : Some list.unfinished ≡ Some false = sym listed.end ∙ ends in
+        let finished : list.unfinished ≡ false = cc in
+        ap not finished,
+    )
+
+    pub reopens_not : list.kind.now.unfinished ≡ false → IsTrue false ↔ MayReopen def node
+    reopens_not never = (
+      λ h. absurd (true≢false (sym h)),
+      λ (own, of, may, ends). absurd (true≢false (sym may ∙ ap (λ (x : ListKind). x.unfinished) (one_list_kind def node own list.kind.now of listed.kind) ∙ never)),
+    )
 
   pub never_reopens : (IsList node → ⊥) → IsTrue false ↔ MayReopen def node
   never_reopens never = (λ h. absurd (true≢false (sym h)), λ (own, of, may, ends). absurd (never (end_is_list def node false ends)))

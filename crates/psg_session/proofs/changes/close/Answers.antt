@@ -10,7 +10,7 @@ pub returns-in-Err-clause-plan : goal.returns-in-Err-clause-plan
 returns-in-Err-clause-plan c = close_nowhere c.args.language.now.definition c.args.editor.now c.args.place.now c.in-Err.number c.in-Err.ensures.err
 
 pub is_unfinished-requires : goal.is_unfinished-requires
-is_unfinished-requires c = found_shaped c.args.language.now.definition c.args.editor.now c.args.place.now c.in-Ok.found c.requires.editor c.in-Ok.ensures.ok
+is_unfinished-requires c = record { shaped = found_shaped c.args.language.now.definition c.args.editor.now c.args.place.now c.in-Ok.found c.requires.editor c.in-Ok.ensures.ok }
 
 pub returns-then-not-is_unfinished-clause-plan : goal.returns-then-not-is_unfinished-clause-plan
 returns-then-not-is_unfinished-clause-plan c =

@@ -10,7 +10,7 @@ pub returns-in-Err-clause-plan : goal.returns-in-Err-clause-plan
 returns-in-Err-clause-plan c = cut_nowhere c.args.language.now.definition c.args.editor.now c.args.place.now c.in-Err.number c.in-Err.ensures.err
 
 pub kind_of-node_kind-requires : goal.kind_of-node_kind-requires
-kind_of-node_kind-requires c = found_shaped c.args.language.now.definition c.args.editor.now c.args.place.now c.in-Ok.found c.requires.editor c.in-Ok.ensures.ok
+kind_of-node_kind-requires c = record { shaped = found_shaped c.args.language.now.definition c.args.editor.now c.args.place.now c.in-Ok.found c.requires.editor c.in-Ok.ensures.ok }
 
 pub is_declaring-requires-clause-kind : goal.is_declaring-requires-clause-kind
 is_declaring-requires-clause-kind c =

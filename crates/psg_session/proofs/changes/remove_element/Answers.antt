@@ -11,7 +11,7 @@ pub returns-in-Err-clause-plan : goal.returns-in-Err-clause-plan
 returns-in-Err-clause-plan c = remove_nowhere c.args.language.now.definition c.args.editor.now c.args.place.now c.args.number c.in-Err.refusal c.in-Err.ensures.err
 
 pub as_list-requires : goal.as_list-requires
-as_list-requires c = found_shaped c.args.language.now.definition c.args.editor.now c.args.place.now c.in-Ok.found c.requires.editor c.in-Ok.ensures.ok
+as_list-requires c = record { shaped = found_shaped c.args.language.now.definition c.args.editor.now c.args.place.now c.in-Ok.found c.requires.editor c.in-Ok.ensures.ok }
 
 pub returns-in_default-clause-plan : goal.returns-in_default-clause-plan
 returns-in_default-clause-plan c = remove_no_list c.args.language.now.definition c.args.editor.now c.args.place.now c.args.number c.in-Ok.found c.in-Ok.ensures.ok c.in_default.ensures.none

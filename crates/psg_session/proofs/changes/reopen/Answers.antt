@@ -10,7 +10,7 @@ pub returns-in-Err-clause-plan : goal.returns-in-Err-clause-plan
 returns-in-Err-clause-plan c = reopen_nowhere c.args.language.now.definition c.args.editor.now c.args.place.now c.in-Err.number c.in-Err.ensures.err
 
 pub may_reopen-requires : goal.may_reopen-requires
-may_reopen-requires c = found_shaped c.args.language.now.definition c.args.editor.now c.args.place.now c.in-Ok.found c.requires.editor c.in-Ok.ensures.ok
+may_reopen-requires c = record { shaped = found_shaped c.args.language.now.definition c.args.editor.now c.args.place.now c.in-Ok.found c.requires.editor c.in-Ok.ensures.ok }
 
 pub returns-then-not-may_reopen-clause-plan : goal.returns-then-not-may_reopen-clause-plan
 returns-then-not-may_reopen-clause-plan c =

@@ -10,13 +10,6 @@ use Rattle.psg_session.proofs.LeafWords.{are_words}
 use Rattle.psg_session.proofs.Shapes.{read_at}
 use Rattle.psg_session.proofs.leaves.read_leaves.Goals as goal
 
-pub returns-else-is_memory : goal.returns-else-is_memory
-returns-else-is_memory c = record {
-  some = tt;
-  none = without_tokens c.args.language.now c.requires.language c.args.op c.args.arguments.now
-      (λ ts has. true≢false (sym (c.is_memory.ensures.1 (c.in-Err.ensures.whole ts has)) ∙ c.if-is_memory.false));
-}
-
 pub returns-in_default-clause-none : goal.returns-in_default-clause-none
 returns-in_default-clause-none c =
     without_leaves c.args.language.now c.requires.language c.args.op c.args.arguments.now c.in-Ok.tokens.items c.in-Ok.ensures.ok
