@@ -88,9 +88,9 @@ module _ (def : Definition) (node : Fragment) where
         ap not finished,
     )
 
-    pub reopens_not : list.kind.now.unfinished ≡ false → IsTrue false ↔ MayReopen def node
+    pub reopens_not : list.kind.now.unfinished ≡ false → IsTrue list.kind.now.unfinished ↔ MayReopen def node
     reopens_not never = (
-      λ h. absurd (true≢false (sym h)),
+      λ h. absurd (true≢false (sym h ∙ never)),
       λ (own, of, may, ends). absurd (true≢false (sym may ∙ ap (λ (x : ListKind). x.unfinished) (one_list_kind def node own list.kind.now of listed.kind) ∙ never)),
     )
 
