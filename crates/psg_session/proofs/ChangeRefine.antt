@@ -87,13 +87,13 @@ module _ (def : Definition) (e : Editor) (place : Where) (name : Name) (args : L
                 (subst (λ t. Makes def s (Refine place name args) t (named_path place s.cursor)) result (by_refine (plain f.held.now) o leaves opened named gives));
             only = only;
           }
-          where
-            refined_once : (s : State) (same : Represents e s) (o : ℕ) (leaves : _) → IsOperator def o name → GivesLeaves def o args leaves → (other : Fragment) → Gives def s (Refine place name args) other
-                → other ≡ with_operator def f.held.now.note.tree (named_path place s.cursor) None o leaves
-            refined_once s same o leaves named gives other (by_change (by_refine old x others opened also given)) =
-                ap (λ y. with_operator def y.tree (named_path place s.cursor) None x others) (same_old def e s same place f found old opened)
-                ∙ ap (λ y. with_operator def f.held.now.note.tree (named_path place s.cursor) None y others) (one_operator def sound x o name also named)
-                ∙ ap (with_operator def f.held.now.note.tree (named_path place s.cursor) None o) (one_list def x o args others leaves given gives)
+        where
+          refined_once : (s : State) (same : Represents e s) (o : ℕ) (leaves : _) → IsOperator def o name → GivesLeaves def o args leaves → (other : Fragment) → Gives def s (Refine place name args) other
+              → other ≡ with_operator def f.held.now.note.tree (named_path place s.cursor) None o leaves
+          refined_once s same o leaves named gives other (by_change (by_refine old x others opened also given)) =
+              ap (λ y. with_operator def y.tree (named_path place s.cursor) None x others) (same_old def e s same place f found old opened)
+              ∙ ap (λ y. with_operator def f.held.now.note.tree (named_path place s.cursor) None y others) (one_operator def sound x o name also named)
+              ∙ ap (with_operator def f.held.now.note.tree (named_path place s.cursor) None o) (one_list def x o args others leaves given gives)
 
   -- the tree stays of the node's kind
   pub refine_keeps : IsSound def → (node : Fragment) (p : ℕ) → node ≡ hole p → (fresh : Fragment) → IsFreshAnswer def p name args (Ok fresh)

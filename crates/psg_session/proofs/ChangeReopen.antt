@@ -83,9 +83,9 @@ module _ (def : Definition) (node : Fragment) where
     reopens_if may = (
       λ h. (list.kind.now, listed.kind, may, listed.end ∙ ap Some (not_unfinished list.unfinished h)),
       λ (own, of, also, ends).
-        let d : Some list.unfinished ≡ Some false = sym listed.end ∙ ends in
-        let finished : list.unfinished ≡ false = cc in
-        ap not finished,
+          let d : Some list.unfinished ≡ Some false = sym listed.end ∙ ends in
+          let finished : list.unfinished ≡ false = cc in
+          ap not finished,
     )
 
     pub reopens_not : list.kind.now.unfinished ≡ false → IsTrue list.kind.now.unfinished ↔ MayReopen def node

@@ -33,7 +33,10 @@ returns-in_default-2 c =
     let def = c.args.language.now.definition in
     let at = read_at c.as_slice.result.now def.operators c.in-Some.op c.index-as_slice-op.result c.as_slice.ensures (operator_there def c.in-Some.op c.as_str.result.now c.in-Some.ensures.found) c.index-as_slice-op.is ∙ ap Some c.index-as_slice-op.is in
     inr (inr (
-      refl, c.in-Some.op, c.in-Some.ensures.found ∙ ap Some c.as_str.ensures, (get_or c.as_slice.result.now c.in-Some.op c.index-as_slice-op.result, at, c.if-as_slice-op.false),
+      refl,
+      c.in-Some.op,
+      c.in-Some.ensures.found ∙ ap Some c.as_str.ensures,
+      (get_or c.as_slice.result.now c.in-Some.op c.index-as_slice-op.result, at, c.if-as_slice-op.false),
       λ leaves gives. none_in ((xs : List PlainLeaf) → GivesLeaves def c.in-Some.op c.as_str-2.result.now xs → ⊥) c.in_ok-leaves.field-0 c.in_default-2.is c.in_ok-leaves.ensures.none leaves
           (subst (λ t. GivesLeaves def c.in-Some.op t leaves) (sym c.as_str-2.ensures) gives),
     ))

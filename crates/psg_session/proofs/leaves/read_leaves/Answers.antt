@@ -14,7 +14,7 @@ pub returns-in_default-clause-none : goal.returns-in_default-clause-none
 returns-in_default-clause-none c =
     without_leaves c.args.language.now c.requires.language c.args.op c.args.arguments.now c.in-Ok.tokens.items c.in-Ok.ensures.ok
     (λ xs e. none_in ((ys : List PlainLeaf) → map given c.as_slice.result.now ≡ map Some ys → ⊥) c.in_ok-leaves.field-0 c.in_default.is c.in_ok-leaves.ensures.none xs
-        (ap (map given) c.as_slice.ensures.value ∙ e))
+    (ap (map given) c.as_slice.ensures.value ∙ e))
 
 pub are_leaves-requires-clause-words : goal.are_leaves-requires-clause-words
 are_leaves-requires-clause-words c =
