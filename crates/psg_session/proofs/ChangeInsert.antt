@@ -40,8 +40,10 @@ module _ (def : Definition) (e : Editor) (place : Where) (k : ℕ) (name : Name)
       (no_place ∷ unknown ∷ other_phylum ∷ arguments ∷ deep ∷ big ∷ wide ∷ heavy ∷ inadmissible ∷ []) n refl refl none
 
   module _ (f : Found) (found : IsFound e place f) where
-    insert_no_place : HasNoPlace k (plain f.held.now) f.node.now → IsPlan def e (Insert place k name args) Grows (RefusedBy 7)
-    insert_no_place none = λ s same. refusal_plan def s (Insert place k name args) Grows (nothing_opened ∷ no_node ∷ [])
+    insert_no_place : HasNoPlace k (plain f.held.now) f.node.now
+        → IsPlan def e (Insert place k name args) Grows (RefusedBy 7)
+    insert_no_place none =
+        λ s same. refusal_plan def s (Insert place k name args) Grows (nothing_opened ∷ no_node ∷ [])
         (unknown ∷ other_phylum ∷ arguments ∷ deep ∷ big ∷ wide ∷ heavy ∷ inadmissible ∷ []) no_place 7 refl
         (found_before def e s same place f found (Insert place k name args) refl)
         (has_node def e s same place f found (HasNoPlace k) none) refl
@@ -59,7 +61,8 @@ module _ (def : Definition) (e : Editor) (place : Where) (k : ℕ) (name : Name)
       wanted = (list.kind.now, listed.kind, refl)
 
       only_wanted : (q : ℕ) → IsWanted def (Some k) f.node.now q → q ≡ list.kind.now.element
-      only_wanted q (other, is_list, is) = is ∙ ap (λ (x : ListKind). x.element) (one_list_kind def f.node.now other list.kind.now is_list listed.kind)
+      only_wanted q (other, is_list, is) = is
+          ∙ ap (λ (x : ListKind). x.element) (one_list_kind def f.node.now other list.kind.now is_list listed.kind)
 
       module _ (sound : IsSound def) (within : k ≤ list.elements) where
         module _ (s : State) (same : Represents e s) where
@@ -74,54 +77,89 @@ module _ (def : Definition) (e : Editor) (place : Where) (k : ℕ) (name : Name)
             has_name : NoneOf def s (Insert place k name args) (no_place ∷ unknown ∷ [])
             has_name = (has_place.0, ((λ h. h o named), tt))
 
-            has_phylum : IsOfPhylum def o list.kind.now.element → NoneOf def s (Insert place k name args) (no_place ∷ unknown ∷ other_phylum ∷ [])
-            has_phylum of = (has_place.0, ((λ h. h o named), ((λ h. not_other def e s same place f found sound (Some k) list.kind.now.element wanted only_wanted name args o named of h), tt)))
+            has_phylum : IsOfPhylum def o list.kind.now.element
+                → NoneOf def s (Insert place k name args) (no_place ∷ unknown ∷ other_phylum ∷ [])
+            has_phylum of = (
+              has_place.0,
+              (
+                (λ h. h o named),
+                (
+                  (λ h. not_other def e s same place f found sound (Some k) list.kind.now.element wanted only_wanted
+                      name args o named of h),
+                  tt,
+                ),
+              ),
+            )
 
         -- there is no such operator with these leaves
-        pub insert_refused : (n : ℕ) → IsFreshAnswer def list.kind.now.element name args (Err n) → IsPlan def e (Insert place k name args) Grows (RefusedBy n)
-        insert_refused n (inl (number, never)) = λ s same. refusal_plan def s (Insert place k name args) Grows (nothing_opened ∷ no_node ∷ no_place ∷ [])
+        pub insert_refused : (n : ℕ) → IsFreshAnswer def list.kind.now.element name args (Err n)
+            → IsPlan def e (Insert place k name args) Grows (RefusedBy n)
+        insert_refused n (inl (number, never)) =
+            λ s same. refusal_plan def s (Insert place k name args) Grows (nothing_opened ∷ no_node ∷ no_place ∷ [])
             (other_phylum ∷ arguments ∷ deep ∷ big ∷ wide ∷ heavy ∷ inadmissible ∷ []) unknown n refl
-            (early_none def e s same place f found (Insert place k name args) (no_place ∷ []) refl (has_place s same)) never number
-        insert_refused n (inr (inl (number, o, named, never))) = λ s same. refusal_plan def s (Insert place k name args) Grows (nothing_opened ∷ no_node ∷ no_place ∷ unknown ∷ [])
+            (early_none def e s same place f found (Insert place k name args) (no_place ∷ []) refl (has_place s same))
+            never number
+        insert_refused n (inr (inl (number, o, named, never))) =
+            λ s same. refusal_plan def s (Insert place k name args) Grows
+            (nothing_opened ∷ no_node ∷ no_place ∷ unknown ∷ [])
             (arguments ∷ deep ∷ big ∷ wide ∷ heavy ∷ inadmissible ∷ []) other_phylum n refl
-            (early_none def e s same place f found (Insert place k name args) (no_place ∷ unknown ∷ []) refl (has_name s same o named))
-            (is_other def e s same place f found sound (Some k) list.kind.now.element wanted only_wanted name args o named never) number
-        insert_refused n (inr (inr (number, o, named, of, never))) = λ s same. refusal_plan def s (Insert place k name args) Grows (nothing_opened ∷ no_node ∷ no_place ∷ unknown ∷ other_phylum ∷ [])
+            (early_none def e s same place f found (Insert place k name args) (no_place ∷ unknown ∷ []) refl
+            (has_name s same o named))
+            (is_other def e s same place f found sound (Some k) list.kind.now.element wanted only_wanted name args o
+            named never) number
+        insert_refused n (inr (inr (number, o, named, of, never))) =
+            λ s same. refusal_plan def s (Insert place k name args) Grows
+            (nothing_opened ∷ no_node ∷ no_place ∷ unknown ∷ other_phylum ∷ [])
             (deep ∷ big ∷ wide ∷ heavy ∷ inadmissible ∷ []) arguments n refl
-            (early_none def e s same place f found (Insert place k name args) (no_place ∷ unknown ∷ other_phylum ∷ []) refl (has_phylum s same o named of))
-            (gives_none def e s same place f found sound (Some k) list.kind.now.element wanted only_wanted name args o named never) number
+            (early_none def e s same place f found (Insert place k name args) (no_place ∷ unknown ∷ other_phylum ∷ [])
+            refl (has_phylum s same o named of))
+            (gives_none def e s same place f found sound (Some k) list.kind.now.element wanted only_wanted name args o
+            named never) number
 
-        inserted_once : (s : State) (same : Represents e s) (o : ℕ) (leaves : List Leaf) → IsOperator def o name → GivesLeaves def o args leaves → (other : Fragment)
-            → Gives def s (Insert place k name args) other → other ≡ with_operator def f.held.now.note.tree (named_path place s.cursor) (Some k) o leaves
+        inserted_once : (s : State) (same : Represents e s) (o : ℕ) (leaves : List Leaf) → IsOperator def o name
+            → GivesLeaves def o args leaves → (other : Fragment)
+            → Gives def s (Insert place k name args) other
+            → other ≡ with_operator def f.held.now.note.tree (named_path place s.cursor) (Some k) o leaves
         inserted_once s same o leaves named gives other (by_change (by_insert old x others opened also given)) =
-            ap (λ y. with_operator def y.tree (named_path place s.cursor) (Some k) x others) (same_old def e s same place f found old opened)
-            ∙ ap (λ y. with_operator def f.held.now.note.tree (named_path place s.cursor) (Some k) y others) (one_operator def sound x o name also named)
-            ∙ ap (with_operator def f.held.now.note.tree (named_path place s.cursor) (Some k) o) (one_list def x o args others leaves given gives)
+            ap (λ y. with_operator def y.tree (named_path place s.cursor) (Some k) x others)
+            (same_old def e s same place f found old opened)
+            ∙ ap (λ y. with_operator def f.held.now.note.tree (named_path place s.cursor) (Some k) y others)
+            (one_operator def sound x o name also named)
+            ∙ ap (with_operator def f.held.now.note.tree (named_path place s.cursor) (Some k) o)
+            (one_list def x o args others leaves given gives)
 
         -- the operator is a new element
-        pub insert_made : (fresh : Fragment) → IsFreshAnswer def list.kind.now.element name args (Ok fresh) → (m : Made)
+        pub insert_made : (fresh : Fragment) → IsFreshAnswer def list.kind.now.element name args (Ok fresh)
+            → (m : Made)
             → m.tree ≡ change_at (inserted k fresh) f.path.now f.held.now.note.tree → m.path ≡ f.path.now ++ k ∷ []
             → IsPlan def e (Insert place k name args) Grows (Plans m)
         insert_made fresh (o, leaves, named, of, gives, is_fresh) m tree path = λ s same.
             let here : named_path place s.cursor ≡ f.path.now = path_is def e s same place f found in
-            let result : with_operator def f.held.now.note.tree (named_path place s.cursor) (Some k) o leaves ≡ m.tree =
-            ap (λ q. with_operator def f.held.now.note.tree q (Some k) o leaves) here ∙ ap (λ t. change_at (inserted k t) f.path.now f.held.now.note.tree) (sym is_fresh) ∙ sym tree in
+            let result : with_operator def f.held.now.note.tree (named_path place s.cursor) (Some k) o leaves
+            ≡ m.tree =
+            ap (λ q. with_operator def f.held.now.note.tree q (Some k) o leaves) here
+            ∙ ap (λ t. change_at (inserted k t) f.path.now f.held.now.note.tree) (sym is_fresh) ∙ sym tree in
             record {
               early = nothing_opened ∷ no_node ∷ no_place ∷ unknown ∷ other_phylum ∷ arguments ∷ [];
               tests = refl;
-              none = early_none def e s same place f found (Insert place k name args) (no_place ∷ unknown ∷ other_phylum ∷ arguments ∷ []) refl
-                  (let h = has_phylum s same o named of in (h.0, (h.1.0, (h.1.1.0, ((λ none. none o leaves named gives), tt)))));
-              makes = subst (λ q. Makes def s (Insert place k name args) m.tree q) (ap (λ q. q ++ k ∷ []) here ∙ sym path)
+              none = early_none def e s same place f found (Insert place k name args)
+                  (no_place ∷ unknown ∷ other_phylum ∷ arguments ∷ []) refl
+                  (let h = has_phylum s same o named of in
+                  (h.0, (h.1.0, (h.1.1.0, ((λ none. none o leaves named gives), tt)))));
+              makes = subst (λ q. Makes def s (Insert place k name args) m.tree q)
+                  (ap (λ q. q ++ k ∷ []) here ∙ sym path)
                   (subst (λ t. Makes def s (Insert place k name args) t (named_path place s.cursor ++ k ∷ [])) result
                   (by_insert (plain f.held.now) o leaves (opened_is def e s same place f found) named gives));
               only = λ other given. inserted_once s same o leaves named gives other given ∙ result;
             }
 
   -- the list stays of its kind
-  pub insert_keeps : IsSound def → (node : Fragment) (list : Listed) → IsListed def node list → (fresh : Fragment) → IsFreshAnswer def list.kind.now.element name args (Ok fresh)
+  pub insert_keeps : IsSound def → (node : Fragment) (list : Listed) → IsListed def node list → (fresh : Fragment)
+      → IsFreshAnswer def list.kind.now.element name args (Ok fresh)
       → (K : Kind) → IsShaped def node K → IsShaped def (inserted k fresh node) K
   insert_keeps sound node list listed fresh answer K shaped =
       let (l, of, at) = listed.kind in
       let is : K ≡ kinds.List l = kind_is def node K (kinds.List l) shaped of in
       subst (IsShaped def (inserted k fresh node)) (sym is)
-      (inserted_shaped def k fresh node l list.kind.now (subst (IsShaped def node) is shaped) at (answer_shaped def sound list.kind.now.element name args fresh answer))
+      (inserted_shaped def k fresh node l list.kind.now (subst (IsShaped def node) is shaped) at
+      (answer_shaped def sound list.kind.now.element name args fresh answer))

@@ -26,12 +26,17 @@ HasNoElement k old node = (IsList node → ⊥) ⊎ (length (children_of node) �
 module _ (def : Definition) (e : Editor) (place : Where) (k : ℕ) where
   -- nothing is opened, or there is no node
   pub remove_nowhere : (n : ℕ) → IsNotFound e place n → IsPlan def e (Remove place k) Loosens (RefusedBy n)
-  remove_nowhere n none = λ s same. not_found_plan def e s same place (Remove place k) Loosens (no_place ∷ wide ∷ heavy ∷ []) n refl refl none
+  remove_nowhere n none =
+      λ s same. not_found_plan def e s same place (Remove place k) Loosens (no_place ∷ wide ∷ heavy ∷ []) n refl refl
+      none
 
   module _ (f : Found) (found : IsFound e place f) where
     remove_none : HasNoElement k (plain f.held.now) f.node.now → IsPlan def e (Remove place k) Loosens (RefusedBy 7)
-    remove_none none = λ s same. refusal_plan def s (Remove place k) Loosens (nothing_opened ∷ no_node ∷ []) (wide ∷ heavy ∷ []) no_place 7 refl
-        (found_before def e s same place f found (Remove place k) refl) (has_node def e s same place f found (HasNoElement k) none) refl
+    remove_none none =
+        λ s same. refusal_plan def s (Remove place k) Loosens (nothing_opened ∷ no_node ∷ []) (wide ∷ heavy ∷ [])
+        no_place 7 refl
+        (found_before def e s same place f found (Remove place k) refl)
+        (has_node def e s same place f found (HasNoElement k) none) refl
 
     -- the node is no list
     pub remove_no_list : (IsList f.node.now → ⊥) → IsPlan def e (Remove place k) Loosens (RefusedBy 7)
@@ -42,24 +47,33 @@ module _ (def : Definition) (e : Editor) (place : Where) (k : ℕ) where
       pub remove_behind : list.elements ≤ k → IsPlan def e (Remove place k) Loosens (RefusedBy 7)
       remove_behind less = remove_none (inr (let same = listed.elements in omega (arith, same, less)))
 
-      removed_once : (s : State) (same : Represents e s) (other : Fragment) → Gives def s (Remove place k) other → other ≡ change_at (removed k) (named_path place s.cursor) f.held.now.note.tree
-      removed_once s same other (by_change (by_remove old opened)) = ap (λ x. change_at (removed k) (named_path place s.cursor) x.tree) (same_old def e s same place f found old opened)
+      removed_once : (s : State) (same : Represents e s) (other : Fragment) → Gives def s (Remove place k) other
+          → other ≡ change_at (removed k) (named_path place s.cursor) f.held.now.note.tree
+      removed_once s same other (by_change (by_remove old opened)) =
+          ap (λ x. change_at (removed k) (named_path place s.cursor) x.tree)
+          (same_old def e s same place f found old opened)
 
       no_bad_place : k < list.elements → HasNoElement k (plain f.held.now) f.node.now → ⊥
       no_bad_place within (inl never) = never listed.is_list
       no_bad_place within (inr less) = let same = listed.elements in absurd (omega (arith, same, less, within))
 
       -- the list is without the element
-      pub remove_made : k < list.elements → (m : Made) → m.tree ≡ change_at (removed k) f.path.now f.held.now.note.tree → m.path ≡ f.path.now → IsPlan def e (Remove place k) Loosens (Plans m)
+      pub remove_made : k < list.elements → (m : Made)
+          → m.tree ≡ change_at (removed k) f.path.now f.held.now.note.tree → m.path ≡ f.path.now
+          → IsPlan def e (Remove place k) Loosens (Plans m)
       remove_made within m tree path = λ s same.
           let here : named_path place s.cursor ≡ f.path.now = path_is def e s same place f found in
-          let result : change_at (removed k) (named_path place s.cursor) f.held.now.note.tree ≡ m.tree = ap (λ q. change_at (removed k) q f.held.now.note.tree) here ∙ sym tree in
-          let usual : NoneOf def s (Remove place k) (no_place ∷ []) = ((λ h. no_bad_place within (at_node def e s same place f found (HasNoElement k) h)), tt) in
+          let result : change_at (removed k) (named_path place s.cursor) f.held.now.note.tree
+          ≡ m.tree = ap (λ q. change_at (removed k) q f.held.now.note.tree) here ∙ sym tree in
+          let usual : NoneOf def s (Remove place k)
+          (no_place ∷ []) =
+          ((λ h. no_bad_place within (at_node def e s same place f found (HasNoElement k) h)), tt) in
           record {
             early = nothing_opened ∷ no_node ∷ no_place ∷ [];
             tests = refl;
             none = early_none def e s same place f found (Remove place k) (no_place ∷ []) refl usual;
             makes = subst (λ q. Makes def s (Remove place k) m.tree q) (here ∙ sym path)
-                (subst (λ t. Makes def s (Remove place k) t (named_path place s.cursor)) result (by_remove (plain f.held.now) (opened_is def e s same place f found)));
+                (subst (λ t. Makes def s (Remove place k) t (named_path place s.cursor)) result
+                (by_remove (plain f.held.now) (opened_is def e s same place f found)));
             only = λ other given. removed_once s same other given ∙ result;
           }

@@ -27,7 +27,9 @@ use Rattle.psg_session.specs.declared.changes.Listed.{Listed}
 module _ (def : Definition) (e : Editor) (place : Where) where
   -- nothing is opened, or there is no node
   pub reopen_nowhere : (n : ℕ) → IsNotFound e place n → IsPlan def e (Reopen place) Loosens (RefusedBy n)
-  reopen_nowhere n none = λ s same. not_found_plan def e s same place (Reopen place) Loosens (no_place ∷ wide ∷ heavy ∷ []) n refl refl none
+  reopen_nowhere n none =
+      λ s same. not_found_plan def e s same place (Reopen place) Loosens (no_place ∷ wide ∷ heavy ∷ []) n refl refl
+      none
 
   abbrev MayNot : Opened → Fragment → Type 0
   MayNot old node = MayReopen def node → ⊥
@@ -35,32 +37,45 @@ module _ (def : Definition) (e : Editor) (place : Where) where
   module _ (f : Found) (found : IsFound e place f) where
     -- the node is no finished list that may be unfinished
     pub reopen_refused : (MayReopen def f.node.now → ⊥) → IsPlan def e (Reopen place) Loosens (RefusedBy 7)
-    reopen_refused never = λ s same. refusal_plan def s (Reopen place) Loosens (nothing_opened ∷ no_node ∷ []) (wide ∷ heavy ∷ []) no_place 7 refl
-        (found_before def e s same place f found (Reopen place) refl) (has_node def e s same place f found MayNot never) refl
+    reopen_refused never =
+        λ s same. refusal_plan def s (Reopen place) Loosens (nothing_opened ∷ no_node ∷ []) (wide ∷ heavy ∷ [])
+        no_place 7 refl
+        (found_before def e s same place f found (Reopen place) refl)
+        (has_node def e s same place f found MayNot never) refl
 
-    reopened_once : (s : State) (same : Represents e s) (other : Fragment) → Gives def s (Reopen place) other → other ≡ change_at (ended true) (named_path place s.cursor) f.held.now.note.tree
-    reopened_once s same other (by_change (by_reopen old opened)) = ap (λ x. change_at (ended true) (named_path place s.cursor) x.tree) (same_old def e s same place f found old opened)
+    reopened_once : (s : State) (same : Represents e s) (other : Fragment) → Gives def s (Reopen place) other
+        → other ≡ change_at (ended true) (named_path place s.cursor) f.held.now.note.tree
+    reopened_once s same other (by_change (by_reopen old opened)) =
+        ap (λ x. change_at (ended true) (named_path place s.cursor) x.tree)
+        (same_old def e s same place f found old opened)
 
     -- the list is unfinished
-    pub reopen_made : MayReopen def f.node.now → (m : Made) → m.tree ≡ change_at (ended true) f.path.now f.held.now.note.tree → m.path ≡ f.path.now → IsPlan def e (Reopen place) Loosens (Plans m)
+    pub reopen_made : MayReopen def f.node.now → (m : Made)
+        → m.tree ≡ change_at (ended true) f.path.now f.held.now.note.tree → m.path ≡ f.path.now
+        → IsPlan def e (Reopen place) Loosens (Plans m)
     reopen_made may m tree path = λ s same.
         let here : named_path place s.cursor ≡ f.path.now = path_is def e s same place f found in
-        let result : change_at (ended true) (named_path place s.cursor) f.held.now.note.tree ≡ m.tree = ap (λ q. change_at (ended true) q f.held.now.note.tree) here ∙ sym tree in
-        let usual : NoneOf def s (Reopen place) (no_place ∷ []) = ((λ h. at_node def e s same place f found MayNot h may), tt) in
+        let result : change_at (ended true) (named_path place s.cursor) f.held.now.note.tree
+        ≡ m.tree = ap (λ q. change_at (ended true) q f.held.now.note.tree) here ∙ sym tree in
+        let usual : NoneOf def s (Reopen place)
+        (no_place ∷ []) = ((λ h. at_node def e s same place f found MayNot h may), tt) in
         record {
           early = nothing_opened ∷ no_node ∷ no_place ∷ [];
           tests = refl;
           none = early_none def e s same place f found (Reopen place) (no_place ∷ []) refl usual;
           makes = subst (λ q. Makes def s (Reopen place) m.tree q) (here ∙ sym path)
-              (subst (λ t. Makes def s (Reopen place) t (named_path place s.cursor)) result (by_reopen (plain f.held.now) (opened_is def e s same place f found)));
+              (subst (λ t. Makes def s (Reopen place) t (named_path place s.cursor)) result
+              (by_reopen (plain f.held.now) (opened_is def e s same place f found)));
           only = λ other given. reopened_once s same other given ∙ result;
         }
 
 -- a list that may be unfinished stays of its kind
-pub reopen_keeps : (def : Definition) (node : Fragment) → MayReopen def node → (K : Kind) → IsShaped def node K → IsShaped def (ended true node) K
+pub reopen_keeps : (def : Definition) (node : Fragment) → MayReopen def node → (K : Kind) → IsShaped def node K
+    → IsShaped def (ended true node) K
 reopen_keeps def node (own, (l, of, at), may, ends) K shaped =
     let is : K ≡ kinds.List l = kind_is def node K (kinds.List l) shaped of in
-    subst (IsShaped def (ended true node)) (sym is) (ended_shaped def true node l own (subst (IsShaped def node) is shaped) at (λ e. may))
+    subst (IsShaped def (ended true node)) (sym is)
+    (ended_shaped def true node l own (subst (IsShaped def node) is shaped) at (λ e. may))
 
 not_unfinished : (b : Bool) → IsTrue (not b) → b ≡ false
 not_unfinished true h = absurd (true≢false (sym h))
@@ -72,7 +87,8 @@ module _ (def : Definition) (node : Fragment) where
   pub unfinished_by : (list : Listed) → IsListed def node list → IsTrue list.unfinished ↔ (end_of node ≡ Some true)
   unfinished_by list listed = (
     λ h. listed.end ∙ ap Some h,
-    λ ends. let d : Some list.unfinished ≡ Some true = sym listed.end ∙ ends in let is : list.unfinished ≡ true = cc in is,
+    λ ends. let d : Some list.unfinished ≡ Some true = sym listed.end
+        ∙ ends in let is : list.unfinished ≡ true = cc in is,
   )
 
   pub no_end : (IsList node → ⊥) → IsTrue false ↔ (end_of node ≡ Some true)
@@ -91,8 +107,12 @@ module _ (def : Definition) (node : Fragment) where
     pub reopens_not : list.kind.now.unfinished ≡ false → IsTrue list.kind.now.unfinished ↔ MayReopen def node
     reopens_not never = (
       λ h. absurd (true≢false (sym h ∙ never)),
-      λ (own, of, may, ends). absurd (true≢false (sym may ∙ ap (λ (x : ListKind). x.unfinished) (one_list_kind def node own list.kind.now of listed.kind) ∙ never)),
+      λ (own, of, may, ends). absurd
+          (true≢false
+          (sym may ∙ ap (λ (x : ListKind). x.unfinished) (one_list_kind def node own list.kind.now of listed.kind)
+          ∙ never)),
     )
 
   pub never_reopens : (IsList node → ⊥) → IsTrue false ↔ MayReopen def node
-  never_reopens never = (λ h. absurd (true≢false (sym h)), λ (own, of, may, ends). absurd (never (end_is_list def node false ends)))
+  never_reopens never =
+      (λ h. absurd (true≢false (sym h)), λ (own, of, may, ends). absurd (never (end_is_list def node false ends)))

@@ -38,9 +38,11 @@ pub drop_here : {X : Type 0} (xs : List X) (n : ℕ) (x : X) → slice_get xs n 
 drop_here xs n x e = drop_from xs n x e ∙ ap (λ k. x ∷ drop k xs) (sym (add-one n))
 
 -- the word of the leaf at a place
-pub word_at : (leaves : List Leaf) (n : ℕ) (x : Leaf) → slice_get leaves n ≡ Some x → AllByRecursion HasWord (map plain_leaf leaves) → HasWord (plain_leaf x)
+pub word_at : (leaves : List Leaf) (n : ℕ) (x : Leaf) → slice_get leaves n ≡ Some x
+    → AllByRecursion HasWord (map plain_leaf leaves) → HasWord (plain_leaf x)
 word_at [] n x e h = absurd (none-some x e)
-word_at (y ∷ leaves) zero x e h = let d : Some y ≡ Some x = e in let same : y ≡ x = cc in subst (λ z. HasWord (plain_leaf z)) same h.0
+word_at (y ∷ leaves) zero x e h = let d : Some y ≡ Some x = e in let same : y ≡ x = cc in
+    subst (λ z. HasWord (plain_leaf z)) same h.0
 word_at (y ∷ leaves) (suc n) x e h = word_at leaves n x e h.1
 
 module _ (def : Definition) where
@@ -82,7 +84,8 @@ module _ (def : Definition) where
   leaf_missing items.Out rest e h = true≢false (sym e)
 
   -- another item takes none
-  leaf_skipped : (i : Item) (rest : List Item) (xs : List PlainLeaf) → has_leaf i ≡ false → AreLeaves def (part_items (i ∷ rest)) xs ↔ AreLeaves def (part_items rest) xs
+  leaf_skipped : (i : Item) (rest : List Item) (xs : List PlainLeaf) → has_leaf i ≡ false
+      → AreLeaves def (part_items (i ∷ rest)) xs ↔ AreLeaves def (part_items rest) xs
   leaf_skipped (items.Slot k) rest xs e = (λ h. h, λ h. h)
   leaf_skipped (items.Word w) rest xs e = (λ h. h, λ h. h)
   leaf_skipped items.Space rest xs e = (λ h. h, λ h. h)
@@ -97,13 +100,18 @@ module _ (def : Definition) where
 
   -- ---- the next leaf
 
-  pub none_taken : (leaves : List Leaf) (n : ℕ) (i : Item) → n ≤ length leaves → has_leaf i ≡ false → IsNextLeaf def leaves n i (Some n)
+  pub none_taken : (leaves : List Leaf) (n : ℕ) (i : Item) → n ≤ length leaves → has_leaf i ≡ false
+      → IsNextLeaf def leaves n i (Some n)
   none_taken leaves n i le e = (le, λ rest. leaf_skipped i rest (map plain_leaf (drop n leaves)) e)
 
-  pub none_left : (leaves : List Leaf) (n : ℕ) (i : Item) → has_leaf i ≡ true → slice_get leaves n ≡ None → IsNextLeaf def leaves n i None
-  none_left leaves n i e at = λ rest h. leaf_missing i rest e (subst (λ xs. AreLeaves def (part_items (i ∷ rest)) (map plain_leaf xs)) (drop_past leaves n at) h)
+  pub none_left : (leaves : List Leaf) (n : ℕ) (i : Item) → has_leaf i ≡ true → slice_get leaves n ≡ None
+      → IsNextLeaf def leaves n i None
+  none_left leaves n i e at =
+      λ rest h. leaf_missing i rest e
+      (subst (λ xs. AreLeaves def (part_items (i ∷ rest)) (map plain_leaf xs)) (drop_past leaves n at) h)
 
-  module _ (leaves : List Leaf) (n : ℕ) (i : Item) (x : Leaf) (e : has_leaf i ≡ true) (at : slice_get leaves n ≡ Some x) where
+  module _ (leaves : List Leaf) (n : ℕ) (i : Item) (x : Leaf) (e : has_leaf i ≡ true)
+      (at : slice_get leaves n ≡ Some x) where
     at_leaf : (rest : List Item) → AreLeaves def (part_items (i ∷ rest)) (map plain_leaf (drop n leaves))
         ↔ (Suits def i (plain_leaf x) × AreLeaves def (part_items rest) (map plain_leaf (drop (n + 1) leaves)))
     at_leaf rest =
@@ -124,13 +132,16 @@ module _ (def : Definition) where
 
   -- no item is left
   pub leaves_end : (leaves : List Leaf) (n : ℕ) → n ≤ length leaves
-      → (n == length leaves ≡ true → AreLeaves def [] (map plain_leaf (drop n leaves))) × (AreLeaves def [] (map plain_leaf (drop n leaves)) → n == length leaves ≡ true)
+      → (n == length leaves ≡ true → AreLeaves def [] (map plain_leaf (drop n leaves)))
+      × (AreLeaves def [] (map plain_leaf (drop n leaves)) → n == length leaves ≡ true)
   leaves_end leaves n h = (
     λ e. subst (λ xs. AreLeaves def [] (map plain_leaf xs)) (sym (drop_all n leaves (at_end e))) tt,
-    λ f. elim (eqb_tells n (length leaves)) [ inl q ↦ q.0 | inr q ↦ absurd (left (drop n leaves) f (omega (arith, length-drop n leaves, h, q.1))) ],
+    λ f. elim (eqb_tells n (length leaves))
+        [ inl q ↦ q.0 | inr q ↦ absurd (left (drop n leaves) f (omega (arith, length-drop n leaves, h, q.1))) ],
   ) where
     at_end : n == length leaves ≡ true → length leaves ≤ n
-    at_end e = elim (eqb_tells n (length leaves)) [ inl q ↦ omega (arith, q.1) | inr q ↦ absurd (true≢false (sym e ∙ q.0)) ]
+    at_end e =
+        elim (eqb_tells n (length leaves)) [ inl q ↦ omega (arith, q.1) | inr q ↦ absurd (true≢false (sym e ∙ q.0)) ]
 
     left : (xs : List Leaf) → AreLeaves def [] (map plain_leaf xs) → 0 < length xs → ⊥
     left [] f h = absurd (omega (arith, h))

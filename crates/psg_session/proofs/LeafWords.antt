@@ -24,7 +24,8 @@ use Rattle.psg_session.specs.Views.{plain_leaf}
 -- ---- lists of leaves
 
 -- a token that is no leaf
-pub no_leaf : (t : Token) → ((w : Name) → t ≡ tokens.Word w → ⊥) → ((n : ℕ) → t ≡ tokens.Number n → ⊥) → ((s : List ℕ) → t ≡ tokens.Text s → ⊥)
+pub no_leaf : (t : Token) → ((w : Name) → t ≡ tokens.Word w → ⊥) → ((n : ℕ) → t ≡ tokens.Number n → ⊥)
+    → ((s : List ℕ) → t ≡ tokens.Text s → ⊥)
     → (x : PlainLeaf) → leaf_of t ≡ Some x → ⊥
 no_leaf (tokens.Word w) a b d x e = a w refl
 no_leaf (tokens.Number n) a b d x e = b n refl
@@ -35,16 +36,19 @@ no_leaf (tokens.Hole s) a b d x e = none-some x e
 no_leaf tokens.More a b d x e = none-some x e
 
 -- one more token that is a leaf
-pub one_more : (ts : List Spanned) (i : ℕ) (s : Spanned) (leaves : List Leaf) (x : Leaf) → i < length ts → s ≡ get_or ts i s
+pub one_more : (ts : List Spanned) (i : ℕ) (s : Spanned) (leaves : List Leaf) (x : Leaf) → i < length ts
+    → s ≡ get_or ts i s
     → map given (take i ts) ≡ map Some (map plain_leaf leaves) → given s ≡ Some (plain_leaf x)
     → map given (take (i + 1) ts) ≡ map Some (map plain_leaf (leaves ++ x ∷ []))
 one_more ts i s leaves x lt at before is =
     ap (map given) (take_more ts i s lt) ∙ map-append given (take i ts) (get_or ts i s ∷ [])
     ∙ ap₂ (λ a b. a ++ b ∷ []) before (ap given (sym at) ∙ is)
-    ∙ sym (ap (map Some) (map-append plain_leaf leaves (x ∷ [])) ∙ map-append Some (map plain_leaf leaves) (plain_leaf x ∷ []))
+    ∙ sym (ap (map Some) (map-append plain_leaf leaves (x ∷ []))
+    ∙ map-append Some (map plain_leaf leaves) (plain_leaf x ∷ []))
 
 -- a token that is no leaf is among no list of leaves
-pub none_with : (ts : List Spanned) (i : ℕ) (s : Spanned) → i < length ts → s ≡ get_or ts i s → ((x : PlainLeaf) → given s ≡ Some x → ⊥)
+pub none_with : (ts : List Spanned) (i : ℕ) (s : Spanned) → i < length ts → s ≡ get_or ts i s
+    → ((x : PlainLeaf) → given s ≡ Some x → ⊥)
     → (xs : List PlainLeaf) → map given ts ≡ map Some xs → ⊥
 none_with [] i s lt at never xs e = absurd (omega (arith, lt))
 none_with (t ∷ ts) i s lt at never [] e = let d : given t ∷ map given ts ≡ [] = e in cc
@@ -75,14 +79,17 @@ both false b e f = absurd (true≢false (sym e))
 
 front_scalars : (xs ys : Chars) → all_scalars (xs ++ ys) ≡ true → all_scalars xs ≡ true
 front_scalars [] ys h = refl
-front_scalars (x ∷ xs) ys h = both (scalar x) (all_scalars xs) (first_so (scalar x) (all_scalars (xs ++ ys)) h) (front_scalars xs ys (second_so (scalar x) (all_scalars (xs ++ ys)) h))
+front_scalars (x ∷ xs) ys h =
+    both (scalar x) (all_scalars xs) (first_so (scalar x) (all_scalars (xs ++ ys)) h)
+    (front_scalars xs ys (second_so (scalar x) (all_scalars (xs ++ ys)) h))
 
 rest_scalars : (xs ys : Chars) → all_scalars (xs ++ ys) ≡ true → all_scalars ys ≡ true
 rest_scalars [] ys h = h
 rest_scalars (x ∷ xs) ys h = rest_scalars xs ys (second_so (scalar x) (all_scalars (xs ++ ys)) h)
 
 module _ (fixed : List Name) where
-  word_of : {front rest : Chars} {t : Token} → IsToken fixed front rest t → all_scalars front ≡ true → (x : PlainLeaf) → leaf_of t ≡ Some x → HasWord x
+  word_of : {front rest : Chars} {t : Token} → IsToken fixed front rest t → all_scalars front ≡ true → (x : PlainLeaf)
+      → leaf_of t ≡ Some x → HasWord x
   word_of (word cs rest w ends small) s x is =
       let d : Some (a_name (encode_utf8_all cs)) ≡ Some x = is in
       let same : a_name (encode_utf8_all cs) ≡ x = cc in
@@ -100,7 +107,8 @@ module _ (fixed : List Name) where
   word_of (hole cs rest w ends small) s x is = absurd (none-some x is)
   word_of (more rest ends) s x is = absurd (none-some x is)
 
-  words_of : {cs : Chars} {at : ℕ} {ts : List Spanned} → HasTokens fixed cs at ts → all_scalars cs ≡ true → (xs : List PlainLeaf) → map given ts ≡ map Some xs
+  words_of : {cs : Chars} {at : ℕ} {ts : List Spanned} → HasTokens fixed cs at ts → all_scalars cs ≡ true
+      → (xs : List PlainLeaf) → map given ts ≡ map Some xs
       → AllByRecursion HasWord xs
   words_of (nothing at) s [] e = tt
   words_of (nothing at) s (x ∷ xs) e = let d : [] ≡ Some x ∷ map Some xs = e in absurd (cc)
@@ -116,5 +124,6 @@ module _ (fixed : List Name) where
       )
 
   -- the names that a text gives are words
-  pub are_words : (args : List ℕ) (ts : List Spanned) (xs : List PlainLeaf) → IsUtf8 args → HasTokens fixed (chars args) 0 ts → map given ts ≡ map Some xs → AllByRecursion HasWord xs
+  pub are_words : (args : List ℕ) (ts : List Spanned) (xs : List PlainLeaf) → IsUtf8 args
+      → HasTokens fixed (chars args) 0 ts → map given ts ≡ map Some xs → AllByRecursion HasWord xs
   are_words args ts xs utf8 has e = words_of has (scalars-chars args utf8) xs e

@@ -38,9 +38,13 @@ module _ (def : Definition) where
   Suits items.Text leaf = IsTextLeaf leaf
   Suits _ leaf = ⊥
 
-  -- the leaves from the number on are those of the item and the rest, just where those from the next number on are those of the rest
+  -- the leaves from the number on are those of the item and the rest, just where those from the next number on are
+  -- those of the rest
   abbrev pub IsNextLeaf : List Leaf → ℕ → Item → Option ℕ → Type 0
-  IsNextLeaf leaves n i None = (rest : List Item) → AreLeaves def (part_items (i ∷ rest)) (map plain_leaf (drop n leaves)) → ⊥
+  IsNextLeaf leaves n i None = (rest : List Item)
+      → AreLeaves def (part_items (i ∷ rest)) (map plain_leaf (drop n leaves)) → ⊥
   IsNextLeaf leaves n i (Some next) =
       (next ≤ length leaves)
-      × ((rest : List Item) → AreLeaves def (part_items (i ∷ rest)) (map plain_leaf (drop n leaves)) ↔ AreLeaves def (part_items rest) (map plain_leaf (drop next leaves)))
+      × ((rest : List Item)
+      → AreLeaves def (part_items (i ∷ rest)) (map plain_leaf (drop n leaves))
+      ↔ AreLeaves def (part_items rest) (map plain_leaf (drop next leaves)))

@@ -132,7 +132,8 @@ pub fn refine(
 ) -> Result<Plan, AllocError>
     requires language { IsLanguage language.now }
     requires editor { IsEditor language.now.definition editor.now }
-    ensures plan { IfOk result (IsPlan language.now.definition editor.now (commands.Refine place.now name.now arguments.now) Grows) }
+    ensures plan { IfOk result (IsPlan language.now.definition editor.now
+        (commands.Refine place.now name.now arguments.now) Grows) }
     ensures shaped { IfOk result (IsPlanShaped language.now.definition editor.now) }
 {
     let found = match find(editor, place) {
@@ -152,9 +153,9 @@ pub fn refine(
     Ok(Plan::Makes(Made { kind, tree, path }))
 }
 
-/// The operator of the name with the names and literals of the arguments, which is to stand where one of the phylum is wanted;
-/// otherwise the number of the refusal: 4 where no operator has the name, 5 where it is of another phylum, 6 where the arguments
-/// are not its names and literals.
+/// The operator of the name with the names and literals of the arguments, which is to stand where one of the phylum is
+/// wanted; otherwise the number of the refusal: 4 where no operator has the name, 5 where it is of another phylum, 6 where
+/// the arguments are not its names and literals.
 fn fresh_of(
     alloc: Global,
     language: &Language,
@@ -191,7 +192,8 @@ pub fn insert_element(
 ) -> Result<Plan, AllocError>
     requires language { IsLanguage language.now }
     requires editor { IsEditor language.now.definition editor.now }
-    ensures plan { IfOk result (IsPlan language.now.definition editor.now (commands.Insert place.now number name.now arguments.now) Grows) }
+    ensures plan { IfOk result (IsPlan language.now.definition editor.now
+        (commands.Insert place.now number name.now arguments.now) Grows) }
     ensures shaped { IfOk result (IsPlanShaped language.now.definition editor.now) }
 {
     let found = match find(editor, place) {

@@ -58,8 +58,8 @@ fn part_of(leaf: &Leaf) -> Result<Part, AllocError>
     }
 }
 
-/// Puts the item's part behind the others, and gives the number of the next leaf. A part that takes a leaf is left out where
-/// there is none.
+/// Puts the item's part behind the others, and gives the number of the next leaf. A part that takes a leaf is left out
+/// where there is none.
 fn push_part(
     alloc: Global,
     definition: &Definition,
@@ -71,7 +71,8 @@ fn push_part(
     requires { HasSlotKind definition.now item.now }
     ensures { IfOk result (λ next. (f : Fragment) (items : List PlainItem) →
         filled definition.now (with_parts f parts.new.items) (part_items items) (map plain_leaf (drop next leaves.now))
-        ≡ filled definition.now (with_parts f parts.old.items) (part_items (item.now ∷ items)) (map plain_leaf (drop at leaves.now))) }
+        ≡ filled definition.now (with_parts f parts.old.items) (part_items (item.now ∷ items))
+        (map plain_leaf (drop at leaves.now))) }
 {
     if let Item::Slot(kind) = item {
         let child = blank(alloc, definition, *kind)?;

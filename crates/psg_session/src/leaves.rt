@@ -21,8 +21,8 @@ pub enum Leaf {
     Text(Txt),
 }
 
-/// The names and literals that the arguments give to the operator, one for each of its name positions, numbers and texts;
-/// `None` where the arguments have no tokens or their tokens are no such list. It takes the time of the arguments.
+/// The names and literals that the arguments give to the operator, one for each of its name positions, numbers and
+/// texts; `None` where the arguments have no tokens or their tokens are no such list. It takes the time of the arguments.
 pub fn read_leaves(
     alloc: Global,
     language: &Language,
@@ -31,8 +31,10 @@ pub fn read_leaves(
 ) -> Result<Option<Vec<Leaf>>, AllocError>
     requires language { IsLanguage language.now }
     requires found { op < length language.now.definition.operators }
-    ensures some { IfOk result (λ o. IfSome o (λ leaves. GivesLeaves language.now.definition op arguments.now (map plain_leaf leaves.items))) }
-    ensures none { IfOk result (λ o. IfNone o ((leaves : List PlainLeaf) → GivesLeaves language.now.definition op arguments.now leaves → ⊥)) }
+    ensures some { IfOk result (λ o. IfSome o (λ leaves.
+        GivesLeaves language.now.definition op arguments.now (map plain_leaf leaves.items))) }
+    ensures none { IfOk result (λ o. IfNone o ((leaves : List PlainLeaf) →
+        GivesLeaves language.now.definition op arguments.now leaves → ⊥)) }
 {
     let tokens = match lex(alloc, &language.lexis, arguments) {
         Ok(tokens) => tokens,
@@ -79,8 +81,10 @@ fn leaf_of(token: &Token) -> Result<Option<Leaf>, AllocError>
 
 /// The leaves that the tokens are, if each is one.
 fn leaves_of(alloc: Global, tokens: &[Spanned]) -> Result<Option<Vec<Leaf>>, AllocError>
-    ensures some { IfOk result (λ o. IfSome o (λ leaves. map given tokens.now ≡ map Some (map plain_leaf leaves.items))) }
-    ensures none { IfOk result (λ o. IfNone o ((leaves : List PlainLeaf) → map given tokens.now ≡ map Some leaves → ⊥)) }
+    ensures some { IfOk result (λ o. IfSome o (λ leaves.
+        map given tokens.now ≡ map Some (map plain_leaf leaves.items))) }
+    ensures none { IfOk result (λ o. IfNone o ((leaves : List PlainLeaf) →
+        map given tokens.now ≡ map Some leaves → ⊥)) }
 {
     let mut leaves = Vec::new(alloc);
     for spanned in tokens {

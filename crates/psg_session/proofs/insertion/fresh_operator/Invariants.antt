@@ -9,5 +9,6 @@ use Rattle.psg_session.proofs.insertion.fresh_operator.Given as goal
 -- the parts so far, with the items and leaves that are left, make the operator
 abbrev pub invariant-loop-item : goal.invariant-loop-item
 invariant-loop-item l =
-    filled l.definition (with_parts (operator l.op) l.parts.items) (part_items (drop l.item-index l.item-items)) (map plain_leaf (drop l.at l.leaves))
+    filled l.definition (with_parts (operator l.op) l.parts.items) (part_items (drop l.item-index l.item-items))
+    (map plain_leaf (drop l.at l.leaves))
     ≡ filled l.definition (operator l.op) (part_items l.item-items) (map plain_leaf l.leaves)

@@ -7,4 +7,6 @@ use Rattle.psg_session.proofs.insertion.may_be_unfinished.Goals as goal
 pub returns : goal.returns
 returns c =
     ap (λ (k : ListKind). k.unfinished) (sym c.index-as_slice-list.is)
-    ∙ sym (ap may_be_unfinished (read_at c.as_slice.result.now c.args.definition.now.lists c.args.list c.index-as_slice-list.result c.as_slice.ensures c.requires c.index-as_slice-list.is))
+    ∙ sym (ap may_be_unfinished
+    (read_at c.as_slice.result.now c.args.definition.now.lists c.args.list c.index-as_slice-list.result
+    c.as_slice.ensures c.requires c.index-as_slice-list.is))

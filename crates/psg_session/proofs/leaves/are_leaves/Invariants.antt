@@ -8,4 +8,6 @@ use Rattle.psg_session.proofs.leaves.are_leaves.Given as goal
 abbrev pub invariant-loop-item : goal.invariant-loop-item
 invariant-loop-item l =
     (l.at ≤ length l.leaves)
-    × (AreLeaves l.language.definition (part_items l.items) (map plain_leaf l.leaves) ↔ AreLeaves l.language.definition (part_items (drop l.item-index l.items)) (map plain_leaf (drop l.at l.leaves)))
+    × (AreLeaves l.language.definition (part_items l.items) (map plain_leaf l.leaves)
+    ↔ AreLeaves l.language.definition (part_items (drop l.item-index l.items))
+    (map plain_leaf (drop l.at l.leaves)))
