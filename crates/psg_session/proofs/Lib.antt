@@ -8,4 +8,6 @@ pub mod Filling
 pub mod RowTexts
 pub mod RowLines
 pub mod KeyMarks
+pub mod LinePieces
+pub mod Asking
 pub mod OneStep
