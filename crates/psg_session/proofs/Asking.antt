@@ -12,7 +12,7 @@ use Rattle.psg_grammar.specs.Relations.{IsRelationOf}
 use Rattle.psg_tree.specs.AbstractText.{abstract_text}
 use Rattle.psg_scope.specs.Headers.{keys}
 use Rattle.psg_cache.specs.declared.note.Noted.{Noted}
-use Rattle.psg_cache.specs.Notes.{IsFormed, IsNoteOf}
+use Rattle.psg_cache.specs.Notes.{IsFormed, IsNoteOf, mark_by}
 use Rattle.psg_cache.proofs.ShapedTrees.{node_shaped}
 use Rattle.psg_script.specs.declared.command.Where.{Where}
 use Rattle.psg_script.specs.declared.command.Where.TheVariants.{Cursor}
@@ -62,9 +62,10 @@ module _ (def : Definition) (e : Editor) where
     taken s same command tests =
         taken_by def s command (subst (NoneOf def s command) (sym tests) ((λ h. none-some (plain held) (sym h ∙ opened_plain def e s same Cursor held opened)), tt))
 
-    pub show_opened : (line : List ℕ) (mark : Mark) → line ≡ abstract_text def held.note.tree → IsMark def held.note.tree mark
+    pub show_opened : IsEditor def e → (line : List ℕ) (mark : Mark) → line ≡ abstract_text def held.note.tree → mark ≡ mark_by held.note.culprits
         → Follows def e Show e (shown (line ∷ []) mark)
-    show_opened line mark text marks = λ s same.
+    show_opened is line mark text told = λ s same.
+        let marks : IsMark def held.note.tree mark = subst (IsMark def held.note.tree) (sym told) (opened_tree is held opened).noted.mark in
         let step : Answers def s Show (shown (abstract_text def held.note.tree ∷ []) mark) =
             shows (plain held) mark (taken s same Show refl) (opened_plain def e s same Cursor held opened) marks in
         (s, same, subst (λ l. Answers def s Show (shown (l ∷ []) mark)) (sym text) step)

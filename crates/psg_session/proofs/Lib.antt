@@ -9,5 +9,6 @@ pub mod RowTexts
 pub mod RowLines
 pub mod KeyMarks
 pub mod LinePieces
+pub mod DeclaringPhyla
 pub mod Asking
 pub mod OneStep
