@@ -1,6 +1,7 @@
 -- What holds of each member of a list, and members that cannot be other than they are.
-use Rattle.std.proofs.Common.{◌≡◌, ℕ, zero, suc, ◌<◌, List, [], ◌∷◌, ◌++◌, length, get_or, Some, sym, subst, arith}
+use Rattle.std.proofs.Common.{◌≡◌, ℕ, zero, suc, ◌<◌, List, [], ◌∷◌, ◌++◌, length, get_or, slice_get, Some, refl, sym, subst, arith}
 use Rattle.std.specs.List.{AllByRecursion}
+use Rattle.std.proofs.lemmas.Option.{none-some}
 
 pub not_nil : {X : Type 0} (x : X) (xs : List X) → x ∷ xs ≡ [] → ⊥
 not_nil x xs e = cc
@@ -28,3 +29,13 @@ module _ {X : Type 0} (P : X → Type 0) where
   each_at [] i x h l e = absurd (omega (arith, l))
   each_at (y ∷ ys) zero x h l e = subst P (sym e) h.0
   each_at (y ∷ ys) (suc i) x h l e = each_at ys i x h.1 (omega (arith, l)) e
+
+  pub each_got : (xs : List X) (i : ℕ) (x : X) → AllByRecursion P xs → slice_get xs i ≡ Some x → P x
+  each_got [] i x h e = absurd (none-some x e)
+  each_got (y ∷ ys) zero x h e = let same : y ≡ x = cc in subst P same h.0
+  each_got (y ∷ ys) (suc i) x h e = each_got ys i x h.1 e
+
+pub got_there : {X : Type 0} (xs : List X) (i : ℕ) → i < length xs → (x : X) × (slice_get xs i ≡ Some x)
+got_there [] i h = absurd (omega (arith, h))
+got_there (x ∷ xs) zero h = (x, refl)
+got_there (x ∷ xs) (suc i) h = got_there xs i (omega (arith, h))

@@ -14,3 +14,5 @@ pub mod Counting
 pub mod TopLaws
 pub mod WalkLaws
 pub mod LittleLaws
+pub mod FormedTrees
+pub mod ShapedTrees

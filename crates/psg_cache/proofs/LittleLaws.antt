@@ -8,8 +8,9 @@ use Rattle.psg_grammar.specs.declared.types.Kind.TheVariants as kinds
 use Rattle.psg_grammar.specs.declared.types.ListKind.{ListKind}
 use Rattle.psg_grammar.specs.Fragments.{Fragment, hole}
 use Rattle.psg_grammar.specs.Sound.{IsSound, HasKindSort, IsTermOf}
-use Rattle.psg_grammar.specs.WellFormed.{Fits, IsPlain, IsUnobserved}
+use Rattle.psg_grammar.specs.WellFormed.{IsPlain, IsUnobserved}
 use Rattle.psg_tree.specs.Shapes.{list_of}
+use Rattle.psg_cache.specs.Shaped.{HasShape}
 use Rattle.psg_cache.specs.Notes.{IsFormed}
 use Rattle.psg_cache.specs.Little.{little, types, phylum_named, list_with, AreHoles, IsListOf}
 
@@ -131,8 +132,8 @@ little_sound = record {
 
 -- ---- trees
 
-hole_fits : (p : ℕ) → p < 2 → Fits little (hole p) [] (kinds.Phylum p)
-hole_fits p small = (refl, refl, small, λ s. refl)
+hole_fits : (p : ℕ) → p < 2 → HasShape little (hole p) [] (kinds.Phylum p)
+hole_fits p small = (refl, refl, small)
 
 unobserved : (l : ℕ) (es : List Fragment) → IsUnobserved (list_of l es false)
 unobserved l [] = tt
@@ -140,13 +141,13 @@ unobserved l (e ∷ es) = tt
 
 row_fits : (l p : ℕ) (list : ListKind) → slice_get little.lists l ≡ Some list → list.element ≡ p → p < 2
     → (es : List Fragment) → AreHoles p es
-    → Fits little (list_of l es false) [] (kinds.List l) × IsPlain (list_of l es false)
+    → HasShape little (list_of l es false) [] (kinds.List l) × IsPlain (list_of l es false)
 row_fits l p list found element small [] are = ((refl, refl, (list, found, λ e. absurd (true≢false (sym e)))), tt)
 row_fits l p list found element small (e ∷ es) are =
     let rest = row_fits l p list found element small es are.1 in
-    let fits : Fits little e [] (kinds.Phylum list.element) =
-    subst (λ x. Fits little x [] (kinds.Phylum list.element)) (sym are.0)
-    (subst (λ q. Fits little (hole p) [] (kinds.Phylum q)) (sym element) (hole_fits p small)) in
+    let fits : HasShape little e [] (kinds.Phylum list.element) =
+    subst (λ x. HasShape little x [] (kinds.Phylum list.element)) (sym are.0)
+    (subst (λ q. HasShape little (hole p) [] (kinds.Phylum q)) (sym element) (hole_fits p small)) in
     ((refl, refl, list, found, fits, rest.0, unobserved l es), (subst IsPlain (sym are.0) tt, rest.1))
 
 pub row_formed : (l p : ℕ) → IsListOf l p → (es : List Fragment) → AreHoles p es → IsFormed little (list_of l es false)

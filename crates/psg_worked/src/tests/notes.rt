@@ -1,14 +1,14 @@
 //! Which trees of a whole language are good, and where the others go wrong.
-ghost use Rattle.std.specs.Prelude.{◌≡◌, ◌<◌};
+ghost use Rattle.std.specs.Prelude.{◌≡◌, ◌<◌, IfOk};
 ghost use Rattle.psg_grammar.specs.Sound.{IsSound};
 ghost use Rattle.psg_cache.specs.Notes.{IsFormed};
 
 use super::languages::{accepted, tree};
 use psg_cache::{Note, NoteFault, build};
-use psg_grammar::{Definition, declaring};
+use psg_grammar::{Definition, Kind, declaring, kind_named};
 use psg_langs::MINI;
 use psg_terms::Steps;
-use psg_tree::{Path, Tree};
+use psg_tree::{Path, Shape, Tree};
 use std::alloc::{AllocError, Global};
 use std::marker::Brand;
 use std::process::Abort;
@@ -57,6 +57,17 @@ fn told(alloc: Global, note: &Note) -> Result<String, AllocError> {
     Ok(text)
 }
 
+/// What the note of the tree tells.
+fn told_of(alloc: Global, definition: &Definition, tree: &Tree) -> Result<String, AllocError>
+    requires sound { IsSound definition.now }
+    requires formed { IsFormed definition.now tree.now }
+{
+    match noted(alloc, definition, tree) {
+        Ok(note) => told(alloc, &note),
+        Err(_) => Err(AllocError),
+    }
+}
+
 /// Notes each text of the rows as one of the kind, and compares what goes wrong.
 fn notes(rt: &impl Abort, alloc: Global, kind: &str, rows: &[(&str, &str)]) -> Result<(), Fail> {
     let definition = accepted(alloc, MINI)?;
@@ -64,13 +75,22 @@ fn notes(rt: &impl Abort, alloc: Global, kind: &str, rows: &[(&str, &str)]) -> R
         let Some(tree) = tree(alloc, &definition, kind, text)? else {
             panic!(rt; "no tree: {text}");
         };
-        let said = match noted(alloc, &definition, &tree) {
-            Ok(note) => told(alloc, &note)?,
-            Err(_) => return Err(Fail::from(AllocError)),
-        };
+        let said = told_of(alloc, &definition, &tree)?;
         assert!(rt; said.as_str() == *expected, "{text}: {said}");
     }
     Ok(())
+}
+
+/// The placeholder of the phylum.
+fn placeholder(alloc: Global, definition: &Definition, name: &str) -> Result<Tree, AllocError>
+    requires { IsSound definition.now }
+    ensures { IfOk result (IsFormed definition.now) }
+{
+    let Some(Kind::Phylum(phylum)) = kind_named(definition, name) else {
+        return Err(AllocError);
+    };
+    let tree = Tree::new(alloc, Shape::Hole { phylum })?;
+    Ok(tree)
 }
 
 #[test]
@@ -111,4 +131,16 @@ fn blocks(rt: HostRuntime) -> Result<(), Fail> {
         ),
     ];
     notes(&rt, rt.alloc(), "Stat", &rows)
+}
+
+/// No text has a placeholder where names are declared, but a tree may.
+#[test]
+fn placeholders_that_would_declare(rt: HostRuntime) -> Result<(), Fail> {
+    let definition = accepted(rt.alloc(), MINI)?;
+    for name in ["Decl", "Param", "Exp"] {
+        let tree = placeholder(rt.alloc(), &definition, name)?;
+        let said = told_of(rt.alloc(), &definition, &tree)?;
+        assert_eq!(rt; said.as_str(), "good", "{name}");
+    }
+    Ok(())
 }
