@@ -8,7 +8,6 @@ pub mod Filling
 pub mod RowTexts
 pub mod RowLines
 pub mod KeyMarks
-pub mod LinePieces
 pub mod DeclaringPhyla
 pub mod Asking
 pub mod OneStep

@@ -2,10 +2,9 @@
 -- the row's text tells them.
 use Rattle.std.proofs.Common.{◌≡◌, ◌≢◌, ℕ, zero, suc, ◌+◌, ◌%◌, ◌/◌, ◌==◌, Bool, true, false, cond, ◌&&◌, nat_lt, nat_le, List, [], ◌∷◌, ◌++◌, length, map, Option, Some, None, slice_get, refl, sym, ◌∙◌, ap, ap₂, subst, arith}
 use Rattle.std.specs.Prelude.{codes, decimal}
-use Rattle.std.specs.Fmt.{digits_onto, digit_glyph}
+use Rattle.std.specs.Fmt.{digits, digits_onto, digit_glyph}
 use Rattle.std.specs.List.{AllByRecursion, list_all}
 use Rattle.std.proofs.lemmas.Bool.{true≢false}
-use Rattle.core.proofs.fmt.DigitsParse.{digits_onto-nil}
 use Rattle.psg_terms.specs.Terms.{Term, variable, symbol, apply}
 use Rattle.psg_terms.specs.Names.{Name}
 use Rattle.psg_terms.specs.Signature.{Signature, Symbol}
@@ -36,19 +35,19 @@ clear_digit d = go (nat_lt d 10) where
   go true = λ e. omega (arith, e)
   go false = λ e. omega (arith, e)
 
+clear_choice : (b : Bool) (here there : List ℕ) → IsClear here → IsClear there → IsClear (cond b here there)
+clear_choice true here there h g = h
+clear_choice false here there h g = g
+
 clear_digits : (k n : ℕ) (behind : List ℕ) → IsClear behind → IsClear (digits_onto k 10 false n behind)
 clear_digits zero n behind h = h
-clear_digits (suc k) n behind h = go (n / 10 == 0)
-  where
-    next : List ℕ
-    next = digit_glyph false (n % 10) ∷ behind
-
-    go : (b : Bool) → IsClear (cond b (digit_glyph false (n % 10) ∷ behind) (digits_onto k 10 false (n / 10) (digit_glyph false (n % 10) ∷ behind)))
-    go true = (clear_digit (n % 10), h)
-    go false = clear_digits k (n / 10) (digit_glyph false (n % 10) ∷ behind) (clear_digit (n % 10), h)
+clear_digits (suc k) n behind h =
+    let next : List ℕ = digit_glyph false (n % 10) ∷ behind in
+    clear_choice (n / 10 == 0) next (digits_onto k 10 false (n / 10) next) (clear_digit (n % 10), h) (clear_digits k (n / 10) next (clear_digit (n % 10), h))
 
 clear_decimal : (n : ℕ) → IsClear (decimal n)
-clear_decimal n = subst IsClear (digits_onto-nil 10 false n) (clear_digits 64 n [] tt)
+unfolding digits
+clear_decimal n = clear_digits 64 n [] tt
 
 clear_rest : (cs : Name) → list_all goes_on_name cs ≡ true → IsClear cs
 clear_rest [] h = tt
@@ -124,14 +123,14 @@ module _ (sig : Signature) where
       clear_text : (t : Term) → IsClear (term_text sig t)
       clear_text (variable s n) = ((λ e. omega (arith, e)), clear_decimal n)
       clear_text (symbol c) = clear_symbol sig.symbols own c
-      clear_text (apply f a) = clear_append (opened sig f) (term_text sig a ++ 41 ∷ []) (clear_opened f)
-          (clear_append (term_text sig a) (41 ∷ []) (clear_text a) ((λ e. omega (arith, e)), tt))
+      clear_text (apply f a) = clear_append (opened sig f ++ term_text sig a) (41 ∷ [])
+          (clear_append (opened sig f) (term_text sig a) (clear_opened f) (clear_text a)) ((λ e. omega (arith, e)), tt)
 
       clear_opened : (t : Term) → IsClear (opened sig t)
       clear_opened (variable s n) = ((λ e. omega (arith, e)), clear_decimal n)
       clear_opened (symbol c) = clear_append (symbol_name (slice_get sig.symbols c)) (40 ∷ []) (clear_symbol sig.symbols own c) ((λ e. omega (arith, e)), tt)
-      clear_opened (apply f a) = clear_append (opened sig f) (term_text sig a ++ 44 ∷ []) (clear_opened f)
-          (clear_append (term_text sig a) (44 ∷ []) (clear_text a) ((λ e. omega (arith, e)), tt))
+      clear_opened (apply f a) = clear_append (opened sig f ++ term_text sig a) (44 ∷ [])
+          (clear_append (opened sig f) (term_text sig a) (clear_opened f) (clear_text a)) ((λ e. omega (arith, e)), tt)
 
     -- the text of a row tells the texts of its terms
     same_texts : (row other : List Term) → length row ≡ length other → row_text sig row ≡ row_text sig other → texts_of row ≡ texts_of other

@@ -118,19 +118,19 @@ module _ {X : Type 0} (key : X → List ℕ) where
 
 -- ---- relations
 
+-- a first row that is up to the next one is up to all behind it
+rises_on : (sig : Signature) (r s : List Term) (rest : List (List Term)) → IsTrue (is_le (slice_cmp nat_cmp (row_text sig r) (row_text sig s)))
+    → Rises (row_text sig) (s ∷ rest) → Rises (row_text sig) (r ∷ s ∷ rest)
+rises_on sig r s rest low up = (
+  (λ y k. upto nat_list_cmp_total (row_text sig r) (row_text sig s) (row_text sig y) (le_upto (slice_cmp nat_cmp (row_text sig r) (row_text sig s)) low)
+    (least_of (row_text sig) s rest up y k)),
+  up,
+)
+
 rises : (sig : Signature) (rows : List (List Term)) → IsInTextOrder sig rows → Rises (row_text sig) rows
 rises sig [] order = tt
 rises sig (r ∷ []) order = ((λ y k. elim k [ ]), tt)
-rises sig (r ∷ s ∷ rest) (low, order) = (least, up)
-  where
-    up : Rises (row_text sig) (s ∷ rest)
-    up = rises sig (s ∷ rest) order
-
-    near : IsUpto (row_text sig r) (row_text sig s)
-    near = le_upto (slice_cmp nat_cmp (row_text sig r) (row_text sig s)) low
-
-    least : (y : List Term) → IsIn y (s ∷ rest) → IsUpto (row_text sig r) (row_text sig y)
-    least y k = upto nat_list_cmp_total (row_text sig r) (row_text sig s) (row_text sig y) near (least_of (row_text sig) s rest up y k)
+rises sig (r ∷ s ∷ rest) (low, order) = rises_on sig r s rest low (rises sig (s ∷ rest) order)
 
 pub same_row_texts : (sig : Signature) → IsSound sig → {C : Type 0} (P : C → List Term → Type 0) (ls rs : List ℕ) (rows others : List (List Term))
     → IsRelation sig ls P rows → IsRelation sig rs P others → map (row_text sig) rows ≡ map (row_text sig) others
