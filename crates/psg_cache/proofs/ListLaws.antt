@@ -216,7 +216,7 @@ module _ (def : Definition) where
       let it : k ≡ own = same_some k own (sym at ∙ e) in
       (may_end, ((subst (λ (y : ListKind). HasShape def x [] (kinds.Phylum y.element)) it fe, w.1.0), rest))
 
-  element_kinds : (p : ℕ) (es : List Fragment) (elements : List Known) → AreElements def p es
+  element_kinds : (p : ℕ) (es : List Fragment) (elements : List Known) → AreElements p es
       → AllSummaries def es elements → AllByRecursion (λ (s : Known). s.kind ≡ kinds.Phylum p) elements
   element_kinds p [] [] h s = tt
   element_kinds p [] (y ∷ ys) h s = absurd s
@@ -229,7 +229,7 @@ module _ (def : Definition) where
       → AllByRecursion (IsSummary def) elements → TakesElements def l u elements
   list_takes l es u kind elements w real are usual =
       let (own, found) = known_list l es u kind w in
-      let (may_end, parts) = list_parts def l own es u kind found w in
+      let (may_end, parts) = list_parts l own es u kind found w in
       record {
         list = own;
         found = found;

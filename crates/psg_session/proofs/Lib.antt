@@ -5,6 +5,11 @@ pub mod Cutting
 pub mod Shapes
 pub mod Bounds
 pub mod Filling
+pub mod RowTexts
+pub mod RowLines
+pub mod KeyMarks
+pub mod DeclaringPhyla
+pub mod Asking
 pub mod OneStep
 pub mod LeafLaws
 pub mod LeafWords

@@ -154,8 +154,8 @@ pub fn refine(
 }
 
 /// The operator of the name with the names and literals of the arguments, which is to stand where one of the phylum is
-/// wanted; otherwise the number of the refusal: 4 where no operator has the name, 5 where it is of another phylum, 6 where
-/// the arguments are not its names and literals.
+/// wanted; otherwise the number of the refusal: 4 where no operator has the name, 5 where it is of another phylum, 6
+/// where the arguments are not its names and literals.
 fn fresh_of(
     alloc: Global,
     language: &Language,

@@ -22,7 +22,8 @@ pub enum Leaf {
 }
 
 /// The names and literals that the arguments give to the operator, one for each of its name positions, numbers and
-/// texts; `None` where the arguments have no tokens or their tokens are no such list. It takes the time of the arguments.
+/// texts; `None` where the arguments have no tokens or their tokens are no such list. It takes the time of the
+/// arguments.
 pub fn read_leaves(
     alloc: Global,
     language: &Language,
