@@ -1,21 +1,32 @@
 -- A command has one step.
-use Rattle.std.proofs.Common.{◌≡◌, inl, inr, ℕ, List, [], ◌∷◌, map, Option, Some, None, slice_get, refl, sym, ◌∙◌, ap, subst}
+use Rattle.std.proofs.Common.{◌≡◌, inl, inr, ℕ, true, false, List, [], ◌∷◌, map, chars, Option, Some, None, slice_get, refl, sym, ◌∙◌, ap, subst}
 use Rattle.std.proofs.lemmas.Bool.{cases_order}
 use Rattle.psg_terms.specs.Names.{Name}
+use Rattle.psg_terms.specs.Terms.{Term}
 use Rattle.psg_grammar.specs.declared.types.Kind.{Kind}
 use Rattle.psg_grammar.specs.declared.types.Definition.{Definition}
 use Rattle.psg_grammar.specs.Fragments.{Fragment}
-use Rattle.psg_grammar.specs.Insertion.{blank, with_operator}
+use Rattle.psg_grammar.specs.Insertion.{blank, Leaf, with_operator}
 use Rattle.psg_grammar.specs.Marks.{Chosen, nothing, taken, passed, Mark, good, wrong, path_of, IsMarkBy}
-use Rattle.psg_grammar.specs.Paths.{Path}
+use Rattle.psg_grammar.specs.Paths.{Path, node_at, change_at, removed, ended, replaced}
+use Rattle.psg_grammar.specs.Regions.{names_of}
+use Rattle.psg_grammar.specs.Relations.{IsRelationOf}
 use Rattle.psg_grammar.specs.Sound.{IsSound}
+use Rattle.psg_grammar.specs.WellFormed.{fixed_words}
 use Rattle.psg_grammar.proofs.NamePlaces.{only_kind, only_op}
 use Rattle.psg_tree.specs.AbstractText.{abstract_text}
+use Rattle.psg_lexis.proofs.Laws.{only_tokens}
+use Rattle.psg_eval.specs.Trees.{IsOfKind}
+use Rattle.psg_cache.proofs.ShapedTrees.{kind_once as node_kind_once}
 use Rattle.psg_script.specs.declared.command.Command.{Command}
-use Rattle.psg_session.specs.PlainState.{State, Answer, named_path, with_new, with_change}
+use Rattle.psg_script.specs.declared.command.Command.TheVariants.{Own, Free}
+use Rattle.psg_session.specs.Answers.{free_names, names_line, rows_lines}
+use Rattle.psg_session.specs.Leaves.{given, GivesLeaves}
+use Rattle.psg_session.specs.PlainState.{State, Opened, Answer, named_path, with_new, with_change}
 use Rattle.psg_session.specs.Refusals.{Refusal, number_of, tests_of}
-use Rattle.psg_session.specs.Replies.{Reply, refused, marked, shown}
-use Rattle.psg_session.specs.PlainStep.{HasName, IsOperator, Makes, by_refine, IsRefused, IsTaken, Steps, refuses, opens, changes, shows}
+use Rattle.psg_session.specs.Replies.{Reply, refused, answered, marked, shown}
+use Rattle.psg_session.specs.PlainStep.{HasName, IsOperator, Makes, by_refine, by_insert, by_cut, by_remove, by_close, by_reopen, IsRefused, IsTaken, Steps, refuses, opens, changes, shows, owns, frees}
+use Rattle.psg_session.proofs.RowLines.{relation_lines}
 
 -- ---- marks
 
@@ -38,6 +49,22 @@ mark_once IsGood f (wrong paths) (wrong others) h g = ap wrong (h.1.2 ∙ ap (ma
 some_once : {X : Type 0} (x y : X) (o : Option X) → o ≡ Some x → o ≡ Some y → x ≡ y
 some_once x y o e f = let d : Some x ≡ Some y = sym e ∙ f in cc
 
+-- ---- names and literals
+
+leaves_by : (ls ms : List Leaf) → map Some ls ≡ map Some ms → ls ≡ ms
+leaves_by [] [] e = refl
+leaves_by [] (m ∷ ms) e = absurd (cc)
+leaves_by (l ∷ ls) [] e = absurd (cc)
+leaves_by (l ∷ ls) (m ∷ ms) e =
+    let head : l ≡ m = cc in
+    let tail : map Some ls ≡ map Some ms = cc in
+    ap (λ x. x ∷ ls) head ∙ ap (λ rest. m ∷ rest) (leaves_by ls ms tail)
+
+-- a text gives one list of leaves
+leaves_once : (def : Definition) (o u : ℕ) (args : List ℕ) (ls ms : List Leaf) → GivesLeaves def o args ls → GivesLeaves def u args ms → ls ≡ ms
+leaves_once def o u args ls ms (found, tokens, are, fit) (other, tokens', are', fit') =
+    leaves_by ls ms (sym are ∙ ap (map given) (only_tokens (fixed_words def) (chars args) 0 found other tokens tokens') ∙ are')
+
 module _ (def : Definition) (IsGood : Fragment → Type 0) (s : State) (answer : Answer) where
   -- the first test that holds is one
   refusal_once : (command : Command) (r q : Refusal) → IsRefused def IsGood s answer command r → IsRefused def IsGood s answer command q → r ≡ q
@@ -57,15 +84,52 @@ module _ (def : Definition) (IsGood : Fragment → Type 0) (s : State) (answer :
     operator_once : (a b : ℕ) (name : Name) → IsOperator def a name → IsOperator def b name → a ≡ b
     operator_once a b name = only_op def sound.operator_names a b name
 
+    -- two times the operator that a name and a text give
+    module _ (old old' : Opened) (o o' : ℕ) (ls ls' : List Leaf) (name : Name) (args : List ℕ) (opened : s.opened ≡ Some old) (opened' : s.opened ≡ Some old')
+        (named : IsOperator def o name) (named' : IsOperator def o' name) (gives : GivesLeaves def o args ls) (gives' : GivesLeaves def o' args ls') where
+      operator_made_once : (path : Path) (k : Option ℕ) → with_operator def old.tree path k o ls ≡ with_operator def old'.tree path k o' ls'
+      operator_made_once path k =
+          ap (λ (x : Opened). with_operator def x.tree path k o ls) (some_once old old' s.opened opened opened')
+          ∙ ap (λ x. with_operator def old'.tree path k x ls) (operator_once o o' name named named')
+          ∙ ap (with_operator def old'.tree path k o') (leaves_once def o o' args ls ls' gives gives')
+
+    -- two times a change of the opened tree
+    change_made_once : (old old' : Opened) (g : Fragment → Fragment) (path : Path) → s.opened ≡ Some old → s.opened ≡ Some old'
+        → change_at g path old.tree ≡ change_at g path old'.tree
+    change_made_once old old' g path opened opened' = ap (λ (x : Opened). change_at g path x.tree) (some_once old old' s.opened opened opened')
+
+    node_once : (old old' : Opened) (node node' : Fragment) (path : Path) → s.opened ≡ Some old → s.opened ≡ Some old' → node_at old.tree path ≡ Some node
+        → node_at old'.tree path ≡ Some node' → node ≡ node'
+    node_once old old' node node' path opened opened' at at' =
+        some_once node node' (node_at old'.tree path)
+        (subst (λ (x : Opened). node_at x.tree path ≡ Some node) (some_once old old' s.opened opened opened') at) at'
+
     -- a change gives one tree and one place
     makes_once : {command : Command} {tree other : Fragment} {path place : Path}
         → Makes def s command tree path → Makes def s command other place → (tree ≡ other) × (path ≡ place)
-    makes_once (by_refine {place = at} {name = name} old o leaves opened named gives) (by_refine old' o' leaves' opened' named' gives') = (
-      ap (λ x. with_operator def x.tree (named_path at s.cursor) None o leaves) (some_once old old' s.opened opened opened')
-          ∙ ap (λ x. with_operator def old'.tree (named_path at s.cursor) None x leaves) (operator_once o o' name named named')
-          ∙ ap (with_operator def old'.tree (named_path at s.cursor) None o') (gives.1 ∙ sym gives'.1),
-      refl,
-    )
+    makes_once (by_refine {place = at} {name = name} {args = args} old o ls opened named gives) (by_refine old' o' ls' opened' named' gives') =
+        (operator_made_once old old' o o' ls ls' name args opened opened' named named' gives gives' (named_path at s.cursor) None, refl)
+    makes_once (by_insert {place = at} {k = k} {name = name} {args = args} old o ls opened named gives) (by_insert old' o' ls' opened' named' gives') =
+        (operator_made_once old old' o o' ls ls' name args opened opened' named named' gives gives' (named_path at s.cursor) (Some k), refl)
+    makes_once (by_cut {place = at} old node kind opened here is) (by_cut old' node' kind' opened' here' is') =
+        let one : node ≡ node' = node_once old old' node node' (named_path at s.cursor) opened opened' here here' in
+        let same : kind ≡ kind' = node_kind_once def node' kind kind' (subst (λ f. IsOfKind def f kind) one is) is' in (
+          change_made_once old old' (λ _. blank def kind) (named_path at s.cursor) opened opened'
+              ∙ ap (λ x. replaced (named_path at s.cursor) (blank def x) old'.tree) same,
+          refl,
+        )
+    makes_once (by_remove {place = at} {k = k} old opened) (by_remove old' opened') = (change_made_once old old' (removed k) (named_path at s.cursor) opened opened', refl)
+    makes_once (by_close {place = at} old opened) (by_close old' opened') = (change_made_once old old' (ended false) (named_path at s.cursor) opened opened', refl)
+    makes_once (by_reopen {place = at} old opened) (by_reopen old' opened') = (change_made_once old old' (ended true) (named_path at s.cursor) opened opened', refl)
+
+    -- the lines of a node are told by one of its relations
+    lines_once : (old old' : Opened) (node node' : Fragment) (path : Path) (rows rows' : List (List Term)) → s.opened ≡ Some old → s.opened ≡ Some old'
+        → node_at old.tree path ≡ Some node → node_at old'.tree path ≡ Some node' → IsRelationOf def node rows → IsRelationOf def node' rows'
+        → answered (rows_lines def.signature (names_of def node) rows) ≡ answered (rows_lines def.signature (names_of def node') rows')
+    lines_once old old' node node' path rows rows' opened opened' at at' rel rel' =
+        let one : node ≡ node' = node_once old old' node node' path opened opened' at at' in
+        ap (λ f. answered (rows_lines def.signature (names_of def f) rows)) one
+        ∙ ap answered (relation_lines def sound node' rows rows' (subst (λ f. IsRelationOf def f rows) one rel) rel' (names_of def node'))
 
     pub step_once : {command : Command} {t u : State} {reply other : Reply}
         → Steps def IsGood s answer command t reply → Steps def IsGood s answer command u other → (t ≡ u) × (reply ≡ other)
@@ -73,6 +137,8 @@ module _ (def : Definition) (IsGood : Fragment → Type 0) (s : State) (answer :
     step_once (refuses {command = command} {r = r} h) (opens kind mark taken_is named is_mark) = absurd (not_both command r taken_is h)
     step_once (refuses {command = command} {r = r} h) (changes old mark taken_is opened makes is_mark) = absurd (not_both command r taken_is h)
     step_once (refuses {command = command} {r = r} h) (shows old mark taken_is opened is_mark) = absurd (not_both command r taken_is h)
+    step_once (refuses {command = command} {r = r} h) (owns old node rows taken_is opened at rel) = absurd (not_both command r taken_is h)
+    step_once (refuses {command = command} {r = r} h) (frees old taken_is opened) = absurd (not_both command r taken_is h)
     step_once (opens kind mark taken_is named is_mark) (refuses {command = command} {r = r} h) = absurd (not_both command r taken_is h)
     step_once (opens {name = name} kind mark taken_is named is_mark) (opens kind' mark' taken_is' named' is_mark') =
         let same : kind ≡ kind' = kind_once kind kind' name named named' in
@@ -89,6 +155,8 @@ module _ (def : Definition) (IsGood : Fragment → Type 0) (s : State) (answer :
           ap marked (mark_once IsGood tree' mark mark' is_mark'' is_mark'),
         )
     step_once (changes old mark taken_is opened makes is_mark) (shows old' mark' taken_is' opened' is_mark') = elim makes [ ]
+    step_once (changes old mark taken_is opened makes is_mark) (owns old' node' rows' taken_is' opened' at' rel') = elim makes [ ]
+    step_once (changes old mark taken_is opened makes is_mark) (frees old' taken_is' opened') = elim makes [ ]
     step_once (shows old mark taken_is opened is_mark) (refuses {command = command} {r = r} h) = absurd (not_both command r taken_is h)
     step_once (shows old mark taken_is opened is_mark) (changes old' mark' taken_is' opened' makes' is_mark') = elim makes' [ ]
     step_once (shows old mark taken_is opened is_mark) (shows old' mark' taken_is' opened' is_mark') =
@@ -97,3 +165,11 @@ module _ (def : Definition) (IsGood : Fragment → Type 0) (s : State) (answer :
           refl,
           ap (λ x. shown (abstract_text def x.tree ∷ []) mark) same ∙ ap (shown (abstract_text def old'.tree ∷ [])) (mark_once IsGood old'.tree mark mark' is_mark'' is_mark'),
         )
+    step_once (owns {place = place} old node rows taken_is opened at rel) (refuses {r = r} h) = absurd (not_both (Own place) r taken_is h)
+    step_once (owns old node rows taken_is opened at rel) (changes old' mark' taken_is' opened' makes' is_mark') = elim makes' [ ]
+    step_once (owns {place = place} old node rows taken_is opened at rel) (owns old' node' rows' taken_is' opened' at' rel') =
+        (refl, lines_once old old' node node' (named_path place s.cursor) rows rows' opened opened' at at' rel rel')
+    step_once (frees old taken_is opened) (refuses {r = r} h) = absurd (not_both Free r taken_is h)
+    step_once (frees old taken_is opened) (changes old' mark' taken_is' opened' makes' is_mark') = elim makes' [ ]
+    step_once (frees old taken_is opened) (frees old' taken_is' opened') =
+        (refl, ap (λ (x : Opened). answered (names_line (free_names def x.tree) ∷ [])) (some_once old old' s.opened opened opened'))

@@ -91,7 +91,9 @@ fn carry_out<L: Ledger>(
     match plan {
         Plan::RefusedBy(number) => Ok(Outcome::Stays(Reply::Refused(number))),
         Plan::Makes(made) => {
-            let outcome = judge(alloc, language, change, made.kind, &made.tree, &made.path, steps)?;
+            let outcome = judge(
+                alloc, language, change, made.kind, &made.tree, &made.path, steps,
+            )?;
             Ok(outcome)
         }
     }
@@ -113,7 +115,10 @@ fn change<L: Ledger>(
 {
     let (change, plan) = match command {
         Command::Refine { at, op, args } => {
-            (Change::Grows, refine(alloc, language, editor, at, op, args)?)
+            (
+                Change::Grows,
+                refine(alloc, language, editor, at, op, args)?,
+            )
         }
         Command::Insert {
             at,

@@ -1,12 +1,12 @@
 //! A definition with what an editor makes of it once.
-ghost use Rattle.std.specs.Prelude.{◌≡◌, ◌++◌, ◌↔◌, IfOk, IsTrue};
+ghost use Rattle.std.specs.Prelude.{◌≡◌, ◌++◌, ◌↔◌, IfOk, IsTrue, OnOk};
 ghost use Rattle.psg_grammar.specs.Sound.{IsSound};
-ghost use Rattle.psg_grammar.specs.WellFormed.{fixed_words as fixed_words_of, operator_words, words_in};
+ghost use Rattle.psg_grammar.specs.WellFormed.{fixed_words as fixed_words_of, separators, words_in};
 ghost use Rattle.psg_grammar.specs.Kinds.{HasKind};
 ghost use Rattle.psg_session.specs.PlainStep.{IsDeclaringPhylum};
 ghost use Rattle.psg_session.specs.Views.{IsLanguage};
 
-use psg_grammar::{Definition, Item, Kind, declaring};
+use psg_grammar::{Definition, Item, Kind, ListKind, declaring};
 use psg_lexis::Lexis;
 use psg_terms::Txt;
 use std::alloc::{AllocError, Global};
@@ -57,15 +57,23 @@ fn fixed_words(alloc: Global, definition: &Definition) -> Result<Vec<Txt>, Alloc
     for operator in definition.operators.as_slice() {
         push_words(&mut words, operator.items.as_slice())?;
     }
-    for list in definition.lists.as_slice() {
+    push_separators(&mut words, definition.lists.as_slice())?;
+    Ok(words)
+}
+
+/// Puts the separators of the lists behind the words that are there.
+fn push_separators(words: &mut Vec<Txt>, lists: &[ListKind]) -> Result<(), AllocError>
+    ensures { OnOk result (words.new.items ≡ words.old.items ++ separators lists.now) }
+{
+    for list in lists {
         words.push(list.separator.share()?)?;
     }
-    Ok(words)
+    Ok(())
 }
 
 /// Puts the words among the items behind those that are there.
 fn push_words(words: &mut Vec<Txt>, items: &[Item]) -> Result<(), AllocError>
-    ensures { IfOk result (λ _. words.new.items ≡ words.old.items ++ words_in items.now) }
+    ensures { OnOk result (words.new.items ≡ words.old.items ++ words_in items.now) }
 {
     for item in items {
         if let Item::Word(word) = item {

@@ -1,8 +1,11 @@
 //! The answers to questions about the opened fragment.
-ghost use Rattle.std.specs.Prelude.{◌≡◌, ◌++◌, map, string_bytes, IfOk};
+ghost use Rattle.std.specs.Prelude.{◌≡◌, ◌∷◌, ◌++◌, List, map, string_bytes, IfOk};
+ghost use Rattle.psg_terms.specs.Relations.{IsIn};
+ghost use Rattle.psg_terms.specs.Signature.{AreTerms};
+ghost use Rattle.psg_terms.specs.Terms.{Term as Plain};
 ghost use Rattle.psg_scope.specs.Headers.{keys};
 ghost use Rattle.psg_script.specs.declared.command.Command.TheVariants as commands;
-ghost use Rattle.psg_session.specs.Answers.{entities_text, names_line, names_without, row_line as row_line_of, rows_lines as rows_lines_of};
+ghost use Rattle.psg_session.specs.Answers.{entities_text, names_line as names_line_of, names_without, row_line as row_line_of, rows_lines as rows_lines_of};
 ghost use Rattle.psg_session.specs.Outcomes.{IsOutcome};
 ghost use Rattle.psg_session.specs.Views.{IsEditor, IsLanguage};
 
@@ -13,10 +16,9 @@ use crate::language::Language;
 use crate::replies::Reply;
 use psg_cache::build;
 use psg_eval::Summary;
-use psg_relation::RelRow;
 use psg_scope::NameCol;
 use psg_script::Where;
-use psg_terms::{Signature, Steps, Term, term_text};
+use psg_terms::{Signature, Steps, Term, Txt, term_text};
 use psg_tree::abstract_text;
 use std::alloc::{AllocError, Global};
 use std::sync::ledger::Ledger;
@@ -52,21 +54,38 @@ pub fn free(alloc: Global, language: &Language, editor: &Editor) -> Result<Outco
 
 /// The names of a header that are not declared, with a space between two, or `none`.
 fn free_line(alloc: Global, names: &[NameCol]) -> Result<String, AllocError>
-    ensures { IfOk result (λ text. string_bytes text ≡ names_line (names_without names.now)) }
+    ensures { IfOk result (λ text. string_bytes text ≡ names_line_of (names_without names.now)) }
 {
-    let mut text = String::new(alloc);
-    let mut some = false;
+    let free = undeclared(alloc, names)?;
+    let line = names_line(alloc, free.as_slice())?;
+    Ok(line)
+}
+
+/// The names of the columns that are not declared, each with one more owner.
+fn undeclared(alloc: Global, names: &[NameCol]) -> Result<Vec<Txt>, AllocError>
+    ensures { IfOk result (λ free. free.items ≡ names_without names.now) }
+{
+    let mut free = Vec::new(alloc);
     for column in names {
         if !column.declared {
-            if some {
-                text.push_str(" ")?;
-            }
-            text.push_str(column.name.as_str())?;
-            some = true;
+            free.push(column.name.share()?)?;
         }
     }
-    if !some {
-        text.push_str("none")?;
+    Ok(free)
+}
+
+/// The names with a space between two, or `none`.
+fn names_line(alloc: Global, names: &[Txt]) -> Result<String, AllocError>
+    ensures { IfOk result (λ text. string_bytes text ≡ names_line_of names.now) }
+{
+    let [first, rest @ ..] = names else {
+        let none = String::from_str(alloc, "none")?;
+        return Ok(none);
+    };
+    let mut text = String::from_str(alloc, first.as_str())?;
+    for name in rest {
+        text.push_str(" ")?;
+        text.push_str(name.as_str())?;
     }
     Ok(text)
 }
@@ -103,16 +122,20 @@ fn rows_lines(
     signature: &Signature,
     summary: &Summary,
 ) -> Result<Vec<String>, AllocError>
+    requires { (row : List Plain) → IsIn row summary.now.rel → AreTerms signature.now row }
     ensures { IfOk result (λ lines. map string_bytes lines.items ≡ rows_lines_of signature.now (keys summary.now.header.names) summary.now.rel) }
 {
     let names = summary.header().names.as_slice();
     let rows = summary.rel().rows();
     let mut lines = Vec::new(alloc);
-    for row in rows {
-        lines.push(row_line(alloc, signature, names, row.terms())?)?;
-    }
     if rows.is_empty() {
-        lines.push(String::from_str(alloc, "none")?)?;
+        let none = String::from_str(alloc, "none")?;
+        lines.push(none)?;
+        return Ok(lines);
+    }
+    for row in rows {
+        let line = row_line(alloc, signature, names, row.terms())?;
+        lines.push(line)?;
     }
     Ok(lines)
 }
@@ -124,13 +147,14 @@ fn row_line(
     names: &[NameCol],
     row: &[Term],
 ) -> Result<String, AllocError>
+    requires { AreTerms signature.now row.now }
     ensures { IfOk result (λ text. string_bytes text ≡ row_line_of signature.now (keys names.now) row.now) }
 {
-    let mut text = String::new(alloc);
-    if let [value, entities @ ..] = row {
-        text.push_str(term_text(alloc, signature, value)?.as_str())?;
-        push_entities(alloc, &mut text, signature, names, entities)?;
-    }
+    let [value, entities @ ..] = row else {
+        return Ok(String::new(alloc));
+    };
+    let mut text = term_text(alloc, signature, value)?;
+    push_entities(alloc, &mut text, signature, names, entities)?;
     Ok(text)
 }
 
@@ -142,17 +166,28 @@ fn push_entities(
     names: &[NameCol],
     entities: &[Term],
 ) -> Result<(), AllocError>
+    requires { AreTerms signature.now entities.now }
     ensures { IfOk result (λ _. string_bytes text.new ≡ string_bytes text.old ++ entities_text signature.now (keys names.now) entities.now) }
 {
     let mut rest = entities;
     for column in names {
-        if let [entity, more @ ..] = rest {
-            text.push_str(" ")?;
-            text.push_str(column.name.as_str())?;
-            text.push_str("=")?;
-            text.push_str(term_text(alloc, signature, entity)?.as_str())?;
-            rest = more;
-        }
+        let [entity, more @ ..] = rest else {
+            return Ok(());
+        };
+        let value = term_text(alloc, signature, entity)?;
+        push_entity(text, column.name.as_str(), value.as_str())?;
+        rest = more;
     }
+    Ok(())
+}
+
+/// Writes the name with its entity behind the text, as ` x=int`.
+fn push_entity(text: &mut String, name: &str, entity: &str) -> Result<(), AllocError>
+    ensures { IfOk result (λ _. string_bytes text.new ≡ string_bytes text.old ++ 32 ∷ (name.now ++ (61 ∷ entity.now))) }
+{
+    text.push_str(" ")?;
+    text.push_str(name)?;
+    text.push_str("=")?;
+    text.push_str(entity)?;
     Ok(())
 }
