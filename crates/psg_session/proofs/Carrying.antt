@@ -9,6 +9,7 @@ use Rattle.psg_grammar.specs.Insertion.{blank}
 use Rattle.psg_grammar.specs.Marks.{IsMark}
 use Rattle.psg_grammar.specs.Paths.{Path}
 use Rattle.psg_script.specs.declared.command.Command.{Command}
+use Rattle.psg_script.specs.declared.command.Where.TheVariants.{Cursor}
 use Rattle.psg_script.specs.declared.command.Command.TheVariants.{New}
 use Rattle.psg_session.specs.declared.changes.Made.{Made}
 use Rattle.psg_session.specs.declared.changes.Plan.{Plan}
@@ -123,7 +124,7 @@ carried def e command change m held is kind plan (Becomes new (Marked mark)) (pa
         (ap (λ k. Some (the_opened k m.tree)) kind ∙ same_opened m.kind m.tree new.opened opened, sym cursor),
         changes (plain held) (mark_of mark)
             (taken_by def s command (none_of_late def s command m.tree (by_change made.makes) made.only change made.early made.tests made.none passes))
-            (opened_plain def e s same _ held is) made.makes marks,
+            (opened_plain def e s same Cursor held is) made.makes marks,
       )),
   editor,
 )

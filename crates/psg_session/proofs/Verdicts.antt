@@ -68,6 +68,6 @@ module _ (def : Definition) (f : Fragment) (note : Noted) (noted : IsNoteOf def 
   -- a tree that passes its tests
   pub judged_right : (change : Change) → ((MustBeOpen change × (note.culprits ≡ [] → ⊥)) → ⊥) → PassesAll def f (late_tests change)
   judged_right Opens never = (noted.within.narrow, tt)
-  judged_right Grows never = (noted.within.shallow, (noted.within.small, (noted.within.narrow, (noted.within.light, (λ bad. never (tt, λ none. bad (is_good none))), tt))))
-  judged_right Closes never = (noted.within.narrow, (noted.within.light, (λ bad. never (tt, λ none. bad (is_good none))), tt))
+  judged_right Grows never = (noted.within.shallow, (noted.within.small, (noted.within.narrow, (noted.within.light, ((λ bad. never (tt, λ none. bad (is_good none))), tt)))))
+  judged_right Closes never = (noted.within.narrow, (noted.within.light, ((λ bad. never (tt, λ none. bad (is_good none))), tt)))
   judged_right Loosens never = (noted.within.narrow, (noted.within.light, tt))

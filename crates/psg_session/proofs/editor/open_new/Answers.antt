@@ -1,4 +1,4 @@
-use Rattle.std.proofs.Common.{◌≡◌, ◌∷◌, [], Some, sym, ap, subst, ◌∙◌, refl}
+use Rattle.std.proofs.Common.{[], Some, sym, ap, subst, ◌∙◌, true≢false}
 use Rattle.std.proofs.lemmas.Option.{none-some}
 use Rattle.psg_grammar.specs.declared.types.Kind.{Kind}
 use Rattle.psg_grammar.specs.Kinds.{HasKind}
@@ -16,7 +16,7 @@ returns-in_default g c = new_unknown c.args.language.now.definition c.args.name.
     (λ kind named. c.in_default.not-Some kind (c.kind_named.ensures.only kind (named ∙ ap Some (sym c.as_str.ensures))))
 
 pub kind_named-requires : goal.kind_named-requires
-kind_named-requires g c = c.requires.sound
+kind_named-requires g c = c.requires.language.sound
 
 pub is_declaring-requires-clause-kind : goal.is_declaring-requires-clause-kind
 is_declaring-requires-clause-kind g c = has_kind c.args.language.now.definition c.in-Some.kind c.as_str.result.now c.in-Some.ensures.found
@@ -36,7 +36,7 @@ pub returns : goal.returns
 returns g c =
     let def = c.args.language.now.definition in
     λ editor. opened_new def c.args.name.now c.in-Some.kind (c.in-Some.ensures.found ∙ ap Some c.as_str.ensures)
-        (one_kind def c.requires.sound c.in-Some.kind c.args.name.now (c.in-Some.ensures.found ∙ ap Some c.as_str.ensures))
-        (λ declares. c.if-is_declaring.false (c.is_declaring.ensures.1 declares)) editor c.in_ok-outcome.outcome
+        (one_kind def c.requires.language.sound c.in-Some.kind c.args.name.now (c.in-Some.ensures.found ∙ ap Some c.as_str.ensures))
+        (λ declares. true≢false (sym (c.is_declaring.ensures.1 declares) ∙ c.if-is_declaring.false)) editor c.in_ok-outcome.outcome
         (subst (λ f. IsJudged def Opens c.in-Some.kind f [] c.in_ok-outcome.outcome) c.in_ok-tree.ensures
         (subst (λ p. IsJudged def Opens c.in-Some.kind c.in_ok-tree.tree p c.in_ok-outcome.outcome) c.in_ok-top.ensures c.in_ok-outcome.ensures))

@@ -1,4 +1,4 @@
-use Rattle.std.proofs.Common.{refl, sym, ap, subst, ◌∙◌, inl, inr}
+use Rattle.std.proofs.Common.{refl, sym, subst, ◌∙◌, true≢false}
 use Rattle.psg_grammar.specs.Marks.{IsMark}
 use Rattle.psg_cache.specs.Notes.{AreDeclaringSpaces}
 use Rattle.psg_cache.specs.Shaped.{IsShaped}
@@ -10,14 +10,14 @@ pub build-requires-clause-sound : goal.build-requires-clause-sound
 build-requires-clause-sound g c = c.requires.language.sound
 
 pub build-requires-clause-declaring : goal.build-requires-clause-declaring
-build-requires-clause-declaring g c = subst (AreDeclaringSpaces c.args.language.now.definition) (sym c.as_slice.ensures) c.requires.language.declaring
+build-requires-clause-declaring g c = subst (AreDeclaringSpaces c.args.language.now.definition) (sym c.as_slice.ensures.value) c.requires.language.declaring
 
 pub build-requires-clause-formed : goal.build-requires-clause-formed
 build-requires-clause-formed g c = (c.args.kind, c.requires.shaped)
 
 pub returns-in-Err : goal.returns-in-Err
 returns-in-Err g c =
-    judged_fault c.args.language.now.definition c.args.change c.args.kind c.args.tree.now c.args.path.now c.in-Err.fault c.in_ok-number.number c.in_ok-number.ensures c.in-Err.ensures.fault
+    judged_fault c.args.language.now.definition c.args.change c.args.kind c.args.tree.now c.args.path.now c.in-Err.fault c.in_ok-number-in-Err.number c.in_ok-number-in-Err.ensures c.in-Err.ensures.fault
 
 pub returns-then-is_inadmissible : goal.returns-then-is_inadmissible
 returns-then-is_inadmissible g c =
@@ -28,7 +28,7 @@ pub returns : goal.returns
 returns g c =
     let def = c.args.language.now.definition in
     let note = c.in-Ok.ensures.note in (
-      judged_right def c.args.tree.now c.in-Ok.note note c.args.change (λ h. c.if-is_inadmissible.false (c.is_inadmissible.ensures.1 h)),
+      judged_right def c.args.tree.now c.in-Ok.note note c.args.change (λ h. true≢false (sym (c.is_inadmissible.ensures.1 h) ∙ c.if-is_inadmissible.false)),
       subst (IsMark def c.args.tree.now) (sym c.in_ok-mark.ensures) note.mark,
       record {
         shaped = subst (λ f. IsShaped def f c.args.kind) (sym note.tree) c.requires.shaped;
