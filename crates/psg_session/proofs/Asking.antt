@@ -67,15 +67,18 @@ module _ (def : Definition) (e : Editor) where
     show_opened is line mark text told = λ s same.
         let marks : IsMark def held.note.tree mark = subst (IsMark def held.note.tree) (sym told) (opened_tree is held opened).noted.mark in
         let step : Answers def s Show (shown (abstract_text def held.note.tree ∷ []) mark) =
-            shows (plain held) mark (taken s same Show refl) (opened_plain def e s same Cursor held opened) marks in
+        shows (plain held) mark (taken s same Show refl) (opened_plain def e s same Cursor held opened) marks in
         (s, same, subst (λ l. Answers def s Show (shown (l ∷ []) mark)) (sym text) step)
 
     pub free_opened : IsEditor def e → (line : List ℕ) → line ≡ names_line (names_without held.note.root.header.names)
         → Follows def e Free e (answered (line ∷ []))
     free_opened is line written = λ s same.
-        let told = written ∙ ap names_line (free_are def held.note.tree held.note.root.header (opened_tree is held opened).noted.root.header) in
-        (s, same, subst (λ l. Answers def s Free (answered (l ∷ []))) (sym told)
-          (frees (plain held) (taken s same Free refl) (opened_plain def e s same Cursor held opened)))
+        let told = written ∙ ap names_line (free_are def held.note.tree held.note.root.header (opened_tree is held opened).noted.root.header) in (
+          s,
+          same,
+          subst (λ l. Answers def s Free (answered (l ∷ []))) (sym told)
+              (frees (plain held) (taken s same Free refl) (opened_plain def e s same Cursor held opened)),
+        )
 
   module _ (place : Where) where
     pub own_not_found : (n : ℕ) → IsNotFound e place n → Follows def e (Own place) e (refused n)
@@ -88,8 +91,8 @@ module _ (def : Definition) (e : Editor) where
     own_found f found note noted lines written = λ s same.
         let rows = note.root.rel in
         let told : lines ≡ rows_lines def.signature (names_of def f.node.now) rows =
-            written ∙ ap (λ ks. rows_lines def.signature ks rows) noted.root.header.keys_are in
+        written ∙ ap (λ ks. rows_lines def.signature ks rows) noted.root.header.keys_are in
         let step : Answers def s (Own place) (answered (rows_lines def.signature (names_of def f.node.now) rows)) =
-            owns (plain f.held.now) f.node.now rows (taken_by def s (Own place) (found_before def e s same place f found (Own place) refl))
-            (opened_is def e s same place f found) (node_is def e s same place f found) noted.root.rows in
+        owns (plain f.held.now) f.node.now rows (taken_by def s (Own place) (found_before def e s same place f found (Own place) refl))
+        (opened_is def e s same place f found) (node_is def e s same place f found) noted.root.rows in
         (s, same, subst (λ l. Answers def s (Own place) (answered l)) (sym told) step)

@@ -1,5 +1,5 @@
 -- A phylum declares where the spaces in which it does are not none.
-use Rattle.std.proofs.Common.{◌≡◌, ◌↔◌, ℕ, suc, ◌==◌, Bool, true, false, not, List, [], ◌∷◌, length, IsTrue, Vec, vec_len, slice_get, get_or, Some, ◌<◌, refl, sym, ap, ◌∙◌, subst, arith, Contains}
+use Rattle.std.proofs.Common.{◌≡◌, ◌↔◌, ℕ, suc, ◌==◌, Bool, false, not, List, [], ◌∷◌, length, IsTrue, Vec, vec_len, slice_get, get_or, Some, ◌<◌, refl, sym, ap, ◌∙◌, subst, arith}
 use Rattle.std.specs.declared.alloc.Global.{Global}
 use Rattle.std.proofs.lemmas.Bool.{true≢false}
 use Rattle.std.proofs.lemmas.Option.{slice_get_read}

@@ -5,7 +5,7 @@ use Rattle.psg_terms.specs.Relations.{IsIn, first, later}
 use Rattle.psg_grammar.specs.declared.types.Definition.{Definition}
 use Rattle.psg_grammar.specs.Fragments.{Fragment}
 use Rattle.psg_grammar.specs.Keys.{Key, name_in}
-use Rattle.psg_grammar.specs.Regions.{declared_in, names_of}
+use Rattle.psg_grammar.specs.Regions.{declared_in}
 use Rattle.psg_scope.specs.declared.header.NameCol.{NameCol}
 use Rattle.psg_scope.specs.declared.header.Header.{Header}
 use Rattle.psg_scope.specs.Headers.{key_of, keys, is_declared, AreRising, IsBelow}

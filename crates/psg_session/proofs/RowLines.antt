@@ -1,6 +1,6 @@
 -- The lines of two relations of one fragment are equal: a row's line is made of the texts of its terms, which have no spaces, so
 -- the row's text tells them.
-use Rattle.std.proofs.Common.{◌≡◌, ◌≢◌, ℕ, zero, suc, ◌+◌, ◌%◌, ◌/◌, ◌==◌, Bool, true, false, cond, ◌&&◌, nat_lt, nat_le, List, [], ◌∷◌, ◌++◌, length, map, Option, Some, None, slice_get, refl, sym, ◌∙◌, ap, ap₂, subst, arith}
+use Rattle.std.proofs.Common.{◌≡◌, ◌≢◌, ℕ, zero, suc, ◌+◌, ◌%◌, ◌/◌, ◌==◌, Bool, true, false, cond, ◌&&◌, nat_lt, nat_le, List, [], ◌∷◌, ◌++◌, length, map, slice_get, refl, sym, ◌∙◌, ap, ap₂, arith}
 use Rattle.std.specs.Prelude.{codes, decimal}
 use Rattle.std.specs.Fmt.{digits, digits_onto, digit_glyph}
 use Rattle.std.specs.List.{AllByRecursion, list_all}
@@ -161,9 +161,9 @@ module _ (def : Definition) (sound : IsSound def) where
   relation_lines f rows others (ls, rel) (rs, other) ks =
       let sig : Signature = def.signature in
       let wide = λ (row one : List Term) (h : IsIn row rows) (k : IsIn one others).
-          sorts_length sig row rs (other.shapes row (same_rows sig (IsPossible def f) sound.signature ls rs rows others rel other row h)).sorted
-          ∙ sym (sorts_length sig one rs (other.shapes one k).sorted) in
+      sorts_length sig row rs (other.shapes row (same_rows sig (IsPossible def f) sound.signature ls rs rows others rel other row h)).sorted
+      ∙ sym (sorts_length sig one rs (other.shapes one k).sorted) in
       lines_are sig ks rows
       ∙ ap (lines_of ks) (same_rows_texts sig sound.constructor_names rows others wide
-          (same_row_texts sig sound.signature (IsPossible def f) ls rs rows others rel other))
+      (same_row_texts sig sound.signature (IsPossible def f) ls rs rows others rel other))
       ∙ sym (lines_are sig ks others)

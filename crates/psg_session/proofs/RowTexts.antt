@@ -1,5 +1,5 @@
 -- Two relations of one family have rows of the same texts, in the same order.
-use Rattle.std.proofs.Common.{◌≡◌, ◌⊎◌, inl, inr, ℕ, Bool, false, List, [], ◌∷◌, map, IsTrue, refl, sym, ◌∙◌, ap, ap₂, subst, nat_cmp}
+use Rattle.std.proofs.Common.{◌≡◌, ◌⊎◌, inl, inr, ℕ, false, List, [], ◌∷◌, map, IsTrue, refl, sym, ◌∙◌, ap, ap₂, subst, nat_cmp}
 use Rattle.std.specs.Ordering.{is_le, is_gt, ordering_reverse}
 use Rattle.std.specs.Cmp.Lexicographic.{slice_cmp, nat_list_cmp_total}
 use Rattle.std.specs.FinMap as map_laws
@@ -123,7 +123,7 @@ rises_on : (sig : Signature) (r s : List Term) (rest : List (List Term)) → IsT
     → Rises (row_text sig) (s ∷ rest) → Rises (row_text sig) (r ∷ s ∷ rest)
 rises_on sig r s rest low up = (
   (λ y k. upto nat_list_cmp_total (row_text sig r) (row_text sig s) (row_text sig y) (le_upto (slice_cmp nat_cmp (row_text sig r) (row_text sig s)) low)
-    (least_of (row_text sig) s rest up y k)),
+      (least_of (row_text sig) s rest up y k)),
   up,
 )
 

@@ -1,4 +1,4 @@
-use Rattle.std.proofs.Common.{◌≡◌, List, ◌+◌, ◌++◌, ◌∷◌, [], take, get_or, sym, ap, ◌∙◌}
+use Rattle.std.proofs.Common.{List, ◌++◌, ◌∷◌, take, get_or, sym, ap, ◌∙◌}
 use Rattle.std.specs.Prelude.{string_bytes}
 use Rattle.std.proofs.lemmas.List.{take_more}
 use Rattle.psg_grammar.specs.Paths.{Path}
