@@ -1,5 +1,5 @@
 -- What a cut is answered, before its tree is tested.
-use Rattle.std.proofs.Common.{◌≡◌, ℕ, List, [], ◌∷◌, Some, None, refl, sym, ◌∙◌, ap, subst}
+use Rattle.std.proofs.Common.{◌≡◌, ℕ, [], ◌∷◌, Some, refl, sym, ◌∙◌, ap, subst}
 use Rattle.psg_grammar.specs.Insertion.{blank}
 use Rattle.psg_grammar.specs.Kinds.{HasKind}
 use Rattle.psg_grammar.specs.declared.types.Kind.{Kind}

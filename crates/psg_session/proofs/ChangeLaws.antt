@@ -1,5 +1,5 @@
 -- What the changes of a found node have in common.
-use Rattle.std.proofs.Common.{◌≡◌, ◌⊎◌, inl, inr, ℕ, ◌<◌, Bool, true, false, true≢false, List, [], ◌∷◌, length, slice_get, Some, None, Option, Result, Ok, IfOk, option_map, refl, sym, ◌∙◌, ap, subst}
+use Rattle.std.proofs.Common.{◌≡◌, inl, inr, ℕ, ◌<◌, Bool, false, true≢false, List, [], ◌∷◌, length, slice_get, Some, None, Option, Result, Ok, IfOk, option_map, refl, sym, ◌∙◌, subst}
 use Rattle.std.proofs.lemmas.Option.{none-some, slice_get_within}
 use Rattle.psg_terms.specs.Names.{Name}
 use Rattle.psg_grammar.specs.declared.types.Kind.{Kind}
@@ -10,9 +10,9 @@ use Rattle.psg_grammar.specs.declared.types.ListKind.{ListKind}
 use Rattle.psg_grammar.specs.declared.types.Operator.{Operator}
 use Rattle.psg_grammar.specs.declared.types.Definition.{Definition}
 use Rattle.psg_grammar.specs.Fragments.{Fragment, hole, ending, cell, operator, with_child, with_name, with_number, with_text, anything, observed}
-use Rattle.psg_grammar.specs.Insertion.{Leaf, fresh_operator}
+use Rattle.psg_grammar.specs.Insertion.{Leaf}
 use Rattle.psg_grammar.specs.Kinds.{HasKind}
-use Rattle.psg_grammar.specs.Paths.{Path, node_at, change_at, IsList, ended}
+use Rattle.psg_grammar.specs.Paths.{change_at, IsList, ended}
 use Rattle.psg_grammar.specs.Sound.{IsSound}
 use Rattle.psg_grammar.proofs.NamePlaces.{only_op}
 use Rattle.psg_grammar.proofs.SoundParts.{phylum_in}
@@ -27,12 +27,12 @@ use Rattle.psg_session.specs.declared.editor.Editor.{Editor}
 use Rattle.psg_session.specs.declared.editor.OpenedTree.{OpenedTree}
 use Rattle.psg_session.specs.declared.finding.Found.{Found}
 use Rattle.psg_session.specs.Leaves.{GivesLeaves}
-use Rattle.psg_session.specs.PlainState.{State, Opened, named_path}
-use Rattle.psg_session.specs.PlainStep.{AtNode, GivesNone, IsListOf, IsOfPhylum, IsOperator, IsOther, IsWanted, Makes, end_of}
+use Rattle.psg_session.specs.PlainState.{State, Opened}
+use Rattle.psg_session.specs.PlainStep.{GivesNone, IsListOf, IsOfPhylum, IsOperator, IsOther, IsWanted, end_of}
 use Rattle.psg_session.specs.Refusals.{Refusal, no_node, nothing_opened, place_of}
 use Rattle.psg_session.specs.Views.{IsEditor, IsOpenedAs, IsOpenedTree, Represents}
 use Rattle.psg_session.specs.Outcomes.{IsFound, IsFreshAnswer, IsPlanShaped, NoneOf}
-use Rattle.psg_session.proofs.StepLaws.{Tests, plain, at_node, found_before, has_node, opened_is}
+use Rattle.psg_session.proofs.StepLaws.{plain, at_node, found_before, has_node, opened_is}
 
 pub some_once : {X : Type 0} (x y : X) (o : Option X) → o ≡ Some x → o ≡ Some y → x ≡ y
 some_once x y o e f = let d : Some x ≡ Some y = sym e ∙ f in cc

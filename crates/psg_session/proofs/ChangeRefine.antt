@@ -1,8 +1,7 @@
 -- What a refinement is answered, before its tree is tested.
-use Rattle.std.proofs.Common.{◌≡◌, ◌⊎◌, inl, inr, ℕ, List, [], ◌∷◌, Some, None, Ok, Err, refl, sym, ◌∙◌, ap, subst}
+use Rattle.std.proofs.Common.{◌≡◌, inl, inr, ℕ, List, [], ◌∷◌, None, Ok, Err, refl, sym, ◌∙◌, ap, subst}
 use Rattle.psg_terms.specs.Names.{Name}
-use Rattle.psg_grammar.specs.declared.types.Kind.TheVariants as kinds
-use Rattle.psg_grammar.specs.Insertion.{with_operator, fresh_operator}
+use Rattle.psg_grammar.specs.Insertion.{with_operator}
 use Rattle.psg_grammar.specs.declared.types.Kind.{Kind}
 use Rattle.psg_grammar.specs.declared.types.Definition.{Definition}
 use Rattle.psg_grammar.specs.Fragments.{Fragment, hole}
@@ -16,7 +15,7 @@ use Rattle.psg_session.specs.declared.changes.Plan.TheVariants.{RefusedBy, Makes
 use Rattle.psg_session.specs.declared.editor.Editor.{Editor}
 use Rattle.psg_session.specs.declared.finding.Found.{Found}
 use Rattle.psg_session.specs.declared.judging.Change.TheVariants.{Grows}
-use Rattle.psg_session.specs.PlainState.{State, Opened, named_path}
+use Rattle.psg_session.specs.PlainState.{State, named_path}
 use Rattle.psg_session.specs.PlainStep.{Gives, by_change, by_refine, IsOfPhylum, IsOperator, IsWanted, Makes}
 use Rattle.psg_session.specs.Refusals.{nothing_opened, no_node, not_hole, unknown, other_phylum, arguments, deep, big, wide, heavy, inadmissible}
 use Rattle.psg_session.specs.Views.{Represents}

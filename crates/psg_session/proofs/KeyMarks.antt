@@ -5,7 +5,7 @@ use Rattle.psg_terms.specs.Relations.{IsIn, first, later}
 use Rattle.psg_grammar.specs.declared.types.Definition.{Definition}
 use Rattle.psg_grammar.specs.Fragments.{Fragment}
 use Rattle.psg_grammar.specs.Keys.{Key, name_in}
-use Rattle.psg_grammar.specs.Regions.{declared_in, names_of}
+use Rattle.psg_grammar.specs.Regions.{declared_in}
 use Rattle.psg_scope.specs.declared.header.NameCol.{NameCol}
 use Rattle.psg_scope.specs.declared.header.Header.{Header}
 use Rattle.psg_scope.specs.Headers.{key_of, keys, is_declared, AreRising, IsBelow}
@@ -16,13 +16,15 @@ use Rattle.psg_eval.specs.Summaries.{IsHeaderOf}
 use Rattle.psg_session.specs.Answers.{undeclared, free_names, names_without}
 
 -- a member of a list of columns is above the key that is below all of them
-differs : (c d : NameCol) (cols : List NameCol) → IsBelow (key_of c) (keys cols) → IsIn d cols → bytes_eq (key_of c) (key_of d) ≡ false
+differs : (c d : NameCol) (cols : List NameCol) → IsBelow (key_of c) (keys cols) → IsIn d cols
+    → bytes_eq (key_of c) (key_of d) ≡ false
 differs c d [] low h = elim h [ ]
 differs c d (e ∷ cols) low first = less-differs (key_of c) (key_of d) low.0
 differs c d (e ∷ cols) low (later h) = differs c d cols low.1 h
 
 -- where the keys rise, a key is declared where its own column says so
-own_mark : (cols : List NameCol) (c : NameCol) → AreRising (keys cols) → IsIn c cols → is_declared cols (key_of c) ≡ c.declared
+own_mark : (cols : List NameCol) (c : NameCol) → AreRising (keys cols) → IsIn c cols
+    → is_declared cols (key_of c) ≡ c.declared
 own_mark [] c rising h = elim h [ ]
 own_mark (d ∷ cols) c rising first =
     ap (λ b. (c.declared && b) || is_declared cols (key_of c)) (key_refl (key_of c))
@@ -34,11 +36,13 @@ own_mark (d ∷ cols) c rising (later h) =
     ∙ own_mark cols c rising.1 h
 
 -- each name stands where its key does
-without_marks : (declared : List Key) (cols : List NameCol) → ((c : NameCol) → IsIn c cols → is_among declared (key_of c) ≡ c.declared)
+without_marks : (declared : List Key) (cols : List NameCol)
+    → ((c : NameCol) → IsIn c cols → is_among declared (key_of c) ≡ c.declared)
     → names_without cols ≡ map name_in (undeclared declared (keys cols))
 without_marks declared [] marks = refl
 without_marks declared (c ∷ cols) marks =
-    go c.declared (is_among declared (key_of c)) (marks c first) (without_marks declared cols (λ d h. marks d (later h)))
+    go c.declared (is_among declared (key_of c)) (marks c first)
+        (without_marks declared cols (λ d h. marks d (later h)))
   where
     go : (a b : Bool) → b ≡ a → names_without cols ≡ map name_in (undeclared declared (keys cols))
         → cond a (names_without cols) (c.name ∷ names_without cols)
@@ -48,7 +52,9 @@ without_marks declared (c ∷ cols) marks =
     go false true same rest = absurd (cc)
     go false false same rest = ap (λ l. c.name ∷ l) rest
 
-pub free_are : (def : Definition) (f : Fragment) (h : Header) → IsHeaderOf def f h → names_without h.names ≡ free_names def f
+pub free_are : (def : Definition) (f : Fragment) (h : Header) → IsHeaderOf def f h
+    → names_without h.names ≡ free_names def f
 free_are def f h is =
-    without_marks (declared_in def f) h.names (λ c k. sym (is.declares (key_of c)) ∙ own_mark h.names c (header-rising is) k)
+    without_marks (declared_in def f) h.names (λ c k. sym (is.declares (key_of c)) ∙ own_mark h.names c
+        (header-rising is) k)
     ∙ ap (λ ks. map name_in (undeclared (declared_in def f) ks)) is.keys_are

@@ -1,9 +1,9 @@
 -- Which names may stand at a name position.
-use Rattle.std.proofs.Common.{◌≡◌, ◌↔◌, ℕ, Bool, true, false, not, true≢false, List, IsTrue, IsUtf8, chars, refl, sym, ◌∙◌, ap, subst}
+use Rattle.std.proofs.Common.{◌≡◌, ◌↔◌, Bool, true, false, not, true≢false, IsTrue, IsUtf8, chars, refl, sym, ◌∙◌, ap, subst}
 use Rattle.std.proofs.lemmas.Str.{encodes-chars}
 use Rattle.psg_terms.specs.Names.{Name, is_among}
 use Rattle.psg_terms.specs.Words.{IsWord}
-use Rattle.psg_grammar.specs.WellFormed.{fixed_words, IsName}
+use Rattle.psg_grammar.specs.WellFormed.{IsName}
 use Rattle.psg_session.specs.declared.language.Language.{Language}
 use Rattle.psg_session.specs.declared.leaves.Leaf.{Leaf}
 use Rattle.psg_session.specs.declared.leaves.Leaf.TheVariants as leaves

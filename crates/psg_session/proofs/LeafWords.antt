@@ -1,5 +1,5 @@
 -- What a text's tokens say of the leaves that it gives.
-use Rattle.std.proofs.Common.{◌≡◌, ℕ, ◌+◌, ◌<◌, Bool, true, false, true≢false, ◌&&◌, List, [], ◌∷◌, ◌++◌, length, get_or, take, map, Option, Some, None, slice_get, chars, encode_utf8_all, refl, sym, ◌∙◌, ap, ap₂, subst, suc, zero, arith}
+use Rattle.std.proofs.Common.{◌≡◌, ℕ, ◌+◌, ◌<◌, Bool, true, false, true≢false, ◌&&◌, List, [], ◌∷◌, ◌++◌, length, get_or, take, map, Some, chars, encode_utf8_all, refl, sym, ◌∙◌, ap, ap₂, subst, suc, zero, arith}
 use Rattle.std.specs.List.{AllByRecursion}
 use Rattle.std.specs.Cmp.{first_so, second_so}
 use Rattle.std.specs.Str.{all_scalars, IsUtf8}
@@ -9,9 +9,7 @@ use Rattle.std.proofs.lemmas.Str.{chars-encodes, scalars-chars}
 use lib.Utf8.{scalar}
 use Rattle.psg_terms.specs.Names.{Name}
 use Rattle.psg_terms.specs.Words.{IsWord}
-use Rattle.psg_grammar.specs.declared.types.Definition.{Definition}
-use Rattle.psg_grammar.specs.Insertion.{Leaf as PlainLeaf, a_name, a_number, a_text, AreLeaves}
-use Rattle.psg_grammar.specs.Lookups.{operator_at, items_of}
+use Rattle.psg_grammar.specs.Insertion.{Leaf as PlainLeaf, a_name, a_number, a_text}
 use Rattle.psg_lexis.specs.Classes.{Chars}
 use Rattle.psg_lexis.specs.Tokens.{value_of, IsToken, word, number, text, solo, symbol, hole, more, HasTokens, nothing, blank, next}
 use Rattle.psg_lexis.specs.declared.token.Spanned.{Spanned}

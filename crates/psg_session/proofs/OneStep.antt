@@ -38,11 +38,13 @@ chosen_once (taken has more) (passed never more') = absurd (never has)
 chosen_once (passed never more) (taken has more') = absurd (never has)
 chosen_once (passed never more) (passed never' more') = chosen_once more more'
 
-pub mark_once : (IsGood : Fragment → Type 0) (f : Fragment) (a b : Mark) → IsMarkBy IsGood f a → IsMarkBy IsGood f b → a ≡ b
+pub mark_once : (IsGood : Fragment → Type 0) (f : Fragment) (a b : Mark) → IsMarkBy IsGood f a → IsMarkBy IsGood f b
+    → a ≡ b
 mark_once IsGood f good good h g = refl
 mark_once IsGood f good (wrong paths) h g = absurd (g.0 h)
 mark_once IsGood f (wrong paths) good h g = absurd (h.0 g)
-mark_once IsGood f (wrong paths) (wrong others) h g = ap wrong (h.1.2 ∙ ap (map path_of) (chosen_once h.1.1 g.1.1) ∙ sym g.1.2)
+mark_once IsGood f (wrong paths) (wrong others) h g =
+    ap wrong (h.1.2 ∙ ap (map path_of) (chosen_once h.1.1 g.1.1) ∙ sym g.1.2)
 
 -- ---- steps
 
@@ -61,20 +63,25 @@ leaves_by (l ∷ ls) (m ∷ ms) e =
     ap (λ x. x ∷ ls) head ∙ ap (λ rest. m ∷ rest) (leaves_by ls ms tail)
 
 -- a text gives one list of leaves
-leaves_once : (def : Definition) (o u : ℕ) (args : List ℕ) (ls ms : List Leaf) → GivesLeaves def o args ls → GivesLeaves def u args ms → ls ≡ ms
+leaves_once : (def : Definition) (o u : ℕ) (args : List ℕ) (ls ms : List Leaf) → GivesLeaves def o args ls
+    → GivesLeaves def u args ms → ls ≡ ms
 leaves_once def o u args ls ms (found, tokens, are, fit) (other, tokens', are', fit') =
-    leaves_by ls ms (sym are ∙ ap (map given) (only_tokens (fixed_words def) (chars args) 0 found other tokens tokens') ∙ are')
+    leaves_by ls ms (sym are ∙ ap (map given) (only_tokens (fixed_words def) (chars args) 0 found other tokens
+        tokens') ∙ are')
 
 module _ (def : Definition) (IsGood : Fragment → Type 0) (s : State) (answer : Answer) where
   -- the first test that holds is one
-  refusal_once : (command : Command) (r q : Refusal) → IsRefused def IsGood s answer command r → IsRefused def IsGood s answer command q → r ≡ q
+  refusal_once : (command : Command) (r q : Refusal) → IsRefused def IsGood s answer command r
+      → IsRefused def IsGood s answer command q → r ≡ q
   refusal_once command r q h g = elim (cases_order h.number g.number) as (λ _. r ≡ q) [
-    | inl same ↦ some_once r q (slice_get (tests_of command) g.number) (subst (λ n. slice_get (tests_of command) n ≡ Some r) same h.test) g.test
+    | inl same ↦ some_once r q (slice_get (tests_of command) g.number)
+        (subst (λ n. slice_get (tests_of command) n ≡ Some r) same h.test) g.test
     | inr (inl before) ↦ absurd (g.first h.number r before h.test h.holds)
     | inr (inr behind) ↦ absurd (h.first g.number q behind g.test g.holds)
   ]
 
-  not_both : (command : Command) (r : Refusal) → IsTaken def IsGood s answer command → IsRefused def IsGood s answer command r → ⊥
+  not_both : (command : Command) (r : Refusal) → IsTaken def IsGood s answer command
+      → IsRefused def IsGood s answer command r → ⊥
   not_both command r taken_is h = taken_is h.number r h.test h.holds
 
   module _ (sound : IsSound def) where
@@ -85,20 +92,26 @@ module _ (def : Definition) (IsGood : Fragment → Type 0) (s : State) (answer :
     operator_once a b name = only_op def sound.operator_names a b name
 
     -- two times the operator that a name and a text give
-    module _ (old old' : Opened) (o o' : ℕ) (ls ls' : List Leaf) (name : Name) (args : List ℕ) (opened : s.opened ≡ Some old) (opened' : s.opened ≡ Some old')
-        (named : IsOperator def o name) (named' : IsOperator def o' name) (gives : GivesLeaves def o args ls) (gives' : GivesLeaves def o' args ls') where
-      operator_made_once : (path : Path) (k : Option ℕ) → with_operator def old.tree path k o ls ≡ with_operator def old'.tree path k o' ls'
+    module _ (old old' : Opened) (o o' : ℕ) (ls ls' : List Leaf) (name : Name) (args : List ℕ)
+        (opened : s.opened ≡ Some old) (opened' : s.opened ≡ Some old')
+        (named : IsOperator def o name) (named' : IsOperator def o' name) (gives : GivesLeaves def o args ls)
+            (gives' : GivesLeaves def o' args ls') where
+      operator_made_once : (path : Path) (k : Option ℕ)
+          → with_operator def old.tree path k o ls ≡ with_operator def old'.tree path k o' ls'
       operator_made_once path k =
           ap (λ (x : Opened). with_operator def x.tree path k o ls) (some_once old old' s.opened opened opened')
           ∙ ap (λ x. with_operator def old'.tree path k x ls) (operator_once o o' name named named')
           ∙ ap (with_operator def old'.tree path k o') (leaves_once def o o' args ls ls' gives gives')
 
     -- two times a change of the opened tree
-    change_made_once : (old old' : Opened) (g : Fragment → Fragment) (path : Path) → s.opened ≡ Some old → s.opened ≡ Some old'
+    change_made_once : (old old' : Opened) (g : Fragment → Fragment) (path : Path) → s.opened ≡ Some old
+        → s.opened ≡ Some old'
         → change_at g path old.tree ≡ change_at g path old'.tree
-    change_made_once old old' g path opened opened' = ap (λ (x : Opened). change_at g path x.tree) (some_once old old' s.opened opened opened')
+    change_made_once old old' g path opened opened' =
+        ap (λ (x : Opened). change_at g path x.tree) (some_once old old' s.opened opened opened')
 
-    node_once : (old old' : Opened) (node node' : Fragment) (path : Path) → s.opened ≡ Some old → s.opened ≡ Some old' → node_at old.tree path ≡ Some node
+    node_once : (old old' : Opened) (node node' : Fragment) (path : Path) → s.opened ≡ Some old → s.opened ≡ Some old'
+        → node_at old.tree path ≡ Some node
         → node_at old'.tree path ≡ Some node' → node ≡ node'
     node_once old old' node node' path opened opened' at at' =
         some_once node node' (node_at old'.tree path)
@@ -107,10 +120,14 @@ module _ (def : Definition) (IsGood : Fragment → Type 0) (s : State) (answer :
     -- a change gives one tree and one place
     makes_once : {command : Command} {tree other : Fragment} {path place : Path}
         → Makes def s command tree path → Makes def s command other place → (tree ≡ other) × (path ≡ place)
-    makes_once (by_refine {place = at} {name = name} {args = args} old o ls opened named gives) (by_refine old' o' ls' opened' named' gives') =
-        (operator_made_once old old' o o' ls ls' name args opened opened' named named' gives gives' (named_path at s.cursor) None, refl)
-    makes_once (by_insert {place = at} {k = k} {name = name} {args = args} old o ls opened named gives) (by_insert old' o' ls' opened' named' gives') =
-        (operator_made_once old old' o o' ls ls' name args opened opened' named named' gives gives' (named_path at s.cursor) (Some k), refl)
+    makes_once (by_refine {place = at} {name = name} {args = args} old o ls opened named gives)
+        (by_refine old' o' ls' opened' named' gives') =
+        (operator_made_once old old' o o' ls ls' name args opened opened' named named' gives gives'
+            (named_path at s.cursor) None, refl)
+    makes_once (by_insert {place = at} {k = k} {name = name} {args = args} old o ls opened named gives)
+        (by_insert old' o' ls' opened' named' gives') =
+        (operator_made_once old old' o o' ls ls' name args opened opened' named named' gives gives'
+            (named_path at s.cursor) (Some k), refl)
     makes_once (by_cut {place = at} old node kind opened here is) (by_cut old' node' kind' opened' here' is') =
         let one : node ≡ node' = node_once old old' node node' (named_path at s.cursor) opened opened' here here' in
         let same : kind ≡ kind' = node_kind_once def node' kind kind' (subst (λ f. IsOfKind def f kind) one is) is' in (
@@ -118,58 +135,89 @@ module _ (def : Definition) (IsGood : Fragment → Type 0) (s : State) (answer :
               ∙ ap (λ x. replaced (named_path at s.cursor) (blank def x) old'.tree) same,
           refl,
         )
-    makes_once (by_remove {place = at} {k = k} old opened) (by_remove old' opened') = (change_made_once old old' (removed k) (named_path at s.cursor) opened opened', refl)
-    makes_once (by_close {place = at} old opened) (by_close old' opened') = (change_made_once old old' (ended false) (named_path at s.cursor) opened opened', refl)
-    makes_once (by_reopen {place = at} old opened) (by_reopen old' opened') = (change_made_once old old' (ended true) (named_path at s.cursor) opened opened', refl)
+    makes_once (by_remove {place = at} {k = k} old opened) (by_remove old' opened') =
+        (change_made_once old old' (removed k) (named_path at s.cursor) opened opened', refl)
+    makes_once (by_close {place = at} old opened) (by_close old' opened') =
+        (change_made_once old old' (ended false) (named_path at s.cursor) opened opened', refl)
+    makes_once (by_reopen {place = at} old opened) (by_reopen old' opened') =
+        (change_made_once old old' (ended true) (named_path at s.cursor) opened opened', refl)
 
     -- the lines of a node are told by one of its relations
-    lines_once : (old old' : Opened) (node node' : Fragment) (path : Path) (rows rows' : List (List Term)) → s.opened ≡ Some old → s.opened ≡ Some old'
-        → node_at old.tree path ≡ Some node → node_at old'.tree path ≡ Some node' → IsRelationOf def node rows → IsRelationOf def node' rows'
-        → answered (rows_lines def.signature (names_of def node) rows) ≡ answered (rows_lines def.signature (names_of def node') rows')
+    lines_once : (old old' : Opened) (node node' : Fragment) (path : Path) (rows rows' : List (List Term))
+        → s.opened ≡ Some old → s.opened ≡ Some old'
+        → node_at old.tree path ≡ Some node → node_at old'.tree path ≡ Some node' → IsRelationOf def node rows
+        → IsRelationOf def node' rows'
+        → answered (rows_lines def.signature (names_of def node) rows) ≡ answered
+            (rows_lines def.signature (names_of def node') rows')
     lines_once old old' node node' path rows rows' opened opened' at at' rel rel' =
         let one : node ≡ node' = node_once old old' node node' path opened opened' at at' in
         ap (λ f. answered (rows_lines def.signature (names_of def f) rows)) one
-        ∙ ap answered (relation_lines def sound node' rows rows' (subst (λ f. IsRelationOf def f rows) one rel) rel' (names_of def node'))
+        ∙ ap answered (relation_lines def sound node' rows rows' (subst (λ f. IsRelationOf def f rows) one rel) rel'
+            (names_of def node'))
 
     pub step_once : {command : Command} {t u : State} {reply other : Reply}
-        → Steps def IsGood s answer command t reply → Steps def IsGood s answer command u other → (t ≡ u) × (reply ≡ other)
-    step_once (refuses {command = command} {r = r} h) (refuses {r = q} g) = (refl, ap (λ x. refused (number_of x)) (refusal_once command r q h g))
-    step_once (refuses {command = command} {r = r} h) (opens kind mark taken_is named is_mark) = absurd (not_both command r taken_is h)
-    step_once (refuses {command = command} {r = r} h) (changes old mark taken_is opened makes is_mark) = absurd (not_both command r taken_is h)
-    step_once (refuses {command = command} {r = r} h) (shows old mark taken_is opened is_mark) = absurd (not_both command r taken_is h)
-    step_once (refuses {command = command} {r = r} h) (owns old node rows taken_is opened at rel) = absurd (not_both command r taken_is h)
-    step_once (refuses {command = command} {r = r} h) (frees old taken_is opened) = absurd (not_both command r taken_is h)
-    step_once (opens kind mark taken_is named is_mark) (refuses {command = command} {r = r} h) = absurd (not_both command r taken_is h)
+        → Steps def IsGood s answer command t reply → Steps def IsGood s answer command u other
+        → (t ≡ u) × (reply ≡ other)
+    step_once (refuses {command = command} {r = r} h) (refuses {r = q} g) =
+        (refl, ap (λ x. refused (number_of x)) (refusal_once command r q h g))
+    step_once (refuses {command = command} {r = r} h) (opens kind mark taken_is named is_mark) =
+        absurd (not_both command r taken_is h)
+    step_once (refuses {command = command} {r = r} h) (changes old mark taken_is opened makes is_mark) =
+        absurd (not_both command r taken_is h)
+    step_once (refuses {command = command} {r = r} h) (shows old mark taken_is opened is_mark) =
+        absurd (not_both command r taken_is h)
+    step_once (refuses {command = command} {r = r} h) (owns old node rows taken_is opened at rel) =
+        absurd (not_both command r taken_is h)
+    step_once (refuses {command = command} {r = r} h) (frees old taken_is opened) =
+        absurd (not_both command r taken_is h)
+    step_once (opens kind mark taken_is named is_mark) (refuses {command = command} {r = r} h) =
+        absurd (not_both command r taken_is h)
     step_once (opens {name = name} kind mark taken_is named is_mark) (opens kind' mark' taken_is' named' is_mark') =
         let same : kind ≡ kind' = kind_once kind kind' name named named' in
-        let is_mark'' : IsMarkBy IsGood (blank def kind') mark = subst (λ k. IsMarkBy IsGood (blank def k) mark) same is_mark in
-        (ap (λ k. with_new s k (blank def k)) same, ap marked (mark_once IsGood (blank def kind') mark mark' is_mark'' is_mark'))
-    step_once (opens kind mark taken_is named is_mark) (changes old' mark' taken_is' opened' makes' is_mark') = elim makes' [ ]
-    step_once (changes {command = command} old mark taken_is opened makes is_mark) (refuses {r = r} h) = absurd (not_both command r taken_is h)
-    step_once (changes old mark taken_is opened makes is_mark) (opens kind' mark' taken_is' named' is_mark') = elim makes [ ]
-    step_once (changes {tree = tree} {path = path} old mark taken_is opened makes is_mark) (changes {tree = tree'} {path = path'} old' mark' taken_is' opened' makes' is_mark') =
+        let is_mark'' : IsMarkBy IsGood (blank def kind') mark = subst (λ k. IsMarkBy IsGood (blank def k) mark) same
+            is_mark in
+        (ap (λ k. with_new s k (blank def k)) same, ap marked
+            (mark_once IsGood (blank def kind') mark mark' is_mark'' is_mark'))
+    step_once (opens kind mark taken_is named is_mark) (changes old' mark' taken_is' opened' makes' is_mark') =
+        elim makes' [ ]
+    step_once (changes {command = command} old mark taken_is opened makes is_mark) (refuses {r = r} h) =
+        absurd (not_both command r taken_is h)
+    step_once (changes old mark taken_is opened makes is_mark) (opens kind' mark' taken_is' named' is_mark') =
+        elim makes [ ]
+    step_once (changes {tree = tree} {path = path} old mark taken_is opened makes is_mark)
+        (changes {tree = tree'} {path = path'} old' mark' taken_is' opened' makes' is_mark') =
         let same : old ≡ old' = some_once old old' s.opened opened opened' in
         let both = makes_once makes makes' in
         let is_mark'' : IsMarkBy IsGood tree' mark = subst (λ f. IsMarkBy IsGood f mark) both.0 is_mark in (
-          ap (λ x. with_change s x tree path) same ∙ ap (λ f. with_change s old' f path) both.0 ∙ ap (with_change s old' tree') both.1,
+          ap (λ x. with_change s x tree path) same ∙ ap (λ f. with_change s old' f path) both.0 ∙ ap
+              (with_change s old' tree') both.1,
           ap marked (mark_once IsGood tree' mark mark' is_mark'' is_mark'),
         )
-    step_once (changes old mark taken_is opened makes is_mark) (shows old' mark' taken_is' opened' is_mark') = elim makes [ ]
-    step_once (changes old mark taken_is opened makes is_mark) (owns old' node' rows' taken_is' opened' at' rel') = elim makes [ ]
+    step_once (changes old mark taken_is opened makes is_mark) (shows old' mark' taken_is' opened' is_mark') =
+        elim makes [ ]
+    step_once (changes old mark taken_is opened makes is_mark) (owns old' node' rows' taken_is' opened' at' rel') =
+        elim makes [ ]
     step_once (changes old mark taken_is opened makes is_mark) (frees old' taken_is' opened') = elim makes [ ]
-    step_once (shows old mark taken_is opened is_mark) (refuses {command = command} {r = r} h) = absurd (not_both command r taken_is h)
-    step_once (shows old mark taken_is opened is_mark) (changes old' mark' taken_is' opened' makes' is_mark') = elim makes' [ ]
+    step_once (shows old mark taken_is opened is_mark) (refuses {command = command} {r = r} h) =
+        absurd (not_both command r taken_is h)
+    step_once (shows old mark taken_is opened is_mark) (changes old' mark' taken_is' opened' makes' is_mark') =
+        elim makes' [ ]
     step_once (shows old mark taken_is opened is_mark) (shows old' mark' taken_is' opened' is_mark') =
         let same : old ≡ old' = some_once old old' s.opened opened opened' in
         let is_mark'' : IsMarkBy IsGood old'.tree mark = subst (λ x. IsMarkBy IsGood x.tree mark) same is_mark in (
           refl,
-          ap (λ x. shown (abstract_text def x.tree ∷ []) mark) same ∙ ap (shown (abstract_text def old'.tree ∷ [])) (mark_once IsGood old'.tree mark mark' is_mark'' is_mark'),
+          ap (λ x. shown (abstract_text def x.tree ∷ []) mark) same ∙ ap (shown (abstract_text def old'.tree ∷ []))
+              (mark_once IsGood old'.tree mark mark' is_mark'' is_mark'),
         )
-    step_once (owns {place = place} old node rows taken_is opened at rel) (refuses {r = r} h) = absurd (not_both (Own place) r taken_is h)
-    step_once (owns old node rows taken_is opened at rel) (changes old' mark' taken_is' opened' makes' is_mark') = elim makes' [ ]
-    step_once (owns {place = place} old node rows taken_is opened at rel) (owns old' node' rows' taken_is' opened' at' rel') =
+    step_once (owns {place = place} old node rows taken_is opened at rel) (refuses {r = r} h) =
+        absurd (not_both (Own place) r taken_is h)
+    step_once (owns old node rows taken_is opened at rel) (changes old' mark' taken_is' opened' makes' is_mark') =
+        elim makes' [ ]
+    step_once (owns {place = place} old node rows taken_is opened at rel)
+        (owns old' node' rows' taken_is' opened' at' rel') =
         (refl, lines_once old old' node node' (named_path place s.cursor) rows rows' opened opened' at at' rel rel')
     step_once (frees old taken_is opened) (refuses {r = r} h) = absurd (not_both Free r taken_is h)
     step_once (frees old taken_is opened) (changes old' mark' taken_is' opened' makes' is_mark') = elim makes' [ ]
     step_once (frees old taken_is opened) (frees old' taken_is' opened') =
-        (refl, ap (λ (x : Opened). answered (names_line (free_names def x.tree) ∷ [])) (some_once old old' s.opened opened opened'))
+        (refl, ap (λ (x : Opened). answered (names_line (free_names def x.tree) ∷ []))
+            (some_once old old' s.opened opened opened'))

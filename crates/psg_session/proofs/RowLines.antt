@@ -1,6 +1,6 @@
--- The lines of two relations of one fragment are equal: a row's line is made of the texts of its terms, which have no spaces, so
--- the row's text tells them.
-use Rattle.std.proofs.Common.{◌≡◌, ◌≢◌, ℕ, zero, suc, ◌+◌, ◌%◌, ◌/◌, ◌==◌, Bool, true, false, cond, ◌&&◌, nat_lt, nat_le, List, [], ◌∷◌, ◌++◌, length, map, Option, Some, None, slice_get, refl, sym, ◌∙◌, ap, ap₂, subst, arith}
+-- The lines of two relations of one fragment are equal: a row's line is made of the texts of its terms, which have no
+-- spaces, so the row's text tells them.
+use Rattle.std.proofs.Common.{◌≡◌, ◌≢◌, ℕ, zero, suc, ◌+◌, ◌%◌, ◌/◌, ◌==◌, Bool, true, false, cond, ◌&&◌, nat_lt, nat_le, List, [], ◌∷◌, ◌++◌, length, map, slice_get, refl, sym, ◌∙◌, ap, ap₂, arith}
 use Rattle.std.specs.Prelude.{codes, decimal}
 use Rattle.std.specs.Fmt.{digits, digits_onto, digit_glyph}
 use Rattle.std.specs.List.{AllByRecursion, list_all}
@@ -43,7 +43,8 @@ clear_digits : (k n : ℕ) (behind : List ℕ) → IsClear behind → IsClear (d
 clear_digits zero n behind h = h
 clear_digits (suc k) n behind h =
     let next : List ℕ = digit_glyph false (n % 10) ∷ behind in
-    clear_choice (n / 10 == 0) next (digits_onto k 10 false (n / 10) next) (clear_digit (n % 10), h) (clear_digits k (n / 10) next (clear_digit (n % 10), h))
+    clear_choice (n / 10 == 0) next (digits_onto k 10 false (n / 10) next) (clear_digit (n % 10), h)
+        (clear_digits k (n / 10) next (clear_digit (n % 10), h))
 
 clear_decimal : (n : ℕ) → IsClear (decimal n)
 unfolding digits
@@ -110,7 +111,8 @@ module _ (sig : Signature) where
   line_is ks [] = refl
   line_is ks (value ∷ row) = ap (λ l. term_text sig value ++ l) (entities_are ks row)
 
-  more_lines : (ks : List Key) (rows : List (List Term)) → map (row_line sig ks) rows ≡ map (line_of ks) (map texts_of rows)
+  more_lines : (ks : List Key) (rows : List (List Term))
+      → map (row_line sig ks) rows ≡ map (line_of ks) (map texts_of rows)
   more_lines ks [] = refl
   more_lines ks (row ∷ rows) = ap₂ (λ (x : List ℕ) (l : List (List ℕ)). x ∷ l) (line_is ks row) (more_lines ks rows)
 
@@ -128,12 +130,14 @@ module _ (sig : Signature) where
 
       clear_opened : (t : Term) → IsClear (opened sig t)
       clear_opened (variable s n) = ((λ e. omega (arith, e)), clear_decimal n)
-      clear_opened (symbol c) = clear_append (symbol_name (slice_get sig.symbols c)) (40 ∷ []) (clear_symbol sig.symbols own c) ((λ e. omega (arith, e)), tt)
+      clear_opened (symbol c) = clear_append (symbol_name (slice_get sig.symbols c)) (40 ∷ [])
+          (clear_symbol sig.symbols own c) ((λ e. omega (arith, e)), tt)
       clear_opened (apply f a) = clear_append (opened sig f ++ term_text sig a) (44 ∷ [])
           (clear_append (opened sig f) (term_text sig a) (clear_opened f) (clear_text a)) ((λ e. omega (arith, e)), tt)
 
     -- the text of a row tells the texts of its terms
-    same_texts : (row other : List Term) → length row ≡ length other → row_text sig row ≡ row_text sig other → texts_of row ≡ texts_of other
+    same_texts : (row other : List Term) → length row ≡ length other → row_text sig row ≡ row_text sig other
+        → texts_of row ≡ texts_of other
     same_texts [] [] wide e = refl
     same_texts [] (u ∷ other) wide e = absurd (omega (arith, wide))
     same_texts (t ∷ row) [] wide e = absurd (omega (arith, wide))
@@ -141,10 +145,13 @@ module _ (sig : Signature) where
     same_texts (t ∷ []) (u ∷ v ∷ other) wide e = absurd (omega (arith, wide))
     same_texts (t ∷ s ∷ row) (u ∷ []) wide e = absurd (omega (arith, wide))
     same_texts (t ∷ s ∷ row) (u ∷ v ∷ other) wide e =
-        let both = cut (term_text sig t) (row_text sig (s ∷ row)) (term_text sig u) (row_text sig (v ∷ other)) (clear_text t) (clear_text u) e in
-        ap₂ (λ (x : List ℕ) (l : List (List ℕ)). x ∷ l) both.0 (same_texts (s ∷ row) (v ∷ other) (omega (arith, wide)) both.1)
+        let both = cut (term_text sig t) (row_text sig (s ∷ row)) (term_text sig u) (row_text sig (v ∷ other))
+            (clear_text t) (clear_text u) e in
+        ap₂ (λ (x : List ℕ) (l : List (List ℕ)). x ∷ l) both.0
+            (same_texts (s ∷ row) (v ∷ other) (omega (arith, wide)) both.1)
 
-    same_rows_texts : (rows others : List (List Term)) → ((row other : List Term) → IsIn row rows → IsIn other others → length row ≡ length other)
+    same_rows_texts : (rows others : List (List Term))
+        → ((row other : List Term) → IsIn row rows → IsIn other others → length row ≡ length other)
         → map (row_text sig) rows ≡ map (row_text sig) others → map texts_of rows ≡ map texts_of others
     same_rows_texts [] [] wide e = refl
     same_rows_texts [] (other ∷ others) wide e = absurd (cc)
@@ -152,18 +159,21 @@ module _ (sig : Signature) where
     same_rows_texts (row ∷ rows) (other ∷ others) wide e =
         let front : row_text sig row ≡ row_text sig other = cc in
         let back : map (row_text sig) rows ≡ map (row_text sig) others = cc in
-        ap₂ (λ (x : List (List ℕ)) (l : List (List (List ℕ))). x ∷ l) (same_texts row other (wide row other first first) front)
+        ap₂ (λ (x : List (List ℕ)) (l : List (List (List ℕ))). x ∷ l)
+            (same_texts row other (wide row other first first) front)
         (same_rows_texts rows others (λ r o h k. wide r o (later h) (later k)) back)
 
 module _ (def : Definition) (sound : IsSound def) where
-  pub relation_lines : (f : Fragment) (rows others : List (List Term)) → IsRelationOf def f rows → IsRelationOf def f others
+  pub relation_lines : (f : Fragment) (rows others : List (List Term)) → IsRelationOf def f rows
+      → IsRelationOf def f others
       → (ks : List Key) → rows_lines def.signature ks rows ≡ rows_lines def.signature ks others
   relation_lines f rows others (ls, rel) (rs, other) ks =
       let sig : Signature = def.signature in
       let wide = λ (row one : List Term) (h : IsIn row rows) (k : IsIn one others).
-          sorts_length sig row rs (other.shapes row (same_rows sig (IsPossible def f) sound.signature ls rs rows others rel other row h)).sorted
-          ∙ sym (sorts_length sig one rs (other.shapes one k).sorted) in
+      sorts_length sig row rs (other.shapes row (same_rows sig (IsPossible def f) sound.signature ls rs rows others
+          rel other row h)).sorted
+      ∙ sym (sorts_length sig one rs (other.shapes one k).sorted) in
       lines_are sig ks rows
       ∙ ap (lines_of ks) (same_rows_texts sig sound.constructor_names rows others wide
-          (same_row_texts sig sound.signature (IsPossible def f) ls rs rows others rel other))
+      (same_row_texts sig sound.signature (IsPossible def f) ls rs rows others rel other))
       ∙ sym (lines_are sig ks others)

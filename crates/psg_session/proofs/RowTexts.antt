@@ -1,5 +1,5 @@
 -- Two relations of one family have rows of the same texts, in the same order.
-use Rattle.std.proofs.Common.{◌≡◌, ◌⊎◌, inl, inr, ℕ, Bool, false, List, [], ◌∷◌, map, IsTrue, refl, sym, ◌∙◌, ap, ap₂, subst, nat_cmp}
+use Rattle.std.proofs.Common.{◌≡◌, ◌⊎◌, inl, inr, ℕ, false, List, [], ◌∷◌, map, IsTrue, refl, sym, ◌∙◌, ap, ap₂, subst, nat_cmp}
 use Rattle.std.specs.Ordering.{is_le, is_gt, ordering_reverse}
 use Rattle.std.specs.Cmp.Lexicographic.{slice_cmp, nat_list_cmp_total}
 use Rattle.std.specs.FinMap as map_laws
@@ -105,25 +105,30 @@ module _ {X : Type 0} (key : X → List ℕ) where
   same_keys [] (y ∷ ys) once other up upper to back = elim (back y first) [ ]
   same_keys (x ∷ xs) ys once other up upper to back =
       let h : IsIn x ys = to x first in
-      let forth = λ (z : X) (k : IsIn z xs). elim (stays_in x z ys h (to z (later k))) as (λ _. IsIn z (without x ys h)) [
+      let forth = λ (z : X) (k : IsIn z xs). elim (stays_in x z ys h (to z (later k))) as
+          (λ _. IsIn z (without x ys h)) [
         | inl e ↦ absurd (once.0 (subst (λ w. IsIn w xs) e k))
         | inr m ↦ m
       ] in
-      let again = λ (z : X) (k : IsIn z (without x ys h)). elim (head_or_tail z x xs (back z (was_in x z ys h k))) as (λ _. IsIn z xs) [
+      let again = λ (z : X) (k : IsIn z (without x ys h)). elim (head_or_tail z x xs (back z (was_in x z ys h k))) as
+          (λ _. IsIn z xs) [
         | inl e ↦ absurd (gone x ys h other (subst (λ w. IsIn w (without x ys h)) e k))
         | inr m ↦ m
       ] in
-      ap (λ (l : List (List ℕ)). key x ∷ l) (same_keys xs (without x ys h) once.1 (rest_once x ys h other) up.1 (rest_rises x ys h upper) forth again)
+      ap (λ (l : List (List ℕ)). key x ∷ l) (same_keys xs (without x ys h) once.1 (rest_once x ys h other) up.1
+          (rest_rises x ys h upper) forth again)
       ∙ sym (pulled x ys h upper (λ y k. least_of x xs up y (back y k)))
 
 -- ---- relations
 
 -- a first row that is up to the next one is up to all behind it
-rises_on : (sig : Signature) (r s : List Term) (rest : List (List Term)) → IsTrue (is_le (slice_cmp nat_cmp (row_text sig r) (row_text sig s)))
+rises_on : (sig : Signature) (r s : List Term) (rest : List (List Term))
+    → IsTrue (is_le (slice_cmp nat_cmp (row_text sig r) (row_text sig s)))
     → Rises (row_text sig) (s ∷ rest) → Rises (row_text sig) (r ∷ s ∷ rest)
 rises_on sig r s rest low up = (
-  (λ y k. upto nat_list_cmp_total (row_text sig r) (row_text sig s) (row_text sig y) (le_upto (slice_cmp nat_cmp (row_text sig r) (row_text sig s)) low)
-    (least_of (row_text sig) s rest up y k)),
+  (λ y k. upto nat_list_cmp_total (row_text sig r) (row_text sig s) (row_text sig y)
+      (le_upto (slice_cmp nat_cmp (row_text sig r) (row_text sig s)) low)
+      (least_of (row_text sig) s rest up y k)),
   up,
 )
 
@@ -132,7 +137,8 @@ rises sig [] order = tt
 rises sig (r ∷ []) order = ((λ y k. elim k [ ]), tt)
 rises sig (r ∷ s ∷ rest) (low, order) = rises_on sig r s rest low (rises sig (s ∷ rest) order)
 
-pub same_row_texts : (sig : Signature) → IsSound sig → {C : Type 0} (P : C → List Term → Type 0) (ls rs : List ℕ) (rows others : List (List Term))
+pub same_row_texts : (sig : Signature) → IsSound sig
+    → {C : Type 0} (P : C → List Term → Type 0) (ls rs : List ℕ) (rows others : List (List Term))
     → IsRelation sig ls P rows → IsRelation sig rs P others → map (row_text sig) rows ≡ map (row_text sig) others
 same_row_texts sig sound P ls rs rows others rel other =
     same_keys (row_text sig) rows others rel.once other.once (rises sig rows rel.order) (rises sig others other.order)

@@ -1,5 +1,5 @@
 -- Which leaves an operator's items take, item by item.
-use Rattle.std.specs.Prelude.{ℕ, ◌↔◌, ◌<◌, ◌≤◌, ◌^◌, Bool, true, false, List, [], ◌∷◌, length, drop, map, Option, None, Some, IsUtf8}
+use Rattle.std.specs.Prelude.{ℕ, ◌↔◌, ◌<◌, ◌≤◌, ◌^◌, Bool, true, false, List, ◌∷◌, length, drop, map, Option, None, Some, IsUtf8}
 use Rattle.psg_grammar.specs.declared.types.Item.{Item}
 use Rattle.psg_grammar.specs.declared.types.Item.TheVariants as items
 use Rattle.psg_grammar.specs.declared.types.Definition.{Definition}

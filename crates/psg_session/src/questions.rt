@@ -90,8 +90,8 @@ fn names_line(alloc: Global, names: &[Txt]) -> Result<String, AllocError>
     Ok(text)
 }
 
-/// The rows of the relation of the node at the place, each on a line: the value, and the entity of each name. It evaluates the
-/// node's tree anew, and `steps` counts the evaluations.
+/// The rows of the relation of the node at the place, each on a line: the value, and the entity of each name. It
+/// evaluates the node's tree anew, and `steps` counts the evaluations.
 pub fn own<L: Ledger>(
     alloc: Global,
     language: &Language,

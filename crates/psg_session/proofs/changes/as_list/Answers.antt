@@ -1,4 +1,4 @@
-use Rattle.std.proofs.Common.{◌≡◌, ◌<◌, length, refl, sym, ap, subst, ◌∙◌}
+use Rattle.std.proofs.Common.{◌<◌, length, refl, sym, ap, subst}
 use Rattle.psg_session.proofs.Shapes.{list_in, list_shape, listed, read_at}
 use Rattle.psg_grammar.specs.Paths.{IsList}
 use Rattle.psg_session.proofs.changes.as_list.Goals as goal

@@ -1,4 +1,4 @@
-use Rattle.std.proofs.Common.{◌≡◌, true, false, refl, ap, sym, true≢false, ◌∙◌}
+use Rattle.std.proofs.Common.{false, refl, ap, sym, true≢false, ◌∙◌}
 use Rattle.psg_grammar.specs.Paths.{change_at, ended}
 use Rattle.psg_tree.specs.Edits.{IsSet}
 use Rattle.psg_session.specs.declared.changes.Made.{Made}

@@ -1,4 +1,4 @@
-use Rattle.std.proofs.Common.{◌≡◌, refl, ap, sym, true≢false, ◌∙◌}
+use Rattle.std.proofs.Common.{refl, ap, sym, true≢false, ◌∙◌}
 use Rattle.psg_grammar.specs.Paths.{replaced}
 use Rattle.psg_tree.specs.Faults.{IsReplaced}
 use Rattle.psg_session.specs.declared.changes.Made.{Made}

@@ -1,4 +1,4 @@
-use Rattle.std.proofs.Common.{◌≡◌, ◌<◌, inl, inr, List, map, Vec, Global, Some, length, get_or, refl, sym, ap, subst, ◌∙◌}
+use Rattle.std.proofs.Common.{◌<◌, inl, inr, List, map, Vec, Global, Some, length, get_or, refl, sym, ap, subst, ◌∙◌}
 use Rattle.psg_grammar.specs.declared.types.Operator.{Operator}
 use Rattle.psg_grammar.specs.Insertion.{Leaf as PlainLeaf, fresh_operator}
 use Rattle.psg_session.specs.declared.leaves.Leaf.{Leaf}
@@ -6,7 +6,6 @@ use Rattle.psg_session.specs.Views.{plain_leaf}
 use Rattle.psg_session.proofs.LeafLaws.{some_in, none_in}
 use Rattle.psg_session.proofs.ChangeLaws.{operator_there, some_once}
 use Rattle.psg_session.proofs.Shapes.{read_at}
-use Rattle.psg_session.specs.PlainStep.{IsOfPhylum, IsOperator}
 use Rattle.psg_session.specs.Leaves.{GivesLeaves}
 use Rattle.psg_session.proofs.changes.fresh_of.Goals as goal
 

@@ -1,4 +1,4 @@
-use Rattle.std.proofs.Common.{◌≡◌, sym, ◌∙◌}
+use Rattle.std.proofs.Common.{◌∙◌}
 use Rattle.psg_session.proofs.Shapes.{hole_shape}
 use Rattle.psg_session.proofs.changes.hole_phylum.Goals as goal
 

@@ -1,4 +1,4 @@
-use Rattle.std.proofs.Common.{◌≡◌, ◌<◌, ◌∙◌, Some, length, get_or, ap, sym, subst}
+use Rattle.std.proofs.Common.{◌<◌, ◌∙◌, Some, length, get_or, ap, sym, subst}
 use Rattle.psg_session.proofs.Shapes.{operator_in, operator_kind, list_node_kind, hole_kind, read_at}
 use Rattle.psg_session.proofs.changes.kind_of.Goals as goal
 

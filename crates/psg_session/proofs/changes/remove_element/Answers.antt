@@ -1,4 +1,4 @@
-use Rattle.std.proofs.Common.{◌≡◌, refl, ap, ◌∙◌}
+use Rattle.std.proofs.Common.{refl, ap, ◌∙◌}
 use Rattle.psg_grammar.specs.Paths.{change_at, removed}
 use Rattle.psg_tree.specs.Edits.{IsRemoved}
 use Rattle.psg_cache.proofs.ShapedTrees.{removed_shaped}

@@ -1,8 +1,7 @@
-use Rattle.std.proofs.Common.{◌≡◌, ◌∷◌, [], ◌+◌, drop, map, sym, ap, ◌∙◌}
+use Rattle.std.proofs.Common.{◌+◌, drop, map, sym, ap, ◌∙◌}
 use Rattle.std.proofs.lemmas.List.{drop_all}
-use Rattle.psg_grammar.specs.declared.types.Operator.{Operator}
 use Rattle.psg_grammar.specs.Fragments.{operator}
-use Rattle.psg_grammar.specs.Lookups.{part_items, items_of, operator_at}
+use Rattle.psg_grammar.specs.Lookups.{part_items, items_of}
 use Rattle.psg_grammar.specs.Insertion.{filled}
 use Rattle.psg_tree.specs.Shapes.{with_parts}
 use Rattle.psg_session.specs.Views.{plain_leaf}

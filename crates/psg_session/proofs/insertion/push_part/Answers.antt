@@ -1,5 +1,4 @@
-use Rattle.std.proofs.Common.{◌≡◌, ◌<◌, length, sym, ◌∙◌, subst, arith}
-use Rattle.std.proofs.lemmas.Option.{slice_get_within}
+use Rattle.std.proofs.Common.{sym, ◌∙◌, subst}
 use Rattle.psg_grammar.specs.Kinds.{HasSlotKind}
 use Rattle.psg_tree.proofs.FormLaws.{got_some, got_none}
 use Rattle.psg_session.proofs.Filling.{slot_filled, other_filled, none_filled, leaf_filled}

@@ -1,4 +1,4 @@
-use Rattle.std.proofs.Common.{◌≡◌, ◌∷◌, ◌+◌, drop, map, sym, ◌∙◌, subst, true≢false}
+use Rattle.std.proofs.Common.{◌+◌, drop, map, sym, subst, true≢false}
 use Rattle.std.proofs.lemmas.List.{drop_all}
 use Rattle.psg_grammar.specs.Insertion.{AreLeaves}
 use Rattle.psg_grammar.specs.Lookups.{part_items}

@@ -5,7 +5,7 @@ use Rattle.psg_session.specs.declared.leaves.Leaf.{Leaf}
 use Rattle.psg_session.specs.Leaves.{given, HasWord}
 use Rattle.psg_session.specs.Views.{plain_leaf}
 use Rattle.psg_session.proofs.LeafLaws.{some_in, none_in}
-use Rattle.psg_session.proofs.LeafReads.{own_leaves, without_tokens, without_leaves, gives, gives_no_other}
+use Rattle.psg_session.proofs.LeafReads.{own_leaves, without_leaves, gives, gives_no_other}
 use Rattle.psg_session.proofs.LeafWords.{are_words}
 use Rattle.psg_session.proofs.Shapes.{read_at}
 use Rattle.psg_session.proofs.leaves.read_leaves.Goals as goal

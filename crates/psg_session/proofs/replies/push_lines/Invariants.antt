@@ -4,4 +4,5 @@ use Rattle.psg_session.specs.Replies.{feed_all}
 use Rattle.psg_session.proofs.replies.push_lines.Given as goal
 
 abbrev pub invariant-loop-line : goal.invariant-loop-line
-invariant-loop-line l = string_bytes l.text ++ feed_all (map string_bytes (drop l.line-index l.lines)) ≡ string_bytes l.initial.text ++ feed_all (map string_bytes l.lines)
+invariant-loop-line l = string_bytes l.text ++ feed_all (map string_bytes (drop l.line-index l.lines)) ≡ string_bytes
+    l.initial.text ++ feed_all (map string_bytes l.lines)
