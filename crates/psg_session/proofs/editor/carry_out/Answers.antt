@@ -12,8 +12,8 @@ pub judge-requires-clause-shaped : goal.judge-requires-clause-shaped
 judge-requires-clause-shaped g c =
     let (editor, shaped) = c.requires.shaped in (subst (IsPlanShaped c.args.language.now.definition editor) c.in-Makes.is shaped).1
 
-pub returns-in-Makes : goal.returns-in-Makes
-returns-in-Makes g c = λ editor command plan shaped.
+pub returns-in_ok-outcome-in-Makes : goal.returns-in_ok-outcome-in-Makes
+returns-in_ok-outcome-in-Makes g c = λ editor command plan shaped.
     let def = c.args.language.now.definition in
     let ((held, opened, kind), formed) = subst (IsPlanShaped def editor) c.in-Makes.is shaped in
-    carried def editor command c.args.change c.in-Makes.made held opened kind (subst (IsPlan def editor command c.args.change) c.in-Makes.is plan) c.in_ok-outcome.outcome c.in_ok-outcome.ensures
+    carried def editor command c.args.change c.in-Makes.made held opened kind (subst (IsPlan def editor command c.args.change) c.in-Makes.is plan) c.in_ok-outcome-in-Makes.outcome c.in_ok-outcome-in-Makes.ensures

@@ -36,7 +36,7 @@ pub returns : goal.returns
 returns g c =
     let def = c.args.language.now.definition in
     λ editor. opened_new def c.args.name.now c.in-Some.kind (c.in-Some.ensures.found ∙ ap Some c.as_str.ensures)
-        (one_kind def c.requires.language.sound c.in-Some.kind c.args.name.now (c.in-Some.ensures.found ∙ ap Some c.as_str.ensures))
-        (λ declares. true≢false (sym (c.is_declaring.ensures.1 declares) ∙ c.if-is_declaring.false)) editor c.in_ok-outcome.outcome
-        (subst (λ f. IsJudged def Opens c.in-Some.kind f [] c.in_ok-outcome.outcome) c.in_ok-tree.ensures
-        (subst (λ p. IsJudged def Opens c.in-Some.kind c.in_ok-tree.tree p c.in_ok-outcome.outcome) c.in_ok-top.ensures c.in_ok-outcome.ensures))
+    (one_kind def c.requires.language.sound c.in-Some.kind c.args.name.now (c.in-Some.ensures.found ∙ ap Some c.as_str.ensures))
+    (λ declares. true≢false (sym (c.is_declaring.ensures.1 declares) ∙ c.if-is_declaring.false)) editor c.in_ok-outcome.outcome
+    (subst (λ f. IsJudged def Opens c.in-Some.kind f [] c.in_ok-outcome.outcome) c.in_ok-tree.ensures
+    (subst (λ p. IsJudged def Opens c.in-Some.kind c.in_ok-tree.tree p c.in_ok-outcome.outcome) c.in_ok-top.ensures c.in_ok-outcome.ensures))

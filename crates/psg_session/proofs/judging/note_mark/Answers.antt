@@ -22,5 +22,5 @@ loop-path-preserved c =
 pub returns : goal.returns
 returns c =
     let all : c.loop-path.paths.items ≡ c.args.note.now.culprits =
-        c.loop-path.invariant ∙ take_all c.loop-path.path-index c.culprits-path-items.result.now (omega (arith, c.loop-path-test.false)) ∙ c.culprits-path-items.ensures in
+    c.loop-path.invariant ∙ take_all c.loop-path.path-index c.culprits-path-items.result.now (omega (arith, c.loop-path-test.false)) ∙ c.culprits-path-items.ensures in
     ap wrong all ∙ some_mark c.args.note.now.culprits (λ none. true≢false (sym (c.is_good.ensures.1 none) ∙ c.if-is_good.false))
