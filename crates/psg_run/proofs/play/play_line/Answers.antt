@@ -1,7 +1,11 @@
-use Rattle.std.proofs.Common.{◌≡◌, OnErr, sym, ap, ◌∙◌}
+use Rattle.std.proofs.Common.{◌≡◌, inl, [], refl, sym, ap, ◌∙◌}
 use Rattle.psg_run.proofs.Options.{on_err}
-use Rattle.psg_run.proofs.Playing.{plays, plays_front}
+use Rattle.psg_run.proofs.Playing.{append_known-nil, plays, plays_front}
 use Rattle.psg_run.proofs.play.play_line.Goals as goal
+
+pub returns-in_err-outcome-clause-err : goal.returns-in_err-outcome-clause-err
+returns-in_err-outcome-clause-err g c =
+    on_err c.from_residual.result (record { front = []; put = append_known-nil (g.O.Sink.written c.args.out.now); right = λ s same. inl refl })
 
 pub returns-in_err-put_all-clause-err : goal.returns-in_err-put_all-clause-err
 returns-in_err-put_all-clause-err g c = on_err c.from_residual-in_err-put_all.result
