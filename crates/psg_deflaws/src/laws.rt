@@ -13,15 +13,11 @@ pub fn one_numbering() -> Result<(), AllocError>
 }
 
 /// A definition that the lines of a file of fewer than 2^32 bytes are together is sound.
-pub fn numbered_is_sound() -> Result<(), AllocError>
-    ensures { OnOk result NumberedIsSound }
-{
-    Err(AllocError)
-}
+pub fn numbered_is_sound()
+    ensures { NumberedIsSound }
+{}
 
 /// Each fixed word and each separator of such a definition is one token.
-pub fn words_are_tokens() -> Result<(), AllocError>
-    ensures { OnOk result WordsAreTokens }
-{
-    Err(AllocError)
-}
+pub fn words_are_tokens()
+    ensures { WordsAreTokens }
+{}

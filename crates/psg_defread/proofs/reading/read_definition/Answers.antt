@@ -29,5 +29,5 @@ pub returns-clause-sound : goal.returns-clause-sound
 returns-clause-sound c =
     let read = c.in_ok-entries.ensures.ok in
     let few = few_entries c.args.bytes.now c.in_ok-entries.entries.items read.spelled.spelled.head read.spelled.spelled.each in
-    c.in_ok-numbered_is_sound.ensures (behind_head (lines c.args.bytes.now)) c.in_ok-entries.entries.items c.in_ok-definition.definition (omega (arith, few.1, c.requires)) read.spelled.spelled.each
+    c.numbered_is_sound.ensures (behind_head (lines c.args.bytes.now)) c.in_ok-entries.entries.items c.in_ok-definition.definition (omega (arith, few.1, c.requires)) read.spelled.spelled.each
     (search rules) c.in_ok-definition.ensures.signature
