@@ -1,6 +1,6 @@
 -- The layout of a written definition: one line for each thing, in the order of sorts, entity, phyla, lists, operators each with
 -- its rows, nil rows, cell rows, hole rows each with its cases, and declare rows.
-use Rattle.std.specs.Prelude.{ℕ, ◌≡◌, ◌≤◌, ◌+◌, Bool, cond, Option, Some, None, List, [], ◌∷◌, ◌++◌, map, flat_map, length, decimal}
+use Rattle.std.specs.Prelude.{ℕ, ◌≡◌, ◌≤◌, ◌+◌, Bool, cond, Option, Some, None, List, [], ◌∷◌, ◌++◌, map, suc, zero, decimal}
 use Rattle.std.specs.List.{AllByRecursion}
 use Rattle.std.specs.Str.Lines.{lines as texts_of}
 use Rattle.psg_terms.specs.Names.{Name, is_among}
@@ -54,7 +54,7 @@ line_terms (lines.Declare list entity value specimen) = entity ∷ value ∷ pla
 line_terms _ = []
 
 abbrev pub numbers_from : ℕ → ℕ → List Name
-numbers_from n 0 = []
+numbers_from n zero = []
 numbers_from n (suc k) = decimal n ∷ numbers_from (n + 1) k
 
 -- variables are named by numbers from 1

@@ -1,5 +1,5 @@
 -- The lines that write a definition. Names stand in place of positions, and a variable's name is its number.
-use Rattle.std.specs.Prelude.{ℕ, ◌+◌, ◌==◌, Bool, cond, Option, Some, None, List, [], ◌∷◌, ◌++◌, map, slice_get, decimal}
+use Rattle.std.specs.Prelude.{ℕ, ◌+◌, ◌==◌, Bool, cond, Option, Some, None, List, [], ◌∷◌, ◌++◌, map, get_or, decimal}
 use Rattle.std.specs.List.{flat_map}
 use Rattle.psg_terms.specs.Names.{Name}
 use Rattle.psg_terms.specs.Terms.{Term}
@@ -32,19 +32,11 @@ use Rattle.psg_deflines.specs.declared.lines.Line.TheVariants as lines
 
 -- the name of what stands at the position
 abbrev pub name_at : {X : Type 0} → (X → Name) → List X → ℕ → Name
-name_at name xs n = told (slice_get xs n)
-  where
-    told : Option X → Name
-    told (Some x) = name x
-    told None = []
+name_at name xs n = get_or (map name xs) n []
 
 -- the term at the position
 abbrev pub term_at : List Term → ℕ → Term
-term_at ts n = told (slice_get ts n)
-  where
-    told : Option Term → Term
-    told (Some t) = t
-    told None = terms.symbol 0
+term_at ts n = get_or ts n (terms.symbol 0)
 
 module _ (def : Definition) where
   abbrev pub sort_name : ℕ → Name
