@@ -1,1 +1,4 @@
 pub mod WasRead
+pub mod NumberNames
+pub mod NumberTerms
+pub mod NumberTrees
