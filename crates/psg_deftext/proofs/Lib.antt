@@ -2,3 +2,8 @@ pub mod WasRead
 pub mod NumberNames
 pub mod NumberTerms
 pub mod NumberTrees
+pub mod NumberRows
+pub mod NumberBlocks
+pub mod NumberSorts
+pub mod NumberKinds
+pub mod NumberOperators
