@@ -7,3 +7,4 @@ pub mod NumberBlocks
 pub mod NumberSorts
 pub mod NumberKinds
 pub mod NumberOperators
+pub mod NumberCases

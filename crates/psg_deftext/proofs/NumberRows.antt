@@ -62,11 +62,11 @@ IsSmallCase one = IsSmallTerm one.term × IsSmallTree one.specimen
 numbers-name : (names : List Name) (row : List Term) → IsNaming names row → IsNaming number_names row
 numbers-name names row h = record { once = numbers-once; first = h.first }
 
-module _ (def : Definition) (sound : IsSoundSignature def.signature) where
-  abbrev pub IsRowAgain : ℕ → List ℕ → Row → Type 0
-  IsRowAgain head sorts row =
-      IsRow def head sorts (term_written def row.head) (map (term_written def) row.columns) row
+abbrev pub IsRowAgain : Definition → ℕ → List ℕ → Row → Type 0
+IsRowAgain def head sorts row =
+    IsRow def head sorts (term_written def row.head) (map (term_written def) row.columns) row
 
+module _ (def : Definition) (sound : IsSoundSignature def.signature) where
   pub row-again : (head : ℕ) (sorts : List ℕ) (w : WrittenTerm) (ws : List WrittenTerm) (row : Row)
       → IsSmallRow row → IsRow def head sorts w ws row
       → IsRow def head sorts (term_written def row.head) (map (term_written def) row.columns) row
