@@ -8,3 +8,5 @@ pub mod NumberSorts
 pub mod NumberKinds
 pub mod NumberOperators
 pub mod NumberCases
+pub mod NumberLists
+pub mod NumberLines
