@@ -2,7 +2,10 @@ pub mod WasRead
 pub mod NumberNames
 pub mod NumberTerms
 pub mod NumberTrees
+pub mod NumberBounds
+pub mod NumberPlaces
 pub mod NumberRows
+pub mod NumberSizes
 pub mod NumberBlocks
 pub mod NumberSorts
 pub mod NumberKinds

@@ -9,6 +9,7 @@ use Rattle.psg_grammar.specs.declared.types.Case.{Case}
 use Rattle.psg_grammar.specs.declared.types.HoleRow.{HoleRow}
 use Rattle.psg_grammar.specs.declared.types.DeclareRow.{DeclareRow}
 use Rattle.psg_grammar.specs.declared.types.Definition.{Definition}
+use Rattle.psg_grammar.specs.Specimens.{holes_of, tree_of}
 use Rattle.psg_grammar.specs.Sound.{HasKindSort}
 use Rattle.psg_deflines.specs.WrittenTerms.{WrittenTerm}
 use Rattle.psg_deflines.specs.WrittenTrees.{WrittenTree}
@@ -18,17 +19,20 @@ use Rattle.psg_defnumber.specs.Numbers.{IsKind, IsNil, IsCase, AreCases, HasCase
 use Rattle.psg_deftext.specs.Layout.{rank}
 use Rattle.psg_deftext.specs.WrittenLines.{lines_of, kind_name, term_written, tree_written, case_line, hole_lines, declare_line}
 use Rattle.psg_deftext.proofs.NumberNames.{number_names, numbers-once}
-use Rattle.psg_deftext.proofs.NumberTerms.{IsSmallTerm, term-again}
-use Rattle.psg_deftext.proofs.NumberTrees.{IsSmallTree, kind-again, tree-again}
-use Rattle.psg_deftext.proofs.NumberRows.{IsSmallCase, nil-again, case-again, case-term-again}
+use Rattle.psg_deftext.proofs.NumberTerms.{term-again}
+use Rattle.psg_deftext.proofs.NumberTrees.{tree-again}
+use Rattle.psg_deftext.proofs.NumberBounds.{HasFewVariables, small-row}
+use Rattle.psg_deftext.proofs.NumberPlaces.{IsFitting, tree-small}
+use Rattle.psg_deftext.proofs.NumberRows.{IsSmallCase, IsSmallNil, place_terms, places-small, nil-again, case-again, case-term-again}
 use Rattle.psg_deftext.proofs.NumberOperators.{kind-renamed}
 use Rattle.psg_deftext.proofs.NumberBlocks.{from_holes, from_declares, flat-front, behind-holes, before-holes, before-declares}
 
-abbrev pub HasSmallCases : HoleRow → Type 0
-HasSmallCases row = IsSmallTerm row.term × AllByRecursion IsSmallCase row.cases
+abbrev pub HasSmallCases : Definition → HoleRow → Type 0
+HasSmallCases def row = IsSmallNil row.term × AllByRecursion (IsSmallCase def) row.cases
 
-abbrev pub IsSmallDeclareRow : DeclareRow → Type 0
-IsSmallDeclareRow row = IsSmallTerm row.term × IsSmallTerm row.value × IsSmallTree row.specimen
+abbrev pub IsSmallDeclareRow : Definition → DeclareRow → Type 0
+IsSmallDeclareRow def row =
+    HasFewVariables (row.term ∷ row.value ∷ place_terms row.specimen) × IsFitting def (tree_of row.specimen)
 
 module _ (def : Definition) where
   abbrev IsCaseAgain : Kind → ℕ → Case → Type 0
@@ -43,13 +47,13 @@ module _ (def : Definition) where
     cases : AllByRecursion (IsCaseAgain row.kind sort) row.cases
 
   module _ (sound : IsSoundSignature def.signature) where
-    each-case : (kind : Kind) (sort : ℕ) (behind : List Line) (cases : List Case) → AllByRecursion IsSmallCase cases
+    each-case : (kind : Kind) (sort : ℕ) (behind : List Line) (cases : List Case) → AllByRecursion (IsSmallCase def) cases
         → AreCases def kind sort behind cases → AllByRecursion (IsCaseAgain kind sort) cases
     each-case kind sort [] cases small e = subst (AllByRecursion (IsCaseAgain kind sort)) (sym e) tt
     each-case kind sort (lines.Hole of_kind w specimen ∷ behind) cases small e =
         subst (AllByRecursion (IsCaseAgain kind sort)) (sym e) tt
     each-case kind sort (lines.Case w specimen ∷ behind) cases small (one, rest, e, h, hs) =
-        let both : AllByRecursion IsSmallCase (one ∷ rest) = subst (AllByRecursion IsSmallCase) e small in
+        let both : AllByRecursion (IsSmallCase def) (one ∷ rest) = subst (AllByRecursion (IsSmallCase def)) e small in
         subst (AllByRecursion (IsCaseAgain kind sort)) (sym e) (
           case-again def sound kind sort w specimen one both.0 h,
           each-case kind sort behind rest both.1 hs,
@@ -61,10 +65,10 @@ module _ (def : Definition) where
         IsNil def sort (term_written def row.term) row.term × AllByRecursion (IsCaseAgain row.kind sort) row.cases
 
     term-and-cases : (row : HoleRow) (sort : ℕ) (w : WrittenTerm) (specimen : Option WrittenTree)
-        (behind : List Line) → HasSmallCases row
+        (behind : List Line) → HasSmallCases def row
         → HasCases def row.kind sort w specimen behind row.term row.cases → HasTermAndCases row sort
     term-and-cases row sort w (Some tree) behind small (one, e, same, h) =
-        let both : IsSmallCase one × Unit {0} = subst (AllByRecursion IsSmallCase) e small.1 in
+        let both : IsSmallCase def one × Unit {0} = subst (AllByRecursion (IsSmallCase def)) e small.1 in
         let term = case-term-again def sound row.kind sort w tree one both.0 h in
         (
           subst (λ t. IsNil def sort (term_written def t) t) same term,
@@ -76,11 +80,11 @@ module _ (def : Definition) where
     term-and-cases row sort w None behind small (h, hs) =
         (nil-again def sound sort w row.term small.0 h, each-case row.kind sort behind row.cases small.1 hs)
 
-    each-hole-row : (file : List Line) (all : List HoleRow) → AllByRecursion HasSmallCases all
+    each-hole-row : (file : List Line) (all : List HoleRow) → AllByRecursion (HasSmallCases def) all
         → AreHoleRows def file all → AllByRecursion IsHoleRowAgain all
     each-hole-row [] all small e = subst (AllByRecursion IsHoleRowAgain) (sym e) tt
     each-hole-row (lines.Hole kind w specimen ∷ behind) all small (row, rest, e, h, hs) =
-        let both : AllByRecursion HasSmallCases (row ∷ rest) = subst (AllByRecursion HasSmallCases) e small in
+        let both : AllByRecursion (HasSmallCases def) (row ∷ rest) = subst (AllByRecursion (HasSmallCases def)) e small in
         let found = term-and-cases row h.sort w specimen behind both.0 h.has_cases in
         subst (AllByRecursion IsHoleRowAgain) (sym e) (
           record {
@@ -154,7 +158,7 @@ module _ (def : Definition) where
   free : (r : ℕ) → 8 ≤ r → r ≢ 7
   free r h e = omega (arith, h, e)
 
-  pub hole-rows-are : IsSoundSignature def.signature → (file : List Line) → AllByRecursion HasSmallCases def.hole_rows
+  pub hole-rows-are : IsSoundSignature def.signature → (file : List Line) → AllByRecursion (HasSmallCases def) def.hole_rows
       → AreHoleRows def file def.hole_rows → AreHoleRows def (lines_of def) def.hole_rows
   hole-rows-are sound file small h =
       before-holes IsNoHole (λ ls. AreHoleRows def ls def.hole_rows) (holes-step def.hole_rows) def
@@ -171,8 +175,11 @@ module _ (def : Definition) where
       (tree_written def row.specimen) row
 
   declare-again : IsSoundSignature def.signature → (list : Name) (entity value : WrittenTerm) (tree : WrittenTree)
-      (row : DeclareRow) → IsSmallDeclareRow row → IsDeclareRow def list entity value tree row → IsDeclareRowAgain row
-  declare-again sound list entity value tree row small h = record {
+      (row : DeclareRow) → IsSmallDeclareRow def row → IsDeclareRow def list entity value tree row → IsDeclareRowAgain row
+  declare-again sound list entity value tree row few h =
+      let small = small-row (row.term ∷ row.value ∷ place_terms row.specimen) few.0 h.naming.first in
+      let places = tree-small def row.specimen (places-small (holes_of row.specimen) small.1.1) few.1 in
+      record {
     space = h.space;
     of_list = kind-renamed def list (kinds.List row.list) h.of_list;
     found = h.found;
@@ -183,17 +190,17 @@ module _ (def : Definition) where
     of_entity = term-again def sound h.names entity [] h.entity_sort row.term small.0 h.of_entity;
     value_sort = h.value_sort;
     elements_sort = h.elements_sort;
-    of_value = term-again def sound h.names value [] h.value_sort row.value small.1 h.of_value;
+    of_value = term-again def sound h.names value [] h.value_sort row.value small.1.0 h.of_value;
     of_specimen =
-        tree-again def sound h.names row.specimen (kinds.Phylum h.found.element) tree small.2 h.of_specimen;
+        tree-again def sound h.names row.specimen (kinds.Phylum h.found.element) tree places h.of_specimen;
     naming = record { once = numbers-once; first = h.naming.first };
   }
 
   each-declare-row : IsSoundSignature def.signature → (file : List Line) (all : List DeclareRow)
-      → AllByRecursion IsSmallDeclareRow all → AreDeclareRows def file all → AllByRecursion IsDeclareRowAgain all
+      → AllByRecursion (IsSmallDeclareRow def) all → AreDeclareRows def file all → AllByRecursion IsDeclareRowAgain all
   each-declare-row sound [] all small e = subst (AllByRecursion IsDeclareRowAgain) (sym e) tt
   each-declare-row sound (lines.Declare list entity value tree ∷ behind) all small (row, rest, e, h, hs) =
-      let both : AllByRecursion IsSmallDeclareRow (row ∷ rest) = subst (AllByRecursion IsSmallDeclareRow) e small in
+      let both : AllByRecursion (IsSmallDeclareRow def) (row ∷ rest) = subst (AllByRecursion (IsSmallDeclareRow def)) e small in
       subst (AllByRecursion IsDeclareRowAgain) (sym e) (
         declare-again sound list entity value tree row both.0 h,
         each-declare-row sound behind rest both.1 hs,
@@ -211,7 +218,7 @@ module _ (def : Definition) where
   declares-step all line rest h w = w
 
   pub declare-rows-are : IsSoundSignature def.signature → (file : List Line)
-      → AllByRecursion IsSmallDeclareRow def.declare_rows → AreDeclareRows def file def.declare_rows
+      → AllByRecursion (IsSmallDeclareRow def) def.declare_rows → AreDeclareRows def file def.declare_rows
       → AreDeclareRows def (lines_of def) def.declare_rows
   declare-rows-are sound file small h =
       before-declares (λ r. r ≢ 8) (λ ls. AreDeclareRows def ls def.declare_rows) (declares-step def.declare_rows) def

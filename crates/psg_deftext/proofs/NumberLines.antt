@@ -18,8 +18,8 @@ use Rattle.psg_deftext.proofs.NumberCases.{HasSmallCases, IsSmallDeclareRow, hol
 pub record HasSmallNumbers (def : Definition) : Type 0 where
   pub operators : AllByRecursion HasSmallRows def.operators
   pub lists : AllByRecursion HasSmallListRows def.lists
-  pub hole_rows : AllByRecursion HasSmallCases def.hole_rows
-  pub declare_rows : AllByRecursion IsSmallDeclareRow def.declare_rows
+  pub hole_rows : AllByRecursion (HasSmallCases def) def.hole_rows
+  pub declare_rows : AllByRecursion (IsSmallDeclareRow def) def.declare_rows
 
 pub numbered-again : (file : List Line) (def : Definition) → IsSound def → HasSmallNumbers def → IsNumbered file def
     → IsNumbered (lines_of def) def

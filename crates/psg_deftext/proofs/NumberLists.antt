@@ -19,14 +19,13 @@ use Rattle.psg_deflines.specs.declared.lines.Line.TheVariants as lines
 use Rattle.psg_defnumber.specs.Numbers.{IsSort, IsKind, AreTerms, IsRow, IsNil, AreNils, AreCells, IsList, AreLists}
 use Rattle.psg_deftext.specs.Layout.{rank}
 use Rattle.psg_deftext.specs.WrittenLines.{lines_of, sort_name, kind_name, term_written, term_at, list_line, nil_lines, cell_line, cell_lines}
-use Rattle.psg_deftext.proofs.NumberTerms.{IsSmallTerm}
-use Rattle.psg_deftext.proofs.NumberRows.{IsSmallRow, nil-again, row-again}
+use Rattle.psg_deftext.proofs.NumberRows.{IsSmallNil, IsSmallRow, nil-again, row-again}
 use Rattle.psg_deftext.proofs.NumberKinds.{sort-again}
 use Rattle.psg_deftext.proofs.NumberOperators.{kind-renamed}
 use Rattle.psg_deftext.proofs.NumberBlocks.{from_operators, from_cells, from_holes, flat-front, behind-lists, behind-nils, behind-cells, before-lists, before-nils, before-cells}
 
 abbrev pub HasSmallListRows : ListKind → Type 0
-HasSmallListRows l = AllByRecursion IsSmallTerm l.nil_rows × AllByRecursion IsSmallRow l.cell_rows
+HasSmallListRows l = AllByRecursion IsSmallNil l.nil_rows × AllByRecursion IsSmallRow l.cell_rows
 
 abbrev names_of : List ListKind → List Name
 names_of all = map (λ (l : ListKind). l.name) all
@@ -89,11 +88,11 @@ module _ (def : Definition) where
     cells : AllByRecursion (IsCellAgain l.sort.0 element_sort) l.cell_rows
 
   module _ (sound : IsSoundSignature def.signature) where
-    each-nil : (list : Name) (sort : ℕ) (file : List Line) (rows : List Term) → AllByRecursion IsSmallTerm rows
+    each-nil : (list : Name) (sort : ℕ) (file : List Line) (rows : List Term) → AllByRecursion IsSmallNil rows
         → AreNils def list sort file rows → AllByRecursion (IsNilAgain sort) rows
     each-nil list sort [] rows small e = subst (AllByRecursion (IsNilAgain sort)) (sym e) tt
     each-nil list sort (lines.Nil of_list w ∷ behind) rows small (inl (same, t, rest, e, h, hs)) =
-        let both : AllByRecursion IsSmallTerm (t ∷ rest) = subst (AllByRecursion IsSmallTerm) e small in
+        let both : AllByRecursion IsSmallNil (t ∷ rest) = subst (AllByRecursion IsSmallNil) e small in
         subst (AllByRecursion (IsNilAgain sort)) (sym e) (
           nil-again def sound sort w t both.0 h,
           each-nil list sort behind rest both.1 hs,
