@@ -1,4 +1,5 @@
 pub mod WasRead
+pub mod NumberAll
 pub mod NumberNames
 pub mod NumberTerms
 pub mod NumberTrees
@@ -12,4 +13,5 @@ pub mod NumberKinds
 pub mod NumberOperators
 pub mod NumberCases
 pub mod NumberLists
+pub mod NumberSmall
 pub mod NumberLines

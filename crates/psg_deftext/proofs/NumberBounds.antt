@@ -6,19 +6,12 @@ use Rattle.psg_terms.specs.Terms.{Term}
 use Rattle.psg_terms.specs.Terms as terms
 use Rattle.psg_terms.specs.Canonical.{Variable, variables, variables_of, same_variable, is_noted, noted, noted_all, first_occurrences, IsNumberedFrom}
 use Rattle.psg_terms.proofs.Variables.{cases}
+use Rattle.psg_deftext.proofs.NumberAll.{all-front, all-behind}
 use Rattle.psg_deftext.proofs.NumberTerms.{IsSmallTerm}
 
 -- fewer than this
 abbrev pub HasFewVariables : List Term → Type 0
 HasFewVariables row = length (variables_of row) < 2 ^ 63
-
-pub all-front : {X : Type 0} (P : X → Type 0) (xs ys : List X) → AllByRecursion P (xs ++ ys) → AllByRecursion P xs
-all-front P [] ys h = tt
-all-front P (x ∷ xs) ys h = (h.0, all-front P xs ys h.1)
-
-pub all-behind : {X : Type 0} (P : X → Type 0) (xs ys : List X) → AllByRecursion P (xs ++ ys) → AllByRecursion P ys
-all-behind P [] ys h = h
-all-behind P (x ∷ xs) ys h = all-behind P xs ys h.1
 
 -- ---- the front of a row is numbered where the row is
 

@@ -19,6 +19,7 @@ use Rattle.psg_deflines.specs.declared.lines.Line.TheVariants as lines
 use Rattle.psg_defnumber.specs.Numbers.{IsSort, IsKind, AreTerms, IsRow, IsNil, AreNils, AreCells, IsList, AreLists}
 use Rattle.psg_deftext.specs.Layout.{rank}
 use Rattle.psg_deftext.specs.WrittenLines.{lines_of, sort_name, kind_name, term_written, term_at, list_line, nil_lines, cell_line, cell_lines}
+use Rattle.psg_deftext.proofs.NumberAll.{all-mapped, all-joined}
 use Rattle.psg_deftext.proofs.NumberRows.{IsSmallNil, IsSmallRow, nil-again, row-again}
 use Rattle.psg_deftext.proofs.NumberKinds.{sort-again}
 use Rattle.psg_deftext.proofs.NumberOperators.{kind-renamed}
@@ -47,16 +48,6 @@ once-behind (x ∷ xs) ys h = once-behind xs ys (or_parts (is_among (xs ++ ys) x
 
 lists-once : (def : Definition) → IsSound def → has_twice (names_of def.lists) ≡ false
 lists-once def h = once-behind (map (λ (p : Phylum). p.name) def.phyla) (names_of def.lists) h.kind_names
-
-all-joined : {X : Type 0} (P Q R : X → Type 0) → ((x : X) → P x → Q x → R x) → (xs : List X) → AllByRecursion P xs
-    → AllByRecursion Q xs → AllByRecursion R xs
-all-joined P Q R f [] h k = tt
-all-joined P Q R f (x ∷ xs) h k = (f x h.0 k.0, all-joined P Q R f xs h.1 k.1)
-
-all-mapped : {X : Type 0} (P Q : X → Type 0) → ((x : X) → P x → Q x) → (xs : List X) → AllByRecursion P xs
-    → AllByRecursion Q xs
-all-mapped P Q f [] h = tt
-all-mapped P Q f (x ∷ xs) h = (f x h.0, all-mapped P Q f xs h.1)
 
 module _ (def : Definition) where
   abbrev IsNilAgain : ℕ → Term → Type 0

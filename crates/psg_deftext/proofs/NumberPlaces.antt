@@ -14,7 +14,7 @@ use Rattle.psg_grammar.specs.Specimens.{tree_of, part_of, with_row, list_of, end
 use Rattle.psg_grammar.specs.Placed.{FitsPlaces}
 use Rattle.psg_deftext.proofs.NumberTerms.{IsSmallTerm}
 use Rattle.psg_deftext.proofs.NumberTrees.{IsSmallTree, IsSmallPart, AreSmallParts, AreSmallElements}
-use Rattle.psg_deftext.proofs.NumberBounds.{all-front, all-behind}
+use Rattle.psg_deftext.proofs.NumberAll.{all-front, all-behind}
 
 abbrev pub HasSmallTerm : SpecimenHole → Type 0
 HasSmallTerm h = IsSmallTerm h.term

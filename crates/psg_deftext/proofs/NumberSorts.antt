@@ -19,6 +19,7 @@ use Rattle.psg_defnumber.specs.Numbers.{sort_decls}
 use Rattle.psg_deflaws.proofs.Lists.{all-append}
 use Rattle.psg_deftext.specs.Layout.{rank}
 use Rattle.psg_deftext.specs.WrittenLines.{lines_of, sort_name, sort_lines, constructors_written}
+use Rattle.psg_deftext.proofs.NumberAll.{all-mapped}
 use Rattle.psg_deftext.proofs.NumberNames.{name-found}
 use Rattle.psg_deftext.proofs.NumberBlocks.{from_entities, behind-sorts}
 
@@ -33,11 +34,6 @@ IsBelow n s = s.sort < n
 
 abbrev IsOther : ℕ → Symbol → Type 0
 IsOther n s = s.sort ≢ n
-
-all-weaker : {X : Type 0} (P Q : X → Type 0) → ((x : X) → P x → Q x) → (xs : List X) → AllByRecursion P xs
-    → AllByRecursion Q xs
-all-weaker P Q f [] h = tt
-all-weaker P Q f (x ∷ xs) h = (f x h.0, all-weaker P Q f xs h.1)
 
 -- ---- spelled in two parts
 
@@ -84,9 +80,9 @@ from-spelled sorts n [] [] h = tt
 from-spelled sorts n [] (x ∷ xs) h = absurd h
 from-spelled sorts n (d ∷ ds) xs h =
     let s = split-spelled sorts (with_sort n d.constructors) (in_order (n + 1) ds) xs h in
-    let own = all-weaker (HasSort n) (IsAtLeast n) (λ x e. omega (arith, e)) s.front
+    let own = all-mapped (HasSort n) (IsAtLeast n) (λ x e. omega (arith, e)) s.front
         (sort-spelled sorts n d.constructors s.front s.of_front) in
-    let more = all-weaker (IsAtLeast (n + 1)) (IsAtLeast n) (λ x e. omega (arith, e)) s.behind
+    let more = all-mapped (IsAtLeast (n + 1)) (IsAtLeast n) (λ x e. omega (arith, e)) s.behind
         (from-spelled sorts (n + 1) ds s.behind s.of_behind) in
     subst (AllByRecursion (IsAtLeast n)) (sym s.whole) (all-append (IsAtLeast n) s.front s.behind own more)
 
@@ -142,9 +138,9 @@ module _ (def : Definition) where
       → AllByRecursion (IsBelow n) front → AllByRecursion (IsAtLeast (n + 1)) behind
       → written n def.signature.symbols ≡ written n xs
   middle n front xs behind e below above =
-      let none = written-other n front (all-weaker (IsBelow n) (IsOther n) (λ x h same. omega (arith, h, same)) front below) in
+      let none = written-other n front (all-mapped (IsBelow n) (IsOther n) (λ x h same. omega (arith, h, same)) front below) in
       let rest = written-other n behind
-          (all-weaker (IsAtLeast (n + 1)) (IsOther n) (λ x h same. omega (arith, h, same)) behind above) in
+          (all-mapped (IsAtLeast (n + 1)) (IsOther n) (λ x h same. omega (arith, h, same)) behind above) in
       let last = written-append n xs behind ∙ ap (λ l. written n xs ++ l) rest ∙ append-nil (written n xs) in
       ap (written n) e ∙ written-append n front (xs ++ behind) ∙ ap (λ l. l ++ written n (xs ++ behind)) none ∙ last
 
@@ -156,9 +152,9 @@ module _ (def : Definition) where
       let sorts = def.signature.sorts in
       let s = split-spelled sorts (with_sort n d.constructors) (in_order (n + 1) ds) xs h in
       let parted = e ∙ ap (λ l. front ++ l) s.whole in
-      let own = all-weaker (HasSort n) (IsBelow (n + 1)) (λ x k. omega (arith, k)) s.front
+      let own = all-mapped (HasSort n) (IsBelow (n + 1)) (λ x k. omega (arith, k)) s.front
           (sort-spelled sorts n d.constructors s.front s.of_front) in
-      let old = all-weaker (IsBelow n) (IsBelow (n + 1)) (λ x k. omega (arith, k)) front below in
+      let old = all-mapped (IsBelow n) (IsBelow (n + 1)) (λ x k. omega (arith, k)) front below in
       let more = spelled-again (n + 1) ds (front ++ s.front) s.behind (parted ∙ sym (append_assoc front s.front s.behind))
           (all-append (IsBelow (n + 1)) front s.front old own) s.of_behind in
       let same = middle n front s.front s.behind parted below (from-spelled sorts (n + 1) ds s.behind s.of_behind) in
