@@ -101,7 +101,6 @@ module _ (Free : ℕ → Type 0) (W : List Line → Type 0)
         (flat-ranked 6 (cell_lines def) (λ l. map-ranked 6 (cell_line def l.name) (λ r. refl) l.cell_rows) def.lists)
         (behind-cells (λ r h. free r (omega arith)) w)
 
-
     pub behind-operators : From 5 → W [] → W (from_nils def)
     behind-operators free w =
         past 5 (free 5 (omega arith)) (flat_map (nil_lines def) def.lists) (from_cells def)
@@ -141,43 +140,43 @@ module _ (Free : ℕ → Type 0) (W : List Line → Type 0)
 
     pub before-phyla : Below 2 → W (from_phyla def) → W (lines_of def)
     before-phyla free w = before-entities (λ r h. free r (omega arith)) (
-      past 1 (free 1 (omega arith)) (map (entity_line def) def.spaces) (from_phyla def)
-      (map-ranked 1 (entity_line def) (λ s. refl) def.spaces) w
-    )
+        past 1 (free 1 (omega arith)) (map (entity_line def) def.spaces) (from_phyla def)
+        (map-ranked 1 (entity_line def) (λ s. refl) def.spaces) w
+        )
 
     pub before-lists : Below 3 → W (from_lists def) → W (lines_of def)
     before-lists free w = before-phyla (λ r h. free r (omega arith)) (
-      past 2 (free 2 (omega arith)) (map (phylum_line def) def.phyla) (from_lists def)
-      (map-ranked 2 (phylum_line def) (λ p. refl) def.phyla) w
-    )
+        past 2 (free 2 (omega arith)) (map (phylum_line def) def.phyla) (from_lists def)
+        (map-ranked 2 (phylum_line def) (λ p. refl) def.phyla) w
+        )
 
     pub before-operators : Below 4 → W (from_operators def) → W (lines_of def)
     before-operators free w = before-lists (λ r h. free r (omega arith)) (
-      past 3 (free 3 (omega arith)) (map (list_line def) def.lists) (from_operators def)
-      (map-ranked 3 (list_line def) (λ l. refl) def.lists) w
-    )
+        past 3 (free 3 (omega arith)) (map (list_line def) def.lists) (from_operators def)
+        (map-ranked 3 (list_line def) (λ l. refl) def.lists) w
+        )
 
     pub before-nils : Below 5 → W (from_nils def) → W (lines_of def)
     before-nils free w = before-operators (λ r h. free r (omega arith)) (
-      past 4 (free 4 (omega arith)) (flat_map (operator_lines def) def.operators) (from_nils def)
-      (flat-ranked 4 (operator_lines def) (λ o. (refl, map-ranked 4 (row_line def) (λ r. refl) o.rows)) def.operators) w
-    )
+        past 4 (free 4 (omega arith)) (flat_map (operator_lines def) def.operators) (from_nils def)
+        (flat-ranked 4 (operator_lines def) (λ o. (refl, map-ranked 4 (row_line def) (λ r. refl) o.rows)) def.operators) w
+        )
 
     pub before-cells : Below 6 → W (from_cells def) → W (lines_of def)
     before-cells free w = before-nils (λ r h. free r (omega arith)) (
-      past 5 (free 5 (omega arith)) (flat_map (nil_lines def) def.lists) (from_cells def)
-      (flat-ranked 5 (nil_lines def)
-      (λ l. map-ranked 5 (λ t. lines.Nil l.name (term_written def t)) (λ t. refl) l.nil_rows) def.lists) w
-    )
+        past 5 (free 5 (omega arith)) (flat_map (nil_lines def) def.lists) (from_cells def)
+        (flat-ranked 5 (nil_lines def)
+        (λ l. map-ranked 5 (λ t. lines.Nil l.name (term_written def t)) (λ t. refl) l.nil_rows) def.lists) w
+        )
 
     pub before-holes : Below 7 → W (from_holes def) → W (lines_of def)
     before-holes free w = before-cells (λ r h. free r (omega arith)) (
-      past 6 (free 6 (omega arith)) (flat_map (cell_lines def) def.lists) (from_holes def)
-      (flat-ranked 6 (cell_lines def) (λ l. map-ranked 6 (cell_line def l.name) (λ r. refl) l.cell_rows) def.lists) w
-    )
+        past 6 (free 6 (omega arith)) (flat_map (cell_lines def) def.lists) (from_holes def)
+        (flat-ranked 6 (cell_lines def) (λ l. map-ranked 6 (cell_line def l.name) (λ r. refl) l.cell_rows) def.lists) w
+        )
 
     pub before-declares : Below 8 → W (from_declares def) → W (lines_of def)
     before-declares free w = before-holes (λ r h. free r (omega arith)) (
-      past 7 (free 7 (omega arith)) (flat_map (hole_lines def) def.hole_rows) (from_declares def)
-      (flat-ranked 7 (hole_lines def) (λ h. (refl, map-ranked 7 (case_line def) (λ c. refl) h.cases)) def.hole_rows) w
-    )
+        past 7 (free 7 (omega arith)) (flat_map (hole_lines def) def.hole_rows) (from_declares def)
+        (flat-ranked 7 (hole_lines def) (λ h. (refl, map-ranked 7 (case_line def) (λ c. refl) h.cases)) def.hole_rows) w
+        )

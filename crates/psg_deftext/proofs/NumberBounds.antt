@@ -44,7 +44,7 @@ first-numbered t rest h =
     let (more, e) = noted-all-front (noted_all [] (variables t)) (variables_of rest) in
     let whole = noted-all-append [] (variables t) (variables_of rest) ∙ e in
     subst (IsNumberedFrom 1) (sym alone) (
-      numbered-front 1 (noted_all [] (variables t)) more (subst (IsNumberedFrom 1) whole h)
+    numbered-front 1 (noted_all [] (variables t)) more (subst (IsNumberedFrom 1) whole h)
     )
 
 -- ---- numbers below a bound
@@ -106,15 +106,17 @@ IsSmall x = x.1 < 2 ^ 63
 term-small : (t : Term) → AllByRecursion IsSmall (variables t) → IsSmallTerm t
 term-small (terms.variable s n) h = h.0
 term-small (terms.symbol c) h = tt
-term-small (terms.apply f a) h =
-    (term-small f (all-front IsSmall (variables f) (variables a) h),
-    term-small a (all-behind IsSmall (variables f) (variables a) h))
+term-small (terms.apply f a) h = (
+  term-small f (all-front IsSmall (variables f) (variables a) h),
+  term-small a (all-behind IsSmall (variables f) (variables a) h),
+)
 
 row-terms-small : (row : List Term) → AllByRecursion IsSmall (variables_of row) → AllByRecursion IsSmallTerm row
 row-terms-small [] h = tt
-row-terms-small (t ∷ rest) h =
-    (term-small t (all-front IsSmall (variables t) (variables_of rest) h),
-    row-terms-small rest (all-behind IsSmall (variables t) (variables_of rest) h))
+row-terms-small (t ∷ rest) h = (
+  term-small t (all-front IsSmall (variables t) (variables_of rest) h),
+  row-terms-small rest (all-behind IsSmall (variables t) (variables_of rest) h),
+)
 
 pub small-row : (row : List Term) → HasFewVariables row → IsNumberedFrom 1 (first_occurrences row)
     → AllByRecursion IsSmallTerm row

@@ -69,8 +69,7 @@ module _ (def : Definition) where
         → HasCases def row.kind sort w specimen behind row.term row.cases → HasTermAndCases row sort
     term-and-cases row sort w (Some tree) behind small (one, e, same, h) =
         let both : IsSmallCase def one × Unit {0} = subst (AllByRecursion (IsSmallCase def)) e small.1 in
-        let term = case-term-again def sound row.kind sort w tree one both.0 h in
-        (
+        let term = case-term-again def sound row.kind sort w tree one both.0 h in (
           subst (λ t. IsNil def sort (term_written def t) t) same term,
           subst (AllByRecursion (IsCaseAgain row.kind sort)) (sym e) (
             case-again def sound row.kind sort w tree one both.0 h,
@@ -126,7 +125,7 @@ module _ (def : Definition) where
       let more = flat_map (hole_lines def) rest ++ tail in
       let end = no-cases rest tail none in
       let first : IsHoleRow def (kind_name def row.kind) (term_written def row.term) None
-          (map (case_line def) row.cases ++ more) row = record {
+      (map (case_line def) row.cases ++ more) row = record {
         of_kind = h.0.of_kind;
         sort = h.0.sort;
         kind_sort = h.0.kind_sort;
@@ -180,21 +179,21 @@ module _ (def : Definition) where
       let small = small-row (row.term ∷ row.value ∷ place_terms row.specimen) few.0 h.naming.first in
       let places = tree-small def row.specimen (places-small (holes_of row.specimen) small.1.1) few.1 in
       record {
-    space = h.space;
-    of_list = kind-renamed def list (kinds.List row.list) h.of_list;
-    found = h.found;
-    list_is = h.list_is;
-    names = number_names;
-    entity_sort = h.entity_sort;
-    space_sort = h.space_sort;
-    of_entity = term-again def sound h.names entity [] h.entity_sort row.term small.0 h.of_entity;
-    value_sort = h.value_sort;
-    elements_sort = h.elements_sort;
-    of_value = term-again def sound h.names value [] h.value_sort row.value small.1.0 h.of_value;
-    of_specimen =
-        tree-again def sound h.names row.specimen (kinds.Phylum h.found.element) tree places h.of_specimen;
-    naming = record { once = numbers-once; first = h.naming.first };
-  }
+        space = h.space;
+        of_list = kind-renamed def list (kinds.List row.list) h.of_list;
+        found = h.found;
+        list_is = h.list_is;
+        names = number_names;
+        entity_sort = h.entity_sort;
+        space_sort = h.space_sort;
+        of_entity = term-again def sound h.names entity [] h.entity_sort row.term small.0 h.of_entity;
+        value_sort = h.value_sort;
+        elements_sort = h.elements_sort;
+        of_value = term-again def sound h.names value [] h.value_sort row.value small.1.0 h.of_value;
+        of_specimen =
+            tree-again def sound h.names row.specimen (kinds.Phylum h.found.element) tree places h.of_specimen;
+        naming = record { once = numbers-once; first = h.naming.first };
+      }
 
   each-declare-row : IsSoundSignature def.signature → (file : List Line) (all : List DeclareRow)
       → AllByRecursion (IsSmallDeclareRow def) all → AreDeclareRows def file all → AllByRecursion IsDeclareRowAgain all

@@ -1,11 +1,13 @@
 -- The lines that write a definition are together this definition.
-use Rattle.std.specs.Prelude.{◌<◌, ◌^◌, List}
+use Rattle.std.proofs.Common.{◌≡◌, ℕ, ◌<◌, ◌^◌, List, [], ◌∷◌, length, map, Some, refl, ap, arith}
+use Rattle.std.specs.Str.Lines.{lines as texts_of}
 use Rattle.psg_grammar.specs.declared.types.Definition.{Definition}
 use Rattle.psg_grammar.specs.Sound.{IsSound}
-use Rattle.psg_deflines.specs.Entries.{written}
+use Rattle.psg_deflines.specs.Entries.{written, AreSpelled, behind_head}
 use Rattle.psg_deflines.specs.declared.lines.Line.{Line}
 use Rattle.psg_defnumber.specs.Numbers.{IsNumbered}
-use Rattle.psg_deflaws.proofs.LineSizes.{lines_total}
+use Rattle.psg_deflaws.proofs.LineSizes.{lines_total, entries-total}
+use Rattle.psg_defread.proofs.Counting.{few_entries}
 use Rattle.psg_deftext.specs.WrittenLines.{lines_of}
 use Rattle.psg_deftext.proofs.WasRead.{WasRead}
 use Rattle.psg_deftext.proofs.NumberSmall.{HasSmallNumbers, small-numbers}
@@ -38,3 +40,22 @@ pub written_numbered : (def : Definition) → WasRead def → lines_total (lines
     → IsNumbered (lines_of def) def
 written_numbered def h short =
     numbered-again (written h.entries) def h.sound (small-numbers def h.sound short) h.numbered
+
+-- ---- the bound comes from the text
+
+written-some : (ls : List Line) → written (map Some ls) ≡ ls
+written-some [] = refl
+written-some (line ∷ rest) = ap (λ l. line ∷ l) (written-some rest)
+
+pub written-short : (bytes : List ℕ) (ls : List Line) → AreSpelled (texts_of bytes) (map Some ls)
+    → length bytes < 2 ^ 63 → lines_total ls < 2 ^ 63
+written-short bytes ls h short =
+    let few = few_entries bytes (map Some ls) h.head h.each in
+    let size = entries-total [] (behind_head (texts_of bytes)) (map Some ls) h.each in
+    omega (arith, few.1, size, ap lines_total (written-some ls))
+
+-- where a text that can be kept spells the lines
+pub spelled_numbered : (def : Definition) → WasRead def → (bytes : List ℕ)
+    → AreSpelled (texts_of bytes) (map Some (lines_of def)) → length bytes < 2 ^ 63 → IsNumbered (lines_of def) def
+spelled_numbered def h bytes spelled short =
+    written_numbered def h (written-short bytes (lines_of def) spelled short)

@@ -67,7 +67,7 @@ module _ (def : Definition) where
   two-columns names first second v w columns (t, rest, h, (u, more, k, last, f), e) =
       let whole : columns ≡ t ∷ u ∷ [] = e ∙ ap (λ l. t ∷ l) (f ∙ ap (λ l. u ∷ l) last) in
       subst (λ cs. map (term_written def) cs ≡ term_written def (term_at cs 0) ∷ term_written def (term_at cs 1) ∷ [])
-          (sym whole) refl
+      (sym whole) refl
 
   -- what a list is, apart from its lines
   record IsListAgain (l : ListKind) : Type 0 where
@@ -97,7 +97,7 @@ module _ (def : Definition) where
     cell-again sort elements w v u row small h =
         let columns = two-columns h.names elements sort v u row.columns h.of_columns in
         subst (λ ws. IsRow def sort (elements ∷ sort ∷ []) (term_written def row.head) ws row) columns
-            (row-again def sound sort (elements ∷ sort ∷ []) w (v ∷ u ∷ []) row small h)
+        (row-again def sound sort (elements ∷ sort ∷ []) w (v ∷ u ∷ []) row small h)
 
     each-cell : (list : Name) (sort elements : ℕ) (file : List Line) (rows : List Row)
         → AllByRecursion IsSmallRow rows → AreCells def list sort elements file rows
@@ -168,13 +168,12 @@ module _ (def : Definition) where
       let apart = all-apart l.name rest both.0 in
       let more = flat_map (nil_lines def) rest ++ tail in
       let first = flat-front (λ ls. HasNilsIn ls l) (nil_lines def) l rest tail
-          (own-nils l.name l.sort.0 l.nil_rows more h.0.nils (no-nils l.name l.sort.0 rest tail apart none)) in
-      let behind = all-nils rest tail both.1 h.1 none in
-      (
+      (own-nils l.name l.sort.0 l.nil_rows more h.0.nils (no-nils l.name l.sort.0 rest tail apart none)) in
+      let behind = all-nils rest tail both.1 h.1 none in (
         first,
         all-joined (IsApart l.name) (HasNilsIn more) (HasNilsIn (flat_map (nil_lines def) (l ∷ rest) ++ tail))
             (λ k ne has. flat-front (λ ls. HasNilsIn ls k) (nil_lines def) l rest tail
-              (other-nils k.name l.name k.sort.0 (λ e. ne (sym e)) l.nil_rows k.nil_rows more has)) rest apart behind,
+            (other-nils k.name l.name k.sort.0 (λ e. ne (sym e)) l.nil_rows k.nil_rows more has)) rest apart behind,
       )
 
   nils-step : (list : Name) (sort : ℕ) (rows : List Term) (line : Line) (rest : List Line) → rank line ≢ 5
@@ -189,12 +188,12 @@ module _ (def : Definition) where
       → AllByRecursion (HasNilsIn (lines_of def)) def.lists
   nils-are sound h =
       let none : HasNoNils (from_cells def) = λ list sort.
-        behind-nils IsNoNil (λ ls. AreNils def list sort ls []) (nils-step list sort []) def
-        (λ r k e. omega (arith, k, e)) refl in
+      behind-nils IsNoNil (λ ls. AreNils def list sort ls []) (nils-step list sort []) def
+      (λ r k e. omega (arith, k, e)) refl in
       all-mapped (HasNilsIn (flat_map (nil_lines def) def.lists ++ from_cells def)) (HasNilsIn (lines_of def))
-          (λ l has. before-nils IsNoNil (λ ls. HasNilsIn ls l) (nils-step l.name l.sort.0 l.nil_rows) def
-            (λ r k e. omega (arith, k, e)) has) def.lists
-          (all-nils def.lists (from_cells def) (lists-once def sound) h none)
+      (λ l has. before-nils IsNoNil (λ ls. HasNilsIn ls l) (nils-step l.name l.sort.0 l.nil_rows) def
+      (λ r k e. omega (arith, k, e)) has) def.lists
+      (all-nils def.lists (from_cells def) (lists-once def sound) h none)
 
   -- ---- cell rows in the lines
 
@@ -238,17 +237,16 @@ module _ (def : Definition) where
       let apart = all-apart l.name rest both.0 in
       let more = flat_map (cell_lines def) rest ++ tail in
       let first : HasCellsIn (flat_map (cell_lines def) (l ∷ rest) ++ tail) l = λ elements cells.
-        flat-front (λ ls. AreCells def l.name l.sort.0 elements ls l.cell_rows) (cell_lines def) l rest tail
-        (own-cells l.name l.sort.0 elements l.cell_rows more cells
-        (no-cells l.name l.sort.0 elements rest tail apart none)) in
-      let behind = all-cells rest tail both.1 none in
-      (
+      flat-front (λ ls. AreCells def l.name l.sort.0 elements ls l.cell_rows) (cell_lines def) l rest tail
+      (own-cells l.name l.sort.0 elements l.cell_rows more cells
+      (no-cells l.name l.sort.0 elements rest tail apart none)) in
+      let behind = all-cells rest tail both.1 none in (
         first,
         all-joined (IsApart l.name) (HasCellsIn more) (HasCellsIn (flat_map (cell_lines def) (l ∷ rest) ++ tail))
             (λ k ne has elements cells.
-              flat-front (λ ls. AreCells def k.name k.sort.0 elements ls k.cell_rows) (cell_lines def) l rest tail
-              (other-cells k.name l.name k.sort.0 elements (λ e. ne (sym e)) l.cell_rows k.cell_rows more
-              (has elements cells))) rest apart behind,
+            flat-front (λ ls. AreCells def k.name k.sort.0 elements ls k.cell_rows) (cell_lines def) l rest tail
+            (other-cells k.name l.name k.sort.0 elements (λ e. ne (sym e)) l.cell_rows k.cell_rows more
+            (has elements cells))) rest apart behind,
       )
 
   cells-step : (list : Name) (sort elements : ℕ) (rows : List Row) (line : Line) (rest : List Line) → rank line ≢ 6
@@ -262,14 +260,14 @@ module _ (def : Definition) where
   cells-are : IsSound def → AllByRecursion (HasCellsIn (lines_of def)) def.lists
   cells-are sound =
       let none : HasNoCells (from_holes def) = λ list sort elements.
-        behind-cells IsNoCell (λ ls. AreCells def list sort elements ls []) (cells-step list sort elements []) def
-        (λ r k e. omega (arith, k, e)) refl in
+      behind-cells IsNoCell (λ ls. AreCells def list sort elements ls []) (cells-step list sort elements []) def
+      (λ r k e. omega (arith, k, e)) refl in
       all-mapped (HasCellsIn (flat_map (cell_lines def) def.lists ++ from_holes def)) (HasCellsIn (lines_of def))
-          (λ l has elements cells.
-            before-cells IsNoCell (λ ls. AreCells def l.name l.sort.0 elements ls l.cell_rows)
-            (cells-step l.name l.sort.0 elements l.cell_rows) def (λ r k e. omega (arith, k, e))
-            (has elements cells)) def.lists
-          (all-cells def.lists (from_holes def) (lists-once def sound) none)
+      (λ l has elements cells.
+      before-cells IsNoCell (λ ls. AreCells def l.name l.sort.0 elements ls l.cell_rows)
+      (cells-step l.name l.sort.0 elements l.cell_rows) def (λ r k e. omega (arith, k, e))
+      (has elements cells)) def.lists
+      (all-cells def.lists (from_holes def) (lists-once def sound) none)
 
   -- ---- lists
 
@@ -279,7 +277,7 @@ module _ (def : Definition) where
   lists-in file [] tail h nils cells none = none
   lists-in file (l ∷ rest) tail h nils cells none =
       let first : IsList def file l.name (sort_name def l.sort.0) (kind_name def (kinds.Phylum l.element)) l.separator
-          l.lines l.unfinished l = record {
+      l.lines l.unfinished l = record {
         named = refl;
         of_sort = h.0.of_sort;
         of_elements = h.0.of_elements;
@@ -306,7 +304,7 @@ module _ (def : Definition) where
   lists-are sound file small h =
       let again = each-list sound.signature file file def.lists small h in
       let none = behind-lists IsNoList (λ ls. AreLists def (lines_of def) ls []) (lists-step (lines_of def) []) def
-          (λ r k e. omega (arith, k, e)) refl in
+      (λ r k e. omega (arith, k, e)) refl in
       before-lists IsNoList (λ ls. AreLists def (lines_of def) ls def.lists) (lists-step (lines_of def) def.lists) def
       (λ r k e. omega (arith, k, e))
       (lists-in (lines_of def) def.lists (from_operators def) again (nils-are sound again) (cells-are sound) none)

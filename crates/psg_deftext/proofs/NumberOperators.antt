@@ -134,7 +134,7 @@ module _ (def : Definition) where
       let more = flat_map (operator_lines def) rest ++ tail in
       let end = no-rows rest tail none in
       let first : IsOperator def op.name (kind_name def (kinds.Phylum op.phylum)) op.scope op.level
-          (map (item_written def) op.items) (map (row_line def) op.rows ++ more) op = record {
+      (map (item_written def) op.items) (map (row_line def) op.rows ++ more) op = record {
         named = refl;
         of_phylum = h.0.of_phylum;
         same_level = refl;
@@ -180,7 +180,7 @@ module _ (def : Definition) where
       before-operators IsFree (λ ls. AreOperators def ls def.operators) (operators-step def.operators) def free-below
       (operators-in def.operators (from_nils def) (each-operator sound file def.operators small h)
       (λ head sorts.
-        behind-operators IsFree (λ ls. AreRows def head sorts ls []) (rows-step head sorts) def free refl)
+      behind-operators IsFree (λ ls. AreRows def head sorts ls []) (rows-step head sorts) def free refl)
       (behind-operators IsFree (λ ls. AreOperators def ls []) (operators-step []) def free refl))
 
   -- ---- names

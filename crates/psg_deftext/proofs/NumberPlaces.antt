@@ -44,9 +44,10 @@ module _ (def : Definition) where
     part-small : (p : SpecimenPart) (f : Fragment) → AllByRecursion HasSmallTerm (holes_of_part p)
         → IsFitting def (part_of p f) → IsSmallPart p × IsFitting def f
     part-small (Sub s) f small h =
-        let (k, mid, front, tree) = h.fits in
-        (tree-small s small (record { more = []; kind = k; places = mid; left = h.left; fits = tree }),
-        record { more = made.Slot k ∷ h.more; kind = h.kind; places = h.places; left = mid; fits = front })
+        let (k, mid, front, tree) = h.fits in (
+          tree-small s small (record { more = []; kind = k; places = mid; left = h.left; fits = tree }),
+          record { more = made.Slot k ∷ h.more; kind = h.kind; places = h.places; left = mid; fits = front },
+        )
     part-small (NamePart n) f small h = (tt, name-fitting f n h)
     part-small (Number v) f small h =
         (h.fits.1, record { more = made.Number ∷ h.more; kind = h.kind; places = h.places; left = h.left; fits = h.fits.0 })
@@ -59,7 +60,7 @@ module _ (def : Definition) where
     parts-small end_of-SpecimenPart f small h = (tt, h)
     parts-small (more_of-SpecimenPart p rest) f small h =
         let behind = parts-small rest (part_of p f)
-            (all-behind HasSmallTerm (holes_of_part p) (holes_of_row rest) small) h in
+        (all-behind HasSmallTerm (holes_of_part p) (holes_of_row rest) small) h in
         let first = part-small p f (all-front HasSmallTerm (holes_of_part p) (holes_of_row rest) small) behind.1 in
         ((first.0, behind.0), first.1)
 
@@ -69,8 +70,9 @@ module _ (def : Definition) where
     elements-small l end_of-Specimen None small h = tt
     elements-small l end_of-Specimen (Some hole) small h = small.0
     elements-small l (more_of-Specimen s elements) rest small h =
-        let (ended, is, mid, list, at, first, behind) = h.fits in
-        (tree-small s (all-front HasSmallTerm (holes_of s) (holes_of_list elements rest) small)
-            (record { more = []; kind = kinds.Phylum list.element; places = h.places; left = mid; fits = first }),
-        elements-small l elements rest (all-behind HasSmallTerm (holes_of s) (holes_of_list elements rest) small)
-            (record { more = []; kind = kinds.List l; places = mid; left = h.left; fits = behind }))
+        let (ended, is, mid, list, at, first, behind) = h.fits in (
+          tree-small s (all-front HasSmallTerm (holes_of s) (holes_of_list elements rest) small)
+              (record { more = []; kind = kinds.Phylum list.element; places = h.places; left = mid; fits = first }),
+          elements-small l elements rest (all-behind HasSmallTerm (holes_of s) (holes_of_list elements rest) small)
+              (record { more = []; kind = kinds.List l; places = mid; left = h.left; fits = behind }),
+        )

@@ -112,9 +112,10 @@ module _ (def : Definition) where
 
   plain-part : (n : ℕ) (front : WrittenTree) (part : List ℕ) → n ≤ total (opened front)
       → (n + 0 ≤ total (opened front ++ part ∷ codes ")" ∷ [])) × (n + 0 ≤ total (opened front ++ part ∷ codes "," ∷ []))
-  plain-part n front part h =
-      (omega (arith, total-append (opened front) (part ∷ codes ")" ∷ [])),
-      omega (arith, total-append (opened front) (part ∷ codes "," ∷ [])))
+  plain-part n front part h = (
+    omega (arith, total-append (opened front) (part ∷ codes ")" ∷ [])),
+    omega (arith, total-append (opened front) (part ∷ codes "," ∷ [])),
+  )
 
   mutual
     pub tree-long : (s : Specimen) → place_count (holes_of s) ≤ total (tree_parts (tree_written def s))
@@ -127,9 +128,10 @@ module _ (def : Definition) where
     part-long : (p : SpecimenPart) (front : WrittenTree) (n : ℕ) → IsLongFront n front
         → IsLongFront (n + place_count (holes_of_part p)) (part_written def front p)
     part-long (Sub s) front n h =
-        let tree = tree-long s in
-        (both-inside n (place_count (holes_of s)) (opened front) (tree_parts (tree_written def s)) (codes ")" ∷ []) h.1 tree,
-        both-inside n (place_count (holes_of s)) (opened front) (tree_parts (tree_written def s)) (codes "," ∷ []) h.1 tree)
+        let tree = tree-long s in (
+          both-inside n (place_count (holes_of s)) (opened front) (tree_parts (tree_written def s)) (codes ")" ∷ []) h.1 tree,
+          both-inside n (place_count (holes_of s)) (opened front) (tree_parts (tree_written def s)) (codes "," ∷ []) h.1 tree,
+        )
     part-long (NamePart name) front n h = plain-part n front (36 ∷ name) h.1
     part-long (Number v) front n h = plain-part n front (decimal v) h.1
     part-long (Text t) front n h = plain-part n front (quoted_part t) h.1

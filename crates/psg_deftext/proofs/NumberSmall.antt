@@ -164,17 +164,19 @@ module _ (def : Definition) where
   hole-small : (row : HoleRow) → IsHoleRow def row → lines_total (hole_lines def row) < 2 ^ 63 → HasSmallCases def row
   hole-small row sound h =
       let size = total-append (term_parts (term_written def row.term)) [] in
-      let cases = map-within (case_line def) row.cases (omega arith) in
-      (omega (arith, length-append (variables row.term) [], term-long def row.term, size),
-      all-joined (λ one. total (parts_of (case_line def one)) < 2 ^ 63) (IsCase def row.kind sound.sort) (IsSmallCase def)
-          (λ one k is. (omega (arith, k, case-long one), specimen-fits row.kind one.specimen is.specimen)) row.cases cases
-          sound.each_case)
+      let cases = map-within (case_line def) row.cases (omega arith) in (
+        omega (arith, length-append (variables row.term) [], term-long def row.term, size),
+        all-joined (λ one. total (parts_of (case_line def one)) < 2 ^ 63) (IsCase def row.kind sound.sort) (IsSmallCase def)
+            (λ one k is. (omega (arith, k, case-long one), specimen-fits row.kind one.specimen is.specimen)) row.cases cases
+            sound.each_case,
+      )
 
   declare-small : (row : DeclareRow) → total (parts_of (declare_line def row)) < 2 ^ 63 → IsDeclareRow def row
       → IsSmallDeclareRow def row
-  declare-small row h sound =
-      (omega (arith, h, declare-long row),
-      specimen-fits (kinds.Phylum sound.list.element) row.specimen sound.specimen)
+  declare-small row h sound = (
+    omega (arith, h, declare-long row),
+    specimen-fits (kinds.Phylum sound.list.element) row.specimen sound.specimen,
+  )
 
   -- ---- the blocks
 
@@ -207,10 +209,10 @@ module _ (def : Definition) where
   small-numbers sound h =
       let s = short-blocks h in
       let nils = all-mapped (λ l. lines_total (nil_lines def l) < 2 ^ 63) (λ (l : ListKind). AllByRecursion IsSmallNil l.nil_rows)
-          nils-small def.lists (flat-within (nil_lines def) def.lists s.nils) in
+      nils-small def.lists (flat-within (nil_lines def) def.lists s.nils) in
       let cells = all-joined (IsListKind def) (λ l. lines_total (cell_lines def l) < 2 ^ 63)
-          (λ (l : ListKind). AllByRecursion IsSmallRow l.cell_rows) cells-small def.lists sound.lists
-          (flat-within (cell_lines def) def.lists s.cells) in
+      (λ (l : ListKind). AllByRecursion IsSmallRow l.cell_rows) cells-small def.lists sound.lists
+      (flat-within (cell_lines def) def.lists s.cells) in
       record {
         operators = all-mapped (λ op. lines_total (operator_lines def op) < 2 ^ 63) HasSmallRows operator-small
             def.operators (flat-within (operator_lines def) def.operators s.operators);

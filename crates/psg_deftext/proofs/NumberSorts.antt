@@ -81,9 +81,9 @@ from-spelled sorts n [] (x ∷ xs) h = absurd h
 from-spelled sorts n (d ∷ ds) xs h =
     let s = split-spelled sorts (with_sort n d.constructors) (in_order (n + 1) ds) xs h in
     let own = all-mapped (HasSort n) (IsAtLeast n) (λ x e. omega (arith, e)) s.front
-        (sort-spelled sorts n d.constructors s.front s.of_front) in
+    (sort-spelled sorts n d.constructors s.front s.of_front) in
     let more = all-mapped (IsAtLeast (n + 1)) (IsAtLeast n) (λ x e. omega (arith, e)) s.behind
-        (from-spelled sorts (n + 1) ds s.behind s.of_behind) in
+    (from-spelled sorts (n + 1) ds s.behind s.of_behind) in
     subst (AllByRecursion (IsAtLeast n)) (sym s.whole) (all-append (IsAtLeast n) s.front s.behind own more)
 
 module _ (def : Definition) where
@@ -104,7 +104,7 @@ module _ (def : Definition) where
   written-append n (s ∷ xs) ys =
       let more = written-append n xs ys in
       elim (s.sort == n) as (λ b. cond b (one s ∷ written n (xs ++ ys)) (written n (xs ++ ys))
-          ≡ cond b (one s ∷ written n xs) (written n xs) ++ written n ys) [
+      ≡ cond b (one s ∷ written n xs) (written n xs) ++ written n ys) [
         | true ↦ ap (λ l. one s ∷ l) more
         | false ↦ more
       ]
@@ -124,9 +124,9 @@ module _ (def : Definition) where
   own-spelled n (c ∷ cs) [] h = absurd h
   own-spelled n (c ∷ cs) (x ∷ xs) h =
       let first : IsSymbol def.signature.sorts (n, one x) x =
-          record { name = refl; arguments = named-again c.args x.arguments h.0.arguments; sort = h.0.sort } in
+      record { name = refl; arguments = named-again c.args x.arguments h.0.arguments; sort = h.0.sort } in
       subst (λ b. AreSpelled def.signature.sorts (with_sort n (cond b (one x ∷ written n xs) (written n xs))) (x ∷ xs))
-          (sym (eq-eqb x.sort n h.0.sort)) (first, own-spelled n cs xs h.1)
+      (sym (eq-eqb x.sort n h.0.sort)) (first, own-spelled n cs xs h.1)
 
   -- the declarations of the sorts from the number on
   abbrev decls : ℕ → List Name → List SortDecl
@@ -140,7 +140,7 @@ module _ (def : Definition) where
   middle n front xs behind e below above =
       let none = written-other n front (all-mapped (IsBelow n) (IsOther n) (λ x h same. omega (arith, h, same)) front below) in
       let rest = written-other n behind
-          (all-mapped (IsAtLeast (n + 1)) (IsOther n) (λ x h same. omega (arith, h, same)) behind above) in
+      (all-mapped (IsAtLeast (n + 1)) (IsOther n) (λ x h same. omega (arith, h, same)) behind above) in
       let last = written-append n xs behind ∙ ap (λ l. written n xs ++ l) rest ∙ append-nil (written n xs) in
       ap (written n) e ∙ written-append n front (xs ++ behind) ∙ ap (λ l. l ++ written n (xs ++ behind)) none ∙ last
 
@@ -153,16 +153,16 @@ module _ (def : Definition) where
       let s = split-spelled sorts (with_sort n d.constructors) (in_order (n + 1) ds) xs h in
       let parted = e ∙ ap (λ l. front ++ l) s.whole in
       let own = all-mapped (HasSort n) (IsBelow (n + 1)) (λ x k. omega (arith, k)) s.front
-          (sort-spelled sorts n d.constructors s.front s.of_front) in
+      (sort-spelled sorts n d.constructors s.front s.of_front) in
       let old = all-mapped (IsBelow n) (IsBelow (n + 1)) (λ x k. omega (arith, k)) front below in
       let more = spelled-again (n + 1) ds (front ++ s.front) s.behind (parted ∙ sym (append_assoc front s.front s.behind))
-          (all-append (IsBelow (n + 1)) front s.front old own) s.of_behind in
+      (all-append (IsBelow (n + 1)) front s.front old own) s.of_behind in
       let same = middle n front s.front s.behind parted below (from-spelled sorts (n + 1) ds s.behind s.of_behind) in
       let first = subst (λ cs. AreSpelled sorts (with_sort n cs) s.front) (sym same)
-          (own-spelled n d.constructors s.front s.of_front) in
+      (own-spelled n d.constructors s.front s.of_front) in
       let behind = in_order (n + 1) (decls (n + 1) (declared.sort_names ds)) in
       subst (AreSpelled sorts (with_sort n (written n def.signature.symbols) ++ behind)) (sym s.whole)
-          (join-spelled sorts (with_sort n (written n def.signature.symbols)) behind s.front s.behind first more)
+      (join-spelled sorts (with_sort n (written n def.signature.symbols)) behind s.front s.behind first more)
 
   -- ---- in the lines
 
@@ -229,10 +229,10 @@ module _ (def : Definition) where
     decls-spelled : IsSpelled (decls 0 def.signature.sorts) def.signature
     decls-spelled =
         let old = subst (λ names. AreSpelled names (in_order 0 (sort_decls file)) def.signature.symbols)
-            (sym spelled.sorts) spelled.symbols in
+        (sym spelled.sorts) spelled.symbols in
         let new = spelled-again 0 (sort_decls file) [] def.signature.symbols refl tt old in
         let named = subst (λ names. AreSpelled def.signature.sorts (in_order 0 (decls 0 names)) def.signature.symbols)
-            (sym spelled.sorts) new in
+        (sym spelled.sorts) new in
         record {
           sorts = sym (decls-named 0 def.signature.sorts);
           symbols = subst (λ names. AreSpelled names (in_order 0 (decls 0 def.signature.sorts)) def.signature.symbols)

@@ -66,14 +66,14 @@ module _ (def : Definition) (sound : IsSoundSignature def.signature) (names : Li
       → IsTerm def.signature number_names arguments sort (term_written def t) t
   term-again (variable n) arguments sort t small (none, inl (c, only, is)) =
       subst (IsAgain arguments sort) (sym is) (
-        symbol-again arguments sort c (
-          subst (λ sorts. HasSymbol def.signature c sorts sort) (sym none) (only-symbol def.signature sound sort c only)
-        )
+      symbol-again arguments sort c (
+      subst (λ sorts. HasSymbol def.signature c sorts sort) (sym none) (only-symbol def.signature sound sort c only)
+      )
       )
   term-again (variable n) arguments sort t small (none, inr (k, many, at, is)) =
       let few : k + 1 < 2 ^ 63 = subst IsSmallTerm is small in
       subst (IsAgain arguments sort) (sym is) (
-        subst (λ sorts. IsAgain sorts sort (terms.variable sort (k + 1))) (sym none) (variable-again sort k few many)
+      subst (λ sorts. IsAgain sorts sort (terms.variable sort (k + 1))) (sym none) (variable-again sort k few many)
       )
   term-again (named n) arguments sort t small (c, s, at, name, takes, of, is) =
       subst (IsAgain arguments sort) (sym is) (symbol-again arguments sort c (s, at, takes, of))
