@@ -1,13 +1,8 @@
--- The lines that write a definition, block by block. What is said of a file by its lines of some ranks is not changed by a block
--- of others.
+-- The lines that write a definition, block by block. What is said of a file by its lines of some ranks is not changed by a
+-- block of others.
 use Rattle.std.proofs.Common.{◌≡◌, ℕ, ◌+◌, ◌<◌, ◌≤◌, List, [], ◌∷◌, ◌++◌, map, refl, sym, subst, append_assoc, arith}
 use Rattle.std.specs.List.{AllByRecursion, flat_map}
 use Rattle.psg_terms.specs.Names.{Name}
-use Rattle.psg_grammar.specs.declared.types.Operator.{Operator}
-use Rattle.psg_grammar.specs.declared.types.ListKind.{ListKind}
-use Rattle.psg_grammar.specs.declared.types.Row.{Row}
-use Rattle.psg_grammar.specs.declared.types.Case.{Case}
-use Rattle.psg_grammar.specs.declared.types.HoleRow.{HoleRow}
 use Rattle.psg_grammar.specs.declared.types.Definition.{Definition}
 use Rattle.psg_deflines.specs.declared.lines.Line.{Line}
 use Rattle.psg_deflaws.proofs.Lists.{all-append}
@@ -159,7 +154,8 @@ module _ (Free : ℕ → Type 0) (W : List Line → Type 0)
     pub before-nils : Below 5 → W (from_nils def) → W (lines_of def)
     before-nils free w = before-operators (λ r h. free r (omega arith)) (
         past 4 (free 4 (omega arith)) (flat_map (operator_lines def) def.operators) (from_nils def)
-        (flat-ranked 4 (operator_lines def) (λ o. (refl, map-ranked 4 (row_line def) (λ r. refl) o.rows)) def.operators) w
+        (flat-ranked 4 (operator_lines def) (λ o. (refl, map-ranked 4 (row_line def) (λ r. refl) o.rows)) def.operators)
+        w
         )
 
     pub before-cells : Below 6 → W (from_cells def) → W (lines_of def)

@@ -1,5 +1,5 @@
 -- The hole rows, each with its cases, and the declare rows in the lines that write a definition.
-use Rattle.std.proofs.Common.{◌≡◌, ◌≢◌, ℕ, ◌<◌, ◌≤◌, Option, Some, None, List, [], ◌∷◌, ◌++◌, map, slice_get, refl, ap, sym, ◌∙◌, subst, arith}
+use Rattle.std.proofs.Common.{◌≢◌, ℕ, ◌≤◌, Option, Some, None, List, [], ◌∷◌, ◌++◌, map, refl, sym, subst, arith}
 use Rattle.std.specs.List.{AllByRecursion, flat_map}
 use Rattle.psg_terms.specs.Names.{Name}
 use Rattle.psg_terms.specs.Sound.{IsSound as IsSoundSignature}
@@ -15,7 +15,7 @@ use Rattle.psg_deflines.specs.WrittenTerms.{WrittenTerm}
 use Rattle.psg_deflines.specs.WrittenTrees.{WrittenTree}
 use Rattle.psg_deflines.specs.declared.lines.Line.{Line}
 use Rattle.psg_deflines.specs.declared.lines.Line.TheVariants as lines
-use Rattle.psg_defnumber.specs.Numbers.{IsKind, IsNil, IsCase, AreCases, HasCases, IsHoleRow, AreHoleRows, IsDeclareRow, AreDeclareRows, terms_of}
+use Rattle.psg_defnumber.specs.Numbers.{IsKind, IsNil, IsCase, AreCases, HasCases, IsHoleRow, AreHoleRows, IsDeclareRow, AreDeclareRows}
 use Rattle.psg_deftext.specs.Layout.{rank}
 use Rattle.psg_deftext.specs.WrittenLines.{lines_of, kind_name, term_written, tree_written, case_line, hole_lines, declare_line}
 use Rattle.psg_deftext.proofs.NumberNames.{number_names, numbers-once}
@@ -25,7 +25,7 @@ use Rattle.psg_deftext.proofs.NumberBounds.{HasFewVariables, small-row}
 use Rattle.psg_deftext.proofs.NumberPlaces.{IsFitting, tree-small}
 use Rattle.psg_deftext.proofs.NumberRows.{IsSmallCase, IsSmallNil, place_terms, places-small, nil-again, case-again, case-term-again}
 use Rattle.psg_deftext.proofs.NumberOperators.{kind-renamed}
-use Rattle.psg_deftext.proofs.NumberBlocks.{from_holes, from_declares, flat-front, behind-holes, before-holes, before-declares}
+use Rattle.psg_deftext.proofs.NumberBlocks.{from_declares, flat-front, behind-holes, before-holes, before-declares}
 
 abbrev pub HasSmallCases : Definition → HoleRow → Type 0
 HasSmallCases def row = IsSmallNil row.term × AllByRecursion (IsSmallCase def) row.cases
@@ -47,8 +47,8 @@ module _ (def : Definition) where
     cases : AllByRecursion (IsCaseAgain row.kind sort) row.cases
 
   module _ (sound : IsSoundSignature def.signature) where
-    each-case : (kind : Kind) (sort : ℕ) (behind : List Line) (cases : List Case) → AllByRecursion (IsSmallCase def) cases
-        → AreCases def kind sort behind cases → AllByRecursion (IsCaseAgain kind sort) cases
+    each-case : (kind : Kind) (sort : ℕ) (behind : List Line) (cases : List Case)
+        → AllByRecursion (IsSmallCase def) cases → AreCases def kind sort behind cases → AllByRecursion (IsCaseAgain kind sort) cases
     each-case kind sort [] cases small e = subst (AllByRecursion (IsCaseAgain kind sort)) (sym e) tt
     each-case kind sort (lines.Hole of_kind w specimen ∷ behind) cases small e =
         subst (AllByRecursion (IsCaseAgain kind sort)) (sym e) tt
@@ -83,7 +83,8 @@ module _ (def : Definition) where
         → AreHoleRows def file all → AllByRecursion IsHoleRowAgain all
     each-hole-row [] all small e = subst (AllByRecursion IsHoleRowAgain) (sym e) tt
     each-hole-row (lines.Hole kind w specimen ∷ behind) all small (row, rest, e, h, hs) =
-        let both : AllByRecursion (HasSmallCases def) (row ∷ rest) = subst (AllByRecursion (HasSmallCases def)) e small in
+        let both : AllByRecursion (HasSmallCases def) (row ∷ rest) =
+        subst (AllByRecursion (HasSmallCases def)) e small in
         let found = term-and-cases row h.sort w specimen behind both.0 h.has_cases in
         subst (AllByRecursion IsHoleRowAgain) (sym e) (
           record {
@@ -157,8 +158,9 @@ module _ (def : Definition) where
   free : (r : ℕ) → 8 ≤ r → r ≢ 7
   free r h e = omega (arith, h, e)
 
-  pub hole-rows-are : IsSoundSignature def.signature → (file : List Line) → AllByRecursion (HasSmallCases def) def.hole_rows
-      → AreHoleRows def file def.hole_rows → AreHoleRows def (lines_of def) def.hole_rows
+  pub hole-rows-are : IsSoundSignature def.signature → (file : List Line)
+      → AllByRecursion (HasSmallCases def) def.hole_rows → AreHoleRows def file def.hole_rows
+      → AreHoleRows def (lines_of def) def.hole_rows
   hole-rows-are sound file small h =
       before-holes IsNoHole (λ ls. AreHoleRows def ls def.hole_rows) (holes-step def.hole_rows) def
       (λ r k e. omega (arith, k, e))
@@ -174,7 +176,8 @@ module _ (def : Definition) where
       (tree_written def row.specimen) row
 
   declare-again : IsSoundSignature def.signature → (list : Name) (entity value : WrittenTerm) (tree : WrittenTree)
-      (row : DeclareRow) → IsSmallDeclareRow def row → IsDeclareRow def list entity value tree row → IsDeclareRowAgain row
+      (row : DeclareRow) → IsSmallDeclareRow def row → IsDeclareRow def list entity value tree row
+      → IsDeclareRowAgain row
   declare-again sound list entity value tree row few h =
       let small = small-row (row.term ∷ row.value ∷ place_terms row.specimen) few.0 h.naming.first in
       let places = tree-small def row.specimen (places-small (holes_of row.specimen) small.1.1) few.1 in
@@ -199,7 +202,8 @@ module _ (def : Definition) where
       → AllByRecursion (IsSmallDeclareRow def) all → AreDeclareRows def file all → AllByRecursion IsDeclareRowAgain all
   each-declare-row sound [] all small e = subst (AllByRecursion IsDeclareRowAgain) (sym e) tt
   each-declare-row sound (lines.Declare list entity value tree ∷ behind) all small (row, rest, e, h, hs) =
-      let both : AllByRecursion (IsSmallDeclareRow def) (row ∷ rest) = subst (AllByRecursion (IsSmallDeclareRow def)) e small in
+      let both : AllByRecursion (IsSmallDeclareRow def) (row ∷ rest) =
+      subst (AllByRecursion (IsSmallDeclareRow def)) e small in
       subst (AllByRecursion IsDeclareRowAgain) (sym e) (
         declare-again sound list entity value tree row both.0 h,
         each-declare-row sound behind rest both.1 hs,

@@ -1,5 +1,5 @@
 -- The spaces, the phyla and the names of kinds in the lines that write a definition.
-use Rattle.std.proofs.Common.{◌≡◌, ◌≢◌, ℕ, ◌<◌, ◌≤◌, false, List, [], ◌∷◌, ◌++◌, length, map, Some, slice_get, refl, ap, sym, ◌∙◌, subst, arith}
+use Rattle.std.proofs.Common.{◌≡◌, ◌≢◌, ℕ, ◌≤◌, false, List, [], ◌∷◌, ◌++◌, length, map, Some, refl, ap, sym, ◌∙◌, subst, arith}
 use Rattle.std.specs.List.{AllByRecursion}
 use Rattle.std.proofs.lemmas.List.{length-map}
 use Rattle.psg_terms.specs.Names.{Name, has_twice}
@@ -58,10 +58,11 @@ module _ (def : Definition) where
 
   entities-are : entity_sorts (lines_of def) ≡ map space_sort def.spaces
   entities-are =
+      let none = behind-entities IsNoEntity (λ ls. entity_sorts ls ≡ []) (entities-step []) def
+      (λ r h e. omega (arith, h, e)) refl in
       before-entities IsNoEntity (λ ls. entity_sorts ls ≡ map space_sort def.spaces)
       (entities-step (map space_sort def.spaces)) def (λ r h e. omega (arith, h, e))
-      (entities-in def.spaces (from_phyla def)
-      (behind-entities IsNoEntity (λ ls. entity_sorts ls ≡ []) (entities-step []) def (λ r h e. omega (arith, h, e)) refl))
+      (entities-in def.spaces (from_phyla def) none)
 
   module _ (file : List Line) (numbered : IsNumbered file def) where
     pub spaces-are : AreSpaces def (entity_sorts (lines_of def)) def.spaces
@@ -101,9 +102,11 @@ module _ (def : Definition) where
 
   pub phyla-are : (file : List Line) → ArePhyla def file def.phyla → ArePhyla def (lines_of def) def.phyla
   phyla-are file h =
-      before-phyla IsNoPhylum (λ ls. ArePhyla def ls def.phyla) (phyla-step def.phyla) def (λ r k e. omega (arith, k, e))
-      (phyla-in def.phyla (from_lists def) (each-phylum file def.phyla h)
-      (behind-phyla IsNoPhylum (λ ls. ArePhyla def ls []) (phyla-step []) def (λ r k e. omega (arith, k, e)) refl))
+      let none =
+      behind-phyla IsNoPhylum (λ ls. ArePhyla def ls []) (phyla-step []) def (λ r k e. omega (arith, k, e)) refl in
+      before-phyla IsNoPhylum (λ ls. ArePhyla def ls def.phyla) (phyla-step def.phyla) def
+      (λ r k e. omega (arith, k, e))
+      (phyla-in def.phyla (from_lists def) (each-phylum file def.phyla h) none)
 
   -- ---- names
 

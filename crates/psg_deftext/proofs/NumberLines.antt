@@ -35,7 +35,7 @@ numbered-again file def sound small h = record {
   declare_rows = declare-rows-are def sound.signature file small.declare_rows h.declare_rows;
 }
 
--- No row has so many variables that their numbers, as they are written, are not distinct.
+-- The bound keeps the numbers of a row's variables distinct as they are written: a decimal has 64 digits at most.
 pub written_numbered : (def : Definition) → WasRead def → lines_total (lines_of def) < 2 ^ 63
     → IsNumbered (lines_of def) def
 written_numbered def h short =

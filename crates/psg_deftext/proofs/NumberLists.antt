@@ -1,5 +1,5 @@
--- The lists in the lines that write a definition, each with its nil rows and cell rows, which stand behind all operators.
-use Rattle.std.proofs.Common.{◌≡◌, ◌≢◌, inl, inr, ℕ, ◌<◌, ◌≤◌, false, Some, List, [], ◌∷◌, ◌++◌, map, slice_get, refl, ap, sym, ◌∙◌, subst, arith}
+-- The lists in the lines that write a definition, with their nil rows and cell rows, which stand behind the operators.
+use Rattle.std.proofs.Common.{◌≡◌, ◌≢◌, inl, inr, ℕ, false, List, [], ◌∷◌, ◌++◌, map, refl, ap, sym, ◌∙◌, subst, arith}
 use Rattle.std.specs.Prelude.{bytes_eq}
 use Rattle.std.specs.List.{AllByRecursion, flat_map}
 use Rattle.std.proofs.lemmas.Bool.{or_parts, false≢true}
@@ -143,7 +143,8 @@ module _ (def : Definition) where
       → AreNils def list sort more rows
       → AreNils def list sort (map (λ t. lines.Nil other (term_written def t)) lines_rows ++ more) rows
   other-nils list other sort apart [] rows more h = h
-  other-nils list other sort apart (t ∷ rest) rows more h = inr (apart, other-nils list other sort apart rest rows more h)
+  other-nils list other sort apart (t ∷ rest) rows more h =
+      inr (apart, other-nils list other sort apart rest rows more h)
 
   abbrev HasNoNils : List Line → Type 0
   HasNoNils tail = (list : Name) (sort : ℕ) → AreNils def list sort tail []

@@ -1,5 +1,5 @@
 -- The operators in the lines that write a definition, each with its rows.
-use Rattle.std.proofs.Common.{◌≡◌, ◌≢◌, ℕ, ◌<◌, ◌≤◌, false, Bool, List, [], ◌∷◌, ◌++◌, map, Some, slice_get, refl, ap, sym, ◌∙◌, subst, arith}
+use Rattle.std.proofs.Common.{◌≡◌, ◌≢◌, ℕ, ◌<◌, ◌≤◌, false, List, [], ◌∷◌, ◌++◌, map, refl, ap, sym, ◌∙◌, subst, arith}
 use Rattle.std.specs.List.{AllByRecursion, flat_map}
 use Rattle.psg_terms.specs.Names.{Name, has_twice}
 use Rattle.psg_terms.specs.Sound.{IsSound as IsSoundSignature}
@@ -23,7 +23,7 @@ use Rattle.psg_deftext.specs.Layout.{rank}
 use Rattle.psg_deftext.specs.WrittenLines.{lines_of, kind_name, item_written, row_line, operator_lines}
 use Rattle.psg_deftext.proofs.NumberNames.{name-found}
 use Rattle.psg_deftext.proofs.NumberRows.{IsSmallRow, IsRowAgain, row-again}
-use Rattle.psg_deftext.proofs.NumberBlocks.{from_operators, from_nils, flat-front, behind-operators, before-operators}
+use Rattle.psg_deftext.proofs.NumberBlocks.{from_nils, flat-front, behind-operators, before-operators}
 
 abbrev pub HasSmallRows : Operator → Type 0
 HasSmallRows op = AllByRecursion IsSmallRow op.rows

@@ -1,5 +1,5 @@
 -- A specimen that fits its places has small numbers where its places' terms have them.
-use Rattle.std.proofs.Common.{ℕ, inl, inr, ◌<◌, ◌^◌, List, [], ◌∷◌, ◌++◌, Option, Some, None}
+use Rattle.std.proofs.Common.{ℕ, inl, inr, List, [], ◌∷◌, Option, Some, None}
 use Rattle.std.specs.List.{AllByRecursion}
 use Rattle.psg_grammar.specs.declared.types.Kind.{Kind}
 use Rattle.psg_grammar.specs.declared.types.Kind.TheVariants as kinds
@@ -50,7 +50,8 @@ module _ (def : Definition) where
         )
     part-small (NamePart n) f small h = (tt, name-fitting f n h)
     part-small (Number v) f small h =
-        (h.fits.1, record { more = made.Number ∷ h.more; kind = h.kind; places = h.places; left = h.left; fits = h.fits.0 })
+        let (front, limit) = h.fits in
+        (limit, record { more = made.Number ∷ h.more; kind = h.kind; places = h.places; left = h.left; fits = front })
     part-small (Text t) f small h =
         (tt, record { more = made.Text ∷ h.more; kind = h.kind; places = h.places; left = h.left; fits = h.fits.0 })
 

@@ -1,5 +1,5 @@
 -- A line is at least as long as its row has variables.
-use Rattle.std.proofs.Common.{◌≡◌, ℕ, zero, suc, ◌+◌, ◌≤◌, List, [], ◌∷◌, ◌++◌, length, length-append, map, Option, Some, None, codes, refl, ap, sym, ◌∙◌, arith}
+use Rattle.std.proofs.Common.{◌≡◌, ℕ, ◌+◌, ◌≤◌, List, [], ◌∷◌, ◌++◌, length, length-append, map, Option, Some, None, codes, refl, arith}
 use Rattle.std.specs.Prelude.{decimal}
 use Rattle.psg_terms.specs.Names.{Name}
 use Rattle.psg_terms.specs.Terms.{Term}
@@ -38,11 +38,7 @@ places-counted (h ∷ hs) =
       places-counted hs,
     )
 
--- what stands around a number of bytes
-inside : (n : ℕ) (before middle behind : List (List ℕ)) → n ≤ total middle → n ≤ total (before ++ middle ++ behind)
-inside n before middle behind h =
-    omega (arith, total-append (before ++ middle) behind, total-append before middle)
-
+-- a front and a middle are together no longer than the whole
 both-inside : (m n : ℕ) (before middle behind : List (List ℕ)) → m ≤ total before → n ≤ total middle
     → m + n ≤ total (before ++ middle ++ behind)
 both-inside m n before middle behind h k =
@@ -111,7 +107,8 @@ module _ (def : Definition) where
       (omega (arith, place, size), omega (arith, place, size))
 
   plain-part : (n : ℕ) (front : WrittenTree) (part : List ℕ) → n ≤ total (opened front)
-      → (n + 0 ≤ total (opened front ++ part ∷ codes ")" ∷ [])) × (n + 0 ≤ total (opened front ++ part ∷ codes "," ∷ []))
+      → (n + 0 ≤ total (opened front ++ part ∷ codes ")" ∷ []))
+      × (n + 0 ≤ total (opened front ++ part ∷ codes "," ∷ []))
   plain-part n front part h = (
     omega (arith, total-append (opened front) (part ∷ codes ")" ∷ [])),
     omega (arith, total-append (opened front) (part ∷ codes "," ∷ [])),
@@ -128,9 +125,11 @@ module _ (def : Definition) where
     part-long : (p : SpecimenPart) (front : WrittenTree) (n : ℕ) → IsLongFront n front
         → IsLongFront (n + place_count (holes_of_part p)) (part_written def front p)
     part-long (Sub s) front n h =
-        let tree = tree-long s in (
-          both-inside n (place_count (holes_of s)) (opened front) (tree_parts (tree_written def s)) (codes ")" ∷ []) h.1 tree,
-          both-inside n (place_count (holes_of s)) (opened front) (tree_parts (tree_written def s)) (codes "," ∷ []) h.1 tree,
+        let count = place_count (holes_of s) in
+        let tree = tree_parts (tree_written def s) in
+        let long = tree-long s in (
+          both-inside n count (opened front) tree (codes ")" ∷ []) h.1 long,
+          both-inside n count (opened front) tree (codes "," ∷ []) h.1 long,
         )
     part-long (NamePart name) front n h = plain-part n front (36 ∷ name) h.1
     part-long (Number v) front n h = plain-part n front (decimal v) h.1

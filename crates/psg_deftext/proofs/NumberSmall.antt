@@ -1,5 +1,5 @@
 -- No row of a definition has more variables than the lines that write it have bytes.
-use Rattle.std.proofs.Common.{◌≡◌, ℕ, ◌+◌, ◌<◌, ◌≤◌, ◌^◌, List, [], ◌∷◌, ◌++◌, length, length-append, map, Some, codes, refl, arith}
+use Rattle.std.proofs.Common.{◌≡◌, ℕ, ◌+◌, ◌<◌, ◌≤◌, ◌^◌, List, [], ◌∷◌, ◌++◌, length, length-append, map, Some, codes, arith}
 use Rattle.std.specs.List.{AllByRecursion, flat_map}
 use Rattle.psg_terms.specs.Names.{Name}
 use Rattle.psg_terms.specs.Terms.{Term}
@@ -18,7 +18,6 @@ use Rattle.psg_grammar.specs.declared.types.Definition.{Definition}
 use Rattle.psg_grammar.specs.Specimens.{tree_of, holes_of}
 use Rattle.psg_grammar.specs.Sound.{IsSound, IsRow, IsListKind, IsSpecimen, IsCase, IsHoleRow, IsDeclareRow, kind_of}
 use Rattle.psg_deflines.specs.WrittenTerms.{WrittenTerm, term_parts}
-use Rattle.psg_deflines.specs.WrittenTrees.{tree_parts}
 use Rattle.psg_deflines.specs.Forms.{parts_of, terms_parts, columns_parts, by_parts}
 use Rattle.psg_deflines.specs.declared.lines.Line.{Line}
 use Rattle.psg_deflines.specs.declared.lines.Line.TheVariants as lines
@@ -35,7 +34,7 @@ use Rattle.psg_deftext.proofs.NumberOperators.{HasSmallRows}
 use Rattle.psg_deftext.proofs.NumberLists.{HasSmallListRows}
 use Rattle.psg_deftext.proofs.NumberCases.{HasSmallCases, IsSmallDeclareRow}
 
--- The numbers of variables, which stand in the file as decimals, are small, and so are the numbers in specimens.
+-- Each row has few variables, so their numbers stay distinct as they are written, and each specimen fits its places.
 pub record HasSmallNumbers (def : Definition) : Type 0 where
   pub operators : AllByRecursion HasSmallRows def.operators
   pub lists : AllByRecursion HasSmallListRows def.lists
@@ -115,7 +114,8 @@ module _ (def : Definition) where
       )
 
   declare-long : (row : DeclareRow)
-      → length (variables_of (row.term ∷ row.value ∷ place_terms row.specimen)) ≤ total (parts_of (declare_line def row))
+      → length (variables_of (row.term ∷ row.value ∷ place_terms row.specimen))
+      ≤ total (parts_of (declare_line def row))
   declare-long row =
       let tree = by_parts (Some (tree_written def row.specimen)) in
       let behind = term_parts (term_written def row.value) ++ tree in
@@ -166,9 +166,10 @@ module _ (def : Definition) where
       let size = total-append (term_parts (term_written def row.term)) [] in
       let cases = map-within (case_line def) row.cases (omega arith) in (
         omega (arith, length-append (variables row.term) [], term-long def row.term, size),
-        all-joined (λ one. total (parts_of (case_line def one)) < 2 ^ 63) (IsCase def row.kind sound.sort) (IsSmallCase def)
-            (λ one k is. (omega (arith, k, case-long one), specimen-fits row.kind one.specimen is.specimen)) row.cases cases
-            sound.each_case,
+        all-joined (λ one. total (parts_of (case_line def one)) < 2 ^ 63) (IsCase def row.kind sound.sort)
+            (IsSmallCase def)
+            (λ one k is. (omega (arith, k, case-long one), specimen-fits row.kind one.specimen is.specimen))
+            row.cases cases sound.each_case,
       )
 
   declare-small : (row : DeclareRow) → total (parts_of (declare_line def row)) < 2 ^ 63 → IsDeclareRow def row
@@ -208,8 +209,8 @@ module _ (def : Definition) where
   pub small-numbers : IsSound def → lines_total (lines_of def) < 2 ^ 63 → HasSmallNumbers def
   small-numbers sound h =
       let s = short-blocks h in
-      let nils = all-mapped (λ l. lines_total (nil_lines def l) < 2 ^ 63) (λ (l : ListKind). AllByRecursion IsSmallNil l.nil_rows)
-      nils-small def.lists (flat-within (nil_lines def) def.lists s.nils) in
+      let nils = all-mapped (λ l. lines_total (nil_lines def l) < 2 ^ 63)
+      (λ (l : ListKind). AllByRecursion IsSmallNil l.nil_rows) nils-small def.lists (flat-within (nil_lines def) def.lists s.nils) in
       let cells = all-joined (IsListKind def) (λ l. lines_total (cell_lines def l) < 2 ^ 63)
       (λ (l : ListKind). AllByRecursion IsSmallRow l.cell_rows) cells-small def.lists sound.lists
       (flat-within (cell_lines def) def.lists s.cells) in

@@ -1,9 +1,9 @@
 -- The sorts and constructors of a signature that was spelled are spelled again.
-use Rattle.std.proofs.Common.{◌≡◌, ◌≢◌, ℕ, ◌+◌, ◌<◌, ◌≤◌, ◌==◌, true, false, cond, List, [], ◌∷◌, ◌++◌, map, Some, slice_get, refl, ap, ap₂, sym, ◌∙◌, subst, append-nil, append_assoc, arith}
+use Rattle.std.proofs.Common.{◌≡◌, ◌≢◌, ℕ, ◌+◌, ◌<◌, ◌≤◌, ◌==◌, true, false, cond, List, [], ◌∷◌, ◌++◌, map, Some, refl, ap, ap₂, sym, ◌∙◌, subst, append-nil, append_assoc, arith}
 use Rattle.std.specs.List.{AllByRecursion}
 use Rattle.std.proofs.lemmas.Bool.{eq-eqb, ne_eqb}
 use Rattle.psg_terms.specs.Names.{Name, has_twice}
-use Rattle.psg_terms.specs.Signature.{Signature, Symbol}
+use Rattle.psg_terms.specs.Signature.{Symbol}
 use Rattle.psg_terms.specs.Declarations.{Numbered, with_sort, in_order, names_in, AreNamed, AreSpelled, IsSymbol, IsSpelled}
 use Rattle.psg_terms.specs.Declarations as declared
 use Rattle.psg_terms.specs.Sound.{IsSound as IsSoundSignature}
@@ -138,7 +138,8 @@ module _ (def : Definition) where
       → AllByRecursion (IsBelow n) front → AllByRecursion (IsAtLeast (n + 1)) behind
       → written n def.signature.symbols ≡ written n xs
   middle n front xs behind e below above =
-      let none = written-other n front (all-mapped (IsBelow n) (IsOther n) (λ x h same. omega (arith, h, same)) front below) in
+      let none = written-other n front
+      (all-mapped (IsBelow n) (IsOther n) (λ x h same. omega (arith, h, same)) front below) in
       let rest = written-other n behind
       (all-mapped (IsAtLeast (n + 1)) (IsOther n) (λ x h same. omega (arith, h, same)) behind above) in
       let last = written-append n xs behind ∙ ap (λ l. written n xs ++ l) rest ∙ append-nil (written n xs) in
@@ -155,7 +156,8 @@ module _ (def : Definition) where
       let own = all-mapped (HasSort n) (IsBelow (n + 1)) (λ x k. omega (arith, k)) s.front
       (sort-spelled sorts n d.constructors s.front s.of_front) in
       let old = all-mapped (IsBelow n) (IsBelow (n + 1)) (λ x k. omega (arith, k)) front below in
-      let more = spelled-again (n + 1) ds (front ++ s.front) s.behind (parted ∙ sym (append_assoc front s.front s.behind))
+      let joined = parted ∙ sym (append_assoc front s.front s.behind) in
+      let more = spelled-again (n + 1) ds (front ++ s.front) s.behind joined
       (all-append (IsBelow (n + 1)) front s.front old own) s.of_behind in
       let same = middle n front s.front s.behind parted below (from-spelled sorts (n + 1) ds s.behind s.of_behind) in
       let first = subst (λ cs. AreSpelled sorts (with_sort n cs) s.front) (sym same)
@@ -174,7 +176,8 @@ module _ (def : Definition) where
       → sort_decls (sort_lines def n names ++ tail) ≡ decls n names
   decls-in n [] tail none = none
   decls-in n (name ∷ rest) tail none =
-      ap (λ l. record { name = name; constructors = written n def.signature.symbols } ∷ l) (decls-in (n + 1) rest tail none)
+      let more = decls-in (n + 1) rest tail none in
+      ap (λ l. record { name = name; constructors = written n def.signature.symbols } ∷ l) more
 
   names-in : (n : ℕ) (names : List Name) (tail : List Line) → sort_names tail ≡ []
       → sort_names (sort_lines def n names ++ tail) ≡ names

@@ -1,5 +1,5 @@
 -- A specimen that stands in a file is written again.
-use Rattle.std.proofs.Common.{◌≡◌, ℕ, ◌<◌, ◌^◌, List, [], ◌∷◌, Option, Some, None, slice_get, refl, ap, sym, ◌∙◌, subst}
+use Rattle.std.proofs.Common.{◌≡◌, ℕ, ◌<◌, ◌^◌, List, [], ◌∷◌, Option, Some, None, slice_get, refl, sym}
 use Rattle.std.specs.Prelude.{decimal}
 use Rattle.psg_terms.specs.Names.{Name}
 use Rattle.psg_terms.specs.Sound.{IsSound as IsSoundSignature}
@@ -64,9 +64,9 @@ module _ (def : Definition) (sound : IsSoundSignature def.signature) (names : Li
     of_term = term-again def sound names t [] p.sort h.term small p.of_term;
   }
 
-  operator-named : (n : Name) (o : ℕ) (op : Operator) → slice_get def.operators o ≡ Some op
+  operator-named : (o : ℕ) (op : Operator) → slice_get def.operators o ≡ Some op
       → op.name ≡ operator_name def o
-  operator-named n o op at = sym (name-found (λ (x : Operator). x.name) def.operators o op at)
+  operator-named o op at = sym (name-found (λ (x : Operator). x.name) def.operators o op at)
 
   end-again : (l : ℕ) (rest : Option SpecimenHole) (w : WrittenTree) → IsSmallEnd rest
       → IsListFrom def names l end_of-Specimen rest w
@@ -80,7 +80,7 @@ module _ (def : Definition) (sound : IsSoundSignature def.signature) (names : Li
         → IsTree def number_names kind s (tree_written def s)
     tree-again (Op' o shape parts) kind w small (n, op, (at, name), of, h) =
         let all = parts-again (part_items op.items) parts (operator n) (operator (operator_name def o)) w small h in
-        (operator_name def o, op, (at, operator-named n o op at), of, all)
+        (operator_name def o, op, (at, operator-named o op at), of, all)
     tree-again (List' l shape elements rest) kind w small (is, h) = (is, elements-again l elements rest w small h)
     tree-again (Hole h) kind w small (n, t, of, p, e) =
         (kind_name def h.kind, term_written def h.term, of, place-again n t h small p, refl)
