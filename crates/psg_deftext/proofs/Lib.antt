@@ -1,0 +1,17 @@
+pub mod WasRead
+pub mod NumberAll
+pub mod NumberNames
+pub mod NumberTerms
+pub mod NumberTrees
+pub mod NumberBounds
+pub mod NumberPlaces
+pub mod NumberRows
+pub mod NumberSizes
+pub mod NumberBlocks
+pub mod NumberSorts
+pub mod NumberKinds
+pub mod NumberOperators
+pub mod NumberCases
+pub mod NumberLists
+pub mod NumberSmall
+pub mod NumberLines
