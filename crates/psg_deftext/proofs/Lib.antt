@@ -15,3 +15,7 @@ pub mod NumberCases
 pub mod NumberLists
 pub mod NumberSmall
 pub mod NumberLines
+pub mod PushLaws
+pub mod LookLaws
+pub mod ShapeLaws
+pub mod SortLaws
