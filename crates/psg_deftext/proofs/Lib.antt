@@ -19,3 +19,8 @@ pub mod PushLaws
 pub mod LookLaws
 pub mod ShapeLaws
 pub mod SortLaws
+pub mod JoinParts
+pub mod JoinBytes
+pub mod JoinTexts
+pub mod JoinFaults
+pub mod JoinWhole
