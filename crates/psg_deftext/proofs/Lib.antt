@@ -24,3 +24,9 @@ pub mod JoinBytes
 pub mod JoinTexts
 pub mod JoinFaults
 pub mod JoinWhole
+pub mod OnceTerms
+pub mod OnceQuotes
+pub mod OnceTrees
+pub mod OnceParts
+pub mod OnceSmall
+pub mod OnceLines
