@@ -112,18 +112,33 @@ word-first : (c : ℕ) (w : List ℕ) (ps : List (List ℕ)) (t : List ℕ) → 
 word-first c w [] t e other h = other (subst IsSkipped e h)
 word-first c w (q ∷ ps) t (n, rest, e, apart, k) other h = other (subst IsSkipped e h)
 
+abbrev behind_first : List (List ℕ) → List (List ℕ)
+behind_first [] = []
+behind_first (p ∷ ps) = ps
+
 pub not-skipped : (line : Line) (t : List ℕ) → IsWritten (parts_of line) t → IsSkipped t → ⊥
-not-skipped (lines.Sort d) t w h = word-first 115 (codes "ort") _ t w (λ e. absurd (omega (arith, e))) h
-not-skipped (lines.Entity s) t w h = word-first 101 (codes "ntity") _ t w (λ e. absurd (omega (arith, e))) h
-not-skipped (lines.Phylum n s b) t w h = word-first 112 (codes "hylum") _ t w (λ e. absurd (omega (arith, e))) h
-not-skipped (lines.List n s e p l u) t w h = word-first 108 (codes "ist") _ t w (λ e. absurd (omega (arith, e))) h
-not-skipped (lines.Operator n k s l ms) t w h = word-first 111 (codes "p") _ t w (λ e. absurd (omega (arith, e))) h
-not-skipped (lines.Row u us) t w h = word-first 114 (codes "ow") _ t w (λ e. absurd (omega (arith, e))) h
-not-skipped (lines.Nil n u) t w h = word-first 110 (codes "il") _ t w (λ e. absurd (omega (arith, e))) h
-not-skipped (lines.Cell n u v x) t w h = word-first 99 (codes "ell") _ t w (λ e. absurd (omega (arith, e))) h
-not-skipped (lines.Hole n u s) t w h = word-first 104 (codes "ole") _ t w (λ e. absurd (omega (arith, e))) h
-not-skipped (lines.Case u s) t w h = word-first 99 (codes "ase") _ t w (λ e. absurd (omega (arith, e))) h
-not-skipped (lines.Declare n u v s) t w h = word-first 100 (codes "eclare") _ t w (λ e. absurd (omega (arith, e))) h
+not-skipped (lines.Sort d) t w h =
+    word-first 115 (codes "ort") (behind_first (parts_of (lines.Sort d))) t w (λ e. absurd (omega (arith, e))) h
+not-skipped (lines.Entity s) t w h =
+    word-first 101 (codes "ntity") (behind_first (parts_of (lines.Entity s))) t w (λ e. absurd (omega (arith, e))) h
+not-skipped (lines.Phylum n s b) t w h =
+    word-first 112 (codes "hylum") (behind_first (parts_of (lines.Phylum n s b))) t w (λ e. absurd (omega (arith, e))) h
+not-skipped (lines.List n s e p l u) t w h =
+    word-first 108 (codes "ist") (behind_first (parts_of (lines.List n s e p l u))) t w (λ e. absurd (omega (arith, e))) h
+not-skipped (lines.Operator n k s l ms) t w h =
+    word-first 111 (codes "p") (behind_first (parts_of (lines.Operator n k s l ms))) t w (λ e. absurd (omega (arith, e))) h
+not-skipped (lines.Row u us) t w h =
+    word-first 114 (codes "ow") (behind_first (parts_of (lines.Row u us))) t w (λ e. absurd (omega (arith, e))) h
+not-skipped (lines.Nil n u) t w h =
+    word-first 110 (codes "il") (behind_first (parts_of (lines.Nil n u))) t w (λ e. absurd (omega (arith, e))) h
+not-skipped (lines.Cell n u v x) t w h =
+    word-first 99 (codes "ell") (behind_first (parts_of (lines.Cell n u v x))) t w (λ e. absurd (omega (arith, e))) h
+not-skipped (lines.Hole n u s) t w h =
+    word-first 104 (codes "ole") (behind_first (parts_of (lines.Hole n u s))) t w (λ e. absurd (omega (arith, e))) h
+not-skipped (lines.Case u s) t w h =
+    word-first 99 (codes "ase") (behind_first (parts_of (lines.Case u s))) t w (λ e. absurd (omega (arith, e))) h
+not-skipped (lines.Declare n u v s) t w h =
+    word-first 100 (codes "eclare") (behind_first (parts_of (lines.Declare n u v s))) t w (λ e. absurd (omega (arith, e))) h
 
 -- ---- the lines are spelled
 

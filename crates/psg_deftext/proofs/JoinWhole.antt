@@ -14,7 +14,8 @@ use Rattle.psg_defread.specs.Reading.{IsReadAs}
 use Rattle.psg_deftext.specs.WrittenLines.{lines_of}
 use Rattle.psg_deftext.specs.Layout.{HasLayout, IsRanked, HasCasesBehind, HasNumberedVariables}
 use Rattle.psg_deftext.proofs.WasRead.{WasRead}
-use Rattle.psg_deftext.proofs.NumberLines.{spelled_numbered}
+use Rattle.psg_deflaws.proofs.LineSizes.{lines_total}
+use Rattle.psg_deftext.proofs.NumberLines.{spelled_numbered, written-short}
 use Rattle.psg_deftext.proofs.JoinTexts.{HavePlaces, IsLaid, laid-spelled}
 use Rattle.psg_deftext.proofs.JoinFaults.{SpellOnce, text-faultless, text-plain, written-some}
 
@@ -25,8 +26,10 @@ module _
     (written_plain : (def : Definition) → WasRead def → (AllByRecursion IsPlain (lines_of def) → ⊥) → ⊥)
     (written_ranked : (def : Definition) → IsRanked 0 (lines_of def))
     (written_cases : (def : Definition) → AllByRecursion HasCasesBehind (lines_of def))
-    (written_variables : (def : Definition) → WasRead def → AllByRecursion HasNumberedVariables (lines_of def))
-    (written_passed : (def : Definition) → WasRead def → ArePassed (lines_of def) [] (lines_of def)) where
+    (written_variables : (def : Definition) → WasRead def → lines_total (lines_of def) < 2 ^ 63
+        → AllByRecursion HasNumberedVariables (lines_of def))
+    (written_passed : (def : Definition) → WasRead def → lines_total (lines_of def) < 2 ^ 63
+        → ArePassed (lines_of def) [] (lines_of def)) where
   was-read : (bytes : List ℕ) (def : Definition) → IsSound def → IsReadAs bytes def → WasRead def
   was-read bytes def sound h = record {
     texts = behind_head (texts_of bytes);
@@ -54,16 +57,18 @@ module _
           spelled = spells;
           numbered = subst (λ ls. IsNumbered ls def) (sym (written-some (lines_of def))) numbered;
         };
-        faultless = text-faultless spell_once text (lines_of def) utf8 spells (written_plain def read) (written_passed def read);
+        faultless = text-faultless spell_once text (lines_of def) utf8 spells (written_plain def read)
+            (written_passed def read (written-short text (lines_of def) spells short));
       }
 
-  pub layout : (text : List ℕ) (def : Definition) → IsSound def → IsLaid (lines_of def) text
+  pub layout : (text : List ℕ) (def : Definition) → IsSound def → length text < 2 ^ 63 → IsLaid (lines_of def) text
       → (bytes : List ℕ) → IsReadAs bytes def → HasLayout text
-  layout text def sound laid bytes h =
-      let read = was-read bytes def sound h in record {
+  layout text def sound short laid bytes h =
+      let read = was-read bytes def sound h in
+      let spells = spelled text def read laid in record {
         written = lines_of def;
-        spelled = spelled text def read laid;
+        spelled = spells;
         ranked = written_ranked def;
         cases = written_cases def;
-        variables = written_variables def read;
+        variables = written_variables def read (written-short text (lines_of def) spells short);
       }

@@ -30,3 +30,4 @@ pub mod OnceTrees
 pub mod OnceParts
 pub mod OnceSmall
 pub mod OnceLines
+pub mod WholeLaws

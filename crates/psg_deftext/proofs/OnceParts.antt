@@ -152,9 +152,9 @@ apart-stops p b h k = elim (and_cases (ends_word p) (begins_word b) k) [
 
 module _ (p q b c : List ℕ) (same : p ++ b ≡ q ++ c) (before : IsApart p b) (behind : IsApart q c) where
   other-kinds : (h : IsPart p) (k : IsPart q) → (kind_of p h ≡ kind_of q k → ⊥) → p ≡ q
-  other-kinds h k no =
+  other-kinds h k differ =
       let codes-same : code p ≡ code q = sym (code-append p b (part-byte p h)) ∙ ap code same ∙ code-append q c (part-byte q k) in
-      absurd (no (sym (part-tag p h) ∙ ap tag codes-same ∙ part-tag q k))
+      absurd (differ (sym (part-tag p h) ∙ ap tag codes-same ∙ part-tag q k))
 
   first-once : IsPart p → IsPart q → p ≡ q
   unfolding kind_of

@@ -33,7 +33,7 @@ own-open c cs ps h = let low = lower-low c (own-first c cs h) in apart c 40 (λ 
 
 cons-closed : (cs : List ConDecl) → AllByRecursion HasConstructorForm cs → IsClosed (constructor_parts cs)
 cons-closed [] h = tt
-cons-closed (c ∷ cs) h = named c.name _ h.0.0
+cons-closed (c ∷ cs) h = named c.name (argument_parts c.args ++ constructor_parts cs) h.0.0
   where
     named : (n : List ℕ) (ps : Parts) → IsOwnName n → IsClosed (n ∷ ps)
     named [] ps k = absurd (false≢true k)
@@ -65,7 +65,7 @@ constructors-once (c ∷ cs) [] h k e = cc
 constructors-once (c ∷ cs) (d ∷ ds) h k e =
     let name : c.name ≡ d.name = ap first_of e in
     let both = arguments-once c.args d.args (constructor_parts cs) (constructor_parts ds) (cons-closed cs h.1) (cons-closed ds k.1) (ap rest_of e) in
-    ap₂ (λ x xs. x ∷ xs) (ap₂ (λ n as. record { name = n; args = as }) name both.0) (constructors-once cs ds h.1 k.1 both.1)
+    ap₂ (λ x xs. x ∷ xs) (ap₂ (λ n sorts. record { name = n; args = sorts }) name both.0) (constructors-once cs ds h.1 k.1 both.1)
 
 -- ---- words that stand or not
 

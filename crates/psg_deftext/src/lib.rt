@@ -19,3 +19,6 @@ mod terms;
 pub mod writing;
 
 pub use writing::definition_text;
+
+#[cfg(test)]
+mod tests;

@@ -29,8 +29,8 @@ pub fn definition_text(alloc: Global, definition: &Definition) -> Result<String,
     ensures inverse { IfOk result (λ text. (bytes : List ℕ) → IsReadAs bytes definition.now → IsReadAs (string_bytes text) definition.now) }
     ensures layout { IfOk result (λ text. (bytes : List ℕ) → IsReadAs bytes definition.now → HasLayout (string_bytes text)) }
 {
-    let lines = definition_lines(alloc, definition)?;
-    let lines = lines.as_slice();
+    let written = definition_lines(alloc, definition)?;
+    let lines = written.as_slice();
     let mut text = String::from_str(alloc, "psg 1\n")?;
     for i in 0..lines.len() {
         push_line(alloc, &mut text, &lines[i])?;
