@@ -1,11 +1,10 @@
 -- A number as it is written is one or more digits.
-use Rattle.std.proofs.Common.{◌≡◌, ℕ, zero, suc, ◌+◌, ◌<◌, ◌/◌, ◌%◌, ◌==◌, Bool, true, false, cond, if◌then◌else◌, List, [], ◌∷◌, length, refl, ap, ◌∙◌, subst, arith, lt-ltb}
+use Rattle.std.proofs.Common.{◌≡◌, ℕ, zero, suc, ◌+◌, ◌<◌, ◌/◌, ◌%◌, ◌==◌, Bool, true, false, cond, if◌then◌else◌, List, [], ◌∷◌, length, refl, ap, ◌∙◌, arith, lt-ltb}
 use Rattle.std.specs.Prelude.{decimal}
 use Rattle.std.specs.List.{list_all}
 use Rattle.std.proofs.lemmas.Bool.{and_from, or_right}
 use Rattle.std.proofs.lemmas.Bool.Decides.{nat_tests}
-use Rattle.core.specs.Fmt.{digit_glyph, digits_onto, digits}
-use Rattle.core.proofs.fmt.DigitsParse.{digits_onto-nil}
+use Rattle.std.specs.Fmt.{digit_glyph, digits_onto, digits}
 use Rattle.psg_grammar.specs.Sound.{is_upper, is_lower, is_digit}
 use Rattle.psg_deflines.specs.WrittenTerms.{is_plain, is_variable_name}
 use Rattle.psg_deflines.specs.WrittenTrees.{is_digits}
@@ -36,7 +35,8 @@ module _ (test : ℕ → Bool) (of_digit : (d : ℕ) → d < 10 → test (48 + d
       (onto-all k (n / 10) (one ∷ acc) more)
 
   decimal-all : (n : ℕ) → list_all test (decimal n) ≡ true
-  decimal-all n = subst (λ ds. list_all test ds ≡ true) (digits_onto-nil 10 false n) (onto-all 64 n [] refl)
+  unfolding digits
+  decimal-all n = onto-all 64 n [] refl
 
 onto-some : (k n x : ℕ) (xs : List ℕ) → 0 < length (digits_onto k 10 false n (x ∷ xs))
 onto-some zero n x xs = omega arith
@@ -45,15 +45,12 @@ onto-some (suc k) n x xs =
     either-some (n / 10 == 0) (one ∷ x ∷ xs) (digits_onto k 10 false (n / 10) (one ∷ x ∷ xs)) (omega arith)
     (onto-some k (n / 10) one (x ∷ xs))
 
-first-some : (k n : ℕ) → 0 < k → 0 < length (digits_onto k 10 false n [])
-first-some zero n h = absurd (omega arith)
-first-some (suc k) n h =
-    let one = digit_glyph false (n % 10) in
-    either-some (n / 10 == 0) (one ∷ []) (digits_onto k 10 false (n / 10) (one ∷ [])) (omega arith)
-    (onto-some k (n / 10) one [])
-
 decimal-some : (n : ℕ) → 0 < length (decimal n)
-decimal-some n = subst (λ ds. 0 < length ds) (digits_onto-nil 10 false n) (first-some 64 n (omega arith))
+unfolding digits
+decimal-some n =
+    let one = digit_glyph false (n % 10) in
+    either-some (n / 10 == 0) (one ∷ []) (digits_onto 63 10 false (n / 10) (one ∷ [])) (omega arith)
+    (onto-some 63 (n / 10) one [])
 
 -- ---- names and numbers
 

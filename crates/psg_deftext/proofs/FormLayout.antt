@@ -20,12 +20,12 @@ ranked-block : (r : ℕ) (xs rest : List Line) → AllByRecursion (HasRank r) xs
     → IsRankedFrom r (xs ++ rest)
 ranked-block r [] rest h k = k
 ranked-block r (x ∷ xs) rest h k = λ low le.
-    let e : rank x ≡ r = h.0 in (omega (arith, le, e), ranked-block r xs rest h.1 k (rank x) (omega (arith, e)))
+    (let e : rank x ≡ r = h.0 in (omega (arith, le, e), ranked-block r xs rest h.1 k (rank x) (omega (arith, e))))
 
 ranked-all : (r : ℕ) (xs : List Line) → AllByRecursion (HasRank r) xs → IsRankedFrom r xs
 ranked-all r [] h = λ low le. tt
 ranked-all r (x ∷ xs) h = λ low le.
-    let e : rank x ≡ r = h.0 in (omega (arith, le, e), ranked-all r xs h.1 (rank x) (omega (arith, e)))
+    (let e : rank x ≡ r = h.0 in (omega (arith, le, e), ranked-all r xs h.1 (rank x) (omega (arith, e))))
 
 -- a block in front of lines of higher ranks
 in-front : (r : ℕ) (xs rest : List Line) → AllByRecursion (HasRank r) xs → IsRankedFrom (r + 1) rest

@@ -127,7 +127,8 @@ module _ (def : Definition) where
         let operators = all-mapped (OfOperator def P) (λ op. AllByRecursion P (operator_lines def op)) operator-keeps
         def.operators of.operators in
         let nils = all-mapped (OfList def P) (λ l. AllByRecursion P (nil_lines def l)) nils-keep def.lists of.lists in
-        let cells = all-mapped (OfList def P) (λ l. AllByRecursion P (cell_lines def l)) cells-keep def.lists of.lists in
+        let cells = all-mapped (OfList def P) (λ l. AllByRecursion P (cell_lines def l)) cells-keep def.lists
+        of.lists in
         let holes = all-mapped (OfHoleRow def P) (λ row. AllByRecursion P (hole_lines def row)) hole-keeps
         def.hole_rows of.hole_rows in
         let declares = all-mapped (OfDeclareRow def P) (λ row. P (declare_line def row)) keeps.declare

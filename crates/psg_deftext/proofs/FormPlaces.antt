@@ -76,11 +76,12 @@ rows-placed def (row ∷ rows) rest above k h =
 
 operator-placed : (def : Definition) (o : Operator) (rest : List Line) → ArePlacedAnywhere rest
     → ArePlacedAnywhere (operator_lines def o ++ rest)
-operator-placed def o rest k above =
-    let phylum = kind_name def (kinds.Phylum o.phylum) in
+operator-placed def o rest k = λ above.
+    (let phylum = kind_name def (kinds.Phylum o.phylum) in
     let made = map (item_written def) o.items in
     let line = lines.Operator o.name phylum o.scope o.level made in
-    (tt, rows-placed def o.rows rest (above ++ line ∷ []) k (behind-operator above o.name phylum o.scope o.level made))
+    let behind = behind-operator above o.name phylum o.scope o.level made in
+    (tt, rows-placed def o.rows rest (above ++ line ∷ []) k behind))
 
 -- ---- hole rows, each with its cases
 
@@ -108,11 +109,11 @@ cases-placed def (one ∷ cases) rest above k h =
 
 hole-placed : (def : Definition) (row : HoleRow) (rest : List Line) → ArePlacedAnywhere rest
     → ArePlacedAnywhere (hole_lines def row ++ rest)
-hole-placed def row rest k above =
-    let kind = kind_name def row.kind in
+hole-placed def row rest k = λ above.
+    (let kind = kind_name def row.kind in
     let term = term_written def row.term in
     let line = lines.Hole kind term None in
-    (tt, cases-placed def row.cases rest (above ++ line ∷ []) k (behind-hole false above kind term))
+    (tt, cases-placed def row.cases rest (above ++ line ∷ []) k (behind-hole false above kind term)))
 
 -- ---- all lines
 
@@ -130,8 +131,8 @@ module _ (def : Definition) where
       (flat-all IsFree (nil_lines def)
       (λ l. map-all IsFree (λ t. lines.Nil l.name (term_written def t)) (λ t above. tt) l.nil_rows) def.lists)
       (free-block (flat_map (cell_lines def) def.lists) (from_holes def)
-      (flat-all IsFree (cell_lines def) (λ l. map-all IsFree (cell_line def l.name) (λ r above. tt) l.cell_rows) def.lists)
-      holes-placed)
+      (flat-all IsFree (cell_lines def) (λ l. map-all IsFree (cell_line def l.name) (λ r above. tt) l.cell_rows)
+      def.lists) holes-placed)
 
   operators-placed : ArePlacedAnywhere (from_operators def)
   operators-placed =
