@@ -1,5 +1,5 @@
 -- A number as it is written is one or more digits.
-use Rattle.std.proofs.Common.{◌≡◌, ℕ, zero, suc, ◌+◌, ◌<◌, ◌/◌, ◌%◌, ◌==◌, Bool, true, false, cond, if◌then◌else◌, List, [], ◌∷◌, length, refl, ap, ◌∙◌, arith, lt-ltb}
+use Rattle.std.proofs.Common.{◌≡◌, ℕ, zero, suc, ◌+◌, ◌<◌, ◌/◌, ◌%◌, ◌==◌, ◌||◌, Bool, true, false, cond, if◌then◌else◌, List, [], ◌∷◌, length, refl, ap, ◌∙◌, arith, lt-ltb}
 use Rattle.std.specs.Prelude.{decimal}
 use Rattle.std.specs.List.{list_all}
 use Rattle.std.proofs.lemmas.Bool.{and_from, or_right}
@@ -59,8 +59,7 @@ digit-is d h = grind (arith, nat_tests)
 
 digit-plain : (d : ℕ) → d < 10 → is_plain (48 + d) ≡ true
 digit-plain d h =
-    let c = 48 + d in
-    or_right (is_upper c) _ (or_right (is_lower c) (is_digit c) (digit-is d h))
+    let c = 48 + d in or_right (is_upper c || is_lower c) (is_digit c) (digit-is d h)
 
 some-plain : (ds : List ℕ) → 0 < length ds → list_all is_plain ds ≡ true → is_variable_name ds ≡ true
 some-plain [] h k = absurd (omega arith)
