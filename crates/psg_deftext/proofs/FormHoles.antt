@@ -1,5 +1,5 @@
 -- The terms of the places of a specimen as it is written are the terms of its hole places.
-use Rattle.std.proofs.Common.{◌≡◌, ℕ, List, [], ◌∷◌, ◌++◌, map, Option, Some, None, refl, ap, ap₂, sym, ◌∙◌, append-nil, append_assoc}
+use Rattle.std.proofs.Common.{◌≡◌, List, ◌++◌, map, Option, Some, None, refl, ap, ap₂, sym, ◌∙◌, append-nil, append_assoc}
 use Rattle.std.proofs.lemmas.List.{map-append}
 use Rattle.psg_terms.specs.Terms.{Term}
 use Rattle.psg_grammar.specs.declared.types.SpecimenHole.{SpecimenHole}

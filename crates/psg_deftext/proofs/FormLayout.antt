@@ -7,7 +7,7 @@ use Rattle.psg_deflines.specs.declared.lines.Line.TheVariants as lines
 use Rattle.psg_deftext.specs.Layout.{rank, IsRanked, HasCasesBehind}
 use Rattle.psg_deftext.specs.WrittenLines.{lines_of, sort_lines, entity_line, phylum_line, list_line, row_line, operator_lines, nil_lines, cell_line, cell_lines, case_line, hole_lines, declare_line, term_written}
 use Rattle.psg_deftext.proofs.NumberBlocks.{from_entities, from_phyla, from_lists, from_operators, from_nils, from_cells, from_holes, from_declares}
-use Rattle.psg_deftext.proofs.FormBlocks.{Blocks, all-lines, map-all, flat-all, sorts-all}
+use Rattle.psg_deftext.proofs.FormBlocks.{all-lines, map-all, flat-all, sorts-all}
 
 abbrev HasRank : ℕ → Line → Type 0
 HasRank r line = rank line ≡ r

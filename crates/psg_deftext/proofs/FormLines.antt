@@ -1,12 +1,11 @@
 -- The lines that write the rows of a definition keep what is said of the lines of its file.
-use Rattle.std.proofs.Common.{◌≡◌, inl, inr, ℕ, Option, Some, None, List, [], ◌∷◌, ◌++◌, map, refl, ap, sym, ◌∙◌, subst}
-use Rattle.std.specs.List.{AllByRecursion, flat_map}
+use Rattle.std.proofs.Common.{◌≡◌, None, List, [], ◌∷◌, map, ap, sym, ◌∙◌, subst}
+use Rattle.std.specs.List.{AllByRecursion}
 use Rattle.psg_terms.specs.Names.{Name}
 use Rattle.psg_terms.specs.Terms.{Term}
 use Rattle.psg_grammar.specs.declared.types.Kind.{Kind}
 use Rattle.psg_grammar.specs.declared.types.Kind.TheVariants as kinds
 use Rattle.psg_grammar.specs.declared.types.Item.{Item}
-use Rattle.psg_grammar.specs.declared.types.Item.TheVariants as made
 use Rattle.psg_grammar.specs.declared.types.Row.{Row}
 use Rattle.psg_grammar.specs.declared.types.ListKind.{ListKind}
 use Rattle.psg_grammar.specs.declared.types.Operator.{Operator}
@@ -20,10 +19,10 @@ use Rattle.psg_deflines.specs.declared.lines.Line.{Line}
 use Rattle.psg_deflines.specs.declared.lines.Line.TheVariants as lines
 use Rattle.psg_defnumber.specs.Numbers.{IsItem, AreItems}
 use Rattle.psg_deflaws.proofs.Lists.{cons-same}
-use Rattle.psg_deftext.specs.WrittenLines.{lines_of, sort_name, kind_name, sort_lines, entity_line, phylum_line, list_line, item_written, row_line, operator_lines, nil_lines, cell_line, cell_lines, case_line, hole_lines, declare_line, term_written}
+use Rattle.psg_deftext.specs.WrittenLines.{lines_of, kind_name, sort_lines, entity_line, phylum_line, list_line, item_written, row_line, operator_lines, nil_lines, cell_line, cell_lines, case_line, hole_lines, declare_line, term_written}
 use Rattle.psg_deftext.proofs.NumberAll.{all-mapped}
 use Rattle.psg_deftext.proofs.NumberNames.{name-found}
-use Rattle.psg_deftext.proofs.FormBlocks.{Blocks, all-lines, mapped, flattened}
+use Rattle.psg_deftext.proofs.FormBlocks.{all-lines, mapped, flattened}
 use Rattle.psg_deftext.proofs.FormOrigins.{OfRow, OfOperator, OfNil, OfCell, OfList, OfCase, OfHoleRow, OfDeclareRow, Origins}
 use Rattle.psg_deftext.proofs.FormTrees.{kind-named}
 

@@ -1,5 +1,5 @@
 -- Each thing of a definition that was read comes from a line of its file.
-use Rattle.std.proofs.Common.{◌≡◌, ◌⊎◌, inl, inr, ℕ, Bool, Option, Some, None, List, [], ◌∷◌, sym, subst}
+use Rattle.std.proofs.Common.{◌⊎◌, inl, inr, ℕ, Bool, Option, Some, None, List, [], ◌∷◌, sym, subst}
 use Rattle.std.specs.List.{AllByRecursion}
 use Rattle.psg_terms.specs.Names.{Name}
 use Rattle.psg_terms.specs.Terms.{Term}
@@ -18,7 +18,7 @@ use Rattle.psg_deflines.specs.WrittenTrees.{WrittenTree}
 use Rattle.psg_deflines.specs.declared.lines.LineItem.{LineItem}
 use Rattle.psg_deflines.specs.declared.lines.Line.{Line}
 use Rattle.psg_deflines.specs.declared.lines.Line.TheVariants as lines
-use Rattle.psg_defnumber.specs.Numbers.{IsTerm, IsKind, IsRow, IsNil, IsCase, IsOperator, IsList, IsDeclareRow, AreRows, AreNils, AreCells, AreCases, HasCases, IsHoleRow, AreOperators, AreLists, AreHoleRows, AreDeclareRows, IsNumbered, terms_of}
+use Rattle.psg_defnumber.specs.Numbers.{IsTerm, IsKind, IsRow, IsNil, IsCase, IsOperator, IsList, IsDeclareRow, AreRows, AreNils, AreCells, AreCases, HasCases, AreOperators, AreLists, AreHoleRows, AreDeclareRows, IsNumbered, terms_of}
 use Rattle.psg_deftext.proofs.NumberBounds.{first-numbered}
 
 -- what is given of each line of the file is given of the line that a thing comes from

@@ -1,5 +1,5 @@
 -- Each of the lines that write a definition has its place: rows stand behind an operator, cases behind a hole row.
-use Rattle.std.proofs.Common.{◌≡◌, ℕ, Bool, true, false, Option, Some, None, List, [], ◌∷◌, ◌++◌, map, IsTrue, refl, sym, subst, append-nil, append_assoc}
+use Rattle.std.proofs.Common.{◌≡◌, Bool, true, false, Some, None, List, [], ◌∷◌, ◌++◌, map, IsTrue, refl, sym, subst, append-nil, append_assoc}
 use Rattle.std.specs.List.{AllByRecursion, flat_map}
 use Rattle.std.proofs.lemmas.Bool.{false≢true}
 use Rattle.psg_terms.specs.Names.{Name}

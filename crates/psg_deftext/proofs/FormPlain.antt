@@ -1,5 +1,5 @@
 -- Each of the lines that write a definition has fixed words alone, and no term and no specimen that is nested too deep.
-use Rattle.std.proofs.Common.{◌≡◌, inl, inr, ℕ, Option, Some, None, List, [], ◌∷◌, map}
+use Rattle.std.proofs.Common.{inl, inr, None}
 use Rattle.std.specs.List.{AllByRecursion}
 use Rattle.psg_terms.specs.Names.{Name}
 use Rattle.psg_terms.specs.Terms.{Term}
@@ -14,7 +14,7 @@ use Rattle.psg_deflines.specs.Entries.{written, IsPlain}
 use Rattle.psg_deflines.specs.WrittenTerms.{WrittenTerm, IsShallowTerm}
 use Rattle.psg_deflines.specs.WrittenTrees.{WrittenTree, IsShallowTree}
 use Rattle.psg_deflines.specs.declared.lines.Line.TheVariants as lines
-use Rattle.psg_deftext.specs.WrittenLines.{lines_of, kind_name, sort_lines, entity_line, phylum_line, row_line, cell_line, case_line, declare_line, term_written, tree_written}
+use Rattle.psg_deftext.specs.WrittenLines.{lines_of, kind_name, entity_line, phylum_line, row_line, cell_line, case_line, declare_line, term_written, tree_written}
 use Rattle.psg_deftext.proofs.WasRead.{WasRead}
 use Rattle.psg_deftext.proofs.FormBlocks.{map-all, sorts-all}
 use Rattle.psg_deftext.proofs.FormOrigins.{OfRow, OfNil, OfCell, IsGivenCase, OfCase, OfHoleRow, OfDeclareRow, origins}

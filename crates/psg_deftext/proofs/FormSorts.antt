@@ -1,5 +1,5 @@
 -- The lines of sorts, entity and phyla of a sound definition have their forms.
-use Rattle.std.proofs.Common.{◌≡◌, ℕ, zero, suc, ◌+◌, ◌<◌, ◌≤◌, ◌==◌, Bool, true, false, cond, List, [], ◌∷◌, length, map, Some, None, slice_get, ap, sym, subst, arith}
+use Rattle.std.proofs.Common.{◌≡◌, ℕ, zero, suc, ◌+◌, ◌<◌, ◌≤◌, ◌==◌, Bool, true, false, cond, List, [], ◌∷◌, length, map, Some, None, slice_get, sym, subst, arith}
 use Rattle.std.specs.List.{AllByRecursion}
 use Rattle.std.proofs.lemmas.Bool.{eq-eqb}
 use Rattle.psg_terms.specs.Names.{Name}
@@ -8,12 +8,10 @@ use Rattle.psg_terms.specs.Terms as terms
 use Rattle.psg_terms.specs.Signature.{Symbol, Takes, AreSorts, AreClosed}
 use Rattle.psg_terms.specs.Instances.{IsGround}
 use Rattle.psg_terms.specs.declared.declare.ConDecl.{ConDecl}
-use Rattle.psg_grammar.specs.declared.types.Phylum.{Phylum}
 use Rattle.psg_grammar.specs.declared.types.Space.{Space}
 use Rattle.psg_grammar.specs.declared.types.Definition.{Definition}
 use Rattle.psg_grammar.specs.Sound.{IsSound, IsKindName, IsPhylum}
 use Rattle.psg_deflines.specs.Forms.{HasForm, HasConstructorForm}
-use Rattle.psg_deflines.specs.declared.lines.Line.{Line}
 use Rattle.psg_deftext.specs.WrittenLines.{sort_name, constructors_written, sort_lines, entity_line, phylum_line, name_at}
 use Rattle.psg_deftext.proofs.NumberAll.{all-mapped}
 use Rattle.psg_deftext.proofs.FormBlocks.{mapped}
@@ -56,7 +54,8 @@ module _ (def : Definition) (sound : IsSound def) where
     at : slice_get def.signature.symbols place ≡ Some symbol
     makes : symbol.sort ≡ sort
 
-  head-made : (t : Term) (arguments : List ℕ) (sort : ℕ) → IsGround t → Takes def.signature t arguments sort → IsMade sort
+  head-made : (t : Term) (arguments : List ℕ) (sort : ℕ) → IsGround t → Takes def.signature t arguments sort
+      → IsMade sort
   head-made (terms.variable s n) arguments sort g h = absurd g
   head-made (terms.symbol c) arguments sort g (s, at, takes, of) =
       record { place = c; symbol = s; at = at; makes = of }

@@ -1,5 +1,5 @@
 -- A term as it is written has the form and the depth that it has in the file.
-use Rattle.std.proofs.Common.{◌≡◌, inl, inr, ℕ, zero, ◌+◌, ◌≤◌, max, true, List, [], ◌∷◌, map, Some, None, slice_get, refl, ap₂, sym, ◌∙◌, subst, arith}
+use Rattle.std.proofs.Common.{◌≡◌, inl, inr, ℕ, ◌+◌, ◌≤◌, max, true, List, [], ◌∷◌, map, Some, None, slice_get, refl, ap₂, sym, ◌∙◌, subst, arith}
 use Rattle.std.specs.List.{AllByRecursion}
 use Rattle.std.proofs.lemmas.Bool.{false≢true}
 use Rattle.psg_terms.specs.Names.{Name}

@@ -1,5 +1,5 @@
 -- A specimen as it is written has the form and the depths that it has in the file.
-use Rattle.std.proofs.Common.{◌≡◌, ℕ, ◌+◌, ◌<◌, ◌≤◌, ◌^◌, max, true, List, [], ◌∷◌, ◌++◌, Option, Some, None, slice_get, refl, ap₂, sym, ◌∙◌, subst, arith}
+use Rattle.std.proofs.Common.{◌≡◌, ℕ, ◌+◌, ◌<◌, ◌≤◌, ◌^◌, max, true, List, [], ◌∷◌, Option, Some, None, refl, ap₂, sym, ◌∙◌, subst}
 use Rattle.std.specs.Prelude.{decimal}
 use Rattle.std.specs.List.{AllByRecursion}
 use Rattle.psg_terms.specs.Names.{Name}
@@ -15,10 +15,10 @@ use Rattle.psg_grammar.specs.declared.types.SpecimenPart.{SpecimenPart, Sub, Nam
 use Rattle.psg_grammar.specs.declared.types.Specimen.{Specimen, Op', List', Hole, Row_of-Specimen, end_of-Specimen, more_of-Specimen, Row_of-SpecimenPart, end_of-SpecimenPart, more_of-SpecimenPart}
 use Rattle.psg_grammar.specs.declared.types.Definition.{Definition}
 use Rattle.psg_grammar.specs.Lookups.{part_items}
-use Rattle.psg_grammar.specs.Sound.{IsKindName, IsOwnName, is_specimen_name}
+use Rattle.psg_grammar.specs.Sound.{IsKindName, IsOwnName}
 use Rattle.psg_lexis.specs.Tokens.{value_of}
-use Rattle.psg_deflines.specs.WrittenTerms.{WrittenTerm, IsShallowTerm, HasTermForm, most_nested}
-use Rattle.psg_deflines.specs.WrittenTrees.{WrittenTree, operator, with_tree, with_name, with_number, with_text, list_end, list_rest, element, place, is_front, is_list, HasTreeForm, IsQuotable, tree_depth, place_terms, IsShallowTree}
+use Rattle.psg_deflines.specs.WrittenTerms.{WrittenTerm, IsShallowTerm, most_nested}
+use Rattle.psg_deflines.specs.WrittenTrees.{WrittenTree, operator, with_tree, with_name, with_number, with_text, list_end, list_rest, element, place, is_front, is_list, HasTreeForm, tree_depth, place_terms, IsShallowTree}
 use Rattle.psg_defnumber.specs.Numbers.{IsKind, IsPlace, IsTree, IsPart, AreParts, IsListFrom}
 use Rattle.psg_deflaws.proofs.Lists.{all-append}
 use Rattle.psg_deftext.specs.WrittenLines.{term_written, kind_name, operator_name, tree_written, part_written, parts_written, elements_written, end_written}
@@ -40,9 +40,6 @@ pub record IsKeptTree (w v : WrittenTree) : Type 0 where
   pub form : HasTreeForm w → HasTreeForm v
   pub depth : tree_depth v ≡ tree_depth w
   pub places : AllByRecursion IsShallowTerm (place_terms w) → AllByRecursion IsShallowTerm (place_terms v)
-
-pub tree-form-kept : (w v : WrittenTree) → IsKeptTree w v → HasTreeForm w → HasTreeForm v
-tree-form-kept w v k h = k.form h
 
 pub tree-shallow-kept : (w v : WrittenTree) → IsKeptTree w v → IsShallowTree w → IsShallowTree v
 tree-shallow-kept w v k h =

@@ -1,6 +1,7 @@
 -- The variables of each of the lines that write a definition are numbered by first occurrence.
-use Rattle.std.proofs.Common.{◌≡◌, ℕ, ◌<◌, ◌^◌, Option, Some, None, List, [], ◌∷◌, ◌++◌, map, refl, ap, sym, ◌∙◌, subst}
-use Rattle.std.specs.List.{AllByRecursion, flat_map}
+use Rattle.std.proofs.Common.{◌≡◌, ℕ, ◌<◌, ◌^◌, Some, List, [], ◌∷◌, length, map, refl, ap, sym, ◌∙◌, subst}
+use Rattle.std.specs.List.{AllByRecursion}
+use Rattle.std.specs.Str.Lines.{lines as texts_of}
 use Rattle.psg_terms.specs.Names.{Name}
 use Rattle.psg_terms.specs.Terms.{Term}
 use Rattle.psg_grammar.specs.declared.types.Kind.{Kind}
@@ -11,24 +12,25 @@ use Rattle.psg_grammar.specs.declared.types.Case.{Case}
 use Rattle.psg_grammar.specs.declared.types.HoleRow.{HoleRow}
 use Rattle.psg_grammar.specs.declared.types.DeclareRow.{DeclareRow}
 use Rattle.psg_grammar.specs.declared.types.Definition.{Definition}
-use Rattle.psg_deflines.specs.Entries.{written}
+use Rattle.psg_deflines.specs.Entries.{written, AreSpelled}
 use Rattle.psg_deflines.specs.WrittenTerms.{WrittenTerm}
 use Rattle.psg_deflines.specs.declared.lines.Line.{Line}
 use Rattle.psg_deflines.specs.declared.lines.Line.TheVariants as lines
 use Rattle.psg_defnumber.specs.Numbers.{AreTerms}
 use Rattle.psg_deflaws.proofs.LineSizes.{lines_total}
 use Rattle.psg_deftext.specs.Layout.{met_in_all, numbers_from, line_terms, HasNumberedVariables}
-use Rattle.psg_deftext.specs.WrittenLines.{lines_of, sort_lines, entity_line, phylum_line, list_line, row_line, operator_lines, nil_lines, cell_line, cell_lines, case_line, hole_lines, declare_line, term_written, tree_written}
+use Rattle.psg_deftext.specs.WrittenLines.{lines_of, entity_line, phylum_line, list_line, row_line, operator_lines, nil_lines, cell_line, cell_lines, case_line, hole_lines, declare_line, term_written}
 use Rattle.psg_deftext.proofs.WasRead.{WasRead}
 use Rattle.psg_deftext.proofs.NumberAll.{all-joined}
 use Rattle.psg_deftext.proofs.NumberRows.{IsSmallRow, IsSmallNil, IsSmallCase, place_terms}
 use Rattle.psg_deftext.proofs.NumberOperators.{HasSmallRows}
 use Rattle.psg_deftext.proofs.NumberLists.{HasSmallListRows}
 use Rattle.psg_deftext.proofs.NumberCases.{HasSmallCases, IsSmallDeclareRow}
+use Rattle.psg_deftext.proofs.NumberLines.{written-short}
 use Rattle.psg_deftext.proofs.NumberSmall.{HasSmallNumbers, small-numbers}
-use Rattle.psg_deftext.proofs.FormBlocks.{Blocks, all-lines, map-all, mapped, flattened, sorts-all}
+use Rattle.psg_deftext.proofs.FormBlocks.{all-lines, map-all, mapped, flattened, sorts-all}
 use Rattle.psg_deftext.proofs.FormOrigins.{OfRow, OfOperator, OfNil, OfCell, OfList, OfCase, OfHoleRow, OfDeclareRow, Origins, origins}
-use Rattle.psg_deftext.proofs.FormNumbers.{AreMetInOrder, met-in-order}
+use Rattle.psg_deftext.proofs.FormNumbers.{met-in-order}
 use Rattle.psg_deftext.proofs.FormHoles.{places-written}
 
 -- nothing is asked of the file's lines
@@ -80,8 +82,8 @@ module _ (def : Definition) where
   declare-numbered : (row : DeclareRow) → OfDeclareRow def Anything row → IsSmallDeclareRow def row
       → HasNumberedVariables (declare_line def row)
   declare-numbered row of small =
-      let front : List WrittenTerm → List WrittenTerm = λ ts. term_written def row.term ∷ term_written def row.value ∷ ts in
-      let same = ap front (places-written def row.specimen) in
+      let same = ap (λ ts. term_written def row.term ∷ term_written def row.value ∷ ts)
+      (places-written def row.specimen) in
       subst HasNumbered (sym same)
       (met-in-order def (row.term ∷ row.value ∷ place_terms row.specimen) small.0 of.is.naming.first)
 
@@ -156,3 +158,10 @@ pub written_variables : (def : Definition) → WasRead def → lines_total (line
 written_variables def h short =
     lines-numbered def (origins def Anything (written h.entries) (anything (written h.entries)) h.numbered)
     (small-numbers def h.sound short)
+
+-- where a text that can be kept spells the lines
+pub spelled_variables : (def : Definition) → WasRead def → (bytes : List ℕ)
+    → AreSpelled (texts_of bytes) (map Some (lines_of def)) → length bytes < 2 ^ 63
+    → AllByRecursion HasNumberedVariables (lines_of def)
+spelled_variables def h bytes spelled short =
+    written_variables def h (written-short bytes (lines_of def) spelled short)

@@ -1,5 +1,5 @@
 -- Each of the lines that write a definition has its form.
-use Rattle.std.proofs.Common.{◌≡◌, inl, inr, ℕ, Option, Some, None, List, [], ◌∷◌, map, sym, subst}
+use Rattle.std.proofs.Common.{inl, inr, None, [], sym, subst}
 use Rattle.std.specs.List.{AllByRecursion}
 use Rattle.psg_terms.specs.Names.{Name}
 use Rattle.psg_terms.specs.Terms.{Term}
@@ -17,7 +17,7 @@ use Rattle.psg_deflines.specs.WrittenTerms.{WrittenTerm, HasTermForm}
 use Rattle.psg_deflines.specs.WrittenTrees.{WrittenTree, HasTreeForm}
 use Rattle.psg_deflines.specs.declared.lines.Line.TheVariants as lines
 use Rattle.psg_deflaws.proofs.LineSizes.{entries-formed}
-use Rattle.psg_deftext.specs.WrittenLines.{lines_of, kind_name, row_line, cell_line, case_line, declare_line, term_written, tree_written}
+use Rattle.psg_deftext.specs.WrittenLines.{lines_of, kind_name, row_line, cell_line, case_line, declare_line, term_written}
 use Rattle.psg_deftext.proofs.WasRead.{WasRead}
 use Rattle.psg_deftext.proofs.FormOrigins.{OfRow, OfNil, OfCell, IsGivenCase, OfCase, OfHoleRow, OfDeclareRow, origins}
 use Rattle.psg_deftext.proofs.FormTerms.{IsNamedSymbol, form-kept, term-keeps, terms-keep, columns-keep}
@@ -54,7 +54,8 @@ module _ (def : Definition) (own : AllByRecursion IsNamedSymbol def.signature.sy
     tt,
   )
 
-  given-case : (w : WrittenTerm) (tree : WrittenTree) → IsGivenCase def HasForm w tree → HasTermForm w × HasTreeForm tree
+  given-case : (w : WrittenTerm) (tree : WrittenTree) → IsGivenCase def HasForm w tree
+      → HasTermForm w × HasTreeForm tree
   given-case w tree (inl h) = (h.0, h.1)
   given-case w tree (inr (kind, h)) = (h.1, h.2)
 
