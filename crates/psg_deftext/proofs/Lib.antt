@@ -31,3 +31,17 @@ pub mod OnceParts
 pub mod OnceSmall
 pub mod OnceLines
 pub mod WholeLaws
+pub mod FormBlocks
+pub mod FormPlaces
+pub mod FormLayout
+pub mod FormOrigins
+pub mod FormNumbers
+pub mod FormHoles
+pub mod FormVariables
+pub mod FormDigits
+pub mod FormTerms
+pub mod FormTrees
+pub mod FormSorts
+pub mod FormLines
+pub mod FormWritten
+pub mod FormPlain
