@@ -69,7 +69,7 @@ module _ (def : Definition) (sound : IsSound def) (file : List Line) (declares :
   abbrev column_places_of : List Item → List Place
   column_places_of is = column_places file (map (item_written def) is)
 
-  space-within : (n s : ℕ) → HasSpaceSort def n s → s < length def.signature.sorts
+  pub space-within : (n s : ℕ) → HasSpaceSort def n s → s < length def.signature.sorts
   space-within n s (k, at, e) =
       subst (λ m. m < length def.signature.sorts) e
       (each_at (λ (x : Space). x.sort.0 < length def.signature.sorts) def.spaces sound.space_sorts n k at)
