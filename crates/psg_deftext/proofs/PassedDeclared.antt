@@ -1,5 +1,5 @@
 -- What a file declares of a definition, and what the names of its positions stand for there.
-use Rattle.std.proofs.Common.{◌≡◌, true, cond, IsTrue, is_some, ℕ, ◌<◌, Option, Some, None, List, [], ◌∷◌, length, map, get_or, slice_get, refl, ap, sym, ◌∙◌, subst}
+use Rattle.std.proofs.Common.{◌≡◌, Bool, true, cond, IsTrue, is_some, ℕ, ◌<◌, Option, Some, None, List, [], ◌∷◌, length, map, get_or, slice_get, refl, ap, sym, ◌∙◌, subst}
 use Rattle.std.specs.Option.{option_and_then}
 use Rattle.std.proofs.lemmas.Option.{slice_get-get_or}
 use Rattle.psg_terms.specs.Names.{Name, is_among}
@@ -15,7 +15,7 @@ use Rattle.psg_grammar.specs.declared.types.Definition.{Definition}
 use Rattle.psg_grammar.specs.Sound.{IsSound, IsPhylum, IsListKind, HasKindSort, HasSpaceSort}
 use Rattle.psg_grammar.proofs.SoundParts.{each_at}
 use Rattle.psg_deflines.specs.declared.lines.Line.{Line}
-use Rattle.psg_defcheck.specs.Scopes.{sort_names, sort_declared, constructor_declared, KindDecl, a_phylum, a_list, kind_declared, OpDecl, operator_declared, entity_sort, is_kind, is_list, is_phylum, Place, sort_place, kind_place, phylum_place, value_place, element_place, entity_place, sort_told, element_told}
+use Rattle.psg_defcheck.specs.Scopes.{sort_names, sort_declared, Constructor, constructor_declared, KindDecl, a_phylum, a_list, kind_declared, OpDecl, operator_declared, entity_sort, is_kind, is_list, is_phylum, Place, sort_place, kind_place, phylum_place, value_place, element_place, entity_place, sort_told, element_told}
 use Rattle.psg_deftext.specs.WrittenLines.{sort_name, kind_name, item_written, constructors_written}
 use Rattle.psg_deftext.proofs.NumberNames.{name-found}
 
@@ -23,8 +23,19 @@ module _ (def : Definition) where
   abbrev pub constructor_written : Symbol → ConDecl
   constructor_written s = record { name = s.name; args = map (sort_name def) s.arguments }
 
+  abbrev pub of_sort : ℕ → List Symbol → List ConDecl
+  of_sort n xs = constructors_written def n xs
+
+  -- those of the sort with one symbol more in front, where this is of the sort
+  abbrev pub with_front : Bool → Symbol → ℕ → List Symbol → List ConDecl
+  with_front b x n xs = cond b (constructor_written x ∷ of_sort n xs) (of_sort n xs)
+
   abbrev pub sort_written : ℕ → Name → SortDecl
   sort_written n name = record { name = name; constructors = constructors_written def n def.signature.symbols }
+
+  -- what a constructor's declaration tells, and a list's
+  abbrev pub symbol_told : Symbol → Constructor
+  symbol_told s = (sort_name def s.sort, constructor_written s)
 
   abbrev pub list_told : ListKind → KindDecl
   list_told l = a_list (sort_name def l.sort.0) (kind_name def (kinds.Phylum l.element))
@@ -43,7 +54,7 @@ module _ (def : Definition) where
     pub sort_is : (s : ℕ) (n : Name) → slice_get def.signature.sorts s ≡ Some n
         → sort_declared file n ≡ Some (sort_written s n)
     pub symbol_is : (c : ℕ) (s : Symbol) → slice_get def.signature.symbols c ≡ Some s
-        → constructor_declared file s.name ≡ Some (sort_name def s.sort, constructor_written s)
+        → constructor_declared file s.name ≡ Some (symbol_told s)
     pub phylum_is : (p : ℕ) (k : Phylum) → slice_get def.phyla p ≡ Some k
         → kind_declared file k.name ≡ Some (a_phylum (sort_name def k.sort.0))
     pub list_is : (l : ℕ) (k : ListKind) → slice_get def.lists l ≡ Some k

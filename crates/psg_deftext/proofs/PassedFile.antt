@@ -24,7 +24,7 @@ use Rattle.psg_deftext.specs.WrittenLines.{lines_of, sort_name, kind_name, const
 use Rattle.psg_deftext.proofs.NumberBlocks.{from_entities, from_phyla, from_lists, from_operators, from_nils, flat-front, before-entities, before-phyla, before-operators}
 use Rattle.psg_deftext.proofs.NumberSorts.{sort-names-are}
 use Rattle.psg_deftext.proofs.PassedNames.{once-at, once-first, once-rest, once-before, once-back}
-use Rattle.psg_deftext.proofs.PassedDeclared.{Declares, constructor_written, sort_written, list_told, operator_written, sort-at}
+use Rattle.psg_deftext.proofs.PassedDeclared.{Declares, constructor_written, of_sort, with_front, sort_written, symbol_told, list_told, operator_written, sort-at}
 use Rattle.psg_deftext.proofs.PassedGround.{closed-sort}
 
 module _ (def : Definition) where
@@ -51,22 +51,23 @@ module _ (def : Definition) where
 
   -- ---- constructors
 
-  abbrev of_sort : ℕ → List Symbol → List ConDecl
-  of_sort k xs = constructors_written def k xs
-
   abbrev named : List Symbol → List Name
   named xs = map (λ (x : Symbol). x.name) xs
 
-  -- one constructor more of some sort, or of another one
+  -- the constructor of a sort of the name
+  abbrev made_by : Name → Symbol → Constructor
+  made_by sort s = (made_by sort s)
+
+  -- no constructor of the name
   missing : (sort : Name) (k : ℕ) (xs : List Symbol) (n : Name) (behind : Option Constructor)
-      → is_among (named xs) n ≡ false → constructor_among sort (of_sort k xs) n behind ≡ behind
+      → is_among (named xs) n ≡ false → constructor_among sort (of_sort def k xs) n behind ≡ behind
   missing sort k [] n behind h = refl
   missing sort k (x ∷ xs) n behind h =
       let both = or_parts (bytes_eq x.name n) (is_among (named xs) n) h in
       let rest = missing sort k xs n behind both.1 in
-      elim (x.sort == k) as (λ b. constructor_among sort (cond b (constructor_written def x ∷ of_sort k xs) (of_sort k xs)) n behind ≡ behind) [
+      elim (x.sort == k) as (λ b. constructor_among sort (with_front def b x k xs) n behind ≡ behind) [
         | true ↦
-            ap (λ b. cond b (Some (sort, constructor_written def x)) (constructor_among sort (of_sort k xs) n behind))
+            ap (λ b. cond b (Some (made_by sort x)) (constructor_among sort (of_sort def k xs) n behind))
             both.0 ∙ rest
         | false ↦ rest
       ]
@@ -74,44 +75,44 @@ module _ (def : Definition) where
   -- a constructor is not in the line of another sort
   other-sort : (sort : Name) (k : ℕ) (xs : List Symbol) (c : ℕ) (s : Symbol) (behind : Option Constructor)
       → has_twice (named xs) ≡ false → slice_get xs c ≡ Some s → s.sort ≢ k
-      → constructor_among sort (of_sort k xs) s.name behind ≡ behind
+      → constructor_among sort (of_sort def k xs) s.name behind ≡ behind
   other-sort sort k [] c s behind once e other = absurd (let f : None ≡ Some s = e in cc)
   other-sort sort k (x ∷ xs) zero s behind once e other =
       let same : x ≡ s = let f : Some x ≡ Some s = e in cc in
       let test = ne_eqb x.sort k (λ f. other (ap (λ (y : Symbol). y.sort) (sym same) ∙ f)) in
       let rest = missing sort k xs x.name behind (once-first x.name (named xs) once) in
-      ap (λ b. constructor_among sort (cond b (constructor_written def x ∷ of_sort k xs) (of_sort k xs)) s.name behind)
-      test ∙ subst (λ (y : Symbol). constructor_among sort (of_sort k xs) y.name behind ≡ behind) same rest
+      ap (λ b. constructor_among sort (with_front def b x k xs) s.name behind)
+      test ∙ subst (λ (y : Symbol). constructor_among sort (of_sort def k xs) y.name behind ≡ behind) same rest
   other-sort sort k (x ∷ xs) (suc c) s behind once e other =
       let rest = other-sort sort k xs c s behind (once-rest x.name (named xs) once) e other in
       let at = map-at (λ (y : Symbol). y.name) xs c s e in
-      elim (x.sort == k) as (λ b. constructor_among sort (cond b (constructor_written def x ∷ of_sort k xs) (of_sort k xs)) s.name behind ≡ behind) [
+      elim (x.sort == k) as (λ b. constructor_among sort (with_front def b x k xs) s.name behind ≡ behind) [
         | true ↦
-            ap (λ b. cond b (Some (sort, constructor_written def x))
-            (constructor_among sort (of_sort k xs) s.name behind))
+            ap (λ b. cond b (Some (made_by sort x))
+            (constructor_among sort (of_sort def k xs) s.name behind))
             (once-at x.name (named xs) c s.name once at) ∙ rest
         | false ↦ rest
       ]
 
   own-sort : (sort : Name) (k : ℕ) (xs : List Symbol) (c : ℕ) (s : Symbol) (behind : Option Constructor)
       → has_twice (named xs) ≡ false → slice_get xs c ≡ Some s → s.sort ≡ k
-      → constructor_among sort (of_sort k xs) s.name behind ≡ Some (sort, constructor_written def s)
+      → constructor_among sort (of_sort def k xs) s.name behind ≡ Some (made_by sort s)
   own-sort sort k [] c s behind once e of = absurd (let f : None ≡ Some s = e in cc)
   own-sort sort k (x ∷ xs) zero s behind once e of =
       let same : x ≡ s = let f : Some x ≡ Some s = e in cc in
       let test = eq-eqb x.sort k (ap (λ (y : Symbol). y.sort) same ∙ of) in
-      let here = ap (λ b. cond b (Some (sort, constructor_written def x))
-      (constructor_among sort (of_sort k xs) x.name behind)) (bytes_eq-refl x.name) in
-      ap (λ b. constructor_among sort (cond b (constructor_written def x ∷ of_sort k xs) (of_sort k xs)) s.name behind)
-      test ∙ subst (λ (y : Symbol). constructor_among sort (constructor_written def x ∷ of_sort k xs) y.name behind
-      ≡ Some (sort, constructor_written def y)) same here
+      let here = ap (λ b. cond b (Some (made_by sort x))
+      (constructor_among sort (of_sort def k xs) x.name behind)) (bytes_eq-refl x.name) in
+      ap (λ b. constructor_among sort (with_front def b x k xs) s.name behind)
+      test ∙ subst (λ (y : Symbol). constructor_among sort (constructor_written def x ∷ of_sort def k xs) y.name behind
+      ≡ Some (made_by sort y)) same here
   own-sort sort k (x ∷ xs) (suc c) s behind once e of =
       let rest = own-sort sort k xs c s behind (once-rest x.name (named xs) once) e of in
       let at = map-at (λ (y : Symbol). y.name) xs c s e in
-      elim (x.sort == k) as (λ b. constructor_among sort (cond b (constructor_written def x ∷ of_sort k xs) (of_sort k xs)) s.name behind ≡ Some (sort, constructor_written def s)) [
+      elim (x.sort == k) as (λ b. constructor_among sort (with_front def b x k xs) s.name behind ≡ Some (made_by sort s)) [
         | true ↦
-            ap (λ b. cond b (Some (sort, constructor_written def x))
-            (constructor_among sort (of_sort k xs) s.name behind))
+            ap (λ b. cond b (Some (made_by sort x))
+            (constructor_among sort (of_sort def k xs) s.name behind))
             (once-at x.name (named xs) c s.name once at) ∙ rest
         | false ↦ rest
       ]
@@ -119,14 +120,14 @@ module _ (def : Definition) where
   symbols-in : has_twice (named def.signature.symbols) ≡ false → (n : ℕ) (names : List Name) (tail : List Line)
       (i : ℕ) (m : Name) (c : ℕ) (s : Symbol) → slice_get names i ≡ Some m → s.sort ≡ n + i
       → slice_get def.signature.symbols c ≡ Some s
-      → constructor_declared (sort_lines def n names ++ tail) s.name ≡ Some (m, constructor_written def s)
+      → constructor_declared (sort_lines def n names ++ tail) s.name ≡ Some (made_by m s)
   symbols-in once n [] tail i m c s e of at = absurd (let f : None ≡ Some m = e in cc)
   symbols-in once n (x ∷ names) tail zero m c s e of at =
       let same : x ≡ m = let f : Some x ≡ Some m = e in cc in
       let here : s.sort ≡ n = omega (arith, of) in
       let behind = constructor_declared (sort_lines def (n + 1) names ++ tail) s.name in
       own-sort x n def.signature.symbols c s behind once at here
-      ∙ ap (λ y. Some (y, constructor_written def s)) same
+      ∙ ap (λ y. Some (made_by y s)) same
   symbols-in once n (x ∷ names) tail (suc i) m c s e of at =
       let behind = constructor_declared (sort_lines def (n + 1) names ++ tail) s.name in
       let later : s.sort ≡ (n + 1) + i = omega (arith, of) in
@@ -149,7 +150,8 @@ module _ (def : Definition) where
   phylum-in [] tail p k once e = absurd (let f : None ≡ Some k = e in cc)
   phylum-in (x ∷ all) tail zero k once e =
       let same : x ≡ k = let f : Some x ≡ Some k = e in cc in
-      subst (λ (y : Phylum). kind_declared (map (phylum_line def) (x ∷ all) ++ tail) y.name ≡ Some (phylum_told y)) same (
+      let lines_all = map (phylum_line def) (x ∷ all) ++ tail in
+      subst (λ (y : Phylum). kind_declared lines_all y.name ≡ Some (phylum_told y)) same (
       ap (λ b. cond b (Some (phylum_told x)) (kind_declared (map (phylum_line def) all ++ tail) x.name))
       (bytes_eq-refl x.name)
       )
@@ -172,7 +174,8 @@ module _ (def : Definition) where
   list-in [] tail l k once e = absurd (let f : None ≡ Some k = e in cc)
   list-in (x ∷ all) tail zero k once e =
       let same : x ≡ k = let f : Some x ≡ Some k = e in cc in
-      subst (λ (y : ListKind). kind_declared (map (list_line def) (x ∷ all) ++ tail) y.name ≡ Some (list_told def y)) same (
+      let lines_all = map (list_line def) (x ∷ all) ++ tail in
+      subst (λ (y : ListKind). kind_declared lines_all y.name ≡ Some (list_told def y)) same (
       ap (λ b. cond b (Some (list_told def x)) (kind_declared (map (list_line def) all ++ tail) x.name))
       (bytes_eq-refl x.name)
       )
@@ -214,7 +217,8 @@ module _ (def : Definition) where
   operator-in (x ∷ all) tail zero op once e =
       let same : x ≡ op = let f : Some x ≡ Some op = e in cc in
       let more = map (row_line def) x.rows ++ (flat_map (operator_lines def) all ++ tail) in
-      subst (λ (y : Operator). operator_declared (flat_map (operator_lines def) (x ∷ all) ++ tail) y.name ≡ Some (operator_written def y)) same (
+      let lines_all = flat_map (operator_lines def) (x ∷ all) ++ tail in
+      subst (λ (y : Operator). operator_declared lines_all y.name ≡ Some (operator_written def y)) same (
       flat-front (λ ls. operator_declared ls x.name ≡ Some (operator_written def x)) (operator_lines def) x all tail (
       ap (λ b. cond b (Some (operator_written def x)) (operator_declared more x.name)) (bytes_eq-refl x.name)
       )
@@ -255,7 +259,7 @@ module _ (def : Definition) where
 
   module _ (sound : IsSound def) where
     symbol-declared : (c : ℕ) (s : Symbol) → slice_get def.signature.symbols c ≡ Some s
-        → constructor_declared (lines_of def) s.name ≡ Some (sort_name def s.sort, constructor_written def s)
+        → constructor_declared (lines_of def) s.name ≡ Some (symbol_told def s)
     symbol-declared c s at =
         let inside = closed-sort def.signature def.signature.symbols c s sound.signature.closed at in
         let place : s.sort ≡ 0 + s.sort = omega arith in

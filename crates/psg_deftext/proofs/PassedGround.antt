@@ -16,7 +16,7 @@ use Rattle.psg_deflines.specs.declared.lines.Line.{Line}
 use Rattle.psg_defcheck.specs.Meanings.{AreInhabited, none, more, IsChoice}
 use Rattle.psg_deflaws.proofs.OnceNames.{same_at}
 use Rattle.psg_deftext.specs.WrittenLines.{sort_name, constructors_written}
-use Rattle.psg_deftext.proofs.PassedDeclared.{Declares, constructor_written, sort_written, sort-at}
+use Rattle.psg_deftext.proofs.PassedDeclared.{Declares, constructor_written, of_sort, with_front, sort_written, sort-at}
 
 pub closed-sort : (sig : Signature) (xs : List Symbol) (k : ℕ) (s : Symbol) → AreClosed sig xs → slice_get xs k ≡ Some s
     → s.sort < length sig.sorts
@@ -40,25 +40,22 @@ module _ (def : Definition) where
   abbrev one : Symbol → ConDecl
   one s = constructor_written def s
 
-  abbrev of_sort : ℕ → List Symbol → List ConDecl
-  of_sort n xs = constructors_written def n xs
-
   -- a constructor of the sort is in the sort's line
   own-contains : (n : ℕ) (xs : List Symbol) (c : ℕ) (s : Symbol) → slice_get xs c ≡ Some s → s.sort ≡ n
-      → Contains (of_sort n xs) (one s)
+      → Contains (of_sort def n xs) (one s)
   own-contains n [] c s e of = absurd (let f : None ≡ Some s = e in cc)
   own-contains n (x ∷ xs) zero s e of =
       let same : s ≡ x = let f : Some x ≡ Some s = e in cc in
       let test = eq-eqb x.sort n (ap (λ (y : Symbol). y.sort) (sym same) ∙ of) in
-      subst (λ b. Contains (cond b (one x ∷ of_sort n xs) (of_sort n xs)) (one s)) (sym test) (
-      subst (λ y. Contains (one x ∷ of_sort n xs) (one y)) (sym same) (
-      Contains-append_left (one x ∷ []) (of_sort n xs) (one x) (Contains-push [] (one x))
+      subst (λ b. Contains (with_front def b x n xs) (one s)) (sym test) (
+      subst (λ y. Contains (one x ∷ of_sort def n xs) (one y)) (sym same) (
+      Contains-append_left (one x ∷ []) (of_sort def n xs) (one x) (Contains-push [] (one x))
       )
       )
   own-contains n (x ∷ xs) (suc c) s e of =
       let rest = own-contains n xs c s e of in
-      elim (x.sort == n) as (λ b. Contains (cond b (one x ∷ of_sort n xs) (of_sort n xs)) (one s)) [
-        | true ↦ Contains-append_right (one x ∷ []) (of_sort n xs) (one s) rest
+      elim (x.sort == n) as (λ b. Contains (with_front def b x n xs) (one s)) [
+        | true ↦ Contains-append_right (one x ∷ []) (of_sort def n xs) (one s) rest
         | false ↦ rest
       ]
 
@@ -94,17 +91,17 @@ module _ (def : Definition) where
   abbrev numbered : ℕ → ℕ → List Symbol → List ℕ
   numbered m n xs = constructors_from m n xs
 
-  none-numbered : (m n : ℕ) (xs : List Symbol) → of_sort n xs ≡ [] → numbered m n xs ≡ []
+  none-numbered : (m n : ℕ) (xs : List Symbol) → of_sort def n xs ≡ [] → numbered m n xs ≡ []
   none-numbered m n [] h = refl
   none-numbered m n (x ∷ xs) h =
       elim (cases (x.sort == n)) [
         | inl e ↦
-            let bad : one x ∷ of_sort n xs ≡ [] =
-            ap (λ b. cond b (one x ∷ of_sort n xs) (of_sort n xs)) (sym e) ∙ h in
+            let bad : one x ∷ of_sort def n xs ≡ [] =
+            ap (λ b. with_front def b x n xs) (sym e) ∙ h in
             absurd (cc)
         | inr e ↦
             ap (λ b. cond b (m ∷ numbered (m + 1) n xs) (numbered (m + 1) n xs)) e
-            ∙ none-numbered (m + 1) n xs (ap (λ b. cond b (one x ∷ of_sort n xs) (of_sort n xs)) (sym e) ∙ h)
+            ∙ none-numbered (m + 1) n xs (ap (λ b. with_front def b x n xs) (sym e) ∙ h)
       ]
 
   record IsOnlyOne (m n : ℕ) (xs : List Symbol) (c : ConDecl) : Type 0 where
@@ -114,14 +111,14 @@ module _ (def : Definition) where
     at : slice_get xs place ≡ Some found
     is : one found ≡ c
 
-  only-one : (m n : ℕ) (xs : List Symbol) (c : ConDecl) → of_sort n xs ≡ c ∷ [] → IsOnlyOne m n xs c
+  only-one : (m n : ℕ) (xs : List Symbol) (c : ConDecl) → of_sort def n xs ≡ c ∷ [] → IsOnlyOne m n xs c
   only-one m n [] c h = absurd (cc)
   only-one m n (x ∷ xs) c h =
       elim (cases (x.sort == n)) [
         | inl e ↦
-            let both : one x ∷ of_sort n xs ≡ c ∷ [] =
-            ap (λ b. cond b (one x ∷ of_sort n xs) (of_sort n xs)) (sym e) ∙ h in
-            let rest : of_sort n xs ≡ [] = cc in
+            let both : one x ∷ of_sort def n xs ≡ c ∷ [] =
+            ap (λ b. with_front def b x n xs) (sym e) ∙ h in
+            let rest : of_sort def n xs ≡ [] = cc in
             let zero_more : m ≡ m + 0 = omega arith in
             record {
               place = 0;
@@ -133,7 +130,7 @@ module _ (def : Definition) where
               is = cc;
             }
         | inr e ↦
-            let r = only-one (m + 1) n xs c (ap (λ b. cond b (one x ∷ of_sort n xs) (of_sort n xs)) (sym e) ∙ h) in
+            let r = only-one (m + 1) n xs c (ap (λ b. with_front def b x n xs) (sym e) ∙ h) in
             let later : (m + 1) + r.place ≡ m + suc r.place = omega arith in
             record {
               place = suc r.place;
@@ -148,9 +145,9 @@ module _ (def : Definition) where
 
   pub sort-choice : IsSound def → (n : ℕ) → n < length def.signature.sorts
       → IsChoice (constructors_written def n def.signature.symbols)
-  sort-choice sound n inside = go (of_sort n def.signature.symbols) refl
+  sort-choice sound n inside = go (of_sort def n def.signature.symbols) refl
     where
-      go : (cs : List ConDecl) → of_sort n def.signature.symbols ≡ cs → IsChoice cs
+      go : (cs : List ConDecl) → of_sort def n def.signature.symbols ≡ cs → IsChoice cs
       go [] e = tt
       go (c ∷ []) e =
           let r = only-one 0 n def.signature.symbols c e in

@@ -80,7 +80,7 @@ module _ (def : Definition) (sound : IsSound def) (file : List Line) (declares :
         )
 
   hole-right : (row : HoleRow) → HasSmallCases def row → HasCasesRead def row → IsHoleRow def row
-      → IsRightBlock file (hole_lines def row)
+      → (above : List Line) → AreRight file above (hole_lines def row)
   hole-right row few read is above =
       let v = row-sorts def (row.term ∷ []) few.0 read.0 in
       let term = term-passes def sound file declares v.sorts row.term [] is.sort v.each.0 is.term.0 in
@@ -96,8 +96,7 @@ module _ (def : Definition) (sound : IsSound def) (file : List Line) (declares :
         ground = tt;
         choice = tt;
       } in
-      let last = last_hole-append None above (line ∷ []) in
-      (
+      let last = last_hole-append None above (line ∷ []) in (
         first,
         cases-right row.kind is.sort is.kind_sort row.cases few.1 read.1 is.each_case (above ++ line ∷ []) last,
       )
@@ -111,7 +110,7 @@ module _ (def : Definition) (sound : IsSound def) (file : List Line) (declares :
   -- ---- declare rows
 
   declare-right : (row : DeclareRow) → IsSmallDeclareRow def row → IsDeclareRead def row
-      → IsRight file (declare_line def row)
+      → (above : List Line) → PassesRest file above (declare_line def row)
   declare-right row few read above =
       let is = read.is in
       let l = is.found in
@@ -119,8 +118,10 @@ module _ (def : Definition) (sound : IsSound def) (file : List Line) (declares :
       let sig = def.signature in
       let entity_in = space-within def sound file declares 0 is.entity_sort is.space_sort in
       let value_in = kind-within def sound (kinds.Phylum l.element) is.value_sort is.elements_sort in
-      let entity = term-takes sig sound.signature is.names read.entity [] is.entity_sort row.term entity_in is.of_entity in
-      let value = term-takes sig sound.signature is.names read.value [] is.value_sort row.value value_in is.of_value in
+      let entity = term-takes sig sound.signature is.names read.entity [] is.entity_sort row.term entity_in
+      is.of_entity in
+      let value = term-takes sig sound.signature is.names read.value [] is.value_sort row.value value_in
+      is.of_value in
       let p = term-passes def sound file declares v.sorts row.term [] is.entity_sort v.each.0 entity.0 in
       let q = term-passes def sound file declares v.sorts row.value [] is.value_sort v.each.1.0 value.0 in
       let named = places-named def v.sorts (holes_of row.specimen) v.each.1.1 in

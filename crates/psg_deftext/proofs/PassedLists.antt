@@ -15,7 +15,7 @@ use Rattle.psg_defcheck.specs.Meanings.{SortsTerm}
 use Rattle.psg_deftext.specs.WrittenLines.{term_written, nil_lines, cell_line, cell_lines}
 use Rattle.psg_deftext.proofs.NumberRows.{IsSmallRow, IsSmallNil}
 use Rattle.psg_deftext.proofs.NumberLists.{HasSmallListRows}
-use Rattle.psg_deftext.proofs.PassedTests.{IsRight, IsRightBlock, right-map}
+use Rattle.psg_deftext.proofs.PassedTests.{PassesRest, IsRight, IsRightBlock, right-map}
 use Rattle.psg_deftext.proofs.PassedDeclared.{Declares, list_told, place_of, list-known, list-placed, element-placed, value-placed}
 use Rattle.psg_deftext.proofs.PassedVariables.{row-sorts}
 use Rattle.psg_deftext.proofs.PassedTerms.{term-passes}
@@ -33,7 +33,7 @@ module _ (def : Definition) (sound : IsSound def) (file : List Line) (declares :
 
   module _ (l : ListKind) (told : IsDeclared l) (inside : l.sort.0 < length def.signature.sorts) where
     nil-right : (t : Term) → IsSmallNil t → IsNilRead t → IsTermOf def t l.sort.0
-        → IsRight file (lines.Nil l.name (term_written def t))
+        → (above : List Line) → PassesRest file above (lines.Nil l.name (term_written def t))
     nil-right t few read of above =
         let v = row-sorts def (t ∷ []) few read in
         let p = term-passes def sound file declares v.sorts t [] l.sort.0 v.each.0 of.0 in
@@ -63,7 +63,8 @@ module _ (def : Definition) (sound : IsSound def) (file : List Line) (declares :
       pair-right : (head a b : Term) → IsSmallRow (record { head = head; columns = a ∷ b ∷ [] })
           → IsRowRead (record { head = head; columns = a ∷ b ∷ [] })
           → IsRow def l.sort.0 (element ∷ l.sort.0 ∷ []) (record { head = head; columns = a ∷ b ∷ [] })
-          → IsRight file (lines.Cell l.name (term_written def head) (term_written def a) (term_written def b))
+          → (above : List Line)
+          → PassesRest file above (lines.Cell l.name (term_written def head) (term_written def a) (term_written def b))
       pair-right head a b few read is above =
           let v = row-sorts def (head ∷ a ∷ b ∷ []) few read in
           let p = term-passes def sound file declares v.sorts head [] l.sort.0 v.each.0 is.of_head.0 in
@@ -89,7 +90,8 @@ module _ (def : Definition) (sound : IsSound def) (file : List Line) (declares :
       cell-right : (head : Term) (columns : List Term) → IsSmallRow (record { head = head; columns = columns })
           → IsRowRead (record { head = head; columns = columns })
           → IsRow def l.sort.0 (element ∷ l.sort.0 ∷ []) (record { head = head; columns = columns })
-          → IsRight file (cell_line def l.name (record { head = head; columns = columns }))
+          → (above : List Line)
+          → PassesRest file above (cell_line def l.name (record { head = head; columns = columns }))
       cell-right head [] few read is above = absurd is.of_columns
       cell-right head (a ∷ []) few read is above = absurd is.of_columns.1
       cell-right head (a ∷ b ∷ c ∷ more) few read is above = absurd is.of_columns.1.1
@@ -117,7 +119,8 @@ module _ (def : Definition) (sound : IsSound def) (file : List Line) (declares :
       → AllByRecursion (λ l. IsRightBlock file (cell_lines def l)) all
   lists-cells-right [] told few read is = tt
   lists-cells-right (l ∷ all) told few read is =
-      let rows = cells-right l told.0 is.0.sort is.0.element is.0.element_sort l.cell_rows few.0.1 read.0.1 is.0.cells in (
+      let rows = cells-right l told.0 is.0.sort is.0.element is.0.element_sort l.cell_rows few.0.1 read.0.1
+      is.0.cells in (
         right-map file (cell_line def l.name) l.cell_rows rows,
         lists-cells-right all told.1 few.1 read.1 is.1,
       )

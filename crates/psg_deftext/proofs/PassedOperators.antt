@@ -44,7 +44,8 @@ module _ (def : Definition) (sound : IsSound def) (file : List Line) (declares :
         let w = term_written def row.head in
         let ws = map (term_written def) row.columns in
         let size = columns-counted def sound file declares op.items columns are
-        ∙ sym (length-map row.columns (term_written def) ∙ row-length def.signature row.columns columns is.of_columns) in
+        ∙ sym (row-length def.signature row.columns columns is.of_columns)
+        ∙ sym (length-map row.columns (term_written def)) in
         let at_head = subst (λ at. SortsTerm file v.sorts [] at w)
         (sym (value-placed def sound file declares (kinds.Phylum op.phylum) sort of_phylum)) head.sorted in
         let at_columns = subst (λ places. SortAll file v.sorts places ws)
@@ -69,7 +70,7 @@ module _ (def : Definition) (sound : IsSound def) (file : List Line) (declares :
         )
 
   operator-right : (op : Operator) → HasSmallRows op → HasRowsRead op → IsOperator def op
-      → IsRightBlock file (operator_lines def op)
+      → (above : List Line) → AreRight file above (operator_lines def op)
   operator-right op few read is above =
       let line = lines.Operator op.name (kind_name def (kinds.Phylum op.phylum)) op.scope op.level
       (map (item_written def) op.items) in

@@ -15,8 +15,8 @@ use Rattle.psg_deflines.specs.declared.lines.Line.TheVariants as lines
 use Rattle.psg_defcheck.specs.Meanings.{KnowsSort, AreInhabited}
 use Rattle.psg_deftext.specs.WrittenLines.{sort_name, constructors_written, sort_lines, entity_line, phylum_line, list_line}
 use Rattle.psg_deftext.proofs.NumberNames.{name-found}
-use Rattle.psg_deftext.proofs.PassedTests.{IsRight, IsRightBlock}
-use Rattle.psg_deftext.proofs.PassedDeclared.{Declares, constructor_written, sort_written, sort-known, phylum-known}
+use Rattle.psg_deftext.proofs.PassedTests.{PassesRest, AreRight, IsRight}
+use Rattle.psg_deftext.proofs.PassedDeclared.{Declares, with_front, sort_written, sort-known, phylum-known}
 use Rattle.psg_deftext.proofs.PassedGround.{sort-inhabited, sort-choice}
 
 module _ (def : Definition) (sound : IsSound def) (file : List Line) (declares : Declares def file) where
@@ -27,21 +27,18 @@ module _ (def : Definition) (sound : IsSound def) (file : List Line) (declares :
   arguments-known [] h = tt
   arguments-known (s ∷ ss) h = (sort-known def sound file declares s h.0, arguments-known ss h.1)
 
-  abbrev of_sort : ℕ → List Symbol → List ConDecl
-  of_sort n xs = constructors_written def n xs
-
   constructors-known : (n : ℕ) (xs : List Symbol) → AreClosed def.signature xs
       → AllByRecursion KnowsArguments (constructors_written def n xs)
   constructors-known n [] h = tt
   constructors-known n (x ∷ xs) h =
       let rest = constructors-known n xs h.2 in
-      elim (x.sort == n) as (λ b. AllByRecursion KnowsArguments (cond b (constructor_written def x ∷ of_sort n xs) (of_sort n xs))) [
+      elim (x.sort == n) as (λ b. AllByRecursion KnowsArguments (with_front def b x n xs)) [
         | true ↦ (arguments-known x.arguments h.0, rest)
         | false ↦ rest
       ]
 
   sort-right : (n : ℕ) (name : Name) → slice_get def.signature.sorts n ≡ Some name
-      → IsRight file (lines.Sort (sort_written def n name))
+      → (above : List Line) → PassesRest file above (lines.Sort (sort_written def n name))
   sort-right n name at above =
       let inside = slice_get_within def.signature.sorts n name at in
       let named = name-found (λ m. m) def.signature.sorts n name at in
@@ -56,7 +53,7 @@ module _ (def : Definition) (sound : IsSound def) (file : List Line) (declares :
 
   pub sorts-right : (n : ℕ) (names : List Name)
       → ((i : ℕ) (m : Name) → slice_get names i ≡ Some m → slice_get def.signature.sorts (n + i) ≡ Some m)
-      → IsRightBlock file (sort_lines def n names)
+      → (above : List Line) → AreRight file above (sort_lines def n names)
   sorts-right n [] each above = tt
   sorts-right n (name ∷ names) each above =
       let first : n + 0 ≡ n = omega arith in

@@ -34,12 +34,12 @@ module _ (file : List Line) where
   right-both above (line ∷ xs) ys h k = (h.0, right-both (above ++ line ∷ []) xs ys h.1 k)
 
   pub right-map : {X : Type 0} (f : X → Line) (xs : List X) → AllByRecursion (λ x. IsRight (f x)) xs
-      → IsRightBlock (map f xs)
+      → (above : List Line) → AreRight above (map f xs)
   right-map f [] h above = tt
   right-map f (x ∷ xs) h above = (h.0 above, right-map f xs h.1 (above ++ f x ∷ []))
 
   pub right-flat : {X : Type 0} (f : X → List Line) (xs : List X) → AllByRecursion (λ x. IsRightBlock (f x)) xs
-      → IsRightBlock (flat_map f xs)
+      → (above : List Line) → AreRight above (flat_map f xs)
   right-flat f [] h above = tt
   right-flat f (x ∷ xs) h above = right-both above (f x) (flat_map f xs) (h.0 above) (right-flat f xs h.1)
 
