@@ -56,7 +56,7 @@ module _ (def : Definition) where
 
   -- the constructor of a sort of the name
   abbrev made_by : Name → Symbol → Constructor
-  made_by sort s = (made_by sort s)
+  made_by sort s = (sort, constructor_written def s)
 
   -- no constructor of the name
   missing : (sort : Name) (k : ℕ) (xs : List Symbol) (n : Name) (behind : Option Constructor)
