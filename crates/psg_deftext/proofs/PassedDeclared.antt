@@ -1,5 +1,5 @@
 -- What a file declares of a definition, and what the names of its positions stand for there.
-use Rattle.std.proofs.Common.{◌≡◌, Bool, true, cond, IsTrue, is_some, ℕ, ◌<◌, Option, Some, None, List, [], ◌∷◌, length, map, get_or, slice_get, refl, ap, sym, ◌∙◌, subst}
+use Rattle.std.proofs.Common.{◌≡◌, Bool, true, cond, IsTrue, is_some, ℕ, ◌<◌, Some, None, List, [], ◌∷◌, length, map, get_or, slice_get, refl, ap, sym, ◌∙◌, subst}
 use Rattle.std.specs.Option.{option_and_then}
 use Rattle.std.proofs.lemmas.Option.{slice_get-get_or}
 use Rattle.psg_terms.specs.Names.{Name, is_among}

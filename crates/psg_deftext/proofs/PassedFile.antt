@@ -1,13 +1,11 @@
 -- The lines that write a definition declare each part of it.
-use Rattle.std.proofs.Common.{◌≡◌, ◌≢◌, true, false, cond, inl, inr, ℕ, zero, suc, ◌+◌, ◌<◌, ◌≤◌, ◌==◌, Option, Some, None, List, [], ◌∷◌, ◌++◌, length, map, slice_get, refl, ap, sym, ◌∙◌, subst, arith}
+use Rattle.std.proofs.Common.{◌≡◌, ◌≢◌, true, false, cond, ℕ, zero, suc, ◌+◌, ◌≤◌, ◌==◌, Option, Some, None, List, [], ◌∷◌, ◌++◌, length, map, slice_get, refl, ap, sym, ◌∙◌, subst, arith}
 use Rattle.std.specs.Prelude.{bytes_eq}
 use Rattle.std.specs.List.{flat_map}
 use Rattle.std.proofs.lemmas.Bool.{eq-eqb, ne_eqb, or_parts}
 use Rattle.psg_terms.specs.Names.{Name, is_among, has_twice}
 use Rattle.psg_terms.specs.Signature.{Symbol}
-use Rattle.psg_terms.specs.declared.declare.ConDecl.{ConDecl}
-use Rattle.psg_terms.proofs.DeclareLaws.{bytes_eq-refl, bytes_eq-sym, is_among-at, has_twice-front}
-use Rattle.psg_grammar.specs.declared.types.Kind.TheVariants as kinds
+use Rattle.psg_terms.proofs.DeclareLaws.{bytes_eq-refl, is_among-at, has_twice-front}
 use Rattle.psg_grammar.specs.declared.types.Phylum.{Phylum}
 use Rattle.psg_grammar.specs.declared.types.ListKind.{ListKind}
 use Rattle.psg_grammar.specs.declared.types.Operator.{Operator}
@@ -20,7 +18,7 @@ use Rattle.psg_deflines.specs.declared.lines.Line.TheVariants as lines
 use Rattle.psg_defcheck.specs.Scopes.{sort_names, sort_declared, Constructor, constructor_among, constructor_declared, KindDecl, a_phylum, kind_declared, OpDecl, operator_declared, entity_sort}
 use Rattle.psg_deflaws.proofs.OnceNames.{map-at}
 use Rattle.psg_deftext.specs.Layout.{rank}
-use Rattle.psg_deftext.specs.WrittenLines.{lines_of, sort_name, kind_name, constructors_written, sort_lines, entity_line, phylum_line, list_line, row_line, operator_lines}
+use Rattle.psg_deftext.specs.WrittenLines.{lines_of, sort_name, sort_lines, entity_line, phylum_line, list_line, row_line, operator_lines}
 use Rattle.psg_deftext.proofs.NumberBlocks.{from_entities, from_phyla, from_lists, from_operators, from_nils, flat-front, before-entities, before-phyla, before-operators}
 use Rattle.psg_deftext.proofs.NumberSorts.{sort-names-are}
 use Rattle.psg_deftext.proofs.PassedNames.{once-at, once-first, once-rest, once-before, once-back}

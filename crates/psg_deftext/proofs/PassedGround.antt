@@ -1,5 +1,5 @@
 -- Each sort has a term without variables by the constructors of its line, and an only constructor has no arguments.
-use Rattle.std.proofs.Common.{◌≡◌, true, false, cond, inl, inr, ℕ, zero, suc, ◌+◌, ◌<◌, ◌==◌, Some, None, List, [], ◌∷◌, ◌++◌, length, map, slice_get, refl, ap, sym, ◌∙◌, subst, arith}
+use Rattle.std.proofs.Common.{◌≡◌, true, false, cond, inl, inr, ℕ, zero, suc, ◌+◌, ◌<◌, ◌==◌, Some, None, List, [], ◌∷◌, length, map, slice_get, refl, ap, sym, ◌∙◌, subst, arith}
 use Rattle.std.specs.List.{Contains}
 use Rattle.std.proofs.lemmas.Bool.{eq-eqb}
 use Rattle.std.proofs.lemmas.List.Elements.{Contains-append_left, Contains-append_right, Contains-push}

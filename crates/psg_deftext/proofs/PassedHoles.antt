@@ -1,5 +1,5 @@
 -- The lines of hole rows, of their cases and of declare rows pass the tests of their meaning.
-use Rattle.std.proofs.Common.{◌≡◌, IsTrue, is_some, ℕ, Some, None, List, [], ◌∷◌, ◌++◌, map, refl, ap, sym, ◌∙◌, subst}
+use Rattle.std.proofs.Common.{◌≡◌, IsTrue, is_some, ℕ, Some, None, List, [], ◌∷◌, ◌++◌, map, ap, sym, ◌∙◌, subst}
 use Rattle.std.specs.List.{AllByRecursion}
 use Rattle.std.specs.Option.{option_and_then}
 use Rattle.psg_terms.specs.Names.{Name}
@@ -15,21 +15,21 @@ use Rattle.psg_grammar.specs.Specimens.{holes_of}
 use Rattle.psg_grammar.specs.Sound.{IsSound, IsHoleRow, IsCase, HasKindSort}
 use Rattle.psg_deflines.specs.declared.lines.Line.{Line}
 use Rattle.psg_deflines.specs.declared.lines.Line.TheVariants as lines
-use Rattle.psg_defcheck.specs.Scopes.{last_hole, value_place, kind_place, element_place, entity_place, is_list}
+use Rattle.psg_defcheck.specs.Scopes.{last_hole, value_place, kind_place, element_place, is_list}
 use Rattle.psg_defcheck.specs.Meanings.{SortsTerm, SortsTree}
 use Rattle.psg_defcheck.proofs.AboveLaws.{last_hole-append}
 use Rattle.psg_deflaws.proofs.TermSorts.{term-takes}
 use Rattle.psg_deftext.specs.WrittenLines.{kind_name, term_written, tree_written, case_line, hole_lines, declare_line}
 use Rattle.psg_deftext.proofs.NumberNames.{name-found}
-use Rattle.psg_deftext.proofs.NumberRows.{IsSmallNil, IsSmallCase, place_terms}
+use Rattle.psg_deftext.proofs.NumberRows.{IsSmallCase, place_terms}
 use Rattle.psg_deftext.proofs.NumberCases.{HasSmallCases, IsSmallDeclareRow}
 use Rattle.psg_deftext.proofs.PassedTests.{PassesRest, AreRight, IsRight, IsRightBlock}
-use Rattle.psg_deftext.proofs.PassedDeclared.{Declares, place_of, kind-within, kind-known, kind-placed, value-placed, list-known, element-placed, entity-placed}
+use Rattle.psg_deftext.proofs.PassedDeclared.{Declares, kind-within, kind-known, kind-placed, value-placed, list-known, element-placed, entity-placed}
 use Rattle.psg_deftext.proofs.PassedVariables.{row-sorts}
 use Rattle.psg_deftext.proofs.PassedTerms.{HasNames, term-passes}
 use Rattle.psg_deftext.proofs.PassedItems.{space-within}
 use Rattle.psg_deftext.proofs.PassedTrees.{HasPlaceNames, tree-passes}
-use Rattle.psg_deftext.proofs.PassedReads.{IsNilRead, IsCaseRead, HasCasesRead, IsDeclareRead}
+use Rattle.psg_deftext.proofs.PassedReads.{IsCaseRead, HasCasesRead, IsDeclareRead}
 
 places-named : (def : Definition) (sorts : Name → Name) (hs : List SpecimenHole)
     → AllByRecursion (HasNames def sorts) (map (λ (h : SpecimenHole). h.term) hs)

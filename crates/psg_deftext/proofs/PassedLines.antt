@@ -1,5 +1,5 @@
 -- The lines that write a definition pass the tests of their meaning.
-use Rattle.std.proofs.Common.{◌≡◌, ℕ, ◌+◌, ◌<◌, ◌≤◌, ◌^◌, Some, List, [], ◌∷◌, ◌++◌, length, map, slice_get, refl, subst, arith}
+use Rattle.std.proofs.Common.{◌≡◌, ℕ, ◌+◌, ◌<◌, ◌^◌, Some, List, [], length, map, slice_get, refl, subst, arith}
 use Rattle.std.specs.Str.Lines.{lines as texts_of}
 use Rattle.std.specs.List.{flat_map}
 use Rattle.psg_terms.specs.Names.{Name}

@@ -1,5 +1,5 @@
 -- Names of which none stands twice.
-use Rattle.std.proofs.Common.{◌≡◌, ◌||◌, false, ℕ, zero, suc, Some, None, List, [], ◌∷◌, ◌++◌, slice_get, refl, sym, ◌∙◌, subst}
+use Rattle.std.proofs.Common.{◌≡◌, false, ℕ, zero, suc, Some, None, List, [], ◌∷◌, ◌++◌, slice_get, refl, sym, ◌∙◌, subst}
 use Rattle.std.specs.Prelude.{bytes_eq}
 use Rattle.std.specs.List.{AllByRecursion}
 use Rattle.std.proofs.lemmas.Bool.{or_parts, or_from}

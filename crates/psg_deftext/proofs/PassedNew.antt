@@ -1,5 +1,5 @@
 -- Where no name is declared twice, none of a line was declared above it.
-use Rattle.std.proofs.Common.{◌≡◌, false, ℕ, ◌≤◌, None, List, [], ◌∷◌, ◌++◌, length, refl, ap, sym, ◌∙◌, subst, arith}
+use Rattle.std.proofs.Common.{◌≡◌, false, ◌≤◌, None, List, [], ◌∷◌, ◌++◌, length, refl, ap, sym, ◌∙◌, subst, arith}
 use Rattle.psg_terms.specs.Names.{Name, is_among, has_twice}
 use Rattle.psg_terms.proofs.DeclareLaws.{has_twice-front}
 use Rattle.psg_grammar.specs.declared.types.Definition.{Definition}

@@ -1,5 +1,5 @@
 -- What the numbering of a file says of the rows and specimens of its definition, apart from the lines.
-use Rattle.std.proofs.Common.{◌≡◌, inl, inr, ℕ, Option, Some, None, List, [], ◌∷◌, map, sym, subst}
+use Rattle.std.proofs.Common.{inl, inr, ℕ, Option, Some, None, List, [], ◌∷◌, sym, subst}
 use Rattle.std.specs.List.{AllByRecursion}
 use Rattle.psg_terms.specs.Names.{Name}
 use Rattle.psg_terms.specs.Terms.{Term}

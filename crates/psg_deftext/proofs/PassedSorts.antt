@@ -1,5 +1,5 @@
 -- The lines of sorts, of the entity, of phyla and of lists pass the tests of their meaning.
-use Rattle.std.proofs.Common.{◌≡◌, true, false, cond, ℕ, suc, ◌+◌, ◌<◌, ◌==◌, Some, List, [], ◌∷◌, ◌++◌, length, map, slice_get, refl, subst, arith}
+use Rattle.std.proofs.Common.{◌≡◌, true, false, ℕ, suc, ◌+◌, ◌<◌, ◌==◌, Some, List, [], ◌∷◌, ◌++◌, length, map, slice_get, refl, subst, arith}
 use Rattle.std.specs.List.{AllByRecursion}
 use Rattle.std.proofs.lemmas.Option.{slice_get_within}
 use Rattle.psg_terms.specs.Names.{Name}

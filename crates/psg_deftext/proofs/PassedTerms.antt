@@ -1,5 +1,5 @@
 -- A term as it is written passes the tests of its meaning, where variables have the sorts of their places.
-use Rattle.std.proofs.Common.{◌≡◌, IsTrue, is_some, ℕ, ◌+◌, ◌<◌, List, [], ◌∷◌, length, map, refl, ap, ap₂, sym, ◌∙◌, subst, arith}
+use Rattle.std.proofs.Common.{◌≡◌, is_some, ℕ, ◌+◌, List, [], ◌∷◌, length, map, refl, ap, ap₂, sym, ◌∙◌, subst, arith}
 use Rattle.std.specs.Prelude.{decimal}
 use Rattle.std.specs.List.{AllByRecursion}
 use Rattle.std.proofs.lemmas.List.{length-map}
@@ -14,9 +14,9 @@ use Rattle.psg_deflines.specs.WrittenTerms.{WrittenTerm}
 use Rattle.psg_deflines.specs.declared.lines.Line.{Line}
 use Rattle.psg_defcheck.specs.Scopes.{Place, sort_place, constructor_declared}
 use Rattle.psg_defcheck.specs.Meanings.{KnowsTerm, CountsTerm, IsArity, Accepts, SortsTerm, SortAll}
-use Rattle.psg_deftext.specs.WrittenLines.{sort_name, constructor_name, term_written}
+use Rattle.psg_deftext.specs.WrittenLines.{sort_name, term_written}
 use Rattle.psg_deftext.proofs.NumberNames.{name-found}
-use Rattle.psg_deftext.proofs.PassedDeclared.{Declares, constructor_written, place_of, sort-placed}
+use Rattle.psg_deftext.proofs.PassedDeclared.{Declares, place_of, sort-placed}
 
 -- these sorts are those of the term's variables, by their numbers
 abbrev pub HasNames : Definition → (Name → Name) → Term → Type 0

@@ -1,5 +1,5 @@
 -- A specimen as it is written passes the tests of its meaning.
-use Rattle.std.proofs.Common.{◌≡◌, IsTrue, is_some, ℕ, ◌+◌, ◌<◌, List, [], ◌∷◌, length, map, Option, Some, None, slice_get, refl, ap, sym, ◌∙◌, subst, arith}
+use Rattle.std.proofs.Common.{◌≡◌, IsTrue, is_some, ℕ, ◌+◌, List, [], ◌∷◌, length, map, Option, Some, None, slice_get, refl, ap, sym, ◌∙◌, subst, arith}
 use Rattle.std.specs.Prelude.{decimal}
 use Rattle.std.specs.List.{AllByRecursion}
 use Rattle.psg_terms.specs.Names.{Name}
@@ -18,16 +18,16 @@ use Rattle.psg_grammar.specs.Specimens.{holes_of, holes_of_part, holes_of_row, h
 use Rattle.psg_grammar.specs.Sound.{IsSound, IsItem, IsListKind, IsOperator, HasKindSort}
 use Rattle.psg_grammar.proofs.SoundParts.{each_at}
 use Rattle.psg_deflines.specs.WrittenTerms.{WrittenTerm}
-use Rattle.psg_deflines.specs.WrittenTrees.{WrittenTree, operator, with_tree, with_name, with_number, with_text, list_end, list_rest, element, place}
+use Rattle.psg_deflines.specs.WrittenTrees.{WrittenTree, operator, with_tree, with_name, with_number, with_text, element, place}
 use Rattle.psg_deflines.specs.declared.lines.Line.{Line}
-use Rattle.psg_defcheck.specs.Scopes.{Place, kind_place, value_place, is_list, is_kind, operator_declared, kind_declared}
-use Rattle.psg_defcheck.specs.Meanings.{KnowsTerm, CountsTerm, SortsTerm, KnowsTree, CountsTree, IsPartCount, PartPlace, for_tree, for_name, for_number, for_text, part_places, ListMayStand, elements_place, TakesParts, SortsTree}
+use Rattle.psg_defcheck.specs.Scopes.{Place, kind_place, value_place, is_list, operator_declared}
+use Rattle.psg_defcheck.specs.Meanings.{SortsTerm, KnowsTree, CountsTree, IsPartCount, PartPlace, for_tree, for_name, for_number, for_text, elements_place, TakesParts, SortsTree}
 use Rattle.psg_defnumber.specs.Numbers.{IsPlace, IsTree, IsPart, AreParts, IsListFrom}
 use Rattle.psg_deflaws.proofs.TermSorts.{term-takes}
 use Rattle.psg_deftext.specs.WrittenLines.{term_written, kind_name, operator_name, tree_written, part_written, parts_written, elements_written, end_written, place_written, item_written}
 use Rattle.psg_deftext.proofs.NumberAll.{all-front, all-behind}
 use Rattle.psg_deftext.proofs.NumberNames.{name-found}
-use Rattle.psg_deftext.proofs.PassedDeclared.{Declares, list_told, operator_written, place_of, kind-within, kind-known, kind-placed, value-placed, list-known, element-placed}
+use Rattle.psg_deftext.proofs.PassedDeclared.{Declares, kind-within, kind-known, kind-placed, value-placed, list-known, element-placed}
 use Rattle.psg_deftext.proofs.PassedTerms.{HasNames, PassesTerm, term-passes}
 use Rattle.psg_deftext.proofs.PassedItems.{item_places, parts-counted, parts-same, all-parts}
 
