@@ -107,7 +107,8 @@ module _ (def : Definition) where
   own-sort sort k (x ∷ xs) (suc c) s behind once e of =
       let rest = own-sort sort k xs c s behind (once-rest x.name (named xs) once) e of in
       let at = map-at (λ (y : Symbol). y.name) xs c s e in
-      elim (x.sort == k) as (λ b. constructor_among sort (with_front def b x k xs) s.name behind ≡ Some (made_by sort s)) [
+      let told = Some (made_by sort s) in
+      elim (x.sort == k) as (λ b. constructor_among sort (with_front def b x k xs) s.name behind ≡ told) [
         | true ↦
             ap (λ b. cond b (Some (made_by sort x))
             (constructor_among sort (of_sort def k xs) s.name behind))
