@@ -1,7 +1,7 @@
 -- Sorts and their constructors in order.
 use Rattle.std.proofs.Common.{◌≡◌, ◌==◌, ℕ, ◌+◌, ◌<◌, ◌≤◌, Bool, true, false, cond, zero, suc, List, [], ◌∷◌, ◌++◌, map, take, length, get_or, length-append, refl, ap, ap₂, sym, ◌∙◌, subst, append_assoc, arith}
 use Rattle.std.specs.List.{AllByRecursion}
-use Rattle.std.proofs.lemmas.List.{take_all}
+use Rattle.std.proofs.lemmas.List.{take_all, take_more}
 use Rattle.psg_terms.specs.Names.{Name}
 use Rattle.psg_terms.specs.Signature.{Symbol, constructors_from}
 use Rattle.psg_terms.specs.Marks.{con_numbers}
@@ -15,29 +15,32 @@ use Rattle.psg_deflines.specs.declared.lines.Line.TheVariants as lines
 use Rattle.psg_deftext.specs.WrittenLines.{name_at, sort_name, constructor_name, constructors_written, sort_lines}
 use Rattle.psg_deftext.specs.ConstructorAt.{constructor_at}
 use Rattle.psg_deftext.proofs.NumberAll.{all-mapped}
-use Rattle.psg_deftext.proofs.PushLaws.{take-next}
 
 -- ---- lists of numbers
 
-pub numbers-next : {Y : Type 0} (f : ℕ → Y) (xs : List SortId) (i : ℕ) (x : SortId) (y : Y) (before after : List Y)
-    → i < length xs → x ≡ get_or xs i x → y ≡ f x.0 → after ≡ before ++ y ∷ []
-    → before ≡ map f (numbers_of (take i xs)) → after ≡ map f (numbers_of (take (i + 1) xs))
-numbers-next f xs i x y before after h e s a b =
-    a ∙ ap₂ (λ l z. l ++ z ∷ []) b s ∙ sym (ap (λ l. map f (numbers_of l)) (take-next xs i x h e) ∙ snoc (take i xs))
-  where
-    snoc : (l : List SortId) → map f (numbers_of (l ++ x ∷ [])) ≡ map f (numbers_of l) ++ f x.0 ∷ []
-    snoc [] = refl
-    snoc (z ∷ l) = ap (λ r. f z.0 ∷ r) (snoc l)
+numbers-snoc : {Y : Type 0} (f : ℕ → Y) (l : List SortId) (x : SortId)
+    → map f (numbers_of (l ++ x ∷ [])) ≡ map f (numbers_of l) ++ f x.0 ∷ []
+numbers-snoc f [] x = refl
+numbers-snoc f (z ∷ l) x = ap (λ r. f z.0 ∷ r) (numbers-snoc f l x)
 
-pub constructors-next : {Y : Type 0} (f : ℕ → Y) (xs : List ConId) (i : ℕ) (x : ConId) (y : Y) (before after : List Y)
-    → i < length xs → x ≡ get_or xs i x → y ≡ f x.0 → after ≡ before ++ y ∷ []
+pub numbers-next : {Y : Type 0} (f : ℕ → Y) (xs : List SortId) (i : ℕ) (d : SortId) (y : Y) (before after : List Y)
+    → i < length xs → y ≡ f (get_or xs i d).0 → after ≡ before ++ y ∷ []
+    → before ≡ map f (numbers_of (take i xs)) → after ≡ map f (numbers_of (take (i + 1) xs))
+numbers-next f xs i d y before after h s a b =
+    a ∙ ap₂ (λ l z. l ++ z ∷ []) b s
+    ∙ sym (ap (λ l. map f (numbers_of l)) (take_more xs i d h) ∙ numbers-snoc f (take i xs) (get_or xs i d))
+
+constructors-snoc : {Y : Type 0} (f : ℕ → Y) (l : List ConId) (x : ConId)
+    → map f (con_numbers (l ++ x ∷ [])) ≡ map f (con_numbers l) ++ f x.0 ∷ []
+constructors-snoc f [] x = refl
+constructors-snoc f (z ∷ l) x = ap (λ r. f z.0 ∷ r) (constructors-snoc f l x)
+
+pub constructors-next : {Y : Type 0} (f : ℕ → Y) (xs : List ConId) (i : ℕ) (d : ConId) (y : Y) (before after : List Y)
+    → i < length xs → y ≡ f (get_or xs i d).0 → after ≡ before ++ y ∷ []
     → before ≡ map f (con_numbers (take i xs)) → after ≡ map f (con_numbers (take (i + 1) xs))
-constructors-next f xs i x y before after h e s a b =
-    a ∙ ap₂ (λ l z. l ++ z ∷ []) b s ∙ sym (ap (λ l. map f (con_numbers l)) (take-next xs i x h e) ∙ snoc (take i xs))
-  where
-    snoc : (l : List ConId) → map f (con_numbers (l ++ x ∷ [])) ≡ map f (con_numbers l) ++ f x.0 ∷ []
-    snoc [] = refl
-    snoc (z ∷ l) = ap (λ r. f z.0 ∷ r) (snoc l)
+constructors-next f xs i d y before after h s a b =
+    a ∙ ap₂ (λ l z. l ++ z ∷ []) b s
+    ∙ sym (ap (λ l. map f (con_numbers l)) (take_more xs i d h) ∙ constructors-snoc f (take i xs) (get_or xs i d))
 
 -- ---- the constructors of a sort
 
@@ -53,19 +56,17 @@ constructors-inside n sort (s ∷ rest) =
       | false ↦ behind
     ]
 
-number-in : (P : ℕ → Type 0) (ids : List ConId) (i : ℕ) (x d : ConId) → i < length ids → x ≡ get_or ids i d
-    → AllByRecursion P (con_numbers ids) → P x.0
-number-in P [] i x d h e all = absurd (omega (arith, h))
-number-in P (z ∷ ids) zero x d h e all =
-    let same : z.0 ≡ x.0 = sym (ap (λ (y : ConId). y.0) e) in
-    subst P same all.0
-number-in P (z ∷ ids) (suc i) x d h e all = number-in P ids i x d (omega (arith, h)) e all.1
+number-in : (P : ℕ → Type 0) (ids : List ConId) (i : ℕ) (d : ConId) → i < length ids
+    → AllByRecursion P (con_numbers ids) → P (get_or ids i d).0
+number-in P [] i d h all = absurd (omega (arith, h))
+number-in P (z ∷ ids) zero d h all = all.0
+number-in P (z ∷ ids) (suc i) d h all = number-in P ids i d (omega (arith, h)) all.1
 
-pub constructor-inside : (symbols : List Symbol) (sort : ℕ) (ids : List ConId) (i : ℕ) (x : ConId)
-    → con_numbers ids ≡ constructors_from 0 sort symbols → i < length ids → x ≡ get_or ids i x → x.0 < length symbols
-constructor-inside symbols sort ids i x e h at =
+pub constructor-inside : (symbols : List Symbol) (sort : ℕ) (ids : List ConId) (i : ℕ) (d : ConId)
+    → con_numbers ids ≡ constructors_from 0 sort symbols → i < length ids → (get_or ids i d).0 < length symbols
+constructor-inside symbols sort ids i d e h =
     let all = subst (AllByRecursion (λ c. c < 0 + length symbols)) (sym e) (constructors-inside 0 sort symbols) in
-    let k = number-in (λ c. c < 0 + length symbols) ids i x x h at all in
+    let k = number-in (λ c. c < 0 + length symbols) ids i d h all in
     omega (arith, k)
 
 module _ (def : Definition) where

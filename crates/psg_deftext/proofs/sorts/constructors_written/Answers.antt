@@ -5,16 +5,16 @@ use Rattle.psg_deftext.proofs.sorts.constructors_written.Goals as goal
 
 pub constructor_written-requires : goal.constructor_written-requires
 constructor_written-requires c =
-    constructor-inside c.args.def.now.signature.symbols c.args.sort.0 c.constructors_of.result.now c.loop-i.i
-    c.index-ids-i.result c.constructors_of.ensures c.loop-i-test.true c.index-ids-i.is
+    constructor-inside c.args.def.now.signature.symbols c.args.sort.0 c.constructors_of-ids.result.now c.loop-i.i
+    _ c.constructors_of-ids.ensures c.loop-i-test.true
 
 pub loop-i-preserved : goal.loop-i-preserved
 loop-i-preserved c =
-    constructors-next (constructor_at c.args.def.now) c.constructors_of.result.now c.loop-i.i c.index-ids-i.result
-    c.in_ok-one.one c.loop-i.written.items c.push.new.self.items c.loop-i-test.true c.index-ids-i.is c.in_ok-one.ensures
+    constructors-next (constructor_at c.args.def.now) c.constructors_of-ids.result.now c.loop-i.i _
+    c.in_ok-one.one c.loop-i.written.items c.push.new.self.items c.loop-i-test.true c.in_ok-one.ensures
     c.in_ok-push.ensures.items c.loop-i.invariant
 
 pub returns : goal.returns
 returns c =
-    constructors-are c.args.def.now c.args.sort.0 c.constructors_of.result.now c.loop-i.i c.loop-i.written.items
-    c.constructors_of.ensures (omega (arith, c.loop-i-test.false)) c.loop-i.invariant
+    constructors-are c.args.def.now c.args.sort.0 c.constructors_of-ids.result.now c.loop-i.i c.loop-i.written.items
+    c.constructors_of-ids.ensures (omega (arith, c.loop-i-test.false)) c.loop-i.invariant

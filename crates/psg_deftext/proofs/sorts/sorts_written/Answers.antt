@@ -7,8 +7,8 @@ use Rattle.psg_deftext.proofs.sorts.sorts_written.Goals as goal
 
 pub loop-i-preserved : goal.loop-i-preserved
 loop-i-preserved c =
-    numbers-next (sort_name c.args.def.now) c.args.sorts.now c.loop-i.i c.index-sorts-i.result c.in_ok-one.one
-    c.loop-i.written.items c.push.new.self.items c.loop-i-test.true c.index-sorts-i.is c.in_ok-one.ensures
+    numbers-next (sort_name c.args.def.now) c.args.sorts.now c.loop-i.i _ c.in_ok-one.one
+    c.loop-i.written.items c.push.new.self.items c.loop-i-test.true c.in_ok-one.ensures
     c.in_ok-push.ensures.items c.loop-i.invariant
 
 pub returns : goal.returns
