@@ -69,9 +69,9 @@ module _ {S : Type 0} (move : S → List ℕ → S) (at : Stage → S)
     (begin : (fs : List WrittenTerm) (p : List ℕ) → move (at (expects fs)) p ≡ at (has fs (begun p)))
     (open_next : (fs : List WrittenTerm) (t : WrittenTerm) → move (at (has fs t)) (codes "(") ≡ at (expects (t ∷ fs)))
     (comma : (f : WrittenTerm) (fs : List WrittenTerm) (t : WrittenTerm)
-        → move (at (has (f ∷ fs) t)) (codes ",") ≡ at (expects (apply f t ∷ fs)))
+    → move (at (has (f ∷ fs) t)) (codes ",") ≡ at (expects (apply f t ∷ fs)))
     (close : (f : WrittenTerm) (fs : List WrittenTerm) (t : WrittenTerm)
-        → move (at (has (f ∷ fs) t)) (codes ")") ≡ at (has fs (apply f t))) where
+    → move (at (has (f ∷ fs) t)) (codes ")") ≡ at (has fs (apply f t))) where
   pub record TermRun (t : WrittenTerm) : Type 0 where
     pub whole : (fs : List WrittenTerm) → run move (at (expects fs)) (term_parts t) ≡ at (has fs t)
     pub before : is_head t ≡ true → (fs : List WrittenTerm) → run move (at (expects fs)) (opened t) ≡ at (expects (t ∷ fs))

@@ -94,7 +94,7 @@ module _ (def : Definition) where
       ap (λ n. map (constructor_at def) (constructors_from n sort rest)) size
       ∙ constructors-from sort (front ++ s ∷ []) rest (e ∙ sym (append_assoc front (s ∷ []) rest)) in
       elim (s.sort == sort) as (λ b. map (constructor_at def) (cond b (length front ∷ constructors_from (length front + 1) sort rest) (constructors_from (length front + 1) sort rest))
-          ≡ cond b (record { name = s.name; args = map (sort_name def) s.arguments } ∷ constructors_written def sort rest) (constructors_written def sort rest)) [
+      ≡ cond b (record { name = s.name; args = map (sort_name def) s.arguments } ∷ constructors_written def sort rest) (constructors_written def sort rest)) [
         | true ↦ ap₂ (λ x xs. x ∷ xs) (constructor-behind front rest s e) behind
         | false ↦ behind
       ]

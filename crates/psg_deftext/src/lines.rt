@@ -27,6 +27,11 @@ pub fn definition_lines(alloc: Global, definition: &Definition) -> Result<Vec<Li
     push_nils(alloc, definition, definition.lists.as_slice(), &mut out)?;
     push_cells(alloc, definition, definition.lists.as_slice(), &mut out)?;
     push_holes(alloc, definition, definition.hole_rows.as_slice(), &mut out)?;
-    push_declares(alloc, definition, definition.declare_rows.as_slice(), &mut out)?;
+    push_declares(
+        alloc,
+        definition,
+        definition.declare_rows.as_slice(),
+        &mut out,
+    )?;
     Ok(out)
 }

@@ -11,12 +11,7 @@ use psg_terms::{Term, Txt};
 use std::alloc::{AllocError, Global};
 
 /// The line of a row of an empty list.
-fn nil_line(
-    alloc: Global,
-    def: &Definition,
-    list: &Txt,
-    term: &Term,
-) -> Result<Line, AllocError>
+fn nil_line(alloc: Global, def: &Definition, list: &Txt, term: &Term) -> Result<Line, AllocError>
     ensures { IfOk result (λ l. l ≡ lines.Nil list.now (term_written def.now term.now)) }
 {
     let list = list.share()?;
@@ -57,12 +52,7 @@ pub fn push_nils(
 }
 
 /// The line of a row of a list with an element: the terms of the list, of the element and of its rest.
-fn cell_line(
-    alloc: Global,
-    def: &Definition,
-    list: &Txt,
-    row: &Row,
-) -> Result<Line, AllocError>
+fn cell_line(alloc: Global, def: &Definition, list: &Txt, row: &Row) -> Result<Line, AllocError>
     ensures { IfOk result (λ l. l ≡ cell_line def.now list.now row.now) }
 {
     let list = list.share()?;

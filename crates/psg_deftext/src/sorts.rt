@@ -12,11 +12,7 @@ use psg_terms::{ConDecl, ConId, Seq, SortDecl, SortId, Txt};
 use std::alloc::{AllocError, Global};
 
 /// The names of sorts.
-fn sorts_written(
-    alloc: Global,
-    def: &Definition,
-    sorts: &[SortId],
-) -> Result<Vec<Txt>, AllocError>
+fn sorts_written(alloc: Global, def: &Definition, sorts: &[SortId]) -> Result<Vec<Txt>, AllocError>
     ensures { IfOk result (λ v. v.items ≡ map (sort_name def.now) (numbers_of sorts.now)) }
 {
     let mut written = Vec::with_capacity(alloc, sorts.len())?;
@@ -28,11 +24,7 @@ fn sorts_written(
 }
 
 /// The constructor as its sort declares it.
-fn constructor_written(
-    alloc: Global,
-    def: &Definition,
-    con: ConId,
-) -> Result<ConDecl, AllocError>
+fn constructor_written(alloc: Global, def: &Definition, con: ConId) -> Result<ConDecl, AllocError>
     requires { con.0 < length def.now.signature.symbols }
     ensures { IfOk result (λ d. d ≡ constructor_at def.now con.0) }
 {
@@ -64,8 +56,10 @@ fn constructors_written(
 /// The line of a sort.
 fn sort_line(alloc: Global, def: &Definition, sort: SortId) -> Result<Line, AllocError>
     requires { sort.0 < length def.now.signature.sorts }
-    ensures { IfOk result (λ l. l ≡ lines.Sort (record { name = sort_name def.now sort.0;
-        constructors = constructors_written def.now sort.0 def.now.signature.symbols })) }
+    ensures { IfOk result (λ l. l ≡ lines.Sort (record {
+      name = sort_name def.now sort.0;
+      constructors = constructors_written def.now sort.0 def.now.signature.symbols;
+    })) }
 {
     let name = sort_name(alloc, def, sort)?;
     let constructors = constructors_written(alloc, def, sort)?;
