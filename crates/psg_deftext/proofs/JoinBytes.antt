@@ -1,6 +1,6 @@
 -- No line feed and no carriage return stands in a line.
-use Rattle.std.proofs.Common.{◌≡◌, ◌≢◌, ◌==◌, ◌&&◌, ◌||◌, ℕ, ◌+◌, ◌<◌, ◌≤◌, Bool, true, false, cond, if◌then◌else◌, List, [], ◌∷◌, ◌++◌, length, get_or, replicate, zero, suc, append-nil, inl, inr, refl, ap, sym, ◌∙◌, subst, arith}
-use Rattle.std.specs.Prelude.{chars, encode_utf8, encode_utf8_all, is_some, Some, None, nat_lt, nat_le, IsTrue, codes}
+use Rattle.std.proofs.Common.{◌≡◌, ◌≢◌, ◌==◌, ◌||◌, ℕ, ◌<◌, ◌≤◌, Bool, true, false, cond, List, [], ◌∷◌, ◌++◌, length, get_or, replicate, zero, suc, append-nil, inl, inr, refl, sym, ◌∙◌, subst, arith}
+use Rattle.std.specs.Prelude.{chars, encode_utf8, encode_utf8_all, is_some, nat_lt, nat_le, codes}
 use Rattle.std.specs.List.{AllByRecursion, list_all, list_any}
 use Rattle.std.proofs.lemmas.Bool.{and_parts, or_cases, cases_lt, eqb-true, false≢true}
 use Rattle.std.proofs.lemmas.Bool.Decides.{eqb_tells, nat_tests}
@@ -29,7 +29,8 @@ pub clear-append : (xs ys : List ℕ) → AreClear xs → AreClear ys → AreCle
 clear-append [] ys h k = k
 clear-append (x ∷ xs) ys h k = (h.0, clear-append xs ys h.1 k)
 
-run-clear : (test : ℕ → Bool) → ((c : ℕ) → test c ≡ true → IsClear c) → (cs : List ℕ) → list_all test cs ≡ true → AreClear cs
+run-clear : (test : ℕ → Bool) → ((c : ℕ) → test c ≡ true → IsClear c) → (cs : List ℕ) → list_all test cs ≡ true
+    → AreClear cs
 run-clear test clear [] h = tt
 run-clear test clear (c ∷ cs) h =
     let both = and_parts (test c) (list_all test cs) h in
@@ -137,7 +138,11 @@ pub part-clear : (p : List ℕ) → IsPart p → AreClear p
 part-clear p (a_word w) = run-clear goes_on_name name-clear p w.1
 part-clear p (a_mark m) = subst AreClear (sym m.whole) (mark-clear m.mark m.is, tt)
 part-clear p (a_sigil s) =
-    subst AreClear (sym s.whole) (sigil-clear s.sigil s.is, run-clear (goes_behind s.sigil) (behind-clear s.sigil) s.name s.run)
+    subst AreClear (sym s.whole) (
+      sigil-clear s.sigil s.is,
+      run-clear (goes_behind s.sigil) (behind-clear s.sigil)
+          s.name s.run,
+    )
 part-clear p (a_quoted q) = subst AreClear (sym q.whole) (text-clear q.contents q.is)
 
 spaces-clear : (n : ℕ) → AreClear (replicate n 32)

@@ -1,13 +1,14 @@
--- A text whose lines are spelled, plain and passed has no fault, and what is known of the lines of a text without a fault.
-use Rattle.std.proofs.Common.{◌≡◌, ◌⊎◌, inl, inr, ℕ, ◌+◌, ◌<◌, ◌≤◌, List, [], ◌∷◌, ◌++◌, length, take, map, refl, ap, ap₂, sym, ◌∙◌, subst, append_assoc, append-nil, arith}
-use Rattle.std.specs.Prelude.{Option, Some, None, IsUtf8}
+-- A text whose lines are spelled, plain and passed has no fault, and what is known of the lines of a text without a
+-- fault.
+use Rattle.std.proofs.Common.{◌≡◌, inl, inr, ℕ, ◌+◌, List, [], ◌∷◌, ◌++◌, length, map, refl, ap, ap₂, sym, ◌∙◌, subst, append_assoc, append-nil, arith}
+use Rattle.std.specs.Prelude.{Some, None, IsUtf8}
 use Rattle.std.specs.List.{AllByRecursion}
 use Rattle.std.specs.Str.Lines.{lines as texts_of}
 use Rattle.std.proofs.lemmas.List.{take_all}
 use Rattle.psg_deflines.specs.Forms.{SpellsLine, HasFixedWords, IsShallow}
-use Rattle.psg_deflines.specs.Entries.{IsSkipped, IsLineBehind, Entry, IsEntry, written, AreEntries, AreSpelled, HasHead, behind_head, IsPlain}
+use Rattle.psg_deflines.specs.Entries.{IsLineBehind, Entry, IsEntry, written, AreEntries, AreSpelled, HasHead, behind_head, IsPlain}
 use Rattle.psg_deflines.specs.Reading.{HasEntries, AreLinesOf, HasNoFormFault}
-use Rattle.psg_deflines.specs.Refusals.{IsFirstOf, PassesForm, form_codes, HasFormFault, FormRefusal, no_text, no_head, no_form}
+use Rattle.psg_deflines.specs.Refusals.{IsFirstOf, PassesForm, form_codes, no_text, no_head, no_form}
 use Rattle.psg_deflines.specs.declared.fault.DefCode.{DefCode}
 use Rattle.psg_deflines.specs.declared.fault.DefCode.TheVariants as codes_of
 use Rattle.psg_deflines.specs.declared.fault.DefFault.{DefFault}
@@ -79,9 +80,11 @@ module _ (once : SpellOnce) where
   clean-at above [] t behind [] fs h k p = absurd h
   clean-at above [] t behind (e ∷ es) (f ∷ fs) h k p = absurd k
   clean-at above [] t behind (e ∷ es) [] h k p =
-      subst (λ a. AllByRecursion (PassesForm a t) form_codes) (sym (append-nil above)) (passes above t e h.0 (first e es p))
+      subst (λ a. AllByRecursion (PassesForm a t) form_codes) (sym (append-nil above))
+      (passes above t e h.0 (first e es p))
     where
-      first : (x : Entry) (xs : List Entry) → AllByRecursion IsPlain (written (x ∷ xs)) → AllByRecursion IsPlain (written (x ∷ []))
+      first : (x : Entry) (xs : List Entry) → AllByRecursion IsPlain (written (x ∷ xs))
+          → AllByRecursion IsPlain (written (x ∷ []))
       first None xs q = tt
       first (Some line) xs q = (q.0, tt)
   clean-at above (u ∷ front) t behind [] fs h k p = absurd h
@@ -95,7 +98,8 @@ module _ (once : SpellOnce) where
       (clean-at (above ++ written (e ∷ [])) front t behind es fs h.1
       (subst (λ x. AreEntries (above ++ written (x ∷ [])) front fs) (sym same) k.1) (rest e es p))
     where
-      rest : (x : Entry) (xs : List Entry) → AllByRecursion IsPlain (written (x ∷ xs)) → AllByRecursion IsPlain (written xs)
+      rest : (x : Entry) (xs : List Entry) → AllByRecursion IsPlain (written (x ∷ xs))
+          → AllByRecursion IsPlain (written xs)
       rest None xs q = q
       rest (Some line) xs q = q.1
 
@@ -115,7 +119,8 @@ module _ (once : SpellOnce) where
   text-faultless bytes ls utf8 spelled plain passed fault refused = plain (λ p.
       let es = map Some ls in
       let all : AllByRecursion IsPlain (written es) = subst (AllByRecursion IsPlain) (sym (written-some ls)) p in
-      let passes : ArePassed (written es) [] (written es) = subst (λ l. ArePassed l [] l) (sym (written-some ls)) passed in
+      let passes : ArePassed (written es) [] (written es) =
+      subst (λ l. ArePassed l [] l) (sym (written-some ls)) passed in
       let read : AreLinesOf bytes es = record { spelled = record { utf8 = utf8; spelled = spelled }; plain = all } in
       let only : (other : List Entry) → HasEntries bytes other → other ≡ es =
       λ other h. entries-once [] (behind_head (texts_of bytes)) other es h.spelled.each spelled.each in
@@ -133,14 +138,16 @@ module _ (once : SpellOnce) where
       ap (λ l. above ++ l) (written-append (f ∷ []) es) ∙ sym (append_assoc above (written (f ∷ [])) (written es)) in
       (h.0, entries-snoc (above ++ written (f ∷ [])) ts es t e h.1 (subst (λ a. IsEntry a t e) far k))
 
-  plain-snoc : (xs ys : List Line) → AllByRecursion IsPlain xs → AllByRecursion IsPlain ys → AllByRecursion IsPlain (xs ++ ys)
+  plain-snoc : (xs ys : List Line) → AllByRecursion IsPlain xs → AllByRecursion IsPlain ys
+      → AllByRecursion IsPlain (xs ++ ys)
   plain-snoc [] ys h k = k
   plain-snoc (x ∷ xs) ys h k = (h.0, plain-snoc xs ys h.1 k)
 
   module _ (bytes : List ℕ) (utf8 : IsUtf8 bytes) (none : IsFaultless bytes) (head : HasHead (texts_of bytes)) where
     -- a fault of the form of a line
     refused : (front : List (List ℕ)) (t : List ℕ) (behind : List (List ℕ)) (es : List Entry) (code : DefCode)
-        → behind_head (texts_of bytes) ≡ front ++ t ∷ behind → AreEntries [] front es → AllByRecursion IsPlain (written es)
+        → behind_head (texts_of bytes) ≡ front ++ t ∷ behind → AreEntries [] front es
+        → AllByRecursion IsPlain (written es)
         → IsFirstOf (PassesForm (written es) t) form_codes code → ⊥
     refused front t behind es code e each plain first =
         let fault : DefFault = record { line = length front + 2; code = code } in
@@ -157,7 +164,8 @@ module _ (once : SpellOnce) where
         })))
 
     line-plain : (front : List (List ℕ)) (t : List ℕ) (behind : List (List ℕ)) (es : List Entry) (line : Line)
-        → behind_head (texts_of bytes) ≡ front ++ t ∷ behind → AreEntries [] front es → AllByRecursion IsPlain (written es)
+        → behind_head (texts_of bytes) ≡ front ++ t ∷ behind → AreEntries [] front es
+        → AllByRecursion IsPlain (written es)
         → IsLineBehind (written es) t line → (IsPlain line → ⊥) → ⊥
     line-plain front t behind es line e each plain is not =
         let no-words : HasFixedWords line → ⊥ = λ words.
@@ -169,7 +177,8 @@ module _ (once : SpellOnce) where
             inl ((λ all. no-shallow (all line is)), refl),
           ),
         )) in
-        refused front t behind es codes_of.Token e each plain (inr (inr (line, is), inl ((λ all. no-words (all line is)), refl)))
+        refused front t behind es codes_of.Token e each plain
+        (inr (inr (line, is), inl ((λ all. no-words (all line is)), refl)))
 
     entries-plain : (front ts : List (List ℕ)) (es fs : List Entry) → behind_head (texts_of bytes) ≡ front ++ ts
         → AreEntries [] front es → AllByRecursion IsPlain (written es) → AreEntries (written es) ts fs

@@ -39,7 +39,8 @@ kind_name-part (c ∷ cs) h =
     let both = and_parts (is_upper c) (list_all goes_on_name cs) first.0 in
     word (c ∷ cs) (omega arith)
     (and_from (goes_on_name c) (list_all goes_on_name cs)
-    (or_left ((is_upper c || is_lower c) || is_digit c) (c == 95) (or_left (is_upper c || is_lower c) (is_digit c) (or_left (is_upper c) (is_lower c) both.0))) both.1)
+    (or_left ((is_upper c || is_lower c) || is_digit c) (c == 95)
+    (or_left (is_upper c || is_lower c) (is_digit c) (or_left (is_upper c) (is_lower c) both.0))) both.1)
 
 own_name-part : (n : List ℕ) → IsOwnName n → IsPart n
 own_name-part [] h = absurd (false≢true h)
@@ -48,14 +49,17 @@ own_name-part (c ∷ cs) h =
     let both = and_parts (is_lower c) (list_all goes_on_name cs) first.0 in
     word (c ∷ cs) (omega arith)
     (and_from (goes_on_name c) (list_all goes_on_name cs)
-    (or_left ((is_upper c || is_lower c) || is_digit c) (c == 95) (or_left (is_upper c || is_lower c) (is_digit c) (or_right (is_upper c) (is_lower c) both.0))) both.1)
+    (or_left ((is_upper c || is_lower c) || is_digit c) (c == 95)
+    (or_left (is_upper c || is_lower c) (is_digit c) (or_right (is_upper c) (is_lower c) both.0))) both.1)
 
 digit-goes_on : (c : ℕ) → is_digit c ≡ true → goes_on_name c ≡ true
-digit-goes_on c h = or_left ((is_upper c || is_lower c) || is_digit c) (c == 95) (or_right (is_upper c || is_lower c) (is_digit c) h)
+digit-goes_on c h = or_left ((is_upper c || is_lower c) || is_digit c) (c == 95)
+    (or_right (is_upper c || is_lower c) (is_digit c) h)
 
 digits-go_on : (d : List ℕ) → list_all is_digit d ≡ true → list_all goes_on_name d ≡ true
 digits-go_on [] h = refl
-digits-go_on (c ∷ cs) h = let both = and_parts (is_digit c) (list_all is_digit cs) h in and_from (goes_on_name c) (list_all goes_on_name cs) (digit-goes_on c both.0) (digits-go_on cs both.1)
+digits-go_on (c ∷ cs) h = let both = and_parts (is_digit c) (list_all is_digit cs) h in
+    and_from (goes_on_name c) (list_all goes_on_name cs) (digit-goes_on c both.0) (digits-go_on cs both.1)
 
 digits-part : (d : List ℕ) → is_digits d ≡ true → IsPart d
 digits-part [] h = absurd (false≢true h)
@@ -63,11 +67,13 @@ digits-part (c ∷ cs) h = word (c ∷ cs) (omega arith) (digits-go_on (c ∷ cs
 
 variable-part : (n : List ℕ) → is_variable_name n ≡ true → IsPart (63 ∷ n)
 variable-part [] h = absurd (false≢true h)
-variable-part (c ∷ cs) h = a_sigil (record { sigil = 63; name = c ∷ cs; whole = refl; is = refl; long = omega arith; run = h })
+variable-part (c ∷ cs) h = a_sigil
+    (record { sigil = 63; name = c ∷ cs; whole = refl; is = refl; long = omega arith; run = h })
 
 specimen-part : (n : List ℕ) → is_specimen_name n ≡ true → IsPart (36 ∷ n)
 specimen-part [] h = absurd (false≢true h)
-specimen-part (c ∷ cs) h = a_sigil (record { sigil = 36; name = c ∷ cs; whole = refl; is = refl; long = omega arith; run = h })
+specimen-part (c ∷ cs) h = a_sigil
+    (record { sigil = 36; name = c ∷ cs; whole = refl; is = refl; long = omega arith; run = h })
 
 quoted : (w : List ℕ) → IsQuotable w → IsPart (quoted_part w)
 quoted w h = a_quoted (record { contents = w; whole = refl; is = h })
@@ -98,8 +104,10 @@ term-all (apply f a) h =
     let front = (term-all f h.1).before in
     let arg = (term-all a h.2).whole in
     record {
-      whole = join (opened f ++ term_parts a) (codes ")" ∷ []) (join (opened f) (term_parts a) front arg) (mark 41 refl, tt);
-      before = join (opened f ++ term_parts a) (codes "," ∷ []) (join (opened f) (term_parts a) front arg) (mark 44 refl, tt);
+      whole = join (opened f ++ term_parts a) (codes ")" ∷ []) (join (opened f) (term_parts a) front arg)
+          (mark 41 refl, tt);
+      before = join (opened f ++ term_parts a) (codes "," ∷ []) (join (opened f) (term_parts a) front arg)
+          (mark 44 refl, tt);
     }
 
 pub terms-all : (ts : List WrittenTerm) → AllByRecursion HasTermForm ts → All (terms_parts ts)
@@ -111,7 +119,16 @@ columns-all [] h = tt
 columns-all (t ∷ ts) h = (mark 58 refl, terms-all (t ∷ ts) h)
 
 place-all : (k : Name) (t : WrittenTerm) → IsKindName k → HasTermForm t → All (place_parts k t)
-place-all k t h f = (word (codes "hole") (omega arith) refl, (mark 40 refl, (kind_name-part k h, (mark 44 refl, join (term_parts t) (codes ")" ∷ []) (term-all t f).whole (mark 41 refl, tt)))))
+place-all k t h f = (
+  word (codes "hole") (omega arith) refl,
+  (
+    mark 40 refl,
+    (
+      kind_name-part k h,
+      (mark 44 refl, join (term_parts t) (codes ")" ∷ []) (term-all t f).whole (mark 41 refl, tt)),
+    ),
+  ),
+)
 
 pub record TreeParts (w : WrittenTree) : Type 0 where
   pub whole : All (tree_parts w)
@@ -119,24 +136,42 @@ pub record TreeParts (w : WrittenTree) : Type 0 where
   pub behind : All (follow w)
 
 tree-all : (w : WrittenTree) → HasTreeForm w → TreeParts w
-tree-all (operator o) h = record { whole = (own_name-part o h, tt); before = (own_name-part o h, (mark 40 refl, tt)); behind = tt }
+tree-all (operator o) h = record
+    { whole = (own_name-part o h, tt); before = (own_name-part o h, (mark 40 refl, tt)); behind = tt }
 tree-all (with_tree f t) h =
     let front = (tree-all f h.1).before in
     let tree = (tree-all t h.2).whole in
     record {
-      whole = join (trees.opened f ++ tree_parts t) (codes ")" ∷ []) (join (trees.opened f) (tree_parts t) front tree) (mark 41 refl, tt);
-      before = join (trees.opened f ++ tree_parts t) (codes "," ∷ []) (join (trees.opened f) (tree_parts t) front tree) (mark 44 refl, tt);
+      whole = join (trees.opened f ++ tree_parts t) (codes ")" ∷ [])
+          (join (trees.opened f) (tree_parts t) front tree) (mark 41 refl, tt);
+      before = join (trees.opened f ++ tree_parts t) (codes "," ∷ [])
+          (join (trees.opened f) (tree_parts t) front tree) (mark 44 refl, tt);
       behind = tt;
     }
 tree-all (with_name f n) h =
     let front = (tree-all f h.1).before in
-    record { whole = join (trees.opened f) _ front (specimen-part n h.2, (mark 41 refl, tt)); before = join (trees.opened f) _ front (specimen-part n h.2, (mark 44 refl, tt)); behind = tt }
+    record {
+      whole = join (trees.opened f) _ front (specimen-part n h.2, (mark 41 refl, tt));
+      before =
+          join (trees.opened f) _ front (specimen-part n h.2, (mark 44 refl, tt));
+      behind = tt;
+    }
 tree-all (with_number f d) h =
     let front = (tree-all f h.1).before in
-    record { whole = join (trees.opened f) _ front (digits-part d h.2, (mark 41 refl, tt)); before = join (trees.opened f) _ front (digits-part d h.2, (mark 44 refl, tt)); behind = tt }
+    record {
+      whole = join (trees.opened f) _ front (digits-part d h.2, (mark 41 refl, tt));
+      before =
+          join (trees.opened f) _ front (digits-part d h.2, (mark 44 refl, tt));
+      behind = tt;
+    }
 tree-all (with_text f w) h =
     let front = (tree-all f h.1).before in
-    record { whole = join (trees.opened f) _ front (quoted w h.2, (mark 41 refl, tt)); before = join (trees.opened f) _ front (quoted w h.2, (mark 44 refl, tt)); behind = tt }
+    record {
+      whole = join (trees.opened f) _ front (quoted w h.2, (mark 41 refl, tt));
+      before =
+          join (trees.opened f) _ front (quoted w h.2, (mark 44 refl, tt));
+      behind = tt;
+    }
 tree-all list_end h = record { whole = (mark 91 refl, (mark 93 refl, tt)); before = tt; behind = (mark 93 refl, tt) }
 tree-all (list_rest l t) h =
     let rest = join (place_parts l t) (codes "]" ∷ []) (place-all l t h.0 h.1) (mark 93 refl, tt) in
@@ -144,7 +179,12 @@ tree-all (list_rest l t) h =
 tree-all (element e r) h =
     let first = (tree-all e h.1).whole in
     let rest = (tree-all r h.2).behind in
-    record { whole = (mark 91 refl, join (tree_parts e) (follow r) first rest); before = tt; behind = (mark 44 refl, join (tree_parts e) (follow r) first rest) }
+    record {
+      whole = (mark 91 refl, join (tree_parts e) (follow r) first rest);
+      before = tt;
+      behind =
+          (mark 44 refl, join (tree_parts e) (follow r) first rest);
+    }
 tree-all (place k t) h = record { whole = place-all k t h.0 h.1; before = tt; behind = tt }
 
 by-all : (w : Option WrittenTree) → HasFormBehindBy w → All (by_parts w)
@@ -164,7 +204,8 @@ arguments-all (n ∷ rest) h = (mark 40 refl, names-all (n ∷ rest) h)
 
 cons-all : (cs : List ConDecl) → AllByRecursion HasConstructorForm cs → All (constructor_parts cs)
 cons-all [] h = tt
-cons-all (c ∷ rest) h = join (c.name ∷ argument_parts c.args) (constructor_parts rest) (own_name-part c.name h.0.0, arguments-all c.args h.0.1) (cons-all rest h.1)
+cons-all (c ∷ rest) h = join (c.name ∷ argument_parts c.args) (constructor_parts rest)
+    (own_name-part c.name h.0.0, arguments-all c.args h.0.1) (cons-all rest h.1)
 
 word_if-all : (b : Bool) (w : List ℕ) → IsPart w → All (word_if b w)
 word_if-all true w h = (h, tt)
@@ -200,10 +241,21 @@ layout-all true v w h k = h
 layout-all false v w h k = k
 
 pub line-parts : (line : Line) → HasForm line → All (parts_of line)
-line-parts (lines.Sort d) h = (word (codes "sort") (omega arith) refl, (kind_name-part d.name h.0, (mark 61 refl, cons-all d.constructors h.2)))
+line-parts (lines.Sort d) h = (
+  word (codes "sort") (omega arith) refl,
+  (kind_name-part d.name h.0, (mark 61 refl, cons-all d.constructors h.2)),
+)
 line-parts (lines.Entity sort) h = (word (codes "entity") (omega arith) refl, (kind_name-part sort h, tt))
-line-parts (lines.Phylum n s b) h =
-    (word (codes "phylum") (omega arith) refl, (kind_name-part n h.0, (mark 58 refl, (kind_name-part s h.1, word_if-all b (codes "bracketed") (word (codes "bracketed") (omega arith) refl)))))
+line-parts (lines.Phylum n s b) h = (
+  word (codes "phylum") (omega arith) refl,
+  (
+    kind_name-part n h.0,
+    (
+      mark 58 refl,
+      (kind_name-part s h.1, word_if-all b (codes "bracketed") (word (codes "bracketed") (omega arith) refl)),
+    ),
+  ),
+)
 line-parts (lines.List n s e w l u) h = (
   word (codes "list") (omega arith) refl,
   (
@@ -219,8 +271,13 @@ line-parts (lines.List n s e w l u) h = (
             (
               quoted w h.3,
               (
-                layout-all l (codes "lines") (codes "inline") (word (codes "lines") (omega arith) refl) (word (codes "inline") (omega arith) refl),
-                (layout-all u (codes "unfinished") (codes "fixed") (word (codes "unfinished") (omega arith) refl) (word (codes "fixed") (omega arith) refl), tt),
+                layout-all l (codes "lines") (codes "inline") (word (codes "lines") (omega arith) refl)
+                    (word (codes "inline") (omega arith) refl),
+                (
+                  layout-all u (codes "unfinished") (codes "fixed") (word (codes "unfinished") (omega arith) refl)
+                      (word (codes "fixed") (omega arith) refl),
+                  tt,
+                ),
               ),
             ),
           ),
@@ -237,16 +294,40 @@ line-parts (lines.Operator n k s l ms) h = (
       mark 58 refl,
       (
         kind_name-part k h.1,
-        join (word_if s (codes "scope")) _ (word_if-all s (codes "scope") (word (codes "scope") (omega arith) refl)) (join (level_parts l) _ (level-all l h.2) (mark 61 refl, items-all ms h.4)),
+        join (word_if s (codes "scope")) _ (word_if-all s (codes "scope") (word (codes "scope") (omega arith) refl))
+            (join (level_parts l) _ (level-all l h.2) (mark 61 refl, items-all ms h.4)),
       ),
     ),
   ),
 )
-line-parts (lines.Row t ts) h = (word (codes "row") (omega arith) refl, join (term_parts t) (columns_parts ts) (term-all t h.0).whole (columns-all ts h.1))
+line-parts (lines.Row t ts) h = (
+  word (codes "row") (omega arith) refl,
+  join (term_parts t) (columns_parts ts) (term-all t h.0).whole
+      (columns-all ts h.1),
+)
 line-parts (lines.Nil n t) h = (word (codes "nil") (omega arith) refl, (kind_name-part n h.0, (term-all t h.1).whole))
-line-parts (lines.Cell n t u v) h =
-    (word (codes "cell") (omega arith) refl, (kind_name-part n h.0, join (term_parts t) _ (term-all t h.1).whole (mark 58 refl, join (term_parts u) (term_parts v) (term-all u h.2).whole (term-all v h.3).whole)))
-line-parts (lines.Hole n t w) h = (word (codes "hole") (omega arith) refl, (kind_name-part n h.0, join (term_parts t) (by_parts w) (term-all t h.1).whole (by-all w h.2)))
-line-parts (lines.Case t w) h = (word (codes "case") (omega arith) refl, join (term_parts t) (by_parts (Some w)) (term-all t h.0).whole (by-all (Some w) h.1))
-line-parts (lines.Declare n t u w) h =
-    (word (codes "declare") (omega arith) refl, (kind_name-part n h.0, join (term_parts t) _ (term-all t h.1).whole (mark 58 refl, join (term_parts u) (by_parts (Some w)) (term-all u h.2).whole (by-all (Some w) h.3))))
+line-parts (lines.Cell n t u v) h = (
+  word (codes "cell") (omega arith) refl,
+  (
+    kind_name-part n h.0,
+    join (term_parts t) _ (term-all t h.1).whole
+        (mark 58 refl, join (term_parts u) (term_parts v) (term-all u h.2).whole (term-all v h.3).whole),
+  ),
+)
+line-parts (lines.Hole n t w) h = (
+  word (codes "hole") (omega arith) refl,
+  (kind_name-part n h.0, join (term_parts t) (by_parts w) (term-all t h.1).whole (by-all w h.2)),
+)
+line-parts (lines.Case t w) h = (
+  word (codes "case") (omega arith) refl,
+  join (term_parts t) (by_parts (Some w)) (term-all t h.0).whole
+      (by-all (Some w) h.1),
+)
+line-parts (lines.Declare n t u w) h = (
+  word (codes "declare") (omega arith) refl,
+  (
+    kind_name-part n h.0,
+    join (term_parts t) _ (term-all t h.1).whole
+        (mark 58 refl, join (term_parts u) (by_parts (Some w)) (term-all u h.2).whole (by-all (Some w) h.3)),
+  ),
+)

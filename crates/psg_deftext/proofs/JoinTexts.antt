@@ -1,6 +1,6 @@
 -- Texts with a line feed behind each, and the lines that they spell.
-use Rattle.std.proofs.Common.{◌≡◌, ◌≢◌, ◌==◌, ℕ, ◌+◌, ◌-◌, ◌<◌, ◌≤◌, Bool, true, false, if◌then◌else◌, zero, suc, List, [], ◌∷◌, ◌++◌, length, get_or, take, map, inl, inr, refl, ap, ap₂, sym, ◌∙◌, subst, append_assoc, arith}
-use Rattle.std.specs.Prelude.{Option, Some, None, codes, slice_index}
+use Rattle.std.proofs.Common.{◌≡◌, ◌≢◌, ◌==◌, ℕ, ◌+◌, ◌-◌, ◌<◌, false, if◌then◌else◌, zero, suc, List, [], ◌∷◌, ◌++◌, length, get_or, take, map, inl, inr, refl, ap, ap₂, sym, ◌∙◌, subst, append_assoc, arith}
+use Rattle.std.specs.Prelude.{Some, codes, slice_index}
 use Rattle.std.specs.List.{AllByRecursion, slice_split}
 use Rattle.std.specs.List as lists
 use Rattle.std.specs.Str.Lines.{lines as texts_of, lines_of_parts, strip_carriage_return}
@@ -9,7 +9,7 @@ use Rattle.std.proofs.lemmas.List.Splits.{slice_split_at}
 use Rattle.std.proofs.lemmas.List.Elements.{All-from_recursion, All-weaker}
 use Rattle.psg_deflines.specs.Written.{IsWritten}
 use Rattle.psg_deflines.specs.Forms.{HasForm, SpellsLine, parts_of}
-use Rattle.psg_deflines.specs.Entries.{IsSkipped, IsLineBehind, HasPlace, Entry, written, AreEntries, AreSpelled, HasHead, behind_head}
+use Rattle.psg_deflines.specs.Entries.{IsSkipped, HasPlace, AreEntries, AreSpelled, HasHead}
 use Rattle.psg_deflines.specs.declared.lines.Line.{Line}
 use Rattle.psg_deflines.specs.declared.lines.Line.TheVariants as lines
 use Rattle.psg_deftext.proofs.JoinBytes.{IsClear, AreClear, line-clear}
@@ -100,7 +100,8 @@ laid-next ls i line own before after h e is a b = record {
       (texts-snoc (take i ls) b.texts line own b.each is);
 }
 
-texts-clear : (ls : List Line) (ts : List (List ℕ)) → AreTexts ls ts → AllByRecursion HasForm ls → AllByRecursion AreClear ts
+texts-clear : (ls : List Line) (ts : List (List ℕ)) → AreTexts ls ts → AllByRecursion HasForm ls
+    → AllByRecursion AreClear ts
 texts-clear [] [] h f = tt
 texts-clear [] (t ∷ ts) h f = absurd h
 texts-clear (l ∷ ls) [] h f = tt
@@ -108,7 +109,8 @@ texts-clear (l ∷ ls) (t ∷ ts) h f = (line-clear t l (h.0 f.0), texts-clear l
 
 -- ---- a line begins with its word
 
-word-first : (c : ℕ) (w : List ℕ) (ps : List (List ℕ)) (t : List ℕ) → IsWritten ((c ∷ w) ∷ ps) t → c ≢ 35 → IsSkipped t → ⊥
+word-first : (c : ℕ) (w : List ℕ) (ps : List (List ℕ)) (t : List ℕ) → IsWritten ((c ∷ w) ∷ ps) t → c ≢ 35
+    → IsSkipped t → ⊥
 word-first c w [] t e other h = other (subst IsSkipped e h)
 word-first c w (q ∷ ps) t (n, rest, e, apart, k) other h = other (subst IsSkipped e h)
 
@@ -124,9 +126,11 @@ not-skipped (lines.Entity s) t w h =
 not-skipped (lines.Phylum n s b) t w h =
     word-first 112 (codes "hylum") (behind_first (parts_of (lines.Phylum n s b))) t w (λ e. absurd (omega (arith, e))) h
 not-skipped (lines.List n s e p l u) t w h =
-    word-first 108 (codes "ist") (behind_first (parts_of (lines.List n s e p l u))) t w (λ e. absurd (omega (arith, e))) h
+    word-first 108 (codes "ist") (behind_first (parts_of (lines.List n s e p l u))) t w
+    (λ e. absurd (omega (arith, e))) h
 not-skipped (lines.Operator n k s l ms) t w h =
-    word-first 111 (codes "p") (behind_first (parts_of (lines.Operator n k s l ms))) t w (λ e. absurd (omega (arith, e))) h
+    word-first 111 (codes "p") (behind_first (parts_of (lines.Operator n k s l ms))) t w
+    (λ e. absurd (omega (arith, e))) h
 not-skipped (lines.Row u us) t w h =
     word-first 114 (codes "ow") (behind_first (parts_of (lines.Row u us))) t w (λ e. absurd (omega (arith, e))) h
 not-skipped (lines.Nil n u) t w h =
@@ -138,13 +142,15 @@ not-skipped (lines.Hole n u s) t w h =
 not-skipped (lines.Case u s) t w h =
     word-first 99 (codes "ase") (behind_first (parts_of (lines.Case u s))) t w (λ e. absurd (omega (arith, e))) h
 not-skipped (lines.Declare n u v s) t w h =
-    word-first 100 (codes "eclare") (behind_first (parts_of (lines.Declare n u v s))) t w (λ e. absurd (omega (arith, e))) h
+    word-first 100 (codes "eclare") (behind_first (parts_of (lines.Declare n u v s))) t w
+    (λ e. absurd (omega (arith, e))) h
 
 -- ---- the lines are spelled
 
 -- each row and each case stands where it may
 abbrev pub HavePlaces : List Line → Type 0
-HavePlaces whole = (front : List Line) (line : Line) (behind : List Line) → whole ≡ front ++ line ∷ behind → HasPlace front line
+HavePlaces whole = (front : List Line) (line : Line) (behind : List Line) → whole ≡ front ++ line ∷ behind
+    → HasPlace front line
 
 entries-are : (whole : List Line) → HavePlaces whole → (above ls : List Line) (ts : List (List ℕ)) → AreTexts ls ts
     → AllByRecursion HasForm ls → whole ≡ above ++ ls → AreEntries above ts (map Some ls)

@@ -1,5 +1,5 @@
 -- The text of a definition that was read is read as it, and has the layout.
-use Rattle.std.proofs.Common.{◌≡◌, ℕ, ◌<◌, ◌^◌, List, length, map, sym, subst}
+use Rattle.std.proofs.Common.{ℕ, ◌<◌, ◌^◌, List, length, map, sym, subst}
 use Rattle.std.specs.Prelude.{Some, IsUtf8}
 use Rattle.std.specs.Str.Lines.{lines as texts_of}
 use Rattle.psg_grammar.specs.declared.types.Definition.{Definition}
@@ -28,7 +28,8 @@ was-read bytes def sound h = record {
   each = h.spells.spelled.each;
   numbered = h.spells.numbered;
   sound = sound;
-  plain = text-plain spell_once bytes h.spells.utf8 h.faultless h.spells.spelled.head h.spells.entries h.spells.spelled.each;
+  plain = text-plain spell_once bytes h.spells.utf8 h.faultless h.spells.spelled.head h.spells.entries
+      h.spells.spelled.each;
 }
 
 spelled : (text : List ℕ) (def : Definition) → WasRead def → IsLaid (lines_of def) text

@@ -16,7 +16,6 @@ pub mod NumberLists
 pub mod NumberSmall
 pub mod NumberLines
 pub mod PushLaws
-pub mod LookLaws
 pub mod ShapeLaws
 pub mod SortLaws
 pub mod JoinParts

@@ -1,19 +1,19 @@
 -- A text spells one line.
-use Rattle.std.proofs.Common.{◌≡◌, ◌==◌, ℕ, ◌+◌, ◌*◌, ◌<◌, Bool, true, false, cond, List, [], ◌∷◌, ◌++◌, length, map, codes, append-nil, refl, ap, ap₂, sym, ◌∙◌, subst, arith}
+use Rattle.std.proofs.Common.{◌≡◌, ℕ, ◌+◌, ◌*◌, ◌<◌, Bool, List, [], ◌∷◌, ◌++◌, length, map, codes, append-nil, refl, ap, ap₂, sym, ◌∙◌, arith}
 use Rattle.std.specs.Prelude.{Option, Some, None}
 use Rattle.std.specs.List.{AllByRecursion}
 use Rattle.psg_terms.specs.Names.{Name}
 use Rattle.psg_terms.specs.declared.declare.SortDecl.{SortDecl}
 use Rattle.psg_grammar.specs.declared.types.Level.{Level}
 use Rattle.psg_deflines.specs.WrittenTerms.{WrittenTerm, term_parts, HasTermForm}
-use Rattle.psg_deflines.specs.WrittenTrees.{WrittenTree, quoted_part, tree_parts}
-use Rattle.psg_deflines.specs.Forms.{HasForm, SpellsLine, parts_of, by_parts, columns_parts, terms_parts, level_parts, word_if, item_part, HasFormBehindBy, HasItemForm}
+use Rattle.psg_deflines.specs.WrittenTrees.{WrittenTree, quoted_part}
+use Rattle.psg_deflines.specs.Forms.{HasForm, SpellsLine, parts_of, by_parts, columns_parts, level_parts, word_if, item_part, HasFormBehindBy, HasItemForm}
 use Rattle.psg_deflines.specs.TermWalks.{Parts}
 use Rattle.psg_deflines.specs.declared.lines.LineItem.{LineItem}
 use Rattle.psg_deflines.specs.declared.lines.Line.{Line}
 use Rattle.psg_deflines.specs.declared.lines.Line.TheVariants as lines
 use Rattle.psg_deftext.proofs.JoinParts.{line-parts}
-use Rattle.psg_deftext.proofs.OnceTerms.{code, IsClosed, first-append, first-closed, term-first, term-once, terms-once}
+use Rattle.psg_deftext.proofs.OnceTerms.{code, IsClosed, first-closed, term-first, term-once, terms-once}
 use Rattle.psg_deftext.proofs.OnceTrees.{tree-once}
 use Rattle.psg_deftext.proofs.OnceQuotes.{quote-once}
 use Rattle.psg_deftext.proofs.OnceParts.{parts-once}
@@ -70,14 +70,16 @@ by-once (Some v) None h k e = cc
 by-once (Some v) (Some w) h k e = ap Some (tree-once v w h k (ap rest_of e))
 
 -- a term, and a specimen behind it
-shown-once : (t u : WrittenTerm) (v w : Option WrittenTree) → HasTermForm t → HasTermForm u → HasFormBehindBy v → HasFormBehindBy w
+shown-once : (t u : WrittenTerm) (v w : Option WrittenTree) → HasTermForm t → HasTermForm u → HasFormBehindBy v
+    → HasFormBehindBy w
     → term_parts t ++ by_parts v ≡ term_parts u ++ by_parts w → (t ≡ u) × (v ≡ w)
 shown-once t u v w h k f g e =
     let both = term-once t u (by_parts v) (by_parts w) h k (by-closed v) (by-closed w) e in
     (both.0, by-once v w f g both.1)
 
 term-alone : (t u : WrittenTerm) → HasTermForm t → HasTermForm u → term_parts t ≡ term_parts u → t ≡ u
-term-alone t u h k e = (term-once t u [] [] h k tt tt (append-nil (term_parts t) ∙ e ∙ sym (append-nil (term_parts u)))).0
+term-alone t u h k e = (term-once t u [] [] h k tt tt
+    (append-nil (term_parts t) ∙ e ∙ sym (append-nil (term_parts u)))).0
 
 columns-closed : (ts : List WrittenTerm) → IsClosed (columns_parts ts)
 columns-closed [] = tt
@@ -127,11 +129,14 @@ list-once n s x w l u (lines.List m t y v k c) h g f e =
     let elem : x ≡ y = ap (λ ps. first_of (fifth ps)) e in
     let quote : quoted_part w ≡ quoted_part v = ap (λ ps. first_of (rest_of (fifth ps))) e in
     let word : w ≡ v =
-    (quote-once w v [] [] h.3.utf8 g.3.utf8 (append-nil (quoted_part w) ∙ quote ∙ sym (append-nil (quoted_part v)))).0 in
+    (quote-once w v [] [] h.3.utf8 g.3.utf8
+    (append-nil (quoted_part w) ∙ quote ∙ sym (append-nil (quoted_part v)))).0 in
     let on : l ≡ k =
-    choice-once l k (codes "lines") (codes "inline") (λ d. absurd (omega (arith, d))) (ap (λ ps. first_of (rest_of (rest_of (fifth ps)))) e) in
+    choice-once l k (codes "lines") (codes "inline") (λ d. absurd (omega (arith, d)))
+    (ap (λ ps. first_of (rest_of (rest_of (fifth ps)))) e) in
     let end : u ≡ c =
-    choice-once u c (codes "unfinished") (codes "fixed") (λ d. absurd (omega (arith, d))) (ap (λ ps. first_of (rest_of (rest_of (rest_of (fifth ps))))) e) in
+    choice-once u c (codes "unfinished") (codes "fixed") (λ d. absurd (omega (arith, d)))
+    (ap (λ ps. first_of (rest_of (rest_of (rest_of (fifth ps))))) e) in
     ap₂ (λ a b. lines.List a b x w l u) name sort ∙ ap₂ (λ a b. lines.List m t a b l u) elem word
     ∙ ap₂ (λ a b. lines.List m t y v a b) on end
 list-once n s x w l u _ h g f e = absurd (omega (arith, f))
@@ -148,7 +153,8 @@ header-once a c l m (i ∷ ms) (j ∷ ns) p q h k e =
     let level = level-once l m (item_part i) (item_part j) (map item_part ms) (map item_part ns) scope.1 in
     (scope.0, level.0, items-once (i ∷ ms) (j ∷ ns) h k level.1)
 
-operator-once : (n k : Name) (s : Bool) (l : Level) (ms : List LineItem) (b : Line) → HasForm (lines.Operator n k s l ms) → HasForm b
+operator-once : (n k : Name) (s : Bool) (l : Level) (ms : List LineItem) (b : Line)
+    → HasForm (lines.Operator n k s l ms) → HasForm b
     → form_of b ≡ form_of (lines.Operator n k s l ms) → parts_of (lines.Operator n k s l ms) ≡ parts_of b
     → lines.Operator n k s l ms ≡ b
 operator-once n k s l ms (lines.Operator m j t d ns) h g f e =
@@ -162,7 +168,8 @@ operator-once n k s l ms _ h g f e = absurd (omega (arith, f))
 row-once : (t : WrittenTerm) (ts : List WrittenTerm) (b : Line) → HasForm (lines.Row t ts) → HasForm b
     → form_of b ≡ form_of (lines.Row t ts) → parts_of (lines.Row t ts) ≡ parts_of b → lines.Row t ts ≡ b
 row-once t ts (lines.Row u us) h k f e =
-    let both = term-once t u (columns_parts ts) (columns_parts us) h.0 k.0 (columns-closed ts) (columns-closed us) (ap rest_of e) in
+    let both = term-once t u (columns_parts ts) (columns_parts us) h.0 k.0 (columns-closed ts) (columns-closed us)
+    (ap rest_of e) in
     ap₂ lines.Row both.0 (columns-once ts us h.1 k.1 both.1)
 row-once t ts _ h k f e = absurd (omega (arith, f))
 
@@ -180,7 +187,8 @@ cell-once n t u v (lines.Cell m x y z) h k f e =
     h.1 k.1 refl refl (ap (λ ps. rest_of (rest_of ps)) e) in
     let next = term-once u y (term_parts v) (term_parts z) h.2 k.2 (first-closed _ (term-first v h.3).0)
     (first-closed _ (term-first z k.3).0) (ap rest_of first.1) in
-    ap₂ (λ a b. lines.Cell a b u v) name first.0 ∙ ap₂ (λ a b. lines.Cell m x a b) next.0 (term-alone v z h.3 k.3 next.1)
+    ap₂ (λ a b. lines.Cell a b u v) name first.0
+    ∙ ap₂ (λ a b. lines.Cell m x a b) next.0 (term-alone v z h.3 k.3 next.1)
 cell-once n t u v _ h k f e = absurd (omega (arith, f))
 
 hole-once : (n : Name) (t : WrittenTerm) (w : Option WrittenTree) (b : Line) → HasForm (lines.Hole n t w) → HasForm b
@@ -201,10 +209,12 @@ case-once t w (lines.Case u x) h k f e =
 case-once t w _ h k f e = absurd (omega (arith, f))
 
 declare-once : (n : Name) (t u : WrittenTerm) (w : WrittenTree) (b : Line) → HasForm (lines.Declare n t u w) → HasForm b
-    → form_of b ≡ form_of (lines.Declare n t u w) → parts_of (lines.Declare n t u w) ≡ parts_of b → lines.Declare n t u w ≡ b
+    → form_of b ≡ form_of (lines.Declare n t u w) → parts_of (lines.Declare n t u w) ≡ parts_of b
+    → lines.Declare n t u w ≡ b
 declare-once n t u w (lines.Declare m x y z) h k f e =
     let name : n ≡ m = ap (λ ps. first_of (rest_of ps)) e in
-    let first = term-once t x (codes ":" ∷ (term_parts u ++ by_parts (Some w))) (codes ":" ∷ (term_parts y ++ by_parts (Some z)))
+    let first = term-once t x (codes ":" ∷ (term_parts u ++ by_parts (Some w)))
+    (codes ":" ∷ (term_parts y ++ by_parts (Some z)))
     h.1 k.1 refl refl (ap (λ ps. rest_of (rest_of ps)) e) in
     let next = shown-once u y (Some w) (Some z) h.2 k.2 h.3 k.3 (ap rest_of first.1) in
     ap₂ (λ a b. lines.Declare a b u w) name first.0 ∙ ap₂ (λ a b. lines.Declare m x a b) next.0 (some-same w z next.1)

@@ -1,5 +1,5 @@
 -- A text has its parts in one way.
-use Rattle.std.proofs.Common.{◌≡◌, ◌≢◌, ◌==◌, ◌&&◌, ◌||◌, ℕ, ◌+◌, ◌<◌, ◌≤◌, Bool, true, false, cond, zero, suc, List, [], ◌∷◌, ◌++◌, replicate, length, codes, inl, inr, refl, ap, ap₂, sym, ◌∙◌, subst, append-nil, arith}
+use Rattle.std.proofs.Common.{◌≡◌, ◌≢◌, ◌==◌, ◌&&◌, ◌||◌, ℕ, ◌<◌, Bool, true, false, cond, zero, suc, List, [], ◌∷◌, ◌++◌, replicate, length, codes, inl, inr, refl, ap, ap₂, sym, ◌∙◌, subst, append-nil, arith}
 use Rattle.std.specs.List.{AllByRecursion, list_all, list_any}
 use Rattle.std.proofs.lemmas.Bool.{and_parts, and_cases, or_cases, or_left, or_right, cases_Bool, eqb-true, false≢true}
 use Rattle.std.proofs.lemmas.List.{append_cancel_left}
@@ -17,7 +17,8 @@ use Rattle.psg_deftext.proofs.OnceQuotes.{quoted-whole, quote-once}
 abbrev tag : ℕ → ℕ
 tag c = cond (goes_on_name c) 0 (cond (is_mark c) 1 (cond (is_sigil c) 2 3))
 
-any-of : (test : ℕ → Bool) (c : ℕ) (ds : List ℕ) → list_any (λ d. c == d) ds ≡ true → list_all test ds ≡ true → test c ≡ true
+any-of : (test : ℕ → Bool) (c : ℕ) (ds : List ℕ) → list_any (λ d. c == d) ds ≡ true → list_all test ds ≡ true
+    → test c ≡ true
 any-of test c [] h k = absurd (false≢true h)
 any-of test c (d ∷ ds) h k =
     let both = and_parts (test d) (list_all test ds) k in
@@ -80,7 +81,8 @@ part-tag : (p : List ℕ) (h : IsPart p) → tag (code p) ≡ kind_of p h
 unfolding kind_of
 part-tag [] (a_word w) = absurd (let k = w.0 in omega (arith, k))
 part-tag (c ∷ cs) (a_word w) =
-    ap (λ b. cond b 0 (cond (is_mark c) 1 (cond (is_sigil c) 2 3))) (and_parts (goes_on_name c) (list_all goes_on_name cs) w.1).0
+    ap (λ b. cond b 0 (cond (is_mark c) 1 (cond (is_sigil c) 2 3)))
+    (and_parts (goes_on_name c) (list_all goes_on_name cs) w.1).0
 part-tag p (a_mark m) = ap (λ x. tag (code x)) m.whole ∙ mark-tag m.mark m.is
 part-tag p (a_sigil s) = ap (λ x. tag (code x)) s.whole ∙ sigil-tag s.sigil s.is
 part-tag p (a_quoted q) = ap (λ x. tag (code x)) (q.whole ∙ quoted-whole q.contents)
@@ -94,7 +96,8 @@ abbrev stops : (ℕ → Bool) → List ℕ → Type 0
 stops test [] = Unit {0}
 stops test (c ∷ cs) = test c ≡ false
 
-run-once : (test : ℕ → Bool) (p q b c : List ℕ) → list_all test p ≡ true → list_all test q ≡ true → stops test b → stops test c
+run-once : (test : ℕ → Bool) (p q b c : List ℕ) → list_all test p ≡ true → list_all test q ≡ true → stops test b
+    → stops test c
     → p ++ b ≡ q ++ c → p ≡ q
 run-once test [] [] b c h k s t e = refl
 run-once test [] (y ∷ q) b c h k s t e =
@@ -105,7 +108,8 @@ run-once test (x ∷ p) (y ∷ q) b c h k s t e =
     let first : x ≡ y = cc in
     let rest : p ++ b ≡ q ++ c = cc in
     ap₂ (λ z zs. z ∷ zs) first
-    (run-once test p q b c (and_parts (test x) (list_all test p) h).1 (and_parts (test y) (list_all test q) k).1 s t rest)
+    (run-once test p q b c (and_parts (test x) (list_all test p) h).1 (and_parts (test y) (list_all test q) k).1 s t
+    rest)
 
 plain-word : (c : ℕ) → is_plain c ≡ true → goes_on_name c ≡ true
 plain-word c h = or_left (is_upper c || is_lower c || is_digit c) (c == 95) h
@@ -134,9 +138,11 @@ behind-stop s (c ∷ cs) h = elim (cases_Bool (goes_behind s c)) [
 ends-run : (run : List ℕ) → 0 < length run → list_all goes_on_name run ≡ true → ends_word run ≡ true
 ends-run [] h k = absurd (omega (arith, h))
 ends-run (c ∷ []) h k = (and_parts (goes_on_name c) true k).0
-ends-run (c ∷ d ∷ cs) h k = ends-run (d ∷ cs) (omega arith) (and_parts (goes_on_name c) (list_all goes_on_name (d ∷ cs)) k).1
+ends-run (c ∷ d ∷ cs) h k = ends-run (d ∷ cs) (omega arith)
+    (and_parts (goes_on_name c) (list_all goes_on_name (d ∷ cs)) k).1
 
-ends-behind : (s d : ℕ) (run : List ℕ) → 0 < length run → list_all (goes_behind s) run ≡ true → ends_word (d ∷ run) ≡ true
+ends-behind : (s d : ℕ) (run : List ℕ) → 0 < length run → list_all (goes_behind s) run ≡ true
+    → ends_word (d ∷ run) ≡ true
 ends-behind s d [] h k = absurd (omega (arith, h))
 ends-behind s d (c ∷ []) h k = behind-word s c (and_parts (goes_behind s c) true k).0
 ends-behind s d (c ∷ e ∷ run) h k =
@@ -153,7 +159,8 @@ apart-stops p b h k = elim (and_cases (ends_word p) (begins_word b) k) [
 module _ (p q b c : List ℕ) (same : p ++ b ≡ q ++ c) (before : IsApart p b) (behind : IsApart q c) where
   other-kinds : (h : IsPart p) (k : IsPart q) → (kind_of p h ≡ kind_of q k → ⊥) → p ≡ q
   other-kinds h k differ =
-      let codes-same : code p ≡ code q = sym (code-append p b (part-byte p h)) ∙ ap code same ∙ code-append q c (part-byte q k) in
+      let codes-same : code p ≡ code q = sym (code-append p b (part-byte p h)) ∙ ap code same
+      ∙ code-append q c (part-byte q k) in
       absurd (differ (sym (part-tag p h) ∙ ap tag codes-same ∙ part-tag q k))
 
   first-once : IsPart p → IsPart q → p ≡ q
@@ -166,13 +173,15 @@ module _ (p q b c : List ℕ) (same : p ++ b ≡ q ++ c) (before : IsApart p b) 
       let mark : m.mark ≡ n.mark = cc in
       m.whole ∙ ap (λ x. x ∷ []) mark ∙ sym n.whole
   first-once (a_sigil s) (a_sigil r) =
-      let whole : s.sigil ∷ (s.name ++ b) ≡ r.sigil ∷ (r.name ++ c) = sym (ap (λ x. x ++ b) s.whole) ∙ same ∙ ap (λ x. x ++ c) r.whole in
+      let whole : s.sigil ∷ (s.name ++ b) ≡ r.sigil ∷ (r.name ++ c) =
+      sym (ap (λ x. x ++ b) s.whole) ∙ same ∙ ap (λ x. x ++ c) r.whole in
       let sigil : s.sigil ≡ r.sigil = cc in
       let rest : s.name ++ b ≡ r.name ++ c = cc in
       let left = apart-stops p b (ap ends_word s.whole ∙ ends-behind s.sigil s.sigil s.name s.long s.run) before in
       let right = apart-stops q c (ap ends_word r.whole ∙ ends-behind r.sigil r.sigil r.name r.long r.run) behind in
       let run = subst (λ x. list_all (goes_behind x) r.name ≡ true) (sym sigil) r.run in
-      let name = run-once (goes_behind s.sigil) s.name r.name b c s.run run (behind-stop s.sigil b left) (behind-stop s.sigil c right) rest in
+      let name = run-once (goes_behind s.sigil) s.name r.name b c s.run run (behind-stop s.sigil b left)
+      (behind-stop s.sigil c right) rest in
       s.whole ∙ ap₂ (λ x xs. x ∷ xs) sigil name ∙ sym r.whole
   first-once (a_quoted x) (a_quoted y) =
       let whole = sym (ap (λ z. z ++ b) x.whole) ∙ same ∙ ap (λ z. z ++ c) y.whole in
@@ -208,7 +217,8 @@ spaces-once zero (suc m) r q h k e =
     let f : h.first ∷ h.rest ≡ 32 ∷ (replicate m 32 ++ q) = sym h.whole ∙ e in absurd (h.no_space (cc))
 spaces-once (suc n) zero r q h k e =
     let f : k.first ∷ k.rest ≡ 32 ∷ (replicate n 32 ++ r) = sym k.whole ∙ sym e in absurd (k.no_space (cc))
-spaces-once (suc n) (suc m) r q h k e = spaces-once n m r q h k (let f : replicate n 32 ++ r ≡ replicate m 32 ++ q = cc in f)
+spaces-once (suc n) (suc m) r q h k e =
+    spaces-once n m r q h k (let f : replicate n 32 ++ r ≡ replicate m 32 ++ q = cc in f)
 
 byte-spaces : (n : ℕ) (r : List ℕ) → HasByte r → [] ≡ replicate n 32 ++ r → ⊥
 byte-spaces zero r h e = let f : [] ≡ h.first ∷ h.rest = e ∙ h.whole in cc
@@ -232,7 +242,8 @@ parts-once (p ∷ []) (q ∷ r ∷ qs) t h k w (m, rest, e, apart, v) =
     let b = replicate m 32 ++ rest in
     let whole : p ++ [] ≡ q ++ b = append-nil p ∙ sym w ∙ e in
     let first = first-once p q [] b whole (and-false (ends_word p)) apart h.0 k.0 in
-    absurd (byte-spaces m rest (written-byte r qs rest k.1.0 v) (no-more p b (sym w ∙ e ∙ ap (λ x. x ++ b) (sym first))))
+    absurd (byte-spaces m rest (written-byte r qs rest k.1.0 v)
+    (no-more p b (sym w ∙ e ∙ ap (λ x. x ++ b) (sym first))))
   where
     and-false : (x : Bool) → (x && false) ≡ false
     and-false true = refl

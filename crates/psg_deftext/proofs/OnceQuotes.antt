@@ -1,5 +1,5 @@
 -- A quoted text is told from its bytes, and what stands behind it.
-use Rattle.std.proofs.Common.{◌≡◌, ◌≢◌, ◌==◌, ℕ, ◌+◌, ◌<◌, Bool, true, false, cond, suc, List, [], ◌∷◌, ◌++◌, get_or, length, append_assoc, append-nil, inl, inr, refl, ap, sym, ◌∙◌, subst, arith}
+use Rattle.std.proofs.Common.{◌≡◌, ◌≢◌, ◌==◌, ℕ, ◌<◌, Bool, true, false, cond, suc, List, [], ◌∷◌, ◌++◌, get_or, length, append_assoc, append-nil, inl, inr, refl, ap, sym, ◌∙◌, subst, arith}
 use Rattle.std.specs.Prelude.{chars, encode_utf8, encode_utf8_all, IsUtf8}
 use Rattle.std.proofs.lemmas.Bool.Decides.{eqb_tells}
 use Rattle.std.proofs.lemmas.Str.{encodes-chars, encodes-append, encode_ascii, inside_one}
@@ -64,12 +64,14 @@ character c rest =
   where
     written : (d : ℕ) → d < 128 → encode_utf8_all (92 ∷ d ∷ []) ≡ 92 ∷ d ∷ []
     written d h =
-        ap (λ bs. bs ++ encode_utf8_all (d ∷ [])) (encode_ascii 92 (omega arith)) ∙ ap (λ bs. 92 ∷ bs ++ []) (encode_ascii d h)
+        ap (λ bs. bs ++ encode_utf8_all (d ∷ [])) (encode_ascii 92 (omega arith))
+        ∙ ap (λ bs. 92 ∷ bs ++ []) (encode_ascii d h)
 
     plain : c ≢ 34 → c ≢ 92
         → unquote false (encode_utf8_all (c ∷ []) ++ rest) ≡ with_bytes (encode_utf8 c) (unquote false rest)
     plain p q =
-        subst (λ bs. unquote false (bs ++ rest) ≡ with_bytes (encode_utf8 c) (unquote false rest)) (sym (append-nil (encode_utf8 c)))
+        subst (λ bs. unquote false (bs ++ rest) ≡ with_bytes (encode_utf8 c) (unquote false rest))
+        (sym (append-nil (encode_utf8 c)))
         (passes (encode_utf8 c) rest (encode_plain c p q))
 
     two : (d e : ℕ) → d < 128 → e < 128 → unescaped d ≡ e

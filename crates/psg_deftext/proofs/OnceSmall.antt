@@ -1,13 +1,13 @@
 -- Constructors, levels and items are told from their parts.
-use Rattle.std.proofs.Common.{◌≡◌, ◌==◌, ◌&&◌, ℕ, ◌+◌, ◌-◌, ◌*◌, ◌≤◌, ◌<◌, Bool, true, false, cond, List, [], ◌∷◌, ◌++◌, length, get_or, map, codes, append_assoc, refl, ap, ap₂, sym, ◌∙◌, subst, arith}
-use Rattle.std.specs.List.{AllByRecursion, list_all}
-use Rattle.std.proofs.lemmas.Bool.{and_parts, false≢true}
+use Rattle.std.proofs.Common.{◌≡◌, ◌==◌, ℕ, ◌+◌, ◌-◌, ◌*◌, Bool, true, false, cond, List, [], ◌∷◌, ◌++◌, length, get_or, map, codes, refl, ap, ap₂, sym, ◌∙◌, subst, arith}
+use Rattle.std.specs.List.{AllByRecursion}
+use Rattle.std.proofs.lemmas.Bool.{false≢true}
 use Rattle.psg_terms.specs.Names.{Name}
 use Rattle.psg_terms.specs.declared.declare.ConDecl.{ConDecl}
-use Rattle.psg_grammar.specs.Sound.{is_upper, goes_on_name, IsKindName, IsOwnName, IsLevel}
+use Rattle.psg_grammar.specs.Sound.{is_upper, IsKindName, IsOwnName}
 use Rattle.psg_grammar.specs.declared.types.Level.{Level}
 use Rattle.psg_grammar.specs.declared.types.Level.TheVariants as levels
-use Rattle.psg_deflines.specs.WrittenTrees.{IsQuotable, quoted_part}
+use Rattle.psg_deflines.specs.WrittenTrees.{quoted_part}
 use Rattle.psg_deflines.specs.Forms.{closed_names, argument_parts, constructor_parts, word_if, level_parts, item_part, HasConstructorForm, HasItemForm}
 use Rattle.psg_deflines.specs.TermWalks.{Parts}
 use Rattle.psg_deflines.specs.declared.lines.LineItem.{LineItem}
@@ -44,8 +44,10 @@ closed-once : (n m : Name) (ns ms : List Name) (r q : Parts) → closed_names (n
 closed-once n m [] [] r q e =
     let same : n ≡ m = ap first_of e in
     (ap (λ x. x ∷ []) same, ap (λ l. rest_of (rest_of l)) e)
-closed-once n m [] (k ∷ ms) r q e = absurd (let f : 41 ≡ 44 = ap (λ l. code (first_of (rest_of l))) e in omega (arith, f))
-closed-once n m (k ∷ ns) [] r q e = absurd (let f : 44 ≡ 41 = ap (λ l. code (first_of (rest_of l))) e in omega (arith, f))
+closed-once n m [] (k ∷ ms) r q e =
+    absurd (let f : 41 ≡ 44 = ap (λ l. code (first_of (rest_of l))) e in omega (arith, f))
+closed-once n m (k ∷ ns) [] r q e =
+    absurd (let f : 44 ≡ 41 = ap (λ l. code (first_of (rest_of l))) e in omega (arith, f))
 closed-once n m (k ∷ ns) (l ∷ ms) r q e =
     let behind = closed-once k l ns ms r q (ap (λ x. rest_of (rest_of x)) e) in
     (ap₂ (λ x xs. x ∷ xs) (ap first_of e) behind.0, behind.1)
@@ -57,15 +59,18 @@ arguments-once [] (y ∷ ys) r q h k e = absurd (false≢true (sym (subst IsClos
 arguments-once (x ∷ xs) [] r q h k e = absurd (false≢true (sym (subst IsClosed (sym e) k)))
 arguments-once (x ∷ xs) (y ∷ ys) r q h k e = closed-once x y xs ys r q (ap rest_of e)
 
-pub constructors-once : (cs ds : List ConDecl) → AllByRecursion HasConstructorForm cs → AllByRecursion HasConstructorForm ds
+pub constructors-once : (cs ds : List ConDecl) → AllByRecursion HasConstructorForm cs
+    → AllByRecursion HasConstructorForm ds
     → constructor_parts cs ≡ constructor_parts ds → cs ≡ ds
 constructors-once [] [] h k e = refl
 constructors-once [] (d ∷ ds) h k e = cc
 constructors-once (c ∷ cs) [] h k e = cc
 constructors-once (c ∷ cs) (d ∷ ds) h k e =
     let name : c.name ≡ d.name = ap first_of e in
-    let both = arguments-once c.args d.args (constructor_parts cs) (constructor_parts ds) (cons-closed cs h.1) (cons-closed ds k.1) (ap rest_of e) in
-    ap₂ (λ x xs. x ∷ xs) (ap₂ (λ n sorts. record { name = n; args = sorts }) name both.0) (constructors-once cs ds h.1 k.1 both.1)
+    let both = arguments-once c.args d.args (constructor_parts cs) (constructor_parts ds) (cons-closed cs h.1)
+    (cons-closed ds k.1) (ap rest_of e) in
+    ap₂ (λ x xs. x ∷ xs) (ap₂ (λ n sorts. record { name = n; args = sorts }) name both.0)
+    (constructors-once cs ds h.1 k.1 both.1)
 
 -- ---- words that stand or not
 
@@ -131,7 +136,8 @@ no-scope (levels.InfixRight n) ps = refl
 no-scope (levels.InfixNone n) ps = refl
 
 pub scope-once : (a b : Bool) (l m : Level) (ps qs : Parts)
-    → word_if a (codes "scope") ++ (level_parts l ++ (codes "=" ∷ ps)) ≡ word_if b (codes "scope") ++ (level_parts m ++ (codes "=" ∷ qs))
+    → word_if a (codes "scope") ++ (level_parts l ++ (codes "=" ∷ ps)) ≡ word_if b
+    (codes "scope") ++ (level_parts m ++ (codes "=" ∷ qs))
     → (a ≡ b) × (level_parts l ++ (codes "=" ∷ ps) ≡ level_parts m ++ (codes "=" ∷ qs))
 scope-once true true l m ps qs e = (refl, ap rest_of e)
 scope-once false false l m ps qs e = (refl, e)
@@ -155,7 +161,8 @@ word_item k =
     (cond (k == word_key (codes "in")) items.In items.Out)))))))
 
 abbrev item_of : List ℕ → LineItem
-item_of p = cond (code p == 34) (items.Word (read_quote p).0) (cond (is_upper (code p)) (items.Slot p) (word_item (word_key p)))
+item_of p = cond (code p == 34) (items.Word (read_quote p).0)
+    (cond (is_upper (code p)) (items.Slot p) (word_item (word_key p)))
 
 item-read : (i : LineItem) → HasItemForm i → item_of (item_part i) ≡ i
 item-read (items.Word w) h = quoted w (quoted_part w) _ (quoted-whole w) ∙ ap items.Word (quote-alone w h.utf8)
@@ -169,7 +176,8 @@ item-read (items.Slot k) h = kind k h
     kind (c ∷ cs) k =
         let first = kind-first c cs k in
         let low = upper-low c first in
-        ap (λ b. cond b (items.Word (read_quote (c ∷ cs)).0) (cond (is_upper c) (items.Slot (c ∷ cs)) (word_item (word_key (c ∷ cs)))))
+        ap (λ b. cond b (items.Word (read_quote (c ∷ cs)).0)
+        (cond (is_upper c) (items.Slot (c ∷ cs)) (word_item (word_key (c ∷ cs)))))
         (apart c 34 (λ e. absurd (omega (arith, low, e))))
         ∙ ap (λ b. cond b (items.Slot (c ∷ cs)) (word_item (word_key (c ∷ cs)))) first
 item-read items.Refers h = refl

@@ -1,5 +1,5 @@
 -- A term is told from its parts, and what stands behind it.
-use Rattle.std.proofs.Common.{◌≡◌, ◌==◌, ℕ, ◌≤◌, ◌<◌, Bool, true, false, cond, List, [], ◌∷◌, ◌++◌, codes, append-nil, append_assoc, refl, ap, ap₂, sym, ◌∙◌, subst, inl, inr, arith}
+use Rattle.std.proofs.Common.{◌≡◌, ◌==◌, ℕ, ◌≤◌, true, false, cond, List, [], ◌∷◌, ◌++◌, codes, append-nil, append_assoc, refl, ap, ap₂, sym, ◌∙◌, subst, inl, inr, arith}
 use Rattle.std.specs.List.{AllByRecursion, list_all}
 use Rattle.std.specs.Prelude.{nat_le, ◌&&◌}
 use Rattle.std.proofs.lemmas.Bool.{and_parts, false≢true, leb-true}
@@ -35,7 +35,8 @@ abbrev pub begun : List ℕ → WrittenTerm
 begun [] = named []
 begun (c ∷ cs) = cond (c == 63) (variable cs) (named (c ∷ cs))
 
--- A term is to begin, or one has ended, inside the open ones from the innermost on; or the whole term has, and this stands
+-- A term is to begin, or one has ended, inside the open ones from the innermost on; or the whole term has, and this
+-- stands
 -- behind it.
 pub data Stage : Type 0 where
   expects : (fs : List WrittenTerm) → Stage
@@ -74,7 +75,8 @@ module _ {S : Type 0} (move : S → List ℕ → S) (at : Stage → S)
     → move (at (has (f ∷ fs) t)) (codes ")") ≡ at (has fs (apply f t))) where
   pub record TermRun (t : WrittenTerm) : Type 0 where
     pub whole : (fs : List WrittenTerm) → run move (at (expects fs)) (term_parts t) ≡ at (has fs t)
-    pub before : is_head t ≡ true → (fs : List WrittenTerm) → run move (at (expects fs)) (opened t) ≡ at (expects (t ∷ fs))
+    pub before : is_head t ≡ true → (fs : List WrittenTerm)
+        → run move (at (expects fs)) (opened t) ≡ at (expects (t ∷ fs))
 
   pub term-run : (t : WrittenTerm) → HasTermForm t → TermRun t
   term-run (variable n) h = record { whole = λ fs. begin fs (63 ∷ n); before = λ e. absurd (false≢true e) }
@@ -121,7 +123,8 @@ result (past t r) = (t, r)
 
 term-result : (t : WrittenTerm) (r : Parts) → HasTermForm t → IsClosed r
     → result (run step (expects []) (term_parts t ++ r)) ≡ (t, r)
-term-result t [] h k = ap (λ ps. result (run step (expects []) ps)) (append-nil (term_parts t)) ∙ ap result (term-whole t h)
+term-result t [] h k = ap (λ ps. result (run step (expects []) ps)) (append-nil (term_parts t))
+    ∙ ap result (term-whole t h)
 term-result t (p ∷ ps) h k =
     ap result (
     run-append step (term_parts t) (p ∷ ps) (expects []) ∙ ap (λ s. run step s (p ∷ ps)) (term-whole t h)
@@ -131,7 +134,8 @@ term-result t (p ∷ ps) h k =
 pub term-once : (t u : WrittenTerm) (r q : Parts) → HasTermForm t → HasTermForm u → IsClosed r → IsClosed q
     → term_parts t ++ r ≡ term_parts u ++ q → (t ≡ u) × (r ≡ q)
 term-once t u r q h k a b e =
-    let same : (t, r) ≡ (u, q) = sym (term-result t r h a) ∙ ap (λ ps. result (run step (expects []) ps)) e ∙ term-result u q k b in
+    let same : (t, r) ≡ (u, q) = sym (term-result t r h a) ∙ ap (λ ps. result (run step (expects []) ps)) e
+    ∙ term-result u q k b in
     (ap (λ x. x.0) same, ap (λ x. x.1) same)
 
 -- ---- terms in a row
@@ -183,7 +187,8 @@ not-empty xs h e = let both : [] ≡ h.first ∷ h.rest = e ∙ h.whole in cc
 pub terms-once : (ts us : List WrittenTerm) → AllByRecursion HasTermForm ts → AllByRecursion HasTermForm us
     → terms_parts ts ≡ terms_parts us → ts ≡ us
 terms-once [] [] h k e = refl
-terms-once [] (u ∷ us) h k e = absurd (not-empty _ (first-append (term_parts u) (terms_parts us) (term-first u k.0).0) e)
+terms-once [] (u ∷ us) h k e =
+    absurd (not-empty _ (first-append (term_parts u) (terms_parts us) (term-first u k.0).0) e)
 terms-once (t ∷ ts) [] h k e =
     absurd (not-empty _ (first-append (term_parts t) (terms_parts ts) (term-first t h.0).0) (sym e))
 terms-once (t ∷ ts) (u ∷ us) h k e =

@@ -1,22 +1,23 @@
 -- A specimen is told from its parts.
-use Rattle.std.proofs.Common.{◌≡◌, ◌==◌, ◌&&◌, ◌⊎◌, ℕ, ◌≤◌, ◌<◌, Bool, true, false, cond, List, [], ◌∷◌, ◌++◌, codes, inl, inr, refl, ap, sym, ◌∙◌, subst, arith}
+use Rattle.std.proofs.Common.{◌≡◌, ◌==◌, ◌&&◌, ◌⊎◌, ℕ, ◌≤◌, Bool, true, false, cond, List, [], ◌∷◌, ◌++◌, codes, inl, inr, refl, ap, sym, ◌∙◌, subst, arith}
 use Rattle.std.specs.List.{list_all}
 use Rattle.std.specs.Prelude.{nat_le}
 use Rattle.std.proofs.lemmas.Bool.{and_parts, false≢true, leb-true}
 use Rattle.std.proofs.lemmas.Bool.Decides.{nat_tests}
 use Rattle.psg_terms.specs.Names.{Name}
 use Rattle.psg_grammar.specs.Sound.{is_digit, is_lower, is_upper, goes_on_name, IsKindName, IsOwnName}
-use Rattle.psg_deflines.specs.WrittenTerms.{WrittenTerm, apply, term_parts, HasTermForm}
+use Rattle.psg_deflines.specs.WrittenTerms.{WrittenTerm, term_parts, HasTermForm}
 use Rattle.psg_deflines.specs.WrittenTrees.{WrittenTree, operator, with_tree, with_name, with_number, with_text, list_end, list_rest, element, place, quoted_part, is_digits, IsQuotable, place_parts, tree_parts, opened, follow, is_front, is_list, HasTreeForm}
 use Rattle.psg_deflines.specs.TreeShapes.{list_of}
-use Rattle.psg_deflines.specs.TermWalks.{Parts}
 use Rattle.psg_deflines.specs.TreeWalks.{TreeFrame, in_operator, in_list}
 use Rattle.psg_deftext.proofs.OnceTerms.{code, apart, lower-low, lower-high, own-first, Stage, expects, has, past, begun, run, run-append, term-run}
 use Rattle.psg_deftext.proofs.OnceTerms as terms
 use Rattle.psg_deftext.proofs.OnceQuotes.{read_quote, quoted-whole, quote-alone}
 
--- Where a walk stands, inside the open ones from the innermost on: a part or an element is to begin; an operator's name was
--- read; a part or an element has ended; a comma is to come behind a place's kind; its term is read; parts behind a bar are to
+-- Where a walk stands, inside the open ones from the innermost on: a part or an element is to begin; an operator's
+-- name was
+-- read; a part or an element has ended; a comma is to come behind a place's kind; its term is read; parts behind a
+-- bar are to
 -- come; the end of a list is to come; or the specimen has ended. A flag tells that a place is the rest of a list.
 pub data State : Type 0 where
   begins : (fs : List TreeFrame) → State
@@ -49,7 +50,8 @@ abbrev after_move : List TreeFrame → List ℕ → State
 after_move [] p = done list_end
 after_move (in_operator f ∷ fs) p = cond (code p == 44) (begins (in_operator f ∷ fs)) (put fs f)
 after_move (in_list es ∷ fs) p =
-    cond (code p == 44) (begins (in_list es ∷ fs)) (cond (code p == 124) (bar (in_list es ∷ fs)) (put fs (list_of list_end es)))
+    cond (code p == 44) (begins (in_list es ∷ fs))
+    (cond (code p == 124) (bar (in_list es ∷ fs)) (put fs (list_of list_end es)))
 
 -- a name, a number or a text
 abbrev add : (WrittenTree → WrittenTree) → List TreeFrame → State
@@ -63,7 +65,8 @@ outer (f ∷ fs) = fs
 
 -- digits, a kind, or an operator
 abbrev word_move : List TreeFrame → ℕ → List ℕ → State
-word_move fs c p = cond (is_digit c) (add (λ f. with_number f p) fs) (cond (is_upper c) (kind_read (outer fs) false p) (named fs p))
+word_move fs c p = cond (is_digit c) (add (λ f. with_number f p) fs)
+    (cond (is_upper c) (kind_read (outer fs) false p) (named fs p))
 
 abbrev begin_move : List TreeFrame → List ℕ → State
 begin_move fs [] = done list_end
@@ -139,10 +142,12 @@ own-begun fs (c ∷ cs) h =
     let high = lower-high c first in
     let digit = lower-no_digit c first in
     let upper = lower-no_upper c first in
-    word-begun fs c cs (apart c 91 (λ e. absurd (omega (arith, low, e)))) (apart c 93 (λ e. absurd (omega (arith, low, e))))
+    word-begun fs c cs (apart c 91 (λ e. absurd (omega (arith, low, e))))
+    (apart c 93 (λ e. absurd (omega (arith, low, e))))
     (apart c 124 (λ e. absurd (omega (arith, high, e)))) (apart c 36 (λ e. absurd (omega (arith, low, e))))
     (apart c 34 (λ e. absurd (omega (arith, low, e))))
-    ∙ ap (λ b. cond b (add (λ f. with_number f (c ∷ cs)) fs) (cond (is_upper c) (kind_read (outer fs) false (c ∷ cs)) (named fs (c ∷ cs)))) digit
+    ∙ ap (λ b. cond b (add (λ f. with_number f (c ∷ cs)) fs)
+    (cond (is_upper c) (kind_read (outer fs) false (c ∷ cs)) (named fs (c ∷ cs)))) digit
     ∙ ap (λ b. cond b (kind_read (outer fs) false (c ∷ cs)) (named fs (c ∷ cs))) upper
 
 kind-begun : (fs : List TreeFrame) (k : List ℕ) → IsKindName k → begin_move fs k ≡ kind_read (outer fs) false k
@@ -151,10 +156,12 @@ kind-begun fs (c ∷ cs) h =
     let first = kind-first c cs h in
     let low = upper-low c first in
     let high = upper-high c first in
-    word-begun fs c cs (apart c 91 (λ e. absurd (omega (arith, high, e)))) (apart c 93 (λ e. absurd (omega (arith, high, e))))
+    word-begun fs c cs (apart c 91 (λ e. absurd (omega (arith, high, e))))
+    (apart c 93 (λ e. absurd (omega (arith, high, e))))
     (apart c 124 (λ e. absurd (omega (arith, high, e)))) (apart c 36 (λ e. absurd (omega (arith, low, e))))
     (apart c 34 (λ e. absurd (omega (arith, low, e))))
-    ∙ ap (λ b. cond b (add (λ f. with_number f (c ∷ cs)) fs) (cond (is_upper c) (kind_read (outer fs) false (c ∷ cs)) (named fs (c ∷ cs)))) (upper-no_digit c first)
+    ∙ ap (λ b. cond b (add (λ f. with_number f (c ∷ cs)) fs)
+    (cond (is_upper c) (kind_read (outer fs) false (c ∷ cs)) (named fs (c ∷ cs)))) (upper-no_digit c first)
     ∙ ap (λ b. cond b (kind_read (outer fs) false (c ∷ cs)) (named fs (c ∷ cs))) first
 
 number-begun : (fs : List TreeFrame) (d : List ℕ) → is_digits d ≡ true → begin_move fs d ≡ add (λ f. with_number f d) fs
@@ -163,12 +170,15 @@ number-begun fs (c ∷ cs) h =
     let first = (and_parts (is_digit c) (list_all is_digit cs) h).0 in
     let low = digit-low c first in
     let high = digit-high c first in
-    word-begun fs c cs (apart c 91 (λ e. absurd (omega (arith, high, e)))) (apart c 93 (λ e. absurd (omega (arith, high, e))))
+    word-begun fs c cs (apart c 91 (λ e. absurd (omega (arith, high, e))))
+    (apart c 93 (λ e. absurd (omega (arith, high, e))))
     (apart c 124 (λ e. absurd (omega (arith, high, e)))) (apart c 36 (λ e. absurd (omega (arith, low, e))))
     (apart c 34 (λ e. absurd (omega (arith, low, e))))
-    ∙ ap (λ b. cond b (add (λ f. with_number f (c ∷ cs)) fs) (cond (is_upper c) (kind_read (outer fs) false (c ∷ cs)) (named fs (c ∷ cs)))) first
+    ∙ ap (λ b. cond b (add (λ f. with_number f (c ∷ cs)) fs)
+    (cond (is_upper c) (kind_read (outer fs) false (c ∷ cs)) (named fs (c ∷ cs)))) first
 
-text-begun : (fs : List TreeFrame) (w : List ℕ) → IsQuotable w → begin_move fs (quoted_part w) ≡ add (λ f. with_text f w) fs
+text-begun : (fs : List TreeFrame) (w : List ℕ) → IsQuotable w
+    → begin_move fs (quoted_part w) ≡ add (λ f. with_text f w) fs
 text-begun fs w h =
     quote fs (quoted_part w) _ (quoted-whole w)
     ∙ ap (λ x. add (λ f. with_text f x) fs) (quote-alone w h.utf8)
@@ -195,7 +205,8 @@ term-inside fs r k t h =
 place-run : (fs : List TreeFrame) (k : Name) (t : WrittenTerm) → IsKindName k → HasTermForm t
     → run move (begins fs) (place_parts k t) ≡ put fs (place k t)
 place-run fs k t h f =
-    ap (λ s. run move s (codes "," ∷ term_parts t ++ codes ")" ∷ [])) (kind-begun (in_operator (operator (codes "hole")) ∷ fs) k h)
+    ap (λ s. run move s (codes "," ∷ term_parts t ++ codes ")" ∷ []))
+    (kind-begun (in_operator (operator (codes "hole")) ∷ fs) k h)
     ∙ term-inside fs false k t f
 
 rest-run : (es : List WrittenTree) (fs : List TreeFrame) (k : Name) (t : WrittenTerm) → HasTermForm t
@@ -257,7 +268,8 @@ part-run : (f g : WrittenTree) (part p : List ℕ) (fs : List TreeFrame)
     → begin_move (in_operator f ∷ fs) part ≡ after (in_operator g ∷ fs)
     → run move (begins fs) (opened f ++ part ∷ p ∷ []) ≡ after_move (in_operator g ∷ fs) p
 part-run f g part p fs front is =
-    run-append move (opened f) (part ∷ p ∷ []) (begins fs) ∙ ap (λ s. run move s (part ∷ p ∷ [])) front ∙ ap (λ s. move s p) is
+    run-append move (opened f) (part ∷ p ∷ []) (begins fs) ∙ ap (λ s. run move s (part ∷ p ∷ [])) front
+    ∙ ap (λ s. move s p) is
 
 subtree-run : (f t : WrittenTree) (p : List ℕ) (fs : List TreeFrame) → (code p == 40) ≡ false
     → run move (begins fs) (opened f) ≡ begins (in_operator f ∷ fs)
@@ -265,7 +277,8 @@ subtree-run : (f t : WrittenTree) (p : List ℕ) (fs : List TreeFrame) → (code
     → run move (begins fs) (opened f ++ tree_parts t ++ p ∷ []) ≡ after_move (in_operator (with_tree f t) ∷ fs) p
 subtree-run f t p fs k front tree =
     run-append move (opened f ++ tree_parts t) (p ∷ []) (begins fs)
-    ∙ ap (λ s. move s p) (run-append move (opened f) (tree_parts t) (begins fs) ∙ ap (λ s. run move s (tree_parts t)) front)
+    ∙ ap (λ s. move s p) (run-append move (opened f) (tree_parts t) (begins fs)
+    ∙ ap (λ s. run move s (tree_parts t)) front)
     ∙ sees-move _ (in_operator f ∷ fs) t p tree k
 
 elements-run : (e r : WrittenTree) (es : List WrittenTree) (fs : List TreeFrame) → is_list r ≡ true
@@ -297,14 +310,17 @@ tree-run (with_name f n) h =
     }
 tree-run (with_number f d) h =
     let front = (tree-run f h.1).before h.0 in record {
-      whole = λ fs. inl (part-run f (with_number f d) d (codes ")") fs (front fs) (number-begun (in_operator f ∷ fs) d h.2));
-      before = λ e fs. part-run f (with_number f d) d (codes ",") fs (front fs) (number-begun (in_operator f ∷ fs) d h.2);
+      whole = λ fs. inl (part-run f (with_number f d) d (codes ")") fs (front fs)
+          (number-begun (in_operator f ∷ fs) d h.2));
+      before = λ e fs. part-run f (with_number f d) d (codes ",") fs (front fs)
+          (number-begun (in_operator f ∷ fs) d h.2);
       behind = λ e. absurd (false≢true e);
     }
 tree-run (with_text f w) h =
     let front = (tree-run f h.1).before h.0 in record {
       whole = λ fs.
-          inl (part-run f (with_text f w) (quoted_part w) (codes ")") fs (front fs) (text-begun (in_operator f ∷ fs) w h.2));
+          inl (part-run f (with_text f w) (quoted_part w) (codes ")") fs (front fs)
+          (text-begun (in_operator f ∷ fs) w h.2));
       before = λ e fs.
           part-run f (with_text f w) (quoted_part w) (codes ",") fs (front fs) (text-begun (in_operator f ∷ fs) w h.2);
       behind = λ e. absurd (false≢true e);

@@ -18,7 +18,7 @@ use Rattle.psg_grammar.specs.Specimens.{holes_of, holes_of_part, holes_of_row, h
 use Rattle.psg_grammar.specs.Sound.{IsSound, IsItem, IsListKind, IsOperator, HasKindSort}
 use Rattle.psg_grammar.proofs.SoundParts.{each_at}
 use Rattle.psg_deflines.specs.WrittenTerms.{WrittenTerm}
-use Rattle.psg_deflines.specs.WrittenTrees.{WrittenTree, operator, with_tree, with_name, with_number, with_text, element, place}
+use Rattle.psg_deflines.specs.WrittenTrees.{WrittenTree, operator, with_tree, with_name, with_number, with_text, element}
 use Rattle.psg_deflines.specs.declared.lines.Line.{Line}
 use Rattle.psg_defcheck.specs.Scopes.{Place, kind_place, value_place, is_list, operator_declared}
 use Rattle.psg_defcheck.specs.Meanings.{SortsTerm, KnowsTree, CountsTree, IsPartCount, PartPlace, for_tree, for_name, for_number, for_text, elements_place, TakesParts, SortsTree}

@@ -1,5 +1,5 @@
 -- Sorts and their constructors in order.
-use Rattle.std.proofs.Common.{◌≡◌, ◌==◌, ℕ, ◌+◌, ◌<◌, ◌≤◌, Bool, true, false, cond, zero, suc, List, [], ◌∷◌, ◌++◌, map, take, length, get_or, length-append, refl, ap, ap₂, sym, ◌∙◌, subst, append_assoc, arith}
+use Rattle.std.proofs.Common.{◌≡◌, ◌==◌, ℕ, ◌+◌, ◌<◌, ◌≤◌, true, false, cond, zero, suc, List, [], ◌∷◌, ◌++◌, map, take, length, get_or, length-append, refl, ap, ap₂, sym, ◌∙◌, subst, append_assoc, arith}
 use Rattle.std.specs.List.{AllByRecursion}
 use Rattle.std.proofs.lemmas.List.{take_all, take_more}
 use Rattle.psg_terms.specs.Names.{Name}
@@ -51,7 +51,8 @@ constructors-inside n sort (s ∷ rest) =
     let wider : (c : ℕ) → c < (n + 1) + length rest → c < n + length (s ∷ rest) = λ c h. omega (arith, h) in
     let behind = all-mapped (λ c. c < (n + 1) + length rest) (λ c. c < n + length (s ∷ rest)) wider
     (constructors_from (n + 1) sort rest) (constructors-inside (n + 1) sort rest) in
-    elim (s.sort == sort) as (λ b. AllByRecursion (λ c. c < n + length (s ∷ rest)) (cond b (n ∷ constructors_from (n + 1) sort rest) (constructors_from (n + 1) sort rest))) [
+    elim (s.sort == sort) as (λ b. AllByRecursion (λ c. c < n + length (s ∷ rest))
+    (cond b (n ∷ constructors_from (n + 1) sort rest) (constructors_from (n + 1) sort rest))) [
       | true ↦ (omega arith, behind)
       | false ↦ behind
     ]
@@ -80,9 +81,11 @@ module _ (def : Definition) where
       → constructor_at def (length front) ≡ record { name = s.name; args = map (sort_name def) s.arguments }
   constructor-behind front rest s e =
       let name : constructor_name def (length front) ≡ s.name =
-      ap (λ l. name_at (λ (z : Symbol). z.name) l (length front)) e ∙ name-behind (λ (z : Symbol). z.name) front s rest in
+      ap (λ l. name_at (λ (z : Symbol). z.name) l (length front)) e
+      ∙ name-behind (λ (z : Symbol). z.name) front s rest in
       let args : get_or (map (λ (z : Symbol). z.arguments) def.signature.symbols) (length front) [] ≡ s.arguments =
-      ap (λ l. name_at (λ (z : Symbol). z.arguments) l (length front)) e ∙ name-behind (λ (z : Symbol). z.arguments) front s rest in
+      ap (λ l. name_at (λ (z : Symbol). z.arguments) l (length front)) e
+      ∙ name-behind (λ (z : Symbol). z.arguments) front s rest in
       ap₂ (λ n xs. record { name = n; args = map (sort_name def) xs }) name args
 
   constructors-from : (sort : ℕ) (front rest : List Symbol) → def.signature.symbols ≡ front ++ rest
@@ -90,18 +93,23 @@ module _ (def : Definition) where
   constructors-from sort front [] e = refl
   constructors-from sort front (s ∷ rest) e =
       let size : length front + 1 ≡ length (front ++ s ∷ []) = omega (arith, length-append front (s ∷ [])) in
-      let behind : map (constructor_at def) (constructors_from (length front + 1) sort rest) ≡ constructors_written def sort rest =
+      let behind : map (constructor_at def) (constructors_from (length front + 1) sort rest) ≡ constructors_written
+      def sort rest =
       ap (λ n. map (constructor_at def) (constructors_from n sort rest)) size
       ∙ constructors-from sort (front ++ s ∷ []) rest (e ∙ sym (append_assoc front (s ∷ []) rest)) in
-      elim (s.sort == sort) as (λ b. map (constructor_at def) (cond b (length front ∷ constructors_from (length front + 1) sort rest) (constructors_from (length front + 1) sort rest))
-      ≡ cond b (record { name = s.name; args = map (sort_name def) s.arguments } ∷ constructors_written def sort rest) (constructors_written def sort rest)) [
+      elim (s.sort == sort) as (λ b. map (constructor_at def)
+      (cond b (length front ∷ constructors_from (length front + 1) sort rest)
+      (constructors_from (length front + 1) sort rest))
+      ≡ cond b (record { name = s.name; args = map (sort_name def) s.arguments } ∷ constructors_written def sort
+      rest) (constructors_written def sort rest)) [
         | true ↦ ap₂ (λ x xs. x ∷ xs) (constructor-behind front rest s e) behind
         | false ↦ behind
       ]
 
   pub constructors-are : (sort : ℕ) (ids : List ConId) (i : ℕ) (now : List ConDecl)
       → con_numbers ids ≡ constructors_from 0 sort def.signature.symbols → length ids ≤ i
-      → now ≡ map (constructor_at def) (con_numbers (take i ids)) → now ≡ constructors_written def sort def.signature.symbols
+      → now ≡ map (constructor_at def) (con_numbers (take i ids))
+      → now ≡ constructors_written def sort def.signature.symbols
   constructors-are sort ids i now e l h =
       h ∙ ap (λ xs. map (constructor_at def) (con_numbers xs)) (take_all i ids l) ∙ ap (map (constructor_at def)) e
       ∙ constructors-from sort [] def.signature.symbols refl
@@ -112,7 +120,8 @@ module _ (def : Definition) where
   line_at n name = lines.Sort (record { name = name; constructors = constructors_written def n def.signature.symbols })
 
   sorts-from : (n i : ℕ) (xs : List Name) → i < length xs
-      → sort_lines def n (take (suc i) xs) ≡ sort_lines def n (take i xs) ++ line_at (n + i) (name_at (λ x. x) xs i) ∷ []
+      → sort_lines def n (take (suc i) xs) ≡ sort_lines def n (take i xs) ++ line_at (n + i)
+      (name_at (λ x. x) xs i) ∷ []
   sorts-from n i [] h = absurd (omega (arith, h))
   sorts-from n zero (x ∷ xs) h = let e : n ≡ n + 0 = omega arith in ap (λ m. line_at m x ∷ []) e
   sorts-from n (suc i) (x ∷ xs) h =
@@ -138,5 +147,6 @@ module _ (def : Definition) where
       ∙ ap (λ l. start ++ l) (sym more)
 
   pub sorts-all : (i : ℕ) (start now : List Line) → length def.signature.sorts ≤ i
-      → now ≡ start ++ sort_lines def 0 (take i def.signature.sorts) → now ≡ start ++ sort_lines def 0 def.signature.sorts
+      → now ≡ start ++ sort_lines def 0 (take i def.signature.sorts)
+      → now ≡ start ++ sort_lines def 0 def.signature.sorts
   sorts-all i start now l b = b ∙ ap (λ xs. start ++ sort_lines def 0 xs) (take_all i def.signature.sorts l)

@@ -1,11 +1,11 @@
 -- The layout of a written definition: one line for each thing, in the order of sorts, entity, phyla, lists, operators each with
 -- its rows, nil rows, cell rows, hole rows each with its cases, and declare rows.
-use Rattle.std.specs.Prelude.{ℕ, ◌≡◌, ◌≤◌, ◌+◌, Bool, cond, Option, Some, None, List, [], ◌∷◌, ◌++◌, map, suc, zero, decimal}
+use Rattle.std.specs.Prelude.{ℕ, ◌≡◌, ◌≤◌, ◌+◌, cond, Some, None, List, [], ◌∷◌, ◌++◌, map, suc, zero, decimal}
 use Rattle.std.specs.List.{AllByRecursion}
 use Rattle.std.specs.Str.Lines.{lines as texts_of}
 use Rattle.psg_terms.specs.Names.{Name, is_among}
 use Rattle.psg_deflines.specs.WrittenTerms.{WrittenTerm, variable, named, apply}
-use Rattle.psg_deflines.specs.WrittenTrees.{WrittenTree, place_terms}
+use Rattle.psg_deflines.specs.WrittenTrees.{place_terms}
 use Rattle.psg_deflines.specs.Entries.{AreSpelled}
 use Rattle.psg_deflines.specs.declared.lines.Line.{Line}
 use Rattle.psg_deflines.specs.declared.lines.Line.TheVariants as lines

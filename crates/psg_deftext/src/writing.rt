@@ -23,7 +23,8 @@ fn push_line(alloc: Global, text: &mut String, line: &Line) -> Result<(), AllocE
 
 /// The definition as a text: version, sorts, entity, phyla, lists, operators each with its rows, nil rows, cell rows, hole
 /// rows each with its cases on lines of their own, declare rows; variables are written by their numbers. A definition that was
-/// read from a text is what this text spells, without a fault. It takes time linear in the text.
+/// read from a text is what this text spells, without a fault. It takes time linear in the text, and calls itself as deep as
+/// terms and specimens are nested.
 pub fn definition_text(alloc: Global, definition: &Definition) -> Result<String, AllocError>
     requires { IsSound definition.now }
     ensures inverse { IfOk result (λ text. (bytes : List ℕ) → IsReadAs bytes definition.now → IsReadAs (string_bytes text) definition.now) }

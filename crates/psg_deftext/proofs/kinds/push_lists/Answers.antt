@@ -5,7 +5,8 @@ use Rattle.psg_deftext.proofs.kinds.push_lists.Goals as goal
 
 pub loop-i-preserved : goal.loop-i-preserved
 loop-i-preserved c =
-    pushed (list_line c.args.def.now) c.args.lists.now c.loop-i.i c.index-lists-i.result c.in_ok-line.line c.args.out.now.items
+    pushed (list_line c.args.def.now) c.args.lists.now c.loop-i.i c.index-lists-i.result c.in_ok-line.line
+    c.args.out.now.items
     c.loop-i.out.items c.push.new.self.items c.loop-i-test.true c.index-lists-i.is c.in_ok-line.ensures
     c.in_ok-push.ensures.items c.loop-i.invariant
 

@@ -27,11 +27,20 @@ returns c =
     (map (declare_line c.args.definition.now) c.args.definition.now.declare_rows)
     c.new-out.ensures.items
     c.in_ok-push_sorts.ensures
-    (c.in_ok-push_spaces.ensures ∙ ap (λ xs. c.push_sorts.new.out.items ++ map (entity_line c.args.definition.now) xs) c.as_slice.ensures)
-    (c.in_ok-push_phyla.ensures ∙ ap (λ xs. c.push_spaces.new.out.items ++ map (phylum_line c.args.definition.now) xs) c.as_slice-2.ensures)
-    (c.in_ok-push_lists.ensures ∙ ap (λ xs. c.push_phyla.new.out.items ++ map (list_line c.args.definition.now) xs) c.as_slice-3.ensures)
-    (c.in_ok-push_operators.ensures ∙ ap (λ xs. c.push_lists.new.out.items ++ flat_map (operator_lines c.args.definition.now) xs) c.as_slice-4.ensures)
-    (c.in_ok-push_nils.ensures ∙ ap (λ xs. c.push_operators.new.out.items ++ flat_map (nil_lines c.args.definition.now) xs) c.as_slice-5.ensures)
-    (c.in_ok-push_cells.ensures ∙ ap (λ xs. c.push_nils.new.out.items ++ flat_map (cell_lines c.args.definition.now) xs) c.as_slice-6.ensures)
-    (c.in_ok-push_holes.ensures ∙ ap (λ xs. c.push_cells.new.out.items ++ flat_map (hole_lines c.args.definition.now) xs) c.as_slice-7.ensures)
-    (c.in_ok-push_declares.ensures ∙ ap (λ xs. c.push_holes.new.out.items ++ map (declare_line c.args.definition.now) xs) c.as_slice-8.ensures)
+    (c.in_ok-push_spaces.ensures ∙ ap
+    (λ xs. c.push_sorts.new.out.items ++ map (entity_line c.args.definition.now) xs) c.as_slice.ensures)
+    (c.in_ok-push_phyla.ensures ∙ ap
+    (λ xs. c.push_spaces.new.out.items ++ map (phylum_line c.args.definition.now) xs) c.as_slice-2.ensures)
+    (c.in_ok-push_lists.ensures ∙ ap (λ xs. c.push_phyla.new.out.items ++ map (list_line c.args.definition.now) xs)
+    c.as_slice-3.ensures)
+    (c.in_ok-push_operators.ensures
+    ∙ ap (λ xs. c.push_lists.new.out.items ++ flat_map (operator_lines c.args.definition.now) xs)
+    c.as_slice-4.ensures)
+    (c.in_ok-push_nils.ensures ∙ ap
+    (λ xs. c.push_operators.new.out.items ++ flat_map (nil_lines c.args.definition.now) xs) c.as_slice-5.ensures)
+    (c.in_ok-push_cells.ensures ∙ ap
+    (λ xs. c.push_nils.new.out.items ++ flat_map (cell_lines c.args.definition.now) xs) c.as_slice-6.ensures)
+    (c.in_ok-push_holes.ensures ∙ ap
+    (λ xs. c.push_cells.new.out.items ++ flat_map (hole_lines c.args.definition.now) xs) c.as_slice-7.ensures)
+    (c.in_ok-push_declares.ensures
+    ∙ ap (λ xs. c.push_holes.new.out.items ++ map (declare_line c.args.definition.now) xs) c.as_slice-8.ensures)

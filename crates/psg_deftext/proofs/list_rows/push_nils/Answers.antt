@@ -6,7 +6,8 @@ use Rattle.psg_deftext.proofs.list_rows.push_nils.Goals as goal
 pub loop-i-preserved : goal.loop-i-preserved
 loop-i-preserved c =
     joined (nil_lines c.args.def.now) c.args.lists.now c.loop-i.i c.index-lists-i.result c.args.out.now.items
-    c.loop-i.out.items c.push_list_nils.new.out.items c.loop-i-test.true c.index-lists-i.is c.in_ok-push_list_nils.ensures
+    c.loop-i.out.items c.push_list_nils.new.out.items c.loop-i-test.true c.index-lists-i.is
+    c.in_ok-push_list_nils.ensures
     c.loop-i.invariant
 
 pub returns : goal.returns

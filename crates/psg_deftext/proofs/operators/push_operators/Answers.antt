@@ -5,8 +5,10 @@ use Rattle.psg_deftext.proofs.operators.push_operators.Goals as goal
 
 pub loop-i-preserved : goal.loop-i-preserved
 loop-i-preserved c =
-    joined (operator_lines c.args.def.now) c.args.operators.now c.loop-i.i c.index-operators-i.result c.args.out.now.items
-    c.loop-i.out.items c.push_operator.new.out.items c.loop-i-test.true c.index-operators-i.is c.in_ok-push_operator.ensures
+    joined (operator_lines c.args.def.now) c.args.operators.now c.loop-i.i c.index-operators-i.result
+    c.args.out.now.items
+    c.loop-i.out.items c.push_operator.new.out.items c.loop-i-test.true c.index-operators-i.is
+    c.in_ok-push_operator.ensures
     c.loop-i.invariant
 
 pub returns : goal.returns

@@ -5,7 +5,8 @@ use Rattle.psg_deftext.proofs.operators.push_rows.Goals as goal
 
 pub loop-i-preserved : goal.loop-i-preserved
 loop-i-preserved c =
-    pushed (row_line c.args.def.now) c.args.rows.now c.loop-i.i c.index-rows-i.result c.in_ok-line.line c.args.out.now.items
+    pushed (row_line c.args.def.now) c.args.rows.now c.loop-i.i c.index-rows-i.result c.in_ok-line.line
+    c.args.out.now.items
     c.loop-i.out.items c.push.new.self.items c.loop-i-test.true c.index-rows-i.is c.in_ok-line.ensures
     c.in_ok-push.ensures.items c.loop-i.invariant
 

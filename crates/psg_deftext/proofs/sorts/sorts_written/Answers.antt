@@ -14,4 +14,5 @@ loop-i-preserved c =
 pub returns : goal.returns
 returns c =
     c.loop-i.invariant
-    ∙ ap (λ xs. map (sort_name c.args.def.now) (numbers_of xs)) (take_all c.loop-i.i c.args.sorts.now (omega (arith, c.loop-i-test.false)))
+    ∙ ap (λ xs. map (sort_name c.args.def.now) (numbers_of xs))
+    (take_all c.loop-i.i c.args.sorts.now (omega (arith, c.loop-i-test.false)))

@@ -1,4 +1,4 @@
-use Rattle.std.proofs.Common.{map, ap, ◌∙◌, arith}
+use Rattle.std.proofs.Common.{ap, arith}
 use Rattle.psg_deflines.specs.WrittenTrees.{operator}
 use Rattle.psg_deflines.specs.TreeShapes.{with_parts, list_of, ending}
 use Rattle.psg_deftext.specs.WrittenLines.{tree_written}

@@ -28,7 +28,8 @@ terms_written-term_written-requires t c =
 
 pub terms_written-loop-i-preserved : goal.terms_written-loop-i-preserved
 terms_written-loop-i-preserved t c =
-    mapped (term_written c.args.def.now) c.args.terms.now c.loop-i.i c.index-terms-i.result c.in_ok-one.one c.loop-i.written.items
+    mapped (term_written c.args.def.now) c.args.terms.now c.loop-i.i c.index-terms-i.result c.in_ok-one.one
+    c.loop-i.written.items
     c.push.new.self.items c.loop-i-test.true c.index-terms-i.is c.in_ok-one.ensures c.in_ok-push.ensures.items
     c.loop-i.invariant
 
