@@ -87,9 +87,6 @@ pub record IsLaid (ls : List Line) (text : List ℕ) : Type 0 where
   pub whole : text ≡ fed (head_text ∷ texts)
   pub each : AreTexts ls texts
 
-pub laid-start : (ls : List Line) (text : List ℕ) → text ≡ codes "psg 1\n" → IsLaid (take 0 ls) text
-laid-start ls text e = record { texts = []; whole = e; each = tt }
-
 pub laid-next : (ls : List Line) (i : ℕ) (line : Line) (own before after : List ℕ) → i < length ls
     → line ≡ get_or ls i line → (HasForm line → SpellsLine own line) → after ≡ before ++ (own ++ 10 ∷ [])
     → IsLaid (take i ls) before → IsLaid (take (i + 1) ls) after

@@ -7,13 +7,13 @@ use Rattle.psg_terms.specs.Terms.{Term}
 use Rattle.psg_terms.specs.Terms as terms
 use Rattle.psg_grammar.specs.declared.types.SpecimenHole.{SpecimenHole}
 use Rattle.psg_grammar.specs.declared.types.SpecimenPart.{SpecimenPart}
-use Rattle.psg_grammar.specs.declared.types.Specimen.{Specimen, Op, Op', List as ListOf, List', Hole, Row_of-Specimen, end_of-Specimen, more_of-Specimen, Row_of-SpecimenPart, end_of-SpecimenPart, more_of-SpecimenPart, items-the_row-SpecimenPart, items_hidden-the_row-SpecimenPart-0, items-the_row-Specimen, items_hidden-the_row-Specimen-1}
+use Rattle.psg_grammar.specs.declared.types.Specimen.{Specimen, Op, Op', List as ListOf, List', Row_of-Specimen, end_of-Specimen, more_of-Specimen, Row_of-SpecimenPart, end_of-SpecimenPart, more_of-SpecimenPart, items-the_row-SpecimenPart, items_hidden-the_row-SpecimenPart-0, items-the_row-Specimen, items_hidden-the_row-Specimen-1}
 use Rattle.psg_grammar.specs.declared.types.Definition.{Definition}
 use Rattle.psg_deflines.specs.WrittenTerms.{WrittenTerm, named, applied}
 use Rattle.psg_deflines.specs.WrittenTrees.{WrittenTree, operator, element}
 use Rattle.psg_deflines.specs.TreeShapes.{with_part, with_parts, list_of}
 use Rattle.psg_deflines.specs.declared.trees.LinePart.{LinePart}
-use Rattle.psg_deftext.specs.WrittenLines.{term_written, constructor_name, operator_name, part_written, parts_written, elements_written, end_written, place_written, tree_written}
+use Rattle.psg_deftext.specs.WrittenLines.{term_written, constructor_name, operator_name, part_written, parts_written, elements_written, end_written, tree_written}
 use Rattle.psg_deftext.proofs.PushLaws.{take-next}
 
 module _ (def : Definition) where
@@ -53,9 +53,6 @@ module _ (def : Definition) where
   -- parts as they are written, behind whatever stands in front of them
   abbrev pub AreWritten : List LinePart → List SpecimenPart → Type 0
   AreWritten ws ps = (front : WrittenTree) → with_parts front ws ≡ listed front ps
-
-  pub none-written : (ws : List LinePart) (ps : List SpecimenPart) → ws ≡ [] → AreWritten ws (take 0 ps)
-  none-written ws ps e front = ap (with_parts front) e
 
   pub parts-next : (ps : List SpecimenPart) (i : ℕ) (p : SpecimenPart) (w : LinePart) (before after : List LinePart)
       → i < length ps → p ≡ get_or ps i p → ((front : WrittenTree) → with_part front w ≡ part_written def front p)
@@ -108,7 +105,3 @@ module _ (def : Definition) where
   list-written l kept es rest end ws s w e k stop h a =
       a ∙ ap (λ x. list_of x ws) stop ∙ ap (list_of (end_written def rest)) (h ∙ ap (map (tree_written def)) k)
       ∙ sym (ap (tree_written def) e ∙ list-listed l kept rest)
-
-  pub hole-written : (h : SpecimenHole) (s : Specimen) (w : WrittenTree) → s ≡ Hole h → w ≡ place_written def h
-      → w ≡ tree_written def s
-  hole-written h s w e a = a ∙ sym (ap (tree_written def) e)
