@@ -1,0 +1,145 @@
+-- The lines that write the rows of a definition keep what is said of the lines of its file.
+use Rattle.std.proofs.Common.{◌≡◌, None, List, [], ◌∷◌, map, ap, sym, ◌∙◌, subst}
+use Rattle.std.specs.List.{AllByRecursion}
+use Rattle.psg_terms.specs.Names.{Name}
+use Rattle.psg_terms.specs.Terms.{Term}
+use Rattle.psg_grammar.specs.declared.types.Kind.{Kind}
+use Rattle.psg_grammar.specs.declared.types.Kind.TheVariants as kinds
+use Rattle.psg_grammar.specs.declared.types.Item.{Item}
+use Rattle.psg_grammar.specs.declared.types.Row.{Row}
+use Rattle.psg_grammar.specs.declared.types.ListKind.{ListKind}
+use Rattle.psg_grammar.specs.declared.types.Operator.{Operator}
+use Rattle.psg_grammar.specs.declared.types.Case.{Case}
+use Rattle.psg_grammar.specs.declared.types.HoleRow.{HoleRow}
+use Rattle.psg_grammar.specs.declared.types.DeclareRow.{DeclareRow}
+use Rattle.psg_grammar.specs.declared.types.Definition.{Definition}
+use Rattle.psg_deflines.specs.declared.lines.LineItem.{LineItem}
+use Rattle.psg_deflines.specs.declared.lines.LineItem.TheVariants as items
+use Rattle.psg_deflines.specs.declared.lines.Line.{Line}
+use Rattle.psg_deflines.specs.declared.lines.Line.TheVariants as lines
+use Rattle.psg_defnumber.specs.Numbers.{IsItem, AreItems}
+use Rattle.psg_deflaws.proofs.Lists.{cons-same}
+use Rattle.psg_deftext.specs.WrittenLines.{lines_of, kind_name, sort_lines, entity_line, phylum_line, list_line, item_written, row_line, operator_lines, nil_lines, cell_line, cell_lines, case_line, hole_lines, declare_line, term_written}
+use Rattle.psg_deftext.proofs.NumberAll.{all-mapped}
+use Rattle.psg_deftext.proofs.NumberNames.{name-found}
+use Rattle.psg_deftext.proofs.FormBlocks.{all-lines, mapped, flattened}
+use Rattle.psg_deftext.proofs.FormOrigins.{OfRow, OfOperator, OfNil, OfCell, OfList, OfCase, OfHoleRow, OfDeclareRow, Origins}
+use Rattle.psg_deftext.proofs.FormTrees.{kind-named}
+
+module _ (def : Definition) where
+  -- ---- operators and lists are written by the lines that they come from
+
+  item-same : (w : LineItem) (i : Item) → IsItem def w i → item_written def i ≡ w
+  item-same (items.Word w) i e = ap (item_written def) e
+  item-same (items.Slot n) i (k, is, e) = ap (item_written def) e ∙ ap items.Slot (kind-named def n k is)
+  item-same items.Refers i e = ap (item_written def) e
+  item-same items.Declares i e = ap (item_written def) e
+  item-same items.Number i e = ap (item_written def) e
+  item-same items.Text i e = ap (item_written def) e
+  item-same items.Space i e = ap (item_written def) e
+  item-same items.Tight i e = ap (item_written def) e
+  item-same items.Line i e = ap (item_written def) e
+  item-same items.In i e = ap (item_written def) e
+  item-same items.Out i e = ap (item_written def) e
+
+  items-same : (ws : List LineItem) (all : List Item) → AreItems def ws all → map (item_written def) all ≡ ws
+  items-same [] all e = ap (map (item_written def)) e
+  items-same (w ∷ ws) all (i, rest, e, h, hs) =
+      ap (map (item_written def)) e
+      ∙ cons-same (item_written def i) w (map (item_written def) rest) ws (item-same w i h) (items-same ws rest hs)
+
+  abbrev operator_line : Operator → Line
+  operator_line o =
+      lines.Operator o.name (kind_name def (kinds.Phylum o.phylum)) o.scope o.level (map (item_written def) o.items)
+
+  operator-line : (P : Line → Type 0) (op : Operator) → OfOperator def P op → P (operator_line op)
+  operator-line P op of =
+      let name = of.is.named in
+      let phylum = kind-named def of.phylum (kinds.Phylum op.phylum) of.is.of_phylum in
+      let scope = of.is.same_scope in
+      let level = of.is.same_level in
+      let parts = items-same of.parts op.items of.is.each_item in
+      let same : operator_line op ≡ lines.Operator of.name of.phylum of.scope of.level of.parts =
+      λ i. lines.Operator (name i) (phylum i) (scope i) (level i) (parts i) in
+      subst P (sym same) of.given
+
+  list-line : (P : Line → Type 0) (l : ListKind) → OfList def P l → P (list_line def l)
+  list-line P l of =
+      let name = of.is.named in
+      let sort = name-found (λ (n : Name). n) def.signature.sorts l.sort.0 of.sort of.is.of_sort in
+      let elements = kind-named def of.elements (kinds.Phylum l.element) of.is.of_elements in
+      let separator = of.is.same_separator in
+      let on_lines = of.is.same_lines in
+      let end = of.is.same_end in
+      let same : list_line def l
+      ≡ lines.List of.name of.sort of.elements of.separator of.on_lines of.unfinished =
+      λ i. lines.List (name i) (sort i) (elements i) (separator i) (on_lines i) (end i) in
+      subst P (sym same) of.given
+
+  -- ---- rows keep what is said of the lines that they come from
+
+  pub record Keeps (P : Line → Type 0) : Type 0 where
+    pub row : (row : Row) → OfRow def P row → P (row_line def row)
+    pub nil : (list : Name) (t : Term) → OfNil def P list t → P (lines.Nil list (term_written def t))
+    pub cell : (list : Name) (row : Row) → OfCell def P list row → P (cell_line def list row)
+    pub hole : (row : HoleRow) → OfHoleRow def P row
+        → P (lines.Hole (kind_name def row.kind) (term_written def row.term) None)
+    pub case : (kind : Kind) (one : Case) → OfCase def P kind one → P (case_line def one)
+    pub declare : (row : DeclareRow) → OfDeclareRow def P row → P (declare_line def row)
+
+  module _ (P : Line → Type 0) (keeps : Keeps P) where
+    operator-keeps : (op : Operator) → OfOperator def P op → AllByRecursion P (operator_lines def op)
+    operator-keeps op of = (
+      operator-line P op of,
+      mapped P (row_line def) op.rows
+          (all-mapped (OfRow def P) (λ row. P (row_line def row)) keeps.row op.rows of.rows),
+    )
+
+    nils-keep : (l : ListKind) → OfList def P l → AllByRecursion P (nil_lines def l)
+    nils-keep l of =
+        let line : Term → Line = λ t. lines.Nil l.name (term_written def t) in
+        let name = of.is.named in
+        let own = subst (λ n. AllByRecursion (OfNil def P n) l.nil_rows) (sym name) of.nils in
+        mapped P line l.nil_rows
+        (all-mapped (OfNil def P l.name) (λ t. P (line t)) (keeps.nil l.name) l.nil_rows own)
+
+    cells-keep : (l : ListKind) → OfList def P l → AllByRecursion P (cell_lines def l)
+    cells-keep l of =
+        let name = of.is.named in
+        let own = subst (λ n. AllByRecursion (OfCell def P n) l.cell_rows) (sym name) of.cells in
+        mapped P (cell_line def l.name) l.cell_rows
+        (all-mapped (OfCell def P l.name) (λ row. P (cell_line def l.name row)) (keeps.cell l.name) l.cell_rows own)
+
+    hole-keeps : (row : HoleRow) → OfHoleRow def P row → AllByRecursion P (hole_lines def row)
+    hole-keeps row of = (
+      keeps.hole row of,
+      mapped P (case_line def) row.cases
+          (all-mapped (OfCase def P row.kind) (λ one. P (case_line def one)) (keeps.case row.kind) row.cases of.cases),
+    )
+
+    -- and so all lines, where it is said of the first ones
+    pub lines-keep : Origins def P → AllByRecursion P (sort_lines def 0 def.signature.sorts)
+        → AllByRecursion P (map (entity_line def) def.spaces) → AllByRecursion P (map (phylum_line def) def.phyla)
+        → AllByRecursion P (lines_of def)
+    lines-keep of sorts entities phyla =
+        let lists = all-mapped (OfList def P) (λ l. P (list_line def l)) (list-line P) def.lists of.lists in
+        let operators = all-mapped (OfOperator def P) (λ op. AllByRecursion P (operator_lines def op)) operator-keeps
+        def.operators of.operators in
+        let nils = all-mapped (OfList def P) (λ l. AllByRecursion P (nil_lines def l)) nils-keep def.lists of.lists in
+        let cells = all-mapped (OfList def P) (λ l. AllByRecursion P (cell_lines def l)) cells-keep def.lists
+        of.lists in
+        let holes = all-mapped (OfHoleRow def P) (λ row. AllByRecursion P (hole_lines def row)) hole-keeps
+        def.hole_rows of.hole_rows in
+        let declares = all-mapped (OfDeclareRow def P) (λ row. P (declare_line def row)) keeps.declare
+        def.declare_rows of.declare_rows in
+        all-lines P def (record {
+          sorts = sorts;
+          entities = entities;
+          phyla = phyla;
+          lists = mapped P (list_line def) def.lists lists;
+          operators = flattened P (operator_lines def) def.operators operators;
+          nils = flattened P (nil_lines def) def.lists nils;
+          cells = flattened P (cell_lines def) def.lists cells;
+          holes = flattened P (hole_lines def) def.hole_rows holes;
+          declares = mapped P (declare_line def) def.declare_rows declares;
+        })

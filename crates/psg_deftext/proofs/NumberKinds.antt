@@ -1,0 +1,149 @@
+-- The spaces, the phyla and the names of kinds in the lines that write a definition.
+use Rattle.std.proofs.Common.{◌≡◌, ◌≢◌, ℕ, ◌≤◌, false, List, [], ◌∷◌, ◌++◌, length, map, Some, refl, ap, sym, ◌∙◌, subst, arith}
+use Rattle.std.specs.List.{AllByRecursion}
+use Rattle.std.proofs.lemmas.List.{length-map}
+use Rattle.psg_terms.specs.Names.{Name, has_twice}
+use Rattle.psg_terms.specs.declared.sorts.SortId.{SortId}
+use Rattle.psg_grammar.specs.declared.types.Phylum.{Phylum}
+use Rattle.psg_grammar.specs.declared.types.ListKind.{ListKind}
+use Rattle.psg_grammar.specs.declared.types.Space.{Space}
+use Rattle.psg_grammar.specs.declared.types.Definition.{Definition}
+use Rattle.psg_grammar.specs.Sound.{IsSound}
+use Rattle.psg_grammar.specs.Sound as sound
+use Rattle.psg_deflines.specs.declared.lines.Line.{Line}
+use Rattle.psg_deflines.specs.declared.lines.Line.TheVariants as lines
+use Rattle.psg_defcheck.specs.Scopes.{kind_names, entity_sorts}
+use Rattle.psg_defnumber.specs.Numbers.{IsSort, IsPhylum, ArePhyla, AreSpaces, IsNumbered}
+use Rattle.psg_deflaws.proofs.KindLaws.{space-count}
+use Rattle.psg_deftext.specs.Layout.{rank}
+use Rattle.psg_deftext.specs.WrittenLines.{lines_of, sort_name, entity_line, phylum_line, list_line}
+use Rattle.psg_deftext.proofs.NumberNames.{name-found}
+use Rattle.psg_deftext.proofs.NumberBlocks.{from_phyla, from_lists, from_operators, behind-entities, behind-phyla, behind-lists, before-entities, before-phyla}
+
+module _ (def : Definition) where
+  -- a sort has the name that is written for it
+  pub sort-again : (n : Name) (s : SortId) → IsSort def n s → IsSort def (sort_name def s.0) s
+  sort-again n s h = h ∙ ap Some (sym (name-found (λ m. m) def.signature.sorts s.0 n h))
+
+  -- ---- spaces
+
+  abbrev space_sort : Space → Name
+  space_sort s = sort_name def s.sort.0
+
+  spaces-again : (sorts : List Name) (all : List Space) → AreSpaces def sorts all
+      → AreSpaces def (map space_sort all) all
+  spaces-again [] all e = subst (λ ss. AreSpaces def (map space_sort ss) ss) (sym e) refl
+  spaces-again (sort ∷ sorts) all (s, rest, e, none, of, h) =
+      subst (λ ss. AreSpaces def (map space_sort ss) ss) (sym e) (
+        s,
+        rest,
+        refl,
+        none,
+        sort-again sort s.sort of,
+        spaces-again sorts rest h,
+      )
+
+  entities-in : (all : List Space) (tail : List Line) → entity_sorts tail ≡ []
+      → entity_sorts (map (entity_line def) all ++ tail) ≡ map space_sort all
+  entities-in [] tail none = none
+  entities-in (s ∷ rest) tail none = ap (λ l. space_sort s ∷ l) (entities-in rest tail none)
+
+  entities-step : (names : List Name) (line : Line) (rest : List Line) → rank line ≢ 1 → entity_sorts rest ≡ names
+      → entity_sorts (line ∷ rest) ≡ names
+  entities-step names (lines.Entity sort) rest h e = absurd (h refl)
+  entities-step names line rest h e = e
+
+  abbrev IsNoEntity : ℕ → Type 0
+  IsNoEntity r = r ≢ 1
+
+  entities-are : entity_sorts (lines_of def) ≡ map space_sort def.spaces
+  entities-are =
+      let none = behind-entities IsNoEntity (λ ls. entity_sorts ls ≡ []) (entities-step []) def
+      (λ r h e. omega (arith, h, e)) refl in
+      before-entities IsNoEntity (λ ls. entity_sorts ls ≡ map space_sort def.spaces)
+      (entities-step (map space_sort def.spaces)) def (λ r h e. omega (arith, h, e))
+      (entities-in def.spaces (from_phyla def) none)
+
+  module _ (file : List Line) (numbered : IsNumbered file def) where
+    pub spaces-are : AreSpaces def (entity_sorts (lines_of def)) def.spaces
+    spaces-are = subst (λ sorts. AreSpaces def sorts def.spaces) (sym entities-are)
+        (spaces-again (entity_sorts file) def.spaces numbered.spaces)
+
+    pub entity-once : length (entity_sorts (lines_of def)) ≤ 1
+    entity-once =
+        omega (arith, ap length entities-are, length-map def.spaces space_sort, space-count def file numbered)
+
+  -- ---- phyla
+
+  abbrev IsPhylumAgain : Phylum → Type 0
+  IsPhylumAgain p = IsPhylum def p.name (sort_name def p.sort.0) p.bracketed p
+
+  each-phylum : (file : List Line) (all : List Phylum) → ArePhyla def file all → AllByRecursion IsPhylumAgain all
+  each-phylum [] all e = subst (AllByRecursion IsPhylumAgain) (sym e) tt
+  each-phylum (lines.Phylum name sort bracketed ∷ behind) all (p, rest, e, h, hs) =
+      subst (AllByRecursion IsPhylumAgain) (sym e) (
+        record { named = refl; of_sort = sort-again sort p.sort h.of_sort; same_brackets = refl },
+        each-phylum behind rest hs,
+      )
+  each-phylum (line ∷ behind) all h = each-phylum behind all h
+
+  phyla-in : (all : List Phylum) (tail : List Line) → AllByRecursion IsPhylumAgain all → ArePhyla def tail []
+      → ArePhyla def (map (phylum_line def) all ++ tail) all
+  phyla-in [] tail h none = none
+  phyla-in (p ∷ rest) tail h none = (p, rest, refl, h.0, phyla-in rest tail h.1 none)
+
+  phyla-step : (all : List Phylum) (line : Line) (rest : List Line) → rank line ≢ 2 → ArePhyla def rest all
+      → ArePhyla def (line ∷ rest) all
+  phyla-step all (lines.Phylum name sort bracketed) rest h w = absurd (h refl)
+  phyla-step all line rest h w = w
+
+  abbrev IsNoPhylum : ℕ → Type 0
+  IsNoPhylum r = r ≢ 2
+
+  pub phyla-are : (file : List Line) → ArePhyla def file def.phyla → ArePhyla def (lines_of def) def.phyla
+  phyla-are file h =
+      let none =
+      behind-phyla IsNoPhylum (λ ls. ArePhyla def ls []) (phyla-step []) def (λ r k e. omega (arith, k, e)) refl in
+      before-phyla IsNoPhylum (λ ls. ArePhyla def ls def.phyla) (phyla-step def.phyla) def
+      (λ r k e. omega (arith, k, e))
+      (phyla-in def.phyla (from_lists def) (each-phylum file def.phyla h) none)
+
+  -- ---- names
+
+  abbrev phyla_named : List Phylum → List Name
+  phyla_named all = map (λ (p : Phylum). p.name) all
+
+  abbrev lists_named : List ListKind → List Name
+  lists_named all = map (λ (l : ListKind). l.name) all
+
+  kinds-step : (names : List Name) (line : Line) (rest : List Line) → (rank line ≢ 2) × (rank line ≢ 3)
+      → kind_names rest ≡ names → kind_names (line ∷ rest) ≡ names
+  kinds-step names (lines.Phylum name sort bracketed) rest h e = absurd (h.0 refl)
+  kinds-step names (lines.List name sort elements separator on_lines unfinished) rest h e = absurd (h.1 refl)
+  kinds-step names line rest h e = e
+
+  phyla-named : (all : List Phylum) (tail : List Line)
+      → kind_names (map (phylum_line def) all ++ tail) ≡ phyla_named all ++ kind_names tail
+  phyla-named [] tail = refl
+  phyla-named (p ∷ rest) tail = ap (λ l. p.name ∷ l) (phyla-named rest tail)
+
+  lists-named : (all : List ListKind) (tail : List Line) → kind_names tail ≡ []
+      → kind_names (map (list_line def) all ++ tail) ≡ lists_named all
+  lists-named [] tail none = none
+  lists-named (l ∷ rest) tail none = ap (λ ls. l.name ∷ ls) (lists-named rest tail none)
+
+  abbrev IsNoKind : ℕ → Type 0
+  IsNoKind r = (r ≢ 2) × (r ≢ 3)
+
+  kind-names-are : kind_names (lines_of def) ≡ sound.kind_names def
+  kind-names-are =
+      let names = sound.kind_names def in
+      before-phyla IsNoKind (λ ls. kind_names ls ≡ names) (kinds-step names) def
+      (λ r k. ((λ e. omega (arith, k, e)), (λ e. omega (arith, k, e))))
+      (phyla-named def.phyla (from_lists def)
+      ∙ ap (λ l. phyla_named def.phyla ++ l) (lists-named def.lists (from_operators def)
+      (behind-lists IsNoKind (λ ls. kind_names ls ≡ []) (kinds-step []) def
+      (λ r k. ((λ e. omega (arith, k, e)), (λ e. omega (arith, k, e)))) refl)))
+
+  pub kinds-once : IsSound def → has_twice (kind_names (lines_of def)) ≡ false
+  kinds-once h = ap has_twice kind-names-are ∙ h.kind_names

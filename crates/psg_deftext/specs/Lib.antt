@@ -1,0 +1,3 @@
+pub mod WrittenLines
+pub mod Layout
+pub mod ConstructorAt
