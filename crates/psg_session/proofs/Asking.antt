@@ -50,30 +50,38 @@ module _ (def : Definition) (e : Editor) where
   pub node_formed : IsEditor def e → (place : Where) (f : Found) → IsFound e place f → IsFormed def f.node.now
   node_formed is place f found =
       node_shaped def f.held.now.note.tree f.held.now.kind f.path.now f.node.now
-          (opened_tree is f.held.now found.held).shaped found.node
+      (opened_tree is f.held.now found.held).shaped found.node
 
   module _ (none : e.opened ≡ None) where
     pub show_unopened : Follows def e Show e (refused 22)
-    show_unopened = λ s same. (s, same, refuses (refused_behind def s Show [] [] nothing_opened refl tt
-        (not_opened def e s same Cursor none)))
+    show_unopened = λ s same. (
+      s,
+      same,
+      refuses (refused_behind def s Show [] [] nothing_opened refl tt
+          (not_opened def e s same Cursor none)),
+    )
 
     pub free_unopened : Follows def e Free e (refused 22)
-    free_unopened = λ s same. (s, same, refuses (refused_behind def s Free [] [] nothing_opened refl tt
-        (not_opened def e s same Cursor none)))
+    free_unopened = λ s same. (
+      s,
+      same,
+      refuses (refused_behind def s Free [] [] nothing_opened refl tt
+          (not_opened def e s same Cursor none)),
+    )
 
   module _ (held : OpenedTree) (opened : e.opened ≡ Some held) where
     taken : (s : State) → Represents e s → (command : Command) → tests_of command ≡ nothing_opened ∷ []
         → IsTaken def (IsGoodIn def) s not_asked command
     taken s same command tests =
         taken_by def s command (subst (NoneOf def s command) (sym tests)
-            ((λ h. none-some (plain held) (sym h ∙ opened_plain def e s same Cursor held opened)), tt))
+        ((λ h. none-some (plain held) (sym h ∙ opened_plain def e s same Cursor held opened)), tt))
 
     pub show_opened : IsEditor def e → (line : List ℕ) (mark : Mark) → line ≡ abstract_text def held.note.tree
         → mark ≡ mark_by held.note.culprits
         → Follows def e Show e (shown (line ∷ []) mark)
     show_opened is line mark text told = λ s same.
         let marks : IsMark def held.note.tree mark = subst (IsMark def held.note.tree) (sym told)
-            (opened_tree is held opened).noted.mark in
+        (opened_tree is held opened).noted.mark in
         let step : Answers def s Show (shown (abstract_text def held.note.tree ∷ []) mark) =
         shows (plain held) mark (taken s same Show refl) (opened_plain def e s same Cursor held opened) marks in
         (s, same, subst (λ l. Answers def s Show (shown (l ∷ []) mark)) (sym text) step)
@@ -82,7 +90,7 @@ module _ (def : Definition) (e : Editor) where
         → Follows def e Free e (answered (line ∷ []))
     free_opened is line written = λ s same.
         let told = written ∙ ap names_line (free_are def held.note.tree held.note.root.header
-            (opened_tree is held opened).noted.root.header) in (
+        (opened_tree is held opened).noted.root.header) in (
           s,
           same,
           subst (λ l. Answers def s Free (answered (l ∷ []))) (sym told)
@@ -104,6 +112,6 @@ module _ (def : Definition) (e : Editor) where
         written ∙ ap (λ ks. rows_lines def.signature ks rows) noted.root.header.keys_are in
         let step : Answers def s (Own place) (answered (rows_lines def.signature (names_of def f.node.now) rows)) =
         owns (plain f.held.now) f.node.now rows (taken_by def s (Own place)
-            (found_before def e s same place f found (Own place) refl))
+        (found_before def e s same place f found (Own place) refl))
         (opened_is def e s same place f found) (node_is def e s same place f found) noted.root.rows in
         (s, same, subst (λ l. Answers def s (Own place) (answered l)) (sym told) step)

@@ -42,7 +42,7 @@ without_marks : (declared : List Key) (cols : List NameCol)
 without_marks declared [] marks = refl
 without_marks declared (c ∷ cols) marks =
     go c.declared (is_among declared (key_of c)) (marks c first)
-        (without_marks declared cols (λ d h. marks d (later h)))
+    (without_marks declared cols (λ d h. marks d (later h)))
   where
     go : (a b : Bool) → b ≡ a → names_without cols ≡ map name_in (undeclared declared (keys cols))
         → cond a (names_without cols) (c.name ∷ names_without cols)
@@ -56,5 +56,5 @@ pub free_are : (def : Definition) (f : Fragment) (h : Header) → IsHeaderOf def
     → names_without h.names ≡ free_names def f
 free_are def f h is =
     without_marks (declared_in def f) h.names (λ c k. sym (is.declares (key_of c)) ∙ own_mark h.names c
-        (header-rising is) k)
+    (header-rising is) k)
     ∙ ap (λ ks. map name_in (undeclared (declared_in def f) ks)) is.keys_are

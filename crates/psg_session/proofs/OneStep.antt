@@ -67,7 +67,7 @@ leaves_once : (def : Definition) (o u : ℕ) (args : List ℕ) (ls ms : List Lea
     → GivesLeaves def u args ms → ls ≡ ms
 leaves_once def o u args ls ms (found, tokens, are, fit) (other, tokens', are', fit') =
     leaves_by ls ms (sym are ∙ ap (map given) (only_tokens (fixed_words def) (chars args) 0 found other tokens
-        tokens') ∙ are')
+    tokens') ∙ are')
 
 module _ (def : Definition) (IsGood : Fragment → Type 0) (s : State) (answer : Answer) where
   -- the first test that holds is one
@@ -95,7 +95,7 @@ module _ (def : Definition) (IsGood : Fragment → Type 0) (s : State) (answer :
     module _ (old old' : Opened) (o o' : ℕ) (ls ls' : List Leaf) (name : Name) (args : List ℕ)
         (opened : s.opened ≡ Some old) (opened' : s.opened ≡ Some old')
         (named : IsOperator def o name) (named' : IsOperator def o' name) (gives : GivesLeaves def o args ls)
-            (gives' : GivesLeaves def o' args ls') where
+        (gives' : GivesLeaves def o' args ls') where
       operator_made_once : (path : Path) (k : Option ℕ)
           → with_operator def old.tree path k o ls ≡ with_operator def old'.tree path k o' ls'
       operator_made_once path k =
@@ -121,13 +121,17 @@ module _ (def : Definition) (IsGood : Fragment → Type 0) (s : State) (answer :
     makes_once : {command : Command} {tree other : Fragment} {path place : Path}
         → Makes def s command tree path → Makes def s command other place → (tree ≡ other) × (path ≡ place)
     makes_once (by_refine {place = at} {name = name} {args = args} old o ls opened named gives)
-        (by_refine old' o' ls' opened' named' gives') =
-        (operator_made_once old old' o o' ls ls' name args opened opened' named named' gives gives'
-            (named_path at s.cursor) None, refl)
+        (by_refine old' o' ls' opened' named' gives') = (
+          operator_made_once old old' o o' ls ls' name args opened opened' named named' gives gives'
+              (named_path at s.cursor) None,
+          refl,
+        )
     makes_once (by_insert {place = at} {k = k} {name = name} {args = args} old o ls opened named gives)
-        (by_insert old' o' ls' opened' named' gives') =
-        (operator_made_once old old' o o' ls ls' name args opened opened' named named' gives gives'
-            (named_path at s.cursor) (Some k), refl)
+        (by_insert old' o' ls' opened' named' gives') = (
+          operator_made_once old old' o o' ls ls' name args opened opened' named named' gives gives'
+              (named_path at s.cursor) (Some k),
+          refl,
+        )
     makes_once (by_cut {place = at} old node kind opened here is) (by_cut old' node' kind' opened' here' is') =
         let one : node ≡ node' = node_once old old' node node' (named_path at s.cursor) opened opened' here here' in
         let same : kind ≡ kind' = node_kind_once def node' kind kind' (subst (λ f. IsOfKind def f kind) one is) is' in (
@@ -148,12 +152,12 @@ module _ (def : Definition) (IsGood : Fragment → Type 0) (s : State) (answer :
         → node_at old.tree path ≡ Some node → node_at old'.tree path ≡ Some node' → IsRelationOf def node rows
         → IsRelationOf def node' rows'
         → answered (rows_lines def.signature (names_of def node) rows) ≡ answered
-            (rows_lines def.signature (names_of def node') rows')
+        (rows_lines def.signature (names_of def node') rows')
     lines_once old old' node node' path rows rows' opened opened' at at' rel rel' =
         let one : node ≡ node' = node_once old old' node node' path opened opened' at at' in
         ap (λ f. answered (rows_lines def.signature (names_of def f) rows)) one
         ∙ ap answered (relation_lines def sound node' rows rows' (subst (λ f. IsRelationOf def f rows) one rel) rel'
-            (names_of def node'))
+        (names_of def node'))
 
     pub step_once : {command : Command} {t u : State} {reply other : Reply}
         → Steps def IsGood s answer command t reply → Steps def IsGood s answer command u other
@@ -175,9 +179,11 @@ module _ (def : Definition) (IsGood : Fragment → Type 0) (s : State) (answer :
     step_once (opens {name = name} kind mark taken_is named is_mark) (opens kind' mark' taken_is' named' is_mark') =
         let same : kind ≡ kind' = kind_once kind kind' name named named' in
         let is_mark'' : IsMarkBy IsGood (blank def kind') mark = subst (λ k. IsMarkBy IsGood (blank def k) mark) same
-            is_mark in
-        (ap (λ k. with_new s k (blank def k)) same, ap marked
-            (mark_once IsGood (blank def kind') mark mark' is_mark'' is_mark'))
+        is_mark in (
+          ap (λ k. with_new s k (blank def k)) same,
+          ap marked
+              (mark_once IsGood (blank def kind') mark mark' is_mark'' is_mark'),
+        )
     step_once (opens kind mark taken_is named is_mark) (changes old' mark' taken_is' opened' makes' is_mark') =
         elim makes' [ ]
     step_once (changes {command = command} old mark taken_is opened makes is_mark) (refuses {r = r} h) =
@@ -218,6 +224,8 @@ module _ (def : Definition) (IsGood : Fragment → Type 0) (s : State) (answer :
         (refl, lines_once old old' node node' (named_path place s.cursor) rows rows' opened opened' at at' rel rel')
     step_once (frees old taken_is opened) (refuses {r = r} h) = absurd (not_both Free r taken_is h)
     step_once (frees old taken_is opened) (changes old' mark' taken_is' opened' makes' is_mark') = elim makes' [ ]
-    step_once (frees old taken_is opened) (frees old' taken_is' opened') =
-        (refl, ap (λ (x : Opened). answered (names_line (free_names def x.tree) ∷ []))
-            (some_once old old' s.opened opened opened'))
+    step_once (frees old taken_is opened) (frees old' taken_is' opened') = (
+      refl,
+      ap (λ (x : Opened). answered (names_line (free_names def x.tree) ∷ []))
+          (some_once old old' s.opened opened opened'),
+    )

@@ -44,7 +44,7 @@ clear_digits zero n behind h = h
 clear_digits (suc k) n behind h =
     let next : List ℕ = digit_glyph false (n % 10) ∷ behind in
     clear_choice (n / 10 == 0) next (digits_onto k 10 false (n / 10) next) (clear_digit (n % 10), h)
-        (clear_digits k (n / 10) next (clear_digit (n % 10), h))
+    (clear_digits k (n / 10) next (clear_digit (n % 10), h))
 
 clear_decimal : (n : ℕ) → IsClear (decimal n)
 unfolding digits
@@ -146,9 +146,9 @@ module _ (sig : Signature) where
     same_texts (t ∷ s ∷ row) (u ∷ []) wide e = absurd (omega (arith, wide))
     same_texts (t ∷ s ∷ row) (u ∷ v ∷ other) wide e =
         let both = cut (term_text sig t) (row_text sig (s ∷ row)) (term_text sig u) (row_text sig (v ∷ other))
-            (clear_text t) (clear_text u) e in
+        (clear_text t) (clear_text u) e in
         ap₂ (λ (x : List ℕ) (l : List (List ℕ)). x ∷ l) both.0
-            (same_texts (s ∷ row) (v ∷ other) (omega (arith, wide)) both.1)
+        (same_texts (s ∷ row) (v ∷ other) (omega (arith, wide)) both.1)
 
     same_rows_texts : (rows others : List (List Term))
         → ((row other : List Term) → IsIn row rows → IsIn other others → length row ≡ length other)
@@ -160,7 +160,7 @@ module _ (sig : Signature) where
         let front : row_text sig row ≡ row_text sig other = cc in
         let back : map (row_text sig) rows ≡ map (row_text sig) others = cc in
         ap₂ (λ (x : List (List ℕ)) (l : List (List (List ℕ))). x ∷ l)
-            (same_texts row other (wide row other first first) front)
+        (same_texts row other (wide row other first first) front)
         (same_rows_texts rows others (λ r o h k. wide r o (later h) (later k)) back)
 
 module _ (def : Definition) (sound : IsSound def) where
@@ -171,7 +171,7 @@ module _ (def : Definition) (sound : IsSound def) where
       let sig : Signature = def.signature in
       let wide = λ (row one : List Term) (h : IsIn row rows) (k : IsIn one others).
       sorts_length sig row rs (other.shapes row (same_rows sig (IsPossible def f) sound.signature ls rs rows others
-          rel other row h)).sorted
+      rel other row h)).sorted
       ∙ sym (sorts_length sig one rs (other.shapes one k).sorted) in
       lines_are sig ks rows
       ∙ ap (lines_of ks) (same_rows_texts sig sound.constructor_names rows others wide

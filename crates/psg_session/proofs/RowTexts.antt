@@ -106,17 +106,17 @@ module _ {X : Type 0} (key : X → List ℕ) where
   same_keys (x ∷ xs) ys once other up upper to back =
       let h : IsIn x ys = to x first in
       let forth = λ (z : X) (k : IsIn z xs). elim (stays_in x z ys h (to z (later k))) as
-          (λ _. IsIn z (without x ys h)) [
+      (λ _. IsIn z (without x ys h)) [
         | inl e ↦ absurd (once.0 (subst (λ w. IsIn w xs) e k))
         | inr m ↦ m
       ] in
       let again = λ (z : X) (k : IsIn z (without x ys h)). elim (head_or_tail z x xs (back z (was_in x z ys h k))) as
-          (λ _. IsIn z xs) [
+      (λ _. IsIn z xs) [
         | inl e ↦ absurd (gone x ys h other (subst (λ w. IsIn w (without x ys h)) e k))
         | inr m ↦ m
       ] in
       ap (λ (l : List (List ℕ)). key x ∷ l) (same_keys xs (without x ys h) once.1 (rest_once x ys h other) up.1
-          (rest_rises x ys h upper) forth again)
+      (rest_rises x ys h upper) forth again)
       ∙ sym (pulled x ys h upper (λ y k. least_of x xs up y (back y k)))
 
 -- ---- relations

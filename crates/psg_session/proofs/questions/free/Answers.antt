@@ -22,9 +22,9 @@ returns c =
     let lines : c.push.new.self.items ≡ line ∷ [] =
     c.in_ok-push.ensures.items ∙ ap (λ (l : List (String Global)). l ++ line ∷ []) c.new-lines.ensures.items in
     let columns = c.as_slice.ensures ∙ ap (λ (h : Header). h.names)
-        (c.header.ensures ∙ ap (λ (k : Known). k.header) c.root.ensures) in
+    (c.header.ensures ∙ ap (λ (k : Known). k.header) c.root.ensures) in
     subst (λ l. Follows c.args.language.now.definition c.args.editor.now Free c.args.editor.now (answered l))
-        (sym (ap (map string_bytes) lines))
+    (sym (ap (map string_bytes) lines))
     (free_opened c.args.language.now.definition c.args.editor.now c.in-Some.held c.in-Some.is c.requires.editor
-        (string_bytes line)
+    (string_bytes line)
     (c.in_ok-line.ensures ∙ ap (λ (cols : List NameCol). names_line (names_without cols)) columns))

@@ -17,7 +17,7 @@ build-requires-clause-formed g c = node_formed c.args.language.now.definition c.
 pub returns : goal.returns
 returns g c =
     own_found c.args.language.now.definition c.args.editor.now c.args.place.now c.in-Ok.found c.in-Ok.ensures.ok
-        c.in-Ok-build.note c.in-Ok-build.ensures.note
+    c.in-Ok-build.note c.in-Ok-build.ensures.note
     (map string_bytes c.in_ok-lines.lines.items)
     (c.in_ok-lines.ensures ∙ ap (λ (s : Known). rows_lines c.args.language.now.definition.signature
-        (keys s.header.names) s.rel) c.root.ensures)
+    (keys s.header.names) s.rel) c.root.ensures)

@@ -7,6 +7,6 @@ use Rattle.psg_session.proofs.questions.rows_lines.Goals as goal
 pub row_line-requires : goal.row_line-requires
 row_line-requires c =
     let among = in-at c.row-item.result c.rows-rows.result.now c.loop-row.row-index c.loop-row-test.true
-        c.row-item.is in
+    c.row-item.is in
     subst (AreTerms c.args.signature.now) (sym c.terms.ensures)
     (c.requires c.row-item.result (subst (IsIn c.row-item.result) (c.rows-rows.ensures.rows ∙ c.rel.ensures) among))

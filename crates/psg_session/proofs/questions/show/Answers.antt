@@ -13,5 +13,5 @@ returns-in_default c = show_unopened c.args.language.now.definition c.args.edito
 pub returns : goal.returns
 returns c =
     show_opened c.args.language.now.definition c.args.editor.now c.in-Some.held c.in-Some.is c.requires.editor
-        (string_bytes c.in_ok-text.text) (mark_of c.in_ok-mark.mark)
+    (string_bytes c.in_ok-text.text) (mark_of c.in_ok-mark.mark)
     (c.in_ok-text.ensures ∙ ap (abstract_text c.args.language.now.definition) c.tree.ensures) c.in_ok-mark.ensures

@@ -11,10 +11,10 @@ loop-path-preserved c =
     let done : List Path = take c.loop-path.path-index c.args.paths.now in
     let next : Path = get_or c.args.paths.now c.loop-path.path-index c.path-item.result in
     pushed (string_bytes c.args.text.now) (paths_text done) (path_text c.path-item.result)
-        (string_bytes c.loop-path.text) (string_bytes c.push_str.new.self)
+    (string_bytes c.loop-path.text) (string_bytes c.push_str.new.self)
     (string_bytes c.push_path.new.text) 32 c.loop-path.invariant c.in_ok-push_str.ensures.bytes
-        c.in_ok-push_path.ensures
+    c.in_ok-push_path.ensures
     ∙ ap (λ p. string_bytes c.args.text.now ++ (paths_text done ++ 32 ∷ path_text p)) c.path-item.is
     ∙ ap (λ l. string_bytes c.args.text.now ++ l)
     (sym (ap paths_text (take_more c.args.paths.now c.loop-path.path-index c.path-item.result c.loop-path-test.true)
-        ∙ paths_text-push done next))
+    ∙ paths_text-push done next))
