@@ -84,7 +84,8 @@ fn edit<F: Files, O: Sink, L: Ledger>(
 
 /// Does what the words say, and answers how that ended. `check DEF` says in one line whether the file DEF has a definition.
 /// `edit DEF SCRIPT` plays each line of the file SCRIPT, a command, on an editor of the definition; the replies go to `out`.
-/// `steps` counts evaluations of nodes and list suffixes: each command that changes the fragment evaluates all of it.
+/// `steps` counts evaluations of nodes and list suffixes: a command that opens or changes a fragment evaluates
+/// all of it, and `own` that of its node.
 pub fn run<F: Files, O: Sink, L: Ledger>(
     alloc: Global,
     words: &[String],

@@ -178,6 +178,19 @@ fn scripts_are_answered(rt: HostRuntime) {
     }
 }
 
+#[test]
+fn lines_without_a_command_are_refused(rt: HostRuntime) {
+    let alloc = rt.alloc();
+    for (script, output) in [
+        (b"\xff\nnew Exp\n".as_slice(), "refused 1\nok\n"),
+        (b"new Exp\nsho".as_slice(), "ok\nrefused 1\n"),
+        (b"show".as_slice(), "refused 22\n"),
+    ] {
+        let run = edit(alloc, CONSTS.as_bytes(), script, none(alloc));
+        ends(&rt, run, Status::Done, output);
+    }
+}
+
 fn check(alloc: Global, definition: &[u8], failing: Failing) -> Result<Run, AllocError> {
     run_words(alloc, &["check", "lang"], definition, b"", failing)
 }

@@ -9,6 +9,7 @@ use Rattle.psg_grammar.specs.Insertion.{blank}
 use Rattle.psg_grammar.specs.Marks.{IsMark}
 use Rattle.psg_grammar.specs.Paths.{Path}
 use Rattle.psg_script.specs.declared.command.Command.{Command}
+use Rattle.psg_script.specs.declared.command.Where.TheVariants.{Cursor}
 use Rattle.psg_script.specs.declared.command.Command.TheVariants.{New}
 use Rattle.psg_session.specs.declared.changes.Made.{Made}
 use Rattle.psg_session.specs.declared.changes.Plan.{Plan}
@@ -83,11 +84,14 @@ module _ (def : Definition) (s : State) (command : Command) (tree : Fragment) (g
       → FailsFirst def tree (late_tests change) r → n ≡ number_of r → (e : Editor) → Represents e s
       → (t : State) × Represents e t × PlainSteps def s command t n
   refused_late change early r n tests none (before, behind, split, passes, fails) is e same =
-      let late : AllByRecursion IsLate (before ++ r ∷ behind) = subst (AllByRecursion IsLate) split (all_late change) in
-      (s, same, subst (PlainSteps def s command s) (sym is) (refuses (refused_behind def s command (early ++ before) behind r
-          (tests ∙ ap (λ l. early ++ l) split ∙ sym (append_assoc early before (r ∷ behind)))
-          (none_append def s command early before none (none_late before (front_late before (r ∷ behind) late) passes))
-          (holds_of r (at_late before behind r late) fails))))
+      let late : AllByRecursion IsLate (before ++ r ∷ behind) = subst (AllByRecursion IsLate) split (all_late change) in (
+        s,
+        same,
+        subst (PlainSteps def s command s) (sym is) (refuses (refused_behind def s command (early ++ before) behind r
+            (tests ∙ ap (λ l. early ++ l) split ∙ sym (append_assoc early before (r ∷ behind)))
+            (none_append def s command early before none (none_late before (front_late before (r ∷ behind) late) passes))
+            (holds_of r (at_late before behind r late) fails))),
+      )
 
   pub none_of_late : (change : Change) (early : List Refusal) → tests_of command ≡ early ++ late_tests change → NoneOf def s command early
       → PassesAll def tree (late_tests change) → NoneOf def s command (tests_of command)
@@ -115,13 +119,13 @@ carried def e command change m held is kind plan (Stays (Answered lines)) h = ab
 carried def e command change m held is kind plan (Becomes new (Refused n)) h = absurd h
 carried def e command change m held is kind plan (Becomes new (Marked mark)) (passes, marks, editor, opened, cursor) = (
   (λ s same.
-    let made = plan s same in (
-      with_change s (plain held) m.tree m.path,
-      (ap (λ k. Some (the_opened k m.tree)) kind ∙ same_opened m.kind m.tree new.opened opened, sym cursor),
-      changes (plain held) (mark_of mark)
-          (taken_by def s command (none_of_late def s command m.tree (by_change made.makes) made.only change made.early made.tests made.none passes))
-          (opened_plain def e s same _ held is) made.makes marks,
-    )),
+      let made = plan s same in (
+        with_change s (plain held) m.tree m.path,
+        (ap (λ k. Some (the_opened k m.tree)) kind ∙ same_opened m.kind m.tree new.opened opened, sym cursor),
+        changes (plain held) (mark_of mark)
+            (taken_by def s command (none_of_late def s command m.tree (by_change made.makes) made.only change made.early made.tests made.none passes))
+            (opened_plain def e s same Cursor held is) made.makes marks,
+      )),
   editor,
 )
   where
@@ -162,3 +166,17 @@ opened_new def name kind named only usual e outcome h = go outcome h
     )
     go (Becomes new (Shown text mark)) h = absurd h
     go (Becomes new (Answered lines)) h = absurd h
+
+-- a plan that refuses
+pub refused_plan : (def : Definition) (e : Editor) (command : Command) (change : Change) (n : ℕ) → IsPlan def e command change (RefusedBy n) → IsOutcome def e command (Stays (Refused n))
+refused_plan def e command change n plan = λ s same.
+    let (r, is_refused, number) = plan s same in (s, same, subst (PlainSteps def s command s) (sym number) (refuses is_refused))
+
+-- nothing has the name
+pub new_unknown : (def : Definition) (name : Name) → ((kind : Kind) → HasName def kind name → ⊥) → (e : Editor) → IsOutcome def e (New name) (Stays (Refused 4))
+new_unknown def name never e = λ s same. (s, same, refuses (refused_behind def s (New name) [] (no_placeholder_here ∷ wide ∷ []) unknown refl tt never))
+
+-- the name is that of a phylum that declares
+pub new_declaring : (def : Definition) (name : Name) (kind : Kind) → HasName def kind name → IsDeclaringPhylum def kind → (e : Editor) → IsOutcome def e (New name) (Stays (Refused 21))
+new_declaring def name kind named declares e = λ s same.
+    (s, same, refuses (refused_behind def s (New name) (unknown ∷ []) (wide ∷ []) no_placeholder_here refl ((λ h. h kind named), tt) (kind, named, declares)))

@@ -1,6 +1,8 @@
 pub mod Options
 pub mod StepLaws
 pub mod Carrying
+pub mod Opening
+pub mod Verdicts
 pub mod Cutting
 pub mod Shapes
 pub mod Bounds
@@ -11,3 +13,14 @@ pub mod KeyMarks
 pub mod DeclaringPhyla
 pub mod Asking
 pub mod OneStep
+pub mod LeafLaws
+pub mod LeafWords
+pub mod LeafReads
+pub mod LeafNames
+pub mod ChangeLaws
+pub mod ChangeRefine
+pub mod ChangeInsert
+pub mod ChangeCut
+pub mod ChangeRemove
+pub mod ChangeClose
+pub mod ChangeReopen

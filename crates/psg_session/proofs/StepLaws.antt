@@ -98,11 +98,13 @@ module _ (def : Definition) (e : Editor) (s : State) (same : Represents e s) (pl
     pub found_before : (command : Command) → place_of command ≡ Some place → NoneOf def s command (nothing_opened ∷ no_node ∷ [])
     found_before command named = (
       (λ h. none-some (plain f.held.now) (sym h ∙ opened_is)),
-      ((λ (other, is_named, (old, opened, none)).
-        let one : old ≡ plain f.held.now = some_once old (plain f.held.now) s.opened opened opened_is in
-        let two : other ≡ place = some_once other place (place_of command) is_named named in
-        none-some f.node.now (sym (subst (λ o. node_at o.tree (named_path place s.cursor) ≡ None) one (subst (λ w. node_at old.tree (named_path w s.cursor) ≡ None) two none)) ∙ node_is)),
-      tt),
+      (
+        (λ (other, is_named, (old, opened, none)).
+            let one : old ≡ plain f.held.now = some_once old (plain f.held.now) s.opened opened opened_is in
+            let two : other ≡ place = some_once other place (place_of command) is_named named in
+            none-some f.node.now (sym (subst (λ o. node_at o.tree (named_path place s.cursor) ≡ None) one (subst (λ w. node_at old.tree (named_path w s.cursor) ≡ None) two none)) ∙ node_is)),
+        tt,
+      ),
     )
 
   -- one of the first two tests holds

@@ -4,6 +4,7 @@ pub mod Replies
 pub mod Refusals
 pub mod Good
 pub mod Leaves
+pub mod LeafItems
 pub mod Answers
 pub mod PlainStep
 pub mod Views

@@ -1,5 +1,5 @@
 -- What the parts of a step answer.
-use Rattle.std.specs.Prelude.{ℕ, ◌≡◌, ◌⊎◌, Bool, true, false, List, [], ◌∷◌, ◌++◌, length, Some, None, Result, Ok, Err}
+use Rattle.std.specs.Prelude.{ℕ, ◌≡◌, ◌⊎◌, List, [], ◌∷◌, ◌++◌, length, Some, None, Result, Ok, Err}
 use Rattle.psg_terms.specs.Names.{Name}
 use Rattle.psg_grammar.specs.declared.types.Kind.{Kind}
 use Rattle.psg_grammar.specs.declared.types.Definition.{Definition}
@@ -118,18 +118,18 @@ IsPlanShaped def e (Plans m) = ((held : OpenedTree) × (e.opened ≡ Some held) 
 
 -- the refusal of a tree whose note has this fault
 abbrev pub IsRefusalOf : Change → NoteFault → ℕ → Type 0
-IsRefusalOf Grows faults.Deep n = n ≡ number_of deep
-IsRefusalOf Grows faults.Big n = n ≡ number_of big
-IsRefusalOf Opens faults.Heavy n = ⊥
+IsRefusalOf change faults.Deep n = (change ≡ Grows) × (n ≡ number_of deep)
+IsRefusalOf change faults.Big n = (change ≡ Grows) × (n ≡ number_of big)
 IsRefusalOf change (faults.Wide path step) n = n ≡ number_of wide
-IsRefusalOf change faults.Heavy n = n ≡ number_of heavy
-IsRefusalOf change fault n = ⊥
+IsRefusalOf change faults.Heavy n = (change ≡ Opens → ⊥) × (n ≡ number_of heavy)
+IsRefusalOf change faults.Memory n = ⊥
 
-abbrev pub must_be_open_by : Change → Bool
-must_be_open_by Opens = false
-must_be_open_by Grows = true
-must_be_open_by Closes = true
-must_be_open_by Loosens = false
+-- the change must leave an open fragment
+abbrev pub MustBeOpen : Change → Type 0
+MustBeOpen Opens = ⊥
+MustBeOpen Grows = Unit {0}
+MustBeOpen Closes = Unit {0}
+MustBeOpen Loosens = ⊥
 
 -- the list with what is told of it: its kind, how many elements it has, and whether it is unfinished
 pub record IsListed (def : Definition) (node : Fragment) (l : Listed) : Type 0 where

@@ -55,7 +55,7 @@ module _ (def : Definition) where
   abbrev pub IsOperator : ℕ → Name → Type 0
   IsOperator o name = op_name_of def o ≡ Some name
 
-  -- the number of the phylum of an operator of the name
+  -- the operator is of the phylum
   abbrev pub IsOfPhylum : ℕ → ℕ → Type 0
   IsOfPhylum o p = (op : Operator) × (slice_get def.operators o ≡ Some op) × (op.phylum ≡ p)
 

@@ -1,10 +1,11 @@
 //! What the changing commands make of the opened fragment, before it is tested.
-ghost use Rattle.std.specs.Prelude.{◌≡◌, ◌++◌, ◌∷◌, [], ℕ, Ok, IfNone, IfOk, IfSome};
+ghost use Rattle.std.specs.Prelude.{◌≡◌, ◌↔◌, ◌++◌, ◌∷◌, [], ℕ, true, Ok, Some, IfNone, IfOk, IfSome, IsTrue};
 ghost use Rattle.psg_eval.specs.Trees.{IsOfKind};
 ghost use Rattle.psg_cache.specs.Shaped.{IsShaped};
 ghost use Rattle.psg_grammar.specs.Fragments.{hole};
 ghost use Rattle.psg_script.specs.declared.command.Command.TheVariants as commands;
 ghost use Rattle.psg_grammar.specs.Paths.{IsList};
+ghost use Rattle.psg_session.specs.PlainStep.{MayReopen, end_of};
 ghost use Rattle.psg_session.specs.Outcomes.{IsFreshAnswer, IsListed, IsPlan, IsPlanShaped};
 ghost use Rattle.psg_session.specs.Views.{IsEditor, IsLanguage};
 ghost use Rattle.psg_session.specs.declared.judging.Change.TheVariants.{Closes, Grows, Loosens};
@@ -84,6 +85,28 @@ fn as_list<'a>(definition: &'a Definition, tree: &Tree) -> Option<Listed<'a>>
     }
 }
 
+/// Whether the tree is an unfinished list.
+fn is_unfinished(definition: &Definition, tree: &Tree) -> bool
+    requires shaped { (kind : Kind) × IsShaped definition.now tree.now kind }
+    ensures { IsTrue result ↔ (end_of tree.now ≡ Some true) }
+{
+    match as_list(definition, tree) {
+        Some(list) => list.unfinished,
+        None => false,
+    }
+}
+
+/// Whether the tree is a finished list of a kind that may be unfinished.
+fn may_reopen(definition: &Definition, tree: &Tree) -> bool
+    requires shaped { (kind : Kind) × IsShaped definition.now tree.now kind }
+    ensures { IsTrue result ↔ MayReopen definition.now tree.now }
+{
+    match as_list(definition, tree) {
+        Some(list) => list.kind.unfinished && !list.unfinished,
+        None => false,
+    }
+}
+
 /// The kind of a tree.
 fn kind_of(definition: &Definition, tree: &Tree) -> Kind
     requires shaped { (kind : Kind) × IsShaped definition.now tree.now kind }
@@ -109,7 +132,8 @@ pub fn refine(
 ) -> Result<Plan, AllocError>
     requires language { IsLanguage language.now }
     requires editor { IsEditor language.now.definition editor.now }
-    ensures plan { IfOk result (IsPlan language.now.definition editor.now (commands.Refine place.now name.now arguments.now) Grows) }
+    ensures plan { IfOk result (IsPlan language.now.definition editor.now
+        (commands.Refine place.now name.now arguments.now) Grows) }
     ensures shaped { IfOk result (IsPlanShaped language.now.definition editor.now) }
 {
     let found = match find(editor, place) {
@@ -129,9 +153,9 @@ pub fn refine(
     Ok(Plan::Makes(Made { kind, tree, path }))
 }
 
-/// The operator of the name with the names and literals of the arguments, which is to stand where one of the phylum is wanted;
-/// otherwise the number of the refusal: 4 where no operator has the name, 5 where it is of another phylum, 6 where the arguments
-/// are not its names and literals.
+/// The operator of the name with the names and literals of the arguments, which is to stand where one of the phylum is
+/// wanted; otherwise the number of the refusal: 4 where no operator has the name, 5 where it is of another phylum, 6
+/// where the arguments are not its names and literals.
 fn fresh_of(
     alloc: Global,
     language: &Language,
@@ -168,7 +192,8 @@ pub fn insert_element(
 ) -> Result<Plan, AllocError>
     requires language { IsLanguage language.now }
     requires editor { IsEditor language.now.definition editor.now }
-    ensures plan { IfOk result (IsPlan language.now.definition editor.now (commands.Insert place.now number name.now arguments.now) Grows) }
+    ensures plan { IfOk result (IsPlan language.now.definition editor.now
+        (commands.Insert place.now number name.now arguments.now) Grows) }
     ensures shaped { IfOk result (IsPlanShaped language.now.definition editor.now) }
 {
     let found = match find(editor, place) {
@@ -200,7 +225,8 @@ fn longer(alloc: Global, path: &Path, step: u32) -> Result<Path, AllocError>
         steps.push(*known)?;
     }
     steps.push(step)?;
-    Path::of(alloc, steps.as_slice())
+    let longer = Path::of(alloc, steps.as_slice())?;
+    Ok(longer)
 }
 
 /// What `cut` makes: a new tree of the node's kind in its place.
@@ -275,11 +301,7 @@ pub fn close(
         Ok(found) => found,
         Err(number) => return Ok(Plan::RefusedBy(number)),
     };
-    let unfinished = match as_list(&language.definition, found.node) {
-        Some(list) => list.unfinished,
-        None => false,
-    };
-    if !unfinished {
+    if !is_unfinished(&language.definition, found.node) {
         return Ok(Plan::RefusedBy(7));
     }
     let tree = tree_of(set_unfinished(alloc, found.held.note.tree(), found.path, false))?;
@@ -304,11 +326,7 @@ pub fn reopen(
         Ok(found) => found,
         Err(number) => return Ok(Plan::RefusedBy(number)),
     };
-    let may_reopen = match as_list(&language.definition, found.node) {
-        Some(list) => list.kind.unfinished && !list.unfinished,
-        None => false,
-    };
-    if !may_reopen {
+    if !may_reopen(&language.definition, found.node) {
         return Ok(Plan::RefusedBy(7));
     }
     let tree = tree_of(set_unfinished(alloc, found.held.note.tree(), found.path, true))?;

@@ -91,7 +91,9 @@ fn carry_out<L: Ledger>(
     match plan {
         Plan::RefusedBy(number) => Ok(Outcome::Stays(Reply::Refused(number))),
         Plan::Makes(made) => {
-            let outcome = judge(alloc, language, change, made.kind, &made.tree, &made.path, steps)?;
+            let outcome = judge(
+                alloc, language, change, made.kind, &made.tree, &made.path, steps,
+            )?;
             Ok(outcome)
         }
     }
@@ -111,30 +113,44 @@ fn change<L: Ledger>(
     ensures none { IfOk result (λ outcome. IfNone outcome (IsChanging command.now → ⊥)) }
     ensures some { IfOk result (λ outcome. IfSome outcome (λ _. IsChanging command.now)) }
 {
-    let (change, plan) = match command {
+    match command {
         Command::Refine { at, op, args } => {
-            (Change::Grows, refine(alloc, language, editor, at, op, args)?)
+            let plan = refine(alloc, language, editor, at, op, args)?;
+            let outcome = carry_out(alloc, language, Change::Grows, plan, steps)?;
+            Ok(Some(outcome))
         }
         Command::Insert {
             at,
             place,
             op,
             args,
-        } => (
-            Change::Grows,
-            insert_element(alloc, language, editor, at, *place, op, args)?,
-        ),
-        Command::Cut { at } => (Change::Loosens, cut(alloc, language, editor, at)?),
-        Command::Remove { at, place } => (
-            Change::Loosens,
-            remove_element(alloc, language, editor, at, *place)?,
-        ),
-        Command::Close { at } => (Change::Closes, close(alloc, language, editor, at)?),
-        Command::Reopen { at } => (Change::Loosens, reopen(alloc, language, editor, at)?),
-        _ => return Ok(None),
-    };
-    let outcome = carry_out(alloc, language, change, plan, steps)?;
-    Ok(Some(outcome))
+        } => {
+            let plan = insert_element(alloc, language, editor, at, *place, op, args)?;
+            let outcome = carry_out(alloc, language, Change::Grows, plan, steps)?;
+            Ok(Some(outcome))
+        }
+        Command::Cut { at } => {
+            let plan = cut(alloc, language, editor, at)?;
+            let outcome = carry_out(alloc, language, Change::Loosens, plan, steps)?;
+            Ok(Some(outcome))
+        }
+        Command::Remove { at, place } => {
+            let plan = remove_element(alloc, language, editor, at, *place)?;
+            let outcome = carry_out(alloc, language, Change::Loosens, plan, steps)?;
+            Ok(Some(outcome))
+        }
+        Command::Close { at } => {
+            let plan = close(alloc, language, editor, at)?;
+            let outcome = carry_out(alloc, language, Change::Closes, plan, steps)?;
+            Ok(Some(outcome))
+        }
+        Command::Reopen { at } => {
+            let plan = reopen(alloc, language, editor, at)?;
+            let outcome = carry_out(alloc, language, Change::Loosens, plan, steps)?;
+            Ok(Some(outcome))
+        }
+        _ => Ok(None),
+    }
 }
 
 /// What a command does to the editor, which stays as it is where the command is refused; `None` where the editor does not

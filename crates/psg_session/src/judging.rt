@@ -1,10 +1,11 @@
 //! The tests of what a command makes.
-ghost use Rattle.std.specs.Prelude.{◌≡◌, IfOk};
+ghost use Rattle.std.specs.Prelude.{◌≡◌, ◌↔◌, [], IfOk, IsTrue};
 ghost use Rattle.psg_grammar.specs.Marks.{IsMark};
 ghost use Rattle.psg_cache.specs.Notes.{mark_by};
 ghost use Rattle.psg_cache.specs.Shaped.{IsShaped};
-ghost use Rattle.psg_session.specs.Outcomes.{IsJudged, IsRefusalOf, must_be_open_by};
+ghost use Rattle.psg_session.specs.Outcomes.{IsJudged, IsRefusalOf, MustBeOpen};
 ghost use Rattle.psg_session.specs.Views.{mark_of, IsLanguage};
+ghost use Rattle.psg_session.specs.declared.judging.Change.TheVariants.{Grows, Opens};
 
 use crate::editor::{Editor, OpenedTree, Outcome};
 use crate::language::Language;
@@ -25,7 +26,7 @@ pub enum Change {
     Grows,
     /// It finishes a list: the tree may be too wide or too heavy, and has to be open.
     Closes,
-    /// It takes something away: the tree may be too wide or too heavy.
+    /// It takes something away or lets a list go on: the tree may be too wide or too heavy.
     Loosens,
 }
 
@@ -43,28 +44,58 @@ pub fn note_mark(alloc: Global, note: &Note) -> Result<Mark, AllocError>
     Ok(Mark::Wrong(paths))
 }
 
-/// The number of the refusal of a tree that has no note. A change that adds nothing makes no tree larger, so a fault that it is
-/// not tested for does not come; it is answered by want of memory.
-fn refusal_of(change: Change, fault: NoteFault) -> Result<u8, AllocError>
-    ensures { IfOk result (IsRefusalOf change fault) }
+/// The number, where the change adds nodes. A change that adds none makes no tree larger, so such a fault of its tree does not
+/// come; it is answered by want of memory.
+fn where_it_grows(change: Change, number: u8) -> Result<u8, AllocError>
+    ensures { IfOk result (λ n. (change ≡ Grows) × (n ≡ number)) }
 {
-    match (change, fault) {
-        (Change::Grows, NoteFault::Deep) => Ok(9),
-        (Change::Grows, NoteFault::Big) => Ok(8),
-        (_, NoteFault::Wide { .. }) => Ok(10),
-        (Change::Opens, _) => Err(AllocError),
-        (_, NoteFault::Heavy) => Ok(11),
+    match change {
+        Change::Grows => Ok(number),
         _ => Err(AllocError),
     }
 }
 
-/// Whether the change must leave an open fragment.
-fn must_be_open(change: Change) -> bool
-    ensures { result ≡ must_be_open_by change }
+/// The number, where the change is not that of a new fragment, which is never too heavy where it is not too wide.
+fn where_it_changes(change: Change, number: u8) -> Result<u8, AllocError>
+    ensures { IfOk result (λ n. (change ≡ Opens → ⊥) × (n ≡ number)) }
 {
     match change {
-        Change::Grows | Change::Closes => true,
-        Change::Opens | Change::Loosens => false,
+        Change::Opens => Err(AllocError),
+        _ => Ok(number),
+    }
+}
+
+/// The number of the refusal of a tree whose note has this fault.
+fn refusal_of(change: Change, fault: &NoteFault) -> Result<u8, AllocError>
+    ensures { IfOk result (IsRefusalOf change fault.now) }
+{
+    match fault {
+        NoteFault::Deep => {
+            let number = where_it_grows(change, 9)?;
+            Ok(number)
+        }
+        NoteFault::Big => {
+            let number = where_it_grows(change, 8)?;
+            Ok(number)
+        }
+        NoteFault::Wide { .. } => Ok(10),
+        NoteFault::Heavy => {
+            let number = where_it_changes(change, 11)?;
+            Ok(number)
+        }
+        NoteFault::Memory => Err(AllocError),
+    }
+}
+
+/// Whether the change must leave an open fragment, and the note's tree is not open.
+fn is_inadmissible(change: Change, note: &Note) -> bool
+    ensures { IsTrue result ↔ (MustBeOpen change × (note.now.culprits ≡ [] → ⊥)) }
+{
+    match change {
+        Change::Opens => false,
+        Change::Grows => !note.is_good(),
+        Change::Closes => !note.is_good(),
+        Change::Loosens => false,
     }
 }
 
@@ -91,9 +122,12 @@ pub fn judge<L: Ledger>(
         steps,
     ) {
         Ok(note) => note,
-        Err(fault) => return Ok(Outcome::Stays(Reply::Refused(refusal_of(change, fault)?))),
+        Err(fault) => {
+            let number = refusal_of(change, &fault)?;
+            return Ok(Outcome::Stays(Reply::Refused(number)));
+        }
     };
-    if must_be_open(change) && !note.is_good() {
+    if is_inadmissible(change, &note) {
         return Ok(Outcome::Stays(Reply::Refused(12)));
     }
     let mark = note_mark(alloc, &note)?;

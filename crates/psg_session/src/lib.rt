@@ -21,4 +21,3 @@ pub mod replies;
 pub use editor::{Editor, Outcome, step};
 pub use language::Language;
 pub use replies::{Mark, Reply, reply_lines};
-

@@ -91,17 +91,3 @@ fn a_relation_is_too_wide_by_one(rt: HostRuntime) -> Result<(), Fail> {
     }
     Ok(())
 }
-
-#[test]
-fn a_list_has_at_most_4096_elements(rt: HostRuntime) -> Result<(), Fail> {
-    let alloc = rt.alloc();
-    let mut script = String::from_str(alloc, "new Stats\n")?;
-    let mut output = String::from_str(alloc, "ok\n")?;
-    for _ in 0..64 {
-        script.push_str("insert / 0 skip\n")?;
-        output.push_str("ok\n")?;
-    }
-    let run = edit(alloc, super::MINI.as_bytes(), script.as_bytes(), none(alloc));
-    ends(&rt, run, Status::Done, output.as_str());
-    Ok(())
-}

@@ -1,0 +1,189 @@
+-- What the changes of a found node have in common.
+use Rattle.std.proofs.Common.{◌≡◌, inl, inr, ℕ, ◌<◌, Bool, false, true≢false, List, [], ◌∷◌, length, slice_get, Some, None, Option, Result, Ok, IfOk, option_map, refl, sym, ◌∙◌, subst}
+use Rattle.std.proofs.lemmas.Option.{none-some, slice_get_within}
+use Rattle.psg_terms.specs.Names.{Name}
+use Rattle.psg_grammar.specs.declared.types.Kind.{Kind}
+use Rattle.psg_grammar.specs.declared.types.Kind.TheVariants as kinds
+use Rattle.psg_grammar.specs.declared.types.Item.{Item}
+use Rattle.psg_grammar.specs.declared.types.Item.TheVariants as items
+use Rattle.psg_grammar.specs.declared.types.ListKind.{ListKind}
+use Rattle.psg_grammar.specs.declared.types.Operator.{Operator}
+use Rattle.psg_grammar.specs.declared.types.Definition.{Definition}
+use Rattle.psg_grammar.specs.Fragments.{Fragment, hole, ending, cell, operator, with_child, with_name, with_number, with_text, anything, observed}
+use Rattle.psg_grammar.specs.Insertion.{Leaf}
+use Rattle.psg_grammar.specs.Kinds.{HasKind}
+use Rattle.psg_grammar.specs.Paths.{change_at, IsList, ended}
+use Rattle.psg_grammar.specs.Sound.{IsSound}
+use Rattle.psg_grammar.proofs.NamePlaces.{only_op}
+use Rattle.psg_grammar.proofs.SoundParts.{phylum_in}
+use Rattle.psg_eval.specs.Trees.{IsOfKind}
+use Rattle.psg_cache.specs.Shaped.{HasShape, IsShaped}
+use Rattle.psg_cache.proofs.ShapedTrees.{changed_shaped, ended_shaped, fresh_shaped, kind_once, node_shaped, shape_is_kind}
+use Rattle.psg_script.specs.declared.command.Where.{Where}
+use Rattle.psg_script.specs.declared.command.Command.{Command}
+use Rattle.psg_session.specs.declared.changes.Made.{Made}
+use Rattle.psg_session.specs.declared.changes.Plan.TheVariants.{Makes as Plans}
+use Rattle.psg_session.specs.declared.editor.Editor.{Editor}
+use Rattle.psg_session.specs.declared.editor.OpenedTree.{OpenedTree}
+use Rattle.psg_session.specs.declared.finding.Found.{Found}
+use Rattle.psg_session.specs.Leaves.{GivesLeaves}
+use Rattle.psg_session.specs.PlainState.{State, Opened}
+use Rattle.psg_session.specs.PlainStep.{GivesNone, IsListOf, IsOfPhylum, IsOperator, IsOther, IsWanted, end_of}
+use Rattle.psg_session.specs.Refusals.{Refusal, no_node, nothing_opened, place_of}
+use Rattle.psg_session.specs.Views.{IsEditor, IsOpenedAs, IsOpenedTree, Represents}
+use Rattle.psg_session.specs.Outcomes.{IsFound, IsFreshAnswer, IsPlanShaped, NoneOf}
+use Rattle.psg_session.proofs.StepLaws.{plain, at_node, found_before, has_node, opened_is}
+
+pub some_once : {X : Type 0} (x y : X) (o : Option X) → o ≡ Some x → o ≡ Some y → x ≡ y
+some_once x y o e f = let d : Some x ≡ Some y = sym e ∙ f in cc
+
+-- what is known of the value of a call that went well
+pub ok_at : {X E : Type 0} (P : X → Type 0) (r : Result X E) (x : X) → r ≡ Ok x → IfOk r P → P x
+ok_at P r x e h = subst (λ q. IfOk q P) e h
+
+-- an operator with a name is there
+pub operator_there : (def : Definition) (o : ℕ) (name : Name) → IsOperator def o name → o < length def.operators
+operator_there def o name named = go (slice_get def.operators o) refl named where
+  go : (found : Option Operator) → slice_get def.operators o ≡ found
+      → option_map (λ (op : Operator). op.name) found ≡ Some name → o < length def.operators
+  go None at e = absurd (none-some name e)
+  go (Some op) at e = slice_get_within def.operators o op at
+
+-- ---- kinds of nodes
+
+module _ (def : Definition) where
+  pub one_list_kind : (node : Fragment) (a b : ListKind) → IsListOf def node a → IsListOf def node b → a ≡ b
+  one_list_kind node a b (n, h, at) (m, g, also) =
+      let d : kinds.List n ≡ kinds.List m = kind_once def node (kinds.List n) (kinds.List m) h g in
+      let same : n ≡ m = cc in
+      some_once a b (slice_get def.lists m) (subst (λ x. slice_get def.lists x ≡ Some a) same at) also
+
+  -- a tree of a kind that is a list is one of that list
+  pub kind_is : (node : Fragment) (K kind : Kind) → IsShaped def node K → IsOfKind def node kind → K ≡ kind
+  kind_is node K kind shaped h = kind_once def node K kind (shape_is_kind def node K shaped) h
+
+  has_shape_kind : IsSound def → (f : Fragment) (more : List Item) (kind : Kind) → HasShape def f more kind
+      → HasKind def kind
+  has_shape_kind sound (hole p) more kind (none, is, small) = subst (HasKind def) (sym is) small
+  has_shape_kind sound (ending l u) more kind (none, is, (k, found, may)) =
+      subst (HasKind def) (sym is) (slice_get_within def.lists l k found)
+  has_shape_kind sound (cell l e r) more kind (none, is, k, found, fe, fr, z) =
+      subst (HasKind def) (sym is) (slice_get_within def.lists l k found)
+  has_shape_kind sound (operator o) more kind (op, found, all, is) =
+      subst (HasKind def) (sym is) (phylum_in def sound o op found)
+  has_shape_kind sound (with_child f t) more kind (k, ff, ft) = has_shape_kind sound f (items.Slot k ∷ more) kind ff
+  has_shape_kind sound (with_name f n) more kind (inl (s, h), name) =
+      has_shape_kind sound f (items.Refers s ∷ more) kind h
+  has_shape_kind sound (with_name f n) more kind (inr (s, h), name) =
+      has_shape_kind sound f (items.Declares s ∷ more) kind h
+  has_shape_kind sound (with_number f n) more kind (h, small) = has_shape_kind sound f (items.Number ∷ more) kind h
+  has_shape_kind sound (with_text f t) more kind (h, text) = has_shape_kind sound f (items.Text ∷ more) kind h
+  has_shape_kind sound anything more kind h = absurd h
+  has_shape_kind sound (observed f) more kind (none, h) = has_shape_kind sound f [] kind h
+
+  -- the kind of a node is there
+  pub kind_there : IsSound def → (node : Fragment) (kind : Kind) → ((K : Kind) × IsShaped def node K)
+      → IsOfKind def node kind → HasKind def kind
+  kind_there sound node kind (K, shaped) h =
+      subst (HasKind def) (kind_is node K kind shaped h) (has_shape_kind sound node [] K shaped.0)
+
+  -- only a list has an end
+  pub end_is_list : (f : Fragment) (u : Bool) → end_of f ≡ Some u → IsList f
+  end_is_list (ending l v) u e = tt
+  end_is_list (cell l x r) u e = tt
+  end_is_list (hole p) u e = absurd (none-some u e)
+  end_is_list (operator o) u e = absurd (none-some u e)
+  end_is_list (with_child f t) u e = absurd (none-some u e)
+  end_is_list (with_name f n) u e = absurd (none-some u e)
+  end_is_list (with_number f n) u e = absurd (none-some u e)
+  end_is_list (with_text f t) u e = absurd (none-some u e)
+  end_is_list anything u e = absurd (none-some u e)
+  end_is_list (observed f) u e = absurd (none-some u e)
+
+  -- a tree that is finished stays of its kind
+  pub finished_shaped : (f : Fragment) (kind : Kind) → IsShaped def f kind → IsShaped def (ended false f) kind
+  finished_shaped (ending l u) kind ((none, is, (k, found, may)), plain_is) =
+      ((none, is, (k, found, λ e. absurd (true≢false (sym e)))), tt)
+  finished_shaped (cell l x r) kind ((none, is, k, found, fx, fr, z), plain_is) =
+      let here : IsShaped def (cell l x r) (kinds.List l) = ((none, refl, k, found, fx, fr, z), plain_is) in
+      subst (IsShaped def (ended false (cell l x r))) (sym is)
+      (ended_shaped def false (cell l x r) l k here found (λ e. absurd (true≢false (sym e))))
+  finished_shaped (hole p) kind h = h
+  finished_shaped (operator o) kind h = h
+  finished_shaped (with_child f t) kind h = h
+  finished_shaped (with_name f n) kind h = h
+  finished_shaped (with_number f n) kind h = h
+  finished_shaped (with_text f t) kind h = h
+  finished_shaped anything kind h = h
+  finished_shaped (observed f) kind h = h
+
+  -- ---- operators by their names
+
+  pub one_operator : IsSound def → (a b : ℕ) (name : Name) → IsOperator def a name → IsOperator def b name → a ≡ b
+  one_operator sound a b name h g = only_op def sound.operator_names a b name h g
+
+  -- a new operator of the phylum
+  pub answer_shaped : IsSound def → (p : ℕ) (name : Name) (args : List ℕ) (fresh : Fragment)
+      → IsFreshAnswer def p name args (Ok fresh) → IsShaped def fresh (kinds.Phylum p)
+  answer_shaped sound p name args fresh (o, leaves, named, (op, found, same), gives, is) =
+      subst (λ q. IsShaped def fresh (kinds.Phylum q)) same
+      (subst (λ t. IsShaped def t (kinds.Phylum op.phylum)) (sym is)
+      (fresh_shaped def sound o op leaves found gives.3))
+
+-- ---- the opened fragment
+
+pub opened_shaped : (def : Definition) (e : Editor) (held : OpenedTree) → IsEditor def e → e.opened ≡ Some held
+    → IsShaped def held.note.tree held.kind
+opened_shaped def e held editor is = let h : IsOpenedTree def held = subst (IsOpenedAs def) is editor in h.shaped
+
+module _ (def : Definition) (e : Editor) (place : Where) (f : Found) (editor : IsEditor def e)
+    (found : IsFound e place f) where
+  pub found_shaped : (K : Kind) × IsShaped def f.node.now K
+  found_shaped =
+      node_shaped def f.held.now.note.tree f.held.now.kind f.path.now f.node.now
+      (opened_shaped def e f.held.now editor found.held) found.node
+
+  -- a change of the found node that keeps its kind
+  pub plan_shaped : (m : Made) (g : Fragment → Fragment) → m.tree ≡ change_at g f.path.now f.held.now.note.tree
+      → m.kind ≡ f.held.now.kind
+      → ((K : Kind) → IsShaped def f.node.now K → IsShaped def (g f.node.now) K) → IsPlanShaped def e (Plans m)
+  plan_shaped m g tree kind keeps = (
+    (f.held.now, found.held, sym kind),
+    subst (IsShaped def m.tree) (sym kind) (subst (λ t. IsShaped def t f.held.now.kind) (sym tree)
+        (changed_shaped def g f.held.now.note.tree f.held.now.kind f.path.now f.node.now
+        (opened_shaped def e f.held.now editor found.held) found.node keeps)),
+  )
+
+-- ---- the tests before the tree
+
+module _ (def : Definition) (e : Editor) (s : State) (same : Represents e s) (place : Where) (f : Found)
+    (found : IsFound e place f) where
+  pub same_old : (old : Opened) → s.opened ≡ Some old → old ≡ plain f.held.now
+  same_old old is = some_once old (plain f.held.now) s.opened is (opened_is def e s same place f found)
+
+  -- neither the first two tests hold nor these
+  pub early_none : (command : Command) (rest : List Refusal) → place_of command ≡ Some place
+      → NoneOf def s command rest → NoneOf def s command (nothing_opened ∷ no_node ∷ rest)
+  early_none command rest named none = let h = found_before def e s same place f found command named in
+      (h.0, (h.1.0, none))
+
+  -- the tests of an operator that is to stand where one of the phylum is wanted
+  module _ (sound : IsSound def) (k : Option ℕ) (p : ℕ) (wanted : IsWanted def k f.node.now p)
+      (only : (q : ℕ) → IsWanted def k f.node.now q → q ≡ p)
+      (name : Name) (args : List ℕ) (o : ℕ) (named : IsOperator def o name) where
+    abbrev Other : Opened → Fragment → Type 0
+    Other old node = (q : ℕ) (x : ℕ) → IsWanted def k node q → IsOperator def x name → IsOfPhylum def x q → ⊥
+
+    pub not_other : IsOfPhylum def o p → IsOther def s place k name → ⊥
+    not_other of h = at_node def e s same place f found Other h p o wanted named of
+
+    pub is_other : (IsOfPhylum def o p → ⊥) → IsOther def s place k name
+    is_other never = has_node def e s same place f found Other
+        (λ q x want other of. never
+        (subst (λ y. IsOfPhylum def y p) (one_operator def sound x o name other named)
+        (subst (IsOfPhylum def x) (only q want) of)))
+
+    pub gives_none : ((leaves : List Leaf) → GivesLeaves def o args leaves → ⊥) → GivesNone def name args
+    gives_none never =
+        λ x leaves other gives. never leaves
+        (subst (λ y. GivesLeaves def y args leaves) (one_operator def sound x o name other named) gives)

@@ -1,0 +1,45 @@
+use Rattle.std.proofs.Common.{true, refl, ap, sym, true≢false, ◌∙◌}
+use Rattle.psg_grammar.specs.Paths.{change_at, ended}
+use Rattle.psg_tree.specs.Edits.{IsSet}
+use Rattle.psg_session.specs.declared.changes.Made.{Made}
+use Rattle.psg_session.proofs.ChangeLaws.{found_shaped, ok_at, plan_shaped}
+use Rattle.psg_session.proofs.ChangeReopen.{reopen_nowhere, reopen_refused, reopen_made, reopen_keeps}
+use Rattle.psg_session.proofs.changes.reopen.Goals as goal
+
+pub returns-in-Err-clause-plan : goal.returns-in-Err-clause-plan
+returns-in-Err-clause-plan c =
+    reopen_nowhere c.args.language.now.definition c.args.editor.now c.args.place.now c.in-Err.number
+    c.in-Err.ensures.err
+
+pub may_reopen-requires : goal.may_reopen-requires
+may_reopen-requires c =
+    let shaped = found_shaped c.args.language.now.definition c.args.editor.now c.args.place.now c.in-Ok.found
+    c.requires.editor c.in-Ok.ensures.ok in
+    record { shaped = shaped }
+
+pub returns-then-not-may_reopen-clause-plan : goal.returns-then-not-may_reopen-clause-plan
+returns-then-not-may_reopen-clause-plan c =
+    reopen_refused c.args.language.now.definition c.args.editor.now c.args.place.now c.in-Ok.found c.in-Ok.ensures.ok
+    (λ h. true≢false (sym (c.may_reopen.ensures.1 h) ∙ c.if-not-may_reopen.true))
+
+pub returns-clause-plan : goal.returns-clause-plan
+returns-clause-plan c =
+    let found = c.in-Ok.found in
+    let made : Made = record { kind = found.held.now.kind; tree = c.in_ok-tree.tree; path = c.in_ok-path.path } in
+    let done = ok_at (IsSet c.tree.result.now found.path.now true) c.set_unfinished.result c.in_ok-tree.tree
+    c.in_ok-tree.ensures c.set_unfinished.ensures.ok in
+    reopen_made c.args.language.now.definition c.args.editor.now c.args.place.now found c.in-Ok.ensures.ok
+    (c.may_reopen.ensures.0 c.if-not-may_reopen.false) made
+    (done.made_is ∙ ap (change_at (ended true) found.path.now) c.tree.ensures)
+    (c.in_ok-path.ensures ∙ c.steps.ensures)
+
+pub returns-clause-shaped : goal.returns-clause-shaped
+returns-clause-shaped c =
+    let def = c.args.language.now.definition in
+    let found = c.in-Ok.found in
+    let made : Made = record { kind = found.held.now.kind; tree = c.in_ok-tree.tree; path = c.in_ok-path.path } in
+    let done = ok_at (IsSet c.tree.result.now found.path.now true) c.set_unfinished.result c.in_ok-tree.tree
+    c.in_ok-tree.ensures c.set_unfinished.ensures.ok in
+    plan_shaped def c.args.editor.now c.args.place.now found c.requires.editor c.in-Ok.ensures.ok made (ended true)
+    (done.made_is ∙ ap (change_at (ended true) found.path.now) c.tree.ensures) refl
+    (reopen_keeps def found.node.now (c.may_reopen.ensures.0 c.if-not-may_reopen.false))
