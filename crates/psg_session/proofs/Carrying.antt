@@ -1,18 +1,15 @@
 -- What a planned change is answered, from what is found of its tree.
-use Rattle.std.proofs.Common.{◌≡◌, ◌⊎◌, inl, inr, ℕ, List, [], ◌∷◌, ◌++◌, Some, None, Option, refl, sym, ◌∙◌, ap, ap₂, subst, append_assoc}
+use Rattle.std.proofs.Common.{◌≡◌, ℕ, List, [], ◌∷◌, ◌++◌, Some, Option, refl, sym, ◌∙◌, ap, ap₂, subst, append_assoc}
 use Rattle.std.specs.List.{AllByRecursion}
 use Rattle.psg_terms.specs.Names.{Name}
 use Rattle.psg_grammar.specs.declared.types.Kind.{Kind}
 use Rattle.psg_grammar.specs.declared.types.Definition.{Definition}
 use Rattle.psg_grammar.specs.Fragments.{Fragment}
 use Rattle.psg_grammar.specs.Insertion.{blank}
-use Rattle.psg_grammar.specs.Marks.{IsMark}
-use Rattle.psg_grammar.specs.Paths.{Path}
 use Rattle.psg_script.specs.declared.command.Command.{Command}
 use Rattle.psg_script.specs.declared.command.Where.TheVariants.{Cursor}
 use Rattle.psg_script.specs.declared.command.Command.TheVariants.{New}
 use Rattle.psg_session.specs.declared.changes.Made.{Made}
-use Rattle.psg_session.specs.declared.changes.Plan.{Plan}
 use Rattle.psg_session.specs.declared.changes.Plan.TheVariants.{RefusedBy, Makes as Plans}
 use Rattle.psg_session.specs.declared.editor.Editor.{Editor}
 use Rattle.psg_session.specs.declared.editor.OpenedTree.{OpenedTree}
@@ -26,8 +23,8 @@ use Rattle.psg_session.specs.PlainState.{State, Opened, not_asked, with_new, wit
 use Rattle.psg_session.specs.Refusals.{Refusal, deep, big, wide, heavy, inadmissible, unknown, no_placeholder_here, number_of, tests_of}
 use Rattle.psg_session.specs.Replies.{refused}
 use Rattle.psg_session.specs.PlainStep.{Gives, by_change, by_new, HasName, IsDeclaringPhylum, Steps, refuses, opens, changes}
-use Rattle.psg_session.specs.Views.{mark_of, opened_of, Represents, IsEditor, Follows}
-use Rattle.psg_session.specs.Outcomes.{Fails, FailsFirst, PassesAll, IsJudged, IsMade, IsOutcome, IsPlan, late_tests, NoneOf}
+use Rattle.psg_session.specs.Views.{mark_of, opened_of, Represents}
+use Rattle.psg_session.specs.Outcomes.{Fails, FailsFirst, PassesAll, IsJudged, IsOutcome, IsPlan, late_tests, NoneOf}
 use Rattle.psg_session.proofs.StepLaws.{Tests, plain, refused_behind, taken_by, none_append, opened_plain}
 
 -- the command is refused with the number

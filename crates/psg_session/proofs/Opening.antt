@@ -1,5 +1,5 @@
 -- Kinds by their names.
-use Rattle.std.proofs.Common.{◌≡◌, Some, None, Option, refl, sym, ◌∙◌, ap}
+use Rattle.std.proofs.Common.{◌≡◌, Some, None, Option, refl}
 use Rattle.std.specs.Option.{option_map}
 use Rattle.std.specs.Prelude.{slice_get}
 use Rattle.std.proofs.lemmas.Option.{none-some, slice_get_within}

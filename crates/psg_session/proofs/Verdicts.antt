@@ -1,5 +1,5 @@
 -- How a tree is judged by its note, or by the fault in its place.
-use Rattle.std.proofs.Common.{◌≡◌, ◌⊎◌, inl, inr, ℕ, zero, suc, List, [], ◌∷◌, ◌++◌, Some, None, slice_get, refl, sym, ◌∙◌, ap, subst}
+use Rattle.std.proofs.Common.{◌≡◌, ℕ, zero, suc, List, [], ◌∷◌, Some, slice_get, refl, sym, subst}
 use Rattle.std.proofs.lemmas.Option.{none-some}
 use Rattle.psg_terms.specs.Relations.{IsIn, first, later}
 use Rattle.psg_grammar.specs.declared.types.Kind.{Kind}

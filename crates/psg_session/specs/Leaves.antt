@@ -1,5 +1,5 @@
 -- The names and literals that the text of a command's arguments gives.
-use Rattle.std.specs.Prelude.{ℕ, ◌≡◌, List, [], ◌∷◌, map, Option, Some, None, chars}
+use Rattle.std.specs.Prelude.{ℕ, ◌≡◌, List, map, Option, Some, None, chars}
 use Rattle.psg_grammar.specs.declared.types.Definition.{Definition}
 use Rattle.psg_grammar.specs.Insertion.{Leaf as PlainLeaf, a_name, a_number, a_text, AreLeaves}
 use Rattle.psg_grammar.specs.Lookups.{operator_at, items_of}

@@ -1,5 +1,5 @@
 -- The editor's values as the plain editor sees them.
-use Rattle.std.specs.Prelude.{ℕ, ◌≡◌, List, [], ◌∷◌, map, Option, None, Some, string_bytes}
+use Rattle.std.specs.Prelude.{◌≡◌, [], ◌∷◌, map, Option, None, Some, string_bytes}
 use Rattle.psg_grammar.specs.Insertion.{Leaf as PlainLeaf, a_name, a_number, a_text}
 use Rattle.psg_grammar.specs.Marks.{good, wrong, Mark as PlainMark}
 use Rattle.psg_grammar.specs.Sound.{IsSound}

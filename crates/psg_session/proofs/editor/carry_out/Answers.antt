@@ -1,5 +1,5 @@
-use Rattle.std.proofs.Common.{◌≡◌, refl, sym, ap, subst, ◌∙◌}
-use Rattle.psg_session.specs.Outcomes.{IsPlan, IsPlanShaped, IsJudged}
+use Rattle.std.proofs.Common.{subst}
+use Rattle.psg_session.specs.Outcomes.{IsPlan, IsPlanShaped}
 use Rattle.psg_session.proofs.Carrying.{carried, refused_plan}
 use Rattle.psg_session.proofs.editor.carry_out.Goals as goal
 

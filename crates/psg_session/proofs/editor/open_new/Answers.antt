@@ -1,12 +1,8 @@
 use Rattle.std.proofs.Common.{[], Some, sym, ap, subst, ◌∙◌, true≢false}
-use Rattle.std.proofs.lemmas.Option.{none-some}
-use Rattle.psg_grammar.specs.declared.types.Kind.{Kind}
-use Rattle.psg_grammar.specs.Kinds.{HasKind}
 use Rattle.psg_cache.specs.Shaped.{IsShaped}
 use Rattle.psg_cache.proofs.ShapedTrees.{blank_shaped}
 use Rattle.psg_session.specs.declared.judging.Change.TheVariants.{Opens}
 use Rattle.psg_session.specs.Outcomes.{IsJudged}
-use Rattle.psg_session.specs.PlainStep.{HasName}
 use Rattle.psg_session.proofs.Carrying.{opened_new, new_unknown, new_declaring}
 use Rattle.psg_session.proofs.Opening.{has_kind, one_kind}
 use Rattle.psg_session.proofs.editor.open_new.Goals as goal

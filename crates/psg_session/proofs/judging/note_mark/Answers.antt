@@ -1,4 +1,4 @@
-use Rattle.std.proofs.Common.{◌≡◌, ◌++◌, ◌∷◌, [], List, take, length, sym, ap, ◌∙◌, refl, arith, true≢false}
+use Rattle.std.proofs.Common.{◌≡◌, ◌++◌, ◌∷◌, [], List, take, sym, ap, ◌∙◌, refl, arith, true≢false}
 use Rattle.std.proofs.lemmas.List.{take_more, take_all}
 use Rattle.psg_grammar.specs.Marks.{wrong}
 use Rattle.psg_grammar.specs.Paths.{Path}
