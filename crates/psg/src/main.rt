@@ -23,10 +23,16 @@ const HELP: &str = "psg: editors of small languages, from their definitions
   psg --help            writes this text
   psg --version         writes the version
 
-Commands of a script:
-  new PHYLUM            a new program: a placeholder of the phylum
-  refine PATH OP        the operator in place of the placeholder at the path, as / or /0/1
+Commands of a script, one a line; a path is / or /0/1, or . for the node that was changed last:
+  new KIND              a new program: a placeholder of the phylum, or an empty list
+  refine PATH OP ARGS   the operator, with its names and literals, in place of the placeholder
+  insert PATH K OP ARGS the operator as a new element of the list, before place K
+  cut PATH              a placeholder, or an empty list, in place of the node
+  remove PATH K         the list without the element
+  close PATH, reopen PATH   the list finished; unfinished again
   show                  the program, and then the mark: ok, or wrong with the paths of what goes wrong
+  own PATH              what the node can mean: a line for each value, with its names' entities
+  free                  the names that may be declared outside
 
 Exit status: 0 done, 1 the definition is refused, 2 these words have no form, 3 a file can't be read,
 4 the output can't be written, 5 out of memory, 6 a file is too long.
