@@ -240,3 +240,33 @@ fn other_languages_are_edited(rt: HostRuntime) -> Result<(), Fail> {
     )?;
     Ok(())
 }
+
+#[test]
+fn a_removed_declaration_makes_a_program_wrong(rt: HostRuntime) -> Result<(), Fail> {
+    plays(
+        &rt,
+        rt.alloc(),
+        MINI,
+        &[
+            ("new Stat", "ok"),
+            ("refine / block", "ok"),
+            ("insert /0 0 vardecl x", "ok"),
+            ("refine /0/0/0 tbool", "ok"),
+            ("close /0", "ok"),
+            ("insert /1 0 block", "ok"),
+            ("insert /1/0/0 0 vardecl x", "ok"),
+            ("close /1/0/0", "ok"),
+            ("insert /1/0/1 0 assign x", "ok"),
+            ("refine /1/0/1/0/0 num 1", "ok"),
+            ("insert /1/0/1 1 assign y", "ok"),
+            // now x is that of the outer block
+            ("remove /1/0/0 0", "wrong /"),
+            ("free", "y"),
+            ("own /", "none"),
+            ("own /1/0", "ok x=var(int) y=var(?1)"),
+            ("insert /1/0/1 2 skip", "refused 12"),
+            ("reopen /1/0/0", "ok"),
+        ],
+    )?;
+    Ok(())
+}
