@@ -3,11 +3,8 @@ use super::plays;
 use psg_langs::{CONSTS, MINI, TINY};
 use std::test::Fail;
 
-
-
 #[test]
 fn a_block_declares_and_assigns(rt: HostRuntime) -> Result<(), Fail> {
-
     plays(
         &rt,
         rt.alloc(),
@@ -23,7 +20,10 @@ fn a_block_declares_and_assigns(rt: HostRuntime) -> Result<(), Fail> {
             ("free", "none"),
             ("insert /0 1 vardecl x", "refused 12"),
             ("cut /0/0", "refused 21"),
-            ("show", "block([vardecl(x,?TypeX)|...],[assign(x,tru)|...])\nok"),
+            (
+                "show",
+                "block([vardecl(x,?TypeX)|...],[assign(x,tru)|...])\nok",
+            ),
             // the declarations end
             ("close /0", "ok"),
             ("close /0", "refused 7"),
@@ -79,7 +79,10 @@ fn inner_regions_hide_and_pass_outward(rt: HostRuntime) -> Result<(), Fail> {
             ("refine /0/0/0/0 tint", "ok"),
             ("refine /1/0/0/0 tbool", "ok"),
             ("free", "none"),
-            ("show", "[block([vardecl(x,tint)|...],[|...]),block([vardecl(x,tbool)|...],[|...])|...]\nok"),
+            (
+                "show",
+                "[block([vardecl(x,tint)|...],[|...]),block([vardecl(x,tbool)|...],[|...])|...]\nok",
+            ),
         ],
     )?;
     Ok(())
@@ -102,7 +105,10 @@ fn one_name_has_one_entity(rt: HostRuntime) -> Result<(), Fail> {
             ("insert / 2 assign y", "ok"),
             ("refine /2/0 tru", "refused 12"),
             ("refine /2/0 num 007", "ok"),
-            ("show", "[assign(x,num(1)),assign(y,ref(x)),assign(y,num(7))|...]\nok"),
+            (
+                "show",
+                "[assign(x,num(1)),assign(y,ref(x)),assign(y,num(7))|...]\nok",
+            ),
         ],
     )?;
     // a name declared twice with equal entities
@@ -187,12 +193,18 @@ fn arguments_are_names_and_literals(rt: HostRuntime) -> Result<(), Fail> {
             ("refine / num", "refused 6"),
             ("refine / num x", "refused 6"),
             ("refine / num 1 2", "refused 6"),
-            ("refine / num 340282366920938463463374607431768211456", "refused 6"),
+            (
+                "refine / num 340282366920938463463374607431768211456",
+                "refused 6",
+            ),
             ("refine / num \"1\"", "refused 6"),
             ("refine / ref true", "refused 6"),
             ("refine / ref ?", "refused 6"),
             ("refine / skip", "refused 5"),
-            ("refine / num  340282366920938463463374607431768211455 ", "ok"),
+            (
+                "refine / num  340282366920938463463374607431768211455 ",
+                "ok",
+            ),
             ("show", "num(340282366920938463463374607431768211455)\nok"),
             ("cut /", "ok"),
             ("refine / cat", "ok"),
