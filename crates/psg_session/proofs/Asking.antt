@@ -22,14 +22,14 @@ use Rattle.psg_session.specs.declared.editor.Editor.{Editor}
 use Rattle.psg_session.specs.declared.editor.OpenedTree.{OpenedTree}
 use Rattle.psg_session.specs.declared.finding.Found.{Found}
 use Rattle.psg_session.specs.declared.judging.Change.TheVariants.{Opens}
-use Rattle.psg_session.specs.Answers.{names_line, names_without, rows_lines}
+use Rattle.psg_session.specs.Answers.{names_line, rows_lines}
 use Rattle.psg_session.specs.Good.{IsGoodIn}
 use Rattle.psg_session.specs.Outcomes.{IsFound, IsNotFound, NoneOf}
 use Rattle.psg_session.specs.PlainState.{State, not_asked}
 use Rattle.psg_session.specs.PlainStep.{IsTaken, Steps, refuses, shows, owns, frees}
 use Rattle.psg_session.specs.Refusals.{nothing_opened, tests_of}
 use Rattle.psg_session.specs.Replies.{Reply, refused, answered, shown}
-use Rattle.psg_session.specs.Views.{Follows, IsEditor, IsOpenedAs, IsOpenedTree, Represents}
+use Rattle.psg_session.specs.Views.{Follows, IsEditor, IsOpenedAs, IsOpenedTree, Represents, names_without}
 use Rattle.psg_session.proofs.KeyMarks.{free_are}
 use Rattle.psg_session.proofs.StepLaws.{plain, refused_behind, taken_by, opened_plain, not_opened, opened_is, node_is, found_before, not_found_plan}
 

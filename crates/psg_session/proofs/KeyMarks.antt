@@ -13,7 +13,8 @@ use Rattle.psg_scope.proofs.KeyLists.{key_refl, and-false, and-true, or-false, l
 use Rattle.psg_scope.proofs.MergeLaws.{undeclared as no_mark}
 use Rattle.psg_scope.proofs.HeaderLaws.{header-rising}
 use Rattle.psg_eval.specs.Summaries.{IsHeaderOf}
-use Rattle.psg_session.specs.Answers.{undeclared, free_names, names_without}
+use Rattle.psg_session.specs.Answers.{undeclared, free_names}
+use Rattle.psg_session.specs.Views.{names_without}
 
 -- a member of a list of columns is above the key that is below all of them
 differs : (c d : NameCol) (cols : List NameCol) → IsBelow (key_of c) (keys cols) → IsIn d cols

@@ -18,6 +18,7 @@ pub mod LeafWords
 pub mod LeafReads
 pub mod LeafNames
 pub mod ChangeLaws
+pub mod OnlyMemory
 pub mod ChangeRefine
 pub mod ChangeInsert
 pub mod ChangeCut

@@ -8,7 +8,6 @@ use Rattle.psg_grammar.specs.declared.types.Definition.{Definition}
 use Rattle.psg_grammar.specs.Fragments.{Fragment}
 use Rattle.psg_grammar.specs.Keys.{Key, name_in}
 use Rattle.psg_grammar.specs.Regions.{declared_in, names_of}
-use Rattle.psg_scope.specs.declared.header.NameCol.{NameCol}
 
 -- each key's name with the text of its entity, `x=int`, after a space
 abbrev pub entities_text : Signature → List Key → List Term → List ℕ
@@ -44,8 +43,3 @@ more_names (n ∷ ns) = 32 ∷ (n ++ more_names ns)
 abbrev pub names_line : List Name → List ℕ
 names_line [] = codes "none"
 names_line (n ∷ ns) = n ++ more_names ns
-
--- the names of the columns that are not declared
-abbrev pub names_without : List NameCol → List Name
-names_without [] = []
-names_without (c ∷ cs) = cond c.declared (names_without cs) (c.name ∷ names_without cs)

@@ -1,5 +1,5 @@
 -- The editor's values as the plain editor sees them.
-use Rattle.std.specs.Prelude.{◌≡◌, [], ◌∷◌, map, Option, None, Some, string_bytes}
+use Rattle.std.specs.Prelude.{◌≡◌, cond, List, [], ◌∷◌, map, Option, None, Some, string_bytes}
 use Rattle.psg_grammar.specs.Insertion.{Leaf as PlainLeaf, a_name, a_number, a_text}
 use Rattle.psg_grammar.specs.Marks.{good, wrong, Mark as PlainMark}
 use Rattle.psg_grammar.specs.Sound.{IsSound}
@@ -7,6 +7,8 @@ use Rattle.psg_grammar.specs.WellFormed.{fixed_words}
 use Rattle.psg_grammar.specs.declared.types.Definition.{Definition}
 use Rattle.psg_cache.specs.Notes.{AreDeclaringSpaces, IsNoteOf}
 use Rattle.psg_cache.specs.Shaped.{IsShaped}
+use Rattle.psg_scope.specs.declared.header.NameCol.{NameCol}
+use Rattle.psg_terms.specs.Names.{Name as PlainName}
 use Rattle.psg_session.specs.declared.language.Language.{Language}
 use Rattle.psg_session.specs.declared.leaves.Leaf.{Leaf}
 use Rattle.psg_session.specs.declared.leaves.Leaf.TheVariants.{Name, Number, Text}
@@ -36,6 +38,11 @@ reply_of (Refused number) = refused number
 reply_of (Marked mark) = marked (mark_of mark)
 reply_of (Shown line mark) = shown (string_bytes line ∷ []) (mark_of mark)
 reply_of (Answered lines) = answered (map string_bytes lines.items)
+
+-- the names of the columns that are not declared
+abbrev pub names_without : List NameCol → List PlainName
+names_without [] = []
+names_without (c ∷ cs) = cond c.declared (names_without cs) (c.name ∷ names_without cs)
 
 -- a sound definition with what is made of it
 pub record IsLanguage (l : Language) : Type 0 where

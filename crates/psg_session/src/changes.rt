@@ -1,10 +1,11 @@
 //! What the changing commands make of the opened fragment, before it is tested.
-ghost use Rattle.std.specs.Prelude.{◌≡◌, ◌↔◌, ◌++◌, ◌∷◌, [], ℕ, true, Ok, Some, IfNone, IfOk, IfSome, IsTrue};
+ghost use Rattle.std.specs.Prelude.{◌≡◌, ◌↔◌, ◌++◌, ◌∷◌, [], ℕ, true, Err, Ok, Some, IfNone, IfOk, IfSome, IsTrue};
 ghost use Rattle.psg_eval.specs.Trees.{IsOfKind};
 ghost use Rattle.psg_cache.specs.Shaped.{IsShaped};
 ghost use Rattle.psg_grammar.specs.Fragments.{hole};
 ghost use Rattle.psg_script.specs.declared.command.Command.TheVariants as commands;
 ghost use Rattle.psg_grammar.specs.Paths.{IsList};
+ghost use Rattle.psg_tree.specs.declared.places.TreeFault.TheVariants.{Memory};
 ghost use Rattle.psg_session.specs.PlainStep.{MayReopen, end_of};
 ghost use Rattle.psg_session.specs.Outcomes.{IsFreshAnswer, IsListed, IsPlan, IsPlanShaped};
 ghost use Rattle.psg_session.specs.Views.{IsEditor, IsLanguage};
@@ -36,8 +37,9 @@ pub enum Plan {
     Makes(Made),
 }
 
-/// What is left of a fault of a tree call whose place was looked at before: only memory was wanting.
+/// The tree that was made. Its place was looked at before, so only memory can have been wanting.
 fn tree_of(made: Result<Tree, TreeFault>) -> Result<Tree, AllocError>
+    requires { (fault : TreeFault) → made ≡ Err fault → fault ≡ Memory }
     ensures { IfOk result (λ tree. made ≡ Ok tree) }
 {
     match made {

@@ -5,9 +5,9 @@ ghost use Rattle.psg_terms.specs.Signature.{AreTerms};
 ghost use Rattle.psg_terms.specs.Terms.{Term as Plain};
 ghost use Rattle.psg_scope.specs.Headers.{keys};
 ghost use Rattle.psg_script.specs.declared.command.Command.TheVariants as commands;
-ghost use Rattle.psg_session.specs.Answers.{entities_text, names_line as names_line_of, names_without, row_line as row_line_of, rows_lines as rows_lines_of};
+ghost use Rattle.psg_session.specs.Answers.{entities_text, names_line as names_line_of, row_line as row_line_of, rows_lines as rows_lines_of};
 ghost use Rattle.psg_session.specs.Outcomes.{IsOutcome};
-ghost use Rattle.psg_session.specs.Views.{IsEditor, IsLanguage};
+ghost use Rattle.psg_session.specs.Views.{IsEditor, IsLanguage, names_without};
 
 use crate::editor::{Editor, Outcome};
 use crate::finding::find;

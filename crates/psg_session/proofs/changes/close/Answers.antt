@@ -1,9 +1,10 @@
-use Rattle.std.proofs.Common.{false, refl, ap, sym, true≢false, ◌∙◌}
+use Rattle.std.proofs.Common.{false, true, refl, ap, sym, true≢false, ◌∙◌}
 use Rattle.psg_grammar.specs.Paths.{change_at, ended}
 use Rattle.psg_tree.specs.Edits.{IsSet}
 use Rattle.psg_session.specs.declared.changes.Made.{Made}
-use Rattle.psg_session.proofs.ChangeLaws.{finished_shaped, found_shaped, ok_at, plan_shaped}
+use Rattle.psg_session.proofs.ChangeLaws.{end_is_list, finished_shaped, found_shaped, ok_at, plan_shaped}
 use Rattle.psg_session.proofs.ChangeClose.{close_nowhere, close_refused, close_made}
+use Rattle.psg_session.proofs.OnlyMemory.{ends}
 use Rattle.psg_session.proofs.changes.close.Goals as goal
 
 pub returns-in-Err-clause-plan : goal.returns-in-Err-clause-plan
@@ -43,3 +44,9 @@ returns-clause-shaped c =
     plan_shaped def c.args.editor.now c.args.place.now found c.requires.editor c.in-Ok.ensures.ok made (ended false)
     (done.made_is ∙ ap (change_at (ended false) found.path.now) c.tree.ensures) refl
     (finished_shaped def found.node.now)
+
+pub tree_of-requires : goal.tree_of-requires
+tree_of-requires c =
+    let found = c.in-Ok.found in
+    ends c.tree.result.now found.held.now.note.tree c.tree.ensures found.path.now found.node.now
+    c.in-Ok.ensures.ok.node (end_is_list c.args.language.now.definition found.node.now true (c.is_unfinished.ensures.0 c.if-not-is_unfinished.false)) c.set_unfinished.result c.set_unfinished.ensures.err

@@ -4,6 +4,7 @@ use Rattle.psg_tree.specs.Faults.{IsReplaced}
 use Rattle.psg_session.specs.declared.changes.Made.{Made}
 use Rattle.psg_session.proofs.ChangeLaws.{found_shaped, kind_there, ok_at, plan_shaped}
 use Rattle.psg_session.proofs.ChangeCut.{cut_nowhere, cut_declares, cut_made, cut_keeps}
+use Rattle.psg_session.proofs.OnlyMemory.{replaces}
 use Rattle.psg_session.proofs.changes.cut.Goals as goal
 
 pub returns-in-Err-clause-plan : goal.returns-in-Err-clause-plan
@@ -62,3 +63,9 @@ returns-clause-shaped c =
     (λ old. c.in_ok-new.new) (done.1 ∙ ap (replaced found.path.now c.in_ok-new.new) c.tree.ensures) refl
     (cut_keeps def c.args.editor.now c.args.place.now found.node.now c.kind_of-node_kind.result
     c.kind_of-node_kind.ensures there c.in_ok-new.new c.in_ok-new.ensures)
+
+pub tree_of-requires : goal.tree_of-requires
+tree_of-requires c =
+    let found = c.in-Ok.found in
+    replaces c.tree.result.now found.held.now.note.tree c.tree.ensures found.path.now found.node.now
+    c.in-Ok.ensures.ok.node c.replace.result c.replace.ensures.err

@@ -1,10 +1,11 @@
-use Rattle.std.proofs.Common.{refl, ap, subst, ◌∙◌}
+use Rattle.std.proofs.Common.{arith, refl, ap, subst, ◌∙◌}
 use Rattle.psg_grammar.specs.Paths.{change_at, inserted}
 use Rattle.psg_tree.specs.Edits.{IsInserted}
 use Rattle.psg_session.specs.declared.changes.Made.{Made}
 use Rattle.psg_session.specs.Outcomes.{IsFreshAnswer}
 use Rattle.psg_session.proofs.ChangeLaws.{found_shaped, ok_at, plan_shaped}
 use Rattle.psg_session.proofs.ChangeInsert.{insert_nowhere, insert_no_list, insert_behind, insert_refused, insert_made, insert_keeps}
+use Rattle.psg_session.proofs.OnlyMemory.{inserts}
 use Rattle.psg_session.proofs.changes.insert_element.Goals as goal
 
 pub returns-in-Err-clause-plan : goal.returns-in-Err-clause-plan
@@ -69,3 +70,9 @@ returns-clause-shaped c =
     (done.made_is ∙ ap (change_at (inserted c.args.number c.in-Ok-2.fresh) found.path.now) c.tree.ensures) refl
     (insert_keeps def c.args.editor.now c.args.place.now c.args.number c.args.name.now c.args.arguments.now
     c.requires.language.sound found.node.now c.in-Some.list c.in-Some.ensures.some c.in-Ok-2.fresh answer)
+
+pub tree_of-requires : goal.tree_of-requires
+tree_of-requires c =
+    let found = c.in-Ok.found in
+    inserts c.tree.result.now found.held.now.note.tree c.tree.ensures found.path.now found.node.now
+    c.in-Ok.ensures.ok.node c.in-Some.ensures.some.is_list c.args.number (let same = c.in-Some.ensures.some.elements in let within = c.if-list-number.false in omega (arith, same, within)) c.insert.result c.insert.ensures.err

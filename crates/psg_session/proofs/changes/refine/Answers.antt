@@ -5,6 +5,7 @@ use Rattle.psg_session.specs.declared.changes.Made.{Made}
 use Rattle.psg_session.specs.Outcomes.{IsFreshAnswer}
 use Rattle.psg_session.proofs.ChangeLaws.{ok_at, plan_shaped}
 use Rattle.psg_session.proofs.ChangeRefine.{refine_nowhere, refine_no_hole, refine_refused, refine_made, refine_keeps}
+use Rattle.psg_session.proofs.OnlyMemory.{replaces}
 use Rattle.psg_session.proofs.changes.refine.Goals as goal
 
 pub returns-in-Err-clause-plan : goal.returns-in-Err-clause-plan
@@ -53,3 +54,9 @@ returns-clause-shaped c =
     (λ old. c.in-Ok-2.fresh) (done.1 ∙ ap (replaced found.path.now c.in-Ok-2.fresh) c.tree.ensures) refl
     (refine_keeps def c.args.editor.now c.args.place.now c.args.name.now c.args.arguments.now
     c.requires.language.sound found.node.now c.in-Some.phylum c.in-Some.ensures.some c.in-Ok-2.fresh answer)
+
+pub tree_of-requires : goal.tree_of-requires
+tree_of-requires c =
+    let found = c.in-Ok.found in
+    replaces c.tree.result.now found.held.now.note.tree c.tree.ensures found.path.now found.node.now
+    c.in-Ok.ensures.ok.node c.replace.result c.replace.ensures.err

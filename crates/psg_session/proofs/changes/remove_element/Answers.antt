@@ -1,10 +1,11 @@
-use Rattle.std.proofs.Common.{refl, ap, ◌∙◌}
+use Rattle.std.proofs.Common.{arith, refl, ap, ◌∙◌}
 use Rattle.psg_grammar.specs.Paths.{change_at, removed}
 use Rattle.psg_tree.specs.Edits.{IsRemoved}
 use Rattle.psg_cache.proofs.ShapedTrees.{removed_shaped}
 use Rattle.psg_session.specs.declared.changes.Made.{Made}
 use Rattle.psg_session.proofs.ChangeLaws.{found_shaped, ok_at, plan_shaped}
 use Rattle.psg_session.proofs.ChangeRemove.{remove_nowhere, remove_no_list, remove_behind, remove_made}
+use Rattle.psg_session.proofs.OnlyMemory.{removes}
 use Rattle.psg_session.proofs.changes.remove_element.Goals as goal
 
 pub returns-in-Err-clause-plan : goal.returns-in-Err-clause-plan
@@ -50,3 +51,9 @@ returns-clause-shaped c =
     (removed c.args.number)
     (done.made_is ∙ ap (change_at (removed c.args.number) found.path.now) c.tree.ensures) refl
     (λ K h. removed_shaped def c.args.number found.node.now K h)
+
+pub tree_of-requires : goal.tree_of-requires
+tree_of-requires c =
+    let found = c.in-Ok.found in
+    removes c.tree.result.now found.held.now.note.tree c.tree.ensures found.path.now found.node.now
+    c.in-Ok.ensures.ok.node c.in-Some.ensures.some.is_list c.args.number (let same = c.in-Some.ensures.some.elements in let within = c.if-list-number.false in omega (arith, same, within)) c.remove.result c.remove.ensures.err

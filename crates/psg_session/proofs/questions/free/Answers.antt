@@ -5,9 +5,9 @@ use Rattle.psg_scope.specs.declared.header.NameCol.{NameCol}
 use Rattle.psg_scope.specs.declared.header.Header.{Header}
 use Rattle.psg_eval.specs.declared.summary.Known.{Known}
 use Rattle.psg_script.specs.declared.command.Command.TheVariants.{Free}
-use Rattle.psg_session.specs.Answers.{names_line, names_without}
+use Rattle.psg_session.specs.Answers.{names_line}
 use Rattle.psg_session.specs.Replies.{answered}
-use Rattle.psg_session.specs.Views.{Follows}
+use Rattle.psg_session.specs.Views.{Follows, names_without}
 use Rattle.psg_session.proofs.Options.{only_none}
 use Rattle.psg_session.proofs.Asking.{free_unopened, free_opened}
 use Rattle.psg_session.proofs.questions.free.Goals as goal

@@ -1,5 +1,5 @@
 use Rattle.std.proofs.Common.{◌≡◌, ◌++◌, drop}
-use Rattle.psg_session.specs.Answers.{names_without}
+use Rattle.psg_session.specs.Views.{names_without}
 use Rattle.psg_session.proofs.questions.undeclared.Given as goal
 
 abbrev pub invariant-loop-column : goal.invariant-loop-column
