@@ -7,11 +7,12 @@
 //!
 //! A summary has the kind of a tree, its header, and its relation: the most general rows of what its value and the entities
 //! of its keys can be. That of a node is made step by step, from its own rows and one child after the other, so no tree is
-//! needed, and what a step keeps is as small as its most general rows.
+//! needed, and what a step keeps is as small as its most general rows. A frame says the same of what stands around a tree.
 #![tactic(auto)]
 
 mod cell;
 pub mod evaluating;
+pub mod frame;
 mod leaves;
 mod node;
 mod outside;
@@ -21,4 +22,5 @@ mod placing;
 pub mod summary;
 
 pub use evaluating::{eval_cell, eval_end, eval_hole, eval_op};
+pub use frame::Frame;
 pub use summary::{EvalFault, Summary};

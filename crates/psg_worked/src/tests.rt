@@ -1,6 +1,12 @@
 //! Definitions that are read, checked and used.
+mod agreement;
 mod classes;
 mod faults;
+mod flat;
+mod ground;
 mod languages;
+mod limits;
 mod notes;
+mod random;
+mod slow;
 mod texts;

@@ -1,13 +1,14 @@
 //! Definitions from texts, and trees from texts of their languages.
 ghost use Rattle.std.specs.Prelude.{◌≡◌, ◌<◌, ◌≤◌, IfOk, IfSome};
 ghost use Rattle.psg_grammar.specs.Sound.{IsSound};
+ghost use Rattle.psg_grammar.specs.WellFormed.{WellFormed};
 ghost use Rattle.psg_grammar.specs.declared.limits.TheConstants.{MOST_BRACKETS};
 ghost use Rattle.psg_class.specs.Class.{IsClass};
 ghost use Rattle.psg_cache.specs.Notes.{IsFormed};
 
 use psg_class::class_check;
 use psg_defread::read_definition;
-use psg_grammar::{Definition, Item, ListKind, Operator, kind_named};
+use psg_grammar::{Definition, Item, Kind, ListKind, Operator, kind_named};
 use psg_lexis::{Lexis, Spanned, lex};
 use psg_parse::{Goal, ParseFault, parse};
 use psg_terms::{Steps, Txt};
@@ -84,13 +85,37 @@ fn counted<L: Ledger>(
     requires name { ledger.name ≡ L.name }
     requires parts { ledger.parts ≡ L.parts }
     requires some { 0 < L.parts }
-    ensures { IfOk result (IsFormed definition.now) }
+    ensures { IfOk result (λ t. WellFormed definition.now t goal.kind) }
 {
     let mut steps = Steps::<L>::of(ledger);
     parse(alloc, definition, goal, tokens, &mut steps)
 }
 
 /// The tree of the kind that the text spells, or `None` where it spells none.
+pub(super) fn tree_of_kind(
+    alloc: Global,
+    definition: &Definition,
+    kind: Kind,
+    text: &str,
+) -> Result<Option<Tree>, AllocError>
+    requires sound { IsSound definition.now }
+    requires class { IsClass definition.now }
+    ensures { IfOk result (λ o. IfSome o (λ t. WellFormed definition.now t kind)) }
+{
+    let goal = Goal {
+        kind,
+        least: 0,
+        around: 0,
+    };
+    let tokens = tokens(alloc, definition, text)?;
+    match counted::<Brand>(alloc, definition, goal, tokens.as_slice(), Blank::new(1)) {
+        Ok(tree) => Ok(Some(tree)),
+        Err(ParseFault::NoTree) => Ok(None),
+        Err(_) => Err(AllocError),
+    }
+}
+
+/// The tree that the text spells of the phylum or list of the name, or `None` where it spells none.
 pub(super) fn tree(
     alloc: Global,
     definition: &Definition,
@@ -104,15 +129,6 @@ pub(super) fn tree(
     let Some(kind) = kind_named(definition, kind) else {
         return Err(AllocError);
     };
-    let goal = Goal {
-        kind,
-        least: 0,
-        around: 0,
-    };
-    let tokens = tokens(alloc, definition, text)?;
-    match counted::<Brand>(alloc, definition, goal, tokens.as_slice(), Blank::new(1)) {
-        Ok(tree) => Ok(Some(tree)),
-        Err(ParseFault::NoTree) => Ok(None),
-        Err(_) => Err(AllocError),
-    }
+    let found = tree_of_kind(alloc, definition, kind, text)?;
+    Ok(found)
 }

@@ -1,7 +1,7 @@
 //! Which trees of a whole language are good, and where the others go wrong.
 ghost use Rattle.std.specs.Prelude.{◌≡◌, ◌<◌, IfOk};
 ghost use Rattle.psg_grammar.specs.Sound.{IsSound};
-ghost use Rattle.psg_cache.specs.Notes.{IsFormed};
+ghost use Rattle.psg_cache.specs.Notes.{IsFormed, IsNoteOf};
 
 use super::languages::{accepted, tree};
 use psg_cache::{Note, NoteFault, build};
@@ -26,6 +26,7 @@ fn counted<L: Ledger>(
     requires name { ledger.name ≡ L.name }
     requires parts { ledger.parts ≡ L.parts }
     requires some { 0 < L.parts }
+    ensures { IfOk result (IsNoteOf definition.now tree.now) }
 {
     let spaces = declaring(alloc, definition)?;
     let mut steps = Steps::<L>::of(ledger);
@@ -33,9 +34,10 @@ fn counted<L: Ledger>(
 }
 
 /// The note of the tree.
-fn noted(alloc: Global, definition: &Definition, tree: &Tree) -> Result<Note, NoteFault>
+pub(super) fn noted(alloc: Global, definition: &Definition, tree: &Tree) -> Result<Note, NoteFault>
     requires sound { IsSound definition.now }
     requires formed { IsFormed definition.now tree.now }
+    ensures { IfOk result (IsNoteOf definition.now tree.now) }
 {
     counted::<Brand>(alloc, definition, tree, Blank::new(1))
 }
