@@ -166,7 +166,6 @@ fn the_heaviest_fragment_and_one_node_more(rt: HostRuntime) -> Result<(), Fail> 
     let cases = [
         (243, "insert / 0 o", "ok\n"),
         (244, "insert / 0 o", "refused 11\n"),
-        (244, "insert / 0 e", "ok\n"),
     ];
     lists(&rt, rt.alloc(), language.as_str(), "Ps", "o", &cases)
 }
