@@ -2,14 +2,14 @@
 ghost use Rattle.psg_grammar.specs.Sound.{IsSound};
 ghost use Rattle.psg_class.specs.Class.{IsClass};
 
-use super::flat::Language;
+use super::flat::Declared;
 use super::ground::{Ground, choices, ground_terms};
 use super::languages::{accepted, tree};
 use super::notes::noted;
 use super::random::{Random, Rules, text};
 use super::slow::Judge;
+use super::trials::{MINI_TEXTS, SCOPE_TEXTS, SCOPES, TERM_TEXTS, TERMS};
 use psg_cache::Note;
-use psg_eval::Summary;
 use psg_grammar::{Definition, Kind, declaring};
 use psg_langs::MINI;
 use psg_relation::RelRow;
@@ -20,170 +20,33 @@ use std::alloc::{AllocError, Global};
 use std::process::Abort;
 use std::test::Fail;
 
-/// Operators whose values have variables, several rows, a variable that stands twice, and rows that can only fit by a
-/// term that contains itself.
-const TERMS: &str = "psg 1
-sort Type = int list(Type) pair(Type,Type)
-phylum Exp : Type
-phylum Count : Type
-op zero : Exp = \"zero\"
-row int
-op any : Exp = \"any\"
-row ?T
-op nil : Exp = \"nil\"
-row list(?T)
-op some : Exp = \"some\"
-row int
-row list(?T)
-row list(int)
-op odd : Exp = \"odd\"
-row pair(?A,list(?A))
-op none : Exp = \"none\"
-op cons : Exp = \"cons\" \"(\" Exp \",\" Exp \")\"
-row list(?T) : ?T list(?T)
-op pair : Exp = \"pair\" \"(\" Exp \",\" Exp \")\"
-row pair(?A,?B) : ?A ?B
-op plus : Exp = \"plus\" \"(\" Exp \",\" Exp \")\"
-row int : int int
-row list(?T) : list(?T) list(?T)
-op same : Exp = \"same\" \"(\" Exp \",\" Exp \")\"
-row ?T : ?T ?T
-op take : Exp = \"take\" \"(\" Exp \",\" Count \")\"
-row ?T : list(?T) int
-row list(?T) : list(?T) list(int)
-op twin : Exp = \"twin\" \"(\" Exp \")\"
-row ?T : pair(?T,?T)
-op swap : Exp = \"swap\" \"(\" Exp \")\"
-row pair(?B,?A) : pair(?A,?B)
-op first : Exp = \"first\" \"(\" Exp \")\"
-row ?A : pair(?A,?B)
-op one : Count = \"one\"
-row int
-op each : Count = \"each\" \"(\" Exp \")\"
-row ?T : ?T
-hole Exp ?T by any
-hole Count int by one
-hole Count list(?T) by each(nil)
-";
+/// Trees that are compared: so many of each kind, each from a text with so many choices. All values and entities up to a
+/// depth are compared, where not too many names have their entities inside the tree.
+#[derive(Clone, Copy)]
+struct Trial<'a> {
+    language: &'a str,
+    rules: Rules<'a>,
+    kinds: &'a [&'a str],
+    texts: u32,
+    choices: u32,
+    depth: u32,
+    deeper: u32,
+    inner: usize,
+}
 
-const TERM_TEXTS: Rules = &[
-    (
-        "Exp",
-        &[
-            &["?Exp"],
-            &["?Exp"],
-            &["zero"],
-            &["any"],
-            &["nil"],
-            &["some"],
-            &["odd"],
-            &["odd"],
-            &["none"],
-            &["cons", "(", "Exp", ",", "Exp", ")"],
-            &["pair", "(", "Exp", ",", "Exp", ")"],
-            &["plus", "(", "Exp", ",", "Exp", ")"],
-            &["same", "(", "Exp", ",", "Exp", ")"],
-            &["take", "(", "Exp", ",", "Count", ")"],
-            &["twin", "(", "Exp", ")"],
-            &["swap", "(", "Exp", ")"],
-            &["first", "(", "Exp", ")"],
-        ],
-    ),
-    (
-        "Count",
-        &[&["?Count"], &["one"], &["each", "(", "Exp", ")"]],
-    ),
-];
+/// Terms without variables: those that are compared, and deeper ones, which names inside the tree may have.
+#[derive(Drop)]
+struct Terms {
+    small: Vec<Ground>,
+    deep: Vec<Ground>,
+}
 
-const MINI_TEXTS: Rules = &[
-    (
-        "Stat",
-        &[
-            &["skip"],
-            &["?Stat"],
-            &["Name", ":=", "Exp"],
-            &["Name", ":=", "Exp"],
-            &["call", "Name", "(", "Args", ")"],
-            &["while", "Exp", "do", "Stats", "od"],
-            &["begin", "Decls", "do", "Stats", "end"],
-            &["begin", "Decls", "do", "Stats", "end"],
-        ],
-    ),
-    (
-        "Exp",
-        &[
-            &["Name"],
-            &["Name"],
-            &["?Exp"],
-            &["1"],
-            &["true"],
-            &["(", "Exp", "+", "Exp", ")"],
-            &["(", "Exp", "&", "Exp", ")"],
-            &["(", "Exp", "=", "Exp", ")"],
-            &["not", "Exp"],
-            &["Name", "[", "Exp", "]"],
-        ],
-    ),
-    (
-        "Stats",
-        &[
-            &[],
-            &["Stat"],
-            &["Stat", ";", "Stat"],
-            &["Stat", ";", "Stat"],
-            &["Stat", ";", "..."],
-        ],
-    ),
-    (
-        "Decls",
-        &[
-            &[],
-            &["Decl"],
-            &["Decl"],
-            &["Decl", ";", "Decl"],
-            &["..."],
-            &["Decl", ";", "..."],
-        ],
-    ),
-    (
-        "Decl",
-        &[
-            &["var", "Name", ":", "TypeX"],
-            &["var", "Name", ":", "TypeX"],
-            &["type", "Name", "=", "TypeX"],
-            &["proc", "Name", "(", "Params", ")", "Stat"],
-        ],
-    ),
-    ("Params", &[&[], &["Param"], &["Param", ",", "Param"]]),
-    ("Param", &[&["Name", ":", "TypeX"]]),
-    (
-        "Args",
-        &[
-            &[],
-            &["Exp"],
-            &["Exp", ",", "Exp"],
-            &["..."],
-            &["Exp", ",", "..."],
-        ],
-    ),
-    (
-        "TypeX",
-        &[
-            &["int"],
-            &["bool"],
-            &["?TypeX"],
-            &["Name"],
-            &["array", "TypeX"],
-        ],
-    ),
-    ("Name", &[&["a"], &["b"]]),
-];
-
-/// How many trees were good, and how many were wrong.
+/// How many trees were good, how many were wrong, and for how many a row was possible.
 #[derive(Drop)]
 struct Counts {
     good: u32,
     wrong: u32,
+    possible: u32,
 }
 
 fn sort_of(definition: &Definition, kind: Kind) -> Option<SortId> {
@@ -202,125 +65,170 @@ fn is_of_rows(alloc: Global, row: &[Term], rows: &[RelRow]) -> Result<bool, Allo
     Ok(false)
 }
 
+/// Whether no row is an instance of another one.
+fn are_most_general(alloc: Global, rows: &[RelRow]) -> Result<bool, AllocError> {
+    for (place, row) in rows.iter().enumerate() {
+        for (other, general) in rows.iter().enumerate() {
+            if place != other && is_instance(alloc, row.terms(), general.terms())? {
+                return Ok(false);
+            }
+        }
+    }
+    Ok(true)
+}
+
 /// The sorts of a row's columns: the value, and the entities of the outermost names.
 fn column_sorts(alloc: Global, sort: SortId, judge: &Judge) -> Result<Vec<SortId>, AllocError> {
-    let Some(sorts) = judge.outer_sorts() else {
-        return Err(AllocError);
-    };
     let mut columns = vec![in alloc; sort]?;
-    columns.extend_from_slice(sorts)?;
+    columns.extend_from_slice(judge.outer_sorts())?;
     Ok(columns)
 }
 
+/// Whether the judge finds the row possible. Where the relation has it, deeper terms are tried too.
+fn is_possible(
+    alloc: Global,
+    judge: &Judge,
+    row: &[Term],
+    terms: &Terms,
+    is_row: bool,
+) -> Result<bool, AllocError> {
+    let Some((value, outside)) = row.split_first() else {
+        return Err(AllocError);
+    };
+    let (small, deep) = (terms.small.as_slice(), terms.deep.as_slice());
+    if judge.is_possible(alloc, value, outside, small, deep)? {
+        return Ok(true);
+    }
+    if !is_row {
+        return Ok(false);
+    }
+    judge.is_possible(alloc, value, outside, deep, deep)
+}
+
 /// Compares all rows of small terms: the judge finds one possible where it is an instance of a row of the relation, and
-/// nowhere else.
+/// nowhere else. Whether there is one.
 fn agree_on(
     rt: &impl Abort,
     alloc: Global,
-    language: Language,
     judge: &Judge,
-    summary: &Summary,
-    shown: &str,
-) -> Result<(), Fail> {
-    let signature = &language.definition.signature;
-    let small = ground_terms(alloc, signature, 2)?;
-    let terms = ground_terms(alloc, signature, 3)?;
-    let inner = ground_terms(alloc, signature, 4)?;
-    let Some(sort) = sort_of(language.definition, summary.kind()) else {
-        panic!(rt; "no sort");
-    };
+    sort: SortId,
+    rows: &[RelRow],
+    terms: &Terms,
+    text: &str,
+) -> Result<bool, Fail> {
+    let mut some = false;
     let sorts = column_sorts(alloc, sort, judge)?;
-    for row in choices(alloc, sorts.as_slice(), small.as_slice())? {
-        let Some((value, outside)) = row.as_slice().split_first() else {
-            panic!(rt; "no value");
-        };
-        let is_row = is_of_rows(alloc, row.as_slice(), summary.rel().rows())?;
-        let is_possible = judge.is_possible(
-            alloc,
-            value,
-            outside,
-            terms.as_slice(),
-            inner.as_slice(),
-        )?;
-        assert!(rt; is_row == is_possible, "{shown}");
+    for row in choices(alloc, sorts.as_slice(), terms.small.as_slice())? {
+        let is_row = is_of_rows(alloc, row.as_slice(), rows)?;
+        let is_possible = is_possible(alloc, judge, row.as_slice(), terms, is_row)?;
+        assert!(rt; is_row == is_possible, "a row: {text}");
+        some = some || is_row;
     }
-    Ok(())
+    Ok(some)
 }
 
-/// Compares the note of the tree with the judge.
+/// Compares the note of the tree with the judge. Whether there is a possible row.
 fn agrees(
     rt: &impl Abort,
     alloc: Global,
-    language: Language,
-    tree: &Tree,
-    note: &Note,
-    shown: &str,
-) -> Result<(), Fail> {
+    declared: Declared,
+    (tree, note): (&Tree, &Note),
+    terms: &Terms,
+    inner: usize,
+    text: &str,
+) -> Result<bool, Fail> {
     let summary = note.root();
-    let judge = Judge::new(alloc, language, tree, summary.header())?;
-    assert!(rt; judge.has_names(summary.header()), "{shown}");
-    assert!(rt; note.is_good() != summary.rel().is_empty(), "{shown}");
-    // each name more that is seen nowhere outside takes the judge 25 times as long
-    if judge.inside() <= 2 {
-        agree_on(rt, alloc, language, &judge, summary, shown)?;
+    let rows = summary.rel().rows();
+    let judge = Judge::new(alloc, declared, tree, summary.header())?;
+    assert!(rt; judge.has_header(summary.header()), "the header: {text}");
+    assert!(rt; note.is_good() != rows.is_empty(), "the mark: {text}");
+    assert!(rt; are_most_general(alloc, rows)?, "the rows: {text}");
+    let Some(sort) = sort_of(declared.definition, summary.kind()) else {
+        panic!(rt; "no sort: {text}");
+    };
+    if judge.inner_names() > inner {
+        return Ok(false);
     }
-    Ok(())
+    agree_on(rt, alloc, &judge, sort, rows, terms, text)
 }
 
-/// Compares trees of the kind with the judge. A text that is no tree's is passed over.
+impl Counts {
+    fn add(&mut self, is_good: bool, is_possible: bool) {
+        if is_good {
+            self.good = self.good.saturating_add(1);
+        } else {
+            self.wrong = self.wrong.saturating_add(1);
+        }
+        if is_possible {
+            self.possible = self.possible.saturating_add(1);
+        }
+    }
+}
+
+/// Compares trees of the kind with the judge.
 fn all_agree<'a>(
     rt: &impl Abort,
     alloc: Global,
     definition: &Definition,
-    rules: Rules<'a>,
+    terms: &Terms,
+    trial: Trial<'a>,
     kind: &'a str,
-    texts: u32,
 ) -> Result<Counts, Fail>
     requires sound { IsSound definition.now }
     requires class { IsClass definition.now }
 {
     let declaring = declaring(alloc, definition)?;
-    let language = Language {
+    let declared = Declared {
         definition,
         declaring: declaring.as_slice(),
     };
     let mut random = Random::new(1986);
-    let mut good = 0u32;
-    let mut wrong = 0u32;
-    for _ in 0..texts {
-        let text = text(alloc, &mut random, rules, kind, 12)?;
+    let mut counts = Counts {
+        good: 0,
+        wrong: 0,
+        possible: 0,
+    };
+    for _ in 0..trial.texts {
+        let text = text(alloc, &mut random, trial.rules, kind, trial.choices)?;
         let Some(tree) = tree(alloc, definition, kind, text.as_str())? else {
-            continue;
+            panic!(rt; "no tree: {text}");
         };
         let Ok(note) = noted(alloc, definition, &tree) else {
             panic!(rt; "no note: {text}");
         };
-        agrees(rt, alloc, language, &tree, &note, text.as_str())?;
-        if note.is_good() {
-            good = good.saturating_add(1);
-        } else {
-            wrong = wrong.saturating_add(1);
-        }
+        let shown = text.as_str();
+        let some = agrees(
+            rt,
+            alloc,
+            declared,
+            (&tree, &note),
+            terms,
+            trial.inner,
+            shown,
+        )?;
+        counts.add(note.is_good(), some);
     }
-    Ok(Counts { good, wrong })
+    Ok(counts)
 }
 
-/// Compares trees of each kind, and sees that good and wrong ones are among them.
-fn kinds_agree<'a>(
-    rt: &impl Abort,
-    alloc: Global,
-    language: &str,
-    rules: Rules<'a>,
-    kinds: &[&'a str],
-) -> Result<(), Fail> {
-    let definition = accepted(alloc, language)?;
-    for kind in kinds {
-        let counts = all_agree(rt, alloc, &definition, rules, *kind, 100)?;
+/// Compares trees of each kind, and sees that good and wrong ones are among them, and that there was something to compare.
+fn trees_agree(rt: &impl Abort, alloc: Global, trial: Trial) -> Result<(), Fail> {
+    let definition = accepted(alloc, trial.language)?;
+    let signature = &definition.signature;
+    let terms = Terms {
+        small: ground_terms(alloc, signature, trial.depth)?,
+        deep: ground_terms(alloc, signature, trial.deeper)?,
+    };
+    for kind in trial.kinds {
+        let counts = all_agree(rt, alloc, &definition, &terms, trial, *kind)?;
+        let Counts {
+            good,
+            wrong,
+            possible,
+        } = counts;
         assert!(rt;
-            counts.good >= 20 && counts.wrong >= 5,
-            "{} {}",
-            counts.good,
-            counts.wrong
+            good >= 20 && wrong >= 5 && possible >= 20,
+            "{kind}: {good} good, {wrong} wrong, {possible} with rows"
         );
     }
     Ok(())
@@ -328,20 +236,45 @@ fn kinds_agree<'a>(
 
 #[test]
 fn trees_without_names(rt: HostRuntime) -> Result<(), Fail> {
-    kinds_agree(&rt, rt.alloc(), TERMS, TERM_TEXTS, &["Exp", "Count"])
+    let trial = Trial {
+        language: TERMS,
+        rules: TERM_TEXTS,
+        kinds: &["Exp", "Count"],
+        texts: 200,
+        choices: 6,
+        depth: 3,
+        deeper: 3,
+        inner: 0,
+    };
+    trees_agree(&rt, rt.alloc(), trial)
 }
 
 #[test]
-fn statements(rt: HostRuntime) -> Result<(), Fail> {
-    kinds_agree(&rt, rt.alloc(), MINI, MINI_TEXTS, &["Stat"])
+fn names_in_regions(rt: HostRuntime) -> Result<(), Fail> {
+    let trial = Trial {
+        language: SCOPES,
+        rules: SCOPE_TEXTS,
+        kinds: &["Stat", "Stats", "Decls"],
+        texts: 200,
+        choices: 12,
+        depth: 1,
+        deeper: 1,
+        inner: 6,
+    };
+    trees_agree(&rt, rt.alloc(), trial)
 }
 
 #[test]
-fn declarations(rt: HostRuntime) -> Result<(), Fail> {
-    kinds_agree(&rt, rt.alloc(), MINI, MINI_TEXTS, &["Decls"])
-}
-
-#[test]
-fn expressions(rt: HostRuntime) -> Result<(), Fail> {
-    kinds_agree(&rt, rt.alloc(), MINI, MINI_TEXTS, &["Exp"])
+fn programs_of_mini(rt: HostRuntime) -> Result<(), Fail> {
+    let trial = Trial {
+        language: MINI,
+        rules: MINI_TEXTS,
+        kinds: &["Stat", "Decls", "Exp"],
+        texts: 100,
+        choices: 8,
+        depth: 3,
+        deeper: 4,
+        inner: 1,
+    };
+    trees_agree(&rt, rt.alloc(), trial)
 }

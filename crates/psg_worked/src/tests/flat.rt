@@ -23,12 +23,12 @@ pub(super) struct Site {
 
 /// A name of a space.
 #[derive(Drop)]
-pub(super) struct Named {
+pub(super) struct Key {
     pub(super) space: u32,
     pub(super) name: Txt,
 }
 
-impl Named {
+impl Key {
     pub(super) fn is(&self, space: u32, name: &Txt) -> bool {
         self.space == space && self.name.same(name)
     }
@@ -38,7 +38,7 @@ impl Named {
 #[derive(Drop)]
 pub(super) struct Position {
     pub(super) region: usize,
-    pub(super) named: Named,
+    pub(super) key: Key,
     pub(super) declares: bool,
 }
 
@@ -60,9 +60,9 @@ pub(super) struct Flat {
     pub(super) regions: Vec<Region>,
 }
 
-/// A language.
+/// A definition with what declares.
 #[derive(Clone, Copy)]
-pub(super) struct Language<'a> {
+pub(super) struct Declared<'a> {
     pub(super) definition: &'a Definition,
     /// For each phylum the spaces in which it declares.
     pub(super) declaring: &'a [Vec<u32>],
@@ -116,13 +116,13 @@ impl Flat {
     fn put_position(
         &mut self,
         region: usize,
-        named: Named,
+        key: Key,
         declares: bool,
     ) -> Result<Column, AllocError> {
         let position = self.positions.len();
         self.positions.push(Position {
             region,
-            named,
+            key,
             declares,
         })?;
         Ok(Column::Entity(position))
@@ -140,11 +140,11 @@ impl Flat {
     /// Marks the spaces of a list that may go on.
     fn put_unfinished(
         &mut self,
-        language: Language,
+        declared: Declared,
         list: &ListKind,
         region: usize,
     ) -> Result<(), AllocError> {
-        let Some(spaces) = language.declaring.get(list.element as usize) else {
+        let Some(spaces) = declared.declaring.get(list.element as usize) else {
             return Err(AllocError);
         };
         let Some(region) = self.regions.get_mut(region) else {
@@ -162,7 +162,7 @@ impl Flat {
 fn put_part(
     alloc: Global,
     flat: &mut Flat,
-    language: Language,
+    declared: Declared,
     item: &Item,
     part: &Part,
     region: usize,
@@ -170,22 +170,22 @@ fn put_part(
 ) -> Result<Option<Column>, AllocError> {
     match (item, part) {
         (Item::Slot(_), Part::Sub(tree)) => {
-            let site = put_tree(alloc, flat, language, tree, region, deep)?;
+            let site = put_tree(alloc, flat, declared, tree, region, deep)?;
             Ok(Some(Column::Child(site)))
         }
         (Item::Refers(space), Part::Name(name)) => {
-            let named = Named {
+            let key = Key {
                 space: *space,
                 name: name.share()?,
             };
-            Ok(Some(flat.put_position(region, named, false)?))
+            Ok(Some(flat.put_position(region, key, false)?))
         }
         (Item::Declares(space), Part::Name(name)) => {
-            let named = Named {
+            let key = Key {
                 space: *space,
                 name: name.share()?,
             };
-            Ok(Some(flat.put_position(region, named, true)?))
+            Ok(Some(flat.put_position(region, key, true)?))
         }
         (Item::Number, Part::Number(_)) | (Item::Text, Part::Text(_)) => Ok(None),
         _ => Err(AllocError),
@@ -204,13 +204,13 @@ fn has_part(item: &Item) -> bool {
 fn put_operator(
     alloc: Global,
     flat: &mut Flat,
-    language: Language,
+    declared: Declared,
     op: u32,
     parts: &[Part],
     outer: usize,
     deep: u32,
 ) -> Result<usize, AllocError> {
-    let Some(operator) = language.definition.operators.as_slice().get(op as usize) else {
+    let Some(operator) = declared.definition.operators.as_slice().get(op as usize) else {
         return Err(AllocError);
     };
     let region = if operator.scope {
@@ -226,7 +226,7 @@ fn put_operator(
                 return Err(AllocError);
             };
             rest = behind;
-            if let Some(column) = put_part(alloc, flat, language, item, part, region, deep)? {
+            if let Some(column) = put_part(alloc, flat, declared, item, part, region, deep)? {
                 columns.push(column)?;
             }
         }
@@ -240,21 +240,21 @@ fn put_operator(
 fn put_list(
     alloc: Global,
     flat: &mut Flat,
-    language: Language,
+    declared: Declared,
     list: u32,
     elements: &[Tree],
     unfinished: bool,
     region: usize,
     deep: u32,
 ) -> Result<usize, AllocError> {
-    let Some(kind) = language.definition.lists.as_slice().get(list as usize) else {
+    let Some(kind) = declared.definition.lists.as_slice().get(list as usize) else {
         return Err(AllocError);
     };
     let end = if unfinished {
-        flat.put_unfinished(language, kind, region)?;
+        flat.put_unfinished(declared, kind, region)?;
         of_holes(
             alloc,
-            language.definition.hole_rows.as_slice(),
+            declared.definition.hole_rows.as_slice(),
             Kind::List(list),
         )?
     } else {
@@ -262,7 +262,7 @@ fn put_list(
     };
     let mut rest = flat.put_site(end, Vec::new(alloc))?;
     for element in elements.iter().rev() {
-        let first = put_tree(alloc, flat, language, element, region, deep)?;
+        let first = put_tree(alloc, flat, declared, element, region, deep)?;
         let cells = of_rows(alloc, kind.cell_rows.as_slice())?;
         let columns = vec![in alloc; Column::Child(first), Column::Child(rest)]?;
         rest = flat.put_site(cells, columns)?;
@@ -270,12 +270,23 @@ fn put_list(
     Ok(rest)
 }
 
+fn put_hole(
+    alloc: Global,
+    flat: &mut Flat,
+    declared: Declared,
+    phylum: u32,
+) -> Result<usize, AllocError> {
+    let holes = declared.definition.hole_rows.as_slice();
+    let rows = of_holes(alloc, holes, Kind::Phylum(phylum))?;
+    flat.put_site(rows, Vec::new(alloc))
+}
+
 /// Puts a tree that is in the region; its site.
 #[cycle(flat)]
 fn put_tree(
     alloc: Global,
     flat: &mut Flat,
-    language: Language,
+    declared: Declared,
     tree: &Tree,
     region: usize,
     deep: u32,
@@ -287,7 +298,7 @@ fn put_tree(
         Shape::Op { op, parts } => put_operator(
             alloc,
             flat,
-            language,
+            declared,
             *op,
             parts.as_slice(),
             region,
@@ -300,28 +311,24 @@ fn put_tree(
         } => put_list(
             alloc,
             flat,
-            language,
+            declared,
             *list,
             elements.as_slice(),
             *unfinished,
             region,
             deep - 1,
         ),
-        Shape::Hole { phylum } => {
-            let holes = language.definition.hole_rows.as_slice();
-            let rows = of_holes(alloc, holes, Kind::Phylum(*phylum))?;
-            flat.put_site(rows, Vec::new(alloc))
-        }
+        Shape::Hole { phylum } => put_hole(alloc, flat, declared, *phylum),
     }
 }
 
 /// The tree, whose top is the last site. It is at most 64 deep.
 pub(super) fn flattened(
     alloc: Global,
-    language: Language,
+    declared: Declared,
     tree: &Tree,
 ) -> Result<Flat, AllocError> {
     let mut flat = Flat::new(alloc)?;
-    put_tree(alloc, &mut flat, language, tree, 0, 64)?;
+    put_tree(alloc, &mut flat, declared, tree, 0, 64)?;
     Ok(flat)
 }

@@ -45,7 +45,11 @@ pub(super) fn choices(
 }
 
 /// The terms whose arguments are among the terms.
-fn over(alloc: Global, signature: &Signature, terms: &[Ground]) -> Result<Vec<Ground>, AllocError> {
+fn applied(
+    alloc: Global,
+    signature: &Signature,
+    terms: &[Ground],
+) -> Result<Vec<Ground>, AllocError> {
     let mut made = Vec::new(alloc);
     for number in 0..signature.constructors() {
         let con = ConId(number);
@@ -67,7 +71,7 @@ pub(super) fn ground_terms(
 ) -> Result<Vec<Ground>, AllocError> {
     let mut terms = Vec::new(alloc);
     for _ in 0..depth {
-        terms = over(alloc, signature, terms.as_slice())?;
+        terms = applied(alloc, signature, terms.as_slice())?;
     }
     Ok(terms)
 }
@@ -120,47 +124,63 @@ fn term_for(bindings: &[Binding], variable: Variable) -> Option<&Term> {
 }
 
 /// Whether the value is the term with some terms for its variables. It binds those that are not bound yet.
+#[cycle(fits)]
 fn fits(
     term: &Term,
     value: &Term,
     bindings: &mut Vec<Binding>,
     deep: u32,
 ) -> Result<bool, AllocError> {
-    if deep == 0 {
-        return Err(AllocError);
-    }
-    match term.node() {
-        Node::Var { sort, number } => {
-            let variable = Variable {
-                sort: sort.0,
-                number: *number,
-            };
-            if let Some(bound) = term_for(bindings.as_slice(), variable) {
-                return Ok(same(bound, value));
-            }
-            let term = value.share()?;
-            bindings.push(Binding { variable, term })?;
-            Ok(true)
-        }
-        Node::Con { con, args } => {
-            let Node::Con {
+    match (term.node(), value.node()) {
+        (Node::Var { sort, number }, _) => bind(bindings, sort.0, *number, value),
+        (
+            Node::Con { con, args },
+            Node::Con {
                 con: made_by,
                 args: values,
-            } = value.node()
-            else {
-                return Ok(false);
-            };
+            },
+        ) => {
             if con.0 != made_by.0 {
                 return Ok(false);
             }
-            for (arg, value) in args.as_slice().iter().zip(values.as_slice()) {
-                if !fits(arg, value, bindings, deep - 1)? {
-                    return Ok(false);
-                }
+            if deep == 0 {
+                return Err(AllocError);
             }
-            Ok(true)
+            all_fit(args.as_slice(), values.as_slice(), bindings, deep - 1)
+        }
+        _ => Ok(false),
+    }
+}
+
+#[cycle(fits)]
+fn all_fit(
+    terms: &[Term],
+    values: &[Term],
+    bindings: &mut Vec<Binding>,
+    deep: u32,
+) -> Result<bool, AllocError> {
+    for (term, value) in terms.iter().zip(values) {
+        if !fits(term, value, bindings, deep)? {
+            return Ok(false);
         }
     }
+    Ok(true)
+}
+
+/// Binds the variable to the value; whether it is bound to no other.
+fn bind(
+    bindings: &mut Vec<Binding>,
+    sort: u32,
+    number: u32,
+    value: &Term,
+) -> Result<bool, AllocError> {
+    let variable = Variable { sort, number };
+    if let Some(bound) = term_for(bindings.as_slice(), variable) {
+        return Ok(same(bound, value));
+    }
+    let term = value.share()?;
+    bindings.push(Binding { variable, term })?;
+    Ok(true)
 }
 
 /// The term with the bound terms for its variables.

@@ -21,7 +21,7 @@ use std::sync::ledger::{Blank, Ledger};
 pub(super) fn definition(alloc: Global, text: &str) -> Result<Definition, AllocError>
     ensures { IfOk result IsSound }
 {
-    if text.len() >= 65_536 {
+    if text.len() >= 1_048_576 {
         return Err(AllocError);
     }
     match read_definition(alloc, text.as_bytes()) {

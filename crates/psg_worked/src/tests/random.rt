@@ -1,7 +1,7 @@
 //! Texts at random, from a fixed seed.
 use std::alloc::{AllocError, Global};
 
-/// Numbers that look random: a linear congruence, of which the high bits count.
+/// Numbers that look random, by a linear congruential generator, of which the high bits count.
 #[derive(Drop)]
 pub(super) struct Random {
     state: u64,
@@ -31,8 +31,8 @@ impl Random {
     }
 }
 
-/// For each name what may stand in its place: the first is the way that ends soonest. A piece that is no name stands for
-/// itself.
+/// For each name the pieces that may stand in its place, in each way. The first way ends. A piece that is no name stands
+/// for itself.
 pub(super) type Rules<'a> = &'a [(&'a str, &'a [&'a [&'a str]])];
 
 fn ways<'a>(rules: Rules<'a>, piece: &str) -> Option<&'a [&'a [&'a str]]> {
@@ -44,31 +44,33 @@ fn ways<'a>(rules: Rules<'a>, piece: &str) -> Option<&'a [&'a [&'a str]]> {
     None
 }
 
-/// A text that stands for the name. After so many turns each name is ended as soon as may be.
+/// A text that stands for the name. So many names are replaced at random, and then each one by its first way.
 pub(super) fn text<'a>(
     alloc: Global,
     random: &mut Random,
     rules: Rules<'a>,
     name: &'a str,
-    turns: u32,
+    choices: u32,
 ) -> Result<String, AllocError> {
     let mut text = String::new(alloc);
+    let mut chosen = 0u32;
     // what is still to be written, the next piece last
     let mut pieces = vec![in alloc; name]?;
-    for turn in 0..1_000 {
+    for _ in 0..1_000 {
         let Some(piece) = pieces.pop() else {
-            break;
+            return Ok(text);
         };
         let Some(ways) = ways(rules, piece) else {
             text.push_str(piece)?;
             text.push(' ')?;
             continue;
         };
-        let way = if turn < turns {
+        let way = if chosen < choices {
             random.pick(ways)
         } else {
             ways.first()
         };
+        chosen = chosen.saturating_add(1);
         let Some(way) = way else {
             return Err(AllocError);
         };
@@ -76,5 +78,5 @@ pub(super) fn text<'a>(
             pieces.push(*next)?;
         }
     }
-    Ok(text)
+    Err(AllocError)
 }

@@ -1,5 +1,5 @@
 //! A plain slow judge of trees: it tries all choices of rows with all terms up to a depth, and all entities of names.
-use super::flat::{Column, Flat, Language, Named, Position, flattened};
+use super::flat::{Column, Declared, Flat, Key, Position, flattened};
 use super::ground::{Ground, choices};
 use psg_scope::Header;
 use psg_terms::matching::same;
@@ -9,35 +9,37 @@ use std::alloc::{AllocError, Global};
 
 /// A name in the region where it has its entity.
 #[derive(Drop)]
-struct Cell {
+struct Bound {
     region: usize,
-    named: Named,
+    key: Key,
 }
 
 /// A tree that is judged.
 #[derive(Drop)]
 pub(super) struct Judge {
     flat: Flat,
-    /// The names of the outermost region in the order of the header, and then the others.
-    cells: Vec<Cell>,
-    /// How many are of the outermost region.
-    outside: usize,
-    /// For each position of a name its cell.
-    cell_of: Vec<usize>,
-    /// For each cell the sort of its entity.
-    sorts: Vec<SortId>,
+    /// The names of the outermost region in the order of the header, and then the inner ones.
+    bounds: Vec<Bound>,
+    /// For each position of a name its place among those.
+    bound_at: Vec<usize>,
+    /// The sorts of the entities of the outermost names, and those of the others.
+    outer_sorts: Vec<SortId>,
+    inner_sorts: Vec<SortId>,
 }
 
-/// What is tried: the terms for variables of rows, and the entities of the cells.
+/// What is tried: the terms for variables of rows, and the entities of the names.
 #[derive(Clone, Copy)]
 struct Tried<'a> {
     terms: &'a [Ground],
     entities: &'a [Term],
 }
 
+/// Sites are nested less deep, the rests of lists included. Where they are not, the answer is want of memory.
+const MOST_DEEP: u32 = 64;
+
 fn is_declared(flat: &Flat, region: usize, space: u32, name: &Txt) -> bool {
     for position in flat.positions.as_slice() {
-        if position.declares && position.region == region && position.named.is(space, name) {
+        if position.declares && position.region == region && position.key.is(space, name) {
             return true;
         }
     }
@@ -47,7 +49,7 @@ fn is_declared(flat: &Flat, region: usize, space: u32, name: &Txt) -> bool {
 /// The region where the name at the position has its entity: the next one outward that declares it or may still declare
 /// it, and otherwise the outermost one.
 fn region_of(flat: &Flat, position: &Position) -> usize {
-    let Named { space, name } = &position.named;
+    let Key { space, name } = &position.key;
     let mut place = position.region;
     for _ in 0..flat.regions.len() {
         let Some(region) = flat.regions.get(place) else {
@@ -68,7 +70,7 @@ fn declares_twice(flat: &Flat, region: usize) -> bool {
         for (earlier, other) in positions.iter().enumerate() {
             let are_two = earlier < place && position.region == region && other.region == region;
             let declare = position.declares && other.declares;
-            if are_two && declare && position.named.is(other.named.space, &other.named.name) {
+            if are_two && declare && position.key.is(other.key.space, &other.key.name) {
                 return true;
             }
         }
@@ -86,37 +88,33 @@ fn is_twice(flat: &Flat) -> bool {
     false
 }
 
-fn cell_at(cells: &[Cell], region: usize, named: &Named) -> Option<usize> {
-    cells.iter().position(|cell| cell.region == region && cell.named.is(named.space, &named.name))
+fn bound_place(bounds: &[Bound], region: usize, key: &Key) -> Option<usize> {
+    bounds.iter().position(|bound| bound.region == region && bound.key.is(key.space, &key.name))
 }
 
-/// The cells of the header's names, which are of the outermost region.
-fn outer_cells(alloc: Global, header: &Header) -> Result<Vec<Cell>, AllocError> {
-    let mut cells = Vec::new(alloc);
+/// The header's names, which are of the outermost region.
+fn outer_bounds(alloc: Global, header: &Header) -> Result<Vec<Bound>, AllocError> {
+    let mut bounds = Vec::new(alloc);
     for column in header.names.as_slice() {
         let name = column.name.share()?;
-        let named = Named {
+        let key = Key {
             space: column.space,
             name,
         };
-        cells.push(Cell { region: 0, named })?;
+        bounds.push(Bound { region: 0, key })?;
     }
-    Ok(cells)
+    Ok(bounds)
 }
 
 fn entity_sorts(
     alloc: Global,
-    language: Language,
-    cells: &[Cell],
+    declared: Declared,
+    bounds: &[Bound],
 ) -> Result<Vec<SortId>, AllocError> {
+    let spaces = declared.definition.spaces.as_slice();
     let mut sorts = Vec::new(alloc);
-    for cell in cells {
-        match language
-            .definition
-            .spaces
-            .as_slice()
-            .get(cell.named.space as usize)
-        {
+    for bound in bounds {
+        match spaces.get(bound.key.space as usize) {
             Some(space) => sorts.push(space.sort)?,
             None => return Err(AllocError),
         }
@@ -124,63 +122,111 @@ fn entity_sorts(
     Ok(sorts)
 }
 
+fn has_all(numbers: &[u32], others: &[u32]) -> bool {
+    for number in others {
+        if !numbers.contains(number) {
+            return false;
+        }
+    }
+    true
+}
+
+/// Whether the names are in order, each once.
+fn are_ascending(header: &Header) -> bool {
+    let names = header.names.as_slice();
+    for (column, next) in names.iter().zip(names.iter().skip(1)) {
+        let is_later = column.space < next.space
+            || (column.space == next.space && column.name.as_str() < next.name.as_str());
+        if !is_later {
+            return false;
+        }
+    }
+    true
+}
+
+/// The outermost names, and then the others; and for each position of a name its place among them.
+fn placed(
+    alloc: Global,
+    flat: &Flat,
+    header: &Header,
+) -> Result<(Vec<Bound>, Vec<usize>), AllocError> {
+    let mut bounds = outer_bounds(alloc, header)?;
+    let mut places = Vec::new(alloc);
+    for position in flat.positions.as_slice() {
+        let region = region_of(flat, position);
+        match bound_place(bounds.as_slice(), region, &position.key) {
+            Some(place) => places.push(place)?,
+            None => {
+                places.push(bounds.len())?;
+                let key = Key {
+                    space: position.key.space,
+                    name: position.key.name.share()?,
+                };
+                bounds.push(Bound { region, key })?;
+            }
+        }
+    }
+    Ok((bounds, places))
+}
+
 impl Judge {
     /// The tree, whose region has the header by the program.
     pub(super) fn new(
         alloc: Global,
-        language: Language,
+        declared: Declared,
         tree: &Tree,
         header: &Header,
     ) -> Result<Judge, AllocError> {
-        let flat = flattened(alloc, language, tree)?;
-        let mut cells = outer_cells(alloc, header)?;
-        let outside = cells.len();
-        let mut cell_of = Vec::new(alloc);
-        for position in flat.positions.as_slice() {
-            let region = region_of(&flat, position);
-            match cell_at(cells.as_slice(), region, &position.named) {
-                Some(cell) => cell_of.push(cell)?,
-                None => {
-                    cell_of.push(cells.len())?;
-                    let named = Named {
-                        space: position.named.space,
-                        name: position.named.name.share()?,
-                    };
-                    cells.push(Cell { region, named })?;
-                }
-            }
-        }
-        let sorts = entity_sorts(alloc, language, cells.as_slice())?;
+        let flat = flattened(alloc, declared, tree)?;
+        let (bounds, bound_at) = placed(alloc, &flat, header)?;
+        let outside = header.names.as_slice().len();
+        let Some((outer, inner)) = bounds.as_slice().split_at_checked(outside) else {
+            return Err(AllocError);
+        };
+        let outer_sorts = entity_sorts(alloc, declared, outer)?;
+        let inner_sorts = entity_sorts(alloc, declared, inner)?;
         Ok(Judge {
             flat,
-            cells,
-            outside,
-            cell_of,
-            sorts,
+            bounds,
+            bound_at,
+            outer_sorts,
+            inner_sorts,
         })
     }
 
     /// How many names have an entity that is seen nowhere outside.
-    pub(super) fn inside(&self) -> usize {
-        self.cells.len().saturating_sub(self.outside)
+    pub(super) fn inner_names(&self) -> usize {
+        self.inner_sorts.len()
     }
 
-    /// Whether the header has each name of the outermost region, no other, and tells which are declared and whether one
-    /// is declared twice there.
-    pub(super) fn has_names(&self, header: &Header) -> bool {
-        if header.twice != declares_twice(&self.flat, 0) {
+    /// The sorts of the entities of the outermost names.
+    pub(super) fn outer_sorts(&self) -> &[SortId] {
+        self.outer_sorts.as_slice()
+    }
+
+    /// Whether the header has each name of the outermost region and no other, in order, and tells which are declared,
+    /// whether one is declared twice, and where more may be declared.
+    pub(super) fn has_header(&self, header: &Header) -> bool {
+        let Some(region) = self.flat.regions.first() else {
             return false;
-        }
-        for cell in self.cells.iter().skip(self.outside) {
-            if cell.region == 0 {
+        };
+        let unfinished = header.unfinished.as_slice();
+        are_ascending(header)
+            && header.twice == declares_twice(&self.flat, 0)
+            && has_all(unfinished, region.unfinished.as_slice())
+            && has_all(region.unfinished.as_slice(), unfinished)
+            && self.has_names(header)
+    }
+
+    fn has_names(&self, header: &Header) -> bool {
+        for bound in self.bounds.iter().skip(self.outer_sorts.len()) {
+            if bound.region == 0 {
                 return false;
             }
         }
         for (place, column) in header.names.as_slice().iter().enumerate() {
-            if !self.cell_of.contains(&place) {
-                return false;
-            }
-            if column.declared != is_declared(&self.flat, 0, column.space, &column.name) {
+            let declared = is_declared(&self.flat, 0, column.space, &column.name);
+            if !self.bound_at.contains(&place) || column.declared != declared {
                 return false;
             }
         }
@@ -188,7 +234,8 @@ impl Judge {
     }
 
     /// Whether the tree has the value under the entities of the outermost names, with some of the terms for variables of
-    /// rows and some of the inner ones as entities of the other names.
+    /// rows and some of the inner ones as entities of the other names. It never says so wrongly; it may miss what takes
+    /// deeper terms.
     pub(super) fn is_possible(
         &self,
         alloc: Global,
@@ -200,11 +247,8 @@ impl Judge {
         if is_twice(&self.flat) {
             return Ok(false);
         }
-        let Some((_, sorts)) = self.sorts.split_at_checked(self.outside) else {
-            return Err(AllocError);
-        };
         let top = self.flat.sites.len().saturating_sub(1);
-        for inside in choices(alloc, sorts, inner)? {
+        for inside in choices(alloc, self.inner_sorts.as_slice(), inner)? {
             let mut entities = Vec::new(alloc);
             for entity in outside.iter().chain(inside.as_slice()) {
                 entities.push(entity.share()?)?;
@@ -213,30 +257,25 @@ impl Judge {
                 terms,
                 entities: entities.as_slice(),
             };
-            if has_value(alloc, self, top, value, tried, 64)? {
+            if has_value(alloc, self, top, value, tried, MOST_DEEP)? {
                 return Ok(true);
             }
         }
         Ok(false)
     }
-
-    /// The sorts of the entities of the outermost names.
-    pub(super) fn outer_sorts(&self) -> Option<&[SortId]> {
-        self.sorts.get(..self.outside)
-    }
 }
 
 fn has_entity(judge: &Judge, position: usize, value: &Term, entities: &[Term]) -> bool {
-    let Some(cell) = judge.cell_of.get(position) else {
+    let Some(place) = judge.bound_at.get(position) else {
         return false;
     };
-    match entities.get(*cell) {
+    match entities.get(*place) {
         Some(entity) => same(entity, value),
         None => false,
     }
 }
 
-/// Whether the site has the value by one of its rows, under the entities of the cells.
+/// Whether the site has the value by one of its rows, under the entities of the names.
 #[cycle(values)]
 fn has_value(
     alloc: Global,
