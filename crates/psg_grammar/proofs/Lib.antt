@@ -16,3 +16,6 @@ pub mod TableLaws
 pub mod PassLaws
 pub mod CaseLittle
 pub mod CaseLevels
+pub mod PathLaws
+pub mod FillingLaws
+pub mod RelationLaws

@@ -7,6 +7,7 @@ pub mod Regions
 pub mod WellFormed
 pub mod Sizes
 pub mod Paths
+pub mod Ways
 pub mod Fillings
 pub mod Legal
 pub mod Open

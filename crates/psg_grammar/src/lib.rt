@@ -11,6 +11,7 @@
 #![tactic(auto)]
 
 pub mod kinds;
+pub mod laws;
 pub mod levels;
 pub mod limits;
 pub mod spaces;

@@ -13,6 +13,7 @@ pub mod Sizes
 pub mod Matching
 pub mod Renaming
 pub mod Text
+pub mod Clear
 pub mod Relations
 pub mod Declarations
 pub mod Refusals

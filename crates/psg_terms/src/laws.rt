@@ -1,5 +1,5 @@
 //! Laws of rows and relations, as contracts of calls that do nothing.
-ghost use Rattle.std.specs.Prelude.{◌≡◌, ◌↔◌, List, ℕ, map};
+ghost use Rattle.std.specs.Prelude.{◌≡◌, ◌↔◌, ◌<◌, ◌^◌, List, ℕ, map};
 ghost use Rattle.psg_terms.specs.Terms.{Term as Plain};
 ghost use Rattle.psg_terms.specs.Signature.{HaveSorts};
 ghost use Rattle.psg_terms.specs.Instances.{Substitution, substitute, IsInstance, IsGrounding, IsGroundInstance, HasSameInstances};
@@ -8,6 +8,9 @@ ghost use Rattle.psg_terms.specs.Refusals.{IsRefused};
 ghost use Rattle.psg_terms.specs.declared.declare.SortDecl.{SortDecl};
 ghost use Rattle.psg_terms.specs.declared.declare.SigFault.{SigFault};
 ghost use Rattle.psg_terms.specs.Relations.{IsIn, IsMaximal, IsRelation};
+ghost use Rattle.psg_terms.specs.Text.{row_text};
+ghost use Rattle.psg_terms.specs.Clear.{HasClearNames};
+ghost use Rattle.psg_terms.specs.Weight.{weight_of};
 
 use crate::sorts::Signature;
 
@@ -43,6 +46,20 @@ pub fn canonical_rows(sig: &Signature)
 pub fn maximal_rows<F: Family>(sig: &Signature)
     ensures { (sorts : List ℕ) (rows : List (List Plain)) → IsRelation sig.now sorts F.possible rows
         → (row : List Plain) → IsIn row rows ↔ IsMaximal sig.now sorts F.possible row }
+{
+    sig.sound();
+}
+
+/// A family has one relation. Two have the same rows and the same texts in the same order. They are the same list where no
+/// constructor's name has a character that a term's text puts between names, and their weight is below 2^64, so that the
+/// numbers of variables are written whole.
+pub fn one_relation<F: Family>(sig: &Signature)
+    ensures rows { (ls rs : List ℕ) (rows others : List (List Plain)) → IsRelation sig.now ls F.possible rows
+        → IsRelation sig.now rs F.possible others → (row : List Plain) → IsIn row rows → IsIn row others }
+    ensures texts { (ls rs : List ℕ) (rows others : List (List Plain)) → IsRelation sig.now ls F.possible rows
+        → IsRelation sig.now rs F.possible others → map (row_text sig.now) rows ≡ map (row_text sig.now) others }
+    ensures list { (ls rs : List ℕ) (rows others : List (List Plain)) → IsRelation sig.now ls F.possible rows
+        → IsRelation sig.now rs F.possible others → HasClearNames sig.now → weight_of rows < 2 ^ 64 → rows ≡ others }
 {
     sig.sound();
 }

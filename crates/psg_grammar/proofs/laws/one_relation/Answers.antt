@@ -1,0 +1,9 @@
+use Rattle.psg_grammar.proofs.RelationLaws.{rows_are_maximal, same_texts, one_list}
+use Rattle.psg_grammar.proofs.laws.one_relation.Goals as goal
+
+pub returns : goal.returns
+returns c = record {
+  maximal = rows_are_maximal c.args.definition.now c.requires;
+  texts = same_texts c.args.definition.now c.requires;
+  list = one_list c.args.definition.now c.requires;
+}
