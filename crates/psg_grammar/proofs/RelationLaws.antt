@@ -1,6 +1,7 @@
 -- A fragment has one relation, since it is that of one family.
 use Rattle.std.proofs.Common.{◌≡◌, ◌≢◌, ◌↔◌, ℕ, ◌+◌, ◌<◌, ◌^◌, ◌==◌, ◌&&◌, ◌||◌, nat_le, Bool, true, false, List, [], ◌∷◌, map, length, inl, inr, ◌⊎◌, refl, sym, ◌∙◌, ap, arith, true≢false, eqb-true}
 use Rattle.std.specs.List.{AllByRecursion, list_all}
+use Rattle.std.proofs.lemmas.Bool.{and_parts}
 use Rattle.psg_terms.specs.Terms.{Term}
 use Rattle.psg_terms.specs.Names.{Name}
 use Rattle.psg_terms.specs.Signature.{Symbol}
@@ -17,18 +18,6 @@ use Rattle.psg_grammar.specs.Sound.{IsSound, IsOwnName, between, is_upper, is_lo
 
 -- ---- own names are clear
 
-and_left : (a b : Bool) → a && b ≡ true → a ≡ true
-and_left true b e = refl
-and_left false b e = e
-
-and_right : (a b : Bool) → a && b ≡ true → b ≡ true
-and_right true b e = e
-and_right false b e = absurd (true≢false (sym e))
-
-or_cases : (a b : Bool) → a || b ≡ true → (a ≡ true) ⊎ (b ≡ true)
-or_cases true b e = inl refl
-or_cases false b e = inr e
-
 -- a test that the characters between names fail tells clear ones
 clear_by : (test : ℕ → Bool) → test 32 ≡ false → test 40 ≡ false → test 41 ≡ false → test 44 ≡ false → test 63 ≡ false → (c : ℕ) → test c ≡ true → IsClear c
 clear_by test a b d e f c h = (
@@ -42,16 +31,16 @@ clear_by test a b d e f c h = (
 clear_rest : (cs : Name) → list_all goes_on_name cs ≡ true → AllByRecursion IsClear cs
 clear_rest [] h = tt
 clear_rest (c ∷ cs) h = (
-  clear_by goes_on_name refl refl refl refl refl c (and_left (goes_on_name c) (list_all goes_on_name cs) h),
-  clear_rest cs (and_right (goes_on_name c) (list_all goes_on_name cs) h),
+  clear_by goes_on_name refl refl refl refl refl c (and_parts (goes_on_name c) (list_all goes_on_name cs) h).0,
+  clear_rest cs (and_parts (goes_on_name c) (list_all goes_on_name cs) h).1,
 )
 
 clear_name : (n : Name) → IsOwnName n → AllByRecursion IsClear n
 clear_name [] h = absurd (true≢false (sym h))
 clear_name (c ∷ cs) h =
-    let front = and_left (is_lower c && list_all goes_on_name cs) (nat_le (length cs) 63) h in (
-      clear_by is_lower refl refl refl refl refl c (and_left (is_lower c) (list_all goes_on_name cs) front),
-      clear_rest cs (and_right (is_lower c) (list_all goes_on_name cs) front),
+    let front = and_parts (is_lower c) (list_all goes_on_name cs) (and_parts (is_lower c && list_all goes_on_name cs) (nat_le (length cs) 63) h).0 in (
+      clear_by is_lower refl refl refl refl refl c front.0,
+      clear_rest cs front.1,
     )
 
 clear_names : (symbols : List Symbol) → AllByRecursion (λ (s : Symbol). IsOwnName s.name) symbols → AllByRecursion (λ (s : Symbol). AllByRecursion IsClear s.name) symbols

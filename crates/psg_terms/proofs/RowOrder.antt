@@ -166,7 +166,7 @@ module _ (sig : Signature) (sound : IsSound sig) {C : Type 0} (Possible : C → 
   one_list clear small =
       same_members (row_text sig) rows others
       (λ x y h k e.
-          let here = back y k in
-          row_tells sig clear sound.constructor_names x y ls (l.shapes x h).sorted (l.shapes y here).sorted
-          (member-narrow sig rows x h (l.shapes x h).canonical small) (member-narrow sig rows y here (l.shapes y here).canonical small) e)
+      let here = back y k in
+      row_tells sig clear sound.constructor_names x y ls (l.shapes x h).sorted (l.shapes y here).sorted
+      (member-narrow sig rows x h (l.shapes x h).canonical small) (member-narrow sig rows y here (l.shapes y here).canonical small) e)
       same_row_texts

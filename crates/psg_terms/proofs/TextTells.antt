@@ -3,6 +3,7 @@ use Rattle.std.proofs.Common.{◌≡◌, ◌≢◌, ◌⊎◌, inl, inr, ℕ, ze
 use Rattle.std.specs.Prelude.{decimal, bytes_eq, sum_by}
 use Rattle.std.specs.Fmt.{digits, digits_onto, digit_glyph}
 use Rattle.std.specs.List.{AllByRecursion}
+use Rattle.std.proofs.lemmas.Bool.{or_parts, or_right}
 use Rattle.std.proofs.lemmas.Fmt.{decimal_injective}
 use Rattle.std.proofs.lemmas.List.Sums.{sum_by-cons}
 use Rattle.psg_terms.specs.Terms.{Term, variable, symbol, apply}
@@ -24,7 +25,7 @@ use Rattle.psg_terms.proofs.Variables.{cases, same_variable-true}
 abbrev AreClear : List ℕ → Type 0
 AreClear text = AllByRecursion IsClear text
 
--- nothing, or a character that is not clear one
+-- nothing, or a character that is not clear at first
 abbrev Stops : List ℕ → Type 0
 Stops [] = Unit {0}
 Stops (c ∷ rest) = IsClear c → ⊥
@@ -37,7 +38,7 @@ abbrev rest_of : List ℕ → List ℕ
 rest_of [] = []
 rest_of (c ∷ rest) = rest
 
--- clear characters up to the one one that is not
+-- clear characters up to the first that is not
 cut : (a b c d : List ℕ) → AreClear a → AreClear c → Stops b → Stops d → a ++ b ≡ c ++ d → (a ≡ c) × (b ≡ d)
 cut [] b [] d h g s t e = (refl, e)
 cut [] [] (y ∷ c) d h g s t e = absurd (cc)
@@ -77,30 +78,18 @@ IsNarrow (apply f a) = IsNarrow f × IsNarrow a
 
 -- ---- names
 
-last_true : (b c : Bool) → c ≡ true → (b || c) ≡ true
-last_true true c h = refl
-last_true false c h = h
-
 among_same : (n : ℕ) (x : Symbol) (symbols : List Symbol) → slice_get symbols n ≡ Some x → is_among (map (λ (s : Symbol). s.name) symbols) x.name ≡ true
 among_same n x [] e = absurd (cc)
 among_same zero x (s ∷ symbols) e =
     let d : s ≡ x = let i : Some s ≡ Some x = e in cc in
     ap (λ b. b || is_among (map (λ (s : Symbol). s.name) symbols) x.name) (ap (λ (z : Symbol). bytes_eq z.name x.name) d ∙ bytes_eq-refl x.name)
-among_same (suc n) x (s ∷ symbols) e = last_true (bytes_eq s.name x.name) (is_among (map (λ (z : Symbol). z.name) symbols) x.name) (among_same n x symbols e)
+among_same (suc n) x (s ∷ symbols) e = or_right (bytes_eq s.name x.name) (is_among (map (λ (z : Symbol). z.name) symbols) x.name) (among_same n x symbols e)
 
-first_false : (b c : Bool) → (b || c) ≡ false → b ≡ false
-first_false true c h = h
-first_false false c h = refl
-
-last_false : (b c : Bool) → (b || c) ≡ false → c ≡ false
-last_false true c h = absurd (true≢false h)
-last_false false c h = h
-
--- the name of the one is at no later place
+-- the name of the first is at no later place
 not_later : (s x : Symbol) (symbols : List Symbol) (n : ℕ) → (is_among (map (λ (z : Symbol). z.name) symbols) s.name || has_twice (map (λ (z : Symbol). z.name) symbols)) ≡ false
     → slice_get symbols n ≡ Some x → s.name ≡ x.name → ⊥
 not_later s x symbols n once e same =
-    true≢false (sym (ap (λ (l : Name). is_among (map (λ (z : Symbol). z.name) symbols) l) same ∙ among_same n x symbols e) ∙ first_false (is_among (map (λ (z : Symbol). z.name) symbols) s.name) (has_twice (map (λ (z : Symbol). z.name) symbols)) once)
+    true≢false (sym (ap (λ (l : Name). is_among (map (λ (z : Symbol). z.name) symbols) l) same ∙ among_same n x symbols e) ∙ (or_parts (is_among (map (λ (z : Symbol). z.name) symbols) s.name) (has_twice (map (λ (z : Symbol). z.name) symbols)) once).0)
 
 names_apart : (symbols : List Symbol) → has_twice (map (λ (s : Symbol). s.name) symbols) ≡ false → (c d : ℕ) (p q : Symbol) → slice_get symbols c ≡ Some p → slice_get symbols d ≡ Some q → p.name ≡ q.name → c ≡ d
 names_apart [] once c d p q fp fq e = absurd (cc)
@@ -112,7 +101,7 @@ names_apart (s ∷ symbols) once (suc c) zero p q fp fq e =
     let i : s ≡ q = let j : Some s ≡ Some q = fq in cc in
     absurd (not_later s p symbols c once fp (ap (λ (z : Symbol). z.name) i ∙ sym e))
 names_apart (s ∷ symbols) once (suc c) (suc d) p q fp fq e =
-    ap (λ n. suc n) (names_apart symbols (last_false (is_among (map (λ (z : Symbol). z.name) symbols) s.name) (has_twice (map (λ (z : Symbol). z.name) symbols)) once) c d p q fp fq e)
+    ap (λ n. suc n) (names_apart symbols (or_parts (is_among (map (λ (z : Symbol). z.name) symbols) s.name) (has_twice (map (λ (z : Symbol). z.name) symbols)) once).1 c d p q fp fq e)
 
 -- one constructor does not want both so many arguments and more
 fewer : (symbols : List Symbol) (p q : Symbol) (c d n m k : ℕ) → c ≡ d → slice_get symbols c ≡ Some p → slice_get symbols d ≡ Some q
@@ -193,13 +182,21 @@ module _ (sig : Signature) (clear : HasClearNames sig) (once : has_twice (map (�
   head : (f : Term) (one : ℕ) (more : List ℕ) (s : ℕ) → Takes sig f (one ∷ more) s → HasHead f (length (one ∷ more))
   head (variable v n) one more s h = absurd (cc)
   head (symbol c) one more s (x, found, arguments, sort) = record {
-    number = c; made = x; found = found; arity = ap length arguments ∙ omega arith; after = []; text = refl;
+    number = c;
+    made = x;
+    found = found;
+    arity = ap length arguments ∙ omega arith;
+    after = [];
+    text = refl;
   }
   head (apply f a) one more s (before, takes, argument) =
       let h = head f before (one ∷ more) s takes in
       let e : length (before ∷ one ∷ more) ≡ length (one ∷ more) + 1 = omega arith in
       record {
-        number = h.number; made = h.made; found = h.found; arity = h.arity ∙ omega (arith, e);
+        number = h.number;
+        made = h.made;
+        found = h.found;
+        arity = h.arity ∙ omega (arith, e);
         after = h.after ++ (term_text sig a ++ 44 ∷ []);
         text =
             append_assoc (opened sig f) (term_text sig a) (44 ∷ [])
