@@ -20,7 +20,7 @@ use Rattle.psg_defcheck.specs.Faults.{meaning_codes, PassesMeaning, ArePassed, I
 use Rattle.psg_defread.specs.Refusals.{HasMeaningFault, IsReadFault, Refusal, no_form, no_meaning}
 use Rattle.psg_defread.specs.Reading.{IsFaultless}
 
-written_append : (xs ys : List Entry) → written (xs ++ ys) ≡ written xs ++ written ys
+pub written_append : (xs ys : List Entry) → written (xs ++ ys) ≡ written xs ++ written ys
 written_append [] ys = refl
 written_append (None ∷ xs) ys = written_append xs ys
 written_append (Some x ∷ xs) ys = ap (λ r. x ∷ r) (written_append xs ys)
@@ -31,7 +31,7 @@ all_pass Passes [] code all first = first
 all_pass Passes (t ∷ tests) code all (inl (fails, is)) = fails all.0
 all_pass Passes (t ∷ tests) code all (inr (passes, first)) = all_pass Passes tests code all.1 first
 
-passed_at : (file above front : List Line) (line : Line) (behind : List Line) → ArePassed file above (front ++ line ∷ behind) → AllByRecursion (PassesMeaning file (above ++ front) line) meaning_codes
+pub passed_at : (file above front : List Line) (line : Line) (behind : List Line) → ArePassed file above (front ++ line ∷ behind) → AllByRecursion (PassesMeaning file (above ++ front) line) meaning_codes
 passed_at file above [] line behind h = subst (λ a. AllByRecursion (PassesMeaning file a line) meaning_codes) (sym (append-nil above)) h.0
 passed_at file above (x ∷ front) line behind h =
     subst (λ a. AllByRecursion (PassesMeaning file a line) meaning_codes) (append_assoc above (x ∷ []) front) (passed_at file (above ++ x ∷ []) front line behind h.1)

@@ -67,14 +67,14 @@ module _ (once : SpellOnce) where
     ),
   )
 
-  all-pass : (Passes : DefCode → Type 0) (tests : List DefCode) (code : DefCode) → AllByRecursion Passes tests
+  pub all-pass : (Passes : DefCode → Type 0) (tests : List DefCode) (code : DefCode) → AllByRecursion Passes tests
       → IsFirstOf Passes tests code → ⊥
   all-pass Passes [] code all first = first
   all-pass Passes (t ∷ tests) code all (inl (fails, is)) = fails all.0
   all-pass Passes (t ∷ tests) code all (inr (pass, first)) = all-pass Passes tests code all.1 first
 
   -- the entry at a text
-  clean-at : (above : List Line) (front : List (List ℕ)) (t : List ℕ) (behind : List (List ℕ)) (es fs : List Entry)
+  pub clean-at : (above : List Line) (front : List (List ℕ)) (t : List ℕ) (behind : List (List ℕ)) (es fs : List Entry)
       → AreEntries above (front ++ t ∷ behind) es → AreEntries above front fs → AllByRecursion IsPlain (written es)
       → AllByRecursion (PassesForm (above ++ written fs) t) form_codes
   clean-at above [] t behind [] fs h k p = absurd h
@@ -103,7 +103,7 @@ module _ (once : SpellOnce) where
       rest None xs q = q
       rest (Some line) xs q = q.1
 
-  clean : (bytes : List ℕ) (es : List Entry) → IsUtf8 bytes → AreSpelled (texts_of bytes) es
+  pub clean : (bytes : List ℕ) (es : List Entry) → IsUtf8 bytes → AreSpelled (texts_of bytes) es
       → AllByRecursion IsPlain (written es) → HasNoFormFault bytes
   clean bytes es utf8 spelled plain fault (no_text n bad line code) =
       bad.longest (length bytes) bad.inside (omega arith)

@@ -60,3 +60,4 @@ pub mod PassedOperators
 pub mod PassedLists
 pub mod PassedHoles
 pub mod PassedLines
+pub mod OneFault

@@ -9,6 +9,7 @@
 
 mod holes;
 mod kinds;
+pub mod laws;
 mod lines;
 mod list_rows;
 mod names;
