@@ -1,13 +1,11 @@
 -- A tree has one weight, since it has one relation.
-use Rattle.std.proofs.Common.{◌≡◌, ℕ, ◌+◌, ◌≤◌, List, [], ◌∷◌, ◌++◌, map, refl, sym, ◌∙◌, ap, subst, arith}
-use Rattle.psg_terms.specs.Terms.{Term, variable, symbol, apply}
-use Rattle.psg_terms.specs.Signature.{Signature, Symbol, Takes, HaveSorts}
+use Rattle.std.proofs.Common.{◌≡◌, ℕ, ◌+◌, ◌≤◌, List, [], ◌∷◌, ◌++◌, refl, arith}
+use Rattle.psg_terms.specs.Terms.{Term}
+use Rattle.psg_terms.specs.Signature.{Signature}
 use Rattle.psg_terms.specs.Sound.{IsSound as IsSoundSignature}
-use Rattle.psg_terms.specs.Instances.{Substitution, substitute, IsSorted, IsGroundInstance}
-use Rattle.psg_terms.specs.Relations.{IsIn, IsRelation}
+use Rattle.psg_terms.specs.Relations.{IsRelation}
 use Rattle.psg_terms.specs.Weight.{symbols_of, weight_of}
-use Rattle.psg_terms.proofs.InstanceLaws.{Takes-substitute}
-use Rattle.psg_terms.proofs.RelationLaws.{row_is_maximal}
+use Rattle.psg_terms.proofs.OneRelation.{same_rows}
 use Rattle.std.specs.Prelude.{sum_by}
 use Rattle.psg_relation.proofs.Weights.{sum-some}
 use Rattle.psg_grammar.specs.declared.types.Definition.{Definition}
@@ -17,68 +15,15 @@ use Rattle.psg_grammar.specs.Relations.{IsPossible, IsRelationOf}
 use Rattle.psg_grammar.specs.Steps.{HasWeights, of_node, BelowWeigh, below_hole, below_ending, below_operator, below_cell, below_child, below_name, below_number, below_text, below_observed, IsHeavy}
 use Rattle.psg_grammar.specs.declared.limits.TheConstants.{MOST_WEIGHTS}
 use Rattle.psg_cache.specs.Walks.{WeighTogether}
-use Rattle.psg_cache.proofs.Each.{same_some}
 use Rattle.psg_cache.proofs.RealTrees.{IsReal, IsSpine}
 
-module _ (sig : Signature) where
-  -- a term has one sort
-  takes_once : (t : Term) (v w : List ℕ) (s r : ℕ) → Takes sig t v s → Takes sig t w r → (v ≡ w) × (s ≡ r)
-  takes_once (variable a n) v w s r (i, e, f) (j, g, h) = (e ∙ sym g, sym f ∙ h)
-  takes_once (symbol c) v w s r (x, at, e, f) (y, there, g, h) =
-      let same : x ≡ y = same_some x y (sym at ∙ there) in
-      (sym e ∙ ap (λ (z : Symbol). z.arguments) same ∙ g, sym f ∙ ap (λ (z : Symbol). z.sort) same ∙ h)
-  takes_once (apply f a) v w s r (x, hf, ha) (y, kf, ka) =
-      let both = takes_once f (x ∷ v) (y ∷ w) s r hf kf in
-      (behind x y v w both.0, both.1) where
-        behind : (x y : ℕ) (v w : List ℕ) → x ∷ v ≡ y ∷ w → v ≡ w
-        behind x y v w e = cc
-
-  sorts_once : (row : List Term) (ss rs : List ℕ) → HaveSorts sig row ss → HaveSorts sig row rs → ss ≡ rs
-  sorts_once [] [] [] h k = refl
-  sorts_once [] [] (r ∷ rs) h k = absurd k
-  sorts_once [] (s ∷ ss) rs h k = absurd h
-  sorts_once (t ∷ row) [] rs h k = absurd h
-  sorts_once (t ∷ row) (s ∷ ss) [] h k = absurd k
-  sorts_once (t ∷ row) (s ∷ ss) (r ∷ rs) h k =
-      let e = (takes_once t [] [] s r h.0 k.0).1 in
-      let f = sorts_once row ss rs h.1 k.1 in
-      both s r ss rs e f where
-        both : (s r : ℕ) (ss rs : List ℕ) → s ≡ r → ss ≡ rs → s ∷ ss ≡ r ∷ rs
-        both s r ss rs e f = cc
-
-  sorts-substitute : (f : Substitution) → IsSorted sig f → (row : List Term) (ss : List ℕ) → HaveSorts sig row ss
-      → HaveSorts sig (map (substitute f) row) ss
-  sorts-substitute f sorted [] [] h = tt
-  sorts-substitute f sorted [] (s ∷ ss) h = absurd h
-  sorts-substitute f sorted (t ∷ row) [] h = absurd h
-  sorts-substitute f sorted (t ∷ row) (s ∷ ss) h =
-      (Takes-substitute sig f sorted t [] s h.0, sorts-substitute f sorted row ss h.1)
-
-  instance-sorts : (row columns : List Term) (ss : List ℕ) → HaveSorts sig row ss → IsGroundInstance sig row columns
-      → HaveSorts sig columns ss
-  instance-sorts row columns ss h (f, ground, e) =
-      subst (λ x. HaveSorts sig x ss) (sym e) (sorts-substitute f ground.sorted row ss h)
-
-  module _ (sound : IsSoundSignature sig) {C : Type 0} (Possible : C → List Term → Type 0) where
-    -- two relations of one family have the same rows
-    rows_in : (ss rs : List ℕ) (rows others : List (List Term)) → IsRelation sig ss Possible rows
-        → IsRelation sig rs Possible others → (row : List Term) → IsIn row rows → IsIn row others
-    rows_in ss rs rows others rel other row h =
-        let shape = rel.shapes row h in
-        let (columns, p) = shape.some in
-        let (greater, there, all) = other.covers shape.choice columns p in
-        let e : ss ≡ rs = sorts_once columns ss rs
-        (instance-sorts row columns ss shape.sorted ((shape.exact columns).1 p))
-        (instance-sorts greater columns rs (other.shapes greater there).sorted (all columns p)) in
-        (row_is_maximal sig sound ss Possible others (subst (λ s. IsRelation sig s Possible others) (sym e) other)
-        row).1 ((row_is_maximal sig sound ss Possible rows rel row).0 h)
-
-    weights_same : (ss rs : List ℕ) (rows others : List (List Term)) → IsRelation sig ss Possible rows
-        → IsRelation sig rs Possible others → weight_of rows ≡ weight_of others
-    weights_same ss rs rows others rel other =
-        let a = sum-some (sum_by symbols_of) rows others rel.once (rows_in ss rs rows others rel other) in
-        let b = sum-some (sum_by symbols_of) others rows other.once (rows_in rs ss others rows other rel) in
-        omega arith
+-- two relations of one family weigh the same
+weights_same : (sig : Signature) → IsSoundSignature sig → {C : Type 0} (Possible : C → List Term → Type 0) (ss rs : List ℕ) (rows others : List (List Term))
+    → IsRelation sig ss Possible rows → IsRelation sig rs Possible others → weight_of rows ≡ weight_of others
+weights_same sig sound Possible ss rs rows others rel other =
+    let a = sum-some (sum_by symbols_of) rows others rel.once (same_rows sig sound Possible ss rs rows others rel other) in
+    let b = sum-some (sum_by symbols_of) others rows other.once (same_rows sig sound Possible rs ss others rows other rel) in
+    omega arith
 
 module _ (def : Definition) (sound : IsSound def) where
   relation_weight : (f : Fragment) (rows others : List (List Term)) → IsRelationOf def f rows

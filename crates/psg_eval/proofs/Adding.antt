@@ -21,7 +21,7 @@ use Rattle.psg_eval.proofs.Frames.{SameOn, mixed, mixed_entities, moved, holds_f
 use Rattle.psg_eval.proofs.Gluing.{Both, glued_relation}
 use Rattle.psg_eval.proofs.Inserting.{inserted-among, inserted-whole}
 use Rattle.psg_eval.proofs.Replacing.{Replaces, behind, names_more, distinct_apart, distinct_join, choice_with, choice_apart, parts_of, place_of}
-use Rattle.psg_eval.proofs.Uniqueness.{instance_sorts, sorts_length}
+use Rattle.psg_terms.proofs.OneRelation.{instance_sorts, sorts_length}
 
 module _ (def : Definition) (t a b : Fragment) (r : Replaces def t a b) (before : ℕ)
     (whole : AllByRecursion IsKey (names_inside def a)) (whole_child : AllByRecursion IsKey (outer_names def t)) where

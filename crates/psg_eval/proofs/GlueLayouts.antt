@@ -13,7 +13,7 @@ use Rattle.psg_relation.proofs.Relating.{carried}
 use Rattle.psg_scope.specs.Headers.{AreRising}
 use Rattle.psg_eval.specs.Glues.{NextGlue}
 use Rattle.psg_eval.specs.Walks.{IsLayout}
-use Rattle.psg_eval.proofs.Uniqueness.{instance_sorts}
+use Rattle.psg_terms.proofs.OneRelation.{instance_sorts}
 use Rattle.psg_eval.proofs.Walking.{Along, IsEntity, IsThere, along_any, along_length, along_map, entities, map_along, matches_agree, picks_picked, walk_back}
 use Rattle.psg_eval.proofs.Layouts.{cut, some_first, left_row, right_row, both_rows, layout_pairs, layout_picks, left_in, left_picks, offset_is, right_in, right_picks, wanted_at}
 

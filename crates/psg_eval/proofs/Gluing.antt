@@ -7,7 +7,7 @@ use Rattle.psg_terms.specs.Relations.{IsIn, IsRelation, IsGlued}
 use Rattle.psg_relation.specs.Choices.{AllHaveSorts, IsProjected, picked}
 use Rattle.psg_relation.proofs.Relating.{carried}
 use Rattle.psg_eval.specs.Glues.{IsCut}
-use Rattle.psg_eval.proofs.Uniqueness.{instance_sorts, sorts_length}
+use Rattle.psg_terms.proofs.OneRelation.{instance_sorts, sorts_length}
 
 module _ {C D : Type 0} (P : C → List Term → Type 0) (Q : D → List Term → Type 0) (Glue : List Term → List Term → List Term → Type 0) where
   -- what is possible for two choices together

@@ -17,7 +17,7 @@ use Rattle.psg_eval.specs.Walks.{run}
 use Rattle.psg_eval.specs.declared.partial.Partial.{Partial}
 use Rattle.psg_eval.proofs.Gluing.{cut_same}
 use Rattle.psg_eval.proofs.KeySorts.{key_sort, key_sorts_are, closed_key_sorts}
-use Rattle.psg_eval.proofs.Uniqueness.{sorts_length}
+use Rattle.psg_terms.proofs.OneRelation.{sorts_length}
 use Rattle.psg_eval.proofs.Walking.{Picks, picks_picked, picks_append, picks_within, picks_run, entities}
 
 -- the places of keys in a list

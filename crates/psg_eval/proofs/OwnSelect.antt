@@ -30,7 +30,7 @@ use Rattle.psg_eval.proofs.Halves.{own_width}
 use Rattle.psg_eval.proofs.OwnColumns.{own_back, own_pairs, own_to, picks_many}
 use Rattle.psg_eval.proofs.OwnPlaces.{SortsPlaced, items_columns, sorts_placed, terms_placed}
 use Rattle.psg_eval.proofs.PartialSorts.{IsKeySort, key_sort_same, sorts_along}
-use Rattle.psg_eval.proofs.Uniqueness.{sorts_length}
+use Rattle.psg_terms.proofs.OneRelation.{sorts_length}
 use Rattle.psg_eval.proofs.Walking.{Along, IsEntity, IsThere, Matches, Picks, along_any, along_length, along_map, entities, map_along, matches_agree, picks_append, picks_picked, picks_within}
 
 entity_same : (g : Key → Term) (k : Key) (x y : Term) → IsEntity g k x → IsEntity g k y → x ≡ y

@@ -7,7 +7,6 @@ pub mod Cutting
 pub mod Shapes
 pub mod Bounds
 pub mod Filling
-pub mod RowTexts
 pub mod RowLines
 pub mod KeyMarks
 pub mod DeclaringPhyla

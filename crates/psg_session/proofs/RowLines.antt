@@ -16,9 +16,9 @@ use Rattle.psg_grammar.specs.Keys.{Key, name_in}
 use Rattle.psg_grammar.specs.Relations.{IsPossible, IsRelationOf}
 use Rattle.psg_grammar.specs.Sound.{IsSound, IsOwnName, goes_on_name, is_lower}
 use Rattle.psg_scope.proofs.KeyLists.{and_left, and_right}
-use Rattle.psg_eval.proofs.Uniqueness.{sorts_length, same_rows}
+use Rattle.psg_terms.proofs.OneRelation.{sorts_length, same_rows}
 use Rattle.psg_session.specs.Answers.{entities_text, row_line, rows_lines}
-use Rattle.psg_session.proofs.RowTexts.{same_row_texts}
+use Rattle.psg_terms.proofs.RowOrder.{same_row_texts}
 
 -- ---- texts without spaces
 
@@ -170,7 +170,7 @@ module _ (def : Definition) (sound : IsSound def) where
   relation_lines f rows others (ls, rel) (rs, other) ks =
       let sig : Signature = def.signature in
       let wide = λ (row one : List Term) (h : IsIn row rows) (k : IsIn one others).
-      sorts_length sig row rs (other.shapes row (same_rows sig (IsPossible def f) sound.signature ls rs rows others
+      sorts_length sig row rs (other.shapes row (same_rows sig sound.signature (IsPossible def f) ls rs rows others
       rel other row h)).sorted
       ∙ sym (sorts_length sig one rs (other.shapes one k).sorted) in
       lines_are sig ks rows
