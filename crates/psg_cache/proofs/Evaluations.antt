@@ -1,5 +1,6 @@
 -- What a node's summary is made of: names and children of the kinds of its items.
 use Rattle.std.proofs.Common.{◌≡◌, inl, inr, ℕ, ◌+◌, Bool, false, ◌||◌, cond, List, [], ◌∷◌, ◌++◌, map, length, slice_get, Some, refl, sym, ◌∙◌, ap, ap₂, subst, append_assoc, append-nil, arith}
+use Rattle.std.proofs.lemmas.Bool.{or_from}
 use Rattle.std.specs.List.{AllByRecursion}
 use Rattle.std.proofs.Common.{length-append}
 use Rattle.psg_grammar.specs.declared.types.Kind.{Kind}
@@ -22,16 +23,13 @@ use Rattle.psg_cache.specs.Walks.{names_in}
 use Rattle.psg_cache.proofs.Each.{same_some}
 use Rattle.psg_cache.proofs.RealTrees.{IsReal, IsSpine}
 
-neither : (a b : Bool) → a ≡ false → b ≡ false → (a || b) ≡ false
-neither a b e f = ap₂ (λ x y. x || y) e f
-
 -- nothing is reported in such a tree
 pub quiet : (f : Fragment) → IsReal f → reports f ≡ false
 quiet (hole p) real = refl
 quiet (ending l u) real = refl
-quiet (cell l e r) real = neither (reports e) (reports r) (quiet e real.0) (quiet r real.1)
+quiet (cell l e r) real = or_from (reports e) (reports r) (quiet e real.0) (quiet r real.1)
 quiet (operator o) real = refl
-quiet (with_child f t) real = neither (reports f) (reports t) (quiet f real.0) (quiet t real.1)
+quiet (with_child f t) real = or_from (reports f) (reports t) (quiet f real.0) (quiet t real.1)
 quiet (with_name f n) real = quiet f real.0
 quiet (with_number f n) real = quiet f real.0
 quiet (with_text f t) real = quiet f real.0

@@ -1,5 +1,6 @@
 -- The spaces in which a list declares are those of its elements.
 use Rattle.std.proofs.Common.{◌≡◌, inl, inr, ℕ, suc, ◌+◌, ◌<◌, ◌==◌, Bool, true, false, List, [], ◌∷◌, length, get_or, slice_get, Some, refl, sym, ◌∙◌, ap, subst, true≢false, arith}
+use Rattle.std.proofs.lemmas.Bool.{or_cases, or_left, or_right}
 use Rattle.std.specs.Prelude.{Vec}
 use Rattle.std.specs.declared.alloc.Global.{Global}
 use Rattle.std.specs.List.{AllByRecursion}
@@ -13,7 +14,7 @@ use Rattle.psg_grammar.specs.Sound.{IsSound}
 use Rattle.psg_grammar.proofs.SoundParts.{elements_in}
 use Rattle.std.proofs.lemmas.Option.{get_or_from_slice_get, slice_get_read}
 use Rattle.psg_grammar.specs.Declaring.{Declares, by_list, is_declaring}
-use Rattle.psg_grammar.proofs.DeclaringLaws.{or_cases, or_left, or_right, eqb_true, eqb_same, found_declares, declares_found}
+use Rattle.psg_grammar.proofs.DeclaringLaws.{eqb_true, eqb_same, found_declares, declares_found}
 use Rattle.psg_scope.specs.Headers.{has_space, AreAscending}
 use Rattle.psg_eval.specs.Summaries.{AreSpacesOfList}
 use Rattle.psg_cache.specs.Notes.{AreDeclaringSpaces}

@@ -1,5 +1,6 @@
 -- Led operators and lists, by the sets of what can stand behind them.
 use Rattle.std.proofs.Common.{◌≡◌, inl, inr, ℕ, suc, ◌+◌, ◌<◌, ◌||◌, ◌&&◌, ◌==◌, Bool, true, false, List, [], ◌∷◌, length, map, Option, Some, None, slice_get, is_some, refl, ap, ap₂, sym, ◌∙◌, subst, arith, true≢false, eqb-true, eq-eqb}
+use Rattle.std.proofs.lemmas.Bool.{and_from, and_parts, cases_Bool, or_cases, or_left, or_right}
 use Rattle.std.specs.Prelude.{◌↔◌, IfSome, Vec, Contains}
 use Rattle.std.specs.declared.alloc.Global.{Global}
 use Rattle.psg_terms.specs.Names.{Name, is_among}
@@ -29,7 +30,6 @@ use Rattle.psg_class.specs.declared.shape.Part.TheVariants as parts
 use Rattle.psg_class.specs.declared.shape.Shape.{Shape}
 use Rattle.psg_class.specs.declared.sources.Rows.{Rows}
 use Rattle.psg_class.specs.declared.behind.Sets.{Sets}
-use Rattle.psg_class.proofs.ClassFacts.{either, or_cases, and_left, and_right}
 use Rattle.psg_class.proofs.WordLaws.{number_found}
 use Rattle.psg_class.proofs.FormCells.{get_inside}
 use Rattle.psg_class.proofs.FormLaws.{get_map, map_get}
@@ -44,18 +44,6 @@ use Rattle.psg_class.proofs.ReadLaws.{known, shape_at, among_separator, among_ri
 
 same_number : (n m : ℕ) → Some n ≡ Some m → n ≡ m
 same_number n m e = cc
-
-and_both : (a b : Bool) → a ≡ true → b ≡ true → a && b ≡ true
-and_both true b e f = f
-and_both false b e f = absurd (true≢false (sym e))
-
-or_left : (a b : Bool) → a ≡ true → a || b ≡ true
-or_left true b e = refl
-or_left false b e = absurd (true≢false (sym e))
-
-or_right : (a b : Bool) → b ≡ true → a || b ≡ true
-or_right true b e = refl
-or_right false b e = e
 
 map_length : {X Y : Type 0} (f : X → Y) (xs : List X) → length (map f xs) ≡ length xs
 map_length f [] = refl
@@ -85,7 +73,7 @@ holes_are def found flags one exact search e = record {
 
   both : (p : ℕ) (b : Bool) (v : Vec ℕ Global) → AreSpacesOf def p v.items → b ≡ has_none v → ((b ≡ true) → HasHoles def p) × (HasHoles def p → b ≡ true)
   both p b v are same = (
-    (λ t s. elim (either (is_declaring def s (kinds.Phylum p))) [
+    (λ t s. elim (cases_Bool (is_declaring def s (kinds.Phylum p))) [
       | inl y ↦ absurd (empty v.items (sym same ∙ t) s ((are.exact s).1 ((search s (kinds.Phylum p)).0 y)))
       | inr n ↦ n
     ]),
@@ -110,8 +98,8 @@ module _ (def : Definition) (words : List Name) (among : (w : Name) → is_among
 
     end_there : (l c : ℕ) → l < length def.lists → c < width → ends s.rows s.grid s.separators.items l c ≡ true → (t : Terminal) × (number_of def words t ≡ Some c) × ListEnd def l t
     end_there l c h lt e =
-        let (t, num, f) = (sets.follows (kinds.List l) (list_kind l h)).sound c lt (and_left _ _ e) in
-        elim (or_cases (is_set s.grid (s.rows.phyla + l) c) (is_number (slice_get s.separators.items l) c) (and_right (is_set s.grid (s.rows.kinds + (s.rows.phyla + l)) c) _ e)) [
+        let (t, num, f) = (sets.follows (kinds.List l) (list_kind l h)).sound c lt (and_parts _ _ e).0 in
+        elim (or_cases (is_set s.grid (s.rows.phyla + l) c) (is_number (slice_get s.separators.items l) c) (and_parts (is_set s.grid (s.rows.kinds + (s.rows.phyla + l)) c) _ e).1) [
           | inl a ↦ (let (u, num', g) = (sets.lists l h).sound c lt a in (t, num, first_behind (subst (FirstOfList def l) (same_terminal def words u t c num' num) g) f))
           | inr b ↦ separates (slice_get s.separators.items l) refl b t num f
         ] where
@@ -137,7 +125,7 @@ module _ (def : Definition) (words : List Name) (among : (w : Name) → is_among
             c,
             num,
             lt,
-            and_both (is_set s.grid (s.rows.kinds + (s.rows.phyla + l)) c) (is_set s.grid (s.rows.phyla + l) c || is_number (slice_get s.separators.items l) c) e
+            and_from (is_set s.grid (s.rows.kinds + (s.rows.phyla + l)) c) (is_set s.grid (s.rows.phyla + l) c || is_number (slice_get s.separators.items l) c) e
                 (or_right (is_set s.grid (s.rows.phyla + l) c) (is_number (slice_get s.separators.items l) c) (ap (λ o. is_number o c) at ∙ eq-eqb c (separator_number (length def.phyla + 4) words k) same)),
           ),
         )
@@ -151,7 +139,7 @@ module _ (def : Definition) (words : List Name) (among : (w : Name) → is_among
             c,
             num,
             lt,
-            and_both (is_set s.grid (s.rows.kinds + (s.rows.phyla + l)) c) (is_set s.grid (s.rows.phyla + l) c || is_number (slice_get s.separators.items l) c) (subst (λ z. is_set s.grid (s.rows.kinds + (s.rows.phyla + l)) z ≡ true) same e')
+            and_from (is_set s.grid (s.rows.kinds + (s.rows.phyla + l)) c) (is_set s.grid (s.rows.phyla + l) c || is_number (slice_get s.separators.items l) c) (subst (λ z. is_set s.grid (s.rows.kinds + (s.rows.phyla + l)) z ≡ true) same e')
                 (or_left (is_set s.grid (s.rows.phyla + l) c) (is_number (slice_get s.separators.items l) c) e),
           ),
         )

@@ -1,5 +1,6 @@
 -- What the eight conditions say of a class, as facts on its operators.
 use Rattle.std.proofs.Common.{◌≡◌, ◌≢◌, ◌⊎◌, inl, inr, ℕ, ◌==◌, ◌≤◌, ◌<◌, ◌&&◌, ◌||◌, not, Bool, true, false, List, [], ◌∷◌, ◌++◌, Option, Some, None, slice_get, is_some, refl, sym, ap, ◌∙◌, arith, eqb-true, eq-eqb, true≢false}
+use Rattle.std.proofs.lemmas.Bool.{and_parts, cases_Bool, or_cases, true_from_ne_false}
 use Rattle.psg_grammar.specs.declared.types.Kind.TheVariants as kinds
 use Rattle.psg_grammar.specs.declared.types.Level.{Level}
 use Rattle.psg_grammar.specs.declared.types.Level.TheVariants as levels
@@ -69,31 +70,11 @@ pub record ClassFacts (def : Definition) : Type 0 where
 
 -- ---- tests as facts
 
-pub either : (b : Bool) → (b ≡ true) ⊎ (b ≡ false)
-either true = inl refl
-either false = inr refl
-
-pub and_left : (a b : Bool) → a && b ≡ true → a ≡ true
-and_left true b e = refl
-and_left false b e = e
-
-pub and_right : (a b : Bool) → a && b ≡ true → b ≡ true
-and_right true b e = e
-and_right false b e = absurd (true≢false (sym e))
-
-pub or_cases : (a b : Bool) → a || b ≡ true → (a ≡ true) ⊎ (b ≡ true)
-or_cases true b e = inl refl
-or_cases false b e = inr e
-
 pub not_true : (b : Bool) → not b ≡ true → b ≡ true → ⊥
 not_true true h e = true≢false (sym h)
 not_true false h e = true≢false (sym e)
 
 -- a test that never fails holds
-pub holds_always : (b : Bool) → (b ≡ false → ⊥) → b ≡ true
-holds_always true h = refl
-holds_always false h = absurd (h refl)
-
 pub terminal_of_token : (i : Item) → is_token i ≡ true → (t : Terminal) × (item_terminal i ≡ Some t)
 terminal_of_token i h = of (item_terminal i) h where
   of : (x : Option Terminal) → is_some x ≡ true → (t : Terminal) × (x ≡ Some t)
@@ -145,18 +126,18 @@ starts : (o : Operator) (is : List Item) → solid o.items ≡ is → begins_wel
 starts o [] e h = absurd (true≢false (sym h))
 starts o (i ∷ rest) e h = elim (or_cases (is_token i) (is_slot_of o.phylum (Some i) && token_first rest) h) [
   | inl a ↦ (let (t, f) = terminal_of_token i a in inl (record { item = i; more = rest; items = e; terminal = t; begins = f }))
-  | inr b ↦ (let own : i ≡ items.Slot (kinds.Phylum o.phylum) = slot_is o.phylum i (and_left _ _ b) in
-      let (j, more, t, f, g) = token_at_front rest (and_right (is_slot_of o.phylum (Some i)) (token_first rest) b) in
+  | inr b ↦ (let own : i ≡ items.Slot (kinds.Phylum o.phylum) = slot_is o.phylum i (and_parts _ _ b).0 in
+      let (j, more, t, f, g) = token_at_front rest (and_parts (is_slot_of o.phylum (Some i)) (token_first rest) b).1 in
       inr (record { item = j; more = more; items = e ∙ ap (λ x. x ∷ rest) own ∙ ap (λ x. items.Slot (kinds.Phylum o.phylum) ∷ x) f; terminal = t; begins = g }))
 ]
 
 form : (o : Operator) (level : Level) → has_form level o.phylum (solid o.items) ≡ true → HasForm o level
-form o levels.Plain h = (token_leads o (and_left _ _ h), λ l. not_true (own_last o.phylum (solid o.items)) (and_right (token_first (solid o.items)) _ h) (ap (own_last o.phylum) l.items ∙ at_end_own o.phylum l.front))
-form o (levels.Prefix n) h = (token_leads o (and_left _ _ h), own_ends o (and_right (token_first (solid o.items)) _ h))
-form o (levels.Postfix n) h = let (front, i, t, e, f) = token_at_end (solid o.items) (and_right (own_first o.phylum (solid o.items)) _ h) in record { front = front; item = i; items = e; terminal = t; begins = f }
-form o (levels.InfixLeft n) h = own_ends o (and_right (own_first o.phylum (solid o.items)) _ (and_left _ _ h))
-form o (levels.InfixRight n) h = own_ends o (and_right (own_first o.phylum (solid o.items)) _ (and_left _ _ h))
-form o (levels.InfixNone n) h = own_ends o (and_right (own_first o.phylum (solid o.items)) _ (and_left _ _ h))
+form o levels.Plain h = (token_leads o (and_parts _ _ h).0, λ l. not_true (own_last o.phylum (solid o.items)) (and_parts (token_first (solid o.items)) _ h).1 (ap (own_last o.phylum) l.items ∙ at_end_own o.phylum l.front))
+form o (levels.Prefix n) h = (token_leads o (and_parts _ _ h).0, own_ends o (and_parts (token_first (solid o.items)) _ h).1)
+form o (levels.Postfix n) h = let (front, i, t, e, f) = token_at_end (solid o.items) (and_parts (own_first o.phylum (solid o.items)) _ h).1 in record { front = front; item = i; items = e; terminal = t; begins = f }
+form o (levels.InfixLeft n) h = own_ends o (and_parts (own_first o.phylum (solid o.items)) _ (and_parts _ _ h).0).1
+form o (levels.InfixRight n) h = own_ends o (and_parts (own_first o.phylum (solid o.items)) _ (and_parts _ _ h).0).1
+form o (levels.InfixNone n) h = own_ends o (and_parts (own_first o.phylum (solid o.items)) _ (and_parts _ _ h).0).1
 
 -- levels of one number are equal, or of other forms
 pub same_or_not : (a b : Level) (level : ℕ) → number_of a ≡ Some level → number_of b ≡ Some level → (a ≡ b) ⊎ (a ≢ b)
@@ -189,12 +170,12 @@ same_or_not (levels.InfixNone n) (levels.InfixRight m) level e f = inr (λ x. cc
 same_or_not (levels.InfixNone n) (levels.InfixNone m) level e f = inl (let x : Some n ≡ Some m = e ∙ sym f in cc)
 
 pub decide : (n m : ℕ) → (n ≢ m → ⊥) → n ≡ m
-decide n m h = elim (either (n == m)) [ inl e ↦ eqb-true n m e | inr e ↦ absurd (h (λ x. true≢false (sym (eq-eqb n m x) ∙ e))) ]
+decide n m h = elim (cases_Bool (n == m)) [ inl e ↦ eqb-true n m e | inr e ↦ absurd (h (λ x. true≢false (sym (eq-eqb n m x) ∙ e))) ]
 
 pub facts : (def : Definition) → IsClass def → ClassFacts def
 facts def (((((((begin, formed), bracket), level), first), led), follow), end) = record {
-  begins = λ n o found. starts o (solid o.items) refl (holds_always (begins_well o.phylum (solid o.items)) (λ e. begin n (record { o = o; found = found; fails = e })));
-  forms = λ n o found. form o o.level (holds_always (has_form o.level o.phylum (solid o.items)) (λ e. formed n (record { o = o; found = found; fails = e })));
+  begins = λ n o found. starts o (solid o.items) refl (true_from_ne_false (begins_well o.phylum (solid o.items)) (λ e. begin n (record { o = o; found = found; fails = e })));
+  forms = λ n o found. form o o.level (true_from_ne_false (has_form o.level o.phylum (solid o.items)) (λ e. formed n (record { o = o; found = found; fails = e })));
   brackets = λ p phylum found bare n o holds front behind is m other there of_phylum. not_below (slot_level o (kinds.Phylum p) (is_empty front) behind) (level_number other.level)
       (λ h. bracket p (record { phylum = phylum; found = found; bare = bare; n = n; holder = o; holds = holds; front = front; behind = behind; items = is; m = m; o = other; there = there; of_phylum = of_phylum; below = h }));
   mixed = λ n m o other found there phylum number e f. elim (same_or_not o.level other.level number e f) [

@@ -1,15 +1,15 @@
 -- Steps of the closure of a table along links.
 use Rattle.std.proofs.Common.{◌≡◌, ◌≢◌, ◌⊎◌, inl, inr, ℕ, ◌+◌, ◌<◌, ◌≤◌, ◌==◌, ◌||◌, Bool, true, false, List, [], ◌∷◌, length, get_or, Contains, refl, ap, sym, ◌∙◌, subst, arith, eqb-true, eq-eqb, true≢false}
+use Rattle.std.proofs.lemmas.Bool.{cases_Bool, or_parts}
 use Rattle.std.specs.Prelude.{◌↔◌}
 use Rattle.std.proofs.lemmas.List.{get_or_default}
 use Rattle.std.specs.Bool.{OnTrue, OnFalse}
 use Rattle.psg_class.specs.Grids.{IsGrid, is_set, IsCell, IsSameSize, Keeps, unset, Follows, Derives, given, along, IsSound, IsStep, AreLinks}
 use Rattle.psg_class.specs.declared.grid.Grid.{Grid}
 use Rattle.psg_class.specs.declared.grid.Link.{Link}
-use Rattle.psg_class.proofs.ClassFacts.{either}
 
 pub number_cases : (n m : ℕ) → (n ≡ m) ⊎ (n ≢ m)
-number_cases n m = elim (either (n == m)) [ inl e ↦ inl (eqb-true n m e) | inr e ↦ inr (λ x. true≢false (sym (eq-eqb n m x) ∙ e)) ]
+number_cases n m = elim (cases_Bool (n == m)) [ inl e ↦ inl (eqb-true n m e) | inr e ↦ inr (λ x. true≢false (sym (eq-eqb n m x) ∙ e)) ]
 
 pub cell_cases : (r row c column : ℕ) → ((r ≡ row) × (c ≡ column)) ⊎ ((r ≢ row) ⊎ (c ≢ column))
 cell_cases r row c column = elim (number_cases r row) [
@@ -35,18 +35,14 @@ cell_in a b r c h (x, y) = (subst (λ z. r < z) (sym h.height) x, subst (λ z. c
 pub cell_back : (a b : Grid) (r c : ℕ) → IsSameSize a b → IsCell b r c → IsCell a r c
 cell_back a b r c h (x, y) = (subst (λ z. r < z) h.height x, subst (λ z. c < z) h.width y)
 
-or_false : (a b : Bool) → a || b ≡ false → (a ≡ false) × (b ≡ false)
-or_false true b e = absurd (true≢false e)
-or_false false b e = (refl, e)
-
 -- two steps, the second one first in the sum
 pub joined : (links : List Link) (a b d : Grid) (m n : Bool) → IsStep links a b m → IsStep links b d n → IsStep links a d (n || m)
 joined links a b d m n h k = record {
   size = same_size a b d h.size k.size;
   keeps = λ r c cell e. k.keeps r c (cell_in a b r c h.size cell) (h.keeps r c cell e);
   right = λ start s. k.right start (h.right start s);
-  fewer = λ e. fall (either m) (either n) e;
-  same = λ e. let (x, y) = or_false n m e in k.same x ∙ h.same y;
+  fewer = λ e. fall (cases_Bool m) (cases_Bool n) e;
+  same = λ e. let (x, y) = or_parts n m e in k.same x ∙ h.same y;
 } where
   fall : (m ≡ true) ⊎ (m ≡ false) → (n ≡ true) ⊎ (n ≡ false) → n || m ≡ true → unset d.cells.items < unset a.cells.items
   fall (inl x) (inl y) e = let p = h.fewer x in let q = k.fewer y in omega (arith, p, q)
@@ -79,7 +75,7 @@ links_one l = (0, omega arith, refl)
 pub followed_more : (l : Link) (start now : Grid) (column : ℕ) (more changed : Bool) → IsStep (l ∷ []) start now more → (more ≡ false → (c : ℕ) → c < column → is_set start l.from c ≡ true → is_set start l.to c ≡ true)
     → OnFalse changed (is_set now l.from column ≡ true → is_set now l.to column ≡ true) → changed || more ≡ false → (c : ℕ) → c < column + 1 → is_set start l.from c ≡ true → is_set start l.to c ≡ true
 followed_more l start now column more changed step done last e c h k =
-    let (x, y) = or_false changed more e in
+    let (x, y) = or_parts changed more e in
     let same : now ≡ start = step.same y in
     let here : is_set now l.from column ≡ true → is_set now l.to column ≡ true = subst (λ b. OnFalse b (is_set now l.from column ≡ true → is_set now l.to column ≡ true)) x last in
     elim (number_cases c column) [
@@ -101,7 +97,7 @@ one_more P n below here j h = elim (number_cases j n) [ inl e ↦ subst P (sym e
 pub followed_link : (links : List Link) (d : Link) (start now : Grid) (n : ℕ) (more changed : Bool) → IsStep links start now more → (more ≡ false → (j : ℕ) → j < n → Follows start (get_or links j d))
     → OnFalse changed (Follows now (get_or links n d)) → changed || more ≡ false → (j : ℕ) → j < n + 1 → Follows start (get_or links j d)
 followed_link links d start now n more changed step done last e =
-    let (x, y) = or_false changed more e in
+    let (x, y) = or_parts changed more e in
     let here : Follows now (get_or links n d) = subst (λ b. OnFalse b (Follows now (get_or links n d))) x last in
     one_more (λ j. Follows start (get_or links j d)) n (done y) (subst (λ g. Follows g (get_or links n d)) (step.same y) here)
 

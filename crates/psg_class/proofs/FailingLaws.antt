@@ -4,7 +4,7 @@ use Rattle.std.specs.Prelude.{nat_lt}
 use Rattle.std.specs.Ordering.{ordering_reverse}
 use Rattle.std.specs.Cmp.Lexicographic.{slice_cmp}
 use Rattle.std.proofs.lemmas.Cmp.{nat_list_cmp_total}
-use Rattle.std.proofs.lemmas.Bool.{ltb-true}
+use Rattle.std.proofs.lemmas.Bool.{cases_Bool, ltb-true}
 use Rattle.std.proofs.lemmas.List.{take_more}
 use Rattle.psg_terms.specs.Names.{Name}
 use Rattle.psg_grammar.specs.declared.types.Phylum.{Phylum}
@@ -13,7 +13,6 @@ use Rattle.psg_class.specs.Numbers.{is_number_before, words_before, word_at}
 use Rattle.psg_class.specs.Failing.{IsLeastIf, first_number, cells_from, bracket_cell, bracket_cells}
 use Rattle.psg_class.specs.declared.grid.Cell.{Cell}
 use Rattle.psg_class.specs.declared.shape.Shape.{Shape}
-use Rattle.psg_class.proofs.ClassFacts.{either}
 use Rattle.psg_class.proofs.Closing.{number_cases}
 
 cells_front : (f : Shape → Option Cell) (xs : List Shape) (s : Shape) → cells_from f (xs ++ s ∷ []) ≡ cells_from f xs ++ listed (f s)
@@ -47,7 +46,7 @@ less_is Equal h = absurd (true≢false (sym h))
 less_is Greater h = absurd (true≢false (sym h))
 
 nat_less : (a b : ℕ) → a < b → nat_lt a b ≡ true
-nat_less a b h = elim (either (nat_lt a b)) [ inl e ↦ e | inr e ↦ absurd (grind (arith, e, h)) ]
+nat_less a b h = elim (cases_Bool (nat_lt a b)) [ inl e ↦ e | inr e ↦ absurd (grind (arith, e, h)) ]
 
 before_trans : (u v w : Option Name) (a b c : Bool) → (a ≡ true → b ≡ true → c ≡ true) → words_before u v a ≡ true → words_before v w b ≡ true → words_before u w c ≡ true
 before_trans (Some u) (Some v) (Some w) a b c h x y = ap is_lt (nat_list_cmp_total.trans u v w (less_is (slice_cmp nat_cmp u v) x) (less_is (slice_cmp nat_cmp v w) y))
@@ -59,7 +58,7 @@ before_trans None None (Some w) a b c h x y = absurd (true≢false (sym y))
 before_trans None None None a b c h x y = h x y
 
 before_self : (u : Option Name) (a : Bool) → a ≡ false → words_before u u a ≡ false
-before_self (Some u) a h = elim (either (is_lt (slice_cmp nat_cmp u u))) [
+before_self (Some u) a h = elim (cases_Bool (is_lt (slice_cmp nat_cmp u u))) [
   | inl e ↦ absurd (not_both (slice_cmp nat_cmp u u) (less_is (slice_cmp nat_cmp u u) e) (nat_list_cmp_total.antisymm u u))
   | inr e ↦ e
 ] where
@@ -73,7 +72,7 @@ pub number_trans : (base : ℕ) (words : List Name) (k m n : ℕ) → is_number_
 number_trans base words k m n = before_trans (word_at base words k) (word_at base words m) (word_at base words n) (nat_lt k m) (nat_lt m n) (nat_lt k n) (λ x y. nat_less k n (let a = ltb-true k m x in let b = ltb-true m n y in omega (arith, a, b)))
 
 pub number_self : (base : ℕ) (words : List Name) (k : ℕ) → is_number_before base words k k ≡ false
-number_self base words k = before_self (word_at base words k) (nat_lt k k) (elim (either (nat_lt k k)) [ inl e ↦ absurd (let a = ltb-true k k e in omega (arith, a)) | inr e ↦ e ])
+number_self base words k = before_self (word_at base words k) (nat_lt k k) (elim (cases_Bool (nat_lt k k)) [ inl e ↦ absurd (let a = ltb-true k k e in omega (arith, a)) | inr e ↦ e ])
 
 -- ---- the number named first, up to a place
 
@@ -89,14 +88,14 @@ least_more base words set n None h here = (
     | inr x ↦ absurd (true≢false (sym e ∙ h m (omega arith)))
   ],
 )
-least_more base words set n (Some b) (lt, e, h) here = choose (either (is_number_before base words n b)) where
+least_more base words set n (Some b) (lt, e, h) here = choose (cases_Bool (is_number_before base words n b)) where
   new : is_number_before base words n b ≡ true → Good base words set n n
   new t = (
     omega arith,
     here,
     λ m lt' x. elim (number_cases m n) [
       | inl y ↦ subst (λ z. is_number_before base words z n ≡ false) (sym y) (number_self base words n)
-      | inr y ↦ (elim (either (is_number_before base words m n)) [
+      | inr y ↦ (elim (cases_Bool (is_number_before base words m n)) [
         | inl z ↦ absurd (true≢false (sym (number_trans base words m n b z t) ∙ h m (omega arith) x))
         | inr z ↦ z
       ])

@@ -1,5 +1,6 @@
 -- Cells of the levels and forms of shapes.
 use Rattle.std.proofs.Common.{◌≡◌, ◌≢◌, inl, inr, ℕ, zero, suc, ◌+◌, ◌*◌, ◌<◌, ◌==◌, Bool, true, false, cond, max, List, [], ◌∷◌, map, length, get_or, Option, Some, None, slice_get, refl, sym, ◌∙◌, subst, arith, eqb-true, eq-eqb, true≢false}
+use Rattle.std.proofs.lemmas.Bool.{and_parts, cases_Bool, or_cases}
 use Rattle.std.specs.Prelude.{MatchOption, IfSome, IfNone}
 use Rattle.psg_grammar.specs.declared.types.Level.{Level}
 use Rattle.psg_grammar.specs.declared.types.Level.TheVariants as levels
@@ -11,7 +12,6 @@ use Rattle.psg_class.specs.Grids.{is_at, once, AreInside}
 use Rattle.psg_class.specs.declared.grid.Cell.{Cell}
 use Rattle.psg_class.specs.declared.shape.Shape.{Shape}
 use Rattle.psg_class.specs.Forms.{own_first, own_last, asks, bound_cell, asked_cell, form_cell, form_code, AreInPhyla, HaveLevels, LacksBracket, Mixes, MixesAny, IsFirstIf, IsFirstPair}
-use Rattle.psg_class.proofs.ClassFacts.{either, and_left, and_right, or_cases}
 
 pub get_inside : {X : Type 0} (xs : List X) (n : ℕ) (x : X) → slice_get xs n ≡ Some x → n < length xs
 get_inside {X = X} [] n x e = absurd (let y : ◌≡◌ {A = Option X} None (Some x) = e in cc)
@@ -37,7 +37,7 @@ if_same P Q there back (Some n) h = first_same P Q there back n h
 pub once_inside : (height width r c : ℕ) (cells : List Cell) → AreInside height width cells → once r c cells ≡ true → (r < height) × (c < width)
 once_inside height width r c [] h e = absurd (true≢false (sym e))
 once_inside height width r c (x ∷ xs) ((a, b), h) e = elim (or_cases (is_at r c x) (once r c xs) e) [
-  | inl k ↦ (subst (λ z. z < height) (eqb-true x.row r (and_left _ _ k)) a, subst (λ z. z < width) (eqb-true x.column c (and_right (x.row == r) (x.column == c) k)) b)
+  | inl k ↦ (subst (λ z. z < height) (eqb-true x.row r (and_parts _ _ k).0) a, subst (λ z. z < width) (eqb-true x.column c (and_parts (x.row == r) (x.column == c) k).1) b)
   | inr k ↦ once_inside height width r c xs h k
 ]
 
@@ -136,7 +136,7 @@ mixes_same uses u h p level m = record {
 
 -- one number more, or all of a range
 pub none_more : (P : ℕ → Type 0) (n : ℕ) → ((m : ℕ) → m < n → P m → ⊥) → (P n → ⊥) → (m : ℕ) → m < n + 1 → P m → ⊥
-none_more P n below here m lt p = elim (either (m == n)) [
+none_more P n below here m lt p = elim (cases_Bool (m == n)) [
   | inl e ↦ here (subst P (eqb-true m n e) p)
   | inr e ↦ below m (less (λ x. true≢false (sym (eq-eqb m n x) ∙ e))) p
 ] where

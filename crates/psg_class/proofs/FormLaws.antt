@@ -1,7 +1,7 @@
 -- The conditions on operators, by their shapes.
 use Rattle.std.proofs.Common.{◌≡◌, ◌≢◌, ◌⊎◌, inl, inr, ℕ, zero, suc, ◌+◌, ◌*◌, ◌<◌, ◌≤◌, ◌==◌, ◌&&◌, ◌||◌, Bool, true, false, cond, max, List, [], ◌∷◌, ◌++◌, map, Option, Some, None, slice_get, refl, ap, ap₂, sym, ◌∙◌, subst, arith, true≢false, eqb-true, eq-eqb}
 use Rattle.std.specs.Prelude.{nat_lt}
-use Rattle.std.proofs.lemmas.Bool.{ltb-true}
+use Rattle.std.proofs.lemmas.Bool.{and_parts, cases_Bool, ltb-true, or_cases, or_right}
 use Rattle.psg_terms.specs.Names.{Name}
 use Rattle.psg_grammar.specs.declared.types.Kind.TheVariants as kinds
 use Rattle.psg_grammar.specs.declared.types.Level.{Level}
@@ -19,7 +19,7 @@ use Rattle.psg_class.specs.Grids.{is_at, once}
 use Rattle.psg_class.specs.Forms.{starts, fits, asks, own_first as shape_own_first, own_last as shape_own_last, bound_cell, asked_cell, form_cell, form_code, cells_by, FailsTest, LacksBracket, Mixes}
 use Rattle.psg_class.specs.declared.grid.Cell.{Cell}
 use Rattle.psg_class.specs.declared.shape.Shape.{Shape}
-use Rattle.psg_class.proofs.ClassFacts.{either, and_left, and_right, or_cases, own_at_end, slot_is, same_or_not}
+use Rattle.psg_class.proofs.ClassFacts.{own_at_end, slot_is, same_or_not}
 use Rattle.psg_class.proofs.PartLaws.{Known, starts_same, fits_same, first_own, last_own, match_of}
 
 -- ---- items of a mapped list
@@ -34,10 +34,6 @@ map_get {X = X} {Y = Y} f [] n y e = absurd (let h : ◌≡◌ {A = Option Y} No
 map_get {X = X} {Y = Y} f (x ∷ xs) zero y e = (x, refl, let h : ◌≡◌ {A = Option Y} (Some (f x)) (Some y) = e in cc)
 map_get f (x ∷ xs) (suc n) y e = map_get f xs n y e
 
-or_right' : (a b : Bool) → b ≡ true → a || b ≡ true
-or_right' true b e = refl
-or_right' false b e = e
-
 -- the cell of one of the shapes
 pub once_of : (f : Shape → Cell) (xs : List Shape) (n : ℕ) (s : Shape) → slice_get xs n ≡ Some s → once (f s).row (f s).column (map f xs) ≡ true
 once_of f [] n s e = absurd (let h : ◌≡◌ {A = Option Shape} None (Some s) = e in cc)
@@ -46,17 +42,17 @@ once_of f (x ∷ xs) zero s e =
     let k : x ≡ s = cc in
     subst (λ z. (is_at (f s).row (f s).column (f z) || once (f s).row (f s).column (map f xs)) ≡ true) (sym k)
     (ap₂ (λ a b. (a && b) || once (f s).row (f s).column (map f xs)) (eq-eqb (f s).row (f s).row refl) (eq-eqb (f s).column (f s).column refl))
-once_of f (x ∷ xs) (suc n) s e = or_right' (is_at (f s).row (f s).column (f x)) (once (f s).row (f s).column (map f xs)) (once_of f xs n s e)
+once_of f (x ∷ xs) (suc n) s e = or_right (is_at (f s).row (f s).column (f x)) (once (f s).row (f s).column (map f xs)) (once_of f xs n s e)
 
 pub of_once : (f : Shape → Cell) (xs : List Shape) (r c : ℕ) → once r c (map f xs) ≡ true → (n : ℕ) × (s : Shape) × (slice_get xs n ≡ Some s) × ((f s).row ≡ r) × ((f s).column ≡ c)
 of_once f [] r c e = absurd (true≢false (sym e))
 of_once f (x ∷ xs) r c e = elim (or_cases (is_at r c (f x)) (once r c (map f xs)) e) [
-  | inl h ↦ (0, x, refl, eqb-true (f x).row r (and_left _ _ h), eqb-true (f x).column c (and_right ((f x).row == r) ((f x).column == c) h))
+  | inl h ↦ (0, x, refl, eqb-true (f x).row r (and_parts _ _ h).0, eqb-true (f x).column c (and_parts ((f x).row == r) ((f x).column == c) h).1)
   | inr h ↦ (let (n, s, at, a, b) = of_once f xs r c h in (suc n, s, at, a, b))
 ]
 
 asks_cases : (low : ℕ) (a b : Bool) (m n : ℕ) → low < max (cond a m 0) (cond b n 0) → ((a ≡ true) × (low < m)) ⊎ ((b ≡ true) × (low < n))
-asks_cases low true true m n h = elim (either (nat_lt low m)) [ inl e ↦ inl (refl, ltb-true low m e) | inr e ↦ inr (refl, other (not_less low m e)) ] where
+asks_cases low true true m n h = elim (cases_Bool (nat_lt low m)) [ inl e ↦ inl (refl, ltb-true low m e) | inr e ↦ inr (refl, other (not_less low m e)) ] where
   not_less : (a b : ℕ) → nat_lt a b ≡ false → b ≤ a
   not_less a b f = grind (arith, f)
 
@@ -87,7 +83,7 @@ module _ (def : Definition) (base : ℕ) (words : List Name) (known : (n : ℕ) 
   -- ---- brackets
 
   most : (a b x y : Bool) (m n : ℕ) → (x ≡ true → a ≡ true) → (y ≡ true → b ≡ true) → max (cond x m 0) (cond y n 0) ≤ max (cond a m 0) (cond b n 0)
-  most a b x y m n h k = by a b x y (either a) (either b) h k where
+  most a b x y m n h k = by a b x y (cases_Bool a) (cases_Bool b) h k where
     by : (a b x y : Bool) → (a ≡ true) ⊎ (a ≡ false) → (b ≡ true) ⊎ (b ≡ false) → (x ≡ true → a ≡ true) → (y ≡ true → b ≡ true) → max (cond x m 0) (cond y n 0) ≤ max (cond a m 0) (cond b n 0)
     by true true true true e f h k = omega arith
     by true true true false e f h k = omega arith
@@ -124,7 +120,7 @@ module _ (def : Definition) (base : ℕ) (words : List Name) (known : (n : ℕ) 
 
   -- the own slot of a slot that asks for something
   own_slot : (o : Operator) (p : ℕ) (front behind : List Item) (low : ℕ) → low < slot_level o (kinds.Phylum p) (is_empty front) behind → p ≡ o.phylum
-  own_slot o p front behind low h = by (either (p == o.phylum)) where
+  own_slot o p front behind low h = by (cases_Bool (p == o.phylum)) where
     by : (p == o.phylum ≡ true) ⊎ (p == o.phylum ≡ false) → p ≡ o.phylum
     by (inl e) = eqb-true p o.phylum e
     by (inr e) = absurd (let k : low < 0 = subst (λ b. low < cond b (max (cond (is_empty front) (first_level o.level) 0) (cond (is_empty behind) (last_level o.level) 0)) 0) e h in omega (arith, k))
@@ -165,7 +161,7 @@ module _ (def : Definition) (base : ℕ) (words : List Name) (known : (n : ℕ) 
       pub below : low < slot_level o (kinds.Phylum o.phylum) (is_empty front) behind
 
     asking : (o : Operator) (own : Known base words o.items) (low : ℕ) → low < asks (shape_of base words o) → Asking o low
-    asking o own low h = by (either (shape_own_first (shape_of base words o))) (either (shape_own_last (shape_of base words o))) where
+    asking o own low h = by (cases_Bool (shape_own_first (shape_of base words o))) (cases_Bool (shape_own_last (shape_of base words o))) where
       first_case : shape_own_first (shape_of base words o) ≡ true → low < first_level o.level → Asking o low
       first_case e lt = of (solid o.items) refl (first_own base words o.phylum (solid o.items) (parts_of base words o.items) (match_of base words o own) ∙ e) where
         of : (is : List Item) → solid o.items ≡ is → own_first o.phylum is ≡ true → Asking o low
@@ -307,7 +303,7 @@ module _ (def : Definition) (base : ℕ) (words : List Name) (levels : (n : ℕ)
       let (low, high) = number_small f.o.level level (levels f.n f.o f.found) f.number in
       let a = has_code p level f.n f.o f.found f.of_phylum f.number in
       let b = has_code p level f.m f.other f.there f.of_phylum_too f.number_too in
-      elim (either (nat_lt (form_index f.o.level) (form_index f.other.level))) [
+      elim (cases_Bool (nat_lt (form_index f.o.level) (form_index f.other.level))) [
         | inl h ↦ record { positive = low; small = high; one = form_index f.o.level; other = form_index f.other.level; differ = ltb-true _ _ h; inside = index_small f.other.level; has_one = a; has_other = b }
         | inr h ↦ record {
           positive = low;

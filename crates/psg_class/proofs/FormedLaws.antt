@@ -2,7 +2,7 @@
 use Rattle.std.proofs.Common.{◌≡◌, ◌<◌, ◌^◌, ◌⊎◌, inl, inr, ℕ, suc, max, Bool, true, false, cond, ◌&&◌, List, [], ◌∷◌, ◌++◌, Some, slice_get, refl, sym, ap, ◌∙◌, subst}
 use Rattle.std.specs.Prelude.{chars, encode_utf8_all, bytes_eq, IsUtf8}
 use Rattle.std.specs.List.{AllByRecursion}
-use Rattle.std.proofs.lemmas.Bool.{false≢true}
+use Rattle.std.proofs.lemmas.Bool.{and_parts, false≢true}
 use Rattle.std.proofs.lemmas.Option.{slice_get_within}
 use Rattle.psg_terms.specs.Names.{Name, is_among}
 use Rattle.psg_terms.specs.Words.{IsWord, IsFreeWord}
@@ -23,7 +23,7 @@ use Rattle.psg_class.specs.Places.{solid}
 use Rattle.psg_class.specs.Terminals.{Token, word, numeral, quoted, dots, Terminal, fixed, a_name, stray, are_word, is_word, word_terminal, terminal_of}
 use Rattle.psg_class.specs.Yields.{TreeYields, of_hole, of_operator, in_brackets, PartsYield, no_items, of_word, of_refers, of_declares, of_number, of_text, of_slot, of_list_slot, ListYields, no_elements, only_more, elements, SomeYield, last_element, and_more, and_elements, Yields}
 use Rattle.psg_class.specs.Only.{IsValue, YieldsAreTrees}
-use Rattle.psg_class.proofs.WordForms.{is_word_says, second_so}
+use Rattle.psg_class.proofs.WordForms.{is_word_says}
 
 abbrev AreValues : List Token → Type 0
 AreValues ts = AllByRecursion IsValue ts
@@ -61,7 +61,7 @@ module _ (def : Definition) where
   name_is : (x : Name) → terminal_of def (word x) ≡ a_name → IsName def x
   name_is x e =
       let (w, among) = named x (is_word x) (is_among (fixed_words def) x) e in
-      (chars x, sym (bytes_eq-same (encode_utf8_all (chars x)) x (second_so (are_word (chars x)) (bytes_eq (encode_utf8_all (chars x)) x) w)), is_word_says x w, among)
+      (chars x, sym (bytes_eq-same (encode_utf8_all (chars x)) x (and_parts (are_word (chars x)) (bytes_eq (encode_utf8_all (chars x)) x) w).1), is_word_says x w, among)
 
   mutual
     tree_formed : {f : Fragment} {p level d : ℕ} {ts : List Token} → TreeYields def f p level d ts → AreValues ts → WellFormed def f (kinds.Phylum p)

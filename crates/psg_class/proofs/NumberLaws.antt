@@ -1,7 +1,7 @@
 -- Numbers of terminals.
 use Rattle.std.proofs.Common.{◌≡◌, ◌⊎◌, inl, inr, ℕ, suc, ◌+◌, ◌-◌, ◌<◌, ◌≤◌, ◌==◌, true, false, cond, List, [], ◌∷◌, length, map, Option, Some, None, slice_get, refl, ap, ap₂, sym, ◌∙◌, arith, true≢false, eqb-true}
 use Rattle.std.specs.Prelude.{option_map, nat_lt, bytes_eq, codes}
-use Rattle.std.proofs.lemmas.Bool.{ltb-true}
+use Rattle.std.proofs.lemmas.Bool.{cases_Bool, ltb-true}
 use Rattle.std.proofs.lemmas.Option.{slice_get_past}
 use Rattle.psg_terms.specs.Names.{Name}
 use Rattle.psg_grammar.specs.declared.types.Phylum.{Phylum}
@@ -9,7 +9,6 @@ use Rattle.psg_grammar.specs.declared.types.Definition.{Definition}
 use Rattle.psg_class.specs.Terminals.{Terminal, fixed, a_name, a_number, a_text, a_hole, a_more, stray}
 use Rattle.psg_class.specs.Refusal.{place_of, is_before, terminal_text}
 use Rattle.psg_class.specs.Numbers.{place_in, phylum_names, number_of, word_at, words_before, is_number_before, number_text, other_text, hole_text, text_or}
-use Rattle.psg_class.proofs.ClassFacts.{either}
 use Rattle.psg_class.proofs.WordLaws.{place_at}
 use Rattle.psg_class.proofs.FormCells.{get_inside}
 use Rattle.psg_class.proofs.FormLaws.{map_get}
@@ -18,13 +17,13 @@ same_some : (n m : ℕ) → Some n ≡ Some m → n ≡ m
 same_some n m e = cc
 
 nat_less : (a b : ℕ) → a < b → nat_lt a b ≡ true
-nat_less a b h = elim (either (nat_lt a b)) [ inl e ↦ e | inr e ↦ absurd (grind (arith, e, h)) ]
+nat_less a b h = elim (cases_Bool (nat_lt a b)) [ inl e ↦ e | inr e ↦ absurd (grind (arith, e, h)) ]
 
 not_less : (a b : ℕ) → (a < b → ⊥) → nat_lt a b ≡ false
-not_less a b h = elim (either (nat_lt a b)) [ inl e ↦ absurd (h (ltb-true a b e)) | inr e ↦ e ]
+not_less a b h = elim (cases_Bool (nat_lt a b)) [ inl e ↦ absurd (h (ltb-true a b e)) | inr e ↦ e ]
 
 same_lt : (a b c d : ℕ) → (a < b → c < d) → (c < d → a < b) → nat_lt a b ≡ nat_lt c d
-same_lt a b c d h k = elim (either (nat_lt a b)) [
+same_lt a b c d h k = elim (cases_Bool (nat_lt a b)) [
   | inl e ↦ e ∙ sym (nat_less c d (h (ltb-true a b e)))
   | inr e ↦ e ∙ sym (not_less c d (λ lt. true≢false (sym (nat_less a b (k lt)) ∙ e)))
 ]
@@ -38,7 +37,7 @@ length_map f [] = refl
 length_map f (x ∷ xs) = ap (λ n. suc n) (length_map f xs)
 
 not_equal : (a b : ℕ) → (a ≡ b → ⊥) → (a == b) ≡ false
-not_equal a b h = elim (either (a == b)) [ inl e ↦ absurd (h (eqb-true a b e)) | inr e ↦ e ]
+not_equal a b h = elim (cases_Bool (a == b)) [ inl e ↦ absurd (h (eqb-true a b e)) | inr e ↦ e ]
 
 other_late : (phyla : List Phylum) (k : ℕ) → 3 ≤ k → other_text phyla k ≡ hole_text (slice_get phyla (k - 3))
 other_late phyla k h =
@@ -62,7 +61,7 @@ module _ (def : Definition) (words : List Name) where
   place_same v p e = of def.phyla p e where
     of : (xs : List Phylum) (p : ℕ) → place_in (map (λ (x : Phylum). x.name) xs) v ≡ Some p → place_of xs v ≡ p
     of [] p e = absurd (let x : None ≡ Some p = e in cc)
-    of (x ∷ xs) p e = elim (either (bytes_eq x.name v)) [
+    of (x ∷ xs) p e = elim (cases_Bool (bytes_eq x.name v)) [
       | inl t ↦ ap (λ b. cond b 0 (suc (place_of xs v))) t ∙ same_some 0 p (sym (ap (λ b. cond b (Some 0) (option_map (λ k. suc k) (place_in (map (λ (y : Phylum). y.name) xs) v))) t) ∙ e)
       | inr t ↦ (let (j, o, f) = mapped (λ k. suc k) (place_in (map (λ (y : Phylum). y.name) xs) v) p (sym (ap (λ b. cond b (Some 0) (option_map (λ k. suc k) (place_in (map (λ (y : Phylum). y.name) xs) v))) t) ∙ e) in
           ap (λ b. cond b 0 (suc (place_of xs v))) t ∙ ap (λ n. suc n) (of xs j o) ∙ sym f)

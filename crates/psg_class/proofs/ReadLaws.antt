@@ -1,5 +1,6 @@
 -- What is known of the shapes of a definition that has been read.
 use Rattle.std.proofs.Common.{◌≡◌, inl, inr, ℕ, zero, suc, ◌+◌, ◌<◌, ◌||◌, Bool, true, false, cond, List, [], ◌∷◌, ◌++◌, length, map, Option, Some, None, slice_get, refl, ap, sym, ◌∙◌, subst, arith, true≢false}
+use Rattle.std.proofs.lemmas.Bool.{or_cases, or_left, or_right}
 use Rattle.std.specs.List.{AllByRecursion}
 use Rattle.std.specs.Prelude.{bytes_eq}
 use Rattle.psg_terms.specs.Names.{Name, is_among, has_twice}
@@ -27,20 +28,11 @@ use Rattle.psg_class.specs.declared.shape.Part.{Part}
 use Rattle.psg_class.specs.declared.shape.Part.TheVariants as parts
 use Rattle.psg_class.specs.declared.shape.Shape.{Shape}
 use Rattle.psg_class.specs.declared.sources.Rows.{Rows}
-use Rattle.psg_class.proofs.ClassFacts.{or_cases}
 use Rattle.psg_class.proofs.PartLaws.{Known, match_of, slot_of}
 use Rattle.psg_class.proofs.FormLaws.{map_get, no_first_there, no_first_back, bad_form_there, bad_form_back, lacks_there, lacks_back, mixes_there, mixes_back}
 use Rattle.psg_class.proofs.FormCells.{get_inside, if_same, pair_of, asks_small}
 use Rattle.psg_class.proofs.LeadLaws.{at_part, part_token}
 use Rattle.psg_class.proofs.NumberLaws.{number_small}
-
-or_left : (a b : Bool) → a ≡ true → a || b ≡ true
-or_left true b e = refl
-or_left false b e = absurd (true≢false (sym e))
-
-or_right : (a b : Bool) → b ≡ true → a || b ≡ true
-or_right true b e = refl
-or_right false b e = e
 
 among_left : (xs ys : List Name) (w : Name) → is_among xs w ≡ true → is_among (xs ++ ys) w ≡ true
 among_left [] ys w h = absurd (true≢false (sym h))

@@ -1,6 +1,6 @@
 -- Each tree is read from its tokens, whatever can follow stands behind them.
 use Rattle.std.proofs.Common.{◌≡◌, ◌⊎◌, inl, inr, ℕ, max, ◌≤◌, Bool, true, false, List, [], ◌∷◌, ◌++◌, Option, Some, None, slice_get, refl, sym, ap, ◌∙◌, subst, arith, append_assoc}
-use Rattle.psg_class.proofs.ClassFacts.{either}
+use Rattle.std.proofs.lemmas.Bool.{cases_Bool}
 use Rattle.psg_grammar.specs.declared.types.Kind.{Kind}
 use Rattle.psg_grammar.specs.declared.types.Kind.TheVariants as kinds
 use Rattle.psg_grammar.specs.declared.types.Item.{Item}
@@ -114,7 +114,7 @@ module _ (def : Definition) (c : ClassFacts def) where
       → Run def (start q (slot_level o (kinds.Phylum q) first more)) (own ++ (behind ++ rest)) t depth (behind ++ rest)
   reads_slot n o found first q more place t depth own runs d e f g behind y rest after =
       let s : (first ≡ false) × Slot n o (kinds.Phylum q) more = slot_place n o found first (kinds.Phylum q) more place in
-      elim (either (is_own_last o (kinds.Phylum q) more)) [
+      elim (cases_Bool (is_own_last o (kinds.Phylum q) more)) [
         | inr other ↦ read_tree t q _ depth own runs (behind ++ rest) (slot_follows n o (kinds.Phylum q) more s.1 other d e f g behind y rest after)
         | inl own_last ↦ at_last s (last_slot o (kinds.Phylum q) more own_last)
       ] where

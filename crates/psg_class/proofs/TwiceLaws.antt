@@ -1,5 +1,6 @@
 -- Cells that stand once or twice in a list.
 use Rattle.std.proofs.Common.{◌≡◌, ◌≢◌, ◌⊎◌, inl, inr, ℕ, zero, suc, ◌+◌, ◌==◌, ◌&&◌, ◌||◌, Bool, true, false, List, [], ◌∷◌, ◌++◌, Option, Some, None, slice_get, refl, ap, ap₂, sym, ◌∙◌, subst, arith, true≢false, eqb-true, eq-eqb}
+use Rattle.std.proofs.lemmas.Bool.{and_from, and_parts, or_cases, or_left, or_right}
 use Rattle.psg_grammar.specs.declared.types.Phylum.{Phylum}
 use Rattle.psg_class.specs.Grids.{is_at, once, twice}
 use Rattle.psg_class.specs.Forms.{cell_of}
@@ -7,70 +8,57 @@ use Rattle.psg_class.specs.Shapes.{listed}
 use Rattle.psg_class.specs.Failing.{cells_from, bracket_cell, bracket_cells}
 use Rattle.psg_class.specs.declared.grid.Cell.{Cell}
 use Rattle.psg_class.specs.declared.shape.Shape.{Shape}
-use Rattle.psg_class.proofs.ClassFacts.{and_left, and_right, or_cases}
-
-or_left' : (a b : Bool) → a ≡ true → a || b ≡ true
-or_left' true b e = refl
-or_left' false b e = absurd (true≢false (sym e))
-
-or_right' : (a b : Bool) → b ≡ true → a || b ≡ true
-or_right' true b e = refl
-or_right' false b e = e
-
-and_both : (a b : Bool) → a ≡ true → b ≡ true → a && b ≡ true
-and_both true b e f = f
-and_both false b e f = absurd (true≢false (sym e))
 
 at_self : (r c : ℕ) → is_at r c (cell_of r c) ≡ true
-at_self r c = and_both (r == r) (c == c) (eq-eqb r r refl) (eq-eqb c c refl)
+at_self r c = and_from (r == r) (c == c) (eq-eqb r r refl) (eq-eqb c c refl)
 
 at_is : (r c : ℕ) (x : Cell) → is_at r c x ≡ true → (x.row ≡ r) × (x.column ≡ c)
-at_is r c x h = (eqb-true x.row r (and_left _ _ h), eqb-true x.column c (and_right (x.row == r) (x.column == c) h))
+at_is r c x h = (eqb-true x.row r (and_parts _ _ h).0, eqb-true x.column c (and_parts (x.row == r) (x.column == c) h).1)
 
 once_append : (r c : ℕ) (xs ys : List Cell) → once r c (xs ++ ys) ≡ true → (once r c xs ≡ true) ⊎ (once r c ys ≡ true)
 once_append r c [] ys h = inr h
 once_append r c (x ∷ xs) ys h = elim (or_cases (is_at r c x) (once r c (xs ++ ys)) h) [
-  | inl a ↦ inl (or_left' (is_at r c x) (once r c xs) a)
-  | inr b ↦ (elim (once_append r c xs ys b) [ inl a ↦ inl (or_right' (is_at r c x) (once r c xs) a) | inr a ↦ inr a ])
+  | inl a ↦ inl (or_left (is_at r c x) (once r c xs) a)
+  | inr b ↦ (elim (once_append r c xs ys b) [ inl a ↦ inl (or_right (is_at r c x) (once r c xs) a) | inr a ↦ inr a ])
 ]
 
 once_left : (r c : ℕ) (xs ys : List Cell) → once r c xs ≡ true → once r c (xs ++ ys) ≡ true
 once_left r c [] ys h = absurd (true≢false (sym h))
 once_left r c (x ∷ xs) ys h = elim (or_cases (is_at r c x) (once r c xs) h) [
-  | inl a ↦ or_left' (is_at r c x) (once r c (xs ++ ys)) a
-  | inr b ↦ or_right' (is_at r c x) (once r c (xs ++ ys)) (once_left r c xs ys b)
+  | inl a ↦ or_left (is_at r c x) (once r c (xs ++ ys)) a
+  | inr b ↦ or_right (is_at r c x) (once r c (xs ++ ys)) (once_left r c xs ys b)
 ]
 
 once_right : (r c : ℕ) (xs ys : List Cell) → once r c ys ≡ true → once r c (xs ++ ys) ≡ true
 once_right r c [] ys h = h
-once_right r c (x ∷ xs) ys h = or_right' (is_at r c x) (once r c (xs ++ ys)) (once_right r c xs ys h)
+once_right r c (x ∷ xs) ys h = or_right (is_at r c x) (once r c (xs ++ ys)) (once_right r c xs ys h)
 
 -- twice in one of two lists, or once in each
 pub twice_append : (r c : ℕ) (xs ys : List Cell) → twice r c (xs ++ ys) ≡ true → (twice r c xs ≡ true) ⊎ (((once r c xs ≡ true) × (once r c ys ≡ true)) ⊎ (twice r c ys ≡ true))
 twice_append r c [] ys h = inr (inr h)
 twice_append r c (x ∷ xs) ys h = elim (or_cases (is_at r c x && once r c (xs ++ ys)) (twice r c (xs ++ ys)) h) [
-  | inl a ↦ (elim (once_append r c xs ys (and_right (is_at r c x) _ a)) [
-    | inl b ↦ inl (or_left' (is_at r c x && once r c xs) (twice r c xs) (and_both (is_at r c x) (once r c xs) (and_left _ _ a) b))
-    | inr b ↦ inr (inl (or_left' (is_at r c x) (once r c xs) (and_left _ _ a), b))
+  | inl a ↦ (elim (once_append r c xs ys (and_parts (is_at r c x) _ a).1) [
+    | inl b ↦ inl (or_left (is_at r c x && once r c xs) (twice r c xs) (and_from (is_at r c x) (once r c xs) (and_parts _ _ a).0 b))
+    | inr b ↦ inr (inl (or_left (is_at r c x) (once r c xs) (and_parts _ _ a).0, b))
   ])
   | inr a ↦ (elim (twice_append r c xs ys a) [
-    | inl b ↦ inl (or_right' (is_at r c x && once r c xs) (twice r c xs) b)
-    | inr b ↦ (elim b [ inl (d, e) ↦ inr (inl (or_right' (is_at r c x) (once r c xs) d, e)) | inr d ↦ inr (inr d) ])
+    | inl b ↦ inl (or_right (is_at r c x && once r c xs) (twice r c xs) b)
+    | inr b ↦ (elim b [ inl (d, e) ↦ inr (inl (or_right (is_at r c x) (once r c xs) d, e)) | inr d ↦ inr (inr d) ])
   ])
 ]
 
 pub twice_left : (r c : ℕ) (xs ys : List Cell) → twice r c xs ≡ true → twice r c (xs ++ ys) ≡ true
 twice_left r c [] ys h = absurd (true≢false (sym h))
 twice_left r c (x ∷ xs) ys h = elim (or_cases (is_at r c x && once r c xs) (twice r c xs) h) [
-  | inl a ↦ or_left' (is_at r c x && once r c (xs ++ ys)) (twice r c (xs ++ ys)) (and_both (is_at r c x) (once r c (xs ++ ys)) (and_left _ _ a) (once_left r c xs ys (and_right (is_at r c x) _ a)))
-  | inr a ↦ or_right' (is_at r c x && once r c (xs ++ ys)) (twice r c (xs ++ ys)) (twice_left r c xs ys a)
+  | inl a ↦ or_left (is_at r c x && once r c (xs ++ ys)) (twice r c (xs ++ ys)) (and_from (is_at r c x) (once r c (xs ++ ys)) (and_parts _ _ a).0 (once_left r c xs ys (and_parts (is_at r c x) _ a).1))
+  | inr a ↦ or_right (is_at r c x && once r c (xs ++ ys)) (twice r c (xs ++ ys)) (twice_left r c xs ys a)
 ]
 
 pub twice_each : (r c : ℕ) (xs ys : List Cell) → once r c xs ≡ true → once r c ys ≡ true → twice r c (xs ++ ys) ≡ true
 twice_each r c [] ys h k = absurd (true≢false (sym h))
 twice_each r c (x ∷ xs) ys h k = elim (or_cases (is_at r c x) (once r c xs) h) [
-  | inl a ↦ or_left' (is_at r c x && once r c (xs ++ ys)) (twice r c (xs ++ ys)) (and_both (is_at r c x) (once r c (xs ++ ys)) a (once_right r c xs ys k))
-  | inr a ↦ or_right' (is_at r c x && once r c (xs ++ ys)) (twice r c (xs ++ ys)) (twice_each r c xs ys a k)
+  | inl a ↦ or_left (is_at r c x && once r c (xs ++ ys)) (twice r c (xs ++ ys)) (and_from (is_at r c x) (once r c (xs ++ ys)) a (once_right r c xs ys k))
+  | inr a ↦ or_right (is_at r c x && once r c (xs ++ ys)) (twice r c (xs ++ ys)) (twice_each r c xs ys a k)
 ]
 
 -- the shape of the number has the cell
@@ -90,11 +78,11 @@ listed_once r c (Some x) h = elim (or_cases (is_at r c x) false h) [
 ]
 
 once_listed : (r c : ℕ) (o : Option Cell) → o ≡ Some (cell_of r c) → once r c (listed o) ≡ true
-once_listed r c o e = subst (λ x. once r c (listed x) ≡ true) (sym e) (or_left' (is_at r c (cell_of r c)) false (at_self r c))
+once_listed r c o e = subst (λ x. once r c (listed x) ≡ true) (sym e) (or_left (is_at r c (cell_of r c)) false (at_self r c))
 
 listed_twice : (r c : ℕ) (o : Option Cell) → twice r c (listed o) ≡ true → ⊥
 listed_twice r c None h = true≢false (sym h)
-listed_twice r c (Some x) h = elim (or_cases (is_at r c x && false) false h) [ inl a ↦ true≢false (sym (and_right (is_at r c x) false a)) | inr a ↦ true≢false (sym a) ]
+listed_twice r c (Some x) h = elim (or_cases (is_at r c x && false) false h) [ inl a ↦ true≢false (sym (and_parts (is_at r c x) false a).1) | inr a ↦ true≢false (sym a) ]
 
 module _ (f : Shape → Option Cell) (r c : ℕ) where
   pub once_there : (shapes : List Shape) → once r c (cells_from f shapes) ≡ true → (n : ℕ) × Gives f shapes r c n
@@ -137,7 +125,7 @@ module _ (f : Shape → Option Cell) (r c : ℕ) where
       twice_right (listed (f s)) (cells_from f rest) (twice_back rest n m (λ e. d (ap (λ x. suc x) e)) (record { shape = g.shape; at = g.at; gives = g.gives }) (record { shape = h.shape; at = h.at; gives = h.gives })) where
         twice_right : (xs ys : List Cell) → twice r c ys ≡ true → twice r c (xs ++ ys) ≡ true
         twice_right [] ys k = k
-        twice_right (x ∷ xs) ys k = or_right' (is_at r c x && once r c (xs ++ ys)) (twice r c (xs ++ ys)) (twice_right xs ys k)
+        twice_right (x ∷ xs) ys k = or_right (is_at r c x && once r c (xs ++ ys)) (twice r c (xs ++ ys)) (twice_right xs ys k)
 
 -- brackets of bracketed phyla, from a number on
 pub record Opens (o p : ℕ) (phyla : List Phylum) (r c : ℕ) : Type 0 where

@@ -1,5 +1,6 @@
 -- Words and their places.
 use Rattle.std.proofs.Common.{◌≡◌, ◌⊎◌, inl, inr, ℕ, zero, suc, ◌+◌, ◌||◌, Bool, true, false, cond, List, [], ◌∷◌, ◌++◌, length, Option, Some, None, slice_get, is_some, refl, ap, sym, ◌∙◌, subst, true≢false}
+use Rattle.std.proofs.lemmas.Bool.{cases_Bool, or_cases}
 use Rattle.std.specs.Prelude.{option_map, bytes_eq, codes}
 use Rattle.std.specs.Map.{update}
 use Rattle.psg_terms.specs.Names.{Name, is_among, has_twice}
@@ -12,7 +13,6 @@ use Rattle.psg_grammar.specs.WellFormed.{words_in, operator_words, separators}
 use Rattle.psg_class.specs.declared.vocabulary.Vocabulary.{Vocabulary}
 use Rattle.psg_grammar.specs.declared.types.Definition.{Definition}
 use Rattle.psg_class.specs.Numbers.{place_in, word_number, HasWords, KeepsWords, Grown, IsVocabulary}
-use Rattle.psg_class.proofs.ClassFacts.{either, or_cases}
 
 pub place_found : (ws : List Name) (w : Name) → is_some (place_in ws w) ≡ is_among ws w
 place_found [] w = refl
@@ -32,7 +32,7 @@ place_there ws w h = of (place_in ws w) (place_found ws w ∙ h) where
 
 pub place_at : (ws : List Name) (w : Name) (k : ℕ) → place_in ws w ≡ Some k → slice_get ws k ≡ Some w
 place_at [] w k e = absurd (let x : None ≡ Some k = e in cc)
-place_at (v ∷ vs) w k e = of (either (bytes_eq v w)) (λ j. place_at vs w j) where
+place_at (v ∷ vs) w k e = of (cases_Bool (bytes_eq v w)) (λ j. place_at vs w j) where
   after : ((j : ℕ) → place_in vs w ≡ Some j → slice_get vs j ≡ Some w) → (o : Option ℕ) → place_in vs w ≡ o → option_map (λ k. suc k) o ≡ Some k → slice_get (v ∷ vs) k ≡ Some w
   after rec None f g = absurd (let x : None ≡ Some k = g in cc)
   after rec (Some j) f g = let x : Some (suc j) ≡ Some k = g in let y : suc j ≡ k = cc in subst (λ z. slice_get (v ∷ vs) z ≡ Some w) y (rec j f)
@@ -59,7 +59,7 @@ place_distinct [] w k h e = absurd (let x : None ≡ Some w = e in cc)
 place_distinct (v ∷ vs) w zero h e = let x : Some v ≡ Some w = e in let y : v ≡ w = cc in ap (λ b. cond b (Some 0) (option_map (λ k. suc k) (place_in vs w))) (ap (bytes_eq v) (sym y) ∙ bytes_eq-refl v)
 place_distinct (v ∷ vs) w (suc k) h e =
     let (x, y) = none (is_among vs v) (has_twice vs) h in
-    elim (either (bytes_eq v w)) [
+    elim (cases_Bool (bytes_eq v w)) [
       | inl t ↦ absurd (true≢false (sym (is_among-at vs k v (e ∙ ap Some (sym (bytes_eq-same v w t)))) ∙ x))
       | inr f ↦ ap (λ b. cond b (Some 0) (option_map (λ k. suc k) (place_in vs w))) f ∙ ap (option_map (λ k. suc k)) (place_distinct vs w k y e)
     ] where
@@ -69,7 +69,7 @@ place_distinct (v ∷ vs) w (suc k) h e =
 
 -- the map after one word more
 pub consistent_push : (base : ℕ) (old : Name → Option ℕ) (ws : List Name) (w : Name) → is_among ws w ≡ false → ((v : Name) → old v ≡ word_number base ws v) → (v : Name) → update bytes_eq old w (Some (base + length ws)) v ≡ word_number base (ws ++ w ∷ []) v
-consistent_push base old ws w absent h v = elim (either (bytes_eq w v)) [
+consistent_push base old ws w absent h v = elim (cases_Bool (bytes_eq w v)) [
   | inl t ↦ ap (λ b. cond b (Some (base + length ws)) (old v)) t ∙ ap (option_map (λ k. base + k)) (sym (place_new ws w absent) ∙ ap (place_in (ws ++ w ∷ [])) (bytes_eq-same w v t))
   | inr f ↦ ap (λ b. cond b (Some (base + length ws)) (old v)) f ∙ h v ∙ ap (option_map (λ k. base + k)) (sym (place_push ws w v f))
 ]

@@ -6,7 +6,7 @@ use Rattle.std.proofs.Math.Seq.{take-append_seam}
 use Rattle.std.proofs.lemmas.List.{length-take}
 use Rattle.std.proofs.lemmas.List.Sums.{prefix_len-le-length}
 use Rattle.std.proofs.lemmas.Str.{encode_ascii}
-use Rattle.std.proofs.lemmas.Bool.{and_parts, and_cases, and_left, or_cases, cases_Bool, eqb-true, false≢true}
+use Rattle.std.proofs.lemmas.Bool.{and_cases, and_left, and_parts, cases_Bool, eqb-true, false≢true, or_cases, or_left, or_right}
 use Rattle.psg_grammar.specs.Sound.{goes_on_name, is_upper, is_lower, is_digit}
 use Rattle.psg_lexis.specs.Tokens.{quoted}
 use Rattle.psg_deflines.specs.WrittenTerms.{is_plain}
@@ -33,16 +33,8 @@ pub quote-begins : (w : List ℕ) → (rest : List ℕ) × (quoted_part w ≡ 34
 quote-begins w = (encode_utf8_all (quoted (chars w) ++ 34 ∷ []), ap (λ xs. xs ++ encode_utf8_all (quoted (chars w) ++ 34 ∷ [])) (encode_ascii 34 (omega arith)))
 
 -- what goes on a name goes on a word
-or-right : (a b : Bool) → b ≡ true → (a || b) ≡ true
-or-right true b h = refl
-or-right false b h = h
-
-or-left : (a b : Bool) → a ≡ true → (a || b) ≡ true
-or-left true b h = refl
-or-left false b h = absurd (false≢true h)
-
 plain-word : (c : ℕ) → is_plain c ≡ true → goes_on_name c ≡ true
-plain-word c h = or-left (is_upper c || is_lower c || is_digit c) (eqb c 95) h
+plain-word c h = or_left (is_upper c || is_lower c || is_digit c) (eqb c 95) h
 
 behind-word : (s c : ℕ) → goes_behind s c ≡ true → goes_on_name c ≡ true
 behind-word s c h = by_sigil (eqb s 63) h
@@ -50,8 +42,8 @@ behind-word s c h = by_sigil (eqb s 63) h
     by_sigil : (b : Bool) → cond b (is_plain c) (is_lower c || is_digit c) ≡ true → goes_on_name c ≡ true
     by_sigil true k = plain-word c k
     by_sigil false k = elim (or_cases (is_lower c) (is_digit c) k) [
-      | inl e ↦ plain-word c (or-left (is_upper c || is_lower c) (is_digit c) (or-right (is_upper c) (is_lower c) e))
-      | inr e ↦ plain-word c (or-right (is_upper c || is_lower c) (is_digit c) e)
+      | inl e ↦ plain-word c (or_left (is_upper c || is_lower c) (is_digit c) (or_right (is_upper c) (is_lower c) e))
+      | inr e ↦ plain-word c (or_right (is_upper c || is_lower c) (is_digit c) e)
     ]
 
 -- a run behind a sigil ends as a word does

@@ -2,7 +2,7 @@
 use Rattle.std.proofs.Common.{◌≡◌, ℕ, ◌≤◌, ◌==◌, ◌&&◌, Bool, true, false, cond, List, [], ◌∷◌, length, codes, inl, inr, refl, ap, sym, ◌∙◌, subst, arith}
 use Rattle.std.specs.Prelude.{Option, Some, None, not, ◌⊎◌}
 use Rattle.std.specs.List.{AllByRecursion}
-use Rattle.std.proofs.lemmas.Bool.{false≢true, and_parts, and_cases, eqb-true}
+use Rattle.std.proofs.lemmas.Bool.{and_cases, and_parts, eqb-true, false≢true, not-false, not-true}
 use Rattle.std.proofs.lemmas.Bool.Decides.{eqb_tells}
 use Rattle.psg_terms.specs.Names.{Name}
 use Rattle.psg_grammar.specs.Sound.{IsKindName}
@@ -50,14 +50,6 @@ some-tree : (b : Behind) (w : Option WrittenTree) → IsBehind b w → is_nothin
 some-tree behinds.Nothing w h f = absurd (false≢true (sym f))
 some-tree behinds.TooDeep w h f = (h.0, h.1)
 some-tree (behinds.Tree z) w h f = (z, h.0)
-
-not-true : (b : Bool) → not b ≡ true → b ≡ false
-not-true true e = absurd (false≢true e)
-not-true false e = refl
-
-not-false : (b : Bool) → not b ≡ false → b ≡ true
-not-false true e = refl
-not-false false e = absurd (false≢true (sym e))
 
 -- ---- rows
 

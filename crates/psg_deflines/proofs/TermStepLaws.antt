@@ -1,5 +1,6 @@
 -- What the frames of a walk hold after a step.
 use Rattle.std.proofs.Common.{◌≡◌, ℕ, ◌||◌, nat_le, Bool, true, false, List, [], ◌∷◌, ◌++◌, drop, length, length-append, codes, refl, ap, sym, ◌∙◌, subst, arith}
+use Rattle.std.proofs.lemmas.Bool.{or_parts}
 use Rattle.std.specs.Borrow.{Bor}
 use Rattle.psg_grammar.specs.Sound.{IsOwnName}
 use Rattle.psg_deflines.specs.Parts.{texts}
@@ -12,10 +13,6 @@ use Rattle.psg_deflines.specs.declared.term_reading.Walk.TheVariants as walks
 framed-snoc : (outer : List WrittenTerm) (xs : List Frame) (y : Frame) → framed_behind outer (xs ++ y ∷ []) ≡ frame_term y ∷ framed_behind outer xs
 framed-snoc outer [] y = refl
 framed-snoc outer (x ∷ xs) y = framed-snoc (frame_term x ∷ outer) xs y
-
-or-false : (a b : Bool) → (a || b) ≡ false → a ≡ false
-or-false true b h = h
-or-false false b h = refl
 
 -- one more frame
 pub open-more : (b c : Brackets) (fs : List WrittenTerm) (f : WrittenTerm) (y : Frame) → AreOpen b fs → c.frames.items ≡ b.frames.items ++ y ∷ [] → (c.deep ≡ false → b.deep ≡ false) → (c.deep ≡ false → frame_term y ≡ f) → AreOpen c (f ∷ fs)
@@ -75,7 +72,7 @@ variable-made b c len fs ps rest n m h items size deep e v same = record {
   next = has fs (variable n);
   fits = omega (arith, ap length e);
   step = variable_step fs n refl (e ∙ ap (λ xs. (63 ∷ n) ∷ xs) (one-less ps rest (63 ∷ n) e)) v refl;
-  shown = (open-same b c fs h items (λ d. or-false b.deep (nat_le most_nested len) (sym deep ∙ d)), λ d. ap variable same);
+  shown = (open-same b c fs h items (λ d. (or_parts b.deep (nat_le most_nested len) (sym deep ∙ d)).0), λ d. ap variable same);
   noted = deep ∙ noted-by b.deep (length b.frames.items) (length fs) len size h.count;
 }
 
@@ -85,7 +82,7 @@ constant-made b c len fs ps rest n m args h items size deep e v apart same none 
   next = has fs (named n);
   fits = omega (arith, ap length e);
   step = constant_step fs n refl (e ∙ ap (λ xs. n ∷ xs) (one-less ps rest n e)) v (subst IsNotOpened (one-less ps rest n e) apart) refl;
-  shown = (open-same b c fs h items (λ d. or-false b.deep (nat_le most_nested len) (sym deep ∙ d)), λ d. ap (applied (named m)) none ∙ ap named same);
+  shown = (open-same b c fs h items (λ d. (or_parts b.deep (nat_le most_nested len) (sym deep ∙ d)).0), λ d. ap (applied (named m)) none ∙ ap named same);
   noted = deep ∙ noted-by b.deep (length b.frames.items) (length fs) len size h.count;
 }
 
@@ -98,7 +95,7 @@ opened-made b c len fs ps rest n y h items size deep e v opened same none =
       next = expects (named n ∷ fs);
       fits = omega (arith, ap length whole);
       step = opened_step fs n refl (whole ∙ ap (λ xs. n ∷ codes "(" ∷ xs) left) v refl;
-      shown = open-more b c fs (named n) y h items (λ d. or-false b.deep (nat_le most_nested len) (sym deep ∙ d)) (λ d. ap (applied (named y.name)) none ∙ ap named same);
+      shown = open-more b c fs (named n) y h items (λ d. (or_parts b.deep (nat_le most_nested len) (sym deep ∙ d)).0) (λ d. ap (applied (named y.name)) none ∙ ap named same);
       noted = deep ∙ noted-by b.deep (length b.frames.items) (length fs) len size h.count;
     }
 

@@ -2,7 +2,7 @@
 use Rattle.std.proofs.Common.{◌≡◌, ℕ, ◌+◌, ◌<◌, ◌≤◌, ◌||◌, nat_le, Bool, true, false, cond, List, [], ◌∷◌, ◌++◌, drop, length, inl, inr, refl, ap, sym, ◌∙◌, subst, arith}
 use Rattle.std.specs.Prelude.{Option, Some, None, MatchOption, MatchBool, is_some, not, ◌⊎◌}
 use Rattle.std.specs.List.{AllByRecursion}
-use Rattle.std.proofs.lemmas.Bool.{false≢true, leb-true, leb-false}
+use Rattle.std.proofs.lemmas.Bool.{false≢true, leb-false, leb-true, or_cases, or_parts}
 use Rattle.psg_deflines.specs.WrittenTerms.{most_nested}
 use Rattle.psg_deflines.specs.WrittenTrees.{WrittenTree, tree_depth}
 use Rattle.psg_deflines.specs.TreeShapes.{with_part, list_of, ending}
@@ -19,7 +19,7 @@ use Rattle.psg_deflines.specs.declared.tree_reading.OpenTrees.{OpenTrees}
 use Rattle.psg_deflines.specs.declared.tree_reading.TreeWalk.{TreeWalk}
 use Rattle.psg_deflines.specs.declared.tree_reading.TreeWalk.TheVariants as walks
 use Rattle.psg_deflines.proofs.TreeWalkLaws.{begins-only, finishes-only}
-use Rattle.psg_deflines.proofs.TreeStageLaws.{open-more, open-less, open-count, IsPopped, or-false, or-true}
+use Rattle.psg_deflines.proofs.TreeStageLaws.{open-more, open-less, open-count, IsPopped}
 use Rattle.psg_deflines.proofs.TreeFitLaws.{depth-positive, placed-fit, placed-unfit, part-fits, list-fits, list-unfits}
 
 operator-of : (f : TreeFrame) → is_operator f ≡ true → (g : WrittenTree) × (f ≡ in_operator g)
@@ -50,9 +50,9 @@ led-placed : (s : TreeStage) (to : Option TreeStage) (deep : Bool) (kept : Optio
 led-placed s to deep kept fs t w leads h none some = record { next = placed fs t; leads = leads; shown = h.shown; on = on; off = off }
   where
     on : is_deep w ≡ true → (deep ≡ true) ⊎ (IsFit (placed fs t) → ⊥)
-    on e = elim (or-true deep (not (is_some kept) || nat_le most_nested (length fs)) (sym h.noted ∙ e)) [
+    on e = elim (or_cases deep (not (is_some kept) || nat_le most_nested (length fs)) (sym h.noted ∙ e)) [
       | inl d ↦ inl d
-      | inr d ↦ elim (or-true (not (is_some kept)) (nat_le most_nested (length fs)) d) [
+      | inr d ↦ elim (or_cases (not (is_some kept)) (nat_le most_nested (length fs)) d) [
         | inl n ↦ inr (λ fit. none (none-not-some kept n) (placed-unfit fs t fit).1)
         | inr l ↦ inr (λ fit. omega (arith, leb-true most_nested (length fs) l, depth-positive t, (placed-unfit fs t fit).1.0))
       ]
@@ -60,8 +60,8 @@ led-placed s to deep kept fs t w leads h none some = record { next = placed fs t
 
     off : is_deep w ≡ false → (deep ≡ false) × (IsFit s → IsFit (placed fs t))
     off e =
-        let first = or-false deep (not (is_some kept) || nat_le most_nested (length fs)) (sym h.noted ∙ e) in
-        let second = or-false (not (is_some kept)) (nat_le most_nested (length fs)) first.1 in
+        let first = or_parts deep (not (is_some kept) || nat_le most_nested (length fs)) (sym h.noted ∙ e) in
+        let second = or_parts (not (is_some kept)) (nat_le most_nested (length fs)) first.1 in
         let known = some-known kept second.0 in
         (first.0, λ fit. let both = some known.0 known.1 (leb-false most_nested (length fs) second.1) fit in placed-fit fs t both.0 both.1)
 
@@ -99,11 +99,11 @@ frame-moved deep f fs b w h k = record {
   next = expects (frame_of f ∷ fs);
   leads = ap (begun fs) h.0 ∙ begun-frame fs (frame_of f);
   shown = k.0;
-  on = λ e. elim (or-true deep (nat_le most_nested (length fs)) (sym k.1 ∙ e)) [
+  on = λ e. elim (or_cases deep (nat_le most_nested (length fs)) (sym k.1 ∙ e)) [
     | inl d ↦ inl d
     | inr l ↦ inr (λ fit. too-deep (frame_of f) (leb-true most_nested (length fs) l) fit.0)
   ];
-  off = λ e. let both = or-false deep (nat_le most_nested (length fs)) (sym k.1 ∙ e) in (both.0, λ fit. (fresh-fits (length fs) (frame_of f) h.1 (leb-false most_nested (length fs) both.1), fit));
+  off = λ e. let both = or_parts deep (nat_le most_nested (length fs)) (sym k.1 ∙ e) in (both.0, λ fit. (fresh-fits (length fs) (frame_of f) h.1 (leb-false most_nested (length fs) both.1), fit));
 }
   where
     too-deep : (g : TreeFrame) → most_nested ≤ length fs → FrameFits (length fs) g → ⊥

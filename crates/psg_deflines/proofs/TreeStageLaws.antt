@@ -1,7 +1,7 @@
 -- What the open operators and lists of a walk hold after a step.
 use Rattle.std.proofs.Common.{◌≡◌, ℕ, ◌+◌, ◌||◌, nat_le, Bool, true, false, cond, List, [], ◌∷◌, ◌++◌, map, length, length-append, inl, inr, refl, ap, ap₂, sym, ◌∙◌, subst, arith}
 use Rattle.std.specs.Prelude.{Option, Some, None, MatchOption, is_some, not, ◌⊎◌}
-use Rattle.std.proofs.lemmas.Bool.{false≢true}
+use Rattle.std.proofs.lemmas.Bool.{false≢true, or_parts}
 use Rattle.psg_deflines.specs.WrittenTerms.{most_nested}
 use Rattle.psg_deflines.specs.WrittenTrees.{WrittenTree, operator}
 use Rattle.psg_deflines.specs.TreeShapes.{with_part, with_parts}
@@ -89,14 +89,6 @@ open-less b c y (f ∷ fs) h items deep =
     frames-behind : (x y : TreeFrame) (xs ys : List TreeFrame) → x ∷ xs ≡ y ∷ ys → xs ≡ ys
     frames-behind x y xs ys e = cc
 
-pub or-false : (a b : Bool) → (a || b) ≡ false → (a ≡ false) × (b ≡ false)
-or-false true b h = absurd (false≢true (sym h))
-or-false false b h = (refl, h)
-
-pub or-true : (a b : Bool) → (a || b) ≡ true → (a ≡ true) ⊎ (b ≡ true)
-or-true true b h = inl refl
-or-true false b h = inr h
-
 -- ---- a specimen ends
 
 placed-filled : (f : TreeFrame) (fs : List TreeFrame) (t : WrittenTree) → placed (f ∷ fs) t ≡ after (filled_with f t ∷ fs)
@@ -151,7 +143,7 @@ pub placed-after : (b c d : OpenTrees) (kept tree : Option WrittenTree) (len : �
     → d.frames.items ≡ c.frames.items ++ y ∷ [] → d.deep ≡ noted_deep b.deep kept len → (b.deep ≡ false → MatchOption kept (Unit {0}) (λ z. z ≡ t)) → IsPlaced b.deep kept fs t (walks.After d)
 placed-after b c d kept tree len x y fs t h items deep size is filled more noted same =
     let popped = open-less b c x fs h items deep in
-    let off : d.deep ≡ false → b.deep ≡ false = λ n. (or-false b.deep (not (is_some kept) || nat_le most_nested len) (sym noted ∙ n)).0 in
+    let off : d.deep ≡ false → b.deep ≡ false = λ n. (or_parts b.deep (not (is_some kept) || nat_le most_nested len) (sym noted ∙ n)).0 in
     let whole : d.deep ≡ false → frame_of y ≡ filled_with popped.first t = λ n.
     subst (λ o. MatchOption o (Unit {0}) (λ z. frame_of y ≡ filled_with (frame_of x) z)) (is ∙ kept-some b.deep kept len t same (sym noted ∙ n)) filled.filled ∙ ap (λ f. filled_with f t) (popped.kept (off n)) in
     record {
@@ -172,4 +164,4 @@ operator-filled x y kept t o ps qs before more behind is = record {
 pub frame-open : (b c : OpenTrees) (y : OpenTree) (fs : List TreeFrame) (len : ℕ) → AreTreesOpen b fs → c.frames.items ≡ b.frames.items ++ y ∷ [] → len ≡ length b.frames.items → c.deep ≡ (b.deep || nat_le most_nested len)
     → AreTreesOpen c (frame_of y ∷ fs) × (c.deep ≡ (b.deep || nat_le most_nested (length fs)))
 frame-open b c y fs len h items size noted =
-    (open-more b c fs (frame_of y) y h items (λ n. (or-false b.deep (nat_le most_nested len) (sym noted ∙ n)).0) refl (λ n. refl), noted ∙ ap (λ n. b.deep || nat_le most_nested n) (size ∙ open-count b fs h))
+    (open-more b c fs (frame_of y) y h items (λ n. (or_parts b.deep (nat_le most_nested len) (sym noted ∙ n)).0) refl (λ n. refl), noted ∙ ap (λ n. b.deep || nat_le most_nested n) (size ∙ open-count b fs h))

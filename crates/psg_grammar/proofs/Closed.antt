@@ -1,5 +1,6 @@
 -- As many steps as there are kinds are enough to find what is declaring.
 use Rattle.std.proofs.Common.{◌≡◌, ◌⊎◌, inl, inr, ℕ, zero, suc, ◌+◌, ◌<◌, ◌≤◌, ◌==◌, Bool, true, false, ◌||◌, ◌&&◌, not, List, [], ◌∷◌, length, slice_get, Some, None, Option, refl, ap, ap₂, sym, ◌∙◌, subst, true≢false, arith, ltb, ltb-true, ltb-false, not-suc-le-zero}
+use Rattle.std.proofs.lemmas.Bool.{cases_Bool}
 use Rattle.std.proofs.lemmas.Bool.Decides.{eqb_tells}
 use Rattle.std.specs.List.{AllByRecursion}
 use Rattle.psg_grammar.specs.declared.types.Kind.{Kind}
@@ -11,7 +12,6 @@ use Rattle.psg_grammar.specs.declared.types.ListKind.{ListKind}
 use Rattle.psg_grammar.specs.declared.types.Definition.{Definition}
 use Rattle.psg_grammar.specs.Declaring.{is_declaring, declares_within, declares_by, any_item, any_operator, element_declares}
 use Rattle.psg_grammar.specs.Kinds.{HasKind, HasSlotKind}
-use Rattle.psg_grammar.proofs.NamePlaces.{either}
 
 abbrev one_if : Bool → ℕ
 one_if true = 1
@@ -52,7 +52,7 @@ below_same p q (suc n) h e k lt =
     let c : below p n ≡ below q n = omega (arith, a, b, e) in
     elim (eqb_tells k n) [
       | inl s ↦ subst (λ j. p j ≡ q j) (sym s.1) (one_same (p n) (q n) (let d : one_if (p n) ≡ one_if (q n) = omega (arith, c, e) in d))
-      | inr s ↦ below_same p q n h c k (elim (either (ltb k n)) [ inl t ↦ ltb-true k n t | inr t ↦ absurd (s.1 (let g : n ≤ k = ltb-false k n t in let z : k ≡ n = omega (arith, g, lt) in z)) ])
+      | inr s ↦ below_same p q n h c k (elim (cases_Bool (ltb k n)) [ inl t ↦ ltb-true k n t | inr t ↦ absurd (s.1 (let g : n ≤ k = ltb-false k n t in let z : k ≡ n = omega (arith, g, lt) in z)) ])
     ]
 
 below_all : (p : ℕ → Bool) (n : ℕ) → n ≤ below p n → (k : ℕ) → k < n → p k ≡ true
@@ -62,7 +62,7 @@ below_all p (suc n) h k lt =
     let b : below p n ≤ n = below_most p n in
     elim (eqb_tells k n) [
       | inl s ↦ subst (λ j. p j ≡ true) (sym s.1) (one_same (p n) true (let d : one_if (p n) ≡ 1 = omega (arith, a, b, h) in d))
-      | inr s ↦ below_all p n (let d : n ≤ below p n = omega (arith, a, b, h) in d) k (elim (either (ltb k n)) [ inl t ↦ ltb-true k n t | inr t ↦ absurd (s.1 (let g : n ≤ k = ltb-false k n t in let z : k ≡ n = omega (arith, g, lt) in z)) ])
+      | inr s ↦ below_all p n (let d : n ≤ below p n = omega (arith, a, b, h) in d) k (elim (cases_Bool (ltb k n)) [ inl t ↦ ltb-true k n t | inr t ↦ absurd (s.1 (let g : n ≤ k = ltb-false k n t in let z : k ≡ n = omega (arith, g, lt) in z)) ])
     ]
 
 -- a test that passes more
@@ -162,7 +162,7 @@ module _ (def : Definition) (space : ℕ) (items_in : (o : ℕ) (op : Operator) 
   settled zero = inr (omega arith)
   settled (suc n) = elim (settled n) [
     | inl h ↦ inl (λ k r. by_same (declares_within def space n) (declares_within def space (suc n)) h k)
-    | inr h ↦ elim (either (ltb (total (declares_within def space n)) (total (declares_within def space (suc n))))) [
+    | inr h ↦ elim (cases_Bool (ltb (total (declares_within def space n)) (total (declares_within def space (suc n))))) [
       | inl t ↦ let g : total (declares_within def space n) < total (declares_within def space (suc n)) = ltb-true (total (declares_within def space n)) (total (declares_within def space (suc n))) t in inr (omega (arith, g, h))
       | inr t ↦
           let g : total (declares_within def space (suc n)) ≤ total (declares_within def space n) = ltb-false (total (declares_within def space n)) (total (declares_within def space (suc n))) t in

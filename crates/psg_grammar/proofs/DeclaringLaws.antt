@@ -1,5 +1,6 @@
 -- The search for declaring kinds finds exactly those that declare.
 use Rattle.std.proofs.Common.{◌≡◌, ◌↔◌, ◌⊎◌, inl, inr, ℕ, zero, suc, ◌+◌, ◌<◌, ◌==◌, Bool, true, false, ◌||◌, ◌&&◌, not, List, [], ◌∷◌, length, Option, Some, None, slice_get, refl, sym, ◌∙◌, subst, true≢false}
+use Rattle.std.proofs.lemmas.Bool.{cases_Bool, or_cases, or_left, or_right}
 use Rattle.std.proofs.lemmas.Bool.Decides.{eqb_tells}
 use Rattle.std.proofs.lemmas.Option.{none-some, slice_get_within}
 use Rattle.psg_grammar.specs.declared.types.Kind.{Kind}
@@ -12,21 +13,8 @@ use Rattle.psg_grammar.specs.declared.types.Definition.{Definition}
 use Rattle.psg_grammar.specs.Kinds.{HasKind}
 use Rattle.psg_grammar.specs.Declaring.{Declares, by_list, by_operator, AnyDeclares, here, slot, later, any_item, any_operator, element_declares, declares_by, declares_within, is_declaring}
 use Rattle.psg_grammar.specs.Sound.{IsSound}
-use Rattle.psg_grammar.proofs.NamePlaces.{either}
 use Rattle.psg_grammar.proofs.Closed.{closed}
 use Rattle.psg_grammar.proofs.SoundParts.{items_in, elements_in, phylum_in}
-
-pub or_cases : (a b : Bool) → a || b ≡ true → (a ≡ true) ⊎ (b ≡ true)
-or_cases true b e = inl refl
-or_cases false b e = inr e
-
-pub or_left : (a b : Bool) → a ≡ true → a || b ≡ true
-or_left true b e = refl
-or_left false b e = absurd (true≢false (sym e))
-
-pub or_right : (a b : Bool) → b ≡ true → a || b ≡ true
-or_right true b e = refl
-or_right false b e = e
 
 pub eqb_true : (a b : ℕ) → a == b ≡ true → a ≡ b
 eqb_true a b e = elim (eqb_tells a b) [ inl h ↦ h.1 | inr h ↦ absurd (true≢false (sym e ∙ h.0)) ]
@@ -131,7 +119,7 @@ module _ (def : Definition) (sound : IsSound def) (space : ℕ) (test : Kind →
 pub declares_found : (def : Definition) → IsSound def → (space : ℕ) (kind : Kind) → Declares def space kind → is_declaring def space kind ≡ true
 declares_found def sound space kind d = passes def sound space (is_declaring def space) step kind d where
   step : (k : Kind) → HasKind def k → declares_by def space (is_declaring def space) k ≡ true → is_declaring def space k ≡ true
-  step k there e = elim (either (is_declaring def space k)) [
+  step k there e = elim (cases_Bool (is_declaring def space k)) [
     | inl h ↦ h
     | inr h ↦ absurd (true≢false (sym e ∙ closed def space (items_in def sound) (elements_in def sound) k there h))
   ]

@@ -1,5 +1,6 @@
 -- The place of a name in a list that has none twice.
 use Rattle.std.proofs.Common.{◌≡◌, ◌⊎◌, inl, inr, ℕ, zero, suc, ◌+◌, ◌<◌, Bool, true, false, ◌||◌, cond, List, [], ◌∷◌, ◌++◌, length, map, Option, Some, None, slice_get, option_map, position, bytes_eq, refl, ap, sym, ◌∙◌, subst, true≢false, zero-add, arith}
+use Rattle.std.proofs.lemmas.Bool.{cases_Bool, or_left, or_parts, or_right}
 use Rattle.std.specs.List.{position_from}
 use Rattle.std.proofs.lemmas.Iterator.Adapters.{position_from-zero}
 use Rattle.std.proofs.lemmas.Option.{none-some, slice_get-map, slice_get_within}
@@ -15,18 +16,6 @@ use Rattle.psg_grammar.specs.Kinds.{kind_name_of, op_name_of}
 use Rattle.psg_grammar.specs.Sound.{kind_names}
 
 -- a test comes out one way or the other
-pub either : (b : Bool) → (b ≡ true) ⊎ (b ≡ false)
-either true = inl refl
-either false = inr refl
-
-or_left : (a b : Bool) → a ≡ true → a || b ≡ true
-or_left true b e = refl
-or_left false b e = absurd (true≢false (sym e))
-
-or_right : (a b : Bool) → b ≡ true → a || b ≡ true
-or_right true b e = refl
-or_right false b e = e
-
 -- ---- a search by name
 
 module _ {X : Type 0} (name_of : X → Name) (n : Name) where
@@ -35,7 +24,7 @@ module _ {X : Type 0} (name_of : X → Name) (n : Name) where
 
   found_from : (xs : List X) (m i : ℕ) → position_from test m xs ≡ Some i → (k : ℕ) × (i ≡ m + k) × (option_map name_of (slice_get xs k) ≡ Some n)
   found_from [] m i e = absurd (none-some i e)
-  found_from (x ∷ xs) m i e = elim (either (test x)) [
+  found_from (x ∷ xs) m i e = elim (cases_Bool (test x)) [
     | inl t ↦
         let f : Some m ≡ Some i = subst (λ b. cond b (Some m) (position_from test (m + 1) xs) ≡ Some i) t e in
         let g : m ≡ i = cc in
@@ -52,7 +41,7 @@ module _ {X : Type 0} (name_of : X → Name) (n : Name) where
       let same : name_of x ≡ n = let f : Some (name_of x) ≡ Some n = named in cc in
       let t : test x ≡ true = (bytes_eq-Decides (name_of x) n).1 same in
       none-some m (sym (subst (λ b. cond b (Some m) (position_from test (m + 1) xs) ≡ None) t e))
-  missing_from (x ∷ xs) m e (suc k) named = elim (either (test x)) [
+  missing_from (x ∷ xs) m e (suc k) named = elim (cases_Bool (test x)) [
     | inl t ↦ none-some m (sym (subst (λ b. cond b (Some m) (position_from test (m + 1) xs) ≡ None) t e))
     | inr t ↦ missing_from xs (m + 1) (subst (λ b. cond b (Some m) (position_from test (m + 1) xs) ≡ None) t e) k named
   ]
@@ -89,16 +78,12 @@ once_first xs x n once same k e =
     let there : is_among xs x ≡ true = among_at xs x k (e ∙ ap Some (sym same)) in
     true≢false (sym (or_left (is_among xs x) (has_twice xs) there) ∙ once)
 
-once_rest : (a b : Bool) → a || b ≡ false → b ≡ false
-once_rest true b e = absurd (true≢false e)
-once_rest false b e = e
-
 pub once : (xs : List Name) → has_twice xs ≡ false → (i j : ℕ) (n : Name) → slice_get xs i ≡ Some n → slice_get xs j ≡ Some n → i ≡ j
 once [] h i j n e f = absurd (none-some n e)
 once (x ∷ xs) h zero zero n e f = refl
 once (x ∷ xs) h zero (suc j) n e f = absurd (once_first xs x n h (let g : Some x ≡ Some n = e in cc) j f)
 once (x ∷ xs) h (suc i) zero n e f = absurd (once_first xs x n h (let g : Some x ≡ Some n = f in cc) i e)
-once (x ∷ xs) h (suc i) (suc j) n e f = ap suc (once xs (once_rest (is_among xs x) (has_twice xs) h) i j n e f)
+once (x ∷ xs) h (suc i) (suc j) n e f = ap suc (once xs (or_parts (is_among xs x) (has_twice xs) h).1 i j n e f)
 
 -- ---- kinds and operators
 

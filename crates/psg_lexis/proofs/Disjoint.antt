@@ -3,7 +3,7 @@ use Rattle.std.proofs.Common.{◌≡◌, ℕ, ◌<◌, Bool, true, false, List, 
 use Rattle.std.specs.Prelude.{codes, not, nat_lt, ◌||◌, ◌&&◌, ◌==◌}
 use Rattle.std.specs.Char.{is_ascii_alphabetic}
 use Rattle.std.specs.List.{list_any, list_all}
-use Rattle.std.proofs.lemmas.Bool.{false≢true, eqb-true, ltb-true}
+use Rattle.std.proofs.lemmas.Bool.{eqb-true, false≢true, ltb-true, not-true}
 use Rattle.std.proofs.lemmas.Bool.Decides.{nat_tests}
 use Rattle.unicode_ident.proofs.IdentLemmas.{is_xid_start-ascii}
 use Rattle.psg_terms.specs.Words.{starts_word}
@@ -16,10 +16,6 @@ left false b h = h
 right : (a b : Bool) → (a && b) ≡ true → b ≡ true
 right true b h = h
 right false b h = absurd (false≢true h)
-
-negated : (b : Bool) → not b ≡ true → b ≡ false
-negated true h = absurd (false≢true h)
-negated false h = refl
 
 -- what holds of each of some characters holds of one that is among them
 among : (p : ℕ → Bool) (c : ℕ) (cs : List ℕ) → list_any (λ d. c == d) cs ≡ true → list_all p cs ≡ true → p c ≡ true
@@ -38,7 +34,7 @@ pub no_word : (c : ℕ) → no_start c ≡ true → starts_word c ≡ false
 no_word c h =
     let small : c < 128 = ltb-true c 128 (left (nat_lt c 128) (not (is_ascii_alphabetic c || (c == 95))) h) in
     ap (λ b. b || (c == 95)) (is_xid_start-ascii c small)
-    ∙ negated (is_ascii_alphabetic c || (c == 95)) (right (nat_lt c 128) (not (is_ascii_alphabetic c || (c == 95))) h)
+    ∙ not-true (is_ascii_alphabetic c || (c == 95)) (right (nat_lt c 128) (not (is_ascii_alphabetic c || (c == 95))) h)
 
 pub digit_no_word : (c : ℕ) → is_digit c ≡ true → starts_word c ≡ false
 digit_no_word c h = no_word c (by h)
@@ -58,7 +54,7 @@ quote_test c = solo_test c && not (is_solo c)
 pub symbol_parts : (c : ℕ) → symbol_test c ≡ true → (starts_word c ≡ false) × (is_digit c ≡ false)
 symbol_parts c h = (
   no_word c (left (no_start c) (not (is_digit c)) h),
-  negated (is_digit c) (right (no_start c) (not (is_digit c)) h),
+  not-true (is_digit c) (right (no_start c) (not (is_digit c)) h),
 )
 
 pub symbol_apart : (c : ℕ) → is_symbol c ≡ true → (starts_word c ≡ false) × (is_digit c ≡ false)
@@ -67,7 +63,7 @@ symbol_apart c h = symbol_parts c (among symbol_test c (codes "+-*/%<>=!&|^~:.@#
 pub solo_parts : (c : ℕ) → solo_test c ≡ true → (starts_word c ≡ false) × (is_digit c ≡ false) × (is_symbol c ≡ false)
 solo_parts c h =
     let p = symbol_parts c (left (symbol_test c) (not (is_symbol c)) h) in
-    (p.0, p.1, negated (is_symbol c) (right (symbol_test c) (not (is_symbol c)) h))
+    (p.0, p.1, not-true (is_symbol c) (right (symbol_test c) (not (is_symbol c)) h))
 
 pub solo_apart : (c : ℕ) → is_solo c ≡ true → (starts_word c ≡ false) × (is_digit c ≡ false) × (is_symbol c ≡ false)
 solo_apart c h = solo_parts c (among solo_test c (codes "()[]{},;") h refl)
@@ -86,7 +82,7 @@ other_parts c h =
       digit = p.1;
       symbol = p.2;
       solo =
-          negated (is_solo c) (right (solo_test c) (not (is_solo c)) h);
+          not-true (is_solo c) (right (solo_test c) (not (is_solo c)) h);
     }
 
 pub quote_apart : IsOther 34
@@ -110,6 +106,6 @@ blank_apart c h =
     let t = among blank_test c (32 ∷ 9 ∷ 10 ∷ 13 ∷ []) (blank_among (c == 32) (c == 9) (c == 10) (c == 13) h) refl in
     let u = right (quote_test c) (not (c == 34) && not (c == 63)) t in (
       other_parts c (left (quote_test c) (not (c == 34) && not (c == 63)) t),
-      negated (c == 34) (left (not (c == 34)) (not (c == 63)) u),
-      negated (c == 63) (right (not (c == 34)) (not (c == 63)) u),
+      not-true (c == 34) (left (not (c == 34)) (not (c == 63)) u),
+      not-true (c == 63) (right (not (c == 34)) (not (c == 63)) u),
     )

@@ -2,7 +2,7 @@
 use Rattle.std.proofs.Common.{◌≡◌, inl, inr, ℕ, ◌+◌, ◌<◌, Bool, true, false, List, [], ◌∷◌, ◌++◌, length, sym, ap, ◌∙◌, subst, refl, append_assoc, append-nil, arith, length-append}
 use Rattle.std.specs.Prelude.{encode_utf8, encode_utf8_all, ◌||◌, ◌==◌}
 use Rattle.std.specs.Char.{is_ascii_alphanumeric}
-use Rattle.std.proofs.lemmas.Bool.{false≢true}
+use Rattle.std.proofs.lemmas.Bool.{false≢true, or_left}
 use Rattle.std.proofs.lemmas.Bool.Decides.{nat_tests}
 use Rattle.std.proofs.lemmas.Str.{encodes-append, encode_ascii}
 use Rattle.unicode_ident.specs.Ident.{is_xid_continue}
@@ -62,10 +62,6 @@ digit_small c h = grind (arith, nat_tests)
 
 digit_alphanumeric : (c : ℕ) → is_digit c ≡ true → (is_ascii_alphanumeric c || (c == 95)) ≡ true
 digit_alphanumeric c h = grind (arith, nat_tests)
-
-or_left : (a b : Bool) → a ≡ true → (a || b) ≡ true
-or_left true b h = refl
-or_left false b h = absurd (false≢true h)
 
 digit_goes_on : (c : ℕ) → is_digit c ≡ true → goes_on_word c ≡ true
 digit_goes_on c h = or_left (is_xid_continue c) (c == 95) (is_xid_continue-ascii c (digit_small c h)

@@ -1,5 +1,6 @@
 -- The token or the fault of a quoted text, from what the walk finds behind the contents that it has read.
 use Rattle.std.proofs.Common.{◌≡◌, ◌≢◌, ◌⊎◌, inl, inr, ℕ, ◌+◌, ◌-◌, ◌<◌, ◌≤◌, Bool, true, false, List, [], ◌∷◌, ◌++◌, length, sym, ap, ◌∙◌, subst, refl, append_assoc, append-nil, arith, length-append, lit<, ne_eqb}
+use Rattle.std.proofs.lemmas.Bool.{or_right}
 use Rattle.std.specs.Prelude.{encode_utf8, encode_utf8_all, is_some, ◌||◌, ◌==◌, if◌then◌else◌}
 use Rattle.std.specs.Str.{chars}
 use Rattle.std.proofs.lemmas.Str.{encodes-append, encode_ascii, len_utf8_ascii, length-encode, chars-nil}
@@ -46,16 +47,12 @@ an_escape whole behind after written meant f g e content small = record {
 plain_escaped : (c : ℕ) → (c == 34) ≡ false → (c == 92) ≡ false → (c == 10) ≡ false → escaped c ≡ c ∷ []
 plain_escaped c p q r = rw (p, q, r) refl
 
-content_by : (a b : Bool) → b ≡ true → (a || b) ≡ true
-content_by true b h = refl
-content_by false b h = h
-
 pub a_plain : (whole after : List ℕ) (c : ℕ) → IsFirst whole c after → c ≢ 34 → c ≢ 92 → c ≢ 10
     → is_some (char_width false c) ≡ true → IsContent whole c after
 a_plain whole after c f p q r w =
     let e : escaped c ≡ c ∷ [] = plain_escaped c (ne_eqb c 34 p) (ne_eqb c 92 q) (ne_eqb c 10 r) in
     record {
-      content = content_by (c == 10) (is_some (char_width false c)) w;
+      content = or_right (c == 10) (is_some (char_width false c)) w;
       bytes = f.bytes ∙ ap (λ bs. bs ++ after) (sym (append-nil (encode_utf8 c)))
           ∙ ap (λ cs. encode_utf8_all cs ++ after) (sym e);
       characters = f.characters ∙ ap (λ cs. cs ++ chars after) (sym e);

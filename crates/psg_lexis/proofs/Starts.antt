@@ -2,7 +2,7 @@
 use Rattle.std.proofs.Common.{◌≡◌, ◌≢◌, ℕ, ◌+◌, ◌<◌, ◌≤◌, ◌^◌, Bool, true, false, List, [], ◌∷◌, ◌++◌, length, sym, ap, ◌∙◌, subst, refl, arith}
 use Rattle.std.specs.Prelude.{bytes_eq, encode_utf8_all, not, ◌||◌, ◌==◌}
 use Rattle.std.specs.Str.{chars}
-use Rattle.std.proofs.lemmas.Bool.{false≢true}
+use Rattle.std.proofs.lemmas.Bool.{false≢true, not-true}
 use Rattle.std.proofs.lemmas.Str.{encode_ascii}
 use Rattle.std.proofs.Common.{lit<}
 use Rattle.std.proofs.lemmas.Slice.Eq.{bytes_eq-Decides}
@@ -184,16 +184,12 @@ begins_solo fixed text after c at f s small = record {
   ends = let one : bytes_of (c ∷ []) ≡ 1 = rw (encode_ascii c small) refl in omega (arith, one);
 }
 
-not_blank : (b : Bool) → not b ≡ true → b ≡ false
-not_blank true h = absurd (false≢true h)
-not_blank false h = refl
-
 pub begins_nothing : (fixed : List Name) (text after : List ℕ) (c at : ℕ) → IsFirst text c after
     → BeginsBy (λ d. not (is_blank d)) (chars text)
     → starts_word c ≡ false → is_digit c ≡ false → is_solo c ≡ false → is_symbol c ≡ false → c ≢ 34 → c ≢ 63
     → IsFault fixed (chars text) at (faults.BadChar at)
 begins_nothing fixed text after c at f b w d s y q h =
-    let blank = not_blank (is_blank c) (subst (BeginsBy (λ d. not (is_blank d))) f.characters b) in
+    let blank = not-true (is_blank c) (subst (BeginsBy (λ d. not (is_blank d))) f.characters b) in
     subst (λ cs. IsFault fixed cs at (faults.BadChar at)) (sym f.characters)
     (no_token c (chars after) at (record {
       blank = blank;

@@ -3,7 +3,7 @@ use Rattle.std.proofs.Common.{◌≡◌, ◌⊎◌, inl, inr, ℕ, ◌+◌, ◌-
 use Rattle.std.specs.Prelude.{encode_utf8, encode_utf8_all, ◌||◌, ◌==◌, ◌&&◌}
 use Rattle.std.specs.Str.{IsUtf8, IsCharBoundary, chars, all_scalars}
 use Rattle.std.proofs.Math.Seq.{drop-append_seam}
-use Rattle.std.proofs.lemmas.Bool.{false≢true, eqb-true}
+use Rattle.std.proofs.lemmas.Bool.{and_parts, eqb-true, false≢true}
 use Rattle.std.proofs.lemmas.Str.{encodes-append, encode_ascii, encodes-chars, scalars-chars, chars-encodes, IsCharBoundary-at_seam, length-le-encodes}
 use lib.Utf8.{scalar}
 use Rattle.psg_terms.specs.Names.{Name}
@@ -54,10 +54,6 @@ begun_some : (test : ℕ → Bool) (cs : Chars) → BeginsBy test cs → 0 < len
 begun_some test [] b = absurd (false≢true b)
 begun_some test (c ∷ cs) b = omega arith
 
-and_right : (a b : Bool) → (a && b) ≡ true → b ≡ true
-and_right true b h = h
-and_right false b h = absurd (false≢true h)
-
 module _ (fixed : List Name) where
   token_some : {front rest : Chars} {t : Token} → IsToken fixed front rest t → 0 < length front
   token_some (word cs rest w e l) = word_some cs w
@@ -73,7 +69,7 @@ module _ (fixed : List Name) where
 
   scalars_behind : (xs ys : Chars) → all_scalars (xs ++ ys) ≡ true → all_scalars ys ≡ true
   scalars_behind [] ys h = h
-  scalars_behind (x ∷ xs) ys h = scalars_behind xs ys (and_right (scalar x) (all_scalars (xs ++ ys)) h)
+  scalars_behind (x ∷ xs) ys h = scalars_behind xs ys (and_parts (scalar x) (all_scalars (xs ++ ys)) h).1
 
   module _ (rest : List ℕ) (utf8 : IsUtf8 rest) (at : ℕ) (s : Spanned) (b : Begins fixed (chars rest) at s) where
     cut : rest ≡ encode_utf8_all b.front ++ encode_utf8_all b.rest

@@ -1,5 +1,6 @@
 -- The table of the phyla that have placeholders.
 use Rattle.std.proofs.Common.{◌≡◌, ◌↔◌, ◌<◌, ◌⊎◌, inl, inr, ℕ, zero, suc, ◌==◌, Bool, true, false, List, [], ◌∷◌, ◌++◌, Some, length, get_or, slice_get, refl, sym, ap, ◌∙◌, subst, arith, true≢false, Vec, IfSome}
+use Rattle.std.proofs.lemmas.Bool.{cases_Bool}
 use Rattle.std.specs.declared.alloc.Global.{Global}
 use Rattle.std.proofs.lemmas.Bool.Decides.{eqb_tells}
 use Rattle.std.proofs.lemmas.Option.{none-some, slice_get-get_or}
@@ -17,16 +18,12 @@ got_pushed [] x y (suc p) e = absurd (none-some y e)
 got_pushed (z ∷ xs) x y zero e = inl e
 got_pushed (z ∷ xs) x y (suc p) e = elim (got_pushed xs x y p e) [ inl h ↦ inl h | inr (h, s) ↦ inr (ap suc h, s) ]
 
-either : (b : Bool) → (b ≡ true) ⊎ (b ≡ false)
-either true = inl refl
-either false = inr refl
-
 some_not_none : (n : ℕ) → (suc n == 0) ≡ true → ⊥
 some_not_none n e = elim (eqb_tells (suc n) 0) [ inl h ↦ absurd (omega (arith, h.1)) | inr h ↦ true≢false (sym e ∙ h.0) ]
 
 module _ (def : Definition) (p : ℕ) (search : (space : ℕ) (kind : Kind) → (is_declaring def space kind ≡ true) ↔ Declares def space kind) where
   none_declared : AreSpacesOf def p [] → HasHoles def p
-  none_declared are s = elim (either (is_declaring def s (kinds.Phylum p))) [
+  none_declared are s = elim (cases_Bool (is_declaring def s (kinds.Phylum p))) [
     | inl same ↦ absurd (let (k, lt, e) = (are.exact s).1 ((search s (kinds.Phylum p)).0 same) in omega (arith, lt))
     | inr other ↦ other
   ]

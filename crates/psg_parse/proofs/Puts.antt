@@ -1,5 +1,6 @@
 -- A word that is put into a map of openers.
 use Rattle.std.proofs.Common.{◌≡◌, ◌⊎◌, inl, inr, ℕ, Bool, true, false, cond, Some, refl, sym, ap, ◌∙◌, subst}
+use Rattle.std.proofs.lemmas.Bool.{cases_Bool}
 use Rattle.std.specs.Prelude.{bytes_eq}
 use Rattle.std.specs.HashMap.{get_by_text}
 use Rattle.std.specs.Map.{update}
@@ -11,14 +12,10 @@ use Rattle.psg_class.specs.Terminals.{fixed, a_name, a_number, a_text, a_hole, a
 use Rattle.psg_parse.specs.declared.lookup.Openers.{Openers}
 use Rattle.psg_parse.specs.Lookups.{opener, Puts as PutsIn}
 
-either : (b : Bool) → (b ≡ true) ⊎ (b ≡ false)
-either true = inl refl
-either false = inr refl
-
 module _ (old new : Openers) (w : Name) (op : ℕ) where
   at_word : (v : Name) → get_by_text new.words v ≡ cond (bytes_eq w v) (Some op) (get_by_text old.words v)
       → ((item_terminal (items.Word w) ≡ Some (fixed v)) × (opener new (fixed v) ≡ Some op)) ⊎ ((item_terminal (items.Word w) ≡ Some (fixed v) → ⊥) × (opener new (fixed v) ≡ opener old (fixed v)))
-  at_word v h = of (either (bytes_eq w v)) where
+  at_word v h = of (cases_Bool (bytes_eq w v)) where
     apart : bytes_eq w v ≡ false → Some (fixed w) ≡ Some (fixed v) → ⊥
     apart e same = let x : w ≡ v = cc in let y : true ≡ false = sym (subst (λ z. bytes_eq w z ≡ true) x (bytes_eq-refl w)) ∙ e in cc
 

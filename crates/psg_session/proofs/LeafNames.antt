@@ -1,5 +1,6 @@
 -- Which names may stand at a name position.
 use Rattle.std.proofs.Common.{◌≡◌, ◌↔◌, Bool, true, false, not, true≢false, IsTrue, IsUtf8, chars, refl, sym, ◌∙◌, ap, subst}
+use Rattle.std.proofs.lemmas.Bool.{false_from_ne_true}
 use Rattle.std.proofs.lemmas.Str.{encodes-chars}
 use Rattle.psg_terms.specs.Names.{Name, is_among}
 use Rattle.psg_terms.specs.Words.{IsWord}
@@ -10,10 +11,6 @@ use Rattle.psg_session.specs.declared.leaves.Leaf.TheVariants as leaves
 use Rattle.psg_session.specs.Leaves.{HasWord}
 use Rattle.psg_session.specs.LeafItems.{IsNameLeaf}
 use Rattle.psg_session.specs.Views.{plain_leaf, IsLanguage}
-
-not_so : (b : Bool) → (b ≡ true → ⊥) → b ≡ false
-not_so true h = absurd (h refl)
-not_so false h = refl
 
 not_true : (b : Bool) → not b ≡ true → b ≡ true → ⊥
 not_true true h e = true≢false (sym h)
@@ -34,7 +31,7 @@ module _ (l : Language) (is : IsLanguage l) where
       sym (encodes-chars name utf8),
       word,
       ap (λ ws. is_among ws name) (sym is.words)
-          ∙ not_so (is_among l.lexis name) (λ e. not_true r h (reserved.1 (e, word))),
+          ∙ false_from_ne_true (is_among l.lexis name) (λ e. not_true r h (reserved.1 (e, word))),
     ),
     λ h. true_not r (λ e. true≢false (sym (reserved.0 e).0 ∙ ap (λ ws. is_among ws name) is.words ∙ h.3)),
   )

@@ -1,5 +1,6 @@
 -- What a text's tokens say of the leaves that it gives.
 use Rattle.std.proofs.Common.{◌≡◌, ℕ, ◌+◌, ◌<◌, Bool, true, false, true≢false, ◌&&◌, List, [], ◌∷◌, ◌++◌, length, get_or, take, map, Some, chars, encode_utf8_all, refl, sym, ◌∙◌, ap, ap₂, subst, suc, zero, arith}
+use Rattle.std.proofs.lemmas.Bool.{and_from}
 use Rattle.std.specs.List.{AllByRecursion}
 use Rattle.std.specs.Cmp.{first_so, second_so}
 use Rattle.std.specs.Str.{all_scalars, IsUtf8}
@@ -71,14 +72,10 @@ same_leaves (x ∷ xs) (y ∷ ys) e =
 
 -- ---- words
 
-both : (a b : Bool) → a ≡ true → b ≡ true → a && b ≡ true
-both true b e f = f
-both false b e f = absurd (true≢false (sym e))
-
 front_scalars : (xs ys : Chars) → all_scalars (xs ++ ys) ≡ true → all_scalars xs ≡ true
 front_scalars [] ys h = refl
 front_scalars (x ∷ xs) ys h =
-    both (scalar x) (all_scalars xs) (first_so (scalar x) (all_scalars (xs ++ ys)) h)
+    and_from (scalar x) (all_scalars xs) (first_so (scalar x) (all_scalars (xs ++ ys)) h)
     (front_scalars xs ys (second_so (scalar x) (all_scalars (xs ++ ys)) h))
 
 rest_scalars : (xs ys : Chars) → all_scalars (xs ++ ys) ≡ true → all_scalars ys ≡ true

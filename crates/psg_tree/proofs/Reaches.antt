@@ -1,5 +1,6 @@
 -- What a step of the search for a declaring position tells.
 use Rattle.std.proofs.Common.{◌≡◌, inl, inr, ℕ, zero, suc, ◌+◌, ◌<◌, ◌==◌, true, false, List, [], ◌∷◌, ◌++◌, length, take, get_or, Option, Some, None, slice_get, refl, ap, sym, ◌∙◌, subst, arith, true≢false}
+use Rattle.std.proofs.lemmas.Bool.{or_cases, or_left, or_right}
 use Rattle.std.specs.List.{AllByRecursion}
 use Rattle.std.proofs.lemmas.List.{take_more}
 use Rattle.std.proofs.lemmas.Option.{slice_get_read, none-some}
@@ -11,7 +12,7 @@ use Rattle.psg_grammar.specs.declared.types.ListKind.{ListKind}
 use Rattle.psg_grammar.specs.declared.types.Operator.{Operator}
 use Rattle.psg_grammar.specs.declared.types.Definition.{Definition}
 use Rattle.psg_grammar.specs.Declaring.{Declares, by_list, by_operator, AnyDeclares, here, slot, later}
-use Rattle.psg_grammar.proofs.DeclaringLaws.{or_cases, or_left, or_right, eqb_true, eqb_same}
+use Rattle.psg_grammar.proofs.DeclaringLaws.{eqb_true, eqb_same}
 use Rattle.psg_tree.specs.declared.reach.Step.{Step}
 use Rattle.psg_tree.specs.declared.reach.Step.TheVariants as next
 use Rattle.psg_tree.specs.Reaching.{is_in, element_of, phylum_of, AnyDeclare, PhylumDeclares, IsFoundAt, IsClosedItem, IsClosedOperator, IsItemStep, IsItemsStep, IsOperatorsStep}
