@@ -2,9 +2,8 @@
 use psg_world::{Files, HostFiles, HostSink, ReadStop, Sink, WriteStop, put_all};
 use std::fmt::Display;
 use std::io::{self, ErrorKind};
-use std::process;
 use std::test::Fail;
-use std::{env, fs};
+use std::{env, fs, process};
 
 /// An output that takes nothing.
 struct Full;

@@ -20,11 +20,7 @@ fn put_nearest(text: &mut String, nearest: Option<&u32>) -> Result<(), AllocErro
 }
 
 /// Calls with a value, as `push:1`.
-fn call_with(
-    history: &mut History<u32>,
-    text: &mut String,
-    word: &str,
-) -> Result<(), AllocError> {
+fn call_with(history: &mut History<u32>, text: &mut String, word: &str) -> Result<(), AllocError> {
     let (call, value) = word.split_once(':').ok_or(AllocError)?;
     let Ok(value) = value.parse::<u32>() else {
         return Err(AllocError);

@@ -1,9 +1,8 @@
 //! Edits of trees of sums, numbers, texts and lists of them, and the abstract texts of what they give.
-use super::trees::{sums, tree};
+use super::trees::{path, sums, tree};
 use psg_grammar::Definition;
 use psg_tree::{
-    Path, Tree, TreeFault, abstract_text, at, depth, insert, nodes, remove, replace,
-    set_unfinished,
+    Path, Tree, TreeFault, abstract_text, at, depth, insert, nodes, remove, replace, set_unfinished,
 };
 use std::alloc::{AllocError, Global};
 use std::ptr;
@@ -51,10 +50,10 @@ fn told(alloc: Global, definition: &Definition, tree: &Tree) -> Result<String, A
 }
 
 /// What the edit gives at the path, or why it gives nothing.
-fn answer(alloc: Global, old: &str, path: &[u32], edit: Edit) -> Result<String, AllocError> {
+fn answer(alloc: Global, old: &str, steps: &str, edit: Edit) -> Result<String, AllocError> {
     let definition = sums(alloc)?;
     let old = tree(alloc, old)?;
-    let path = Path::of(alloc, path)?;
+    let path = path(alloc, steps)?;
     match edited(alloc, &old, &path, edit) {
         Ok(new) => told(alloc, &definition, &new),
         Err(fault) => format!(in alloc; "{fault}"),
@@ -65,33 +64,31 @@ const SUM: &str = "0/2 ?0 ?0";
 
 const PAIR: &str = "[2.. 1/1 #1 ?0";
 
-const TOP: &[u32] = &[];
-
 #[test]
 fn operators(rt: HostRuntime) -> Result<(), Fail> {
-    for (old, path, edit, expected) in [
-        (SUM, TOP, Edit::Find, "plus(?Exp,?Exp) 3 2"),
-        (SUM, &[1], Edit::Find, "?Exp 1 1"),
-        (SUM, &[1], Edit::Insert(0, SUM), "the node is no list"),
-        (SUM, &[2], Edit::Find, "the path leads to no node"),
-        (SUM, &[2], Edit::Replace(SUM), "the path leads to no node"),
+    for (old, steps, edit, expected) in [
+        (SUM, "", Edit::Find, "plus(?Exp,?Exp) 3 2"),
+        (SUM, "1", Edit::Find, "?Exp 1 1"),
+        (SUM, "1", Edit::Insert(0, SUM), "the node is no list"),
+        (SUM, "2", Edit::Find, "the path leads to no node"),
+        (SUM, "2", Edit::Replace(SUM), "the path leads to no node"),
         (
             "0/2 ?0 0/2 ?0 ?0",
-            &[1, 0],
+            "1 0",
             Edit::Replace("1/1 #7"),
             "plus(?Exp,plus(num(7),?Exp)) 5 3",
         ),
         // the escapes of a text
         (
             "2/2 \"a\"b\\c\nd変 'x",
-            TOP,
+            "",
             Edit::Find,
             "lit(\"a\\\"b\\\\c\\nd変\",x) 1 1",
         ),
         // an operator that the language does not have has no name
-        ("9/0", TOP, Edit::Find, " 1 1"),
+        ("9/0", "", Edit::Find, " 1 1"),
     ] {
-        let found = answer(rt.alloc(), old, path, edit)?;
+        let found = answer(rt.alloc(), old, steps, edit)?;
         assert_eq!(rt; found.as_str(), expected);
     }
     Ok(())
@@ -123,15 +120,15 @@ fn lists(rt: HostRuntime) -> Result<(), Fail> {
         ("[0..", Edit::Find, "[|...] 1 1"),
         ("[0..", Edit::Finish, "[] 1 1"),
     ] {
-        let found = answer(rt.alloc(), old, TOP, edit)?;
+        let found = answer(rt.alloc(), old, "", edit)?;
         assert_eq!(rt; found.as_str(), expected);
     }
     Ok(())
 }
 
 /// Whether the node at the path is the very tree, and not a copy.
-fn is_shared(alloc: Global, tree: &Tree, path: &[u32], own: &Tree) -> Result<bool, AllocError> {
-    let path = Path::of(alloc, path)?;
+fn is_shared(alloc: Global, tree: &Tree, steps: &str, own: &Tree) -> Result<bool, AllocError> {
+    let path = path(alloc, steps)?;
     let found = at(tree, &path).ok_or(AllocError)?;
     Ok(ptr::eq(found.shape(), own.shape()))
 }
@@ -140,12 +137,11 @@ fn is_shared(alloc: Global, tree: &Tree, path: &[u32], own: &Tree) -> Result<boo
 fn nodes_off_the_path_are_shared(rt: HostRuntime) -> Result<(), Fail> {
     let old = tree(rt.alloc(), "0/2 ?1 ?2")?;
     let new = tree(rt.alloc(), "?3")?;
-    let front = at(&old, &Path::of(rt.alloc(), &[0])?).ok_or("a placeholder")?;
-    let path = Path::of(rt.alloc(), &[1])?;
-    let changed = replace(rt.alloc(), &old, &path, &new)?;
-    assert!(rt; is_shared(rt.alloc(), &changed, &[0], front)?);
-    assert!(rt; is_shared(rt.alloc(), &changed, &[1], &new)?);
-    assert!(rt; !is_shared(rt.alloc(), &changed, TOP, &old)?);
-    assert!(rt; !is_shared(rt.alloc(), &old, &[1], &new)?);
+    let front = at(&old, &path(rt.alloc(), "0")?).ok_or("a placeholder")?;
+    let changed = replace(rt.alloc(), &old, &path(rt.alloc(), "1")?, &new)?;
+    assert!(rt; is_shared(rt.alloc(), &changed, "0", front)?);
+    assert!(rt; is_shared(rt.alloc(), &changed, "1", &new)?);
+    assert!(rt; !is_shared(rt.alloc(), &changed, "", &old)?);
+    assert!(rt; !is_shared(rt.alloc(), &old, "1", &new)?);
     Ok(())
 }

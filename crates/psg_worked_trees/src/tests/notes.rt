@@ -65,12 +65,7 @@ fn counted<L: Ledger>(
 }
 
 /// The note of a tree of the kind.
-fn noted(
-    alloc: Global,
-    definition: &Definition,
-    tree: &Tree,
-    kind: Kind,
-) -> Result<Note, NoteFault>
+fn noted(alloc: Global, definition: &Definition, tree: &Tree, kind: Kind) -> Result<Note, NoteFault>
     requires { IsSound definition.now }
 {
     if !well_formed(definition, tree, kind) {

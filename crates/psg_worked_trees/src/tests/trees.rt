@@ -5,7 +5,7 @@ ghost use Rattle.psg_grammar.specs.Sound.{IsSound};
 use psg_defread::read_definition;
 use psg_grammar::Definition;
 use psg_terms::{Seq, Txt};
-use psg_tree::{Part, Shape, Tree};
+use psg_tree::{Part, Path, Shape, Tree};
 use std::alloc::{AllocError, Global};
 
 /// The definition that the text spells.
@@ -117,4 +117,13 @@ pub(super) fn tree(alloc: Global, text: &str) -> Result<Tree, AllocError> {
         Some(Part::Sub(tree)) => Ok(tree),
         _ => Err(AllocError),
     }
+}
+
+/// The path of the steps of a text, as `1 0`.
+pub(super) fn path(alloc: Global, text: &str) -> Result<Path, AllocError> {
+    let mut steps = Vec::new(alloc);
+    for word in text.split_whitespace() {
+        steps.push(number(word)?)?;
+    }
+    Path::of(alloc, steps.as_slice())
 }
