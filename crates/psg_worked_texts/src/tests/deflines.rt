@@ -120,8 +120,8 @@ const LITERALS: &[(&str, &str)] = &[
     ),
 ];
 
-/// A second line in six parts, of which the second and the fourth stand so many times, and the text of the line or the
-/// fault. A text is the head, 4 bytes for each ` f (`, 2 for each other part, and 2 for the inside.
+/// A second line in parts: a front, an opening so many times, the inside, a closing as often, and an end; and the text of
+/// the line by its length, or the fault.
 const DEEP: &[(&str, &str, &str, &str, &str, usize, &str)] = &[
     ("entity E", "a", "", "", "\n", 100_000, "line 2 code 2"),
     // a variable's name may have any length
@@ -167,7 +167,7 @@ const DEEP: &[(&str, &str, &str, &str, &str, usize, &str)] = &[
         50_000,
         "line 2 code 11",
     ),
-    // the term in a hole place is measured by itself: 12 bytes for `hole E ?T by`, 11 for ` hole ( E ,`, 31 times 4 and 2,
+    // the term of a hole place is measured by itself: 12 bytes for `hole E ?T by`, 11 for ` hole ( E ,`, 31 times 4 and 2,
     // 2 for ` x` and 2 for ` )`
     (
         "hole E ?T by hole(E,",
