@@ -27,6 +27,5 @@ pub mod Sameness
 pub mod Law
 pub mod Soundness
 pub mod Machine
-pub mod SumLaws
 pub mod WordForms
 pub mod FormedLaws

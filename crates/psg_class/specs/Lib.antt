@@ -12,4 +12,3 @@ pub mod Shapes
 pub mod Forms
 pub mod Sources
 pub mod Failing
-pub mod Sums

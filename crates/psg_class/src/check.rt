@@ -171,6 +171,3 @@ fn check_behind(
     }
     Ok(())
 }
-
-#[cfg(test)]
-mod tests;

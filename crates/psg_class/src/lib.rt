@@ -19,6 +19,3 @@ mod vocabulary;
 
 pub use check::class_check;
 pub use fault::{ClassFault, class_text};
-
-#[cfg(test)]
-mod tests;

@@ -26,6 +26,3 @@ mod sorted_trees;
 mod tables;
 
 pub use checking::first_fault;
-
-#[cfg(test)]
-mod tests;

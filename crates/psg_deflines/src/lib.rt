@@ -40,6 +40,3 @@ pub use reading::read_lines;
 pub use terms::{LineTerm, TermShape};
 pub use trees::{LinePart, LinePlace, LineTree, TreeShape};
 pub use writing::line_text;
-
-#[cfg(test)]
-mod tests;

@@ -20,6 +20,3 @@ mod terms;
 pub mod writing;
 
 pub use writing::definition_text;
-
-#[cfg(test)]
-mod tests;

@@ -23,6 +23,3 @@ pub fn are_short()
     ensures mini { IsAscii MINI.now × (length MINI.now < 4096) }
     ensures tiny { IsAscii TINY.now × (length TINY.now < 4096) }
 {}
-
-#[cfg(test)]
-mod tests;

@@ -18,6 +18,3 @@ pub use classes::glues;
 pub use lexer::lex;
 pub use lexis::Lexis;
 pub use token::{LexFault, Spanned, Token};
-
-#[cfg(test)]
-mod tests;

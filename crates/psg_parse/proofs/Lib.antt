@@ -14,5 +14,4 @@ pub mod WorkLaws
 pub mod Tabled
 pub mod HoleTables
 pub mod Taken
-pub mod ExpressionLaws
 pub mod CaseReads

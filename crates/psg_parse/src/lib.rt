@@ -31,6 +31,3 @@ mod tables;
 
 pub use fault::{Goal, ParseFault};
 pub use parser::parse;
-
-#[cfg(test)]
-mod tests;

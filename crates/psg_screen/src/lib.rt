@@ -9,8 +9,6 @@ ghost use Rattle.std.specs.Prelude.{◌≡◌, ◌++◌, ◌-◌, [], IfOk, max,
 ghost use Rattle.psg_screen.specs.Window.{window_of};
 
 mod line;
-#[cfg(test)]
-mod tests;
 
 use line::shown_line;
 use psg_terms::Txt;

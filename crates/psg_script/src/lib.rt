@@ -13,8 +13,6 @@ mod forms;
 mod keyword;
 pub mod read;
 pub mod script;
-#[cfg(test)]
-mod tests;
 pub mod text;
 mod words;
 

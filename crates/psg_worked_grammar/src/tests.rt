@@ -1,0 +1,6 @@
+//! Definitions that are read and checked, and texts that are read in their languages.
+mod classes;
+mod languages;
+mod limits;
+mod reference;
+mod texts;
