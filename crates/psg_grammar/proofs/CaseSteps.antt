@@ -1,8 +1,7 @@
 -- Sizes, and the steps of trees with their paths in order.
 use Rattle.std.proofs.Common.{◌≡◌, ℕ, zero, suc, ◌<◌, true, false, List, [], ◌∷◌, length, codes, refl, inl, inr, arith}
-use Rattle.psg_grammar.specs.declared.limits.TheConstants.{MOST_ELEMENTS}
 use Rattle.psg_grammar.specs.Fragments.{Fragment, hole, ending, cell, operator, anything, observed, children_of}
-use Rattle.psg_grammar.specs.Sizes.{nodes_of, depth_of, HasLongList, IsBig, IsDeep}
+use Rattle.psg_grammar.specs.Sizes.{nodes_of, depth_of, longest_of, HasLongList, IsBig, IsDeep}
 use Rattle.psg_grammar.specs.Steps.{first_children, children_count, last_step, Place, steps_of, steps_above}
 use Rattle.psg_grammar.proofs.CaseLanguage.{spaces, constants, one, block, zero_leaf, plus_of, mark_of, let_of}
 
@@ -15,6 +14,10 @@ leaves = (refl, refl, refl, refl)
 sized : (nodes_of (plus_of (plus_of zero_leaf zero_leaf) (hole 0)) ≡ 5) × (depth_of (plus_of (plus_of zero_leaf zero_leaf) (hole 0)) ≡ 3) × (nodes_of (block (cell 0 (mark_of (codes "x")) (cell 0 (let_of (codes "x") one) (ending 0 true)))) ≡ 5) × (depth_of (block (cell 0 (mark_of (codes "x")) (cell 0 (let_of (codes "x") one) (ending 0 true)))) ≡ 4)
 sized = (refl, refl, refl, refl)
 
+-- the longest list counts, wherever it is
+lists_measured : (longest_of (ending 0 true) ≡ 0) × (longest_of (plus_of zero_leaf zero_leaf) ≡ 0) × (longest_of (block (cell 0 (mark_of (codes "x")) (cell 0 (let_of (codes "x") one) (ending 0 true)))) ≡ 2) × (longest_of (cell 0 (block (cell 0 one (cell 0 one (cell 0 one (ending 0 true))))) (cell 0 one (ending 0 true))) ≡ 3)
+lists_measured = (refl, refl, refl, refl)
+
 -- a list of so many blocks
 abbrev many : ℕ → Fragment
 many zero = ending 0 false
@@ -24,13 +27,13 @@ many_elements : (n : ℕ) → length (children_of (many n)) ≡ n
 many_elements zero = refl
 many_elements (suc n) = let e : length (children_of (many n)) ≡ n = many_elements n in omega arith
 
-long_is_big : (n : ℕ) → MOST_ELEMENTS ≡ n → IsBig (many (suc n))
+long_is_big : (n : ℕ) → 4096 ≡ n → IsBig (many (suc n))
 long_is_big n e = inr (inl (let l : length (children_of (many (suc n))) ≡ suc n = many_elements (suc n) in omega arith))
 
 -- one element fewer is not too long
-as_long_as_may_be : (n : ℕ) → MOST_ELEMENTS ≡ n → HasLongList (many n) → ⊥
+as_long_as_may_be : (n : ℕ) → 4096 ≡ n → HasLongList (many n) → ⊥
 as_long_as_may_be n e = none n (omega arith) where
-  none : (m : ℕ) → m < suc MOST_ELEMENTS → HasLongList (many m) → ⊥
+  none : (m : ℕ) → m < suc 4096 → HasLongList (many m) → ⊥
   none zero lt h = h
   none (suc m) lt (inl h) = let l : length (children_of (many (suc m))) ≡ suc m = many_elements (suc m) in absurd (omega arith)
   none (suc m) lt (inr (inl h)) = h

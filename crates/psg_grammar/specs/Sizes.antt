@@ -1,7 +1,6 @@
--- How many nodes a tree has and how deep it is.
+-- How many nodes a tree has, how deep it is and how long its lists are.
 use Rattle.std.specs.Prelude.{ℕ, ◌<◌, ◌+◌, ◌⊎◌, max, length}
 use Rattle.psg_grammar.specs.Fragments.{Fragment, hole, ending, cell, operator, with_child, with_name, with_number, with_text, anything, observed, children_of}
-use Rattle.psg_grammar.specs.declared.limits.TheConstants.{MOST_NODES, MOST_ELEMENTS, MOST_DEPTH}
 
 -- Nodes are placeholders, operators and lists. A list is counted at its end.
 abbrev pub nodes_of : Fragment → ℕ
@@ -29,9 +28,22 @@ depth_of (with_text f t) = depth_of f
 depth_of anything = 1
 depth_of (observed f) = depth_of f
 
+-- how many elements the longest list has, 0 where there is none
+abbrev pub longest_of : Fragment → ℕ
+longest_of (hole p) = 0
+longest_of (ending l u) = 0
+longest_of (cell l e r) = max (length (children_of (cell l e r))) (max (longest_of e) (longest_of r))
+longest_of (operator o) = 0
+longest_of (with_child f t) = max (longest_of f) (longest_of t)
+longest_of (with_name f n) = longest_of f
+longest_of (with_number f n) = longest_of f
+longest_of (with_text f t) = longest_of f
+longest_of anything = 0
+longest_of (observed f) = longest_of f
+
 -- some list has too many elements
 abbrev pub HasLongList : Fragment → Type 0
-HasLongList (cell l e r) = (MOST_ELEMENTS < length (children_of (cell l e r))) ⊎ (HasLongList e ⊎ HasLongList r)
+HasLongList (cell l e r) = (4096 < length (children_of (cell l e r))) ⊎ (HasLongList e ⊎ HasLongList r)
 HasLongList (with_child f t) = HasLongList f ⊎ HasLongList t
 HasLongList (with_name f m) = HasLongList f
 HasLongList (with_number f m) = HasLongList f
@@ -43,7 +55,7 @@ HasLongList (operator o) = ⊥
 HasLongList anything = ⊥
 
 abbrev pub IsBig : Fragment → Type 0
-IsBig f = (MOST_NODES < nodes_of f) ⊎ HasLongList f
+IsBig f = (20000 < nodes_of f) ⊎ HasLongList f
 
 abbrev pub IsDeep : Fragment → Type 0
-IsDeep f = MOST_DEPTH < depth_of f
+IsDeep f = 200 < depth_of f

@@ -4,7 +4,6 @@ use Rattle.psg_terms.specs.Terms.{Term}
 use Rattle.psg_terms.specs.Relations.{IsIn}
 use Rattle.psg_terms.specs.Weight.{PassesLimit, weight_of}
 use Rattle.psg_grammar.specs.declared.types.Definition.{Definition}
-use Rattle.psg_grammar.specs.declared.limits.TheConstants.{MOST_WEIGHTS}
 use Rattle.psg_grammar.specs.Fragments.{Fragment, hole, ending, cell, operator, with_child, with_name, with_number, with_text, anything, observed, children_of}
 use Rattle.psg_terms.specs.Names.{Name}
 use Rattle.psg_grammar.specs.Lookups.{is_scope}
@@ -147,4 +146,4 @@ mutual
     below_observed : {f : Fragment} {m : ℕ} → BelowWeigh def f m → BelowWeigh def (observed f) m
 
 abbrev pub IsHeavy : Definition → Fragment → Type 0
-IsHeavy def f = (n : ℕ) × HasWeights def f n × (MOST_WEIGHTS < n)
+IsHeavy def f = (n : ℕ) × HasWeights def f n × (4000000 < n)
