@@ -1,7 +1,6 @@
 -- What `parse` answers.
 use Rattle.std.specs.Prelude.{ℕ, ◌<◌, ◌≤◌, ◌+◌, ◌⊎◌, List, map}
 use Rattle.psg_grammar.specs.declared.types.Definition.{Definition}
-use Rattle.psg_grammar.specs.declared.limits.TheConstants.{MOST_DEPTH, MOST_BRACKETS}
 use Rattle.psg_grammar.specs.Fragments.{Fragment}
 use Rattle.psg_grammar.specs.Sizes.{depth_of}
 use Rattle.psg_lexis.specs.declared.token.Token.{Token}
@@ -21,13 +20,13 @@ Reads def goal ts f nesting = Yields def f goal.kind goal.least nesting (tokens_
 
 -- the tree is deeper than a fragment may be, or its brackets and those around it nest deeper than they may
 abbrev pub IsTooDeep : Goal → Fragment → ℕ → Type 0
-IsTooDeep goal f nesting = (MOST_DEPTH < depth_of f) ⊎ (MOST_BRACKETS < nesting + goal.around)
+IsTooDeep goal f nesting = (200 < depth_of f) ⊎ (400 < nesting + goal.around)
 
 pub record IsParsed (def : Definition) (goal : Goal) (ts : List Spanned) (f : Fragment) : Type 0 where
   pub nesting : ℕ
   pub reads : Reads def goal ts f nesting
-  pub depth : depth_of f ≤ MOST_DEPTH
-  pub brackets : nesting + goal.around ≤ MOST_BRACKETS
+  pub depth : depth_of f ≤ 200
+  pub brackets : nesting + goal.around ≤ 400
 
 -- some tree that is too deep has the tokens
 pub record HasDeep (def : Definition) (goal : Goal) (ts : List Spanned) : Type 0 where

@@ -13,7 +13,6 @@ use Rattle.psg_world.specs.declared.world.WriteStop.{WriteStop}
 use Rattle.psg_world.specs.declared.world.WriteStop.TheVariants as write_stops
 use Rattle.psg_run.specs.declared.status.Status.{Status}
 use Rattle.psg_run.specs.declared.status.Status.TheVariants as ends_with
-use Rattle.psg_run.specs.declared.limits.TheConstants.{MOST_DEFINITION_BYTES, MOST_SCRIPT_BYTES}
 use Rattle.psg_session.specs.Replies.{feed}
 use Rattle.psg_run.specs.Output.{script_lines}
 use Rattle.psg_run.specs.Played.{PrintsAll, PrintsFront}
@@ -29,7 +28,7 @@ write_status write_stops.Memory = ends_with.Memory
 
 -- the script was read, and this stands of its lines
 abbrev pub OfScript : World → World → Name → (List (List ℕ) → Type 0) → Type 0
-OfScript old new script P = KeepsFiles old new × (bytes : List ℕ) × IsWithin old.held script MOST_SCRIPT_BYTES bytes × P (script_lines bytes)
+OfScript old new script P = KeepsFiles old new × (bytes : List ℕ) × IsWithin old.held script 4194304 bytes × P (script_lines bytes)
 
 -- how reading a script and playing it on a definition ends
 abbrev pub Plays : World → World → Definition → Name → Status → Type 0
@@ -39,7 +38,7 @@ Plays old new def script ends_with.Words = ⊥
 Plays old new def script ends_with.ReadFault = FailsToRead old new script
 Plays old new def script ends_with.WriteFault = OfScript old new script (λ lines. PrintsFront def lines old.written new.written) × HasRisen old.count new.count
 Plays old new def script ends_with.Memory = OfScript old new script (λ lines. PrintsFront def lines old.written new.written) ⊎ IsQuiet old new
-Plays old new def script ends_with.TooLong = IsTooLong old new script MOST_SCRIPT_BYTES
+Plays old new def script ends_with.TooLong = IsTooLong old new script 4194304
 
 -- the line was put, as far as the status says; `done` is the status where it was put whole
 pub data PutsLine (line : List ℕ) (done : Status) (written written' : Option (List ℕ)) (count count' : ℕ) (status : Status) : Type 0 where
@@ -62,7 +61,7 @@ IsUnread old new definition ends_with.Words = ⊥
 IsUnread old new definition ends_with.ReadFault = FailsToRead old new definition
 IsUnread old new definition ends_with.WriteFault = SaysFront IsFaultLine old new definition × HasRisen old.count new.count
 IsUnread old new definition ends_with.Memory = SaysFront IsFaultLine old new definition ⊎ IsQuiet old new
-IsUnread old new definition ends_with.TooLong = IsTooLong old new definition MOST_DEFINITION_BYTES
+IsUnread old new definition ends_with.TooLong = IsTooLong old new definition 1048576
 
 -- where the bytes are no definition
 abbrev pub EndsFault : ReadFault → Option (List ℕ) → Option (List ℕ) → ℕ → ℕ → Status → Type 0

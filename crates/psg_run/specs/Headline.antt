@@ -12,7 +12,6 @@ use Rattle.psg_world.specs.Files.{Held, Entry, reading, bytes_of}
 use Rattle.psg_world.specs.Sinks.{HasRisen}
 use Rattle.psg_run.specs.declared.status.Status.{Status}
 use Rattle.psg_run.specs.declared.status.Status.TheVariants as ends_with
-use Rattle.psg_run.specs.declared.limits.TheConstants.{MOST_DEFINITION_BYTES, MOST_SCRIPT_BYTES}
 use Rattle.psg_session.specs.PlainState.{State, start}
 use Rattle.psg_session.specs.Replies.{feed}
 use Rattle.psg_run.specs.Told.{Asked, Exchange, Loses, Told}
@@ -64,7 +63,7 @@ IsLong held name limit = (bytes : List ℕ) × Tells held name bytes × (limit <
 
 -- the file of the name is read as the definition
 abbrev pub IsDefinition : Option Held → Name → Definition → Type 0
-IsDefinition held name def = (bytes : List ℕ) × IsWithin held name MOST_DEFINITION_BYTES bytes × IsReadAs bytes def
+IsDefinition held name def = (bytes : List ℕ) × IsWithin held name 1048576 bytes × IsReadAs bytes def
 
 -- What is said of the bytes of a definition's file in one line: their first fault; or that they are a definition.
 abbrev pub IsFaultLine : List ℕ → List ℕ → Type 0
@@ -96,7 +95,7 @@ pub record WritesAll (old new : World) (definition script : Name) : Type 0 where
   pub def : Definition
   pub is_definition : IsDefinition old.held definition def
   pub bytes : List ℕ
-  pub is_script : IsWithin old.held script MOST_SCRIPT_BYTES bytes
+  pub is_script : IsWithin old.held script 4194304 bytes
   pub exchanges : List Exchange
   pub output : List ℕ
   pub end : State
@@ -110,7 +109,7 @@ pub record WritesFront (unanswered : Option Asked) (old new : World) (definition
   pub def : Definition
   pub is_definition : IsDefinition old.held definition def
   pub bytes : List ℕ
-  pub is_script : IsWithin old.held script MOST_SCRIPT_BYTES bytes
+  pub is_script : IsWithin old.held script 4194304 bytes
   pub count : ℕ
   pub exchanges : List Exchange
   pub output : List ℕ
@@ -124,7 +123,7 @@ pub record WritesFront (unanswered : Option Asked) (old new : World) (definition
 -- A line was written that says this of the bytes of the definition's file.
 pub record Says (IsSaid : List ℕ → List ℕ → Type 0) (old new : World) (definition : Name) : Type 0 where
   pub bytes : List ℕ
-  pub short : IsWithin old.held definition MOST_DEFINITION_BYTES bytes
+  pub short : IsWithin old.held definition 1048576 bytes
   pub line : List ℕ
   pub says : IsSaid bytes line
   pub wrote : Wrote old new (feed line)
@@ -133,7 +132,7 @@ pub record Says (IsSaid : List ℕ → List ℕ → Type 0) (old new : World) (d
 -- a front of such a line was written
 pub record SaysFront (IsSaid : List ℕ → List ℕ → Type 0) (old new : World) (definition : Name) : Type 0 where
   pub bytes : List ℕ
-  pub short : IsWithin old.held definition MOST_DEFINITION_BYTES bytes
+  pub short : IsWithin old.held definition 1048576 bytes
   pub line : List ℕ
   pub says : IsSaid bytes line
   pub front : List ℕ
@@ -165,7 +164,7 @@ Checks old new definition ends_with.Words = ⊥
 Checks old new definition ends_with.ReadFault = FailsToRead old new definition
 Checks old new definition ends_with.WriteFault = SaysFront IsCheckLine old new definition × HasRisen old.count new.count
 Checks old new definition ends_with.Memory = SaysFront IsCheckLine old new definition ⊎ IsQuiet old new
-Checks old new definition ends_with.TooLong = IsTooLong old new definition MOST_DEFINITION_BYTES
+Checks old new definition ends_with.TooLong = IsTooLong old new definition 1048576
 
 -- What stands at each status of `edit`. Each but Memory stands with its cause. Where the files tell what they hold, the
 -- definition is read, both files are short, no read of them failed and the count has not risen, the status is Done
@@ -181,8 +180,8 @@ Edits old new definition script ends_with.WriteFault =
 Edits old new definition script ends_with.Memory =
     (((unanswered : Option Asked) × WritesFront unanswered old new definition script) ⊎ SaysFront IsFaultLine old new definition) ⊎ IsQuiet old new
 Edits old new definition script ends_with.TooLong =
-    IsTooLong old new definition MOST_DEFINITION_BYTES
-    ⊎ (((def : Definition) × IsDefinition old.held definition def) × IsTooLong old new script MOST_SCRIPT_BYTES)
+    IsTooLong old new definition 1048576
+    ⊎ (((def : Definition) × IsDefinition old.held definition def) × IsTooLong old new script 4194304)
 
 abbrev pub IsRunOf : Form → World → World → Status → Type 0
 IsRunOf (check definition) old new status = Checks old new definition status

@@ -1,82 +1,107 @@
--- The size of a node, part by part and element by element.
-use Rattle.std.proofs.Common.{◌≡◌, ℕ, ◌+◌, ◌<◌, max, Bool, List, [], ◌∷◌, ◌++◌, length, take, get_or, refl, ap, sym, ◌∙◌, arith}
-use Rattle.std.proofs.lemmas.List.{take_more}
-use Rattle.psg_grammar.specs.Fragments.{Fragment, operator}
-use Rattle.psg_grammar.specs.Sizes.{nodes_of, depth_of}
+-- The sizes of a node, part by part and element by element.
+use Rattle.std.proofs.Common.{◌≡◌, ℕ, ◌+◌, ◌-◌, ◌^◌, ◌<◌, ◌≤◌, min, max, Bool, false, List, [], ◌∷◌, ◌++◌, length, take, get_or, refl, ap, sym, subst, ◌∙◌, arith}
+use Rattle.std.proofs.lemmas.List.{take_more, take_all}
+use Rattle.psg_grammar.specs.Fragments.{Fragment, operator, children_of}
+use Rattle.psg_grammar.specs.Sizes.{nodes_of, depth_of, longest_of}
+use Rattle.psg_tree.specs.declared.sizes.Sizes.{Sizes}
 use Rattle.psg_tree.specs.declared.tree.Part.{Part}
-use Rattle.psg_tree.specs.declared.tree.Part.TheVariants.{Sub, Name, Number, Text}
-use Rattle.psg_tree.specs.declared.tree.Shape.{Shape}
-use Rattle.psg_tree.specs.declared.tree.Shape.TheVariants.{Op, List as ListOf}
-use Rattle.psg_tree.specs.Shapes.{with_part, with_parts, list_of, tree_of}
-use Rattle.psg_tree.specs.PartSizes.{part_nodes, part_depth}
+use Rattle.psg_tree.specs.Shapes.{with_part, with_parts, list_of}
+use Rattle.psg_tree.specs.TreeSizes.{AreSizesOf, IsMore}
+use Rattle.psg_tree.proofs.Children.{children-list}
 use Rattle.psg_tree.proofs.Texts.{with_parts-push}
 
-nodes-with_part : (f : Fragment) (p : Part) → nodes_of (with_part f p) ≡ nodes_of f + part_nodes p
-nodes-with_part f (Sub t) = refl
-nodes-with_part f (Name n) = omega arith
-nodes-with_part f (Number n) = omega arith
-nodes-with_part f (Text t) = omega arith
+-- ---- numbers up to m
 
-depth-with_part : (f : Fragment) (p : Part) → depth_of (with_part f p) ≡ max (depth_of f) (part_depth p)
-depth-with_part f (Sub t) = refl
-depth-with_part f (Name n) = omega arith
-depth-with_part f (Number n) = omega arith
-depth-with_part f (Text t) = omega arith
+sum-capped : (m a b x y z : ℕ) → x ≡ min a m → y ≡ min b m → z ≡ min (x + y) m → z ≡ min (a + b) m
+sum-capped m a b x y z h k l = omega (arith, h, k, l)
+
+below-capped : (m a b x y z : ℕ) → x ≡ min a m → y ≡ min b m → z ≡ max x (min (y + 1) m) → z ≡ min (max a (b + 1)) m
+below-capped m a b x y z h k l = omega (arith, h, k, l)
+
+most-capped : (m a b x y z : ℕ) → x ≡ min a m → y ≡ min b m → z ≡ max x y → z ≡ min (max a b) m
+most-capped m a b x y z h k l = omega (arith, h, k, l)
+
+-- ---- parts
 
 -- one more part
-next_parts : (ps : List Part) (i : ℕ) (p : Part) → i < length ps → p ≡ get_or ps i p → with_parts (operator 0) (take (i + 1) ps) ≡ with_part (with_parts (operator 0) (take i ps)) p
-next_parts ps i p h e = ap (with_parts (operator 0)) (take_more ps i p h ∙ ap (λ x. take i ps ++ x ∷ []) (sym e)) ∙ with_parts-push (operator 0) (take i ps) p
+pub part_next : (ps : List Part) (i : ℕ) (p : Part) (s whole : Sizes) → i < length ps → p ≡ get_or ps i p
+    → ((f : Fragment) → AreSizesOf f s → AreSizesOf (with_part f p) whole)
+    → ((o : ℕ) → AreSizesOf (with_parts (operator o) (take i ps)) s)
+    → (o : ℕ) → AreSizesOf (with_parts (operator o) (take (i + 1) ps)) whole
+part_next ps i p s whole h e more before o =
+    let t : take (i + 1) ps ≡ take i ps ++ p ∷ [] = take_more ps i p h ∙ ap (λ x. take i ps ++ x ∷ []) (sym e) in
+    let made : with_parts (operator o) (take (i + 1) ps) ≡ with_part (with_parts (operator o) (take i ps)) p =
+    ap (with_parts (operator o)) t ∙ with_parts-push (operator o) (take i ps) p in
+    subst (λ f. AreSizesOf f whole) (sym made) (more (with_parts (operator o) (take i ps)) (before o))
 
-pub nodes_more : (ps : List Part) (i : ℕ) (p : Part) → i < length ps → p ≡ get_or ps i p → nodes_of (with_parts (operator 0) (take (i + 1) ps)) ≡ nodes_of (with_parts (operator 0) (take i ps)) + part_nodes p
-nodes_more ps i p h e = ap nodes_of (next_parts ps i p h e) ∙ nodes-with_part (with_parts (operator 0) (take i ps)) p
+-- ---- elements
 
-pub depth_more : (ps : List Part) (i : ℕ) (p : Part) → i < length ps → p ≡ get_or ps i p → depth_of (with_parts (operator 0) (take (i + 1) ps)) ≡ max (depth_of (with_parts (operator 0) (take i ps))) (part_depth p)
-depth_more ps i p h e = ap depth_of (next_parts ps i p h e) ∙ depth-with_part (with_parts (operator 0) (take i ps)) p
+-- the longest list in one of the trees
+abbrev pub longest_in : List Fragment → ℕ
+longest_in [] = 0
+longest_in (e ∷ es) = max (longest_of e) (longest_in es)
+
+-- the sizes of a list of the elements, but for their number
+pub record AreBelow (es : List Fragment) (s : Sizes) : Type 0 where
+  pub nodes_below : s.nodes ≡ min (nodes_of (list_of 0 es false)) (2 ^ 64 - 1)
+  pub depth_below : s.depth ≡ min (depth_of (list_of 0 es false)) (2 ^ 64 - 1)
+  pub longest_below : s.longest ≡ min (longest_in es) (2 ^ 64 - 1)
+
+nodes-push : (es : List Fragment) (e : Fragment)
+    → nodes_of (list_of 0 es false) + nodes_of e ≡ nodes_of (list_of 0 (es ++ e ∷ []) false)
+nodes-push [] e = omega arith
+nodes-push (x ∷ es) e = omega (arith, nodes-push es e)
+
+depth-push : (es : List Fragment) (e : Fragment)
+    → max (depth_of (list_of 0 es false)) (depth_of e + 1) ≡ depth_of (list_of 0 (es ++ e ∷ []) false)
+depth-push [] e = omega arith
+depth-push (x ∷ es) e = omega (arith, depth-push es e)
+
+longest-push : (es : List Fragment) (e : Fragment) → max (longest_in es) (longest_of e) ≡ longest_in (es ++ e ∷ [])
+longest-push [] e = omega arith
+longest-push (x ∷ es) e = omega (arith, longest-push es e)
 
 -- one more element
-nodes-push : (es : List Fragment) (e : Fragment) (u : Bool) → nodes_of (list_of 0 (es ++ e ∷ []) u) ≡ nodes_of (list_of 0 es u) + nodes_of e
-nodes-push [] e u = omega arith
-nodes-push (x ∷ es) e u = omega (arith, nodes-push es e u)
+pub element_next : (es : List Fragment) (i : ℕ) (e : Fragment) (s child whole : Sizes) → i < length es → e ≡ get_or es i e
+    → AreSizesOf e child → IsMore s child whole → AreBelow (take i es) s → AreBelow (take (i + 1) es) whole
+element_next es i e s child whole h at k more before =
+    let t : take (i + 1) es ≡ take i es ++ e ∷ [] = take_more es i e h ∙ ap (λ x. take i es ++ x ∷ []) (sym at) in
+    subst (λ x. AreBelow x whole) (sym t) (record {
+      nodes_below = sum-capped _ _ _ _ _ _ before.nodes_below k.nodes_right more.nodes_more
+          ∙ ap (λ n. min n (2 ^ 64 - 1)) (nodes-push (take i es) e);
+      depth_below = below-capped _ _ _ _ _ _ before.depth_below k.depth_right more.depth_more
+          ∙ ap (λ n. min n (2 ^ 64 - 1)) (depth-push (take i es) e);
+      longest_below = most-capped _ _ _ _ _ _ before.longest_below k.longest_right more.longest_more
+          ∙ ap (λ n. min n (2 ^ 64 - 1)) (longest-push (take i es) e);
+    })
 
-depth-push : (es : List Fragment) (e : Fragment) (u : Bool) → depth_of (list_of 0 (es ++ e ∷ []) u) ≡ max (depth_of (list_of 0 es u)) (depth_of e + 1)
-depth-push [] e u = omega arith
-depth-push (x ∷ es) e u = omega (arith, depth-push es e u)
+-- the kind of a list and its end don't count
+nodes-list_of : (l : ℕ) (es : List Fragment) (u : Bool) → nodes_of (list_of 0 es false) ≡ nodes_of (list_of l es u)
+nodes-list_of l [] u = refl
+nodes-list_of l (e ∷ es) u = ap (λ n. nodes_of e + n) (nodes-list_of l es u)
 
-next_elements : (es : List Fragment) (i : ℕ) (e : Fragment) → i < length es → e ≡ get_or es i e → take (i + 1) es ≡ take i es ++ e ∷ []
-next_elements es i e h r = take_more es i e h ∙ ap (λ x. take i es ++ x ∷ []) (sym r)
+depth-list_of : (l : ℕ) (es : List Fragment) (u : Bool) → depth_of (list_of 0 es false) ≡ depth_of (list_of l es u)
+depth-list_of l [] u = refl
+depth-list_of l (e ∷ es) u = ap (λ n. max (depth_of e + 1) n) (depth-list_of l es u)
 
-pub nodes_next : (es : List Fragment) (i : ℕ) (e : Fragment) (u : Bool) → i < length es → e ≡ get_or es i e → nodes_of (list_of 0 (take (i + 1) es) u) ≡ nodes_of (list_of 0 (take i es) u) + nodes_of e
-nodes_next es i e u h r = ap (λ x. nodes_of (list_of 0 x u)) (next_elements es i e h r) ∙ nodes-push (take i es) e u
+-- a list is as long as it has elements, or as the longest in them
+longest-list_of : (l : ℕ) (es : List Fragment) (u : Bool) → max (longest_in es) (length es) ≡ longest_of (list_of l es u)
+longest-list_of l [] u = omega arith
+longest-list_of l (e ∷ es) u =
+    let n : length (children_of (list_of l es u)) ≡ length es = ap length (children-list l es u) in
+    omega (arith, n, longest-list_of l es u)
 
-pub depth_next : (es : List Fragment) (i : ℕ) (e : Fragment) (u : Bool) → i < length es → e ≡ get_or es i e → depth_of (list_of 0 (take (i + 1) es) u) ≡ max (depth_of (list_of 0 (take i es) u)) (depth_of e + 1)
-depth_next es i e u h r = ap (λ x. depth_of (list_of 0 x u)) (next_elements es i e h r) ∙ depth-push (take i es) e u
-
--- the number of an operator and the kind of a list don't count
-nodes-with_parts : (f g : Fragment) (ps : List Part) → nodes_of f ≡ nodes_of g → nodes_of (with_parts f ps) ≡ nodes_of (with_parts g ps)
-nodes-with_parts f g [] e = e
-nodes-with_parts f g (p ∷ ps) e = nodes-with_parts (with_part f p) (with_part g p) ps (omega (arith, e, nodes-with_part f p, nodes-with_part g p))
-
-depth-with_parts : (f g : Fragment) (ps : List Part) → depth_of f ≡ depth_of g → depth_of (with_parts f ps) ≡ depth_of (with_parts g ps)
-depth-with_parts f g [] e = e
-depth-with_parts f g (p ∷ ps) e = depth-with_parts (with_part f p) (with_part g p) ps (depth-with_part f p ∙ ap (λ n. max n (part_depth p)) e ∙ sym (depth-with_part g p))
-
-nodes-list_of : (l : ℕ) (es : List Fragment) (u v : Bool) → nodes_of (list_of 0 es v) ≡ nodes_of (list_of l es u)
-nodes-list_of l [] u v = refl
-nodes-list_of l (e ∷ es) u v = ap (λ n. nodes_of e + n) (nodes-list_of l es u v)
-
-depth-list_of : (l : ℕ) (es : List Fragment) (u v : Bool) → depth_of (list_of 0 es v) ≡ depth_of (list_of l es u)
-depth-list_of l [] u v = refl
-depth-list_of l (e ∷ es) u v = ap (λ n. max (depth_of e + 1) n) (depth-list_of l es u v)
-
--- the size of the node that is read
-pub op_nodes : (s : Shape) (o : ℕ) (ps slice : List Part) (f : Fragment) → s ≡ Op o ps → tree_of s ≡ f → slice ≡ ps → nodes_of (with_parts (operator 0) slice) ≡ nodes_of f
-op_nodes s o ps slice f e h c = ap (λ x. nodes_of (with_parts (operator 0) x)) c ∙ nodes-with_parts (operator 0) (operator o) ps refl ∙ ap nodes_of (sym (ap tree_of e) ∙ h)
-
-pub op_depth : (s : Shape) (o : ℕ) (ps slice : List Part) (f : Fragment) → s ≡ Op o ps → tree_of s ≡ f → slice ≡ ps → depth_of (with_parts (operator 0) slice) ≡ depth_of f
-op_depth s o ps slice f e h c = ap (λ x. depth_of (with_parts (operator 0) x)) c ∙ depth-with_parts (operator 0) (operator o) ps refl ∙ ap depth_of (sym (ap tree_of e) ∙ h)
-
-pub list_nodes : (s : Shape) (l : ℕ) (es slice : List Fragment) (u v : Bool) (f : Fragment) → s ≡ ListOf l es u → tree_of s ≡ f → slice ≡ es → nodes_of (list_of 0 slice v) ≡ nodes_of f
-list_nodes s l es slice u v f e h c = ap (λ x. nodes_of (list_of 0 x v)) c ∙ nodes-list_of l es u v ∙ ap nodes_of (sym (ap tree_of e) ∙ h)
-
-pub list_depth : (s : Shape) (l : ℕ) (es slice : List Fragment) (u v : Bool) (f : Fragment) → s ≡ ListOf l es u → tree_of s ≡ f → slice ≡ es → depth_of (list_of 0 slice v) ≡ depth_of f
-list_depth s l es slice u v f e h c = ap (λ x. depth_of (list_of 0 x v)) c ∙ depth-list_of l es u v ∙ ap depth_of (sym (ap tree_of e) ∙ h)
+-- all elements, and how many they are
+pub all_elements : (es : List Fragment) (i : ℕ) (s whole : Sizes) → length es ≤ i → length es < 2 ^ 64
+    → AreBelow (take i es) s → whole.nodes ≡ s.nodes → whole.depth ≡ s.depth → whole.longest ≡ max s.longest (length es)
+    → (l : ℕ) (u : Bool) → AreSizesOf (list_of l es u) whole
+all_elements es i s whole past few h n d k l u =
+    let b : AreBelow es s = subst (λ x. AreBelow x s) (take_all i es past) h in
+    record {
+      nodes_right = n ∙ b.nodes_below ∙ ap (λ x. min x (2 ^ 64 - 1)) (nodes-list_of l es u);
+      depth_right = d ∙ b.depth_below ∙ ap (λ x. min x (2 ^ 64 - 1)) (depth-list_of l es u);
+      longest_right =
+          most-capped (2 ^ 64 - 1) (longest_in es) (length es) s.longest (length es) whole.longest b.longest_below
+          (omega (arith, few)) k
+          ∙ ap (λ x. min x (2 ^ 64 - 1)) (longest-list_of l es u);
+    }

@@ -4,7 +4,7 @@ pub mod Faults
 pub mod AbstractText
 pub mod PartTexts
 pub mod Edits
-pub mod PartSizes
+pub mod TreeSizes
 pub mod Reaching
 pub mod WordTests
 pub mod Forms

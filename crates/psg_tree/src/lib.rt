@@ -22,6 +22,6 @@ pub use edits::{insert, remove, set_unfinished};
 pub use forms::well_formed;
 pub use path::Path;
 pub use places::{TreeFault, at, replace};
-pub use sizes::{depth, nodes};
+pub use sizes::{depth, longest_list, nodes};
 pub use text::abstract_text;
 pub use tree::{Part, Shape, Tree};

@@ -1,104 +1,111 @@
-//! How many nodes a tree has, and how deep it is.
-ghost use Rattle.std.specs.Prelude.{◌≡◌, min, false};
-ghost use Rattle.psg_grammar.specs.Fragments.{operator};
-ghost use Rattle.psg_grammar.specs.Sizes.{nodes_of, depth_of};
-ghost use Rattle.psg_tree.specs.Shapes.{with_parts, list_of};
-ghost use Rattle.psg_tree.specs.PartSizes as sizes;
+//! How many nodes a tree has, how deep it is and how long its lists are. A tree keeps these numbers, so no call walks over it.
+ghost use Rattle.std.specs.Prelude.{◌≡◌, ℕ, Bool, min};
+ghost use Rattle.psg_grammar.specs.Fragments.{Fragment, operator};
+ghost use Rattle.psg_grammar.specs.Sizes.{nodes_of, depth_of, longest_of};
+ghost use Rattle.psg_tree.specs.Shapes as shapes;
+ghost use Rattle.psg_tree.specs.TreeSizes.{AreSizesOf, IsMore};
 
 use crate::tree::{Part, Shape, Tree};
 
-/// How many nodes are in the part.
-#[cycle(nodes)]
-fn part_nodes(part: &Part) -> u64
-    ensures { result ≡ min (sizes.part_nodes part.now) u64.MAX }
-{
-    match part {
-        Part::Sub(tree) => nodes(tree),
-        _ => 0,
+/// The sizes of a tree, each at most `u64::MAX`.
+#[derive(Clone, Copy)]
+pub(crate) struct Sizes {
+    /// How many nodes the tree has.
+    nodes: u64,
+    /// How many nodes are below each other at most.
+    depth: u64,
+    /// How many elements the longest list has.
+    longest: u64,
+}
+
+/// The sizes of a node without children.
+const LEAF: Sizes = Sizes {
+    nodes: 1,
+    depth: 1,
+    longest: 0,
+};
+
+impl Sizes {
+    /// Adds those of a child to the sizes of a node.
+    fn with_child(self, child: &Sizes) -> Sizes
+        ensures { IsMore self child.now result }
+    {
+        Sizes {
+            nodes: self.nodes.saturating_add(child.nodes),
+            depth: self.depth.max(child.depth.saturating_add(1)),
+            longest: self.longest.max(child.longest),
+        }
+    }
+
+    /// Adds those of a part to the sizes of an operator.
+    fn with_part(self, part: &Part) -> Sizes
+        ensures { (f : Fragment) → AreSizesOf f self → AreSizesOf (shapes.with_part f part.now) result }
+    {
+        match part {
+            Part::Sub(tree) => self.with_child(tree.sizes()),
+            Part::Name(_) => self,
+            Part::Number(_) => self,
+            Part::Text(_) => self,
+        }
     }
 }
 
-/// How many nodes an operator with these parts has.
-#[cycle(nodes)]
-fn operator_nodes(parts: &[Part]) -> u64
-    ensures { result ≡ min (nodes_of (with_parts (operator 0) parts.now)) u64.MAX }
+/// The sizes of an operator with these parts.
+fn operator_sizes(parts: &[Part]) -> Sizes
+    ensures { (o : ℕ) → AreSizesOf (shapes.with_parts (operator o) parts.now) result }
 {
-    let mut count: u64 = 1;
+    let mut sizes = LEAF;
     for part in parts {
-        count = count.saturating_add(part_nodes(part));
+        sizes = sizes.with_part(part);
     }
-    count
+    sizes
 }
 
-/// How many nodes a list of these elements has.
-#[cycle(nodes)]
-fn list_nodes(elements: &[Tree]) -> u64
-    ensures { result ≡ min (nodes_of (list_of 0 elements.now false)) u64.MAX }
+/// The sizes of a list of these elements.
+fn list_sizes(elements: &[Tree]) -> Sizes
+    ensures { (l : ℕ) (u : Bool) → AreSizesOf (shapes.list_of l elements.now u) result }
 {
-    let mut count: u64 = 1;
+    let mut sizes = LEAF;
     for element in elements {
-        count = count.saturating_add(nodes(element));
+        sizes = sizes.with_child(element.sizes());
     }
-    count
+    Sizes {
+        longest: sizes.longest.max(elements.len() as u64),
+        ..sizes
+    }
 }
 
-/// How many nodes a tree has: its operators, lists and placeholders. A tree with more than a `u64` holds has `u64::MAX`.
-/// It takes one walk over the tree.
-#[cycle(nodes)]
+/// Adds up the sizes of a node's tree from those of its children.
+pub(crate) fn sizes_of(shape: &Shape) -> Sizes
+    ensures { AreSizesOf (shapes.tree_of shape.now) result }
+{
+    match shape {
+        Shape::Op { parts, .. } => operator_sizes(parts.as_slice()),
+        Shape::List { elements, .. } => list_sizes(elements.as_slice()),
+        Shape::Hole { .. } => LEAF,
+    }
+}
+
+/// Tells how many nodes a tree has: its operators, lists and placeholders. A tree with more than a `u64` holds has
+/// `u64::MAX`. It takes one step.
 pub fn nodes(tree: &Tree) -> u64
     ensures { result ≡ min (nodes_of tree.now) u64.MAX }
 {
-    match tree.shape() {
-        Shape::Op { parts, .. } => operator_nodes(parts.as_slice()),
-        Shape::List { elements, .. } => list_nodes(elements.as_slice()),
-        Shape::Hole { .. } => 1,
-    }
+    tree.sizes().nodes
 }
 
-/// The depth of a node above the part, 0 where the part is no node.
-#[cycle(depth)]
-fn part_depth(part: &Part) -> u64
-    ensures { result ≡ min (sizes.part_depth part.now) u64.MAX }
-{
-    match part {
-        Part::Sub(tree) => depth(tree).saturating_add(1),
-        _ => 0,
-    }
-}
-
-/// The depth of an operator with these parts.
-#[cycle(depth)]
-fn operator_depth(parts: &[Part]) -> u64
-    ensures { result ≡ min (depth_of (with_parts (operator 0) parts.now)) u64.MAX }
-{
-    let mut deepest: u64 = 1;
-    for part in parts {
-        deepest = deepest.max(part_depth(part));
-    }
-    deepest
-}
-
-/// The depth of a list of these elements.
-#[cycle(depth)]
-fn list_depth(elements: &[Tree]) -> u64
-    ensures { result ≡ min (depth_of (list_of 0 elements.now false)) u64.MAX }
-{
-    let mut deepest: u64 = 1;
-    for element in elements {
-        deepest = deepest.max(depth(element).saturating_add(1));
-    }
-    deepest
-}
-
-/// How many nodes stand below each other in a tree at most: 1 for a placeholder, an operator without children and a list
-/// without elements. A tree that is deeper than a `u64` holds has `u64::MAX`. It takes one walk over the tree.
-#[cycle(depth)]
+/// Tells how many nodes are below each other in a tree at most: 1 for a placeholder, an operator without children and a
+/// list without elements. A tree that is deeper than a `u64` holds has `u64::MAX`. It takes one step.
 pub fn depth(tree: &Tree) -> u64
     ensures { result ≡ min (depth_of tree.now) u64.MAX }
 {
-    match tree.shape() {
-        Shape::Op { parts, .. } => operator_depth(parts.as_slice()),
-        Shape::List { elements, .. } => list_depth(elements.as_slice()),
-        Shape::Hole { .. } => 1,
-    }
+    tree.sizes().depth
+}
+
+/// Tells how many elements the longest list of a tree has: 0 where no list of it has an element. A list with more elements
+/// than a `u64` holds has `u64::MAX`. It takes one step.
+pub fn longest_list(tree: &Tree) -> u64
+    ensures { result ≡ min (longest_of tree.now) u64.MAX }
+{
+    tree.sizes().longest
 }

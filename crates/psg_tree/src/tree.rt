@@ -1,6 +1,7 @@
 //! Trees with placeholders, shared.
 ghost use Rattle.std.specs.Prelude.{◌≡◌, IfOk};
 
+use crate::sizes::{Sizes, sizes_of};
 use psg_terms::{Seq, Txt};
 use std::alloc::{AllocError, Global};
 use std::marker::Model;
@@ -34,11 +35,19 @@ pub enum Shape {
     },
 }
 
+/// A node with the sizes of its tree, so that no test of size walks over a tree.
+#[cycle(tree)]
+#[derive(Drop)]
+struct Measured {
+    shape: Shape,
+    sizes: Sizes,
+}
+
 /// A tree, which may have several owners.
 #[cycle(tree)]
 #[derive(Drop)]
 pub struct Tree {
-    shared: Rc<Shape>,
+    shared: Rc<Measured>,
 }
 
 impl Model for Tree {
@@ -49,26 +58,31 @@ impl Model for Tree {
 
     ghost coded = { coded_fragment };
 
-    ghost use Rattle.psg_tree.specs.Shapes.{tree_of, height};
+    ghost use Rattle.psg_tree.specs.Shapes.{height};
+    ghost use Rattle.psg_tree.specs.TreeSizes.{measured_tree, IsMeasured};
 
-    ghost view = { λ t. tree_of t.shared.value };
+    ghost view = { λ t. measured_tree t.shared.value };
+
+    ghost invariant = { λ t. IsMeasured t.shared.value };
 
     ghost size = { height };
 
     ghost use Rattle.psg_tree.specs.TreeFalls.{shape_le-height};
 
-    ghost size_decreases = { λ a h. shape_le-height a.shared.value };
+    ghost size_decreases = { λ a h. shape_le-height a.shared.value.shape };
 }
 
 impl Tree {
     ghost use Rattle.psg_tree.specs.Shapes.{tree_of};
+    ghost use Rattle.psg_tree.specs.TreeSizes.{AreSizesOf};
 
-    /// The tree of a node with its children.
+    /// Makes the tree of a node with its children. It reads the sizes of each child once. It fails where memory runs out.
     pub fn new(alloc: Global, shape: Shape) -> Result<Tree, AllocError>
         ensures { IfOk result (λ t. t ≡ tree_of shape) }
     {
+        let sizes = sizes_of(&shape);
         Ok(Tree {
-            shared: Rc::new(alloc, shape)?,
+            shared: Rc::new(alloc, Measured { shape, sizes })?,
         })
     }
 
@@ -76,7 +90,14 @@ impl Tree {
     pub fn shape(&self) -> &Shape
         ensures { tree_of result.now ≡ self.now }
     {
-        self.shared.as_ref()
+        &self.shared.as_ref().shape
+    }
+
+    /// Reads the sizes of the tree.
+    pub(crate) fn sizes(&self) -> &Sizes
+        ensures { AreSizesOf self.now result.now }
+    {
+        &self.shared.as_ref().sizes
     }
 
     /// One more owner of the same tree.
