@@ -165,7 +165,12 @@ fn chain(alloc: Global, count: usize) -> Result<String, AllocError> {
         write!(text, "?{i} pair ?{i} ?{i} ")?;
     }
     text.push_str("int\n")?;
-    put_each(&mut text, ("?", " "), 1, count.saturating_mul(2).saturating_sub(1))?;
+    put_each(
+        &mut text,
+        ("?", " "),
+        1,
+        count.saturating_mul(2).saturating_sub(1),
+    )?;
     text.push_str("pair ?0 ?0 bool")?;
     Ok(text)
 }
@@ -203,11 +208,7 @@ fn chained(alloc: Global, count: usize) -> Result<String, AllocError> {
 // The chain's pair has 2^(n + 1) - 1 symbols: 16,383, and 2^41 - 1, of which the halves are too large to be compared.
 #[test]
 fn chains(rt: HostRuntime) -> Result<(), Fail> {
-    for (count, expected) in [
-        (13, "pair(?1,?1)|"),
-        (18, "pair(?1,?1)|"),
-        (40, "memory"),
-    ] {
+    for (count, expected) in [(13, "pair(?1,?1)|"), (18, "pair(?1,?1)|"), (40, "memory")] {
         let text = chained(rt.alloc(), count)?;
         assert_eq!(rt; text.as_str(), expected, "{count}");
     }

@@ -76,7 +76,11 @@ fn checked(
 }
 
 /// The relation of the rows of a text, of so many columns of `Type`.
-fn one_side(alloc: Global, sig: &Signature, (text, width): (&str, usize)) -> Result<Side, RelFault> {
+fn one_side(
+    alloc: Global,
+    sig: &Signature,
+    (text, width): (&str, usize),
+) -> Result<Side, RelFault> {
     let rows = rows_of(alloc, text)?;
     let sorts = vec![in alloc; TYPE; width]?;
     let rel = checked(alloc, sig, rows.as_slice(), sorts.as_slice())?;
@@ -195,13 +199,7 @@ fn columns(alloc: Global, rows: (&str, usize), keep: &str) -> Result<String, All
     let Ok(one) = one_side(alloc, &sig, rows) else {
         return Err(AllocError);
     };
-    let part = kept(
-        alloc,
-        &sig,
-        &one.rel,
-        one.sorts.as_slice(),
-        keep.as_slice(),
-    );
+    let part = kept(alloc, &sig, &one.rel, one.sorts.as_slice(), keep.as_slice());
     told(alloc, &sig, part, keep.len())
 }
 
@@ -314,14 +312,7 @@ fn joined(alloc: Global, sig: &Signature, what: Joining) -> Result<Rel, RelFault
     let right = one_side(alloc, sig, what.right)?;
     let pairs = pairs_of(alloc, what.pairs)?;
     let keep = columns_of(alloc, what.keep)?;
-    met(
-        alloc,
-        sig,
-        &left,
-        &right,
-        pairs.as_slice(),
-        keep.as_slice(),
-    )
+    met(alloc, sig, &left, &right, pairs.as_slice(), keep.as_slice())
 }
 
 /// The texts of the join's rows, or why there are none.

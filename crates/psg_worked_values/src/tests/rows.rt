@@ -135,11 +135,7 @@ pub(super) fn pairs_of(alloc: Global, text: &str) -> Result<Vec<(usize, usize)>,
 }
 
 /// Whether the columns of each pair have one sort.
-pub(super) fn are_of_equal_sort(
-    left: &[SortId],
-    right: &[SortId],
-    pairs: &[(usize, usize)],
-) -> bool
+pub(super) fn are_of_equal_sort(left: &[SortId], right: &[SortId], pairs: &[(usize, usize)]) -> bool
     ensures { IsTrue result → AreOfEqualSort (numbers_of left.now) (numbers_of right.now) pairs.now }
 {
     for i in 0..pairs.len() {

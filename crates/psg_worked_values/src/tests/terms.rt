@@ -2,8 +2,9 @@
 ghost use Rattle.std.specs.Prelude.{IsTrue};
 
 use super::rows::{TYPE, TYPES, row_of, sorts_of, types};
-use psg_terms::{SortId, Term, canonical, has_sort, have_sorts, matching, row_text, term_text};
-use psg_terms::Signature;
+use psg_terms::{
+    Signature, SortId, Term, canonical, has_sort, have_sorts, matching, row_text, term_text,
+};
 use std::alloc::{AllocError, Global};
 use std::test::Fail;
 
