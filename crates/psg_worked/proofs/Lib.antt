@@ -1,0 +1,3 @@
+pub mod CaseNeeds
+pub mod CaseScopes
+pub mod CaseUnfinished
