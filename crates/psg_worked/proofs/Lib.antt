@@ -4,4 +4,9 @@ pub mod CaseUnfinished
 pub mod CaseOneRow
 pub mod CaseKeyColumns
 pub mod CaseCulprits
+pub mod CaseWide
 pub mod CaseLonger
+pub mod CaseTokens
+pub mod CaseSums
+pub mod CaseYields
+pub mod CaseFollow
