@@ -1,11 +1,10 @@
 -- A mark with one culprit, which is wrong by itself while its children are good; the node above it is no culprit.
-use Rattle.std.proofs.Common.{◌≡◌, ◌∙◌, ℕ, zero, suc, List, [], ◌∷◌, map, codes, Some, refl, ap, subst, slice_get, lit<, arith}
+use Rattle.std.proofs.Common.{◌≡◌, ◌∙◌, ℕ, List, [], ◌∷◌, map, refl, ap}
 use Rattle.psg_terms.specs.Terms.{Term, symbol}
 use Rattle.psg_terms.specs.Instances.{substitute}
 use Rattle.psg_grammar.specs.declared.types.Row.{Row}
-use Rattle.psg_grammar.specs.declared.types.Operator.{Operator}
 use Rattle.psg_grammar.specs.Fragments.{Fragment, operator}
-use Rattle.psg_grammar.specs.Legal.{Entities, IsOfRow}
+use Rattle.psg_grammar.specs.Legal.{Entities}
 use Rattle.psg_grammar.specs.Open.{Choice, Holds, IsOpen}
 use Rattle.psg_grammar.specs.Marks.{Located, nodes_from, taken, passed, nothing, good, wrong, IsCulprit, IsMark}
 use Rattle.psg_grammar.proofs.CaseLanguage.{constants, row_of, op_zero, op_tru, op_plus, zero_leaf, plus_of}
@@ -90,9 +89,11 @@ nodes = refl
 marked : IsMark constants tree (wrong ((1 ∷ []) ∷ []))
 marked = (
   tree_is_wrong,
-  (at (1 ∷ []) clash ∷ [],
-  passed root_is_none (passed (leaf_is_none (0 ∷ []) zero_leaf zero_is_open) (taken clash_is_culprit (passed (leaf_is_none (1 ∷ 0 ∷ []) zero_leaf zero_is_open) (passed (leaf_is_none (1 ∷ 1 ∷ []) true_leaf true_is_open) nothing)))),
-  refl),
+  (
+    at (1 ∷ []) clash ∷ [],
+    passed root_is_none (passed (leaf_is_none (0 ∷ []) zero_leaf zero_is_open) (taken clash_is_culprit (passed (leaf_is_none (1 ∷ 0 ∷ []) zero_leaf zero_is_open) (passed (leaf_is_none (1 ∷ 1 ∷ []) true_leaf true_is_open) nothing)))),
+    refl,
+  ),
 )
 
 not_good : IsMark constants tree good → ⊥

@@ -1,5 +1,5 @@
 -- For the worked cases: the text of a definition, its lines, and the definition that they are.
-use Rattle.std.proofs.Common.{ℕ, Bool, true, false, List, [], ◌∷◌, ◌++◌, codes, Some, None}
+use Rattle.std.proofs.Common.{ℕ, false, List, [], ◌∷◌, ◌++◌, codes, Some, None}
 use Rattle.psg_terms.specs.Terms.{symbol, variable}
 use Rattle.psg_terms.specs.Signature.{Signature}
 use Rattle.psg_terms.specs.declared.declare.SortDecl.{SortDecl}

@@ -1,5 +1,5 @@
 -- What may follow an expression and a list of sums, and what may not.
-use Rattle.std.proofs.Common.{◌≡◌, ◌∙◌, ◌⊎◌, ◌++◌, ℕ, zero, suc, Bool, true, false, List, [], ◌∷◌, codes, Some, None, refl, sym, ap, subst, slice_get, true≢false, bytes_eq, inl, inr}
+use Rattle.std.proofs.Common.{◌≡◌, ◌∙◌, ◌⊎◌, ◌++◌, ℕ, zero, suc, false, List, [], ◌∷◌, codes, Some, refl, sym, ap, subst, slice_get, true≢false, bytes_eq, inl, inr}
 use Rattle.std.proofs.lemmas.Option.{none-some}
 use Rattle.psg_terms.specs.Names.{Name}
 use Rattle.psg_grammar.specs.declared.types.Kind.{Kind}
@@ -10,7 +10,7 @@ use Rattle.psg_grammar.specs.declared.types.Operator.{Operator}
 use Rattle.psg_grammar.specs.declared.types.ListKind.{ListKind}
 use Rattle.psg_class.specs.Terminals.{Terminal, fixed, a_number, a_hole, open_bracket, close_bracket}
 use Rattle.psg_class.specs.Places.{solid, is_own_last}
-use Rattle.psg_class.specs.Follow.{Leads, Led, First, first_operator, first_hole, first_bracket, FirstOfList, first_more, first_element, BeginsWith, CanBeEmpty, Inside, Follow, by_rest, by_end, by_led, by_separator, by_list, by_bracket}
+use Rattle.psg_class.specs.Follow.{Led, First, first_operator, first_hole, first_bracket, BeginsWith, CanBeEmpty, Inside, Follow, by_rest, by_end, by_led, by_separator, by_list, by_bracket}
 use Rattle.psg_worked.proofs.CaseSums.{sums, op_number, op_sum, op_all, list_all}
 
 -- ---- what begins an expression

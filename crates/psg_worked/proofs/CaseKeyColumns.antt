@@ -1,5 +1,5 @@
 -- Relations with columns of keys, and the last step of a scope, which has those of the keys that pass outward alone.
-use Rattle.std.proofs.Common.{◌≡◌, ◌++◌, ◌∙◌, ℕ, false, List, [], ◌∷◌, map, refl, sym, ap, subst, lit<, lit≤, true≢false, arith}
+use Rattle.std.proofs.Common.{◌≡◌, ◌++◌, ◌∙◌, ℕ, false, List, [], ◌∷◌, refl, sym, ap, subst, lit<, lit≤, true≢false, arith}
 use Rattle.psg_terms.specs.Terms.{Term, variable}
 use Rattle.psg_terms.specs.Signature.{HasSort}
 use Rattle.psg_terms.specs.Instances.{substitute, IsGroundInstance}
@@ -59,11 +59,14 @@ use_only k columns p =
 
 -- One row, whose value and entity are one variable.
 pub use_relation : IsRelationOf spaces (ref_to x) (use_row ∷ [])
-use_relation = (1 ∷ 1 ∷ [], one_row sig (1 ∷ 1 ∷ []) ℕ (IsPossible spaces (ref_to x)) use_row
-    record { numbered = (refl, tt); written = (refl, (refl, tt)) }
-    (any_sorted, (any_sorted, tt)) 0 (int ∷ int ∷ [], use_possible int int_type)
-    (λ columns (f, g, e). subst (IsPossible spaces (ref_to x) 0) (sym e) (use_possible (f 1 1) record { ground = g.variable_free 1 1 (lit< tt); sorted = g.sorted 1 1 (lit< tt) }))
-    use_only)
+use_relation = (
+  1 ∷ 1 ∷ [],
+  one_row sig (1 ∷ 1 ∷ []) ℕ (IsPossible spaces (ref_to x)) use_row
+      record { numbered = (refl, tt); written = (refl, (refl, tt)) }
+      (any_sorted, (any_sorted, tt)) 0 (int ∷ int ∷ [], use_possible int int_type)
+      (λ columns (f, g, e). subst (IsPossible spaces (ref_to x) 0) (sym e) (use_possible (f 1 1) record { ground = g.variable_free 1 1 (lit< tt); sorted = g.sorted 1 1 (lit< tt) }))
+      use_only,
+)
 
 -- ---- `{ let x = y }`
 
@@ -79,13 +82,32 @@ chosen = (0, (0, (0, 0), 0))
 
 linked_holds : (t : Term) → IsType t → Holds spaces (entities_by (λ n. t)) linked chosen [] ok [] []
 linked_holds t type = (
-  ok, [], entities_by (λ n. t),
-  (refl, record { op = op_blk; found = refl; row = _; chosen = refl; value = ok_row }), all_are t type, refl,
-  (refl, ok, ok, [], entities_by (λ n. t), record { kind = list_items; list = refl; row = _; chosen = refl; value = cell_row }, all_are t type, refl,
-    (t, [], entities_by (λ n. t),
-      (refl, record { op = op_let; found = refl; row = _; chosen = refl; value = let_row t type }), all_are t type, refl,
-      (refl, record { op = op_ref; found = refl; row = _; chosen = refl; value = ref_row t type })),
-    (refl, refl, record { kind = list_items; list = refl; row = ok; chosen = refl; value = (ok_row.terms, ok_row.grounding, refl) })),
+  ok,
+  [],
+  entities_by (λ n. t),
+  (refl, record { op = op_blk; found = refl; row = _; chosen = refl; value = ok_row }),
+  all_are t type,
+  refl,
+  (
+    refl,
+    ok,
+    ok,
+    [],
+    entities_by (λ n. t),
+    record { kind = list_items; list = refl; row = _; chosen = refl; value = cell_row },
+    all_are t type,
+    refl,
+    (
+      t,
+      [],
+      entities_by (λ n. t),
+      (refl, record { op = op_let; found = refl; row = _; chosen = refl; value = let_row t type }),
+      all_are t type,
+      refl,
+      (refl, record { op = op_ref; found = refl; row = _; chosen = refl; value = ref_row t type }),
+    ),
+    (refl, refl, record { kind = list_items; list = refl; row = ok; chosen = refl; value = (ok_row.terms, ok_row.grounding, refl) }),
+  ),
 )
 
 -- the value is ok, no node is observed, and x is what y is
@@ -136,11 +158,14 @@ inside_only c columns p =
     (terms_by t, grounding t type, p.columns_are ∙ made)
 
 inside_relation : IsInsideRelationOf spaces linked (inside_row ∷ [])
-inside_relation = (0 ∷ 1 ∷ 1 ∷ [], one_row sig (0 ∷ 1 ∷ 1 ∷ []) (Choice linked) (IsPossibleInside spaces linked) inside_row
-    record { numbered = (refl, tt); written = (tt, (refl, (refl, tt))) }
-    (ok_sorted, (any_sorted, (any_sorted, tt))) chosen (ok ∷ int ∷ int ∷ [], inside_possible int int_type)
-    (λ columns (f, g, e). subst (IsPossibleInside spaces linked chosen) (sym e) (inside_possible (f 1 1) record { ground = g.variable_free 1 1 (lit< tt); sorted = g.sorted 1 1 (lit< tt) }))
-    inside_only)
+inside_relation = (
+  0 ∷ 1 ∷ 1 ∷ [],
+  one_row sig (0 ∷ 1 ∷ 1 ∷ []) (Choice linked) (IsPossibleInside spaces linked) inside_row
+      record { numbered = (refl, tt); written = (tt, (refl, (refl, tt))) }
+      (ok_sorted, (any_sorted, (any_sorted, tt))) chosen (ok ∷ int ∷ int ∷ [], inside_possible int int_type)
+      (λ columns (f, g, e). subst (IsPossibleInside spaces linked chosen) (sym e) (inside_possible (f 1 1) record { ground = g.variable_free 1 1 (lit< tt); sorted = g.sorted 1 1 (lit< tt) }))
+      inside_only,
+)
 
 pub inside_step : IsStepRelation spaces linked 1 (inside_row ∷ [])
 inside_step = adding 1 (inside_row ∷ []) (lit≤ tt) inside_relation
@@ -172,11 +197,14 @@ outside_only c columns p =
     (terms_by t, grounding t type, p.columns_are ∙ made)
 
 outside_relation : IsRelationOf spaces linked (outside_row ∷ [])
-outside_relation = (0 ∷ 1 ∷ [], one_row sig (0 ∷ 1 ∷ []) (Choice linked) (IsPossible spaces linked) outside_row
-    record { numbered = (refl, tt); written = (tt, (refl, tt)) }
-    (ok_sorted, (any_sorted, tt)) chosen (ok ∷ int ∷ [], outside_possible int int_type)
-    (λ columns (f, g, e). subst (IsPossible spaces linked chosen) (sym e) (outside_possible (f 1 1) record { ground = g.variable_free 1 1 (lit< tt); sorted = g.sorted 1 1 (lit< tt) }))
-    outside_only)
+outside_relation = (
+  0 ∷ 1 ∷ [],
+  one_row sig (0 ∷ 1 ∷ []) (Choice linked) (IsPossible spaces linked) outside_row
+      record { numbered = (refl, tt); written = (tt, (refl, tt)) }
+      (ok_sorted, (any_sorted, tt)) chosen (ok ∷ int ∷ [], outside_possible int int_type)
+      (λ columns (f, g, e). subst (IsPossible spaces linked chosen) (sym e) (outside_possible (f 1 1) record { ground = g.variable_free 1 1 (lit< tt); sorted = g.sorted 1 1 (lit< tt) }))
+      outside_only,
+)
 
 pub last_of_scope : IsStepRelation spaces linked 2 (outside_row ∷ [])
 last_of_scope = closing 2 (outside_row ∷ []) refl refl outside_relation

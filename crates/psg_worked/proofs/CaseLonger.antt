@@ -1,10 +1,10 @@
 -- What an unfinished list is filled by: a finished list that begins with its elements, and nothing else.
-use Rattle.std.proofs.Common.{◌≡◌, ℕ, true, false, List, [], ◌∷◌, Some, refl, sym, subst, true≢false, lit<}
+use Rattle.std.proofs.Common.{◌≡◌, true, false, refl, sym, subst, true≢false}
 use Rattle.psg_grammar.specs.declared.types.Kind.TheVariants as kinds
 use Rattle.psg_grammar.specs.Fragments.{Fragment, hole, ending, cell, operator}
 use Rattle.psg_grammar.specs.WellFormed.{WellFormed, IsComplete}
 use Rattle.psg_grammar.specs.Fillings.{Fills}
-use Rattle.psg_grammar.proofs.CaseLanguage.{list_items, op_one, op_yes, one, yes, block}
+use Rattle.psg_grammar.proofs.CaseLanguage.{list_items, op_yes, one, yes, block}
 use Rattle.psg_worked.proofs.CaseNeeds.{needing, op_need, need}
 
 -- `need one` in front of a list

@@ -1,7 +1,7 @@
 -- For the worked cases: the language of two spaces with one more item, `need`, which wants a bool; and entities.
-use Rattle.std.proofs.Common.{◌≡◌, ℕ, zero, suc, ◌<◌, List, [], ◌∷◌, map, codes, Some, refl, sym, ap, ◌∙◌, subst, slice_get, lit<, arith}
+use Rattle.std.proofs.Common.{◌≡◌, ℕ, zero, suc, ◌<◌, List, [], ◌∷◌, map, codes, Some, refl, sym, ap, ◌∙◌, subst, slice_get, arith}
 use Rattle.std.proofs.lemmas.Option.{none-some}
-use Rattle.psg_terms.specs.Terms.{Term, symbol, variable}
+use Rattle.psg_terms.specs.Terms.{Term, variable}
 use Rattle.psg_terms.specs.Signature.{HasSort}
 use Rattle.psg_terms.specs.Instances.{Substitution, substitute, IsGround, IsGrounding}
 use Rattle.psg_grammar.specs.declared.types.Kind.TheVariants as kinds

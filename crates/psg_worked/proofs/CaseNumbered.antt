@@ -1,12 +1,12 @@
 -- The lines are together the definition: names are positions, variables are numbered in their line.
-use Rattle.std.proofs.Common.{◌≡◌, ℕ, true, false, List, [], ◌∷◌, codes, Some, None, refl, inl, inr, lit<, lit≤}
+use Rattle.std.proofs.Common.{[], ◌∷◌, codes, refl, inl, inr, lit≤}
 use Rattle.psg_terms.specs.Terms.{symbol, variable}
 use Rattle.psg_grammar.specs.declared.types.Kind.TheVariants as kinds
 use Rattle.psg_grammar.specs.Sound.{HasKindSort}
 use Rattle.psg_deflines.specs.WrittenTerms as written_terms
 use Rattle.psg_deflines.specs.Entries.{written}
 use Rattle.psg_defnumber.specs.Numbers.{IsTerm, IsTree, IsNumbered}
-use Rattle.psg_worked.proofs.CaseFile.{file, entries, box_of_one, types, exp, op_one, op_box, all, specimen, hole_int, boxes}
+use Rattle.psg_worked.proofs.CaseFile.{entries, box_of_one, types, exp, op_one, op_box, all, specimen, hole_int, boxes}
 
 exp_sort : HasKindSort boxes (kinds.Phylum 0) 0
 exp_sort = (exp, refl, refl)
@@ -40,7 +40,9 @@ numbered = record {
   spaces = refl;
   phyla = (exp, [], refl, record { named = refl; of_sort = refl; same_brackets = refl }, refl);
   lists = (
-    all, [], refl,
+    all,
+    [],
+    refl,
     record {
       named = refl;
       of_sort = refl;
@@ -52,7 +54,10 @@ numbered = record {
       element_sort = 0;
       elements_sort = exp_sort;
       cells = inl (
-        refl, _, [], refl,
+        refl,
+        _,
+        [],
+        refl,
         record {
           names = codes "rest" ∷ codes "x" ∷ [];
           of_head = rest_term;
@@ -65,7 +70,9 @@ numbered = record {
     refl,
   );
   operators = (
-    op_one, op_box ∷ [], refl,
+    op_one,
+    op_box ∷ [],
+    refl,
     record {
       named = refl;
       of_phylum = (exp, refl, refl);
@@ -79,7 +86,9 @@ numbered = record {
       each_row = (_, [], refl, record { names = []; of_head = int_term; of_columns = refl; naming = record { once = refl; first = tt } }, refl);
     },
     (
-      op_box, [], refl,
+      op_box,
+      [],
+      refl,
       record {
         named = refl;
         of_phylum = (exp, refl, refl);
@@ -91,7 +100,9 @@ numbered = record {
         columns = 0 ∷ [];
         are_columns = (0, [], refl, exp_sort, refl);
         each_row = (
-          _, [], refl,
+          _,
+          [],
+          refl,
           record { names = codes "a" ∷ []; of_head = a_term; of_columns = (variable 0 1, [], a_term, refl, refl); naming = record { once = refl; first = (refl, tt) } },
           refl,
         );
@@ -100,7 +111,9 @@ numbered = record {
     ),
   );
   hole_rows = (
-    hole_int, [], refl,
+    hole_int,
+    [],
+    refl,
     record {
       of_kind = (exp, refl, refl);
       sort = 0;

@@ -1,5 +1,5 @@
 -- Entities inside a block and outside of it: another one for a name that it declares, the same for each other name.
-use Rattle.std.proofs.Common.{◌≡◌, ◌||◌, ℕ, zero, suc, Bool, true, false, cond, List, [], ◌∷◌, codes, refl, sym, ap, ◌∙◌, true≢false, bytes_eq}
+use Rattle.std.proofs.Common.{◌≡◌, ◌||◌, zero, suc, Bool, true, false, cond, List, [], ◌∷◌, refl, sym, ap, ◌∙◌, true≢false, bytes_eq}
 use Rattle.psg_terms.specs.Terms.{Term}
 use Rattle.psg_terms.specs.Names.{is_among}
 use Rattle.psg_grammar.specs.Fragments.{Fragment, ending, cell}
@@ -33,15 +33,23 @@ own = block (cell 0 (let_of x yes) (cell 0 (need (ref_to x)) (ending 0 false)))
 
 need_legal : Legal needing inside (need (ref_to x)) [] ok [] []
 need_legal = (
-  bool, [], inside,
-  (refl, op_need, row_of ok (bool ∷ []), 0, refl, refl, need_row), inside_are, refl,
+  bool,
+  [],
+  inside,
+  (refl, op_need, row_of ok (bool ∷ []), 0, refl, refl, need_row),
+  inside_are,
+  refl,
   (refl, op_ref, _, 0, refl, refl, ref_row bool bool_type),
 )
 
 let_legal : Legal needing inside (let_of x yes) [] ok [] []
 let_legal = (
-  bool, [], inside,
-  (refl, op_let, _, 0, refl, refl, let_row bool bool_type), inside_are, refl,
+  bool,
+  [],
+  inside,
+  (refl, op_let, _, 0, refl, refl, let_row bool bool_type),
+  inside_are,
+  refl,
   (refl, op_yes, _, 0, refl, refl, yes_row),
 )
 
@@ -50,7 +58,20 @@ end_legal = (refl, refl, list_items, ok, 0, refl, refl, (ok_row.terms, ok_row.gr
 
 list_legal : Legal needing inside (cell 0 (let_of x yes) (cell 0 (need (ref_to x)) (ending 0 false))) [] ok [] []
 list_legal = (
-  refl, list_items, _, 0, ok, ok, [], inside, refl, refl, cell_row, inside_are, refl, let_legal,
+  refl,
+  list_items,
+  _,
+  0,
+  ok,
+  ok,
+  [],
+  inside,
+  refl,
+  refl,
+  cell_row,
+  inside_are,
+  refl,
+  let_legal,
   (refl, list_items, _, 0, ok, ok, [], inside, refl, refl, cell_row, inside_are, refl, need_legal, end_legal),
 )
 
@@ -100,7 +121,12 @@ agreeing = record {
   entities = inside_are;
   agree = λ n e. refl;
   legal = (
-    ok, [], inside, (refl, op_blk, _, 0, refl, refl, ok_row), inside_are, refl,
+    ok,
+    [],
+    inside,
+    (refl, op_blk, _, 0, refl, refl, ok_row),
+    inside_are,
+    refl,
     (refl, list_items, _, 0, ok, ok, [], inside, refl, refl, cell_row, inside_are, refl, need_legal, end_legal),
   );
 }

@@ -1,7 +1,6 @@
 -- The text spells its lines: what stands between the parts, what is skipped, which line a row stands behind.
-use Rattle.std.proofs.Common.{◌≡◌, ◌<◌, ◌≤◌, ℕ, Bool, true, false, List, [], ◌∷◌, codes, Some, refl, sym, ap, ◌∙◌, subst, true≢false, nat_eq, length, drop, get_or, replicate, zero, suc, ◌&&◌, ◌++◌, lit<, lit≤}
+use Rattle.std.proofs.Common.{◌≡◌, ◌≤◌, ℕ, true, false, List, [], ◌∷◌, codes, Some, refl, sym, ap, ◌∙◌, subst, true≢false, nat_eq, length, drop, get_or, replicate, zero, suc, ◌&&◌, ◌++◌, lit<, lit≤}
 use Rattle.std.specs.Prelude.{IsUtf8, chars, encode_utf8_all}
-use Rattle.std.specs.List.{AllByRecursion, list_all}
 use Rattle.std.specs.Str.Lines.{lines as lines_in}
 use Rattle.std.proofs.lemmas.Str.{chars-IsAscii, IsUtf8-from_ascii}
 use Rattle.unicode_width.specs.Width.{char_width}
@@ -10,8 +9,8 @@ use Rattle.psg_lexis.specs.Tokens.{is_content, quoted}
 use Rattle.psg_langs.proofs.AsciiTest.{ascii_by_test}
 use Rattle.psg_deflines.specs.Written.{IsWritten, ends_word, begins_word}
 use Rattle.psg_deflines.specs.WrittenTrees.{IsQuotable, quoted_part}
-use Rattle.psg_deflines.specs.Forms.{parts_of, HasForm, SpellsLine}
-use Rattle.psg_deflines.specs.Entries.{head_parts, IsLineBehind, IsEntry, AreEntries, AreSpelled}
+use Rattle.psg_deflines.specs.Forms.{SpellsLine}
+use Rattle.psg_deflines.specs.Entries.{head_parts, IsEntry, AreEntries, AreSpelled}
 use Rattle.psg_worked.proofs.CaseFile.{texts, file, entries, head_text, comment_text, sort_text, phylum_text, list_text, one_text, one_row_text, box_text, box_row_text, nil_text, cell_text, hole_text, sort_line, phylum_line, list_line, one_line, one_row_line, box_line, box_row_line, nil_line, cell_line, hole_line}
 
 -- the lines of the file, the carriage return left out
@@ -134,16 +133,38 @@ no_comment c other e = true≢false (sym (ap (λ d. nat_eq d 35) e) ∙ other)
 -- The rows stand behind an operator; a comment and an empty line have no line.
 each_entry : AreEntries [] (comment_text ∷ sort_text ∷ [] ∷ phylum_text ∷ list_text ∷ one_text ∷ one_row_text ∷ box_text ∷ box_row_text ∷ nil_text ∷ cell_text ∷ hole_text ∷ []) entries
 each_entry = (
-  refl, (record { no_comment = no_comment 115 refl; spelled = sort_spelled; place = tt },
-  (tt, (record { no_comment = no_comment 112 refl; spelled = phylum_spelled; place = tt },
-  (record { no_comment = no_comment 108 refl; spelled = list_spelled; place = tt },
-  (record { no_comment = no_comment 111 refl; spelled = one_spelled; place = tt },
-  (record { no_comment = no_comment 114 refl; spelled = one_row_spelled; place = refl },
-  (record { no_comment = no_comment 111 refl; spelled = box_spelled; place = tt },
-  (record { no_comment = no_comment 114 refl; spelled = box_row_spelled; place = refl },
-  (record { no_comment = no_comment 110 refl; spelled = nil_spelled; place = tt },
-  (record { no_comment = no_comment 99 refl; spelled = cell_spelled; place = tt },
-  (record { no_comment = no_comment 104 refl; spelled = hole_spelled; place = tt }, tt)))))))))))
+  refl,
+  (
+    record { no_comment = no_comment 115 refl; spelled = sort_spelled; place = tt },
+    (
+      tt,
+      (
+        record { no_comment = no_comment 112 refl; spelled = phylum_spelled; place = tt },
+        (
+          record { no_comment = no_comment 108 refl; spelled = list_spelled; place = tt },
+          (
+            record { no_comment = no_comment 111 refl; spelled = one_spelled; place = tt },
+            (
+              record { no_comment = no_comment 114 refl; spelled = one_row_spelled; place = refl },
+              (
+                record { no_comment = no_comment 111 refl; spelled = box_spelled; place = tt },
+                (
+                  record { no_comment = no_comment 114 refl; spelled = box_row_spelled; place = refl },
+                  (
+                    record { no_comment = no_comment 110 refl; spelled = nil_spelled; place = tt },
+                    (
+                      record { no_comment = no_comment 99 refl; spelled = cell_spelled; place = tt },
+                      (record { no_comment = no_comment 104 refl; spelled = hole_spelled; place = tt }, tt),
+                    ),
+                  ),
+                ),
+              ),
+            ),
+          ),
+        ),
+      ),
+    ),
+  ),
 )
 
 pub file_utf8 : IsUtf8 file

@@ -1,5 +1,5 @@
 -- The bytes of a file spell its definition, and no definition that numbers the variables of a line otherwise.
-use Rattle.std.proofs.Common.{◌≡◌, ℕ, List, [], ◌∷◌, refl, sym, ap, ◌∙◌, subst, inl, inr, arith}
+use Rattle.std.proofs.Common.{◌≡◌, ℕ, [], ◌∷◌, refl, sym, ap, ◌∙◌, subst, inl, inr, arith}
 use Rattle.psg_terms.specs.Terms.{variable}
 use Rattle.psg_terms.specs.Canonical.{first_occurrences, IsNumberedFrom}
 use Rattle.psg_grammar.specs.declared.types.Row.{Row}
@@ -30,7 +30,8 @@ swapped = record boxes { lists = swapped_list ∷ [] }
 -- the first variable of a line is variable 1
 no_first_two : (row : Row) → row ≡ swapped_row → IsNumberedFrom 1 (first_occurrences (row.head ∷ row.columns)) → ⊥
 no_first_two row e h =
-    let first : (2 ≡ 1) × (1 ≡ 2) × Unit {0} = subst (λ (r : Row). IsNumberedFrom 1 (first_occurrences (r.head ∷ r.columns))) e h in
+    let swapped_numbers : IsNumberedFrom 1 (first_occurrences (swapped_row.head ∷ swapped_row.columns)) = subst (λ (r : Row). IsNumberedFrom 1 (first_occurrences (r.head ∷ r.columns))) e h in
+    let first : ◌≡◌ {A = ℕ} 2 1 = swapped_numbers.0 in
     absurd (omega arith)
 
 no_swapped : IsNumbered (written entries) swapped → ⊥

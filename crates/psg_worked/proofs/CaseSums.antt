@@ -1,15 +1,14 @@
 -- For the worked cases: sums of numbers in brackets, and lists of them.
-use Rattle.std.proofs.Common.{ℕ, true, false, List, [], ◌∷◌, codes}
+use Rattle.std.proofs.Common.{ℕ, true, false, [], ◌∷◌, codes}
 use Rattle.psg_terms.specs.Terms.{symbol}
 use Rattle.psg_grammar.specs.declared.types.Kind.TheVariants as kinds
 use Rattle.psg_grammar.specs.declared.types.Level.TheVariants as levels
-use Rattle.psg_grammar.specs.declared.types.Item.{Item}
 use Rattle.psg_grammar.specs.declared.types.Item.TheVariants as items
 use Rattle.psg_grammar.specs.declared.types.Operator.{Operator}
 use Rattle.psg_grammar.specs.declared.types.ListKind.{ListKind}
 use Rattle.psg_grammar.specs.declared.types.Definition.{Definition}
 use Rattle.psg_grammar.specs.Fragments.{Fragment, operator, with_child, with_number}
-use Rattle.psg_class.specs.Terminals.{Token, solo, symbols, numeral}
+use Rattle.psg_class.specs.Terminals.{Token, solo, symbols}
 use Rattle.psg_grammar.proofs.CaseLanguage.{sort_id, numbers, row_of, op_of}
 
 -- a number

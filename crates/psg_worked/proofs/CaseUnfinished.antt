@@ -1,11 +1,11 @@
 -- A use in a block whose list may still declare the name, and the same in a block whose list is finished.
-use Rattle.std.proofs.Common.{◌≡◌, ℕ, zero, suc, Bool, true, false, List, [], ◌∷◌, codes, refl, sym, ap, ◌∙◌, true≢false}
+use Rattle.std.proofs.Common.{◌≡◌, zero, suc, Bool, true, false, List, [], ◌∷◌, refl, sym, ap, ◌∙◌, true≢false}
 use Rattle.psg_terms.specs.Terms.{Term}
 use Rattle.psg_grammar.specs.Fragments.{Fragment, ending, cell}
 use Rattle.psg_grammar.specs.Keys.{Key, space_of}
 use Rattle.psg_grammar.specs.Regions.{unfinished_inside}
 use Rattle.psg_grammar.specs.Legal.{Entities, AreEntities}
-use Rattle.psg_grammar.specs.Open.{Choice, Holds, IsOpen, IsOfOperatorRow, IsOfCellRow}
+use Rattle.psg_grammar.specs.Open.{Choice, Holds, IsOpen, IsOfCellRow}
 use Rattle.psg_grammar.proofs.CaseLanguage.{ok, int, bool, hole_items, list_items, op_blk, op_let, op_ref, op_one, block, let_of, ref_to, one}
 use Rattle.psg_worked.proofs.CaseNeeds.{needing, op_need, need, x, entities_by, are_entities, int_type, bool_type, ok_row, cell_row, one_row, need_row, let_row, ref_row, only_row, needs_bool, use_is_name, let_is_value, one_is_int, int_no_bool}
 
@@ -40,23 +40,45 @@ cell_holds = record { kind = list_items; list = refl; row = _; chosen = refl; va
 
 need_holds : Holds needing inside (need (ref_to x)) (0, 0) [] ok [] []
 need_holds = (
-  bool, [], inside,
-  (refl, record { op = op_need; found = refl; row = _; chosen = refl; value = need_row }), inside_are, refl,
+  bool,
+  [],
+  inside,
+  (refl, record { op = op_need; found = refl; row = _; chosen = refl; value = need_row }),
+  inside_are,
+  refl,
   (refl, record { op = op_ref; found = refl; row = _; chosen = refl; value = ref_row bool bool_type }),
 )
 
 part_holds : Holds needing inside (part true) (0, (0, (0, 0), 2)) [] ok [] []
 part_holds = (
-  ok, [], inside,
-  (refl, record { op = op_blk; found = refl; row = _; chosen = refl; value = ok_row }), inside_are, refl,
-  (refl, ok, ok, [], inside, cell_holds, inside_are, refl, need_holds,
-    (refl, refl, record { row = hole_items; chosen = refl; same = refl; value = (ok_row.terms, ok_row.grounding, refl) })),
+  ok,
+  [],
+  inside,
+  (refl, record { op = op_blk; found = refl; row = _; chosen = refl; value = ok_row }),
+  inside_are,
+  refl,
+  (
+    refl,
+    ok,
+    ok,
+    [],
+    inside,
+    cell_holds,
+    inside_are,
+    refl,
+    need_holds,
+    (refl, refl, record { row = hole_items; chosen = refl; same = refl; value = (ok_row.terms, ok_row.grounding, refl) }),
+  ),
 )
 
 let_holds : Holds needing outside (let_of x one) (0, 0) [] ok [] []
 let_holds = (
-  int, [], outside,
-  (refl, record { op = op_let; found = refl; row = _; chosen = refl; value = let_row int int_type }), outside_are, refl,
+  int,
+  [],
+  outside,
+  (refl, record { op = op_let; found = refl; row = _; chosen = refl; value = let_row int int_type }),
+  outside_are,
+  refl,
   (refl, record { op = op_one; found = refl; row = _; chosen = refl; value = one_row }),
 )
 
@@ -73,9 +95,27 @@ unfinished_is_open = record {
     entities = outside_are;
     agree = refl;
     holds = (
-      refl, ok, ok, [], outside, cell_holds, outside_are, refl, let_holds,
-      (refl, ok, ok, [], inside, cell_holds, inside_are, (λ n u e. apart n u), part_holds,
-        (refl, refl, record { kind = list_items; list = refl; row = ok; chosen = refl; value = (ok_row.terms, ok_row.grounding, refl) })),
+      refl,
+      ok,
+      ok,
+      [],
+      outside,
+      cell_holds,
+      outside_are,
+      refl,
+      let_holds,
+      (
+        refl,
+        ok,
+        ok,
+        [],
+        inside,
+        cell_holds,
+        inside_are,
+        (λ n u e. apart n u),
+        part_holds,
+        (refl, refl, record { kind = list_items; list = refl; row = ok; chosen = refl; value = (ok_row.terms, ok_row.grounding, refl) }),
+      ),
     );
   };
 }

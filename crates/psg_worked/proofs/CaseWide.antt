@@ -1,6 +1,6 @@
 -- The first step that passes the limit on a relation, and what just does not pass it.
-use Rattle.std.proofs.Common.{◌≡◌, ◌∙◌, ◌+◌, ◌*◌, ◌<◌, ◌≤◌, ◌++◌, ℕ, zero, suc, max, List, [], ◌∷◌, map, length, codes, Some, refl, sym, ap, ap₂, subst, slice_get, inl, inr, lit<, lit≤, arith}
-use Rattle.std.specs.Prelude.{Any, sum_by}
+use Rattle.std.proofs.Common.{◌≡◌, ◌∙◌, ◌+◌, ◌*◌, ◌<◌, ◌≤◌, ◌++◌, ℕ, zero, suc, max, List, [], ◌∷◌, map, codes, Some, refl, sym, ap, ap₂, subst, slice_get, inl, inr, lit<, lit≤, arith}
+use Rattle.std.specs.Prelude.{Any}
 use Rattle.std.proofs.lemmas.Option.{none-some}
 use Rattle.psg_terms.specs.Terms.{Term, variable, symbol, apply}
 use Rattle.psg_terms.specs.Signature.{Signature, HasSort, only_constructor}

@@ -1,10 +1,9 @@
 -- Which tokens sums and lists yield: the levels of slots, brackets, separators, unfinished lists.
-use Rattle.std.proofs.Common.{◌≡◌, ◌≤◌, ◌∙◌, ◌++◌, ℕ, zero, suc, max, Bool, true, false, List, [], ◌∷◌, codes, Some, refl, sym, ap, subst, slice_get, lit<, lit≤, arith}
-use Rattle.std.proofs.lemmas.Option.{none-some}
+use Rattle.std.proofs.Common.{◌≡◌, ◌≤◌, ◌∙◌, ◌++◌, ℕ, max, Bool, true, false, List, [], ◌∷◌, codes, Some, refl, sym, ap, subst, slice_get, lit≤, arith}
 use Rattle.psg_grammar.specs.declared.types.Kind.TheVariants as kinds
 use Rattle.psg_grammar.specs.declared.types.Item.{Item}
 use Rattle.psg_grammar.specs.declared.types.Operator.{Operator}
-use Rattle.psg_grammar.specs.Fragments.{Fragment, hole, ending, cell, operator, top_operator}
+use Rattle.psg_grammar.specs.Fragments.{Fragment, hole, ending, cell, top_operator}
 use Rattle.psg_grammar.specs.Levels.{level_number}
 use Rattle.psg_class.specs.Terminals.{Token, numeral, placeholder, dots}
 use Rattle.psg_class.specs.Yields.{Yields, TreeYields, of_hole, of_operator, in_brackets, PartsYield, no_items, of_word, of_refers, of_declares, of_number, of_text, of_slot, of_list_slot, ListYields, no_elements, only_more, elements, SomeYield, last_element, and_more, and_elements}

@@ -10,3 +10,7 @@ pub mod CaseTokens
 pub mod CaseSums
 pub mod CaseYields
 pub mod CaseFollow
+pub mod CaseFile
+pub mod CaseSpelled
+pub mod CaseNumbered
+pub mod CaseSpells
