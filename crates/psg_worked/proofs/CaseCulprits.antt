@@ -96,6 +96,36 @@ marked = (
   ),
 )
 
+-- ---- two culprits, in the order of the nodes
+
+abbrev both : Fragment
+both = plus_of clash clash
+
+both_are_wrong : IsOpen constants both → ⊥
+both_are_wrong h =
+    let c : Choice both = h.choice in
+    let (u, mid, inner, left, ent, same, right) = h.judged.holds in
+    clash_never inner c.1 u mid [] right
+
+second_is_culprit : IsCulprit constants (at (0 ∷ []) clash)
+second_is_culprit = (clash_is_wrong, (zero_is_open, (true_is_open, tt)))
+
+neither_is_root : IsCulprit constants (at [] both) → ⊥
+neither_is_root (bad, (left, rest)) = clash_is_wrong left
+
+both_marked : IsMark constants both (wrong ((0 ∷ []) ∷ (1 ∷ []) ∷ []))
+both_marked = (
+  both_are_wrong,
+  (
+    at (0 ∷ []) clash ∷ at (1 ∷ []) clash ∷ [],
+    passed neither_is_root (taken second_is_culprit (passed (leaf_is_none (0 ∷ 0 ∷ []) zero_leaf zero_is_open) (passed (leaf_is_none (0 ∷ 1 ∷ []) true_leaf true_is_open)
+    (taken clash_is_culprit (passed (leaf_is_none (1 ∷ 0 ∷ []) zero_leaf zero_is_open) (passed (leaf_is_none (1 ∷ 1 ∷ []) true_leaf true_is_open) nothing)))))),
+    refl,
+  ),
+)
+
+-- ---- a wrong tree is not good
+
 not_good : IsMark constants tree good → ⊥
 not_good h = tree_is_wrong h
 

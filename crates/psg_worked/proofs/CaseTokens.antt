@@ -12,10 +12,10 @@ use Rattle.psg_lexis.specs.declared.token.Token.TheVariants as tokens
 use Rattle.psg_lexis.specs.declared.token.Spanned.{Spanned}
 
 -- for ASCII the words of Unicode are those of letters, digits and `_`
-starts : (c : ℕ) → c < 128 → starts_word c ≡ (is_ascii_alphabetic c || (c == 95))
+pub starts : (c : ℕ) → c < 128 → starts_word c ≡ (is_ascii_alphabetic c || (c == 95))
 starts c lt = ap (λ b. b || (c == 95)) (is_xid_start-ascii c lt)
 
-goes_on : (c : ℕ) → c < 128 → goes_on_word c ≡ ((is_ascii_alphanumeric c || (c == 95)) || (c == 95))
+pub goes_on : (c : ℕ) → c < 128 → goes_on_word c ≡ ((is_ascii_alphanumeric c || (c == 95)) || (c == 95))
 goes_on c lt = ap (λ b. b || (c == 95)) (is_xid_continue-ascii c lt)
 
 abbrev fixed : List Name

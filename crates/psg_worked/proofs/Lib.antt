@@ -4,9 +4,12 @@ pub mod CaseUnfinished
 pub mod CaseOneRow
 pub mod CaseKeyColumns
 pub mod CaseCulprits
+pub mod CaseListCulprit
 pub mod CaseWide
 pub mod CaseLonger
 pub mod CaseTokens
+pub mod CaseFaults
+pub mod CaseTwice
 pub mod CaseSums
 pub mod CaseYields
 pub mod CaseFollow
