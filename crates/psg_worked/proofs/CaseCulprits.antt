@@ -119,7 +119,7 @@ both_marked = (
   (
     at (0 ∷ []) clash ∷ at (1 ∷ []) clash ∷ [],
     passed neither_is_root (taken second_is_culprit (passed (leaf_is_none (0 ∷ 0 ∷ []) zero_leaf zero_is_open) (passed (leaf_is_none (0 ∷ 1 ∷ []) true_leaf true_is_open)
-    (taken clash_is_culprit (passed (leaf_is_none (1 ∷ 0 ∷ []) zero_leaf zero_is_open) (passed (leaf_is_none (1 ∷ 1 ∷ []) true_leaf true_is_open) nothing)))))),
+        (taken clash_is_culprit (passed (leaf_is_none (1 ∷ 0 ∷ []) zero_leaf zero_is_open) (passed (leaf_is_none (1 ∷ 1 ∷ []) true_leaf true_is_open) nothing)))))),
     refl,
   ),
 )

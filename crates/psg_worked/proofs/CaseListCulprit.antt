@@ -6,7 +6,7 @@ use Rattle.psg_grammar.specs.Legal.{Entities}
 use Rattle.psg_grammar.specs.Open.{Choice, Holds, IsOpen}
 use Rattle.psg_grammar.specs.Marks.{Located, nodes_from, taken, passed, nothing, wrong, IsCulprit, IsMark}
 use Rattle.psg_grammar.proofs.CaseLanguage.{ok, int, bool, op_let, op_ref, op_one, let_of, ref_to, one, block}
-use Rattle.psg_worked.proofs.CaseNeeds.{needing, op_need, need, x, IsType, entities_by, are_entities, int_type, bool_type, one_row, need_row, let_row, ref_row, only_row, needs_bool, use_is_name, let_is_value, one_is_int, int_no_bool}
+use Rattle.psg_worked.proofs.CaseNeeds.{needing, op_need, need, x, IsType, entities_by, are_entities, int_type, bool_type, one_row, need_row, let_row, ref_row, only_row, needs_bool, use_is_name, let_is_value, one_is_int, int_no_bool, declares_int, needs_bool_there}
 
 -- `let x = one ; need x`
 abbrev list : Fragment
@@ -32,8 +32,12 @@ let_is_open = record {
     entities = are_entities needing refl refl (λ n. int) (λ n. int_type);
     agree = refl;
     holds = (
-      int, [], all int,
-      (refl, record { op = op_let; found = refl; row = _; chosen = refl; value = let_row int int_type }), are_entities needing refl refl (λ n. int) (λ n. int_type), refl,
+      int,
+      [],
+      all int,
+      (refl, record { op = op_let; found = refl; row = _; chosen = refl; value = let_row int int_type }),
+      are_entities needing refl refl (λ n. int) (λ n. int_type),
+      refl,
       (refl, record { op = op_one; found = refl; row = _; chosen = refl; value = one_row }),
     );
   };
@@ -67,8 +71,12 @@ need_is_open = record {
     entities = are_entities needing refl refl (λ n. bool) (λ n. bool_type);
     agree = refl;
     holds = (
-      bool, [], all bool,
-      (refl, record { op = op_need; found = refl; row = _; chosen = refl; value = need_row }), are_entities needing refl refl (λ n. bool) (λ n. bool_type), refl,
+      bool,
+      [],
+      all bool,
+      (refl, record { op = op_need; found = refl; row = _; chosen = refl; value = need_row }),
+      are_entities needing refl refl (λ n. bool) (λ n. bool_type),
+      refl,
       (refl, record { op = op_ref; found = refl; row = _; chosen = refl; value = ref_row bool bool_type }),
     );
   };
@@ -91,21 +99,10 @@ ref_is_open = record {
 
 -- ---- the list is wrong
 
-declared : (g : Entities) (c : Choice (let_of x one)) (v : Term) (before after : List Term) → Holds needing g (let_of x one) c [] v before after → g (0 ∷ x) ≡ int
-declared g c v before after (u, mid, inner, (seen, h), ent, same, (seen2, h2)) =
-    let_is_value h.row v (g (0 ∷ x)) u (only_row needing 1 op_let h.op _ h.row c.0 refl refl h.found h.chosen) h.value
-    ∙ one_is_int h2.row u (only_row needing 5 op_one h2.op _ h2.row c.1 refl refl h2.found h2.chosen) h2.value
-
-needs : (g : Entities) (c : Choice (need (ref_to x))) (v : Term) (before after : List Term) → Holds needing g (need (ref_to x)) c [] v before after → g (0 ∷ x) ≡ bool
-needs g c v before after (u, mid, inner, (seen, h), ent, same, (seen2, h2)) =
-    let wanted : u ≡ bool = needs_bool h.row v u (only_row needing 7 op_need h.op _ h.row c.0 refl refl h.found h.chosen) h.value in
-    let used : u ≡ inner (0 ∷ x) = use_is_name h2.row u (inner (0 ∷ x)) (only_row needing 4 op_ref h2.op _ h2.row c.1 refl refl h2.found h2.chosen) h2.value in
-    ap (λ (e : Entities). e (0 ∷ x)) (sym same) ∙ sym used ∙ wanted
-
 list_never : (g : Entities) (c : Choice list) (v : Term) (before after : List Term) → Holds needing g list c [] v before after → ⊥
 list_never g c v before after (none, first, others, mid, inner, of_cell, ent, same, of_let, (none2, first2, others2, mid2, inner2, of_cell2, ent2, same2, of_need, end)) =
-    let is_int : inner (0 ∷ x) ≡ int = declared inner c.1 first before mid of_let in
-    let is_bool : inner2 (0 ∷ x) ≡ bool = needs inner2 c.2.1 first2 mid mid2 of_need in
+    let is_int : inner (0 ∷ x) ≡ int = declares_int inner c.1 first before mid of_let in
+    let is_bool : inner2 (0 ∷ x) ≡ bool = needs_bool_there inner2 c.2.1 first2 mid mid2 of_need in
     let one : inner (0 ∷ x) ≡ g (0 ∷ x) = ap (λ (e : Entities). e (0 ∷ x)) same in
     let two : inner2 (0 ∷ x) ≡ g (0 ∷ x) = ap (λ (e : Entities). e (0 ∷ x)) same2 in
     int_no_bool (sym is_int ∙ one ∙ sym two ∙ is_bool)
@@ -144,7 +141,7 @@ marked = (
   (
     at (0 ∷ []) list ∷ [],
     passed block_is_none (taken list_is_culprit (passed (good_is_none (0 ∷ 0 ∷ []) (let_of x one) let_is_open) (passed (good_is_none (0 ∷ 0 ∷ 0 ∷ []) one one_is_open)
-    (passed (good_is_none (0 ∷ 1 ∷ []) (need (ref_to x)) need_is_open) (passed (good_is_none (0 ∷ 1 ∷ 0 ∷ []) (ref_to x) ref_is_open) nothing))))),
+        (passed (good_is_none (0 ∷ 1 ∷ []) (need (ref_to x)) need_is_open) (passed (good_is_none (0 ∷ 1 ∷ 0 ∷ []) (ref_to x) ref_is_open) nothing))))),
     refl,
   ),
 )

@@ -13,7 +13,8 @@ use Rattle.psg_grammar.specs.declared.types.Definition.{Definition}
 use Rattle.psg_grammar.specs.Fragments.{Fragment, operator, with_child}
 use Rattle.psg_grammar.specs.Keys.{Key, space_of}
 use Rattle.psg_grammar.specs.Legal.{Entities, AreEntities, IsOfRow}
-use Rattle.psg_grammar.proofs.CaseLanguage.{sig, ok, int, bool, constant, row_of, op_of, sort_id, op_blk, op_let, op_mark, op_jump, op_ref, op_one, op_yes, spaces}
+use Rattle.psg_grammar.specs.Open.{Choice, Holds}
+use Rattle.psg_grammar.proofs.CaseLanguage.{sig, ok, int, bool, constant, row_of, op_of, sort_id, op_blk, op_let, op_mark, op_jump, op_ref, op_one, op_yes, spaces, one, let_of, ref_to}
 
 -- `need` an expression that is a bool
 abbrev pub op_need : Operator
@@ -150,3 +151,17 @@ one_is_int row v same h = h.head ∙ ap (λ (r : Row). substitute h.terms r.head
 
 pub int_no_bool : int ≡ bool → ⊥
 int_no_bool e = cc
+
+-- ---- judgements of open fragments
+
+-- `let x = one` makes x an int, and `need x` a bool
+pub declares_int : (g : Entities) (c : Choice (let_of x one)) (v : Term) (before after : List Term) → Holds needing g (let_of x one) c [] v before after → g (0 ∷ x) ≡ int
+declares_int g c v before after (u, mid, inner, (seen, h), ent, same, (seen2, h2)) =
+    let_is_value h.row v (g (0 ∷ x)) u (only_row needing 1 op_let h.op _ h.row c.0 refl refl h.found h.chosen) h.value
+    ∙ one_is_int h2.row u (only_row needing 5 op_one h2.op _ h2.row c.1 refl refl h2.found h2.chosen) h2.value
+
+pub needs_bool_there : (g : Entities) (c : Choice (need (ref_to x))) (v : Term) (before after : List Term) → Holds needing g (need (ref_to x)) c [] v before after → g (0 ∷ x) ≡ bool
+needs_bool_there g c v before after (u, mid, inner, (seen, h), ent, same, (seen2, h2)) =
+    let wanted : u ≡ bool = needs_bool h.row v u (only_row needing 7 op_need h.op _ h.row c.0 refl refl h.found h.chosen) h.value in
+    let used : u ≡ inner (0 ∷ x) = use_is_name h2.row u (inner (0 ∷ x)) (only_row needing 4 op_ref h2.op _ h2.row c.1 refl refl h2.found h2.chosen) h2.value in
+    ap (λ (e : Entities). e (0 ∷ x)) (sym same) ∙ sym used ∙ wanted

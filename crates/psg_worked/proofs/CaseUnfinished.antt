@@ -7,7 +7,7 @@ use Rattle.psg_grammar.specs.Regions.{unfinished_inside}
 use Rattle.psg_grammar.specs.Legal.{Entities, AreEntities}
 use Rattle.psg_grammar.specs.Open.{Choice, Holds, IsOpen, IsOfCellRow}
 use Rattle.psg_grammar.proofs.CaseLanguage.{ok, int, bool, hole_items, list_items, op_blk, op_let, op_ref, op_one, block, let_of, ref_to, one}
-use Rattle.psg_worked.proofs.CaseNeeds.{needing, op_need, need, x, entities_by, are_entities, int_type, bool_type, ok_row, cell_row, one_row, need_row, let_row, ref_row, only_row, needs_bool, use_is_name, let_is_value, one_is_int, int_no_bool}
+use Rattle.psg_worked.proofs.CaseNeeds.{needing, op_need, need, x, entities_by, are_entities, int_type, bool_type, ok_row, cell_row, one_row, need_row, let_row, ref_row, only_row, needs_bool, use_is_name, let_is_value, one_is_int, int_no_bool, declares_int, needs_bool_there}
 
 -- the list `need x`, in a block, which ends so
 abbrev part : Bool → Fragment
@@ -120,30 +120,18 @@ unfinished_is_open = record {
   };
 }
 
--- a list that declares x as one makes x an int
-declared : (g : Entities) (c : Choice (let_of x one)) (v : Term) (before after : List Term) → Holds needing g (let_of x one) c [] v before after → g (0 ∷ x) ≡ int
-declared g c v before after (u, mid, inner, (seen, h), ent, same, (seen2, h2)) =
-    let_is_value h.row v (g (0 ∷ x)) u (only_row needing 1 op_let h.op _ h.row c.0 refl refl h.found h.chosen) h.value
-    ∙ one_is_int h2.row u (only_row needing 5 op_one h2.op _ h2.row c.1 refl refl h2.found h2.chosen) h2.value
-
-needs : (g : Entities) (c : Choice (need (ref_to x))) (v : Term) (before after : List Term) → Holds needing g (need (ref_to x)) c [] v before after → g (0 ∷ x) ≡ bool
-needs g c v before after (u, mid, inner, (seen, h), ent, same, (seen2, h2)) =
-    let wanted : u ≡ bool = needs_bool h.row v u (only_row needing 7 op_need h.op _ h.row c.0 refl refl h.found h.chosen) h.value in
-    let used : u ≡ inner (0 ∷ x) = use_is_name h2.row u (inner (0 ∷ x)) (only_row needing 4 op_ref h2.op _ h2.row c.1 refl refl h2.found h2.chosen) h2.value in
-    ap (λ (e : Entities). e (0 ∷ x)) (sym same) ∙ sym used ∙ wanted
-
 part_needs : (u : Bool) (g : Entities) (c : Choice (part u)) (v : Term) (before after : List Term) → Holds needing g (part u) c [] v before after → g (0 ∷ x) ≡ bool
 part_needs u g c v before after (w, mid, inner, of_block, ent, same, (none, first, others, mid2, inner2, of_cell, ent2, same2, used, end)) =
     let one : inner (0 ∷ x) ≡ g (0 ∷ x) = ap (λ (e : Entities). e (0 ∷ x)) same in
     let two : inner2 (0 ∷ x) ≡ inner (0 ∷ x) = ap (λ (e : Entities). e (0 ∷ x)) same2 in
-    sym one ∙ sym two ∙ needs inner2 c.1.1 first mid mid2 used
+    sym one ∙ sym two ∙ needs_bool_there inner2 c.1.1 first mid mid2 used
 
 -- In a finished list it is.
 finished_is_not : IsOpen needing (tree false) → ⊥
 finished_is_not h =
     let c : Choice (tree false) = h.choice in
     let (none, first, others, mid, inner, of_cell, ent, same, of_let, (none2, first2, others2, mid2, inner2, of_cell2, ent2, agree, of_part, end)) = h.judged.holds in
-    let is_int : inner (0 ∷ x) ≡ int = declared inner c.1 first [] mid of_let in
+    let is_int : inner (0 ∷ x) ≡ int = declares_int inner c.1 first [] mid of_let in
     let is_bool : inner2 (0 ∷ x) ≡ bool = part_needs false inner2 c.2.1 first2 mid mid2 of_part in
     let linked : inner2 (0 ∷ x) ≡ h.judged.inner (0 ∷ x) = agree (0 ∷ x) refl refl in
     let list : inner (0 ∷ x) ≡ h.judged.inner (0 ∷ x) = ap (λ (e : Entities). e (0 ∷ x)) same in

@@ -10,6 +10,7 @@ pub mod CaseLonger
 pub mod CaseTokens
 pub mod CaseFaults
 pub mod CaseTwice
+pub mod CaseWeights
 pub mod CaseSums
 pub mod CaseYields
 pub mod CaseFollow
