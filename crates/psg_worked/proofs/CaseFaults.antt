@@ -1,15 +1,14 @@
 -- The first fault of a text and its place, and the sizes that words and numbers just may have.
-use Rattle.std.proofs.Common.{◌≡◌, ◌++◌, ◌<◌, ◌≤◌, ◌^◌, ◌∙◌, ℕ, zero, suc, List, [], ◌∷◌, length, codes, refl, sym, ap, subst, true, false, true≢false, nat_eq, lit<, lit≤}
+use Rattle.std.proofs.Common.{◌≡◌, ◌++◌, ◌<◌, ◌≤◌, ◌∙◌, ℕ, zero, suc, List, [], ◌∷◌, codes, refl, sym, ap, subst, true, false, true≢false, nat_eq, lit<, lit≤}
 use Rattle.std.specs.Prelude.{encode_utf8_all}
 use Rattle.std.specs.List.{AllByRecursion}
 use Rattle.unicode_width.specs.Width.{char_width}
 use Rattle.psg_terms.specs.Names.{Name}
 use Rattle.psg_terms.specs.Words.{goes_on_word, IsWord}
-use Rattle.psg_lexis.specs.Classes.{Chars, All}
-use Rattle.psg_lexis.specs.Tokens.{bytes_of, IsToken, word, number, Begins, HasTokens, nothing, next}
-use Rattle.psg_lexis.specs.Faults.{BeginsNone, IsInside, IsFault, no_token, no_hole, no_width, no_escape, no_symbol, no_number, unended, large_word, large_hole, large_number, HasFault, here, blank, later}
+use Rattle.psg_lexis.specs.Classes.{Chars}
+use Rattle.psg_lexis.specs.Tokens.{bytes_of, IsToken, word, number, Begins}
+use Rattle.psg_lexis.specs.Faults.{BeginsNone, no_token, no_hole, no_width, no_escape, no_symbol, no_number, unended, large_word, large_hole, large_number, HasFault, here, blank, later}
 use Rattle.psg_lexis.specs.declared.token.Token.TheVariants as tokens
-use Rattle.psg_lexis.specs.declared.token.Spanned.{Spanned}
 use Rattle.psg_lexis.specs.declared.token.LexFault.TheVariants as faults
 use Rattle.psg_worked.proofs.CaseTokens.{starts, goes_on}
 

@@ -1,5 +1,5 @@
 -- What may follow an expression and a list of sums, and what may not.
-use Rattle.std.proofs.Common.{◌≡◌, ◌∙◌, ◌⊎◌, ◌++◌, ℕ, zero, suc, false, List, [], ◌∷◌, codes, Some, refl, sym, ap, subst, slice_get, true≢false, bytes_eq, inl, inr}
+use Rattle.std.proofs.Common.{◌≡◌, ◌∙◌, ◌⊎◌, ◌++◌, ℕ, zero, suc, true, false, List, [], ◌∷◌, codes, Some, None, refl, sym, ap, subst, slice_get, true≢false, bytes_eq, inl, inr}
 use Rattle.std.proofs.lemmas.Option.{none-some}
 use Rattle.psg_terms.specs.Names.{Name}
 use Rattle.psg_grammar.specs.declared.types.Kind.{Kind}
@@ -8,9 +8,11 @@ use Rattle.psg_grammar.specs.declared.types.Item.{Item}
 use Rattle.psg_grammar.specs.declared.types.Item.TheVariants as items
 use Rattle.psg_grammar.specs.declared.types.Operator.{Operator}
 use Rattle.psg_grammar.specs.declared.types.ListKind.{ListKind}
-use Rattle.psg_class.specs.Terminals.{Terminal, fixed, a_number, a_hole, open_bracket, close_bracket}
+use Rattle.psg_grammar.specs.declared.types.Phylum.{Phylum}
+use Rattle.psg_class.specs.Terminals.{item_terminal, Terminal, fixed, a_number, a_hole, open_bracket, close_bracket}
 use Rattle.psg_class.specs.Places.{solid, is_own_last}
-use Rattle.psg_class.specs.Follow.{Led, First, first_operator, first_hole, first_bracket, BeginsWith, CanBeEmpty, Inside, Follow, by_rest, by_end, by_led, by_separator, by_list, by_bracket}
+use Rattle.psg_class.specs.Follow.{Leads, Led, First, first_operator, first_hole, first_bracket, BeginsWith, CanBeEmpty, Inside, Follow, by_rest, by_end, by_led, by_separator, by_list, by_bracket}
+use Rattle.psg_grammar.proofs.CaseLanguage.{sort_id}
 use Rattle.psg_worked.proofs.CaseSums.{sums, op_number, op_sum, op_all, list_all}
 
 -- ---- what begins an expression
@@ -30,6 +32,9 @@ round_first = first_bracket _ refl refl
 -- a sum is led by `+`
 plus_led : Led sums 0 1 (fixed (codes "+"))
 plus_led = record { o = op_sum; found = refl; phylum = refl; slot = kinds.Phylum 0; item = items.Word (codes "+"); more = _; items = refl; begins = refl }
+
+abbrev exp : Phylum
+exp = record { name = codes "Exp"; sort = sort_id 0; bracketed = true }
 
 -- ---- what follows
 
@@ -118,11 +123,55 @@ separator_is : (l : ℕ) (kind : ListKind) → slice_get sums.lists l ≡ Some k
 separator_is zero kind found = let same : kind ≡ list_all = let f : Some list_all ≡ Some kind = found in cc in ap (λ (k : ListKind). k.separator) same
 separator_is (suc l) kind found = absurd (none-some kind found)
 
--- Neither an expression nor a list is followed by `+`.
-no_plus : {kind : Kind} {terminal : Terminal} → Follow sums kind terminal → terminal ≡ fixed (codes "+") → ⊥
-no_plus (by_rest n behind place begins) e = plus_no_square (words_apart _ _ _ e (behind_begins place.o _ behind _ (places n _ behind place) begins))
-no_plus (by_end n behind place empty own rest) e = no_plus rest e
-no_plus (by_led n behind place empty own m led) e = no_open_end place.o _ behind (places n _ behind place) empty own
-no_plus (by_separator l kind found element is) e = plus_no_comma (words_apart _ _ _ e (is ∙ ap fixed (separator_is l kind found)))
-no_plus (by_list l kind found element rest) e = no_plus rest e
-no_plus (by_bracket phylum found may is) e = plus_no_round (words_apart _ _ _ e is)
+-- Behind expressions and lists these three may stand, and nothing else.
+only_these : {kind : Kind} {terminal : Terminal} → Follow sums kind terminal → (terminal ≡ fixed (codes "]")) ⊎ ((terminal ≡ fixed (codes ",")) ⊎ (terminal ≡ close_bracket))
+only_these (by_rest n behind place begins) = inl (behind_begins place.o _ behind _ (places n _ behind place) begins)
+only_these (by_end n behind place empty own rest) = only_these rest
+only_these (by_led n behind place empty own m led) = absurd (no_open_end place.o _ behind (places n _ behind place) empty own)
+only_these (by_separator l kind found element is) = inr (inl (is ∙ ap fixed (separator_is l kind found)))
+only_these (by_list l kind found element rest) = only_these rest
+only_these (by_bracket phylum found may is) = inr (inr is)
+
+no_plus : (kind : Kind) → Follow sums kind (fixed (codes "+")) → ⊥
+no_plus kind h = elim (only_these h) [
+  | inl e ↦ plus_no_square (words_apart _ _ _ refl e)
+  | inr (inl e) ↦ plus_no_comma (words_apart _ _ _ refl e)
+  | inr (inr e) ↦ plus_no_round (words_apart _ _ _ refl e)
+]
+
+-- An expression begins with these four, and a sum leads with none of its own.
+data IsFirstOf : Terminal → Type 0 where
+  by_number : IsFirstOf a_number
+  by_square : IsFirstOf (fixed (codes "["))
+  by_hole : IsFirstOf (a_hole (codes "Exp"))
+  by_round : IsFirstOf open_bracket
+
+leads_are : (n : ℕ) (terminal : Terminal) → Leads sums 0 n terminal → IsFirstOf terminal
+leads_are zero terminal h =
+    let same : h.o ≡ op_number = let f : Some op_number ≡ Some h.o = h.found in cc in
+    let all : items.Number ∷ [] ≡ h.item ∷ h.more = subst (λ (o : Operator). solid o.items ≡ h.item ∷ h.more) same h.items in
+    let item : h.item ≡ items.Number = cc in
+    let begins : Some a_number ≡ Some terminal = subst (λ (i : Item). item_terminal i ≡ Some terminal) item h.begins in
+    let is : a_number ≡ terminal = cc in
+    subst IsFirstOf is by_number
+leads_are (suc zero) terminal h =
+    let same : h.o ≡ op_sum = let f : Some op_sum ≡ Some h.o = h.found in cc in
+    let all : solid op_sum.items ≡ h.item ∷ h.more = subst (λ (o : Operator). solid o.items ≡ h.item ∷ h.more) same h.items in
+    let item : h.item ≡ items.Slot (kinds.Phylum 0) = cc in
+    let begins : None ≡ Some terminal = subst (λ (i : Item). item_terminal i ≡ Some terminal) item h.begins in
+    absurd (none-some terminal begins)
+leads_are (suc (suc zero)) terminal h =
+    let same : h.o ≡ op_all = let f : Some op_all ≡ Some h.o = h.found in cc in
+    let all : solid op_all.items ≡ h.item ∷ h.more = subst (λ (o : Operator). solid o.items ≡ h.item ∷ h.more) same h.items in
+    let item : h.item ≡ items.Word (codes "[") = cc in
+    let begins : Some (fixed (codes "[")) ≡ Some terminal = subst (λ (i : Item). item_terminal i ≡ Some terminal) item h.begins in
+    let is : fixed (codes "[") ≡ terminal = cc in
+    subst IsFirstOf is by_square
+leads_are (suc (suc (suc n))) terminal h = absurd (none-some h.o h.found)
+
+only_first : (p : ℕ) (terminal : Terminal) → p ≡ 0 → First sums p terminal → IsFirstOf terminal
+only_first p terminal e (first_operator n leads) = leads_are n terminal (subst (λ q. Leads sums q n terminal) e leads)
+only_first p terminal e (first_hole phylum found holes) =
+    let same : phylum ≡ exp = let f : Some exp ≡ Some phylum = subst (λ q. slice_get sums.phyla q ≡ Some phylum) e found in cc in
+    subst (λ (k : Phylum). IsFirstOf (a_hole k.name)) (sym same) by_hole
+only_first p terminal e (first_bracket phylum found may) = by_round

@@ -29,7 +29,7 @@ use_row = variable 1 1 ∷ variable 1 1 ∷ []
 use_keys : names_of spaces (ref_to x) ≡ (0 ∷ x) ∷ []
 use_keys = refl
 
-use_possible : (t : Term) → IsType t → IsPossible spaces (ref_to x) 0 (t ∷ t ∷ [])
+pub use_possible : (t : Term) → IsType t → IsPossible spaces (ref_to x) 0 (t ∷ t ∷ [])
 use_possible t type = record {
   distinct = (refl, tt);
   outside = entities_by (λ n. t);

@@ -1,12 +1,12 @@
 -- A list as culprit: each element is good by itself, and together they are wrong; so is the block round it, which is none.
-use Rattle.std.proofs.Common.{◌≡◌, ◌∙◌, ℕ, true, false, List, [], ◌∷◌, refl, sym, ap}
+use Rattle.std.proofs.Common.{◌≡◌, ◌∙◌, ℕ, false, List, [], ◌∷◌, refl, sym, ap}
 use Rattle.psg_terms.specs.Terms.{Term}
 use Rattle.psg_grammar.specs.Fragments.{Fragment, ending, cell}
 use Rattle.psg_grammar.specs.Legal.{Entities}
 use Rattle.psg_grammar.specs.Open.{Choice, Holds, IsOpen}
 use Rattle.psg_grammar.specs.Marks.{Located, nodes_from, taken, passed, nothing, wrong, IsCulprit, IsMark}
 use Rattle.psg_grammar.proofs.CaseLanguage.{ok, int, bool, op_let, op_ref, op_one, let_of, ref_to, one, block}
-use Rattle.psg_worked.proofs.CaseNeeds.{needing, op_need, need, x, IsType, entities_by, are_entities, int_type, bool_type, one_row, need_row, let_row, ref_row, only_row, needs_bool, use_is_name, let_is_value, one_is_int, int_no_bool, declares_int, needs_bool_there}
+use Rattle.psg_worked.proofs.CaseNeeds.{needing, op_need, need, x, entities_by, are_entities, int_type, bool_type, one_row, need_row, let_row, ref_row, int_no_bool, declares_int, needs_bool_there}
 
 -- `let x = one ; need x`
 abbrev list : Fragment

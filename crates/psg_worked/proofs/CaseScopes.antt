@@ -98,7 +98,7 @@ differ = (refl, refl)
 -- ---- `{ need x }`
 
 -- need x holds where x is a bool alone
-needs : (g : Entities) (v : Term) (before after : List Term) → Legal needing g (need (ref_to x)) [] v before after → g (0 ∷ x) ≡ bool
+pub needs : (g : Entities) (v : Term) (before after : List Term) → Legal needing g (need (ref_to x)) [] v before after → g (0 ∷ x) ≡ bool
 needs g v before after (u, mid, inner, (seen, op, row, r, found, chosen, of_row), ent, same, (seen2, op2, row2, r2, found2, chosen2, of_row2)) =
     let wanted : u ≡ bool = needs_bool row v u (only_row needing 7 op_need op _ row r refl refl found chosen) of_row in
     let used : u ≡ inner (0 ∷ x) = use_is_name row2 u (inner (0 ∷ x)) (only_row needing 4 op_ref op2 _ row2 r2 refl refl found2 chosen2) of_row2 in

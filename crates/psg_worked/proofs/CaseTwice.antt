@@ -1,7 +1,6 @@
 -- A list that declares one key twice: no row is possible, for the list and for the step that brings the second one.
-use Rattle.std.proofs.Common.{◌≡◌, ℕ, true, false, List, [], ◌∷◌, refl, true≢false, lit≤}
+use Rattle.std.proofs.Common.{ℕ, false, List, [], refl, true≢false, lit≤}
 use Rattle.psg_terms.specs.Terms.{Term}
-use Rattle.psg_terms.specs.Signature.{Signature}
 use Rattle.psg_terms.specs.Relations.{IsRelation}
 use Rattle.psg_grammar.specs.Fragments.{Fragment, ending, cell}
 use Rattle.psg_grammar.specs.Regions.{IsDistinct}

@@ -7,7 +7,7 @@ use Rattle.psg_grammar.specs.Regions.{unfinished_inside}
 use Rattle.psg_grammar.specs.Legal.{Entities, AreEntities}
 use Rattle.psg_grammar.specs.Open.{Choice, Holds, IsOpen, IsOfCellRow}
 use Rattle.psg_grammar.proofs.CaseLanguage.{ok, int, bool, hole_items, list_items, op_blk, op_let, op_ref, op_one, block, let_of, ref_to, one}
-use Rattle.psg_worked.proofs.CaseNeeds.{needing, op_need, need, x, entities_by, are_entities, int_type, bool_type, ok_row, cell_row, one_row, need_row, let_row, ref_row, only_row, needs_bool, use_is_name, let_is_value, one_is_int, int_no_bool, declares_int, needs_bool_there}
+use Rattle.psg_worked.proofs.CaseNeeds.{needing, op_need, need, x, entities_by, are_entities, int_type, bool_type, ok_row, cell_row, one_row, need_row, let_row, ref_row, int_no_bool, declares_int, needs_bool_there}
 
 -- the list `need x`, in a block, which ends so
 abbrev part : Bool → Fragment

@@ -12,8 +12,8 @@ use Rattle.psg_grammar.specs.Legal.{Entities, AreEntities}
 use Rattle.psg_grammar.specs.Open.{Choice, Holds}
 use Rattle.psg_grammar.specs.Relations.{IsPossible, IsRelationOf}
 use Rattle.psg_grammar.specs.Steps.{HasWeights, of_node, below_operator, below_ending, below_child, below_cell}
-use Rattle.psg_grammar.proofs.CaseLanguage.{sig, ok, bool, constant, row_of, list_items, op_yes, yes}
-use Rattle.psg_worked.proofs.CaseNeeds.{needing, op_need, need, int_type, bool_type, grounding, terms_by, ok_sorted, ok_row, cell_row, yes_row, need_row, entities_by, are_entities, only_row}
+use Rattle.psg_grammar.proofs.CaseLanguage.{sig, ok, bool, row_of, list_items, op_yes, yes}
+use Rattle.psg_worked.proofs.CaseNeeds.{needing, op_need, need, bool_type, grounding, terms_by, ok_sorted, ok_row, cell_row, yes_row, need_row, entities_by, are_entities, only_row}
 use Rattle.psg_worked.proofs.CaseOneRow.{one_row}
 
 abbrev bools : Entities

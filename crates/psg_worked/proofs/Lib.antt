@@ -3,6 +3,9 @@ pub mod CaseScopes
 pub mod CaseUnfinished
 pub mod CaseOneRow
 pub mod CaseKeyColumns
+pub mod CaseNoRelations
+pub mod CaseShown
+pub mod CaseCompletions
 pub mod CaseCulprits
 pub mod CaseListCulprit
 pub mod CaseWide
