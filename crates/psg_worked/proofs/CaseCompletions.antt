@@ -13,7 +13,7 @@ use Rattle.psg_worked.proofs.CaseNeeds.{needing, op_need, need, x, IsType, entit
 use Rattle.psg_worked.proofs.CaseScopes.{needs}
 use Rattle.psg_worked.proofs.CaseTokens.{starts}
 
--- `let x = one ; { need x .. }`, and the block with this behind its first element
+-- `let x = one ; { need x .. }`, where this list follows the block's first element
 abbrev tree : Fragment → Fragment
 tree rest = cell 0 (let_of x one) (cell 0 (block (cell 0 (need (ref_to x)) rest)) (ending 0 false))
 
@@ -21,7 +21,7 @@ tree rest = cell 0 (let_of x one) (cell 0 (block (cell 0 (need (ref_to x)) rest)
 abbrev more : Fragment
 more = cell 0 (let_of x yes) (ending 0 false)
 
--- ---- it fits behind the dots
+-- ---- it fits in place of the dots
 
 x_is_name : IsName needing x
 unfolding lib.Utf8.encode

@@ -32,9 +32,9 @@ bad_character : HasFault fixed (codes "x '") 0 (faults.BadChar 2)
 unfolding lib.Utf8.encode
 bad_character = later _ 0 _ _ token_x (blank 32 _ 1 _ refl (here _ 2 _ (no_token 39 [] 2 apostrophe)))
 
--- a question mark without a word behind it
-no_word_behind : HasFault fixed (codes "?7") 0 (faults.BadChar 0)
-no_word_behind = here _ 0 _ (no_hole (codes "7") 0 (starts 55 (lit< tt)))
+-- a question mark that no word follows
+no_word_after : HasFault fixed (codes "?7") 0 (faults.BadChar 0)
+no_word_after = here _ 0 _ (no_hole (codes "7") 0 (starts 55 (lit< tt)))
 
 -- ---- runs
 

@@ -55,57 +55,57 @@ comma_follows = by_separator 0 list_all refl refl refl
 round_follows : Follow sums (kinds.Phylum 0) close_bracket
 round_follows = by_bracket _ refl refl refl
 
--- ---- `+` does not: it stands behind the first slot of a sum alone, and the last one is of the sum's own phylum
+-- ---- `+` does not follow: it follows the first slot of a sum alone, which does not count, and the last slot is of the sum's own phylum
 
--- where the slots stand that are not first
+-- the slots that are not the first item of their operator, with the items after them
 Places : Operator → Kind → List Item → Type 0
-Places o kind behind = ((o ≡ op_sum) × (kind ≡ kinds.Phylum 0) × (behind ≡ [])) ⊎ ((o ≡ op_all) × (behind ≡ items.Word (codes "]") ∷ []))
+Places o kind after = ((o ≡ op_sum) × (kind ≡ kinds.Phylum 0) × (after ≡ [])) ⊎ ((o ≡ op_all) × (after ≡ items.Word (codes "]") ∷ []))
 
 cons_apart : (x : Item) (xs front : List Item) → [] ≡ front ++ x ∷ xs → ⊥
 cons_apart x xs [] e = cc
 cons_apart x xs (y ∷ front) e = cc
 
--- a slot among these items, behind the first one
-in_sum : (kind : Kind) (behind front : List Item) → items.Word (codes "+") ∷ items.Slot (kinds.Phylum 0) ∷ [] ≡ front ++ items.Slot kind ∷ behind → (kind ≡ kinds.Phylum 0) × (behind ≡ [])
-in_sum kind behind [] e = absurd (cc)
-in_sum kind behind (x ∷ []) e = (cc, cc)
-in_sum kind behind (x ∷ y ∷ front) e = absurd (cons_apart (items.Slot kind) behind front (cc))
+-- which slot there is after the first item
+in_sum : (kind : Kind) (after front : List Item) → items.Word (codes "+") ∷ items.Slot (kinds.Phylum 0) ∷ [] ≡ front ++ items.Slot kind ∷ after → (kind ≡ kinds.Phylum 0) × (after ≡ [])
+in_sum kind after [] e = absurd (cc)
+in_sum kind after (x ∷ []) e = (cc, cc)
+in_sum kind after (x ∷ y ∷ front) e = absurd (cons_apart (items.Slot kind) after front (cc))
 
-in_all : (kind : Kind) (behind front : List Item) → items.Slot (kinds.List 0) ∷ items.Word (codes "]") ∷ [] ≡ front ++ items.Slot kind ∷ behind → behind ≡ items.Word (codes "]") ∷ []
-in_all kind behind [] e = cc
-in_all kind behind (x ∷ []) e = absurd (cc)
-in_all kind behind (x ∷ y ∷ front) e = absurd (cons_apart (items.Slot kind) behind front (cc))
+in_all : (kind : Kind) (after front : List Item) → items.Slot (kinds.List 0) ∷ items.Word (codes "]") ∷ [] ≡ front ++ items.Slot kind ∷ after → after ≡ items.Word (codes "]") ∷ []
+in_all kind after [] e = cc
+in_all kind after (x ∷ []) e = absurd (cc)
+in_all kind after (x ∷ y ∷ front) e = absurd (cons_apart (items.Slot kind) after front (cc))
 
-places : (n : ℕ) (kind : Kind) (behind : List Item) (place : Inside sums n kind behind) → Places place.o kind behind
+places : (n : ℕ) (kind : Kind) (after : List Item) (place : Inside sums n kind after) → Places place.o kind after
 unfolding Places
-places zero kind behind place =
+places zero kind after place =
     let same : place.o ≡ op_number = let f : Some op_number ≡ Some place.o = place.found in cc in
-    let all : items.Number ∷ [] ≡ place.first ∷ (place.front ++ items.Slot kind ∷ behind) = subst (λ (o : Operator). solid o.items ≡ place.first ∷ (place.front ++ items.Slot kind ∷ behind)) same place.items in
-    absurd (cons_apart (items.Slot kind) behind place.front (cc))
-places (suc zero) kind behind place =
+    let all : items.Number ∷ [] ≡ place.first ∷ (place.front ++ items.Slot kind ∷ after) = subst (λ (o : Operator). solid o.items ≡ place.first ∷ (place.front ++ items.Slot kind ∷ after)) same place.items in
+    absurd (cons_apart (items.Slot kind) after place.front (cc))
+places (suc zero) kind after place =
     let same : place.o ≡ op_sum = let f : Some op_sum ≡ Some place.o = place.found in cc in
-    let all : solid op_sum.items ≡ place.first ∷ (place.front ++ items.Slot kind ∷ behind) = subst (λ (o : Operator). solid o.items ≡ place.first ∷ (place.front ++ items.Slot kind ∷ behind)) same place.items in
-    let (k, b) = in_sum kind behind place.front (cc) in
+    let all : solid op_sum.items ≡ place.first ∷ (place.front ++ items.Slot kind ∷ after) = subst (λ (o : Operator). solid o.items ≡ place.first ∷ (place.front ++ items.Slot kind ∷ after)) same place.items in
+    let (k, b) = in_sum kind after place.front (cc) in
     inl (same, k, b)
-places (suc (suc zero)) kind behind place =
+places (suc (suc zero)) kind after place =
     let same : place.o ≡ op_all = let f : Some op_all ≡ Some place.o = place.found in cc in
-    let all : solid op_all.items ≡ place.first ∷ (place.front ++ items.Slot kind ∷ behind) = subst (λ (o : Operator). solid o.items ≡ place.first ∷ (place.front ++ items.Slot kind ∷ behind)) same place.items in
-    inr (same, in_all kind behind place.front (cc))
-places (suc (suc (suc n))) kind behind place = absurd (none-some place.o place.found)
+    let all : solid op_all.items ≡ place.first ∷ (place.front ++ items.Slot kind ∷ after) = subst (λ (o : Operator). solid o.items ≡ place.first ∷ (place.front ++ items.Slot kind ∷ after)) same place.items in
+    inr (same, in_all kind after place.front (cc))
+places (suc (suc (suc n))) kind after place = absurd (none-some place.o place.found)
 
--- such a slot has the closing bracket behind it, or is the sum's own last one
-no_open_end : (o : Operator) (kind : Kind) (behind : List Item) → Places o kind behind → CanBeEmpty behind → is_own_last o kind behind ≡ false → ⊥
+-- such a slot has the closing bracket after it, or is the sum's own last one
+no_open_end : (o : Operator) (kind : Kind) (after : List Item) → Places o kind after → CanBeEmpty after → is_own_last o kind after ≡ false → ⊥
 unfolding Places
-no_open_end o kind behind (inl (same, k, b)) empty own =
-    let one : is_own_last op_sum kind behind ≡ false = subst (λ (p : Operator). is_own_last p kind behind ≡ false) same own in
-    let two : is_own_last op_sum (kinds.Phylum 0) behind ≡ false = subst (λ p. is_own_last op_sum p behind ≡ false) k one in
+no_open_end o kind after (inl (same, k, b)) empty own =
+    let one : is_own_last op_sum kind after ≡ false = subst (λ (p : Operator). is_own_last p kind after ≡ false) same own in
+    let two : is_own_last op_sum (kinds.Phylum 0) after ≡ false = subst (λ p. is_own_last op_sum p after ≡ false) k one in
     true≢false (subst (λ p. is_own_last op_sum (kinds.Phylum 0) p ≡ false) b two)
-no_open_end o kind behind (inr (same, b)) empty own = subst CanBeEmpty b empty
+no_open_end o kind after (inr (same, b)) empty own = subst CanBeEmpty b empty
 
-behind_begins : (o : Operator) (kind : Kind) (behind : List Item) (terminal : Terminal) → Places o kind behind → BeginsWith sums behind terminal → terminal ≡ fixed (codes "]")
+begins_after : (o : Operator) (kind : Kind) (after : List Item) (terminal : Terminal) → Places o kind after → BeginsWith sums after terminal → terminal ≡ fixed (codes "]")
 unfolding Places
-behind_begins o kind behind terminal (inl (same, k, b)) begins = absurd (subst (λ p. BeginsWith sums p terminal) b begins)
-behind_begins o kind behind terminal (inr (same, b)) begins = let e : Some (fixed (codes "]")) ≡ Some terminal = subst (λ p. BeginsWith sums p terminal) b begins in cc
+begins_after o kind after terminal (inl (same, k, b)) begins = absurd (subst (λ p. BeginsWith sums p terminal) b begins)
+begins_after o kind after terminal (inr (same, b)) begins = let e : Some (fixed (codes "]")) ≡ Some terminal = subst (λ p. BeginsWith sums p terminal) b begins in cc
 
 words_apart : (w v : Name) (t : Terminal) → t ≡ fixed w → t ≡ fixed v → w ≡ v
 words_apart w v t a b = let e : fixed w ≡ fixed v = sym a ∙ b in cc
@@ -123,11 +123,11 @@ separator_is : (l : ℕ) (kind : ListKind) → slice_get sums.lists l ≡ Some k
 separator_is zero kind found = let same : kind ≡ list_all = let f : Some list_all ≡ Some kind = found in cc in ap (λ (k : ListKind). k.separator) same
 separator_is (suc l) kind found = absurd (none-some kind found)
 
--- Behind expressions and lists these three may stand, and nothing else.
+-- These three may follow an expression or a list, and nothing else.
 only_these : {kind : Kind} {terminal : Terminal} → Follow sums kind terminal → (terminal ≡ fixed (codes "]")) ⊎ ((terminal ≡ fixed (codes ",")) ⊎ (terminal ≡ close_bracket))
-only_these (by_rest n behind place begins) = inl (behind_begins place.o _ behind _ (places n _ behind place) begins)
-only_these (by_end n behind place empty own rest) = only_these rest
-only_these (by_led n behind place empty own m led) = absurd (no_open_end place.o _ behind (places n _ behind place) empty own)
+only_these (by_rest n after place begins) = inl (begins_after place.o _ after _ (places n _ after place) begins)
+only_these (by_end n after place empty own rest) = only_these rest
+only_these (by_led n after place empty own m led) = absurd (no_open_end place.o _ after (places n _ after place) empty own)
 only_these (by_separator l kind found element is) = inr (inl (is ∙ ap fixed (separator_is l kind found)))
 only_these (by_list l kind found element rest) = only_these rest
 only_these (by_bracket phylum found may is) = inr (inr is)

@@ -211,8 +211,8 @@ last_of_scope = closing 2 (outside_row ∷ []) refl refl outside_relation
 
 -- ---- without a scope there is no such step
 
-no_step_behind_use : (rows : List (List Term)) → IsStepRelation spaces (ref_to x) 1 rows → ⊥
-no_step_behind_use rows h = behind 1 rows h refl where
-  behind : (n : ℕ) (rows : List (List Term)) → IsStepRelation spaces (ref_to x) n rows → n ≡ 1 → ⊥
-  behind n rows (adding m r few rel) e = absurd (omega arith)
-  behind n rows (closing m r is scope rel) e = true≢false (sym scope)
+no_step_after_use : (rows : List (List Term)) → IsStepRelation spaces (ref_to x) 1 rows → ⊥
+no_step_after_use rows h = after 1 rows h refl where
+  after : (n : ℕ) (rows : List (List Term)) → IsStepRelation spaces (ref_to x) n rows → n ≡ 1 → ⊥
+  after n rows (adding m r few rel) e = absurd (omega arith)
+  after n rows (closing m r is scope rel) e = true≢false (sym scope)

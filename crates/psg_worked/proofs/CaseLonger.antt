@@ -48,7 +48,7 @@ by_no_shorter : Fills needing list finished → ⊥
 by_no_shorter (e, r, is, element, rest) = cc
 
 by_no_shorter_two : Fills needing (first (second unfinished)) (first finished) → ⊥
-by_no_shorter_two (e, r, is, element, (e2, r2, is2, element2, rest)) = let behind : finished ≡ r = cc in let more : finished ≡ cell 0 e2 r2 = cc in cc
+by_no_shorter_two (e, r, is, element, (e2, r2, is2, element2, rest)) = let after : finished ≡ r = cc in let more : finished ≡ cell 0 e2 r2 = cc in cc
 
 -- by none that is unfinished itself
 by_no_unfinished : Fills needing list (first (second unfinished)) → ⊥

@@ -142,7 +142,7 @@ use_is_name row v u same h =
     let f : v ≡ h.terms 1 1 = h.head ∙ ap (λ (r : Row). substitute h.terms r.head) same in
     cc
 
--- a declared value is what stands behind it
+-- a declared value is that of its expression
 pub let_is_value : (row : Row) (v u w : Term) → row ≡ row_of ok (variable 1 1 ∷ variable 1 1 ∷ []) → IsOfRow sig row v (u ∷ w ∷ []) → u ≡ w
 let_is_value row v u w same h = let e : u ∷ w ∷ [] ≡ h.terms 1 1 ∷ h.terms 1 1 ∷ [] = h.rest ∙ ap (λ (r : Row). map (substitute h.terms) r.columns) same in cc
 

@@ -1,4 +1,4 @@
--- The text spells its lines: what stands between the parts, what is skipped, which line a row stands behind.
+-- The text spells its lines: the spaces between the parts, what is skipped, where a row may be.
 use Rattle.std.proofs.Common.{◌≡◌, ◌≤◌, ℕ, true, false, List, [], ◌∷◌, codes, Some, refl, sym, ap, ◌∙◌, subst, true≢false, nat_eq, length, drop, get_or, replicate, zero, suc, ◌&&◌, ◌++◌, lit<, lit≤}
 use Rattle.std.specs.Prelude.{IsUtf8, chars, encode_utf8_all}
 use Rattle.std.specs.Str.Lines.{lines as lines_in}
@@ -130,7 +130,7 @@ hole_spelled = record {
 no_comment : (c : ℕ) → nat_eq c 35 ≡ false → c ≡ 35 → ⊥
 no_comment c other e = true≢false (sym (ap (λ d. nat_eq d 35) e) ∙ other)
 
--- The rows stand behind an operator; a comment and an empty line have no line.
+-- Each row has an operator above it; a comment and an empty line are no lines.
 each_entry : AreEntries [] (comment_text ∷ sort_text ∷ [] ∷ phylum_text ∷ list_text ∷ one_text ∷ one_row_text ∷ box_text ∷ box_row_text ∷ nil_text ∷ cell_text ∷ hole_text ∷ []) entries
 each_entry = (
   refl,
@@ -186,13 +186,13 @@ no_space (zero, rest, is, apart, written) =
     true≢false (subst (λ (r : List ℕ). (ends_word (codes "row") && begins_word r) ≡ false) (sym rest_is) apart)
 no_space (suc n, rest, is, apart, written) = true≢false (ap (λ (t : List ℕ). begins_word (drop 3 t)) is)
 
--- spaces stand between parts alone
+-- there are spaces between parts alone, none after the last one
 ends_spaces : (c n : ℕ) → ends_word (c ∷ (replicate n 32 ++ codes "int")) ≡ true
 ends_spaces c zero = refl
 ends_spaces c (suc n) = ends_spaces 32 n
 
-no_space_behind : IsWritten (codes "row" ∷ codes "int" ∷ []) (codes "row int ") → ⊥
-no_space_behind (n, rest, is, apart, written) =
+no_space_after : IsWritten (codes "row" ∷ codes "int" ∷ []) (codes "row int ") → ⊥
+no_space_after (n, rest, is, apart, written) =
     let whole : codes "row int " ≡ codes "row" ++ (replicate n 32 ++ codes "int") = is ∙ ap (λ (r : List ℕ). codes "row" ++ (replicate n 32 ++ r)) written in
     true≢false (sym (ends_spaces 119 n) ∙ ap ends_word (sym whole))
 

@@ -36,7 +36,7 @@ no_first_two row e h =
 
 no_swapped : IsNumbered (written entries) swapped → ⊥
 no_swapped h =
-    let (l, rest, is, list, behind) = h.lists in
+    let (l, rest, is, list, after) = h.lists in
     let same : l ≡ swapped_list = cc in
     elim list.cells [
       | inl (named, row, more, rows, of_row, others) ↦ no_first_two row (let first : row ∷ more ≡ swapped_row ∷ [] = sym rows ∙ ap (λ (k : ListKind). k.cell_rows) same in cc) of_row.naming.first

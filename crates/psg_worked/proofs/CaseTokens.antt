@@ -151,8 +151,8 @@ equals_begin front rest t e (text cs w r of_text all n) = true≢false (sym (oth
 equals_begin front rest t e (solo c r s) = true≢false (sym s ∙ other_first 61 c is_solo false _ _ e refl)
 equals_begin front rest t e (symbol [] r run among n) = true≢false (sym run.begins)
 equals_begin front rest t e (symbol (c ∷ []) r run among n) =
-    let behind : 61 ∷ [] ≡ r = cc in
-    true≢false (subst (λ s. begins_by is_symbol s ≡ false) (sym behind) run.ends)
+    let after : 61 ∷ [] ≡ r = cc in
+    true≢false (subst (λ s. begins_by is_symbol s ≡ false) (sym after) run.ends)
 equals_begin front rest t e (symbol (c ∷ d ∷ []) r run among n) =
     let run_is : c ∷ d ∷ [] ≡ codes "==" = cc in
     true≢false (sym (subst (λ s. IsTrue (is_among fixed (encode_utf8_all s))) run_is among))
@@ -167,14 +167,14 @@ equals_has_none ts h = none (codes "==") 0 ts refl h where
   none all at ts e (blank c cs k us b h) = true≢false (sym b ∙ other_first 61 c is_blank false _ _ e refl)
   none all at ts e (next cs k s us begins h) = equals_begin begins.front begins.rest s.token (e ∙ begins.whole) begins.token
 
--- behind the digits of a number stands no letter
+-- `7x`: no letter follows the digits of a number
 seven_begin : (front rest : Chars) (t : Token) → codes "7x" ≡ front ++ rest → IsToken fixed front rest t → ⊥
 seven_begin front rest t e (word [] r w b n) = w
 seven_begin front rest t e (word (c ∷ cs) r w b n) = true≢false (sym w.0 ∙ other_first 55 c starts_word false _ _ e (starts 55 (lit< tt)))
 seven_begin front rest t e (number [] r run b n) = true≢false (sym run.begins)
 seven_begin front rest t e (number (c ∷ []) r run b n) =
-    let behind : 120 ∷ [] ≡ r = cc in
-    true≢false (sym (goes_on 120 (lit< tt)) ∙ subst (λ s. begins_by goes_on_word s ≡ false) (sym behind) b)
+    let after : 120 ∷ [] ≡ r = cc in
+    true≢false (sym (goes_on 120 (lit< tt)) ∙ subst (λ s. begins_by goes_on_word s ≡ false) (sym after) b)
 seven_begin front rest t e (number (c ∷ d ∷ cs) r run b n) = let second : 120 ≡ d = cc in true≢false (sym run.all.1.0 ∙ subst (λ x. is_digit x ≡ false) second refl)
 seven_begin front rest t e (text cs w r of_text all n) = true≢false (sym (other_first 55 34 is_digit true _ _ e refl))
 seven_begin front rest t e (solo c r s) = true≢false (sym s ∙ other_first 55 c is_solo false _ _ e refl)

@@ -40,7 +40,7 @@ bracketed_yields level = in_brackets _ open_round close_round refl refl refl ref
 right_yields : Yields sums (sum_of (the 1) (sum_of (the 2) (the 3))) (kinds.Phylum 0) 1 1 (numeral 1 ∷ add ∷ open_round ∷ numeral 2 ∷ add ∷ numeral 3 ∷ close_round ∷ [])
 right_yields = sum_parts (the 1) (sum_of (the 2) (the 3)) 0 1 (numeral 1 ∷ []) (open_round ∷ numeral 2 ∷ add ∷ numeral 3 ∷ close_round ∷ []) (number_yields 1 1 (lit≤ tt)) (bracketed_yields 2)
 
--- parts leave the operator that they stand behind
+-- an operator stays the same, whatever parts it gets
 same_top : {o : Operator} {first : Bool} {f g : Fragment} {d e : ℕ} {more : List Item} {ts : List Token} → PartsYield sums o first f d more g e ts → top_operator g ≡ top_operator f
 same_top no_items = refl
 same_top (of_word t is rest) = same_top rest
@@ -48,8 +48,8 @@ same_top (of_refers s x is rest) = same_top rest
 same_top (of_declares s x is rest) = same_top rest
 same_top (of_number x rest) = same_top rest
 same_top (of_text x rest) = same_top rest
-same_top (of_slot t depth own behind tree rest) = same_top rest
-same_top (of_list_slot t depth own behind tree rest) = same_top rest
+same_top (of_slot t depth own after tree rest) = same_top rest
+same_top (of_list_slot t depth own after tree rest) = same_top rest
 
 -- a sum is no right part of a sum without brackets
 no_right_sum : (a b f : Fragment) (depth : ℕ) (ts : List Token) → f ≡ sum_of a b → depth ≡ 0 → TreeYields sums f 0 2 depth ts → ⊥
@@ -83,11 +83,11 @@ two_and_more : Yields sums (cell 0 (the 1) (cell 0 (the 2) (ending 0 true))) (ki
 two_and_more = elements (and_elements list_all 0 0 (numeral 1 ∷ []) (numeral 2 ∷ comma ∷ dots ∷ []) comma refl refl (number_yields 1 0 (lit≤ tt))
     (and_more (numeral 2 ∷ []) list_all comma refl refl refl (number_yields 2 0 (lit≤ tt))))
 
--- a list that is not unfinished yields no dots behind its last element
+-- a finished list without elements yields no tokens, so no dots
 some_not_empty : {f : Fragment} {l depth : ℕ} {ts : List Token} → SomeYield sums f l depth ts → (u : Bool) → f ≡ ending l u → ⊥
 some_not_empty (last_element kind found tree) u e = cc
 some_not_empty (and_more ts kind separator found may is tree) u e = cc
-some_not_empty (and_elements kind m n own behind separator found is tree rest) u e = cc
+some_not_empty (and_elements kind m n own after separator found is tree rest) u e = cc
 
 no_dots_of_finished : (f : Fragment) (depth : ℕ) (ts : List Token) → f ≡ ending 0 false → ListYields sums f 0 depth ts → ts ≡ []
 no_dots_of_finished f depth ts e (no_elements kind found) = refl
