@@ -21,3 +21,4 @@ pub mod CaseFile
 pub mod CaseSpelled
 pub mod CaseNumbered
 pub mod CaseSpells
+pub mod CaseMixedSorts
