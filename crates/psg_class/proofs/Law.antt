@@ -9,7 +9,7 @@ use Rattle.psg_class.specs.Class.{IsClass}
 use Rattle.psg_class.proofs.ClassFacts.{ClassFacts, facts}
 use Rattle.psg_class.specs.Yields.{TreeYields, ListYields}
 use Rattle.psg_class.specs.Only.{HasOnlyTrees}
-use Rattle.psg_class.proofs.Runs.{Run, start, list}
+use Rattle.psg_class.specs.Runs.{Run, start, list}
 use Rattle.psg_class.proofs.Reading.{Follows, read_tree, tree_runs, list_run}
 use Rattle.psg_class.proofs.Sameness.{same}
 

@@ -20,7 +20,6 @@ pub mod Tables
 pub mod Closing
 pub mod ClassFacts
 pub mod LevelLaws
-pub mod Runs
 pub mod Beginnings
 pub mod Reading
 pub mod Sameness

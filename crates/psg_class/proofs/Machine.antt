@@ -1,4 +1,4 @@
--- The parser with a stack of its own: what is left to do, and that each step keeps the results.
+-- Each step of the parser with a stack of its own keeps the results.
 use Rattle.std.proofs.Common.{◌≡◌, ◌↔◌, arith, ℕ, suc, max, ◌<◌, ◌≤◌, Bool, true, false, List, [], ◌∷◌, ◌++◌, Option, Some, None, slice_get, refl, sym, ap, ◌∙◌, subst, append-nil}
 use Rattle.psg_grammar.specs.declared.types.Kind.TheVariants as kinds
 use Rattle.psg_grammar.specs.declared.types.Item.{Item}
@@ -18,33 +18,11 @@ use Rattle.psg_class.specs.Places.{slot_level}
 use Rattle.psg_class.specs.Follow.{Leads, Led, First, FirstOfList, first_element, first_more}
 use Rattle.psg_class.proofs.ClassFacts.{ClassFacts}
 use Rattle.psg_class.specs.Yields.{Yields}
-use Rattle.psg_class.proofs.Runs.{Reaches, Task, start, grow, parts, list, some_list, Stops, Run, run_hole, run_bracket, run_leading, run_stop, run_led, run_end, run_word, run_refers, run_declares, run_number, run_text, run_slot, run_list_slot, run_none, run_only_more, run_some, run_last, run_more, run_next}
+use Rattle.psg_class.specs.Machine.{Frame, then_grow, then_parts, then_close, then_list, behind_all, taken, Tail, tail_end, tail_more, tail_next, Ends, Completes}
+use Rattle.psg_class.specs.Runs.{Reaches, Task, start, grow, parts, list, some_list, Stops, Run, run_hole, run_bracket, run_leading, run_stop, run_led, run_end, run_word, run_refers, run_declares, run_number, run_text, run_slot, run_list_slot, run_none, run_only_more, run_some, run_last, run_more, run_next}
 use Rattle.psg_class.proofs.Sameness.{same, leads_at, leads_same, led_same, no_item, kind_same, list_begins, start_begins, no_dots, no_more_first, carry, task_leads, task_led, task_grow}
 use Rattle.psg_class.proofs.Soundness.{sound}
 use Rattle.psg_class.proofs.Law.{tree_is_read, list_is_read}
-
--- what waits for a tree that is being read
-pub data Frame : Type 0 where
-  -- an operator's tree is finished, and led operators may go on
-  then_grow : (p least : ℕ) (level : Option ℕ) → Frame
-  -- the child of an operator's tree
-  then_parts : (o : Operator) (f : Fragment) (depth : ℕ) (more : List Item) → Frame
-  then_close : Frame
-  -- an element of a list, behind other elements, the last one first
-  then_list : (l : ℕ) (before : List Fragment) (depth : ℕ) → Frame
-
--- the list with these elements in front
-abbrev pub behind_all : ℕ → List Fragment → Fragment → Fragment
-behind_all l [] r = r
-behind_all l (e ∷ before) r = behind_all l before (cell l e r)
-
--- the tree with the part that the item takes of the token
-abbrev pub taken : Item → Token → Fragment → Fragment
-taken (items.Refers space) (word x) f = with_name f x
-taken (items.Declares space) (word x) f = with_name f x
-taken items.Number (numeral x) f = with_number f x
-taken items.Text (quoted x) f = with_text f x
-taken _ _ f = f
 
 no_number : (a b : Bool) (x : List ℕ) → Some a_number ≡ Some (word_terminal x a b) → ⊥
 no_number true true x h = cc
@@ -67,24 +45,6 @@ number_or_fixed false x h = cc
 text_or_fixed : (b : Bool) (x : List ℕ) → Some a_text ≡ Some (fixed_if b x) → ⊥
 text_or_fixed true x h = cc
 text_or_fixed false x h = cc
-
-module _ (def : Definition) where
-  -- the rest of a list behind an element
-  pub data Tail (l : ℕ) : List Token → Fragment → ℕ → List Token → Type 0 where
-    tail_end : {ts : List Token} (kind : ListKind) → slice_get def.lists l ≡ Some kind → (next_terminal def ts ≡ Some (fixed kind.separator) → ⊥) → Tail l ts (ending l false) 0 ts
-    tail_more : {ts : List Token} (kind : ListKind) (t : Token) → slice_get def.lists l ≡ Some kind → kind.unfinished ≡ true → terminal_of def t ≡ fixed kind.separator → Tail l (t ∷ dots ∷ ts) (ending l true) 0 ts
-    tail_next : {r : Fragment} {n : ℕ} {ts s : List Token} (kind : ListKind) (t : Token) → slice_get def.lists l ≡ Some kind → terminal_of def t ≡ fixed kind.separator → Run def (some_list l) ts r n s → Tail l (t ∷ ts) r n s
-
-  -- Ends stack f d ts F D: given f, with the nesting d, the stack reads all of ts and gives F, with the nesting D.
-  abbrev pub Ends : List Frame → Fragment → ℕ → List Token → Fragment → ℕ → Type 0
-  Ends [] f d ts F D = (ts ≡ []) × (F ≡ f) × (D ≡ d)
-  Ends (then_grow p m level ∷ st) f d ts F D = (g : Fragment) × (e : ℕ) × (s : List Token) × Run def (grow p m f d level) ts g e s × Ends st g e s F D
-  Ends (then_parts o f0 d0 more ∷ st) t dt ts F D = (g : Fragment) × (e : ℕ) × (s : List Token) × Run def (parts o false (with_child f0 t) (max d0 dt) more) ts g e s × Ends st g e s F D
-  Ends (then_close ∷ st) f d ts F D = (u : Token) × (s : List Token) × (ts ≡ u ∷ s) × (terminal_of def u ≡ close_bracket) × Ends st f (suc d) s F D
-  Ends (then_list l before d0 ∷ st) e d ts F D = (r : Fragment) × (n : ℕ) × (s : List Token) × Tail l ts r n s × Ends st (behind_all l before (cell l e r)) (max d0 (max d n)) s F D
-
-  abbrev pub Completes : Task → List Frame → List Token → Fragment → ℕ → Type 0
-  Completes task st ts F D = (g : Fragment) × (e : ℕ) × (s : List Token) × Run def task ts g e s × Ends st g e s F D
 
 max_right : (a : ℕ) → a ≡ max a 0
 max_right a = omega arith

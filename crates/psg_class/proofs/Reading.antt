@@ -17,7 +17,7 @@ use Rattle.psg_class.specs.Follow.{Leads, Led, FirstOfList, Inside, Follow, by_r
 use Rattle.psg_class.proofs.ClassFacts.{TokenFirst, OwnFirst, OwnLast, ClassFacts}
 use Rattle.psg_class.specs.Yields.{TreeYields, of_hole, of_operator, in_brackets, PartsYield, no_items, of_word, of_refers, of_declares, of_number, of_text, of_slot, of_list_slot, ListYields, no_elements, only_more, elements, SomeYield, last_element, and_more, and_elements}
 use Rattle.psg_class.proofs.LevelLaws.{led_first, no_token, clash, first_slot, LastSlot, last_slot, last_at_least}
-use Rattle.psg_class.proofs.Runs.{Reaches, start, grow, parts, list, some_list, Stops, Run, run_hole, run_bracket, run_leading, run_stop, run_led, run_end, run_word, run_refers, run_declares, run_number, run_text, run_slot, run_list_slot, run_none, run_only_more, run_some, run_last, run_more, run_next}
+use Rattle.psg_class.specs.Runs.{Reaches, start, grow, parts, list, some_list, Stops, Run, run_hole, run_bracket, run_leading, run_stop, run_led, run_end, run_word, run_refers, run_declares, run_number, run_text, run_slot, run_list_slot, run_none, run_only_more, run_some, run_last, run_more, run_next}
 use Rattle.psg_class.proofs.Beginnings.{Head, head_of, goes_parts}
 
 below : (m n : ℕ) (level : Option ℕ) → m ≤ n → Reaches n level → Reaches m level

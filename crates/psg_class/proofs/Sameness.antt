@@ -11,7 +11,7 @@ use Rattle.psg_grammar.specs.Levels.{level_number}
 use Rattle.psg_class.specs.Places.{solid}
 use Rattle.psg_class.specs.Follow.{Leads, Led, First, first_operator, first_hole, first_bracket, FirstOfList, first_element, first_more}
 use Rattle.psg_class.proofs.ClassFacts.{ClassFacts}
-use Rattle.psg_class.proofs.Runs.{Task, start, grow, parts, some_list, Run, run_hole, run_bracket, run_leading, run_stop, run_led, run_end, run_word, run_refers, run_declares, run_number, run_text, run_slot, run_list_slot, run_none, run_only_more, run_some, run_last, run_more, run_next}
+use Rattle.psg_class.specs.Runs.{Task, start, grow, parts, some_list, Run, run_hole, run_bracket, run_leading, run_stop, run_led, run_end, run_word, run_refers, run_declares, run_number, run_text, run_slot, run_list_slot, run_none, run_only_more, run_some, run_last, run_more, run_next}
 
 pub record Same (g g' : Fragment) (d d' : ℕ) (s s' : List Token) : Type 0 where
   pub tree : g ≡ g'

@@ -11,7 +11,7 @@ use Rattle.psg_class.specs.Follow.{Leads, Led}
 use Rattle.psg_class.proofs.ClassFacts.{ClassFacts}
 use Rattle.psg_class.specs.Yields.{TreeYields, of_hole, of_operator, in_brackets, PartsYield, no_items, of_word, of_refers, of_declares, of_number, of_text, of_slot, of_list_slot, ListYields, no_elements, only_more, elements, SomeYield, last_element, and_more, and_elements}
 use Rattle.psg_class.proofs.LevelLaws.{not_both, first_slot}
-use Rattle.psg_class.proofs.Runs.{Reaches, Task, start, grow, parts, list, some_list, Run, run_hole, run_bracket, run_leading, run_stop, run_led, run_end, run_word, run_refers, run_declares, run_number, run_text, run_slot, run_list_slot, run_none, run_only_more, run_some, run_last, run_more, run_next}
+use Rattle.psg_class.specs.Runs.{Reaches, Task, start, grow, parts, list, some_list, Run, run_hole, run_bracket, run_leading, run_stop, run_led, run_end, run_word, run_refers, run_declares, run_number, run_text, run_slot, run_list_slot, run_none, run_only_more, run_some, run_last, run_more, run_next}
 
 module _ (def : Definition) (c : ClassFacts def) where
   -- the tokens read, in front of the rest

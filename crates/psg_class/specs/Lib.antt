@@ -12,3 +12,5 @@ pub mod Shapes
 pub mod Forms
 pub mod Sources
 pub mod Failing
+pub mod Runs
+pub mod Machine

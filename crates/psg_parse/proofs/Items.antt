@@ -11,8 +11,9 @@ use Rattle.psg_class.specs.Terminals.{Token, Terminal, terminal_of, item_termina
 use Rattle.psg_class.specs.Places.{slot_level, solid}
 use Rattle.psg_class.specs.Class.{IsClass}
 use Rattle.psg_class.proofs.ClassFacts.{facts}
-use Rattle.psg_class.proofs.Runs.{start, list, parts}
-use Rattle.psg_class.proofs.Machine.{Frame, then_parts, Ends, Completes, taken, step_end, step_slot, step_list_slot, step_item, step_mismatch}
+use Rattle.psg_class.specs.Runs.{start, list, parts}
+use Rattle.psg_class.specs.Machine.{Frame, then_parts, Ends, Completes, taken}
+use Rattle.psg_class.proofs.Machine.{step_end, step_slot, step_list_slot, step_item, step_mismatch}
 use Rattle.psg_parse.specs.Lookups.{IsBare}
 
 -- a bare row of items begins with a solid one

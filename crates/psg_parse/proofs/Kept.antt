@@ -8,7 +8,7 @@ use Rattle.psg_tree.specs.Shapes.{with_part, with_parts, list_of}
 use Rattle.psg_tree.specs.declared.tree.Part.{Part}
 use Rattle.psg_tree.specs.declared.tree.Part.TheVariants as each
 use Rattle.psg_class.specs.Terminals.{Token, word, numeral, quoted, solo, symbols, placeholder, dots}
-use Rattle.psg_class.proofs.Machine.{behind_all, taken}
+use Rattle.psg_class.specs.Machine.{behind_all, taken}
 use Rattle.psg_parse.specs.Standing.{IsPast, IsKept, AreKept, ElementsKept, with_some, reversed, deepest}
 
 -- ---- depths

@@ -11,8 +11,9 @@ use Rattle.psg_class.specs.Terminals.{Token, word, numeral, quoted, solo, symbol
 use Rattle.psg_class.specs.Follow.{First, FirstOfList, first_element, first_more}
 use Rattle.psg_class.specs.Class.{IsClass}
 use Rattle.psg_class.proofs.ClassFacts.{facts}
-use Rattle.psg_class.proofs.Runs.{start, list}
-use Rattle.psg_class.proofs.Machine.{Frame, then_list, Ends, Completes, step_none, step_only_more, step_first, step_some}
+use Rattle.psg_class.specs.Runs.{start, list}
+use Rattle.psg_class.specs.Machine.{Frame, then_list, Ends, Completes}
+use Rattle.psg_class.proofs.Machine.{step_none, step_only_more, step_first, step_some}
 use Rattle.psg_parse.specs.Answers.{tokens_of}
 
 more_word : (a b : Bool) (w : Name) → word_terminal w a b ≡ a_more → ⊥

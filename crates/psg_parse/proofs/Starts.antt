@@ -10,8 +10,9 @@ use Rattle.psg_class.specs.Places.{solid}
 use Rattle.psg_class.specs.Follow.{Leads, First}
 use Rattle.psg_class.specs.Class.{IsClass}
 use Rattle.psg_class.proofs.ClassFacts.{facts}
-use Rattle.psg_class.proofs.Runs.{start, grow, parts}
-use Rattle.psg_class.proofs.Machine.{Frame, then_grow, then_close, Completes, taken, step_hole, step_bracket, step_leading, step_no_start, step_low, step_item}
+use Rattle.psg_class.specs.Runs.{start, grow, parts}
+use Rattle.psg_class.specs.Machine.{Frame, then_grow, then_close, Completes, taken}
+use Rattle.psg_class.proofs.Machine.{step_hole, step_bracket, step_leading, step_no_start, step_low, step_item}
 use Rattle.psg_parse.specs.Tables.{OpensHole, OpensBracket}
 use Rattle.psg_parse.proofs.Opens.{hole_token}
 

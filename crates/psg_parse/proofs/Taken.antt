@@ -11,7 +11,8 @@ use Rattle.psg_class.specs.Class.{IsClass}
 use Rattle.psg_class.specs.Terminals.{Token}
 use Rattle.psg_class.specs.Yields.{Yields}
 use Rattle.psg_class.proofs.ClassFacts.{facts}
-use Rattle.psg_class.proofs.Machine.{Frame as Plain, begins_tree, begins_list}
+use Rattle.psg_class.specs.Machine.{Frame as Plain}
+use Rattle.psg_class.proofs.Machine.{begins_tree, begins_list}
 use Rattle.psg_parse.specs.declared.fault.Goal.{Goal}
 use Rattle.psg_parse.specs.declared.fault.ParseFault.{ParseFault}
 use Rattle.psg_parse.specs.declared.standing.Grown.{Grown}

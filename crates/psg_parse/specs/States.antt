@@ -5,8 +5,8 @@ use Rattle.psg_grammar.specs.declared.types.Definition.{Definition}
 use Rattle.psg_grammar.specs.Fragments.{Fragment}
 use Rattle.psg_lexis.specs.declared.token.Token.{Token}
 use Rattle.psg_class.specs.Places.{solid}
-use Rattle.psg_class.proofs.Runs.{Task, start, grow, parts, list}
-use Rattle.psg_class.proofs.Machine.{Frame as Plain, then_grow, then_parts, then_close, then_list, Ends, Completes}
+use Rattle.psg_class.specs.Runs.{Task, start, grow, parts, list}
+use Rattle.psg_class.specs.Machine.{Frame as Plain, then_grow, then_parts, then_close, then_list, Ends, Completes}
 use Rattle.psg_parse.specs.Answers.{tokens_of}
 use Rattle.psg_parse.specs.Standing.{IsTree, IsPartly, AreElements}
 use Rattle.psg_grammar.specs.declared.types.Kind.{Kind}

@@ -1,7 +1,7 @@
 //! Steps of the parser, whatever it has to do next.
 ghost use Rattle.std.specs.Prelude.{◌≡◌, List, IfOk, length};
 ghost use Rattle.psg_class.specs.Class.{IsClass};
-ghost use Rattle.psg_class.proofs.Machine.{Frame as Plain};
+ghost use Rattle.psg_class.specs.Machine.{Frame as Plain};
 ghost use Rattle.psg_parse.specs.Answers.{tokens_of};
 ghost use Rattle.psg_parse.specs.States.{Aim, IsState, Steps};
 ghost use Rattle.psg_parse.specs.Tables.{IsLookup};

@@ -3,7 +3,7 @@ ghost use Rattle.std.specs.Prelude.{◌≡◌, ℕ, List, IfOk, length};
 ghost use Rattle.psg_grammar.specs.Fragments.{Fragment};
 ghost use Rattle.psg_grammar.specs.WellFormed.{fixed_words};
 ghost use Rattle.psg_class.specs.Class.{IsClass};
-ghost use Rattle.psg_class.proofs.Machine.{Frame as Plain};
+ghost use Rattle.psg_class.specs.Machine.{Frame as Plain};
 ghost use Rattle.psg_parse.specs.Answers.{tokens_of};
 ghost use Rattle.psg_parse.specs.Standing.{IsTree};
 ghost use Rattle.psg_parse.specs.States.{giving, IsStack, Steps};

@@ -3,8 +3,8 @@ ghost use Rattle.std.specs.Prelude.{◌≡◌, ◌+◌, ℕ, List, IfOk, length}
 ghost use Rattle.psg_grammar.specs.Fragments.{Fragment};
 ghost use Rattle.psg_class.specs.Class.{IsClass};
 ghost use Rattle.psg_class.specs.Follow.{Led};
-ghost use Rattle.psg_class.proofs.Machine.{Frame as Plain};
-ghost use Rattle.psg_class.proofs.Runs.{grow as growing};
+ghost use Rattle.psg_class.specs.Machine.{Frame as Plain};
+ghost use Rattle.psg_class.specs.Runs.{grow as growing};
 ghost use Rattle.psg_parse.specs.Answers.{tokens_of};
 ghost use Rattle.psg_parse.specs.Lookups.{Finds};
 ghost use Rattle.psg_parse.specs.Seen.{terminal_seen};

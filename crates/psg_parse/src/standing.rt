@@ -4,7 +4,7 @@
 //! parser goes on in constant work for each token and with no more memory than its stack takes.
 ghost use Rattle.std.specs.Prelude.{◌≡◌, ◌+◌, ◌∷◌, [], ℕ, List, IfOk, max, min, suc};
 ghost use Rattle.psg_grammar.specs.Fragments.{Fragment, ending, hole, operator, with_child};
-ghost use Rattle.psg_class.proofs.Machine.{behind_all, taken};
+ghost use Rattle.psg_class.specs.Machine.{behind_all, taken};
 ghost use Rattle.psg_parse.specs.Standing.{AreElements, IsPartly, IsTree, with_some};
 
 use psg_grammar::Item;

@@ -4,8 +4,8 @@ use Rattle.psg_grammar.specs.Levels.{level_number}
 use Rattle.psg_class.specs.Places.{solid}
 use Rattle.psg_class.specs.Follow.{Leads, First}
 use Rattle.psg_class.specs.Terminals.{terminal_of}
-use Rattle.psg_class.proofs.Runs.{parts, grow as growing, start as starting}
-use Rattle.psg_class.proofs.Machine.{Completes, then_grow, then_close, taken}
+use Rattle.psg_class.specs.Runs.{parts, grow as growing, start as starting}
+use Rattle.psg_class.specs.Machine.{Completes, then_grow, then_close, taken}
 use Rattle.psg_parse.specs.Answers.{tokens_of}
 use Rattle.psg_parse.specs.Seen.{terminal_seen}
 use Rattle.psg_parse.specs.States.{IsStack, running}

@@ -4,8 +4,9 @@ use Rattle.psg_grammar.specs.Fragments.{Fragment, with_child}
 use Rattle.psg_class.specs.Places.{solid}
 use Rattle.psg_class.specs.Terminals.{close_bracket}
 use Rattle.psg_class.proofs.ClassFacts.{facts}
-use Rattle.psg_class.proofs.Runs.{grow, parts}
-use Rattle.psg_class.proofs.Machine.{Frame as Plain, Ends, then_grow, then_parts, then_close, then_list, step_close, step_open}
+use Rattle.psg_class.specs.Runs.{grow, parts}
+use Rattle.psg_class.specs.Machine.{Frame as Plain, Ends, then_grow, then_parts, then_close, then_list}
+use Rattle.psg_class.proofs.Machine.{step_close, step_open}
 use Rattle.psg_parse.specs.Answers.{tokens_of}
 use Rattle.psg_parse.specs.States.{giving, running, Steps}
 use Rattle.psg_parse.specs.declared.state.Frame.TheVariants as frames

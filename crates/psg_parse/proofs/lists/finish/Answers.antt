@@ -1,6 +1,6 @@
 use Rattle.std.proofs.Common.{refl, inr, arith}
 use Rattle.psg_grammar.specs.Fragments.{ending}
-use Rattle.psg_class.proofs.Machine.{behind_all}
+use Rattle.psg_class.specs.Machine.{behind_all}
 use Rattle.psg_parse.specs.States.{giving}
 use Rattle.psg_parse.proofs.lists.finish.Goals as goal
 

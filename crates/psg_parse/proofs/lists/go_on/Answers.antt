@@ -1,6 +1,6 @@
 use Rattle.std.proofs.Common.{◌≡◌, ◌∷◌, refl, sym, subst, inr, arith, ◌+◌}
-use Rattle.psg_class.proofs.Machine.{then_list}
-use Rattle.psg_class.proofs.Runs.{start}
+use Rattle.psg_class.specs.Machine.{then_list}
+use Rattle.psg_class.specs.Runs.{start}
 use Rattle.psg_parse.specs.States.{IsStack, running}
 use Rattle.psg_parse.specs.declared.state.Frame.TheVariants as frames
 use Rattle.psg_parse.proofs.Stacks.{pushed}

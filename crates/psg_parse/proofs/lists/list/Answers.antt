@@ -3,8 +3,8 @@ use Rattle.std.proofs.lemmas.Result.{IfOk-weaker}
 use Rattle.psg_grammar.specs.Fragments.{ending}
 use Rattle.psg_class.specs.Terminals.{dots}
 use Rattle.psg_class.specs.Follow.{First}
-use Rattle.psg_class.proofs.Runs.{list as listing, start}
-use Rattle.psg_class.proofs.Machine.{Completes, Ends, then_list}
+use Rattle.psg_class.specs.Runs.{list as listing, start}
+use Rattle.psg_class.specs.Machine.{Completes, Ends, then_list}
 use Rattle.psg_tree.proofs.FormLaws.{got_some}
 use Rattle.psg_parse.specs.Answers.{tokens_of}
 use Rattle.psg_parse.specs.States.{giving, running, LeftBy}

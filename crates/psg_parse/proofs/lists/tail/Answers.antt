@@ -3,8 +3,9 @@ use Rattle.std.proofs.lemmas.Result.{IfOk-weaker}
 use Rattle.psg_grammar.specs.Fragments.{ending, cell}
 use Rattle.psg_class.specs.Terminals.{dots, fixed, a_more, terminal_of}
 use Rattle.psg_class.proofs.ClassFacts.{facts}
-use Rattle.psg_class.proofs.Runs.{start}
-use Rattle.psg_class.proofs.Machine.{Completes, Ends, then_list, behind_all, step_last, step_dots, step_next}
+use Rattle.psg_class.specs.Runs.{start}
+use Rattle.psg_class.specs.Machine.{Completes, Ends, then_list, behind_all}
+use Rattle.psg_class.proofs.Machine.{step_last, step_dots, step_next}
 use Rattle.psg_tree.proofs.FormLaws.{got_some}
 use Rattle.psg_parse.specs.Answers.{tokens_of}
 use Rattle.psg_parse.specs.States.{giving, running, LeftBy}

@@ -3,8 +3,8 @@ use Rattle.psg_grammar.specs.declared.types.Item.TheVariants as items
 use Rattle.psg_grammar.specs.Fragments.{Fragment}
 use Rattle.psg_class.specs.Places.{solid}
 use Rattle.psg_class.specs.Terminals.{Token, next_terminal}
-use Rattle.psg_class.proofs.Runs.{parts as reading, start, list}
-use Rattle.psg_class.proofs.Machine.{Completes, then_parts, taken}
+use Rattle.psg_class.specs.Runs.{parts as reading, start, list}
+use Rattle.psg_class.specs.Machine.{Completes, then_parts, taken}
 use Rattle.psg_parse.specs.Answers.{tokens_of}
 use Rattle.psg_parse.specs.States.{GoesOn, IsStack, giving, running, LeftBy}
 use Rattle.psg_parse.specs.declared.state.Frame.TheVariants as frames
