@@ -22,6 +22,3 @@ mod undone;
 
 pub use history::{History, VERSIONS};
 pub use undone::Undone;
-
-#[cfg(test)]
-mod tests;

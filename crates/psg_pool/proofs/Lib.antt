@@ -2,7 +2,6 @@ pub mod Buffer
 pub mod Changes
 pub mod Following
 pub mod Links
-pub mod ManyCells
 pub mod Places
 pub mod Held
 pub mod Laws

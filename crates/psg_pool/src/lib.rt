@@ -27,6 +27,3 @@ mod pool;
 pub use cells::{Cell, CellId};
 pub use mark::Mark;
 pub use pool::Pool;
-
-#[cfg(test)]
-mod tests;

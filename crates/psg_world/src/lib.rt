@@ -38,8 +38,6 @@ mod host;
 mod memory;
 mod store;
 mod sure;
-#[cfg(test)]
-mod tests;
 mod whole;
 mod world;
 

@@ -1,7 +1,7 @@
 -- The free cells come behind the constructor, and are then bound from the first on.
 use Rattle.std.proofs.Common.{◌≡◌, []}
-use Rattle.psg_pool.proofs.ManyCells.{IsRow, AreBound}
-use Rattle.psg_pool.proofs.tests.many_cells_are_bound_and_released.Given as goal
+use Rattle.psg_worked_store.proofs.ManyCells.{IsRow, AreBound}
+use Rattle.psg_worked_store.proofs.tests.pools.many_cells_are_bound_and_released.Given as goal
 
 abbrev pub invariant-puts : goal.invariant-puts
 invariant-puts g l = IsRow l.pool.cells l.k × (l.pool.bindings ≡ []) × (l.constant.0 ≡ 0)

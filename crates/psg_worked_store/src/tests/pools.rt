@@ -1,4 +1,5 @@
-use super::*;
+//! Pools of cells: what is put, bound and released.
+use psg_pool::{Cell, CellId, Pool};
 use std::test::Fail;
 
 #[test]
@@ -32,7 +33,7 @@ fn arguments_are_read_by_their_place(rt: HostRuntime) -> Result<(), Fail> {
 }
 
 #[test]
-fn release_takes_the_cells_behind_the_mark(rt: HostRuntime) -> Result<(), Fail> {
+fn release_takes_the_cells_after_the_mark(rt: HostRuntime) -> Result<(), Fail> {
     let mut pool = Pool::new(rt.alloc());
     let kept = pool.put_free(4)?;
     let mark = pool.mark();

@@ -1,7 +1,7 @@
 -- The next free cell may be bound to the constructor, and then one more is bound.
 use Rattle.std.proofs.Common.{◌+◌, ◌<◌, refl, arith}
-use Rattle.psg_pool.proofs.ManyCells.{next_free, first_apart, one_bound}
-use Rattle.psg_pool.proofs.tests.many_cells_are_bound_and_released.Goals as goal
+use Rattle.psg_worked_store.proofs.ManyCells.{next_free, first_apart, one_bound}
+use Rattle.psg_worked_store.proofs.tests.pools.many_cells_are_bound_and_released.Goals as goal
 
 pub bind-requires-clause-is_free : goal.bind-requires-clause-is_free
 bind-requires-clause-is_free g c =

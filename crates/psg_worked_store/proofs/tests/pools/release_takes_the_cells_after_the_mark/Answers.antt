@@ -4,7 +4,7 @@ use Rattle.psg_pool.specs.Cells.{Put, free}
 use Rattle.psg_pool.specs.Bindings.{target_of}
 use Rattle.psg_pool.proofs.Places.{slice_get-append, slice_get-append_last}
 use Rattle.psg_pool.proofs.Laws.{leads_nowhere}
-use Rattle.psg_pool.proofs.tests.release_takes_the_cells_behind_the_mark.Goals as goal
+use Rattle.psg_worked_store.proofs.tests.pools.release_takes_the_cells_after_the_mark.Goals as goal
 
 pub bind-requires-clause-is_free : goal.bind-requires-clause-is_free
 bind-requires-clause-is_free g c =

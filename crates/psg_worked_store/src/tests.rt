@@ -1,0 +1,7 @@
+//! Scripts of calls, and what they answer.
+mod copying;
+mod files;
+mod machine;
+mod pools;
+mod sinks;
+mod versions;
