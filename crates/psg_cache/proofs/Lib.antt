@@ -13,6 +13,5 @@ pub mod ChildLaws
 pub mod Counting
 pub mod TopLaws
 pub mod WalkLaws
-pub mod LittleLaws
 pub mod FormedTrees
 pub mod ShapedTrees

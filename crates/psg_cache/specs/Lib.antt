@@ -1,4 +1,3 @@
 pub mod Shaped
 pub mod Notes
 pub mod Walks
-pub mod Little

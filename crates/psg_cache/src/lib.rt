@@ -16,6 +16,3 @@ mod walking;
 
 pub use building::build;
 pub use note::{Note, NoteFault};
-
-#[cfg(test)]
-mod tests;

@@ -24,6 +24,3 @@ pub use types::{
     Case, DeclareRow, Definition, HoleRow, Item, Kind, Level, ListKind, Operator, Phylum, Row,
     Space, Specimen, SpecimenHole, SpecimenPart,
 };
-
-#[cfg(test)]
-mod tests;

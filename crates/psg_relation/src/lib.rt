@@ -32,6 +32,3 @@ pub use projection::project;
 pub use relation::{Rel, RelFault};
 pub use row::RelRow;
 pub use selecting::select;
-
-#[cfg(test)]
-mod tests;

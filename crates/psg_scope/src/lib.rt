@@ -20,6 +20,3 @@ mod spaces;
 pub use closing::{Closed, close_region};
 pub use header::{Header, NameCol};
 pub use joining::{Joined, header_of, join};
-
-#[cfg(test)]
-mod tests;

@@ -32,6 +32,3 @@ pub use sorts::{ConId, Constructor, Declared, Signature, SortId};
 pub use steps::Steps;
 pub use term::{Node, Term};
 pub use text::{row_text, term_text};
-
-#[cfg(test)]
-mod tests;

@@ -8,4 +8,3 @@ pub mod PartSizes
 pub mod Reaching
 pub mod WordTests
 pub mod Forms
-pub mod Sums

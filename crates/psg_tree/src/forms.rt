@@ -234,6 +234,3 @@ pub fn well_formed(def: &Definition, tree: &Tree, kind: Kind) -> bool
         Shape::Hole { phylum } => hole_fits(def, *phylum, kind),
     }
 }
-
-#[cfg(test)]
-mod tests;

@@ -25,6 +25,3 @@ pub use places::{TreeFault, at, replace};
 pub use sizes::{depth, nodes};
 pub use text::abstract_text;
 pub use tree::{Part, Shape, Tree};
-
-#[cfg(test)]
-mod tests;

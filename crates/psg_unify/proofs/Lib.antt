@@ -7,4 +7,3 @@ pub mod WritingSteps
 pub mod Theorem
 pub mod Remembering
 pub mod Shallow
-pub mod ColumnSorts

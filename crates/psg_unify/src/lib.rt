@@ -22,6 +22,3 @@ mod join;
 mod writing;
 
 pub use join::join_rows;
-
-#[cfg(test)]
-mod tests;

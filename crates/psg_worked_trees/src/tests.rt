@@ -1,0 +1,7 @@
+//! Definitions and trees written as texts, and what the calls make of them.
+mod definitions;
+mod edits;
+mod forms;
+mod little;
+mod notes;
+mod trees;
