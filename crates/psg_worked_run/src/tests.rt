@@ -1,7 +1,7 @@
 //! Runs over files and a sink in memory.
 ghost use Rattle.std.specs.Prelude.{◌≡◌, ◌<◌};
 
-mod failing;
+mod failures;
 mod limits;
 
 use psg_run::{Status, run};
