@@ -1,5 +1,5 @@
 -- How many evaluations a tree takes: those of its children, and those at its top.
-use Rattle.std.proofs.Common.{◌≡◌, ℕ, ◌+◌, ◌<◌, ◌≤◌, Bool, List, [], ◌∷◌, length, take, get_or, refl, sym, ◌∙◌, ap, arith}
+use Rattle.std.proofs.Common.{◌≡◌, ℕ, zero, suc, ◌+◌, ◌<◌, ◌≤◌, Bool, List, [], ◌∷◌, length, take, get_or, refl, sym, ◌∙◌, ap, arith}
 use Rattle.std.specs.Prelude.{sum_by}
 use Rattle.std.proofs.lemmas.List.{take_all}
 use Rattle.std.proofs.lemmas.List.Sums.{sum_by-cons, sum_by_push}
@@ -78,6 +78,40 @@ list_once def s l es u f below e there are =
     omega (arith, top, many, same)
 
 -- ---- of a walk
+
+together_front : (cs : List Fragment) (i : ℕ) → together (take i cs) ≤ together cs
+together_front cs zero = omega arith
+together_front [] (suc i) = omega arith
+together_front (c ∷ cs) (suc i) =
+    omega (arith, together_front cs i, sum_by-cons evaluations_of c (take i cs), sum_by-cons evaluations_of c cs)
+
+-- before a child no more than all are counted
+pub within_children : (f : Fragment) (children : List Fragment) (i : ℕ) (start before : ℕ) → children ≡ children_of f
+    → before ≡ start + together (take i children) → before ≤ start + evaluations_of f
+within_children f children i start before are h =
+    let all : together children ≡ together (children_of f) = ap together are in
+    let split = evaluations_split f in
+    omega (arith, h, together_front children i, all, split)
+
+-- and behind it neither, whatever of it was evaluated
+pub within_child : (f : Fragment) (children : List Fragment) (i : ℕ) (child : Fragment) (start before after : ℕ)
+    → children ≡ children_of f → i < length children → child ≡ get_or children i child
+    → before ≡ start + together (take i children) → after ≤ before + evaluations_of child
+    → after ≤ start + evaluations_of f
+within_child f children i child start before after are small at h k =
+    let e : together (take (i + 1) children) ≡ together (take i children) + evaluations_of child =
+    ap together (take-next children i child small at) ∙ sum_by_push evaluations_of (take i children) child in
+    let all : together children ≡ together (children_of f) = ap together are in
+    let split = evaluations_split f in
+    omega (arith, h, k, e, together_front children (i + 1), all, split)
+
+pub within_top : (f : Fragment) (children : List Fragment) (i : ℕ) (start before after : ℕ) → children ≡ children_of f
+    → before ≡ start + together (take i children) → after ≤ before + top_evaluations f
+    → after ≤ start + evaluations_of f
+within_top f children i start before after are h k =
+    let all : together children ≡ together (children_of f) = ap together are in
+    let split = evaluations_split f in
+    omega (arith, h, k, together_front children i, all, split)
 
 pub counted_more : (children : List Fragment) (i : ℕ) (child : Fragment) (start before after : ℕ) → i < length children
     → child ≡ get_or children i child → before ≡ start + together (take i children)

@@ -10,7 +10,6 @@
 #![tactic(auto)]
 
 pub mod building;
-mod lengths;
 pub mod note;
 mod walking;
 

@@ -1,5 +1,5 @@
 //! One walk over a tree, in which each node and list suffix is evaluated once.
-ghost use Rattle.std.specs.Prelude.{◌≡◌, ◌↔◌, ◌+◌, ◌++◌, ◌∷◌, [], true, IfErr, IfOk, IsTrue, length};
+ghost use Rattle.std.specs.Prelude.{◌≡◌, ◌↔◌, ◌+◌, ◌++◌, ◌∷◌, ◌≤◌, [], true, IfErr, IfOk, IsTrue, length};
 ghost use Rattle.std.specs.List.{AllByRecursion};
 ghost use Rattle.psg_terms.specs.Weight.{weight_of};
 ghost use Rattle.psg_grammar.specs.Fragments.{children_of};
@@ -157,6 +157,7 @@ fn top_list<L: Ledger>(
     ensures ok { IfOk result (λ s.
         IsListTopped language.entry.definition.now path.now list unfinished elements.now found.old found.new s) }
     ensures ticks { IfOk result (λ _. steps.new ≡ steps.old + (length elements.now + 1)) }
+    ensures bounded { steps.new ≤ steps.old + (length elements.now + 1) }
     ensures err { IfErr result (IsListFault language.entry.definition.now path.now list unfinished elements.now) }
 {
     let definition = language.definition;
@@ -189,6 +190,7 @@ fn top<L: Ledger>(
     requires usual { AllByRecursion (IsSummary language.definition.now) below.now }
     ensures ok { IfOk result (λ s. IsTopped language.entry.definition.now path.now tree.now found.old found.new s) }
     ensures ticks { IfOk result (λ _. steps.new ≡ steps.old + top_evaluations tree.now) }
+    ensures bounded { steps.new ≤ steps.old + top_evaluations tree.now }
     ensures err { IfErr result
         (IsStepFault language.entry.definition.now (top_steps language.entry.definition.now path.now tree.now)) }
 {
@@ -268,6 +270,7 @@ pub(crate) fn walk<L: Ledger>(
     requires formed { IsFormed language.definition.now tree.now }
     ensures ok { IfOk result (λ s. IsWalked language.entry.definition.now path.now tree.now found.old found.new s) }
     ensures ticks { IfOk result (λ _. steps.new ≡ steps.old + evaluations_of tree.now) }
+    ensures bounded { steps.new ≤ steps.old + evaluations_of tree.now }
     ensures err { IfErr result
         (IsStepFault language.entry.definition.now (steps_of language.entry.definition.now path.now tree.now)) }
 {

@@ -72,5 +72,8 @@ key_exact (s ∷ n) (t ∷ m) h k e = exact_by s t n m (slice_cmp nat_cmp n m) r
 pub key_same : (n : Key) → key_cmp n n ≡ Equal
 key_same n = tied_itself key_total n
 
+pub key_turned_back : (n m : Key) → key_cmp n m ≡ Less → key_cmp m n ≡ Greater
+key_turned_back n m e = turned m n ∙ ap ordering_reverse e
+
 pub key_turned : (n m : Key) → key_cmp n m ≡ Greater → key_cmp m n ≡ Less
 key_turned n m e = turned m n ∙ ap ordering_reverse e

@@ -3,3 +3,4 @@ pub mod KeyLists
 pub mod MergeLaws
 pub mod SpaceLaws
 pub mod HeaderLaws
+pub mod RunLaws

@@ -8,7 +8,7 @@ use Rattle.psg_terms.specs.Names.{is_among, has_twice}
 use Rattle.psg_terms.proofs.DeclareLaws.{is_among-append, slice_get-front, slice_get-end}
 use Rattle.psg_grammar.specs.Keys.{Key, key_cmp}
 use Rattle.psg_scope.specs.Headers.{declare_one, key_of, keys, is_declared, both, ArePlaces, IsBelow, AreRising}
-use Rattle.psg_scope.specs.Merging.{by_order, merge, merge_with, clashes, clash_with, GrowsBy}
+use Rattle.psg_scope.specs.Merging.{by_order, merge, merge_with, clashes, clash_with, GrowsBy, IsPlacedSoFar, IsUpTo}
 use Rattle.psg_scope.specs.declared.header.NameCol.{NameCol}
 use Rattle.psg_scope.specs.declared.merging.Merging.{Merging}
 use Rattle.psg_scope.proofs.KeyOrder.{key_exact, key_turned}
@@ -269,17 +269,6 @@ places-push cols c ps ks k same e =
     ∙ sym (map-append Some ks (k ∷ []))
 
 -- ---- as far as the walk has come
-
-pub record IsPlacedSoFar (cols : List NameCol) (places : List ℕ) (whole rest : List NameCol) : Type 0 where
-  pub done : List Key
-  pub at : ArePlaces cols places done
-  pub split : done ++ keys rest ≡ keys whole
-
-pub record IsUpTo (left right a b : List NameCol) (all : Merging) : Type 0 where
-  pub names : all.names.items ++ merge a b ≡ merge left right
-  pub clash : (all.clashes || clashes a b) ≡ clashes left right
-  pub lefts : IsPlacedSoFar all.names.items all.left.items left a
-  pub rights : IsPlacedSoFar all.names.items all.right.items right b
 
 placed-keep : (cols new : List NameCol) (c : NameCol) (places more : List ℕ) (whole rest : List NameCol) → IsPlacedSoFar cols places whole rest
     → new ≡ cols ++ c ∷ [] → more ≡ places ++ [] → IsPlacedSoFar new more whole rest

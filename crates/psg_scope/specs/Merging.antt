@@ -1,9 +1,10 @@
 -- Two lists of keys made one, key by key.
-use Rattle.std.specs.Prelude.{ℕ, ◌≡◌, ◌&&◌, ◌||◌, Bool, false, List, [], ◌∷◌, ◌++◌}
+use Rattle.std.specs.Prelude.{ℕ, ◌≡◌, ◌+◌, ◌≤◌, ◌&&◌, ◌||◌, Bool, false, List, [], ◌∷◌, ◌++◌, length}
+use Rattle.std.specs.List.{AllByRecursion}
 use Rattle.std.specs.declared.cmp.Ordering.{Ordering}
 use Rattle.std.specs.declared.cmp.Ordering.TheVariants.{Less, Equal, Greater}
-use Rattle.psg_grammar.specs.Keys.{key_cmp}
-use Rattle.psg_scope.specs.Headers.{key_of, both}
+use Rattle.psg_grammar.specs.Keys.{Key, key_cmp}
+use Rattle.psg_scope.specs.Headers.{key_of, keys, both, ArePlaces, AreRising}
 use Rattle.psg_scope.specs.declared.header.NameCol.{NameCol}
 use Rattle.psg_scope.specs.declared.merging.Merging.{Merging}
 use Rattle.psg_scope.specs.declared.merging.First.{First}
@@ -50,3 +51,28 @@ pub record GrowsBy (old new : Merging) (key : NameCol) (left right : List ℕ) :
   pub lefts : new.left.items ≡ old.left.items ++ left
   pub rights : new.right.items ≡ old.right.items ++ right
   pub clash : new.clashes ≡ old.clashes
+
+-- the keys of a whole list up to the rest have these places
+pub record IsPlacedSoFar (cols : List NameCol) (places : List ℕ) (whole rest : List NameCol) : Type 0 where
+  pub done : List Key
+  pub at : ArePlaces cols places done
+  pub split : done ++ keys rest ≡ keys whole
+
+-- two lists were made one, but for their rests
+pub record IsUpTo (left right a b : List NameCol) (all : Merging) : Type 0 where
+  pub names : all.names.items ++ merge a b ≡ merge left right
+  pub clash : (all.clashes || clashes a b) ≡ clashes left right
+  pub lefts : IsPlacedSoFar all.names.items all.left.items left a
+  pub rights : IsPlacedSoFar all.names.items all.right.items right b
+
+-- the keys are below the first key of the other list, if it has one
+abbrev pub AreBefore : List NameCol → List NameCol → Type 0
+AreBefore run [] = Unit {0}
+AreBefore run (y ∷ ys) = AllByRecursion (λ (c : NameCol). key_cmp (key_of c) (key_of y) ≡ Less) run
+
+-- the walk went on from both lists to these rests of them
+pub record GoesOn (old new : Merging) (left right lefts rights : List NameCol) : Type 0 where
+  pub up_to : (whole others : List NameCol) → IsUpTo whole others left right old → IsUpTo whole others lefts rights new
+  pub left_rises : AreRising (keys left) → AreRising (keys lefts)
+  pub right_rises : AreRising (keys right) → AreRising (keys rights)
+  pub shorter : length lefts + length rights ≤ length left + length right

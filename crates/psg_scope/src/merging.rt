@@ -1,7 +1,11 @@
 //! Two lists of keys in order made one.
-ghost use Rattle.std.specs.Prelude.{◌≡◌, ◌∷◌, ◌++◌, [], ◌||◌, ◌&&◌, IfOk, OnOk, length, vec_len, map, Some, slice_get};
-ghost use Rattle.psg_scope.specs.Headers.{keys, both, ArePlaces};
-ghost use Rattle.psg_scope.specs.Merging.{merge, clashes, IsNext, GrowsBy};
+ghost use Rattle.std.specs.Prelude.{◌≡◌, ◌≤◌, ◌∷◌, ◌++◌, [], ◌||◌, ◌&&◌, IfOk, List, OnOk, length, take};
+ghost use Rattle.std.specs.List.{AllByRecursion};
+ghost use Rattle.std.specs.declared.cmp.Ordering.TheVariants.{Less};
+ghost use Rattle.psg_grammar.specs.Keys.{key_cmp};
+ghost use Rattle.psg_scope.specs.Headers.{key_of, keys, both, ArePlaces, AreRising};
+ghost use Rattle.psg_scope.specs.declared.header.NameCol.{NameCol as Col};
+ghost use Rattle.psg_scope.specs.Merging.{merge, clashes, AreBefore, GoesOn, GrowsBy, IsNext, IsUpTo};
 
 use crate::header::NameCol;
 use std::alloc::{AllocError, Global};
@@ -45,7 +49,88 @@ fn next<'a>(left: &'a [NameCol], right: &'a [NameCol]) -> First<'a>
     }
 }
 
+/// Counts the keys of a list that are below the key. It looks at a number of keys that is the logarithm of theirs.
+fn below(cols: &[NameCol], key: &NameCol) -> usize
+    requires { AreRising (keys cols.now) }
+    ensures within { result ≤ length cols.now }
+    ensures below { AllByRecursion (λ (c : Col). key_cmp (key_of c) (key_of key.now) ≡ Less) (take result cols.now) }
+{
+    let mut low = 0;
+    let mut high = cols.len();
+    while low < high {
+        let middle = low + (high - low) / 2;
+        match cols[middle].order(key) {
+            Ordering::Less => low = middle + 1,
+            Ordering::Equal => high = middle,
+            Ordering::Greater => high = middle,
+        }
+    }
+    low
+}
+
+/// Counts the first keys of a long list that are below the first key of a short one. Of a list that is less than eight times
+/// as long as the other it counts none: there the walk key by key looks at no more keys than a search does.
+fn before(long: &[NameCol], short: &[NameCol]) -> usize
+    requires { AreRising (keys long.now) }
+    ensures within { result ≤ length long.now }
+    ensures before { AreBefore (take result long.now) short.now }
+{
+    if long.len() / 8 < short.len() {
+        return 0;
+    }
+    match short.first() {
+        Some(key) => below(long, key),
+        None => long.len(),
+    }
+}
+
+/// What two lists are behind the keys that were taken of them.
+#[derive(Clone, Copy)]
+struct Rests<'a> {
+    left: &'a [NameCol],
+    right: &'a [NameCol],
+}
+
 impl Merging {
+    /// Adds keys of the left list that are below those of the right one.
+    fn add_lefts(&mut self, run: &[NameCol]) -> Result<(), AllocError>
+        ensures { OnOk result ((whole others rest right : List Col) → AreBefore run.now right
+            → IsUpTo whole others (run.now ++ rest) right self.old → IsUpTo whole others rest right self.new) }
+    {
+        for key in run {
+            self.add_left(key)?;
+        }
+        Ok(())
+    }
+
+    /// Adds keys of the right list that are below those of the left one.
+    fn add_rights(&mut self, run: &[NameCol]) -> Result<(), AllocError>
+        ensures { OnOk result ((whole others left rest : List Col) → AreBefore run.now left
+            → IsUpTo whole others left (run.now ++ rest) self.old → IsUpTo whole others left rest self.new) }
+    {
+        for key in run {
+            self.add_right(key)?;
+        }
+        Ok(())
+    }
+
+    /// Adds the first keys of a long list that are below those of a short one.
+    fn add_runs<'a>(
+        &mut self,
+        left: &'a [NameCol],
+        right: &'a [NameCol],
+    ) -> Result<Rests<'a>, AllocError>
+        requires left { AreRising (keys left.now) }
+        requires right { AreRising (keys right.now) }
+        ensures { IfOk result (λ r. GoesOn self.old self.new left.now right.now r.left.now r.right.now) }
+    {
+        let (lefts, left) = left.split_at(before(left, right));
+        self.add_lefts(lefts)?;
+        let (rights, right) = right.split_at(before(right, left));
+        self.add_rights(rights)?;
+        Ok(Rests { left, right })
+    }
+
     fn add_left(&mut self, key: &NameCol) -> Result<(), AllocError>
         ensures { OnOk result (GrowsBy self.old self.new key.now (length self.old.names.items ∷ []) []) }
     {
@@ -89,19 +174,22 @@ fn are_declared(one: &NameCol, two: &NameCol) -> bool
     one.declared && two.declared
 }
 
-/// The keys of two lists in order, each once. It looks at each key once.
+/// The keys of two lists in order, each once. It copies each key once. Of a list that is at least eight times as long as the
+/// other it looks at as many keys as it takes to find the place of each key of the other by binary search.
 pub(crate) fn merged(
     alloc: Global,
     left: &[NameCol],
     right: &[NameCol],
 ) -> Result<Merging, AllocError>
+    requires left { AreRising (keys left.now) }
+    requires right { AreRising (keys right.now) }
     ensures names { IfOk result (λ m. m.names.items ≡ merge left.now right.now) }
     ensures clashes { IfOk result (λ m. m.clashes ≡ clashes left.now right.now) }
     ensures left { IfOk result (λ m. ArePlaces m.names.items m.left.items (keys left.now)) }
     ensures right { IfOk result (λ m. ArePlaces m.names.items m.right.items (keys right.now)) }
 {
     let mut all = Merging {
-        names: Vec::new(alloc),
+        names: Vec::with_capacity(alloc, left.len() + right.len())?,
         left: Vec::with_capacity(alloc, left.len())?,
         right: Vec::with_capacity(alloc, right.len())?,
         clashes: false,
@@ -109,6 +197,9 @@ pub(crate) fn merged(
     let mut a = left;
     let mut b = right;
     loop {
+        let rests = all.add_runs(a, b)?;
+        a = rests.left;
+        b = rests.right;
         match next(a, b) {
             First::Left(one, lefts) => {
                 all.add_left(one)?;
@@ -124,7 +215,10 @@ pub(crate) fn merged(
                 a = lefts;
                 b = rights;
             }
-            First::End => return Ok(all),
+            First::End => {
+                all.names.shrink_to_fit();
+                return Ok(all);
+            }
         }
     }
 }

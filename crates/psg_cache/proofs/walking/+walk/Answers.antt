@@ -5,7 +5,7 @@ use Rattle.psg_tree.specs.Shapes.{height}
 use Rattle.psg_cache.specs.Walks.{IsStepFault, IsWalked}
 use Rattle.psg_cache.proofs.RealTrees.{real}
 use Rattle.psg_cache.proofs.ChildLaws.{child_formed}
-use Rattle.psg_cache.proofs.Counting.{counted_more, counted_tree}
+use Rattle.psg_cache.proofs.Counting.{counted_more, counted_tree, within_child, within_children, within_top}
 use Rattle.psg_cache.proofs.Passing.{passed}
 use Rattle.psg_cache.proofs.WalkLaws.{child_fault, top_fault, walked-none, walked_all, walked_more, walked_tree}
 use Rattle.psg_cache.proofs.walking.+walk.Goals as goal
@@ -94,3 +94,50 @@ returns-clause-ticks g t c =
     counted_tree c.args.tree.now c.as_slice-inner.result.now c.loop-i.i c.args.steps.now c.loop-i.steps
     c.top.new.steps are c.loop-i-test.false
     c.loop-i.invariant.counted c.in_ok-whole.ensures.ticks
+
+pub returns-in_err-step-clause-bounded : goal.returns-in_err-step-clause-bounded
+returns-in_err-step-clause-bounded g t c =
+    let are : c.as_slice-inner.result.now ≡ children_of c.args.tree.now =
+    c.as_slice-inner.ensures.value ∙ c.in_ok-all.ensures in
+    within_children c.args.tree.now c.as_slice-inner.result.now c.loop-i.i c.args.steps.now c.loop-i.steps are c.loop-i.invariant.counted
+
+pub returns-in_err-place-clause-bounded : goal.returns-in_err-place-clause-bounded
+returns-in_err-place-clause-bounded g t c =
+    let are : c.as_slice-inner.result.now ≡ children_of c.args.tree.now =
+    c.as_slice-inner.ensures.value ∙ c.in_ok-all.ensures in
+    within_children c.args.tree.now c.as_slice-inner.result.now c.loop-i.i c.args.steps.now c.loop-i.steps are c.loop-i.invariant.counted
+
+pub returns-in_err-summary-clause-bounded : goal.returns-in_err-summary-clause-bounded
+returns-in_err-summary-clause-bounded g t c =
+    let are : c.as_slice-inner.result.now ≡ children_of c.args.tree.now =
+    c.as_slice-inner.ensures.value ∙ c.in_ok-all.ensures in
+    within_child c.args.tree.now c.as_slice-inner.result.now c.loop-i.i c.index-inner-i.result c.args.steps.now c.loop-i.steps c.walk.new.steps are c.loop-i-test.true
+    c.index-inner-i.is c.loop-i.invariant.counted c.walk.ensures.bounded
+
+pub returns-in_err-push-clause-bounded : goal.returns-in_err-push-clause-bounded
+returns-in_err-push-clause-bounded g t c =
+    let are : c.as_slice-inner.result.now ≡ children_of c.args.tree.now =
+    c.as_slice-inner.ensures.value ∙ c.in_ok-all.ensures in
+    within_child c.args.tree.now c.as_slice-inner.result.now c.loop-i.i c.index-inner-i.result c.args.steps.now c.loop-i.steps c.walk.new.steps are c.loop-i-test.true
+    c.index-inner-i.is c.loop-i.invariant.counted c.walk.ensures.bounded
+
+pub returns-in_err-whole-clause-bounded : goal.returns-in_err-whole-clause-bounded
+returns-in_err-whole-clause-bounded g t c =
+    let are : c.as_slice-inner.result.now ≡ children_of c.args.tree.now =
+    c.as_slice-inner.ensures.value ∙ c.in_ok-all.ensures in
+    within_top c.args.tree.now c.as_slice-inner.result.now c.loop-i.i c.args.steps.now c.loop-i.steps c.top.new.steps are c.loop-i.invariant.counted
+    c.top.ensures.bounded
+
+pub returns-in_err-blame-clause-bounded : goal.returns-in_err-blame-clause-bounded
+returns-in_err-blame-clause-bounded g t c =
+    let are : c.as_slice-inner.result.now ≡ children_of c.args.tree.now =
+    c.as_slice-inner.ensures.value ∙ c.in_ok-all.ensures in
+    within_top c.args.tree.now c.as_slice-inner.result.now c.loop-i.i c.args.steps.now c.loop-i.steps c.top.new.steps are c.loop-i.invariant.counted
+    c.top.ensures.bounded
+
+pub returns-clause-bounded : goal.returns-clause-bounded
+returns-clause-bounded g t c =
+    let are : c.as_slice-inner.result.now ≡ children_of c.args.tree.now =
+    c.as_slice-inner.ensures.value ∙ c.in_ok-all.ensures in
+    within_top c.args.tree.now c.as_slice-inner.result.now c.loop-i.i c.args.steps.now c.loop-i.steps c.top.new.steps are c.loop-i.invariant.counted
+    c.top.ensures.bounded

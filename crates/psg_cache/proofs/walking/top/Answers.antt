@@ -87,3 +87,37 @@ returns-in_ok-summary-in-List-clause-ticks g c =
     c.in-List.unfinished
     c.args.tree.now c.args.below.now c.in-List.is c.shape.ensures c.requires.summaries in
     omega (arith, once, c.in_ok-summary-in-List.ensures.ticks)
+
+pub returns-in_err-summary-in-Hole-clause-bounded : goal.returns-in_err-summary-in-Hole-clause-bounded
+returns-in_err-summary-in-Hole-clause-bounded g c =
+    let once = hole_once c.shape.result.now c.in-Hole.phylum c.args.tree.now c.in-Hole.is c.shape.ensures in
+    omega (arith, once, c.eval_hole-made.ensures.ticks)
+
+pub returns-in_ok-summary-in-Hole-clause-bounded : goal.returns-in_ok-summary-in-Hole-clause-bounded
+returns-in_ok-summary-in-Hole-clause-bounded g c =
+    let once = hole_once c.shape.result.now c.in-Hole.phylum c.args.tree.now c.in-Hole.is c.shape.ensures in
+    omega (arith, once, c.eval_hole-made.ensures.ticks)
+
+pub returns-in_err-summary-in-Op-clause-bounded : goal.returns-in_err-summary-in-Op-clause-bounded
+returns-in_err-summary-in-Op-clause-bounded g c =
+    let once = operator_once c.shape.result.now c.in-Op.op c.in-Op.parts c.args.tree.now c.in-Op.is c.shape.ensures in
+    omega (arith, once, c.eval_op-made.ensures.ticks)
+
+pub returns-in_ok-summary-in-Op-clause-bounded : goal.returns-in_ok-summary-in-Op-clause-bounded
+returns-in_ok-summary-in-Op-clause-bounded g c =
+    let once = operator_once c.shape.result.now c.in-Op.op c.in-Op.parts c.args.tree.now c.in-Op.is c.shape.ensures in
+    omega (arith, once, c.eval_op-made.ensures.ticks)
+
+pub returns-in_err-summary-in-List-clause-bounded : goal.returns-in_err-summary-in-List-clause-bounded
+returns-in_err-summary-in-List-clause-bounded g c =
+    let once = list_once c.args.language.definition.now c.shape.result.now c.in-List.list c.in-List.elements
+    c.in-List.unfinished
+    c.args.tree.now c.args.below.now c.in-List.is c.shape.ensures c.requires.summaries in
+    omega (arith, once, c.top_list.ensures.bounded)
+
+pub returns-in_ok-summary-in-List-clause-bounded : goal.returns-in_ok-summary-in-List-clause-bounded
+returns-in_ok-summary-in-List-clause-bounded g c =
+    let once = list_once c.args.language.definition.now c.shape.result.now c.in-List.list c.in-List.elements
+    c.in-List.unfinished
+    c.args.tree.now c.args.below.now c.in-List.is c.shape.ensures c.requires.summaries in
+    omega (arith, once, c.top_list.ensures.bounded)
