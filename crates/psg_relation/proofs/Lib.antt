@@ -1,5 +1,6 @@
 pub mod Members
 pub mod Growing
+pub mod Highest
 pub mod Weights
 pub mod Relating
 pub mod Ordered

@@ -28,7 +28,7 @@ fn made_ready(alloc: Global, sig: &Signature, columns: RelRow) -> Result<RelRow,
     ensures same { IfOk result (λ row. HasSameInstances sig.now row columns) }
     ensures sorted { IfOk result (λ row. (ss : List ℕ) → HaveSorts sig.now columns ss → HaveSorts sig.now row ss) }
 {
-    if is_heavy(columns.terms()) {
+    if is_heavy(&columns) {
         return Ok(columns);
     }
     let form = canonical(alloc, sig, columns.terms())?;
@@ -141,5 +141,5 @@ pub fn join(
     for one in lefts {
         made = with_joins(alloc, sig, made, one.terms(), rights, pairs, keep)?;
     }
-    relation_of(alloc, sig, made.as_slice())
+    relation_of(alloc, sig, made)
 }

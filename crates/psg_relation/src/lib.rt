@@ -19,7 +19,6 @@ pub mod joining;
 pub mod laws;
 mod maximal;
 mod order;
-mod plain;
 pub mod projection;
 pub mod relation;
 pub mod row;

@@ -72,5 +72,5 @@ pub fn select(
     for row in rows {
         made = with_join(alloc, sig, made, row.terms(), row.terms(), own, keep)?;
     }
-    relation_of(alloc, sig, made.as_slice())
+    relation_of(alloc, sig, made)
 }

@@ -6,7 +6,7 @@ use Rattle.psg_terms.proofs.canonical.goes_on.Goals as goal
 
 pub returns-then-number-count : goal.returns-then-number-count
 returns-then-number-count c = λ _.
-    let n : c.args.number ≡ length c.args.known.now.items + 1 = c.if-number-count.true ∙ ap (λ k. k + 1) c.len-count.ensures in
+    let n : c.args.number ≡ length c.args.known.now.items + 1 = let l = c.len-count.ensures in let t = c.if-number-count.true in grind arith in
     noted_next c.args.known.now.items c.push.new.self.items c.args.sort c.args.number n c.in_ok-push.ensures.items
 
 pub returns : goal.returns
