@@ -8,6 +8,7 @@ pub mod Splitting
 pub mod Making
 pub mod Columns
 pub mod Meeting
+pub mod Indexing
 pub mod Existing
 pub mod Unifying
 pub mod Solving

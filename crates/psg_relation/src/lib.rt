@@ -15,6 +15,8 @@
 //! - A `Rel` has at most 16,384 variables and constructors, and no term in it is deeper than 1,000.
 #![tactic(auto)]
 
+mod crossing;
+mod heads;
 pub mod joining;
 pub mod laws;
 mod maximal;
