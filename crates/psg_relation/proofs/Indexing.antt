@@ -1,5 +1,10 @@
 -- Rows found by the heads of a column.
 use Rattle.std.proofs.Common.{◌≡◌, ℕ, ◌+◌, ◌<◌, ◌==◌, ◌⊎◌, inl, inr, true, false, cond, zero, suc, Option, Some, None, List, [], ◌∷◌, ◌++◌, All, map, length, take, get_or, slice_get, append_assoc, refl, ap, sym, ◌∙◌, subst, arith}
+use Rattle.std.specs.Prelude.{Vec}
+use Rattle.std.specs.HashMap.{HashMap}
+use Rattle.std.specs.Map.{lookup}
+use Rattle.std.specs.declared.hash.FoldHasher.{FoldHasher}
+use Rattle.std.specs.declared.hash.BuildHasherDefault.{BuildHasherDefault}
 use Rattle.std.proofs.lemmas.Bool.Decides.{nat_tests}
 use Rattle.std.proofs.lemmas.List.Elements.{All-nil, All-push, All-same, All-weaker}
 use Rattle.psg_terms.specs.Terms.{Term, variable, symbol, apply, applied}
@@ -9,7 +14,7 @@ use Rattle.psg_terms.specs.Relations.{IsIn, first, later}
 use Rattle.psg_terms.proofs.Variables.{number_cases}
 use Rattle.psg_unify.specs.Pairs.{Pair as Columns}
 use Rattle.psg_relation.specs.Choices.{pick, picked}
-use Rattle.psg_relation.specs.Heads.{head_of, HeadAt, IsNoted, IsIndexed}
+use Rattle.psg_relation.specs.Heads.{head_of, HeadAt, items_of, places_at, IsNoted, IsIndexed}
 use Rattle.psg_relation.specs.Joining.{Joins, AreJoined, IsCrossed, IsMore, Two, with_each}
 use Rattle.psg_relation.proofs.Members.{in-left, in-last, in-contains}
 use Rattle.psg_relation.proofs.Meeting.{joined_one, each-push, in-either, in-right, each-in, in-each}
@@ -88,6 +93,9 @@ pub get-at : (xs : List (List Term)) (i : ℕ) (x : List Term) → i < length xs
 get-at [] i x l e = absurd (omega arith)
 get-at (y ∷ xs) zero x l e = ap (λ z. Some z) (sym e)
 get-at (y ∷ xs) (suc i) x l e = get-at xs i x (omega arith) e
+
+pub places_none : {Z : Type 0} (table : HashMap ℕ (Vec ℕ Z) (BuildHasherDefault FoldHasher)) → table.entries ≡ [] → (c : ℕ) → places_at table c ≡ []
+places_none table e c = ap (λ es. items_of (lookup (λ (b : ℕ). c == b) es)) e
 
 -- no row is noted yet
 pub indexed_begin : (rows : List (List Term)) (column : ℕ) (free : List ℕ) (at : ℕ → List ℕ) → free ≡ [] → ((c : ℕ) → at c ≡ []) → IsIndexed rows column 0 free at

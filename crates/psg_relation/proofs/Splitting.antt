@@ -1,5 +1,6 @@
 -- Steps of splitting and ordering rows, and what the most general ones are then.
-use Rattle.std.proofs.Common.{◌≡◌, ◌≤◌, inl, inr, true, false, List, [], ◌∷◌, ◌++◌, length, refl, sym, ◌∙◌, subst, arith}
+use Rattle.std.proofs.Common.{◌≡◌, ◌≤◌, inl, inr, true, false, Option, Some, None, List, [], ◌∷◌, ◌++◌, length, refl, sym, ◌∙◌, subst, arith}
+use Rattle.std.specs.Prelude.{IfSome}
 use Rattle.std.specs.List.Sorted.{IsPermutation}
 use Rattle.std.proofs.lemmas.List.Sorted.{IsPermutation-sym, Contains-permutation}
 use Rattle.psg_terms.specs.Terms.{Term}
@@ -138,6 +139,10 @@ alone_heavy (row ∷ []) l w = record {
   uncovered = λ (k, h, i). elim h [ ];
 }
 alone_heavy (row ∷ other ∷ rows) l w = absurd (omega arith)
+
+pub some_map : {X : Type 0} (o : Option X) (A B : X → Type 0) → ((x : X) → A x → B x) → IfSome o A → IfSome o B
+some_map None A B f h = h
+some_map (Some x) A B f h = f x h
 
 pub alone_ordered : (sig : Signature) (rows : List (List Term)) → length rows ≤ 1 → IsInTextOrder sig rows
 alone_ordered sig [] l = tt

@@ -64,7 +64,8 @@ pub fn maximal(alloc: Global, rows: Vec<RelRow>) -> Result<Vec<RelRow>, AllocErr
 {
     let mut kept = Vec::with_capacity(alloc, rows.len())?;
     for row in rows {
-        kept = with_row(alloc, kept, row)?;
+        let more = with_row(alloc, kept, row)?;
+        kept = more;
     }
     Ok(kept)
 }

@@ -41,10 +41,12 @@ fn by_size(alloc: Global, rows: Vec<RelRow>) -> Result<Split, AllocError>
 fn repeats(once: &[RelRow], row: &RelRow) -> bool
     ensures { IsTrue result → IsIn row.now once.now }
 {
-    match once.last() {
-        Some(before) => same_all(before.terms(), row.terms()),
-        None => false,
+    let count = once.len();
+    if count == 0 {
+        return false;
     }
+    let last = count - 1;
+    same_all(once[last].terms(), row.terms())
 }
 
 /// The rows without those that repeat the one before.

@@ -1,8 +1,11 @@
-use Rattle.std.proofs.Common.{◌++◌, take, sym, subst}
+use Rattle.std.proofs.Common.{[], ◌++◌, take, sym, subst}
 use Rattle.psg_relation.specs.Joining.{AreJoined, MayMeet, all_pairs, with_each}
-use Rattle.psg_relation.proofs.Meeting.{may_meet, pairs_step}
+use Rattle.psg_relation.proofs.Meeting.{joined_none, may_meet, pairs_step}
 use Rattle.psg_relation.proofs.Members.{in-at}
 use Rattle.psg_relation.proofs.crossing.indexed_joins.Goals as goal
+
+pub loop-one-init : goal.loop-one-init
+loop-one-init c = subst (AreJoined c.args.sig.now c.args.pairs.now c.args.keep.now []) (sym c.new-made.ensures.items) (joined_none c.args.sig.now c.args.pairs.now c.args.keep.now)
 
 pub with_meeting-requires-clause-meet : goal.with_meeting-requires-clause-meet
 with_meeting-requires-clause-meet c = λ other i.

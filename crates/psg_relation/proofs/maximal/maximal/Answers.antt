@@ -9,8 +9,8 @@ use Rattle.psg_relation.proofs.maximal.maximal.Goals as goal
 
 pub loop-row-preserved : goal.loop-row-preserved
 loop-row-preserved c = (
-  sifted_more c.loop-row.yielded c.loop-row.kept.items c.in-Some.row c.in_ok-kept.kept.items c.loop-row.invariant.0 c.in_ok-kept.ensures,
-  grown c.loop-row.yielded c.loop-row.kept.items c.in-Some.row c.in_ok-kept.kept.items c.loop-row.invariant.0 c.loop-row.invariant.1 c.in_ok-kept.ensures,
+  sifted_more c.loop-row.yielded c.loop-row.kept.items c.in-Some.row c.in_ok-more.more.items c.loop-row.invariant.0 c.in_ok-more.ensures,
+  grown c.loop-row.yielded c.loop-row.kept.items c.in-Some.row c.in_ok-more.more.items c.loop-row.invariant.0 c.loop-row.invariant.1 c.in_ok-more.ensures,
 )
 
 pub returns-clause-sifted : goal.returns-clause-sifted

@@ -6,7 +6,16 @@ use Rattle.psg_terms.specs.Instances.{IsInstance}
 use Rattle.psg_relation.specs.Sifted.{LeavesOut}
 use Rattle.psg_relation.proofs.Growing.{out_keep, out_drop}
 use Rattle.psg_relation.proofs.maximal.without_instances.Goals as goal
-use Rattle.psg_relation.proofs.maximal.without_instances.Goals.{then-not-branch+in_ok-push, else-not-branch}
+
+pub loop-other-preserved-in_ok-push : goal.loop-other-preserved-in_ok-push
+loop-other-preserved-in_ok-push c =
+    let row = c.args.row.now in
+    let done = c.loop-other.yielded in
+    let rest = c.loop-other.rest.items in
+    let other = c.in-Some.other in
+    subst (LeavesOut row (done ++ other ∷ [])) (sym c.in_ok-push.ensures.items)
+    (out_keep row done rest other c.loop-other.invariant
+    (λ i. absurd (false≢true (sym c.if-not-branch.true ∙ c.in_ok-is_instance.ensures.instance.1 (subst (λ r. IsInstance r row) (sym c.terms.ensures) i)))))
 
 pub loop-other-preserved : goal.loop-other-preserved
 loop-other-preserved c =
@@ -14,17 +23,7 @@ loop-other-preserved c =
     let done = c.loop-other.yielded in
     let rest = c.loop-other.rest.items in
     let other = c.in-Some.other in
-    elim c.if-not-branch.branch [
-      | then-not-branch+in_ok-push w ↦
-          let e : c.if-not-branch.rest.items ≡ rest ++ other ∷ [] = cc (w.rest-is, w.in_ok-push.ensures.items) in
-          subst (LeavesOut row (done ++ other ∷ [])) (sym e)
-          (out_keep row done rest other c.loop-other.invariant
-          (λ i. absurd (false≢true (sym w.if-not-branch.true ∙ c.in_ok-is_instance.ensures.instance.1 (subst (λ r. IsInstance r row) (sym c.terms.ensures) i)))))
-      | else-not-branch w ↦
-          let e : c.if-not-branch.rest.items ≡ rest = cc (w.rest-is) in
-          subst (LeavesOut row (done ++ other ∷ [])) (sym e)
-          (out_drop row done rest other c.loop-other.invariant (subst (λ r. IsInstance r row) c.terms.ensures (c.in_ok-is_instance.ensures.instance.0 w.if-not-branch.false)))
-    ]
+    out_drop row done rest other c.loop-other.invariant (subst (λ r. IsInstance r row) c.terms.ensures (c.in_ok-is_instance.ensures.instance.0 c.if-not-branch.false))
 
 pub returns : goal.returns
 returns c =

@@ -7,26 +7,23 @@ use Rattle.psg_relation.specs.Sifted.{HasSameRows}
 use Rattle.psg_relation.proofs.Ordered.{order_push, order_skip}
 use Rattle.psg_relation.proofs.Splitting.{same_push, same_repeat}
 use Rattle.psg_relation.proofs.sifting.without_repeats.Goals as goal
-use Rattle.psg_relation.proofs.sifting.without_repeats.Goals.{then-not-repeats+in_ok-push, else-not-repeats}
+
+pub loop-row-preserved-in-Continue-branch-2 : goal.loop-row-preserved-in-Continue-branch-2
+loop-row-preserved-in-Continue-branch-2 c =
+    let done = c.loop-row.yielded in
+    let once = c.loop-row.once.items in
+    let row = c.in-Some.row in (
+      subst (HasSameRows (done ++ row ∷ [])) (sym c.in_ok-push.ensures.items) (same_push done once row c.loop-row.invariant.0),
+      subst (KeepsOrder (done ++ row ∷ [])) (sym c.in_ok-push.ensures.items) (order_push done once row c.loop-row.invariant.0.back c.loop-row.invariant.1),
+    )
 
 pub loop-row-preserved : goal.loop-row-preserved
 loop-row-preserved c =
     let done = c.loop-row.yielded in
     let once = c.loop-row.once.items in
     let row = c.in-Some.row in
-    elim c.if-not-repeats.branch [
-      | then-not-repeats+in_ok-push w ↦
-          let e : c.if-not-repeats.once.items ≡ once ++ row ∷ [] = cc (w.once-is, w.in_ok-push.ensures.items) in (
-            subst (HasSameRows (done ++ row ∷ [])) (sym e) (same_push done once row c.loop-row.invariant.0),
-            subst (KeepsOrder (done ++ row ∷ [])) (sym e) (order_push done once row c.loop-row.invariant.0.back c.loop-row.invariant.1),
-          )
-      | else-not-repeats w ↦
-          let d : c.if-not-repeats.once.items ≡ once = cc (w.once-is) in
-          let there : IsIn row once = subst (IsIn row) c.as_slice.ensures.value (c.repeats.ensures w.if-not-repeats.false) in (
-            subst (HasSameRows (done ++ row ∷ [])) (sym d) (same_repeat done once row c.loop-row.invariant.0 (c.loop-row.invariant.0.back row there)),
-            subst (KeepsOrder (done ++ row ∷ [])) (sym d) (order_skip done once row c.loop-row.invariant.1),
-          )
-    ]
+    let there : IsIn row once = subst (IsIn row) c.as_slice.ensures.value (c.repeats.ensures c.if-not-repeats.false) in
+    (same_repeat done once row c.loop-row.invariant.0 (c.loop-row.invariant.0.back row there), order_skip done once row c.loop-row.invariant.1)
 
 pub returns-clause-same : goal.returns-clause-same
 returns-clause-same c =
