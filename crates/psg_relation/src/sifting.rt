@@ -97,11 +97,11 @@ fn sift_many(
     ensures rows { IfOk result (λ o. MatchOption o (LosesHeavy rows.items) (λ kept. IsLightly rows.items kept.items)) }
     ensures order { IfOk result (λ o. IfSome o (λ kept. IsInTextOrder sig.now kept.items)) }
 {
-    let Split { light, heavy } = by_size(alloc, rows)?;
-    let sorted = in_order(alloc, sig, light)?;
+    let split = by_size(alloc, rows)?;
+    let sorted = in_order(alloc, sig, split.light)?;
     let once = without_repeats(alloc, sorted)?;
     let kept = maximal(alloc, once)?;
-    if are_covered(alloc, kept.as_slice(), heavy.as_slice())? {
+    if are_covered(alloc, kept.as_slice(), split.heavy.as_slice())? {
         Ok(Some(kept))
     } else {
         Ok(None)
