@@ -2,6 +2,7 @@
 mod definitions;
 mod edits;
 mod forms;
+mod limits;
 mod little;
 mod notes;
 mod trees;

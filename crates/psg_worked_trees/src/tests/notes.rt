@@ -65,7 +65,12 @@ fn counted<L: Ledger>(
 }
 
 /// The note of a tree of the kind.
-fn noted(alloc: Global, definition: &Definition, tree: &Tree, kind: Kind) -> Result<Note, NoteFault>
+pub(super) fn noted(
+    alloc: Global,
+    definition: &Definition,
+    tree: &Tree,
+    kind: Kind,
+) -> Result<Note, NoteFault>
     requires { IsSound definition.now }
 {
     if !well_formed(definition, tree, kind) {
@@ -90,7 +95,7 @@ fn put_path(text: &mut String, path: &Path) -> Result<(), AllocError> {
 }
 
 /// Whether the tree is good, how much its relations weigh, and the paths of the culprits.
-fn told(alloc: Global, note: &Note) -> Result<String, AllocError> {
+pub(super) fn told(alloc: Global, note: &Note) -> Result<String, AllocError> {
     let mark = if note.is_good() { "good" } else { "wrong" };
     let weight = note.weight();
     let mut text = format!(in alloc; "{mark} {weight}")?;
