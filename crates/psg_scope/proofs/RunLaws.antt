@@ -1,7 +1,6 @@
 -- Runs of keys of one list that are below the first key of the other.
 use Rattle.std.proofs.Common.{◌≡◌, ℕ, zero, suc, ◌+◌, ◌<◌, ◌≤◌, List, [], ◌∷◌, ◌++◌, length, take, drop, get_or, refl, ◌&&◌, ◌||◌, sym, ap, subst, ◌∙◌, arith, add-one, drop-cons}
 use Rattle.std.specs.List.{AllByRecursion}
-use Rattle.std.specs.declared.cmp.Ordering.{Ordering}
 use Rattle.std.specs.declared.cmp.Ordering.TheVariants.{Less}
 use Rattle.psg_grammar.specs.Keys.{Key, key_cmp}
 use Rattle.psg_scope.specs.Headers.{key_of, keys, both, IsBelow, AreRising}
@@ -83,7 +82,7 @@ split_run run rest i x small at =
 pub run_left : (run : List NameCol) (i : ℕ) (x : NameCol) (before old new : Merging) → i < length run → x ≡ get_or run i x
     → GrowsBy old new x (length old.names.items ∷ []) []
     → ((whole others rest right : List NameCol) → AreBefore run right → IsUpTo whole others (run ++ rest) right before
-        → IsUpTo whole others (drop i run ++ rest) right old)
+    → IsUpTo whole others (drop i run ++ rest) right old)
     → (whole others rest right : List NameCol) → AreBefore run right → IsUpTo whole others (run ++ rest) right before
     → IsUpTo whole others (drop (i + 1) run ++ rest) right new
 run_left run i x before old new small at grows h whole others rest right below up =
@@ -96,7 +95,7 @@ run_left run i x before old new small at grows h whole others rest right below u
 pub run_right : (run : List NameCol) (i : ℕ) (y : NameCol) (before old new : Merging) → i < length run → y ≡ get_or run i y
     → GrowsBy old new y [] (length old.names.items ∷ [])
     → ((whole others left rest : List NameCol) → AreBefore run left → IsUpTo whole others left (run ++ rest) before
-        → IsUpTo whole others left (drop i run ++ rest) old)
+    → IsUpTo whole others left (drop i run ++ rest) old)
     → (whole others left rest : List NameCol) → AreBefore run left → IsUpTo whole others left (run ++ rest) before
     → IsUpTo whole others left (drop (i + 1) run ++ rest) new
 run_right run i y before old new small at grows h whole others left rest below up =
@@ -125,9 +124,9 @@ pub gone_on : (left right lefts rest rights rest' : List NameCol) (n m : ℕ) (o
     → rights ≡ take m right → rest' ≡ drop m right → right ≡ rights ++ rest' → AreBefore (take m right) rest
     → length rest + n ≡ length left → length rest' + m ≡ length right
     → ((whole others rest right : List NameCol) → AreBefore lefts right → IsUpTo whole others (lefts ++ rest) right old
-        → IsUpTo whole others rest right middle)
+    → IsUpTo whole others rest right middle)
     → ((whole others left rest : List NameCol) → AreBefore rights left → IsUpTo whole others left (rights ++ rest) middle
-        → IsUpTo whole others left rest new)
+    → IsUpTo whole others left rest new)
     → GoesOn old new left right rest rest'
 gone_on left right lefts rest rights rest' n m old middle new t d s b t' d' s' b' l l' f g = record {
   up_to = λ whole others up.
