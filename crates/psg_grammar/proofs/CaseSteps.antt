@@ -1,5 +1,6 @@
 -- Sizes, and the steps of trees with their paths in order.
 use Rattle.std.proofs.Common.{◌≡◌, ℕ, zero, suc, ◌<◌, true, false, List, [], ◌∷◌, length, codes, refl, inl, inr, arith}
+use Rattle.psg_grammar.specs.declared.limits.TheConstants.{MOST_NODES, MOST_ELEMENTS, MOST_DEPTH, MOST_WEIGHTS, MOST_BRACKETS}
 use Rattle.psg_grammar.specs.Fragments.{Fragment, hole, ending, cell, operator, anything, observed, children_of}
 use Rattle.psg_grammar.specs.Sizes.{nodes_of, depth_of, longest_of, HasLongList, IsBig, IsDeep}
 use Rattle.psg_grammar.specs.Steps.{first_children, children_count, last_step, Place, steps_of, steps_above}
@@ -17,6 +18,10 @@ sized = (refl, refl, refl, refl)
 -- the longest list counts, wherever it is
 lists_measured : (longest_of (ending 0 true) ≡ 0) × (longest_of (plus_of zero_leaf zero_leaf) ≡ 0) × (longest_of (block (cell 0 (mark_of (codes "x")) (cell 0 (let_of (codes "x") one) (ending 0 true)))) ≡ 2) × (longest_of (cell 0 (block (cell 0 one (cell 0 one (cell 0 one (ending 0 true))))) (cell 0 one (ending 0 true))) ≡ 3)
 lists_measured = (refl, refl, refl, refl)
+
+-- the code tests by the limits of the definitions
+limits_of_code : (MOST_NODES ≡ 20000) × (MOST_ELEMENTS ≡ 4096) × (MOST_DEPTH ≡ 200) × (MOST_WEIGHTS ≡ 4000000) × (MOST_BRACKETS ≡ 400)
+limits_of_code = (refl, refl, refl, refl, refl)
 
 -- a list of so many blocks
 abbrev many : ℕ → Fragment

@@ -1,7 +1,6 @@
 -- Runs of keys of one list that are below the first key of the other.
 use Rattle.std.proofs.Common.{◌≡◌, ℕ, zero, suc, ◌+◌, ◌<◌, ◌≤◌, List, [], ◌∷◌, ◌++◌, length, take, drop, get_or, refl, ◌&&◌, ◌||◌, sym, ap, subst, ◌∙◌, arith, add-one, drop-cons}
 use Rattle.std.specs.List.{AllByRecursion}
-use Rattle.std.specs.declared.cmp.Ordering.{Ordering}
 use Rattle.std.specs.declared.cmp.Ordering.TheVariants.{Less}
 use Rattle.psg_grammar.specs.Keys.{Key, key_cmp}
 use Rattle.psg_scope.specs.Headers.{key_of, keys, both, IsBelow, AreRising}
