@@ -109,3 +109,34 @@ impl Tree {
         })
     }
 }
+
+#[cfg(test)]
+mod tests {
+    use super::*;
+    use crate::path::Path;
+    use crate::places::replace;
+    use std::test::Fail;
+
+    fn hole(alloc: Global, phylum: u32) -> Result<Tree, AllocError> {
+        Tree::new(alloc, Shape::Hole { phylum })
+    }
+
+    fn over(alloc: Global, left: Tree, right: Tree) -> Result<Tree, AllocError> {
+        let parts = Seq::of(vec![in alloc; Part::Sub(left), Part::Sub(right)]?);
+        Tree::new(alloc, Shape::Op { op: 0, parts })
+    }
+
+    #[test]
+    fn nodes_off_the_path_are_shared(rt: HostRuntime) -> Result<(), Fail> {
+        let first = hole(rt.alloc(), 1)?;
+        let new = hole(rt.alloc(), 3)?;
+        let tree = over(rt.alloc(), first.share()?, hole(rt.alloc(), 2)?)?;
+        assert_eq!(rt; Rc::strong_count(&first.shared), 2);
+        let path = Path::of(rt.alloc(), &[1])?;
+        let _changed = replace(rt.alloc(), &tree, &path, &new)?;
+        // One owner is here, one the old tree and one the changed tree.
+        assert_eq!(rt; Rc::strong_count(&first.shared), 3);
+        assert_eq!(rt; Rc::strong_count(&new.shared), 2);
+        Ok(())
+    }
+}

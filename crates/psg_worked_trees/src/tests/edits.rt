@@ -5,7 +5,6 @@ use psg_tree::{
     Path, Tree, TreeFault, abstract_text, at, depth, insert, nodes, remove, replace, set_unfinished,
 };
 use std::alloc::{AllocError, Global};
-use std::ptr;
 use std::test::Fail;
 
 /// What is done at a node.
@@ -123,25 +122,5 @@ fn lists(rt: HostRuntime) -> Result<(), Fail> {
         let found = answer(rt.alloc(), old, "", edit)?;
         assert_eq!(rt; found.as_str(), expected);
     }
-    Ok(())
-}
-
-/// Whether the node at the path is the very tree, and not a copy.
-fn is_shared(alloc: Global, tree: &Tree, steps: &str, own: &Tree) -> Result<bool, AllocError> {
-    let path = path(alloc, steps)?;
-    let found = at(tree, &path).ok_or(AllocError)?;
-    Ok(ptr::eq(found.shape(), own.shape()))
-}
-
-#[test]
-fn nodes_off_the_path_are_shared(rt: HostRuntime) -> Result<(), Fail> {
-    let old = tree(rt.alloc(), "0/2 ?1 ?2")?;
-    let new = tree(rt.alloc(), "?3")?;
-    let front = at(&old, &path(rt.alloc(), "0")?).ok_or("a placeholder")?;
-    let changed = replace(rt.alloc(), &old, &path(rt.alloc(), "1")?, &new)?;
-    assert!(rt; is_shared(rt.alloc(), &changed, "0", front)?);
-    assert!(rt; is_shared(rt.alloc(), &changed, "1", &new)?);
-    assert!(rt; !is_shared(rt.alloc(), &changed, "", &old)?);
-    assert!(rt; !is_shared(rt.alloc(), &old, "1", &new)?);
     Ok(())
 }

@@ -73,7 +73,8 @@ pub(super) fn noted(
 ) -> Result<Note, NoteFault>
     requires { IsSound definition.now }
 {
-    if !well_formed(definition, tree, kind) {
+    let formed = well_formed(definition, tree, kind);
+    if !formed {
         return Err(NoteFault::Memory);
     }
     counted::<Brand>(alloc, definition, tree, Blank::new(1))

@@ -3,4 +3,4 @@ use Rattle.psg_worked_trees.proofs.tests.notes.noted.Goals as goal
 
 pub counted-requires-clause-formed : goal.counted-requires-clause-formed
 counted-requires-clause-formed c =
-    formed_of_well c.args.definition.now c.args.tree.now c.args.kind (c.well_formed.ensures.0 c.if-not-well_formed.false)
+    formed_of_well c.args.definition.now c.args.tree.now c.args.kind (c.well_formed-formed.ensures.0 c.if-not-formed.false)
