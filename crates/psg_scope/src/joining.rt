@@ -20,7 +20,7 @@ pub struct Joined {
 }
 
 /// The header of a region that has the positions of two: its keys are those of both, in order and each once, and a key that
-/// one of them declares is declared. It declares a key twice where one of them does or both declare one key. It looks at
+/// one of them declares is declared. It declares a key twice where one of them does or both declare one key. It copies
 /// each key once, and shares the names.
 pub fn join(alloc: Global, left: &Header, right: &Header) -> Result<Joined, AllocError>
     requires left { IsOrdered left.now }
