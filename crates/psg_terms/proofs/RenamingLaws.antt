@@ -147,7 +147,7 @@ numbering-extends_row sig base old new h (t ∷ row) a =
     let both = each-front (IsAmong old) (opens sig (variables t)) (opens sig (variables_of row)) (subst (Each (IsAmong old)) (opens-append sig (variables t) (variables_of row)) a) in
     ap₂ (λ x xs. x ∷ xs) (numbering-extends sig base old new h t both.0) (numbering-extends_row sig base old new h row both.1)
 
-variables_of-append : (xs ys : List Term) → variables_of (xs ++ ys) ≡ variables_of xs ++ variables_of ys
+pub variables_of-append : (xs ys : List Term) → variables_of (xs ++ ys) ≡ variables_of xs ++ variables_of ys
 variables_of-append [] ys = refl
 variables_of-append (x ∷ xs) ys = ap (λ l. variables x ++ l) (variables_of-append xs ys) ∙ sym (append_assoc (variables x) (variables_of xs) (variables_of ys))
 

@@ -2,7 +2,7 @@
 use Rattle.std.proofs.Common.{◌≡◌, ℕ, ◌+◌, ◌<◌, min, max, zero, suc, List, [], ◌∷◌, ◌++◌, take, get_or, length, refl, ap, ap₂, sym, ◌∙◌, subst, slice_get, Option, Some, arith}
 use Rattle.psg_terms.specs.Terms.{Term, variable, symbol, apply, applied}
 use Rattle.psg_terms.specs.Signature.{Signature, Symbol, HasSort, HaveSorts}
-use Rattle.psg_terms.specs.Weight.{symbols_of, depth_of}
+use Rattle.psg_terms.specs.Weight.{symbols_of, depth_of, above_of}
 use Rattle.psg_terms.specs.Sizes.{size, sizes}
 use Rattle.psg_terms.proofs.Applied.{applied-sorts}
 use Rattle.psg_terms.proofs.DeclareLaws.{take-next}
@@ -19,12 +19,19 @@ depth-same : (t u : Term) (xs : List Term) → depth_of t ≡ depth_of u → dep
 depth-same t u [] e = e
 depth-same t u (x ∷ xs) e = depth-same (apply t x) (apply u x) xs (ap (λ n. max n (depth_of x + 1)) e)
 
+above-same : (t u : Term) (xs : List Term) → above_of t ≡ above_of u → above_of (applied t xs) ≡ above_of (applied u xs)
+above-same t u [] e = e
+above-same t u (x ∷ xs) e = above-same (apply t x) (apply u x) xs (ap (λ n. max n (above_of x)) e)
+
 -- the constructor says nothing of the size
 pub symbols-con : (c d m n : ℕ) (xs : List Term) → n ≡ min (symbols_of (applied (symbol c) xs)) m → n ≡ min (symbols_of (applied (symbol d) xs)) m
 symbols-con c d m n xs h = h ∙ ap (λ k. min k m) (symbols-same (symbol c) (symbol d) xs refl)
 
 pub depth-con : (c d m n : ℕ) (xs : List Term) → n ≡ min (depth_of (applied (symbol c) xs)) m → n ≡ min (depth_of (applied (symbol d) xs)) m
 depth-con c d m n xs h = h ∙ ap (λ k. min k m) (depth-same (symbol c) (symbol d) xs refl)
+
+pub above-con : (c d n : ℕ) (xs : List Term) → n ≡ above_of (applied (symbol c) xs) → n ≡ above_of (applied (symbol d) xs)
+above-con c d n xs h = h ∙ above-same (symbol c) (symbol d) xs refl
 
 -- one more argument
 pub symbols-step : (m now own after : ℕ) (xs : List Term) (i : ℕ) (x : Term) → now ≡ min (symbols_of (applied (symbol 0) (take i xs))) m → own ≡ min (symbols_of x) m → after ≡ min (now + own) m → i < length xs → x ≡ get_or xs i x → after ≡ min (symbols_of (applied (symbol 0) (take (i + 1) xs))) m
@@ -44,6 +51,10 @@ depth-step m now own next after xs i x h o n a lt at =
   where
     capped : (p q : ℕ) → max (min p m) (min (min q m + 1) m) ≡ min (max p (q + 1)) m
     capped p q = omega arith
+
+pub above-step : (now own after : ℕ) (xs : List Term) (i : ℕ) (x : Term) → now ≡ above_of (applied (symbol 0) (take i xs)) → own ≡ above_of x → after ≡ max now own → i < length xs → x ≡ get_or xs i x → after ≡ above_of (applied (symbol 0) (take (i + 1) xs))
+above-step now own after xs i x h o a lt at =
+    a ∙ ap₂ max h o ∙ ap above_of (sym (ap (applied (symbol 0)) (take-next xs i x lt at) ∙ applied-push (symbol 0) (take i xs) x))
 
 -- the sort of a constructor with its arguments is the constructor's
 pub symbol_sort : (sig : Signature) (t : Term) (c : ℕ) (xs : List Term) (s : ℕ) → t ≡ applied (symbol c) xs → HasSort sig t s → (x : Symbol) × (slice_get sig.symbols c ≡ Some x) × (x.sort ≡ s)

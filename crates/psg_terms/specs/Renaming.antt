@@ -3,8 +3,9 @@ use Rattle.std.specs.Prelude.{ℕ, ◌≡◌, ◌+◌, true, cond, List, [], ◌
 use Rattle.psg_terms.specs.Terms.{Term, variable, symbol}
 use Rattle.psg_terms.specs.Signature.{Signature, only_constructor}
 use Rattle.psg_terms.specs.Instances.{Substitution, substitute}
-use Rattle.psg_terms.specs.Canonical.{Variable, same_variable, is_noted, noted_all, variables_of}
+use Rattle.psg_terms.specs.Canonical.{Variable, same_variable, is_noted, noted_all, variables_of, AreWrittenOut}
 use Rattle.psg_terms.specs.declared.canonical.Key.{Key}
+use Rattle.psg_terms.specs.declared.sorts.SortId.{SortId}
 
 abbrev pub key : Key → Variable
 key k = (k.sort.0, k.number)
@@ -44,3 +45,14 @@ pub record Renumbered (sig : Signature) (base : ℕ) (old new : List Variable) (
 abbrev pub AreKnown : List Variable → List Variable → Type 0
 AreKnown known [] = Unit {0}
 AreKnown known (x ∷ xs) = (is_noted x known ≡ true) × AreKnown known xs
+
+-- a variable of each of these sorts, numbered from n on
+abbrev pub numbered_from : ℕ → List SortId → List Variable
+numbered_from n [] = []
+numbered_from n (s ∷ sorts) = (s.0, n) ∷ numbered_from (n + 1) sorts
+
+-- The row's variables that are not among the old ones are numbered from behind them on by first occurrence, and the new ones
+-- are all together; one-constant sorts are written out.
+pub record GoesOn (sig : Signature) (old new : List SortId) (row : List Term) : Type 0 where
+  pub known : noted_all (numbered_from 1 old) (variables_of row) ≡ numbered_from 1 new
+  pub written : AreWrittenOut sig row

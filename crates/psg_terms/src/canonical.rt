@@ -1,10 +1,10 @@
 //! Rows with new numbers for their variables.
-ghost use Rattle.std.specs.Prelude.{◌≡◌, ◌+◌, ◌<◌, ◌^◌, ◌∷◌, [], length, false, true, IfOk, IsOk, MatchOption, List, ℕ};
+ghost use Rattle.std.specs.Prelude.{◌≡◌, ◌+◌, ◌<◌, ◌^◌, ◌∷◌, [], length, false, true, IfOk, IfSome, IsOk, IsTrue, MatchOption, List, ℕ};
 ghost use Rattle.psg_terms.specs.Terms.{Term as Plain};
 ghost use Rattle.psg_terms.specs.Canonical.{Variable, is_noted, noted, IsCanonical};
 ghost use Rattle.psg_terms.specs.Instances.{HasSameInstances};
 ghost use Rattle.psg_terms.specs.Signature.{HaveSorts, AreTerms};
-ghost use Rattle.psg_terms.specs.Renaming.{keys, place, Renumbered};
+ghost use Rattle.psg_terms.specs.Renaming.{keys, place, numbered_from, GoesOn, Renumbered};
 
 use crate::sorts::{Signature, SortId};
 use crate::term::{Node, Term};
@@ -35,7 +35,7 @@ pub fn note(known: &mut IndexSet<Key>, sort: SortId, number: u32) -> Result<usiz
     Ok(added.0)
 }
 
-/// The term with numbers from base + 1 on for its variables.
+/// The term with numbers from base + 1 on for its variables. Where it has none, it is shared.
 #[cycle(renumber)]
 fn renumber(
     alloc: Global,
@@ -46,6 +46,10 @@ fn renumber(
 ) -> Result<Term, AllocError>
     ensures { IfOk result (λ t. Renumbered sig.now base (keys known.old.keys) (keys known.new.keys) (term.now ∷ []) (t ∷ [])) }
 {
+    if term.above() == 0 {
+        let copy = term.share()?;
+        return Ok(copy);
+    }
     match term.node() {
         Node::Var { sort, number } => match sig.constant_of(*sort) {
             Some(con) => {
@@ -98,6 +102,84 @@ pub fn number_of(base: usize, place: usize) -> Result<u32, AllocError>
     }
 }
 
+/// Whether the variable goes on a numbering from 1: it is the next one, which is known afterwards, or a known one.
+fn goes_on(known: &mut Vec<SortId>, sort: SortId, number: u32) -> Result<bool, AllocError>
+    ensures { IfOk result (λ b. IsTrue b
+        → noted (numbered_from 1 known.old.items) (sort.0, number) ≡ numbered_from 1 known.new.items) }
+{
+    let count = known.len();
+    if number as usize == count + 1 {
+        known.push(sort)?;
+        return Ok(true);
+    }
+    if number == 0 || number as usize > count {
+        return Ok(false);
+    }
+    let place = number as usize - 1;
+    Ok(known[place].0 == sort.0)
+}
+
+/// Whether the term's variables go on a numbering from 1 by first occurrence, with one-constant sorts written out. It needs
+/// no table, and passes over what has no variable.
+#[cycle(recognise)]
+fn is_numbered(sig: &Signature, known: &mut Vec<SortId>, term: &Term) -> Result<bool, AllocError>
+    ensures { IfOk result (λ b. IsTrue b → GoesOn sig.now known.old.items known.new.items (term.now ∷ [])) }
+{
+    if term.above() == 0 {
+        return Ok(true);
+    }
+    match term.node() {
+        Node::Var { sort, number } => match sig.constant_of(*sort) {
+            Some(_) => Ok(false),
+            None => {
+                let next = goes_on(known, *sort, *number)?;
+                Ok(next)
+            }
+        },
+        Node::Con { args, .. } => {
+            let all = are_numbered(sig, known, args.as_slice())?;
+            Ok(all)
+        }
+    }
+}
+
+/// The same of a row.
+#[cycle(recognise)]
+fn are_numbered(sig: &Signature, known: &mut Vec<SortId>, row: &[Term]) -> Result<bool, AllocError>
+    ensures { IfOk result (λ b. IsTrue b → GoesOn sig.now known.old.items known.new.items row.now) }
+{
+    for i in 0..row.len() {
+        if !is_numbered(sig, known, &row[i])? {
+            return Ok(false);
+        }
+    }
+    Ok(true)
+}
+
+/// One more owner of each of the terms.
+fn shared(alloc: Global, row: &[Term]) -> Result<Vec<Term>, AllocError>
+    ensures { IfOk result (λ v. v.items ≡ row.now) }
+{
+    let mut copies = Vec::with_capacity(alloc, row.len())?;
+    for term in row {
+        copies.push(term.share()?)?;
+    }
+    Ok(copies)
+}
+
+/// The row as it is, where the walk finds that it is canonical.
+fn as_it_is(alloc: Global, sig: &Signature, row: &[Term]) -> Result<Option<Vec<Term>>, AllocError>
+    ensures same { IfOk result (λ o. IfSome o (λ r. r.items ≡ row.now)) }
+    ensures canonical { IfOk result (λ o. IfSome o (λ _. IsCanonical sig.now row.now)) }
+{
+    let mut known = Vec::new(alloc);
+    if !are_numbered(sig, &mut known, row)? {
+        return Ok(None);
+    }
+    let copies = shared(alloc, row)?;
+    Ok(Some(copies))
+}
+
 /// The row with its variables numbered from base + 1 on by first occurrence and one-constant sorts written out, and how
 /// many variables it has.
 pub fn renumbered(
@@ -115,8 +197,9 @@ pub fn renumbered(
     Ok((copies, count))
 }
 
-/// The row with its variables numbered from 1 by first occurrence and one-constant sorts written out, in one walk. A
-/// row that is canonical is given back as it is: by `only`, where the other row is the row itself.
+/// The row with its variables numbered from 1 by first occurrence and one-constant sorts written out, in two walks at most. A
+/// row that is canonical is given back as it is: by `only`, where the other row is the row itself. Parts without variables
+/// are shared, so a walk takes one step for each of them.
 pub fn canonical(alloc: Global, sig: &Signature, row: &[Term]) -> Result<Vec<Term>, AllocError>
     requires { AreTerms sig.now row.now }
     ensures canonical { IfOk result (λ r. IsCanonical sig.now r.items) }
@@ -128,6 +211,9 @@ pub fn canonical(alloc: Global, sig: &Signature, row: &[Term]) -> Result<Vec<Ter
         → other ≡ r.items) }
 {
     sig.sound();
+    if let Some(given) = as_it_is(alloc, sig, row)? {
+        return Ok(given);
+    }
     let (copies, _count) = renumbered(alloc, sig, 0, row)?;
     Ok(copies)
 }

@@ -2,7 +2,7 @@
 ghost use Rattle.std.specs.Prelude.{◌≡◌, ◌+◌, ◌-◌, ◌^◌, IfOk, min, ℕ};
 ghost use Rattle.psg_terms.specs.Terms.{variable, symbol, applied};
 ghost use Rattle.psg_terms.specs.Signature.{HasSort, TakesArguments};
-ghost use Rattle.psg_terms.specs.Weight.{symbols_of, depth_of};
+ghost use Rattle.psg_terms.specs.Weight.{symbols_of, depth_of, above_of};
 
 use crate::seq::Seq;
 use crate::sorts::{ConId, Signature, SortId};
@@ -18,13 +18,15 @@ pub enum Node {
     Con { con: ConId, args: Seq<Term> },
 }
 
-/// A node with how many variables and constructors its term has and how deep it is, both at most `u64::MAX`.
+/// A node with how many variables and constructors its term has and how deep it is, both at most `u64::MAX`, and with one
+/// above the greatest number of its variables.
 #[cycle(term)]
 #[derive(Drop)]
 struct Weighed {
     node: Node,
     symbols: u64,
     depth: u64,
+    above: u64,
 }
 
 /// A term, which may have several owners.
@@ -66,6 +68,7 @@ impl Term {
             node: Node::Var { sort, number },
             symbols: 1,
             depth: 1,
+            above: number as u64 + 1,
         };
         Ok(Term {
             shared: Rc::new(alloc, weighed)?,
@@ -92,6 +95,7 @@ impl Term {
     {
         let symbols = symbols_with(args.as_slice());
         let depth = depth_with(args.as_slice());
+        let above = above_with(args.as_slice());
         let weighed = Weighed {
             node: Node::Con {
                 con,
@@ -99,6 +103,7 @@ impl Term {
             },
             symbols,
             depth,
+            above,
         };
         Ok(Term {
             shared: Rc::new(alloc, weighed)?,
@@ -125,6 +130,13 @@ impl Term {
         ensures { result ≡ min (depth_of self.now) (2 ^ 64 - 1) }
     {
         self.shared.as_ref().depth
+    }
+
+    /// One above the greatest number of a variable of the term, and 0 where the term has none. It takes one step.
+    pub fn above(&self) -> u64
+        ensures { result ≡ above_of self.now }
+    {
+        self.shared.as_ref().above
     }
 
     /// The sort of the term, which is one of the signature.
@@ -168,4 +180,15 @@ fn depth_with(args: &[Term]) -> u64
         depth = depth.max(arg.depth().saturating_add(1));
     }
     depth
+}
+
+/// One above the greatest number of a variable of a constructor with these arguments.
+fn above_with(args: &[Term]) -> u64
+    ensures { result ≡ above_of (applied (symbol 0) args.now) }
+{
+    let mut above = 0u64;
+    for arg in args {
+        above = above.max(arg.above());
+    }
+    above
 }

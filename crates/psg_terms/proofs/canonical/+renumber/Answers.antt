@@ -5,7 +5,12 @@ use Rattle.psg_terms.specs.Renaming.{keys, Renumbered}
 use Rattle.psg_terms.proofs.Nodes.{size-con}
 use Rattle.psg_terms.proofs.Weights.{sizes-at}
 use Rattle.psg_terms.proofs.RenamingLaws.{renumbered_con, renumbered_step}
+use Rattle.psg_terms.proofs.Recognising.{renumbered_closed}
 use Rattle.psg_terms.proofs.canonical.+renumber.Goals as goal
+
+pub renumber-returns-then-above-eq0 : goal.renumber-returns-then-above-eq0
+renumber-returns-then-above-eq0 t c =
+    renumbered_closed c.args.sig.now c.args.base (keys c.args.known.now.keys) c.args.term.now c.in_ok-copy.copy (sym c.above.ensures ∙ c.if-above-eq0.true) c.in_ok-copy.ensures
 
 pub renumber-renumber_all-requires : goal.renumber-renumber_all-requires
 renumber-renumber_all-requires t c =
