@@ -70,15 +70,15 @@ module _ (sig : Signature) (rows : List (List Term)) (keep : List ℕ) where
       (λ d columns q. let (c, both) = back d columns q in (c, λ x. ((both x).1, (both x).0)))
       (λ c columns p. let (d, both) = there c columns p in (d, λ x. ((both x).1, (both x).0))) others
 
-pick-append : (o : Option Term) (xs ys : List Term) → pick o (xs ++ ys) ≡ pick o xs ++ ys
+pick-append : {X : Type 0} (o : Option X) (xs ys : List X) → pick o (xs ++ ys) ≡ pick o xs ++ ys
 pick-append None xs ys = refl
 pick-append (Some x) xs ys = refl
 
 -- one column more
-pub picked-push : (row : List Term) (keep : List ℕ) (k : ℕ) (x : Term) → slice_get row k ≡ Some x → picked row (keep ++ k ∷ []) ≡ picked row keep ++ x ∷ []
+pub picked-push : {X : Type 0} (row : List X) (keep : List ℕ) (k : ℕ) (x : X) → slice_get row k ≡ Some x → picked row (keep ++ k ∷ []) ≡ picked row keep ++ x ∷ []
 picked-push row [] k x e = ap (λ o. pick o []) e
 picked-push row (m ∷ keep) k x e = ap (pick (slice_get row m)) (picked-push row keep k x e) ∙ pick-append (slice_get row m) (picked row keep) (x ∷ [])
 
-pub picked-more : (row : List Term) (keep : List ℕ) (i k : ℕ) (x : Term) (now more : List Term) → i < length keep → k ≡ get_or keep i k → slice_get row k ≡ Some x → now ≡ picked row (take i keep) → more ≡ now ++ x ∷ [] → more ≡ picked row (take (i + 1) keep)
+pub picked-more : {X : Type 0} (row : List X) (keep : List ℕ) (i k : ℕ) (x : X) (now more : List X) → i < length keep → k ≡ get_or keep i k → slice_get row k ≡ Some x → now ≡ picked row (take i keep) → more ≡ now ++ x ∷ [] → more ≡ picked row (take (i + 1) keep)
 picked-more row keep i k x now more l e at d m =
     m ∙ ap (λ xs. xs ++ x ∷ []) d ∙ sym (picked-push row (take i keep) k x at) ∙ ap (picked row) (sym (take-next keep i k l e))

@@ -85,16 +85,6 @@ pub uncovered_more : (kept : List (List Term)) (i : ℕ) (row other : List Term)
 uncovered_more kept i row other l e nope here (k, h, j) =
     elim (in-next k kept i other l e h) [ inl a ↦ nope (k, a, j) | inr d ↦ here (subst (IsInstance row) d j) ]
 
-pub out_more : (row : List Term) (kept rest : List (List Term)) (i : ℕ) (k : List Term) (more : List (List Term)) → i < length kept → k ≡ get_or kept i k → LeavesOut row (take i kept) rest → more ≡ rest ++ k ∷ [] → (IsInstance k row → ⊥) → LeavesOut row (take (i + 1) kept) more
-out_more row kept rest i k more l e h d nope =
-    subst (λ x. LeavesOut row x more) (sym (take-next kept i k l e)) (subst (LeavesOut row (take i kept ++ k ∷ [])) (sym d) (out_keep row (take i kept) rest k h nope))
-
-pub out_less : (row : List Term) (kept rest : List (List Term)) (i : ℕ) (k : List Term) → i < length kept → k ≡ get_or kept i k → LeavesOut row (take i kept) rest → IsInstance k row → LeavesOut row (take (i + 1) kept) rest
-out_less row kept rest i k l e h j = subst (λ x. LeavesOut row x rest) (sym (take-next kept i k l e)) (out_drop row (take i kept) rest k h j)
-
-pub sifted_next : (rows kept : List (List Term)) (i : ℕ) (row : List Term) (more : List (List Term)) → i < length rows → row ≡ get_or rows i row → IsSifted (take i rows) kept → IsGrown kept row more → IsSifted (take (i + 1) rows) more
-sifted_next rows kept i row more l e h g = subst (λ x. IsSifted x more) (sym (take-next rows i row l e)) (sifted_more (take i rows) kept row more h g)
-
 -- a row without variables has no instance but itself
 ground-same : (f : Substitution) (t : Term) → IsGround t → substitute f t ≡ t
 ground-same f (variable s n) h = absurd h
@@ -120,24 +110,3 @@ grown_plain kept row more plain nope e = inr (
     e,
   ),
 )
-
--- the arguments of a constructor without variables
-pub applied-plain : (t : Term) (row : List Term) → IsGround t → AreGround row → IsGround (applied t row)
-applied-plain t [] h k = h
-applied-plain t (a ∷ row) h (k, l) = applied-plain (apply t a) row (h, k) l
-
-pub plain-push : (row : List Term) (t : Term) → AreGround row → IsGround t → AreGround (row ++ t ∷ [])
-plain-push [] t h k = (k, tt)
-plain-push (x ∷ row) t (h, hs) k = (h, plain-push row t hs k)
-
-pub plain_more : (row : List Term) (i : ℕ) (t : Term) → i < length row → t ≡ get_or row i t → AreGround (take i row) → IsGround t → AreGround (take (i + 1) row)
-plain_more row i t l e h k = subst AreGround (sym (take-next row i t l e)) (plain-push (take i row) t h k)
-
-pub plain-applied : (t : Term) (row : List Term) → IsGround (applied t row) → IsGround t × AreGround row
-plain-applied t [] h = (h, tt)
-plain-applied t (a ∷ row) h = let k = plain-applied (apply t a) row h in (k.0.0, (k.0.1, k.1))
-
-pub plain_at : (row : List Term) (i : ℕ) (t : Term) → i < length row → t ≡ get_or row i t → AreGround row → IsGround t
-plain_at [] i t l e h = absurd (omega arith)
-plain_at (x ∷ row) zero t l e (h, _) = subst IsGround (sym e) h
-plain_at (x ∷ row) (suc i) t l e (_, h) = plain_at row i t (omega arith) e h

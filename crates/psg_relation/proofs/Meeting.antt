@@ -65,7 +65,7 @@ module _ (sig : Signature) (pairs : List Columns) (keep : List ℕ) where
     ];
   })
 
-each-push : (one other : List Term) (rest : List (List Term)) → with_each one (rest ++ other ∷ []) ≡ with_each one rest ++ (one, other) ∷ []
+pub each-push : (one other : List Term) (rest : List (List Term)) → with_each one (rest ++ other ∷ []) ≡ with_each one rest ++ (one, other) ∷ []
 each-push one other [] = refl
 each-push one other (x ∷ rest) = ap (λ ps. (one, x) ∷ ps) (each-push one other rest)
 
@@ -90,21 +90,21 @@ pub pairs_step : (sig : Signature) (pairs : List Columns) (keep : List ℕ) (lef
 pairs_step sig pairs keep left right more i one l e a =
     subst (λ ps. AreJoined sig pairs keep ps more) (sym (pairs-push (take i left) right one) ∙ ap (λ ls. all_pairs ls right) (sym (take-next left i one l e))) a
 
-in-either : {X : Type 0} (x : X) (xs ys : List X) → IsIn x (xs ++ ys) → IsIn x xs ⊎ IsIn x ys
+pub in-either : {X : Type 0} (x : X) (xs ys : List X) → IsIn x (xs ++ ys) → IsIn x xs ⊎ IsIn x ys
 in-either x [] ys h = inr h
 in-either x (y ∷ xs) ys first = inl first
 in-either x (y ∷ xs) ys (later h) = elim (in-either x xs ys h) [ inl a ↦ inl (later a) | inr b ↦ inr b ]
 
-in-right : {X : Type 0} (x : X) (xs ys : List X) → IsIn x ys → IsIn x (xs ++ ys)
+pub in-right : {X : Type 0} (x : X) (xs ys : List X) → IsIn x ys → IsIn x (xs ++ ys)
 in-right x [] ys h = h
 in-right x (y ∷ xs) ys h = later (in-right x xs ys h)
 
-each-in : (p : Two) (one : List Term) (right : List (List Term)) → IsIn p (with_each one right) → (p.0 ≡ one) × IsIn p.1 right
+pub each-in : (p : Two) (one : List Term) (right : List (List Term)) → IsIn p (with_each one right) → (p.0 ≡ one) × IsIn p.1 right
 each-in p one [] h = elim h [ ]
 each-in p one (other ∷ rest) first = (refl, first)
 each-in p one (other ∷ rest) (later h) = let (e, i) = each-in p one rest h in (e, later i)
 
-in-each : (one other : List Term) (right : List (List Term)) → IsIn other right → IsIn (one, other) (with_each one right)
+pub in-each : (one other : List Term) (right : List (List Term)) → IsIn other right → IsIn (one, other) (with_each one right)
 in-each one other [] h = elim h [ ]
 in-each one other (o ∷ rest) first = first
 in-each one other (o ∷ rest) (later h) = later (in-each one other rest h)

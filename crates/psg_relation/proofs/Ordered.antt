@@ -18,7 +18,6 @@ use Rattle.psg_terms.specs.Terms.{Term}
 use Rattle.psg_terms.specs.Signature.{Signature}
 use Rattle.psg_terms.specs.Relations.{IsIn, first, later}
 use Rattle.psg_terms.specs.Text.{row_text, IsInTextOrder}
-use Rattle.psg_terms.proofs.DeclareLaws.{take-next}
 use Rattle.psg_relation.specs.Ordered.{IsOrdered, KeepsOrder, is_not_above}
 use Rattle.psg_relation.specs.Sifted.{IsSifted, IsGrown}
 use Rattle.psg_relation.specs.Texts.{AreTexts, rows_in}
@@ -48,21 +47,11 @@ order_push done kept x among k test o = ordered-push test kept x (k test (ordere
 pub order_skip : {X : Type 0} (done kept : List X) (x : X) → KeepsOrder done kept → KeepsOrder (done ++ x ∷ []) kept
 order_skip done kept x k test o = k test (ordered-front test done x o)
 
-pub order_more : {X : Type 0} (xs kept : List X) (i : ℕ) (x : X) (more : List X) → i < length xs → x ≡ get_or xs i x → ((y : X) → IsIn y kept → IsIn y (take i xs)) → KeepsOrder (take i xs) kept → more ≡ kept ++ x ∷ [] → KeepsOrder (take (i + 1) xs) more
-order_more xs kept i x more l e among k d =
-    subst (λ z. KeepsOrder z more) (sym (take-next xs i x l e)) (subst (KeepsOrder (take i xs ++ x ∷ [])) (sym d) (order_push (take i xs) kept x among k))
-
-pub order_less : {X : Type 0} (xs kept : List X) (i : ℕ) (x : X) → i < length xs → x ≡ get_or xs i x → KeepsOrder (take i xs) kept → KeepsOrder (take (i + 1) xs) kept
-order_less xs kept i x l e k = subst (λ z. KeepsOrder z kept) (sym (take-next xs i x l e)) (order_skip (take i xs) kept x k)
-
 -- one row more among the most general ones
 pub grown : (done kept : List (List Term)) (row : List Term) (more : List (List Term)) → IsSifted done kept → KeepsOrder done kept → IsGrown kept row more → KeepsOrder (done ++ row ∷ []) more
 grown done kept row more s k (inl (covered, e)) = subst (KeepsOrder (done ++ row ∷ [])) (sym e) (order_skip done kept row k)
 grown done kept row more s k (inr (uncovered, (rest, l, e))) =
     subst (KeepsOrder (done ++ row ∷ [])) (sym e) (order_push done rest row (λ y i. s.among y (l.among y i)) (λ test o. l.order test (k test o)))
-
-pub order_grown : (rows kept : List (List Term)) (i : ℕ) (row : List Term) (more : List (List Term)) → i < length rows → row ≡ get_or rows i row → IsSifted (take i rows) kept → KeepsOrder (take i rows) kept → IsGrown kept row more → KeepsOrder (take (i + 1) rows) more
-order_grown rows kept i row more l e s k g = subst (λ z. KeepsOrder z more) (sym (take-next rows i row l e)) (grown (take i rows) kept row more s k g)
 
 pub texts_ordered : (sig : Signature) (rows : List (List Term)) → IsOrdered (is_not_above sig) rows → IsInTextOrder sig rows
 texts_ordered sig [] o = tt
@@ -114,6 +103,5 @@ pub sorted_by_texts : {F : Type 0} {g : Mut F (Bor Printed × (Bor Printed × Un
 sorted_by_texts {g = g} {f = f} printed up h = up is_below (ranks_by nat_list_cmp_total text_of)
     (always_returns_same g (λ a r. is_lt r ≡ is_below a.0.now a.1.0.now) f (λ a r f' k. (ap is_lt (h a r f' k).0, (h a r f' k).1)))
 
-pub rows_next : (done : List Printed) (p : Printed) (more : List Printed) (rows : List (List Term)) (i : ℕ) (row : List Term) → i < length rows → row ≡ get_or rows i row → rows_in done ≡ take i rows → p.row ≡ row → more ≡ done ++ p ∷ [] → rows_in more ≡ take (i + 1) rows
-rows_next done p more rows i row l at h own e =
-    ap rows_in e ∙ map-append (λ (q : Printed). q.row) done (p ∷ []) ∙ ap₂ (λ xs (x : List Term). xs ++ x ∷ []) h own ∙ sym (take-next rows i row l at)
+pub rows_next : (printed : List Printed) (p : Printed) (more : List Printed) (rows : List (List Term)) → rows_in printed ≡ rows → more ≡ printed ++ p ∷ [] → rows_in more ≡ rows ++ p.row ∷ []
+rows_next printed p more rows h e = ap rows_in e ∙ map-append (λ (q : Printed). q.row) printed (p ∷ []) ∙ ap (λ (xs : List (List Term)). xs ++ p.row ∷ []) h

@@ -1,13 +1,16 @@
 -- Steps of splitting and ordering rows, and what the most general ones are then.
-use Rattle.std.proofs.Common.{◌≡◌, ℕ, ◌+◌, ◌<◌, inl, inr, true, false, List, [], ◌∷◌, ◌++◌, length, take, get_or, sym, subst}
+use Rattle.std.proofs.Common.{◌≡◌, ◌≤◌, inl, inr, true, false, Option, Some, None, List, [], ◌∷◌, ◌++◌, length, refl, sym, ◌∙◌, subst, arith}
+use Rattle.std.specs.Prelude.{IfSome}
 use Rattle.std.specs.List.Sorted.{IsPermutation}
 use Rattle.std.proofs.lemmas.List.Sorted.{IsPermutation-sym, Contains-permutation}
 use Rattle.psg_terms.specs.Terms.{Term}
-use Rattle.psg_terms.specs.Relations.{IsIn}
-use Rattle.psg_terms.proofs.DeclareLaws.{take-next}
+use Rattle.psg_terms.specs.Relations.{IsIn, first, later}
+use Rattle.psg_terms.specs.Signature.{Signature}
+use Rattle.psg_terms.specs.Text.{IsInTextOrder}
 use Rattle.psg_relation.specs.Heavy.{IsHeavy}
-use Rattle.psg_relation.specs.Sifted.{AreCovered, IsSifted, IsSplit, HasSameRows, IsLightly, LosesHeavy}
+use Rattle.psg_relation.specs.Sifted.{AreCovered, IsSifted, IsSplit, HasSameRows, IsLightly, LosesHeavy, StartsHeavy}
 use Rattle.psg_relation.proofs.Members.{in-left, in-last, in-split, in-contains, contains-in}
+use Rattle.psg_relation.proofs.Growing.{instance-refl, sifted_none}
 
 push-in : (x row : List Term) (done more : List (List Term)) → (IsIn x done → IsIn x more) → IsIn x (done ++ row ∷ []) → IsIn x (more ++ row ∷ [])
 push-in x row done more h i = elim (in-split x row done i) [
@@ -44,29 +47,22 @@ split_heavy done light heavy row s large = record {
   ];
 }
 
-pub lights_more : (rows light heavy : List (List Term)) (i : ℕ) (row : List Term) (more : List (List Term)) → i < length rows → row ≡ get_or rows i row → IsSplit (take i rows) light heavy → (IsHeavy row → ⊥) → more ≡ light ++ row ∷ [] → IsSplit (take (i + 1) rows) more heavy
-lights_more rows light heavy i row more l e s small d =
-    subst (λ x. IsSplit x more heavy) (sym (take-next rows i row l e)) (subst (λ x. IsSplit (take i rows ++ row ∷ []) x heavy) (sym d) (split_light (take i rows) light heavy row s small))
+pub lights_next : (done light heavy : List (List Term)) (row : List Term) (more rest : List (List Term)) → IsSplit done light heavy → (IsHeavy row → ⊥) → more ≡ light ++ row ∷ [] → rest ≡ heavy → IsSplit (done ++ row ∷ []) more rest
+lights_next done light heavy row more rest s small d e =
+    subst (λ x. IsSplit (done ++ row ∷ []) x rest) (sym d) (subst (IsSplit (done ++ row ∷ []) (light ++ row ∷ [])) (sym e) (split_light done light heavy row s small))
 
-pub heavies_more : (rows light heavy : List (List Term)) (i : ℕ) (row : List Term) (more : List (List Term)) → i < length rows → row ≡ get_or rows i row → IsSplit (take i rows) light heavy → IsHeavy row → more ≡ heavy ++ row ∷ [] → IsSplit (take (i + 1) rows) light more
-heavies_more rows light heavy i row more l e s large d =
-    subst (λ x. IsSplit x light more) (sym (take-next rows i row l e)) (subst (IsSplit (take i rows ++ row ∷ []) light) (sym d) (split_heavy (take i rows) light heavy row s large))
+pub heavies_next : (done light heavy : List (List Term)) (row : List Term) (more rest : List (List Term)) → IsSplit done light heavy → IsHeavy row → more ≡ heavy ++ row ∷ [] → rest ≡ light → IsSplit (done ++ row ∷ []) rest more
+heavies_next done light heavy row more rest s large d e =
+    subst (IsSplit (done ++ row ∷ []) rest) (sym d) (subst (λ x. IsSplit (done ++ row ∷ []) x (heavy ++ row ∷ [])) (sym e) (split_heavy done light heavy row s large))
 
-same_push : (done once : List (List Term)) (row : List Term) → HasSameRows done once → HasSameRows (done ++ row ∷ []) (once ++ row ∷ [])
+pub same_push : (done once : List (List Term)) (row : List Term) → HasSameRows done once → HasSameRows (done ++ row ∷ []) (once ++ row ∷ [])
 same_push done once row s = record { there = λ x. push-in x row done once (s.there x); back = λ x. push-in x row once done (s.back x) }
 
-same_repeat : (done once : List (List Term)) (row : List Term) → HasSameRows done once → IsIn row done → HasSameRows (done ++ row ∷ []) once
+pub same_repeat : (done once : List (List Term)) (row : List Term) → HasSameRows done once → IsIn row done → HasSameRows (done ++ row ∷ []) once
 same_repeat done once row s h = record {
   there = λ x i. elim (in-split x row done i) [ inl a ↦ s.there x a | inr e ↦ subst (λ z. IsIn z once) (sym e) (s.there row h) ];
   back = λ x i. in-left x done (row ∷ []) (s.back x i);
 }
-
-pub same_more : (rows once : List (List Term)) (i : ℕ) (row : List Term) (more : List (List Term)) → i < length rows → row ≡ get_or rows i row → HasSameRows (take i rows) once → more ≡ once ++ row ∷ [] → HasSameRows (take (i + 1) rows) more
-same_more rows once i row more l e s d =
-    subst (λ x. HasSameRows x more) (sym (take-next rows i row l e)) (subst (HasSameRows (take i rows ++ row ∷ [])) (sym d) (same_push (take i rows) once row s))
-
-pub same_skip : (rows once : List (List Term)) (i : ℕ) (row : List Term) → i < length rows → row ≡ get_or rows i row → HasSameRows (take i rows) once → IsIn row (take i rows) → HasSameRows (take (i + 1) rows) once
-same_skip rows once i row l e s h = subst (λ x. HasSameRows x once) (sym (take-next rows i row l e)) (same_repeat (take i rows) once row s h)
 
 same_permuted : (rows sorted : List (List Term)) → IsPermutation rows sorted → HasSameRows rows sorted
 same_permuted rows sorted p = record {
@@ -111,3 +107,44 @@ module _ (rows light heavy sorted once kept : List (List Term)) (s : IsSplit row
     there = (s.heavies row there).0;
     uncovered = uncovered;
   }
+
+-- one row or none
+only : (x row : List Term) → IsIn x (row ∷ []) → x ≡ row
+only x row first = refl
+only x row (later h) = elim h [ ]
+
+pub alone_light : (rows : List (List Term)) → length rows ≤ 1 → (StartsHeavy rows → ⊥) → IsLightly rows rows
+alone_light [] l small = record { sifted = sifted_none; lights = λ k h. elim h [ ] }
+alone_light (row ∷ []) l small = record {
+  sifted = record {
+    among = λ k h. h;
+    covers = λ r h. (r, h, instance-refl r);
+    apart = λ k other h g i. only k row h ∙ sym (only other row g);
+    once = (λ h. elim h [ ], tt);
+  };
+  lights = λ k h w. small (subst IsHeavy (only k row h) w);
+}
+alone_light (row ∷ other ∷ rows) l small = absurd (omega arith)
+
+pub alone_heavy : (rows : List (List Term)) → length rows ≤ 1 → StartsHeavy rows → LosesHeavy rows
+alone_heavy [] l w = absurd w
+alone_heavy (row ∷ []) l w = record {
+  light = [];
+  kept = [];
+  sifted = sifted_none;
+  lights = λ r h. elim h [ ];
+  all = λ r h. inr (subst IsHeavy (sym (only r row h)) w);
+  row = row;
+  there = first;
+  uncovered = λ (k, h, i). elim h [ ];
+}
+alone_heavy (row ∷ other ∷ rows) l w = absurd (omega arith)
+
+pub some_map : {X : Type 0} (o : Option X) (A B : X → Type 0) → ((x : X) → A x → B x) → IfSome o A → IfSome o B
+some_map None A B f h = h
+some_map (Some x) A B f h = f x h
+
+pub alone_ordered : (sig : Signature) (rows : List (List Term)) → length rows ≤ 1 → IsInTextOrder sig rows
+alone_ordered sig [] l = tt
+alone_ordered sig (row ∷ []) l = tt
+alone_ordered sig (row ∷ other ∷ rows) l = absurd (omega arith)

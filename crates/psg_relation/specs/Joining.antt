@@ -55,3 +55,7 @@ IsMore sig pairs keep left right made more = (((x : List Term) → Joins sig pai
 pub record MayMeet (sig : Signature) (left right : List Term) (pairs : List Columns) (keep : List ℕ) : Type 0 where
   pub joinable : AreJoinable sig left right pairs
   pub within : All (λ k. k < length left + length right) keep
+
+-- The second list has the joins of the first one's pairs of rows, and of the row with each of the others.
+abbrev pub IsCrossed : Signature → List Columns → List ℕ → List Term → List (List Term) → List (List Term) → List (List Term) → Type 0
+IsCrossed sig pairs keep one right made more = (done : List Two) → AreJoined sig pairs keep done made → AreJoined sig pairs keep (done ++ with_each one right) more

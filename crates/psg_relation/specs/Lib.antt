@@ -4,5 +4,6 @@ pub mod Ordered
 pub mod Sifted
 pub mod Texts
 pub mod Sealed
+pub mod Heads
 pub mod Joining
 pub mod Selecting

@@ -1,5 +1,5 @@
 -- Lists of rows of which none is an instance of another one.
-use Rattle.std.specs.Prelude.{ℕ, ◌≡◌, ◌+◌, ◌⊎◌, ◌++◌, Bool, MatchBool, List, [], ◌∷◌, slice_index_or}
+use Rattle.std.specs.Prelude.{◌≡◌, ◌⊎◌, ◌++◌, Bool, MatchBool, List, [], ◌∷◌}
 use Rattle.psg_terms.specs.Terms.{Term}
 use Rattle.psg_terms.specs.Instances.{IsGround, IsInstance}
 use Rattle.psg_terms.specs.Relations.{IsIn, IsOnce}
@@ -69,6 +69,7 @@ pub record LosesHeavy (rows : List (List Term)) : Type 0 where
   pub there : IsIn row rows
   pub uncovered : IsCovered kept row → ⊥
 
--- the member at the place is the one before it
-abbrev pub RepeatsAt : List (List Term) → ℕ → Type 0
-RepeatsAt rows place = (k : ℕ) × (place ≡ k + 1) × ((d : List Term) → slice_index_or rows place d ≡ slice_index_or rows k d)
+-- the first row is too large
+abbrev pub StartsHeavy : List (List Term) → Type 0
+StartsHeavy [] = ⊥
+StartsHeavy (row ∷ rows) = IsHeavy row

@@ -9,8 +9,9 @@ ghost use Rattle.psg_terms.specs.Weight.{PassesLimit};
 ghost use Rattle.psg_unify.specs.Pairs.{AreJoinable};
 ghost use Rattle.psg_relation.specs.Choices.{AllHaveSorts, Agrees, HasWide, MayBeWide, picked};
 ghost use Rattle.psg_relation.specs.Sealed.{IsReady};
-ghost use Rattle.psg_relation.specs.Joining.{Joins, IsJoinOf, IsMore, Two, with_each, AreJoined, MayJoin, MayMeet};
+ghost use Rattle.psg_relation.specs.Joining.{Joins, IsJoinOf, IsMore, MayJoin};
 
+use crate::crossing::all_joins;
 use crate::projection::kept_columns;
 use crate::relation::{Rel, RelFault, relation_of};
 use crate::row::RelRow;
@@ -28,7 +29,7 @@ fn made_ready(alloc: Global, sig: &Signature, columns: RelRow) -> Result<RelRow,
     ensures same { IfOk result (λ row. HasSameInstances sig.now row columns) }
     ensures sorted { IfOk result (λ row. (ss : List ℕ) → HaveSorts sig.now columns ss → HaveSorts sig.now row ss) }
 {
-    if is_heavy(columns.terms()) {
+    if is_heavy(&columns) {
         return Ok(columns);
     }
     let form = canonical(alloc, sig, columns.terms())?;
@@ -84,27 +85,6 @@ pub fn with_join(
     }
 }
 
-/// The rows, and behind them the joins of one row with each of the others.
-fn with_joins(
-    alloc: Global,
-    sig: &Signature,
-    made: Vec<RelRow>,
-    one: &[Term],
-    right: &[RelRow],
-    pairs: &[(usize, usize)],
-    keep: &[usize],
-) -> Result<Vec<RelRow>, AllocError>
-    requires { (other : List Plain) → IsIn other right.now → MayMeet sig.now one.now other pairs.now keep.now }
-    ensures { IfOk result (λ more. (done : List Two) → AreJoined sig.now pairs.now keep.now done made.items
-        → AreJoined sig.now pairs.now keep.now (done ++ with_each one.now right.now) more.items) }
-{
-    let mut more = made;
-    for other in right {
-        more = with_join(alloc, sig, more, one, other.terms(), pairs, keep)?;
-    }
-    Ok(more)
-}
-
 /// The relation of what the rows of both sides make where they agree on the pairs of columns, each a column of the left
 /// row and one of the right row. Of the left columns and the right ones behind them, those of the numbers in `keep` are
 /// kept, in this order.
@@ -114,7 +94,9 @@ fn with_joins(
 /// `Memory` comes as in `Rel::of`, and where more than 10,000 constructors are nested in what has to be
 /// compared or written.
 ///
-/// It joins each row of the one side with each row of the other side, and then costs as `Rel::of` does.
+/// It joins each row of the one side with those rows of the other side that have the same constructor at the head of the
+/// first paired column, or a variable there, and then costs as `Rel::of` does. A row with a variable there, and a row
+/// where there are no pairs, is joined with each row of the other side.
 pub fn join(
     alloc: Global,
     sig: &Signature,
@@ -135,11 +117,6 @@ pub fn join(
     ensures some { IfErr result (MayBeWide ((ls rs : List ℕ) → AllHaveSorts sig.now left.now ls → AllHaveSorts sig.now right.now rs
         → HasWide sig.now (picked (ls ++ rs) keep.now) (IsGlued sig.now (Agrees pairs.now keep.now) left.now right.now))) }
 {
-    let lefts = left.rows();
-    let rights = right.rows();
-    let mut made = Vec::new(alloc);
-    for one in lefts {
-        made = with_joins(alloc, sig, made, one.terms(), rights, pairs, keep)?;
-    }
-    relation_of(alloc, sig, made.as_slice())
+    let made = all_joins(alloc, sig, left.rows(), right.rows(), pairs, keep)?;
+    relation_of(alloc, sig, made)
 }

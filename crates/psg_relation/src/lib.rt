@@ -15,11 +15,12 @@
 //! - A `Rel` has at most 16,384 variables and constructors, and no term in it is deeper than 1,000.
 #![tactic(auto)]
 
+mod crossing;
+mod heads;
 pub mod joining;
 pub mod laws;
 mod maximal;
 mod order;
-mod plain;
 pub mod projection;
 pub mod relation;
 pub mod row;

@@ -3,8 +3,8 @@ ghost use Rattle.std.specs.Prelude.{◌↔◌, IfOk, IsTrue};
 ghost use Rattle.psg_relation.specs.Ordered.{KeepsOrder};
 ghost use Rattle.psg_relation.specs.Sifted.{IsCovered, IsSifted, LeavesOut, IsGrown, AreCovered};
 
-use crate::plain::are_plain;
 use crate::row::RelRow;
+use crate::weighing::is_closed;
 use psg_terms::Term;
 use psg_terms::matching::is_instance;
 use std::alloc::{AllocError, Global};
@@ -24,15 +24,15 @@ pub fn is_covered(alloc: Global, kept: &[RelRow], row: &[Term]) -> Result<bool, 
 /// The rows without those that are instances of one row.
 fn without_instances(
     alloc: Global,
-    kept: &[RelRow],
+    kept: Vec<RelRow>,
     row: &[Term],
 ) -> Result<Vec<RelRow>, AllocError>
-    ensures { IfOk result (λ rest. LeavesOut row.now kept.now rest.items) }
+    ensures { IfOk result (λ rest. LeavesOut row.now kept.items rest.items) }
 {
-    let mut rest = Vec::new(alloc);
+    let mut rest = Vec::with_capacity(alloc, kept.len())?;
     for other in kept {
         if !is_instance(alloc, other.terms(), row)? {
-            rest.push(other.share(alloc)?)?;
+            rest.push(other)?;
         }
     }
     Ok(rest)
@@ -40,31 +40,32 @@ fn without_instances(
 
 /// The rows with one more in place of its instances, unless it is an instance itself. A row without variables has no
 /// instance but itself.
-fn with_row(alloc: Global, kept: Vec<RelRow>, row: &RelRow) -> Result<Vec<RelRow>, AllocError>
-    ensures { IfOk result (λ more. IsGrown kept.items row.now more.items) }
+fn with_row(alloc: Global, kept: Vec<RelRow>, row: RelRow) -> Result<Vec<RelRow>, AllocError>
+    ensures { IfOk result (λ more. IsGrown kept.items row more.items) }
 {
     if is_covered(alloc, kept.as_slice(), row.terms())? {
         return Ok(kept);
     }
-    if are_plain(row.terms()) {
+    if is_closed(&row) {
         let mut more = kept;
-        more.push(row.share(alloc)?)?;
+        more.push(row)?;
         return Ok(more);
     }
-    let mut rest = without_instances(alloc, kept.as_slice(), row.terms())?;
-    rest.push(row.share(alloc)?)?;
+    let mut rest = without_instances(alloc, kept, row.terms())?;
+    rest.push(row)?;
     Ok(rest)
 }
 
 /// The most general rows, each once, in their order. It compares each row with those that are kept so far, twice at
 /// most.
-pub fn maximal(alloc: Global, rows: &[RelRow]) -> Result<Vec<RelRow>, AllocError>
-    ensures sifted { IfOk result (λ kept. IsSifted rows.now kept.items) }
-    ensures order { IfOk result (λ kept. KeepsOrder rows.now kept.items) }
+pub fn maximal(alloc: Global, rows: Vec<RelRow>) -> Result<Vec<RelRow>, AllocError>
+    ensures sifted { IfOk result (λ kept. IsSifted rows.items kept.items) }
+    ensures order { IfOk result (λ kept. KeepsOrder rows.items kept.items) }
 {
-    let mut kept = Vec::new(alloc);
+    let mut kept = Vec::with_capacity(alloc, rows.len())?;
     for row in rows {
-        kept = with_row(alloc, kept, row)?;
+        let more = with_row(alloc, kept, row)?;
+        kept = more;
     }
     Ok(kept)
 }

@@ -16,40 +16,43 @@ pub struct Printed {
     pub row: RelRow,
 }
 
-/// The rows with their texts.
-fn with_texts(alloc: Global, sig: &Signature, rows: &[RelRow]) -> Result<Vec<Printed>, AllocError>
-    requires { (sorts : List ℕ) × AllHaveSorts sig.now rows.now sorts }
-    ensures rows { IfOk result (λ p. rows_in p.items ≡ rows.now) }
+/// The rows with their texts, each of which is written once.
+fn with_texts(alloc: Global, sig: &Signature, rows: Vec<RelRow>) -> Result<Vec<Printed>, AllocError>
+    requires { (sorts : List ℕ) × AllHaveSorts sig.now rows.items sorts }
+    ensures rows { IfOk result (λ p. rows_in p.items ≡ rows.items) }
     ensures texts { IfOk result (λ p. AreTexts sig.now p.items) }
 {
     let mut printed = Vec::with_capacity(alloc, rows.len())?;
     for row in rows {
         let text = row_text(alloc, sig, row.terms())?;
-        let row = row.share(alloc)?;
         printed.push(Printed { text, row })?;
     }
     Ok(printed)
 }
 
 /// The rows without their texts.
-fn without_texts(alloc: Global, printed: &[Printed]) -> Result<Vec<RelRow>, AllocError>
-    ensures { IfOk result (λ rows. rows.items ≡ rows_in printed.now) }
+fn without_texts(alloc: Global, printed: Vec<Printed>) -> Result<Vec<RelRow>, AllocError>
+    ensures { IfOk result (λ rows. rows.items ≡ rows_in printed.items) }
 {
     let mut rows = Vec::with_capacity(alloc, printed.len())?;
     for one in printed {
-        rows.push(one.row.share(alloc)?)?;
+        rows.push(one.row)?;
     }
     Ok(rows)
 }
 
-/// The rows in byte order of their texts, each of which is written once.
-pub fn in_order(alloc: Global, sig: &Signature, rows: &[RelRow]) -> Result<Vec<RelRow>, AllocError>
-    requires { (sorts : List ℕ) × AllHaveSorts sig.now rows.now sorts }
-    ensures same { IfOk result (λ sorted. IsPermutation rows.now sorted.items) }
+/// The rows in byte order of their texts, each of which is written once. The rows are moved.
+pub fn in_order(
+    alloc: Global,
+    sig: &Signature,
+    rows: Vec<RelRow>,
+) -> Result<Vec<RelRow>, AllocError>
+    requires { (sorts : List ℕ) × AllHaveSorts sig.now rows.items sorts }
+    ensures same { IfOk result (λ sorted. IsPermutation rows.items sorted.items) }
     ensures order { IfOk result (λ sorted. IsOrdered (is_not_above sig.now) sorted.items) }
 {
     let mut printed = with_texts(alloc, sig, rows)?;
     printed.sort_by(|a, b| a.text.as_str().cmp(b.text.as_str()))?;
-    let sorted = without_texts(alloc, printed.as_slice())?;
+    let sorted = without_texts(alloc, printed)?;
     Ok(sorted)
 }

@@ -89,7 +89,7 @@ impl Rel {
     {
         sig.sound();
         let made = canonical_rows(alloc, sig, rows)?;
-        relation_of(alloc, sig, made.as_slice())
+        relation_of(alloc, sig, made)
     }
 
     /// The rows, in order.
@@ -153,16 +153,16 @@ fn canonical_rows(
 }
 
 /// The relation of rows of which those that are not too large are canonical.
-pub fn relation_of(alloc: Global, sig: &Signature, rows: &[RelRow]) -> Result<Rel, RelFault>
-    requires sorts { (sorts : List ℕ) × AllHaveSorts sig.now rows.now sorts }
-    requires ready { AllReady sig.now rows.now }
-    ensures relation { IfOk result (λ rel. (sorts : List ℕ) → AllHaveSorts sig.now rows.now sorts
-        → IsRelation sig.now sorts (IsOfRow sig.now rows.now) rel) }
+pub fn relation_of(alloc: Global, sig: &Signature, rows: Vec<RelRow>) -> Result<Rel, RelFault>
+    requires sorts { (sorts : List ℕ) × AllHaveSorts sig.now rows.items sorts }
+    requires ready { AllReady sig.now rows.items }
+    ensures relation { IfOk result (λ rel. (sorts : List ℕ) → AllHaveSorts sig.now rows.items sorts
+        → IsRelation sig.now sorts (IsOfRow sig.now rows.items) rel) }
     ensures within { IfOk result (λ rel. PassesLimit rel → ⊥) }
-    ensures wide { IfErr result (MayBeWide ((sorts : List ℕ) → AllHaveSorts sig.now rows.now sorts
-        → (others : List (List Plain)) → IsRelation sig.now sorts (IsOfRow sig.now rows.now) others → PassesLimit others)) }
-    ensures some { IfErr result (MayBeWide ((sorts : List ℕ) → AllHaveSorts sig.now rows.now sorts
-        → HasWide sig.now sorts (IsOfRow sig.now rows.now))) }
+    ensures wide { IfErr result (MayBeWide ((sorts : List ℕ) → AllHaveSorts sig.now rows.items sorts
+        → (others : List (List Plain)) → IsRelation sig.now sorts (IsOfRow sig.now rows.items) others → PassesLimit others)) }
+    ensures some { IfErr result (MayBeWide ((sorts : List ℕ) → AllHaveSorts sig.now rows.items sorts
+        → HasWide sig.now sorts (IsOfRow sig.now rows.items))) }
 {
     sig.sound();
     match sift(alloc, sig, rows)? {

@@ -1,14 +1,19 @@
 //! Rows of terms.
 ghost use Rattle.std.specs.Prelude.{◌≡◌, IfOk};
 
+use crate::weighing::{row_above, row_depth, row_weight};
 use psg_terms::{Seq, Term};
 use std::alloc::{AllocError, Global};
 use std::marker::Model;
 
-/// A row of terms, of any width.
+/// A row of terms, of any width, with how many variables and constructors it has and how deep it is, both at most
+/// `u64::MAX`, and with one above the greatest number of its variables.
 #[derive(Drop)]
 pub struct RelRow {
     kept: Seq<Term>,
+    symbols: u64,
+    depth: u64,
+    above: u64,
 }
 
 impl Model for RelRow {
@@ -16,21 +21,34 @@ impl Model for RelRow {
     ghost use Rattle.std.specs.Coded.{coded_list};
     ghost use Rattle.psg_terms.specs.Terms.{Term as Plain};
     ghost use Rattle.psg_terms.specs.TermCode.{coded_term};
+    ghost use Rattle.psg_relation.specs.Heavy.{IsMeasured};
 
     ghost Value = { List Plain };
 
     ghost coded = { coded_list coded_term };
 
     ghost view = { λ r. r.kept };
+
+    ghost invariant = { λ r. IsMeasured r.kept r.symbols r.depth r.above };
 }
 
 impl RelRow {
-    /// The row of these terms.
+    ghost use Rattle.std.specs.Prelude.{◌-◌, ◌^◌, min, sum_by};
+    ghost use Rattle.psg_terms.specs.Weight.{symbols_of};
+    ghost use Rattle.psg_relation.specs.Heavy.{deepest_in, highest_in};
+
+    /// The row of these terms. It reads each of them once, in one step.
     pub fn new(terms: Vec<Term>) -> RelRow
         ensures { result ≡ terms.items }
     {
+        let symbols = row_weight(terms.as_slice());
+        let depth = row_depth(terms.as_slice());
+        let above = row_above(terms.as_slice());
         RelRow {
             kept: Seq::of(terms),
+            symbols,
+            depth,
+            above,
         }
     }
 
@@ -39,6 +57,27 @@ impl RelRow {
         ensures { result.now ≡ self.now }
     {
         self.kept.as_slice()
+    }
+
+    /// How many variables and constructors the terms have, or `u64::MAX` if there are more. It takes one step.
+    pub fn symbols(&self) -> u64
+        ensures { result ≡ min (sum_by symbols_of self.now) (2 ^ 64 - 1) }
+    {
+        self.symbols
+    }
+
+    /// How deep the deepest term is, or `u64::MAX` if it is deeper, and 0 where there is none. It takes one step.
+    pub fn depth(&self) -> u64
+        ensures { result ≡ min (deepest_in self.now) (2 ^ 64 - 1) }
+    {
+        self.depth
+    }
+
+    /// One above the greatest number of a variable of the terms, and 0 where they have none. It takes one step.
+    pub fn above(&self) -> u64
+        ensures { result ≡ highest_in self.now }
+    {
+        self.above
     }
 
     /// One more owner of the row's terms.

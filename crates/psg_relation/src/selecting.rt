@@ -1,11 +1,11 @@
 //! Rows whose own columns agree.
 ghost use Rattle.std.specs.Prelude.{◌≡◌, ◌<◌, ◌++◌, All, IfOk, IfErr, List, ℕ, length};
 ghost use Rattle.psg_terms.specs.Terms.{Term as Plain};
-ghost use Rattle.psg_terms.specs.Relations.{IsRelation};
+ghost use Rattle.psg_terms.specs.Relations.{IsIn, IsRelation};
 ghost use Rattle.psg_terms.specs.Weight.{PassesLimit};
 ghost use Rattle.psg_unify.specs.Pairs.{AreOfEqualSort};
 ghost use Rattle.psg_relation.specs.Choices.{AllHaveSorts, AllWithin, HasWide, IsSelected, MayBeWide, picked};
-ghost use Rattle.psg_relation.specs.Joining.{AreJoined};
+ghost use Rattle.psg_relation.specs.Joining.{AreJoined, MayMeet};
 ghost use Rattle.psg_relation.specs.Selecting.{diagonal, twins, width_of};
 
 use crate::joining::with_join;
@@ -41,6 +41,24 @@ fn with_diagonal(
     Ok(all)
 }
 
+/// The joins of each row with itself.
+fn self_joins(
+    alloc: Global,
+    sig: &Signature,
+    rows: &[RelRow],
+    pairs: &[(usize, usize)],
+    keep: &[usize],
+) -> Result<Vec<RelRow>, AllocError>
+    requires { (row : List Plain) → IsIn row rows.now → MayMeet sig.now row row pairs.now keep.now }
+    ensures { IfOk result (λ made. AreJoined sig.now pairs.now keep.now (twins rows.now) made.items) }
+{
+    let mut made = Vec::new(alloc);
+    for row in rows {
+        made = with_join(alloc, sig, made, row.terms(), row.terms(), pairs, keep)?;
+    }
+    Ok(made)
+}
+
 /// The relation of what the rows make where their own columns agree on the pairs, each of two columns of a row. The
 /// columns of the numbers in `keep` are kept, in this order.
 ///
@@ -67,10 +85,6 @@ pub fn select(
         return Rel::of(alloc, sig, columns.as_slice());
     }
     let all = with_diagonal(alloc, width(rows), pairs)?;
-    let own = all.as_slice();
-    let mut made = Vec::new(alloc);
-    for row in rows {
-        made = with_join(alloc, sig, made, row.terms(), row.terms(), own, keep)?;
-    }
-    relation_of(alloc, sig, made.as_slice())
+    let made = self_joins(alloc, sig, rows, all.as_slice(), keep)?;
+    relation_of(alloc, sig, made)
 }

@@ -1,9 +1,10 @@
 //! The most general rows of a list in which some are too large to be written out.
-ghost use Rattle.std.specs.Prelude.{◌<◌, IfOk, IfSome, IsTrue, MatchOption, List, ℕ, length};
+ghost use Rattle.std.specs.Prelude.{◌≡◌, ◌≤◌, ◌↔◌, IfOk, IfSome, IsTrue, MatchOption, List, ℕ, vec_len};
+ghost use Rattle.psg_terms.specs.Relations.{IsIn};
 ghost use Rattle.psg_terms.specs.Text.{IsInTextOrder};
 ghost use Rattle.psg_relation.specs.Choices.{AllHaveSorts};
 ghost use Rattle.psg_relation.specs.Ordered.{KeepsOrder};
-ghost use Rattle.psg_relation.specs.Sifted.{IsSifted, IsSplit, LosesHeavy, HasSameRows, IsLightly, RepeatsAt};
+ghost use Rattle.psg_relation.specs.Sifted.{IsSifted, IsSplit, LosesHeavy, HasSameRows, IsLightly, StartsHeavy};
 
 use crate::maximal::{are_covered, maximal};
 use crate::order::in_order;
@@ -21,61 +22,106 @@ pub struct Split {
 }
 
 /// The rows, split by their size. None is written out.
-fn by_size(alloc: Global, rows: &[RelRow]) -> Result<Split, AllocError>
-    ensures { IfOk result (λ s. IsSplit rows.now s.light.items s.heavy.items) }
+fn by_size(alloc: Global, rows: Vec<RelRow>) -> Result<Split, AllocError>
+    ensures { IfOk result (λ s. IsSplit rows.items s.light.items s.heavy.items) }
 {
-    let mut light = Vec::new(alloc);
+    let mut light = Vec::with_capacity(alloc, rows.len())?;
     let mut heavy = Vec::new(alloc);
     for row in rows {
-        if is_heavy(row.terms()) {
-            heavy.push(row.share(alloc)?)?;
+        if is_heavy(&row) {
+            heavy.push(row)?;
         } else {
-            light.push(row.share(alloc)?)?;
+            light.push(row)?;
         }
     }
     Ok(Split { light, heavy })
 }
 
-/// Whether the row at the place is the one before it.
-fn repeats(rows: &[RelRow], place: usize) -> bool
-    requires { place < length rows.now }
-    ensures { IsTrue result → RepeatsAt rows.now place }
+/// Whether the row is the last one of these.
+fn repeats(once: &[RelRow], row: &RelRow) -> bool
+    ensures { IsTrue result → IsIn row.now once.now }
 {
-    place > 0 && same_all(rows[place - 1].terms(), rows[place].terms())
+    let count = once.len();
+    if count == 0 {
+        return false;
+    }
+    let last = count - 1;
+    same_all(once[last].terms(), row.terms())
 }
 
 /// The rows without those that repeat the one before.
-fn without_repeats(alloc: Global, rows: &[RelRow]) -> Result<Vec<RelRow>, AllocError>
-    ensures same { IfOk result (λ r. HasSameRows rows.now r.items) }
-    ensures order { IfOk result (λ r. KeepsOrder rows.now r.items) }
+fn without_repeats(alloc: Global, rows: Vec<RelRow>) -> Result<Vec<RelRow>, AllocError>
+    ensures same { IfOk result (λ r. HasSameRows rows.items r.items) }
+    ensures order { IfOk result (λ r. KeepsOrder rows.items r.items) }
 {
-    let mut once = Vec::new(alloc);
-    for i in 0..rows.len() {
-        if !repeats(rows, i) {
-            once.push(rows[i].share(alloc)?)?;
+    let mut once = Vec::with_capacity(alloc, rows.len())?;
+    for row in rows {
+        if !repeats(once.as_slice(), &row) {
+            once.push(row)?;
         }
     }
     Ok(once)
 }
 
-/// The most general rows, in byte order of their texts, or `None` where one of them is too large for a relation. Rows
-/// that are too large are only compared, and not written out.
-pub fn sift(
+/// Whether the first row is too large for a relation.
+fn starts_heavy(rows: &[RelRow]) -> bool
+    ensures { IsTrue result ↔ StartsHeavy rows.now }
+{
+    match rows.first() {
+        Some(row) => is_heavy(row),
+        None => false,
+    }
+}
+
+/// One row or none: there is nothing to compare and no order, so no text is written. `None` where the row is too large
+/// for a relation.
+fn alone(rows: Vec<RelRow>) -> Option<Vec<RelRow>>
+    requires { vec_len rows ≤ 1 }
+    ensures rows { MatchOption result (LosesHeavy rows.items) (λ kept. IsLightly rows.items kept.items) }
+    ensures same { IfSome result (λ kept. kept.items ≡ rows.items) }
+{
+    if starts_heavy(rows.as_slice()) {
+        return None;
+    }
+    Some(rows)
+}
+
+/// The most general rows of more than one, in byte order of their texts, or `None` where one of them is too large for a
+/// relation.
+fn sift_many(
     alloc: Global,
     sig: &Signature,
-    rows: &[RelRow],
+    rows: Vec<RelRow>,
 ) -> Result<Option<Vec<RelRow>>, AllocError>
-    requires { (sorts : List ℕ) × AllHaveSorts sig.now rows.now sorts }
-    ensures rows { IfOk result (λ o. MatchOption o (LosesHeavy rows.now) (λ kept. IsLightly rows.now kept.items)) }
+    requires { (sorts : List ℕ) × AllHaveSorts sig.now rows.items sorts }
+    ensures rows { IfOk result (λ o. MatchOption o (LosesHeavy rows.items) (λ kept. IsLightly rows.items kept.items)) }
     ensures order { IfOk result (λ o. IfSome o (λ kept. IsInTextOrder sig.now kept.items)) }
 {
     let split = by_size(alloc, rows)?;
-    let sorted = in_order(alloc, sig, split.light.as_slice())?;
-    let once = without_repeats(alloc, sorted.as_slice())?;
-    let kept = maximal(alloc, once.as_slice())?;
+    let sorted = in_order(alloc, sig, split.light)?;
+    let once = without_repeats(alloc, sorted)?;
+    let kept = maximal(alloc, once)?;
     if are_covered(alloc, kept.as_slice(), split.heavy.as_slice())? {
         Ok(Some(kept))
     } else {
         Ok(None)
     }
+}
+
+/// The most general rows, in byte order of their texts, or `None` where one of them is too large for a relation. Rows
+/// that are too large are only compared, and not written out. A row that is alone is given back as it is.
+pub fn sift(
+    alloc: Global,
+    sig: &Signature,
+    rows: Vec<RelRow>,
+) -> Result<Option<Vec<RelRow>>, AllocError>
+    requires { (sorts : List ℕ) × AllHaveSorts sig.now rows.items sorts }
+    ensures rows { IfOk result (λ o. MatchOption o (LosesHeavy rows.items) (λ kept. IsLightly rows.items kept.items)) }
+    ensures order { IfOk result (λ o. IfSome o (λ kept. IsInTextOrder sig.now kept.items)) }
+{
+    if rows.len() <= 1 {
+        return Ok(alone(rows));
+    }
+    let kept = sift_many(alloc, sig, rows)?;
+    Ok(kept)
 }

@@ -1,7 +1,8 @@
-//! The weight and the depth of rows, without writing them out.
+//! The weight and the depth of rows, without writing them out, and whether they have variables.
 ghost use Rattle.std.specs.Prelude.{◌≡◌, ◌↔◌, ◌-◌, ◌^◌, min, sum_by, IsTrue};
 ghost use Rattle.psg_terms.specs.Weight.{symbols_of, weight_of};
-ghost use Rattle.psg_relation.specs.Heavy.{deepest_in, deepest_of, IsHeavy};
+ghost use Rattle.psg_relation.specs.Heavy.{deepest_in, deepest_of, highest_in, IsHeavy};
+ghost use Rattle.psg_relation.specs.Sifted.{AreGround};
 
 use crate::row::RelRow;
 use psg_terms::Term;
@@ -13,7 +14,7 @@ pub const MOST_SYMBOLS: u64 = 16_384;
 pub const MOST_DEPTH: u64 = 1_000;
 
 /// How many variables and constructors the row has, or `u64::MAX` if there are more.
-fn row_weight(row: &[Term]) -> u64
+pub fn row_weight(row: &[Term]) -> u64
     ensures { result ≡ min (sum_by symbols_of row.now) (2 ^ 64 - 1) }
 {
     let mut weight = 0u64;
@@ -24,7 +25,7 @@ fn row_weight(row: &[Term]) -> u64
 }
 
 /// How deep the deepest term of the row is, or `u64::MAX` if it is deeper, and 0 where the row has none.
-fn row_depth(row: &[Term]) -> u64
+pub fn row_depth(row: &[Term]) -> u64
     ensures { result ≡ min (deepest_in row.now) (2 ^ 64 - 1) }
 {
     let mut depth = 0u64;
@@ -34,13 +35,24 @@ fn row_depth(row: &[Term]) -> u64
     depth
 }
 
+/// One above the greatest number of a variable of the row's terms, and 0 where they have none.
+pub fn row_above(row: &[Term]) -> u64
+    ensures { result ≡ highest_in row.now }
+{
+    let mut above = 0u64;
+    for term in row {
+        above = above.max(term.above());
+    }
+    above
+}
+
 /// How many variables and constructors the rows have, or `u64::MAX` if there are more.
 pub fn weight_of(rows: &[RelRow]) -> u64
     ensures { result ≡ min (weight_of rows.now) (2 ^ 64 - 1) }
 {
     let mut weight = 0u64;
     for row in rows {
-        weight = weight.saturating_add(row_weight(row.terms()));
+        weight = weight.saturating_add(row.symbols());
     }
     weight
 }
@@ -51,14 +63,21 @@ pub fn deepest_of(rows: &[RelRow]) -> u64
 {
     let mut depth = 0u64;
     for row in rows {
-        depth = depth.max(row_depth(row.terms()));
+        depth = depth.max(row.depth());
     }
     depth
 }
 
-/// Whether the row alone is too large for a relation.
-pub fn is_heavy(row: &[Term]) -> bool
+/// Whether the row alone is too large for a relation. It takes one step.
+pub fn is_heavy(row: &RelRow) -> bool
     ensures { IsTrue result ↔ IsHeavy row.now }
 {
-    row_weight(row) > MOST_SYMBOLS || row_depth(row) > MOST_DEPTH
+    row.symbols() > MOST_SYMBOLS || row.depth() > MOST_DEPTH
+}
+
+/// Whether the row has no variable. It takes one step.
+pub fn is_closed(row: &RelRow) -> bool
+    ensures { IsTrue result ↔ AreGround row.now }
+{
+    row.above() == 0
 }

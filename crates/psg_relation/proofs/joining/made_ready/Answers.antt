@@ -1,13 +1,12 @@
 use Rattle.std.proofs.Common.{sym, subst}
 use Rattle.psg_terms.specs.Instances.{HasSameInstances}
 use Rattle.psg_terms.specs.Canonical.{IsCanonical}
-use Rattle.psg_relation.specs.Heavy.{IsHeavy}
 use Rattle.psg_relation.proofs.joining.made_ready.Goals as goal
 
 pub returns-then-is_heavy-clause-ready : goal.returns-then-is_heavy-clause-ready
 returns-then-is_heavy-clause-ready c = record {
   written = c.requires.written;
-  canonical = λ small. absurd (small (subst IsHeavy c.terms.ensures (c.is_heavy.ensures.0 c.if-is_heavy.true)));
+  canonical = λ small. absurd (small (c.is_heavy.ensures.0 c.if-is_heavy.true));
 }
 
 pub returns-clause-ready : goal.returns-clause-ready
@@ -18,4 +17,4 @@ returns-clause-ready c =
 pub returns-clause-same : goal.returns-clause-same
 returns-clause-same c =
     subst (λ r. HasSameInstances c.args.sig.now r c.args.columns) (sym c.new.ensures)
-    (subst (HasSameInstances c.args.sig.now c.in_ok-form.form.items) c.terms-2.ensures c.in_ok-form.ensures.same)
+    (subst (HasSameInstances c.args.sig.now c.in_ok-form.form.items) c.terms.ensures c.in_ok-form.ensures.same)

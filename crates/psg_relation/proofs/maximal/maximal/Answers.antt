@@ -1,15 +1,28 @@
-use Rattle.std.proofs.Common.{subst, arith}
-use Rattle.std.proofs.lemmas.List.{take_all}
+use Rattle.std.proofs.Common.{◌≡◌, ◌∙◌, map-id, rules, sym, subst}
+use Rattle.std.proofs.lemmas.Iterator.Consumers.{YieldsList-end}
+use Rattle.std.proofs.lemmas.Iterator.Adapters.{YieldsList-from_vec}
 use Rattle.psg_relation.specs.Ordered.{KeepsOrder}
-use Rattle.psg_relation.proofs.Growing.{sifted_next}
-use Rattle.psg_relation.proofs.Ordered.{order_grown}
+use Rattle.psg_relation.specs.Sifted.{IsSifted}
+use Rattle.psg_relation.proofs.Growing.{sifted_more}
+use Rattle.psg_relation.proofs.Ordered.{grown}
 use Rattle.psg_relation.proofs.maximal.maximal.Goals as goal
 
 pub loop-row-preserved : goal.loop-row-preserved
 loop-row-preserved c = (
-  sifted_next c.args.rows.now c.loop-row.kept.items c.loop-row.row-index c.row-item.result c.in_ok-kept.kept.items c.loop-row-test.true c.row-item.is c.loop-row.invariant.0 c.in_ok-kept.ensures,
-  order_grown c.args.rows.now c.loop-row.kept.items c.loop-row.row-index c.row-item.result c.in_ok-kept.kept.items c.loop-row-test.true c.row-item.is c.loop-row.invariant.0 c.loop-row.invariant.1 c.in_ok-kept.ensures,
+  sifted_more c.loop-row.yielded c.loop-row.kept.items c.in-Some.row c.in_ok-more.more.items c.loop-row.invariant.0 c.in_ok-more.ensures,
+  grown c.loop-row.yielded c.loop-row.kept.items c.in-Some.row c.in_ok-more.more.items c.loop-row.invariant.0 c.loop-row.invariant.1 c.in_ok-more.ensures,
 )
 
+pub returns-clause-sifted : goal.returns-clause-sifted
+returns-clause-sifted c =
+    let end = YieldsList-end (YieldsList-from_vec {s = c.into_iter-row-iterator.result} c.args.rows.items (search rules) (search rules))
+    c.loop-row.yielded c.loop-row.row-iterator c.loop-row.yielded_by c.next.result c.next.new.self c.in-None.is c.next.ensures.steps in
+    let all : c.loop-row.yielded ≡ c.args.rows.items = sym (map-id c.loop-row.yielded) ∙ end.0 in
+    subst (λ xs. IsSifted xs c.loop-row.kept.items) all c.loop-row.invariant.0
+
 pub returns-clause-order : goal.returns-clause-order
-returns-clause-order c = subst (λ x. KeepsOrder x c.loop-row.kept.items) (take_all c.loop-row.row-index c.args.rows.now (omega arith)) c.loop-row.invariant.1
+returns-clause-order c =
+    let end = YieldsList-end (YieldsList-from_vec {s = c.into_iter-row-iterator.result} c.args.rows.items (search rules) (search rules))
+    c.loop-row.yielded c.loop-row.row-iterator c.loop-row.yielded_by c.next.result c.next.new.self c.in-None.is c.next.ensures.steps in
+    let all : c.loop-row.yielded ≡ c.args.rows.items = sym (map-id c.loop-row.yielded) ∙ end.0 in
+    subst (λ xs. KeepsOrder xs c.loop-row.kept.items) all c.loop-row.invariant.1

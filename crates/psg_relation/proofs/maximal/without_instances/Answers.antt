@@ -1,20 +1,33 @@
-use Rattle.std.proofs.Common.{◌≡◌, ◌∷◌, ◌++◌, [], ◌∙◌, sym, subst}
+use Rattle.std.proofs.Common.{◌≡◌, ◌∷◌, ◌++◌, [], ◌∙◌, map-id, rules, sym, subst}
 use Rattle.std.proofs.lemmas.Bool.{false≢true}
+use Rattle.std.proofs.lemmas.Iterator.Consumers.{YieldsList-end}
+use Rattle.std.proofs.lemmas.Iterator.Adapters.{YieldsList-from_vec}
 use Rattle.psg_terms.specs.Instances.{IsInstance}
 use Rattle.psg_relation.specs.Sifted.{LeavesOut}
-use Rattle.psg_relation.proofs.Growing.{out_more, out_less}
+use Rattle.psg_relation.proofs.Growing.{out_keep, out_drop}
 use Rattle.psg_relation.proofs.maximal.without_instances.Goals as goal
-use Rattle.psg_relation.proofs.maximal.without_instances.Goals.{then-not-branch+in_ok-share+in_ok-push, else-not-branch}
+
+pub loop-other-preserved-in_ok-push : goal.loop-other-preserved-in_ok-push
+loop-other-preserved-in_ok-push c =
+    let row = c.args.row.now in
+    let done = c.loop-other.yielded in
+    let rest = c.loop-other.rest.items in
+    let other = c.in-Some.other in
+    subst (LeavesOut row (done ++ other ∷ [])) (sym c.in_ok-push.ensures.items)
+    (out_keep row done rest other c.loop-other.invariant
+    (λ i. absurd (false≢true (sym c.if-not-branch.true ∙ c.in_ok-is_instance.ensures.instance.1 (subst (λ r. IsInstance r row) (sym c.terms.ensures) i)))))
 
 pub loop-other-preserved : goal.loop-other-preserved
-loop-other-preserved c = elim c.if-not-branch.branch [
-  | then-not-branch+in_ok-share+in_ok-push w ↦
-      let e : c.if-not-branch.rest.items ≡ c.loop-other.rest.items ++ c.other-item.result ∷ [] = cc (w.rest-is, w.in_ok-push.ensures.items, w.in_ok-share.ensures) in
-      out_more c.args.row.now c.args.kept.now c.loop-other.rest.items c.loop-other.other-index c.other-item.result c.if-not-branch.rest.items c.loop-other-test.true c.other-item.is c.loop-other.invariant e
-      (λ i. absurd (false≢true (sym w.if-not-branch.true ∙ c.in_ok-is_instance.ensures.instance.1 (subst (λ r. IsInstance r c.args.row.now) (sym c.terms.ensures) i))))
-  | else-not-branch w ↦
-      let e : c.if-not-branch.rest.items ≡ c.loop-other.rest.items = cc (w.rest-is) in
-      subst (LeavesOut c.args.row.now _) (sym e)
-      (out_less c.args.row.now c.args.kept.now c.loop-other.rest.items c.loop-other.other-index c.other-item.result c.loop-other-test.true c.other-item.is c.loop-other.invariant
-      (subst (λ r. IsInstance r c.args.row.now) c.terms.ensures (c.in_ok-is_instance.ensures.instance.0 w.if-not-branch.false)))
-]
+loop-other-preserved c =
+    let row = c.args.row.now in
+    let done = c.loop-other.yielded in
+    let rest = c.loop-other.rest.items in
+    let other = c.in-Some.other in
+    out_drop row done rest other c.loop-other.invariant (subst (λ r. IsInstance r row) c.terms.ensures (c.in_ok-is_instance.ensures.instance.0 c.if-not-branch.false))
+
+pub returns : goal.returns
+returns c =
+    let end = YieldsList-end (YieldsList-from_vec {s = c.into_iter-other-iterator.result} c.args.kept.items (search rules) (search rules))
+    c.loop-other.yielded c.loop-other.other-iterator c.loop-other.yielded_by c.next.result c.next.new.self c.in-None.is c.next.ensures.steps in
+    let all : c.loop-other.yielded ≡ c.args.kept.items = sym (map-id c.loop-other.yielded) ∙ end.0 in
+    subst (λ xs. LeavesOut c.args.row.now xs c.loop-other.rest.items) all c.loop-other.invariant

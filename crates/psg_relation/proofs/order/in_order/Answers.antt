@@ -1,4 +1,4 @@
-use Rattle.std.proofs.Common.{◌∙◌, ap, sym, subst, rules}
+use Rattle.std.proofs.Common.{sym, subst, rules}
 use Rattle.std.specs.List.Sorted.{IsPermutation}
 use Rattle.std.proofs.lemmas.List.Sorted.{IsPermutation-map}
 use Rattle.psg_relation.specs.declared.order.Printed.{Printed}
@@ -13,7 +13,7 @@ returns-clause-same c =
     let behind = c.sort_by.new.self.items in
     let moved : IsPermutation (rows_in before) (rows_in behind) = IsPermutation-map (λ (p : Printed). p.row) before behind c.in_ok-sort_by.ensures.permutation in
     subst (λ rows. IsPermutation rows c.in_ok-sorted.sorted.items) c.in_ok-printed.ensures.rows
-    (subst (IsPermutation (rows_in before)) (sym (c.in_ok-sorted.ensures ∙ ap rows_in c.as_slice.ensures.value)) moved)
+    (subst (IsPermutation (rows_in before)) (sym c.in_ok-sorted.ensures) moved)
 
 pub returns-clause-order : goal.returns-clause-order
 returns-clause-order c =
@@ -21,5 +21,5 @@ returns-clause-order c =
     let before = c.in_ok-printed.printed.items in
     let behind = c.sort_by.new.self.items in
     let texts = texts_moved sig before behind c.in_ok-sort_by.ensures.permutation c.in_ok-printed.ensures.texts in
-    subst (IsOrdered (is_not_above sig)) (sym (c.in_ok-sorted.ensures ∙ ap rows_in c.as_slice.ensures.value))
+    subst (IsOrdered (is_not_above sig)) (sym c.in_ok-sorted.ensures)
     (sorted_ordered sig behind (sorted_by_texts behind c.in_ok-sort_by.ensures.sorted (λ a r f' k. search rules)) texts)

@@ -1,33 +1,40 @@
-use Rattle.std.proofs.Common.{◌≡◌, ◌+◌, ◌∷◌, ◌++◌, [], take, get_or, sym, subst, arith}
-use Rattle.std.proofs.lemmas.List.{take_all}
+use Rattle.std.proofs.Common.{◌≡◌, ◌∷◌, ◌++◌, [], ◌∙◌, map-id, rules, sym, subst}
+use Rattle.std.proofs.lemmas.Iterator.Consumers.{YieldsList-end}
+use Rattle.std.proofs.lemmas.Iterator.Adapters.{YieldsList-from_vec}
 use Rattle.psg_terms.specs.Relations.{IsIn}
 use Rattle.psg_relation.specs.Ordered.{KeepsOrder}
 use Rattle.psg_relation.specs.Sifted.{HasSameRows}
-use Rattle.psg_relation.proofs.Members.{in-earlier, at-any}
-use Rattle.psg_relation.proofs.Ordered.{order_more, order_less}
-use Rattle.psg_relation.proofs.Splitting.{same_more, same_skip}
+use Rattle.psg_relation.proofs.Ordered.{order_push, order_skip}
+use Rattle.psg_relation.proofs.Splitting.{same_push, same_repeat}
 use Rattle.psg_relation.proofs.sifting.without_repeats.Goals as goal
-use Rattle.psg_relation.proofs.sifting.without_repeats.Goals.{then-not-repeats+in_ok-share+in_ok-push, else-not-repeats}
 
-pub loop-i-preserved : goal.loop-i-preserved
-loop-i-preserved c = elim c.if-not-repeats.branch [
-  | then-not-repeats+in_ok-share+in_ok-push w ↦
-      let e : c.if-not-repeats.once.items ≡ c.loop-i.once.items ++ w.index-rows-i.result ∷ [] = cc (w.once-is, w.in_ok-push.ensures.items, w.in_ok-share.ensures) in (
-        same_more c.args.rows.now c.loop-i.once.items c.loop-i.i w.index-rows-i.result c.if-not-repeats.once.items c.loop-i-test.true w.index-rows-i.is c.loop-i.invariant.0 e,
-        order_more c.args.rows.now c.loop-i.once.items c.loop-i.i w.index-rows-i.result c.if-not-repeats.once.items c.loop-i-test.true w.index-rows-i.is c.loop-i.invariant.0.back c.loop-i.invariant.1 e,
-      )
-  | else-not-repeats w ↦
-      let rows = c.args.rows.now in
-      let i = c.loop-i.i in
-      let (k, next, same) = c.repeats.ensures w.if-not-repeats.false in
-      let d : c.if-not-repeats.once.items ≡ c.loop-i.once.items = cc (w.once-is) in
-      let at = at-any rows i [] (get_or rows i []) c.loop-i-test.true in (
-        subst (HasSameRows (take (i + 1) rows)) (sym d)
-            (same_skip rows c.loop-i.once.items i (get_or rows i []) c.loop-i-test.true at c.loop-i.invariant.0
-            (subst (λ x. IsIn x (take i rows)) (sym (same [])) (in-earlier rows i k [] (omega arith) c.loop-i-test.true))),
-        subst (KeepsOrder (take (i + 1) rows)) (sym d) (order_less rows c.loop-i.once.items i (get_or rows i []) c.loop-i-test.true at c.loop-i.invariant.1),
-      )
-]
+pub loop-row-preserved-in-Continue-branch-2 : goal.loop-row-preserved-in-Continue-branch-2
+loop-row-preserved-in-Continue-branch-2 c =
+    let done = c.loop-row.yielded in
+    let once = c.loop-row.once.items in
+    let row = c.in-Some.row in (
+      subst (HasSameRows (done ++ row ∷ [])) (sym c.in_ok-push.ensures.items) (same_push done once row c.loop-row.invariant.0),
+      subst (KeepsOrder (done ++ row ∷ [])) (sym c.in_ok-push.ensures.items) (order_push done once row c.loop-row.invariant.0.back c.loop-row.invariant.1),
+    )
+
+pub loop-row-preserved : goal.loop-row-preserved
+loop-row-preserved c =
+    let done = c.loop-row.yielded in
+    let once = c.loop-row.once.items in
+    let row = c.in-Some.row in
+    let there : IsIn row once = subst (IsIn row) c.as_slice.ensures.value (c.repeats.ensures c.if-not-repeats.false) in
+    (same_repeat done once row c.loop-row.invariant.0 (c.loop-row.invariant.0.back row there), order_skip done once row c.loop-row.invariant.1)
+
+pub returns-clause-same : goal.returns-clause-same
+returns-clause-same c =
+    let end = YieldsList-end (YieldsList-from_vec {s = c.into_iter-row-iterator.result} c.args.rows.items (search rules) (search rules))
+    c.loop-row.yielded c.loop-row.row-iterator c.loop-row.yielded_by c.next.result c.next.new.self c.in-None.is c.next.ensures.steps in
+    let all : c.loop-row.yielded ≡ c.args.rows.items = sym (map-id c.loop-row.yielded) ∙ end.0 in
+    subst (λ xs. HasSameRows xs c.loop-row.once.items) all c.loop-row.invariant.0
 
 pub returns-clause-order : goal.returns-clause-order
-returns-clause-order c = subst (λ x. KeepsOrder x c.loop-i.once.items) (take_all c.loop-i.i c.args.rows.now (omega arith)) c.loop-i.invariant.1
+returns-clause-order c =
+    let end = YieldsList-end (YieldsList-from_vec {s = c.into_iter-row-iterator.result} c.args.rows.items (search rules) (search rules))
+    c.loop-row.yielded c.loop-row.row-iterator c.loop-row.yielded_by c.next.result c.next.new.self c.in-None.is c.next.ensures.steps in
+    let all : c.loop-row.yielded ≡ c.args.rows.items = sym (map-id c.loop-row.yielded) ∙ end.0 in
+    subst (λ xs. KeepsOrder xs c.loop-row.once.items) all c.loop-row.invariant.1

@@ -1,7 +1,6 @@
-use Rattle.std.proofs.Common.{take}
 use Rattle.psg_relation.specs.Ordered.{KeepsOrder}
 use Rattle.psg_relation.specs.Sifted.{HasSameRows}
 use Rattle.psg_relation.proofs.sifting.without_repeats.Given as goal
 
-abbrev pub invariant-loop-i : goal.invariant-loop-i
-invariant-loop-i l = HasSameRows (take l.i l.rows) l.once.items × KeepsOrder (take l.i l.rows) l.once.items
+abbrev pub invariant-loop-row : goal.invariant-loop-row
+invariant-loop-row l = HasSameRows l.yielded l.once.items × KeepsOrder l.yielded l.once.items

@@ -3,7 +3,7 @@ use Rattle.psg_unify.specs.Pairs.{AreJoinable}
 use Rattle.psg_relation.specs.Joining.{IsMore}
 use Rattle.psg_relation.proofs.Members.{in-at}
 use Rattle.psg_relation.proofs.Meeting.{each_step}
-use Rattle.psg_relation.proofs.joining.with_joins.Goals as goal
+use Rattle.psg_relation.proofs.crossing.with_joins.Goals as goal
 
 pub with_join-requires-clause-joinable : goal.with_join-requires-clause-joinable
 with_join-requires-clause-joinable c =

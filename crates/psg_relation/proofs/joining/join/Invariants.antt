@@ -1,6 +1,0 @@
-use Rattle.std.proofs.Common.{take}
-use Rattle.psg_relation.specs.Joining.{all_pairs, AreJoined}
-use Rattle.psg_relation.proofs.joining.join.Given as goal
-
-abbrev pub invariant-loop-one : goal.invariant-loop-one
-invariant-loop-one l = AreJoined l.sig l.pairs l.keep (all_pairs (take l.one-index l.lefts) l.rights) l.made.items

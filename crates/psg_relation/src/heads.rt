@@ -1,0 +1,113 @@
+//! The rows of a list by the heads of one of their columns.
+ghost use Rattle.std.specs.Prelude.{◌≡◌, ◌==◌, ◌<◌, ◌∷◌, ◌++◌, [], cond, length, false, IfOk, IfSome, OnOk, ℕ};
+ghost use Rattle.psg_terms.specs.Terms.{Term as Plain};
+ghost use Rattle.psg_relation.specs.Heads.{head_of, HeadAt, places_at, IsNoted, IsIndexed};
+
+use crate::row::RelRow;
+use psg_terms::{Node, Term};
+use std::alloc::{AllocError, Global};
+use std::collections::HashMap;
+
+/// The places of rows: of those whose column has a constructor at its head, by the number of this constructor, and of all
+/// others. Where two rows have different constructors at the heads of two columns, no instances of them agree there.
+#[derive(Drop)]
+pub struct Heads {
+    pub free: Vec<usize>,
+    pub places: HashMap<u32, Vec<usize>>,
+}
+
+impl Heads {
+    /// The places of the rows with this head. It takes one step.
+    pub fn places_of(&self, head: u32) -> &[usize]
+        ensures { result.now ≡ places_at self.now.places head }
+    {
+        match self.places.get(&head) {
+            Some(places) => places.as_slice(),
+            None => &[],
+        }
+    }
+}
+
+/// The constructor at the head of a term, or `None` for a variable.
+fn head_of(term: &Term) -> Option<u32>
+    ensures { result ≡ head_of term.now }
+{
+    match term.node() {
+        Node::Var { .. } => None,
+        Node::Con { con, .. } => Some(con.0),
+    }
+}
+
+/// The constructor at the head of a column, or `None` where a variable stands there or the row has no such column.
+pub fn head_at(row: &[Term], column: usize) -> Option<u32>
+    ensures { IfSome result (HeadAt row.now column) }
+{
+    match row.get(column) {
+        Some(term) => head_of(term),
+        None => None,
+    }
+}
+
+/// Takes the places of a head out of the table.
+fn taken(alloc: Global, places: &mut HashMap<u32, Vec<usize>>, head: u32) -> Vec<usize>
+    ensures taken { result.items ≡ places_at places.old head }
+    ensures others { (c : ℕ) → (head == c) ≡ false → places_at places.new c ≡ places_at places.old c }
+{
+    match places.remove(&head) {
+        Some(own) => own,
+        None => Vec::new(alloc),
+    }
+}
+
+/// Puts a place behind those of a head.
+fn add(
+    alloc: Global,
+    places: &mut HashMap<u32, Vec<usize>>,
+    head: u32,
+    place: usize,
+) -> Result<(), AllocError>
+    ensures { OnOk result ((c : ℕ) → places_at places.new c
+        ≡ cond (head == c) (places_at places.old c ++ place ∷ []) (places_at places.old c)) }
+{
+    let mut own = taken(alloc, places, head);
+    own.push(place)?;
+    places.insert(head, own)?;
+    Ok(())
+}
+
+/// Puts the place of a row behind the others of its head.
+fn note_row(
+    alloc: Global,
+    heads: &mut Heads,
+    row: &[Term],
+    column: usize,
+    place: usize,
+) -> Result<(), AllocError>
+    ensures { OnOk result (IsNoted row.now column place heads.old.free.items (places_at heads.old.places)
+        heads.new.free.items (places_at heads.new.places)) }
+{
+    match head_at(row, column) {
+        Some(head) => {
+            add(alloc, &mut heads.places, head, place)?;
+            Ok(())
+        }
+        None => {
+            heads.free.push(place)?;
+            Ok(())
+        }
+    }
+}
+
+/// The places of the rows by the heads of a column. It reads one term of each row.
+pub fn heads_of(alloc: Global, rows: &[RelRow], column: usize) -> Result<Heads, AllocError>
+    ensures { IfOk result (λ h. IsIndexed rows.now column (length rows.now) h.free.items (places_at h.places)) }
+{
+    let mut heads = Heads {
+        free: Vec::new(alloc),
+        places: HashMap::new(alloc),
+    };
+    for i in 0..rows.len() {
+        note_row(alloc, &mut heads, rows[i].terms(), column, i)?;
+    }
+    Ok(heads)
+}
