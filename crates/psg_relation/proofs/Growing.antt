@@ -1,11 +1,10 @@
 -- Steps of keeping the most general rows.
-use Rattle.std.proofs.Common.{◌≡◌, ℕ, ◌+◌, ◌<◌, zero, suc, inl, inr, List, [], ◌∷◌, ◌++◌, map, length, take, get_or, refl, ap₂, sym, ◌∙◌, subst, arith}
-use Rattle.psg_terms.specs.Terms.{Term, variable, symbol, apply, applied}
+use Rattle.std.proofs.Common.{◌≡◌, ℕ, ◌+◌, ◌<◌, inl, inr, List, [], ◌∷◌, ◌++◌, map, length, take, get_or, refl, ap₂, sym, ◌∙◌, subst}
+use Rattle.psg_terms.specs.Terms.{Term, variable, symbol, apply}
 use Rattle.psg_terms.specs.Instances.{Substitution, substitute, IsGround, IsInstance}
 use Rattle.psg_terms.specs.Relations.{IsIn}
 use Rattle.psg_terms.proofs.InstanceLaws.{instance_trans, substitute-variable}
 use Rattle.psg_relation.specs.Sifted.{AreGround, IsCovered, IsSifted, LeavesOut, IsGrown}
-use Rattle.psg_terms.proofs.DeclareLaws.{take-next}
 use Rattle.psg_relation.proofs.Ordered.{order_push, order_skip}
 use Rattle.psg_relation.proofs.Members.{in-left, in-last, in-split, in-next, once-push, once-split}
 

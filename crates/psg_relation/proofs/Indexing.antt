@@ -1,5 +1,5 @@
 -- Rows found by the heads of a column.
-use Rattle.std.proofs.Common.{◌≡◌, ℕ, ◌+◌, ◌<◌, ◌==◌, ◌⊎◌, inl, inr, true, false, cond, zero, suc, Option, Some, None, List, [], ◌∷◌, ◌++◌, All, map, length, take, get_or, slice_get, append_assoc, refl, ap, sym, ◌∙◌, subst, arith}
+use Rattle.std.proofs.Common.{◌≡◌, ℕ, ◌+◌, ◌<◌, ◌==◌, ◌⊎◌, inl, inr, true, false, cond, zero, suc, Option, Some, None, List, [], ◌∷◌, ◌++◌, All, map, length, get_or, slice_get, append_assoc, refl, ap, sym, ◌∙◌, subst, arith}
 use Rattle.std.specs.Prelude.{Vec}
 use Rattle.std.specs.HashMap.{HashMap}
 use Rattle.std.specs.Map.{lookup}
@@ -9,14 +9,15 @@ use Rattle.std.proofs.lemmas.Bool.Decides.{nat_tests}
 use Rattle.std.proofs.lemmas.List.Elements.{All-nil, All-push, All-same, All-weaker}
 use Rattle.psg_terms.specs.Terms.{Term, variable, symbol, apply, applied}
 use Rattle.psg_terms.specs.Signature.{Signature}
-use Rattle.psg_terms.specs.Instances.{Substitution, substitute}
+use Rattle.psg_terms.specs.Instances.{Substitution, substitute, IsInstance}
 use Rattle.psg_terms.specs.Relations.{IsIn, first, later}
 use Rattle.psg_terms.proofs.Variables.{number_cases}
 use Rattle.psg_unify.specs.Pairs.{Pair as Columns}
 use Rattle.psg_relation.specs.Choices.{pick, picked}
 use Rattle.psg_relation.specs.Heads.{head_of, HeadAt, items_of, places_at, IsNoted, IsIndexed}
+use Rattle.psg_relation.specs.Sifted.{IsCovered}
 use Rattle.psg_relation.specs.Joining.{Joins, AreJoined, IsCrossed, IsMore, Two, with_each}
-use Rattle.psg_relation.proofs.Members.{in-left, in-last, in-contains}
+use Rattle.psg_relation.proofs.Members.{in-left, in-last, in-split}
 use Rattle.psg_relation.proofs.Meeting.{joined_one, each-push, in-either, in-right, each-in, in-each}
 
 head-applied : (t : Term) (row : List Term) → head_of (applied t row) ≡ head_of t
@@ -96,6 +97,11 @@ get-at (y ∷ xs) (suc i) x l e = get-at xs i x (omega arith) e
 
 pub places_none : {Z : Type 0} (table : HashMap ℕ (Vec ℕ Z) (BuildHasherDefault FoldHasher)) → table.entries ≡ [] → (c : ℕ) → places_at table c ≡ []
 places_none table e c = ap (λ es. items_of (lookup (λ (b : ℕ). c == b) es)) e
+
+pub place-in : (places : List ℕ) (i : ℕ) → i < length places → IsIn (get_or places i 0) places
+place-in [] i l = absurd (omega arith)
+place-in (p ∷ places) zero l = first
+place-in (p ∷ places) (suc i) l = later (place-in places i (omega arith))
 
 -- no row is noted yet
 pub indexed_begin : (rows : List (List Term)) (column : ℕ) (free : List ℕ) (at : ℕ → List ℕ) → free ≡ [] → ((c : ℕ) → at c ≡ []) → IsIndexed rows column 0 free at
@@ -214,3 +220,56 @@ module _ (sig : Signature) (pairs : List Columns) (keep : List ℕ) where
           | inr ne ↦ inr (inr (λ x. no_meeting sig pairs keep one other x p head d e h (subst (λ r. HeadAt r p.1 d) is own) ne))
         ]
       ]
+
+-- an instance of a row with a constructor at the head has it too
+held_head : (k row : List Term) (column c d : ℕ) → HeadAt k column c → IsInstance row k → HeadAt row column d → c ≡ d
+held_head k row column c d (t, at, h) (f, e) (u, bt, g) =
+    let there : slice_get row column ≡ Some (substitute f t) = ap (λ r. slice_get r column) e ∙ slice_get-map (substitute f) k column t at in
+    let both : ◌≡◌ {A = Option Term} (Some (substitute f t)) (Some u) = sym there ∙ bt in
+    let one : substitute f t ≡ u = cc in
+    let heads : ◌≡◌ {A = Option ℕ} (Some c) (Some d) = sym (head-substitute f t c h) ∙ ap head_of one ∙ g in
+    cc
+
+pub covered_by : (kept : List (List Term)) (row : List Term) (head : ℕ) (free : List ℕ) (at : ℕ → List ℕ) → IsIndexed kept 0 (length kept) free at → HeadAt row 0 head → IsCovered kept row
+    → IsCovered (picked kept free) row ⊎ IsCovered (picked kept (at head)) row
+covered_by kept row head free at ix h (k, i, j) =
+    let (p, l, g, is) = in-place kept k i in
+    elim (ix.found p l) [
+      | inl f ↦ inl (k, in-picked kept free p k g f, j)
+      | inr (d, own, m) ↦ inr (k, in-picked kept (at head) p k g (subst (λ c. IsIn p (at c)) (held_head k row 0 d head (subst (λ r. HeadAt r 0 d) is own) j h) m), j)
+    ]
+
+pub covered_among : (kept : List (List Term)) (row : List Term) (places : List ℕ) → IsCovered (picked kept places) row → IsCovered kept row
+covered_among kept row places (k, i, j) = (k, picked-in kept places k i, j)
+
+-- one row more is compared
+pub uncovered_next : (row other : List Term) (tried next : List (List Term)) → next ≡ tried ++ other ∷ [] → (IsCovered tried row → ⊥) → (IsInstance row other → ⊥) → IsCovered next row → ⊥
+uncovered_next row other tried next e nope here (k, i, j) = elim (in-split k other tried (subst (IsIn k) e i)) [ inl a ↦ nope (k, a, j) | inr d ↦ here (subst (IsInstance row) d j) ]
+
+-- one row more is indexed
+front-same : (rows : List (List Term)) (row : List Term) (i : ℕ) → i < length rows → get_or (rows ++ row ∷ []) i [] ≡ get_or rows i []
+front-same [] row i l = absurd (omega arith)
+front-same (x ∷ rows) row zero l = refl
+front-same (x ∷ rows) row (suc i) l = front-same rows row i (omega arith)
+
+last-at : (rows : List (List Term)) (row : List Term) → row ≡ get_or (rows ++ row ∷ []) (length rows) row
+last-at [] row = refl
+last-at (x ∷ rows) row = last-at rows row
+
+length-last : (rows : List (List Term)) (row : List Term) → length (rows ++ row ∷ []) ≡ length rows + 1
+length-last [] row = omega arith
+length-last (x ∷ rows) row = omega (arith, length-last rows row)
+
+indexed_grow : (rows : List (List Term)) (row : List Term) (free : List ℕ) (at : ℕ → List ℕ) → IsIndexed rows 0 (length rows) free at → IsIndexed (rows ++ row ∷ []) 0 (length rows) free at
+indexed_grow rows row free at ix = record {
+  free_within = ix.free_within;
+  heads_within = ix.heads_within;
+  found = λ i l. elim (ix.found i l) [ inl f ↦ inl f | inr (c, h, j) ↦ inr (c, subst (λ r. HeadAt r 0 c) (sym (front-same rows row i l)) h, j) ];
+}
+
+pub indexed_push : (rows : List (List Term)) (row : List Term) (all : List (List Term)) (free more : List ℕ) (at after : ℕ → List ℕ) → IsIndexed rows 0 (length rows) free at → IsNoted row 0 (length rows) free at more after → all ≡ rows ++ row ∷ []
+    → IsIndexed all 0 (length all) more after
+indexed_push rows row all free more at after ix noted e =
+    let longer = rows ++ row ∷ [] in
+    let next = indexed_next longer 0 (length rows) row (let l = length-last rows row in omega arith) (last-at rows row) free more at after (indexed_grow rows row free at ix) noted in
+    subst (λ xs. IsIndexed xs 0 (length xs) more after) (sym e) (subst (λ n. IsIndexed longer 0 n more after) (sym (length-last rows row)) next)

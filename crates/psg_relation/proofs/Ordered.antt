@@ -1,5 +1,5 @@
 -- Orders of lists with one element more, and the order that a sort gives.
-use Rattle.std.proofs.Common.{◌≡◌, ℕ, ◌+◌, ◌<◌, ◌≤◌, Bool, false, inl, inr, List, [], ◌∷◌, ◌++◌, IsTrue, get_or, length, take, suc, refl, ap, ap₂, sym, ◌∙◌, subst, nat_cmp, is_lt, arith}
+use Rattle.std.proofs.Common.{◌≡◌, ℕ, ◌<◌, ◌≤◌, Bool, false, inl, inr, List, [], ◌∷◌, ◌++◌, IsTrue, get_or, length, suc, refl, ap, sym, ◌∙◌, subst, nat_cmp, is_lt, arith}
 use Rattle.std.specs.Prelude.{string_bytes}
 use Rattle.std.specs.Ordering.{is_le, ordering_reverse}
 use Rattle.std.specs.Cmp.Lexicographic.{slice_cmp, nat_list_cmp_total}

@@ -17,6 +17,17 @@ pub struct Heads {
 }
 
 impl Heads {
+    /// The places of no rows.
+    pub fn new(alloc: Global) -> Heads
+        ensures free { result.free.items ≡ [] }
+        ensures places { (c : ℕ) → places_at result.places c ≡ [] }
+    {
+        Heads {
+            free: Vec::new(alloc),
+            places: HashMap::new(alloc),
+        }
+    }
+
     /// The places of the rows with this head. It takes one step.
     pub fn places_of(&self, head: u32) -> &[usize]
         ensures { result.now ≡ places_at self.now.places head }
@@ -76,7 +87,7 @@ fn add(
 }
 
 /// Puts the place of a row behind the others of its head.
-fn note_row(
+pub fn note_row(
     alloc: Global,
     heads: &mut Heads,
     row: &[Term],
@@ -102,10 +113,7 @@ fn note_row(
 pub fn heads_of(alloc: Global, rows: &[RelRow], column: usize) -> Result<Heads, AllocError>
     ensures { IfOk result (λ h. IsIndexed rows.now column (length rows.now) h.free.items (places_at h.places)) }
 {
-    let mut heads = Heads {
-        free: Vec::new(alloc),
-        places: HashMap::new(alloc),
-    };
+    let mut heads = Heads::new(alloc);
     for i in 0..rows.len() {
         note_row(alloc, &mut heads, rows[i].terms(), column, i)?;
     }

@@ -1,11 +1,11 @@
 use Rattle.std.proofs.Common.{subst}
 use Rattle.psg_relation.specs.Heads.{places_at, IsNoted}
-use Rattle.psg_relation.proofs.Indexing.{indexed_begin, indexed_next, places_none}
+use Rattle.psg_relation.proofs.Indexing.{indexed_begin, indexed_next}
 use Rattle.psg_relation.proofs.heads.heads_of.Goals as goal
 
 pub loop-i-init : goal.loop-i-init
 loop-i-init c =
-    indexed_begin c.args.rows.now c.args.column c.new.result.items (places_at c.new-2.result) c.new.ensures.items (places_none c.new-2.result c.new-2.ensures.empty)
+    indexed_begin c.args.rows.now c.args.column c.new-heads.result.free.items (places_at c.new-heads.result.places) c.new-heads.ensures.free c.new-heads.ensures.places
 
 pub loop-i-preserved : goal.loop-i-preserved
 loop-i-preserved c =

@@ -8,21 +8,25 @@ use Rattle.psg_relation.proofs.Ordered.{grown}
 use Rattle.psg_relation.proofs.maximal.maximal.Goals as goal
 
 pub loop-row-preserved : goal.loop-row-preserved
-loop-row-preserved c = (
-  sifted_more c.loop-row.yielded c.loop-row.kept.items c.in-Some.row c.in_ok-more.more.items c.loop-row.invariant.0 c.in_ok-more.ensures,
-  grown c.loop-row.yielded c.loop-row.kept.items c.in-Some.row c.in_ok-more.more.items c.loop-row.invariant.0 c.loop-row.invariant.1 c.in_ok-more.ensures,
-)
+loop-row-preserved c =
+    let now = c.loop-row.kept.rows.items in
+    let more = c.in_ok-more.more.rows.items in
+    let i = c.loop-row.invariant in record {
+      sifted = sifted_more c.loop-row.yielded now c.in-Some.row more i.sifted c.in_ok-more.ensures.grown;
+      order = grown c.loop-row.yielded now c.in-Some.row more i.sifted i.order c.in_ok-more.ensures.grown;
+      indexed = c.in_ok-more.ensures.indexed;
+    }
 
 pub returns-clause-sifted : goal.returns-clause-sifted
 returns-clause-sifted c =
     let end = YieldsList-end (YieldsList-from_vec {s = c.into_iter-row-iterator.result} c.args.rows.items (search rules) (search rules))
     c.loop-row.yielded c.loop-row.row-iterator c.loop-row.yielded_by c.next.result c.next.new.self c.in-None.is c.next.ensures.steps in
     let all : c.loop-row.yielded ≡ c.args.rows.items = sym (map-id c.loop-row.yielded) ∙ end.0 in
-    subst (λ xs. IsSifted xs c.loop-row.kept.items) all c.loop-row.invariant.0
+    subst (λ xs. IsSifted xs c.loop-row.kept.rows.items) all c.loop-row.invariant.sifted
 
 pub returns-clause-order : goal.returns-clause-order
 returns-clause-order c =
     let end = YieldsList-end (YieldsList-from_vec {s = c.into_iter-row-iterator.result} c.args.rows.items (search rules) (search rules))
     c.loop-row.yielded c.loop-row.row-iterator c.loop-row.yielded_by c.next.result c.next.new.self c.in-None.is c.next.ensures.steps in
     let all : c.loop-row.yielded ≡ c.args.rows.items = sym (map-id c.loop-row.yielded) ∙ end.0 in
-    subst (λ xs. KeepsOrder xs c.loop-row.kept.items) all c.loop-row.invariant.1
+    subst (λ xs. KeepsOrder xs c.loop-row.kept.rows.items) all c.loop-row.invariant.order

@@ -4,7 +4,6 @@ use Rattle.std.proofs.lemmas.Iterator.Adapters.{YieldsList-from_vec}
 use Rattle.psg_terms.specs.Signature.{HaveSorts}
 use Rattle.psg_terms.specs.Text.{row_text}
 use Rattle.psg_relation.specs.declared.order.Printed.{Printed}
-use Rattle.psg_relation.specs.Texts.{rows_in}
 use Rattle.psg_relation.proofs.Members.{in-at}
 use Rattle.psg_relation.proofs.Ordered.{text_of, rows_next, texts_next}
 use Rattle.psg_relation.proofs.order.with_texts.Goals as goal
