@@ -16,7 +16,8 @@ use Rattle.psg_tree.specs.declared.tree.Part.{Part}
 use Rattle.psg_tree.specs.declared.tree.Part.TheVariants.{Sub, Name as Named, Number, Text}
 use Rattle.psg_tree.specs.Shapes.{with_part, with_parts}
 use Rattle.psg_eval.specs.declared.summary.Known.{Known}
-use Rattle.psg_eval.specs.Trees.{IsOfKind, HasParts, IsNode, own_names, reports}
+use Rattle.psg_eval.specs.Trees.{HasParts, IsNode, own_names, reports}
+use Rattle.psg_grammar.specs.Kinds.{IsOfKind}
 use Rattle.psg_eval.specs.Summaries.{AllSummaries, IsSummary, IsSummaryOf, slot_kinds, are_names, reporting, TakesAt}
 use Rattle.psg_cache.specs.Shaped.{HasShape}
 use Rattle.psg_cache.specs.Walks.{names_in}

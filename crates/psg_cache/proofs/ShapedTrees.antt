@@ -13,12 +13,11 @@ use Rattle.psg_grammar.specs.declared.types.Operator.{Operator}
 use Rattle.psg_grammar.specs.declared.types.Definition.{Definition}
 use Rattle.psg_grammar.specs.Fragments.{Fragment, hole, ending, cell, operator, with_child, with_name, with_number, with_text, anything, observed, children_of}
 use Rattle.psg_grammar.specs.Insertion.{AreLeaves, Leaf, a_name, a_number, a_text, blank, filled, fresh_operator, may_be_unfinished}
-use Rattle.psg_grammar.specs.Kinds.{HasKind, HasSlotKind}
+use Rattle.psg_grammar.specs.Kinds.{HasKind, HasSlotKind, IsOfKind}
 use Rattle.psg_grammar.specs.Lookups.{part_items, items_of, operator_at}
 use Rattle.psg_grammar.specs.Paths.{Path, node_at, change_child, change_at, replaced, inserted, removed, ended}
 use Rattle.psg_grammar.specs.Sound.{IsSound, IsItem, IsOperator}
 use Rattle.psg_grammar.specs.WellFormed.{IsPlain, IsUnobserved}
-use Rattle.psg_eval.specs.Trees.{IsOfKind}
 use Rattle.psg_cache.specs.Shaped.{HasShape, IsShaped}
 use Rattle.psg_cache.specs.Notes.{IsFormed}
 use Rattle.psg_cache.proofs.Each.{each_got, got_there}

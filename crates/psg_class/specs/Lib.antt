@@ -14,3 +14,4 @@ pub mod Sources
 pub mod Failing
 pub mod Runs
 pub mod Machine
+pub mod Texts

@@ -6,7 +6,8 @@ use Rattle.psg_grammar.specs.declared.types.ListKind.{ListKind}
 use Rattle.psg_grammar.specs.declared.types.Operator.{Operator}
 use Rattle.psg_grammar.specs.declared.types.Definition.{Definition}
 use Rattle.psg_deflines.specs.Entries.{written, IsPlain}
-use Rattle.psg_deflines.specs.Forms.{IsFixedWord, IsFixedItem}
+use Rattle.psg_deflines.specs.Forms.{IsFixedItem}
+use Rattle.psg_lexis.specs.Tokens.{IsFixedWord}
 use Rattle.psg_deflines.specs.declared.lines.LineItem.{LineItem}
 use Rattle.psg_deflines.specs.declared.lines.LineItem.TheVariants as items
 use Rattle.psg_deflines.specs.declared.lines.Line.{Line}

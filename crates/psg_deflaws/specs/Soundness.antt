@@ -9,7 +9,7 @@ use Rattle.psg_grammar.specs.declared.types.Operator.{Operator}
 use Rattle.psg_grammar.specs.declared.types.Definition.{Definition}
 use Rattle.psg_grammar.specs.Sound.{IsSound}
 use Rattle.psg_deflines.specs.Entries.{Entry, written, AreEntries, IsPlain}
-use Rattle.psg_deflines.specs.Forms.{IsFixedWord}
+use Rattle.psg_lexis.specs.Tokens.{IsFixedWord}
 use Rattle.psg_defnumber.specs.Numbers.{IsNumbered}
 
 -- the bytes of all texts

@@ -8,11 +8,10 @@ use Rattle.std.proofs.lemmas.Str.{encodes-chars, encodes-append, encode_ascii, l
 use Rattle.psg_terms.specs.Names.{Name, is_among}
 use Rattle.psg_terms.specs.Words.{IsWord}
 use Rattle.psg_lexis.specs.Classes.{Chars, is_solo, is_symbol, All, BeginsBy}
-use Rattle.psg_lexis.specs.Tokens.{bytes_of, IsToken, word, number, text, solo, symbol, hole, more, HasTokens, nothing, blank, next}
+use Rattle.psg_lexis.specs.Tokens.{bytes_of, IsToken, word, number, text, solo, symbol, hole, more, HasTokens, nothing, blank, next, IsFixedWord}
 use Rattle.psg_lexis.specs.declared.token.Token.{Token}
 use Rattle.psg_lexis.specs.declared.token.Token.TheVariants as tokens
 use Rattle.psg_lexis.specs.declared.token.Spanned.{Spanned}
-use Rattle.psg_deflines.specs.Forms.{IsFixedWord}
 use Rattle.psg_deflines.specs.FixedTokens.{IsFixedToken, IsOneToken}
 use Rattle.psg_deflines.proofs.Lists.{nil-length}
 

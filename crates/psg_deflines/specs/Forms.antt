@@ -1,14 +1,12 @@
 -- The forms of the lines of a definition.
-use Rattle.std.specs.Prelude.{ℕ, ◌≡◌, ◌≢◌, ◌≤◌, ◌<◌, ◌+◌, ◌⊎◌, Bool, true, false, cond, Option, Some, None, List, [], ◌∷◌, ◌++◌, length, map, codes, chars}
+use Rattle.std.specs.Prelude.{ℕ, ◌≡◌, ◌≤◌, ◌<◌, ◌+◌, Bool, true, false, cond, Option, Some, None, List, [], ◌∷◌, ◌++◌, length, map, codes}
 use Rattle.std.specs.List.{AllByRecursion}
 use Rattle.psg_terms.specs.Names.{Name}
-use Rattle.psg_terms.specs.Words.{IsWord}
 use Rattle.psg_terms.specs.declared.declare.ConDecl.{ConDecl}
 use Rattle.psg_grammar.specs.Sound.{IsKindName, IsOwnName, IsLevel}
 use Rattle.psg_grammar.specs.declared.types.Level.{Level}
 use Rattle.psg_grammar.specs.declared.types.Level.TheVariants as levels
-use Rattle.psg_lexis.specs.Classes.{is_solo, is_symbol, All, BeginsBy}
-use Rattle.psg_lexis.specs.Tokens.{dots}
+use Rattle.psg_lexis.specs.Tokens.{IsFixedWord}
 use Rattle.psg_deflines.specs.Written.{IsWritten}
 use Rattle.psg_deflines.specs.WrittenTerms.{WrittenTerm, term_parts, HasTermForm, IsShallowTerm}
 use Rattle.psg_deflines.specs.WrittenTrees.{WrittenTree, tree_parts, HasTreeForm, IsShallowTree, IsQuotable, quoted_part}
@@ -122,14 +120,6 @@ HasForm (lines.Declare list entity value specimen) = IsKindName list × HasTermF
 pub record SpellsLine (text : List ℕ) (line : Line) : Type 0 where
   pub form : HasForm line
   pub written : IsWritten (parts_of line) text
-
--- The word is one token of a fragment's text: a word of at most 255 bytes, a character that stands alone, or a run of symbols
--- other than `...`.
-abbrev pub IsFixedWord : List ℕ → Type 0
-IsFixedWord w =
-    (IsWord (chars w) × (length w ≤ 255))
-    ⊎ (((c : ℕ) × (w ≡ c ∷ []) × (is_solo c ≡ true))
-    ⊎ (BeginsBy is_symbol (chars w) × All is_symbol (chars w) × (chars w ≢ dots)))
 
 abbrev pub IsFixedItem : LineItem → Type 0
 IsFixedItem (items.Word w) = IsFixedWord w

@@ -2,7 +2,7 @@
 ghost use Rattle.std.specs.Prelude.{◌≡◌, ◌≢◌, false, IfOk, IsTrue, ◌↔◌};
 ghost use Rattle.psg_lexis.specs.declared.token.LexFault.{LexFault};
 ghost use Rattle.psg_deflines.specs.FixedTokens.{IsFixedToken, IsOneToken};
-ghost use Rattle.psg_deflines.specs.Forms.{IsFixedWord};
+ghost use Rattle.psg_lexis.specs.Tokens.{IsFixedWord};
 
 use psg_lexis::{LexFault, Lexis, Spanned, Token, lex};
 use psg_terms::Txt;

@@ -18,7 +18,8 @@ use Rattle.psg_eval.specs.Outside.{IsClosed}
 use Rattle.psg_eval.specs.Partials.{IsAdded, IsPartial}
 use Rattle.psg_eval.specs.Summaries.{IsFirstPassing, IsSummaryOf, StaysWithin}
 use Rattle.psg_eval.specs.Stages.{IsInside, IsMade, IsStep}
-use Rattle.psg_eval.specs.Trees.{HasParts, IsOfKind, reports}
+use Rattle.psg_eval.specs.Trees.{HasParts, reports}
+use Rattle.psg_grammar.specs.Kinds.{IsOfKind}
 use Rattle.psg_eval.proofs.PartialSorts.{key_sorts_many, kind_sorts_many}
 use Rattle.psg_eval.proofs.Passing.{close_passes, close_stays}
 use Rattle.psg_eval.proofs.RegionSteps.{count_is}

@@ -22,7 +22,7 @@ use Rattle.psg_grammar.proofs.SoundParts.{each_at, list_sound}
 use Rattle.psg_relation.specs.Choices.{IsOfRow}
 use Rattle.psg_relation.proofs.Members.{in-map, map-in}
 use Rattle.psg_scope.specs.Headers.{IsKey}
-use Rattle.psg_eval.specs.Trees.{IsOfKind}
+use Rattle.psg_grammar.specs.Kinds.{IsOfKind}
 use Rattle.psg_eval.specs.Glues.{outer_names, NextGlue}
 use Rattle.psg_eval.specs.OwnRows.{whole_row}
 use Rattle.psg_eval.proofs.Adding.{added_relation}

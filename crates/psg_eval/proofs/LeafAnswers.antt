@@ -28,7 +28,8 @@ use Rattle.psg_eval.specs.declared.summary.Known.{Known}
 use Rattle.psg_eval.specs.Leaves.{IsLeafOf}
 use Rattle.psg_eval.specs.OwnRows.{AreHoleRows}
 use Rattle.psg_eval.specs.Summaries.{Answers, AreSpacesOfList, IsHeaderOf, IsSummary}
-use Rattle.psg_eval.specs.Trees.{IsOfKind, reports}
+use Rattle.psg_eval.specs.Trees.{reports}
+use Rattle.psg_grammar.specs.Kinds.{IsOfKind}
 use Rattle.psg_eval.proofs.Closing.{inside_relation}
 use Rattle.psg_eval.proofs.Ends.{hole_relation, open_end_relation, end_relation}
 use Rattle.psg_eval.proofs.Passing.{step_passes, step_stays}

@@ -29,7 +29,8 @@ use Rattle.psg_eval.specs.Own.{IsOwnStep}
 use Rattle.psg_eval.specs.Partials.{IsAdded, IsPartial}
 use Rattle.psg_eval.specs.Stages.{kinds_of, IsMade, IsStep, MatchMade, MatchOuter, MatchWhole}
 use Rattle.psg_eval.specs.Summaries.{Answers, AreSummariesOf, IsFirstPassing, reporting, slot_kinds}
-use Rattle.psg_eval.specs.Trees.{HasParts, IsNode, IsOfKind, reports}
+use Rattle.psg_eval.specs.Trees.{HasParts, IsNode, reports}
+use Rattle.psg_grammar.specs.Kinds.{IsOfKind}
 use Rattle.psg_eval.proofs.Assembling.{made_first, made_next, wide_first, wide_next, open_answer, closed_answer, closed_wide}
 use Rattle.psg_eval.proofs.LeafAnswers.{at_place}
 use Rattle.psg_eval.proofs.Nodes.{as_many, child_at, node_count, node_kind, node_reports, node_scope}

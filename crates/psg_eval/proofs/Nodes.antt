@@ -13,7 +13,8 @@ use Rattle.psg_grammar.specs.Lookups.{is_scope, operator_at, scopes}
 use Rattle.psg_grammar.specs.Steps.{children_count, last_step}
 use Rattle.psg_scope.proofs.KeyLists.{or-assoc, or-false}
 use Rattle.psg_eval.specs.declared.summary.Known.{Known}
-use Rattle.psg_eval.specs.Trees.{reports, IsOfKind, HasParts, IsNode}
+use Rattle.psg_eval.specs.Trees.{reports, HasParts, IsNode}
+use Rattle.psg_grammar.specs.Kinds.{IsOfKind}
 use Rattle.psg_eval.specs.Summaries.{IsSummaryOf, AllSummaries}
 use Rattle.psg_eval.proofs.RegionSteps.{count_is}
 

@@ -20,7 +20,8 @@ use Rattle.psg_eval.specs.declared.summary.EvalFault.{EvalFault}
 use Rattle.psg_eval.specs.declared.summary.EvalFault.TheVariants as faults
 use Rattle.psg_eval.specs.Leaves.{IsFaultAt}
 use Rattle.psg_eval.specs.Summaries.{IsFirstPassing, IsSummaryOf, StaysWithin}
-use Rattle.psg_eval.specs.Trees.{HasParts, IsOfKind, reports}
+use Rattle.psg_eval.specs.Trees.{HasParts, reports}
+use Rattle.psg_grammar.specs.Kinds.{IsOfKind}
 
 module _ (def : Definition) where
   -- the header of what is inside the tree

@@ -23,7 +23,8 @@ use Rattle.psg_scope.specs.Headers.{AreAscending, has_space, IsHeader, IsOrdered
 use Rattle.psg_eval.specs.declared.summary.Known.{Known}
 use Rattle.psg_eval.specs.declared.summary.EvalFault.{EvalFault}
 use Rattle.psg_eval.specs.declared.summary.EvalFault.TheVariants as faults
-use Rattle.psg_eval.specs.Trees.{IsOfKind, reports}
+use Rattle.psg_eval.specs.Trees.{reports}
+use Rattle.psg_grammar.specs.Kinds.{IsOfKind}
 
 module _ (def : Definition) where
   -- the keys of the tree's region, or those that pass outward where it is a scope operator

@@ -9,6 +9,7 @@ use Rattle.psg_grammar.specs.declared.types.Operator.{Operator}
 use Rattle.psg_grammar.specs.declared.types.Definition.{Definition}
 use Rattle.psg_grammar.specs.Fragments.{Fragment, hole, ending, cell, operator, with_child, with_name, with_number, with_text, anything, observed, top_operator}
 use Rattle.psg_grammar.specs.Lookups.{part_items}
+use Rattle.psg_grammar.specs.Kinds.{IsOfKind}
 
 -- whether the value of some node is observed
 abbrev pub reports : Fragment → Bool
@@ -22,19 +23,6 @@ reports (with_number f n) = reports f
 reports (with_text f t) = reports f
 reports anything = true
 reports (observed f) = true
-
--- the kind of a tree, by its top alone
-abbrev pub IsOfKind : Definition → Fragment → Kind → Type 0
-IsOfKind def (hole p) k = k ≡ kinds.Phylum p
-IsOfKind def (ending l u) k = k ≡ kinds.List l
-IsOfKind def (cell l e r) k = k ≡ kinds.List l
-IsOfKind def (operator o) k = (op : Operator) × (slice_get def.operators o ≡ Some op) × (k ≡ kinds.Phylum op.phylum)
-IsOfKind def (with_child f t) k = IsOfKind def f k
-IsOfKind def (with_name f n) k = IsOfKind def f k
-IsOfKind def (with_number f n) k = IsOfKind def f k
-IsOfKind def (with_text f t) k = IsOfKind def f k
-IsOfKind def anything k = ⊥
-IsOfKind def (observed f) k = IsOfKind def f k
 
 -- The operator has the parts of its items, where parts of these items still follow. Any word may be a name.
 module _ (def : Definition) where

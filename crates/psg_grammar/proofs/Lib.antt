@@ -19,3 +19,4 @@ pub mod CaseLevels
 pub mod PathLaws
 pub mod FillingLaws
 pub mod RelationLaws
+pub mod SameLaws

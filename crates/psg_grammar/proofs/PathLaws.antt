@@ -4,7 +4,7 @@ use Rattle.std.specs.Prelude.{option_map}
 use Rattle.std.proofs.lemmas.Bool.Decides.{eqb_tells}
 use Rattle.psg_grammar.specs.Fragments.{Fragment, hole, ending, cell, operator, with_child, with_name, with_number, with_text, anything, observed, children_of}
 use Rattle.psg_grammar.specs.Paths.{Path, node_at, change_child, change_at, replaced}
-use Rattle.psg_grammar.specs.Ways.{ArePathsApart, IsThere, ChangesInPlace}
+use Rattle.psg_grammar.specs.Ways.{ArePathsApart, IsThere, bare, ChangesInPlace}
 
 -- ---- one element of a list
 
@@ -133,6 +133,26 @@ module _ (g : Fragment → Fragment) where
   child_kept k j anything ne = refl
   child_kept k j (observed f) ne = child_kept k j f ne
 
+  -- and nothing beside the children
+  pub bare_kept : (k : ℕ) (f : Fragment) → bare (change_child g k f) ≡ bare f
+  bare_kept k (hole p) = refl
+  bare_kept k (ending l u) = refl
+  bare_kept zero (cell l e r) = refl
+  bare_kept (suc k) (cell l e r) = ap (cell l anything) (bare_kept k r)
+  bare_kept k (operator o) = refl
+  bare_kept k (with_child f t) =
+      elim (eqb_tells (length (children_of f)) k) [
+        | inl q ↦ ap (λ b. bare (cond b (with_child f (g t)) (with_child (change_child g k f) t))) q.0
+        | inr q ↦
+            ap (λ b. bare (cond b (with_child f (g t)) (with_child (change_child g k f) t))) q.0
+            ∙ ap (λ r. with_child r anything) (bare_kept k f)
+      ]
+  bare_kept k (with_name f n) = ap (λ r. with_name r n) (bare_kept k f)
+  bare_kept k (with_number f n) = ap (λ r. with_number r n) (bare_kept k f)
+  bare_kept k (with_text f t) = ap (λ r. with_text r t) (bare_kept k f)
+  bare_kept k anything = refl
+  bare_kept k (observed f) = ap observed (bare_kept k f)
+
 -- ---- paths
 
 pub step : (o : Option Fragment) (path : Path) (x : Fragment) → option_and_then (λ t. node_at t path) o ≡ Some x → (t : Fragment) × (o ≡ Some t) × (node_at t path ≡ Some x)
@@ -182,12 +202,13 @@ above_there P [] q f x e h = h f refl
 above_there P (k ∷ p) q f x e h =
     there_through P p (p ++ q) x (slice_get (children_of f) k) e h (λ t d i. above_there P p q t x d i)
 
-pub changes_in_place : (f : Fragment) (path : Path) (old new : Fragment) → node_at f path ≡ Some old → ChangesInPlace f path old new
+pub changes_in_place : (f : Fragment) (path : Path) (old new : Fragment) → node_at f path ≡ Some old → ChangesInPlace f path new
 changes_in_place f path old new e = record {
   here = subst (λ p. node_at (replaced path new f) p ≡ Some new) (append-nil path) (change-below (λ x. new) path [] f old e);
   below = λ q. change-below (λ x. new) path q f old e;
   above = λ p q d.
       above_there (λ t. node_at (replaced path new f) p ≡ Some (replaced q new t)) p q f old (ap (node_at f) (sym d) ∙ e)
       (λ t h. ap (λ r. node_at (replaced r new f) p) d ∙ change-above (λ x. new) p q f t h);
+  alike = λ k q t. bare_kept (change_at (λ x. new) q) k t;
   beside = λ q h. change-beside (λ x. new) path q f h;
 }

@@ -11,6 +11,7 @@ use Rattle.psg_terms.specs.Weight.{weight_of}
 use Rattle.psg_terms.specs.Clear.{IsClear, HasClearNames}
 use Rattle.psg_terms.proofs.RelationLaws.{row_is_maximal}
 use Rattle.psg_terms.proofs.RowOrder as order
+use Rattle.psg_terms.proofs.OneRelation as relation
 use Rattle.psg_grammar.specs.declared.types.Definition.{Definition}
 use Rattle.psg_grammar.specs.Fragments.{Fragment}
 use Rattle.psg_grammar.specs.Relations.{IsPossible, IsRelationOf}
@@ -53,6 +54,10 @@ module _ (def : Definition) (sound : IsSound def) where
   pub rows_are_maximal : (f : Fragment) (rows : List (List Term)) (relation : IsRelationOf def f rows) (row : List Term)
       → IsIn row rows ↔ IsMaximal def.signature relation.0 (IsPossible def f) row
   rows_are_maximal f rows relation row = row_is_maximal def.signature sound.signature relation.0 (IsPossible def f) rows relation.1 row
+
+  pub same_rows : (f : Fragment) (rows others : List (List Term)) → IsRelationOf def f rows → IsRelationOf def f others
+      → (row : List Term) → IsIn row rows → IsIn row others
+  same_rows f rows others (ls, l) (rs, r) row h = relation.same_rows def.signature sound.signature (IsPossible def f) ls rs rows others l r row h
 
   pub same_texts : (f : Fragment) (rows others : List (List Term)) → IsRelationOf def f rows → IsRelationOf def f others
       → map (row_text def.signature) rows ≡ map (row_text def.signature) others

@@ -1,5 +1,5 @@
 -- Names and sorts of kinds and operators by their numbers.
-use Rattle.std.specs.Prelude.{ℕ, ◌<◌, length, Option, Some, slice_get, option_map}
+use Rattle.std.specs.Prelude.{ℕ, ◌≡◌, ◌<◌, length, Option, Some, slice_get, option_map}
 use Rattle.psg_terms.specs.Names.{Name}
 use Rattle.psg_terms.specs.declared.sorts.SortId.{SortId}
 use Rattle.psg_grammar.specs.declared.types.Kind.{Kind}
@@ -10,6 +10,7 @@ use Rattle.psg_grammar.specs.declared.types.Phylum.{Phylum}
 use Rattle.psg_grammar.specs.declared.types.ListKind.{ListKind}
 use Rattle.psg_grammar.specs.declared.types.Operator.{Operator}
 use Rattle.psg_grammar.specs.declared.types.Definition.{Definition}
+use Rattle.psg_grammar.specs.Fragments.{Fragment, hole, ending, cell, operator, with_child, with_name, with_number, with_text, anything, observed}
 
 -- the number of the kind is in range
 abbrev pub HasKind : Definition → Kind → Type 0
@@ -36,3 +37,16 @@ kind_sort_of def (kinds.List l) = option_map (λ (k : ListKind). k.sort) (slice_
 
 abbrev pub op_name_of : Definition → ℕ → Option Name
 op_name_of def o = option_map (λ (op : Operator). op.name) (slice_get def.operators o)
+
+-- the kind of a tree, by its top alone
+abbrev pub IsOfKind : Definition → Fragment → Kind → Type 0
+IsOfKind def (hole p) k = k ≡ kinds.Phylum p
+IsOfKind def (ending l u) k = k ≡ kinds.List l
+IsOfKind def (cell l e r) k = k ≡ kinds.List l
+IsOfKind def (operator o) k = (op : Operator) × (slice_get def.operators o ≡ Some op) × (k ≡ kinds.Phylum op.phylum)
+IsOfKind def (with_child f t) k = IsOfKind def f k
+IsOfKind def (with_name f n) k = IsOfKind def f k
+IsOfKind def (with_number f n) k = IsOfKind def f k
+IsOfKind def (with_text f t) k = IsOfKind def f k
+IsOfKind def anything k = ⊥
+IsOfKind def (observed f) k = IsOfKind def f k

@@ -23,3 +23,5 @@ pub mod Kinds
 pub mod Levels
 pub mod DeclaringTables
 pub mod Little
+pub mod Same
+pub mod Work

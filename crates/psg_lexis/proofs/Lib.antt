@@ -10,3 +10,4 @@ pub mod Disjoint
 pub mod Unquoting
 pub mod Laws
 pub mod Joining
+pub mod Cutting

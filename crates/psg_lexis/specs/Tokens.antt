@@ -1,9 +1,9 @@
 -- The tokens of a text, by its characters.
-use Rattle.std.specs.Prelude.{ℕ, ◌≡◌, ◌≢◌, ◌<◌, ◌≤◌, ◌+◌, ◌*◌, ◌-◌, ◌^◌, ◌==◌, ◌||◌, Bool, false, cond, is_some, List, [], ◌∷◌, ◌++◌, length, encode_utf8_all, codes, IsTrue}
+use Rattle.std.specs.Prelude.{ℕ, ◌≡◌, ◌≢◌, ◌⊎◌, ◌<◌, ◌≤◌, ◌+◌, ◌*◌, ◌-◌, ◌^◌, ◌==◌, ◌||◌, Bool, true, false, cond, is_some, List, [], ◌∷◌, ◌++◌, length, encode_utf8_all, codes, chars, IsTrue}
 use Rattle.unicode_width.specs.Width.{char_width}
 use Rattle.psg_terms.specs.Names.{Name, is_among}
 use Rattle.psg_terms.specs.Words.{goes_on_word, IsWord}
-use Rattle.psg_lexis.specs.Classes.{Chars, is_blank, is_digit, is_solo, is_symbol, All, EndsBy, IsLongest}
+use Rattle.psg_lexis.specs.Classes.{Chars, is_blank, is_digit, is_solo, is_symbol, All, BeginsBy, EndsBy, IsLongest}
 use Rattle.psg_lexis.specs.declared.token.Token.{Token}
 use Rattle.psg_lexis.specs.declared.token.Token.TheVariants as tokens
 use Rattle.psg_lexis.specs.declared.token.Spanned.{Spanned}
@@ -15,6 +15,14 @@ bytes_of cs = length (encode_utf8_all cs)
 -- the run `...`
 abbrev pub dots : Chars
 dots = codes "..."
+
+-- The word is one token of a fragment's text: a word of at most 255 bytes, a character that stands alone, or a run of symbols
+-- other than `...`.
+abbrev pub IsFixedWord : List ℕ → Type 0
+IsFixedWord w =
+    (IsWord (chars w) × (length w ≤ 255))
+    ⊎ (((c : ℕ) × (w ≡ c ∷ []) × (is_solo c ≡ true))
+    ⊎ (BeginsBy is_symbol (chars w) × All is_symbol (chars w) × (chars w ≢ dots)))
 
 -- the number that decimal digits stand for
 abbrev pub value_of : Chars → ℕ
@@ -67,3 +75,7 @@ module _ (fixed : List Name) where
         → HasTokens (c ∷ cs) at ts
     next : (all : Chars) (at : ℕ) (s : Spanned) (ts : List Spanned) (begins : Begins all at s)
         → HasTokens begins.rest s.end ts → HasTokens all at (s ∷ ts)
+
+-- the token is not across the border between two bytes
+abbrev pub IsBeside : ℕ → Spanned → Type 0
+IsBeside border t = (t.end ≤ border) ⊎ (border ≤ t.start)

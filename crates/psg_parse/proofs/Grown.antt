@@ -16,7 +16,7 @@ use Rattle.psg_class.specs.Runs.{Reaches, Stops, grow, parts}
 use Rattle.psg_class.proofs.Sameness.{led_same}
 use Rattle.psg_class.specs.Machine.{Frame, then_grow, Completes, taken}
 use Rattle.psg_class.proofs.Machine.{step_led, step_item}
-use Rattle.psg_parse.specs.Answers.{tokens_of}
+use Rattle.psg_class.specs.Texts.{tokens_of}
 use Rattle.psg_parse.specs.Lookups.{IsBare}
 use Rattle.psg_parse.proofs.Items.{bare_solid, none_left}
 

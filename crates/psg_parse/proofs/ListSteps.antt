@@ -14,7 +14,7 @@ use Rattle.psg_class.proofs.ClassFacts.{facts}
 use Rattle.psg_class.specs.Runs.{start, list}
 use Rattle.psg_class.specs.Machine.{Frame, then_list, Ends, Completes}
 use Rattle.psg_class.proofs.Machine.{step_none, step_only_more, step_first, step_some}
-use Rattle.psg_parse.specs.Answers.{tokens_of}
+use Rattle.psg_class.specs.Texts.{tokens_of}
 
 more_word : (a b : Bool) (w : Name) → word_terminal w a b ≡ a_more → ⊥
 more_word true true w e = cc

@@ -3,7 +3,7 @@ use Rattle.std.proofs.Common.{◌≡◌, suc, length, arith, Some, None, List, [
 use Rattle.psg_grammar.specs.declared.types.Definition.{Definition}
 use Rattle.psg_lexis.specs.declared.token.Spanned.{Spanned}
 use Rattle.psg_class.specs.Terminals.{Terminal, terminal_of, next_terminal}
-use Rattle.psg_parse.specs.Answers.{tokens_of}
+use Rattle.psg_class.specs.Texts.{tokens_of}
 use Rattle.psg_class.specs.Machine.{Frame as Plain}
 use Rattle.psg_parse.specs.declared.state.Frame.{Frame}
 use Rattle.psg_parse.specs.States.{IsFrame, IsStackOn, IsStack}

@@ -19,7 +19,8 @@ use Rattle.psg_parse.specs.declared.standing.Grown.{Grown}
 use Rattle.psg_parse.specs.declared.state.State.{State}
 use Rattle.psg_parse.specs.declared.state.Step.{Step}
 use Rattle.psg_parse.specs.declared.state.Step.TheVariants as steps
-use Rattle.psg_parse.specs.Answers.{Reads, IsParsed, HasDeep, IsFault, tokens_of}
+use Rattle.psg_parse.specs.Answers.{Reads, IsParsed, HasDeep, IsFault}
+use Rattle.psg_class.specs.Texts.{tokens_of}
 use Rattle.psg_parse.specs.Standing.{IsTree}
 use Rattle.psg_parse.specs.States.{Aim, GoesOn, IsBegun, IsState, LeftBy, Leads, Same, Steps, aim_of}
 use Rattle.psg_class.specs.Only.{IsValue}

@@ -1,18 +1,14 @@
 -- What `parse` answers.
-use Rattle.std.specs.Prelude.{ℕ, ◌<◌, ◌≤◌, ◌+◌, ◌⊎◌, List, map}
+use Rattle.std.specs.Prelude.{ℕ, ◌<◌, ◌≤◌, ◌+◌, ◌⊎◌, List}
 use Rattle.psg_grammar.specs.declared.types.Definition.{Definition}
 use Rattle.psg_grammar.specs.Fragments.{Fragment}
 use Rattle.psg_grammar.specs.Sizes.{depth_of}
-use Rattle.psg_lexis.specs.declared.token.Token.{Token}
 use Rattle.psg_lexis.specs.declared.token.Spanned.{Spanned}
 use Rattle.psg_class.specs.Yields.{Yields}
+use Rattle.psg_class.specs.Texts.{tokens_of}
 use Rattle.psg_parse.specs.declared.fault.Goal.{Goal}
 use Rattle.psg_parse.specs.declared.fault.ParseFault.{ParseFault}
 use Rattle.psg_parse.specs.declared.fault.ParseFault.TheVariants as faults
-
--- the tokens without their places
-abbrev pub tokens_of : List Spanned → List Token
-tokens_of ts = map (λ (s : Spanned). s.token) ts
 
 -- a tree of the goal's kind and level has these tokens, with brackets nested so deep
 abbrev pub Reads : Definition → Goal → List Spanned → Fragment → ℕ → Type 0

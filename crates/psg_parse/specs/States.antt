@@ -7,7 +7,7 @@ use Rattle.psg_lexis.specs.declared.token.Token.{Token}
 use Rattle.psg_class.specs.Places.{solid}
 use Rattle.psg_class.specs.Runs.{Task, start, grow, parts, list}
 use Rattle.psg_class.specs.Machine.{Frame as Plain, then_grow, then_parts, then_close, then_list, Ends, Completes}
-use Rattle.psg_parse.specs.Answers.{tokens_of}
+use Rattle.psg_class.specs.Texts.{tokens_of}
 use Rattle.psg_parse.specs.Standing.{IsTree, IsPartly, AreElements}
 use Rattle.psg_grammar.specs.declared.types.Kind.{Kind}
 use Rattle.psg_grammar.specs.declared.types.Kind.TheVariants as kinds

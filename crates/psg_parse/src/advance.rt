@@ -2,7 +2,7 @@
 ghost use Rattle.std.specs.Prelude.{◌≡◌, List, IfOk, length};
 ghost use Rattle.psg_class.specs.Class.{IsClass};
 ghost use Rattle.psg_class.specs.Machine.{Frame as Plain};
-ghost use Rattle.psg_parse.specs.Answers.{tokens_of};
+ghost use Rattle.psg_class.specs.Texts.{tokens_of};
 ghost use Rattle.psg_parse.specs.States.{Aim, IsState, Steps};
 ghost use Rattle.psg_parse.specs.Tables.{IsLookup};
 ghost use Rattle.psg_parse.specs.Work.{Advances, Takes, state_work};

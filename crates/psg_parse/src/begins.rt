@@ -4,7 +4,7 @@ ghost use Rattle.psg_class.specs.Class.{IsClass};
 ghost use Rattle.psg_class.specs.Follow.{First, Leads};
 ghost use Rattle.psg_class.specs.Machine.{Frame as Plain};
 ghost use Rattle.psg_class.specs.Runs.{start as starting};
-ghost use Rattle.psg_parse.specs.Answers.{tokens_of};
+ghost use Rattle.psg_class.specs.Texts.{tokens_of};
 ghost use Rattle.psg_parse.specs.Lookups.{Finds, opener_at};
 ghost use Rattle.psg_parse.specs.Seen.{terminal_seen};
 ghost use Rattle.psg_parse.specs.States.{IsStack, running, Steps};

@@ -4,7 +4,7 @@ ghost use Rattle.psg_grammar.specs.Fragments.{Fragment};
 ghost use Rattle.psg_grammar.specs.WellFormed.{fixed_words};
 ghost use Rattle.psg_class.specs.Class.{IsClass};
 ghost use Rattle.psg_class.specs.Machine.{Frame as Plain};
-ghost use Rattle.psg_parse.specs.Answers.{tokens_of};
+ghost use Rattle.psg_class.specs.Texts.{tokens_of};
 ghost use Rattle.psg_parse.specs.Standing.{IsTree};
 ghost use Rattle.psg_parse.specs.States.{giving, IsStack, Steps};
 ghost use Rattle.psg_parse.specs.Work.{Advances, stack_work};

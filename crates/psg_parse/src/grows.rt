@@ -5,7 +5,7 @@ ghost use Rattle.psg_class.specs.Class.{IsClass};
 ghost use Rattle.psg_class.specs.Follow.{Led};
 ghost use Rattle.psg_class.specs.Machine.{Frame as Plain};
 ghost use Rattle.psg_class.specs.Runs.{grow as growing};
-ghost use Rattle.psg_parse.specs.Answers.{tokens_of};
+ghost use Rattle.psg_class.specs.Texts.{tokens_of};
 ghost use Rattle.psg_parse.specs.Lookups.{Finds};
 ghost use Rattle.psg_parse.specs.Seen.{terminal_seen};
 ghost use Rattle.psg_parse.specs.Standing.{IsTree};

@@ -6,7 +6,7 @@ ghost use Rattle.psg_class.specs.Class.{IsClass};
 ghost use Rattle.psg_class.specs.Terminals.{dots};
 ghost use Rattle.psg_class.specs.Machine.{behind_all, Frame as Plain, then_list};
 ghost use Rattle.psg_class.specs.Runs.{list as listing, start as starting};
-ghost use Rattle.psg_parse.specs.Answers.{tokens_of};
+ghost use Rattle.psg_class.specs.Texts.{tokens_of};
 ghost use Rattle.psg_parse.specs.Standing.{AreElements};
 ghost use Rattle.psg_parse.specs.States.{giving, IsStack, running, Steps};
 ghost use Rattle.psg_parse.specs.Tables.{IsLookup};

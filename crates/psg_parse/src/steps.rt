@@ -9,7 +9,7 @@ ghost use Rattle.psg_class.specs.Places.{slot_level, solid};
 ghost use Rattle.psg_class.specs.Terminals.{fixed, item_terminal};
 ghost use Rattle.psg_class.specs.Machine.{Frame as Plain};
 ghost use Rattle.psg_class.specs.Runs.{parts as reading, Reaches};
-ghost use Rattle.psg_parse.specs.Answers.{tokens_of};
+ghost use Rattle.psg_class.specs.Texts.{tokens_of};
 ghost use Rattle.psg_parse.specs.Seen.{terminal_seen};
 ghost use Rattle.psg_parse.specs.Standing.{IsPartly};
 ghost use Rattle.psg_parse.specs.States.{IsStack, running, Steps};

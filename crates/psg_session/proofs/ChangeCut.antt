@@ -1,12 +1,11 @@
 -- What a cut is answered, before its tree is tested.
 use Rattle.std.proofs.Common.{◌≡◌, ℕ, [], ◌∷◌, Some, refl, sym, ◌∙◌, ap, subst}
 use Rattle.psg_grammar.specs.Insertion.{blank}
-use Rattle.psg_grammar.specs.Kinds.{HasKind}
+use Rattle.psg_grammar.specs.Kinds.{HasKind, IsOfKind}
 use Rattle.psg_grammar.specs.declared.types.Kind.{Kind}
 use Rattle.psg_grammar.specs.declared.types.Definition.{Definition}
 use Rattle.psg_grammar.specs.Fragments.{Fragment}
 use Rattle.psg_grammar.specs.Paths.{node_at, replaced}
-use Rattle.psg_eval.specs.Trees.{IsOfKind}
 use Rattle.psg_cache.specs.Shaped.{IsShaped}
 use Rattle.psg_cache.proofs.ShapedTrees.{blank_shaped, kind_once}
 use Rattle.psg_script.specs.declared.command.Where.{Where}

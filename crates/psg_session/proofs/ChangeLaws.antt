@@ -11,12 +11,11 @@ use Rattle.psg_grammar.specs.declared.types.Operator.{Operator}
 use Rattle.psg_grammar.specs.declared.types.Definition.{Definition}
 use Rattle.psg_grammar.specs.Fragments.{Fragment, hole, ending, cell, operator, with_child, with_name, with_number, with_text, anything, observed}
 use Rattle.psg_grammar.specs.Insertion.{Leaf}
-use Rattle.psg_grammar.specs.Kinds.{HasKind}
+use Rattle.psg_grammar.specs.Kinds.{HasKind, IsOfKind}
 use Rattle.psg_grammar.specs.Paths.{change_at, IsList, ended}
 use Rattle.psg_grammar.specs.Sound.{IsSound}
 use Rattle.psg_grammar.proofs.NamePlaces.{only_op}
 use Rattle.psg_grammar.proofs.SoundParts.{phylum_in}
-use Rattle.psg_eval.specs.Trees.{IsOfKind}
 use Rattle.psg_cache.specs.Shaped.{HasShape, IsShaped}
 use Rattle.psg_cache.proofs.ShapedTrees.{changed_shaped, ended_shaped, fresh_shaped, kind_once, node_shaped, shape_is_kind}
 use Rattle.psg_script.specs.declared.command.Where.{Where}

@@ -16,7 +16,7 @@ use Rattle.psg_grammar.specs.WellFormed.{fixed_words}
 use Rattle.psg_grammar.proofs.NamePlaces.{only_kind, only_op}
 use Rattle.psg_tree.specs.AbstractText.{abstract_text}
 use Rattle.psg_lexis.proofs.Laws.{only_tokens}
-use Rattle.psg_eval.specs.Trees.{IsOfKind}
+use Rattle.psg_grammar.specs.Kinds.{IsOfKind}
 use Rattle.psg_cache.proofs.ShapedTrees.{kind_once as node_kind_once}
 use Rattle.psg_script.specs.declared.command.Command.{Command}
 use Rattle.psg_script.specs.declared.command.Command.TheVariants.{Own, Free}

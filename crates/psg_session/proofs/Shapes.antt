@@ -14,7 +14,7 @@ use Rattle.psg_tree.specs.declared.tree.Part.TheVariants.{Sub, Name, Number, Tex
 use Rattle.psg_tree.specs.declared.tree.Shape.{Shape}
 use Rattle.psg_tree.specs.declared.tree.Shape.TheVariants.{Op, List as ListOf, Hole}
 use Rattle.psg_tree.specs.Shapes.{with_part, with_parts, list_of, tree_of}
-use Rattle.psg_eval.specs.Trees.{IsOfKind}
+use Rattle.psg_grammar.specs.Kinds.{IsOfKind}
 use Rattle.psg_cache.specs.Shaped.{HasShape, IsShaped}
 use Rattle.psg_session.specs.declared.changes.Listed.{Listed}
 use Rattle.psg_session.specs.PlainStep.{end_of}

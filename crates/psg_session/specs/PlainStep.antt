@@ -11,14 +11,13 @@ use Rattle.psg_grammar.specs.Declaring.{is_declaring}
 use Rattle.psg_grammar.specs.Fragments.{Fragment, hole, ending, cell, children_of}
 use Rattle.psg_grammar.specs.Paths.{Path, node_at, change_at, replaced, removed, ended, IsList}
 use Rattle.psg_grammar.specs.Insertion.{Leaf, blank, with_operator}
-use Rattle.psg_grammar.specs.Kinds.{kind_name_of, op_name_of}
+use Rattle.psg_grammar.specs.Kinds.{kind_name_of, op_name_of, IsOfKind}
 use Rattle.psg_grammar.specs.Regions.{names_of}
 use Rattle.psg_grammar.specs.Relations.{IsRelationOf}
 use Rattle.psg_grammar.specs.Sizes.{IsBig, IsDeep}
 use Rattle.psg_grammar.specs.Steps.{IsWide, IsHeavy}
 use Rattle.psg_grammar.specs.Marks.{Mark, IsMarkBy}
 use Rattle.psg_tree.specs.AbstractText.{abstract_text}
-use Rattle.psg_eval.specs.Trees.{IsOfKind}
 use Rattle.psg_script.specs.declared.command.Where.{Where}
 use Rattle.psg_script.specs.declared.command.Command.{Command}
 use Rattle.psg_script.specs.declared.command.Command.TheVariants.{New, Refine, Insert, Cut, Remove, Close, Reopen, Show, Own, Free}

@@ -1,6 +1,6 @@
 //! What the changing commands make of the opened fragment, before it is tested.
 ghost use Rattle.std.specs.Prelude.{◌≡◌, ◌↔◌, ◌++◌, ◌∷◌, [], ℕ, true, Err, Ok, Some, IfNone, IfOk, IfSome, IsTrue};
-ghost use Rattle.psg_eval.specs.Trees.{IsOfKind};
+ghost use Rattle.psg_grammar.specs.Kinds.{IsOfKind};
 ghost use Rattle.psg_cache.specs.Shaped.{IsShaped};
 ghost use Rattle.psg_grammar.specs.Fragments.{hole};
 ghost use Rattle.psg_script.specs.declared.command.Command.TheVariants as commands;

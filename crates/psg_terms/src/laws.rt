@@ -50,7 +50,7 @@ pub fn maximal_rows<F: Family>(sig: &Signature)
     sig.sound();
 }
 
-/// A family has one relation. Two have the same rows and the same texts in the same order. They are the same list where no
+/// A family has at most one relation: two have the same rows, and the same texts in the same order. They are the same list where no
 /// constructor's name has a character that a term's text puts between names, and their weight is below 2^64, so that the
 /// numbers of variables are written whole.
 pub fn one_relation<F: Family>(sig: &Signature)

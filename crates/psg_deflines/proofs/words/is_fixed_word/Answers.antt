@@ -1,9 +1,8 @@
 use Rattle.std.proofs.Common.{◌≡◌, ◌≢◌, false, [], ◌∷◌, length, sym, subst, ap, ◌∙◌}
 use Rattle.std.specs.Prelude.{IsTrue, ◌↔◌, chars}
 use Rattle.std.proofs.lemmas.Bool.{false≢true}
-use Rattle.psg_lexis.specs.Tokens.{HasTokens}
+use Rattle.psg_lexis.specs.Tokens.{HasTokens, IsFixedWord}
 use Rattle.psg_lexis.specs.declared.token.LexFault.TheVariants.{Memory}
-use Rattle.psg_deflines.specs.Forms.{IsFixedWord}
 use Rattle.psg_deflines.specs.FixedTokens.{IsOneToken}
 use Rattle.psg_deflines.proofs.FixedLaws.{word-from-token, token-from-word}
 use Rattle.psg_deflines.proofs.Options.{ok-from}

@@ -1,6 +1,6 @@
 use Rattle.std.proofs.Common.{sym, subst}
 use Rattle.std.proofs.lemmas.Result.{IfOk-weaker}
-use Rattle.psg_parse.specs.Answers.{tokens_of}
+use Rattle.psg_class.specs.Texts.{tokens_of}
 use Rattle.psg_parse.specs.States.{IsMode, Steps}
 use Rattle.psg_parse.specs.declared.state.Mode.TheVariants as modes
 use Rattle.psg_parse.proofs.advance.advance.Goals as goal

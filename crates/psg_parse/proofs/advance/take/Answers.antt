@@ -1,5 +1,5 @@
 use Rattle.std.proofs.Common.{length, arith, ◌∙◌, subst}
-use Rattle.psg_parse.specs.Answers.{tokens_of}
+use Rattle.psg_class.specs.Texts.{tokens_of}
 use Rattle.psg_parse.specs.States.{Leads, LeftBy}
 use Rattle.psg_parse.specs.Work.{Advances, state_work}
 use Rattle.psg_parse.proofs.Taken.{led_on, none_taken}

@@ -1,6 +1,6 @@
 use Rattle.std.proofs.Common.{◌≡◌, List, length}
 use Rattle.psg_class.specs.Machine.{Frame as Plain}
-use Rattle.psg_parse.specs.Answers.{tokens_of}
+use Rattle.psg_class.specs.Texts.{tokens_of}
 use Rattle.psg_parse.specs.States.{Aim, GoesOn, IsState, LeftBy}
 use Rattle.psg_parse.specs.Work.{state_work}
 use Rattle.psg_parse.proofs.advance.take.Given as goal

@@ -6,7 +6,7 @@ use Rattle.psg_class.specs.Follow.{Leads, First}
 use Rattle.psg_class.specs.Terminals.{terminal_of}
 use Rattle.psg_class.specs.Runs.{parts, grow as growing, start as starting}
 use Rattle.psg_class.specs.Machine.{Completes, then_grow, then_close, taken}
-use Rattle.psg_parse.specs.Answers.{tokens_of}
+use Rattle.psg_class.specs.Texts.{tokens_of}
 use Rattle.psg_parse.specs.Seen.{terminal_seen}
 use Rattle.psg_parse.specs.States.{IsStack, running}
 use Rattle.psg_parse.specs.Tables.{OpensHole, OpensBracket}

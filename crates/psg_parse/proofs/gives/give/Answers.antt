@@ -7,7 +7,7 @@ use Rattle.psg_class.proofs.ClassFacts.{facts}
 use Rattle.psg_class.specs.Runs.{grow, parts}
 use Rattle.psg_class.specs.Machine.{Frame as Plain, Ends, then_grow, then_parts, then_close, then_list}
 use Rattle.psg_class.proofs.Machine.{step_close, step_open}
-use Rattle.psg_parse.specs.Answers.{tokens_of}
+use Rattle.psg_class.specs.Texts.{tokens_of}
 use Rattle.psg_parse.specs.States.{giving, running, Steps}
 use Rattle.psg_parse.specs.declared.state.Frame.TheVariants as frames
 use Rattle.psg_parse.proofs.Stacks.{top, nothing_next, other_next}

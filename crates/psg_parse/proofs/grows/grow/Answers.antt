@@ -9,7 +9,7 @@ use Rattle.psg_class.proofs.ClassFacts.{facts}
 use Rattle.psg_class.specs.Runs.{Reaches, Stops, parts, grow as growing}
 use Rattle.psg_class.specs.Machine.{Completes, then_grow, taken}
 use Rattle.psg_class.proofs.Machine.{step_stop, step_unreached}
-use Rattle.psg_parse.specs.Answers.{tokens_of}
+use Rattle.psg_class.specs.Texts.{tokens_of}
 use Rattle.psg_parse.specs.Seen.{terminal_seen}
 use Rattle.psg_parse.specs.States.{IsStack, giving, running}
 use Rattle.psg_parse.specs.declared.state.Frame.TheVariants as frames

@@ -6,7 +6,7 @@ use Rattle.psg_class.specs.Follow.{First}
 use Rattle.psg_class.specs.Runs.{list as listing, start}
 use Rattle.psg_class.specs.Machine.{Completes, Ends, then_list}
 use Rattle.psg_tree.proofs.FormLaws.{got_some}
-use Rattle.psg_parse.specs.Answers.{tokens_of}
+use Rattle.psg_class.specs.Texts.{tokens_of}
 use Rattle.psg_parse.specs.States.{giving, running, LeftBy}
 use Rattle.psg_parse.proofs.Leading.{leads_via}
 use Rattle.psg_parse.proofs.ListSteps.{list_at_end, list_more, list_some, list_none}

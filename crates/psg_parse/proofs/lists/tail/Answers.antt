@@ -7,7 +7,7 @@ use Rattle.psg_class.specs.Runs.{start}
 use Rattle.psg_class.specs.Machine.{Completes, Ends, then_list, behind_all}
 use Rattle.psg_class.proofs.Machine.{step_last, step_dots, step_next}
 use Rattle.psg_tree.proofs.FormLaws.{got_some}
-use Rattle.psg_parse.specs.Answers.{tokens_of}
+use Rattle.psg_class.specs.Texts.{tokens_of}
 use Rattle.psg_parse.specs.States.{giving, running, LeftBy}
 use Rattle.psg_parse.proofs.Leading.{leads_via}
 use Rattle.psg_parse.proofs.Stacks.{nothing_next, other_next}

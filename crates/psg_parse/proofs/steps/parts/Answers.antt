@@ -5,7 +5,7 @@ use Rattle.psg_class.specs.Places.{solid}
 use Rattle.psg_class.specs.Terminals.{Token, next_terminal}
 use Rattle.psg_class.specs.Runs.{parts as reading, start, list}
 use Rattle.psg_class.specs.Machine.{Completes, then_parts, taken}
-use Rattle.psg_parse.specs.Answers.{tokens_of}
+use Rattle.psg_class.specs.Texts.{tokens_of}
 use Rattle.psg_parse.specs.States.{GoesOn, IsStack, giving, running, LeftBy}
 use Rattle.psg_parse.specs.declared.state.Frame.TheVariants as frames
 use Rattle.psg_parse.specs.declared.state.Mode.{Mode}
