@@ -1,0 +1,22 @@
+//! The law of printed trees, as the contract of a call that does nothing.
+ghost use Rattle.std.specs.Prelude.{IsUtf8};
+ghost use Rattle.std.specs.List.{AllByRecursion};
+ghost use Rattle.psg_lexis.specs.Tokens.{IsFixedWord};
+ghost use Rattle.psg_grammar.specs.Sound.{IsSound};
+ghost use Rattle.psg_grammar.specs.WellFormed.{fixed_words};
+ghost use Rattle.psg_grammar.specs.Fragments.{Fragment};
+ghost use Rattle.psg_class.specs.Class.{IsClass};
+ghost use Rattle.psg_reads_back.specs.Back.{ReadsBackIfPrintable};
+
+use psg_grammar::Definition;
+
+/// States that the text of each printable well-formed tree of a kind reads back as that tree, of its kind, at level 0, with
+/// brackets nested less deep than the tree is. The definition is of the class, and each of its fixed words is one token.
+/// The call does nothing.
+pub fn reads_back(_definition: &Definition)
+    requires sound { IsSound _definition.now }
+    requires texts { AllByRecursion IsUtf8 (fixed_words _definition.now) }
+    requires words { AllByRecursion IsFixedWord (fixed_words _definition.now) }
+    requires class { IsClass _definition.now }
+    ensures { (f : Fragment) → ReadsBackIfPrintable _definition.now f }
+{}
