@@ -6,3 +6,5 @@ pub mod NumberTokens
 pub mod QuoteTokens
 pub mod HoleTokens
 pub mod Building
+pub mod FixedTokens
+pub mod Passing
