@@ -8,3 +8,5 @@ pub mod HoleTokens
 pub mod Building
 pub mod FixedTokens
 pub mod Passing
+pub mod Claims
+pub mod PartSteps
