@@ -10,3 +10,7 @@ pub mod FixedTokens
 pub mod Passing
 pub mod Claims
 pub mod PartSteps
+pub mod SlotSteps
+pub mod ListSteps
+pub mod Trees
+pub mod Printed
