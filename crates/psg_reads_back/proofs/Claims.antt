@@ -118,7 +118,7 @@ module _ (def : Definition) where
       let none : left def f ≡ [] = a.at_part ∙ none_left a.behind (a.parts ∙ ap part_items a.at_part) in
       let q : Front def a.n a.o f a.first [] a.nesting a.tokens = subst (λ zs. Front def a.n a.o f a.first zs a.nesting a.tokens) none a.front in
       let parts : PartsYield def a.o true (operator a.n) 0 (solid a.o.items) f a.nesting a.tokens =
-          subst (PartsYield def a.o true (operator a.n) 0 (solid a.o.items) f a.nesting) (append-nil a.tokens) (q.goes f a.nesting [] no_items) in
+      subst (PartsYield def a.o true (operator a.n) 0 (solid a.o.items) f a.nesting) (append-nil a.tokens) (q.goes f a.nesting [] no_items) in
       record {
         tokens = a.tokens;
         nesting = a.nesting;

@@ -157,7 +157,7 @@ module _ (fixed : List Name) where
       let s : Spanned = record { token = t; start = start; end = start + bytes_of (chars w) } in
       let l : Lexed (laid (before ++ token w ∷ []) r) (start + bytes_of (chars w)) ts = laid_tokens (before ++ token w ∷ []) r ts y (start + bytes_of (chars w)) in
       let one : HasTokens fixed (chars w) start (s ∷ []) =
-          next (chars w) start s [] (record { front = chars w; rest = []; whole = sym (append-nil (chars w)); token = x.alone; starts = refl; ends = refl }) (nothing (start + bytes_of (chars w))) in
+      next (chars w) start s [] (record { front = chars w; rest = []; whole = sym (append-nil (chars w)); token = x.alone; starts = refl; ends = refl }) (nothing (start + bytes_of (chars w))) in
       let apart : IsApart (chars w) (chars (laid (before ++ token w ∷ []) r)) = record {
         apart = λ front behind c d e k h. starts_apart (before ++ token w ∷ []) (last_char 0 (chars w)) (last_in-append None before (token w ∷ [])) r ts y d behind k
             (subst (λ z. Glue z d) (sym (ap (last_char 0) e ∙ last_char-snoc 0 front c)) h);

@@ -118,7 +118,7 @@ module _ (def : Definition) where
         (element_row (token (codes "...") ∷ []) (dots ∷ []) (a_token (dots_text (fixed_words def)) no_pieces))
         (omega (arith, a.shallow))
         (subst (λ x. SomeYield def (cell l e (ending x true)) l a.nesting (a.tokens ++ separator.token ∷ dots ∷ [])) (sym same)
-            (and_more a.tokens k separator.token found allows separator.terminal level_zero))
+        (and_more a.tokens k separator.token found allows separator.terminal level_zero))
 
     longer : (m : ℕ) (d r : Fragment) → ListBack def (cell m d r) l → ListBack def (cell l e (cell m d r)) l
     longer m d r b = made (cell m d r) (max a.nesting b.nesting) (a.tokens ++ separator.token ∷ b.tokens)

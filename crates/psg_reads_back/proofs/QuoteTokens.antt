@@ -47,8 +47,8 @@ quoted_whole : (cs : Chars) → encode_utf8_all (34 ∷ (quoted_chars cs ++ 34 �
 quoted_whole cs =
     ap (λ bs. bs ++ encode_utf8_all (quoted_chars cs ++ 34 ∷ [])) (encode_ascii 34 (lit< tt))
     ∙ ap (λ bs. 34 ∷ bs) (
-      encodes-append (quoted_chars cs) (34 ∷ [])
-      ∙ ap₂ (λ x y. x ++ y) (sym (escaped_chars cs)) (ap (λ bs. bs ++ []) (encode_ascii 34 (lit< tt)))
+    encodes-append (quoted_chars cs) (34 ∷ [])
+    ∙ ap₂ (λ x y. x ++ y) (sym (escaped_chars cs)) (ap (λ bs. bs ++ []) (encode_ascii 34 (lit< tt)))
     )
 
 -- ---- UTF-8
@@ -87,8 +87,8 @@ quote_text known t u short printable =
     let written : encode_utf8_all whole ≡ quoted_bytes t = quoted_whole cs ∙ ap quoted_bytes back in
     let all : scalars whole ≡ true = scalars_quoted cs (scalars-chars t u) in
     let token : IsToken known whole [] (quoted t) =
-        subst (λ v. IsToken known whole [] (quoted v)) back
-        (a_text cs (quoted_chars cs ++ 34 ∷ []) [] refl (all_shown cs printable) (subst (λ v. length v ≤ 4096) (sym back) short)) in
+    subst (λ v. IsToken known whole [] (quoted v)) back
+    (a_text cs (quoted_chars cs ++ 34 ∷ []) [] refl (all_shown cs printable) (subst (λ v. length v ≤ 4096) (sym back) short)) in
     record {
       utf8 = (whole, (all, written));
       alone = subst (λ ds. IsToken known ds [] (quoted t)) (sym (chars-encodes whole all) ∙ ap chars written) token;

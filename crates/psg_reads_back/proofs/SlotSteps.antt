@@ -65,9 +65,9 @@ module _ (def : Definition) (sound : IsSound def) (c : ClassFacts def) where
         | inl b ↦ record { phylum = k; found = here; bracketed = b }
         | inr b ↦ absurd (
             let least : slot_level o (kinds.Phylum p) (is_empty (solid front)) (solid behind) ≤ level_number other.level =
-                c.brackets p k here b n o found (solid front) (solid behind) (ap solid whole ∙ solid_both front (items.Slot (kinds.Phylum p) ∷ behind)) m other there of_p in
+            c.brackets p k here b n o found (solid front) (solid behind) (ap solid whole ∙ solid_both front (items.Slot (kinds.Phylum p) ∷ behind)) m other there of_p in
             let same : least_level_of o (length front) ≡ slot_level o (kinds.Phylum p) (is_empty (solid front)) (solid behind) =
-                level_there o front p behind whole ∙ ap (λ x. slot_level o (kinds.Phylum p) x (solid behind)) (sym (none_solid front)) in
+            level_there o front p behind whole ∙ ap (λ x. slot_level o (kinds.Phylum p) x (solid behind)) (sym (none_solid front)) in
             omega (arith, low, least, same))
       ]
 
@@ -127,7 +127,7 @@ module _ (def : Definition) (sound : IsSound def) (c : ClassFacts def) where
         let q = front_at def known f (items.Slot (kinds.Phylum p)) more kind a in
         in_slot t p (wanted def f) b (is_below_level (operator_of def t) (wanted def f)) refl
         (λ h. by_operator a.n a.o a.found q.front p (behind_first (left def f)) q.whole t b (operator_of def t) refl
-            (subst (λ l. is_below_level (operator_of def t) l ≡ true) (least_there p a) h))
+        (subst (λ l. is_below_level (operator_of def t) l ≡ true) (least_there p a) h))
 
     pub part_tree : (p : ℕ) → PartBack def f (items.Slot (kinds.Phylum p) ∷ more) kind → TreeBack def t p → PartBack def (with_child f t) more kind
     part_tree p a b =
