@@ -47,7 +47,8 @@ module _ (def : Definition) where
     pub has : RowTokens (fixed_words def) (row def f) tokens
     pub shallow : nesting < depth_of f
     pub yields : (m : ℕ) → is_below_level (operator_of def f) m ≡ false → TreeYields def f p m nesting tokens
-    pub top : (o : Operator) → operator_of def f ≡ Some o → (n : ℕ) × (slice_get def.operators n ≡ Some o) × (o.phylum ≡ p)
+    pub top : (o : Operator) → operator_of def f ≡ Some o
+        → (n : ℕ) × (slice_get def.operators n ≡ Some o) × (o.phylum ≡ p)
 
   pub record ListBack (f : Fragment) (l : ℕ) : Type 0 where
     pub tokens : List Token
@@ -104,10 +105,12 @@ module _ (def : Definition) where
 
   -- ---- an operator with all its parts
 
-  reaches : (x : Option Operator) (o : Operator) (m : ℕ) → x ≡ Some o → is_below_level x m ≡ false → m ≤ level_number o.level
+  reaches : (x : Option Operator) (o : Operator) (m : ℕ) → x ≡ Some o → is_below_level x m ≡ false
+      → m ≤ level_number o.level
   reaches x o m e h = ltb-false (level_number o.level) m (subst (λ y. is_below_level y m ≡ false) e h)
 
-  same_operator : (x : Option Operator) (n : ℕ) (o p : Operator) → x ≡ Some o → x ≡ Some p → slice_get def.operators n ≡ Some o → (k : ℕ) × (slice_get def.operators k ≡ Some p) × (p.phylum ≡ o.phylum)
+  same_operator : (x : Option Operator) (n : ℕ) (o p : Operator) → x ≡ Some o → x ≡ Some p
+      → slice_get def.operators n ≡ Some o → (k : ℕ) × (slice_get def.operators k ≡ Some p) × (p.phylum ≡ o.phylum)
   same_operator x n o p e f found =
       let both : Some o ≡ Some p = sym e ∙ f in
       let same : o ≡ p = cc in
@@ -116,9 +119,11 @@ module _ (def : Definition) where
   tree_of : (f : Fragment) (kind : Kind) (a : PartBack f [] kind) → TreeBack f a.o.phylum
   tree_of f kind a =
       let none : left def f ≡ [] = a.at_part ∙ none_left a.behind (a.parts ∙ ap part_items a.at_part) in
-      let q : Front def a.n a.o f a.first [] a.nesting a.tokens = subst (λ zs. Front def a.n a.o f a.first zs a.nesting a.tokens) none a.front in
+      let q : Front def a.n a.o f a.first [] a.nesting a.tokens =
+      subst (λ zs. Front def a.n a.o f a.first zs a.nesting a.tokens) none a.front in
       let parts : PartsYield def a.o true (operator a.n) 0 (solid a.o.items) f a.nesting a.tokens =
-      subst (PartsYield def a.o true (operator a.n) 0 (solid a.o.items) f a.nesting) (append-nil a.tokens) (q.goes f a.nesting [] no_items) in
+      subst (PartsYield def a.o true (operator a.n) 0 (solid a.o.items) f a.nesting) (append-nil a.tokens)
+      (q.goes f a.nesting [] no_items) in
       record {
         tokens = a.tokens;
         nesting = a.nesting;

@@ -22,7 +22,8 @@ upper_small : (c : ℕ) → is_upper c ≡ true → c < 128
 upper_small c h = let e : c ≤ 90 = within 65 90 c h in omega (arith, e)
 
 upper_starts : (c : ℕ) → is_upper c ≡ true → starts_word c ≡ true
-upper_starts c h = or_left (is_xid_start c) (c == 95) (is_xid_start-ascii c (upper_small c h) ∙ or_left (is_upper c) (is_in_range 97 122 c) h)
+upper_starts c h = or_left (is_xid_start c) (c == 95)
+    (is_xid_start-ascii c (upper_small c h) ∙ or_left (is_upper c) (is_in_range 97 122 c) h)
 
 -- an upper-case letter, a lower-case one, a digit, or `_`
 pub data NameChar (c : ℕ) : Type 0 where
@@ -48,12 +49,18 @@ small c (line e) = omega (arith, e)
 
 continues : (c : ℕ) → NameChar c → is_xid_continue c ≡ true
 continues c (upper h) =
-    is_xid_continue-ascii c (small c (upper h)) ∙ or_left (is_ascii_alphanumeric c) (c == 95) (or_left (is_digit c || is_upper c) (is_lower c) (or_right (is_digit c) (is_upper c) h))
+    is_xid_continue-ascii c (small c (upper h))
+    ∙ or_left (is_ascii_alphanumeric c) (c == 95)
+    (or_left (is_digit c || is_upper c) (is_lower c) (or_right (is_digit c) (is_upper c) h))
 continues c (lower h) =
-    is_xid_continue-ascii c (small c (lower h)) ∙ or_left (is_ascii_alphanumeric c) (c == 95) (or_right (is_digit c || is_upper c) (is_lower c) h)
+    is_xid_continue-ascii c (small c (lower h))
+    ∙ or_left (is_ascii_alphanumeric c) (c == 95) (or_right (is_digit c || is_upper c) (is_lower c) h)
 continues c (digit h) =
-    is_xid_continue-ascii c (small c (digit h)) ∙ or_left (is_ascii_alphanumeric c) (c == 95) (or_left (is_digit c || is_upper c) (is_lower c) (or_left (is_digit c) (is_upper c) h))
-continues c (line e) = is_xid_continue-ascii c (small c (line e)) ∙ or_right (is_ascii_alphanumeric c) (c == 95) (ap (λ x. x == 95) e)
+    is_xid_continue-ascii c (small c (digit h))
+    ∙ or_left (is_ascii_alphanumeric c) (c == 95)
+    (or_left (is_digit c || is_upper c) (is_lower c) (or_left (is_digit c) (is_upper c) h))
+continues c (line e) = is_xid_continue-ascii c (small c (line e))
+    ∙ or_right (is_ascii_alphanumeric c) (c == 95) (ap (λ x. x == 95) e)
 
 all_go_on : (cs : List ℕ) → list_all goes_on_name cs ≡ true → AllByRecursion (λ d. IsTrue (goes_on_word d)) cs
 all_go_on [] h = tt
@@ -73,5 +80,6 @@ kind_hole known (c ∷ cs) h =
     let front = and_parts (is_upper c && list_all goes_on_name cs) (nat_le (length cs) 63) h in
     let both = and_parts (is_upper c) (list_all goes_on_name cs) front.0 in
     let short : length cs ≤ 63 = leb-true (length cs) 63 front.1 in
-    hole_text known (c ∷ cs) (c ∷ cs) (sym (ap₂ (λ x y. x ++ y) (encode_ascii c (upper_small c both.0)) (all_encoded cs both.1)))
+    hole_text known (c ∷ cs) (c ∷ cs)
+    (sym (ap₂ (λ x y. x ++ y) (encode_ascii c (upper_small c both.0)) (all_encoded cs both.1)))
     (upper_starts c both.0, all_go_on cs both.1) (omega (arith, short))

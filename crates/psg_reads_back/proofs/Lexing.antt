@@ -34,8 +34,12 @@ or_second true b h = refl
 or_second false b h = h
 
 not_glued : (c d : ℕ) → glues c d ≡ false → Glue c d → ⊥
-not_glued c d h (inl (p, q)) = false≢true (sym h ∙ or_first (goes_on_word c && goes_on_word d) (is_symbol c && is_symbol d) (both_true (goes_on_word c) (goes_on_word d) p q))
-not_glued c d h (inr (p, q)) = false≢true (sym h ∙ or_second (goes_on_word c && goes_on_word d) (is_symbol c && is_symbol d) (both_true (is_symbol c) (is_symbol d) p q))
+not_glued c d h (inl (p, q)) =
+    false≢true (sym h ∙ or_first (goes_on_word c && goes_on_word d) (is_symbol c && is_symbol d)
+    (both_true (goes_on_word c) (goes_on_word d) p q))
+not_glued c d h (inr (p, q)) =
+    false≢true (sym h ∙ or_second (goes_on_word c && goes_on_word d) (is_symbol c && is_symbol d)
+    (both_true (is_symbol c) (is_symbol d) p q))
 
 abbrev IsGapByte : ℕ → Type 0
 IsGapByte b = (b ≡ 32) ⊎ (b ≡ 10)
@@ -68,14 +72,17 @@ record IsGap (glued : Bool) (bs : List ℕ) : Type 0 where
   blanks : Blanks bs
   empty : bs ≡ [] → glued ≡ false
 
-gap_by : (line tight glued : Bool) (n : ℕ) → IsGap glued (cond line (10 ∷ replicate n 32) (cond tight (cond glued (32 ∷ []) []) (32 ∷ [])))
+gap_by : (line tight glued : Bool) (n : ℕ)
+    → IsGap glued (cond line (10 ∷ replicate n 32) (cond tight (cond glued (32 ∷ []) []) (32 ∷ [])))
 gap_by true tight glued n = record { blanks = (inr refl, spaces n); empty = λ e. absurd (cc) }
 gap_by false true true n = record { blanks = (inl refl, tt); empty = λ e. absurd (cc) }
 gap_by false true false n = record { blanks = tt; empty = λ e. refl }
 gap_by false false glued n = record { blanks = (inl refl, tt); empty = λ e. absurd (cc) }
 
 after_some : (c : ℕ) (before : List Piece) (cs : List ℕ) → IsGap (glues_first c cs) (gap_after (Some c) before cs)
-after_some c before cs = gap_by (list_any is_line (marks_behind [] before)) (list_any is_tight (marks_behind [] before) && not (list_any is_space (marks_behind [] before))) (glues_first c cs) (2 * open_behind 0 before)
+after_some c before cs = gap_by (list_any is_line (marks_behind [] before))
+    (list_any is_tight (marks_behind [] before) && not (list_any is_space (marks_behind [] before))) (glues_first c cs)
+    (2 * open_behind 0 before)
 
 blanks_after : (c : Option ℕ) (before : List Piece) (cs : List ℕ) → Blanks (gap_after c before cs)
 blanks_after None before cs = tt
@@ -83,19 +90,23 @@ blanks_after (Some c) before cs = (after_some c before cs).blanks
 
 chars_gap : (b : ℕ) (bs : List ℕ) → IsGapByte b → chars (b ∷ bs) ≡ b ∷ chars bs
 unfolding chars encode
-chars_gap b bs (inl e) = subst (λ x. chars (x ∷ bs) ≡ x ∷ chars bs) (sym e) (chars-append (32 ∷ []) bs (32 ∷ [], (refl, refl)))
-chars_gap b bs (inr e) = subst (λ x. chars (x ∷ bs) ≡ x ∷ chars bs) (sym e) (chars-append (10 ∷ []) bs (10 ∷ [], (refl, refl)))
+chars_gap b bs (inl e) = subst (λ x. chars (x ∷ bs) ≡ x ∷ chars bs) (sym e)
+    (chars-append (32 ∷ []) bs (32 ∷ [], (refl, refl)))
+chars_gap b bs (inr e) = subst (λ x. chars (x ∷ bs) ≡ x ∷ chars bs) (sym e)
+    (chars-append (10 ∷ []) bs (10 ∷ [], (refl, refl)))
 
 is_blank_gap : (b : ℕ) → IsGapByte b → is_blank b ≡ true
 is_blank_gap b (inl e) = ap is_blank e
 is_blank_gap b (inr e) = ap is_blank e
 
 module _ (fixed : List Name) where
-  skip_gap : (g bs : List ℕ) (at : ℕ) (ss : List Spanned) → Blanks g → HasTokens fixed (chars bs) (at + length g) ss → HasTokens fixed (chars (g ++ bs)) at ss
+  skip_gap : (g bs : List ℕ) (at : ℕ) (ss : List Spanned) → Blanks g → HasTokens fixed (chars bs) (at + length g) ss
+      → HasTokens fixed (chars (g ++ bs)) at ss
   skip_gap [] bs at ss a h = subst (λ n. HasTokens fixed (chars bs) n ss) (omega arith) h
   skip_gap (b ∷ g) bs at ss a h =
       subst (λ cs. HasTokens fixed cs at ss) (sym (chars_gap b (g ++ bs) a.0))
-      (blank b (chars (g ++ bs)) at ss (is_blank_gap b a.0) (skip_gap g bs (at + 1) ss a.1 (subst (λ n. HasTokens fixed (chars bs) n ss) (omega arith) h)))
+      (blank b (chars (g ++ bs)) at ss (is_blank_gap b a.0)
+      (skip_gap g bs (at + 1) ss a.1 (subst (λ n. HasTokens fixed (chars bs) n ss) (omega arith) h)))
 
   -- the bytes are those of the token, alone
   pub record IsTextOf (w : List ℕ) (t : Token) : Type 0 where
@@ -106,7 +117,8 @@ module _ (fixed : List Name) where
   pub data RowTokens : List Piece → List Token → Type 0 where
     no_pieces : RowTokens [] []
     a_mark : {i : Item} {r : List Piece} {ts : List Token} → RowTokens r ts → RowTokens (mark i ∷ r) ts
-    a_token : {w : List ℕ} {t : Token} {r : List Piece} {ts : List Token} → IsTextOf w t → RowTokens r ts → RowTokens (token w ∷ r) (t ∷ ts)
+    a_token : {w : List ℕ} {t : Token} {r : List Piece} {ts : List Token} → IsTextOf w t → RowTokens r ts
+        → RowTokens (token w ∷ r) (t ∷ ts)
 
   some_chars : {cs rest : Chars} {t : Token} → IsToken fixed cs rest t → cs ≡ [] → ⊥
   some_chars (word [] rest w e l) h = w
@@ -121,25 +133,32 @@ module _ (fixed : List Name) where
   some_chars (more rest e) h = absurd (cc)
 
   -- what a row adds doesn't begin with a character that glues to the last one
-  starts_apart : (before : List Piece) (c : ℕ) → last_in None before ≡ Some c → (r : List Piece) (ts : List Token) → RowTokens r ts
+  starts_apart : (before : List Piece) (c : ℕ) → last_in None before ≡ Some c → (r : List Piece) (ts : List Token)
+      → RowTokens r ts
       → (d : ℕ) (behind : Chars) → chars (laid before r) ≡ d ∷ behind → Glue c d → ⊥
   starts_apart before c e _ _ no_pieces d behind h g = let k : [] ≡ d ∷ behind = sym chars-nil ∙ h in absurd (cc)
   starts_apart before c e _ _ (a_mark {i = i} {r = r} {ts = ts} y) d behind h g =
       starts_apart (before ++ mark i ∷ []) c (last_in-append None before (mark i ∷ []) ∙ e) r ts y d behind h g
   starts_apart before c e _ _ (a_token {w = w} {t = t} {r = r} {ts = ts} x y) d behind h g =
-      by_gap (gap_after (Some c) before (chars w)) (after_some c before (chars w)) (subst (λ l. chars (gap_after l before (chars w) ++ (w ++ laid (before ++ token w ∷ []) r)) ≡ d ∷ behind) e h)
+      by_gap (gap_after (Some c) before (chars w)) (after_some c before (chars w))
+      (subst (λ l. chars (gap_after l before (chars w) ++ (w ++ laid (before ++ token w ∷ []) r)) ≡ d ∷ behind) e h)
     where
-      by_word : (cs : Chars) → chars w ≡ cs → glues_first c cs ≡ false → chars (w ++ laid (before ++ token w ∷ []) r) ≡ d ∷ behind → ⊥
+      by_word : (cs : Chars) → chars w ≡ cs → glues_first c cs ≡ false
+          → chars (w ++ laid (before ++ token w ∷ []) r) ≡ d ∷ behind → ⊥
       by_word [] k n j = some_chars x.alone k
       by_word (b ∷ cs) k n j =
-          let s : b ∷ (cs ++ chars (laid (before ++ token w ∷ []) r)) ≡ d ∷ behind = sym (ap (λ z. z ++ chars (laid (before ++ token w ∷ []) r)) k) ∙ sym (chars-append w (laid (before ++ token w ∷ []) r) x.utf8) ∙ j in
+          let s : b ∷ (cs ++ chars (laid (before ++ token w ∷ []) r)) ≡ d ∷ behind =
+          sym (ap (λ z. z ++ chars (laid (before ++ token w ∷ []) r)) k)
+          ∙ sym (chars-append w (laid (before ++ token w ∷ []) r) x.utf8) ∙ j in
           let same : b ≡ d = cc in
           not_glued c b n (subst (Glue c) (sym same) g)
 
-      by_gap : (bs : List ℕ) → IsGap (glues_first c (chars w)) bs → chars (bs ++ (w ++ laid (before ++ token w ∷ []) r)) ≡ d ∷ behind → ⊥
+      by_gap : (bs : List ℕ) → IsGap (glues_first c (chars w)) bs
+          → chars (bs ++ (w ++ laid (before ++ token w ∷ []) r)) ≡ d ∷ behind → ⊥
       by_gap [] a j = by_word (chars w) refl (a.empty refl) j
       by_gap (b ∷ bs) a j =
-          let s : b ∷ chars (bs ++ (w ++ laid (before ++ token w ∷ []) r)) ≡ d ∷ behind = sym (chars_gap b (bs ++ (w ++ laid (before ++ token w ∷ []) r)) a.blanks.0) ∙ j in
+          let s : b ∷ chars (bs ++ (w ++ laid (before ++ token w ∷ []) r)) ≡ d ∷ behind =
+          sym (chars_gap b (bs ++ (w ++ laid (before ++ token w ∷ []) r)) a.blanks.0) ∙ j in
           let same : b ≡ d = cc in
           gap_apart c b a.blanks.0 (subst (Glue c) (sym same) g)
 
@@ -149,23 +168,39 @@ module _ (fixed : List Name) where
     pub tokens : map (λ (s : Spanned). s.token) spans ≡ ts
 
   pub laid_tokens : (before r : List Piece) (ts : List Token) → RowTokens r ts → (at : ℕ) → Lexed (laid before r) at ts
-  laid_tokens before _ _ no_pieces at = record { spans = []; are = subst (λ cs. HasTokens fixed cs at []) (sym chars-nil) (nothing at); tokens = refl }
+  laid_tokens before _ _ no_pieces at =
+      record { spans = []; are = subst (λ cs. HasTokens fixed cs at []) (sym chars-nil) (nothing at); tokens = refl }
   laid_tokens before _ _ (a_mark {i = i} {r = r} {ts = ts} y) at = laid_tokens (before ++ mark i ∷ []) r ts y at
   laid_tokens before _ _ (a_token {w = w} {t = t} {r = r} {ts = ts} x y) at =
       let g : List ℕ = gap before w in
       let start : ℕ = at + length g in
       let s : Spanned = record { token = t; start = start; end = start + bytes_of (chars w) } in
-      let l : Lexed (laid (before ++ token w ∷ []) r) (start + bytes_of (chars w)) ts = laid_tokens (before ++ token w ∷ []) r ts y (start + bytes_of (chars w)) in
+      let l : Lexed (laid (before ++ token w ∷ []) r) (start + bytes_of (chars w)) ts =
+      laid_tokens (before ++ token w ∷ []) r ts y (start + bytes_of (chars w)) in
       let one : HasTokens fixed (chars w) start (s ∷ []) =
-      next (chars w) start s [] (record { front = chars w; rest = []; whole = sym (append-nil (chars w)); token = x.alone; starts = refl; ends = refl }) (nothing (start + bytes_of (chars w))) in
+      next (chars w) start s []
+      (record {
+        front = chars w;
+        rest = [];
+        whole = sym (append-nil (chars w));
+        token = x.alone;
+        starts = refl;
+        ends = refl;
+      }) (nothing (start + bytes_of (chars w))) in
       let apart : IsApart (chars w) (chars (laid (before ++ token w ∷ []) r)) = record {
-        apart = λ front behind c d e k h. starts_apart (before ++ token w ∷ []) (last_char 0 (chars w)) (last_in-append None before (token w ∷ [])) r ts y d behind k
+        apart = λ front behind c d e k h.
+            starts_apart (before ++ token w ∷ []) (last_char 0 (chars w)) (last_in-append None before (token w ∷ [])) r
+            ts y d behind k
             (subst (λ z. Glue z d) (sym (ap (last_char 0) e ∙ last_char-snoc 0 front c)) h);
       } in
-      let joined : HasTokens fixed (chars w ++ chars (laid (before ++ token w ∷ []) r)) start (s ∷ l.spans) = joined_tokens fixed (chars w) start (s ∷ []) (chars (laid (before ++ token w ∷ []) r)) l.spans apart one l.are in
+      let joined : HasTokens fixed (chars w ++ chars (laid (before ++ token w ∷ []) r)) start (s ∷ l.spans) =
+      joined_tokens fixed (chars w) start (s ∷ []) (chars (laid (before ++ token w ∷ []) r)) l.spans apart one l.are
+      in
       record {
         spans = s ∷ l.spans;
-        are = skip_gap g (w ++ laid (before ++ token w ∷ []) r) at (s ∷ l.spans) (blanks_after (last_in None before) before (chars w))
-            (subst (λ cs. HasTokens fixed cs start (s ∷ l.spans)) (sym (chars-append w (laid (before ++ token w ∷ []) r) x.utf8)) joined);
+        are = skip_gap g (w ++ laid (before ++ token w ∷ []) r) at (s ∷ l.spans)
+            (blanks_after (last_in None before) before (chars w))
+            (subst (λ cs. HasTokens fixed cs start (s ∷ l.spans))
+            (sym (chars-append w (laid (before ++ token w ∷ []) r) x.utf8)) joined);
         tokens = ap (λ us. t ∷ us) l.tokens;
       }

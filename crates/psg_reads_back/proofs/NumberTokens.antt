@@ -25,7 +25,8 @@ decimal-value v h =
 digits_tested : (ds : List ℕ) → AllDigits 10 ds → All is_digit ds
 digits_tested [] h = tt
 digits_tested (c ∷ cs) h =
-    let e = tells_digits.parts c cs h in (and_from (nat_le 48 c) (nat_le c 57) (le-leb 48 c e.0.0) (le-leb c 57 e.0.1), digits_tested cs e.1)
+    let e = tells_digits.parts c cs h in
+    (and_from (nat_le 48 c) (nat_le c 57) (le-leb 48 c e.0.0) (le-leb c 57 e.0.1), digits_tested cs e.1)
 
 longest : (ds : List ℕ) → length ds ≢ 0 → All is_digit ds → IsLongest is_digit ds []
 longest [] h a = absurd (h refl)
@@ -37,9 +38,11 @@ number_text known n h =
     let is = decimal_is_IsNumeral_wide n small in
     let ascii = IsAscii-decimal_wide n small in
     let value : value_of (decimal n) ≡ n = decimal-value n h in
-    let run : IsLongest is_digit (decimal n) [] = longest (decimal n) (λ e. absurd (omega (arith, is.0.0, e))) (digits_tested (decimal n) is.0.1) in
+    let run : IsLongest is_digit (decimal n) [] =
+    longest (decimal n) (λ e. absurd (omega (arith, is.0.0, e))) (digits_tested (decimal n) is.0.1) in
     record {
       utf8 = IsUtf8-from_ascii (decimal n) ascii;
       alone = subst (λ cs. IsToken known cs [] (numeral n)) (sym (chars-IsAscii (decimal n) ascii))
-          (subst (λ v. IsToken known (decimal n) [] (numeral v)) value (a_number (decimal n) [] run refl (omega (arith, h, value))));
+          (subst (λ v. IsToken known (decimal n) [] (numeral v)) value
+          (a_number (decimal n) [] run refl (omega (arith, h, value))));
     }

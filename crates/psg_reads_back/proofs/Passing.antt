@@ -15,7 +15,8 @@ use Rattle.psg_reads_back.proofs.Lexing.{RowTokens, no_pieces, a_mark, a_token}
 use Rattle.psg_reads_back.proofs.WordTokens.{FixedToken}
 use Rattle.psg_reads_back.proofs.Building.{Front, past_word, past_mark}
 
-pub tokens-append : (known : List Name) (r s : List Piece) (ts us : List Token) → RowTokens known r ts → RowTokens known s us → RowTokens known (r ++ s) (ts ++ us)
+pub tokens-append : (known : List Name) (r s : List Piece) (ts us : List Token) → RowTokens known r ts
+    → RowTokens known s us → RowTokens known (r ++ s) (ts ++ us)
 tokens-append known _ s _ us no_pieces y = y
 tokens-append known _ s _ us (a_mark {r = r} {ts = ts} x) y = a_mark (tokens-append known r s ts us x y)
 tokens-append known _ s _ us (a_token {r = r} {ts = ts} w x) y = a_token w (tokens-append known r s ts us x y)
@@ -55,10 +56,12 @@ pub record Begins (zs : List Item) (i : Item) (more : List Item) : Type 0 where
   pub is : zs ≡ i ∷ behind_first zs
   pub behind : more ≡ part_items (behind_first zs)
 
-begins : (j : Item) (xs : List Item) (i : Item) (more : List Item) → i ∷ more ≡ j ∷ part_items xs → Begins (j ∷ xs) i more
+begins : (j : Item) (xs : List Item) (i : Item) (more : List Item) → i ∷ more ≡ j ∷ part_items xs
+    → Begins (j ∷ xs) i more
 begins j xs i more e = record { is = (let f : j ≡ i = cc in ap (λ x. x ∷ xs) f); behind = cc }
 
-pub one_left : (xs : List Item) (i : Item) (more : List Item) → i ∷ more ≡ part_items (from_part xs) → Begins (from_part xs) i more
+pub one_left : (xs : List Item) (i : Item) (more : List Item) → i ∷ more ≡ part_items (from_part xs)
+    → Begins (from_part xs) i more
 one_left [] i more e = absurd (let f : i ∷ more ≡ [] = e in cc)
 one_left (items.Word w ∷ xs) i more e = one_left xs i more e
 one_left (items.Slot k ∷ xs) i more e = begins (items.Slot k) xs i more e
@@ -82,18 +85,22 @@ module _ (def : Definition) (n : ℕ) (o : Operator) (f : Fragment) (d : ℕ) wh
     pub has : RowTokens (fixed_words def) (words xs) tokens
     pub there : Front def n o f first (from_part xs) d (ts ++ tokens)
 
-  at_part : (first : Bool) (xs : List Item) (ts : List Token) → words xs ≡ [] → from_part xs ≡ xs → Front def n o f first xs d ts → Passed xs ts
+  at_part : (first : Bool) (xs : List Item) (ts : List Token) → words xs ≡ [] → from_part xs ≡ xs
+      → Front def n o f first xs d ts → Passed xs ts
   at_part first xs ts none same a = record {
     first = first;
     tokens = [];
     has = subst (λ r. RowTokens (fixed_words def) r []) (sym none) no_pieces;
-    there = subst (λ ys. Front def n o f first ys d (ts ++ [])) (sym same) (subst (Front def n o f first xs d) (sym (append-nil ts)) a);
+    there = subst (λ ys. Front def n o f first ys d (ts ++ [])) (sym same)
+        (subst (Front def n o f first xs d) (sym (append-nil ts)) a);
   }
 
-  pub pass : (first : Bool) (xs : List Item) (ts : List Token) → AllByRecursion (FixedToken def) (words_in xs) → Front def n o f first xs d ts → Passed xs ts
+  pub pass : (first : Bool) (xs : List Item) (ts : List Token) → AllByRecursion (FixedToken def) (words_in xs)
+      → Front def n o f first xs d ts → Passed xs ts
   pass first [] ts h a = at_part first [] ts refl refl a
   pass first (items.Word w ∷ xs) ts h a =
-      let b : Passed xs (ts ++ h.0.token ∷ []) = pass false xs (ts ++ h.0.token ∷ []) h.1 (past_word def n o h.0.token h.0.terminal a) in
+      let b : Passed xs (ts ++ h.0.token ∷ []) =
+      pass false xs (ts ++ h.0.token ∷ []) h.1 (past_word def n o h.0.token h.0.terminal a) in
       record {
         first = b.first;
         tokens = h.0.token ∷ b.tokens;

@@ -25,11 +25,14 @@ two c d h k = ap₂ (λ x y. x ++ (y ++ [])) (encode_ascii c h) (encode_ascii d 
 
 escaped_char : (c : ℕ) → flat_map escaped_byte (encode_utf8 c) ≡ encode_utf8_all (escaped c)
 escaped_char c = elim (eqb_tells c 34) [
-  | inl p ↦ subst (λ x. flat_map escaped_byte (encode_utf8 x) ≡ encode_utf8_all (escaped x)) (sym p.1) (escaped_ascii 34 (lit< tt) ∙ sym (two 92 34 (lit< tt) (lit< tt)))
+  | inl p ↦ subst (λ x. flat_map escaped_byte (encode_utf8 x) ≡ encode_utf8_all (escaped x)) (sym p.1)
+      (escaped_ascii 34 (lit< tt) ∙ sym (two 92 34 (lit< tt) (lit< tt)))
   | inr p ↦ elim (eqb_tells c 92) [
-    | inl q ↦ subst (λ x. flat_map escaped_byte (encode_utf8 x) ≡ encode_utf8_all (escaped x)) (sym q.1) (escaped_ascii 92 (lit< tt) ∙ sym (two 92 92 (lit< tt) (lit< tt)))
+    | inl q ↦ subst (λ x. flat_map escaped_byte (encode_utf8 x) ≡ encode_utf8_all (escaped x)) (sym q.1)
+        (escaped_ascii 92 (lit< tt) ∙ sym (two 92 92 (lit< tt) (lit< tt)))
     | inr q ↦ elim (eqb_tells c 10) [
-      | inl r ↦ subst (λ x. flat_map escaped_byte (encode_utf8 x) ≡ encode_utf8_all (escaped x)) (sym r.1) (escaped_ascii 10 (lit< tt) ∙ sym (two 92 110 (lit< tt) (lit< tt)))
+      | inl r ↦ subst (λ x. flat_map escaped_byte (encode_utf8 x) ≡ encode_utf8_all (escaped x)) (sym r.1)
+          (escaped_ascii 10 (lit< tt) ∙ sym (two 92 110 (lit< tt) (lit< tt)))
       | inr r ↦ escaped_other c p.1 q.1 r.1 ∙ sym (rw (p.0, q.0, r.0) (append-nil (encode_utf8 c)))
     ]
   ]
@@ -79,7 +82,8 @@ all_shown : (cs : Chars) → AllByRecursion IsShown cs → All is_content cs
 all_shown [] h = tt
 all_shown (c ∷ cs) h = (shown c h.0, all_shown cs h.1)
 
-pub quote_text : (known : List Name) (t : List ℕ) → IsUtf8 t → length t ≤ 4096 → AllByRecursion IsShown (chars t) → IsTextOf known (quoted_bytes t) (quoted t)
+pub quote_text : (known : List Name) (t : List ℕ) → IsUtf8 t → length t ≤ 4096 → AllByRecursion IsShown (chars t)
+    → IsTextOf known (quoted_bytes t) (quoted t)
 quote_text known t u short printable =
     let cs : Chars = chars t in
     let whole : Chars = 34 ∷ (quoted_chars cs ++ 34 ∷ []) in
@@ -88,7 +92,8 @@ quote_text known t u short printable =
     let all : scalars whole ≡ true = scalars_quoted cs (scalars-chars t u) in
     let token : IsToken known whole [] (quoted t) =
     subst (λ v. IsToken known whole [] (quoted v)) back
-    (a_text cs (quoted_chars cs ++ 34 ∷ []) [] refl (all_shown cs printable) (subst (λ v. length v ≤ 4096) (sym back) short)) in
+    (a_text cs (quoted_chars cs ++ 34 ∷ []) [] refl (all_shown cs printable)
+    (subst (λ v. length v ≤ 4096) (sym back) short)) in
     record {
       utf8 = (whole, (all, written));
       alone = subst (λ ds. IsToken known ds [] (quoted t)) (sym (chars-encodes whole all) ∙ ap chars written) token;

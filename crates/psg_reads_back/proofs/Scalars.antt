@@ -24,7 +24,8 @@ scalar_stepped = of_ranges scalar_ranges refl
 in_both : (c : ℕ) → is_xid_continue c ≡ true → in_ranges scalar_ranges c ≡ true
 unfolding unicode_ident scalar_stepped
 in_both c continues =
-    let both = zip_stepped (λ a b. not a || b) is_xid_continue (in_ranges scalar_ranges) is_xid_continue_stepped scalar_stepped in
+    let both = zip_stepped (λ a b. not a || b) is_xid_continue (in_ranges scalar_ranges) is_xid_continue_stepped
+    scalar_stepped in
     subst (λ a. (not a || in_ranges scalar_ranges c) ≡ true) continues (Stepped-everywhere _ both refl c)
 
 high_scalar : (c : ℕ) → 57344 ≤ c → c < 1114112 → scalar c ≡ true
@@ -35,7 +36,8 @@ high_scalar c h k =
 from_ranges : (c : ℕ) → in_ranges scalar_ranges c ≡ true → scalar c ≡ true
 unfolding in_ranges
 from_ranges c h = elim (or_cases (nat_le 0 c && nat_le c 0xD7FF) ((nat_le 0xE000 c && nat_le c 0x10FFFF) || false) h) [
-  | inl a ↦ low_scalar c (let b : c ≤ 55295 = leb-true c 55295 (and_parts (nat_le 0 c) (nat_le c 0xD7FF) a).1 in omega (arith, b))
+  | inl a ↦ low_scalar c (let b : c ≤ 55295 =
+      leb-true c 55295 (and_parts (nat_le 0 c) (nat_le c 0xD7FF) a).1 in omega (arith, b))
   | inr a ↦ elim (or_cases (nat_le 0xE000 c && nat_le c 0x10FFFF) false a) [
     | inl b ↦ (let e = and_parts (nat_le 0xE000 c) (nat_le c 0x10FFFF) b in
         let low : 57344 ≤ c = leb-true 57344 c e.0 in

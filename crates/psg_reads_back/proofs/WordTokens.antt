@@ -30,13 +30,15 @@ among-all P c (x ∷ xs) h k = elim (or_cases (eqb c x) (list_any (λ d. eqb c d
 
 all_small : (xs : List ℕ) → list_all (λ d. ltb d 128) xs ≡ true → AllByRecursion (λ d. d < 128) xs
 all_small [] h = tt
-all_small (x ∷ xs) h = let e = and_parts (ltb x 128) (list_all (λ d. ltb d 128) xs) h in (ltb-true x 128 e.0, all_small xs e.1)
+all_small (x ∷ xs) h = let e =
+    and_parts (ltb x 128) (list_all (λ d. ltb d 128) xs) h in (ltb-true x 128 e.0, all_small xs e.1)
 
 solo-ascii : (c : ℕ) → is_solo c ≡ true → c < 128
 solo-ascii c h = among-all (λ d. d < 128) c (codes "()[]{},;") h (all_small (codes "()[]{},;") refl)
 
 symbol-ascii : (c : ℕ) → is_symbol c ≡ true → c < 128
-symbol-ascii c h = among-all (λ d. d < 128) c (codes "+-*/%<>=!&|^~:.@#$") h (all_small (codes "+-*/%<>=!&|^~:.@#$") refl)
+symbol-ascii c h = among-all (λ d. d < 128) c (codes "+-*/%<>=!&|^~:.@#$") h
+    (all_small (codes "+-*/%<>=!&|^~:.@#$") refl)
 
 one-encoded : (c : ℕ) → c < 128 → encode_utf8_all (c ∷ []) ≡ c ∷ []
 one-encoded c h = append-nil _ ∙ encode_ascii c h
@@ -56,7 +58,8 @@ word_tested [] h = absurd h
 word_tested (c ∷ cs) h = and_from (starts_word c) (list_all goes_on_word cs) h.0 (goes_on_tested cs h.1)
 
 word_passes : (w : Name) → IsUtf8 w → IsWord (chars w) → is_word w ≡ true
-word_passes w u k = and_from (are_word (chars w)) (bytes_eq (encode_utf8_all (chars w)) w) (word_tested (chars w) k) ((bytes_eq-Decides (encode_utf8_all (chars w)) w).1 (encodes-chars w u))
+word_passes w u k = and_from (are_word (chars w)) (bytes_eq (encode_utf8_all (chars w)) w) (word_tested (chars w) k)
+    ((bytes_eq-Decides (encode_utf8_all (chars w)) w).1 (encodes-chars w u))
 
 symbols_tested : (cs : List ℕ) → All is_symbol cs → list_all is_symbol cs ≡ true
 symbols_tested [] h = refl
@@ -64,34 +67,45 @@ symbols_tested (c ∷ cs) h = and_from (is_symbol c) (list_all is_symbol cs) h.0
 
 run_passes : (w : Name) → BeginsBy is_symbol w → All is_symbol w → w ≢ dots_run → is_run w ≡ true
 run_passes [] b a n = absurd (false≢true b)
-run_passes (c ∷ cs) b a n = and_from (list_all is_symbol (c ∷ cs)) (not (bytes_eq (c ∷ cs) dots_run)) (symbols_tested (c ∷ cs) a)
-    (not_from_false (bytes_eq (c ∷ cs) dots_run) (false_from_ne_true (bytes_eq (c ∷ cs) dots_run) (λ e. n ((bytes_eq-Decides (c ∷ cs) dots_run).0 e))))
+run_passes (c ∷ cs) b a n =
+    and_from (list_all is_symbol (c ∷ cs)) (not (bytes_eq (c ∷ cs) dots_run)) (symbols_tested (c ∷ cs) a)
+    (not_from_false (bytes_eq (c ∷ cs) dots_run)
+    (false_from_ne_true (bytes_eq (c ∷ cs) dots_run) (λ e. n ((bytes_eq-Decides (c ∷ cs) dots_run).0 e))))
 
 -- ---- names and placeholders
 
 module _ (known : List Name) where
-  word_text : (cs : List ℕ) → IsWord cs → bytes_of cs ≤ 255 → IsTextOf known (encode_utf8_all cs) (word (encode_utf8_all cs))
+  word_text : (cs : List ℕ) → IsWord cs → bytes_of cs ≤ 255
+      → IsTextOf known (encode_utf8_all cs) (word (encode_utf8_all cs))
   word_text cs k short = record {
     utf8 = (cs, (word_scalars cs k, refl));
-    alone = subst (λ ds. IsToken known ds [] (word (encode_utf8_all cs))) (sym (chars-encodes cs (word_scalars cs k))) (a_word cs [] k refl short);
+    alone = subst (λ ds. IsToken known ds [] (word (encode_utf8_all cs))) (sym (chars-encodes cs (word_scalars cs k)))
+        (a_word cs [] k refl short);
   }
 
-  pub name_text : (n : Name) (cs : List ℕ) → n ≡ encode_utf8_all cs → IsWord cs → length n ≤ 255 → IsTextOf known n (word n)
-  name_text n cs e k short = subst (λ x. IsTextOf known x (word x)) (sym e) (word_text cs k (subst (λ x. length x ≤ 255) e short))
+  pub name_text : (n : Name) (cs : List ℕ) → n ≡ encode_utf8_all cs → IsWord cs → length n ≤ 255
+      → IsTextOf known n (word n)
+  name_text n cs e k short =
+      subst (λ x. IsTextOf known x (word x)) (sym e) (word_text cs k (subst (λ x. length x ≤ 255) e short))
 
-  hole_alone : (cs : List ℕ) → IsWord cs → bytes_of cs ≤ 255 → IsTextOf known (encode_utf8_all (63 ∷ cs)) (placeholder (encode_utf8_all cs))
+  hole_alone : (cs : List ℕ) → IsWord cs → bytes_of cs ≤ 255
+      → IsTextOf known (encode_utf8_all (63 ∷ cs)) (placeholder (encode_utf8_all cs))
   hole_alone cs k short =
       let s : scalars (63 ∷ cs) ≡ true = word_scalars cs k in
       record {
         utf8 = (63 ∷ cs, (s, refl));
-        alone = subst (λ ds. IsToken known ds [] (placeholder (encode_utf8_all cs))) (sym (chars-encodes (63 ∷ cs) s)) (a_hole cs [] k refl short);
+        alone = subst (λ ds. IsToken known ds [] (placeholder (encode_utf8_all cs))) (sym (chars-encodes (63 ∷ cs) s))
+            (a_hole cs [] k refl short);
       }
 
-  pub hole_text : (n : Name) (cs : List ℕ) → n ≡ encode_utf8_all cs → IsWord cs → length n ≤ 255 → IsTextOf known (63 ∷ n) (placeholder n)
+  pub hole_text : (n : Name) (cs : List ℕ) → n ≡ encode_utf8_all cs → IsWord cs → length n ≤ 255
+      → IsTextOf known (63 ∷ n) (placeholder n)
   hole_text n cs e k short =
-      let whole : encode_utf8_all (63 ∷ cs) ≡ 63 ∷ n = ap (λ x. x ++ encode_utf8_all cs) (encode_ascii 63 (lit< tt)) ∙ ap (λ x. 63 ∷ x) (sym e) in
+      let whole : encode_utf8_all (63 ∷ cs) ≡ 63 ∷ n = ap (λ x. x ++ encode_utf8_all cs) (encode_ascii 63 (lit< tt))
+      ∙ ap (λ x. 63 ∷ x) (sym e) in
       subst (λ x. IsTextOf known x (placeholder n)) whole
-      (subst (λ x. IsTextOf known (encode_utf8_all (63 ∷ cs)) (placeholder x)) (sym e) (hole_alone cs k (subst (λ x. length x ≤ 255) e short)))
+      (subst (λ x. IsTextOf known (encode_utf8_all (63 ∷ cs)) (placeholder x)) (sym e)
+      (hole_alone cs k (subst (λ x. length x ≤ 255) e short)))
 
   encodes-dots : encode_utf8_all dots_run ≡ dots_run
   encodes-dots = rw (encode_ascii 46 (lit< tt)) refl
@@ -112,7 +126,8 @@ module _ (known : List Name) where
   close_text = solo_text 41 (codes ")") (41 ∷ [], (refl, one-encoded 41 (lit< tt))) refl refl
 
 -- a word that is none of the fixed ones
-pub name_terminal : (def : Definition) (n : Name) (cs : List ℕ) → n ≡ encode_utf8_all cs → IsWord cs → is_among (fixed_words def) n ≡ false → terminal_of def (word n) ≡ a_name
+pub name_terminal : (def : Definition) (n : Name) (cs : List ℕ) → n ≡ encode_utf8_all cs → IsWord cs
+    → is_among (fixed_words def) n ≡ false → terminal_of def (word n) ≡ a_name
 name_terminal def n cs e k free =
     let u : IsUtf8 n = (cs, (word_scalars cs k, sym e)) in
     let same : cs ≡ chars n = chars_from_encodes cs n u (sym e) in
@@ -127,7 +142,8 @@ pub record FixedToken (def : Definition) (w : Name) : Type 0 where
   pub terminal : terminal_of def token ≡ fixed w
 
 module _ (def : Definition) where
-  fixed_word : (w : Name) → IsUtf8 w → is_among (fixed_words def) w ≡ true → IsWord (chars w) → length w ≤ 255 → FixedToken def w
+  fixed_word : (w : Name) → IsUtf8 w → is_among (fixed_words def) w ≡ true → IsWord (chars w) → length w ≤ 255
+      → FixedToken def w
   fixed_word w u among k short =
       let back : encode_utf8_all (chars w) ≡ w = encodes-chars w u in
       record {
@@ -143,7 +159,8 @@ module _ (def : Definition) where
     terminal = ap (λ b. fixed_if b (c ∷ [])) s ∙ ap fixed (sym e);
   }
 
-  fixed_run : (w : Name) → IsUtf8 w → is_among (fixed_words def) w ≡ true → BeginsBy is_symbol (chars w) → All is_symbol (chars w) → chars w ≢ dots_run → FixedToken def w
+  fixed_run : (w : Name) → IsUtf8 w → is_among (fixed_words def) w ≡ true → BeginsBy is_symbol (chars w)
+      → All is_symbol (chars w) → chars w ≢ dots_run → FixedToken def w
   fixed_run w u among begins all apart =
       let back : encode_utf8_all (chars w) ≡ w = encodes-chars w u in
       let same : chars w ≡ w = sym (symbols-encoded (chars w) all) ∙ back in
@@ -152,9 +169,12 @@ module _ (def : Definition) where
         text = record {
           utf8 = u;
           alone = subst (λ x. IsToken (fixed_words def) (chars w) [] (symbols x)) back
-              (a_symbol (chars w) [] (record { begins = begins; all = all; ends = refl }) (subst (λ x. is_among (fixed_words def) x ≡ true) (sym back) among) apart);
+              (a_symbol (chars w) [] (record { begins = begins; all = all; ends = refl })
+              (subst (λ x. is_among (fixed_words def) x ≡ true) (sym back) among) apart);
         };
-        terminal = ap (λ b. fixed_if b w) (run_passes w (subst (BeginsBy is_symbol) same begins) (subst (All is_symbol) same all) (λ e. apart (same ∙ e)));
+        terminal = ap (λ b. fixed_if b w)
+            (run_passes w (subst (BeginsBy is_symbol) same begins) (subst (All is_symbol) same all)
+            (λ e. apart (same ∙ e)));
       }
 
   pub fixed_token : (w : Name) → IsUtf8 w → is_among (fixed_words def) w ≡ true → IsFixedWord w → FixedToken def w
