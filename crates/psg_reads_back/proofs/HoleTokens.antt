@@ -1,5 +1,5 @@
 -- The name of a phylum behind a question mark is one token.
-use Rattle.std.proofs.Common.{◌≡◌, ℕ, ◌<◌, ◌≤◌, Bool, true, false, ◌&&◌, ◌||◌, ◌==◌, List, [], ◌∷◌, ◌++◌, length, inl, inr, refl, ap, ap₂, sym, ◌∙◌, subst, arith, leb-true, eqb-true}
+use Rattle.std.proofs.Common.{◌≡◌, ℕ, ◌<◌, ◌≤◌, true, false, ◌&&◌, ◌||◌, ◌==◌, List, [], ◌∷◌, ◌++◌, length, inl, inr, refl, ap, ap₂, sym, ◌∙◌, arith, leb-true, eqb-true}
 use Rattle.std.specs.Prelude.{encode_utf8_all, nat_le, IsTrue}
 use Rattle.std.specs.Char.{is_ascii_alphanumeric}
 use Rattle.std.specs.Int.{is_in_range}
@@ -9,8 +9,8 @@ use Rattle.std.proofs.lemmas.Str.{encode_ascii}
 use Rattle.unicode_ident.specs.Ident.{is_xid_start, is_xid_continue}
 use Rattle.unicode_ident.proofs.IdentLemmas.{is_xid_start-ascii, is_xid_continue-ascii}
 use Rattle.psg_terms.specs.Names.{Name}
-use Rattle.psg_terms.specs.Words.{starts_word, goes_on_word, IsWord}
-use Rattle.psg_grammar.specs.Sound.{is_upper, is_lower, is_digit, goes_on_name, is_name_from, IsKindName}
+use Rattle.psg_terms.specs.Words.{starts_word, goes_on_word}
+use Rattle.psg_grammar.specs.Sound.{is_upper, is_lower, is_digit, goes_on_name, IsKindName}
 use Rattle.psg_class.specs.Terminals.{placeholder}
 use Rattle.psg_reads_back.proofs.Lexing.{IsTextOf}
 use Rattle.psg_reads_back.proofs.WordTokens.{hole_text}

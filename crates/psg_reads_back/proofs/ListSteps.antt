@@ -1,13 +1,9 @@
 -- Placeholders, ends of lists, and lists with one more element in front.
-use Rattle.std.proofs.Common.{◌≡◌, ℕ, zero, suc, ◌+◌, ◌<◌, max, Bool, true, false, List, [], ◌∷◌, ◌++◌, length, Option, Some, None, slice_get, refl, ap, sym, ◌∙◌, subst, append-nil, arith}
+use Rattle.std.proofs.Common.{◌≡◌, ℕ, zero, suc, ◌<◌, max, Bool, true, false, List, [], ◌∷◌, ◌++◌, length, Some, slice_get, refl, ap, sym, ◌∙◌, subst, append-nil, arith}
 use Rattle.std.specs.Prelude.{codes}
-use Rattle.std.proofs.lemmas.Bool.{false≢true}
 use Rattle.std.proofs.lemmas.Option.{none-some}
 use Rattle.psg_grammar.specs.declared.types.Kind.{Kind}
 use Rattle.psg_grammar.specs.declared.types.Kind.TheVariants as kinds
-use Rattle.psg_grammar.specs.declared.types.Item.TheVariants as items
-use Rattle.psg_grammar.specs.declared.types.Operator.{Operator}
-use Rattle.psg_grammar.specs.declared.types.Phylum.{Phylum}
 use Rattle.psg_grammar.specs.declared.types.ListKind.{ListKind}
 use Rattle.psg_grammar.specs.declared.types.Definition.{Definition}
 use Rattle.psg_grammar.specs.Declaring.{is_declaring}
@@ -19,14 +15,14 @@ use Rattle.psg_grammar.proofs.SoundParts.{each_at}
 use Rattle.psg_tree.specs.AbstractText.{name_of_phylum}
 use Rattle.psg_class.specs.Terminals.{Token, placeholder, dots}
 use Rattle.psg_class.specs.Follow.{HasHoles}
-use Rattle.psg_class.specs.Yields.{TreeYields, of_hole, ListYields, no_elements, only_more, elements, SomeYield, last_element, and_more, and_elements}
-use Rattle.psg_reads_back.specs.Rows.{Piece, token, mark, row, operator_of, is_below_level, between, separating}
+use Rattle.psg_class.specs.Yields.{TreeYields, of_hole, no_elements, only_more, elements, SomeYield, last_element, and_more, and_elements}
+use Rattle.psg_reads_back.specs.Rows.{Piece, token, row, operator_of, separating}
 use Rattle.psg_reads_back.proofs.Lexing.{RowTokens, no_pieces, a_mark, a_token}
 use Rattle.psg_reads_back.proofs.WordTokens.{FixedToken, dots_text}
 use Rattle.psg_reads_back.proofs.HoleTokens.{kind_hole}
 use Rattle.psg_reads_back.proofs.FixedTokens.{HasTokens}
 use Rattle.psg_reads_back.proofs.Passing.{tokens-append}
-use Rattle.psg_reads_back.proofs.Claims.{TreeBack, ListBack, WholeBack, IsListOf}
+use Rattle.psg_reads_back.proofs.Claims.{TreeBack, ListBack, WholeBack}
 use Rattle.psg_reads_back.proofs.SlotSteps.{below_zero}
 
 at_within : {X : Type 0} (xs : List X) (k : ℕ) → k < length xs → (x : X) × (slice_get xs k ≡ Some x)

@@ -1,14 +1,13 @@
 -- A number as it is written is one token of that value.
-use Rattle.std.proofs.Common.{◌≡◌, ◌≢◌, ℕ, ◌<◌, ◌^◌, Bool, true, false, ◌&&◌, List, [], ◌∷◌, length, refl, ap, sym, ◌∙◌, subst, arith, le-leb}
+use Rattle.std.proofs.Common.{◌≡◌, ◌≢◌, ℕ, ◌<◌, ◌^◌, List, [], ◌∷◌, length, refl, sym, ◌∙◌, subst, arith, le-leb}
 use Rattle.std.specs.Prelude.{decimal, nat_le}
-use Rattle.std.specs.Str.{chars}
 use Rattle.std.specs.Str.Parse.{AllDigits}
 use Rattle.std.proofs.lemmas.Bool.{and_from}
 use Rattle.std.proofs.lemmas.Fmt.{decimal_is_IsNumeral_wide, IsAscii-decimal_wide}
 use Rattle.std.proofs.lemmas.Str.{chars-IsAscii, IsUtf8-from_ascii}
 use Rattle.std.proofs.lemmas.Str.Parse.{IsNumeralModel, numerals_by_weight, tells_digits}
 use Rattle.psg_terms.specs.Names.{Name}
-use Rattle.psg_lexis.specs.Classes.{is_digit, All, BeginsBy, IsLongest}
+use Rattle.psg_lexis.specs.Classes.{is_digit, All, IsLongest}
 use Rattle.psg_lexis.specs.Tokens.{value_of, IsToken, number as a_number}
 use Rattle.psg_class.specs.Terminals.{numeral}
 use Rattle.psg_reads_back.proofs.Lexing.{IsTextOf}

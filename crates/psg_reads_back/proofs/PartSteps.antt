@@ -1,5 +1,5 @@
 -- An operator with one more part that is a leaf.
-use Rattle.std.proofs.Common.{◌≡◌, inl, inr, ℕ, ◌+◌, ◌<◌, ◌≤◌, ◌^◌, Bool, true, false, List, [], ◌∷◌, ◌++◌, length, Option, Some, None, slice_get, refl, ap, sym, ◌∙◌, subst, append_assoc, arith}
+use Rattle.std.proofs.Common.{◌≡◌, ℕ, ◌<◌, ◌≤◌, ◌^◌, Bool, true, false, List, [], ◌∷◌, ◌++◌, length, Some, slice_get, refl, ap, sym, ◌∙◌, subst, append_assoc, arith}
 use Rattle.std.specs.Prelude.{decimal}
 use Rattle.std.specs.Str.{chars, IsUtf8}
 use Rattle.std.specs.List.{AllByRecursion}
@@ -15,7 +15,7 @@ use Rattle.psg_grammar.specs.Printable.{IsShown}
 use Rattle.psg_grammar.specs.Sizes.{depth_of}
 use Rattle.psg_grammar.specs.WellFormed.{words_in, fixed_words, IsName}
 use Rattle.psg_tree.specs.AbstractText.{quoted as quoted_bytes}
-use Rattle.psg_class.specs.Terminals.{Token, word, numeral, quoted, a_name, terminal_of}
+use Rattle.psg_class.specs.Terminals.{Token, word, numeral, quoted}
 use Rattle.psg_reads_back.specs.Rows.{Piece, token, words, row, left, operator_of, from_part, behind_first, items_in, words_behind}
 use Rattle.psg_reads_back.proofs.Lexing.{IsTextOf, RowTokens, no_pieces, a_token}
 use Rattle.psg_reads_back.proofs.WordTokens.{FixedToken, name_text, name_terminal}

@@ -1,5 +1,5 @@
 -- The text of each printable tree reads back as the tree.
-use Rattle.std.proofs.Common.{◌≡◌, ℕ, ◌<◌, List, [], refl, sym, subst}
+use Rattle.std.proofs.Common.{ℕ, ◌<◌, List, [], refl, sym, subst}
 use Rattle.std.specs.Prelude.{IsUtf8}
 use Rattle.std.specs.List.{AllByRecursion}
 use Rattle.psg_lexis.specs.Tokens.{IsFixedWord}
@@ -12,11 +12,10 @@ use Rattle.psg_grammar.specs.Sound.{IsSound}
 use Rattle.psg_grammar.specs.WellFormed.{fixed_words}
 use Rattle.psg_class.specs.Class.{IsClass}
 use Rattle.psg_class.specs.Terminals.{Token}
-use Rattle.psg_class.specs.Texts.{ReadsAs}
-use Rattle.psg_class.specs.Yields.{Yields, TreeYields, ListYields}
+use Rattle.psg_class.specs.Yields.{Yields}
 use Rattle.psg_class.proofs.ClassFacts.{facts}
 use Rattle.psg_reads_back.specs.Rows.{row, operator_of}
-use Rattle.psg_reads_back.specs.Layout.{laid, text_of}
+use Rattle.psg_reads_back.specs.Layout.{laid}
 use Rattle.psg_reads_back.specs.Back.{ReadsBack, ReadsBackIfPrintable}
 use Rattle.psg_reads_back.proofs.Lexing.{RowTokens, Lexed, laid_tokens}
 use Rattle.psg_reads_back.proofs.FixedTokens.{has_tokens}

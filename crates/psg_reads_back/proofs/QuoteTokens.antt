@@ -1,6 +1,6 @@
 -- A text between quotes, as it is written, is one token of its contents.
-use Rattle.std.proofs.Common.{◌≡◌, ◌≢◌, ◌⊎◌, ℕ, ◌<◌, ◌≤◌, ◌==◌, ◌||◌, Bool, true, false, cond, ◌&&◌, List, [], ◌∷◌, ◌++◌, length, inl, inr, refl, ap, ap₂, sym, ◌∙◌, subst, append_assoc, append-nil, arith, lit<, eq-eqb}
-use Rattle.std.specs.Prelude.{codes, encode_utf8, encode_utf8_all, is_some}
+use Rattle.std.proofs.Common.{◌≡◌, ℕ, ◌<◌, ◌≤◌, ◌==◌, true, false, List, [], ◌∷◌, ◌++◌, length, inl, inr, refl, ap, ap₂, sym, ◌∙◌, subst, append-nil, lit<, eq-eqb}
+use Rattle.std.specs.Prelude.{encode_utf8, encode_utf8_all, is_some}
 use Rattle.std.specs.Str.{chars, IsUtf8}
 use Rattle.std.specs.List.{AllByRecursion, flat_map}
 use Rattle.std.proofs.lemmas.Bool.{and_parts, and_from, or_left, or_right}

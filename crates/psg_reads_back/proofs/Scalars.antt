@@ -1,5 +1,5 @@
 -- The characters of a word are scalar values.
-use Rattle.std.proofs.Common.{◌≡◌, ℕ, ◌+◌, ◌<◌, ◌≤◌, Bool, true, false, not, cond, ◌&&◌, ◌||◌, ◌==◌, leb, ltb, List, [], ◌∷◌, inl, inr, refl, ap, sym, ◌∙◌, subst, arith, le-ltb, lt-ltb, le-leb, leb-true, eqb-true}
+use Rattle.std.proofs.Common.{◌≡◌, ℕ, ◌<◌, ◌≤◌, true, false, not, cond, ◌&&◌, ◌||◌, ◌==◌, leb, ltb, List, [], ◌∷◌, inl, inr, refl, ap, ◌∙◌, subst, arith, le-ltb, lt-ltb, le-leb, leb-true, eqb-true}
 use Rattle.std.specs.Prelude.{IsTrue, nat_le}
 use Rattle.std.specs.List.{AllByRecursion}
 use Rattle.std.proofs.lemmas.Bool.{or_cases, and_parts, and_from}
@@ -10,7 +10,7 @@ use Rattle.ucd_table.proofs.Facts.{Stepped-everywhere}
 use Rattle.ucd_derived.proofs.BinaryLemmas.{is_xid_continue_stepped}
 use Rattle.unicode_ident.specs.Ident.{is_xid_continue}
 use Rattle.unicode_ident.proofs.Computing.{unicode_ident}
-use Rattle.psg_terms.specs.Words.{starts_word, goes_on_word, IsWord}
+use Rattle.psg_terms.specs.Words.{goes_on_word, IsWord}
 use Rattle.psg_lexis.proofs.Starts.{start_goes_on}
 
 abbrev scalar_ranges : List Range

@@ -1,6 +1,5 @@
 -- An operator with one more child, in brackets where its level is below the slot's.
-use Rattle.std.proofs.Common.{◌≡◌, inl, inr, ℕ, zero, suc, ◌+◌, ◌-◌, ◌<◌, ◌≤◌, max, Bool, true, false, List, [], ◌∷◌, ◌++◌, length, length-append, Option, Some, None, slice_get, refl, ap, sym, ◌∙◌, subst, append_assoc, append-nil, arith, ltb-true, le-ltb}
-use Rattle.std.specs.List.{AllByRecursion, list_all}
+use Rattle.std.proofs.Common.{◌≡◌, inl, inr, ℕ, suc, ◌+◌, ◌-◌, ◌<◌, ◌≤◌, max, Bool, true, false, List, [], ◌∷◌, ◌++◌, length, length-append, Option, Some, None, slice_get, refl, ap, sym, ◌∙◌, subst, append_assoc, append-nil, arith, ltb-true, le-ltb}
 use Rattle.std.proofs.lemmas.Bool.{cases_Bool, false≢true}
 use Rattle.psg_grammar.specs.declared.types.Kind.{Kind}
 use Rattle.psg_grammar.specs.declared.types.Kind.TheVariants as kinds
@@ -10,20 +9,20 @@ use Rattle.psg_grammar.specs.declared.types.Operator.{Operator}
 use Rattle.psg_grammar.specs.declared.types.Phylum.{Phylum}
 use Rattle.psg_grammar.specs.declared.types.Definition.{Definition}
 use Rattle.psg_grammar.specs.Fragments.{Fragment, with_child}
-use Rattle.psg_grammar.specs.Levels.{level_number, is_mark, least_level_of}
+use Rattle.psg_grammar.specs.Levels.{level_number, least_level_of}
 use Rattle.psg_grammar.specs.Sizes.{depth_of}
-use Rattle.psg_grammar.specs.Sound.{IsSound, IsOperator}
-use Rattle.psg_grammar.specs.WellFormed.{words_in, fixed_words}
+use Rattle.psg_grammar.specs.Sound.{IsSound}
+use Rattle.psg_grammar.specs.WellFormed.{fixed_words}
 use Rattle.psg_grammar.proofs.SoundParts.{operator_sound}
 use Rattle.psg_class.specs.Terminals.{Token, solo}
 use Rattle.psg_class.specs.Places.{solid, is_empty, slot_level}
 use Rattle.psg_class.specs.Yields.{TreeYields, in_brackets}
 use Rattle.psg_class.proofs.ClassFacts.{ClassFacts}
-use Rattle.psg_reads_back.specs.Rows.{Piece, token, mark, words, row, left, wanted, wanted_of, operator_of, is_below_level, opening, closing, behind_first, words_behind}
+use Rattle.psg_reads_back.specs.Rows.{Piece, row, left, wanted, wanted_of, operator_of, is_below_level, opening, closing, behind_first, words_behind}
 use Rattle.psg_reads_back.proofs.Lexing.{RowTokens, no_pieces, a_mark, a_token}
 use Rattle.psg_reads_back.proofs.WordTokens.{open_text, close_text}
 use Rattle.psg_reads_back.proofs.FixedTokens.{HasTokens}
-use Rattle.psg_reads_back.proofs.Building.{Front, none_solid, level_there, past_slot, past_list}
+use Rattle.psg_reads_back.proofs.Building.{none_solid, level_there, past_slot, past_list}
 use Rattle.psg_reads_back.proofs.Passing.{tokens-append}
 use Rattle.psg_reads_back.proofs.Claims.{TreeBack, ListBack, WholeBack, PartBack, list_top}
 use Rattle.psg_reads_back.proofs.PartSteps.{added, next_left, front_at, words_next}

@@ -1,5 +1,5 @@
 -- Each printable tree's row has tokens that yield it.
-use Rattle.std.proofs.Common.{◌≡◌, ◌⊎◌, inl, inr, ℕ, List, [], ◌∷◌, length, slice_get, Some, refl}
+use Rattle.std.proofs.Common.{inl, inr, List, [], ◌∷◌, refl}
 use Rattle.psg_grammar.specs.declared.types.Kind.{Kind}
 use Rattle.psg_grammar.specs.declared.types.Kind.TheVariants as kinds
 use Rattle.psg_grammar.specs.declared.types.Item.{Item}
@@ -11,7 +11,7 @@ use Rattle.psg_grammar.specs.Sound.{IsSound}
 use Rattle.psg_grammar.specs.WellFormed.{Fits, IsPlain}
 use Rattle.psg_class.proofs.ClassFacts.{ClassFacts}
 use Rattle.psg_reads_back.proofs.FixedTokens.{HasTokens}
-use Rattle.psg_reads_back.proofs.Claims.{WholeBack, Claim, PartBack, part_claim, spine_of}
+use Rattle.psg_reads_back.proofs.Claims.{Claim, part_claim, spine_of}
 use Rattle.psg_reads_back.proofs.PartSteps.{part_operator, part_refers, part_declares, part_number, part_text}
 use Rattle.psg_reads_back.proofs.SlotSteps.{part_child}
 use Rattle.psg_reads_back.proofs.ListSteps.{hole_whole, end_whole, cell_whole}

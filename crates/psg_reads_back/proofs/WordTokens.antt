@@ -1,17 +1,16 @@
 -- Names, placeholders, fixed words, brackets and `...` as tokens, with their terminals.
-use Rattle.std.proofs.Common.{◌≡◌, ◌≢◌, ℕ, ◌+◌, ◌<◌, ◌≤◌, Bool, true, false, not, ◌&&◌, ◌||◌, eqb, ltb, List, [], ◌∷◌, ◌++◌, length, inl, inr, refl, ap, ap₂, sym, ◌∙◌, subst, append-nil, arith, lit<, true≢false}
-use Rattle.std.specs.Prelude.{codes, encode_utf8, encode_utf8_all, bytes_eq, IsTrue}
+use Rattle.std.proofs.Common.{◌≡◌, ◌≢◌, ℕ, ◌<◌, ◌≤◌, true, false, not, eqb, ltb, List, [], ◌∷◌, ◌++◌, length, inl, inr, refl, ap, ap₂, sym, ◌∙◌, subst, append-nil, lit<}
+use Rattle.std.specs.Prelude.{codes, encode_utf8_all, bytes_eq, IsTrue}
 use Rattle.std.specs.Str.{chars, IsUtf8}
 use Rattle.std.specs.List.{AllByRecursion, list_any, list_all}
 use Rattle.std.proofs.lemmas.Bool.{or_cases, eqb-true, ltb-true, and_parts, false≢true, and_from, false_from_ne_true, not_from_false}
 use Rattle.std.proofs.lemmas.Slice.Eq.{bytes_eq-Decides}
 use Rattle.std.proofs.lemmas.Str.{encodes-chars, encode_ascii, chars_from_encodes, chars-encodes}
-use lib.Utf8.{scalar, scalars}
+use lib.Utf8.{scalars}
 use Rattle.psg_terms.specs.Names.{Name, is_among}
 use Rattle.psg_terms.specs.Words.{starts_word, goes_on_word, IsWord}
-use Rattle.psg_lexis.specs.Classes.{Chars, is_solo, is_symbol, All, BeginsBy}
+use Rattle.psg_lexis.specs.Classes.{is_solo, is_symbol, All, BeginsBy}
 use Rattle.psg_lexis.specs.Tokens.{bytes_of, dots as dots_run, IsToken, word as a_word, solo as a_solo, symbol as a_symbol, hole as a_hole, more as a_more, IsFixedWord}
-use Rattle.psg_lexis.specs.declared.token.Token.TheVariants as tokens
 use Rattle.psg_grammar.specs.declared.types.Definition.{Definition}
 use Rattle.psg_grammar.specs.WellFormed.{fixed_words}
 use Rattle.psg_class.specs.Terminals.{Token, word, solo, symbols, placeholder, dots, fixed, a_name, fixed_if, are_word, is_word, is_run, word_terminal, terminal_of}
