@@ -81,7 +81,8 @@ keep_true true = refl
 keep_true false = refl
 
 module _ (def : Definition) (n : ℕ) (o : Operator) where
-  -- The items up to these were read as these tokens and have made f. Whatever the items left make of it, all items make of the operator.
+  -- The items before these were read as these tokens and have made f. Whatever the items left make of it, all items
+  -- make of the operator.
   pub record Front (f : Fragment) (first : Bool) (rest : List Item) (d : ℕ) (ts : List Token) : Type 0 where
     pub front : List Item
     pub whole : o.items ≡ front ++ rest

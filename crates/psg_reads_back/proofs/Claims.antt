@@ -83,7 +83,7 @@ module _ (def : Definition) where
     pub part : IsSpine f → PartBack f more kind
     pub whole : more ≡ [] → WholeBack f kind
 
-  -- what has parts to come is an operator with its first parts
+  -- what still has parts to take is an operator with its first parts
   pub spine_of : (f : Fragment) (i : Item) (more : List Item) (kind : Kind) → Fits def f (i ∷ more) kind → IsSpine f
   spine_of (operator o) i more kind h = tt
   spine_of (with_child f t) i more kind h = tt

@@ -1,4 +1,4 @@
--- The name of a phylum behind a question mark is one token.
+-- A question mark with the name of a phylum is one token.
 use Rattle.std.proofs.Common.{◌≡◌, ℕ, ◌<◌, ◌≤◌, true, false, ◌&&◌, ◌||◌, ◌==◌, List, [], ◌∷◌, ◌++◌, length, inl, inr, refl, ap, ap₂, sym, ◌∙◌, arith, leb-true, eqb-true}
 use Rattle.std.specs.Prelude.{encode_utf8_all, nat_le, IsTrue}
 use Rattle.std.specs.Char.{is_ascii_alphanumeric}

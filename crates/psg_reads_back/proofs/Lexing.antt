@@ -19,7 +19,7 @@ use Rattle.psg_reads_back.specs.Rows.{Piece, token, mark}
 use Rattle.psg_reads_back.specs.Layout.{is_line, is_tight, is_space, gap, gap_after, glues, glues_first, laid, last_in, last_char, marks_behind, open_behind}
 use Rattle.psg_reads_back.proofs.RowEnds.{last_in-append, last_char-snoc}
 
--- ---- what doesn't glue
+-- ---- what does not glue
 
 both_true : (a b : Bool) → a ≡ true → b ≡ true → (a && b) ≡ true
 both_true true b h k = k
@@ -67,7 +67,7 @@ spaces : (n : ℕ) → Blanks (replicate n 32)
 spaces zero = tt
 spaces (suc n) = (inl refl, spaces n)
 
--- a gap is empty and its characters don't glue, or it is blank
+-- a gap is empty and its characters do not glue, or it is blank
 record IsGap (glued : Bool) (bs : List ℕ) : Type 0 where
   blanks : Blanks bs
   empty : bs ≡ [] → glued ≡ false
@@ -132,7 +132,7 @@ module _ (fixed : List Name) where
   some_chars (hole cs rest w e l) h = absurd (cc)
   some_chars (more rest e) h = absurd (cc)
 
-  -- what a row adds doesn't begin with a character that glues to the last one
+  -- what a row adds does not begin with a character that glues to the last one
   starts_apart : (before : List Piece) (c : ℕ) → last_in None before ≡ Some c → (r : List Piece) (ts : List Token)
       → RowTokens r ts
       → (d : ℕ) (behind : Chars) → chars (laid before r) ≡ d ∷ behind → Glue c d → ⊥

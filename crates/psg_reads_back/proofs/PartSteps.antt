@@ -27,7 +27,7 @@ use Rattle.psg_reads_back.proofs.Passing.{tokens-append, parts_left, Begins, one
 use Rattle.psg_reads_back.proofs.Claims.{PartBack}
 
 module _ (def : Definition) (known : HasTokens def) where
-  -- the operator's tree with the part just read, and the words behind it
+  -- the operator's tree with the part just read, and the words after it
   pub added : (g : Fragment) (more : List Item) (kind : Kind) (n : ℕ) (o : Operator)
       → slice_get def.operators n ≡ Some o → operator_of def g ≡ Some o → kind ≡ kinds.Phylum o.phylum
       → (xs : List Item) → left def g ≡ from_part xs → more ≡ part_items xs
@@ -65,7 +65,7 @@ module _ (def : Definition) (known : HasTokens def) where
       [] (ap (λ x. words (items_in x)) found) [] no_pieces true 0 one (at_first def n o)
 
   module _ (f : Fragment) (i : Item) (more : List Item) (kind : Kind) (a : PartBack def f (i ∷ more) kind) where
-    -- the next part's item stands first among those left
+    -- the next part's item is the first of those left
     pub next_left : Begins (left def f) i more
     next_left = subst (λ zs. Begins zs i more) (sym a.at_part)
         (one_left a.behind i more (a.parts ∙ ap part_items a.at_part))

@@ -1,4 +1,4 @@
--- The words and marks in front of the next part.
+-- The words and marks before the next part.
 use Rattle.std.proofs.Common.{◌≡◌, ℕ, Bool, false, List, [], ◌∷◌, ◌++◌, refl, ap, sym, subst, append_assoc, append-nil}
 use Rattle.std.specs.List.{AllByRecursion}
 use Rattle.psg_terms.specs.Names.{Name}
@@ -51,7 +51,7 @@ none_left (items.Line ∷ xs) e = none_left xs e
 none_left (items.In ∷ xs) e = none_left xs e
 none_left (items.Out ∷ xs) e = none_left xs e
 
--- the items begin with this one, and these parts are behind it
+-- the items begin with this one, and these parts are after it
 pub record Begins (zs : List Item) (i : Item) (more : List Item) : Type 0 where
   pub is : zs ≡ i ∷ behind_first zs
   pub behind : more ≡ part_items (behind_first zs)
@@ -78,7 +78,7 @@ one_left (items.Out ∷ xs) i more e = one_left xs i more e
 -- ---- past the words
 
 module _ (def : Definition) (n : ℕ) (o : Operator) (f : Fragment) (d : ℕ) where
-  -- what is read once the words and marks in front of the next part are
+  -- what is read once the words and marks before the next part are
   pub record Passed (xs : List Item) (ts : List Token) : Type 0 where
     pub first : Bool
     pub tokens : List Token

@@ -1,4 +1,4 @@
--- The characters of a word are scalar values.
+-- The characters of a word are scalar values, so its bytes are UTF-8.
 use Rattle.std.proofs.Common.{◌≡◌, ℕ, ◌<◌, ◌≤◌, true, false, not, cond, ◌&&◌, ◌||◌, ◌==◌, leb, ltb, List, [], ◌∷◌, inl, inr, refl, ap, ◌∙◌, subst, arith, le-ltb, lt-ltb, le-leb, leb-true, eqb-true}
 use Rattle.std.specs.Prelude.{IsTrue, nat_le}
 use Rattle.std.specs.List.{AllByRecursion}

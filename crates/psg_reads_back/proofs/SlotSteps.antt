@@ -165,7 +165,7 @@ module _ (def : Definition) (sound : IsSound def) (c : ClassFacts def) where
         (past_slot def a.n a.o t s.nesting s.tokens (front_at def known f i more kind a)
         (subst (λ l. TreeYields def t p l s.nesting s.tokens) (least_there p a) s.yields))
 
-    -- a list never stands in brackets
+    -- a list is never in brackets
     list_row : (l : ℕ) → ListBack def t l
         → row def f ++ (opening (is_below_level (operator_of def t) (wanted def f))
         ++ (row def t ++ (closing (is_below_level (operator_of def t) (wanted def f)) ++ words_behind def f)))

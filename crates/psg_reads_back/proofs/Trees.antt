@@ -1,4 +1,5 @@
--- Each printable tree's row has tokens that yield it.
+-- The row of each printable tree has tokens, and they yield the tree.
+-- One recursion over the tree shows what is claimed of its parts and of the whole; each step is a lemma of its own.
 use Rattle.std.proofs.Common.{inl, inr, List, [], ◌∷◌, refl}
 use Rattle.psg_grammar.specs.declared.types.Kind.{Kind}
 use Rattle.psg_grammar.specs.declared.types.Kind.TheVariants as kinds

@@ -10,9 +10,10 @@ ghost use Rattle.psg_reads_back.specs.Back.{ReadsBackIfPrintable};
 
 use psg_grammar::Definition;
 
-/// States that the text of each printable well-formed tree of a kind reads back as that tree, of its kind, at level 0, with
-/// brackets nested less deep than the tree is. The definition is of the class, and each of its fixed words is one token.
-/// The call does nothing.
+/// States that the text of each printable well-formed tree of a kind reads back as that tree, of its kind, at level 0,
+/// with brackets nested less deep than the tree is. The definition is of the class, and each of its fixed words is UTF-8
+/// and one token: other bytes can have the characters of a word, and their text is then read as another word. The call
+/// has no cost.
 pub fn reads_back(_definition: &Definition)
     requires sound { IsSound _definition.now }
     requires texts { AllByRecursion IsUtf8 (fixed_words _definition.now) }
