@@ -10,14 +10,14 @@ use Rattle.unicode_ident.proofs.Computing.{unicode_ident}
 use Rattle.psg_terms.specs.Names.{Name}
 use Rattle.psg_terms.specs.Words.{goes_on_word}
 use Rattle.psg_lexis.specs.Classes.{Chars, is_blank, is_symbol, Glue}
-use Rattle.psg_lexis.specs.Tokens.{bytes_of, IsToken, word, number, text, solo, symbol, hole, more, HasTokens, nothing, blank, next}
+use Rattle.psg_lexis.specs.Tokens.{bytes_of, IsToken, word, number, text, solo, symbol, hole, more, Begins, HasTokens, nothing, blank, next}
 use Rattle.psg_lexis.specs.declared.token.Token.{Token}
 use Rattle.psg_lexis.specs.declared.token.Spanned.{Spanned}
 use Rattle.psg_lexis.proofs.Joining.{IsApart, joined_tokens}
 use Rattle.psg_grammar.specs.declared.types.Item.{Item}
 use Rattle.psg_reads_back.specs.Rows.{Piece, token, mark}
-use Rattle.psg_reads_back.specs.Layout.{is_line, is_tight, is_space, gap, gap_after, glues, glues_first, laid, last_in, last_char, marks_behind, open_behind}
-use Rattle.psg_reads_back.proofs.RowEnds.{last_in-append, last_char-snoc}
+use Rattle.psg_reads_back.specs.Layout.{is_line, is_tight, is_space, gap, gap_after, glues, glues_first, laid, lead, last_in, last_char, marks_behind, open_behind}
+use Rattle.psg_reads_back.proofs.Rows.{last_in-append, last_char-snoc}
 
 -- ---- what does not glue
 
@@ -99,6 +99,17 @@ is_blank_gap : (b : ℕ) → IsGapByte b → is_blank b ≡ true
 is_blank_gap b (inl e) = ap is_blank e
 is_blank_gap b (inr e) = ap is_blank e
 
+-- what a row adds to the text of the row before it, without the gap in front of its first token
+abbrev pub bare : List Piece → List Piece → List ℕ
+bare before [] = []
+bare before (token t ∷ rest) = t ++ laid (before ++ token t ∷ []) rest
+bare before (mark i ∷ rest) = bare (before ++ mark i ∷ []) rest
+
+pub lead_and_bare : (before r : List Piece) → laid before r ≡ lead before r ++ bare before r
+lead_and_bare before [] = refl
+lead_and_bare before (token t ∷ rest) = refl
+lead_and_bare before (mark i ∷ rest) = lead_and_bare (before ++ mark i ∷ []) rest
+
 module _ (fixed : List Name) where
   skip_gap : (g bs : List ℕ) (at : ℕ) (ss : List Spanned) → Blanks g → HasTokens fixed (chars bs) (at + length g) ss
       → HasTokens fixed (chars (g ++ bs)) at ss
@@ -167,26 +178,23 @@ module _ (fixed : List Name) where
     pub are : HasTokens fixed (chars bs) at spans
     pub tokens : map (λ (s : Spanned). s.token) spans ≡ ts
 
-  pub laid_tokens : (before r : List Piece) (ts : List Token) → RowTokens r ts → (at : ℕ) → Lexed (laid before r) at ts
-  laid_tokens before _ _ no_pieces at =
-      record { spans = []; are = subst (λ cs. HasTokens fixed cs at []) (sym chars-nil) (nothing at); tokens = refl }
-  laid_tokens before _ _ (a_mark {i = i} {r = r} {ts = ts} y) at = laid_tokens (before ++ mark i ∷ []) r ts y at
-  laid_tokens before _ _ (a_token {w = w} {t = t} {r = r} {ts = ts} x y) at =
-      let g : List ℕ = gap before w in
-      let start : ℕ = at + length g in
+  -- a token in front of what else a row adds
+  word_tokens : (before r : List Piece) (w : List ℕ) (t : Token) (ts : List Token) → IsTextOf w t → RowTokens r ts
+      → (start : ℕ) → Lexed (laid (before ++ token w ∷ []) r) (start + bytes_of (chars w)) ts
+      → Lexed (w ++ laid (before ++ token w ∷ []) r) start (t ∷ ts)
+  word_tokens before r w t ts x y start l =
       let s : Spanned = record { token = t; start = start; end = start + bytes_of (chars w) } in
-      let l : Lexed (laid (before ++ token w ∷ []) r) (start + bytes_of (chars w)) ts =
-      laid_tokens (before ++ token w ∷ []) r ts y (start + bytes_of (chars w)) in
-      let one : HasTokens fixed (chars w) start (s ∷ []) =
-      next (chars w) start s []
-      (record {
+      let all : Begins fixed (chars w) start s =
+      record {
         front = chars w;
         rest = [];
         whole = sym (append-nil (chars w));
         token = x.alone;
         starts = refl;
         ends = refl;
-      }) (nothing (start + bytes_of (chars w))) in
+      } in
+      let one : HasTokens fixed (chars w) start (s ∷ []) =
+      next (chars w) start s [] all (nothing (start + bytes_of (chars w))) in
       let apart : IsApart (chars w) (chars (laid (before ++ token w ∷ []) r)) = record {
         apart = λ front behind c d e k h.
             starts_apart (before ++ token w ∷ []) (last_char 0 (chars w)) (last_in-append None before (token w ∷ [])) r
@@ -198,9 +206,34 @@ module _ (fixed : List Name) where
       in
       record {
         spans = s ∷ l.spans;
-        are = skip_gap g (w ++ laid (before ++ token w ∷ []) r) at (s ∷ l.spans)
-            (blanks_after (last_in None before) before (chars w))
-            (subst (λ cs. HasTokens fixed cs start (s ∷ l.spans))
-            (sym (chars-append w (laid (before ++ token w ∷ []) r) x.utf8)) joined);
+        are = subst (λ cs. HasTokens fixed cs start (s ∷ l.spans))
+            (sym (chars-append w (laid (before ++ token w ∷ []) r) x.utf8)) joined;
         tokens = ap (λ us. t ∷ us) l.tokens;
       }
+
+  no_tokens : (at : ℕ) → Lexed [] at []
+  no_tokens at =
+      record { spans = []; are = subst (λ cs. HasTokens fixed cs at []) (sym chars-nil) (nothing at); tokens = refl }
+
+  pub laid_tokens : (before r : List Piece) (ts : List Token) → RowTokens r ts → (at : ℕ) → Lexed (laid before r) at ts
+  laid_tokens before _ _ no_pieces at = no_tokens at
+  laid_tokens before _ _ (a_mark {i = i} {r = r} {ts = ts} y) at = laid_tokens (before ++ mark i ∷ []) r ts y at
+  laid_tokens before _ _ (a_token {w = w} {t = t} {r = r} {ts = ts} x y) at =
+      let g : List ℕ = gap before w in
+      let start : ℕ = at + length g in
+      let l : Lexed (w ++ laid (before ++ token w ∷ []) r) start (t ∷ ts) =
+      word_tokens before r w t ts x y start
+      (laid_tokens (before ++ token w ∷ []) r ts y (start + bytes_of (chars w))) in
+      record {
+        spans = l.spans;
+        are = skip_gap g (w ++ laid (before ++ token w ∷ []) r) at l.spans
+            (blanks_after (last_in None before) before (chars w)) l.are;
+        tokens = l.tokens;
+      }
+
+  -- what a row adds, without the gap in front of its first token, has the same tokens
+  pub bare_tokens : (before r : List Piece) (ts : List Token) → RowTokens r ts → (at : ℕ) → Lexed (bare before r) at ts
+  bare_tokens before _ _ no_pieces at = no_tokens at
+  bare_tokens before _ _ (a_mark {i = i} {r = r} {ts = ts} y) at = bare_tokens (before ++ mark i ∷ []) r ts y at
+  bare_tokens before _ _ (a_token {w = w} {t = t} {r = r} {ts = ts} x y) at =
+      word_tokens before r w t ts x y at (laid_tokens (before ++ token w ∷ []) r ts y (at + bytes_of (chars w)))

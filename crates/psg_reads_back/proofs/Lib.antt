@@ -1,4 +1,4 @@
-pub mod RowEnds
+pub mod Rows
 pub mod Lexing
 pub mod Scalars
 pub mod WordTokens
@@ -14,3 +14,4 @@ pub mod SlotSteps
 pub mod ListSteps
 pub mod Trees
 pub mod Printed
+pub mod Nodes

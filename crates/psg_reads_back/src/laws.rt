@@ -7,6 +7,7 @@ ghost use Rattle.psg_grammar.specs.WellFormed.{fixed_words};
 ghost use Rattle.psg_grammar.specs.Fragments.{Fragment};
 ghost use Rattle.psg_class.specs.Class.{IsClass};
 ghost use Rattle.psg_reads_back.specs.Back.{ReadsBackIfPrintable};
+ghost use Rattle.psg_reads_back.specs.Nodes.{NodesReadBackIfPrintable};
 
 use psg_grammar::Definition;
 
@@ -20,4 +21,14 @@ pub fn reads_back(_definition: &Definition)
     requires words { AllByRecursion IsFixedWord (fixed_words _definition.now) }
     requires class { IsClass _definition.now }
     ensures { (f : Fragment) → ReadsBackIfPrintable _definition.now f }
+{}
+
+/// States the same of each node of such a tree: the bytes on which it is written read as the node, at the level that is
+/// wanted at its place. The call has no cost.
+pub fn nodes_read_back(_definition: &Definition)
+    requires sound { IsSound _definition.now }
+    requires texts { AllByRecursion IsUtf8 (fixed_words _definition.now) }
+    requires words { AllByRecursion IsFixedWord (fixed_words _definition.now) }
+    requires class { IsClass _definition.now }
+    ensures { (f : Fragment) → NodesReadBackIfPrintable _definition.now f }
 {}
