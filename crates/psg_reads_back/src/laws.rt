@@ -1,4 +1,4 @@
-//! The law of printed trees, as the contract of a call that does nothing.
+//! The laws of printed trees, as contracts of calls that do nothing.
 ghost use Rattle.std.specs.Prelude.{IsUtf8};
 ghost use Rattle.std.specs.List.{AllByRecursion};
 ghost use Rattle.psg_lexis.specs.Tokens.{IsFixedWord};
