@@ -1,0 +1,17 @@
+pub mod Rows
+pub mod Lexing
+pub mod Scalars
+pub mod WordTokens
+pub mod NumberTokens
+pub mod QuoteTokens
+pub mod HoleTokens
+pub mod Building
+pub mod FixedTokens
+pub mod Passing
+pub mod Claims
+pub mod PartSteps
+pub mod SlotSteps
+pub mod ListSteps
+pub mod Trees
+pub mod Printed
+pub mod Nodes

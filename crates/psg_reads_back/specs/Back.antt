@@ -1,0 +1,20 @@
+-- That a printed tree reads back as itself.
+use Rattle.std.specs.Prelude.{ℕ, ◌<◌}
+use Rattle.psg_grammar.specs.declared.types.Kind.{Kind}
+use Rattle.psg_grammar.specs.declared.types.Definition.{Definition}
+use Rattle.psg_grammar.specs.Fragments.{Fragment}
+use Rattle.psg_grammar.specs.Printable.{IsPrintable}
+use Rattle.psg_grammar.specs.Sizes.{depth_of}
+use Rattle.psg_grammar.specs.WellFormed.{WellFormed}
+use Rattle.psg_reads_back.specs.Layout.{text_of}
+use Rattle.psg_class.specs.Texts.{ReadsAs}
+
+-- The text reads back as the tree, with brackets nested less deep than the tree is: each pair stands round a child. So a tree
+-- that is at most 200 deep is never refused for its brackets.
+pub record ReadsBack (def : Definition) (f : Fragment) (kind : Kind) : Type 0 where
+  pub nesting : ℕ
+  pub reads : ReadsAs def kind 0 (text_of def f) f nesting
+  pub shallow : nesting < depth_of f
+
+abbrev pub ReadsBackIfPrintable : Definition → Fragment → Type 0
+ReadsBackIfPrintable def f = IsPrintable f → (kind : Kind) → WellFormed def f kind → ReadsBack def f kind

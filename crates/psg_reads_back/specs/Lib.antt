@@ -1,0 +1,5 @@
+pub mod Rows
+pub mod Layout
+pub mod Back
+pub mod Spots
+pub mod Nodes
