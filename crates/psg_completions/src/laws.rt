@@ -1,0 +1,28 @@
+//! What follows for trees from true rows.
+ghost use Rattle.psg_grammar.specs.Sound.{IsSound};
+ghost use Rattle.psg_completions.specs.Conditions.{HasTrueRows};
+ghost use Rattle.psg_completions.specs.Completions.{OpenOrCompletable, RowOrTree, SeenOrPossible, ShownOrPossible};
+
+use psg_grammar::Definition;
+
+/// A term is a value of a hole row of a kind exactly where some complete legal tree of the kind has it.
+pub fn values_of_kinds(definition: &Definition)
+    requires sound { IsSound definition.now }
+    requires rows { HasTrueRows definition.now }
+    ensures { RowOrTree definition.now }
+{}
+
+/// A fragment is open exactly where it has a legal completion, with its unfinished lists and its free names.
+pub fn open_fragments(definition: &Definition)
+    requires sound { IsSound definition.now }
+    requires rows { HasTrueRows definition.now }
+    ensures { OpenOrCompletable definition.now }
+{}
+
+/// The values that are seen at observed nodes, or at one node of a fragment, are exactly those that it has in legal completions.
+pub fn seen_values(definition: &Definition)
+    requires sound { IsSound definition.now }
+    requires rows { HasTrueRows definition.now }
+    ensures observed { SeenOrPossible definition.now }
+    ensures shown { ShownOrPossible definition.now }
+{}
