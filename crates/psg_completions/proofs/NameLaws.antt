@@ -1,0 +1,112 @@
+-- Names among lists.
+use Rattle.std.proofs.Common.{◌≡◌, ◌⊎◌, inl, inr, ℕ, Bool, true, false, cond, ◌||◌, List, [], ◌∷◌, ◌++◌, bytes_eq, refl, ap, ap₂, sym, ◌∙◌, subst, true≢false}
+use Rattle.std.proofs.lemmas.Slice.Eq.{bytes_eq-Decides}
+use Rattle.psg_grammar.specs.Keys.{Key, outward, space_of}
+use Rattle.psg_terms.specs.Names.{is_among}
+
+-- the keys that pass the test
+abbrev pub only : (Key → Bool) → List Key → List Key
+only p [] = []
+only p (n ∷ ns) = cond (p n) (n ∷ only p ns) (only p ns)
+
+-- the keys without those of the other list
+abbrev pub without : List Key → List Key → List Key
+without [] gone = []
+without (n ∷ ns) gone = cond (is_among gone n) (without ns gone) (n ∷ without ns gone)
+
+pub bytes_same : (x y : Key) → bytes_eq x y ≡ true → x ≡ y
+bytes_same x y e = (bytes_eq-Decides x y).0 e
+
+pub bytes_refl : (x : Key) → bytes_eq x x ≡ true
+bytes_refl x = (bytes_eq-Decides x x).1 refl
+
+pub among_one : (x : Key) → is_among (x ∷ []) x ≡ true
+among_one x = ap (λ b. b || false) (bytes_refl x)
+
+-- a test comes out one way or the other
+pub either : (b : Bool) → (b ≡ true) ⊎ (b ≡ false)
+either true = inl refl
+either false = inr refl
+
+pub or_left : (a b : Bool) → a ≡ true → a || b ≡ true
+or_left true b e = refl
+or_left false b e = absurd (true≢false (sym e))
+
+pub or_right : (a b : Bool) → b ≡ true → a || b ≡ true
+or_right true b e = refl
+or_right false b e = e
+
+pub or_cases : (a b : Bool) → a || b ≡ true → (a ≡ true) ⊎ (b ≡ true)
+or_cases true b e = inl refl
+or_cases false b e = inr e
+
+pub among_left : (xs ys : List Key) (n : Key) → is_among xs n ≡ true → is_among (xs ++ ys) n ≡ true
+among_left [] ys n e = absurd (true≢false (sym e))
+among_left (x ∷ xs) ys n e = elim (or_cases (bytes_eq x n) (is_among xs n) e) [
+  | inl h ↦ or_left (bytes_eq x n) (is_among (xs ++ ys) n) h
+  | inr h ↦ or_right (bytes_eq x n) (is_among (xs ++ ys) n) (among_left xs ys n h)
+]
+
+pub among_right : (xs ys : List Key) (n : Key) → is_among ys n ≡ true → is_among (xs ++ ys) n ≡ true
+among_right [] ys n e = e
+among_right (x ∷ xs) ys n e = or_right (bytes_eq x n) (is_among (xs ++ ys) n) (among_right xs ys n e)
+
+pub among_without : (xs gone : List Key) (n : Key) → is_among xs n ≡ true → is_among gone n ≡ false → is_among (without xs gone) n ≡ true
+among_without [] gone n e h = e
+among_without (x ∷ xs) gone n e h = elim (or_cases (bytes_eq x n) (is_among xs n) e) [
+  | inl same ↦ here same
+  | inr later ↦ elim (either (is_among gone x)) [
+    | inl g ↦ subst (λ b. is_among (cond b (without xs gone) (x ∷ without xs gone)) n ≡ true) (sym g) (among_without xs gone n later h)
+    | inr g ↦ subst (λ b. is_among (cond b (without xs gone) (x ∷ without xs gone)) n ≡ true) (sym g) (or_right (bytes_eq x n) (is_among (without xs gone) n) (among_without xs gone n later h))
+  ]
+] where
+  here : bytes_eq x n ≡ true → is_among (without (x ∷ xs) gone) n ≡ true
+  here same =
+      let is : x ≡ n = bytes_same x n same in
+      let kept : is_among gone x ≡ false = subst (λ y. is_among gone y ≡ false) (sym is) h in
+      subst (λ b. is_among (cond b (without xs gone) (x ∷ without xs gone)) n ≡ true) (sym kept) (or_left (bytes_eq x n) (is_among (without xs gone) n) same)
+
+pub among_outward : (unfinished : ℕ → Bool) (declared xs : List Key) (n : Key) → is_among xs n ≡ true → unfinished (space_of n) ≡ false → is_among declared n ≡ false → is_among (outward unfinished declared xs) n ≡ true
+among_outward unfinished declared [] n e u h = e
+among_outward unfinished declared (x ∷ xs) n e u h = elim (or_cases (bytes_eq x n) (is_among xs n) e) [
+  | inl same ↦ here same
+  | inr later ↦ go (among_outward unfinished declared xs n later u h) (unfinished (space_of x) || is_among declared x)
+] where
+  go : is_among (outward unfinished declared xs) n ≡ true → (b : Bool) → is_among (cond b (outward unfinished declared xs) (x ∷ outward unfinished declared xs)) n ≡ true
+  go k true = k
+  go k false = or_right (bytes_eq x n) (is_among (outward unfinished declared xs) n) k
+
+  here : bytes_eq x n ≡ true → is_among (outward unfinished declared (x ∷ xs)) n ≡ true
+  here same =
+      let is : x ≡ n = bytes_same x n same in
+      let kept : (unfinished (space_of x) || is_among declared x) ≡ false = subst (λ y. (unfinished (space_of y) || is_among declared y) ≡ false) (sym is) (ap₂ (λ a b. a || b) u h) in
+      subst (λ b. is_among (cond b (outward unfinished declared xs) (x ∷ outward unfinished declared xs)) n ≡ true) (sym kept) (or_left (bytes_eq x n) (is_among (outward unfinished declared xs) n) same)
+
+pub none_both : (xs ys : List Key) (n : Key) → is_among xs n ≡ false → is_among ys n ≡ false → is_among (xs ++ ys) n ≡ false
+none_both [] ys n a b = b
+none_both (x ∷ xs) ys n a b = elim (either (bytes_eq x n)) [
+  | inl t ↦ absurd (true≢false (sym (ap (λ c. c || is_among xs n) t) ∙ a))
+  | inr f ↦ ap (λ c. c || is_among (xs ++ ys) n) f ∙ none_both xs ys n (sym (ap (λ c. c || is_among xs n) f) ∙ a) b
+]
+
+pub among_parts : (xs ys : List Key) (m : Key) → is_among (xs ++ ys) m ≡ true → (is_among xs m ≡ true) ⊎ (is_among ys m ≡ true)
+among_parts [] ys m e = inr e
+among_parts (x ∷ xs) ys m e = elim (or_cases (bytes_eq x m) (is_among (xs ++ ys) m) e) [
+  | inl a ↦ inl (or_left (bytes_eq x m) (is_among xs m) a)
+  | inr a ↦ elim (among_parts xs ys m a) [
+    | inl b ↦ inl (or_right (bytes_eq x m) (is_among xs m) b)
+    | inr b ↦ inr b
+  ]
+]
+
+pub none_left : (xs ys : List Key) (m : Key) → is_among (xs ++ ys) m ≡ false → is_among xs m ≡ false
+none_left xs ys m e = elim (either (is_among xs m)) [
+  | inl t ↦ absurd (true≢false (sym (among_left xs ys m t) ∙ e))
+  | inr f ↦ f
+]
+
+pub none_right : (xs ys : List Key) (m : Key) → is_among (xs ++ ys) m ≡ false → is_among ys m ≡ false
+none_right xs ys m e = elim (either (is_among ys m)) [
+  | inl t ↦ absurd (true≢false (sym (among_right xs ys m t) ∙ e))
+  | inr f ↦ f
+]
