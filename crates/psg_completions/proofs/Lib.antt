@@ -6,3 +6,7 @@ pub mod Tops
 pub mod Quiet
 pub mod Covering
 pub mod Growing
+pub mod Override
+pub mod Over
+pub mod LongNames
+pub mod FreshNames
