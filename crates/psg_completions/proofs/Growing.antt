@@ -28,7 +28,7 @@ use Rattle.psg_grammar.specs.declared.types.Kind.TheVariants as kinds
 use Rattle.psg_grammar.specs.declared.types.Item.TheVariants as items
 
 -- what is nowhere observed is not observed at its top
-unobserved : (t : Fragment) → IsPlain t → IsUnobserved t
+pub unobserved : (t : Fragment) → IsPlain t → IsUnobserved t
 unobserved (hole p) h = tt
 unobserved (ending l u) h = tt
 unobserved (cell l e r) h = tt

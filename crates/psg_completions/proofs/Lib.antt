@@ -10,3 +10,12 @@ pub mod Override
 pub mod Over
 pub mod LongNames
 pub mod FreshNames
+pub mod Completing
+pub mod RowValues
+pub mod Usable
+pub mod Renamed
+pub mod Taken
+pub mod Declared
+pub mod ElementRows
+pub mod Completable
+pub mod Law
