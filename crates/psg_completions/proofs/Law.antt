@@ -1,13 +1,15 @@
 -- The laws of completions.
-use Rattle.std.proofs.Common.{[]}
+use Rattle.std.proofs.Common.{[], ◌∷◌}
 use Rattle.psg_grammar.specs.declared.types.Definition.{Definition}
 use Rattle.psg_grammar.specs.Sound.{IsSound}
+use Rattle.psg_grammar.specs.Paths.{observe}
 use Rattle.psg_grammar.proofs.SoundParts.{items_in, elements_in, phylum_in}
 use Rattle.psg_grammar.proofs.Closed.{closed}
 use Rattle.psg_completions.specs.Conditions.{HasTrueRows}
-use Rattle.psg_completions.specs.Completions.{RowOrTree, OpenOrCompletable, SeenOrPossible}
+use Rattle.psg_completions.specs.Completions.{RowOrTree, OpenOrCompletable, SeenOrPossible, ShownOrPossible}
 use Rattle.psg_completions.proofs.Covering.{covered_tree}
 use Rattle.psg_completions.proofs.Quiet.{quiet}
+use Rattle.psg_completions.proofs.Observing.{observe_fits}
 use Rattle.psg_completions.proofs.Taken.{taken}
 use Rattle.psg_completions.proofs.Completable.{completable_of_open}
 use Rattle.psg_completions.proofs.Completing.{IsCovered, open_of_completable}
@@ -30,3 +32,6 @@ module _ (def : Definition) (sound : IsSound def) (true_rows : HasTrueRows def) 
     (λ (c, s). completable_of_open def sound true_rows f kind w values (record { distinct = s.distinct; choice = c; outside = s.outside; entities = s.entities; value = s.value; judged = s.judged })),
     (λ h. let o = open_of_completable def covering f kind w values h in (o.choice, record { distinct = o.distinct; outside = o.outside; entities = o.entities; value = o.value; judged = o.judged })),
   )
+
+  pub shown_or_possible : ShownOrPossible def
+  shown_or_possible f kind w path node at u = seen_or_possible (observe path f) kind (observe_fits def path f kind node at w.0) (u ∷ [])

@@ -18,4 +18,5 @@ pub mod Taken
 pub mod Declared
 pub mod ElementRows
 pub mod Completable
+pub mod Observing
 pub mod Law
