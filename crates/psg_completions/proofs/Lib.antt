@@ -20,3 +20,6 @@ pub mod ElementRows
 pub mod Completable
 pub mod Observing
 pub mod Law
+pub mod CaseNumerals
+pub mod CaseTrueRows
+pub mod CaseUnfinished
