@@ -185,32 +185,72 @@ space_sort = (the_space, refl, refl)
 
 zero_sound : IsOperator numerals op_zero
 zero_sound = record {
-  name = refl; level = tt; sort = 1; phylum_sort = num_sort; few_items = lit< tt; few_rows = lit< tt; each_item = (tt, tt); columns = []; are_columns = refl;
+  name = refl;
+  level = tt;
+  sort = 1;
+  phylum_sort = num_sort;
+  few_items = lit< tt;
+  few_rows = lit< tt;
+  each_item = (tt, tt);
+  columns = [];
+  are_columns = refl;
   each_row = (record { of_head = none_term; of_columns = tt; written = tt }, tt);
 }
 
 succ_sound : IsOperator numerals op_succ
 succ_sound = record {
-  name = refl; level = tt; sort = 1; phylum_sort = num_sort; few_items = lit< tt; few_rows = lit< tt; each_item = (tt, ((1, num_sort), tt)); columns = 1 ∷ [];
-  are_columns = (1, [], refl, num_sort, refl); each_row = (record { of_head = next_term; of_columns = (any_sorted, tt); written = (refl, tt) }, tt);
+  name = refl;
+  level = tt;
+  sort = 1;
+  phylum_sort = num_sort;
+  few_items = lit< tt;
+  few_rows = lit< tt;
+  each_item = (tt, ((1, num_sort), tt));
+  columns = 1 ∷ [];
+  are_columns = (1, [], refl, num_sort, refl);
+  each_row = (record { of_head = next_term; of_columns = (any_sorted, tt); written = (refl, tt) }, tt);
 }
 
 def_sound : IsOperator numerals op_def
 def_sound = record {
-  name = refl; level = tt; sort = 0; phylum_sort = item_sort; few_items = lit< tt; few_rows = lit< tt; each_item = (tt, ((1, space_sort), ((1, num_sort), tt))); columns = 1 ∷ 1 ∷ [];
-  are_columns = (1, 1 ∷ [], refl, space_sort, (1, [], refl, num_sort, refl)); each_row = (record { of_head = ok_term; of_columns = (any_sorted, (any_sorted, tt)); written = (refl, (refl, tt)) }, tt);
+  name = refl;
+  level = tt;
+  sort = 0;
+  phylum_sort = item_sort;
+  few_items = lit< tt;
+  few_rows = lit< tt;
+  each_item = (tt, ((1, space_sort), ((1, num_sort), tt)));
+  columns = 1 ∷ 1 ∷ [];
+  are_columns = (1, 1 ∷ [], refl, space_sort, (1, [], refl, num_sort, refl));
+  each_row = (record { of_head = ok_term; of_columns = (any_sorted, (any_sorted, tt)); written = (refl, (refl, tt)) }, tt);
 }
 
 use_sound : IsOperator numerals op_use
 use_sound = record {
-  name = refl; level = tt; sort = 0; phylum_sort = item_sort; few_items = lit< tt; few_rows = lit< tt; each_item = (tt, ((1, space_sort), tt)); columns = 1 ∷ [];
-  are_columns = (1, [], refl, space_sort, refl); each_row = (record { of_head = ok_term; of_columns = (none_sorted, tt); written = (tt, tt) }, tt);
+  name = refl;
+  level = tt;
+  sort = 0;
+  phylum_sort = item_sort;
+  few_items = lit< tt;
+  few_rows = lit< tt;
+  each_item = (tt, ((1, space_sort), tt));
+  columns = 1 ∷ [];
+  are_columns = (1, [], refl, space_sort, refl);
+  each_row = (record { of_head = ok_term; of_columns = (none_sorted, tt); written = (tt, tt) }, tt);
 }
 
 blk_sound : IsOperator numerals op_blk
 blk_sound = record {
-  name = refl; level = tt; sort = 0; phylum_sort = item_sort; few_items = lit< tt; few_rows = lit< tt; each_item = (tt, ((0, items_sort), tt)); columns = 0 ∷ [];
-  are_columns = (0, [], refl, items_sort, refl); each_row = (record { of_head = ok_term; of_columns = (ok_sorted, tt); written = (tt, tt) }, tt);
+  name = refl;
+  level = tt;
+  sort = 0;
+  phylum_sort = item_sort;
+  few_items = lit< tt;
+  few_rows = lit< tt;
+  each_item = (tt, ((0, items_sort), tt));
+  columns = 0 ∷ [];
+  are_columns = (0, [], refl, items_sort, refl);
+  each_row = (record { of_head = ok_term; of_columns = (ok_sorted, tt); written = (tt, tt) }, tt);
 }
 
 zero_specimen : IsSpecimen numerals (kinds.Phylum 0) zero_tree
@@ -219,19 +259,28 @@ zero_specimen = record { fits = (refl, op_zero, refl, refl, refl); rests = tt; f
 succ_specimen : IsSpecimen numerals (kinds.Phylum 0) succ_tree
 succ_specimen = record {
   fits = (kinds.Phylum 0, kinds.Phylum 0 ∷ [], (refl, op_succ, refl, refl, refl), ((λ h. h), refl, refl));
-  rests = (tt, tt); few_elements = (tt, tt); names = (tt, tt); places = ((1, num_sort, any_term), tt);
+  rests = (tt, tt);
+  few_elements = (tt, tt);
+  names = (tt, tt);
+  places = ((1, num_sort, any_term), tt);
 }
 
 def_zero : IsSpecimen numerals (kinds.Phylum 1) (def_tree zero_tree)
 def_zero = record {
   fits = (kinds.Phylum 0, [], inr (0, (refl, op_def, refl, refl, refl)), (refl, op_zero, refl, refl, refl));
-  rests = (tt, (tt, tt)); few_elements = (tt, tt); names = ((tt, refl), tt); places = tt;
+  rests = (tt, (tt, tt));
+  few_elements = (tt, tt);
+  names = ((tt, refl), tt);
+  places = tt;
 }
 
 def_succ : IsSpecimen numerals (kinds.Phylum 1) (def_tree succ_tree)
 def_succ = record {
   fits = (kinds.Phylum 0, kinds.Phylum 0 ∷ [], inr (0, (refl, op_def, refl, refl, refl)), (kinds.Phylum 0, kinds.Phylum 0 ∷ [], (refl, op_succ, refl, refl, refl), ((λ h. h), refl, refl)));
-  rests = (tt, ((tt, tt), tt)); few_elements = (tt, (tt, tt)); names = ((tt, refl), (tt, tt)); places = ((1, num_sort, any_term), tt);
+  rests = (tt, ((tt, tt), tt));
+  few_elements = (tt, (tt, tt));
+  names = ((tt, refl), (tt, tt));
+  places = ((1, num_sort, any_term), tt);
 }
 
 use_specimen : IsSpecimen numerals (kinds.Phylum 1) use_tree
@@ -252,7 +301,13 @@ sound = record {
   phyla = (record { name = refl; sort = lit< tt }, (record { name = refl; sort = lit< tt }, tt));
   lists = (
     record {
-      name = refl; sort = lit< tt; element = 0; element_sort = item_sort; few_nils = lit< tt; few_cells = lit< tt; nils = (ok_term, tt);
+      name = refl;
+      sort = lit< tt;
+      element = 0;
+      element_sort = item_sort;
+      few_nils = lit< tt;
+      few_cells = lit< tt;
+      nils = (ok_term, tt);
       cells = (record { of_head = ok_term; of_columns = (ok_sorted, (ok_sorted, tt)); written = (tt, (tt, tt)) }, tt);
     },
     tt,

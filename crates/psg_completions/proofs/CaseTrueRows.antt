@@ -72,7 +72,7 @@ items_value f ground = record { row = hole_items; chosen = refl; same = refl; va
 
 -- ---- hole rows miss no value
 
-the_one : {X : Type 0} (x y : X) (k : ℕ) → slice_get (x ∷ []) k ≡ Some y → x ≡ y
+pub the_one : {X : Type 0} (x y : X) (k : ℕ) → slice_get (x ∷ []) k ≡ Some y → x ≡ y
 the_one x y zero e = cc
 the_one x y (suc k) e = absurd (none-some y e)
 
@@ -121,10 +121,15 @@ covered_cell l k list at row chosen a b = (
 cases : (r : ℕ) → HasCases numerals r
 cases zero row e =
     let q : hole_num ≡ row = cc in
-    subst (AreCases sig) q (inr (1, 1, refl, (
-      record { made = record { name = codes "z"; arguments = []; sort = 1 }; found = refl; arguments = []; term_is = refl; different = tt },
-      (record { made = record { name = codes "s"; arguments = 1 ∷ []; sort = 1 }; found = refl; arguments = any ∷ []; term_is = refl; different = (inr (1, refl, refl, tt), tt) }, tt),
-    )))
+    subst (AreCases sig) q (inr (
+      1,
+      1,
+      refl,
+      (
+        record { made = record { name = codes "z"; arguments = []; sort = 1 }; found = refl; arguments = []; term_is = refl; different = tt },
+        (record { made = record { name = codes "s"; arguments = 1 ∷ []; sort = 1 }; found = refl; arguments = any ∷ []; term_is = refl; different = (inr (1, refl, refl, tt), tt) }, tt),
+      ),
+    ))
 cases (suc zero) row e = let q : hole_item ≡ row = cc in subst (AreCases sig) q (inl (case_of ok use_tree, refl, refl))
 cases (suc (suc zero)) row e = let q : hole_items ≡ row = cc in subst (AreCases sig) q (inl (case_of ok empty_tree, refl, refl))
 cases (suc (suc (suc r))) row e = absurd (none-some row e)

@@ -23,3 +23,4 @@ pub mod Law
 pub mod CaseNumerals
 pub mod CaseTrueRows
 pub mod CaseUnfinished
+pub mod ByRows

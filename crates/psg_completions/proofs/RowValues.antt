@@ -65,37 +65,39 @@ module _ (def : Definition) where
         let row = each_at (IsRow def list.sort.0 (whole.element ∷ list.sort.0 ∷ [])) list.cell_rows whole.cells clear.number clear.row clear.chosen in
         let columns = subst (λ cs. HaveSorts def.signature cs (whole.element ∷ list.sort.0 ∷ [])) clear.columns row.of_columns in
         let same : whole.element ≡ e = one_sort (kinds.Phylum list.element) whole.element e whole.element_sort of_kind in
-        let (g, grounding, is) = instance_value def.signature sound.signature clear.element value e (subst (HasSort def.signature clear.element) same columns.0) sorted written clear.is f ground in
-        (clear.number, elim clear.rest_is [
-          | inl (s, n, rest_is, absent) ↦
-              let of_rest = subst (λ t. HasSort def.signature t list.sort.0) rest_is columns.1.0 in
-              let t = override g s n u in
-              let here : substitute (override g s n u) clear.rest ≡ u = ap (substitute (override g s n u)) rest_is ∙ override_same g s n u in
-              let there : substitute (override g s n u) clear.element ≡ substitute f value = absent_same g s n u clear.element absent ∙ sym is in
-              record {
-                kind = list;
-                list = at;
-                row = clear.row;
-                chosen = clear.chosen;
-                value = record {
-                  terms = override g s n u;
-                  grounding = override_grounding def.signature g s n u grounding gu (subst (HasSort def.signature u) (sym of_rest.2) su);
-                  head = sym (ap (substitute (override g s n u)) clear.head ∙ here);
-                  rest = sym (ap (map (substitute (override g s n u))) clear.columns ∙ ap₂ (λ a b. a ∷ b ∷ []) there here);
-                };
-              }
-          | inr (c, rest_is, only) ↦
-              let here : substitute g clear.rest ≡ u = ap (substitute g) rest_is ∙ sym (one_constant def.signature sound.signature list.sort.0 c u (sort_in def.signature sound.signature u list.sort.0 gu su) only gu su) in
-              record {
-                kind = list;
-                list = at;
-                row = clear.row;
-                chosen = clear.chosen;
-                value = record {
-                  terms = g;
-                  grounding = grounding;
-                  head = sym (ap (substitute g) clear.head ∙ here);
-                  rest = sym (ap (map (substitute g)) clear.columns ∙ ap₂ (λ a b. a ∷ b ∷ []) (sym is) here);
-                };
-              }
-        ])
+        let (g, grounding, is) = instance_value def.signature sound.signature clear.element value e (subst (HasSort def.signature clear.element) same columns.0) sorted written clear.is f ground in (
+          clear.number,
+          elim clear.rest_is [
+            | inl (s, n, rest_is, absent) ↦
+                let of_rest = subst (λ t. HasSort def.signature t list.sort.0) rest_is columns.1.0 in
+                let t = override g s n u in
+                let here : substitute (override g s n u) clear.rest ≡ u = ap (substitute (override g s n u)) rest_is ∙ override_same g s n u in
+                let there : substitute (override g s n u) clear.element ≡ substitute f value = absent_same g s n u clear.element absent ∙ sym is in
+                record {
+                  kind = list;
+                  list = at;
+                  row = clear.row;
+                  chosen = clear.chosen;
+                  value = record {
+                    terms = override g s n u;
+                    grounding = override_grounding def.signature g s n u grounding gu (subst (HasSort def.signature u) (sym of_rest.2) su);
+                    head = sym (ap (substitute (override g s n u)) clear.head ∙ here);
+                    rest = sym (ap (map (substitute (override g s n u))) clear.columns ∙ ap₂ (λ a b. a ∷ b ∷ []) there here);
+                  };
+                }
+            | inr (c, rest_is, only) ↦
+                let here : substitute g clear.rest ≡ u = ap (substitute g) rest_is ∙ sym (one_constant def.signature sound.signature list.sort.0 c u (sort_in def.signature sound.signature u list.sort.0 gu su) only gu su) in
+                record {
+                  kind = list;
+                  list = at;
+                  row = clear.row;
+                  chosen = clear.chosen;
+                  value = record {
+                    terms = g;
+                    grounding = grounding;
+                    head = sym (ap (substitute g) clear.head ∙ here);
+                    rest = sym (ap (map (substitute g)) clear.columns ∙ ap₂ (λ a b. a ∷ b ∷ []) (sym is) here);
+                  };
+                }
+          ],
+        )

@@ -5,4 +5,5 @@ pub mod Places
 pub mod General
 pub mod Elements
 pub mod Conditions
+pub mod SpecimenRows
 pub mod Completions

@@ -1,6 +1,7 @@
 //! What follows for trees from true rows.
 ghost use Rattle.psg_grammar.specs.Sound.{IsSound};
 ghost use Rattle.psg_completions.specs.Conditions.{HasTrueRows};
+ghost use Rattle.psg_completions.specs.SpecimenRows.{CaseByRows, DeclareByRows};
 ghost use Rattle.psg_completions.specs.Completions.{OpenOrCompletable, RowOrTree, SeenOrPossible, ShownOrPossible};
 
 use psg_grammar::Definition;
@@ -25,4 +26,12 @@ pub fn seen_values(definition: &Definition)
     requires rows { HasTrueRows definition.now }
     ensures observed { SeenOrPossible definition.now }
     ensures shown { ShownOrPossible definition.now }
+{}
+
+/// A specimen shows all values of its case, or of its declare row, exactly where the row of their terms is an instance of a row
+/// of the specimen's relation, which has a column for each hole place.
+pub fn general_specimens(definition: &Definition)
+    requires { IsSound definition.now }
+    ensures cases { CaseByRows definition.now }
+    ensures declares { DeclareByRows definition.now }
 {}
