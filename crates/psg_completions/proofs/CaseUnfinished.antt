@@ -197,18 +197,18 @@ abbrev key : Name → Key
 key x = 0 ∷ x
 
 -- what the definition gives the name, and what the use in the block needs
-given : (g : Entities) (x : Name) (c : (ℕ × (ℕ × ℕ))) (v : Term) (before after : List Term)
+given : (g : Entities) (x : Name) (c : Choice (with_child (with_name (operator 2) x) (with_child (operator 1) (operator 0)))) (v : Term) (before after : List Term)
     → Holds numerals g (with_child (with_name (operator 2) x) (with_child (operator 1) (operator 0))) c [] v before after → (w : Term) × (g (key x) ≡ next w)
-given g x c v before after (u, mid, i, (same, def_row), ents, agree, (w, m, j, (s, succ_row), rest)) = (w, def_says c.0 v (g (key x)) u def_row ∙ succ_says c.1.0 u w succ_row)
+given g x c v before after (u, mid, i, (same, def_row), ents, agree, (w, m, j, (s, succ_row), are, agrees, end)) = (w, def_says c.0 v (g (key x)) u def_row ∙ succ_says c.1.0 u w succ_row)
 
-needed : (g : Entities) (x : Name) (c : (ℕ × (ℕ × (ℕ × ℕ)))) (v : Term) (before after : List Term) → Holds numerals g (part x false) c [] v before after → g (key x) ≡ none
-needed g x c v before after (u, mid, i, blk, ents, agree, (no, first, others, m, j, row, are, same, (s, use_row), end)) =
-    sym (ap (λ (h : Entities). h (key x)) (same ∙ agree)) ∙ use_says c.1.1.0 first (j (key x)) use_row
+needed : (g : Entities) (x : Name) (c : Choice (part x false)) (v : Term) (before after : List Term) → Holds numerals g (part x false) c [] v before after → g (key x) ≡ none
+needed g x c v before after (u, mid, i, blk, ents, agree, (empty, first, others, m, j, row, are, same, (s, use_row), end)) =
+    sym (ap (λ (h : Entities). h (key x)) (same ∙ agree)) ∙ use_says c.1.1 first (j (key x)) use_row
 
 wrong_tree : (x : Name) → IsOpen numerals (tree x false) → ⊥
 wrong_tree x o = go o.judged.inner o.choice o.value o.judged.holds where
   go : (g : Entities) (c : Choice (tree x false)) (v : Term) → Holds numerals g (tree x false) c [] v [] [] → ⊥
-  go g c v (no, first, others, mid, i, row, ents, same, there, (no', first', others', mid', j, row', ents', agree, inside_it, end)) =
+  go g c v (empty, first, others, mid, i, row, ents, same, there, (empty', first', others', mid', j, row', ents', agree, inside_it, end)) =
       let (w, gives) = given i x c.1 first [] mid there in
       let needs = needed j x c.2.1 first' mid mid' inside_it in
       let clash : none ≡ next w = sym needs ∙ agree (key x) refl refl ∙ sym (ap (λ (h : Entities). h (key x)) same) ∙ gives in
