@@ -1,8 +1,7 @@
 -- Whether a specimen is general enough, by the rows of its relation.
 use Rattle.std.proofs.Common.{◌≡◌, ℕ, List, [], ◌∷◌, map, refl, ap, sym, ◌∙◌, subst}
 use Rattle.psg_terms.specs.Terms.{Term}
-use Rattle.psg_terms.specs.Instances.{substitute}
-use Rattle.psg_terms.specs.Instances.{Substitution}
+use Rattle.psg_terms.specs.Instances.{substitute, Substitution}
 use Rattle.psg_terms.proofs.RelationLaws.{general_by_rows}
 use Rattle.psg_grammar.specs.declared.types.SpecimenHole.{SpecimenHole}
 use Rattle.psg_grammar.specs.declared.types.Specimen.{Specimen}

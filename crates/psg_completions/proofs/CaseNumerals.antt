@@ -2,7 +2,7 @@
 -- the numeral zero, and a block keeps what its items declare.
 use Rattle.std.proofs.Common.{◌≡◌, inl, inr, ℕ, zero, suc, ◌<◌, true, false, List, [], ◌∷◌, codes, Some, None, refl, subst, lit<, lit≤, arith}
 use Rattle.psg_terms.specs.Terms.{Term, variable, symbol, apply}
-use Rattle.psg_terms.specs.Signature.{Signature, Symbol, HasSort, only_constructor}
+use Rattle.psg_terms.specs.Signature.{Signature, HasSort, only_constructor}
 use Rattle.psg_terms.specs.Instances.{IsGround}
 use Rattle.psg_terms.specs.Sound.{IsSound as IsSoundSignature}
 use Rattle.psg_terms.specs.declared.sorts.SortId.{SortId}

@@ -1,11 +1,10 @@
 -- The rows of the language of numerals and blocks are true of its trees.
-use Rattle.std.proofs.Common.{◌≡◌, inl, inr, ℕ, zero, suc, ◌<◌, true, false, List, [], ◌∷◌, map, slice_get, codes, Some, None, refl, ap, sym, ◌∙◌, subst, lit<, arith}
+use Rattle.std.proofs.Common.{◌≡◌, inl, inr, ℕ, zero, suc, ◌<◌, [], ◌∷◌, slice_get, codes, Some, refl, ap, sym, ◌∙◌, subst, lit<, arith}
 use Rattle.std.proofs.lemmas.Option.{none-some}
-use Rattle.psg_terms.specs.Terms.{Term, variable, symbol}
-use Rattle.psg_terms.specs.Signature.{Signature, HasSort, constructors_of}
+use Rattle.psg_terms.specs.Terms.{Term, variable}
+use Rattle.psg_terms.specs.Signature.{HasSort, constructors_of}
 use Rattle.psg_terms.specs.Instances.{Substitution, substitute, IsGround, IsGrounding}
 use Rattle.psg_terms.specs.Relations.{IsIn, first, later}
-use Rattle.psg_grammar.specs.declared.types.Kind.{Kind}
 use Rattle.psg_grammar.specs.declared.types.Kind.TheVariants as kinds
 use Rattle.psg_grammar.specs.declared.types.Operator.{Operator}
 use Rattle.psg_grammar.specs.declared.types.Row.{Row}
@@ -15,11 +14,9 @@ use Rattle.psg_grammar.specs.declared.types.HoleRow.{HoleRow}
 use Rattle.psg_grammar.specs.declared.types.DeclareRow.{DeclareRow}
 use Rattle.psg_grammar.specs.declared.types.Space.{Space}
 use Rattle.psg_grammar.specs.declared.types.SpecimenHole.{SpecimenHole}
-use Rattle.psg_grammar.specs.declared.types.Specimen.{Specimen}
 use Rattle.psg_grammar.specs.Keys.{space_of}
 use Rattle.psg_grammar.specs.Legal.{AreEntities}
 use Rattle.psg_grammar.specs.Open.{IsOfHoleRow}
-use Rattle.psg_grammar.specs.Specimens.{holes_of}
 use Rattle.psg_completions.specs.Cases.{HasCases, AreCases}
 use Rattle.psg_completions.specs.Covered.{IsCoveredRow, IsCoveredNil, IsCoveredCell}
 use Rattle.psg_completions.specs.Places.{IsPart, IsOfOneRow, IsSmallerPlace, IsOpenPlace}

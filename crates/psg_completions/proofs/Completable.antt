@@ -1,12 +1,9 @@
 -- An open fragment has a legal completion.
 use Rattle.std.proofs.Common.{◌≡◌, inl, inr, ℕ, ◌+◌, ◌≤◌, Bool, true, false, cond, ◌||◌, List, [], ◌∷◌, slice_get, bytes_eq, Some, refl, ap, sym, ◌∙◌, subst, true≢false, arith}
-use Rattle.psg_terms.specs.Terms.{Term, symbol}
-use Rattle.psg_terms.specs.Signature.{HasSort, only_constructor}
-use Rattle.psg_terms.specs.Instances.{IsGround}
+use Rattle.psg_terms.specs.Terms.{Term}
 use Rattle.psg_grammar.specs.declared.types.Kind.{Kind}
 use Rattle.psg_grammar.specs.declared.types.Item.{Item}
 use Rattle.psg_grammar.specs.declared.types.ListKind.{ListKind}
-use Rattle.psg_grammar.specs.declared.types.DeclareRow.{DeclareRow}
 use Rattle.psg_grammar.specs.declared.types.Definition.{Definition}
 use Rattle.psg_grammar.specs.Fragments.{Fragment, hole, ending, cell, operator, with_child, with_name, with_number, with_text, anything, observed}
 use Rattle.psg_grammar.specs.Keys.{Key, space_of, name_in}
@@ -15,21 +12,19 @@ use Rattle.psg_completions.specs.Counts.{one_if, count}
 use Rattle.psg_grammar.specs.Lookups.{is_scope, key_of, key_at}
 use Rattle.psg_grammar.specs.Declaring.{is_declaring}
 use Rattle.psg_grammar.specs.Regions.{declared_inside, declared_in}
-use Rattle.psg_grammar.specs.WellFormed.{Fits, WellFormed}
+use Rattle.psg_grammar.specs.WellFormed.{Fits, IsName}
 use Rattle.psg_grammar.specs.Fillings.{Fills}
-use Rattle.psg_grammar.specs.Legal.{Entities, AreEntities, IsCompletableAs, IsOfTerm}
-use Rattle.psg_grammar.specs.Open.{IsOpenAs, IsOfHoleRow}
+use Rattle.psg_grammar.specs.Legal.{Entities, AreEntities, IsCompletableAs}
+use Rattle.psg_grammar.specs.Open.{IsOpenAs}
 use Rattle.psg_grammar.specs.Placed.{FitsPlaces}
-use Rattle.psg_completions.proofs.Usable.{IsUsableDeclare}
 use Rattle.psg_completions.proofs.NameLaws.{either, bytes_same, bytes_refl, or_cases, among_left, among_right, among_one, among_parts}
 use Rattle.psg_completions.proofs.Frames.{mixed, mixed_entities}
-use Rattle.psg_completions.proofs.Counting.{AllAre, once_of, of_once}
-use Rattle.psg_completions.proofs.Growing.{Element, CanGrow, Grown, Child, grow_whole}
-use Rattle.psg_grammar.specs.declared.types.Space.{Space}
+use Rattle.psg_completions.proofs.Counting.{Renaming, AllAre, once_of, of_once}
+use Rattle.psg_completions.proofs.Growth.{Element, CanGrow, Grown, Child, Supplied}
+use Rattle.psg_completions.proofs.Growing.{grow_whole}
 use Rattle.psg_completions.proofs.Tops.{next_is}
 use Rattle.psg_completions.proofs.FreshNames.{all_names}
 use Rattle.psg_grammar.specs.Sound.{IsSound}
-use Rattle.psg_grammar.specs.WellFormed.{IsName}
 use Rattle.psg_completions.specs.Conditions.{HasTrueRows}
 use Rattle.psg_completions.proofs.Usable.{usable_declare}
 use Rattle.psg_completions.proofs.ElementRows.{value_sorted, declare_row}
@@ -83,6 +78,10 @@ once_all mine (x ∷ xs) h = go (once_all mine xs (λ n e. h n (later (bytes_eq 
   go k true = k
   go k false = (h x (ap (λ b. b || is_among xs x) (bytes_refl x)), k)
 
+-- keys that stay as they are
+abbrev unchanged : (Key → Bool) → Renaming
+unchanged mine = record { to = λ n. n; back = λ n. n; mine = mine }
+
 one_of : (x n : Key) → is_among (x ∷ []) n ≡ true → x ≡ n
 one_of x n e = elim (or_cases (bytes_eq x n) false e) [ inl t ↦ bytes_same x n t | inr t ↦ absurd (true≢false (sym t)) ]
 
@@ -128,7 +127,7 @@ module _ (def : Definition) where
   are_names anything more kind w n e = absurd w
   are_names (observed f) more kind w n e = are_names f [] kind w.1 n e
 
-  same_names : (mine : Key → Bool) (f : Fragment) (more : List Item) (kind : Kind) → Fits def f more kind → ((n : Key) → is_among (all_names def f) n ≡ true → mine n ≡ true) → CanGrow def (λ n. n) (λ n. n) mine (Unit {0}) f
+  same_names : (mine : Key → Bool) (f : Fragment) (more : List Item) (kind : Kind) → Fits def f more kind → ((n : Key) → is_among (all_names def f) n ≡ true → mine n ≡ true) → CanGrow def (unchanged mine) f
   same_names mine (hole p) more kind w h = tt
   same_names mine (ending l u) more kind w h = tt
   same_names mine (cell l a r) more kind (x, y, k, found, wa, wr, free) h =
@@ -147,7 +146,7 @@ module _ (def : Definition) where
   same_names mine anything more kind w h = absurd w
   same_names mine (observed f) more kind w h = same_names mine f [] kind w.1 h
 
-  fills_of_grown : (mine : Key → Bool) (f t : Fragment) (more : List Item) (kind : Kind) → Fits def f more kind → Grown def (λ n. n) (λ n. n) mine (Unit {0}) f t → Fills def f t
+  fills_of_grown : (mine : Key → Bool) (f t : Fragment) (more : List Item) (kind : Kind) → Fits def f more kind → Grown def (unchanged mine) f t → Fills def f t
   fills_of_grown mine (hole p) t more kind w g = g
   fills_of_grown mine (ending l true) t more kind w g = g
   fills_of_grown mine (ending l false) t more kind w g = g
@@ -170,21 +169,31 @@ module _ (def : Definition) (sound : IsSound def) (true_rows : HasTrueRows def) 
       let good = usable_declare def sound true_rows k d kind chosen of_list in
       subst (λ l. Element def l n (g n) avoid) at (subst (λ e. Element def d.list n e avoid) (sym e_is) (element_of def sound true_rows d kind f n avoid of_list good ground (name.0 ∙ ap (λ s. s ∷ name_in n) (sym of_space), name.1) known))
 
+  abbrev stock_of : (f : Fragment) (kind : Kind) → Fits def f [] kind → Supplied def (unchanged (is_among (all_names def f))) (Unit {0})
+  stock_of f kind w = record {
+    over = λ m e. refl;
+    spaces = λ m e. refl;
+    sorted = λ a l r list v at h. value_sorted def sound l r list v at h;
+    supply = λ a. supply def sound true_rows;
+    declare = λ a l list at un g eg n mn dec avoid kept. element l list at un g eg n dec (are_names def f [] kind w n mn) avoid (kept n mn);
+    all = once_each (all_names def f);
+    all_mine = once_all (is_among (all_names def f)) (all_names def f) (λ n e. e);
+    listed = λ a m e. once_count m (all_names def f) ∙ ap one_if e;
+    seen = λ us. us;
+    looks = λ a u us. refl;
+    skips = λ no u us. absurd (no tt);
+  }
+
   -- The law: what is open has a legal completion.
   pub completable_of_open : (f : Fragment) (kind : Kind) → Fits def f [] kind → (seen : List Term) → IsOpenAs def f seen → IsCompletableAs def f seen
   completable_of_open f kind w seen o =
       let mine = is_among (all_names def f) in
       let named = same_names def (is_among (all_names def f)) f [] kind w (λ n e. e) in
       let j = o.judged in
-      let c = grow_whole def (λ n. n) (λ n. n) (is_among (all_names def f)) (Unit {0}) (λ m e. refl) (λ m e. refl) (λ a l r kind v list h. value_sorted def sound l r kind v list h) (λ a. supply def sound true_rows)
-      (λ a l kind list un g eg n mn dec avoid kept. element l kind list un g eg n dec (are_names def f [] kind0 w n mn) avoid (kept n mn))
-      (once_each (all_names def f)) (once_all (is_among (all_names def f)) (all_names def f) (λ n e. e)) (λ a m e. once_count m (all_names def f) ∙ ap one_if e) (λ us. us) (λ a u us. refl) (λ no u us. absurd (no tt))
+      let c = grow_whole def (unchanged (is_among (all_names def f))) (Unit {0}) (stock_of f kind w)
       f o.choice o.outside j.inner o.value seen [] kind [] [] (fits_places def f [] kind w) named o.distinct.1 (λ e. o.distinct.0) j.entities j.agree (λ no. absurd (no tt)) j.holds (all_names def f) (λ m e. e) in
       built named c where
-        kind0 : Kind
-        kind0 = kind
-
-        built : CanGrow def (λ n. n) (λ n. n) (is_among (all_names def f)) (Unit {0}) f → Child def (λ n. n) (λ n. n) (is_among (all_names def f)) (Unit {0}) f o.outside kind o.value seen [] (all_names def f) [] → IsCompletableAs def f seen
+        built : CanGrow def (unchanged (is_among (all_names def f))) f → Child def (unchanged (is_among (all_names def f))) (Unit {0}) f o.outside kind o.value seen [] (all_names def f) [] → IsCompletableAs def f seen
         built named c = record {
           tree = c.tree;
           fills = fills_of_grown def (is_among (all_names def f)) f c.tree [] kind w c.grown;

@@ -11,7 +11,7 @@ use Rattle.psg_terms.specs.Names.{is_among, has_twice}
 use Rattle.psg_grammar.specs.Lookups.{is_scope, scopes, operator_at, next_item, is_declares, items_of, key_of, key_at}
 use Rattle.psg_grammar.specs.Declaring.{is_declaring}
 use Rattle.psg_grammar.specs.Regions.{declared_inside, declared_in, unfinished_inside, DistinctBelow, AreDistinct}
-use Rattle.psg_grammar.specs.WellFormed.{Fits, WellFormed, IsComplete, IsPlain}
+use Rattle.psg_grammar.specs.WellFormed.{Fits, IsComplete, IsPlain}
 use Rattle.psg_grammar.specs.Fillings.{Fills}
 use Rattle.psg_grammar.specs.Legal.{Entities, AreEntities, Within, AgreeOutside, Legal, IsCompletableAs}
 use Rattle.psg_grammar.specs.Open.{Choice, Holds, IsOpenAs, Agrees, AgreeOpen, IsOfHoleRow}

@@ -115,14 +115,20 @@ count_only m p (x ∷ xs) = elim (either (bytes_eq x m)) [
       let d : cond (p m) (count m (x ∷ xs)) 0 ≡ 0 = ap (λ b. cond b (count m (x ∷ xs)) 0) e in
       omega (arith, a, c, d)
 
--- names in the image of a map
-module _ (rho back : Key → Key) (mine : Key → Bool) where
+-- A change of keys, and back. Mine are the keys that then stand in a tree.
+pub record Renaming : Type 0 where
+  pub to : Key → Key
+  pub back : Key → Key
+  pub mine : Key → Bool
+
+-- keys in the image of a change
+module _ (names : Renaming) where
   abbrev pub image : Key → List Key → ℕ
-  image m xs = tally (λ x. bytes_eq (rho x) m) xs
+  image m xs = tally (λ x. bytes_eq (names.to x) m) xs
 
   abbrev pub Own : List Key → Type 0
   Own [] = Unit {0}
-  Own (x ∷ xs) = (mine (rho x) ≡ true) × (back (rho x) ≡ x) × Own xs
+  Own (x ∷ xs) = (names.mine (names.to x) ≡ true) × (names.back (names.to x) ≡ x) × Own xs
 
   pub own_append : (xs ys : List Key) → Own xs → Own ys → Own (xs ++ ys)
   own_append [] ys a b = b
@@ -132,45 +138,45 @@ module _ (rho back : Key → Key) (mine : Key → Bool) where
   own_cond true xs h = tt
   own_cond false xs h = h
 
-  pub image_below : (m : Key) (xs : List Key) → Own xs → image m xs ≤ count (back m) xs
+  pub image_below : (m : Key) (xs : List Key) → Own xs → image m xs ≤ count (names.back m) xs
   image_below m [] h = omega arith
   image_below m (x ∷ xs) (p, q, h) =
-      let d : image m xs ≤ count (back m) xs = image_below m xs h in
-      elim (either (bytes_eq (rho x) m)) [
+      let d : image m xs ≤ count (names.back m) xs = image_below m xs h in
+      elim (either (bytes_eq (names.to x) m)) [
         | inl t ↦
-            let e : back m ≡ x = ap back (sym (bytes_same (rho x) m t)) ∙ q in
-            let c : one_if (bytes_eq (rho x) m) ≡ 1 = ap one_if t in
-            let s : one_if (bytes_eq x (back m)) ≡ 1 = ap one_if (subst (λ y. bytes_eq x y ≡ true) (sym e) (bytes_refl x)) in
+            let e : names.back m ≡ x = ap names.back (sym (bytes_same (names.to x) m t)) ∙ q in
+            let c : one_if (bytes_eq (names.to x) m) ≡ 1 = ap one_if t in
+            let s : one_if (bytes_eq x (names.back m)) ≡ 1 = ap one_if (subst (λ y. bytes_eq x y ≡ true) (sym e) (bytes_refl x)) in
             omega (arith, c, s, d)
-        | inr f ↦ let c : one_if (bytes_eq (rho x) m) ≡ 0 = ap one_if f in omega (arith, c, d)
+        | inr f ↦ let c : one_if (bytes_eq (names.to x) m) ≡ 0 = ap one_if f in omega (arith, c, d)
       ]
 
-  pub image_mine : (m : Key) (xs : List Key) → Own xs → mine m ≡ false → image m xs ≡ 0
+  pub image_mine : (m : Key) (xs : List Key) → Own xs → names.mine m ≡ false → image m xs ≡ 0
   image_mine m [] h e = refl
   image_mine m (x ∷ xs) (p, q, h) e =
       let d : image m xs ≡ 0 = image_mine m xs h e in
-      elim (either (bytes_eq (rho x) m)) [
-        | inl t ↦ absurd (true≢false (sym p ∙ ap mine (bytes_same (rho x) m t) ∙ e))
-        | inr f ↦ let c : one_if (bytes_eq (rho x) m) ≡ 0 = ap one_if f in omega (arith, c, d)
+      elim (either (bytes_eq (names.to x) m)) [
+        | inl t ↦ absurd (true≢false (sym p ∙ ap names.mine (bytes_same (names.to x) m t) ∙ e))
+        | inr f ↦ let c : one_if (bytes_eq (names.to x) m) ≡ 0 = ap one_if f in omega (arith, c, d)
       ]
 
-  pub image_none : (m : Key) (xs : List Key) → rho (back m) ≡ m → image m xs ≡ 0 → is_among xs (back m) ≡ false
+  pub image_none : (m : Key) (xs : List Key) → names.to (names.back m) ≡ m → image m xs ≡ 0 → is_among xs (names.back m) ≡ false
   image_none m [] r e = refl
-  image_none m (x ∷ xs) r e = elim (either (bytes_eq x (back m))) [
+  image_none m (x ∷ xs) r e = elim (either (bytes_eq x (names.back m))) [
     | inl t ↦
-        let c : one_if (bytes_eq (rho x) m) ≡ 1 = ap one_if (subst (λ y. bytes_eq (rho x) y ≡ true) (ap rho (bytes_same x (back m) t) ∙ r) (bytes_refl (rho x))) in
+        let c : one_if (bytes_eq (names.to x) m) ≡ 1 = ap one_if (subst (λ y. bytes_eq (names.to x) y ≡ true) (ap names.to (bytes_same x (names.back m) t) ∙ r) (bytes_refl (names.to x))) in
         absurd (let z : 1 ≤ 0 = omega (arith, c, e) in omega (arith, z))
     | inr f ↦ ap₂ (λ a b. a || b) f (image_none m xs r (omega (arith, e)))
   ]
 
-  pub image_above : (m : Key) (xs : List Key) → rho (back m) ≡ m → count (back m) xs ≤ image m xs
+  pub image_above : (m : Key) (xs : List Key) → names.to (names.back m) ≡ m → count (names.back m) xs ≤ image m xs
   image_above m [] r = omega arith
   image_above m (x ∷ xs) r =
-      let d : count (back m) xs ≤ image m xs = image_above m xs r in
-      elim (either (bytes_eq x (back m))) [
+      let d : count (names.back m) xs ≤ image m xs = image_above m xs r in
+      elim (either (bytes_eq x (names.back m))) [
         | inl t ↦
-            let c : one_if (bytes_eq x (back m)) ≡ 1 = ap one_if t in
-            let s : one_if (bytes_eq (rho x) m) ≡ 1 = ap one_if (subst (λ y. bytes_eq (rho x) y ≡ true) (ap rho (bytes_same x (back m) t) ∙ r) (bytes_refl (rho x))) in
+            let c : one_if (bytes_eq x (names.back m)) ≡ 1 = ap one_if t in
+            let s : one_if (bytes_eq (names.to x) m) ≡ 1 = ap one_if (subst (λ y. bytes_eq (names.to x) y ≡ true) (ap names.to (bytes_same x (names.back m) t) ∙ r) (bytes_refl (names.to x))) in
             omega (arith, c, s, d)
-        | inr f ↦ let c : one_if (bytes_eq x (back m)) ≡ 0 = ap one_if f in omega (arith, c, d)
+        | inr f ↦ let c : one_if (bytes_eq x (names.back m)) ≡ 0 = ap one_if f in omega (arith, c, d)
       ]

@@ -8,7 +8,6 @@ use Rattle.psg_grammar.specs.declared.types.Operator.{Operator}
 use Rattle.psg_grammar.specs.declared.types.ListKind.{ListKind}
 use Rattle.psg_grammar.specs.declared.types.Definition.{Definition}
 use Rattle.psg_grammar.specs.Fragments.{Fragment, hole, ending, cell, operator, with_child, with_name, with_number, with_text, anything, observed}
-use Rattle.psg_grammar.specs.Keys.{Key}
 use Rattle.psg_grammar.specs.Lookups.{part_items, key_at}
 use Rattle.psg_grammar.specs.WellFormed.{Fits, IsComplete, IsPlain}
 use Rattle.psg_grammar.specs.Legal.{Entities, Legal}

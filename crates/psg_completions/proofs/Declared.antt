@@ -1,10 +1,7 @@
 -- An element that declares a name behind an unfinished list.
-use Rattle.std.proofs.Common.{◌≡◌, inl, inr, ℕ, ◌+◌, ◌≤◌, Bool, true, false, cond, ◌||◌, List, [], ◌∷◌, ◌++◌, map, slice_get, bytes_eq, Some, refl, ap, ap₂, sym, ◌∙◌, subst, true≢false, arith}
+use Rattle.std.proofs.Common.{◌≡◌, inl, inr, ◌+◌, ◌≤◌, Bool, true, false, cond, ◌||◌, List, [], ◌∷◌, ◌++◌, map, slice_get, bytes_eq, Some, refl, ap, sym, ◌∙◌, subst, true≢false, arith}
 use Rattle.std.specs.List.{AllByRecursion}
-use Rattle.psg_terms.specs.Terms.{Term, variable, symbol, apply}
-use Rattle.psg_terms.specs.Signature.{Signature, HasSort, only_constructor}
-use Rattle.psg_terms.specs.Instances.{Substitution, substitute, IsGround, IsGrounding, IsSorted}
-use Rattle.psg_terms.proofs.InstanceLaws.{after, substitute-after, Takes-substitute, ground-substitute}
+use Rattle.psg_terms.specs.Instances.{Substitution, substitute, IsGrounding}
 use Rattle.psg_grammar.specs.declared.types.ListKind.{ListKind}
 use Rattle.psg_grammar.specs.declared.types.SpecimenHole.{SpecimenHole}
 use Rattle.psg_grammar.specs.declared.types.DeclareRow.{DeclareRow}
@@ -15,22 +12,18 @@ use Rattle.psg_completions.proofs.NameLaws.{without, either, bytes_same, or_case
 use Rattle.psg_grammar.specs.Lookups.{is_scope}
 use Rattle.psg_grammar.specs.Regions.{declared_inside, declared_in}
 use Rattle.psg_grammar.specs.Legal.{Legal, Within, AgreeOutside}
-use Rattle.psg_grammar.specs.Open.{IsOfCellRow}
 use Rattle.psg_grammar.specs.Specimens.{tree_of, holes_of}
-use Rattle.psg_completions.specs.Places.{IsOfOneRow}
 use Rattle.psg_completions.specs.General.{Shows, term_at, it}
-use Rattle.psg_grammar.specs.Sound.{kind_of}
-use Rattle.psg_completions.specs.Elements.{IsAbsent, IsClear}
-use Rattle.psg_completions.proofs.Usable.{IsUsableDeclare}
+use Rattle.psg_grammar.specs.Sound.{kind_of, IsSound}
+use Rattle.psg_completions.proofs.Usable.{IsUsableDeclare, IsFilled}
 use Rattle.psg_completions.proofs.Frames.{mixed, mixed_entities}
 use Rattle.psg_completions.proofs.Counting.{image, Own, own_cond, image_below, image_above, image_mine, once_of}
 use Rattle.psg_completions.specs.Counts.{one_if, count}
-use Rattle.psg_completions.proofs.Growing.{Element, Supplies, CanGrow, Child, own_declared, grow_whole}
+use Rattle.psg_completions.proofs.Growth.{Element, Supplies, CanGrow, Child, own_declared}
+use Rattle.psg_completions.proofs.Growing.{grow_whole}
 use Rattle.psg_completions.proofs.FreshNames.{IsKeyFor, key_space, fresh_key, all_names, NewNames, single_name, more_names}
-use Rattle.psg_grammar.specs.Sound.{IsSound}
 use Rattle.psg_completions.specs.Conditions.{HasTrueRows}
-use Rattle.psg_completions.proofs.Renamed.{named_of, plain_places}
-use Rattle.psg_completions.proofs.Usable.{IsFilled}
+use Rattle.psg_completions.proofs.Renamed.{named_of, no_supply, plain_places, renaming_of}
 use Rattle.psg_completions.proofs.Taken.{supply}
 use Rattle.psg_grammar.specs.declared.types.Kind.TheVariants as kinds
 
@@ -62,15 +55,15 @@ module _ (def : Definition) (sound : IsSound def) (true_rows : HasTrueRows def) 
         whole : (r : NewNames (IsKeyFor def) (key_space def) (fresh_key def) (all_names def (tree_of d.specimen) ++ it d.space ∷ []) avoid (n ∷ [])) → r.rho (it d.space) ≡ n
             → (j : Shows def d.specimen good.choice (substitute f d.value) (map (term_at f) (holes_of d.specimen))) → j.outside (it d.space) ≡ substitute f d.term → Element def d.list n (substitute f d.term) avoid
         whole r to_n j at_it =
-            let named = named_of def r.rho r.back (is_among r.targets) (tree_of d.specimen) (plain_places def (tree_of d.specimen) [] (kinds.Phylum kind.element) (map (kind_of def) (holes_of d.specimen)) [] good.fits) (λ x a. let b = among_left (all_names def (tree_of d.specimen)) (it d.space ∷ []) x a in (r.into x b, r.backs x b, r.good x b)) in
-            let c = grow_whole def r.rho r.back (is_among r.targets) ⊥ (λ m e. (r.over m e).0) (λ m e. r.space m) (λ a. absurd a) (λ a. absurd a) (λ a. absurd a) [] tt (λ a. absurd a) (λ us. []) (λ a. absurd a) (λ no u us. refl)
+            let named = named_of def (renaming_of r.rho r.back r.targets) (tree_of d.specimen) (plain_places def (tree_of d.specimen) [] (kinds.Phylum kind.element) (map (kind_of def) (holes_of d.specimen)) [] good.fits) (λ x a. let b = among_left (all_names def (tree_of d.specimen)) (it d.space ∷ []) x a in (r.into x b, r.backs x b, r.good x b)) in
+            let c = grow_whole def (renaming_of r.rho r.back r.targets) ⊥ (no_supply def (renaming_of r.rho r.back r.targets) (λ m e. (r.over m e).0) (λ m e. r.space m))
             (tree_of d.specimen) good.choice j.outside j.judged.inner (substitute f d.value) (map (term_at f) (holes_of d.specimen)) [] (kinds.Phylum kind.element) (map (kind_of def) (holes_of d.specimen)) []
             good.fits named good.distinct.1 (λ e. good.distinct.0) j.judged.entities j.judged.agree (λ no. all_supplies f ground (holes_of d.specimen) good.filled) j.judged.holds (avoid ++ r.targets) (λ m e. among_right avoid r.targets m e) in
             built r to_n j at_it named c where
               built : (r : NewNames (IsKeyFor def) (key_space def) (fresh_key def) (all_names def (tree_of d.specimen) ++ it d.space ∷ []) avoid (n ∷ [])) → r.rho (it d.space) ≡ n
                   → (j : Shows def d.specimen good.choice (substitute f d.value) (map (term_at f) (holes_of d.specimen))) → j.outside (it d.space) ≡ substitute f d.term
-                  → CanGrow def r.rho r.back (is_among r.targets) ⊥ (tree_of d.specimen)
-                  → Child def r.rho r.back (is_among r.targets) ⊥ (tree_of d.specimen) j.outside (kinds.Phylum kind.element) (substitute f d.value) [] [] (avoid ++ r.targets) [] → Element def d.list n (substitute f d.term) avoid
+                  → CanGrow def (renaming_of r.rho r.back r.targets) (tree_of d.specimen)
+                  → Child def (renaming_of r.rho r.back r.targets) ⊥ (tree_of d.specimen) j.outside (kinds.Phylum kind.element) (substitute f d.value) [] [] (avoid ++ r.targets) [] → Element def d.list n (substitute f d.term) avoid
               built r to_n j at_it named c = record {
                 kind = kind;
                 list = list;
@@ -89,7 +82,7 @@ module _ (def : Definition) (sound : IsSound def) (true_rows : HasTrueRows def) 
                 scope = no_scope;
                 declares = λ m e.
                     let plain : count m (declared_inside def c.tree) ≡ count m (declared_in def c.tree) = ap (λ b. count m (cond b [] (declared_inside def c.tree))) (sym no_scope) in
-                    let a : count m (declared_in def c.tree) ≡ image r.rho r.back (is_among r.targets) m (declared_in def (tree_of d.specimen)) + count m [] = c.declares m (none_right (without r.targets (n ∷ [])) c.new m e) in
+                    let a : count m (declared_in def c.tree) ≡ image (renaming_of r.rho r.back r.targets) m (declared_in def (tree_of d.specimen)) + count m [] = c.declares m (none_right (without r.targets (n ∷ [])) c.new m e) in
                     elim (either (bytes_eq n m)) [
                       | inl t ↦
                           let is_n : n ≡ m = bytes_same n m t in
@@ -101,7 +94,7 @@ module _ (def : Definition) (sound : IsSound def) (true_rows : HasTrueRows def) 
                             | inl y ↦ absurd (true≢false (sym (among_without r.targets (n ∷ []) m y (ap (λ b. b || false) t)) ∙ none_left (without r.targets (n ∷ [])) c.new m e))
                             | inr y ↦ y
                           ] in
-                          let b : image r.rho r.back (is_among r.targets) m (declared_in def (tree_of d.specimen)) ≡ 0 = image_mine r.rho r.back (is_among r.targets) m (declared_in def (tree_of d.specimen)) own out in
+                          let b : image (renaming_of r.rho r.back r.targets) m (declared_in def (tree_of d.specimen)) ≡ 0 = image_mine (renaming_of r.rho r.back r.targets) m (declared_in def (tree_of d.specimen)) own out in
                           let o : one_if (bytes_eq n m) ≡ 0 = ap one_if t in
                           omega (arith, plain, a, b, o)
                     ];
@@ -110,8 +103,8 @@ module _ (def : Definition) (sound : IsSound def) (true_rows : HasTrueRows def) 
                     elim (either (is_among c.new m)) [
                       | inl y ↦ let a : count m (declared_in def c.tree) ≤ 1 = c.once m y in omega (arith, plain, a)
                       | inr y ↦
-                          let a : count m (declared_in def c.tree) ≡ image r.rho r.back (is_among r.targets) m (declared_in def (tree_of d.specimen)) + count m [] = c.declares m y in
-                          let b : image r.rho r.back (is_among r.targets) m (declared_in def (tree_of d.specimen)) ≤ count (r.back m) (declared_in def (tree_of d.specimen)) = image_below r.rho r.back (is_among r.targets) m (declared_in def (tree_of d.specimen)) own in
+                          let a : count m (declared_in def c.tree) ≡ image (renaming_of r.rho r.back r.targets) m (declared_in def (tree_of d.specimen)) + count m [] = c.declares m y in
+                          let b : image (renaming_of r.rho r.back r.targets) m (declared_in def (tree_of d.specimen)) ≤ count (r.back m) (declared_in def (tree_of d.specimen)) = image_below (renaming_of r.rho r.back r.targets) m (declared_in def (tree_of d.specimen)) own in
                           let z : count (r.back m) (declared_in def (tree_of d.specimen)) ≤ 1 = few (r.back m) (is_scope def (tree_of d.specimen)) in
                           omega (arith, plain, a, b, z)
                     ];
@@ -132,8 +125,8 @@ module _ (def : Definition) (sound : IsSound def) (true_rows : HasTrueRows def) 
                 back_n : r.back n ≡ it d.space
                 back_n = ap r.back (sym to_n) ∙ r.backs (it d.space) it_among
 
-                own : Own r.rho r.back (is_among r.targets) (declared_in def (tree_of d.specimen))
-                own = own_cond r.rho r.back (is_among r.targets) (is_scope def (tree_of d.specimen)) (declared_inside def (tree_of d.specimen)) (own_declared def r.rho r.back (is_among r.targets) ⊥ (tree_of d.specimen) named)
+                own : Own (renaming_of r.rho r.back r.targets) (declared_in def (tree_of d.specimen))
+                own = own_cond (renaming_of r.rho r.back r.targets) (is_scope def (tree_of d.specimen)) (declared_inside def (tree_of d.specimen)) (own_declared def (renaming_of r.rho r.back r.targets) (tree_of d.specimen) named)
 
                 few : (m : Key) (b : Bool) → count m (cond b [] (declared_inside def (tree_of d.specimen))) ≤ 1
                 few m true = omega arith
@@ -143,9 +136,9 @@ module _ (def : Definition) (sound : IsSound def) (true_rows : HasTrueRows def) 
                 once_n : count n (declared_in def c.tree) ≡ 1
                 once_n =
                     let old : is_among c.new n ≡ false = elim (either (is_among c.new n)) [ inl y ↦ absurd (true≢false (sym known ∙ none_left avoid r.targets n (c.apart n y))) | inr y ↦ y ] in
-                    let a : count n (declared_in def c.tree) ≡ image r.rho r.back (is_among r.targets) n (declared_in def (tree_of d.specimen)) + count n [] = c.declares n old in
-                    let b : image r.rho r.back (is_among r.targets) n (declared_in def (tree_of d.specimen)) ≤ count (r.back n) (declared_in def (tree_of d.specimen)) = image_below r.rho r.back (is_among r.targets) n (declared_in def (tree_of d.specimen)) own in
-                    let b' : count (r.back n) (declared_in def (tree_of d.specimen)) ≤ image r.rho r.back (is_among r.targets) n (declared_in def (tree_of d.specimen)) = image_above r.rho r.back (is_among r.targets) n (declared_in def (tree_of d.specimen)) (ap r.rho back_n ∙ to_n) in
+                    let a : count n (declared_in def c.tree) ≡ image (renaming_of r.rho r.back r.targets) n (declared_in def (tree_of d.specimen)) + count n [] = c.declares n old in
+                    let b : image (renaming_of r.rho r.back r.targets) n (declared_in def (tree_of d.specimen)) ≤ count (r.back n) (declared_in def (tree_of d.specimen)) = image_below (renaming_of r.rho r.back r.targets) n (declared_in def (tree_of d.specimen)) own in
+                    let b' : count (r.back n) (declared_in def (tree_of d.specimen)) ≤ image (renaming_of r.rho r.back r.targets) n (declared_in def (tree_of d.specimen)) = image_above (renaming_of r.rho r.back r.targets) n (declared_in def (tree_of d.specimen)) (ap r.rho back_n ∙ to_n) in
                     let z : count (r.back n) (declared_in def (tree_of d.specimen)) ≡ 1 = ap (λ k. count k (declared_in def (tree_of d.specimen))) back_n ∙ good.declares_it in
                     omega (arith, a, b, b', z)
 

@@ -7,7 +7,7 @@ use Rattle.psg_grammar.specs.Lookups.{key_at}
 use Rattle.psg_grammar.specs.Fragments.{Fragment, hole, ending, cell, operator, with_child, with_name, with_number, with_text, anything, observed}
 use Rattle.psg_grammar.specs.WellFormed.{IsName}
 use Rattle.psg_completions.proofs.LongNames.{fresh}
-use Rattle.psg_completions.proofs.NameLaws.{none_left, none_right, either, bytes_same, bytes_refl, or_right, among_left, among_right}
+use Rattle.psg_completions.proofs.NameLaws.{none_left, none_right, either, bytes_same, bytes_refl, or_right, among_right}
 
 -- the keys of all name positions
 abbrev pub all_names : Definition → Fragment → List Key

@@ -3,7 +3,7 @@ use Rattle.std.proofs.Common.{◌≡◌, inl, inr, ℕ, zero, suc, ◌+◌, ◌<
 use Rattle.std.specs.List.{AllByRecursion}
 use Rattle.std.proofs.lemmas.Option.{none-some}
 use Rattle.psg_terms.specs.Terms.{Term, variable, symbol, apply, applied}
-use Rattle.psg_terms.specs.Signature.{Signature, Symbol, HasSort, HaveSorts, HasSymbol, Takes, constructors_from, constructors_of, sole, only_constructor}
+use Rattle.psg_terms.specs.Signature.{Signature, Symbol, HasSort, HaveSorts, Takes, constructors_from, constructors_of}
 use Rattle.psg_terms.specs.Instances.{Substitution, substitute, IsGround, IsGrounding}
 use Rattle.psg_terms.specs.Sound.{IsSound}
 use Rattle.psg_terms.proofs.Separate.{grounding}

@@ -1,5 +1,5 @@
 -- A substitution with another term for one variable, and the terms of sorts with ground terms.
-use Rattle.std.proofs.Common.{◌≡◌, ◌⊎◌, inl, inr, ℕ, zero, suc, ◌<◌, ◌==◌, ◌&&◌, cond, List, [], ◌∷◌, length, slice_get, Some, ap, ap₂, sym, ◌∙◌, subst, refl, eq-eqb}
+use Rattle.std.proofs.Common.{◌≡◌, ◌⊎◌, inl, inr, ℕ, zero, suc, ◌<◌, ◌==◌, ◌&&◌, cond, List, [], ◌∷◌, length, slice_get, Some, ap, ap₂, sym, subst, refl, eq-eqb}
 use Rattle.std.proofs.lemmas.Bool.Decides.{eqb_tells}
 use Rattle.std.proofs.lemmas.Option.{none-some}
 use Rattle.psg_terms.specs.Terms.{Term}

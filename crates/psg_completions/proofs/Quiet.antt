@@ -12,7 +12,7 @@ use Rattle.psg_terms.specs.Names.{is_among}
 use Rattle.psg_grammar.specs.Lookups.{is_scope, scopes, operator_at, next_item, is_declares, key_of, key_at, part_items}
 use Rattle.psg_grammar.specs.Declaring.{is_declaring, declares_by, any_item, any_operator, element_declares}
 use Rattle.psg_grammar.specs.Regions.{declared_inside, declared_in}
-use Rattle.psg_grammar.specs.WellFormed.{Fits, WellFormed}
+use Rattle.psg_grammar.specs.WellFormed.{Fits}
 use Rattle.psg_completions.proofs.NameLaws.{either, bytes_same, none_both}
 use Rattle.psg_completions.proofs.Counting.{or_parts}
 use Rattle.psg_grammar.specs.Kinds.{HasKind}

@@ -1,5 +1,5 @@
 -- What hole rows, hole places and cell rows say of ground terms.
-use Rattle.std.proofs.Common.{◌≡◌, inl, inr, ℕ, List, [], ◌∷◌, map, slice_get, Some, refl, ap, ap₂, sym, ◌∙◌, subst}
+use Rattle.std.proofs.Common.{◌≡◌, inl, inr, ℕ, [], ◌∷◌, map, slice_get, Some, refl, ap, ap₂, sym, ◌∙◌, subst}
 use Rattle.psg_terms.specs.Terms.{Term, variable, symbol, apply}
 use Rattle.psg_terms.specs.Signature.{Signature, HasSort, HaveSorts}
 use Rattle.psg_terms.specs.Instances.{Substitution, substitute, IsInstance, IsGround, IsGrounding}

@@ -1,37 +1,32 @@
 -- The values of hole rows are exactly those of complete legal trees.
-use Rattle.std.proofs.Common.{◌≡◌, ◌↔◌, inl, inr, ℕ, zero, suc, ◌+◌, ◌<◌, ◌≤◌, Bool, true, false, cond, List, [], ◌∷◌, ◌++◌, map, slice_get, Some, refl, ap, sym, ◌∙◌, subst, true≢false, arith, append-nil, not-suc-le-zero}
+use Rattle.std.proofs.Common.{◌≡◌, ◌↔◌, inl, inr, ℕ, zero, suc, ◌+◌, ◌<◌, ◌≤◌, Bool, true, false, cond, List, [], ◌∷◌, ◌++◌, map, slice_get, refl, ap, sym, ◌∙◌, subst, true≢false, arith, append-nil, not-suc-le-zero}
 use Rattle.std.specs.List.{AllByRecursion}
 use Rattle.psg_terms.specs.Terms.{Term, variable, symbol, apply}
 use Rattle.psg_terms.specs.Instances.{Substitution, substitute, IsGrounding}
-use Rattle.psg_terms.proofs.InstanceLaws.{after, substitute-after, Takes-substitute, ground-substitute}
 use Rattle.psg_grammar.specs.declared.types.Kind.{Kind}
 use Rattle.psg_grammar.specs.declared.types.SpecimenHole.{SpecimenHole}
 use Rattle.psg_grammar.specs.declared.types.Case.{Case}
-use Rattle.psg_grammar.specs.declared.types.HoleRow.{HoleRow}
 use Rattle.psg_grammar.specs.declared.types.Definition.{Definition}
-use Rattle.psg_grammar.specs.Fragments.{Fragment, hole, ending, cell, operator, with_child, with_name, with_number, with_text, anything, observed}
 use Rattle.psg_grammar.specs.Keys.{Key}
 use Rattle.psg_terms.specs.Names.{is_among}
-use Rattle.psg_grammar.specs.Lookups.{is_scope, key_at}
+use Rattle.psg_grammar.specs.Lookups.{is_scope}
 use Rattle.psg_grammar.specs.Regions.{declared_inside, declared_in}
-use Rattle.psg_grammar.specs.Legal.{IsOfTerm}
 use Rattle.psg_grammar.specs.Open.{IsOfHoleRow}
 use Rattle.psg_grammar.specs.Specimens.{tree_of, holes_of}
 use Rattle.psg_completions.specs.Completions.{IsTaken}
-use Rattle.psg_completions.specs.Places.{IsPart, IsOfOneRow}
-use Rattle.psg_completions.proofs.Usable.{IsUsableCase}
+use Rattle.psg_completions.specs.Places.{IsPart}
+use Rattle.psg_completions.proofs.Usable.{IsUsableCase, IsFilled, usable_case, case_of}
 use Rattle.psg_completions.specs.General.{Shows, term_at}
-use Rattle.psg_grammar.specs.Sound.{kind_of}
-use Rattle.psg_completions.proofs.NameLaws.{either, among_left, among_right, among_one, among_parts, none_left, none_right}
+use Rattle.psg_grammar.specs.Sound.{kind_of, IsSound}
+use Rattle.psg_completions.proofs.NameLaws.{either, among_left, among_right, among_parts, none_left, none_right}
 use Rattle.psg_completions.proofs.Frames.{mixed, mixed_entities}
 use Rattle.psg_completions.proofs.Counting.{image, Own, own_cond, image_below, image_mine, once_of, of_once}
 use Rattle.psg_completions.specs.Counts.{count}
-use Rattle.psg_completions.proofs.Growing.{Found, Supply, Supplies, CanGrow, Child, own_declared, grow_whole}
+use Rattle.psg_completions.proofs.Growth.{Found, Supply, Supplies, CanGrow, Child, own_declared}
+use Rattle.psg_completions.proofs.Growing.{grow_whole}
 use Rattle.psg_completions.proofs.FreshNames.{IsKeyFor, key_space, fresh_key, all_names, NewNames, no_names, more_names}
-use Rattle.psg_grammar.specs.Sound.{IsSound}
 use Rattle.psg_completions.specs.Conditions.{HasTrueRows}
-use Rattle.psg_completions.proofs.Renamed.{named_of, plain_places}
-use Rattle.psg_completions.proofs.Usable.{IsFilled, usable_case, case_of}
+use Rattle.psg_completions.proofs.Renamed.{named_of, no_supply, plain_places, renaming_of}
 use Rattle.psg_completions.proofs.Covering.{covered_tree}
 
 abbrev pub size : Term → ℕ
@@ -62,14 +57,14 @@ module _ (def : Definition) (sound : IsSound def) (true_rows : HasTrueRows def) 
       whole r j where
         whole : NewNames (IsKeyFor def) (key_space def) (fresh_key def) (all_names def (tree_of one.specimen)) avoid [] → Shows def one.specimen good.choice (substitute f one.term) (map (term_at f) (holes_of one.specimen)) → Found def kind (substitute f one.term) avoid
         whole r j =
-            let named = named_of def r.rho r.back (is_among r.targets) (tree_of one.specimen) (plain_places def (tree_of one.specimen) [] kind (map (kind_of def) (holes_of one.specimen)) [] good.fits) (λ n a. (r.into n a, r.backs n a, r.good n a)) in
-            let c = grow_whole def r.rho r.back (is_among r.targets) ⊥ (λ m e. (r.over m e).0) (λ m e. r.space m) (λ a. absurd a) (λ a. absurd a) (λ a. absurd a) [] tt (λ a. absurd a) (λ us. []) (λ a. absurd a) (λ no u us. refl)
+            let named = named_of def (renaming_of r.rho r.back r.targets) (tree_of one.specimen) (plain_places def (tree_of one.specimen) [] kind (map (kind_of def) (holes_of one.specimen)) [] good.fits) (λ n a. (r.into n a, r.backs n a, r.good n a)) in
+            let c = grow_whole def (renaming_of r.rho r.back r.targets) ⊥ (no_supply def (renaming_of r.rho r.back r.targets) (λ m e. (r.over m e).0) (λ m e. r.space m))
             (tree_of one.specimen) good.choice j.outside j.judged.inner (substitute f one.term) (map (term_at f) (holes_of one.specimen)) [] kind (map (kind_of def) (holes_of one.specimen)) []
             good.fits named good.distinct.1 (λ e. good.distinct.0) j.judged.entities j.judged.agree (λ no. supplies) j.judged.holds (avoid ++ r.targets) (λ m e. among_right avoid r.targets m e) in
             built r j named c where
               built : (r : NewNames (IsKeyFor def) (key_space def) (fresh_key def) (all_names def (tree_of one.specimen)) avoid []) (j : Shows def one.specimen good.choice (substitute f one.term) (map (term_at f) (holes_of one.specimen)))
-                  → CanGrow def r.rho r.back (is_among r.targets) ⊥ (tree_of one.specimen)
-                  → Child def r.rho r.back (is_among r.targets) ⊥ (tree_of one.specimen) j.outside kind (substitute f one.term) [] [] (avoid ++ r.targets) [] → Found def kind (substitute f one.term) avoid
+                  → CanGrow def (renaming_of r.rho r.back r.targets) (tree_of one.specimen)
+                  → Child def (renaming_of r.rho r.back r.targets) ⊥ (tree_of one.specimen) j.outside kind (substitute f one.term) [] [] (avoid ++ r.targets) [] → Found def kind (substitute f one.term) avoid
               built r j named c = record {
                 tree = c.tree;
                 fits = c.fits;
@@ -85,14 +80,14 @@ module _ (def : Definition) (sound : IsSound def) (true_rows : HasTrueRows def) 
                 below = c.below;
                 separate = c.separate;
                 declares = λ m e.
-                    let a : count m (declared_in def c.tree) ≡ image r.rho r.back (is_among r.targets) m (declared_in def (tree_of one.specimen)) + count m [] = c.declares m (none_right r.targets c.new m e) in
-                    let b : image r.rho r.back (is_among r.targets) m (declared_in def (tree_of one.specimen)) ≡ 0 = image_mine r.rho r.back (is_among r.targets) m (declared_in def (tree_of one.specimen)) own (none_left r.targets c.new m e) in
+                    let a : count m (declared_in def c.tree) ≡ image (renaming_of r.rho r.back r.targets) m (declared_in def (tree_of one.specimen)) + count m [] = c.declares m (none_right r.targets c.new m e) in
+                    let b : image (renaming_of r.rho r.back r.targets) m (declared_in def (tree_of one.specimen)) ≡ 0 = image_mine (renaming_of r.rho r.back r.targets) m (declared_in def (tree_of one.specimen)) own (none_left r.targets c.new m e) in
                     omega (arith, a, b);
                 once = λ m. elim (either (is_among c.new m)) [
                   | inl y ↦ c.once m y
                   | inr y ↦
-                      let a : count m (declared_in def c.tree) ≡ image r.rho r.back (is_among r.targets) m (declared_in def (tree_of one.specimen)) + count m [] = c.declares m y in
-                      let b : image r.rho r.back (is_among r.targets) m (declared_in def (tree_of one.specimen)) ≤ count (r.back m) (declared_in def (tree_of one.specimen)) = image_below r.rho r.back (is_among r.targets) m (declared_in def (tree_of one.specimen)) own in
+                      let a : count m (declared_in def c.tree) ≡ image (renaming_of r.rho r.back r.targets) m (declared_in def (tree_of one.specimen)) + count m [] = c.declares m y in
+                      let b : image (renaming_of r.rho r.back r.targets) m (declared_in def (tree_of one.specimen)) ≤ count (r.back m) (declared_in def (tree_of one.specimen)) = image_below (renaming_of r.rho r.back r.targets) m (declared_in def (tree_of one.specimen)) own in
                       let d : count (r.back m) (declared_in def (tree_of one.specimen)) ≤ 1 = few (r.back m) (is_scope def (tree_of one.specimen)) in
                       omega (arith, a, b, d)
                 ];
@@ -100,8 +95,8 @@ module _ (def : Definition) (sound : IsSound def) (true_rows : HasTrueRows def) 
                     (λ m e. sym (same m (among_left r.targets c.new m e)) ∙ ap (λ b. cond b (j.outside (r.back m)) (c.given m)) e)
                     (λ m e. sym (ap (λ b. cond b (j.outside (r.back m)) (c.given m)) (none_right avoid r.targets m (c.apart m e))) ∙ same m (among_right r.targets c.new m e)) in record { inner = i.inner; entities = i.entities; agree = i.agree; legal = i.legal });
               } where
-                own : Own r.rho r.back (is_among r.targets) (declared_in def (tree_of one.specimen))
-                own = own_cond r.rho r.back (is_among r.targets) (is_scope def (tree_of one.specimen)) (declared_inside def (tree_of one.specimen)) (own_declared def r.rho r.back (is_among r.targets) ⊥ (tree_of one.specimen) named)
+                own : Own (renaming_of r.rho r.back r.targets) (declared_in def (tree_of one.specimen))
+                own = own_cond (renaming_of r.rho r.back r.targets) (is_scope def (tree_of one.specimen)) (declared_inside def (tree_of one.specimen)) (own_declared def (renaming_of r.rho r.back r.targets) (tree_of one.specimen) named)
 
                 few : (m : Key) (b : Bool) → count m (cond b [] (declared_inside def (tree_of one.specimen))) ≤ 1
                 few m true = omega arith

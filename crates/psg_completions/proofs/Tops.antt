@@ -6,9 +6,8 @@ use Rattle.psg_grammar.specs.declared.types.Item.{Item}
 use Rattle.psg_grammar.specs.declared.types.Operator.{Operator}
 use Rattle.psg_grammar.specs.declared.types.Definition.{Definition}
 use Rattle.psg_grammar.specs.Fragments.{Fragment, hole, ending, cell, operator, with_child, with_name, with_number, with_text, anything, observed, top_operator, parts_count}
-use Rattle.psg_grammar.specs.Keys.{Key}
 use Rattle.psg_grammar.specs.Lookups.{is_scope, operator_at, next_item, items_of, part_items}
-use Rattle.psg_grammar.specs.WellFormed.{Fits, WellFormed}
+use Rattle.psg_grammar.specs.WellFormed.{Fits}
 use Rattle.psg_grammar.specs.declared.types.Kind.TheVariants as kinds
 use Rattle.psg_grammar.specs.declared.types.Item.TheVariants as items
 
