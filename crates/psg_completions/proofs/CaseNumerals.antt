@@ -1,4 +1,5 @@
--- A language of numerals and blocks for the worked case, and that it is sound. A `def` gives a name a numeral, a `use` needs
+-- A language of numerals and blocks for the worked case, and that it is sound. A `def` gives a name a numeral, a
+-- `use` needs
 -- the numeral zero, and a block keeps what its items declare.
 use Rattle.std.proofs.Common.{◌≡◌, inl, inr, ℕ, zero, suc, ◌<◌, true, false, List, [], ◌∷◌, codes, Some, None, refl, subst, lit<, lit≤, arith}
 use Rattle.psg_terms.specs.Terms.{Term, variable, symbol, apply}
@@ -31,7 +32,8 @@ sort_id n = record { 0 = n }
 abbrev pub sig : Signature
 sig = record {
   sorts = codes "Unit" ∷ codes "Num" ∷ [];
-  symbols = record { name = codes "ok"; arguments = []; sort = 0 } ∷ record { name = codes "z"; arguments = []; sort = 1 }
+  symbols =
+      record { name = codes "ok"; arguments = []; sort = 0 } ∷ record { name = codes "z"; arguments = []; sort = 1 }
       ∷ record { name = codes "s"; arguments = 1 ∷ []; sort = 1 } ∷ [];
 }
 
@@ -53,7 +55,15 @@ abbrev pub row_of : Term → List Term → Row
 row_of head columns = record { head = head; columns = columns }
 
 abbrev pub op_of : List ℕ → ℕ → List Item → Row → Operator
-op_of name phylum parts row = record { name = name; phylum = phylum; level = levels.Plain; scope = false; items = items.Word name ∷ parts; rows = row ∷ [] }
+op_of name phylum parts row =
+    record {
+      name = name;
+      phylum = phylum;
+      level = levels.Plain;
+      scope = false;
+      items = items.Word name ∷ parts;
+      rows = row ∷ [];
+    }
 
 abbrev pub op_zero : Operator
 op_zero = op_of (codes "zero") 0 [] (row_of none [])
@@ -71,7 +81,17 @@ abbrev pub op_blk : Operator
 op_blk = record (op_of (codes "blk") 1 (items.Slot (kinds.List 0) ∷ []) (row_of ok (ok ∷ []))) { scope = true }
 
 abbrev pub list_items : ListKind
-list_items = record { name = codes "Items"; sort = sort_id 0; element = 1; separator = codes ";"; lines = true; unfinished = true; nil_rows = ok ∷ []; cell_rows = row_of ok (ok ∷ ok ∷ []) ∷ [] }
+list_items =
+    record {
+      name = codes "Items";
+      sort = sort_id 0;
+      element = 1;
+      separator = codes ";";
+      lines = true;
+      unfinished = true;
+      nil_rows = ok ∷ [];
+      cell_rows = row_of ok (ok ∷ ok ∷ []) ∷ [];
+    }
 
 -- ---- specimens
 
@@ -85,7 +105,8 @@ abbrev pub succ_tree : Specimen
 succ_tree = Op' 1 (tt ∷ []) (more_of-SpecimenPart (Sub (Hole place)) end_of-SpecimenPart)
 
 abbrev pub def_tree : Specimen → Specimen
-def_tree s = Op' 2 (tt ∷ tt ∷ []) (more_of-SpecimenPart (Name (codes "it")) (more_of-SpecimenPart (Sub s) end_of-SpecimenPart))
+def_tree s =
+    Op' 2 (tt ∷ tt ∷ []) (more_of-SpecimenPart (Name (codes "it")) (more_of-SpecimenPart (Sub s) end_of-SpecimenPart))
 
 abbrev pub use_tree : Specimen
 use_tree = Op' 3 (tt ∷ []) (more_of-SpecimenPart (Name (codes "a")) end_of-SpecimenPart)
@@ -99,7 +120,8 @@ abbrev pub case_of : Term → Specimen → Case
 case_of t s = record { term = t; specimen = s }
 
 abbrev pub hole_num : HoleRow
-hole_num = record { kind = kinds.Phylum 0; term = any; cases = case_of none zero_tree ∷ case_of (next any) succ_tree ∷ [] }
+hole_num =
+    record { kind = kinds.Phylum 0; term = any; cases = case_of none zero_tree ∷ case_of (next any) succ_tree ∷ [] }
 
 abbrev pub hole_item : HoleRow
 hole_item = record { kind = kinds.Phylum 1; term = ok; cases = case_of ok use_tree ∷ [] }
@@ -118,7 +140,9 @@ numerals = record {
   version = 1;
   signature = sig;
   spaces = the_space ∷ [];
-  phyla = record { name = codes "Num"; sort = sort_id 1; bracketed = false } ∷ record { name = codes "Item"; sort = sort_id 0; bracketed = false } ∷ [];
+  phyla =
+      record { name = codes "Num"; sort = sort_id 1; bracketed = false } ∷ record
+      { name = codes "Item"; sort = sort_id 0; bracketed = false } ∷ [];
   lists = list_items ∷ [];
   operators = op_zero ∷ op_succ ∷ op_def ∷ op_use ∷ op_blk ∷ [];
   hole_rows = hole_num ∷ hole_item ∷ hole_items ∷ [];
@@ -165,7 +189,8 @@ sound_sig = record {
   inhabited (suc (suc s)) lt = absurd (omega arith)
 
   constant_of : (s c : ℕ) → s < 2 → only_constructor sig s ≡ Some c → HasSort sig (symbol c) s
-  constant_of zero c lt e = let f : 0 ≡ c = let g : Some 0 ≡ Some c = e in cc in subst (λ k. HasSort sig (symbol k) 0) f ok_sorted
+  constant_of zero c lt e = let f : 0 ≡ c = let g : Some 0 ≡ Some c = e in cc in
+      subst (λ k. HasSort sig (symbol k) 0) f ok_sorted
   constant_of (suc zero) c lt e = let g : None ≡ Some c = e in cc
   constant_of (suc (suc s)) c lt e = absurd (omega arith)
 
@@ -222,7 +247,8 @@ def_sound = record {
   each_item = (tt, ((1, space_sort), ((1, num_sort), tt)));
   columns = 1 ∷ 1 ∷ [];
   are_columns = (1, 1 ∷ [], refl, space_sort, (1, [], refl, num_sort, refl));
-  each_row = (record { of_head = ok_term; of_columns = (any_sorted, (any_sorted, tt)); written = (refl, (refl, tt)) }, tt);
+  each_row =
+      (record { of_head = ok_term; of_columns = (any_sorted, (any_sorted, tt)); written = (refl, (refl, tt)) }, tt);
 }
 
 use_sound : IsOperator numerals op_use
@@ -254,7 +280,8 @@ blk_sound = record {
 }
 
 zero_specimen : IsSpecimen numerals (kinds.Phylum 0) zero_tree
-zero_specimen = record { fits = (refl, op_zero, refl, refl, refl); rests = tt; few_elements = tt; names = tt; places = tt }
+zero_specimen =
+    record { fits = (refl, op_zero, refl, refl, refl); rests = tt; few_elements = tt; names = tt; places = tt }
 
 succ_specimen : IsSpecimen numerals (kinds.Phylum 0) succ_tree
 succ_specimen = record {
@@ -276,7 +303,12 @@ def_zero = record {
 
 def_succ : IsSpecimen numerals (kinds.Phylum 1) (def_tree succ_tree)
 def_succ = record {
-  fits = (kinds.Phylum 0, kinds.Phylum 0 ∷ [], inr (0, (refl, op_def, refl, refl, refl)), (kinds.Phylum 0, kinds.Phylum 0 ∷ [], (refl, op_succ, refl, refl, refl), ((λ h. h), refl, refl)));
+  fits = (
+    kinds.Phylum 0,
+    kinds.Phylum 0 ∷ [],
+    inr (0, (refl, op_def, refl, refl, refl)),
+    (kinds.Phylum 0, kinds.Phylum 0 ∷ [], (refl, op_succ, refl, refl, refl), ((λ h. h), refl, refl)),
+  );
   rests = (tt, ((tt, tt), tt));
   few_elements = (tt, (tt, tt));
   names = ((tt, refl), (tt, tt));
@@ -284,10 +316,24 @@ def_succ = record {
 }
 
 use_specimen : IsSpecimen numerals (kinds.Phylum 1) use_tree
-use_specimen = record { fits = inl (0, (refl, op_use, refl, refl, refl)); rests = (tt, tt); few_elements = tt; names = (tt, refl); places = tt }
+use_specimen =
+    record {
+      fits = inl (0, (refl, op_use, refl, refl, refl));
+      rests = (tt, tt);
+      few_elements = tt;
+      names = (tt, refl);
+      places = tt;
+    }
 
 empty_specimen : IsSpecimen numerals (kinds.List 0) empty_tree
-empty_specimen = record { fits = (refl, refl, refl, (list_items, refl, λ e. refl)); rests = (tt, tt); few_elements = tt; names = tt; places = tt }
+empty_specimen =
+    record {
+      fits = (refl, refl, refl, (list_items, refl, λ e. refl));
+      rests = (tt, tt);
+      few_elements = tt;
+      names = tt;
+      places = tt;
+    }
 
 pub sound : IsSound numerals
 sound = record {
@@ -314,15 +360,62 @@ sound = record {
   );
   operators = (zero_sound, (succ_sound, (def_sound, (use_sound, (blk_sound, tt)))));
   hole_rows = (
-    record { sort = 1; kind_sort = num_sort; term = any_term; few_cases = lit< tt; each_case = (record { term = none_term; specimen = zero_specimen }, (record { term = next_term; specimen = succ_specimen }, tt)) },
+    record {
+      sort = 1;
+      kind_sort = num_sort;
+      term = any_term;
+      few_cases = lit< tt;
+      each_case = (
+        record { term = none_term; specimen = zero_specimen },
+        (record { term = next_term; specimen = succ_specimen }, tt),
+      );
+    },
     (
-      record { sort = 0; kind_sort = item_sort; term = ok_term; few_cases = lit< tt; each_case = (record { term = ok_term; specimen = use_specimen }, tt) },
-      (record { sort = 0; kind_sort = items_sort; term = ok_term; few_cases = lit< tt; each_case = (record { term = ok_term; specimen = empty_specimen }, tt) }, tt),
+      record {
+        sort = 0;
+        kind_sort = item_sort;
+        term = ok_term;
+        few_cases = lit< tt;
+        each_case = (record { term = ok_term; specimen = use_specimen }, tt);
+      },
+      (
+        record {
+          sort = 0;
+          kind_sort = items_sort;
+          term = ok_term;
+          few_cases = lit< tt;
+          each_case = (record { term = ok_term; specimen = empty_specimen }, tt);
+        },
+        tt,
+      ),
     ),
   );
   declare_rows = (
-    record { entity = 1; space_sort = space_sort; term = none_term; list = list_items; list_is = refl; element = 0; element_sort = item_sort; value = ok_term; specimen = def_zero },
-    (record { entity = 1; space_sort = space_sort; term = next_term; list = list_items; list_is = refl; element = 0; element_sort = item_sort; value = ok_term; specimen = def_succ }, tt),
+    record {
+      entity = 1;
+      space_sort = space_sort;
+      term = none_term;
+      list = list_items;
+      list_is = refl;
+      element = 0;
+      element_sort = item_sort;
+      value = ok_term;
+      specimen = def_zero;
+    },
+    (
+      record {
+        entity = 1;
+        space_sort = space_sort;
+        term = next_term;
+        list = list_items;
+        list_is = refl;
+        element = 0;
+        element_sort = item_sort;
+        value = ok_term;
+        specimen = def_succ;
+      },
+      tt,
+    ),
   );
   few_sorts = lit< tt;
   few_constructors = lit< tt;

@@ -7,7 +7,8 @@ use Rattle.psg_completions.specs.Counts.{one_if, tally, count}
 
 pub tally_append : (p : Key → Bool) (xs ys : List Key) → tally p (xs ++ ys) ≡ tally p xs + tally p ys
 tally_append p [] ys = omega arith
-tally_append p (x ∷ xs) ys = let d : tally p (xs ++ ys) ≡ tally p xs + tally p ys = tally_append p xs ys in omega (arith, d)
+tally_append p (x ∷ xs) ys = let d : tally p (xs ++ ys) ≡ tally p xs + tally p ys = tally_append p xs ys in
+    omega (arith, d)
 
 pub or_parts : (a b : Bool) → a || b ≡ false → (a ≡ false) × (b ≡ false)
 or_parts true b e = absurd (true≢false e)
@@ -24,8 +25,10 @@ none_among m (x ∷ xs) e =
 pub among_none : (m : Key) (xs : List Key) → count m xs ≡ 0 → is_among xs m ≡ false
 among_none m [] e = refl
 among_none m (x ∷ xs) e = elim (either (bytes_eq x m)) [
-  | inl t ↦ let c : one_if (bytes_eq x m) ≡ 1 = ap one_if t in absurd (let z : 1 ≤ 0 = omega (arith, c, e) in omega (arith, z))
-  | inr f ↦ let c : one_if (bytes_eq x m) ≡ 0 = ap one_if f in let d : count m xs ≡ 0 = omega (arith, c, e) in ap₂ (λ a b. a || b) f (among_none m xs d)
+  | inl t ↦ let c : one_if (bytes_eq x m) ≡ 1 = ap one_if t in
+      absurd (let z : 1 ≤ 0 = omega (arith, c, e) in omega (arith, z))
+  | inr f ↦ let c : one_if (bytes_eq x m) ≡ 0 = ap one_if f in let d : count m xs ≡ 0 = omega (arith, c, e) in
+      ap₂ (λ a b. a || b) f (among_none m xs d)
 ]
 
 pub once_of : (m : Key) (xs : List Key) → has_twice xs ≡ false → count m xs ≤ 1
@@ -47,7 +50,8 @@ of_once (x ∷ xs) h =
     let c : one_if (bytes_eq x x) ≡ 1 = ap one_if (bytes_refl x) in
     let k : one_if (bytes_eq x x) + count x xs ≤ 1 = h x in
     let z : count x xs ≡ 0 = omega (arith, c, k) in
-    ap₂ (λ a b. a || b) (among_none x xs z) (of_once xs (λ m. let j : one_if (bytes_eq x m) + count m xs ≤ 1 = h m in omega (arith, j)))
+    ap₂ (λ a b. a || b) (among_none x xs z)
+    (of_once xs (λ m. let j : one_if (bytes_eq x m) + count m xs ≤ 1 = h m in omega (arith, j)))
 
 abbrev pub AllAre : (Key → Bool) → List Key → Type 0
 AllAre p [] = Unit {0}
@@ -75,14 +79,18 @@ all_kept p q (x ∷ xs) (a, h) = go (all_kept p q xs h) (p x) where
 pub all_rest : (p q : Key → Bool) (xs : List Key) → AllAre (λ n. p n || q n) xs → AllAre q (only (λ n. not (p n)) xs)
 all_rest p q [] h = tt
 all_rest p q (x ∷ xs) (a, h) = go (all_rest p q xs h) (p x) refl where
-  go : AllAre q (only (λ n. not (p n)) xs) → (b : Bool) → p x ≡ b → AllAre q (cond (not b) (x ∷ only (λ n. not (p n)) xs) (only (λ n. not (p n)) xs))
+  go : AllAre q (only (λ n. not (p n)) xs) → (b : Bool) → p x ≡ b
+      → AllAre q (cond (not b) (x ∷ only (λ n. not (p n)) xs) (only (λ n. not (p n)) xs))
   go k true e = k
   go k false e = (sym (ap (λ b. b || q x) e) ∙ a, k)
 
-pub count_split : (m : Key) (p : Key → Bool) (xs : List Key) → count m (only p xs) + count m (only (λ n. not (p n)) xs) ≡ count m xs
+pub count_split : (m : Key) (p : Key → Bool) (xs : List Key)
+    → count m (only p xs) + count m (only (λ n. not (p n)) xs) ≡ count m xs
 count_split m p [] = omega arith
 count_split m p (x ∷ xs) = go (count_split m p xs) (p x) where
-  go : count m (only p xs) + count m (only (λ n. not (p n)) xs) ≡ count m xs → (b : Bool) → count m (cond b (x ∷ only p xs) (only p xs)) + count m (cond (not b) (x ∷ only (λ n. not (p n)) xs) (only (λ n. not (p n)) xs)) ≡ count m (x ∷ xs)
+  go : count m (only p xs) + count m (only (λ n. not (p n)) xs) ≡ count m xs → (b : Bool)
+      → count m (cond b (x ∷ only p xs) (only p xs)) + count m
+      (cond (not b) (x ∷ only (λ n. not (p n)) xs) (only (λ n. not (p n)) xs)) ≡ count m (x ∷ xs)
   go h true = omega (arith, h)
   go h false = omega (arith, h)
 
@@ -103,14 +111,17 @@ count_only m p (x ∷ xs) = elim (either (bytes_eq x m)) [
   skip z true = omega (arith, z)
   skip z false = refl
 
-  go : count m (only p xs) ≡ cond (p m) (count m xs) 0 → p x ≡ p m → (b : Bool) → p m ≡ b → count m (only p (x ∷ xs)) ≡ cond (p m) (count m (x ∷ xs)) 0
+  go : count m (only p xs) ≡ cond (p m) (count m xs) 0 → p x ≡ p m → (b : Bool) → p m ≡ b
+      → count m (only p (x ∷ xs)) ≡ cond (p m) (count m (x ∷ xs)) 0
   go h same true e =
-      let a : count m (only p (x ∷ xs)) ≡ count m (x ∷ only p xs) = ap (λ b. count m (cond b (x ∷ only p xs) (only p xs))) (same ∙ e) in
+      let a : count m (only p (x ∷ xs)) ≡ count m (x ∷ only p xs) =
+      ap (λ b. count m (cond b (x ∷ only p xs) (only p xs))) (same ∙ e) in
       let c : count m (only p xs) ≡ count m xs = h ∙ ap (λ b. cond b (count m xs) 0) e in
       let d : cond (p m) (count m (x ∷ xs)) 0 ≡ count m (x ∷ xs) = ap (λ b. cond b (count m (x ∷ xs)) 0) e in
       omega (arith, a, c, d)
   go h same false e =
-      let a : count m (only p (x ∷ xs)) ≡ count m (only p xs) = ap (λ b. count m (cond b (x ∷ only p xs) (only p xs))) (same ∙ e) in
+      let a : count m (only p (x ∷ xs)) ≡ count m (only p xs) =
+      ap (λ b. count m (cond b (x ∷ only p xs) (only p xs))) (same ∙ e) in
       let c : count m (only p xs) ≡ 0 = h ∙ ap (λ b. cond b (count m xs) 0) e in
       let d : cond (p m) (count m (x ∷ xs)) 0 ≡ 0 = ap (λ b. cond b (count m (x ∷ xs)) 0) e in
       omega (arith, a, c, d)
@@ -146,7 +157,8 @@ module _ (names : Renaming) where
         | inl t ↦
             let e : names.back m ≡ x = ap names.back (sym (bytes_same (names.to x) m t)) ∙ q in
             let c : one_if (bytes_eq (names.to x) m) ≡ 1 = ap one_if t in
-            let s : one_if (bytes_eq x (names.back m)) ≡ 1 = ap one_if (subst (λ y. bytes_eq x y ≡ true) (sym e) (bytes_refl x)) in
+            let s : one_if (bytes_eq x (names.back m)) ≡ 1 =
+            ap one_if (subst (λ y. bytes_eq x y ≡ true) (sym e) (bytes_refl x)) in
             omega (arith, c, s, d)
         | inr f ↦ let c : one_if (bytes_eq (names.to x) m) ≡ 0 = ap one_if f in omega (arith, c, d)
       ]
@@ -160,11 +172,14 @@ module _ (names : Renaming) where
         | inr f ↦ let c : one_if (bytes_eq (names.to x) m) ≡ 0 = ap one_if f in omega (arith, c, d)
       ]
 
-  pub image_none : (m : Key) (xs : List Key) → names.to (names.back m) ≡ m → image m xs ≡ 0 → is_among xs (names.back m) ≡ false
+  pub image_none : (m : Key) (xs : List Key) → names.to (names.back m) ≡ m → image m xs ≡ 0
+      → is_among xs (names.back m) ≡ false
   image_none m [] r e = refl
   image_none m (x ∷ xs) r e = elim (either (bytes_eq x (names.back m))) [
     | inl t ↦
-        let c : one_if (bytes_eq (names.to x) m) ≡ 1 = ap one_if (subst (λ y. bytes_eq (names.to x) y ≡ true) (ap names.to (bytes_same x (names.back m) t) ∙ r) (bytes_refl (names.to x))) in
+        let c : one_if (bytes_eq (names.to x) m) ≡ 1 =
+        ap one_if (subst (λ y. bytes_eq (names.to x) y ≡ true) (ap names.to (bytes_same x (names.back m) t) ∙ r)
+        (bytes_refl (names.to x))) in
         absurd (let z : 1 ≤ 0 = omega (arith, c, e) in omega (arith, z))
     | inr f ↦ ap₂ (λ a b. a || b) f (image_none m xs r (omega (arith, e)))
   ]
@@ -176,7 +191,9 @@ module _ (names : Renaming) where
       elim (either (bytes_eq x (names.back m))) [
         | inl t ↦
             let c : one_if (bytes_eq x (names.back m)) ≡ 1 = ap one_if t in
-            let s : one_if (bytes_eq (names.to x) m) ≡ 1 = ap one_if (subst (λ y. bytes_eq (names.to x) y ≡ true) (ap names.to (bytes_same x (names.back m) t) ∙ r) (bytes_refl (names.to x))) in
+            let s : one_if (bytes_eq (names.to x) m) ≡ 1 =
+            ap one_if (subst (λ y. bytes_eq (names.to x) y ≡ true)
+            (ap names.to (bytes_same x (names.back m) t) ∙ r) (bytes_refl (names.to x))) in
             omega (arith, c, s, d)
         | inr f ↦ let c : one_if (bytes_eq x (names.back m)) ≡ 0 = ap one_if f in omega (arith, c, d)
       ]

@@ -22,7 +22,8 @@ abbrev pub mixed : List Key → Entities → Entities → Entities
 mixed names g h n = cond (is_among names n) (g n) (h n)
 
 module _ (def : Definition) where
-  pub mixed_entities : (names : List Key) (g h : Entities) → AreEntities def g → AreEntities def h → AreEntities def (mixed names g h)
+  pub mixed_entities : (names : List Key) (g h : Entities) → AreEntities def g → AreEntities def h
+      → AreEntities def (mixed names g h)
   mixed_entities names g h p q = record {
     ground = λ n. elim (either (is_among names n)) [
       | inl e ↦ subst (λ b. IsGround (cond b (g n) (h n))) (sym e) (p.ground n)
@@ -45,7 +46,8 @@ module _ (def : Definition) where
   abbrev theirs : (ℕ → Bool) → List Key → Entities → Entities → Entities
   theirs unfinished declared inner h n = cond (unfinished (space_of n) || is_among declared n) (inner n) (h n)
 
-  theirs_entities : (unfinished : ℕ → Bool) (declared : List Key) (g h : Entities) → AreEntities def g → AreEntities def h → AreEntities def (theirs unfinished declared g h)
+  theirs_entities : (unfinished : ℕ → Bool) (declared : List Key) (g h : Entities) → AreEntities def g
+      → AreEntities def h → AreEntities def (theirs unfinished declared g h)
   theirs_entities unfinished declared g h p q = record {
     ground = λ n. elim (either (unfinished (space_of n) || is_among declared n)) [
       | inl e ↦ subst (λ b. IsGround (cond b (g n) (h n))) (sym e) (p.ground n)
@@ -61,9 +63,13 @@ module _ (def : Definition) where
   both_false true b e = absurd (true≢false e)
   both_false false b e = (refl, e)
 
-  moved_by : (t : Fragment) (scope : Bool) (unfinished : ℕ → Bool) (g h inner : Entities) → AreEntities def h → AreEntities def inner
-      → Within scope (AgreeOpen unfinished (declared_inside def t)) g inner → SameOn (passing scope unfinished (declared_inside def t) (names_inside def t)) g h
-      → (inside : Entities) × AreEntities def inside × Within scope (AgreeOpen unfinished (declared_inside def t)) h inside × SameOn (names_inside def t) inner inside
+  moved_by : (t : Fragment) (scope : Bool) (unfinished : ℕ → Bool) (g h inner : Entities) → AreEntities def h
+      → AreEntities def inner
+      → Within scope (AgreeOpen unfinished (declared_inside def t)) g inner
+      → SameOn (passing scope unfinished (declared_inside def t) (names_inside def t)) g h
+      → (inside : Entities) × AreEntities def inside
+      × Within scope (AgreeOpen unfinished (declared_inside def t)) h inside
+      × SameOn (names_inside def t) inner inside
   moved_by t false unfinished g h inner eh ei agr same = (h, eh, refl, λ n e. ap (λ k. k n) agr ∙ same n e)
   moved_by t true unfinished g h inner eh ei agr same = (
     theirs unfinished (declared_inside def t) inner h,
@@ -73,24 +79,30 @@ module _ (def : Definition) where
       | inl d ↦ sym (ap (λ b. cond b (inner n) (h n)) d)
       | inr d ↦
           let (u, k) = both_false (unfinished (space_of n)) (is_among (declared_inside def t) n) d in
-          agr n u k ∙ same n (among_outward unfinished (declared_inside def t) (names_inside def t) n e u k) ∙ sym (ap (λ b. cond b (inner n) (h n)) d)
+          agr n u k ∙ same n (among_outward unfinished (declared_inside def t) (names_inside def t) n e u k)
+          ∙ sym (ap (λ b. cond b (inner n) (h n)) d)
     ],
   )
 
   pub moved : (t : Fragment) (g h inner : Entities) → AreEntities def h → AreEntities def inner → Agrees def t g inner
-      → SameOn (passing (is_scope def t) (λ s. unfinished_inside def s t) (declared_inside def t) (names_inside def t)) g h → Moved t h inner
+      → SameOn (passing (is_scope def t) (λ s. unfinished_inside def s t) (declared_inside def t) (names_inside def t))
+      g h → Moved t h inner
   moved t g h inner eh ei agr same =
-      let (inside, ents, agrees, on) = moved_by t (is_scope def t) (λ s. unfinished_inside def s t) g h inner eh ei agr same in
+      let (inside, ents, agrees, on) =
+      moved_by t (is_scope def t) (λ s. unfinished_inside def s t) g h inner eh ei agr same in
       record { inside = inside; entities = ents; agrees = agrees; same = on }
 
   -- what holds under some entities holds under others that are the same for the names inside
-  pub holds_frame : (f : Fragment) (c : Choice f) (g h : Entities) (columns : List Term) (v : Term) (before after : List Term) → AreEntities def h → SameOn (names_inside def f) g h
+  pub holds_frame : (f : Fragment) (c : Choice f) (g h : Entities) (columns : List Term) (v : Term)
+      (before after : List Term) → AreEntities def h → SameOn (names_inside def f) g h
       → Holds def g f c columns v before after → Holds def h f c columns v before after
   holds_frame (hole p) c g h columns v before after eh same it = it
   holds_frame (ending l true) c g h columns v before after eh same it = it
   holds_frame (ending l false) c g h columns v before after eh same it = it
-  holds_frame (cell l e r) c g h columns v before after eh same (none, first, others, mid, inner, row, ei, agr, he, hr) =
-      let outward = passing (is_scope def e) (λ s. unfinished_inside def s e) (declared_inside def e) (names_inside def e) in
+  holds_frame (cell l e r) c g h columns v before after eh same
+      (none, first, others, mid, inner, row, ei, agr, he, hr) =
+      let outward =
+      passing (is_scope def e) (λ s. unfinished_inside def s e) (declared_inside def e) (names_inside def e) in
       let m = moved e g h inner eh ei agr (λ n a. same n (among_left outward (names_inside def r) n a)) in (
         none,
         first,
@@ -105,20 +117,29 @@ module _ (def : Definition) where
       )
   holds_frame (operator o) c g h columns v before after eh same it = it
   holds_frame (with_child f t) c g h columns v before after eh same (u, mid, inner, hf, ei, agr, ht) =
-      let outward = passing (is_scope def t) (λ s. unfinished_inside def s t) (declared_inside def t) (names_inside def t) in
+      let outward =
+      passing (is_scope def t) (λ s. unfinished_inside def s t) (declared_inside def t) (names_inside def t) in
       let m = moved t g h inner eh ei agr (λ n a. same n (among_right (names_inside def f) outward n a)) in (
         u,
         mid,
         m.inside,
-        holds_frame f c.0 g h (u ∷ columns) v before mid eh (λ n a. same n (among_left (names_inside def f) outward n a)) hf,
+        holds_frame f c.0 g h (u ∷ columns) v before mid eh
+            (λ n a. same n (among_left (names_inside def f) outward n a)) hf,
         m.entities,
         m.agrees,
         holds_frame t c.1 inner m.inside [] u mid after m.entities m.same ht,
       )
   holds_frame (with_name f x) c g h columns v before after eh same it =
-      let here : g (key_at def f x) ≡ h (key_at def f x) = same (key_at def f x) (among_right (names_inside def f) (key_at def f x ∷ []) (key_at def f x) (among_one (key_at def f x))) in
-      subst (λ y. Holds def h f c (y ∷ columns) v before after) here (holds_frame f c g h (g (key_at def f x) ∷ columns) v before after eh (λ n a. same n (among_left (names_inside def f) (key_at def f x ∷ []) n a)) it)
-  holds_frame (with_number f x) c g h columns v before after eh same it = holds_frame f c g h columns v before after eh same it
-  holds_frame (with_text f x) c g h columns v before after eh same it = holds_frame f c g h columns v before after eh same it
+      let here : g (key_at def f x) ≡ h (key_at def f x) =
+      same (key_at def f x) (among_right (names_inside def f) (key_at def f x ∷ []) (key_at def f x)
+      (among_one (key_at def f x))) in
+      subst (λ y. Holds def h f c (y ∷ columns) v before after) here
+      (holds_frame f c g h (g (key_at def f x) ∷ columns) v before after eh
+      (λ n a. same n (among_left (names_inside def f) (key_at def f x ∷ []) n a)) it)
+  holds_frame (with_number f x) c g h columns v before after eh same it =
+      holds_frame f c g h columns v before after eh same it
+  holds_frame (with_text f x) c g h columns v before after eh same it =
+      holds_frame f c g h columns v before after eh same it
   holds_frame anything c g h columns v before after eh same it = it
-  holds_frame (observed f) c g h columns v before after eh same (mid, e, it) = (mid, e, holds_frame f c g h columns v mid after eh same it)
+  holds_frame (observed f) c g h columns v before after eh same (mid, e, it) =
+      (mid, e, holds_frame f c g h columns v mid after eh same it)

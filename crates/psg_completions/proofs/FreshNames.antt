@@ -33,7 +33,8 @@ others s n (x ∷ avoid) e = elim (either (bytes_eq (name_in x) n)) [
   | inr f ↦
       let rest : is_among (map name_in avoid) n ≡ false = sym (ap (λ b. b || is_among (map name_in avoid) n) f) ∙ e in
       let here : bytes_eq x (s ∷ n) ≡ false = elim (either (bytes_eq x (s ∷ n))) [
-        | inl y ↦ absurd (true≢false (sym (bytes_refl n) ∙ subst (λ z. bytes_eq (name_in z) n ≡ false) (bytes_same x (s ∷ n) y) f))
+        | inl y ↦ absurd
+            (true≢false (sym (bytes_refl n) ∙ subst (λ z. bytes_eq (name_in z) n ≡ false) (bytes_same x (s ∷ n) y) f))
         | inr y ↦ y
       ] in
       ap (λ a. a || is_among avoid (s ∷ n)) here ∙ others s n avoid rest
@@ -43,8 +44,10 @@ pub key_space : (def : Definition) (x y : Key) → IsKeyFor def x y → space_of
 key_space def x y (e, good) = ap space_of e
 
 -- new keys from new names
-pub fresh_key : (def : Definition) (x : Key) (avoid : List Key) → (y : Key) × IsKeyFor def x y × (is_among avoid y ≡ false)
-fresh_key def x avoid = let (n, good, free) = fresh def (map name_in avoid) in (space_of x ∷ n, (refl, good), others (space_of x) n avoid free)
+pub fresh_key : (def : Definition) (x : Key) (avoid : List Key)
+    → (y : Key) × IsKeyFor def x y × (is_among avoid y ≡ false)
+fresh_key def x avoid = let (n, good, free) = fresh def (map name_in avoid) in
+    (space_of x ∷ n, (refl, good), others (space_of x) n avoid free)
 
 -- Good x y: the key y may stand for x
 module _ (Good : Key → Key → Type 0) (alike : (x y : Key) → Good x y → space_of y ≡ space_of x) (fresh : (x : Key) (avoid : List Key) → (y : Key) × Good x y × (is_among avoid y ≡ false)) where
@@ -74,31 +77,42 @@ module _ (Good : Key → Key → Type 0) (alike : (x y : Key) → Good x y → s
   }
 
   -- one more name, with a target that isn't yet one
-  pub one_name : (x y : Key) (xs avoid keep : List Key) (r : NewNames xs avoid keep) → Good x y → is_among xs x ≡ false → is_among r.targets y ≡ false → (is_among avoid y ≡ false) ⊎ (is_among keep y ≡ true) → NewNames (x ∷ xs) avoid keep
+  pub one_name : (x y : Key) (xs avoid keep : List Key) (r : NewNames xs avoid keep) → Good x y → is_among xs x ≡ false
+      → is_among r.targets y ≡ false → (is_among avoid y ≡ false) ⊎ (is_among keep y ≡ true)
+      → NewNames (x ∷ xs) avoid keep
   one_name x y xs avoid keep r good other free ap_y = record {
     rho = λ n. cond (bytes_eq x n) y (r.rho n);
     back = λ m. cond (bytes_eq y m) x (r.back m);
     targets = y ∷ r.targets;
     space = λ m. elim (either (bytes_eq y m)) [
-      | inl t ↦ subst (λ b. space_of (cond b x (r.back m)) ≡ space_of m) (sym t) (sym (alike x y good) ∙ ap space_of (bytes_same y m t))
+      | inl t ↦ subst (λ b. space_of (cond b x (r.back m)) ≡ space_of m) (sym t)
+          (sym (alike x y good) ∙ ap space_of (bytes_same y m t))
       | inr f ↦ subst (λ b. space_of (cond b x (r.back m)) ≡ space_of m) (sym f) (r.space m)
     ];
     into = λ n e. elim (either (bytes_eq x n)) [
-      | inl t ↦ subst (λ b. is_among (y ∷ r.targets) (cond b y (r.rho n)) ≡ true) (sym t) (ap (λ b. b || is_among r.targets y) (bytes_refl y))
-      | inr f ↦ subst (λ b. is_among (y ∷ r.targets) (cond b y (r.rho n)) ≡ true) (sym f) (or_right (bytes_eq y (r.rho n)) (is_among r.targets (r.rho n)) (r.into n (rest n e f)))
+      | inl t ↦ subst (λ b. is_among (y ∷ r.targets) (cond b y (r.rho n)) ≡ true) (sym t)
+          (ap (λ b. b || is_among r.targets y) (bytes_refl y))
+      | inr f ↦ subst (λ b. is_among (y ∷ r.targets) (cond b y (r.rho n)) ≡ true) (sym f)
+          (or_right (bytes_eq y (r.rho n)) (is_among r.targets (r.rho n)) (r.into n (rest n e f)))
     ];
     backs = λ n e. elim (either (bytes_eq x n)) [
-      | inl t ↦ subst (λ b. cond (bytes_eq y (cond b y (r.rho n))) x (r.back (cond b y (r.rho n))) ≡ n) (sym t) (ap (λ b. cond b x (r.back y)) (bytes_refl y) ∙ bytes_same x n t)
-      | inr f ↦ subst (λ b. cond (bytes_eq y (cond b y (r.rho n))) x (r.back (cond b y (r.rho n))) ≡ n) (sym f) (ap (λ b. cond b x (r.back (r.rho n))) (apart_y (r.rho n) (r.into n (rest n e f))) ∙ r.backs n (rest n e f))
+      | inl t ↦ subst (λ b. cond (bytes_eq y (cond b y (r.rho n))) x (r.back (cond b y (r.rho n))) ≡ n) (sym t)
+          (ap (λ b. cond b x (r.back y)) (bytes_refl y) ∙ bytes_same x n t)
+      | inr f ↦ subst (λ b. cond (bytes_eq y (cond b y (r.rho n))) x (r.back (cond b y (r.rho n))) ≡ n) (sym f)
+          (ap (λ b. cond b x (r.back (r.rho n))) (apart_y (r.rho n) (r.into n (rest n e f))) ∙ r.backs n (rest n e f))
     ];
     over = λ m e. elim (either (bytes_eq y m)) [
       | inl t ↦ (
-        subst (λ b. cond (bytes_eq x (cond b x (r.back m))) y (r.rho (cond b x (r.back m))) ≡ m) (sym t) (ap (λ b. cond b y (r.rho x)) (bytes_refl x) ∙ bytes_same y m t),
-        subst (λ b. is_among (x ∷ xs) (cond b x (r.back m)) ≡ true) (sym t) (ap (λ b. b || is_among xs x) (bytes_refl x)),
+        subst (λ b. cond (bytes_eq x (cond b x (r.back m))) y (r.rho (cond b x (r.back m))) ≡ m) (sym t)
+            (ap (λ b. cond b y (r.rho x)) (bytes_refl x) ∙ bytes_same y m t),
+        subst (λ b. is_among (x ∷ xs) (cond b x (r.back m)) ≡ true) (sym t)
+            (ap (λ b. b || is_among xs x) (bytes_refl x)),
       )
       | inr f ↦ let (a, b) = r.over m (rest_y m e f) in (
-        subst (λ b. cond (bytes_eq x (cond b x (r.back m))) y (r.rho (cond b x (r.back m))) ≡ m) (sym f) (ap (λ b. cond b y (r.rho (r.back m))) (apart_x (r.back m) b) ∙ a),
-        subst (λ c. is_among (x ∷ xs) (cond c x (r.back m)) ≡ true) (sym f) (or_right (bytes_eq x (r.back m)) (is_among xs (r.back m)) b),
+        subst (λ b. cond (bytes_eq x (cond b x (r.back m))) y (r.rho (cond b x (r.back m))) ≡ m) (sym f)
+            (ap (λ b. cond b y (r.rho (r.back m))) (apart_x (r.back m) b) ∙ a),
+        subst (λ c. is_among (x ∷ xs) (cond c x (r.back m)) ≡ true) (sym f)
+            (or_right (bytes_eq x (r.back m)) (is_among xs (r.back m)) b),
       )
     ];
     good = λ n e. elim (either (bytes_eq x n)) [
@@ -129,7 +143,8 @@ module _ (Good : Key → Key → Type 0) (alike : (x y : Key) → Good x y → s
     ]
 
   -- the same names in another list
-  relist : (xs ys avoid keep : List Key) → ((n : Key) → is_among ys n ≡ is_among xs n) → NewNames xs avoid keep → NewNames ys avoid keep
+  relist : (xs ys avoid keep : List Key) → ((n : Key) → is_among ys n ≡ is_among xs n) → NewNames xs avoid keep
+      → NewNames ys avoid keep
   relist xs ys avoid keep same r = record {
     rho = r.rho;
     back = r.back;
@@ -155,23 +170,32 @@ module _ (Good : Key → Key → Type 0) (alike : (x y : Key) → Good x y → s
       elim (either (is_among (xs ++ ys) x)) [
         | inl t ↦ record { names = relist (xs ++ ys) (x ∷ (xs ++ ys)) avoid keep (there t) s.names; same = s.same }
         | inr f ↦ let (y, good, free) = fresh x (avoid ++ s.names.targets) in record {
-          names = one_name x y (xs ++ ys) avoid keep s.names good f (none_right avoid s.names.targets y free) (inl (none_left avoid s.names.targets y free));
+          names =
+              one_name x y (xs ++ ys) avoid keep s.names good f (none_right avoid s.names.targets y free)
+              (inl (none_left avoid s.names.targets y free));
           same = λ n e. ap (λ b. cond b y (s.names.rho n)) (other f n e) ∙ s.same n e;
         }
       ] where
         there : is_among (xs ++ ys) x ≡ true → (n : Key) → is_among (x ∷ (xs ++ ys)) n ≡ is_among (xs ++ ys) n
         there t n = elim (either (bytes_eq x n)) [
-          | inl e ↦ ap (λ b. b || is_among (xs ++ ys) n) e ∙ sym (subst (λ k. is_among (xs ++ ys) k ≡ true) (bytes_same x n e) t)
+          | inl e ↦ ap (λ b. b || is_among (xs ++ ys) n) e
+              ∙ sym (subst (λ k. is_among (xs ++ ys) k ≡ true) (bytes_same x n e) t)
           | inr e ↦ ap (λ b. b || is_among (xs ++ ys) n) e
         ]
 
         other : is_among (xs ++ ys) x ≡ false → (n : Key) → is_among ys n ≡ true → bytes_eq x n ≡ false
         other f n e = elim (either (bytes_eq x n)) [
-          | inl t ↦ absurd (true≢false (sym (among_right xs ys n e) ∙ subst (λ k. is_among (xs ++ ys) k ≡ false) (bytes_same x n t) f))
+          | inl t ↦ absurd
+              (true≢false (sym (among_right xs ys n e)
+              ∙ subst (λ k. is_among (xs ++ ys) k ≡ false) (bytes_same x n t) f))
           | inr t ↦ t
         ]
 
   -- a given name for one name
   pub single_name : (x y : Key) (avoid : List Key) → Good x y → (r : NewNames (x ∷ []) avoid (y ∷ [])) × (r.rho x ≡ y)
   unfolding one_name no_names
-  single_name x y avoid good = (one_name x y [] avoid (y ∷ []) (no_names avoid (y ∷ [])) good refl refl (inr (ap (λ b. b || false) (bytes_refl y))), ap (λ b. cond b y x) (bytes_refl x))
+  single_name x y avoid good = (
+    one_name x y [] avoid (y ∷ []) (no_names avoid (y ∷ [])) good refl refl
+        (inr (ap (λ b. b || false) (bytes_refl y))),
+    ap (λ b. cond b y x) (bytes_refl x),
+  )

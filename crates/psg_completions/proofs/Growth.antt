@@ -126,7 +126,10 @@ module _ (def : Definition) where
     CanGrow (cell l e r) = CanGrow e × CanGrow r × IsUnobserved r
     CanGrow (operator o) = Unit {0}
     CanGrow (with_child f t) = CanGrow f × CanGrow t
-    CanGrow (with_name f n) = CanGrow f × (names.mine (names.to (key_at def f n)) ≡ true) × (names.back (names.to (key_at def f n)) ≡ key_at def f n) × (names.to (key_at def f n) ≡ space_of (key_at def f n) ∷ name_in (names.to (key_at def f n))) × IsName def (name_in (names.to (key_at def f n)))
+    CanGrow (with_name f n) = CanGrow f × (names.mine (names.to (key_at def f n)) ≡ true)
+        × (names.back (names.to (key_at def f n)) ≡ key_at def f n)
+        × (names.to (key_at def f n) ≡ space_of (key_at def f n) ∷ name_in (names.to (key_at def f n)))
+        × IsName def (name_in (names.to (key_at def f n)))
     CanGrow (with_number f n) = CanGrow f
     CanGrow (with_text f n) = CanGrow f
     CanGrow anything = Unit {0}
@@ -135,13 +138,19 @@ module _ (def : Definition) where
     pub own_declared : (f : Fragment) → CanGrow f → Own names (declared_inside def f)
     own_declared (hole p) h = tt
     own_declared (ending l u) h = tt
-    own_declared (cell l e r) (he, hr, free) = own_append names (adds e) (declared_inside def r) (own_cond names (is_scope def e) (declared_inside def e) (own_declared e he)) (own_declared r hr)
+    own_declared (cell l e r) (he, hr, free) =
+        own_append names (adds e) (declared_inside def r)
+        (own_cond names (is_scope def e) (declared_inside def e) (own_declared e he)) (own_declared r hr)
     own_declared (operator o) h = tt
-    own_declared (with_child f t) (hf, ht) = own_append names (declared_inside def f) (adds t) (own_declared f hf) (own_cond names (is_scope def t) (declared_inside def t) (own_declared t ht))
-    own_declared (with_name f n) (hf, a, b, c, d) = own_append names (declared_inside def f) (cond (is_declares (next_item def f)) (key_at def f n ∷ []) []) (own_declared f hf) (named (is_declares (next_item def f))) where
-      named : (b : Bool) → Own names (cond b (key_at def f n ∷ []) [])
-      named true = (a, b, tt)
-      named false = tt
+    own_declared (with_child f t) (hf, ht) =
+        own_append names (declared_inside def f) (adds t) (own_declared f hf)
+        (own_cond names (is_scope def t) (declared_inside def t) (own_declared t ht))
+    own_declared (with_name f n) (hf, a, b, c, d) =
+        own_append names (declared_inside def f) (cond (is_declares (next_item def f)) (key_at def f n ∷ []) [])
+        (own_declared f hf) (named (is_declares (next_item def f))) where
+          named : (b : Bool) → Own names (cond b (key_at def f n ∷ []) [])
+          named true = (a, b, tt)
+          named false = tt
     own_declared (with_number f n) h = own_declared f h
     own_declared (with_text f n) h = own_declared f h
     own_declared anything h = tt
@@ -162,7 +171,8 @@ module _ (def : Definition) where
     Grown (observed f) t = (f' : Fragment) × (t ≡ observed f') × Grown f f'
 
     module _ (Allowed : Type 0) where
-      pub record Node (f : Fragment) (g : Entities) (more : List Item) (kind : Kind) (columns : List Term) (v : Term) (before after : List Term) (avoid extra : List Key) : Type 0 where
+      pub record Node (f : Fragment) (g : Entities) (more : List Item) (kind : Kind) (columns : List Term) (v : Term)
+          (before after : List Term) (avoid extra : List Key) : Type 0 where
         pub tree : Fragment
         pub grown : Grown f tree
         pub fits : Fits def tree more kind
@@ -175,11 +185,14 @@ module _ (def : Definition) where
         pub given : Entities
         pub entities : AreEntities def given
         pub below : DistinctBelow def tree
-        pub declares : (m : Key) → is_among new m ≡ false → count m (declared_inside def tree) ≡ image names m (declared_inside def f) + count m extra
+        pub declares : (m : Key) → is_among new m ≡ false
+            → count m (declared_inside def tree) ≡ image names m (declared_inside def f) + count m extra
         pub once : (m : Key) → is_among new m ≡ true → count m (declared_inside def tree) ≤ 1
-        pub legal : (h : Entities) → AreEntities def h → Lifts names g h → SameOn new given h → Legal def h tree columns v before after
+        pub legal : (h : Entities) → AreEntities def h → Lifts names g h → SameOn new given h
+            → Legal def h tree columns v before after
 
-      pub record Child (t : Fragment) (g : Entities) (kind : Kind) (v : Term) (before after : List Term) (avoid extra : List Key) : Type 0 where
+      pub record Child (t : Fragment) (g : Entities) (kind : Kind) (v : Term) (before after : List Term)
+          (avoid extra : List Key) : Type 0 where
         pub tree : Fragment
         pub grown : Grown t tree
         pub fits : Fits def tree [] kind
@@ -193,24 +206,31 @@ module _ (def : Definition) where
         pub separate : AreDistinct (is_scope def tree) (declared_inside def tree)
         pub declares : (m : Key) → is_among new m ≡ false → count m (adds tree) ≡ image names m (adds t) + count m extra
         pub once : (m : Key) → is_among new m ≡ true → count m (adds tree) ≤ 1
-        pub legal : (h : Entities) → AreEntities def h → Lifts names g h → SameOn new given h → IsLegalPart h tree v before after
+        pub legal : (h : Entities) → AreEntities def h → Lifts names g h → SameOn new given h
+            → IsLegalPart h tree v before after
 
       abbrev pub Grows : Fragment → Entities → List Item → Kind → List Term → Term → List Term → List Term → Type 0
-      Grows f g more kind columns v before after = (avoid extra : List Key) → Kept names avoid → AllAre names.mine extra → Room f extra → Node f g more kind columns v before after avoid extra
+      Grows f g more kind columns v before after = (avoid extra : List Key) → Kept names avoid
+          → AllAre names.mine extra → Room f extra → Node f g more kind columns v before after avoid extra
 
       abbrev pub GrowsBeside : Fragment → Entities → Kind → Term → List Term → List Term → Type 0
-      GrowsBeside t g kind v before after = (avoid extra : List Key) → Kept names avoid → AllAre names.mine extra → RoomBeside t extra → Child t g kind v before after avoid extra
+      GrowsBeside t g kind v before after = (avoid extra : List Key) → Kept names avoid → AllAre names.mine extra
+          → RoomBeside t extra → Child t g kind v before after avoid extra
 
-      -- What the places and unfinished lists need: a tree for each value of a hole row, and an element for each key to be declared.
+      -- What the places and unfinished lists need: a tree for each value of a hole row, and an element for each key
+      -- to be declared.
       -- The keys in all are those that are mine, each once. What is left of the values of observed nodes is seen.
       pub record Supplied : Type 0 where
         pub over : (m : Key) → names.mine m ≡ true → names.to (names.back m) ≡ m
         pub spaces : (m : Key) → names.mine m ≡ true → space_of (names.back m) ≡ space_of m
-        pub sorted : Allowed → (l r : ℕ) (kind : ListKind) (v : Term) → slice_get def.lists l ≡ Some kind → IsOfHoleRow def (kinds.List l) r v
+        pub sorted : Allowed → (l r : ℕ) (kind : ListKind) (v : Term) → slice_get def.lists l ≡ Some kind
+            → IsOfHoleRow def (kinds.List l) r v
             → IsGround v × HasSort def.signature v kind.sort.0
         pub supply : Allowed → (kind : Kind) (r : ℕ) (v : Term) → IsOfHoleRow def kind r v → Supply kind v
-        pub declare : Allowed → (l : ℕ) (kind : ListKind) → slice_get def.lists l ≡ Some kind → kind.unfinished ≡ true → (g : Entities) → AreEntities def g
-            → (n : Key) → names.mine n ≡ true → is_declaring def (space_of n) (kinds.List l) ≡ true → (avoid : List Key) → Kept names avoid → Element l n (g (names.back n)) avoid
+        pub declare : Allowed → (l : ℕ) (kind : ListKind) → slice_get def.lists l ≡ Some kind → kind.unfinished ≡ true
+            → (g : Entities) → AreEntities def g
+            → (n : Key) → names.mine n ≡ true → is_declaring def (space_of n) (kinds.List l) ≡ true
+            → (avoid : List Key) → Kept names avoid → Element l n (g (names.back n)) avoid
         pub all : List Key
         pub all_mine : AllAre names.mine all
         pub listed : Allowed → (m : Key) → names.mine m ≡ true → count m all ≡ 1

@@ -20,7 +20,8 @@ run_length (suc n) = ap suc (run_length n)
 
 run_bytes : (n : ℕ) → run n ≡ encode_utf8_all (run n)
 run_bytes zero = refl
-run_bytes (suc n) = ap (λ xs. 97 ∷ xs) (run_bytes n) ∙ ap (λ xs. xs ++ encode_utf8_all (run n)) (sym (encode_ascii 97 (omega arith)))
+run_bytes (suc n) =
+    ap (λ xs. 97 ∷ xs) (run_bytes n) ∙ ap (λ xs. xs ++ encode_utf8_all (run n)) (sym (encode_ascii 97 (omega arith)))
 
 starts : IsTrue (starts_word 97)
 starts = ap (λ b. b || false) (is_xid_start-ascii 97 (omega arith))
@@ -51,8 +52,14 @@ too_long k (n ∷ ns) h =
 pub fresh : (def : Definition) (avoid : List Name) → (n : Name) × IsName def n × (is_among avoid n ≡ false)
 fresh def avoid =
     let k = longest (avoid ++ fixed_words def) in
-    let none : is_among (avoid ++ fixed_words def) (run (suc (longest (avoid ++ fixed_words def)))) ≡ false = too_long (suc (longest (avoid ++ fixed_words def))) (avoid ++ fixed_words def) (omega arith) in (
+    let none : is_among (avoid ++ fixed_words def) (run (suc (longest (avoid ++ fixed_words def)))) ≡ false =
+    too_long (suc (longest (avoid ++ fixed_words def))) (avoid ++ fixed_words def) (omega arith) in (
       run (suc (longest (avoid ++ fixed_words def))),
-      (run (suc (longest (avoid ++ fixed_words def))), run_bytes (suc (longest (avoid ++ fixed_words def))), (starts, run_goes (longest (avoid ++ fixed_words def))), none_right avoid (fixed_words def) (run (suc (longest (avoid ++ fixed_words def)))) none),
+      (
+        run (suc (longest (avoid ++ fixed_words def))),
+        run_bytes (suc (longest (avoid ++ fixed_words def))),
+        (starts, run_goes (longest (avoid ++ fixed_words def))),
+        none_right avoid (fixed_words def) (run (suc (longest (avoid ++ fixed_words def)))) none,
+      ),
       none_left avoid (fixed_words def) (run (suc (longest (avoid ++ fixed_words def)))) none,
     )

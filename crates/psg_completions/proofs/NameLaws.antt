@@ -51,45 +51,55 @@ pub among_right : (xs ys : List Key) (n : Key) → is_among ys n ≡ true → is
 among_right [] ys n e = e
 among_right (x ∷ xs) ys n e = or_right (bytes_eq x n) (is_among (xs ++ ys) n) (among_right xs ys n e)
 
-pub among_without : (xs gone : List Key) (n : Key) → is_among xs n ≡ true → is_among gone n ≡ false → is_among (without xs gone) n ≡ true
+pub among_without : (xs gone : List Key) (n : Key) → is_among xs n ≡ true → is_among gone n ≡ false
+    → is_among (without xs gone) n ≡ true
 among_without [] gone n e h = e
 among_without (x ∷ xs) gone n e h = elim (or_cases (bytes_eq x n) (is_among xs n) e) [
   | inl same ↦ here same
   | inr later ↦ elim (either (is_among gone x)) [
-    | inl g ↦ subst (λ b. is_among (cond b (without xs gone) (x ∷ without xs gone)) n ≡ true) (sym g) (among_without xs gone n later h)
-    | inr g ↦ subst (λ b. is_among (cond b (without xs gone) (x ∷ without xs gone)) n ≡ true) (sym g) (or_right (bytes_eq x n) (is_among (without xs gone) n) (among_without xs gone n later h))
+    | inl g ↦ subst (λ b. is_among (cond b (without xs gone) (x ∷ without xs gone)) n ≡ true) (sym g)
+        (among_without xs gone n later h)
+    | inr g ↦ subst (λ b. is_among (cond b (without xs gone) (x ∷ without xs gone)) n ≡ true) (sym g)
+        (or_right (bytes_eq x n) (is_among (without xs gone) n) (among_without xs gone n later h))
   ]
 ] where
   here : bytes_eq x n ≡ true → is_among (without (x ∷ xs) gone) n ≡ true
   here same =
       let is : x ≡ n = bytes_same x n same in
       let kept : is_among gone x ≡ false = subst (λ y. is_among gone y ≡ false) (sym is) h in
-      subst (λ b. is_among (cond b (without xs gone) (x ∷ without xs gone)) n ≡ true) (sym kept) (or_left (bytes_eq x n) (is_among (without xs gone) n) same)
+      subst (λ b. is_among (cond b (without xs gone) (x ∷ without xs gone)) n ≡ true) (sym kept)
+      (or_left (bytes_eq x n) (is_among (without xs gone) n) same)
 
-pub among_outward : (unfinished : ℕ → Bool) (declared xs : List Key) (n : Key) → is_among xs n ≡ true → unfinished (space_of n) ≡ false → is_among declared n ≡ false → is_among (outward unfinished declared xs) n ≡ true
+pub among_outward : (unfinished : ℕ → Bool) (declared xs : List Key) (n : Key) → is_among xs n ≡ true
+    → unfinished (space_of n) ≡ false → is_among declared n ≡ false → is_among (outward unfinished declared xs) n ≡ true
 among_outward unfinished declared [] n e u h = e
 among_outward unfinished declared (x ∷ xs) n e u h = elim (or_cases (bytes_eq x n) (is_among xs n) e) [
   | inl same ↦ here same
   | inr later ↦ go (among_outward unfinished declared xs n later u h) (unfinished (space_of x) || is_among declared x)
 ] where
-  go : is_among (outward unfinished declared xs) n ≡ true → (b : Bool) → is_among (cond b (outward unfinished declared xs) (x ∷ outward unfinished declared xs)) n ≡ true
+  go : is_among (outward unfinished declared xs) n ≡ true → (b : Bool)
+      → is_among (cond b (outward unfinished declared xs) (x ∷ outward unfinished declared xs)) n ≡ true
   go k true = k
   go k false = or_right (bytes_eq x n) (is_among (outward unfinished declared xs) n) k
 
   here : bytes_eq x n ≡ true → is_among (outward unfinished declared (x ∷ xs)) n ≡ true
   here same =
       let is : x ≡ n = bytes_same x n same in
-      let kept : (unfinished (space_of x) || is_among declared x) ≡ false = subst (λ y. (unfinished (space_of y) || is_among declared y) ≡ false) (sym is) (ap₂ (λ a b. a || b) u h) in
-      subst (λ b. is_among (cond b (outward unfinished declared xs) (x ∷ outward unfinished declared xs)) n ≡ true) (sym kept) (or_left (bytes_eq x n) (is_among (outward unfinished declared xs) n) same)
+      let kept : (unfinished (space_of x) || is_among declared x) ≡ false =
+      subst (λ y. (unfinished (space_of y) || is_among declared y) ≡ false) (sym is) (ap₂ (λ a b. a || b) u h) in
+      subst (λ b. is_among (cond b (outward unfinished declared xs) (x ∷ outward unfinished declared xs)) n ≡ true)
+      (sym kept) (or_left (bytes_eq x n) (is_among (outward unfinished declared xs) n) same)
 
-pub none_both : (xs ys : List Key) (n : Key) → is_among xs n ≡ false → is_among ys n ≡ false → is_among (xs ++ ys) n ≡ false
+pub none_both : (xs ys : List Key) (n : Key) → is_among xs n ≡ false → is_among ys n ≡ false
+    → is_among (xs ++ ys) n ≡ false
 none_both [] ys n a b = b
 none_both (x ∷ xs) ys n a b = elim (either (bytes_eq x n)) [
   | inl t ↦ absurd (true≢false (sym (ap (λ c. c || is_among xs n) t) ∙ a))
   | inr f ↦ ap (λ c. c || is_among (xs ++ ys) n) f ∙ none_both xs ys n (sym (ap (λ c. c || is_among xs n) f) ∙ a) b
 ]
 
-pub among_parts : (xs ys : List Key) (m : Key) → is_among (xs ++ ys) m ≡ true → (is_among xs m ≡ true) ⊎ (is_among ys m ≡ true)
+pub among_parts : (xs ys : List Key) (m : Key) → is_among (xs ++ ys) m ≡ true
+    → (is_among xs m ≡ true) ⊎ (is_among ys m ≡ true)
 among_parts [] ys m e = inr e
 among_parts (x ∷ xs) ys m e = elim (or_cases (bytes_eq x m) (is_among (xs ++ ys) m) e) [
   | inl a ↦ inl (or_left (bytes_eq x m) (is_among xs m) a)

@@ -45,11 +45,16 @@ module _ (def : Definition) where
   node_phylum (ending k u) more l n h = absurd n
   node_phylum (cell k e r) more l n h = absurd n
   node_phylum (operator o) more l n (op, found, m, e) = cc
-  node_phylum (with_child f t) more l n (k, hf, ht) = node_phylum f (items.Slot k ∷ more) l (node_before f (items.Slot k) more (kinds.List l) hf) hf
-  node_phylum (with_name f x) more l n (inl (sp, hf), name) = node_phylum f (items.Refers sp ∷ more) l (node_before f (items.Refers sp) more (kinds.List l) hf) hf
-  node_phylum (with_name f x) more l n (inr (sp, hf), name) = node_phylum f (items.Declares sp ∷ more) l (node_before f (items.Declares sp) more (kinds.List l) hf) hf
-  node_phylum (with_number f x) more l n (hf, small) = node_phylum f (items.Number ∷ more) l (node_before f items.Number more (kinds.List l) hf) hf
-  node_phylum (with_text f x) more l n (hf, text) = node_phylum f (items.Text ∷ more) l (node_before f items.Text more (kinds.List l) hf) hf
+  node_phylum (with_child f t) more l n (k, hf, ht) =
+      node_phylum f (items.Slot k ∷ more) l (node_before f (items.Slot k) more (kinds.List l) hf) hf
+  node_phylum (with_name f x) more l n (inl (sp, hf), name) =
+      node_phylum f (items.Refers sp ∷ more) l (node_before f (items.Refers sp) more (kinds.List l) hf) hf
+  node_phylum (with_name f x) more l n (inr (sp, hf), name) =
+      node_phylum f (items.Declares sp ∷ more) l (node_before f (items.Declares sp) more (kinds.List l) hf) hf
+  node_phylum (with_number f x) more l n (hf, small) =
+      node_phylum f (items.Number ∷ more) l (node_before f items.Number more (kinds.List l) hf) hf
+  node_phylum (with_text f x) more l n (hf, text) =
+      node_phylum f (items.Text ∷ more) l (node_before f items.Text more (kinds.List l) hf) hf
   node_phylum anything more l n h = absurd h
   node_phylum (observed f) more l n h = node_phylum f [] l n h.1
 
@@ -77,7 +82,8 @@ module _ (def : Definition) where
     pub parts : part_items op.items ≡ front ++ more
     pub so_many : length front ≡ parts_count f
 
-  one_more : (f f' : Fragment) (i : Item) (more : List Item) (kind : Kind) → top_operator f' ≡ top_operator f → parts_count f' ≡ parts_count f + 1 → Top f (i ∷ more) kind → Top f' more kind
+  one_more : (f f' : Fragment) (i : Item) (more : List Item) (kind : Kind) → top_operator f' ≡ top_operator f
+      → parts_count f' ≡ parts_count f + 1 → Top f (i ∷ more) kind → Top f' more kind
   one_more f f' i more kind same count t = record {
     number = t.number;
     op = t.op;
@@ -96,20 +102,42 @@ module _ (def : Definition) where
   top_of (hole p) more kind n w = absurd n
   top_of (ending l u) more kind n w = absurd n
   top_of (cell l e r) more kind n w = absurd n
-  top_of (operator o) more kind n (op, found, m, k) = record { number = o; op = op; top = refl; found = found; kind_is = k; front = []; parts = sym m; so_many = refl }
-  top_of (with_child f t) more kind n (k, wf, wt) = one_more f (with_child f t) (items.Slot k) more kind refl refl (top_of f (items.Slot k ∷ more) kind (node_before f (items.Slot k) more kind wf) wf)
-  top_of (with_name f x) more kind n (inl (sp, wf), name) = one_more f (with_name f x) (items.Refers sp) more kind refl refl (top_of f (items.Refers sp ∷ more) kind (node_before f (items.Refers sp) more kind wf) wf)
-  top_of (with_name f x) more kind n (inr (sp, wf), name) = one_more f (with_name f x) (items.Declares sp) more kind refl refl (top_of f (items.Declares sp ∷ more) kind (node_before f (items.Declares sp) more kind wf) wf)
-  top_of (with_number f x) more kind n (wf, small) = one_more f (with_number f x) items.Number more kind refl refl (top_of f (items.Number ∷ more) kind (node_before f items.Number more kind wf) wf)
-  top_of (with_text f x) more kind n (wf, text) = one_more f (with_text f x) items.Text more kind refl refl (top_of f (items.Text ∷ more) kind (node_before f items.Text more kind wf) wf)
+  top_of (operator o) more kind n (op, found, m, k) =
+      record { number = o; op = op; top = refl; found = found; kind_is = k; front = []; parts = sym m; so_many = refl }
+  top_of (with_child f t) more kind n (k, wf, wt) =
+      one_more f (with_child f t) (items.Slot k) more kind refl refl
+      (top_of f (items.Slot k ∷ more) kind (node_before f (items.Slot k) more kind wf) wf)
+  top_of (with_name f x) more kind n (inl (sp, wf), name) =
+      one_more f (with_name f x) (items.Refers sp) more kind refl refl
+      (top_of f (items.Refers sp ∷ more) kind (node_before f (items.Refers sp) more kind wf) wf)
+  top_of (with_name f x) more kind n (inr (sp, wf), name) =
+      one_more f (with_name f x) (items.Declares sp) more kind refl refl
+      (top_of f (items.Declares sp ∷ more) kind (node_before f (items.Declares sp) more kind wf) wf)
+  top_of (with_number f x) more kind n (wf, small) =
+      one_more f (with_number f x) items.Number more kind refl refl
+      (top_of f (items.Number ∷ more) kind (node_before f items.Number more kind wf) wf)
+  top_of (with_text f x) more kind n (wf, text) =
+      one_more f (with_text f x) items.Text more kind refl refl
+      (top_of f (items.Text ∷ more) kind (node_before f items.Text more kind wf) wf)
   top_of anything more kind n w = absurd n
   top_of (observed f) more kind n w =
       let t = top_of f [] kind n w.1 in
-      record { number = t.number; op = t.op; top = t.top; found = t.found; kind_is = t.kind_is; front = t.front; parts = subst (λ m. part_items t.op.items ≡ t.front ++ m) (sym w.0) t.parts; so_many = t.so_many }
+      record {
+        number = t.number;
+        op = t.op;
+        top = t.top;
+        found = t.found;
+        kind_is = t.kind_is;
+        front = t.front;
+        parts = subst (λ m. part_items t.op.items ≡ t.front ++ m) (sym w.0) t.parts;
+        so_many = t.so_many;
+      }
 
   -- the item of the next part
-  pub next_is : (f : Fragment) (i : Item) (more : List Item) (kind : Kind) → Fits def f (i ∷ more) kind → next_item def f ≡ Some i
+  pub next_is : (f : Fragment) (i : Item) (more : List Item) (kind : Kind) → Fits def f (i ∷ more) kind
+      → next_item def f ≡ Some i
   next_is f i more kind w =
       let t = top_of f (i ∷ more) kind (node_before f i more kind w) w in
       ap₂ (λ o n. slice_get (items_of (option_and_then (operator_at def) o)) n) t.top (sym t.so_many)
-      ∙ ap (λ o. slice_get (items_of o) (length t.front)) t.found ∙ ap (λ l. slice_get l (length t.front)) t.parts ∙ slice_behind t.front more i
+      ∙ ap (λ o. slice_get (items_of o) (length t.front)) t.found ∙ ap (λ l. slice_get l (length t.front)) t.parts
+      ∙ slice_behind t.front more i

@@ -32,9 +32,12 @@ module _ (def : Definition) where
 
   -- The values that observed nodes may have by the hole rows are those that they have in legal completions.
   abbrev pub SeenOrPossible : Type 0
-  SeenOrPossible = (f : Fragment) (kind : Kind) → Fits def f [] kind → (values : List Term) → ((c : Choice f) × IsSeen def f c values) ↔ IsCompletableAs def f values
+  SeenOrPossible = (f : Fragment) (kind : Kind) → Fits def f [] kind → (values : List Term)
+      → ((c : Choice f) × IsSeen def f c values) ↔ IsCompletableAs def f values
 
   -- The values that a node of a tree may have by the hole rows are those that it has in legal completions of the tree.
   abbrev pub ShownOrPossible : Type 0
-  ShownOrPossible = (f : Fragment) (kind : Kind) → WellFormed def f kind → (path : Path) (node : Fragment) → node_at f path ≡ Some node
-      → (u : Term) → ((c : Choice (observe path f)) × IsSeen def (observe path f) c (u ∷ [])) ↔ IsPossibleAt def f path u
+  ShownOrPossible = (f : Fragment) (kind : Kind) → WellFormed def f kind → (path : Path) (node : Fragment)
+      → node_at f path ≡ Some node
+      → (u : Term) → ((c : Choice (observe path f)) × IsSeen def (observe path f) c (u ∷ [])) ↔ IsPossibleAt def f path
+      u

@@ -13,7 +13,8 @@ use Rattle.psg_completions.specs.Elements.{DeclaresOnce, IsDeclarable, IsClearRo
 
 -- the two things that have specimens
 abbrev pub EachCase : Definition → (ℕ → ℕ → HoleRow → Case → Type 0) → Type 0
-EachCase def P = (r : ℕ) (row : HoleRow) → slice_get def.hole_rows r ≡ Some row → (c : ℕ) (one : Case) → slice_get row.cases c ≡ Some one → P r c row one
+EachCase def P = (r : ℕ) (row : HoleRow) → slice_get def.hole_rows r ≡ Some row → (c : ℕ) (one : Case)
+    → slice_get row.cases c ≡ Some one → P r c row one
 
 abbrev pub EachDeclare : Definition → (ℕ → DeclareRow → Type 0) → Type 0
 EachDeclare def P = (k : ℕ) (d : DeclareRow) → slice_get def.declare_rows k ≡ Some d → P k d
@@ -23,7 +24,8 @@ module _ (def : Definition) where
   abbrev pub EachSpecimen : (Specimen → Type 0) → Type 0
   EachSpecimen P = EachCase def (λ r c row one. P one.specimen) × EachDeclare def (λ k d. P d.specimen)
 
-  -- Hole rows miss no value of a tree and have none too many, and an unfinished region can declare any key with any entity.
+  -- Hole rows miss no value of a tree and have none too many, and an unfinished region can declare any key with any
+  -- entity.
   pub record HasTrueRows : Type 0 where
     -- hole rows miss no value
     pub rows : (o k : ℕ) → IsCoveredRow def o k

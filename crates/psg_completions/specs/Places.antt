@@ -8,7 +8,8 @@ use Rattle.psg_grammar.specs.declared.types.HoleRow.{HoleRow}
 use Rattle.psg_grammar.specs.declared.types.Definition.{Definition}
 use Rattle.psg_grammar.specs.Specimens.{holes_of}
 
--- A proper subterm: an argument, at any depth. The term itself is none, since a hole place of it would show the value by
+-- A proper subterm: an argument, at any depth. The term itself is none, since a hole place of it would show the value
+-- by
 -- itself.
 abbrev pub IsPart : Term → Term → Type 0
 IsPart u (variable s n) = ⊥
@@ -17,7 +18,8 @@ IsPart u (apply f a) = (u ≡ a) ⊎ (IsPart u a ⊎ IsPart u f)
 
 -- the term of the place with the number is a proper subterm of the bound
 abbrev pub IsSmallerPlace : Specimen → Term → ℕ → Type 0
-IsSmallerPlace specimen bound h = (place : SpecimenHole) → slice_get (holes_of specimen) h ≡ Some place → IsPart place.term bound
+IsSmallerPlace specimen bound h = (place : SpecimenHole) → slice_get (holes_of specimen) h ≡ Some place
+    → IsPart place.term bound
 
 module _ (def : Definition) where
   -- the term of the place is an instance of one hole row of its kind

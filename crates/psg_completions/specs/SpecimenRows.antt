@@ -28,7 +28,8 @@ module _ (def : Definition) where
     pub shows : Shows def specimen choice value seen
 
   -- the entity of `$it` in the space in front of them
-  pub record DeclareTakes (space : ℕ) (specimen : Specimen) (choice : Choice (tree_of specimen)) (columns : List Term) : Type 0 where
+  pub record DeclareTakes (space : ℕ) (specimen : Specimen) (choice : Choice (tree_of specimen)) (columns : List Term)
+      : Type 0 where
     pub value : Term
     pub seen : List Term
     pub shows : Shows def specimen choice value seen
@@ -36,14 +37,20 @@ module _ (def : Definition) where
 
   -- A case is general where its term with those of the hole places is an instance of a row of the specimen's relation.
   abbrev pub CaseByRows : Type 0
-  CaseByRows = (one : Case) (sorts : List ℕ) (rows : List (List Term)) → IsRelation def.signature sorts (CaseTakes one.specimen) rows
-      → HaveSorts def.signature (one.term ∷ place_terms one.specimen) sorts → AreWrittenOut def.signature (one.term ∷ place_terms one.specimen)
+  CaseByRows = (one : Case) (sorts : List ℕ) (rows : List (List Term))
+      → IsRelation def.signature sorts (CaseTakes one.specimen) rows
+      → HaveSorts def.signature (one.term ∷ place_terms one.specimen) sorts
+      → AreWrittenOut def.signature (one.term ∷ place_terms one.specimen)
       → IsDistinct def (tree_of one.specimen)
-      → ((general : List Term) × IsIn general rows × IsInstance (one.term ∷ place_terms one.specimen) general) ↔ IsGeneralCase def one
+      → ((general : List Term) × IsIn general rows × IsInstance (one.term ∷ place_terms one.specimen) general) ↔
+      IsGeneralCase def one
 
   -- the same of a declare row, with its entity term in front
   abbrev pub DeclareByRows : Type 0
-  DeclareByRows = (d : DeclareRow) (sorts : List ℕ) (rows : List (List Term)) → IsRelation def.signature sorts (DeclareTakes d.space d.specimen) rows
-      → HaveSorts def.signature (d.term ∷ d.value ∷ place_terms d.specimen) sorts → AreWrittenOut def.signature (d.term ∷ d.value ∷ place_terms d.specimen)
+  DeclareByRows = (d : DeclareRow) (sorts : List ℕ) (rows : List (List Term))
+      → IsRelation def.signature sorts (DeclareTakes d.space d.specimen) rows
+      → HaveSorts def.signature (d.term ∷ d.value ∷ place_terms d.specimen) sorts
+      → AreWrittenOut def.signature (d.term ∷ d.value ∷ place_terms d.specimen)
       → IsDistinct def (tree_of d.specimen)
-      → ((general : List Term) × IsIn general rows × IsInstance (d.term ∷ d.value ∷ place_terms d.specimen) general) ↔ IsGeneralDeclare def d
+      → ((general : List Term) × IsIn general rows × IsInstance (d.term ∷ d.value ∷ place_terms d.specimen) general) ↔
+      IsGeneralDeclare def d
