@@ -20,6 +20,8 @@ pub mod Usable
 pub mod Taken
 pub mod Declared
 pub mod ElementRows
+pub mod Filled
+pub mod FilledDistinct
 pub mod Completing
 pub mod Completable
 pub mod Observing
