@@ -26,6 +26,7 @@ pub mod Completing
 pub mod Completable
 pub mod Observing
 pub mod Law
+pub mod Relating
 pub mod ByRows
 pub mod CaseNumerals
 pub mod CaseTrueRows

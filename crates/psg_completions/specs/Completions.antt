@@ -1,6 +1,8 @@
 -- What true rows are good for: hole rows are exactly the values of trees, and what is open has a completion.
 use Rattle.std.specs.Prelude.{ℕ, ◌≡◌, ◌↔◌, List, [], ◌∷◌, Some}
 use Rattle.psg_terms.specs.Terms.{Term}
+use Rattle.psg_terms.specs.Instances.{IsGroundInstance}
+use Rattle.psg_terms.specs.Relations.{IsIn}
 use Rattle.psg_grammar.specs.declared.types.Kind.{Kind}
 use Rattle.psg_grammar.specs.declared.types.Definition.{Definition}
 use Rattle.psg_grammar.specs.Fragments.{Fragment}
@@ -8,7 +10,7 @@ use Rattle.psg_grammar.specs.Paths.{Path, node_at, observe}
 use Rattle.psg_grammar.specs.Legal.{Entities, AreEntities, IsLegal, IsCompletable, IsCompletableAs, IsPossibleAt}
 use Rattle.psg_grammar.specs.Open.{Choice, IsOpen, IsOfHoleRow}
 use Rattle.psg_grammar.specs.Regions.{IsDistinct}
-use Rattle.psg_grammar.specs.Relations.{IsSeen}
+use Rattle.psg_grammar.specs.Relations.{IsSeen, IsRelationOf, IsShownRelation}
 use Rattle.psg_grammar.specs.WellFormed.{Fits, WellFormed, IsComplete}
 
 module _ (def : Definition) where
@@ -41,3 +43,17 @@ module _ (def : Definition) where
       → node_at f path ≡ Some node
       → (u : Term) → ((c : Choice (observe path f)) × IsSeen def (observe path f) c (u ∷ [])) ↔ IsPossibleAt def f path
       u
+
+  -- The relation of a tree has a row exactly where the tree has a legal completion.
+  abbrev pub RelatedOrCompletable : Type 0
+  RelatedOrCompletable = (f : Fragment) (kind : Kind) → WellFormed def f kind → (rows : List (List Term))
+      → IsRelationOf def f rows
+      → ((row : List Term) × IsIn row rows) ↔ IsCompletable def f
+
+  -- The rows that show a node of a tree have exactly the values that it has in legal completions of the tree.
+  abbrev pub ShownByRows : Type 0
+  ShownByRows = (f : Fragment) (kind : Kind) → WellFormed def f kind → (path : Path) (node : Fragment)
+      → node_at f path ≡ Some node
+      → (rows : List (List Term)) → IsShownRelation def f path rows
+      → (u : Term) → ((row : List Term) × IsIn row rows × IsGroundInstance def.signature row (u ∷ [])) ↔ IsPossibleAt
+      def f path u

@@ -2,7 +2,14 @@
 ghost use Rattle.psg_grammar.specs.Sound.{IsSound};
 ghost use Rattle.psg_completions.specs.Conditions.{HasTrueRows};
 ghost use Rattle.psg_completions.specs.SpecimenRows.{CaseByRows, DeclareByRows};
-ghost use Rattle.psg_completions.specs.Completions.{OpenOrCompletable, RowOrTree, SeenOrPossible, ShownOrPossible};
+ghost use Rattle.psg_completions.specs.Completions.{
+  OpenOrCompletable,
+  RelatedOrCompletable,
+  RowOrTree,
+  SeenOrPossible,
+  ShownByRows,
+  ShownOrPossible,
+};
 
 use psg_grammar::Definition;
 
@@ -13,11 +20,13 @@ pub fn values_of_kinds(definition: &Definition)
     ensures { RowOrTree definition.now }
 {}
 
-/// A fragment is open exactly where it has a legal completion, with its unfinished lists and its free names.
+/// A fragment is open, and its relation has a row, exactly where it has a legal completion, with its unfinished lists and its
+/// free names.
 pub fn open_fragments(definition: &Definition)
     requires sound { IsSound definition.now }
     requires rows { HasTrueRows definition.now }
-    ensures { OpenOrCompletable definition.now }
+    ensures open_trees { OpenOrCompletable definition.now }
+    ensures relations { RelatedOrCompletable definition.now }
 {}
 
 /// The values that are seen at observed nodes, or at one node of a fragment, are exactly those that it has in legal completions.
@@ -26,6 +35,7 @@ pub fn seen_values(definition: &Definition)
     requires rows { HasTrueRows definition.now }
     ensures observed { SeenOrPossible definition.now }
     ensures shown { ShownOrPossible definition.now }
+    ensures relations { ShownByRows definition.now }
 {}
 
 /// A specimen shows all values of its case, or of its declare row, exactly where the row of their terms is an instance of a row

@@ -1,5 +1,9 @@
 use Rattle.psg_completions.proofs.Law.{open_or_completable}
+use Rattle.psg_completions.proofs.Relating.{related_or_completable}
 use Rattle.psg_completions.proofs.laws.open_fragments.Goals as goal
 
-pub returns : goal.returns
-returns c = open_or_completable c.args.definition.now c.requires.sound c.requires.rows
+pub returns-clause-open_trees : goal.returns-clause-open_trees
+returns-clause-open_trees c = open_or_completable c.args.definition.now c.requires.sound c.requires.rows
+
+pub returns-clause-relations : goal.returns-clause-relations
+returns-clause-relations c = related_or_completable c.args.definition.now c.requires.sound c.requires.rows
