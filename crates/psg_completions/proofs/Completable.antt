@@ -1,5 +1,7 @@
 -- An open fragment has a legal completion.
 use Rattle.std.proofs.Common.{◌≡◌, inl, inr, ℕ, ◌+◌, ◌≤◌, Bool, true, false, cond, ◌||◌, List, [], ◌∷◌, slice_get, bytes_eq, Some, refl, ap, sym, ◌∙◌, subst, true≢false, arith}
+use Rattle.std.proofs.lemmas.Bool.{cases_Bool, or_cases}
+use Rattle.psg_terms.proofs.DeclareLaws.{bytes_eq-same, bytes_eq-refl}
 use Rattle.psg_terms.specs.Terms.{Term}
 use Rattle.psg_grammar.specs.declared.types.Kind.{Kind}
 use Rattle.psg_grammar.specs.declared.types.Item.{Item}
@@ -17,7 +19,7 @@ use Rattle.psg_grammar.specs.Fillings.{Fills}
 use Rattle.psg_grammar.specs.Legal.{Entities, AreEntities, IsCompletableAs}
 use Rattle.psg_grammar.specs.Open.{IsOpenAs}
 use Rattle.psg_grammar.specs.Placed.{FitsPlaces}
-use Rattle.psg_completions.proofs.NameLaws.{either, bytes_same, bytes_refl, or_cases, among_left, among_right, among_one, among_parts}
+use Rattle.psg_completions.proofs.NameLaws.{among_left, among_right, among_one, among_parts}
 use Rattle.psg_completions.proofs.Frames.{mixed, mixed_entities}
 use Rattle.psg_completions.proofs.Counting.{Renaming, AllAre, once_of, of_once}
 use Rattle.psg_completions.proofs.Growth.{Element, CanGrow, Grown, Child, Supplied}
@@ -42,11 +44,11 @@ once_count : (m : Key) (xs : List Key) → count m (once_each xs) ≡ one_if (is
 once_count m [] = refl
 once_count m (x ∷ xs) =
     let d : count m (once_each xs) ≡ one_if (is_among xs m) = once_count m xs in
-    elim (either (bytes_eq x m)) [
+    elim (cases_Bool (bytes_eq x m)) [
       | inl t ↦
           let whole : one_if (is_among (x ∷ xs) m) ≡ 1 = ap (λ b. one_if (b || is_among xs m)) t in
-          let same : is_among xs x ≡ is_among xs m = ap (is_among xs) (bytes_same x m t) in
-          elim (either (is_among xs m)) [
+          let same : is_among xs x ≡ is_among xs m = ap (is_among xs) (bytes_eq-same x m t) in
+          elim (cases_Bool (is_among xs m)) [
             | inl u ↦
                 let a : count m (once_each (x ∷ xs)) ≡ count m (once_each xs) =
                 ap (λ b. count m (cond b (once_each xs) (x ∷ once_each xs))) (same ∙ u) in
@@ -81,14 +83,14 @@ once_all mine (x ∷ xs) h =
 
       go : AllAre mine (once_each xs) → (b : Bool) → AllAre mine (cond b (once_each xs) (x ∷ once_each xs))
       go k true = k
-      go k false = (h x (ap (λ b. b || is_among xs x) (bytes_refl x)), k)
+      go k false = (h x (ap (λ b. b || is_among xs x) (bytes_eq-refl x)), k)
 
 -- keys that stay as they are
 abbrev unchanged : (Key → Bool) → Renaming
 unchanged mine = record { to = λ n. n; back = λ n. n; mine = mine }
 
 one_of : (x n : Key) → is_among (x ∷ []) n ≡ true → x ≡ n
-one_of x n e = elim (or_cases (bytes_eq x n) false e) [ inl t ↦ bytes_same x n t | inr t ↦ absurd (true≢false (sym t)) ]
+one_of x n e = elim (or_cases (bytes_eq x n) false e) [ inl t ↦ bytes_eq-same x n t | inr t ↦ absurd (true≢false (sym t)) ]
 
 module _ (def : Definition) where
   fits_places : (f : Fragment) (more : List Item) (kind : Kind) → Fits def f more kind
@@ -276,7 +278,7 @@ module _ (def : Definition) (sound : IsSound def) (true_rows : HasTrueRows def) 
           tree = c.tree;
           fills = fills_of_grown def (is_among (all_names def f)) f c.tree [] kind w c.grown;
           distinct = (
-            elim (either (is_scope def c.tree)) [
+            elim (cases_Bool (is_scope def c.tree)) [
               | inl e ↦ c.separate e
               | inr e ↦ of_once (declared_inside def c.tree)
                   (λ m. subst (λ b. count m (cond b [] (declared_inside def c.tree)) ≤ 1) e (once m))
@@ -294,14 +296,14 @@ module _ (def : Definition) (sound : IsSound def) (true_rows : HasTrueRows def) 
               record { inner = i.inner; entities = i.entities; agree = i.agree; legal = i.legal });
         } where
           old : (m : Key) → is_among (all_names def f) m ≡ true → is_among c.new m ≡ false
-          old m e = elim (either (is_among c.new m)) [ inl t ↦ absurd (true≢false (sym e ∙ c.apart m t)) | inr t ↦ t ]
+          old m e = elim (cases_Bool (is_among c.new m)) [ inl t ↦ absurd (true≢false (sym e ∙ c.apart m t)) | inr t ↦ t ]
 
           few : (m : Key) (b : Bool) → count m (cond b [] (declared_inside def f)) ≤ 1
           few m true = omega arith
           few m false = once_of m (declared_inside def f) o.distinct.0
 
           once : (m : Key) → count m (declared_in def c.tree) ≤ 1
-          once m = elim (either (is_among c.new m)) [
+          once m = elim (cases_Bool (is_among c.new m)) [
             | inl y ↦ c.once m y
             | inr y ↦
                 let a : count m (declared_in def c.tree) ≡ count m (declared_in def f) + count m [] = c.declares m y in

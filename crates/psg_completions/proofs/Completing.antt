@@ -1,5 +1,6 @@
 -- A fragment with a legal completion is open, where the hole rows miss no value.
 use Rattle.std.proofs.Common.{◌≡◌, inl, inr, ℕ, ◌+◌, Bool, true, false, cond, ◌&&◌, not, List, [], ◌∷◌, ◌++◌, refl, ap, sym, ◌∙◌, subst, true≢false}
+use Rattle.std.proofs.lemmas.Bool.{cases_Bool, or_parts}
 use Rattle.psg_terms.specs.Terms.{Term}
 use Rattle.psg_terms.specs.Names.{is_among}
 use Rattle.psg_grammar.specs.declared.types.Kind.{Kind}
@@ -14,10 +15,9 @@ use Rattle.psg_grammar.specs.WellFormed.{Fits, IsComplete, IsPlain}
 use Rattle.psg_grammar.specs.Fillings.{Fills}
 use Rattle.psg_grammar.specs.Legal.{Entities, AreEntities, Within, AgreeOutside, Legal, IsCompletableAs}
 use Rattle.psg_grammar.specs.Open.{Choice, Holds, IsOpenAs, Agrees, AgreeOpen, IsOfHoleRow}
-use Rattle.psg_completions.proofs.NameLaws.{either, none_both, none_left, none_right}
+use Rattle.psg_completions.proofs.NameLaws.{none_both, none_left, none_right}
 use Rattle.psg_completions.proofs.Tops.{IsNode, node_before, list_no_scope}
 use Rattle.psg_completions.proofs.Growth.{adds}
-use Rattle.psg_completions.proofs.Counting.{or_parts}
 use Rattle.psg_completions.proofs.Filled.{same_scope, IsNodeOrList, next_same}
 use Rattle.psg_completions.proofs.FilledDistinct.{below_distinct, declares_once}
 use Rattle.psg_grammar.specs.declared.types.Kind.TheVariants as kinds
@@ -55,7 +55,7 @@ module _ (def : Definition) where
         → NoMore space (adds def c) (adds def c')
     same_adds space c c' kind s n u d =
         subst (λ b. NoMore space (adds def c) (cond b [] (declared_inside def c'))) (sym s)
-        (elim (either (is_scope def c)) [
+        (elim (cases_Bool (is_scope def c)) [
           | inl t ↦ subst (λ b. NoMore space (cond b [] (declared_inside def c)) (cond b [] (declared_inside def c')))
               (sym t) (λ k e q. refl)
           | inr f ↦ subst (λ b. NoMore space (cond b [] (declared_inside def c)) (cond b [] (declared_inside def c')))

@@ -1,18 +1,16 @@
 -- How often names stand in lists.
 use Rattle.std.proofs.Common.{◌≡◌, inl, inr, ℕ, ◌+◌, ◌≤◌, Bool, true, false, cond, not, ◌||◌, List, [], ◌∷◌, ◌++◌, bytes_eq, refl, ap, ap₂, sym, ◌∙◌, subst, true≢false, arith}
+use Rattle.std.proofs.lemmas.Bool.{cases_Bool, or_parts}
+use Rattle.psg_terms.proofs.DeclareLaws.{bytes_eq-same, bytes_eq-refl}
 use Rattle.psg_grammar.specs.Keys.{Key}
 use Rattle.psg_terms.specs.Names.{is_among, has_twice}
-use Rattle.psg_completions.proofs.NameLaws.{only, either, bytes_same, bytes_refl}
+use Rattle.psg_completions.proofs.NameLaws.{only}
 use Rattle.psg_completions.specs.Counts.{one_if, tally, count}
 
 pub tally_append : (p : Key → Bool) (xs ys : List Key) → tally p (xs ++ ys) ≡ tally p xs + tally p ys
 tally_append p [] ys = omega arith
 tally_append p (x ∷ xs) ys = let d : tally p (xs ++ ys) ≡ tally p xs + tally p ys = tally_append p xs ys in
     omega (arith, d)
-
-pub or_parts : (a b : Bool) → a || b ≡ false → (a ≡ false) × (b ≡ false)
-or_parts true b e = absurd (true≢false e)
-or_parts false b e = (refl, e)
 
 pub none_among : (m : Key) (xs : List Key) → is_among xs m ≡ false → count m xs ≡ 0
 none_among m [] e = refl
@@ -24,7 +22,7 @@ none_among m (x ∷ xs) e =
 
 pub among_none : (m : Key) (xs : List Key) → count m xs ≡ 0 → is_among xs m ≡ false
 among_none m [] e = refl
-among_none m (x ∷ xs) e = elim (either (bytes_eq x m)) [
+among_none m (x ∷ xs) e = elim (cases_Bool (bytes_eq x m)) [
   | inl t ↦ let c : one_if (bytes_eq x m) ≡ 1 = ap one_if t in
       absurd (let z : 1 ≤ 0 = omega (arith, c, e) in omega (arith, z))
   | inr f ↦ let c : one_if (bytes_eq x m) ≡ 0 = ap one_if f in let d : count m xs ≡ 0 = omega (arith, c, e) in
@@ -36,10 +34,10 @@ once_of m [] e = omega arith
 once_of m (x ∷ xs) e =
     let (a, b) = or_parts (is_among xs x) (has_twice xs) e in
     let d : count m xs ≤ 1 = once_of m xs b in
-    elim (either (bytes_eq x m)) [
+    elim (cases_Bool (bytes_eq x m)) [
       | inl t ↦
           let c : one_if (bytes_eq x m) ≡ 1 = ap one_if t in
-          let z : count m xs ≡ 0 = none_among m xs (subst (λ y. is_among xs y ≡ false) (bytes_same x m t) a) in
+          let z : count m xs ≡ 0 = none_among m xs (subst (λ y. is_among xs y ≡ false) (bytes_eq-same x m t) a) in
           omega (arith, c, z)
       | inr f ↦ let c : one_if (bytes_eq x m) ≡ 0 = ap one_if f in omega (arith, c, d)
     ]
@@ -47,7 +45,7 @@ once_of m (x ∷ xs) e =
 pub of_once : (xs : List Key) → ((m : Key) → count m xs ≤ 1) → has_twice xs ≡ false
 of_once [] h = refl
 of_once (x ∷ xs) h =
-    let c : one_if (bytes_eq x x) ≡ 1 = ap one_if (bytes_refl x) in
+    let c : one_if (bytes_eq x x) ≡ 1 = ap one_if (bytes_eq-refl x) in
     let k : one_if (bytes_eq x x) + count x xs ≤ 1 = h x in
     let z : count x xs ≡ 0 = omega (arith, c, k) in
     ap₂ (λ a b. a || b) (among_none x xs z)
@@ -99,8 +97,8 @@ count_only m p [] = nothing (p m) where
   nothing : (b : Bool) → count m [] ≡ cond b (count m []) 0
   nothing true = refl
   nothing false = refl
-count_only m p (x ∷ xs) = elim (either (bytes_eq x m)) [
-  | inl t ↦ go (count_only m p xs) (ap p (bytes_same x m t)) (p m) refl
+count_only m p (x ∷ xs) = elim (cases_Bool (bytes_eq x m)) [
+  | inl t ↦ go (count_only m p xs) (ap p (bytes_eq-same x m t)) (p m) refl
   | inr f ↦
       let z : one_if (bytes_eq x m) ≡ 0 = ap one_if f in
       let a : count m (only p (x ∷ xs)) ≡ count m (only p xs) = skip z (p x) in
@@ -153,12 +151,12 @@ module _ (names : Renaming) where
   image_below m [] h = omega arith
   image_below m (x ∷ xs) (p, q, h) =
       let d : image m xs ≤ count (names.back m) xs = image_below m xs h in
-      elim (either (bytes_eq (names.to x) m)) [
+      elim (cases_Bool (bytes_eq (names.to x) m)) [
         | inl t ↦
-            let e : names.back m ≡ x = ap names.back (sym (bytes_same (names.to x) m t)) ∙ q in
+            let e : names.back m ≡ x = ap names.back (sym (bytes_eq-same (names.to x) m t)) ∙ q in
             let c : one_if (bytes_eq (names.to x) m) ≡ 1 = ap one_if t in
             let s : one_if (bytes_eq x (names.back m)) ≡ 1 =
-            ap one_if (subst (λ y. bytes_eq x y ≡ true) (sym e) (bytes_refl x)) in
+            ap one_if (subst (λ y. bytes_eq x y ≡ true) (sym e) (bytes_eq-refl x)) in
             omega (arith, c, s, d)
         | inr f ↦ let c : one_if (bytes_eq (names.to x) m) ≡ 0 = ap one_if f in omega (arith, c, d)
       ]
@@ -167,19 +165,19 @@ module _ (names : Renaming) where
   image_mine m [] h e = refl
   image_mine m (x ∷ xs) (p, q, h) e =
       let d : image m xs ≡ 0 = image_mine m xs h e in
-      elim (either (bytes_eq (names.to x) m)) [
-        | inl t ↦ absurd (true≢false (sym p ∙ ap names.mine (bytes_same (names.to x) m t) ∙ e))
+      elim (cases_Bool (bytes_eq (names.to x) m)) [
+        | inl t ↦ absurd (true≢false (sym p ∙ ap names.mine (bytes_eq-same (names.to x) m t) ∙ e))
         | inr f ↦ let c : one_if (bytes_eq (names.to x) m) ≡ 0 = ap one_if f in omega (arith, c, d)
       ]
 
   pub image_none : (m : Key) (xs : List Key) → names.to (names.back m) ≡ m → image m xs ≡ 0
       → is_among xs (names.back m) ≡ false
   image_none m [] r e = refl
-  image_none m (x ∷ xs) r e = elim (either (bytes_eq x (names.back m))) [
+  image_none m (x ∷ xs) r e = elim (cases_Bool (bytes_eq x (names.back m))) [
     | inl t ↦
         let c : one_if (bytes_eq (names.to x) m) ≡ 1 =
-        ap one_if (subst (λ y. bytes_eq (names.to x) y ≡ true) (ap names.to (bytes_same x (names.back m) t) ∙ r)
-        (bytes_refl (names.to x))) in
+        ap one_if (subst (λ y. bytes_eq (names.to x) y ≡ true) (ap names.to (bytes_eq-same x (names.back m) t) ∙ r)
+        (bytes_eq-refl (names.to x))) in
         absurd (let z : 1 ≤ 0 = omega (arith, c, e) in omega (arith, z))
     | inr f ↦ ap₂ (λ a b. a || b) f (image_none m xs r (omega (arith, e)))
   ]
@@ -188,12 +186,12 @@ module _ (names : Renaming) where
   image_above m [] r = omega arith
   image_above m (x ∷ xs) r =
       let d : count (names.back m) xs ≤ image m xs = image_above m xs r in
-      elim (either (bytes_eq x (names.back m))) [
+      elim (cases_Bool (bytes_eq x (names.back m))) [
         | inl t ↦
             let c : one_if (bytes_eq x (names.back m)) ≡ 1 = ap one_if t in
             let s : one_if (bytes_eq (names.to x) m) ≡ 1 =
             ap one_if (subst (λ y. bytes_eq (names.to x) y ≡ true)
-            (ap names.to (bytes_same x (names.back m) t) ∙ r) (bytes_refl (names.to x))) in
+            (ap names.to (bytes_eq-same x (names.back m) t) ∙ r) (bytes_eq-refl (names.to x))) in
             omega (arith, c, s, d)
         | inr f ↦ let c : one_if (bytes_eq x (names.back m)) ≡ 0 = ap one_if f in omega (arith, c, d)
       ]

@@ -1,6 +1,8 @@
 -- An element that declares a name behind an unfinished list.
 use Rattle.std.proofs.Common.{◌≡◌, inl, inr, ◌+◌, ◌≤◌, Bool, true, false, cond, ◌||◌, List, [], ◌∷◌, ◌++◌, map, slice_get, bytes_eq, Some, refl, ap, sym, ◌∙◌, subst, true≢false, arith}
 use Rattle.std.specs.List.{AllByRecursion}
+use Rattle.std.proofs.lemmas.Bool.{cases_Bool, or_cases}
+use Rattle.psg_terms.proofs.DeclareLaws.{bytes_eq-same}
 use Rattle.psg_terms.specs.Instances.{Substitution, substitute, IsGrounding}
 use Rattle.psg_grammar.specs.declared.types.ListKind.{ListKind}
 use Rattle.psg_grammar.specs.declared.types.SpecimenHole.{SpecimenHole}
@@ -8,7 +10,7 @@ use Rattle.psg_grammar.specs.declared.types.DeclareRow.{DeclareRow}
 use Rattle.psg_grammar.specs.declared.types.Definition.{Definition}
 use Rattle.psg_grammar.specs.Keys.{Key}
 use Rattle.psg_terms.specs.Names.{is_among}
-use Rattle.psg_completions.proofs.NameLaws.{without, either, bytes_same, or_cases, among_left, among_right, among_one, among_without, among_parts, none_left, none_right}
+use Rattle.psg_completions.proofs.NameLaws.{without, among_left, among_right, among_one, among_without, among_parts, none_left, none_right}
 use Rattle.psg_grammar.specs.Lookups.{is_scope}
 use Rattle.psg_grammar.specs.Regions.{declared_inside, declared_in}
 use Rattle.psg_grammar.specs.Legal.{Legal, Within, AgreeOutside}
@@ -30,13 +32,13 @@ use Rattle.psg_grammar.specs.declared.types.Kind.TheVariants as kinds
 kept_by_without : (xs gone : List Key) (m : Key) → is_among (without xs gone) m ≡ true
     → (is_among xs m ≡ true) × (is_among gone m ≡ false)
 kept_by_without [] gone m e = absurd (true≢false (sym e))
-kept_by_without (x ∷ xs) gone m e = elim (either (is_among gone x)) [
+kept_by_without (x ∷ xs) gone m e = elim (cases_Bool (is_among gone x)) [
   | inl t ↦ let (a, b) =
       kept_by_without xs gone m (sym (ap (λ b. is_among (cond b (without xs gone) (x ∷ without xs gone)) m) t) ∙ e) in
       (or_true (bytes_eq x m) (is_among xs m) a, b)
   | inr f ↦ elim (or_cases (bytes_eq x m) (is_among (without xs gone) m)
       (sym (ap (λ b. is_among (cond b (without xs gone) (x ∷ without xs gone)) m) f) ∙ e)) [
-        | inl t ↦ (ap (λ b. b || is_among xs m) t, subst (λ k. is_among gone k ≡ false) (bytes_same x m t) f)
+        | inl t ↦ (ap (λ b. b || is_among xs m) t, subst (λ k. is_among gone k ≡ false) (bytes_eq-same x m t) f)
         | inr t ↦ let (a, b) = kept_by_without xs gone m t in (or_true (bytes_eq x m) (is_among xs m) a, b)
       ]
 ] where
@@ -120,15 +122,15 @@ module _ (def : Definition) (sound : IsSound def) (true_rows : HasTrueRows def) 
                     let a : count m (declared_in def c.tree) ≡ image (renaming_of r.rho r.back r.targets) m
                     (declared_in def (tree_of d.specimen)) + count m [] =
                     c.declares m (none_right (without r.targets (n ∷ [])) c.new m e) in
-                    elim (either (bytes_eq n m)) [
+                    elim (cases_Bool (bytes_eq n m)) [
                       | inl t ↦
-                          let is_n : n ≡ m = bytes_same n m t in
+                          let is_n : n ≡ m = bytes_eq-same n m t in
                           let b : count m (declared_in def c.tree) ≡ 1 =
                           subst (λ k. count k (declared_in def c.tree) ≡ 1) is_n once_n in
                           let o : one_if (bytes_eq n m) ≡ 1 = ap one_if t in
                           omega (arith, plain, b, o)
                       | inr t ↦
-                          let out : is_among r.targets m ≡ false = elim (either (is_among r.targets m)) [
+                          let out : is_among r.targets m ≡ false = elim (cases_Bool (is_among r.targets m)) [
                             | inl y ↦ absurd
                                 (true≢false (sym (among_without r.targets (n ∷ []) m y (ap (λ b. b || false) t))
                                 ∙ none_left (without r.targets (n ∷ [])) c.new m e))
@@ -144,7 +146,7 @@ module _ (def : Definition) (sound : IsSound def) (true_rows : HasTrueRows def) 
                 once = λ m e.
                     let plain : count m (declared_inside def c.tree) ≡ count m (declared_in def c.tree) =
                     ap (λ b. count m (cond b [] (declared_inside def c.tree))) (sym no_scope) in
-                    elim (either (is_among c.new m)) [
+                    elim (cases_Bool (is_among c.new m)) [
                       | inl y ↦ let a : count m (declared_in def c.tree) ≤ 1 = c.once m y in omega (arith, plain, a)
                       | inr y ↦
                           let a : count m (declared_in def c.tree) ≡ image (renaming_of r.rho r.back r.targets) m
@@ -161,8 +163,8 @@ module _ (def : Definition) (sound : IsSound def) (true_rows : HasTrueRows def) 
                 keeps = λ u gu su. good.keeps f ground u gu su;
                 legal = λ h eh same at_n.
                     let lifts : (m : Key) → is_among r.targets m ≡ true
-                    → h m ≡ j.outside (r.back m) = λ m e. elim (either (bytes_eq n m)) [
-                      | inl t ↦ subst (λ k. h k ≡ j.outside (r.back k)) (bytes_same n m t)
+                    → h m ≡ j.outside (r.back m) = λ m e. elim (cases_Bool (bytes_eq n m)) [
+                      | inl t ↦ subst (λ k. h k ≡ j.outside (r.back k)) (bytes_eq-same n m t)
                           (at_n ∙ sym at_it ∙ ap j.outside (sym back_n))
                       | inr t ↦ sym
                           (same m (among_left (without r.targets (n ∷ [])) c.new m
@@ -200,7 +202,7 @@ module _ (def : Definition) (sound : IsSound def) (true_rows : HasTrueRows def) 
                 once_n : count n (declared_in def c.tree) ≡ 1
                 once_n =
                     let old : is_among c.new n ≡ false =
-                    elim (either (is_among c.new n)) [
+                    elim (cases_Bool (is_among c.new n)) [
                       | inl y ↦ absurd (true≢false (sym known ∙ none_left avoid r.targets n (c.apart n y)))
                       | inr y ↦
                           y
@@ -219,7 +221,7 @@ module _ (def : Definition) (sound : IsSound def) (true_rows : HasTrueRows def) 
                     omega (arith, a, b, b', z)
 
                 no_scope : is_scope def c.tree ≡ false
-                no_scope = elim (either (is_scope def c.tree)) [
+                no_scope = elim (cases_Bool (is_scope def c.tree)) [
                   | inl t ↦
                       let a : count n (declared_in def c.tree) ≡ 0 =
                       ap (λ b. count n (cond b [] (declared_inside def c.tree))) t in

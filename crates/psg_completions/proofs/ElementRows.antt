@@ -2,6 +2,7 @@
 use Rattle.std.proofs.Common.{◌≡◌, inl, inr, ℕ, zero, suc, ◌+◌, ◌==◌, Bool, true, false, ◌&&◌, not, List, [], ◌∷◌, length, slice_get, Some, None, Option, refl, sym, ◌∙◌, subst, true≢false}
 use Rattle.std.specs.List.{AllByRecursion}
 use Rattle.std.proofs.lemmas.Bool.Decides.{eqb_tells}
+use Rattle.std.proofs.lemmas.Bool.{or_cases}
 use Rattle.psg_terms.specs.Terms.{Term}
 use Rattle.psg_terms.specs.Signature.{HasSort}
 use Rattle.psg_terms.specs.Instances.{IsGround}
@@ -21,7 +22,6 @@ use Rattle.psg_grammar.specs.Open.{IsOfHoleRow}
 use Rattle.psg_grammar.specs.Sound.{IsSound, IsItem, HasSpaceSort, HasKindSort}
 use Rattle.psg_grammar.proofs.SoundParts.{operator_sound}
 use Rattle.psg_completions.specs.Conditions.{HasTrueRows}
-use Rattle.psg_completions.proofs.NameLaws.{or_cases}
 use Rattle.psg_completions.proofs.Over.{some_over}
 use Rattle.psg_completions.proofs.RowValues.{one_sort, hole_sound}
 

@@ -1,5 +1,6 @@
 -- A tree declares no key twice where what fills it declares none twice.
 use Rattle.std.proofs.Common.{◌≡◌, inl, inr, ◌+◌, true, false, cond, ◌||◌, List, [], ◌∷◌, ◌++◌, bytes_eq, refl, ap, ap₂, sym, ◌∙◌, subst, true≢false}
+use Rattle.std.proofs.lemmas.Bool.{or_parts}
 use Rattle.psg_terms.specs.Names.{is_among, has_twice}
 use Rattle.psg_grammar.specs.declared.types.Kind.{Kind}
 use Rattle.psg_grammar.specs.declared.types.Item.{Item}
@@ -12,7 +13,6 @@ use Rattle.psg_grammar.specs.WellFormed.{Fits}
 use Rattle.psg_grammar.specs.Fillings.{Fills}
 use Rattle.psg_completions.proofs.Tops.{IsNode, node_before}
 use Rattle.psg_completions.proofs.Growth.{adds}
-use Rattle.psg_completions.proofs.Counting.{or_parts}
 use Rattle.psg_completions.proofs.Filled.{same_scope, IsNodeOrList, next_same}
 use Rattle.psg_grammar.specs.declared.types.Kind.TheVariants as kinds
 use Rattle.psg_grammar.specs.declared.types.Item.TheVariants as items

@@ -1,5 +1,6 @@
 -- The judgement depends on the entities of a node's own names alone.
 use Rattle.std.proofs.Common.{◌≡◌, inl, inr, ℕ, Bool, true, false, cond, ◌||◌, List, [], ◌∷◌, refl, ap, ap₂, sym, ◌∙◌, subst, true≢false}
+use Rattle.std.proofs.lemmas.Bool.{cases_Bool}
 use Rattle.psg_terms.specs.Terms.{Term}
 use Rattle.psg_terms.specs.Signature.{HasSort}
 use Rattle.psg_terms.specs.Instances.{IsGround}
@@ -11,7 +12,7 @@ use Rattle.psg_grammar.specs.Lookups.{is_scope, key_at}
 use Rattle.psg_grammar.specs.Regions.{declared_inside, unfinished_inside, names_inside, passing}
 use Rattle.psg_grammar.specs.Legal.{Entities, AreEntities, Within}
 use Rattle.psg_grammar.specs.Open.{Choice, Holds, Agrees, AgreeOpen}
-use Rattle.psg_completions.proofs.NameLaws.{either, among_left, among_right, among_outward, among_one}
+use Rattle.psg_completions.proofs.NameLaws.{among_left, among_right, among_outward, among_one}
 
 -- the same entities for these names
 abbrev pub SameOn : List Key → Entities → Entities → Type 0
@@ -25,11 +26,11 @@ module _ (def : Definition) where
   pub mixed_entities : (names : List Key) (g h : Entities) → AreEntities def g → AreEntities def h
       → AreEntities def (mixed names g h)
   mixed_entities names g h p q = record {
-    ground = λ n. elim (either (is_among names n)) [
+    ground = λ n. elim (cases_Bool (is_among names n)) [
       | inl e ↦ subst (λ b. IsGround (cond b (g n) (h n))) (sym e) (p.ground n)
       | inr e ↦ subst (λ b. IsGround (cond b (g n) (h n))) (sym e) (q.ground n)
     ];
-    sorted = λ n s at. elim (either (is_among names n)) [
+    sorted = λ n s at. elim (cases_Bool (is_among names n)) [
       | inl e ↦ subst (λ b. HasSort def.signature (cond b (g n) (h n)) s.sort.0) (sym e) (p.sorted n s at)
       | inr e ↦ subst (λ b. HasSort def.signature (cond b (g n) (h n)) s.sort.0) (sym e) (q.sorted n s at)
     ];
@@ -49,11 +50,11 @@ module _ (def : Definition) where
   theirs_entities : (unfinished : ℕ → Bool) (declared : List Key) (g h : Entities) → AreEntities def g
       → AreEntities def h → AreEntities def (theirs unfinished declared g h)
   theirs_entities unfinished declared g h p q = record {
-    ground = λ n. elim (either (unfinished (space_of n) || is_among declared n)) [
+    ground = λ n. elim (cases_Bool (unfinished (space_of n) || is_among declared n)) [
       | inl e ↦ subst (λ b. IsGround (cond b (g n) (h n))) (sym e) (p.ground n)
       | inr e ↦ subst (λ b. IsGround (cond b (g n) (h n))) (sym e) (q.ground n)
     ];
-    sorted = λ n s at. elim (either (unfinished (space_of n) || is_among declared n)) [
+    sorted = λ n s at. elim (cases_Bool (unfinished (space_of n) || is_among declared n)) [
       | inl e ↦ subst (λ b. HasSort def.signature (cond b (g n) (h n)) s.sort.0) (sym e) (p.sorted n s at)
       | inr e ↦ subst (λ b. HasSort def.signature (cond b (g n) (h n)) s.sort.0) (sym e) (q.sorted n s at)
     ];
@@ -75,7 +76,7 @@ module _ (def : Definition) where
     theirs unfinished (declared_inside def t) inner h,
     theirs_entities unfinished (declared_inside def t) inner h ei eh,
     (λ n u e. ap (λ b. cond b (inner n) (h n)) (ap₂ (λ a b. a || b) u e)),
-    λ n e. elim (either (unfinished (space_of n) || is_among (declared_inside def t) n)) [
+    λ n e. elim (cases_Bool (unfinished (space_of n) || is_among (declared_inside def t) n)) [
       | inl d ↦ sym (ap (λ b. cond b (inner n) (h n)) d)
       | inr d ↦
           let (u, k) = both_false (unfinished (space_of n)) (is_among (declared_inside def t) n) d in

@@ -1,5 +1,7 @@
 -- New names for the names of a tree.
 use Rattle.std.proofs.Common.{◌≡◌, ◌⊎◌, inl, inr, ℕ, true, false, cond, ◌||◌, List, [], ◌∷◌, ◌++◌, map, bytes_eq, refl, ap, sym, ◌∙◌, subst, true≢false}
+use Rattle.std.proofs.lemmas.Bool.{cases_Bool, or_right}
+use Rattle.psg_terms.proofs.DeclareLaws.{bytes_eq-same, bytes_eq-refl}
 use Rattle.psg_grammar.specs.Keys.{Key, space_of, name_in}
 use Rattle.psg_terms.specs.Names.{is_among}
 use Rattle.psg_grammar.specs.declared.types.Definition.{Definition}
@@ -7,7 +9,7 @@ use Rattle.psg_grammar.specs.Lookups.{key_at}
 use Rattle.psg_grammar.specs.Fragments.{Fragment, hole, ending, cell, operator, with_child, with_name, with_number, with_text, anything, observed}
 use Rattle.psg_grammar.specs.WellFormed.{IsName}
 use Rattle.psg_completions.proofs.LongNames.{fresh}
-use Rattle.psg_completions.proofs.NameLaws.{none_left, none_right, either, bytes_same, bytes_refl, or_right, among_right}
+use Rattle.psg_completions.proofs.NameLaws.{none_left, none_right, among_right}
 
 -- the keys of all name positions
 abbrev pub all_names : Definition → Fragment → List Key
@@ -28,13 +30,13 @@ IsKeyFor def x y = (y ≡ space_of x ∷ name_in y) × IsName def (name_in y)
 
 others : (s : ℕ) (n : Key) (avoid : List Key) → is_among (map name_in avoid) n ≡ false → is_among avoid (s ∷ n) ≡ false
 others s n [] e = refl
-others s n (x ∷ avoid) e = elim (either (bytes_eq (name_in x) n)) [
+others s n (x ∷ avoid) e = elim (cases_Bool (bytes_eq (name_in x) n)) [
   | inl t ↦ absurd (true≢false (sym (ap (λ b. b || is_among (map name_in avoid) n) t) ∙ e))
   | inr f ↦
       let rest : is_among (map name_in avoid) n ≡ false = sym (ap (λ b. b || is_among (map name_in avoid) n) f) ∙ e in
-      let here : bytes_eq x (s ∷ n) ≡ false = elim (either (bytes_eq x (s ∷ n))) [
+      let here : bytes_eq x (s ∷ n) ≡ false = elim (cases_Bool (bytes_eq x (s ∷ n))) [
         | inl y ↦ absurd
-            (true≢false (sym (bytes_refl n) ∙ subst (λ z. bytes_eq (name_in z) n ≡ false) (bytes_same x (s ∷ n) y) f))
+            (true≢false (sym (bytes_eq-refl n) ∙ subst (λ z. bytes_eq (name_in z) n ≡ false) (bytes_eq-same x (s ∷ n) y) f))
         | inr y ↦ y
       ] in
       ap (λ a. a || is_among avoid (s ∷ n)) here ∙ others s n avoid rest
@@ -84,29 +86,29 @@ module _ (Good : Key → Key → Type 0) (alike : (x y : Key) → Good x y → s
     rho = λ n. cond (bytes_eq x n) y (r.rho n);
     back = λ m. cond (bytes_eq y m) x (r.back m);
     targets = y ∷ r.targets;
-    space = λ m. elim (either (bytes_eq y m)) [
+    space = λ m. elim (cases_Bool (bytes_eq y m)) [
       | inl t ↦ subst (λ b. space_of (cond b x (r.back m)) ≡ space_of m) (sym t)
-          (sym (alike x y good) ∙ ap space_of (bytes_same y m t))
+          (sym (alike x y good) ∙ ap space_of (bytes_eq-same y m t))
       | inr f ↦ subst (λ b. space_of (cond b x (r.back m)) ≡ space_of m) (sym f) (r.space m)
     ];
-    into = λ n e. elim (either (bytes_eq x n)) [
+    into = λ n e. elim (cases_Bool (bytes_eq x n)) [
       | inl t ↦ subst (λ b. is_among (y ∷ r.targets) (cond b y (r.rho n)) ≡ true) (sym t)
-          (ap (λ b. b || is_among r.targets y) (bytes_refl y))
+          (ap (λ b. b || is_among r.targets y) (bytes_eq-refl y))
       | inr f ↦ subst (λ b. is_among (y ∷ r.targets) (cond b y (r.rho n)) ≡ true) (sym f)
           (or_right (bytes_eq y (r.rho n)) (is_among r.targets (r.rho n)) (r.into n (rest n e f)))
     ];
-    backs = λ n e. elim (either (bytes_eq x n)) [
+    backs = λ n e. elim (cases_Bool (bytes_eq x n)) [
       | inl t ↦ subst (λ b. cond (bytes_eq y (cond b y (r.rho n))) x (r.back (cond b y (r.rho n))) ≡ n) (sym t)
-          (ap (λ b. cond b x (r.back y)) (bytes_refl y) ∙ bytes_same x n t)
+          (ap (λ b. cond b x (r.back y)) (bytes_eq-refl y) ∙ bytes_eq-same x n t)
       | inr f ↦ subst (λ b. cond (bytes_eq y (cond b y (r.rho n))) x (r.back (cond b y (r.rho n))) ≡ n) (sym f)
           (ap (λ b. cond b x (r.back (r.rho n))) (apart_y (r.rho n) (r.into n (rest n e f))) ∙ r.backs n (rest n e f))
     ];
-    over = λ m e. elim (either (bytes_eq y m)) [
+    over = λ m e. elim (cases_Bool (bytes_eq y m)) [
       | inl t ↦ (
         subst (λ b. cond (bytes_eq x (cond b x (r.back m))) y (r.rho (cond b x (r.back m))) ≡ m) (sym t)
-            (ap (λ b. cond b y (r.rho x)) (bytes_refl x) ∙ bytes_same y m t),
+            (ap (λ b. cond b y (r.rho x)) (bytes_eq-refl x) ∙ bytes_eq-same y m t),
         subst (λ b. is_among (x ∷ xs) (cond b x (r.back m)) ≡ true) (sym t)
-            (ap (λ b. b || is_among xs x) (bytes_refl x)),
+            (ap (λ b. b || is_among xs x) (bytes_eq-refl x)),
       )
       | inr f ↦ let (a, b) = r.over m (rest_y m e f) in (
         subst (λ b. cond (bytes_eq x (cond b x (r.back m))) y (r.rho (cond b x (r.back m))) ≡ m) (sym f)
@@ -115,12 +117,12 @@ module _ (Good : Key → Key → Type 0) (alike : (x y : Key) → Good x y → s
             (or_right (bytes_eq x (r.back m)) (is_among xs (r.back m)) b),
       )
     ];
-    good = λ n e. elim (either (bytes_eq x n)) [
-      | inl t ↦ subst (λ b. Good n (cond b y (r.rho n))) (sym t) (subst (λ k. Good k y) (bytes_same x n t) good)
+    good = λ n e. elim (cases_Bool (bytes_eq x n)) [
+      | inl t ↦ subst (λ b. Good n (cond b y (r.rho n))) (sym t) (subst (λ k. Good k y) (bytes_eq-same x n t) good)
       | inr f ↦ subst (λ b. Good n (cond b y (r.rho n))) (sym f) (r.good n (rest n e f))
     ];
-    apart = λ m e. elim (either (bytes_eq y m)) [
-      | inl t ↦ subst (λ k. (is_among avoid k ≡ false) ⊎ (is_among keep k ≡ true)) (bytes_same y m t) ap_y
+    apart = λ m e. elim (cases_Bool (bytes_eq y m)) [
+      | inl t ↦ subst (λ k. (is_among avoid k ≡ false) ⊎ (is_among keep k ≡ true)) (bytes_eq-same y m t) ap_y
       | inr f ↦ r.apart m (rest_y m e f)
     ];
   } where
@@ -131,14 +133,14 @@ module _ (Good : Key → Key → Type 0) (alike : (x y : Key) → Good x y → s
     rest_y m e f = sym (ap (λ b. b || is_among r.targets m) f) ∙ e
 
     apart_y : (m : Key) → is_among r.targets m ≡ true → bytes_eq y m ≡ false
-    apart_y m e = elim (either (bytes_eq y m)) [
-      | inl t ↦ absurd (true≢false (sym e ∙ subst (λ k. is_among r.targets k ≡ false) (bytes_same y m t) free))
+    apart_y m e = elim (cases_Bool (bytes_eq y m)) [
+      | inl t ↦ absurd (true≢false (sym e ∙ subst (λ k. is_among r.targets k ≡ false) (bytes_eq-same y m t) free))
       | inr f ↦ f
     ]
 
     apart_x : (n : Key) → is_among xs n ≡ true → bytes_eq x n ≡ false
-    apart_x n e = elim (either (bytes_eq x n)) [
-      | inl t ↦ absurd (true≢false (sym e ∙ subst (λ k. is_among xs k ≡ false) (bytes_same x n t) other))
+    apart_x n e = elim (cases_Bool (bytes_eq x n)) [
+      | inl t ↦ absurd (true≢false (sym e ∙ subst (λ k. is_among xs k ≡ false) (bytes_eq-same x n t) other))
       | inr f ↦ f
     ]
 
@@ -167,7 +169,7 @@ module _ (Good : Key → Key → Type 0) (alike : (x y : Key) → Good x y → s
   more_names [] ys avoid keep r = record { names = r; same = λ n e. refl }
   more_names (x ∷ xs) ys avoid keep r =
       let s = more_names xs ys avoid keep r in
-      elim (either (is_among (xs ++ ys) x)) [
+      elim (cases_Bool (is_among (xs ++ ys) x)) [
         | inl t ↦ record { names = relist (xs ++ ys) (x ∷ (xs ++ ys)) avoid keep (there t) s.names; same = s.same }
         | inr f ↦ let (y, good, free) = fresh x (avoid ++ s.names.targets) in record {
           names =
@@ -177,17 +179,17 @@ module _ (Good : Key → Key → Type 0) (alike : (x y : Key) → Good x y → s
         }
       ] where
         there : is_among (xs ++ ys) x ≡ true → (n : Key) → is_among (x ∷ (xs ++ ys)) n ≡ is_among (xs ++ ys) n
-        there t n = elim (either (bytes_eq x n)) [
+        there t n = elim (cases_Bool (bytes_eq x n)) [
           | inl e ↦ ap (λ b. b || is_among (xs ++ ys) n) e
-              ∙ sym (subst (λ k. is_among (xs ++ ys) k ≡ true) (bytes_same x n e) t)
+              ∙ sym (subst (λ k. is_among (xs ++ ys) k ≡ true) (bytes_eq-same x n e) t)
           | inr e ↦ ap (λ b. b || is_among (xs ++ ys) n) e
         ]
 
         other : is_among (xs ++ ys) x ≡ false → (n : Key) → is_among ys n ≡ true → bytes_eq x n ≡ false
-        other f n e = elim (either (bytes_eq x n)) [
+        other f n e = elim (cases_Bool (bytes_eq x n)) [
           | inl t ↦ absurd
               (true≢false (sym (among_right xs ys n e)
-              ∙ subst (λ k. is_among (xs ++ ys) k ≡ false) (bytes_same x n t) f))
+              ∙ subst (λ k. is_among (xs ++ ys) k ≡ false) (bytes_eq-same x n t) f))
           | inr t ↦ t
         ]
 
@@ -196,6 +198,6 @@ module _ (Good : Key → Key → Type 0) (alike : (x y : Key) → Good x y → s
   unfolding one_name no_names
   single_name x y avoid good = (
     one_name x y [] avoid (y ∷ []) (no_names avoid (y ∷ [])) good refl refl
-        (inr (ap (λ b. b || false) (bytes_refl y))),
-    ap (λ b. cond b y x) (bytes_refl x),
+        (inr (ap (λ b. b || false) (bytes_eq-refl y))),
+    ap (λ b. cond b y x) (bytes_eq-refl x),
   )

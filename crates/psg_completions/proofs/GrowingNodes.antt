@@ -1,6 +1,8 @@
 -- Trees in places, cells, children and names of what grows.
 use Rattle.std.proofs.Common.{◌≡◌, inl, inr, ℕ, ◌+◌, ◌≤◌, Bool, true, false, cond, List, [], ◌∷◌, ◌++◌, slice_get, bytes_eq, Some, refl, ap, ap₂, sym, ◌∙◌, subst, true≢false, arith}
 use Rattle.std.specs.Option.{option_and_then}
+use Rattle.std.proofs.lemmas.Bool.{cases_Bool}
+use Rattle.psg_terms.proofs.DeclareLaws.{bytes_eq-same}
 use Rattle.psg_terms.specs.Terms.{Term}
 use Rattle.psg_terms.specs.Signature.{HasSort}
 use Rattle.psg_terms.specs.Instances.{IsGround}
@@ -17,7 +19,6 @@ use Rattle.psg_grammar.specs.Regions.{declared_inside, declared_in}
 use Rattle.psg_grammar.specs.WellFormed.{Fits, IsComplete, IsPlain, IsUnobserved}
 use Rattle.psg_grammar.specs.Legal.{Entities, AreEntities, Within, AgreeOutside, Legal}
 use Rattle.psg_grammar.specs.Open.{IsOfCellRow}
-use Rattle.psg_completions.proofs.NameLaws.{either, bytes_same}
 use Rattle.psg_completions.proofs.Frames.{mixed}
 use Rattle.psg_completions.proofs.Tops.{list_no_scope, next_is}
 use Rattle.psg_completions.proofs.LegalMore.{legal_more}
@@ -335,7 +336,7 @@ module _ (def : Definition) (names : Renaming) (Allowed : Type 0) (stock : Suppl
 
         none : (m : Key) → names.mine m ≡ false → (b : Bool) → count m (cond b (names.to (key_at def f x) ∷ []) []) ≡ 0
         none m nm false = refl
-        none m nm true = elim (either (bytes_eq (names.to (key_at def f x)) m)) [
-          | inl t ↦ absurd (true≢false (sym mx ∙ ap names.mine (bytes_same (names.to (key_at def f x)) m t) ∙ nm))
+        none m nm true = elim (cases_Bool (bytes_eq (names.to (key_at def f x)) m)) [
+          | inl t ↦ absurd (true≢false (sym mx ∙ ap names.mine (bytes_eq-same (names.to (key_at def f x)) m t) ∙ nm))
           | inr y ↦ let c : one_if (bytes_eq (names.to (key_at def f x)) m) ≡ 0 = ap one_if y in omega (arith, c)
         ]

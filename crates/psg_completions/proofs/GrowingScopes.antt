@@ -1,5 +1,6 @@
 -- Children of what grows, with the keys that a scope operator ends.
 use Rattle.std.proofs.Common.{◌≡◌, inl, inr, ℕ, ◌+◌, ◌≤◌, Bool, true, false, cond, ◌&&◌, not, List, [], map, slice_get, refl, ap, sym, ◌∙◌, subst, true≢false, arith}
+use Rattle.std.proofs.lemmas.Bool.{cases_Bool}
 use Rattle.psg_terms.specs.Terms.{Term}
 use Rattle.psg_terms.specs.Signature.{HasSort}
 use Rattle.psg_terms.specs.Instances.{IsGround}
@@ -12,7 +13,7 @@ use Rattle.psg_grammar.specs.Lookups.{is_scope}
 use Rattle.psg_grammar.specs.Regions.{declared_inside, unfinished_inside, AreDistinct}
 use Rattle.psg_grammar.specs.Legal.{Entities, AreEntities, Within, AgreeOutside}
 use Rattle.psg_grammar.specs.Open.{Agrees, AgreeOpen}
-use Rattle.psg_completions.proofs.NameLaws.{without, only, either}
+use Rattle.psg_completions.proofs.NameLaws.{without, only}
 use Rattle.psg_completions.proofs.Counting.{AllAre, none_are, all_only, all_kept, count_only, none_among, among_none, once_of, of_once, image, image_below, image_none, Renaming}
 use Rattle.psg_completions.specs.Counts.{count}
 use Rattle.psg_completions.proofs.Growth.{adds, Room, Kept, CanGrow, own_declared, Node, Child, Grows, GrowsBeside, Supplied}
@@ -25,11 +26,11 @@ module _ (def : Definition) (names : Renaming) (Allowed : Type 0) (stock : Suppl
 
   pub lift_entities : (inner h : Entities) → AreEntities def inner → AreEntities def h → AreEntities def (lift inner h)
   lift_entities inner h p q = record {
-    ground = λ m. elim (either (names.mine m)) [
+    ground = λ m. elim (cases_Bool (names.mine m)) [
       | inl e ↦ subst (λ b. IsGround (cond b (inner (names.back m)) (h m))) (sym e) (p.ground (names.back m))
       | inr e ↦ subst (λ b. IsGround (cond b (inner (names.back m)) (h m))) (sym e) (q.ground m)
     ];
-    sorted = λ m s at. elim (either (names.mine m)) [
+    sorted = λ m s at. elim (cases_Bool (names.mine m)) [
       | inl e ↦ subst (λ b. HasSort def.signature (cond b (inner (names.back m)) (h m)) s.sort.0) (sym e)
           (p.sorted (names.back m) s (ap (slice_get def.spaces) (stock.spaces m e) ∙ at))
       | inr e ↦ subst (λ b. HasSort def.signature (cond b (inner (names.back m)) (h m)) s.sort.0) (sym e)
@@ -56,7 +57,7 @@ module _ (def : Definition) (names : Renaming) (Allowed : Type 0) (stock : Suppl
     given = n.given;
     entities = n.entities;
     below = n.below;
-    separate = λ e. of_once (declared_inside def n.tree) (λ m. elim (either (is_among n.new m)) [
+    separate = λ e. of_once (declared_inside def n.tree) (λ m. elim (cases_Bool (is_among n.new m)) [
       | inl y ↦ n.once m y
       | inr y ↦ let a : count m (declared_inside def n.tree) ≡ image names m (declared_inside def t) + count m extra =
           n.declares m y in let b : image names m (declared_inside def t) + count m extra ≤ 1 = few m in
@@ -78,10 +79,10 @@ module _ (def : Definition) (names : Renaming) (Allowed : Type 0) (stock : Suppl
           entities = ehi;
           agree =
               subst (λ b. Within b (AgreeOutside (declared_inside def n.tree)) h (lift inner h)) (sym (top ∙ scope))
-              (λ m none. elim (either (names.mine m)) [
+              (λ m none. elim (cases_Bool (names.mine m)) [
                 | inl y ↦
                     let fresh : is_among n.new m ≡ false =
-                    elim (either (is_among n.new m))
+                    elim (cases_Bool (is_among n.new m))
                     [ inl w ↦ absurd (true≢false (sym y ∙ not_mine names avoid m kept (n.apart m w))) | inr w ↦ w ] in
                     let a : count m (declared_inside def n.tree) ≡ image names m (declared_inside def t) + count m extra =
                     n.declares m fresh in
@@ -169,7 +170,7 @@ module _ (def : Definition) (names : Renaming) (Allowed : Type 0) (stock : Suppl
                   omega (arith, a, b)
 
               all_once : Allowed → (m : Key) → count m stock.all ≤ 1
-              all_once allow m = elim (either (names.mine m)) [
+              all_once allow m = elim (cases_Bool (names.mine m)) [
                 | inl y ↦ let o : count m stock.all ≡ 1 = stock.listed allow m y in omega (arith, o)
                 | inr y ↦ let o : count m stock.all ≡ 0 = mine_count names m stock.all stock.all_mine y in omega (arith, o)
               ]
@@ -191,7 +192,7 @@ module _ (def : Definition) (names : Renaming) (Allowed : Type 0) (stock : Suppl
                   (without stock.all (map names.to (declared_inside def t)))) ≡ cond
                   (unfinished_inside def (space_of m) t)
                   (count m (without stock.all (map names.to (declared_inside def t)))) 0 = here m in
-                  elim (either (unfinished_inside def (space_of m) t)) [
+                  elim (cases_Bool (unfinished_inside def (space_of m) t)) [
                     | inr u ↦ let w : cond (unfinished_inside def (space_of m) t)
                         (count m (without stock.all (map names.to (declared_inside def t)))) 0 ≡ 0 =
                         ap (λ b. cond b (count m (without stock.all (map names.to (declared_inside def t)))) 0) u in
@@ -205,7 +206,7 @@ module _ (def : Definition) (names : Renaming) (Allowed : Type 0) (stock : Suppl
                         let w' : count m (without stock.all (map names.to (declared_inside def t))) ≡ cond
                         (is_among (map names.to (declared_inside def t)) m) 0 (count m stock.all) =
                         count_without m stock.all (map names.to (declared_inside def t)) in
-                        elim (either (is_among (map names.to (declared_inside def t)) m)) [
+                        elim (cases_Bool (is_among (map names.to (declared_inside def t)) m)) [
                           | inl y ↦ let b : cond (is_among (map names.to (declared_inside def t)) m) 0
                               (count m stock.all) ≡ 0 = ap (λ b. cond b 0 (count m stock.all)) y in
                               omega (arith, a, x, w, w', b)
@@ -228,7 +229,7 @@ module _ (def : Definition) (names : Renaming) (Allowed : Type 0) (stock : Suppl
                   let c : image names m (declared_inside def t) ≡ 0 = omega (arith, z) in
                   let d : count m (only (λ k. unfinished_inside def (space_of k) t)
                   (without stock.all (map names.to (declared_inside def t)))) ≡ 0 = omega (arith, z) in
-                  elim (either (unfinished_inside def (space_of m) t)) [
+                  elim (cases_Bool (unfinished_inside def (space_of m) t)) [
                     | inr u ↦
                         let none : is_among (declared_inside def t) (names.back m) ≡ false =
                         image_none names m (declared_inside def t) (stock.over m y) c in

@@ -1,5 +1,7 @@
 -- How often keys are declared in what grows, and where there are places.
 use Rattle.std.proofs.Common.{◌≡◌, inl, inr, ℕ, ◌+◌, ◌≤◌, Bool, true, false, cond, ◌&&◌, not, List, [], ◌∷◌, ◌++◌, map, bytes_eq, refl, ap, sym, ◌∙◌, true≢false, arith}
+use Rattle.std.proofs.lemmas.Bool.{cases_Bool, or_cases}
+use Rattle.psg_terms.proofs.DeclareLaws.{bytes_eq-same}
 use Rattle.psg_terms.specs.Names.{is_among}
 use Rattle.psg_grammar.specs.declared.types.Kind.{Kind}
 use Rattle.psg_grammar.specs.declared.types.Item.{Item}
@@ -10,7 +12,7 @@ use Rattle.psg_grammar.specs.Lookups.{is_scope}
 use Rattle.psg_grammar.specs.Regions.{unfinished_inside}
 use Rattle.psg_grammar.specs.Legal.{Entities, AreEntities}
 use Rattle.psg_grammar.specs.Placed.{FitsPlaces}
-use Rattle.psg_completions.proofs.NameLaws.{without, either, bytes_same, or_cases, among_left, among_right, among_parts, none_left, none_right}
+use Rattle.psg_completions.proofs.NameLaws.{without, among_left, among_right, among_parts, none_left, none_right}
 use Rattle.psg_completions.proofs.Frames.{SameOn, mixed, mixed_entities}
 use Rattle.psg_completions.proofs.Counting.{AllAre, tally_append, image, Own, image_mine, Renaming}
 use Rattle.psg_completions.specs.Counts.{one_if, count}
@@ -25,10 +27,10 @@ count_without m [] gone = zero_cond (is_among gone m) where
   zero_cond false = refl
 count_without m (x ∷ xs) gone =
     let d : count m (without xs gone) ≡ cond (is_among gone m) 0 (count m xs) = count_without m xs gone in
-    elim (either (bytes_eq x m)) [
+    elim (cases_Bool (bytes_eq x m)) [
       | inl t ↦
-          let same : is_among gone x ≡ is_among gone m = ap (is_among gone) (bytes_same x m t) in
-          elim (either (is_among gone m)) [
+          let same : is_among gone x ≡ is_among gone m = ap (is_among gone) (bytes_eq-same x m t) in
+          elim (cases_Bool (is_among gone m)) [
             | inl u ↦
                 let a : count m (without (x ∷ xs) gone) ≡ count m (without xs gone) =
                 ap (λ b. count m (cond b (without xs gone) (x ∷ without xs gone))) (same ∙ u) in
@@ -60,8 +62,8 @@ module _ (names : Renaming) where
   mine_count m [] h e = refl
   mine_count m (x ∷ xs) (p, h) e =
       let d : count m xs ≡ 0 = mine_count m xs h e in
-      elim (either (bytes_eq x m)) [
-        | inl t ↦ absurd (true≢false (sym p ∙ ap names.mine (bytes_same x m t) ∙ e))
+      elim (cases_Bool (bytes_eq x m)) [
+        | inl t ↦ absurd (true≢false (sym p ∙ ap names.mine (bytes_eq-same x m t) ∙ e))
         | inr f ↦ let c : one_if (bytes_eq x m) ≡ 0 = ap one_if f in omega (arith, c, d)
       ]
 
@@ -70,7 +72,7 @@ module _ (names : Renaming) where
 
   -- what is new is not mine
   pub not_mine : (avoid : List Key) (m : Key) → Kept names avoid → is_among avoid m ≡ false → names.mine m ≡ false
-  not_mine avoid m k e = elim (either (names.mine m)) [
+  not_mine avoid m k e = elim (cases_Bool (names.mine m)) [
     | inl t ↦ absurd (true≢false (sym (k m t) ∙ e))
     | inr f ↦ f
   ]
@@ -100,11 +102,11 @@ module _ (names : Renaming) where
       → (m : Key) → is_among (new ++ new') m ≡ true → count m (xs ++ ys) ≤ 1
   add_once avoid new new' xs ys us vs extra extra' k ax ax' ou ov ap1 ap2 a b oa ob m e =
       let s : count m (xs ++ ys) ≡ count m xs + count m ys = tally_append (λ x. bytes_eq x m) xs ys in
-      elim (either (is_among new m)) [
+      elim (cases_Bool (is_among new m)) [
         | inl t ↦
             let nm = not_mine avoid m k (ap1 m t) in
             let fresh : is_among new' m ≡ false =
-            elim (either (is_among new' m))
+            elim (cases_Bool (is_among new' m))
             [ inl u ↦ absurd (true≢false (sym t ∙ none_right avoid new m (ap2 m u))) | inr u ↦ u ] in
             let q : count m ys ≡ image names m vs + count m extra' = b m fresh in
             let z : image names m vs ≡ 0 = image_mine names m vs ov nm in

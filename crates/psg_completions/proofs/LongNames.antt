@@ -3,12 +3,14 @@ use Rattle.std.proofs.Common.{◌≡◌, inl, inr, ℕ, zero, suc, ◌<◌, ◌�
 use Rattle.std.specs.Prelude.{encode_utf8_all, IsTrue}
 use Rattle.std.specs.List.{AllByRecursion}
 use Rattle.std.proofs.lemmas.Str.{encode_ascii}
+use Rattle.std.proofs.lemmas.Bool.{cases_Bool}
+use Rattle.psg_terms.proofs.DeclareLaws.{bytes_eq-same}
 use Rattle.unicode_ident.proofs.IdentLemmas.{is_xid_start-ascii, is_xid_continue-ascii}
 use Rattle.psg_grammar.specs.declared.types.Definition.{Definition}
 use Rattle.psg_terms.specs.Names.{Name, is_among}
 use Rattle.psg_terms.specs.Words.{starts_word, goes_on_word}
 use Rattle.psg_grammar.specs.WellFormed.{IsName, fixed_words}
-use Rattle.psg_completions.proofs.NameLaws.{either, bytes_same, none_left, none_right}
+use Rattle.psg_completions.proofs.NameLaws.{none_left, none_right}
 
 abbrev run : ℕ → List ℕ
 run zero = []
@@ -40,9 +42,9 @@ longest (n ∷ ns) = max (length n) (longest ns)
 too_long : (k : ℕ) (ns : List Name) → longest ns < k → is_among ns (run k) ≡ false
 too_long k [] h = refl
 too_long k (n ∷ ns) h =
-    let here : bytes_eq n (run k) ≡ false = elim (either (bytes_eq n (run k))) [
+    let here : bytes_eq n (run k) ≡ false = elim (cases_Bool (bytes_eq n (run k))) [
       | inl t ↦
-          let e : length n ≡ k = ap length (bytes_same n (run k) t) ∙ run_length k in
+          let e : length n ≡ k = ap length (bytes_eq-same n (run k) t) ∙ run_length k in
           let z : 1 ≤ 0 = omega (arith, e, h) in
           absurd (omega (arith, z))
       | inr f ↦ f

@@ -1,6 +1,7 @@
 -- Names among lists.
-use Rattle.std.proofs.Common.{◌≡◌, ◌⊎◌, inl, inr, ℕ, Bool, true, false, cond, ◌||◌, List, [], ◌∷◌, ◌++◌, bytes_eq, refl, ap, ap₂, sym, ◌∙◌, subst, true≢false}
-use Rattle.std.proofs.lemmas.Slice.Eq.{bytes_eq-Decides}
+use Rattle.std.proofs.Common.{◌≡◌, ◌⊎◌, inl, inr, ℕ, Bool, true, false, cond, ◌||◌, List, [], ◌∷◌, ◌++◌, bytes_eq, ap, ap₂, sym, ◌∙◌, subst, true≢false}
+use Rattle.std.proofs.lemmas.Bool.{cases_Bool, or_cases, or_left, or_right}
+use Rattle.psg_terms.proofs.DeclareLaws.{bytes_eq-same, bytes_eq-refl}
 use Rattle.psg_grammar.specs.Keys.{Key, outward, space_of}
 use Rattle.psg_terms.specs.Names.{is_among}
 
@@ -14,31 +15,8 @@ abbrev pub without : List Key → List Key → List Key
 without [] gone = []
 without (n ∷ ns) gone = cond (is_among gone n) (without ns gone) (n ∷ without ns gone)
 
-pub bytes_same : (x y : Key) → bytes_eq x y ≡ true → x ≡ y
-bytes_same x y e = (bytes_eq-Decides x y).0 e
-
-pub bytes_refl : (x : Key) → bytes_eq x x ≡ true
-bytes_refl x = (bytes_eq-Decides x x).1 refl
-
 pub among_one : (x : Key) → is_among (x ∷ []) x ≡ true
-among_one x = ap (λ b. b || false) (bytes_refl x)
-
--- a test comes out one way or the other
-pub either : (b : Bool) → (b ≡ true) ⊎ (b ≡ false)
-either true = inl refl
-either false = inr refl
-
-pub or_left : (a b : Bool) → a ≡ true → a || b ≡ true
-or_left true b e = refl
-or_left false b e = absurd (true≢false (sym e))
-
-pub or_right : (a b : Bool) → b ≡ true → a || b ≡ true
-or_right true b e = refl
-or_right false b e = e
-
-pub or_cases : (a b : Bool) → a || b ≡ true → (a ≡ true) ⊎ (b ≡ true)
-or_cases true b e = inl refl
-or_cases false b e = inr e
+among_one x = ap (λ b. b || false) (bytes_eq-refl x)
 
 pub among_left : (xs ys : List Key) (n : Key) → is_among xs n ≡ true → is_among (xs ++ ys) n ≡ true
 among_left [] ys n e = absurd (true≢false (sym e))
@@ -56,7 +34,7 @@ pub among_without : (xs gone : List Key) (n : Key) → is_among xs n ≡ true �
 among_without [] gone n e h = e
 among_without (x ∷ xs) gone n e h = elim (or_cases (bytes_eq x n) (is_among xs n) e) [
   | inl same ↦ here same
-  | inr later ↦ elim (either (is_among gone x)) [
+  | inr later ↦ elim (cases_Bool (is_among gone x)) [
     | inl g ↦ subst (λ b. is_among (cond b (without xs gone) (x ∷ without xs gone)) n ≡ true) (sym g)
         (among_without xs gone n later h)
     | inr g ↦ subst (λ b. is_among (cond b (without xs gone) (x ∷ without xs gone)) n ≡ true) (sym g)
@@ -65,7 +43,7 @@ among_without (x ∷ xs) gone n e h = elim (or_cases (bytes_eq x n) (is_among xs
 ] where
   here : bytes_eq x n ≡ true → is_among (without (x ∷ xs) gone) n ≡ true
   here same =
-      let is : x ≡ n = bytes_same x n same in
+      let is : x ≡ n = bytes_eq-same x n same in
       let kept : is_among gone x ≡ false = subst (λ y. is_among gone y ≡ false) (sym is) h in
       subst (λ b. is_among (cond b (without xs gone) (x ∷ without xs gone)) n ≡ true) (sym kept)
       (or_left (bytes_eq x n) (is_among (without xs gone) n) same)
@@ -84,7 +62,7 @@ among_outward unfinished declared (x ∷ xs) n e u h = elim (or_cases (bytes_eq 
 
   here : bytes_eq x n ≡ true → is_among (outward unfinished declared (x ∷ xs)) n ≡ true
   here same =
-      let is : x ≡ n = bytes_same x n same in
+      let is : x ≡ n = bytes_eq-same x n same in
       let kept : (unfinished (space_of x) || is_among declared x) ≡ false =
       subst (λ y. (unfinished (space_of y) || is_among declared y) ≡ false) (sym is) (ap₂ (λ a b. a || b) u h) in
       subst (λ b. is_among (cond b (outward unfinished declared xs) (x ∷ outward unfinished declared xs)) n ≡ true)
@@ -93,7 +71,7 @@ among_outward unfinished declared (x ∷ xs) n e u h = elim (or_cases (bytes_eq 
 pub none_both : (xs ys : List Key) (n : Key) → is_among xs n ≡ false → is_among ys n ≡ false
     → is_among (xs ++ ys) n ≡ false
 none_both [] ys n a b = b
-none_both (x ∷ xs) ys n a b = elim (either (bytes_eq x n)) [
+none_both (x ∷ xs) ys n a b = elim (cases_Bool (bytes_eq x n)) [
   | inl t ↦ absurd (true≢false (sym (ap (λ c. c || is_among xs n) t) ∙ a))
   | inr f ↦ ap (λ c. c || is_among (xs ++ ys) n) f ∙ none_both xs ys n (sym (ap (λ c. c || is_among xs n) f) ∙ a) b
 ]
@@ -110,13 +88,13 @@ among_parts (x ∷ xs) ys m e = elim (or_cases (bytes_eq x m) (is_among (xs ++ y
 ]
 
 pub none_left : (xs ys : List Key) (m : Key) → is_among (xs ++ ys) m ≡ false → is_among xs m ≡ false
-none_left xs ys m e = elim (either (is_among xs m)) [
+none_left xs ys m e = elim (cases_Bool (is_among xs m)) [
   | inl t ↦ absurd (true≢false (sym (among_left xs ys m t) ∙ e))
   | inr f ↦ f
 ]
 
 pub none_right : (xs ys : List Key) (m : Key) → is_among (xs ++ ys) m ≡ false → is_among ys m ≡ false
-none_right xs ys m e = elim (either (is_among ys m)) [
+none_right xs ys m e = elim (cases_Bool (is_among ys m)) [
   | inl t ↦ absurd (true≢false (sym (among_right xs ys m t) ∙ e))
   | inr f ↦ f
 ]

@@ -2,6 +2,8 @@
 use Rattle.std.proofs.Common.{◌≡◌, inl, inr, ℕ, zero, suc, ◌<◌, ◌==◌, Bool, true, false, cond, ◌||◌, ◌&&◌, not, List, [], ◌∷◌, ◌++◌, length, slice_get, bytes_eq, Some, refl, ap, ap₂, sym, ◌∙◌, subst, true≢false, eq-eqb}
 use Rattle.std.specs.Option.{option_and_then}
 use Rattle.std.proofs.lemmas.Option.{none-some, slice_get_within}
+use Rattle.std.proofs.lemmas.Bool.{cases_Bool, or_parts}
+use Rattle.psg_terms.proofs.DeclareLaws.{bytes_eq-same}
 use Rattle.psg_grammar.specs.declared.types.Kind.{Kind}
 use Rattle.psg_grammar.specs.declared.types.Item.{Item}
 use Rattle.psg_grammar.specs.declared.types.Operator.{Operator}
@@ -13,8 +15,7 @@ use Rattle.psg_grammar.specs.Lookups.{is_scope, scopes, operator_at, next_item, 
 use Rattle.psg_grammar.specs.Declaring.{is_declaring, declares_by, any_item, any_operator, element_declares}
 use Rattle.psg_grammar.specs.Regions.{declared_inside, declared_in}
 use Rattle.psg_grammar.specs.WellFormed.{Fits}
-use Rattle.psg_completions.proofs.NameLaws.{either, bytes_same, none_both}
-use Rattle.psg_completions.proofs.Counting.{or_parts}
+use Rattle.psg_completions.proofs.NameLaws.{none_both}
 use Rattle.psg_grammar.specs.Kinds.{HasKind}
 use Rattle.psg_completions.proofs.Tops.{IsNode, node_before, list_no_scope, top_of, next_is}
 use Rattle.psg_grammar.specs.declared.types.Kind.TheVariants as kinds
@@ -94,7 +95,7 @@ module _ (def : Definition) where
     none_two xs ys a b k e = none_both xs ys k (a k e) (b k e)
 
     adds_none : (t : Fragment) → (is_scope def t ≡ false → NoneOf (declared_inside def t)) → NoneOf (declared_in def t)
-    adds_none t h = elim (either (is_scope def t)) [
+    adds_none t h = elim (cases_Bool (is_scope def t)) [
       | inl e ↦ subst (λ b. NoneOf (cond b [] (declared_inside def t))) (sym e) (λ k q. refl)
       | inr e ↦ subst (λ b. NoneOf (cond b [] (declared_inside def t))) (sym e) (h e)
     ]
@@ -134,8 +135,8 @@ module _ (def : Definition) where
         none_two (declared_inside def f) (cond (is_declares (next_item def f)) (key_at def f x ∷ []) [])
         (quiet_inside f (items.Declares sp ∷ more) kind wf q s)
         (subst (λ i. NoneOf (cond (is_declares i) (key_of i x ∷ []) []))
-        (sym (next_is def f (items.Declares sp) more kind wf)) (λ k e. elim (either (bytes_eq (sp ∷ x) k)) [
-          | inl t ↦ absurd (true≢false (sym (eq-eqb sp space (ap space_of (bytes_same (sp ∷ x) k t) ∙ e)) ∙ other))
+        (sym (next_is def f (items.Declares sp) more kind wf)) (λ k e. elim (cases_Bool (bytes_eq (sp ∷ x) k)) [
+          | inl t ↦ absurd (true≢false (sym (eq-eqb sp space (ap space_of (bytes_eq-same (sp ∷ x) k t) ∙ e)) ∙ other))
           | inr t ↦ ap (λ b. b || false) t
         ]))
     quiet_inside (with_number f x) more kind (wf, small) q s = quiet_inside f (items.Number ∷ more) kind wf q s

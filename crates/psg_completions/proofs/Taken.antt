@@ -1,6 +1,7 @@
 -- The values of hole rows are exactly those of complete legal trees.
 use Rattle.std.proofs.Common.{◌≡◌, ◌↔◌, inl, inr, ℕ, zero, suc, ◌+◌, ◌<◌, ◌≤◌, Bool, true, false, cond, List, [], ◌∷◌, ◌++◌, map, slice_get, refl, ap, sym, ◌∙◌, subst, true≢false, arith, append-nil, not-suc-le-zero}
 use Rattle.std.specs.List.{AllByRecursion}
+use Rattle.std.proofs.lemmas.Bool.{cases_Bool}
 use Rattle.psg_terms.specs.Terms.{Term, variable, symbol, apply}
 use Rattle.psg_terms.specs.Instances.{Substitution, substitute, IsGrounding}
 use Rattle.psg_grammar.specs.declared.types.Kind.{Kind}
@@ -18,7 +19,7 @@ use Rattle.psg_completions.specs.Places.{IsPart}
 use Rattle.psg_completions.proofs.Usable.{IsUsableCase, IsFilled, usable_case, case_of}
 use Rattle.psg_completions.specs.General.{Shows, term_at}
 use Rattle.psg_grammar.specs.Sound.{kind_of, IsSound}
-use Rattle.psg_completions.proofs.NameLaws.{either, among_left, among_right, among_parts, none_left, none_right}
+use Rattle.psg_completions.proofs.NameLaws.{among_left, among_right, among_parts, none_left, none_right}
 use Rattle.psg_completions.proofs.Frames.{mixed, mixed_entities}
 use Rattle.psg_completions.proofs.Counting.{image, Own, own_cond, image_below, image_mine, once_of, of_once}
 use Rattle.psg_completions.specs.Counts.{count}
@@ -117,7 +118,7 @@ module _ (def : Definition) (sound : IsSound def) (true_rows : HasTrueRows def) 
                     image_mine (renaming_of r.rho r.back r.targets) m (declared_in def (tree_of one.specimen)) own
                     (none_left r.targets c.new m e) in
                     omega (arith, a, b);
-                once = λ m. elim (either (is_among c.new m)) [
+                once = λ m. elim (cases_Bool (is_among c.new m)) [
                   | inl y ↦ c.once m y
                   | inr y ↦
                       let a : count m (declared_in def c.tree) ≡ image (renaming_of r.rho r.back r.targets) m
@@ -175,7 +176,7 @@ module _ (def : Definition) (sound : IsSound def) (true_rows : HasTrueRows def) 
         formed = (t.fits, t.plain);
         complete = t.complete;
         distinct = (
-          elim (either (is_scope def t.tree)) [
+          elim (cases_Bool (is_scope def t.tree)) [
             | inl e ↦ t.separate e
             | inr e ↦ of_once (declared_inside def t.tree)
                 (λ m. subst (λ b. count m (cond b [] (declared_inside def t.tree)) ≤ 1) e (t.once m))
