@@ -28,6 +28,7 @@ pub mod Observing
 pub mod Law
 pub mod Relating
 pub mod ByRows
+pub mod CoversByRows
 pub mod CaseNumerals
 pub mod CaseTrueRows
 pub mod CaseUnfinished

@@ -6,4 +6,5 @@ pub mod General
 pub mod Elements
 pub mod Conditions
 pub mod SpecimenRows
+pub mod CoveredRows
 pub mod Completions

@@ -1,6 +1,7 @@
 //! What follows for trees from true rows.
 ghost use Rattle.psg_grammar.specs.Sound.{IsSound};
 ghost use Rattle.psg_completions.specs.Conditions.{HasTrueRows};
+ghost use Rattle.psg_completions.specs.CoveredRows.{CellsByRows, OperatorsByRows};
 ghost use Rattle.psg_completions.specs.SpecimenRows.{CaseByRows, DeclareByRows};
 ghost use Rattle.psg_completions.specs.Completions.{
   OpenOrCompletable,
@@ -44,4 +45,12 @@ pub fn general_specimens(definition: &Definition)
     requires { IsSound definition.now }
     ensures cases { CaseByRows definition.now }
     ensures declares { DeclareByRows definition.now }
+{}
+
+/// The most general rows of the values of an operator's row, or of a cell row, over hole rows of the children are instances of
+/// hole rows exactly where each choice of hole rows that has a value has all its values in one hole row.
+pub fn covered_values(definition: &Definition)
+    requires { IsSound definition.now }
+    ensures operators { OperatorsByRows definition.now }
+    ensures cells { CellsByRows definition.now }
 {}
