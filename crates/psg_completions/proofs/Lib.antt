@@ -27,6 +27,7 @@ pub mod Completable
 pub mod Observing
 pub mod Law
 pub mod Relating
+pub mod MarkLaws
 pub mod ByRows
 pub mod CoversByRows
 pub mod CaseNumerals

@@ -11,6 +11,7 @@ use Rattle.psg_grammar.specs.Legal.{Entities, AreEntities, IsLegal, IsCompletabl
 use Rattle.psg_grammar.specs.Open.{Choice, IsOpen, IsOfHoleRow}
 use Rattle.psg_grammar.specs.Regions.{IsDistinct}
 use Rattle.psg_grammar.specs.Relations.{IsSeen, IsRelationOf, IsShownRelation}
+use Rattle.psg_grammar.specs.Marks.{Mark, IsMark, IsMarkBy}
 use Rattle.psg_grammar.specs.WellFormed.{Fits, WellFormed, IsComplete}
 
 module _ (def : Definition) where
@@ -57,3 +58,10 @@ module _ (def : Definition) where
       → (rows : List (List Term)) → IsShownRelation def f path rows
       → (u : Term) → ((row : List Term) × IsIn row rows × IsGroundInstance def.signature row (u ∷ [])) ↔ IsPossibleAt
       def f path u
+
+  -- The mark of a tree is the one that legal completions give: good where the tree has one, and otherwise wrong at
+  -- the nodes
+  -- that have none while each of their children has one.
+  abbrev pub MarkedByCompletions : Type 0
+  MarkedByCompletions = (f : Fragment) (kind : Kind) → WellFormed def f kind → (mark : Mark)
+      → IsMark def f mark ↔ IsMarkBy (IsCompletable def) f mark

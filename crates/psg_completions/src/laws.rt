@@ -4,6 +4,7 @@ ghost use Rattle.psg_completions.specs.Conditions.{HasTrueRows};
 ghost use Rattle.psg_completions.specs.CoveredRows.{CellsByRows, OperatorsByRows};
 ghost use Rattle.psg_completions.specs.SpecimenRows.{CaseByRows, DeclareByRows};
 ghost use Rattle.psg_completions.specs.Completions.{
+  MarkedByCompletions,
   OpenOrCompletable,
   RelatedOrCompletable,
   RowOrTree,
@@ -22,12 +23,13 @@ pub fn values_of_kinds(definition: &Definition)
 {}
 
 /// A fragment is open, and its relation has a row, exactly where it has a legal completion, with its unfinished lists and its
-/// free names.
+/// free names. So its mark and its culprits are those that completions give.
 pub fn open_fragments(definition: &Definition)
     requires sound { IsSound definition.now }
     requires rows { HasTrueRows definition.now }
     ensures open_trees { OpenOrCompletable definition.now }
     ensures relations { RelatedOrCompletable definition.now }
+    ensures marks { MarkedByCompletions definition.now }
 {}
 
 /// The values that are seen at observed nodes, or at one node of a fragment, are exactly those that it has in legal completions.
