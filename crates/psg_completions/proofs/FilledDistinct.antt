@@ -1,5 +1,5 @@
 -- A tree declares no key twice where what fills it declares none twice.
-use Rattle.std.proofs.Common.{◌≡◌, inl, inr, ◌+◌, true, false, cond, ◌||◌, List, [], ◌∷◌, ◌++◌, bytes_eq, refl, ap, ap₂, sym, ◌∙◌, subst, true≢false}
+use Rattle.std.proofs.Common.{◌≡◌, inl, inr, true, false, cond, ◌||◌, List, [], ◌∷◌, ◌++◌, bytes_eq, refl, ap, ap₂, sym, ◌∙◌, subst, true≢false}
 use Rattle.std.proofs.lemmas.Bool.{or_parts}
 use Rattle.psg_terms.specs.Names.{is_among, has_twice}
 use Rattle.psg_grammar.specs.declared.types.Kind.{Kind}

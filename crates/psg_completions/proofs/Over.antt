@@ -117,6 +117,13 @@ substitute_applied : (f : Substitution) (t : Term) (xs : List Term)
 substitute_applied f t [] = refl
 substitute_applied f t (x ∷ xs) = substitute_applied f (apply t x) xs
 
+-- a constructor over terms is the instance of the constructor over what they are instances of
+spelled_value : (f : Substitution) (n c : ℕ) (xs vs : List Term) (v term : Term) → v ≡ applied (symbol n) vs → n ≡ c
+    → map (substitute f) xs ≡ vs → term ≡ applied (symbol c) xs → v ≡ substitute f term
+spelled_value f n c xs vs v term is same made over =
+    is ∙ ap₂ (λ k ys. applied (symbol k) ys) same (sym made) ∙ sym (substitute_applied f (symbol c) xs)
+    ∙ ap (substitute f) (sym over)
+
 module _ (sig : Signature) (sound : IsSound sig) where
   record Matched (args vs : List Term) : Type 0 where
     terms : Substitution
@@ -179,8 +186,7 @@ module _ (sig : Signature) (sound : IsSound sig) where
       r.sorted r.ground in (
         m.terms,
         m.ground,
-        r.is ∙ ap₂ (λ n xs. applied (symbol n) xs) same (sym m.same)
-            ∙ sym (substitute_applied m.terms (symbol c) over.arguments) ∙ ap (substitute m.terms) (sym over.term_is),
+        spelled_value m.terms r.number c over.arguments r.arguments v term r.is same m.same over.term_is,
       )
 
   -- the cases of a hole row miss no value of it
