@@ -105,12 +105,6 @@ module _ (def : Definition) (names : Renaming) (Allowed : Type 0) (stock : Suppl
         record { inner = i.inner; entities = i.entities; agree = i.agree; legal = (before, refl, i.legal) };
   }
 
-  sum_none : (extra : List Key) (m : Key) → count m [] + count m extra ≡ count m extra
-  sum_none extra m = omega arith
-
-  none_sum : (extra : List Key) (m : Key) → count m extra + count m [] ≡ count m extra
-  none_sum extra m = omega arith
-
   grow : (f : Fragment) (c : Choice f) (g : Entities) (columns : List Term) (v : Term) (us us' : List Term)
       (more : List Item) (kind : Kind) (ks ks' : List Kind) → FitsPlaces def Allowed f more kind ks ks'
       → CanGrow def names f → DistinctBelow def f

@@ -1,6 +1,6 @@
 pub mod NameLaws
 pub mod Counting
-pub mod Frames
+pub mod MixedEntities
 pub mod LegalMore
 pub mod Tops
 pub mod Quiet

@@ -1,8 +1,8 @@
 -- Names among lists.
-use Rattle.std.proofs.Common.{◌≡◌, ◌⊎◌, inl, inr, ℕ, Bool, true, false, cond, ◌||◌, List, [], ◌∷◌, ◌++◌, bytes_eq, ap, ap₂, sym, ◌∙◌, subst, true≢false}
+use Rattle.std.proofs.Common.{◌≡◌, ◌⊎◌, inl, inr, Bool, true, false, cond, ◌||◌, List, [], ◌∷◌, ◌++◌, bytes_eq, ap, sym, ◌∙◌, subst, true≢false}
 use Rattle.std.proofs.lemmas.Bool.{cases_Bool, or_cases, or_left, or_right}
 use Rattle.psg_terms.proofs.DeclareLaws.{bytes_eq-same, bytes_eq-refl}
-use Rattle.psg_grammar.specs.Keys.{Key, outward, space_of}
+use Rattle.psg_grammar.specs.Keys.{Key}
 use Rattle.psg_terms.specs.Names.{is_among}
 
 -- the keys that pass the test
@@ -47,26 +47,6 @@ among_without (x ∷ xs) gone n e h = elim (or_cases (bytes_eq x n) (is_among xs
       let kept : is_among gone x ≡ false = subst (λ y. is_among gone y ≡ false) (sym is) h in
       subst (λ b. is_among (cond b (without xs gone) (x ∷ without xs gone)) n ≡ true) (sym kept)
       (or_left (bytes_eq x n) (is_among (without xs gone) n) same)
-
-pub among_outward : (unfinished : ℕ → Bool) (declared xs : List Key) (n : Key) → is_among xs n ≡ true
-    → unfinished (space_of n) ≡ false → is_among declared n ≡ false → is_among (outward unfinished declared xs) n ≡ true
-among_outward unfinished declared [] n e u h = e
-among_outward unfinished declared (x ∷ xs) n e u h = elim (or_cases (bytes_eq x n) (is_among xs n) e) [
-  | inl same ↦ here same
-  | inr later ↦ go (among_outward unfinished declared xs n later u h) (unfinished (space_of x) || is_among declared x)
-] where
-  go : is_among (outward unfinished declared xs) n ≡ true → (b : Bool)
-      → is_among (cond b (outward unfinished declared xs) (x ∷ outward unfinished declared xs)) n ≡ true
-  go k true = k
-  go k false = or_right (bytes_eq x n) (is_among (outward unfinished declared xs) n) k
-
-  here : bytes_eq x n ≡ true → is_among (outward unfinished declared (x ∷ xs)) n ≡ true
-  here same =
-      let is : x ≡ n = bytes_eq-same x n same in
-      let kept : (unfinished (space_of x) || is_among declared x) ≡ false =
-      subst (λ y. (unfinished (space_of y) || is_among declared y) ≡ false) (sym is) (ap₂ (λ a b. a || b) u h) in
-      subst (λ b. is_among (cond b (outward unfinished declared xs) (x ∷ outward unfinished declared xs)) n ≡ true)
-      (sym kept) (or_left (bytes_eq x n) (is_among (outward unfinished declared xs) n) same)
 
 pub none_both : (xs ys : List Key) (n : Key) → is_among xs n ≡ false → is_among ys n ≡ false
     → is_among (xs ++ ys) n ≡ false
