@@ -24,8 +24,7 @@ IsAbsent s n (symbol c) = Unit {0}
 IsAbsent s n (apply f a) = IsAbsent s n f × IsAbsent s n a
 
 module _ (def : Definition) where
-  -- The specimen declares `$it` once in its region, in the space of the row. So it is an operator: the region of a
-  -- scope
+  -- The specimen declares `$it` once in its region, in the space of the row. So it is an operator and no scope operator: a scope
   -- operator declares nothing outside, and a hole place declares nothing at all.
   abbrev pub DeclaresOnce : DeclareRow → Type 0
   DeclaresOnce d = count (it d.space) (declared_in def (tree_of d.specimen)) ≡ 1

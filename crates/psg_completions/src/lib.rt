@@ -1,8 +1,13 @@
-//! The law of completions: what the rows of placeholders are good for, as contracts of calls that do nothing.
+//! The law of completions: what true rows of placeholders and declarations are good for, as contracts of calls that do nothing.
 //!
-//! A definition whose rows are true has, for each kind, hole rows that are exactly the values of its complete legal trees. So a
-//! fragment that is judged by them is open exactly where placeholders can be filled and unfinished lists be gone on with, so
-//! that the whole is legal.
+//! ```text
+//! laws::values_of_kinds(&definition); // hole rows have exactly the values of complete legal trees
+//! laws::open_fragments(&definition); // what is open has a legal completion, and the other way round
+//! laws::seen_values(&definition); // what a node is shown to be it can be in a legal completion
+//! ```
+//!
+//! What always holds of a definition whose rows are true: a fragment that is judged by its hole rows is open exactly where its
+//! placeholders can be filled and its unfinished lists continued so that the whole is legal under some declarations outside.
 #![tactic(auto)]
 
 pub mod laws;
