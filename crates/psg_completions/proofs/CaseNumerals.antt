@@ -1,6 +1,5 @@
--- A language of numerals and blocks for the worked case, and that it is sound. A `def` gives a name a numeral, a
--- `use` needs
--- the numeral zero, and a block keeps what its items declare.
+-- A language of numerals and blocks for the worked case, and that it is sound. A `def` gives a name a numeral, a `use`
+-- needs the numeral zero, and a block keeps what its items declare.
 use Rattle.std.proofs.Common.{◌≡◌, inl, inr, ℕ, zero, suc, ◌<◌, true, false, List, [], ◌∷◌, codes, Some, None, refl, subst, lit<, lit≤, arith}
 use Rattle.psg_terms.specs.Terms.{Term, variable, symbol, apply}
 use Rattle.psg_terms.specs.Signature.{Signature, HasSort, only_constructor}

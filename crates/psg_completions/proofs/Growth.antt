@@ -217,9 +217,9 @@ module _ (def : Definition) where
       GrowsBeside t g kind v before after = (avoid extra : List Key) → Kept names avoid → AllAre names.mine extra
           → RoomBeside t extra → Child t g kind v before after avoid extra
 
-      -- What the places and unfinished lists need: a tree for each value of a hole row, and an element for each key
-      -- to be declared.
-      -- The keys in all are those that are mine, each once. What is left of the values of observed nodes is seen.
+      -- What the places and unfinished lists need: a tree for each value of a hole row, and an element for each key to
+      -- be declared. The keys in all are those that are mine, each once. What is left of the values of observed nodes
+      -- is seen.
       pub record Supplied : Type 0 where
         pub over : (m : Key) → names.mine m ≡ true → names.to (names.back m) ≡ m
         pub spaces : (m : Key) → names.mine m ≡ true → space_of (names.back m) ≡ space_of m

@@ -59,9 +59,8 @@ module _ (def : Definition) where
       → (u : Term) → ((row : List Term) × IsIn row rows × IsGroundInstance def.signature row (u ∷ [])) ↔ IsPossibleAt
       def f path u
 
-  -- The mark of a tree is the one that legal completions give: good where the tree has one, and otherwise wrong at
-  -- the nodes
-  -- that have none while each of their children has one.
+  -- The mark of a tree is the one that legal completions give: good where the tree has one, and otherwise wrong at the
+  -- nodes that have none while each of their children has one.
   abbrev pub MarkedByCompletions : Type 0
   MarkedByCompletions = (f : Fragment) (kind : Kind) → WellFormed def f kind → (mark : Mark)
       → IsMark def f mark ↔ IsMarkBy (IsCompletable def) f mark

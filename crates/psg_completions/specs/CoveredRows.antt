@@ -40,9 +40,8 @@ module _ (def : Definition) where
   IsCoveredBy kind general = (r : ℕ) × (row : HoleRow) × (slice_get def.hole_rows r ≡ Some row) × (row.kind ≡ kind)
       × IsInstance general (row.term ∷ [])
 
-  -- Each most general row of these values is an instance of a hole row of the kind exactly where, for each choice
-  -- that has a
-  -- value, all its values are of one hole row.
+  -- Each most general row of these values is an instance of a hole row of the kind exactly where, for each choice that
+  -- has a value, all its values are of one hole row.
   abbrev pub IsCoveredByRows : (kind : Kind) {C : Type 0} → (C → Term → Type 0) → Type 0
   IsCoveredByRows kind {C} Takes = (s : ℕ) → HasKindSort def kind s → (rows : List (List Term))
       → IsRelation def.signature (s ∷ [])

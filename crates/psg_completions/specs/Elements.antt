@@ -24,8 +24,8 @@ IsAbsent s n (symbol c) = Unit {0}
 IsAbsent s n (apply f a) = IsAbsent s n f × IsAbsent s n a
 
 module _ (def : Definition) where
-  -- The specimen declares `$it` once in its region, in the space of the row. So it is an operator and no scope operator: a scope
-  -- operator declares nothing outside, and a hole place declares nothing at all.
+  -- The specimen declares `$it` once in its region, in the space of the row. So it is an operator and no scope
+  -- operator: a scope operator declares nothing outside, and a hole place declares nothing at all.
   abbrev pub DeclaresOnce : DeclareRow → Type 0
   DeclaresOnce d = count (it d.space) (declared_in def (tree_of d.specimen)) ≡ 1
 
@@ -38,8 +38,8 @@ module _ (def : Definition) where
     pub of_space : row.space ≡ s
     pub over : IsOver def.signature c row.term
 
-  -- where the list is of the unfinished kind and declares in the space, it can declare a name with each entity that
-  -- the constructor makes
+  -- where the list is of the unfinished kind and declares in the space, it can declare a name with each entity that the
+  -- constructor makes
   abbrev pub IsDeclarable : ℕ → ℕ → ℕ → Type 0
   IsDeclarable l s c = (list : ListKind) → slice_get def.lists l ≡ Some list → list.unfinished ≡ true
       → is_declaring def s (kinds.List l) ≡ true
@@ -47,8 +47,7 @@ module _ (def : Definition) where
       → HasDeclareRow l s c
 
   -- An element of the value in front of a list leaves the list's value: for a cell row's head and rest that are one
-  -- variable,
-  -- which the element's term does not have, or the constant of their one-constant sort.
+  -- variable, which the element's term does not have, or the constant of their one-constant sort.
   pub record IsClear (list : ListKind) (value : Term) : Type 0 where
     pub number : ℕ
     pub row : Row

@@ -9,8 +9,7 @@ use Rattle.psg_grammar.specs.declared.types.Definition.{Definition}
 use Rattle.psg_grammar.specs.Specimens.{holes_of}
 
 -- A proper subterm: an argument, at any depth. The term itself is none, since a hole place of it would show the value
--- by
--- itself.
+-- by itself.
 abbrev pub IsPart : Term → Term → Type 0
 IsPart u (variable s n) = ⊥
 IsPart u (symbol c) = ⊥
