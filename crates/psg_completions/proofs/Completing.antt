@@ -28,8 +28,7 @@ and_false true b e h = absurd (true≢false h)
 and_false false b e h = e
 
 module _ (def : Definition) where
-  -- What the conditions of acceptance give: hole rows miss no value, and where a kind isn't declaring its trees declare
-  -- nothing.
+  -- What true rows give: hole rows miss no value, and where a kind is not declaring its trees declare nothing.
   pub record IsCovered : Type 0 where
     pub covered : (kind : Kind) (t : Fragment) (inner : Entities) (v : Term) (before after : List Term)
         → Fits def t [] kind → IsComplete t → IsPlain t → AreEntities def inner
