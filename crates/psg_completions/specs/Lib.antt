@@ -1,0 +1,10 @@
+pub mod Counts
+pub mod Cases
+pub mod Covered
+pub mod Places
+pub mod General
+pub mod Elements
+pub mod Conditions
+pub mod SpecimenRows
+pub mod CoveredRows
+pub mod Completions
