@@ -1,3 +1,5 @@
 pub mod Rows
 pub mod Layout
 pub mod Spots
+pub mod Writing
+pub mod Walking
