@@ -1,5 +1,5 @@
 -- The spans of a tree that is written behind a row, and what a step of the printer adds.
-use Rattle.std.specs.Prelude.{ℕ, ◌≡◌, ◌+◌, cond, nat_lt, Bool, false, List, [], ◌∷◌, ◌++◌, length, string_bytes, codes, decimal, Option, Some, None}
+use Rattle.std.specs.Prelude.{ℕ, ◌≡◌, ◌≤◌, ◌+◌, cond, nat_lt, Bool, false, List, [], ◌∷◌, ◌++◌, length, string_bytes, codes, decimal, Option, Some, None}
 use Rattle.std.specs.Option.{option_or, unwrap_or}
 use Rattle.psg_grammar.specs.declared.types.Operator.{Operator}
 use Rattle.psg_grammar.specs.declared.types.Definition.{Definition}
@@ -72,6 +72,7 @@ module _ (def : Definition) where
 pub record Prints (pieces : List Piece) (listed : List Piece → List Span) (old new : Printer) : Type 0 where
   pub adds : Adds pieces old.writer new.writer
   pub path : new.path.items ≡ old.path.items
+  pub grown : length old.spans.items ≤ length new.spans.items
   pub spans : (before : List Piece) → IsWritten old.writer before → new.spans.items ≡ old.spans.items ++ listed before
 
 -- how many children a part is
@@ -87,7 +88,7 @@ ending_row u = cond u (token (codes "...") ∷ []) []
 
 -- a node is begun: its span is listed, empty, where the text ends, and the place of the first token is forgotten
 pub record IsOpened (outer : Option ℕ) (old new : Printer) : Type 0 where
-  pub outer : outer ≡ old.writer.first
+  pub known : outer ≡ old.writer.first
   pub writer : new.writer ≡ record old.writer { first = None }
   pub path : new.path.items ≡ old.path.items
   pub spans : new.spans.items
@@ -97,5 +98,6 @@ pub record IsOpened (outer : Option ℕ) (old new : Printer) : Type 0 where
 pub record IsClosed (place : ℕ) (outer : Option ℕ) (old new : Printer) : Type 0 where
   pub writer : new.writer ≡ record old.writer { first = option_or outer old.writer.first }
   pub path : new.path.items ≡ old.path.items
+  pub long : length new.spans.items ≡ length old.spans.items
   pub spans : (front back : List Span) (s : Span) → old.spans.items ≡ front ++ s ∷ back → length front ≡ place
       → new.spans.items ≡ front ++ record { path = s.path; start = unwrap_or old.writer.first s.start; end = length (string_bytes old.writer.out) } ∷ back

@@ -1,5 +1,5 @@
 //! The walk over a tree that writes it.
-ghost use Rattle.std.specs.Prelude.{◌≡◌, ◌+◌, ◌<◌, [], ◌∷◌, ◌++◌, length, slice_get, IfOk, OnOk};
+ghost use Rattle.std.specs.Prelude.{◌≡◌, ◌+◌, ◌<◌, [], ◌∷◌, ◌++◌, ◌==◌, ◌&&◌, not, length, slice_get, Some, IfOk, OnOk};
 ghost use Rattle.psg_grammar.specs.Fragments.{hole, operator as plain_operator};
 ghost use Rattle.psg_grammar.specs.Levels.{least_level_of};
 ghost use Rattle.psg_grammar.specs.Lookups.{is_part, operator_at};
@@ -14,7 +14,7 @@ ghost use Rattle.psg_unparse.specs.Writing.{Adds};
 
 use crate::layout::Writer;
 use crate::spans::{Printed, Span};
-use psg_grammar::{Definition, Item, least_level, op_level};
+use psg_grammar::{Definition, Item, ListKind, least_level, op_level};
 use psg_terms::{Seq, Txt};
 use psg_tree::{Part, Path, Shape, Tree};
 use std::alloc::{AllocError, Global};
@@ -52,13 +52,9 @@ impl Printer {
         let end = self.writer.out.len();
         let first = self.writer.first;
         let span = &mut self.spans[place];
+        span.start = first.unwrap_or(span.start);
         span.end = end;
-        if let Some(start) = first {
-            span.start = start;
-        }
-        if outer.is_some() {
-            self.writer.first = outer;
-        }
+        self.writer.first = outer.or(first);
     }
 }
 
@@ -111,11 +107,19 @@ fn is_below(definition: &Definition, tree: &Tree, wanted: u8) -> bool
     ensures { result ≡ is_below definition.now tree.now wanted }
 {
     match tree.shape() {
-        Shape::Op { op, .. } => match definition.operators.as_slice().get(*op as usize) {
-            Some(operator) => op_level(operator) < wanted,
-            None => false,
-        },
-        _ => false,
+        Shape::Op { op, .. } => is_operator_below(definition, *op, wanted),
+        Shape::List { .. } => false,
+        Shape::Hole { .. } => false,
+    }
+}
+
+/// Whether the operator of the number has a lower level. One that the definition does not have has no level.
+fn is_operator_below(definition: &Definition, op: u32, wanted: u8) -> bool
+    ensures { result ≡ rows.is_below_level (operator_at definition.now op) wanted }
+{
+    match definition.operators.as_slice().get(op as usize) {
+        Some(operator) => op_level(operator) < wanted,
+        None => false,
     }
 }
 
@@ -177,19 +181,37 @@ fn write_between(
 ) -> Result<(), AllocError>
     ensures { OnOk result (Adds (between definition.now list (list_of list behind.now unfinished)) writer.old writer.new) }
 {
-    if behind.is_empty() && !unfinished {
+    if is_ended(behind, unfinished) {
         return Ok(());
     }
-    write_separator(writer, definition, list)
+    write_separator(writer, definition, list)?;
+    Ok(())
+}
+
+/// Whether a list without more elements is behind an element.
+fn is_ended(behind: &[Tree], unfinished: bool) -> bool
+    ensures { result ≡ (length behind.now == 0 && not unfinished) }
+{
+    behind.is_empty() && !unfinished
 }
 
 /// Writes the separator of the list of the number.
 fn write_separator(writer: &mut Writer, definition: &Definition, list: u32) -> Result<(), AllocError>
     ensures { OnOk result (Adds (rows.separating (slice_get definition.now.lists list)) writer.old writer.new) }
 {
-    let Some(kind) = definition.lists.as_slice().get(list as usize) else {
-        return Ok(());
-    };
+    match definition.lists.as_slice().get(list as usize) {
+        Some(kind) => {
+            write_separator_of(writer, kind)?;
+            Ok(())
+        }
+        None => Ok(()),
+    }
+}
+
+/// Writes the separator of a kind of lists.
+fn write_separator_of(writer: &mut Writer, kind: &ListKind) -> Result<(), AllocError>
+    ensures { OnOk result (Adds (rows.separating (Some kind.now)) writer.old writer.new) }
+{
     writer.put_tight();
     writer.put_token(kind.separator.as_str())?;
     if kind.lines {
@@ -266,11 +288,21 @@ fn write_part(
             let bracketed = is_below(definition, tree, wanted);
             open_bracket(&mut printer.writer, bracketed)?;
             write_child(alloc, printer, definition, number, tree)?;
-            close_bracket(&mut printer.writer, bracketed)
+            close_bracket(&mut printer.writer, bracketed)?;
+            Ok(())
         }
-        Part::Name(name) => printer.writer.put_token(name.as_str()),
-        Part::Number(value) => printer.writer.put_number(*value),
-        Part::Text(contents) => printer.writer.put_text(contents.as_str()),
+        Part::Name(name) => {
+            printer.writer.put_token(name.as_str())?;
+            Ok(())
+        }
+        Part::Number(value) => {
+            printer.writer.put_number(*value)?;
+            Ok(())
+        }
+        Part::Text(contents) => {
+            printer.writer.put_text(contents.as_str())?;
+            Ok(())
+        }
     }
 }
 
@@ -321,7 +353,8 @@ fn write_list(
         number = number_after(number)?;
         rest = behind;
     }
-    write_ending(&mut printer.writer, unfinished)
+    write_ending(&mut printer.writer, unfinished)?;
+    Ok(())
 }
 
 /// Writes what a node is made of.
@@ -337,13 +370,22 @@ fn write_shape(
         (λ before. spans_below definition.now printer.old.path.items before 0 tree.now) printer.old printer.new) }
 {
     match tree.shape() {
-        Shape::Op { op, parts } => write_operator(alloc, printer, definition, *op, parts.as_slice()),
+        Shape::Op { op, parts } => {
+            write_operator(alloc, printer, definition, *op, parts.as_slice())?;
+            Ok(())
+        }
         Shape::List {
             list,
             elements,
             unfinished,
-        } => write_list(alloc, printer, definition, *list, elements.as_slice(), *unfinished),
-        Shape::Hole { phylum } => printer.writer.put_hole(phylum_name(definition, *phylum)),
+        } => {
+            write_list(alloc, printer, definition, *list, elements.as_slice(), *unfinished)?;
+            Ok(())
+        }
+        Shape::Hole { phylum } => {
+            printer.writer.put_hole(phylum_name(definition, *phylum))?;
+            Ok(())
+        }
     }
 }
 
@@ -381,15 +423,19 @@ pub fn unparse(alloc: Global, definition: &Definition, tree: &Tree) -> Result<Pr
     requires sound { IsSound definition.now }
     ensures printed { IfOk result (λ printed. printed ≡ printed_of definition.now tree.now) }
 {
+    let writer = Writer::new(alloc);
+    let path = Vec::new(alloc);
+    let spans = Vec::new(alloc);
     let mut printer = Printer {
-        writer: Writer::new(alloc),
-        path: Vec::new(alloc),
-        spans: Vec::new(alloc),
+        writer,
+        path,
+        spans,
     };
     write_node(alloc, &mut printer, definition, tree)?;
     let Printer { writer, spans, .. } = printer;
+    let text = Txt::of(alloc, writer.out)?;
     Ok(Printed {
-        text: Txt::of(alloc, writer.out)?,
+        text,
         spans: Seq::of(spans),
     })
 }
