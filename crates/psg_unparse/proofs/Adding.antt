@@ -228,6 +228,7 @@ glues_tells r a b h = bool_same r (glues a b) (λ e. there (h.0 e)) (λ e. h.1 (
   there : Glue a b → glues a b ≡ true
   there (inl (p, q)) = ap₂ (λ x y. (x && y) || (is_symbol a && is_symbol b)) p q
   there (inr (p, q)) = ap₂ (λ x y. (goes_on_word a && goes_on_word b) || (x && y)) p q ∙ sym (or_true (goes_on_word a && goes_on_word b))
+
   back : glues a b ≡ true → Glue a b
   back e = elim (or_cases (goes_on_word a && goes_on_word b) (is_symbol a && is_symbol b) e) [
     | inl f ↦ inl (left_true (goes_on_word a) (goes_on_word b) f, right_true (goes_on_word a) (goes_on_word b) f)

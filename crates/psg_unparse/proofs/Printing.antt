@@ -150,8 +150,8 @@ module _ (def : Definition) where
       let z' : Prints (words_behind def f) (λ before. []) c d = prints-adds c d (subst (λ k. Adds (words (behind_first k)) c.writer d.writer) l z) dp ds in
       prints-as (prints-then x (prints-then y' z')) (row-part f p)
       (λ before.
-        ap (λ k. spans_below def path before 0 f ++ k) (append-nil (part_spans def (path ++ length (children_of f) ∷ []) (wanted def f) p (before ++ row def f)))
-        ∙ spans-part path before f p)
+      ap (λ k. spans_below def path before 0 f ++ k) (append-nil (part_spans def (path ++ length (children_of f) ∷ []) (wanted def f) p (before ++ row def f)))
+      ∙ spans-part path before f p)
 
   -- The operator with its first parts is written; these items are left, and the next child has the number.
   pub record AreParts (op : ℕ) (parts : List Part) (items more : List Item) (number : ℕ) (start now : Printer) : Type 0 where
@@ -179,10 +179,10 @@ module _ (def : Definition) where
       let f : Fragment = with_parts (operator op) parts in
       let g : with_part (with_parts (operator op) parts) part ≡ with_parts (operator op) (parts ++ part ∷ []) = sym (with_parts-push (operator op) parts part) in
       let v : wanted_here ≡ wanted def (with_parts (operator op) parts) =
-          w ∙ wanted-of (operator_at def op) more (length items - length more) (ap (λ z. length z - length more) e)
-          ∙ ap₂ wanted_of (sym (operator-parts def op parts)) h.rest in
+      w ∙ wanted-of (operator_at def op) more (length items - length more) (ap (λ z. length z - length more) e)
+      ∙ ap₂ wanted_of (sym (operator-parts def op parts)) h.rest in
       let y : Prints (row def (with_part (with_parts (operator op) parts) part)) (λ before. spans_below def start.path.items before 0 (with_part (with_parts (operator op) parts) part)) start d =
-          part_printed start.path.items (with_parts (operator op) parts) part number wanted_here more start b c d h.printed h.rest h.children v h.printed.path x a p s in
+      part_printed start.path.items (with_parts (operator op) parts) part number wanted_here more start b c d h.printed h.rest h.children v h.printed.path x a p s in
       record {
         printed = subst (λ z. Prints (row def z) (λ before. spans_below def start.path.items before 0 z) start d) g y;
         rest = n ∙ ap (λ z. from_part (behind_first z)) h.rest ∙ sym (left-part (with_parts (operator op) parts) part) ∙ ap (left def) g;
@@ -200,7 +200,7 @@ module _ (def : Definition) where
   list_printed path l number e rest b c d new h x y dp ds z =
       prints-as (prints-then x (prints-then (prints-adds c d y dp ds) z)) refl
       (λ before.
-        ap₂ (λ own r. spans_from def own e before ++ spans_below def path r (number + 1) rest) (ap (λ k. k ++ number ∷ []) h) (append_assoc before (row def e) (between def l rest)))
+      ap₂ (λ own r. spans_from def own e before ++ spans_below def path r (number + 1) rest) (ap (λ k. k ++ number ∷ []) h) (append_assoc before (row def e) (between def l rest)))
 
   -- What writes the elements that are left writes the whole list; the next element has the number.
   pub record AreElementsLeft (l : ℕ) (all more : List Fragment) (u : Bool) (number : ℕ) (start now : Printer) : Type 0 where
@@ -235,10 +235,10 @@ module _ (def : Definition) where
   -- a whole tree
   pub top_printed : (t : Fragment) (a b : Printer) → a.path.items ≡ [] → a.spans.items ≡ [] → IsWritten a.writer [] → Prints (row def t) (spans_from def a.path.items t) a b
       → (string_bytes b.writer.out ≡ text_of def t) × (b.spans.items ≡ map (span_of def) (placed_in def t))
-  top_printed t a b p s w x =
-      ((x.adds.written [] w).bytes,
-      x.spans [] w ∙ ap (λ k. k ++ spans_from def a.path.items t []) s ∙ ap (λ k. spans_from def k t []) p ∙ sym (map_from top_spot t))
-
+  top_printed t a b p s w x = (
+    (x.adds.written [] w).bytes,
+    x.spans [] w ∙ ap (λ k. k ++ spans_from def a.path.items t []) s ∙ ap (λ k. spans_from def k t []) p ∙ sym (map_from top_spot t),
+  )
 
   -- ---- a node
 
@@ -248,8 +248,8 @@ module _ (def : Definition) where
   first_start before (mark i ∷ r) =
       ap (λ n. unwrap_or (first_in (before ++ mark i ∷ []) r) n) (sym (same before i)) ∙ first_start (before ++ mark i ∷ []) r
       ∙ ap (λ n. n + length (lead (before ++ mark i ∷ []) r)) (same before i) where
-    same : (before : Pieces) (i : Item) → length (laid [] (before ++ mark i ∷ [])) ≡ length (laid [] before)
-    same before i = ap length (laid-append [] before (mark i ∷ []) ∙ append-nil (laid [] before))
+        same : (before : Pieces) (i : Item) → length (laid [] (before ++ mark i ∷ [])) ≡ length (laid [] before)
+        same before i = ap length (laid-append [] before (mark i ∷ []) ∙ append-nil (laid [] before))
 
   written_again : (before : Pieces) (w v : Writer) (first : Option ℕ) → v ≡ record w { first = first } → IsWritten w before → IsWritten v before
   written_again before w v first e h = subst (λ x. IsWritten x before) (sym e) (record { bytes = h.bytes; last = h.last; levels = h.levels; line = h.line; tight = h.tight; space = h.space })
@@ -272,17 +272,22 @@ module _ (def : Definition) where
   } where
     opened : Span
     opened = record { path = a.path.items; start = length (string_bytes a.writer.out); end = length (string_bytes a.writer.out) }
+
     begun : (before : Pieces) → IsWritten a.writer before → IsWritten b.writer before
     begun before h = written_again before a.writer b.writer None o.writer h
+
     inside : (before : Pieces) → IsWritten a.writer before → IsWritten c.writer (before ++ row def t)
     inside before h = x.adds.written before (begun before h)
+
     first_inside : (before : Pieces) → IsWritten a.writer before → c.writer.first ≡ first_in before (row def t)
     first_inside before h = x.adds.first before (begun before h) ∙ ap (λ (w : Writer). option_or w.first (first_in before (row def t))) o.writer
+
     listed : (before : Pieces) → IsWritten a.writer before → c.spans.items ≡ a.spans.items ++ opened ∷ spans_below def a.path.items before 0 t
     listed before h =
         x.spans before (begun before h)
         ∙ ap₂ (λ s q. s ++ spans_below def q before 0 t) o.spans o.path
         ∙ append_assoc a.spans.items (opened ∷ []) (spans_below def a.path.items before 0 t)
+
     own : (before : Pieces) → IsWritten a.writer before
         → record { path = a.path.items; start = unwrap_or c.writer.first (length (string_bytes a.writer.out)); end = length (string_bytes c.writer.out) } ≡ span_at def a.path.items before t
     own before h =

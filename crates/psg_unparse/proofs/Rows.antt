@@ -76,11 +76,17 @@ module _ (def : Definition) (whole : Pieces) where
     pub cut_from : (s : Spot) (f : Fragment) → Stands s f → AllByRecursion IsCutAt (placed_from def s f)
     cut_from s (hole p) h = (h, tt)
     cut_from s (ending l u) h = (h, tt)
-    cut_from s (cell l e r) h = (h, all-append IsCutAt (placed_from def (element_spot def s 0 l r) e) (placed_below def (rest_spot def s l e r) 1 r)
-        (cut_from (element_spot def s 0 l r) e (stands_element s 0 l e r h)) (cut_below (rest_spot def s l e r) 1 r (stands_rest s l e r h)))
+    cut_from s (cell l e r) h = (
+      h,
+      all-append IsCutAt (placed_from def (element_spot def s 0 l r) e) (placed_below def (rest_spot def s l e r) 1 r)
+          (cut_from (element_spot def s 0 l r) e (stands_element s 0 l e r h)) (cut_below (rest_spot def s l e r) 1 r (stands_rest s l e r h)),
+    )
     cut_from s (operator o) h = (h, tt)
-    cut_from s (with_child f t) h = (h, all-append IsCutAt (placed_below def (front_spot def s f t) 0 f) (placed_from def (child_spot def s f t) t)
-        (cut_below (front_spot def s f t) 0 f (stands_front s f t h)) (cut_from (child_spot def s f t) t (stands_child s f t h)))
+    cut_from s (with_child f t) h = (
+      h,
+      all-append IsCutAt (placed_below def (front_spot def s f t) 0 f) (placed_from def (child_spot def s f t) t)
+          (cut_below (front_spot def s f t) 0 f (stands_front s f t h)) (cut_from (child_spot def s f t) t (stands_child s f t h)),
+    )
     cut_from s (with_name f n) h = (h, cut_below (leaf_spot def s f n) 0 f (stands_leaf s f n h))
     cut_from s (with_number f n) h = (h, cut_below (leaf_spot def s f (decimal n)) 0 f (stands_leaf s f (decimal n) h))
     cut_from s (with_text f n) h = (h, cut_below (leaf_spot def s f (quoted n)) 0 f (stands_leaf s f (quoted n) h))

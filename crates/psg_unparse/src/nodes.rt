@@ -196,7 +196,11 @@ fn is_ended(behind: &[Tree], unfinished: bool) -> bool
 }
 
 /// Writes the separator of the list of the number.
-fn write_separator(writer: &mut Writer, definition: &Definition, list: u32) -> Result<(), AllocError>
+fn write_separator(
+    writer: &mut Writer,
+    definition: &Definition,
+    list: u32,
+) -> Result<(), AllocError>
     ensures { OnOk result (Adds (rows.separating (slice_get definition.now.lists list)) writer.old writer.new) }
 {
     match definition.lists.as_slice().get(list as usize) {
@@ -379,7 +383,14 @@ fn write_shape(
             elements,
             unfinished,
         } => {
-            write_list(alloc, printer, definition, *list, elements.as_slice(), *unfinished)?;
+            write_list(
+                alloc,
+                printer,
+                definition,
+                *list,
+                elements.as_slice(),
+                *unfinished,
+            )?;
             Ok(())
         }
         Shape::Hole { phylum } => {

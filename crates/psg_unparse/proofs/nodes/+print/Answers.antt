@@ -21,13 +21,13 @@ write_operator-write_part-requires t c =
 pub write_operator-loop-part-preserved : goal.write_operator-loop-part-preserved
 write_operator-loop-part-preserved t c =
     subst (λ ps. AreParts c.args.definition.now c.args.op ps c.items_of-items.result.now c.in_ok-rest-2.rest.now c.in_ok-number.number c.args.printer.now
-      (record { writer = c.write_words-in-loop-part.new.writer; path = c.write_part.new.printer.path; spans = c.write_part.new.printer.spans }))
+    (record { writer = c.write_words-in-loop-part.new.writer; path = c.write_part.new.printer.path; spans = c.write_part.new.printer.spans }))
     (sym (take_more c.args.parts.now c.loop-part.part-index c.part-item.result c.loop-part-test.true ∙ ap (λ x. take c.loop-part.part-index c.args.parts.now ++ x ∷ []) (sym c.part-item.is)))
     (parts-next c.args.definition.now c.args.op (take c.loop-part.part-index c.args.parts.now) c.items_of-items.result.now c.loop-part.rest.now c.in_ok-rest-2.rest.now
-      c.loop-part.number c.level_wanted-wanted.result c.in_ok-number.number c.part-item.result c.args.printer.now c.loop-part.printer c.write_part.new.printer _
-      c.loop-part.invariant c.items_of-items.ensures c.level_wanted-wanted.ensures c.in_ok-write_part.ensures
-      (subst (λ xs. Adds (words xs) c.write_part.new.printer.writer c.write_words-in-loop-part.new.writer) c.behind_first.ensures c.in_ok-rest-2.ensures.adds)
-      refl refl (c.in_ok-rest-2.ensures.rest ∙ ap from_part c.behind_first.ensures) c.in_ok-number.ensures)
+    c.loop-part.number c.level_wanted-wanted.result c.in_ok-number.number c.part-item.result c.args.printer.now c.loop-part.printer c.write_part.new.printer _
+    c.loop-part.invariant c.items_of-items.ensures c.level_wanted-wanted.ensures c.in_ok-write_part.ensures
+    (subst (λ xs. Adds (words xs) c.write_part.new.printer.writer c.write_words-in-loop-part.new.writer) c.behind_first.ensures c.in_ok-rest-2.ensures.adds)
+    refl refl (c.in_ok-rest-2.ensures.rest ∙ ap from_part c.behind_first.ensures) c.in_ok-number.ensures)
 
 pub write_list-loop-element-init : goal.write_list-loop-element-init
 write_list-loop-element-init t c = elements-init c.args.definition.now c.args.list c.args.elements.now c.args.unfinished c.args.printer.now
