@@ -3,3 +3,4 @@ pub mod Layout
 pub mod Spots
 pub mod Writing
 pub mod Walking
+pub mod Listing

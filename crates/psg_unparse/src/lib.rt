@@ -4,6 +4,7 @@
 //! before its children and children in order.
 #![tactic(auto)]
 
+pub mod laws;
 mod layout;
 pub mod nodes;
 pub mod spans;
