@@ -1,0 +1,5 @@
+use Rattle.psg_unparse.proofs.Adding.{adds-space}
+use Rattle.psg_unparse.proofs.layout.Writer.put_space.Goals as goal
+
+pub returns : goal.returns
+returns c = adds-space c.args.self.now

@@ -1,0 +1,6 @@
+pub mod Rows
+pub mod Layout
+pub mod Spots
+pub mod Writing
+pub mod Walking
+pub mod Listing

@@ -1,0 +1,17 @@
+//! Laws of printed trees, as contracts of calls that do nothing.
+ghost use Rattle.psg_grammar.specs.declared.types.Kind.{Kind};
+ghost use Rattle.psg_grammar.specs.Fragments.{Fragment};
+ghost use Rattle.psg_grammar.specs.WellFormed.{WellFormed};
+ghost use Rattle.psg_unparse.specs.Listing.{IsCutAtEach, IsListing};
+
+use psg_grammar::Definition;
+
+/// At each node the row of a tree is the row before the node, its own row and the row behind it.
+pub fn cut_at_nodes(_definition: &Definition)
+    ensures { (fragment : Fragment) → IsCutAtEach _definition.now fragment }
+{}
+
+/// In a well-formed tree each path leads to the node that is listed for it, and each node is listed once.
+pub fn listed_once(_definition: &Definition)
+    ensures { (fragment : Fragment) (kind : Kind) → WellFormed _definition.now fragment kind → IsListing _definition.now fragment }
+{}

@@ -1,0 +1,13 @@
+//! Printing: the text of a tree, and the bytes on which each of its nodes is written.
+//!
+//! `unparse` writes a tree down by the words and the marks of its language. It answers the text and a span for each node, a node
+//! before its children and children in order.
+#![tactic(auto)]
+
+pub mod laws;
+mod layout;
+pub mod nodes;
+pub mod spans;
+
+pub use nodes::unparse;
+pub use spans::{Printed, Span};

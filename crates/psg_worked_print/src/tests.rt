@@ -1,0 +1,4 @@
+//! Trees written as words, and what is printed of them.
+mod marks;
+mod programs;
+mod trees;
