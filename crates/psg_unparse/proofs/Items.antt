@@ -16,7 +16,7 @@ use Rattle.psg_tree.specs.declared.tree.Shape.TheVariants.{Op, List as ListOf, H
 use Rattle.psg_tree.specs.Shapes.{with_part, with_parts, list_of, tree_of}
 use Rattle.psg_tree.proofs.Children.{not_zero}
 use Rattle.psg_unparse.specs.declared.layout.Writer.{Writer}
-use Rattle.psg_unparse.specs.Rows.{Piece, mark, token, words, from_part, behind_first, items_in, left, operator_of, between, separating, wanted, wanted_of}
+use Rattle.psg_reads_back.specs.Rows.{Piece, mark, token, words, from_part, behind_first, items_in, left, operator_of, between, separating, wanted, wanted_of}
 use Rattle.psg_unparse.specs.Writing.{Adds, piece}
 use Rattle.psg_unparse.specs.Walking.{level_wanted, count_of}
 use Rattle.psg_unparse.proofs.Adding.{adds-nothing, adds-then}

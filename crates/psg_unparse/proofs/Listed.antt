@@ -14,7 +14,7 @@ use Rattle.psg_grammar.specs.Fragments.{Fragment, hole, ending, cell, operator, 
 use Rattle.psg_grammar.specs.Paths.{Path, node_at, IsList}
 use Rattle.psg_grammar.specs.WellFormed.{Fits, IsPlain, WellFormed}
 use Rattle.psg_tree.specs.AbstractText.{quoted}
-use Rattle.psg_unparse.specs.Spots.{Spot, Placed, top_spot, element_spot, rest_spot, child_spot, front_spot, leaf_spot, placed_from, placed_below, placed_in, IsPlacedAt}
+use Rattle.psg_reads_back.specs.Spots.{Spot, Placed, top_spot, element_spot, rest_spot, child_spot, front_spot, leaf_spot, placed_from, placed_below, placed_in, IsPlacedAt}
 use Rattle.psg_unparse.specs.Listing.{IsListing}
 
 -- ---- operators take parts, and lists go on with lists

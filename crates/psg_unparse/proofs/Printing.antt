@@ -18,13 +18,14 @@ use Rattle.psg_tree.proofs.Texts.{with_parts-push}
 use Rattle.psg_unparse.specs.declared.layout.Writer.{Writer}
 use Rattle.psg_unparse.specs.declared.nodes.Printer.{Printer}
 use Rattle.psg_unparse.specs.declared.spans.Span.{Span}
-use Rattle.psg_unparse.specs.Rows.{Piece, token, mark, row, words, words_behind, from_part, behind_first, items_in, left, wanted, wanted_of, operator_of, is_bracketed, is_below_level, opening, closing, between}
-use Rattle.psg_unparse.specs.Layout.{gap, laid, lead, text_of}
-use Rattle.psg_unparse.specs.Spots.{Spot, Placed, top_spot, element_spot, rest_spot, child_spot, front_spot, leaf_spot, placed_from, placed_below, placed_in, span_of}
+use Rattle.psg_reads_back.specs.Rows.{Piece, token, mark, row, words, words_behind, from_part, behind_first, items_in, left, wanted, wanted_of, operator_of, is_bracketed, is_below_level, opening, closing, between}
+use Rattle.psg_reads_back.specs.Layout.{gap, laid, lead, text_of}
+use Rattle.psg_unparse.specs.Spots.{span_of}
+use Rattle.psg_reads_back.specs.Spots.{Spot, Placed, top_spot, element_spot, rest_spot, child_spot, front_spot, leaf_spot, placed_from, placed_below, placed_in}
 use Rattle.psg_unparse.specs.Writing.{IsWritten, Adds, first_in}
 use Rattle.psg_unparse.specs.Walking.{Prints, IsOpened, IsClosed, count_of, level_wanted, ending_row, is_below, part_row, part_spans, span_at, spans_below, spans_from}
 use Rattle.psg_tree.proofs.Heights.{height-list_of}
-use Rattle.psg_unparse.proofs.Rows.{laid-append}
+use Rattle.psg_reads_back.proofs.Rows.{laid-append}
 use Rattle.psg_unparse.proofs.Items.{operator-parts, short-from, short-behind}
 use Rattle.psg_unparse.proofs.Adding.{adds-nothing, adds-then, option_or-none}
 

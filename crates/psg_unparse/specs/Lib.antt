@@ -1,5 +1,3 @@
-pub mod Rows
-pub mod Layout
 pub mod Spots
 pub mod Writing
 pub mod Walking

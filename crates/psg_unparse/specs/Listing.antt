@@ -4,8 +4,8 @@ use Rattle.std.specs.List.{AllByRecursion}
 use Rattle.psg_grammar.specs.declared.types.Definition.{Definition}
 use Rattle.psg_grammar.specs.Fragments.{Fragment}
 use Rattle.psg_grammar.specs.Paths.{Path, node_at}
-use Rattle.psg_unparse.specs.Rows.{row}
-use Rattle.psg_unparse.specs.Spots.{Placed, placed_in, IsPlacedAt}
+use Rattle.psg_reads_back.specs.Rows.{row}
+use Rattle.psg_reads_back.specs.Spots.{Placed, placed_in, IsPlacedAt}
 
 module _ (def : Definition) (f : Fragment) where
   -- what is listed for a path is the node there, and each node is listed at one place

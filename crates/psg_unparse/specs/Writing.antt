@@ -4,8 +4,8 @@ use Rattle.std.specs.List.{list_any}
 use Rattle.std.specs.Option.{option_or}
 use Rattle.psg_grammar.specs.declared.types.Item.{Item}
 use Rattle.psg_grammar.specs.declared.types.Item.TheVariants as items
-use Rattle.psg_unparse.specs.Rows.{Piece, token, mark}
-use Rattle.psg_unparse.specs.Layout.{is_line, is_tight, is_space, glues, last_in, marks_behind, open_behind, gap, laid}
+use Rattle.psg_reads_back.specs.Rows.{Piece, token, mark}
+use Rattle.psg_reads_back.specs.Layout.{is_line, is_tight, is_space, glues, last_in, marks_behind, open_behind, gap, laid}
 use Rattle.psg_unparse.specs.declared.layout.Writer.{Writer}
 
 -- the writer has written the row

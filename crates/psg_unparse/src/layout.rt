@@ -3,8 +3,8 @@ ghost use Rattle.std.specs.Prelude.{◌≡◌, ◌++◌, ◌∷◌, [], IfNone, 
 ghost use Rattle.std.specs.List.{flat_map};
 ghost use Rattle.psg_grammar.specs.declared.types.Item.TheVariants as items;
 ghost use Rattle.psg_tree.specs.AbstractText as text;
-ghost use Rattle.psg_unparse.specs.Rows as rows;
-ghost use Rattle.psg_unparse.specs.Layout.{last_char};
+ghost use Rattle.psg_reads_back.specs.Rows as rows;
+ghost use Rattle.psg_reads_back.specs.Layout.{last_char};
 ghost use Rattle.psg_unparse.specs.Writing.{Adds, IsBegun, IsWritten, ended_by, gap_behind, gap_in, glues_with, piece};
 
 use itoa::Buffer;

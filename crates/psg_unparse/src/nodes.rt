@@ -1,13 +1,19 @@
 //! The walk over a tree that writes it.
-ghost use Rattle.std.specs.Prelude.{◌≡◌, ◌+◌, ◌<◌, [], ◌∷◌, ◌++◌, ◌==◌, ◌&&◌, not, length, slice_get, Some, IfOk, OnOk};
+ghost use Rattle.std.specs.Prelude.{◌≡◌, ◌+◌, ◌<◌, [], ◌∷◌, ◌++◌, ◌==◌, ◌&&◌, not, length, slice_get, Some, IfOk, IsUtf8, OnOk};
+ghost use Rattle.std.specs.List.{AllByRecursion};
 ghost use Rattle.psg_grammar.specs.Fragments.{hole, operator as plain_operator};
 ghost use Rattle.psg_grammar.specs.Levels.{least_level_of};
 ghost use Rattle.psg_grammar.specs.Lookups.{is_part, operator_at};
 ghost use Rattle.psg_grammar.specs.Sound.{IsSound};
 ghost use Rattle.psg_tree.specs.Shapes.{list_of, with_parts};
 ghost use Rattle.psg_tree.specs.AbstractText as text;
-ghost use Rattle.psg_unparse.specs.Rows.{between, closing, from_part, items_in, opening, row, words};
-ghost use Rattle.psg_unparse.specs.Rows as rows;
+ghost use Rattle.psg_reads_back.specs.Rows.{between, closing, from_part, items_in, opening, row, words};
+ghost use Rattle.psg_reads_back.specs.Rows as rows;
+ghost use Rattle.psg_grammar.specs.WellFormed.{fixed_words};
+ghost use Rattle.psg_lexis.specs.Tokens.{IsFixedWord};
+ghost use Rattle.psg_class.specs.Class.{IsClass};
+ghost use Rattle.psg_reads_back.specs.Back.{ReadsBackIfPrintable};
+ghost use Rattle.psg_reads_back.specs.Nodes.{NodesReadBackIfPrintable};
 ghost use Rattle.psg_unparse.specs.Spots.{printed_of};
 ghost use Rattle.psg_unparse.specs.Walking.{IsOpened, IsClosed, Prints, count_of, ending_row, is_below, level_wanted, part_row, part_spans, spans_below, spans_from};
 ghost use Rattle.psg_unparse.specs.Writing.{Adds};
@@ -428,11 +434,18 @@ fn write_node(
 /// A span has the bytes from the first token of a node to the end of its last one. Brackets around a node are outside its span. A
 /// list without elements is an empty span where the token in front of it ends.
 ///
+/// In a definition of the grammar class whose fixed words are UTF-8 and each one token, the text of a printable tree reads back as
+/// the tree (`back`), and the bytes of each span as the node of its path (`spans`).
+///
 /// It fails only where memory runs out, or where 32 bits do not count the children of a node. It takes time linear in the text and
 /// the paths of the nodes, and calls itself once for each level of the tree.
 pub fn unparse(alloc: Global, definition: &Definition, tree: &Tree) -> Result<Printed, AllocError>
     requires sound { IsSound definition.now }
     ensures printed { IfOk result (λ printed. printed ≡ printed_of definition.now tree.now) }
+    ensures back { IfOk result (λ _. IsClass definition.now → AllByRecursion IsUtf8 (fixed_words definition.now)
+        → AllByRecursion IsFixedWord (fixed_words definition.now) → ReadsBackIfPrintable definition.now tree.now) }
+    ensures spans { IfOk result (λ _. IsClass definition.now → AllByRecursion IsUtf8 (fixed_words definition.now)
+        → AllByRecursion IsFixedWord (fixed_words definition.now) → NodesReadBackIfPrintable definition.now tree.now) }
 {
     let writer = Writer::new(alloc);
     let path = Vec::new(alloc);
