@@ -1,11 +1,10 @@
 -- The spans of a tree that is written behind a row, and what a step of the printer adds.
-use Rattle.std.specs.Prelude.{ℕ, ◌≡◌, ◌≤◌, ◌+◌, cond, nat_lt, Bool, false, List, [], ◌∷◌, ◌++◌, length, string_bytes, codes, decimal, Option, Some, None}
+use Rattle.std.specs.Prelude.{ℕ, ◌≡◌, ◌≤◌, ◌+◌, cond, Bool, List, [], ◌∷◌, ◌++◌, length, string_bytes, codes, decimal, Option, Some, None}
 use Rattle.std.specs.Option.{option_or, unwrap_or}
 use Rattle.psg_grammar.specs.declared.types.Operator.{Operator}
 use Rattle.psg_grammar.specs.declared.types.Definition.{Definition}
 use Rattle.psg_grammar.specs.Fragments.{Fragment, hole, ending, cell, operator, with_child, with_name, with_number, with_text, anything, observed, children_of}
 use Rattle.psg_grammar.specs.Levels.{least_level_of}
-use Rattle.psg_grammar.specs.Lookups.{operator_at}
 use Rattle.psg_grammar.specs.Paths.{Path}
 use Rattle.psg_tree.specs.declared.tree.Part.{Part}
 use Rattle.psg_tree.specs.declared.tree.Part.TheVariants.{Sub, Name, Number, Text}

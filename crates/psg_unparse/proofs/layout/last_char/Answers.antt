@@ -1,5 +1,4 @@
 use Rattle.psg_unparse.proofs.Tokens.{last_is, none_last}
-use Rattle.psg_unparse.proofs.Adding.{adds-token}
 use Rattle.psg_unparse.proofs.layout.last_char.Goals as goal
 
 pub returns-in-Some : goal.returns-in-Some

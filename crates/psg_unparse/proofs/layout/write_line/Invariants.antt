@@ -1,4 +1,4 @@
-use Rattle.std.proofs.Common.{◌≡◌, ◌*◌, ◌∷◌, ◌++◌, replicate, string_bytes}
+use Rattle.std.proofs.Common.{◌≡◌, ◌*◌, ◌++◌, replicate, string_bytes}
 use Rattle.psg_unparse.proofs.layout.write_line.Given as goal
 
 abbrev pub invariant-loop-level : goal.invariant-loop-level

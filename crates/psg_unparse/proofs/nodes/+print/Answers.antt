@@ -1,4 +1,4 @@
-use Rattle.std.proofs.Common.{◌≡◌, ◌<◌, ◌++◌, ◌∷◌, [], false, take, length, refl, ap, sym, subst, ◌∙◌, arith, length-append}
+use Rattle.std.proofs.Common.{◌++◌, ◌∷◌, [], false, take, length, refl, ap, sym, subst, ◌∙◌, arith, length-append}
 use Rattle.std.proofs.lemmas.List.{take_more}
 use Rattle.psg_grammar.specs.Fragments.{operator}
 use Rattle.psg_tree.specs.Shapes.{height, with_parts, list_of}

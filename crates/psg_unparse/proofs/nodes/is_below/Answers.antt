@@ -1,4 +1,4 @@
-use Rattle.std.proofs.Common.{sym, ap, ◌∙◌}
+use Rattle.std.proofs.Common.{ap, ◌∙◌}
 use Rattle.psg_unparse.specs.Rows.{is_below_level}
 use Rattle.psg_unparse.proofs.Items.{operator-node, operator-list, operator-hole}
 use Rattle.psg_unparse.proofs.nodes.is_below.Goals as goal

@@ -1,4 +1,4 @@
-use Rattle.std.proofs.Common.{sym, ap, ◌∙◌, subst}
+use Rattle.std.proofs.Common.{sym, ◌∙◌, subst}
 use Rattle.psg_unparse.specs.Writing.{Adds}
 use Rattle.psg_unparse.proofs.Adding.{adds-nothing}
 use Rattle.psg_unparse.proofs.Items.{between-none, between-some}

@@ -1,4 +1,4 @@
-use Rattle.std.proofs.Common.{sym, ap, ◌∙◌, subst, slice_get, Some}
+use Rattle.std.proofs.Common.{sym, ap, ◌∙◌, subst, slice_get}
 use Rattle.psg_tree.proofs.FormLaws.{got_some, got_none}
 use Rattle.psg_unparse.specs.Rows.{separating}
 use Rattle.psg_unparse.specs.Writing.{Adds}

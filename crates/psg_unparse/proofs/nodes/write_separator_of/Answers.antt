@@ -1,4 +1,4 @@
-use Rattle.std.proofs.Common.{[], ◌∷◌, subst, sym, ap, ◌∙◌, true, false, cond}
+use Rattle.std.proofs.Common.{[], ◌∷◌, subst, sym, cond}
 use Rattle.psg_grammar.specs.declared.types.Item.TheVariants as items
 use Rattle.psg_unparse.specs.Rows.{token, mark}
 use Rattle.psg_unparse.specs.Writing.{Adds}

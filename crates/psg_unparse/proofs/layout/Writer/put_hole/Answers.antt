@@ -1,4 +1,4 @@
-use Rattle.std.proofs.Common.{refl, sym, ◌∙◌, append_assoc}
+use Rattle.std.proofs.Common.{refl, ◌∙◌, append_assoc}
 use Rattle.psg_unparse.proofs.Adding.{token_put}
 use Rattle.std.proofs.Common.{Some, ◌∷◌, ◌++◌, [], ap, string_bytes}
 use Rattle.psg_unparse.proofs.Tokens.{mark_first, mark_last}

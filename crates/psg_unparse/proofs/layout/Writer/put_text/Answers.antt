@@ -1,6 +1,6 @@
-use Rattle.std.proofs.Common.{refl, sym, ◌∙◌, append_assoc}
+use Rattle.std.proofs.Common.{refl}
 use Rattle.psg_unparse.proofs.Adding.{token_put}
-use Rattle.std.proofs.Common.{Some, ◌∷◌, ◌++◌, [], ap, string_bytes}
+use Rattle.std.proofs.Common.{Some, ◌∷◌, ◌++◌, [], string_bytes}
 use Rattle.std.specs.List.{flat_map}
 use Rattle.std.proofs.lemmas.Str.{IsUtf8-string_bytes}
 use Rattle.psg_tree.specs.AbstractText.{quoted, escaped_byte}

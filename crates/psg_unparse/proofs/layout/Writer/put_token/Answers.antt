@@ -1,4 +1,4 @@
-use Rattle.std.proofs.Common.{refl, sym, ◌∙◌, append_assoc}
+use Rattle.std.proofs.Common.{refl}
 use Rattle.psg_unparse.proofs.Adding.{token_put}
 use Rattle.psg_unparse.proofs.layout.Writer.put_token.Goals as goal
 

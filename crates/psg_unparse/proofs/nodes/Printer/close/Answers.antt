@@ -1,7 +1,6 @@
-use Rattle.std.proofs.Common.{refl, ap, sym, ◌∙◌, ◌∷◌, ◌++◌, length, string_bytes}
+use Rattle.std.proofs.Common.{refl, ap, ◌∙◌, ◌∷◌, ◌++◌}
 use Rattle.std.specs.Option.{unwrap_or}
 use Rattle.std.proofs.lemmas.List.{length-set}
-use Rattle.psg_unparse.specs.declared.spans.Span.{Span}
 use Rattle.psg_unparse.proofs.Printing.{span_closed}
 use Rattle.psg_unparse.proofs.nodes.Printer.close.Goals as goal
 
