@@ -12,7 +12,7 @@ use Rattle.psg_grammar.specs.declared.types.Item.{Item}
 use Rattle.psg_grammar.specs.declared.types.Item.TheVariants as items
 use Rattle.psg_unparse.specs.declared.layout.Writer.{Writer}
 use Rattle.psg_reads_back.specs.Rows.{Piece, token, mark}
-use Rattle.psg_reads_back.specs.Layout.{is_line, is_tight, is_space, glues, glues_first, last_char, last_in, marks_behind, open_behind, gap_of, gap_after, gap, laid, lead}
+use Rattle.psg_reads_back.specs.Layout.{is_line, is_tight, is_space, glues, glues_first, last_char, last_in, marks_behind, open_behind, gap_after, gap, laid}
 use Rattle.psg_unparse.specs.Writing.{IsWritten, first_in, Adds, glues_with, gap_behind, gap_in, IsBegun, ended_by}
 use Rattle.psg_reads_back.proofs.Rows.{laid-append, last_in-append}
 

@@ -1,13 +1,11 @@
 -- The items of an operator, the levels of trees and what is between elements.
-use Rattle.std.proofs.Common.{◌≡◌, ℕ, ◌≤◌, ◌==◌, Bool, true, false, cond, ◌&&◌, not, List, [], ◌∷◌, ◌++◌, length, Option, Some, None, refl, ap, sym, subst, ◌∙◌, arith}
+use Rattle.std.proofs.Common.{◌≡◌, ℕ, ◌≤◌, ◌==◌, Bool, true, false, cond, ◌&&◌, not, List, [], ◌∷◌, length, None, refl, ap, sym, subst, ◌∙◌, arith}
 use Rattle.std.specs.Prelude.{option_and_then, slice_get}
 use Rattle.std.proofs.lemmas.Bool.{false≢true}
-use Rattle.psg_grammar.specs.declared.types.Operator.{Operator}
-use Rattle.psg_grammar.specs.declared.types.ListKind.{ListKind}
 use Rattle.psg_grammar.specs.declared.types.Definition.{Definition}
 use Rattle.psg_grammar.specs.declared.types.Item.{Item}
 use Rattle.psg_grammar.specs.declared.types.Item.TheVariants as items
-use Rattle.psg_grammar.specs.Fragments.{Fragment, hole, operator, top_operator}
+use Rattle.psg_grammar.specs.Fragments.{Fragment, operator, top_operator}
 use Rattle.psg_grammar.specs.Lookups.{is_part, operator_at}
 use Rattle.psg_tree.specs.declared.tree.Part.{Part}
 use Rattle.psg_tree.specs.declared.tree.Part.TheVariants.{Sub, Name, Number, Text}
@@ -16,9 +14,8 @@ use Rattle.psg_tree.specs.declared.tree.Shape.TheVariants.{Op, List as ListOf, H
 use Rattle.psg_tree.specs.Shapes.{with_part, with_parts, list_of, tree_of}
 use Rattle.psg_tree.proofs.Children.{not_zero}
 use Rattle.psg_unparse.specs.declared.layout.Writer.{Writer}
-use Rattle.psg_reads_back.specs.Rows.{Piece, mark, token, words, from_part, behind_first, items_in, left, operator_of, between, separating, wanted, wanted_of}
+use Rattle.psg_reads_back.specs.Rows.{words, from_part, behind_first, operator_of, between, separating}
 use Rattle.psg_unparse.specs.Writing.{Adds, piece}
-use Rattle.psg_unparse.specs.Walking.{level_wanted, count_of}
 use Rattle.psg_unparse.proofs.Adding.{adds-nothing, adds-then}
 
 -- ---- words in front of a part

@@ -1,12 +1,12 @@
 -- How the rows and the spans of a tree are put together while it is written.
-use Rattle.std.proofs.Common.{◌≡◌, ℕ, zero, suc, ◌+◌, ◌-◌, ◌<◌, ◌≤◌, Bool, true, false, cond, List, [], ◌∷◌, ◌++◌, length, map, take, Option, Some, None, get_or, slice_get, refl, ap, ap₂, sym, subst, ◌∙◌, append_assoc, append-nil, arith, string_bytes, length-append, decimal, add_assoc}
+use Rattle.std.proofs.Common.{◌≡◌, ℕ, ◌+◌, ◌-◌, ◌≤◌, Bool, false, List, [], ◌∷◌, ◌++◌, length, map, Option, Some, None, get_or, refl, ap, ap₂, sym, subst, ◌∙◌, append_assoc, append-nil, arith, string_bytes, length-append, decimal}
 use Rattle.std.specs.Option.{option_or, unwrap_or}
 use Rattle.std.proofs.Math.Seq.{set-append_seam}
 use Rattle.std.specs.Prelude.{slice_index_or, slice_set}
 use Rattle.psg_grammar.specs.declared.types.Operator.{Operator}
 use Rattle.psg_grammar.specs.declared.types.Definition.{Definition}
 use Rattle.psg_grammar.specs.declared.types.Item.{Item}
-use Rattle.psg_grammar.specs.Fragments.{Fragment, hole, ending, cell, operator, with_child, with_name, with_number, with_text, anything, observed, children_of, top_operator}
+use Rattle.psg_grammar.specs.Fragments.{Fragment, hole, ending, cell, operator, with_child, with_name, with_number, with_text, anything, observed, children_of}
 use Rattle.psg_grammar.specs.Levels.{least_level_of}
 use Rattle.psg_grammar.specs.Lookups.{operator_at}
 use Rattle.psg_grammar.specs.Paths.{Path}
@@ -18,16 +18,15 @@ use Rattle.psg_tree.proofs.Texts.{with_parts-push}
 use Rattle.psg_unparse.specs.declared.layout.Writer.{Writer}
 use Rattle.psg_unparse.specs.declared.nodes.Printer.{Printer}
 use Rattle.psg_unparse.specs.declared.spans.Span.{Span}
-use Rattle.psg_reads_back.specs.Rows.{Piece, token, mark, row, words, words_behind, from_part, behind_first, items_in, left, wanted, wanted_of, operator_of, is_bracketed, is_below_level, opening, closing, between}
-use Rattle.psg_reads_back.specs.Layout.{gap, laid, lead, text_of}
+use Rattle.psg_reads_back.specs.Rows.{Piece, token, mark, row, words, words_behind, from_part, behind_first, items_in, left, wanted, wanted_of, is_bracketed, opening, closing, between}
+use Rattle.psg_reads_back.specs.Layout.{laid, lead, text_of}
 use Rattle.psg_unparse.specs.Spots.{span_of}
-use Rattle.psg_reads_back.specs.Spots.{Spot, Placed, top_spot, element_spot, rest_spot, child_spot, front_spot, leaf_spot, placed_from, placed_below, placed_in}
+use Rattle.psg_reads_back.specs.Spots.{Spot, top_spot, element_spot, rest_spot, child_spot, front_spot, leaf_spot, placed_from, placed_below, placed_in}
 use Rattle.psg_unparse.specs.Writing.{IsWritten, Adds, first_in}
-use Rattle.psg_unparse.specs.Walking.{Prints, IsOpened, IsClosed, count_of, level_wanted, ending_row, is_below, part_row, part_spans, span_at, spans_below, spans_from}
-use Rattle.psg_tree.proofs.Heights.{height-list_of}
+use Rattle.psg_unparse.specs.Walking.{Prints, IsOpened, IsClosed, count_of, level_wanted, ending_row, part_row, part_spans, span_at, spans_below, spans_from}
 use Rattle.psg_reads_back.proofs.Rows.{laid-append}
 use Rattle.psg_unparse.proofs.Items.{operator-parts, short-from, short-behind}
-use Rattle.psg_unparse.proofs.Adding.{adds-nothing, adds-then, option_or-none}
+use Rattle.psg_unparse.proofs.Adding.{adds-then}
 
 abbrev Pieces : Type 0
 Pieces = List Piece

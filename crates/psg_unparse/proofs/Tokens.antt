@@ -1,5 +1,5 @@
 -- The first and the last character of a token's text.
-use Rattle.std.proofs.Common.{◌≡◌, ℕ, ◌+◌, ◌<◌, ◌≤◌, List, [], ◌∷◌, ◌++◌, length, drop, get_or, Some, None, slice_get, refl, ap, ap₂, sym, subst, ◌∙◌, append_assoc, append-nil, arith, codes, encode_utf8, encode_utf8_all, IsUtf8, length-append, lit<}
+use Rattle.std.proofs.Common.{◌≡◌, ℕ, ◌+◌, ◌<◌, List, [], ◌∷◌, ◌++◌, length, drop, get_or, Some, None, slice_get, refl, ap, ap₂, sym, subst, ◌∙◌, append-nil, arith, encode_utf8, IsUtf8, length-append, lit<}
 use Rattle.std.specs.Str.{chars}
 use Rattle.std.proofs.Math.Seq.{take-append_seam, drop-append_seam}
 use Rattle.std.proofs.lemmas.Str.{encodes-append, encodes-chars, encodes_same, chars-append, chars_past_char, IsUtf8-drop, IsUtf8-take, IsCharBoundary-before_ascii}

@@ -1,11 +1,10 @@
 -- The spans of a tree that is written behind a row, and what a step of the printer adds.
-use Rattle.std.specs.Prelude.{ℕ, ◌≡◌, ◌≤◌, ◌+◌, cond, nat_lt, Bool, false, List, [], ◌∷◌, ◌++◌, length, string_bytes, codes, decimal, Option, Some, None}
+use Rattle.std.specs.Prelude.{ℕ, ◌≡◌, ◌≤◌, ◌+◌, cond, Bool, List, [], ◌∷◌, ◌++◌, length, string_bytes, codes, decimal, Option, Some, None}
 use Rattle.std.specs.Option.{option_or, unwrap_or}
 use Rattle.psg_grammar.specs.declared.types.Operator.{Operator}
 use Rattle.psg_grammar.specs.declared.types.Definition.{Definition}
 use Rattle.psg_grammar.specs.Fragments.{Fragment, hole, ending, cell, operator, with_child, with_name, with_number, with_text, anything, observed, children_of}
 use Rattle.psg_grammar.specs.Levels.{least_level_of}
-use Rattle.psg_grammar.specs.Lookups.{operator_at}
 use Rattle.psg_grammar.specs.Paths.{Path}
 use Rattle.psg_tree.specs.declared.tree.Part.{Part}
 use Rattle.psg_tree.specs.declared.tree.Part.TheVariants.{Sub, Name, Number, Text}
@@ -61,7 +60,6 @@ module _ (def : Definition) where
   part_row wanted (Number x) = token (decimal x) ∷ []
   part_row wanted (Text t) = token (quoted t) ∷ []
 
-  -- a part's own children
   abbrev pub part_spans : Path → ℕ → Part → List Piece → List Span
   part_spans path wanted (Sub t) before = spans_from path t (before ++ opening (is_below t wanted))
   part_spans path wanted (Name n) before = []
@@ -74,6 +72,18 @@ pub record Prints (pieces : List Piece) (listed : List Piece → List Span) (old
   pub path : new.path.items ≡ old.path.items
   pub grown : length old.spans.items ≤ length new.spans.items
   pub spans : (before : List Piece) → IsWritten old.writer before → new.spans.items ≡ old.spans.items ++ listed before
+
+module _ (def : Definition) where
+  -- a tree is added with its span and those below it, where the path leads to it
+  abbrev pub PrintsTree : Path → Fragment → Printer → Printer → Type 0
+  PrintsTree path t = Prints (row def t) (spans_from def path t)
+
+  -- the tree at the printer's path is added with the spans below it
+  abbrev pub PrintsBelow : Fragment → Printer → Printer → Type 0
+  PrintsBelow t old new = Prints (row def t) (λ before. spans_below def old.path.items before 0 t) old new
+
+  abbrev pub PrintsPart : Path → ℕ → Part → Printer → Printer → Type 0
+  PrintsPart path wanted part = Prints (part_row def wanted part) (part_spans def path wanted part)
 
 -- how many children a part is
 abbrev pub count_of : Part → ℕ

@@ -13,5 +13,6 @@ pub fn cut_at_nodes(_definition: &Definition)
 
 /// In a well-formed tree each path leads to the node that is listed for it, and each node is listed once.
 pub fn listed_once(_definition: &Definition)
-    ensures { (fragment : Fragment) (kind : Kind) → WellFormed _definition.now fragment kind → IsListing _definition.now fragment }
+    ensures { (fragment : Fragment) (kind : Kind) → WellFormed _definition.now fragment kind
+        → IsListing _definition.now fragment }
 {}

@@ -1,5 +1,6 @@
 //! Laying out tokens and marks: the gap in front of a token depends on what is written before it.
-ghost use Rattle.std.specs.Prelude.{◌≡◌, ◌++◌, ◌∷◌, [], IfNone, IfSome, OnOk, Some, chars, decimal, encode_utf8, length, replicate, slice_get, string_bytes, ◌*◌, ◌&&◌, not, cond, true};
+ghost use Rattle.std.specs.Prelude.{◌≡◌, ◌++◌, ◌*◌, ◌&&◌, not, true, cond, ◌∷◌, [], Some, replicate, slice_get};
+ghost use Rattle.std.specs.Prelude.{IfNone, IfSome, OnOk, chars, decimal, encode_utf8, string_bytes};
 ghost use Rattle.std.specs.List.{flat_map};
 ghost use Rattle.psg_grammar.specs.declared.types.Item.TheVariants as items;
 ghost use Rattle.psg_tree.specs.AbstractText as text;
@@ -12,8 +13,8 @@ use psg_grammar::Item;
 use psg_lexis::glues;
 use std::alloc::{AllocError, Global};
 
-/// The text of a row, and what the gap in front of the next token depends on: the last character of the last token, how many
-/// levels are open, and which marks are behind that token.
+/// The text of a row, and what the gap in front of the next token depends on: the last character of the last token, how
+/// many levels are open, and which marks are behind that token.
 #[derive(Drop)]
 pub(crate) struct Writer {
     pub(crate) out: String,
@@ -157,7 +158,8 @@ impl Writer {
         Ok(())
     }
 
-    /// Writes the gap in front of a token that begins with the character, and keeps where the token begins if it is the first.
+    /// Writes the gap in front of a token that begins with the character, and keeps where the token begins if it is the
+    /// first.
     fn begin(&mut self, begins: Option<char>) -> Result<(), AllocError>
         ensures { OnOk result (IsBegun begins self.old self.new) }
     {
@@ -168,7 +170,8 @@ impl Writer {
 
     /// Writes the gap in front of a token that begins with the character: nothing in front of the first token.
     fn write_gap(&mut self, begins: Option<char>) -> Result<(), AllocError>
-        ensures bytes { OnOk result (string_bytes self.new.out ≡ string_bytes self.old.out ++ gap_in self.old self.old.last begins) }
+        ensures bytes { OnOk result
+            (string_bytes self.new.out ≡ string_bytes self.old.out ++ gap_in self.old self.old.last begins) }
         ensures kept { self.new ≡ record self.old { out = self.new.out } }
     {
         match self.last {
@@ -182,7 +185,8 @@ impl Writer {
 
     /// Writes the gap between a token that ends with a character and one that begins with another.
     fn write_gap_behind(&mut self, last: char, begins: Option<char>) -> Result<(), AllocError>
-        ensures bytes { OnOk result (string_bytes self.new.out ≡ string_bytes self.old.out ++ gap_behind self.old last begins) }
+        ensures bytes { OnOk result
+            (string_bytes self.new.out ≡ string_bytes self.old.out ++ gap_behind self.old last begins) }
         ensures kept { self.new ≡ record self.old { out = self.new.out } }
     {
         if self.line {
@@ -195,7 +199,8 @@ impl Writer {
         Ok(())
     }
 
-    /// Whether two tokens on one line, of which one ends and one begins with these characters, have a space between them.
+    /// Whether two tokens on one line, of which one ends and one begins with these characters, have a space between
+    /// them.
     fn needs_space(&self, last: char, begins: Option<char>) -> bool
         ensures { result ≡ cond (self.now.tight && not self.now.space) (glues_with last begins) true }
     {

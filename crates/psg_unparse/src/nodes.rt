@@ -1,13 +1,13 @@
 //! The walk over a tree that writes it.
-ghost use Rattle.std.specs.Prelude.{◌≡◌, ◌+◌, ◌<◌, [], ◌∷◌, ◌++◌, ◌==◌, ◌&&◌, not, length, slice_get, Some, IfOk, IsUtf8, OnOk};
+ghost use Rattle.std.specs.Prelude.{◌≡◌, ◌+◌, ◌<◌, ◌==◌, ◌&&◌, not, [], ◌∷◌, ◌++◌, length, slice_get, Some};
+ghost use Rattle.std.specs.Prelude.{IfOk, IsUtf8, OnOk};
 ghost use Rattle.std.specs.List.{AllByRecursion};
-ghost use Rattle.psg_grammar.specs.Fragments.{hole, operator as plain_operator};
-ghost use Rattle.psg_grammar.specs.Levels.{least_level_of};
+ghost use Rattle.psg_grammar.specs.Fragments.{operator as plain_operator};
 ghost use Rattle.psg_grammar.specs.Lookups.{is_part, operator_at};
 ghost use Rattle.psg_grammar.specs.Sound.{IsSound};
-ghost use Rattle.psg_tree.specs.Shapes.{list_of, with_parts};
 ghost use Rattle.psg_tree.specs.AbstractText as text;
-ghost use Rattle.psg_reads_back.specs.Rows.{between, closing, from_part, items_in, opening, row, words};
+ghost use Rattle.psg_tree.specs.Shapes.{list_of, with_parts};
+ghost use Rattle.psg_reads_back.specs.Rows.{between, closing, from_part, items_in, opening, words};
 ghost use Rattle.psg_reads_back.specs.Rows as rows;
 ghost use Rattle.psg_grammar.specs.WellFormed.{fixed_words};
 ghost use Rattle.psg_lexis.specs.Tokens.{IsFixedWord};
@@ -15,7 +15,8 @@ ghost use Rattle.psg_class.specs.Class.{IsClass};
 ghost use Rattle.psg_reads_back.specs.Back.{ReadsBackIfPrintable};
 ghost use Rattle.psg_reads_back.specs.Nodes.{NodesReadBackIfPrintable};
 ghost use Rattle.psg_unparse.specs.Spots.{printed_of};
-ghost use Rattle.psg_unparse.specs.Walking.{IsOpened, IsClosed, Prints, count_of, ending_row, is_below, level_wanted, part_row, part_spans, spans_below, spans_from};
+ghost use Rattle.psg_unparse.specs.Walking.{IsOpened, IsClosed, PrintsBelow, PrintsPart, PrintsTree};
+ghost use Rattle.psg_unparse.specs.Walking.{count_of, ending_row, is_below, level_wanted};
 ghost use Rattle.psg_unparse.specs.Writing.{Adds};
 
 use crate::layout::Writer;
@@ -34,8 +35,8 @@ pub(crate) struct Printer {
 }
 
 impl Printer {
-    /// Begins a node: its span is listed, and the place of its first token is to be found. The answer is that of the node above,
-    /// if it is known.
+    /// Begins a node: its span is listed, and the place of its first token is to be found. It returns that of the node
+    /// above, if it is known.
     fn open(&mut self, alloc: Global) -> Result<Option<usize>, AllocError>
         ensures { IfOk result (λ outer. IsOpened outer self.old self.new) }
     {
@@ -49,8 +50,8 @@ impl Printer {
         Ok(self.writer.first.take())
     }
 
-    /// Ends the node of which the span is at the place. The first token of the node above is its own one, unless another one is
-    /// known.
+    /// Ends the node of which the span is at the place. The first token of the node above is its own one, unless
+    /// another one is known.
     fn close(&mut self, place: usize, outer: Option<usize>)
         requires { place < length self.old.spans.items }
         ensures { IsClosed place outer self.old self.new }
@@ -139,7 +140,7 @@ fn phylum_name(definition: &Definition, phylum: u32) -> &str
     }
 }
 
-/// Writes the words and marks in front of the first part among the items. The answer is the items from that part on.
+/// Writes the words and marks in front of the first part among the items, and returns the items from that part on.
 fn write_words<'a>(writer: &mut Writer, items: &'a [Item]) -> Result<&'a [Item], AllocError>
     ensures adds { IfOk result (λ rest. Adds (words items.now) writer.old writer.new) }
     ensures rest { IfOk result (λ rest. rest.now ≡ from_part items.now) }
@@ -177,7 +178,8 @@ fn close_bracket(writer: &mut Writer, bracketed: bool) -> Result<(), AllocError>
     Ok(())
 }
 
-/// Writes what is between an element of a list and the elements behind it, where there are some or the list is unfinished.
+/// Writes what is between an element of a list and the elements behind it, where there are some or the list is
+/// unfinished.
 fn write_between(
     writer: &mut Writer,
     definition: &Definition,
@@ -185,7 +187,8 @@ fn write_between(
     behind: &[Tree],
     unfinished: bool,
 ) -> Result<(), AllocError>
-    ensures { OnOk result (Adds (between definition.now list (list_of list behind.now unfinished)) writer.old writer.new) }
+    ensures { OnOk result
+        (Adds (between definition.now list (list_of list behind.now unfinished)) writer.old writer.new) }
 {
     if is_ended(behind, unfinished) {
         return Ok(());
@@ -242,7 +245,7 @@ fn write_ending(writer: &mut Writer, unfinished: bool) -> Result<(), AllocError>
     Ok(())
 }
 
-/// The number of the next child behind the part, where this one has the number if it is a child.
+/// The number of the next child behind a part that has this number if it is a child.
 fn number_behind(number: u32, part: &Part) -> Result<u32, AllocError>
     ensures { IfOk result (λ next. next ≡ number + count_of part.now) }
 {
@@ -272,7 +275,8 @@ fn write_child(
     tree: &Tree,
 ) -> Result<(), AllocError>
     requires { IsSound definition.now }
-    ensures { OnOk result (Prints (row definition.now tree.now) (spans_from definition.now (printer.old.path.items ++ number ∷ []) tree.now) printer.old printer.new) }
+    ensures { OnOk result
+        (PrintsTree definition.now (printer.old.path.items ++ number ∷ []) tree.now printer.old printer.new) }
 {
     printer.path.push(number)?;
     write_node(alloc, printer, definition, tree)?;
@@ -291,7 +295,8 @@ fn write_part(
     part: &Part,
 ) -> Result<(), AllocError>
     requires { IsSound definition.now }
-    ensures { OnOk result (Prints (part_row definition.now wanted part.now) (part_spans definition.now (printer.old.path.items ++ number ∷ []) wanted part.now) printer.old printer.new) }
+    ensures { OnOk result
+        (PrintsPart definition.now (printer.old.path.items ++ number ∷ []) wanted part.now printer.old printer.new) }
 {
     match part {
         Part::Sub(tree) => {
@@ -326,8 +331,8 @@ fn write_operator(
     parts: &[Part],
 ) -> Result<(), AllocError>
     requires { IsSound definition.now }
-    ensures { OnOk result (Prints (row definition.now (with_parts (plain_operator op) parts.now))
-        (λ before. spans_below definition.now printer.old.path.items before 0 (with_parts (plain_operator op) parts.now)) printer.old printer.new) }
+    ensures { OnOk result
+        (PrintsBelow definition.now (with_parts (plain_operator op) parts.now) printer.old printer.new) }
 {
     let items = items_of(definition, op);
     let mut rest = write_words(&mut printer.writer, items)?;
@@ -352,8 +357,8 @@ fn write_list(
     unfinished: bool,
 ) -> Result<(), AllocError>
     requires { IsSound definition.now }
-    ensures { OnOk result (Prints (row definition.now (list_of list elements.now unfinished))
-        (λ before. spans_below definition.now printer.old.path.items before 0 (list_of list elements.now unfinished)) printer.old printer.new) }
+    ensures { OnOk result
+        (PrintsBelow definition.now (list_of list elements.now unfinished) printer.old printer.new) }
 {
     let mut rest = elements;
     let mut number: u32 = 0;
@@ -376,8 +381,7 @@ fn write_shape(
     tree: &Tree,
 ) -> Result<(), AllocError>
     requires { IsSound definition.now }
-    ensures { OnOk result (Prints (row definition.now tree.now)
-        (λ before. spans_below definition.now printer.old.path.items before 0 tree.now) printer.old printer.new) }
+    ensures { OnOk result (PrintsBelow definition.now tree.now printer.old printer.new) }
 {
     match tree.shape() {
         Shape::Op { op, parts } => {
@@ -415,7 +419,7 @@ fn write_node(
     tree: &Tree,
 ) -> Result<(), AllocError>
     requires { IsSound definition.now }
-    ensures { OnOk result (Prints (row definition.now tree.now) (spans_from definition.now printer.old.path.items tree.now) printer.old printer.new) }
+    ensures { OnOk result (PrintsTree definition.now printer.old.path.items tree.now printer.old printer.new) }
 {
     let place = printer.spans.len();
     let outer = printer.open(alloc)?;
@@ -426,19 +430,19 @@ fn write_node(
 
 /// Writes a tree as text, and lists the spans of its nodes, in one walk over it.
 ///
-/// The text is that of the tree's tokens, which an operator's words and marks keep apart: a mark for a line gives a line feed and
-/// two spaces for each open level, and without a mark there is a space. Tokens that are kept tight have one space between them
-/// where they would run together. A tree in a slot is in brackets where its level is below the slot's least level. The elements
-/// of a list are separated, and an unfinished list ends with `...`.
+/// The text is that of the tree's tokens, which the marks between them keep apart: a mark for a line gives a line feed
+/// and two spaces for each open level, and without a mark there is a space. Tokens that are kept tight have one space
+/// between them where they would run together. A tree in a slot is in brackets where its level is below the slot's
+/// least level. The elements of a list are separated, and an unfinished list ends with `...`.
 ///
-/// A span has the bytes from the first token of a node to the end of its last one. Brackets around a node are outside its span. A
-/// list without elements is an empty span where the token in front of it ends.
+/// A span has the bytes from the first token of a node to the end of its last one. Brackets around a node are outside
+/// its span. A list without elements has an empty span, where the token in front of it ends.
 ///
-/// In a definition of the grammar class whose fixed words are UTF-8 and each one token, the text of a printable tree reads back as
-/// the tree (`back`), and the bytes of each span as the node of its path (`spans`).
+/// In a definition of the grammar class whose fixed words are UTF-8 and each one token, the text of a printable tree reads
+/// back as the tree (`back`), and the bytes of each span as the node of its path (`spans`).
 ///
-/// It fails only where memory runs out, or where 32 bits do not count the children of a node. It takes time linear in the text and
-/// the paths of the nodes, and calls itself once for each level of the tree.
+/// It returns out of memory also where 32 bits do not count the children of a node. It takes time linear in the text
+/// and in the paths of the nodes, and calls itself once for each level of the tree.
 pub fn unparse(alloc: Global, definition: &Definition, tree: &Tree) -> Result<Printed, AllocError>
     requires sound { IsSound definition.now }
     ensures printed { IfOk result (λ printed. printed ≡ printed_of definition.now tree.now) }

@@ -50,8 +50,8 @@ fn subtrees(alloc: Global, parts: &[Part]) -> Result<Vec<Tree>, AllocError> {
     Ok(trees)
 }
 
-/// The operator of the number over so many parts, as `0/2`, or the list of a kind and so many elements, as `[1:2` or `[1:2..`,
-/// over what is taken from the end of a list of parts.
+/// The operator of the number over so many parts, as `0/2`, or the list of a kind and so many elements, as `[1:2` or
+/// `[1:2..`, over what is taken from the end of a list of parts.
 fn node(alloc: Global, word: &str, stack: &mut Vec<Part>) -> Result<Tree, AllocError> {
     if let Some((op, count)) = word.split_once('/') {
         let op = number(op)?;
@@ -106,7 +106,8 @@ pub(super) fn tree(alloc: Global, text: &str) -> Result<Tree, AllocError> {
     }
 }
 
-/// Whether what is printed of the tree is the text, with these spans: for each node its path, and where it begins and ends.
+/// Whether what is printed of the tree is the text, with these spans: for each node its path, and where it begins and
+/// ends.
 pub(super) fn prints(
     alloc: Global,
     definition: &Definition,
