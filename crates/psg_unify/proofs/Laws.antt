@@ -268,7 +268,7 @@ fits_empty sig = record {
   nothing id k l = omega (arith, l)
 
 -- the sort of what an open cell or a constructor cell reads as
-read_sorts : (sig : Signature) (cells : List Put) (read : Reading) (args : List CellId) (ns : List ℕ) → map (sort_at sig cells) args ≡ map (λ (n : ℕ). Some n) ns
+pub read_sorts : (sig : Signature) (cells : List Put) (read : Reading) (args : List CellId) (ns : List ℕ) → map (sort_at sig cells) args ≡ map (λ (n : ℕ). Some n) ns
     → All (λ x. (s : ℕ) → sort_at sig cells x ≡ Some s → HasSort sig (read x) s) args → HaveSorts sig (map read args) ns
 read_sorts sig cells read [] [] e h = tt
 read_sorts sig cells read [] (n ∷ ns) e h = cc

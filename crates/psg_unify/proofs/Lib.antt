@@ -7,3 +7,9 @@ pub mod WritingSteps
 pub mod Theorem
 pub mod Remembering
 pub mod Shallow
+pub mod Laws
+pub mod Closing
+pub mod Steps
+pub mod Narrowing
+pub mod Composed
+pub mod SortsRead

@@ -8,7 +8,8 @@ use Rattle.psg_terms.specs.Canonical.{Variable, variables, noted_all}
 use Rattle.psg_terms.specs.Renaming.{opens, numbering, Renumbered}
 use Rattle.psg_unify.specs.Pairs.{Pair, AgreeOn}
 use Rattle.psg_pool.proofs.Places.{some_or_none, slice_get_none}
-use Rattle.psg_unify.specs.Columns.{above_of, pick, picked, IsNarrowed, done, equal, solved}
+use Rattle.psg_terms.specs.Weight.{above_of}
+use Rattle.psg_unify.specs.Columns.{pick, picked, IsNarrowed, done, equal, solved}
 
 pub variables-closed : (t : Term) → above_of t ≡ 0 → variables t ≡ []
 variables-closed (variable s n) e = absurd (omega (arith, e))

@@ -4,3 +4,9 @@ pub mod Chains
 pub mod Memories
 pub mod WrittenOut
 pub mod Agreement
+pub mod Reading
+pub mod Fitting
+pub mod Solved
+pub mod Valuations
+pub mod Walking
+pub mod Columns
