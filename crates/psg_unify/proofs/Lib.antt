@@ -13,3 +13,4 @@ pub mod Steps
 pub mod Narrowing
 pub mod Composed
 pub mod SortsRead
+pub mod VariablesPut

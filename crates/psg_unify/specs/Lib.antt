@@ -10,3 +10,4 @@ pub mod Solved
 pub mod Valuations
 pub mod Walking
 pub mod Columns
+pub mod Putting

@@ -19,6 +19,7 @@ mod chains;
 mod circle;
 mod equations;
 mod join;
+mod putting;
 mod writing;
 
 pub use join::join_rows;
