@@ -218,7 +218,7 @@ free_arguments : (cells : List Put) (s : ℕ) (id : CellId) → arguments_of (ce
 free_arguments [] s id = elim (id.0) as (λ n. arguments_in (slice_get (free s ∷ []) n) ≡ []) [ zero ↦ refl | suc n ↦ refl ]
 free_arguments (p ∷ cells) s id = elim (id.0) as (λ n. arguments_in (slice_get (p ∷ cells ++ free s ∷ []) n) ≡ arguments_in (slice_get (p ∷ cells) n)) [ zero ↦ refl | suc n ↦ free_arguments cells s (record { 0 = n }) ]
 
-one_sort-append : (sig : Signature) (cells more : List Put) (b : Binding) (s : ℕ) → sort_at sig cells b.bound ≡ Some s → IsOfOneSort sig cells b → IsOfOneSort sig (cells ++ more) b
+pub one_sort-append : (sig : Signature) (cells more : List Put) (b : Binding) (s : ℕ) → sort_at sig cells b.bound ≡ Some s → IsOfOneSort sig cells b → IsOfOneSort sig (cells ++ more) b
 one_sort-append sig cells more b s e h = sort_at-append sig cells more b.bound s e ∙ sym (sort_at-append sig cells more b.target s (sym h ∙ e))
 
 -- a fitting pool with one more free cell fits

@@ -14,3 +14,5 @@ pub mod Narrowing
 pub mod Composed
 pub mod SortsRead
 pub mod VariablesPut
+pub mod MadeCells
+pub mod PuttingSteps

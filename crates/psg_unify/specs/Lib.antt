@@ -11,3 +11,4 @@ pub mod Valuations
 pub mod Walking
 pub mod Columns
 pub mod Putting
+pub mod Making

@@ -1,12 +1,11 @@
 -- Rows that are put into a pool: first a free cell for each variable, and then the constructors.
-use Rattle.std.specs.Prelude.{ℕ, ◌≡◌, ◌≤◌, ◌+◌, ◌++◌, List, [], ◌∷◌, reverse, map, take, drop, length, All}
-use Rattle.psg_terms.specs.Terms.{Term, symbol, applied}
+use Rattle.std.specs.Prelude.{ℕ, ◌≡◌, ◌≤◌, ◌++◌, List, [], ◌∷◌, reverse}
+use Rattle.psg_terms.specs.Terms.{Term}
 use Rattle.psg_terms.specs.Signature.{Signature}
 use Rattle.psg_terms.specs.Sizes.{size, sizes}
 use Rattle.psg_terms.specs.Canonical.{Variable, variables, variables_of, noted_all}
 use Rattle.psg_terms.specs.Renaming.{opens}
-use Rattle.psg_pool.specs.declared.cells.CellId.{CellId}
-use Rattle.psg_pool.specs.Cells.{Put, free, arguments_of}
+use Rattle.psg_pool.specs.Cells.{Put, free}
 use Rattle.psg_pool.specs.Bindings.{Kept}
 
 -- a free cell for each variable

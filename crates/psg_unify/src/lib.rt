@@ -19,6 +19,7 @@ mod chains;
 mod circle;
 mod equations;
 mod join;
+mod making;
 mod putting;
 mod writing;
 
