@@ -16,3 +16,4 @@ pub mod SortsRead
 pub mod VariablesPut
 pub mod MadeCells
 pub mod PuttingSteps
+pub mod PuttingEnds

@@ -2,7 +2,7 @@
 use Rattle.std.proofs.Common.{◌≡◌, ◌⊎◌, inl, inr, ℕ, zero, suc, ◌<◌, ◌≤◌, ◌+◌, true, Option, Some, None, List, [], ◌∷◌, ◌++◌, reverse, map, length, take, drop, slice_get, All, refl, ap, ap₂, sym, ◌∙◌, subst, arith, length-append, append-nil, append_assoc}
 use Rattle.std.proofs.lemmas.Option.{slice_get_within}
 use Rattle.std.proofs.lemmas.List.{reverse-append, reverse-reverse, length-reverse}
-use Rattle.std.proofs.lemmas.List.Elements.{All-weaker, All-push, All-append}
+use Rattle.std.proofs.lemmas.List.Elements.{All-weaker, All-push, All-cons, All-head, All-tail}
 use Rattle.psg_terms.specs.Terms.{Term, variable, symbol, applied}
 use Rattle.psg_terms.specs.Signature.{Signature, HasSort, HaveSorts, only_constructor}
 use Rattle.psg_terms.specs.Instances.{Substitution, substitute}
@@ -20,7 +20,7 @@ use Rattle.psg_pool.proofs.Laws.{new_not_bound}
 use Rattle.psg_unify.specs.declared.making.Task.{Task}
 use Rattle.psg_unify.specs.declared.making.Task.TheVariants.{Whole, Make}
 use Rattle.psg_unify.specs.Reading.{Reading, IsReading}
-use Rattle.psg_unify.specs.Fitting.{Fits}
+use Rattle.psg_unify.specs.Fitting.{Fits, IsPutOf}
 use Rattle.psg_unify.specs.Putting.{IsLonger}
 use Rattle.psg_unify.specs.Making.{makes, work, IsMade, IsPutting}
 use Rattle.psg_unify.proofs.Laws.{with_cells, read_by, has_reading, reading_before}
@@ -49,6 +49,24 @@ drop_front (suc n) (x ∷ xs) ys e = drop_front n xs ys (omega (arith, e))
 
 rev_push : {X Y : Type 0} (f : X → Y) (xs after : List X) (x : X) → after ≡ xs ++ x ∷ [] → reverse (map f after) ≡ f x ∷ reverse (map f xs)
 rev_push f xs after x e = ap (λ l. reverse (map f l)) e ∙ ap reverse (map_both f xs (x ∷ [])) ∙ reverse-append (map f xs) (f x ∷ [])
+
+rev_both : {X Y : Type 0} (f : X → Y) (xs ys all : List X) → all ≡ xs ++ ys → reverse (map f all) ≡ reverse (map f ys) ++ reverse (map f xs)
+rev_both f xs ys all e = ap (λ l. reverse (map f l)) e ∙ ap reverse (map_both f xs ys) ∙ reverse-append (map f xs) (map f ys)
+
+all_parts : {X : Type 0} (P : X → Type 0) (xs ys : List X) → All P (xs ++ ys) → All P xs × All P ys
+all_parts P [] ys h = (λ k d l. absurd (omega (arith, l)), h)
+all_parts P (x ∷ xs) ys h =
+    let rest = all_parts P xs ys (All-tail P x (xs ++ ys) h) in
+    (All-cons P x xs (All-head P x (xs ++ ys) h) rest.0, rest.1)
+
+all_front : {X : Type 0} (P : X → Type 0) (all xs ys : List X) → all ≡ xs ++ ys → All P all → All P xs
+all_front P all xs ys e h = (all_parts P xs ys (subst (All P) e h)).0
+
+all_back : {X : Type 0} (P : X → Type 0) (all xs ys : List X) → all ≡ xs ++ ys → All P all → All P ys
+all_back P all xs ys e h = (all_parts P xs ys (subst (All P) e h)).1
+
+among_more : (now new : Kept) (p : Put) → new.cells ≡ now.cells ++ p ∷ [] → (x : CellId) → IsAmong now.cells x → IsAmong new.cells x
+among_more now new p e x l = let k = ap (λ (ps : List Put). length ps) e in omega (arith, k, l, length-append now.cells (p ∷ []))
 
 -- terms that are to be put one behind the other
 pub makes_whole : (f : Substitution) (args : List Term) (rest : List Task) (made : List Term)
@@ -166,3 +184,55 @@ module _ (sig : Signature) (old : Kept) (known : List Variable) (row : List Term
       → IsPutting sig old known row now (Whole t ∷ rest) cells → IsPutting sig old known row now (map (λ (t : Term). Whole t) args ++ Make c n ∷ rest) cells
   put_arguments now rest cells t c args n e l p =
       other_tasks now (Whole t ∷ rest) (map (λ (t : Term). Whole t) args ++ Make c n ∷ rest) cells (λ made. makes_con numbers t c args n rest made e l) p
+
+  longer_length : (now : Kept) → IsLonger old now → length old.cells ≤ length now.cells
+  longer_length now l = let e = ap (λ (ps : List Put). length ps) l.cells_are in omega (arith, e, length-append old.cells l.cells)
+
+  -- the constructor over the cells that were made last fits
+  own_put : (now : Kept) (c : ConId) (n : ℕ) (rest : List Task) (cells front args : List CellId) → cells ≡ front ++ args → length args ≡ n → All (IsAmong now.cells) args
+      → IsPutting sig old known row now (Make c n ∷ rest) cells → IsPutOf sig now.cells (constructor c.0 args)
+  own_put now c n rest cells front args e l among p =
+      let read : Reading = read_by now p.fits.height p.fits.falls in
+      let r : IsReading now read = has_reading now p.fits.height p.fits.falls p.sound in
+      let whole : AllSorted sig (makes numbers (Make c n ∷ rest) (reverse (map read cells))) =
+        subst (AllSorted sig) (sym (p.made read r)) (sorted_reverse sig (map (substitute numbers) row) (all_sorted sig (map (substitute numbers) row) p.terms.0 p.terms.1)) in
+      let is : makes numbers (Make c n ∷ rest) (reverse (map read cells)) ≡ makes numbers rest (applied (symbol c.0) (map read args) ∷ reverse (map read front)) =
+        ap (makes numbers (Make c n ∷ rest)) (rev_both read front args cells e)
+        ∙ makes_make numbers c n rest (map read args) (reverse (map read front)) (sym l ∙ sym (map_length read args)) in
+      let k = made_sorted sig numbers rest (applied (symbol c.0) (map read args) ∷ reverse (map read front)) (subst (AllSorted sig) is whole) in
+      put_of_sorted sig now p.sound p.fits read r c.0 args k.0.0 among k.0.1
+
+  -- a constructor cell over the cells that were made last
+  pub put_made : (now new : Kept) (c : ConId) (n : ℕ) (rest : List Task) (cells after : List CellId) → IsSound new → IsMade now new cells after c.0 n
+      → IsPutting sig old known row now (Make c n ∷ rest) cells → IsPutting sig old known row new rest after
+  put_made now new c n rest cells after sound m p =
+      let args_among : All (IsAmong now.cells) m.args = all_back (IsAmong now.cells) cells m.front m.args m.split p.among in
+      let front_among : All (IsAmong now.cells) m.front = all_front (IsAmong now.cells) cells m.front m.args m.split p.among in
+      let grown : new ≡ with_cells now (now.cells ++ constructor c.0 m.args ∷ []) = ap₂ (λ x y. record { cells = x; bindings = y }) m.cells_are m.bindings_are in
+      let past : length old.cells ≤ m.id.0 = let e = m.id_is in let l = longer_length now p.longer in omega (arith, e, l) in
+      record {
+        fits = subst (Fits sig) (sym grown) (fits_con sig now c.0 m.args p.sound p.fits (own_put now c n rest cells m.front m.args m.split m.count args_among p) args_among);
+        sound = sound;
+        longer = longer_both old now new p.longer (longer_one now new (constructor c.0 m.args) m.cells_are m.bindings_are);
+        among = subst (All (IsAmong new.cells)) (sym m.after_is)
+            (All-push (IsAmong new.cells) m.front m.id
+              (All-weaker (IsAmong now.cells) (IsAmong new.cells) (λ x l. among_more now new (constructor c.0 m.args) m.cells_are x l) m.front front_among)
+              (let k = ap (λ (l : List Put). length l) m.cells_are in let e = m.id_is in omega (arith, k, e, length-append now.cells (constructor c.0 m.args ∷ []))));
+        beyond = subst (All (λ (x : CellId). length old.cells ≤ x.0)) (sym m.after_is)
+            (All-push (λ (x : CellId). length old.cells ≤ x.0) m.front m.id (all_front (λ (x : CellId). length old.cells ≤ x.0) cells m.front m.args m.split p.beyond) past);
+        apart = λ id l. subst (λ ps. All (λ (a : CellId). length old.cells ≤ a.0) (arguments_of ps id)) (sym m.cells_are)
+            (elim (arguments_either now.cells (constructor c.0 m.args) id.0) [
+              | inl h ↦ subst (All (λ (a : CellId). length old.cells ≤ a.0)) (sym h.1) (all_back (λ (x : CellId). length old.cells ≤ x.0) cells m.front m.args m.split p.beyond)
+              | inr h ↦ subst (All (λ (a : CellId). length old.cells ≤ a.0)) (sym h) (p.apart id l)
+            ]);
+        open_cells = λ x i. ap (λ ps. slice_get ps (length old.cells + place x known)) m.cells_are ∙ slice_get-append now.cells (constructor c.0 m.args ∷ []) (length old.cells + place x known) (free x.0) (p.open_cells x i);
+        terms = p.terms;
+        made = λ read r.
+          let older : IsReading now read = reading_before now (constructor c.0 m.args ∷ []) read (subst (λ k. IsReading k read) grown r) in
+          let is : read m.id ≡ applied (symbol c.0) (map read m.args) =
+            r.con_cell m.id c.0 m.args (ap (λ ps. slice_get ps m.id.0) m.cells_are ∙ slice_get-append_last now.cells (constructor c.0 m.args) m.id.0 m.id_is) in
+          ap (makes numbers rest) (rev_push read m.front after m.id m.after_is ∙ ap (λ u. u ∷ reverse (map read m.front)) is)
+          ∙ sym (makes_make numbers c n rest (map read m.args) (reverse (map read m.front)) (sym m.count ∙ sym (map_length read m.args)))
+          ∙ ap (makes numbers (Make c n ∷ rest)) (sym (rev_both read m.front m.args cells m.split))
+          ∙ p.made read older;
+      }

@@ -5,7 +5,7 @@ use Rattle.psg_terms.specs.Sizes.{size}
 use Rattle.psg_terms.specs.Signature.{Signature, HaveSorts}
 use Rattle.psg_terms.specs.Instances.{Substitution, substitute}
 use Rattle.psg_terms.specs.Canonical.{Variable, is_noted}
-use Rattle.psg_terms.specs.Renaming.{place, numbering}
+use Rattle.psg_terms.specs.Renaming.{place, numbering, Renumbered}
 use Rattle.psg_pool.specs.declared.cells.CellId.{CellId}
 use Rattle.psg_pool.specs.Cells.{Put, free, constructor, IsAmong, arguments_of}
 use Rattle.psg_pool.specs.Bindings.{Kept, IsSound}
@@ -49,6 +49,17 @@ pub record IsPutting (sig : Signature) (old : Kept) (known : List Variable) (row
   pub beyond : All (λ (id : CellId). length old.cells ≤ id.0) cells
   pub apart : (id : CellId) → length old.cells ≤ id.0 → All (λ (a : CellId). length old.cells ≤ a.0) (arguments_of now.cells id)
   pub open_cells : (x : Variable) → is_noted x known ≡ true → slice_get now.cells (length old.cells + place x known) ≡ Some (free x.0)
-  pub terms : (ss : List ℕ) × HaveSorts sig (reverse (map (substitute (numbering sig (length old.cells) known)) row)) ss
+  pub terms : (ss : List ℕ) × HaveSorts sig (map (substitute (numbering sig (length old.cells) known)) row) ss
   pub made : (read : Reading) → IsReading now read
       → makes (numbering sig (length old.cells) known) tasks (reverse (map read cells)) ≡ reverse (map (substitute (numbering sig (length old.cells) known)) row)
+
+-- A row was put behind the cells of a pool. Its cells lead to new ones alone, and read as the row with numbers from there on.
+pub record IsPutRow (sig : Signature) (old new : Kept) (row : List Term) (cells : List CellId) : Type 0 where
+  pub fits : Fits sig new
+  pub sound : IsSound new
+  pub longer : IsLonger old new
+  pub among : All (IsAmong new.cells) cells
+  pub beyond : All (λ (id : CellId). length old.cells ≤ id.0) cells
+  pub apart : (id : CellId) → length old.cells ≤ id.0 → All (λ (a : CellId). length old.cells ≤ a.0) (arguments_of new.cells id)
+  pub known : List Variable
+  pub read_as : (read : Reading) → IsReading new read → Renumbered sig (length old.cells) [] known row (map read cells)
