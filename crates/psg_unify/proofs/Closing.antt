@@ -18,6 +18,7 @@ use Rattle.psg_pool.proofs.Following.{target_of-append, target_of-append_none}
 use Rattle.psg_unify.specs.Reading.{Reading, IsReading}
 use Rattle.psg_unify.specs.Fitting.{Falls}
 use Rattle.psg_unify.specs.Valuations.{IsValuation, Solves, Equation, Equals, HoldsBelow, EqualsBelow, AreLinked, itself, onward, back, IsGuarded, IsState, by_cells}
+use Rattle.psg_unify.specs.Meeting.{pairs_of}
 use Rattle.psg_unify.proofs.Laws.{over_at, All-both}
 
 -- a substitution that is read through a row is the row's values
@@ -63,20 +64,14 @@ all_closed v apart g = at_each apart (λ n. closed v apart g n) where
         (All-head (HoldsBelow (suc (size (v x.0))) v) x xs (h (suc (size (v x.0)))) (inl (omega arith)))
         (at_each xs (λ n. All-tail (HoldsBelow n v) x xs (h n)))
 
--- the arguments of two cells, place by place
-abbrev pub side_by_side : List CellId → List CellId → List Equation
-side_by_side [] ys = []
-side_by_side (x ∷ xs) [] = []
-side_by_side (x ∷ xs) (y ∷ ys) = (x, y) ∷ side_by_side xs ys
-
-sides_equal : (v : Reading) (n : ℕ) (xs ys : List CellId) → length xs ≡ length ys → (sizes (map v xs) < n) ⊎ (sizes (map v ys) < n) → EqualsBelow n v (side_by_side xs ys) → map v xs ≡ map v ys
+sides_equal : (v : Reading) (n : ℕ) (xs ys : List CellId) → length xs ≡ length ys → (sizes (map v xs) < n) ⊎ (sizes (map v ys) < n) → EqualsBelow n v (pairs_of xs ys) → map v xs ≡ map v ys
 sides_equal v n [] [] e l h = refl
 sides_equal v n [] (y ∷ ys) e l h = absurd (omega (arith, e))
 sides_equal v n (x ∷ xs) [] e l h = absurd (omega (arith, e))
 sides_equal v n (x ∷ xs) (y ∷ ys) e l h =
     ap₂ (λ t ts. t ∷ ts)
-      (All-head (HoldsBelow n v) (x, y) (side_by_side xs ys) h (elim l [ | inl k ↦ inl (omega (arith, k)) | inr k ↦ inr (omega (arith, k)) ]))
-      (sides_equal v n xs ys (omega (arith, e)) (elim l [ | inl k ↦ inl (omega (arith, k)) | inr k ↦ inr (omega (arith, k)) ]) (All-tail (HoldsBelow n v) (x, y) (side_by_side xs ys) h))
+      (All-head (HoldsBelow n v) (x, y) (pairs_of xs ys) h (elim l [ | inl k ↦ inl (omega (arith, k)) | inr k ↦ inr (omega (arith, k)) ]))
+      (sides_equal v n xs ys (omega (arith, e)) (elim l [ | inl k ↦ inl (omega (arith, k)) | inr k ↦ inr (omega (arith, k)) ]) (All-tail (HoldsBelow n v) (x, y) (pairs_of xs ys) h))
 
 below_front : (v : Reading) (n : ℕ) (xs ys : List Equation) → EqualsBelow n v (xs ++ ys) → EqualsBelow n v xs × EqualsBelow n v ys
 below_front v n [] ys h = (λ k d l. absurd (omega (arith, l)), h)
@@ -87,10 +82,10 @@ below_front v n (x ∷ xs) ys h =
 -- taking an equation of two constructor cells apart
 pub taken_apart : (cells : List Put) (v : Reading) (a b : CellId) (c : ℕ) (xs ys : List CellId) (apart left : List Equation) → IsValuation cells v
     → slice_get cells a.0 ≡ Some (constructor c xs) → slice_get cells b.0 ≡ Some (constructor c ys) → length xs ≡ length ys
-    → IsGuarded v apart ((a, b) ∷ left) → IsGuarded v ((a, b) ∷ apart) (side_by_side xs ys ++ left)
+    → IsGuarded v apart ((a, b) ∷ left) → IsGuarded v ((a, b) ∷ apart) (pairs_of xs ys ++ left)
 taken_apart cells v a b c xs ys apart left val ea eb e g n ha hl =
     let P : Equation → Type 0 = HoldsBelow n v in
-    let parts = below_front v n (side_by_side xs ys) left hl in
+    let parts = below_front v n (pairs_of xs ys) left hl in
     All-cons (HoldsBelow (suc n) v) (a, b) apart
       (λ l. val a c xs ea ∙ ap (applied (symbol c)) (sides_equal v n xs ys e (elim l [
         | inl m ↦ (let k = size-con (v a) c (map v xs) (val a c xs ea) in inl (omega (arith, k, m)))
@@ -141,25 +136,25 @@ state_ends cells old asked bs apart left a b x y ea eb st = record {
 -- two constructor cells of one constructor are taken apart
 pub state_apart : (cells : List Put) (old : List Binding) (asked : List Equation) (bs : List Binding) (apart left : List Equation) (a b : CellId) (c : ℕ) (xs ys : List CellId)
     → slice_get cells a.0 ≡ Some (constructor c xs) → slice_get cells b.0 ≡ Some (constructor c ys) → length xs ≡ length ys
-    → IsState cells old asked bs apart ((a, b) ∷ left) → IsState cells old asked bs ((a, b) ∷ apart) (side_by_side xs ys ++ left)
+    → IsState cells old asked bs apart ((a, b) ∷ left) → IsState cells old asked bs ((a, b) ∷ apart) (pairs_of xs ys ++ left)
 state_apart cells old asked bs apart left a b c xs ys ea eb e st = record {
   to = λ v val past h.
     let o = st.to v val past h in
     let ab : v a ≡ v b = All-head (λ (p : Equation). v p.0 ≡ v p.1) (a, b) left o.2 in
     let rows = same_arguments c c (map v xs) (map v ys) (sym (val a c xs ea) ∙ ab ∙ val b c ys eb) in
     (o.0, All-cons (λ (p : Equation). v p.0 ≡ v p.1) (a, b) apart ab o.1,
-      All-append (λ (p : Equation). v p.0 ≡ v p.1) (side_by_side xs ys) left (sides_of v xs ys rows) (All-tail (λ (p : Equation). v p.0 ≡ v p.1) (a, b) left o.2));
+      All-append (λ (p : Equation). v p.0 ≡ v p.1) (pairs_of xs ys) left (sides_of v xs ys rows) (All-tail (λ (p : Equation). v p.0 ≡ v p.1) (a, b) left o.2));
   back = λ v val sol ha hl. st.back v val sol (All-tail (λ (p : Equation). v p.0 ≡ v p.1) (a, b) apart ha)
-    (All-cons (λ (p : Equation). v p.0 ≡ v p.1) (a, b) left (All-head (λ (p : Equation). v p.0 ≡ v p.1) (a, b) apart ha) (behind v (side_by_side xs ys) left hl));
+    (All-cons (λ (p : Equation). v p.0 ≡ v p.1) (a, b) left (All-head (λ (p : Equation). v p.0 ≡ v p.1) (a, b) apart ha) (behind v (pairs_of xs ys) left hl));
   guarded = λ v val sol. taken_apart cells v a b c xs ys apart left val ea eb e (st.guarded v val sol);
 } where
-  sides_of : (v : Reading) (xs ys : List CellId) → map v xs ≡ map v ys → Equals v (side_by_side xs ys)
+  sides_of : (v : Reading) (xs ys : List CellId) → map v xs ≡ map v ys → Equals v (pairs_of xs ys)
   sides_of v [] ys h = λ k d l. absurd (omega (arith, l))
   sides_of v (x ∷ xs) [] h = λ k d l. absurd (omega (arith, l))
   sides_of v (x ∷ xs) (y ∷ ys) h =
       let one : v x ≡ v y = cc in
       let rest : map v xs ≡ map v ys = cc in
-      All-cons (λ (p : Equation). v p.0 ≡ v p.1) (x, y) (side_by_side xs ys) one (sides_of v xs ys rest)
+      All-cons (λ (p : Equation). v p.0 ≡ v p.1) (x, y) (pairs_of xs ys) one (sides_of v xs ys rest)
   behind : (v : Reading) (xs ys : List Equation) → Equals v (xs ++ ys) → Equals v ys
   behind v [] ys h = h
   behind v (x ∷ xs) ys h = behind v xs ys (All-tail (λ (p : Equation). v p.0 ≡ v p.1) x (xs ++ ys) h)
@@ -195,7 +190,7 @@ state_bound cells old asked bs apart left b n st = record {
 }
 
 -- a member of a list for which something holds
-in_all : {X : Type 0} (P : X → Type 0) (x : X) (xs : List X) → IsIn x xs → All P xs → P x
+pub in_all : {X : Type 0} (P : X → Type 0) (x : X) (xs : List X) → IsIn x xs → All P xs → P x
 in_all P x _ (first {xs}) h = All-head P x xs h
 in_all P x _ (later {y} {xs} i) h = in_all P x xs i (All-tail P y xs h)
 

@@ -17,3 +17,4 @@ pub mod VariablesPut
 pub mod MadeCells
 pub mod PuttingSteps
 pub mod PuttingEnds
+pub mod SolvingSteps

@@ -12,3 +12,5 @@ pub mod Walking
 pub mod Columns
 pub mod Putting
 pub mod Making
+pub mod Joined
+pub mod Meeting

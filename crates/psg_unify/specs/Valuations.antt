@@ -38,6 +38,12 @@ pub data AreLinked (apart : List Equation) : CellId → CellId → Type 0 where
   onward : (a x b : CellId) → IsIn (a, x) apart → AreLinked apart x b → AreLinked apart a b
   back : (a x b : CellId) → IsIn (x, a) apart → AreLinked apart x b → AreLinked apart a b
 
+-- bindings and links lead from one cell to the other
+pub data Follows (bindings : List Binding) (apart : List Equation) : CellId → CellId → Type 0 where
+  stays : (a : CellId) → Follows bindings apart a a
+  over_binding : (a x b : CellId) → target_of bindings a ≡ Some x → Follows bindings apart x b → Follows bindings apart a b
+  over_link : (a x b : CellId) → AreLinked apart a x → Follows bindings apart x b → Follows bindings apart a b
+
 -- What was taken apart follows from what is left: where both hold below a size, the former holds one size further.
 abbrev pub IsGuarded : Reading → List Equation → List Equation → Type 0
 IsGuarded v apart left = (n : ℕ) → EqualsBelow n v apart → EqualsBelow n v left → EqualsBelow (suc n) v apart

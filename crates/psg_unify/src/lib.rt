@@ -17,10 +17,12 @@
 
 mod chains;
 mod circle;
+mod classes;
 mod equations;
 mod join;
 mod making;
 mod putting;
+mod solving;
 mod writing;
 
 pub use join::join_rows;
