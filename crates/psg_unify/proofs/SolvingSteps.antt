@@ -338,3 +338,7 @@ stays_raised old new before raised left more b n h = λ sig bs asked apart s.
 pub clash : (now : Kept) (classes : Classes) (left : List Equation) (x y : CellId) (c d m n : ℕ) → Holds now x (Con c m) → Holds now y (Con d n) → c ≢ d → HasNoValuation now classes ((x, y) ∷ left)
 clash now classes left x y c d m n hx hy ne = λ sig bs asked apart s v val past e.
     state_clash now.cells bs asked now.bindings apart left x y c d (arguments_of now.cells x) (arguments_of now.cells y) hx.0 hy.0 ne s.state v val past e
+
+-- an equation of one cell
+pub stays_same : (now : Kept) (classes : Classes) (left : List Equation) (x y : CellId) → x.0 ≡ y.0 → StaysSolving now now classes classes ((x, y) ∷ left) left
+stays_same now classes left x y e = λ sig bs asked apart s. (apart, solving_same sig classes.base bs asked now classes apart left x y e s)

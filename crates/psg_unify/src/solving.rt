@@ -1,14 +1,14 @@
 //! Equations of cells, solved in a pool.
-ghost use Rattle.std.specs.Prelude.{◌≡◌, ◌≢◌, ◌++◌, ◌∷◌, ◌⊎◌, OnOk, reverse, length, None};
+ghost use Rattle.std.specs.Prelude.{◌≡◌, ◌≢◌, ◌++◌, ◌∷◌, ◌⊎◌, IfOk, OnOk, true, false, reverse, length, None};
 ghost use Rattle.psg_pool.specs.Cells.{IsAmong, arguments_of};
 ghost use Rattle.psg_pool.specs.Bindings.{IsFree, Holds, target_of};
 ghost use Rattle.psg_pool.specs.declared.cells.Cell.TheVariants.{Con};
 ghost use Rattle.psg_pool.specs.declared.cells.CellId.{CellId as Id};
 ghost use Rattle.psg_unify.specs.Joined.{IsNext};
-ghost use Rattle.psg_unify.specs.Meeting.{pairs_of, IsMoreBound, StaysSolving};
+ghost use Rattle.psg_unify.specs.Meeting.{pairs_of, IsMoreBound, StaysSolving, HasNoValuation};
 
 use crate::classes::{Classes, height_of, join, raise};
-use psg_pool::{CellId, Pool};
+use psg_pool::{Cell, CellId, Pool};
 use std::alloc::AllocError;
 
 /// Puts the arguments of two cells side by side on the stack, the first ones on top.
@@ -155,4 +155,111 @@ fn meet_free(
     let height = taller(first, second);
     bind_raised(pool, classes, left, x, y, base, height)?;
     Ok(())
+}
+
+/// Binds a free cell to the cell at which another way ends.
+fn meet_open(
+    pool: &mut Pool,
+    classes: &mut Classes,
+    left: &Vec<(CellId, CellId)>,
+    x: CellId,
+    y: CellId,
+    base: usize,
+) -> Result<(), AllocError>
+    requires x { IsFree pool.old x }
+    requires x_there { IsAmong pool.old.cells x }
+    requires y_there { IsAmong pool.old.cells y }
+    requires other { x.0 ≢ y.0 }
+    requires base { base ≡ classes.old.base }
+    ensures bound { OnOk result (StaysSolving pool.old pool.new classes.old classes.new ((x, y) ∷ reverse left.now.items) (reverse left.now.items)) }
+    ensures more { IsMoreBound pool.old pool.new }
+    ensures base { classes.new.base ≡ classes.old.base }
+{
+    match pool.cell(y) {
+        Cell::Bound(_) => Err(AllocError),
+        Cell::Free(_) => {
+            meet_free(pool, classes, left, x, y, base)?;
+            Ok(())
+        }
+        Cell::Con { .. } => {
+            bind_free(pool, classes, left, x, y, base)?;
+            Ok(())
+        }
+    }
+}
+
+/// Makes a constructor cell and the cell at which another way ends equal, and says whether they can be.
+fn meet_con(
+    pool: &mut Pool,
+    classes: &mut Classes,
+    left: &mut Vec<(CellId, CellId)>,
+    x: CellId,
+    y: CellId,
+    base: usize,
+    con: u32,
+    count: usize,
+) -> Result<bool, AllocError>
+    requires x { Holds pool.old x (Con con count) }
+    requires x_there { IsAmong pool.old.cells x }
+    requires y_there { IsAmong pool.old.cells y }
+    requires other { x.0 ≢ y.0 }
+    requires base { base ≡ classes.old.base }
+    ensures yes { IfOk result (λ d. d ≡ true → StaysSolving pool.old pool.new classes.old classes.new ((x, y) ∷ reverse left.old.items) (reverse left.new.items)) }
+    ensures no { IfOk result (λ d. d ≡ false → HasNoValuation pool.old classes.old ((x, y) ∷ reverse left.old.items)) }
+    ensures more { IsMoreBound pool.old pool.new }
+    ensures base { classes.new.base ≡ classes.old.base }
+{
+    match pool.cell(y) {
+        Cell::Bound(_) => Err(AllocError),
+        Cell::Free(_) => {
+            bind_free(pool, classes, left, y, x, base)?;
+            Ok(true)
+        }
+        Cell::Con {
+            con: other,
+            count: number,
+        } => {
+            if con != other {
+                return Ok(false);
+            }
+            if count != number {
+                return Err(AllocError);
+            }
+            take_apart(pool, classes, left, x, y, con, count)?;
+            Ok(true)
+        }
+    }
+}
+
+/// Makes the two cells of an equation equal, and says whether they can be. What is left to be made equal goes onto the stack.
+fn meet(
+    pool: &mut Pool,
+    classes: &mut Classes,
+    left: &mut Vec<(CellId, CellId)>,
+    x: CellId,
+    y: CellId,
+    base: usize,
+) -> Result<bool, AllocError>
+    requires x_there { IsAmong pool.old.cells x }
+    requires y_there { IsAmong pool.old.cells y }
+    requires base { base ≡ classes.old.base }
+    ensures yes { IfOk result (λ d. d ≡ true → StaysSolving pool.old pool.new classes.old classes.new ((x, y) ∷ reverse left.old.items) (reverse left.new.items)) }
+    ensures no { IfOk result (λ d. d ≡ false → HasNoValuation pool.old classes.old ((x, y) ∷ reverse left.old.items)) }
+    ensures more { IsMoreBound pool.old pool.new }
+    ensures base { classes.new.base ≡ classes.old.base }
+{
+    if x.0 == y.0 {
+        return Ok(true);
+    }
+    match pool.cell(x) {
+        Cell::Bound(_) => Err(AllocError),
+        Cell::Free(_) => {
+            meet_open(pool, classes, left, x, y, base)?;
+            Ok(true)
+        }
+        Cell::Con { con, count } => {
+            let met = meet_con(pool, classes, left, x, y, base, con, count)?;
+            Ok(met)
+        }
+    }
 }
