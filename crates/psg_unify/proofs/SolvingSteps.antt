@@ -16,7 +16,7 @@ use Rattle.psg_unify.specs.Reading.{Reading}
 use Rattle.psg_unify.specs.Fitting.{IsPutOf, IsOfOneSort, sort_at, sort_in}
 use Rattle.psg_unify.specs.Valuations.{IsValuation, Solves, Equation, Equals, HoldsBelow, EqualsBelow, AreLinked, itself, onward, back, Follows, stays, over_binding, over_link, IsState}
 use Rattle.psg_unify.specs.Joined.{IsNext, IsStep, AreThere, AreThereBoth, AreSortedAlike, IsFrom, IsSolving}
-use Rattle.psg_unify.specs.Meeting.{pairs_of, StaysSolving, HasNoValuation}
+use Rattle.psg_unify.specs.Meeting.{pairs_of, IsMoreBound, StaysSolving, HasNoValuation, CanSolve}
 use Rattle.psg_unify.proofs.Laws.{over_at, with_bindings}
 use Rattle.psg_unify.proofs.SortsRead.{all_at, sort_of_target}
 use Rattle.psg_unify.proofs.Closing.{in_all, linked_below, linked_equal, state_linked, state_apart, state_bound, state_clash}
@@ -342,3 +342,86 @@ clash now classes left x y c d m n hx hy ne = λ sig bs asked apart s v val past
 -- an equation of one cell
 pub stays_same : (now : Kept) (classes : Classes) (left : List Equation) (x y : CellId) → x.0 ≡ y.0 → StaysSolving now now classes classes ((x, y) ∷ left) left
 stays_same now classes left x y e = λ sig bs asked apart s. (apart, solving_same sig classes.base bs asked now classes apart left x y e s)
+
+pub more_none : (now : Kept) → IsMoreBound now now
+more_none now = record { bindings = []; bindings_are = sym (append-nil now.bindings); cells_are = refl }
+
+pub more_both : (old mid new : Kept) → IsMoreBound old mid → IsMoreBound mid new → IsMoreBound old new
+more_both old mid new p q = record {
+  bindings = p.bindings ++ q.bindings;
+  bindings_are = q.bindings_are ∙ ap (λ l. l ++ q.bindings) p.bindings_are ∙ append_assoc old.bindings p.bindings q.bindings;
+  cells_are = q.cells_are ∙ p.cells_are;
+}
+
+-- what is known while a stack of equations is solved that was another one before
+pub record IsUnder (start now : Kept) (begin classes : Classes) (all left : List Equation) : Type 0 where
+  pub stays : StaysSolving start now begin classes all left
+  pub more : IsMoreBound start now
+  pub base : classes.base ≡ begin.base
+
+pub under_begins : (now : Kept) (classes : Classes) (left : List Equation) → IsUnder now now classes classes left left
+under_begins now classes left = record { stays = λ sig bs asked apart s. (apart, s); more = more_none now; base = refl }
+
+-- the equation on top can be looked at
+pub under_can : (start now : Kept) (begin classes : Classes) (all left : List Equation) → CanSolve start begin all → IsUnder start now begin classes all left → CanSolve now classes left
+under_can start now begin classes all left c u =
+    let k = u.stays c.sig c.bs c.asked c.apart c.solving in
+    record {
+      sig = c.sig;
+      bs = c.bs;
+      asked = c.asked;
+      apart = k.0;
+      solving = subst (λ (b : ℕ). IsSolving c.sig b c.bs c.asked now classes k.0 left) (sym u.base) k.1;
+    }
+
+-- a step more
+pub under_step : (start now new : Kept) (begin classes after : Classes) (all left more : List Equation) → after.base ≡ classes.base → IsMoreBound now new → StaysSolving now new classes after left more
+    → IsUnder start now begin classes all left → IsUnder start new begin after all more
+under_step start now new begin classes after all left more b m h u = record {
+  stays = λ sig bs asked apart s.
+    let k = u.stays sig bs asked apart s in
+    let j = h sig bs asked k.0 (subst (λ (n : ℕ). IsSolving sig n bs asked now classes k.0 left) (sym u.base) k.1) in
+    (j.0, subst (λ (n : ℕ). IsSolving sig n bs asked new after j.0 more) u.base j.1);
+  more = more_both start now new u.more m;
+  base = b ∙ u.base;
+}
+
+-- and where no valuation is left, there was none before
+pub under_none : (start now : Kept) (begin classes : Classes) (all left : List Equation) → IsUnder start now begin classes all left → HasNoValuation now classes left → HasNoValuation start begin all
+under_none start now begin classes all left u h = λ sig bs asked apart s v val past e.
+    let k = u.stays sig bs asked apart s in
+    h sig bs asked k.0 (subst (λ (n : ℕ). IsSolving sig n bs asked now classes k.0 left) (sym u.base) k.1) v
+      (subst (λ ps. IsValuation ps v) (sym u.more.cells_are) val) past e
+
+-- the ends of both ways in place of the cells of the equation
+pub stays_ends : (now : Kept) (classes : Classes) (left : List Equation) (a b x y : CellId)
+    → ((apart : List Equation) → ((p q : CellId) → IsNext classes p q → AreLinked apart p q) → Follows now.bindings apart a x)
+    → ((apart : List Equation) → ((p q : CellId) → IsNext classes p q → AreLinked apart p q) → Follows now.bindings apart b y)
+    → IsAmong now.cells x → IsAmong now.cells y → StaysSolving now now classes classes ((a, b) ∷ left) ((x, y) ∷ left)
+stays_ends now classes left a b x y fa fb ix iy = λ sig bs asked apart s.
+    (apart, solving_ends sig classes.base bs asked now classes apart left a b x y (fa apart s.linked) (fb apart s.linked) ix iy s)
+
+-- the equation on top of the stack
+pub top_equation : (left rest : List Equation) (p : Equation) → left ≡ rest ++ p ∷ [] → reverse left ≡ p ∷ reverse rest
+top_equation left rest p e = ap reverse e ∙ reverse-append rest (p ∷ [])
+
+-- the ends of both ways are left in place of the equation
+pub under_ends : (start now : Kept) (begin classes : Classes) (all items rest : List Equation) (p : Equation) (x y : CellId) → items ≡ rest ++ p ∷ []
+    → ((apart : List Equation) → ((p q : CellId) → IsNext classes p q → AreLinked apart p q) → Follows now.bindings apart p.0 x)
+    → ((apart : List Equation) → ((p q : CellId) → IsNext classes p q → AreLinked apart p q) → Follows now.bindings apart p.1 y)
+    → IsAmong now.cells x → IsAmong now.cells y → IsUnder start now begin classes all (reverse items) → IsUnder start now begin classes all ((x, y) ∷ reverse rest)
+under_ends start now begin classes all items rest p x y e fa fb ix iy u =
+    under_step start now now begin classes classes all (p ∷ reverse rest) ((x, y) ∷ reverse rest) refl (more_none now) (stays_ends now classes (reverse rest) p.0 p.1 x y fa fb ix iy)
+      (subst (IsUnder start now begin classes all) (top_equation items rest p e) u)
+
+-- the cells of the equation on top are there, and those to which cells were joined
+pub under_there : (start now : Kept) (begin classes : Classes) (all items rest : List Equation) (p : Equation) → items ≡ rest ++ p ∷ [] → CanSolve start begin all → IsUnder start now begin classes all (reverse items)
+    → AreThereBoth now.cells p × AreThere now.cells classes
+under_there start now begin classes all items rest p e c u =
+    let k = (under_can start now begin classes all (p ∷ reverse rest) c (subst (IsUnder start now begin classes all) (top_equation items rest p e) u)).solving in
+    (All-head (AreThereBoth now.cells) p (reverse rest) k.left_there, k.there)
+
+-- nothing is left
+pub under_done : (start now : Kept) (begin classes : Classes) (all items : List Equation) → length items ≡ 0 → IsUnder start now begin classes all (reverse items) → StaysSolving start now begin classes all []
+under_done start now begin classes all [] e u = u.stays
+under_done start now begin classes all (p ∷ items) e u = absurd (omega (arith, e))

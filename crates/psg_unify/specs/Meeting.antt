@@ -32,3 +32,11 @@ abbrev pub HasNoValuation : Kept → Classes → List Equation → Type 0
 HasNoValuation kept classes left =
     (sig : Signature) (bs : List Binding) (asked apart : List Equation) → IsSolving sig classes.base bs asked kept classes apart left
     → (v : Reading) → IsValuation kept.cells v → Solves bs v → Equals v asked → ⊥
+
+-- the equations are being solved
+pub record CanSolve (kept : Kept) (classes : Classes) (left : List Equation) : Type 0 where
+  pub sig : Signature
+  pub bs : List Binding
+  pub asked : List Equation
+  pub apart : List Equation
+  pub solving : IsSolving sig classes.base bs asked kept classes apart left

@@ -1,13 +1,13 @@
 //! Equations of cells, solved in a pool.
-ghost use Rattle.std.specs.Prelude.{◌≡◌, ◌≢◌, ◌++◌, ◌∷◌, ◌⊎◌, IfOk, OnOk, true, false, reverse, length, None};
+ghost use Rattle.std.specs.Prelude.{◌≡◌, ◌≢◌, ◌++◌, ◌∷◌, ◌⊎◌, [], IfOk, OnOk, true, false, reverse, length, None};
 ghost use Rattle.psg_pool.specs.Cells.{IsAmong, arguments_of};
 ghost use Rattle.psg_pool.specs.Bindings.{IsFree, Holds, target_of};
 ghost use Rattle.psg_pool.specs.declared.cells.Cell.TheVariants.{Con};
 ghost use Rattle.psg_pool.specs.declared.cells.CellId.{CellId as Id};
 ghost use Rattle.psg_unify.specs.Joined.{IsNext};
-ghost use Rattle.psg_unify.specs.Meeting.{pairs_of, IsMoreBound, StaysSolving, HasNoValuation};
+ghost use Rattle.psg_unify.specs.Meeting.{pairs_of, IsMoreBound, StaysSolving, HasNoValuation, CanSolve};
 
-use crate::classes::{Classes, height_of, join, raise};
+use crate::classes::{Classes, end_of, height_of, join, raise};
 use psg_pool::{Cell, CellId, Pool};
 use std::alloc::AllocError;
 
@@ -262,4 +262,32 @@ fn meet(
             Ok(met)
         }
     }
+}
+
+/// Solves the equations on the stack in the pool and says whether they can be solved, but for circles, which are not looked for
+/// here. Each free cell is bound at most once and each class joined at most once, and each way to an end is no longer than the
+/// logarithm of the number of cells. `AllocError` comes when memory runs out.
+pub fn solve(
+    pool: &mut Pool,
+    classes: &mut Classes,
+    left: &mut Vec<(CellId, CellId)>,
+    base: usize,
+) -> Result<bool, AllocError>
+    requires solving { CanSolve pool.old classes.old (reverse left.old.items) }
+    requires base { base ≡ classes.old.base }
+    ensures yes { IfOk result (λ d. d ≡ true → StaysSolving pool.old pool.new classes.old classes.new (reverse left.old.items) []) }
+    ensures no { IfOk result (λ d. d ≡ false → HasNoValuation pool.old classes.old (reverse left.old.items)) }
+    ensures more { IsMoreBound pool.old pool.new }
+{
+    for _ in 0..usize::MAX {
+        let Some(pair) = left.pop() else {
+            return Ok(true);
+        };
+        let x = end_of(pool, classes, pair.0)?;
+        let y = end_of(pool, classes, pair.1)?;
+        if !meet(pool, classes, left, x, y, base)? {
+            return Ok(false);
+        }
+    }
+    Err(AllocError)
 }
