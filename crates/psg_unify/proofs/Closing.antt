@@ -1,7 +1,7 @@
 -- Solving equations of cells.
-use Rattle.std.proofs.Common.{◌≡◌, ◌≢◌, ◌⊎◌, ◌↔◌, ◌==◌, inl, inr, ℕ, zero, suc, ◌<◌, ◌≤◌, ◌+◌, ◌-◌, Option, Some, None, List, [], ◌∷◌, ◌++◌, map, length, slice_get, All, refl, ap, ap₂, sym, ◌∙◌, subst, arith}
+use Rattle.std.proofs.Common.{◌≡◌, ◌≢◌, ◌⊎◌, ◌↔◌, ◌==◌, inl, inr, ℕ, zero, suc, ◌<◌, ◌+◌, ◌-◌, Option, Some, None, List, [], ◌∷◌, ◌++◌, map, length, slice_get, All, refl, ap, ap₂, sym, ◌∙◌, arith}
 use Rattle.std.proofs.lemmas.List.Elements.{All-weaker, All-cons, All-head, All-tail, All-append}
-use Rattle.psg_terms.specs.Terms.{Term, variable, symbol, applied}
+use Rattle.psg_terms.specs.Terms.{Term, symbol, applied}
 use Rattle.psg_terms.specs.Sizes.{size, sizes}
 use Rattle.psg_terms.specs.Instances.{substitute}
 use Rattle.psg_terms.specs.Relations.{IsIn, first, later}
@@ -47,12 +47,12 @@ module _ (kept : Kept) (sound : IsSound kept) (height : CellId → ℕ) (falls :
         sol id s.0 s.1 ∙ general n s.0 (omega (arith, l, a)) (over_at kept.cells kept.bindings id s.0 sound.over s.1).1 ∙ sym (ap (substitute (by_cells v)) (r.bound_cell id s.0 s.1))
     | inl t ↦ at_put id i t (slice_get kept.cells id.0) refl
         (All-both (λ x. height x < height id) (λ x. x.0 < id.0) (λ x. v x ≡ substitute (by_cells v) (read x))
-          (λ x l m. general n x (omega (arith, l, a)) (omega (arith, m, i))) (arguments_of kept.cells id) (falls.con id) (sound.arguments id))
+        (λ x l m. general n x (omega (arith, l, a)) (omega (arith, m, i))) (arguments_of kept.cells id) (falls.con id) (sound.arguments id))
   ]
 
 -- guarded equations hold once nothing is left
 pub closed : (v : Reading) (apart : List Equation) → IsGuarded v apart [] → (n : ℕ) → EqualsBelow n v apart
-closed v apart g zero = All-weaker (λ (p : Equation). Unit {0}) (HoldsBelow 0 v) (λ p u l. elim l [ | inl k ↦ absurd (omega (arith, k)) | inr k ↦ absurd (omega (arith, k)) ]) apart (λ k d l. tt)
+closed v apart g zero = All-weaker (λ (p : Equation). Unit {0}) (HoldsBelow 0 v) (λ p u l. elim l [ inl k ↦ absurd (omega (arith, k)) | inr k ↦ absurd (omega (arith, k)) ]) apart (λ k d l. tt)
 closed v apart g (suc n) = g n (closed v apart g n) (λ k d l. absurd (omega (arith, l)))
 
 pub all_closed : (v : Reading) (apart : List Equation) → IsGuarded v apart [] → Equals v apart
@@ -61,8 +61,8 @@ all_closed v apart g = at_each apart (λ n. closed v apart g n) where
   at_each [] h = λ k d l. absurd (omega (arith, l))
   at_each (x ∷ xs) h =
       All-cons (λ (p : Equation). v p.0 ≡ v p.1) x xs
-        (All-head (HoldsBelow (suc (size (v x.0))) v) x xs (h (suc (size (v x.0)))) (inl (omega arith)))
-        (at_each xs (λ n. All-tail (HoldsBelow n v) x xs (h n)))
+      (All-head (HoldsBelow (suc (size (v x.0))) v) x xs (h (suc (size (v x.0)))) (inl (omega arith)))
+      (at_each xs (λ n. All-tail (HoldsBelow n v) x xs (h n)))
 
 sides_equal : (v : Reading) (n : ℕ) (xs ys : List CellId) → length xs ≡ length ys → (sizes (map v xs) < n) ⊎ (sizes (map v ys) < n) → EqualsBelow n v (pairs_of xs ys) → map v xs ≡ map v ys
 sides_equal v n [] [] e l h = refl
@@ -70,8 +70,8 @@ sides_equal v n [] (y ∷ ys) e l h = absurd (omega (arith, e))
 sides_equal v n (x ∷ xs) [] e l h = absurd (omega (arith, e))
 sides_equal v n (x ∷ xs) (y ∷ ys) e l h =
     ap₂ (λ t ts. t ∷ ts)
-      (All-head (HoldsBelow n v) (x, y) (pairs_of xs ys) h (elim l [ | inl k ↦ inl (omega (arith, k)) | inr k ↦ inr (omega (arith, k)) ]))
-      (sides_equal v n xs ys (omega (arith, e)) (elim l [ | inl k ↦ inl (omega (arith, k)) | inr k ↦ inr (omega (arith, k)) ]) (All-tail (HoldsBelow n v) (x, y) (pairs_of xs ys) h))
+    (All-head (HoldsBelow n v) (x, y) (pairs_of xs ys) h (elim l [ inl k ↦ inl (omega (arith, k)) | inr k ↦ inr (omega (arith, k)) ]))
+    (sides_equal v n xs ys (omega (arith, e)) (elim l [ inl k ↦ inl (omega (arith, k)) | inr k ↦ inr (omega (arith, k)) ]) (All-tail (HoldsBelow n v) (x, y) (pairs_of xs ys) h))
 
 below_front : (v : Reading) (n : ℕ) (xs ys : List Equation) → EqualsBelow n v (xs ++ ys) → EqualsBelow n v xs × EqualsBelow n v ys
 below_front v n [] ys h = (λ k d l. absurd (omega (arith, l)), h)
@@ -87,11 +87,11 @@ taken_apart cells v a b c xs ys apart left val ea eb e g n ha hl =
     let P : Equation → Type 0 = HoldsBelow n v in
     let parts = below_front v n (pairs_of xs ys) left hl in
     All-cons (HoldsBelow (suc n) v) (a, b) apart
-      (λ l. val a c xs ea ∙ ap (applied (symbol c)) (sides_equal v n xs ys e (elim l [
-        | inl m ↦ (let k = size-con (v a) c (map v xs) (val a c xs ea) in inl (omega (arith, k, m)))
-        | inr m ↦ (let k = size-con (v b) c (map v ys) (val b c ys eb) in inr (omega (arith, k, m)))
-      ]) parts.0) ∙ sym (val b c ys eb))
-      (g n (All-tail P (a, b) apart ha) (All-cons P (a, b) left (All-head P (a, b) apart ha) parts.1))
+    (λ l. val a c xs ea ∙ ap (applied (symbol c)) (sides_equal v n xs ys e (elim l [
+      | inl m ↦ (let k = size-con (v a) c (map v xs) (val a c xs ea) in inl (omega (arith, k, m)))
+      | inr m ↦ (let k = size-con (v b) c (map v ys) (val b c ys eb) in inr (omega (arith, k, m)))
+    ]) parts.0) ∙ sym (val b c ys eb))
+    (g n (All-tail P (a, b) apart ha) (All-cons P (a, b) left (All-head P (a, b) apart ha) parts.1))
 
 -- an argument is smaller than its constructor cell, so no valuation closes a circle through one
 pub smaller : (cells : List Put) (v : Reading) (id : CellId) (c : ℕ) (args : List CellId) → IsValuation cells v → slice_get cells id.0 ≡ Some (constructor c args)
@@ -118,14 +118,17 @@ pub state_ends : (cells : List Put) (old : List Binding) (asked : List Equation)
     → IsState cells old asked bs apart ((a, b) ∷ left) → IsState cells old asked bs apart ((x, y) ∷ left)
 state_ends cells old asked bs apart left a b x y ea eb st = record {
   to = λ v val past e.
-    let o = st.to v val past e in
-    (o.0, o.1, All-cons (λ (p : Equation). v p.0 ≡ v p.1) (x, y) left
-      (sym (ea v val o.0) ∙ All-head (λ (p : Equation). v p.0 ≡ v p.1) (a, b) left o.2 ∙ eb v val o.0) (All-tail (λ (p : Equation). v p.0 ≡ v p.1) (a, b) left o.2));
+      let o = st.to v val past e in (
+        o.0,
+        o.1,
+        All-cons (λ (p : Equation). v p.0 ≡ v p.1) (x, y) left
+            (sym (ea v val o.0) ∙ All-head (λ (p : Equation). v p.0 ≡ v p.1) (a, b) left o.2 ∙ eb v val o.0) (All-tail (λ (p : Equation). v p.0 ≡ v p.1) (a, b) left o.2),
+      );
   back = λ v val sol ha hl. st.back v val sol ha
-    (All-cons (λ (p : Equation). v p.0 ≡ v p.1) (a, b) left (ea v val sol ∙ All-head (λ (p : Equation). v p.0 ≡ v p.1) (x, y) left hl ∙ sym (eb v val sol))
+      (All-cons (λ (p : Equation). v p.0 ≡ v p.1) (a, b) left (ea v val sol ∙ All-head (λ (p : Equation). v p.0 ≡ v p.1) (x, y) left hl ∙ sym (eb v val sol))
       (All-tail (λ (p : Equation). v p.0 ≡ v p.1) (x, y) left hl));
   guarded = λ v val sol n ha hl. st.guarded v val sol n ha
-    (All-cons (HoldsBelow n v) (a, b) left
+      (All-cons (HoldsBelow n v) (a, b) left
       (λ l. ea v val sol ∙ All-head (HoldsBelow n v) (x, y) left hl (elim l [
         | inl m ↦ (let k = ap size (ea v val sol) in inl (omega (arith, k, m)))
         | inr m ↦ (let k = ap size (eb v val sol) in inr (omega (arith, k, m)))
@@ -139,13 +142,15 @@ pub state_apart : (cells : List Put) (old : List Binding) (asked : List Equation
     → IsState cells old asked bs apart ((a, b) ∷ left) → IsState cells old asked bs ((a, b) ∷ apart) (pairs_of xs ys ++ left)
 state_apart cells old asked bs apart left a b c xs ys ea eb e st = record {
   to = λ v val past h.
-    let o = st.to v val past h in
-    let ab : v a ≡ v b = All-head (λ (p : Equation). v p.0 ≡ v p.1) (a, b) left o.2 in
-    let rows = same_arguments c c (map v xs) (map v ys) (sym (val a c xs ea) ∙ ab ∙ val b c ys eb) in
-    (o.0, All-cons (λ (p : Equation). v p.0 ≡ v p.1) (a, b) apart ab o.1,
-      All-append (λ (p : Equation). v p.0 ≡ v p.1) (pairs_of xs ys) left (sides_of v xs ys rows) (All-tail (λ (p : Equation). v p.0 ≡ v p.1) (a, b) left o.2));
+      let o = st.to v val past h in
+      let ab : v a ≡ v b = All-head (λ (p : Equation). v p.0 ≡ v p.1) (a, b) left o.2 in
+      let rows = same_arguments c c (map v xs) (map v ys) (sym (val a c xs ea) ∙ ab ∙ val b c ys eb) in (
+        o.0,
+        All-cons (λ (p : Equation). v p.0 ≡ v p.1) (a, b) apart ab o.1,
+        All-append (λ (p : Equation). v p.0 ≡ v p.1) (pairs_of xs ys) left (sides_of v xs ys rows) (All-tail (λ (p : Equation). v p.0 ≡ v p.1) (a, b) left o.2),
+      );
   back = λ v val sol ha hl. st.back v val sol (All-tail (λ (p : Equation). v p.0 ≡ v p.1) (a, b) apart ha)
-    (All-cons (λ (p : Equation). v p.0 ≡ v p.1) (a, b) left (All-head (λ (p : Equation). v p.0 ≡ v p.1) (a, b) apart ha) (behind v (pairs_of xs ys) left hl));
+      (All-cons (λ (p : Equation). v p.0 ≡ v p.1) (a, b) left (All-head (λ (p : Equation). v p.0 ≡ v p.1) (a, b) apart ha) (behind v (pairs_of xs ys) left hl));
   guarded = λ v val sol. taken_apart cells v a b c xs ys apart left val ea eb e (st.guarded v val sol);
 } where
   sides_of : (v : Reading) (xs ys : List CellId) → map v xs ≡ map v ys → Equals v (pairs_of xs ys)
@@ -155,6 +160,7 @@ state_apart cells old asked bs apart left a b c xs ys ea eb e st = record {
       let one : v x ≡ v y = cc in
       let rest : map v xs ≡ map v ys = cc in
       All-cons (λ (p : Equation). v p.0 ≡ v p.1) (x, y) (pairs_of xs ys) one (sides_of v xs ys rest)
+
   behind : (v : Reading) (xs ys : List Equation) → Equals v (xs ++ ys) → Equals v ys
   behind v [] ys h = h
   behind v (x ∷ xs) ys h = behind v xs ys (All-tail (λ (p : Equation). v p.0 ≡ v p.1) x (xs ++ ys) h)
@@ -162,8 +168,10 @@ state_apart cells old asked bs apart left a b c xs ys ea eb e st = record {
 -- a valuation that solves one binding more
 pub solves_more : (bs : List Binding) (b : Binding) (v : Reading) → target_of bs b.bound ≡ None → Solves (bs ++ b ∷ []) v ↔ (Solves bs v × (v b.bound ≡ v b.target))
 solves_more bs b v n = (
-  λ s. (λ id to e. s id to (target_of-append bs (b ∷ []) id to e),
-    s b.bound b.target (target_of-append_none bs (b ∷ []) b.bound n ∙ target_of_here b [] b.bound refl)),
+  λ s. (
+    λ id to e. s id to (target_of-append bs (b ∷ []) id to e),
+    s b.bound b.target (target_of-append_none bs (b ∷ []) b.bound n ∙ target_of_here b [] b.bound refl),
+  ),
   λ p id to e. elim (some_or_none (target_of bs id)) [
     | inr s ↦ (let x : Some s.0 ≡ Some to = sym (target_of-append bs (b ∷ []) id s.0 s.1) ∙ e in let same : s.0 ≡ to = cc in p.0 id s.0 s.1 ∙ ap v same)
     | inl o ↦ elim (either (b.bound.0 == id.0)) [
@@ -174,19 +182,20 @@ solves_more bs b v n = (
           ap (λ (k : ℕ). v (record { 0 = k })) (sym (eqb-true b.bound.0 id.0 t)) ∙ p.1 ∙ ap v same)
       | inr f ↦ (let x : None ≡ Some to = sym (target_of_there b [] id f) ∙ sym (target_of-append_none bs (b ∷ []) id o) ∙ e in cc)
     ]
-  ])
+  ],
+)
 
 -- a free cell is bound
 pub state_bound : (cells : List Put) (old : List Binding) (asked : List Equation) (bs : List Binding) (apart left : List Equation) (b : Binding) → target_of bs b.bound ≡ None
     → IsState cells old asked bs apart ((b.bound, b.target) ∷ left) → IsState cells old asked (bs ++ b ∷ []) apart left
 state_bound cells old asked bs apart left b n st = record {
   to = λ v val past h.
-    let o = st.to v val past h in
-    ((solves_more bs b v n).1 (o.0, All-head (λ (p : Equation). v p.0 ≡ v p.1) (b.bound, b.target) left o.2), o.1, All-tail (λ (p : Equation). v p.0 ≡ v p.1) (b.bound, b.target) left o.2);
+      let o = st.to v val past h in
+      ((solves_more bs b v n).1 (o.0, All-head (λ (p : Equation). v p.0 ≡ v p.1) (b.bound, b.target) left o.2), o.1, All-tail (λ (p : Equation). v p.0 ≡ v p.1) (b.bound, b.target) left o.2);
   back = λ v val sol ha hl. let k = (solves_more bs b v n).0 sol in st.back v val k.0 ha (All-cons (λ (p : Equation). v p.0 ≡ v p.1) (b.bound, b.target) left k.1 hl);
   guarded = λ v val sol m ha hl.
-    let k = (solves_more bs b v n).0 sol in
-    st.guarded v val k.0 m ha (All-cons (HoldsBelow m v) (b.bound, b.target) left (λ l. k.1) hl);
+      let k = (solves_more bs b v n).0 sol in
+      st.guarded v val k.0 m ha (All-cons (HoldsBelow m v) (b.bound, b.target) left (λ l. k.1) hl);
 }
 
 -- a member of a list for which something holds

@@ -1,5 +1,5 @@
 -- The clauses of a join of rows follow from those of solving in a pool and of reading.
-use Rattle.std.proofs.Common.{◌≡◌, ℕ, ◌↔◌, List, ◌++◌, map, refl}
+use Rattle.std.proofs.Common.{ℕ, ◌↔◌, List, ◌++◌, map, refl}
 use Rattle.psg_terms.specs.Terms.{Term}
 use Rattle.psg_terms.specs.Signature.{Signature, HaveSorts}
 use Rattle.psg_terms.specs.Sound.{IsSound as IsSoundSignature}

@@ -1,6 +1,6 @@
 -- What keeps a pool fitting, and what it reads as.
-use Rattle.std.proofs.Common.{◌≡◌, ◌≢◌, ◌⊎◌, inl, inr, ℕ, zero, suc, ◌<◌, ◌≤◌, ◌==◌, ◌+◌, Bool, true, false, cond, Option, Some, None, List, [], ◌∷◌, ◌++◌, map, length, take, slice_get, All, refl, ap, ap₂, sym, ◌∙◌, subst, arith, length-append}
-use Rattle.std.proofs.lemmas.Bool.{eqb-true, eqb-false}
+use Rattle.std.proofs.Common.{◌≡◌, inl, inr, ℕ, zero, suc, ◌<◌, ◌==◌, ◌+◌, Option, Some, None, List, [], ◌∷◌, ◌++◌, map, length, take, slice_get, All, refl, ap, ap₂, sym, ◌∙◌, subst, arith, length-append}
+use Rattle.std.proofs.lemmas.Bool.{eqb-true}
 use Rattle.std.proofs.lemmas.List.Elements.{All-weaker, All-cons, All-head, All-tail, All-push, All-take}
 use Rattle.psg_terms.specs.Terms.{Term, variable, symbol, applied}
 use Rattle.psg_pool.specs.declared.cells.CellId.{CellId}
@@ -108,12 +108,12 @@ module _ (kept : Kept) (height : CellId → ℕ) (falls : Falls kept height) whe
   steady (suc n) zero id a b = absurd (omega (arith, b))
   steady (suc n) (suc m) id a b =
       as_bound-same (read_within n kept) (read_within m kept)
-        (as_put (read_within n kept) id (slice_get kept.cells id.0)) (as_put (read_within m kept) id (slice_get kept.cells id.0))
-        (target_of kept.bindings id)
-        (λ to e. let l = falls.bound id to e in steady n m to (omega (arith, l, a)) (omega (arith, l, b)))
-        (λ e. as_put-same (read_within n kept) (read_within m kept) id (slice_get kept.cells id.0)
-          (All-weaker (λ x. height x < height id) (λ x. read_within n kept x ≡ read_within m kept x)
-            (λ x l. steady n m x (omega (arith, l, a)) (omega (arith, l, b))) (arguments_of kept.cells id) (falls.con id)))
+      (as_put (read_within n kept) id (slice_get kept.cells id.0)) (as_put (read_within m kept) id (slice_get kept.cells id.0))
+      (target_of kept.bindings id)
+      (λ to e. let l = falls.bound id to e in steady n m to (omega (arith, l, a)) (omega (arith, l, b)))
+      (λ e. as_put-same (read_within n kept) (read_within m kept) id (slice_get kept.cells id.0)
+      (All-weaker (λ x. height x < height id) (λ x. read_within n kept x ≡ read_within m kept x)
+      (λ x l. steady n m x (omega (arith, l, a)) (omega (arith, l, b))) (arguments_of kept.cells id) (falls.con id)))
 
   abbrev pub read_by : Reading
   read_by id = read_within (suc (height id)) kept id
@@ -125,18 +125,18 @@ module _ (kept : Kept) (height : CellId → ℕ) (falls : Falls kept height) whe
   pub has_reading : IsSound kept → IsReading kept read_by
   has_reading sound = record {
     open_cell = λ id s e n.
-      ap (as_bound (read_within (height id) kept) (as_put (read_within (height id) kept) id (slice_get kept.cells id.0))) n
-      ∙ ap (as_put (read_within (height id) kept) id) e;
+        ap (as_bound (read_within (height id) kept) (as_put (read_within (height id) kept) id (slice_get kept.cells id.0))) n
+        ∙ ap (as_put (read_within (height id) kept) id) e;
     bound_cell = λ id to e.
-      let l = falls.bound id to e in
-      ap (as_bound (read_within (height id) kept) (as_put (read_within (height id) kept) id (slice_get kept.cells id.0))) e
-      ∙ steady (height id) (suc (height to)) to l (omega arith);
+        let l = falls.bound id to e in
+        ap (as_bound (read_within (height id) kept) (as_put (read_within (height id) kept) id (slice_get kept.cells id.0))) e
+        ∙ steady (height id) (suc (height to)) to l (omega arith);
     con_cell = λ id c args e.
-      ap (as_bound (read_within (height id) kept) (as_put (read_within (height id) kept) id (slice_get kept.cells id.0))) (con_unbound kept sound id c args e)
-      ∙ ap (as_put (read_within (height id) kept) id) e
-      ∙ ap (applied (symbol c)) (map-same (read_within (height id) kept) read_by args
-          (All-weaker (λ x. height x < height id) (λ x. read_within (height id) kept x ≡ read_by x)
-            (λ x l. steady (height id) (suc (height x)) x l (omega arith)) args (args_in id c args e)));
+        ap (as_bound (read_within (height id) kept) (as_put (read_within (height id) kept) id (slice_get kept.cells id.0))) (con_unbound kept sound id c args e)
+        ∙ ap (as_put (read_within (height id) kept) id) e
+        ∙ ap (applied (symbol c)) (map-same (read_within (height id) kept) read_by args
+        (All-weaker (λ x. height x < height id) (λ x. read_within (height id) kept x ≡ read_by x)
+        (λ x l. steady (height id) (suc (height x)) x l (omega arith)) args (args_in id c args e)));
   }
 
   module _ (read : Reading) (r : IsReading kept read) (sound : IsSound kept) where
@@ -150,11 +150,11 @@ module _ (kept : Kept) (height : CellId → ℕ) (falls : Falls kept height) whe
     only_reading zero id a i = absurd (omega (arith, a))
     only_reading (suc n) id a i =
         as_bound-is (read id) (read_within n kept) (as_put (read_within n kept) id (slice_get kept.cells id.0)) (target_of kept.bindings id)
-          (λ to e. r.bound_cell id to e ∙ only_reading n to (let l = falls.bound id to e in omega (arith, l, a)) (over_at kept.cells kept.bindings id to sound.over e).1)
-          (λ t. by_put id i t (slice_get kept.cells id.0) refl
-            ∙ as_put-same read (read_within n kept) id (slice_get kept.cells id.0)
-              (All-both (λ x. height x < height id) (λ x. x.0 < id.0) (λ x. read x ≡ read_within n kept x)
-                (λ x l m. only_reading n x (omega (arith, l, a)) (omega (arith, m, i))) (arguments_of kept.cells id) (falls.con id) (sound.arguments id)))
+        (λ to e. r.bound_cell id to e ∙ only_reading n to (let l = falls.bound id to e in omega (arith, l, a)) (over_at kept.cells kept.bindings id to sound.over e).1)
+        (λ t. by_put id i t (slice_get kept.cells id.0) refl
+        ∙ as_put-same read (read_within n kept) id (slice_get kept.cells id.0)
+        (All-both (λ x. height x < height id) (λ x. x.0 < id.0) (λ x. read x ≡ read_within n kept x)
+        (λ x l m. only_reading n x (omega (arith, l, a)) (omega (arith, m, i))) (arguments_of kept.cells id) (falls.con id) (sound.arguments id)))
 
 -- what reads a pool reads it also without the cells that were put last
 pub reading_before : (kept : Kept) (more : List Put) (read : Reading) → IsReading (with_cells kept (kept.cells ++ more)) read → IsReading kept read
@@ -168,8 +168,8 @@ reading_before kept more read r = record {
 pub restored : (old new : Kept) → IsGrown old new → cut (length old.cells) (length old.bindings) new ≡ old
 restored old new g =
     ap₂ (λ c b. record { cells = c; bindings = b })
-      (ap (take (length old.cells)) g.cells_are ∙ take-all-append old.cells g.cells)
-      (ap (take (length old.bindings)) g.bindings_are ∙ take-all-append old.bindings g.bindings)
+    (ap (take (length old.cells)) g.cells_are ∙ take-all-append old.cells g.cells)
+    (ap (take (length old.bindings)) g.bindings_are ∙ take-all-append old.bindings g.bindings)
 
 -- and it may be released so
 pub releasable : (old new : Kept) (mark : Lengths) → IsReleasable old mark → mark.cells ≡ length old.cells → mark.bindings ≡ length old.bindings → IsGrown old new → IsReleasable new mark
@@ -177,7 +177,7 @@ releasable old new mark r c b g = record {
   cells = let e = ap (λ (l : List Put). length l) g.cells_are in omega (arith, c, e, length-append old.cells g.cells);
   bindings = let e = ap (λ (l : List Binding). length l) g.bindings_are in omega (arith, b, e, length-append old.bindings g.bindings);
   stay = subst (All (λ (b : Binding). (b.bound.0 < mark.cells) × (b.target.0 < mark.cells)))
-    (ap (λ n. take n old.bindings) b ∙ take-itself old.bindings ∙ sym (take-all-append old.bindings g.bindings)
+      (ap (λ n. take n old.bindings) b ∙ take-itself old.bindings ∙ sym (take-all-append old.bindings g.bindings)
       ∙ ap (λ n. take n (old.bindings ++ g.bindings)) (sym b) ∙ ap (take mark.bindings) (sym g.bindings_are)) r.stay;
 }
 
@@ -203,12 +203,12 @@ put-append sig cells more (constructor c args) (s, e, h) = (s, e, sorts-append s
 
 -- without bindings of the new cells, a pool with more cells that fall fits
 pub fits_more : (sig : Signature) (kept : Kept) (p : Put) (height : CellId → ℕ) → Fits sig kept → IsPutOf sig kept.cells p
-  → All (IsOfOneSort sig (kept.cells ++ p ∷ [])) kept.bindings → Falls (with_cells kept (kept.cells ++ p ∷ [])) height
-  → Fits sig (with_cells kept (kept.cells ++ p ∷ []))
+    → All (IsOfOneSort sig (kept.cells ++ p ∷ [])) kept.bindings → Falls (with_cells kept (kept.cells ++ p ∷ [])) height
+    → Fits sig (with_cells kept (kept.cells ++ p ∷ []))
 fits_more sig kept p height f h s falls = record {
   puts = All-push (IsPutOf sig (kept.cells ++ p ∷ [])) kept.cells p
-    (All-weaker (IsPutOf sig kept.cells) (IsPutOf sig (kept.cells ++ p ∷ [])) (put-append sig kept.cells (p ∷ [])) kept.cells f.puts)
-    (put-append sig kept.cells (p ∷ []) p h);
+      (All-weaker (IsPutOf sig kept.cells) (IsPutOf sig (kept.cells ++ p ∷ [])) (put-append sig kept.cells (p ∷ [])) kept.cells f.puts)
+      (put-append sig kept.cells (p ∷ []) p h);
   sorts = s;
   height = height;
   falls = falls;
@@ -225,12 +225,12 @@ one_sort-append sig cells more b s e h = sort_at-append sig cells more b.bound s
 pub fits_free : (sig : Signature) (kept : Kept) (s : ℕ) → IsSound kept → Fits sig kept → s < length sig.sorts → Fits sig (with_cells kept (kept.cells ++ free s ∷ []))
 fits_free sig kept s sound f h =
     fits_more sig kept (free s) f.height f h
-      (All-both (IsOver kept.cells) (IsOfOneSort sig kept.cells) (IsOfOneSort sig (kept.cells ++ free s ∷ []))
-        (λ b o e. one_sort-append sig kept.cells (free s ∷ []) b o.0.0 (ap (sort_in sig) o.0.1) e) kept.bindings sound.over f.sorts)
-      (record {
-        bound = f.falls.bound;
-        con = λ id. subst (All (λ a. f.height a < f.height id)) (sym (free_arguments kept.cells s id)) (f.falls.con id);
-      })
+    (All-both (IsOver kept.cells) (IsOfOneSort sig kept.cells) (IsOfOneSort sig (kept.cells ++ free s ∷ []))
+    (λ b o e. one_sort-append sig kept.cells (free s ∷ []) b o.0.0 (ap (sort_in sig) o.0.1) e) kept.bindings sound.over f.sorts)
+    (record {
+      bound = f.falls.bound;
+      con = λ id. subst (All (λ a. f.height a < f.height id)) (sym (free_arguments kept.cells s id)) (f.falls.con id);
+    })
 
 -- fewer bindings fit
 pub fits_fewer : (sig : Signature) (kept : Kept) (bs more : List Binding) → kept.bindings ≡ bs ++ more → Fits sig kept → Fits sig (with_bindings kept bs)
@@ -264,6 +264,7 @@ fits_empty sig = record {
 } where
   none_some : (id to : CellId) → target_of [] id ≡ Some to → ⊥
   none_some id to e = cc
+
   nothing : (id : CellId) (k : ℕ) → k < length (arguments_of [] id) → ⊥
   nothing id k l = omega (arith, l)
 
@@ -275,6 +276,7 @@ read_sorts sig cells read [] (n ∷ ns) e h = cc
 read_sorts sig cells read (a ∷ args) [] e h = cc
 read_sorts sig cells read (a ∷ args) (n ∷ ns) e h =
     let here : sort_at sig cells a ≡ Some n = cc in
-    let rest : map (sort_at sig cells) args ≡ map (λ (n : ℕ). Some n) ns = cc in
-    (All-head (λ x. (s : ℕ) → sort_at sig cells x ≡ Some s → HasSort sig (read x) s) a args h n here,
-      read_sorts sig cells read args ns rest (All-tail (λ x. (s : ℕ) → sort_at sig cells x ≡ Some s → HasSort sig (read x) s) a args h))
+    let rest : map (sort_at sig cells) args ≡ map (λ (n : ℕ). Some n) ns = cc in (
+      All-head (λ x. (s : ℕ) → sort_at sig cells x ≡ Some s → HasSort sig (read x) s) a args h n here,
+      read_sorts sig cells read args ns rest (All-tail (λ x. (s : ℕ) → sort_at sig cells x ≡ Some s → HasSort sig (read x) s) a args h),
+    )

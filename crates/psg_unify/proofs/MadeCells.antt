@@ -1,5 +1,5 @@
 -- A constructor cell over cells of its arguments' sorts keeps a pool fitting.
-use Rattle.std.proofs.Common.{◌≡◌, ◌≢◌, ◌⊎◌, inl, inr, ℕ, zero, suc, ◌<◌, ◌≤◌, ◌==◌, ◌+◌, Bool, true, false, cond, max, Option, Some, None, List, [], ◌∷◌, ◌++◌, map, length, slice_get, All, refl, ap, ap₂, sym, ◌∙◌, subst, arith, length-append, append-nil}
+use Rattle.std.proofs.Common.{◌≡◌, ◌⊎◌, inl, inr, ℕ, zero, suc, ◌<◌, ◌==◌, cond, max, Some, List, [], ◌∷◌, ◌++◌, map, length, slice_get, All, refl, ap, ap₂, sym, ◌∙◌, subst, arith, append-nil}
 use Rattle.std.proofs.lemmas.Bool.{eqb-true, eqb-false}
 use Rattle.std.proofs.lemmas.Option.{slice_get_within}
 use Rattle.std.proofs.lemmas.List.Elements.{All-weaker, All-cons, All-head, All-tail}
@@ -11,7 +11,7 @@ use Rattle.psg_pool.specs.Cells.{Put, free, constructor, IsAmong, arguments_in, 
 use Rattle.psg_pool.specs.Bindings.{Kept, target_of, IsSound, IsOver}
 use Rattle.psg_pool.proofs.Places.{either, some_or_none}
 use Rattle.psg_unify.specs.Reading.{Reading, IsReading}
-use Rattle.psg_unify.specs.Fitting.{Fits, Falls, IsPutOf, IsOfOneSort, sort_at, sort_in}
+use Rattle.psg_unify.specs.Fitting.{Fits, IsPutOf, IsOfOneSort, sort_at, sort_in}
 use Rattle.psg_unify.proofs.Laws.{with_cells, over_at, All-both, fits_more, one_sort-append}
 use Rattle.psg_unify.proofs.SortsRead.{has_a_sort, cell_sorts}
 
@@ -46,7 +46,7 @@ below_top : (h : CellId → ℕ) (xs : List CellId) → All (λ x. h x < top_of 
 below_top h [] = λ k d l. absurd (omega (arith, l))
 below_top h (x ∷ xs) =
     All-cons (λ y. h y < top_of h (x ∷ xs)) x xs (omega arith)
-      (All-weaker (λ y. h y < top_of h xs) (λ y. h y < top_of h (x ∷ xs)) (λ y l. omega (arith, l)) xs (below_top h xs))
+    (All-weaker (λ y. h y < top_of h xs) (λ y. h y < top_of h (x ∷ xs)) (λ y l. omega (arith, l)) xs (below_top h xs))
 
 -- the heights with another one for one cell
 abbrev raised : (CellId → ℕ) → ℕ → ℕ → CellId → ℕ
@@ -75,36 +75,37 @@ pub fits_con : (sig : Signature) (kept : Kept) (c : ℕ) (args : List CellId) �
     → Fits sig (with_cells kept (kept.cells ++ constructor c args ∷ []))
 fits_con sig kept c args sound f p among =
     fits_more sig kept (constructor c args) (raised f.height (length kept.cells) (top_of f.height args)) f p
-      (All-both (IsOver kept.cells) (IsOfOneSort sig kept.cells) (IsOfOneSort sig (kept.cells ++ constructor c args ∷ []))
-        (λ b o e. one_sort-append sig kept.cells (constructor c args ∷ []) b o.0.0 (ap (sort_in sig) o.0.1) e) kept.bindings sound.over f.sorts)
-      (record { bound = bound; con = con }) where
-        bound : (id to : CellId) → target_of kept.bindings id ≡ Some to → raised f.height (length kept.cells) (top_of f.height args) to < raised f.height (length kept.cells) (top_of f.height args) id
-        bound id to e =
-            let o = over_at kept.cells kept.bindings id to sound.over e in
-            let i = raised_other f.height (length kept.cells) (top_of f.height args) id (slice_get_within kept.cells id.0 (free o.0.0) o.0.1) in
-            let t = raised_other f.height (length kept.cells) (top_of f.height args) to o.1 in
-            let l = f.falls.bound id to e in
-            omega (arith, i, t, l)
-        con : (id : CellId) → All (λ a. raised f.height (length kept.cells) (top_of f.height args) a < raised f.height (length kept.cells) (top_of f.height args) id) (arguments_of (kept.cells ++ constructor c args ∷ []) id)
-        con id = elim (arguments_either kept.cells (constructor c args) id.0) [
-          | inl h ↦ subst (All (λ a. raised f.height (length kept.cells) (top_of f.height args) a < raised f.height (length kept.cells) (top_of f.height args) id)) (sym h.1)
-              (All-both (IsAmong kept.cells) (λ a. f.height a < top_of f.height args) (λ a. raised f.height (length kept.cells) (top_of f.height args) a < raised f.height (length kept.cells) (top_of f.height args) id)
-                (λ a i l.
-                  let here = raised_here f.height (length kept.cells) (top_of f.height args) id h.0 in
-                  let other = raised_other f.height (length kept.cells) (top_of f.height args) a i in
-                  omega (arith, here, other, l)) args among (below_top f.height args))
-          | inr h ↦ subst (All (λ a. raised f.height (length kept.cells) (top_of f.height args) a < raised f.height (length kept.cells) (top_of f.height args) id)) (sym h)
-              (older id)
-        ] where
-          older : (id : CellId) → All (λ a. raised f.height (length kept.cells) (top_of f.height args) a < raised f.height (length kept.cells) (top_of f.height args) id) (arguments_of kept.cells id)
-          older id = elim (within_or_none kept.cells id) [
-            | inl l ↦ All-both (λ a. a.0 < id.0) (λ a. f.height a < f.height id) (λ a. raised f.height (length kept.cells) (top_of f.height args) a < raised f.height (length kept.cells) (top_of f.height args) id)
-                (λ a m k.
-                  let i = raised_other f.height (length kept.cells) (top_of f.height args) id l in
-                  let o = raised_other f.height (length kept.cells) (top_of f.height args) a (omega (arith, m, l)) in
-                  omega (arith, i, o, k)) (arguments_of kept.cells id) (sound.arguments id) (f.falls.con id)
-            | inr n ↦ subst (All (λ a. raised f.height (length kept.cells) (top_of f.height args) a < raised f.height (length kept.cells) (top_of f.height args) id)) (sym n) (λ k d l. absurd (omega (arith, l)))
-          ]
+    (All-both (IsOver kept.cells) (IsOfOneSort sig kept.cells) (IsOfOneSort sig (kept.cells ++ constructor c args ∷ []))
+    (λ b o e. one_sort-append sig kept.cells (constructor c args ∷ []) b o.0.0 (ap (sort_in sig) o.0.1) e) kept.bindings sound.over f.sorts)
+    (record { bound = bound; con = con }) where
+      bound : (id to : CellId) → target_of kept.bindings id ≡ Some to → raised f.height (length kept.cells) (top_of f.height args) to < raised f.height (length kept.cells) (top_of f.height args) id
+      bound id to e =
+          let o = over_at kept.cells kept.bindings id to sound.over e in
+          let i = raised_other f.height (length kept.cells) (top_of f.height args) id (slice_get_within kept.cells id.0 (free o.0.0) o.0.1) in
+          let t = raised_other f.height (length kept.cells) (top_of f.height args) to o.1 in
+          let l = f.falls.bound id to e in
+          omega (arith, i, t, l)
+
+      con : (id : CellId) → All (λ a. raised f.height (length kept.cells) (top_of f.height args) a < raised f.height (length kept.cells) (top_of f.height args) id) (arguments_of (kept.cells ++ constructor c args ∷ []) id)
+      con id = elim (arguments_either kept.cells (constructor c args) id.0) [
+        | inl h ↦ subst (All (λ a. raised f.height (length kept.cells) (top_of f.height args) a < raised f.height (length kept.cells) (top_of f.height args) id)) (sym h.1)
+            (All-both (IsAmong kept.cells) (λ a. f.height a < top_of f.height args) (λ a. raised f.height (length kept.cells) (top_of f.height args) a < raised f.height (length kept.cells) (top_of f.height args) id)
+            (λ a i l.
+            let here = raised_here f.height (length kept.cells) (top_of f.height args) id h.0 in
+            let other = raised_other f.height (length kept.cells) (top_of f.height args) a i in
+            omega (arith, here, other, l)) args among (below_top f.height args))
+        | inr h ↦ subst (All (λ a. raised f.height (length kept.cells) (top_of f.height args) a < raised f.height (length kept.cells) (top_of f.height args) id)) (sym h)
+            (older id)
+      ] where
+        older : (id : CellId) → All (λ a. raised f.height (length kept.cells) (top_of f.height args) a < raised f.height (length kept.cells) (top_of f.height args) id) (arguments_of kept.cells id)
+        older id = elim (within_or_none kept.cells id) [
+          | inl l ↦ All-both (λ a. a.0 < id.0) (λ a. f.height a < f.height id) (λ a. raised f.height (length kept.cells) (top_of f.height args) a < raised f.height (length kept.cells) (top_of f.height args) id)
+              (λ a m k.
+              let i = raised_other f.height (length kept.cells) (top_of f.height args) id l in
+              let o = raised_other f.height (length kept.cells) (top_of f.height args) a (omega (arith, m, l)) in
+              omega (arith, i, o, k)) (arguments_of kept.cells id) (sound.arguments id) (f.falls.con id)
+          | inr n ↦ subst (All (λ a. raised f.height (length kept.cells) (top_of f.height args) a < raised f.height (length kept.cells) (top_of f.height args) id)) (sym n) (λ k d l. absurd (omega (arith, l)))
+        ]
 
 -- a term has one sort
 pub sort_once : (sig : Signature) (t : Term) (v w : List ℕ) (r s : ℕ) → Takes sig t v r → Takes sig t w s → (v ≡ w) × (r ≡ s)

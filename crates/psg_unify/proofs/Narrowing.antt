@@ -1,5 +1,5 @@
 -- Closed columns need not be solved.
-use Rattle.std.proofs.Common.{◌≡◌, inl, inr, ℕ, zero, suc, ◌<◌, ◌+◌, ◌↔◌, max, Option, Some, None, List, [], ◌∷◌, ◌++◌, map, length, slice_get, All, refl, ap, ap₂, sym, ◌∙◌, subst, arith}
+use Rattle.std.proofs.Common.{◌≡◌, inl, inr, ℕ, zero, suc, ◌<◌, ◌↔◌, Some, List, [], ◌∷◌, ◌++◌, map, length, slice_get, All, refl, ap, ap₂, sym, ◌∙◌, arith}
 use Rattle.std.proofs.lemmas.List.Elements.{All-head, All-tail}
 use Rattle.psg_terms.specs.Terms.{Term, variable, symbol, apply}
 use Rattle.psg_terms.specs.Instances.{Substitution, substitute}
@@ -48,7 +48,7 @@ agree_narrowed left right ls rs _ _ f g hl hr done = (λ a. a, λ a. a)
 agree_narrowed left right ls rs _ _ f g hl hr (equal p pairs inner t el er c rest) =
     let k = agree_narrowed left right ls rs pairs inner f g hl hr rest in
     let same : slice_get (map (substitute f) left) p.0 ≡ slice_get (map (substitute g) right) p.1 =
-      slice_get-map (substitute f) left p.0 t el ∙ ap (λ u. Some u) (substitute-closed f t c) ∙ sym (ap (λ u. Some u) (substitute-closed g t c)) ∙ sym (slice_get-map (substitute g) right p.1 t er) in
+    slice_get-map (substitute f) left p.0 t el ∙ ap (λ u. Some u) (substitute-closed f t c) ∙ sym (ap (λ u. Some u) (substitute-closed g t c)) ∙ sym (slice_get-map (substitute g) right p.1 t er) in
     (λ a. k.0 a.1, λ a. (same, k.1 a))
 agree_narrowed left right ls rs _ _ f g hl hr (solved p q pairs inner el er rest) =
     let k = agree_narrowed left right ls rs pairs inner f g hl hr rest in

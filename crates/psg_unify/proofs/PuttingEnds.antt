@@ -1,5 +1,5 @@
 -- The begin and the end of putting a row into a pool.
-use Rattle.std.proofs.Common.{◌≡◌, inl, inr, ℕ, zero, suc, ◌<◌, ◌≤◌, ◌+◌, ◌||◌, true, false, cond, if◌then◌else◌, Option, Some, None, List, [], ◌∷◌, ◌++◌, reverse, map, length, slice_get, All, refl, ap, ap₂, sym, ◌∙◌, subst, arith, append-nil, append_assoc}
+use Rattle.std.proofs.Common.{◌≡◌, inl, inr, ℕ, zero, suc, ◌<◌, ◌≤◌, ◌+◌, ◌||◌, true, false, cond, if◌then◌else◌, Some, None, List, [], ◌∷◌, ◌++◌, reverse, map, length, slice_get, All, refl, ap, ap₂, sym, ◌∙◌, subst, arith, append-nil, append_assoc}
 use Rattle.std.proofs.lemmas.List.{reverse-append, reverse-reverse}
 use Rattle.psg_terms.specs.Terms.{Term, variable, symbol, apply, applied}
 use Rattle.psg_terms.specs.Signature.{Signature, HaveSorts, only_constructor}
@@ -7,7 +7,7 @@ use Rattle.psg_terms.specs.Sound.{IsSound as IsSoundSignature}
 use Rattle.psg_terms.specs.Sizes.{size, sizes}
 use Rattle.psg_terms.specs.Instances.{substitute}
 use Rattle.psg_terms.specs.Canonical.{Variable, same_variable, variables_of, is_noted, noted, noted_all}
-use Rattle.psg_terms.specs.Renaming.{place, opens, open_first, numbering, Renumbered}
+use Rattle.psg_terms.specs.Renaming.{place, opens, open_first, numbering}
 use Rattle.psg_terms.specs.declared.sorts.ConId.{ConId}
 use Rattle.psg_terms.proofs.Nodes.{size-con}
 use Rattle.psg_terms.proofs.Variables.{cases, same_variable-true, true_false}
@@ -19,7 +19,6 @@ use Rattle.psg_pool.specs.Bindings.{Kept, IsSound}
 use Rattle.psg_pool.proofs.Soundness.{sound_put}
 use Rattle.psg_unify.specs.declared.making.Task.{Task}
 use Rattle.psg_unify.specs.declared.making.Task.TheVariants.{Whole, Make}
-use Rattle.psg_unify.specs.Reading.{Reading, IsReading}
 use Rattle.psg_unify.specs.Fitting.{Fits}
 use Rattle.psg_unify.specs.Putting.{frees, IsLonger, PutsKnown}
 use Rattle.psg_unify.specs.Making.{makes, work, IsPutting, IsPutRow}
@@ -86,9 +85,9 @@ module _ (sig : Signature) (old : Kept) (known : List Variable) (row : List Term
       → tasks ≡ map (λ (t : Term). Whole t) row → cells ≡ [] → IsPutting sig old known row now tasks cells
   put_begins now tasks cells ss signature h sound f p b k t c =
       let now_is : now ≡ with_cells old (old.cells ++ frees known) =
-        ap₂ (λ x y. record { cells = x; bindings = y }) (p.cells_are ∙ ap (λ l. old.cells ++ l) (sym p.known_are)) b in
+      ap₂ (λ x y. record { cells = x; bindings = y }) (p.cells_are ∙ ap (λ l. old.cells ++ l) (sym p.known_are)) b in
       let ranges : Each (IsOfSort sig) known =
-        subst (Each (IsOfSort sig)) (sym k) (each_noted (IsOfSort sig) [] (opens sig (variables_of row)) tt (each_open (IsOfSort sig) sig (variables_of row) (all_of_sort sig row ss h))) in
+      subst (Each (IsOfSort sig)) (sym k) (each_noted (IsOfSort sig) [] (opens sig (variables_of row)) tt (each_open (IsOfSort sig) sig (variables_of row) (all_of_sort sig row ss h))) in
       let both = fits_frees sig old known sound f ranges in
       record {
         fits = subst (Fits sig) (sym now_is) both.0;
@@ -102,10 +101,10 @@ module _ (sig : Signature) (old : Kept) (known : List Variable) (row : List Term
             ∙ slice_get-past old.cells (frees known) (place x known) ∙ cell_at_place x known i;
         terms = (ss, HaveSorts-substitute sig (numbering sig (length old.cells) known) (numbering-sorted sig signature (length old.cells) known) row ss h);
         made = λ read r.
-          ap (λ l. makes (numbering sig (length old.cells) known) tasks (reverse (map read l))) c
-          ∙ ap (λ l. makes (numbering sig (length old.cells) known) l []) (t ∙ sym (append-nil (map (λ (t : Term). Whole t) row)))
-          ∙ makes_whole (numbering sig (length old.cells) known) row [] []
-          ∙ append-nil (reverse (map (substitute (numbering sig (length old.cells) known)) row));
+            ap (λ l. makes (numbering sig (length old.cells) known) tasks (reverse (map read l))) c
+            ∙ ap (λ l. makes (numbering sig (length old.cells) known) l []) (t ∙ sym (append-nil (map (λ (t : Term). Whole t) row)))
+            ∙ makes_whole (numbering sig (length old.cells) known) row [] []
+            ∙ append-nil (reverse (map (substitute (numbering sig (length old.cells) known)) row));
       }
 
   -- nothing is left to be put
@@ -166,13 +165,13 @@ stacked_one tasks after task e = ap reverse e ∙ reverse-append tasks (task ∷
 pub before_is : (one other new : Kept) → IsLonger one new → IsLonger other new → length one.cells ≡ length other.cells → one ≡ other
 before_is one other new a b e =
     ap₂ (λ x y. record { cells = x; bindings = y })
-      (fronts one.cells other.cells a.cells b.cells (sym a.cells_are ∙ b.cells_are) e)
-      (sym a.bindings_are ∙ b.bindings_are) where
-        fronts : (xs ys us vs : List Put) → xs ++ us ≡ ys ++ vs → length xs ≡ length ys → xs ≡ ys
-        fronts [] [] us vs e l = refl
-        fronts [] (y ∷ ys) us vs e l = absurd (omega (arith, l))
-        fronts (x ∷ xs) [] us vs e l = absurd (omega (arith, l))
-        fronts (x ∷ xs) (y ∷ ys) us vs e l =
-            let one : x ≡ y = cc in
-            let rest : xs ++ us ≡ ys ++ vs = cc in
-            ap₂ (λ z zs. z ∷ zs) one (fronts xs ys us vs rest (omega (arith, l)))
+    (fronts one.cells other.cells a.cells b.cells (sym a.cells_are ∙ b.cells_are) e)
+    (sym a.bindings_are ∙ b.bindings_are) where
+      fronts : (xs ys us vs : List Put) → xs ++ us ≡ ys ++ vs → length xs ≡ length ys → xs ≡ ys
+      fronts [] [] us vs e l = refl
+      fronts [] (y ∷ ys) us vs e l = absurd (omega (arith, l))
+      fronts (x ∷ xs) [] us vs e l = absurd (omega (arith, l))
+      fronts (x ∷ xs) (y ∷ ys) us vs e l =
+          let one : x ≡ y = cc in
+          let rest : xs ++ us ≡ ys ++ vs = cc in
+          ap₂ (λ z zs. z ∷ zs) one (fronts xs ys us vs rest (omega (arith, l)))

@@ -1,5 +1,5 @@
 -- Steps of putting a row into a pool.
-use Rattle.std.proofs.Common.{◌≡◌, ◌⊎◌, inl, inr, ℕ, zero, suc, ◌<◌, ◌≤◌, ◌+◌, true, Option, Some, None, List, [], ◌∷◌, ◌++◌, reverse, map, length, take, drop, slice_get, All, refl, ap, ap₂, sym, ◌∙◌, subst, arith, length-append, append-nil, append_assoc}
+use Rattle.std.proofs.Common.{◌≡◌, inl, inr, ℕ, zero, suc, ◌≤◌, ◌+◌, true, Some, None, List, [], ◌∷◌, ◌++◌, reverse, map, length, take, drop, slice_get, All, refl, ap, ap₂, sym, ◌∙◌, subst, arith, length-append, append_assoc}
 use Rattle.std.proofs.lemmas.Option.{slice_get_within}
 use Rattle.std.proofs.lemmas.List.{reverse-append, reverse-reverse, length-reverse}
 use Rattle.std.proofs.lemmas.List.Elements.{All-weaker, All-push, All-cons, All-head, All-tail}
@@ -10,10 +10,8 @@ use Rattle.psg_terms.specs.Canonical.{Variable, is_noted}
 use Rattle.psg_terms.specs.Renaming.{place, numbering, written}
 use Rattle.psg_terms.specs.declared.sorts.ConId.{ConId}
 use Rattle.psg_terms.proofs.Applied.{applied-substitute, applied-sorts}
-use Rattle.psg_terms.proofs.Nodes.{size-con}
-use Rattle.psg_terms.specs.Sizes.{size, sizes}
 use Rattle.psg_pool.specs.declared.cells.CellId.{CellId}
-use Rattle.psg_pool.specs.Cells.{Put, free, constructor, IsAmong, arguments_in, arguments_of}
+use Rattle.psg_pool.specs.Cells.{Put, free, constructor, IsAmong, arguments_of}
 use Rattle.psg_pool.specs.Bindings.{Kept, target_of, IsSound}
 use Rattle.psg_pool.proofs.Places.{slice_get-append, slice_get-append_last}
 use Rattle.psg_pool.proofs.Laws.{new_not_bound}
@@ -22,7 +20,7 @@ use Rattle.psg_unify.specs.declared.making.Task.TheVariants.{Whole, Make}
 use Rattle.psg_unify.specs.Reading.{Reading, IsReading}
 use Rattle.psg_unify.specs.Fitting.{Fits, IsPutOf}
 use Rattle.psg_unify.specs.Putting.{IsLonger}
-use Rattle.psg_unify.specs.Making.{makes, work, IsMade, IsPutting}
+use Rattle.psg_unify.specs.Making.{makes, IsMade, IsPutting}
 use Rattle.psg_unify.proofs.Laws.{with_cells, read_by, has_reading, reading_before}
 use Rattle.psg_unify.proofs.MadeCells.{arguments_either, fits_con, put_of_sorted}
 use Rattle.psg_unify.proofs.VariablesPut.{longer_both, longer_one}
@@ -150,11 +148,11 @@ module _ (sig : Signature) (old : Kept) (known : List Variable) (row : List Term
         open_cells = p.open_cells;
         terms = p.terms;
         made = λ read r.
-          let is : read id ≡ substitute numbers t =
+            let is : read id ≡ substitute numbers t =
             r.open_cell id s here unbound
             ∙ ap (λ k. variable s (k + 1)) at
             ∙ sym (ap (substitute numbers) e ∙ ap (λ q. written q (variable s (length old.cells + place (s, n) known + 1))) o) in
-          ap (makes numbers rest) (rev_push read cells after id d ∙ ap (λ u. u ∷ reverse (map read cells)) is) ∙ p.made read r;
+            ap (makes numbers rest) (rev_push read cells after id d ∙ ap (λ u. u ∷ reverse (map read cells)) is) ∙ p.made read r;
       }
 
   -- the same cells, for tasks that make the same
@@ -177,7 +175,7 @@ module _ (sig : Signature) (old : Kept) (known : List Variable) (row : List Term
       → IsPutting sig old known row now (Whole t ∷ rest) cells → IsPutting sig old known row now (Make c 0 ∷ rest) cells
   put_constant now rest cells t s n c e o p =
       other_tasks now (Whole t ∷ rest) (Make c 0 ∷ rest) cells
-        (λ made. ap (λ u. makes numbers rest (u ∷ made)) (sym (ap (substitute numbers) e ∙ ap (λ q. written q (variable s (length old.cells + place (s, n) known + 1))) o))) p
+      (λ made. ap (λ u. makes numbers rest (u ∷ made)) (sym (ap (substitute numbers) e ∙ ap (λ q. written q (variable s (length old.cells + place (s, n) known + 1))) o))) p
 
   -- a constructor with arguments
   pub put_arguments : (now : Kept) (rest : List Task) (cells : List CellId) (t : Term) (c : ConId) (args : List Term) (n : ℕ) → t ≡ applied (symbol c.0) args → n ≡ length args
@@ -195,10 +193,10 @@ module _ (sig : Signature) (old : Kept) (known : List Variable) (row : List Term
       let read : Reading = read_by now p.fits.height p.fits.falls in
       let r : IsReading now read = has_reading now p.fits.height p.fits.falls p.sound in
       let whole : AllSorted sig (makes numbers (Make c n ∷ rest) (reverse (map read cells))) =
-        subst (AllSorted sig) (sym (p.made read r)) (sorted_reverse sig (map (substitute numbers) row) (all_sorted sig (map (substitute numbers) row) p.terms.0 p.terms.1)) in
+      subst (AllSorted sig) (sym (p.made read r)) (sorted_reverse sig (map (substitute numbers) row) (all_sorted sig (map (substitute numbers) row) p.terms.0 p.terms.1)) in
       let is : makes numbers (Make c n ∷ rest) (reverse (map read cells)) ≡ makes numbers rest (applied (symbol c.0) (map read args) ∷ reverse (map read front)) =
-        ap (makes numbers (Make c n ∷ rest)) (rev_both read front args cells e)
-        ∙ makes_make numbers c n rest (map read args) (reverse (map read front)) (sym l ∙ sym (map_length read args)) in
+      ap (makes numbers (Make c n ∷ rest)) (rev_both read front args cells e)
+      ∙ makes_make numbers c n rest (map read args) (reverse (map read front)) (sym l ∙ sym (map_length read args)) in
       let k = made_sorted sig numbers rest (applied (symbol c.0) (map read args) ∷ reverse (map read front)) (subst (AllSorted sig) is whole) in
       put_of_sorted sig now p.sound p.fits read r c.0 args k.0.0 among k.0.1
 
@@ -216,8 +214,8 @@ module _ (sig : Signature) (old : Kept) (known : List Variable) (row : List Term
         longer = longer_both old now new p.longer (longer_one now new (constructor c.0 m.args) m.cells_are m.bindings_are);
         among = subst (All (IsAmong new.cells)) (sym m.after_is)
             (All-push (IsAmong new.cells) m.front m.id
-              (All-weaker (IsAmong now.cells) (IsAmong new.cells) (λ x l. among_more now new (constructor c.0 m.args) m.cells_are x l) m.front front_among)
-              (let k = ap (λ (l : List Put). length l) m.cells_are in let e = m.id_is in omega (arith, k, e, length-append now.cells (constructor c.0 m.args ∷ []))));
+            (All-weaker (IsAmong now.cells) (IsAmong new.cells) (λ x l. among_more now new (constructor c.0 m.args) m.cells_are x l) m.front front_among)
+            (let k = ap (λ (l : List Put). length l) m.cells_are in let e = m.id_is in omega (arith, k, e, length-append now.cells (constructor c.0 m.args ∷ []))));
         beyond = subst (All (λ (x : CellId). length old.cells ≤ x.0)) (sym m.after_is)
             (All-push (λ (x : CellId). length old.cells ≤ x.0) m.front m.id (all_front (λ (x : CellId). length old.cells ≤ x.0) cells m.front m.args m.split p.beyond) past);
         apart = λ id l. subst (λ ps. All (λ (a : CellId). length old.cells ≤ a.0) (arguments_of ps id)) (sym m.cells_are)
@@ -228,11 +226,11 @@ module _ (sig : Signature) (old : Kept) (known : List Variable) (row : List Term
         open_cells = λ x i. ap (λ ps. slice_get ps (length old.cells + place x known)) m.cells_are ∙ slice_get-append now.cells (constructor c.0 m.args ∷ []) (length old.cells + place x known) (free x.0) (p.open_cells x i);
         terms = p.terms;
         made = λ read r.
-          let older : IsReading now read = reading_before now (constructor c.0 m.args ∷ []) read (subst (λ k. IsReading k read) grown r) in
-          let is : read m.id ≡ applied (symbol c.0) (map read m.args) =
+            let older : IsReading now read = reading_before now (constructor c.0 m.args ∷ []) read (subst (λ k. IsReading k read) grown r) in
+            let is : read m.id ≡ applied (symbol c.0) (map read m.args) =
             r.con_cell m.id c.0 m.args (ap (λ ps. slice_get ps m.id.0) m.cells_are ∙ slice_get-append_last now.cells (constructor c.0 m.args) m.id.0 m.id_is) in
-          ap (makes numbers rest) (rev_push read m.front after m.id m.after_is ∙ ap (λ u. u ∷ reverse (map read m.front)) is)
-          ∙ sym (makes_make numbers c n rest (map read m.args) (reverse (map read m.front)) (sym m.count ∙ sym (map_length read m.args)))
-          ∙ ap (makes numbers (Make c n ∷ rest)) (sym (rev_both read m.front m.args cells m.split))
-          ∙ p.made read older;
+            ap (makes numbers rest) (rev_push read m.front after m.id m.after_is ∙ ap (λ u. u ∷ reverse (map read m.front)) is)
+            ∙ sym (makes_make numbers c n rest (map read m.args) (reverse (map read m.front)) (sym m.count ∙ sym (map_length read m.args)))
+            ∙ ap (makes numbers (Make c n ∷ rest)) (sym (rev_both read m.front m.args cells m.split))
+            ∙ p.made read older;
       }

@@ -1,19 +1,18 @@
 -- Steps of a solver of equations over cells.
-use Rattle.std.proofs.Common.{◌≡◌, ◌≢◌, ◌⊎◌, inl, inr, ℕ, zero, suc, ◌<◌, ◌≤◌, ◌+◌, Option, Some, None, List, [], ◌∷◌, ◌++◌, reverse, map, length, drop, slice_get, All, refl, ap, ap₂, sym, ◌∙◌, subst, arith, append-nil, append_assoc}
+use Rattle.std.proofs.Common.{◌≡◌, ◌≢◌, ◌⊎◌, inl, inr, ℕ, zero, suc, ◌<◌, ◌≤◌, ◌+◌, Some, None, List, [], ◌∷◌, ◌++◌, reverse, map, length, drop, slice_get, All, refl, ap, ap₂, sym, ◌∙◌, subst, arith, append-nil, append_assoc}
 use Rattle.std.proofs.lemmas.List.{reverse-append}
 use Rattle.std.proofs.lemmas.List.Elements.{All-weaker, All-cons, All-head, All-tail, All-append, All-push}
-use Rattle.psg_terms.specs.Terms.{Term}
 use Rattle.psg_terms.specs.Sizes.{size}
 use Rattle.psg_terms.specs.Signature.{Signature, Symbol}
-use Rattle.psg_terms.specs.Relations.{IsIn, first, later}
+use Rattle.psg_terms.specs.Relations.{first, later}
 use Rattle.psg_pool.specs.declared.cells.CellId.{CellId}
 use Rattle.psg_pool.specs.declared.cells.Binding.{Binding}
-use Rattle.psg_pool.specs.Cells.{Put, free, constructor, IsAmong, arguments_in, arguments_of}
+use Rattle.psg_pool.specs.Cells.{Put, constructor, IsAmong, arguments_in, arguments_of}
 use Rattle.psg_pool.specs.Bindings.{Kept, target_of, IsSound, Holds}
 use Rattle.psg_pool.specs.declared.cells.Cell.TheVariants.{Con}
 use Rattle.psg_unify.specs.declared.classes.Classes.{Classes}
 use Rattle.psg_unify.specs.Reading.{Reading}
-use Rattle.psg_unify.specs.Fitting.{IsPutOf, IsOfOneSort, sort_at, sort_in}
+use Rattle.psg_unify.specs.Fitting.{IsPutOf, IsOfOneSort, sort_at}
 use Rattle.psg_unify.specs.Valuations.{IsValuation, Solves, Equation, Equals, HoldsBelow, EqualsBelow, AreLinked, itself, onward, back, Follows, stays, over_binding, over_link, IsState}
 use Rattle.psg_unify.specs.Joined.{IsNext, IsStep, AreThere, AreThereBoth, AreSortedAlike, IsFrom, IsSolving}
 use Rattle.psg_unify.specs.Meeting.{pairs_of, IsMoreBound, StaysSolving, HasNoValuation, CanSolve}
@@ -54,7 +53,7 @@ module _ (bs : List Binding) (apart : List Equation) (v : Reading) (sol : Solves
   follow_below n a b (over_binding _ x _ e rest) h l =
       let one : v a ≡ v x = sol a x e in
       let k = ap size one in
-      one ∙ follow_below n x b rest h (elim l [ | inl m ↦ inl (omega (arith, k, m)) | inr m ↦ inr m ])
+      one ∙ follow_below n x b rest h (elim l [ inl m ↦ inl (omega (arith, k, m)) | inr m ↦ inr m ])
   follow_below n a b (over_link _ x _ d rest) h l = elim l [
     | inl m ↦ (let one : v a ≡ v x = linked_below v n apart a x d h (inl m) in let k = ap size one in one ∙ follow_below n x b rest h (inl (omega (arith, k, m))))
     | inr m ↦ (let other : v x ≡ v b = follow_below n x b rest h (inr m) in let k = ap size other in linked_below v n apart a x d h (inr (omega (arith, k, m))) ∙ other)
@@ -65,16 +64,19 @@ pub state_follows : (cells : List Put) (old : List Binding) (asked : List Equati
     → IsState cells old asked bs apart ((a, b) ∷ left) → IsState cells old asked bs apart ((x, y) ∷ left)
 state_follows cells old asked bs apart left a b x y fa fb st = record {
   to = λ v val past e.
-    let o = st.to v val past e in
-    (o.0, o.1, All-cons (λ (p : Equation). v p.0 ≡ v p.1) (x, y) left
-      (sym (follow_equal bs apart v o.0 a x fa o.1) ∙ All-head (λ (p : Equation). v p.0 ≡ v p.1) (a, b) left o.2 ∙ follow_equal bs apart v o.0 b y fb o.1)
-      (All-tail (λ (p : Equation). v p.0 ≡ v p.1) (a, b) left o.2));
+      let o = st.to v val past e in (
+        o.0,
+        o.1,
+        All-cons (λ (p : Equation). v p.0 ≡ v p.1) (x, y) left
+            (sym (follow_equal bs apart v o.0 a x fa o.1) ∙ All-head (λ (p : Equation). v p.0 ≡ v p.1) (a, b) left o.2 ∙ follow_equal bs apart v o.0 b y fb o.1)
+            (All-tail (λ (p : Equation). v p.0 ≡ v p.1) (a, b) left o.2),
+      );
   back = λ v val sol ha hl. st.back v val sol ha
-    (All-cons (λ (p : Equation). v p.0 ≡ v p.1) (a, b) left
+      (All-cons (λ (p : Equation). v p.0 ≡ v p.1) (a, b) left
       (follow_equal bs apart v sol a x fa ha ∙ All-head (λ (p : Equation). v p.0 ≡ v p.1) (x, y) left hl ∙ sym (follow_equal bs apart v sol b y fb ha))
       (All-tail (λ (p : Equation). v p.0 ≡ v p.1) (x, y) left hl));
   guarded = λ v val sol n ha hl. st.guarded v val sol n ha
-    (All-cons (HoldsBelow n v) (a, b) left
+      (All-cons (HoldsBelow n v) (a, b) left
       (λ l. elim l [
         | inl m ↦ (
             let e : v a ≡ v x = follow_below bs apart v sol n a x fa ha (inl m) in
@@ -97,13 +99,13 @@ pub state_swap : (cells : List Put) (old : List Binding) (asked : List Equation)
     → IsState cells old asked bs apart ((a, b) ∷ left) → IsState cells old asked bs apart ((b, a) ∷ left)
 state_swap cells old asked bs apart left a b st = record {
   to = λ v val past e.
-    let o = st.to v val past e in
-    (o.0, o.1, All-cons (λ (p : Equation). v p.0 ≡ v p.1) (b, a) left (sym (All-head (λ (p : Equation). v p.0 ≡ v p.1) (a, b) left o.2)) (All-tail (λ (p : Equation). v p.0 ≡ v p.1) (a, b) left o.2));
+      let o = st.to v val past e in
+      (o.0, o.1, All-cons (λ (p : Equation). v p.0 ≡ v p.1) (b, a) left (sym (All-head (λ (p : Equation). v p.0 ≡ v p.1) (a, b) left o.2)) (All-tail (λ (p : Equation). v p.0 ≡ v p.1) (a, b) left o.2));
   back = λ v val sol ha hl. st.back v val sol ha
-    (All-cons (λ (p : Equation). v p.0 ≡ v p.1) (a, b) left (sym (All-head (λ (p : Equation). v p.0 ≡ v p.1) (b, a) left hl)) (All-tail (λ (p : Equation). v p.0 ≡ v p.1) (b, a) left hl));
+      (All-cons (λ (p : Equation). v p.0 ≡ v p.1) (a, b) left (sym (All-head (λ (p : Equation). v p.0 ≡ v p.1) (b, a) left hl)) (All-tail (λ (p : Equation). v p.0 ≡ v p.1) (b, a) left hl));
   guarded = λ v val sol n ha hl. st.guarded v val sol n ha
-    (All-cons (HoldsBelow n v) (a, b) left
-      (λ l. sym (All-head (HoldsBelow n v) (b, a) left hl (elim l [ | inl m ↦ inr m | inr m ↦ inl m ])))
+      (All-cons (HoldsBelow n v) (a, b) left
+      (λ l. sym (All-head (HoldsBelow n v) (b, a) left hl (elim l [ inl m ↦ inr m | inr m ↦ inl m ])))
       (All-tail (HoldsBelow n v) (b, a) left hl));
 }
 
@@ -145,7 +147,7 @@ sides_there cells [] ys h k = λ k d l. absurd (omega (arith, l))
 sides_there cells (x ∷ xs) [] h k = λ k d l. absurd (omega (arith, l))
 sides_there cells (x ∷ xs) (y ∷ ys) h k =
     All-cons (AreThereBoth cells) (x, y) (pairs_of xs ys) (All-head (IsAmong cells) x xs h, All-head (IsAmong cells) y ys k)
-      (sides_there cells xs ys (All-tail (IsAmong cells) x xs h) (All-tail (IsAmong cells) y ys k))
+    (sides_there cells xs ys (All-tail (IsAmong cells) x xs h) (All-tail (IsAmong cells) y ys k))
 
 lengths_alike : {X : Type 0} (f : CellId → X) (xs ys : List CellId) → map f xs ≡ map f ys → length xs ≡ length ys
 lengths_alike f [] [] e = refl
@@ -180,7 +182,7 @@ module _ (sig : Signature) (base : ℕ) (old : List Binding) (asked : List Equat
     sorts = s.sorts;
     left_sorts = All-cons (AreSortedAlike sig now.cells) (x, y) left
         (sym (follow_sorts sig now.cells now.bindings apart a x s.sorts s.apart_sorts fa) ∙ All-head (AreSortedAlike sig now.cells) (a, b) left s.left_sorts
-          ∙ follow_sorts sig now.cells now.bindings apart b y s.sorts s.apart_sorts fb)
+        ∙ follow_sorts sig now.cells now.bindings apart b y s.sorts s.apart_sorts fb)
         (All-tail (AreSortedAlike sig now.cells) (a, b) left s.left_sorts);
     left_there = All-cons (AreThereBoth now.cells) (x, y) left (ix, iy) (All-tail (AreThereBoth now.cells) (a, b) left s.left_there);
     more = s.more;
@@ -310,7 +312,7 @@ pub takes_apart : (now : Kept) (classes joined : Classes) (left after : List Equ
 takes_apart now classes joined left after x y p q c n sound iq hx hy e l h = λ sig bs asked apart s. (
   (x, y) ∷ apart,
   subst (IsSolving sig classes.base bs asked now joined ((x, y) ∷ apart)) (sym e)
-    (solving_apart sig classes.base bs asked now classes joined apart left x y p q c (arguments_of now.cells x) (arguments_of now.cells y) sound hx.0 hy.0 (l apart) iq h s),
+      (solving_apart sig classes.base bs asked now classes joined apart left x y p q c (arguments_of now.cells x) (arguments_of now.cells y) sound hx.0 hy.0 (l apart) iq h s),
 )
 
 -- classes whose heights alone changed
@@ -379,9 +381,9 @@ pub under_step : (start now new : Kept) (begin classes after : Classes) (all lef
     → IsUnder start now begin classes all left → IsUnder start new begin after all more
 under_step start now new begin classes after all left more b m h u = record {
   stays = λ sig bs asked apart s.
-    let k = u.stays sig bs asked apart s in
-    let j = h sig bs asked k.0 (subst (λ (n : ℕ). IsSolving sig n bs asked now classes k.0 left) (sym u.base) k.1) in
-    (j.0, subst (λ (n : ℕ). IsSolving sig n bs asked new after j.0 more) u.base j.1);
+      let k = u.stays sig bs asked apart s in
+      let j = h sig bs asked k.0 (subst (λ (n : ℕ). IsSolving sig n bs asked now classes k.0 left) (sym u.base) k.1) in
+      (j.0, subst (λ (n : ℕ). IsSolving sig n bs asked new after j.0 more) u.base j.1);
   more = more_both start now new u.more m;
   base = b ∙ u.base;
 }
@@ -391,7 +393,7 @@ pub under_none : (start now : Kept) (begin classes : Classes) (all left : List E
 under_none start now begin classes all left u h = λ sig bs asked apart s v val past e.
     let k = u.stays sig bs asked apart s in
     h sig bs asked k.0 (subst (λ (n : ℕ). IsSolving sig n bs asked now classes k.0 left) (sym u.base) k.1) v
-      (subst (λ ps. IsValuation ps v) (sym u.more.cells_are) val) past e
+    (subst (λ ps. IsValuation ps v) (sym u.more.cells_are) val) past e
 
 -- the ends of both ways in place of the cells of the equation
 pub stays_ends : (now : Kept) (classes : Classes) (left : List Equation) (a b x y : CellId)
@@ -412,7 +414,7 @@ pub under_ends : (start now : Kept) (begin classes : Classes) (all items rest : 
     → IsAmong now.cells x → IsAmong now.cells y → IsUnder start now begin classes all (reverse items) → IsUnder start now begin classes all ((x, y) ∷ reverse rest)
 under_ends start now begin classes all items rest p x y e fa fb ix iy u =
     under_step start now now begin classes classes all (p ∷ reverse rest) ((x, y) ∷ reverse rest) refl (more_none now) (stays_ends now classes (reverse rest) p.0 p.1 x y fa fb ix iy)
-      (subst (IsUnder start now begin classes all) (top_equation items rest p e) u)
+    (subst (IsUnder start now begin classes all) (top_equation items rest p e) u)
 
 -- the cells of the equation on top are there, and those to which cells were joined
 pub under_there : (start now : Kept) (begin classes : Classes) (all items rest : List Equation) (p : Equation) → items ≡ rest ++ p ∷ [] → CanSolve start begin all → IsUnder start now begin classes all (reverse items)

@@ -1,8 +1,8 @@
 -- What a fitting pool reads as has the sorts of its cells.
-use Rattle.std.proofs.Common.{◌≡◌, ◌⊎◌, inl, inr, ℕ, zero, suc, ◌<◌, ◌==◌, Option, Some, None, List, [], ◌∷◌, map, length, slice_get, All, refl, ap, sym, ◌∙◌, subst, arith}
+use Rattle.std.proofs.Common.{◌≡◌, inl, inr, ℕ, zero, suc, ◌<◌, ◌==◌, Option, Some, None, List, [], ◌∷◌, map, length, slice_get, All, refl, ap, sym, ◌∙◌, subst, arith}
 use Rattle.std.proofs.lemmas.Bool.{eqb-true}
 use Rattle.std.proofs.lemmas.List.Elements.{All-weaker, All-head, All-tail}
-use Rattle.psg_terms.specs.Terms.{Term, variable, symbol, applied}
+use Rattle.psg_terms.specs.Terms.{symbol}
 use Rattle.psg_terms.specs.Signature.{Signature, HasSort, HaveSorts}
 use Rattle.psg_terms.proofs.Applied.{applied-takes}
 use Rattle.psg_pool.specs.declared.cells.CellId.{CellId}
@@ -62,7 +62,7 @@ module _ (sig : Signature) (kept : Kept) (sound : IsSound kept) (fits : Fits sig
       let made : Some p.0.sort ≡ Some s = sym (ap made_sort p.1) ∙ k in
       let same : p.0.sort ≡ s = cc in
       subst (λ y. HasSort sig y s) (sym (r.con_cell id c args e))
-        (applied-takes sig (symbol c) (map read args) p.0.arguments s (p.0, p.1, refl, same) (read_sorts sig kept.cells read args p.0.arguments p.2 h))
+      (applied-takes sig (symbol c) (map read args) p.0.arguments s (p.0, p.1, refl, same) (read_sorts sig kept.cells read args p.0.arguments p.2 h))
 
   sorts_within : (n : ℕ) (id : CellId) → fits.height id < n → IsAmong kept.cells id → ReadsSorted id
   sorts_within zero id a i s e = absurd (omega (arith, a))
@@ -70,11 +70,11 @@ module _ (sig : Signature) (kept : Kept) (sound : IsSound kept) (fits : Fits sig
     | inr t ↦
         let l = fits.falls.bound id t.0 t.1 in
         subst (λ y. HasSort sig y s) (sym (r.bound_cell id t.0 t.1))
-          (sorts_within n t.0 (omega (arith, l, a)) (over_at kept.cells kept.bindings id t.0 sound.over t.1).1 s
-            (sym (sort_of_target sig kept.cells kept.bindings id t.0 fits.sorts t.1) ∙ e))
+        (sorts_within n t.0 (omega (arith, l, a)) (over_at kept.cells kept.bindings id t.0 sound.over t.1).1 s
+        (sym (sort_of_target sig kept.cells kept.bindings id t.0 fits.sorts t.1) ∙ e))
     | inl t ↦ put_sorts id t (slice_get kept.cells id.0) refl
         (All-both (λ x. fits.height x < fits.height id) (λ x. x.0 < id.0) ReadsSorted
-          (λ x l m. sorts_within n x (omega (arith, l, a)) (omega (arith, m, i))) (arguments_of kept.cells id) (fits.falls.con id) (sound.arguments id)) s e
+        (λ x l m. sorts_within n x (omega (arith, l, a)) (omega (arith, m, i))) (arguments_of kept.cells id) (fits.falls.con id) (sound.arguments id)) s e
   ]
 
   pub cell_sorts : (id : CellId) → IsAmong kept.cells id → ReadsSorted id

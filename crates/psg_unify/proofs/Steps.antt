@@ -1,8 +1,8 @@
 -- Steps of a walk over cells.
-use Rattle.std.proofs.Common.{◌≡◌, ℕ, true, Bool, if◌then◌else◌, List, [], ◌∷◌, ◌++◌, map, refl, ap, sym, ◌∙◌, subst}
-use Rattle.psg_terms.specs.Terms.{Term, symbol, applied}
+use Rattle.std.proofs.Common.{◌≡◌, ℕ, if◌then◌else◌, List, [], ◌∷◌, ◌++◌, map, refl, ap, sym, ◌∙◌, subst}
+use Rattle.psg_terms.specs.Terms.{symbol, applied}
 use Rattle.psg_terms.specs.Signature.{Signature}
-use Rattle.psg_terms.specs.Canonical.{Variable, variables, variables_of, is_noted, noted_all}
+use Rattle.psg_terms.specs.Canonical.{Variable, variables, variables_of, noted_all}
 use Rattle.psg_terms.specs.Renaming.{opens, AreKnown}
 use Rattle.psg_terms.proofs.RenamingLaws.{IsAmong, among-noted_all, noted_all-append, opens-append, variables-applied}
 use Rattle.psg_terms.proofs.Unique.{Each}
@@ -24,9 +24,9 @@ pub visits : (sig : Signature) (read : Reading) (known : List Variable) (args : 
 visits sig read known [] rest final h = h
 visits sig read known (a ∷ args) rest final h =
     visits sig read (noted_all known (opens sig (variables (read a)))) args rest final
-      (subst (λ k. EndsWith sig read k rest final)
-        (ap (noted_all known) (opens-append sig (variables (read a)) (variables_of (map read args)))
-          ∙ noted_all-append known (opens sig (variables (read a))) (opens sig (variables_of (map read args)))) h)
+    (subst (λ k. EndsWith sig read k rest final)
+    (ap (noted_all known) (opens-append sig (variables (read a)) (variables_of (map read args)))
+    ∙ noted_all-append known (opens sig (variables (read a))) (opens sig (variables_of (map read args)))) h)
 
 -- a constructor cell: its arguments, and then it is left
 pub at_con : (sig : Signature) (read : Reading) (known : List Variable) (id : CellId) (c : ℕ) (args : List CellId) (rest : List Item) (final : List Variable)
@@ -36,7 +36,8 @@ at_con sig read known id c args rest final e h =
     let o : List Variable = opens sig (variables_of (map read args)) in
     visits sig read known args (leave id ∷ rest) final (
       subst (λ xs. AreKnown (noted_all known o) (opens sig xs)) (sym is) (known_each (noted_all known o) o (among-noted_all known o)),
-      subst (λ xs. EndsWith sig read (noted_all known (opens sig xs)) rest final) is h)
+      subst (λ xs. EndsWith sig read (noted_all known (opens sig xs)) rest final) is h,
+    )
 
 -- a bound cell: its target, and then it is left
 pub at_bound : (sig : Signature) (read : Reading) (known : List Variable) (id to : CellId) (rest : List Item) (final : List Variable)
@@ -44,7 +45,8 @@ pub at_bound : (sig : Signature) (read : Reading) (known : List Variable) (id to
 at_bound sig read known id to rest final e h =
     let o : List Variable = opens sig (variables (read to)) in (
       subst (λ t. AreKnown (noted_all known o) (opens sig (variables t))) (sym e) (known_each (noted_all known o) o (among-noted_all known o)),
-      subst (λ t. EndsWith sig read (noted_all known (opens sig (variables t))) rest final) e h)
+      subst (λ t. EndsWith sig read (noted_all known (opens sig (variables t))) rest final) e h,
+    )
 
 -- a cell that was left before is not walked again
 pub at_known : (sig : Signature) (read : Reading) (known : List Variable) (id : CellId) (rest : List Item) (final : List Variable)

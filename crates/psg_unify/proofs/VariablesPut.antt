@@ -1,9 +1,9 @@
 -- Putting a free cell for each variable of a row.
-use Rattle.std.proofs.Common.{◌≡◌, ◌≢◌, ◌≤◌, ◌<◌, ◌+◌, ℕ, inl, inr, true, false, if◌then◌else◌, Some, None, List, [], ◌∷◌, ◌++◌, reverse, length, refl, ap, ap₂, sym, ◌∙◌, subst, append_assoc, append-nil, length-append, arith}
+use Rattle.std.proofs.Common.{◌≡◌, ◌≢◌, ◌<◌, ◌+◌, ℕ, inl, inr, if◌then◌else◌, Some, None, List, [], ◌∷◌, ◌++◌, reverse, length, refl, ap, sym, ◌∙◌, subst, append_assoc, append-nil, length-append, arith}
 use Rattle.std.proofs.lemmas.List.{reverse-append, reverse-reverse}
 use Rattle.psg_terms.specs.Terms.{Term, variable, symbol, applied}
 use Rattle.psg_terms.specs.Signature.{Signature, only_constructor}
-use Rattle.psg_terms.specs.Sizes.{size, sizes}
+use Rattle.psg_terms.specs.Sizes.{sizes}
 use Rattle.psg_terms.specs.Canonical.{Variable, variables, variables_of, is_noted, noted, noted_all}
 use Rattle.psg_terms.specs.Renaming.{opens, open_first}
 use Rattle.psg_terms.proofs.Nodes.{size-con}
@@ -52,10 +52,10 @@ pub puts_new : (old new : List Put) (known after : List Variable) (x : Variable)
 puts_new old new known after x e l d = elim (cases (is_noted x known)) [
   | inl t ↦ absurd (l (ap (λ (l : List Variable). length l) (e ∙ ap (λ b. if b then known else known ++ x ∷ []) t)))
   | inr f ↦ record {
-      more = free x.0 ∷ [];
-      cells_are = d;
-      known_are = ap frees (e ∙ ap (λ b. if b then known else known ++ x ∷ []) f) ∙ frees-append known (x ∷ []);
-    }
+    more = free x.0 ∷ [];
+    cells_are = d;
+    known_are = ap frees (e ∙ ap (λ b. if b then known else known ++ x ∷ []) f) ∙ frees-append known (x ∷ []);
+  }
 ]
 
 pub puts_both : (old mid new : List Put) (known more after : List Variable) → PutsKnown old mid known more → PutsKnown mid new more after → PutsKnown old new known after

@@ -7,7 +7,7 @@ use Rattle.psg_terms.specs.Instances.{Substitution, substitute}
 use Rattle.psg_terms.specs.Canonical.{Variable, is_noted}
 use Rattle.psg_terms.specs.Renaming.{place, numbering, Renumbered}
 use Rattle.psg_pool.specs.declared.cells.CellId.{CellId}
-use Rattle.psg_pool.specs.Cells.{Put, free, constructor, IsAmong, arguments_of}
+use Rattle.psg_pool.specs.Cells.{free, constructor, IsAmong, arguments_of}
 use Rattle.psg_pool.specs.Bindings.{Kept, IsSound}
 use Rattle.psg_unify.specs.declared.making.Task.{Task}
 use Rattle.psg_unify.specs.declared.making.Task.TheVariants.{Whole, Make}
@@ -27,7 +27,7 @@ work [] = 0
 work (Whole t ∷ rest) = size t + 1 + work rest
 work (Make c n ∷ rest) = 1 + work rest
 
--- in place of the last cells stands a constructor cell over them
+-- a constructor cell over the last cells has taken their place
 pub record IsMade (old new : Kept) (before after : List CellId) (c n : ℕ) : Type 0 where
   pub front : List CellId
   pub args : List CellId
@@ -53,7 +53,7 @@ pub record IsPutting (sig : Signature) (old : Kept) (known : List Variable) (row
   pub made : (read : Reading) → IsReading now read
       → makes (numbering sig (length old.cells) known) tasks (reverse (map read cells)) ≡ reverse (map (substitute (numbering sig (length old.cells) known)) row)
 
--- A row was put behind the cells of a pool. Its cells lead to new ones alone, and read as the row with numbers from there on.
+-- A row was put into a pool after all its cells. Its cells lead to new ones alone, and read as the row with numbers from there on.
 pub record IsPutRow (sig : Signature) (old new : Kept) (row : List Term) (cells : List CellId) : Type 0 where
   pub fits : Fits sig new
   pub sound : IsSound new

@@ -1,5 +1,5 @@
 -- What a step of a solver of equations over cells keeps.
-use Rattle.std.specs.Prelude.{ℕ, ◌≡◌, ◌++◌, ◌∷◌, List, [], length, reverse}
+use Rattle.std.specs.Prelude.{◌≡◌, ◌++◌, ◌∷◌, List, []}
 use Rattle.psg_terms.specs.Signature.{Signature}
 use Rattle.psg_pool.specs.declared.cells.CellId.{CellId}
 use Rattle.psg_pool.specs.declared.cells.Binding.{Binding}

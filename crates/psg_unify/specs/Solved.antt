@@ -31,7 +31,7 @@ pub record IsGrown (old new : Kept) : Type 0 where
 abbrev pub by_old : Kept → Kept → Kept
 by_old old new = record { cells = new.cells; bindings = old.bindings }
 
--- Two rows stand in the pool as they are by the old bindings, apart, and solved on the pairs by all bindings.
+-- Two rows are in the pool as they are by the old bindings, apart, and solved on the pairs by all bindings.
 pub record IsSolvedIn (sig : Signature) (left right : List Term) (pairs : List Pair) (old new : Kept) (cells : List CellId) : Type 0 where
   pub fits : Fits sig new
   pub grown : IsGrown old new

@@ -1,6 +1,6 @@
 -- Terms for all cells of a pool, under which constructor cells are made of their arguments.
 use Rattle.std.specs.Prelude.{ℕ, suc, ◌≡◌, ◌<◌, ◌-◌, ◌⊎◌, List, map, slice_get, All, Some}
-use Rattle.psg_terms.specs.Terms.{Term, symbol, applied}
+use Rattle.psg_terms.specs.Terms.{symbol, applied}
 use Rattle.psg_terms.specs.Sizes.{size}
 use Rattle.psg_terms.specs.Instances.{Substitution}
 use Rattle.psg_terms.specs.Relations.{IsIn}

@@ -177,7 +177,7 @@ fn put_terms(
 /// this constant. The result has a cell for each column. It goes over each place of the row twice, with stacks of its own, and
 /// keeps a table of the variables.
 ///
-/// `AllocError` comes when memory runs out. The pool then has some more cells.
+/// It answers `AllocError` when memory runs out. The pool then has some more cells.
 pub fn put_row(
     alloc: Global,
     sig: &Signature,

@@ -64,7 +64,13 @@ fn taller(lower: u32, higher: u32) -> u32 {
 }
 
 /// Joins the first cell to the second one.
-fn join_to(classes: &mut Classes, x: CellId, y: CellId, lower: u32, higher: u32) -> Result<(), AllocError>
+fn join_to(
+    classes: &mut Classes,
+    x: CellId,
+    y: CellId,
+    lower: u32,
+    higher: u32,
+) -> Result<(), AllocError>
     ensures base { classes.new.base ≡ classes.old.base }
     ensures next { OnOk result ((id next : Id) → IsNext classes.new id next → IsNext classes.old id next ⊎ ((id ≡ x) × (next ≡ y))) }
 {
@@ -266,7 +272,7 @@ fn meet(
 
 /// Solves the equations on the stack in the pool and says whether they can be solved, but for circles, which are not looked for
 /// here. Each free cell is bound at most once and each class joined at most once, and each way to an end is no longer than the
-/// logarithm of the number of cells. `AllocError` comes when memory runs out.
+/// logarithm of the number of cells. It answers `AllocError` when memory runs out.
 pub fn solve(
     pool: &mut Pool,
     classes: &mut Classes,

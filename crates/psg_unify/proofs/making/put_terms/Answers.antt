@@ -1,4 +1,4 @@
-use Rattle.std.proofs.Common.{◌∷◌, List, reverse, subst}
+use Rattle.std.proofs.Common.{List, subst}
 use Rattle.psg_terms.specs.Renaming.{keys}
 use Rattle.psg_unify.specs.declared.making.Task.{Task}
 use Rattle.psg_unify.specs.Making.{IsPutting}

@@ -1,5 +1,3 @@
-use Rattle.std.proofs.Common.{◌≡◌, [], ◌∷◌, ◌++◌, Some, sym, ap, ◌∙◌}
-use Rattle.std.specs.Option.{option_to_list}
 use Rattle.psg_terms.specs.Canonical.{variables_of, noted_all}
 use Rattle.psg_terms.specs.Renaming.{keys, opens}
 use Rattle.psg_unify.proofs.VariablesPut.{walked, walked_less, puts_both, longer_both}

@@ -1,4 +1,4 @@
-use Rattle.std.proofs.Common.{◌≡◌, ◌++◌, reverse, sym, ap, ◌∙◌}
+use Rattle.std.proofs.Common.{◌++◌, reverse, sym, ap, ◌∙◌}
 use Rattle.psg_terms.specs.Renaming.{keys}
 use Rattle.psg_terms.specs.Shapes.{term_of}
 use Rattle.psg_unify.proofs.VariablesPut.{walks_con}
