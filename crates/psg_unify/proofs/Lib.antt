@@ -18,3 +18,5 @@ pub mod MadeCells
 pub mod PuttingSteps
 pub mod PuttingEnds
 pub mod SolvingSteps
+pub mod Rounds
+pub mod Stacks

@@ -8,7 +8,9 @@ use Rattle.psg_terms.proofs.RenamingLaws.{IsAmong, among-noted_all, noted_all-ap
 use Rattle.psg_terms.proofs.Unique.{Each}
 use Rattle.psg_pool.specs.declared.cells.CellId.{CellId}
 use Rattle.psg_unify.specs.Reading.{Reading}
-use Rattle.psg_unify.specs.Walking.{Item, visit, leave, EndsWith}
+use Rattle.psg_unify.specs.declared.walking.Item.{Item}
+use Rattle.psg_unify.specs.declared.walking.Item.TheVariants.{Visit, Leave}
+use Rattle.psg_unify.specs.Walking.{EndsWith}
 
 known_each : (known xs : List Variable) → Each (IsAmong known) xs → AreKnown known xs
 known_each known [] h = tt
@@ -20,7 +22,7 @@ noted_all-known known (x ∷ xs) (p, h) = ap (λ l. noted_all l xs) (ap (λ b. i
 
 -- going to several cells
 pub visits : (sig : Signature) (read : Reading) (known : List Variable) (args : List CellId) (rest : List Item) (final : List Variable)
-    → EndsWith sig read (noted_all known (opens sig (variables_of (map read args)))) rest final → EndsWith sig read known (map visit args ++ rest) final
+    → EndsWith sig read (noted_all known (opens sig (variables_of (map read args)))) rest final → EndsWith sig read known (map (λ (a : CellId). Visit a) args ++ rest) final
 visits sig read known [] rest final h = h
 visits sig read known (a ∷ args) rest final h =
     visits sig read (noted_all known (opens sig (variables (read a)))) args rest final
@@ -30,18 +32,18 @@ visits sig read known (a ∷ args) rest final h =
 
 -- a constructor cell: its arguments, and then it is left
 pub at_con : (sig : Signature) (read : Reading) (known : List Variable) (id : CellId) (c : ℕ) (args : List CellId) (rest : List Item) (final : List Variable)
-    → read id ≡ applied (symbol c) (map read args) → EndsWith sig read known (visit id ∷ rest) final → EndsWith sig read known (map visit args ++ leave id ∷ rest) final
+    → read id ≡ applied (symbol c) (map read args) → EndsWith sig read known (Visit id ∷ rest) final → EndsWith sig read known (map (λ (a : CellId). Visit a) args ++ Leave id ∷ rest) final
 at_con sig read known id c args rest final e h =
     let is : variables (read id) ≡ variables_of (map read args) = ap variables e ∙ variables-applied (symbol c) (map read args) in
     let o : List Variable = opens sig (variables_of (map read args)) in
-    visits sig read known args (leave id ∷ rest) final (
+    visits sig read known args (Leave id ∷ rest) final (
       subst (λ xs. AreKnown (noted_all known o) (opens sig xs)) (sym is) (known_each (noted_all known o) o (among-noted_all known o)),
       subst (λ xs. EndsWith sig read (noted_all known (opens sig xs)) rest final) is h,
     )
 
 -- a bound cell: its target, and then it is left
 pub at_bound : (sig : Signature) (read : Reading) (known : List Variable) (id to : CellId) (rest : List Item) (final : List Variable)
-    → read id ≡ read to → EndsWith sig read known (visit id ∷ rest) final → EndsWith sig read known (visit to ∷ leave id ∷ rest) final
+    → read id ≡ read to → EndsWith sig read known (Visit id ∷ rest) final → EndsWith sig read known (Visit to ∷ Leave id ∷ rest) final
 at_bound sig read known id to rest final e h =
     let o : List Variable = opens sig (variables (read to)) in (
       subst (λ t. AreKnown (noted_all known o) (opens sig (variables t))) (sym e) (known_each (noted_all known o) o (among-noted_all known o)),
@@ -50,5 +52,5 @@ at_bound sig read known id to rest final e h =
 
 -- a cell that was left before is not walked again
 pub at_known : (sig : Signature) (read : Reading) (known : List Variable) (id : CellId) (rest : List Item) (final : List Variable)
-    → AreKnown known (opens sig (variables (read id))) → EndsWith sig read known (visit id ∷ rest) final → EndsWith sig read known rest final
+    → AreKnown known (opens sig (variables (read id))) → EndsWith sig read known (Visit id ∷ rest) final → EndsWith sig read known rest final
 at_known sig read known id rest final k h = subst (λ l. EndsWith sig read l rest final) (noted_all-known known (opens sig (variables (read id))) k) h

@@ -14,3 +14,4 @@ pub mod Putting
 pub mod Making
 pub mod Joined
 pub mod Meeting
+pub mod Circles

@@ -17,12 +17,14 @@
 
 mod chains;
 mod circle;
+mod circles;
 mod classes;
 mod equations;
 mod join;
 mod making;
 mod putting;
 mod solving;
+mod walking;
 mod writing;
 
 pub use join::join_rows;
