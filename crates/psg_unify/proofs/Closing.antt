@@ -22,7 +22,7 @@ use Rattle.psg_unify.specs.Meeting.{pairs_of}
 use Rattle.psg_unify.proofs.Laws.{over_at, All-both}
 
 -- a substitution that is read through a row is the row's values
-map-twice : (v read : Reading) (f : Term → Term) (xs : List CellId) → All (λ x. v x ≡ f (read x)) xs → map v xs ≡ map f (map read xs)
+pub map-twice : (v read : Reading) (f : Term → Term) (xs : List CellId) → All (λ x. v x ≡ f (read x)) xs → map v xs ≡ map f (map read xs)
 map-twice v read f [] h = refl
 map-twice v read f (x ∷ xs) h = ap₂ (λ y ys. y ∷ ys) (All-head (λ x. v x ≡ f (read x)) x xs h) (map-twice v read f xs (All-tail (λ x. v x ≡ f (read x)) x xs h))
 

@@ -20,3 +20,6 @@ pub mod PuttingEnds
 pub mod SolvingSteps
 pub mod Rounds
 pub mod Stacks
+pub mod ReadSteps
+pub mod Patched
+pub mod SolvedRows

@@ -64,7 +64,7 @@ at_once base marks x y p q (k, ek, gk) (j, ej, gj) e =
     let same : k ≡ j = omega (arith, e, ek, ej) in
     let is : Some p ≡ Some q = sym gk ∙ ap (slice_get marks) same ∙ gj in cc
 
-same_cell : (x y : CellId) → x.0 ≡ y.0 → x ≡ y
+pub same_cell : (x y : CellId) → x.0 ≡ y.0 → x ≡ y
 same_cell x y e = ap (λ (n : ℕ). record { 0 = n }) e
 
 -- one cell or another
@@ -215,27 +215,17 @@ module _ (kept : Kept) where
   number_in (Some (Left n)) = n
 
   -- all cells were left
-  pub walk_ends : (base count : ℕ) (marks : List Progress) → length kept.cells ≤ base + count → length marks ≡ count → AreAllLeft marks → IsWalking kept base marks []
+  pub walk_ends : (base count : ℕ) (marks : List Progress) → length kept.cells ≤ base + count → AreAllLeft count marks → IsWalking kept base marks []
       → (height : CellId → ℕ) × FallsFrom kept base height
-  walk_ends base count marks c l a w = (λ id. number_in (slice_get marks (id.0 - base)), falls) where
+  walk_ends base count marks c a w = (λ id. number_in (slice_get marks (id.0 - base)), falls) where
     falls : FallsFrom kept base (λ id. number_in (slice_get marks (id.0 - base)))
-    falls id b i to e = elim (some_or_none (slice_get marks (id.0 - base))) [
-      | inl n ↦ absurd (outside (id.0 - base) (omega (arith, b, i, c, l)) n)
-      | inr p ↦ (
-          let left = a (id.0 - base) p.0 p.1 in
-          let at : slice_get marks (id.0 - base) ≡ Some (Left left.0) = p.1 ∙ ap (λ (q : Progress). Some q) left.1 in
-          let below = w.falls id left.0 (id.0 - base, omega (arith, b), at) to e in
-          let place : to.0 - base ≡ below.1.0 = omega (arith, below.1.1) in
-          let own : number_in (slice_get marks (id.0 - base)) ≡ left.0 = ap number_in at in
-          let other : number_in (slice_get marks (to.0 - base)) ≡ below.0 = ap (λ k. number_in (slice_get marks k)) place ∙ ap number_in below.1.2 in
-          (omega (arith, below.1.1), omega (arith, own, other, below.2)))
-    ] where
-      outside : (k : ℕ) → k < length marks → slice_get marks k ≡ None → ⊥
-      outside k l n = past marks k l n where
-        past : (xs : List Progress) (k : ℕ) → k < length xs → slice_get xs k ≡ None → ⊥
-        past [] k l n = omega (arith, l)
-        past (x ∷ xs) zero l n = cc
-        past (x ∷ xs) (suc k) l n = past xs k (omega (arith, l)) n
+    falls id b i to e =
+        let left = a (id.0 - base) (omega (arith, b, i, c)) in
+        let below = w.falls id left.0 (id.0 - base, omega (arith, b), left.1) to e in
+        let place : to.0 - base ≡ below.1.0 = omega (arith, below.1.1) in
+        let own : number_in (slice_get marks (id.0 - base)) ≡ left.0 = ap number_in left.1 in
+        let other : number_in (slice_get marks (to.0 - base)) ≡ below.0 = ap (λ k. number_in (slice_get marks k)) place ∙ ap number_in below.1.2 in
+        (omega (arith, below.1.1), omega (arith, own, other, below.2))
 
 -- along a way sizes do not grow, and they are smaller where there is an argument in it
 module _ (kept : Kept) (sound : IsSound kept) (v : Reading) (val : IsValuation kept.cells v) (sol : Solves kept.bindings v) where
@@ -341,16 +331,9 @@ set_at base marks id p b l = record {
   back = λ x q d (k, e, g). (k, e, sym (slice_get-set_other marks k (id.0 - base) p (λ same. d (omega (arith, same, e, b)))) ∙ g);
 }
 
--- the first marks are left
-pub left_more : (marks : List Progress) (i : ℕ) (m d : Progress) (n : ℕ) → m ≡ get_or marks i d → m ≡ Left n → ((k : ℕ) (p : Progress) → k < i → slice_get marks k ≡ Some p → (n : ℕ) × (p ≡ Left n))
-    → (k : ℕ) (p : Progress) → k < i + 1 → slice_get marks k ≡ Some p → (n : ℕ) × (p ≡ Left n)
-left_more marks i m d n e is h k p l g = elim (either (k == i)) [
-  | inl t ↦ (
-      let same : k ≡ i = eqb-true k i t in
-      let at : get_or marks i d ≡ p = ap (λ j. get_or marks j d) (sym same) ∙ get_or_from_slice_get marks k p d g in
-      (n, sym at ∙ sym e ∙ is))
-  | inr f ↦ (let other = eqb-false k i f in h k p (omega (arith, l, other)) g)
+-- one cell more was left
+pub left_more : (marks : List Progress) (i : ℕ) → ((n : ℕ) × (slice_get marks i ≡ Some (Left n))) → AreAllLeft i marks → AreAllLeft (i + 1) marks
+left_more marks i left h k l = elim (either (k == i)) [
+  | inl t ↦ subst (λ j. (n : ℕ) × (slice_get marks j ≡ Some (Left n))) (sym (eqb-true k i t)) left
+  | inr f ↦ (let other = eqb-false k i f in h k (omega (arith, l, other)))
 ]
-
-pub left_whole : (marks : List Progress) (i : ℕ) → length marks ≤ i → ((k : ℕ) (p : Progress) → k < i → slice_get marks k ≡ Some p → (n : ℕ) × (p ≡ Left n)) → AreAllLeft marks
-left_whole marks i l h = λ k p g. let in_list = slice_get_within marks k p g in h k p (omega (arith, l, in_list)) g

@@ -32,9 +32,9 @@ pub record IsSet (base : ℕ) (old new : List Progress) (id : CellId) (p : Progr
 abbrev pub IsLeftBelow : ℕ → List Progress → ℕ → CellId → Type 0
 IsLeftBelow base marks n id = (m : ℕ) × IsAt base marks id (Left m) × (m < n)
 
--- all cells were left
-abbrev pub AreAllLeft : List Progress → Type 0
-AreAllLeft marks = (k : ℕ) (p : Progress) → slice_get marks k ≡ Some p → (n : ℕ) × (p ≡ Left n)
+-- as many cells as this were left
+abbrev pub AreAllLeft : ℕ → List Progress → Type 0
+AreAllLeft count marks = (k : ℕ) → k < count → (n : ℕ) × (slice_get marks k ≡ Some (Left n))
 
 -- the cell that is to be left first
 abbrev pub leaving : List Item → Option CellId

@@ -15,3 +15,5 @@ pub mod Making
 pub mod Joined
 pub mod Meeting
 pub mod Circles
+pub mod ReadOut
+pub mod Asking

@@ -1,8 +1,8 @@
 //! Whether cells lead back to themselves, by one walk over them.
-ghost use Rattle.std.specs.Prelude.{◌≡◌, ◌<◌, ◌≤◌, ◌∷◌, [], All, IfOk, OnOk, IsTrue, List, ℕ, true, false, reverse, length};
+ghost use Rattle.std.specs.Prelude.{◌≡◌, ◌<◌, ◌≤◌, ◌∷◌, [], All, IfOk, OnOk, IsTrue, List, Some, ℕ, true, false, reverse, length, slice_get};
 ghost use Rattle.psg_pool.specs.Cells.{IsAmong, arguments_of};
 ghost use Rattle.psg_pool.specs.declared.cells.CellId.{CellId as Id};
-ghost use Rattle.psg_unify.specs.declared.circles.Progress.TheVariants.{New as Unseen};
+ghost use Rattle.psg_unify.specs.declared.circles.Progress.TheVariants.{New as Unseen, Left as Done};
 ghost use Rattle.psg_unify.specs.declared.walking.Item.{Item as Step};
 ghost use Rattle.psg_unify.specs.declared.walking.Item.TheVariants.{Visit, Leave};
 ghost use Rattle.psg_unify.specs.Circles.{IsEdge, IsAt, IsSet, IsLeftBelow, AreAllLeft, IsWalking, HasNext, HasCircle, FallsFrom};
@@ -274,15 +274,27 @@ fn walk_all(
     Ok(true)
 }
 
-/// Whether all cells were left.
-fn are_all_left(marks: &[Progress]) -> bool
-    ensures { IsTrue result → AreAllLeft marks.now }
+/// Whether the cell at a place was left.
+fn is_left(marks: &[Progress], place: usize) -> bool
+    ensures { IsTrue result → (n : ℕ) × (slice_get marks.now place ≡ Some (Done n)) }
 {
-    for mark in marks {
-        match *mark {
-            Progress::Left(_) => {}
-            Progress::New => return false,
-            Progress::Open => return false,
+    match marks.get(place) {
+        Some(mark) => match *mark {
+            Progress::Left(_) => true,
+            Progress::New => false,
+            Progress::Open => false,
+        },
+        None => false,
+    }
+}
+
+/// Whether as many cells as this were left.
+fn are_all_left(marks: &[Progress], count: usize) -> bool
+    ensures { IsTrue result → AreAllLeft count marks.now }
+{
+    for place in 0..count {
+        if !is_left(marks, place) {
+            return false;
         }
     }
     true
@@ -302,7 +314,7 @@ pub fn is_falling(alloc: Global, pool: &Pool, base: usize) -> Result<bool, Alloc
     if !walk_all(alloc, pool, &mut marks, base)? {
         return Ok(false);
     }
-    if !are_all_left(marks.as_slice()) {
+    if !are_all_left(marks.as_slice(), count - base) {
         return Err(AllocError);
     }
     Ok(true)

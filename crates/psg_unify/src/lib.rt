@@ -23,6 +23,7 @@ mod equations;
 mod join;
 mod making;
 mod putting;
+mod reading;
 mod solving;
 mod walking;
 mod writing;
