@@ -23,3 +23,4 @@ pub mod Stacks
 pub mod ReadSteps
 pub mod Patched
 pub mod SolvedRows
+pub mod Solution

@@ -155,11 +155,11 @@ module _ (sig : Signature) (left right : List Term) (pairs : List Pair) (old mid
   left_among = All-weaker (IsAmong mid.cells) (IsAmong put.cells)
       (λ x l. let e = ap (λ (c : List Put). length c) p.two.longer.cells_are in omega (arith, l, e, length-append mid.cells p.two.longer.cells)) lefts p.one.among
 
-  pub read_put : Reading
+  abbrev pub read_put : Reading
   read_put = read_by put p.two.fits.height p.two.fits.falls
 
   pub reads_put : IsReading put read_put
-  reads_put = unfolding read_put (has_reading put p.two.fits.height p.two.fits.falls p.two.sound)
+  reads_put = has_reading put p.two.fits.height p.two.fits.falls p.two.sound
 
   pub left_same : (read : Reading) → IsReading put read → (ss : List ℕ) → HaveSorts sig left ss
       → AllGroundInstancesIn sig left (map read lefts) × AllGroundInstancesIn sig (map read lefts) left × HaveSorts sig (map read lefts) ss

@@ -1,9 +1,11 @@
 -- The equations that two rows of cells are solved on, and the rows in the pool.
-use Rattle.std.specs.Prelude.{◌≡◌, List, [], ◌∷◌, slice_get, Some}
+use Rattle.std.specs.Prelude.{◌≡◌, ◌++◌, List, [], ◌∷◌, slice_get, Some}
 use Rattle.psg_terms.specs.Terms.{Term}
 use Rattle.psg_terms.specs.Signature.{Signature}
 use Rattle.psg_terms.specs.Sound.{IsSound as IsSoundSignature}
 use Rattle.psg_pool.specs.declared.cells.CellId.{CellId}
+use Rattle.psg_pool.specs.declared.cells.Binding.{Binding}
+use Rattle.psg_pool.specs.Cells.{Put}
 use Rattle.psg_pool.specs.Bindings.{Kept, IsSound}
 use Rattle.psg_unify.specs.Pairs.{Pair, AreJoinable}
 use Rattle.psg_unify.specs.Fitting.{Fits}
@@ -25,3 +27,10 @@ pub record ArePut (sig : Signature) (left right : List Term) (pairs : List Pair)
   pub fits : Fits sig old
   pub one : IsPutRow sig old mid left lefts
   pub two : IsPutRow sig mid put right rights
+
+-- Old cells and bindings stay as prefixes.
+pub record IsExtended (old new : Kept) : Type 0 where
+  pub cells : List Put
+  pub cells_are : new.cells ≡ old.cells ++ cells
+  pub bindings : List Binding
+  pub bindings_are : new.bindings ≡ old.bindings ++ bindings

@@ -16,6 +16,22 @@ pub struct Classes {
     heights: Vec<u32>,
 }
 
+impl Classes {
+    /// Classes of so many cells from `base` on, each in one of its own.
+    pub fn new(alloc: Global, base: usize, count: usize) -> Result<Classes, AllocError>
+        ensures base { IfOk result (λ c. c.base ≡ base) }
+        ensures none { IfOk result (λ c. (id to : Id) → IsNext c id to → ⊥) }
+    {
+        let next = vec![in alloc; None; count]?;
+        let heights = vec![in alloc; 0; count]?;
+        Ok(Classes {
+            base,
+            next,
+            heights,
+        })
+    }
+}
+
 /// The cell that a cell was joined to, if there is one.
 fn next_of(classes: &Classes, id: CellId) -> Option<CellId>
     ensures { IfSome result (λ to. IsNext classes.now id to) }

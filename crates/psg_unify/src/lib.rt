@@ -24,6 +24,7 @@ mod join;
 mod making;
 mod putting;
 mod reading;
+mod regions;
 mod solving;
 mod walking;
 mod writing;
