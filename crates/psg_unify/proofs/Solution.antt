@@ -1,5 +1,5 @@
 -- What a solver leaves in a pool into which two rows were put.
-use Rattle.std.proofs.Common.{◌≡◌, ◌⊎◌, ◌↔◌, inl, inr, ℕ, zero, suc, ◌<◌, ◌≤◌, cond, nat_le, true, false, Option, Some, None, List, [], ◌∷◌, ◌++◌, map, reverse, take, drop, length, slice_get, All, refl, ap, ap₂, sym, ◌∙◌, subst, arith, append-nil, append_assoc, length-append}
+use Rattle.std.proofs.Common.{◌≡◌, ◌⊎◌, ◌↔◌, inl, inr, ℕ, zero, suc, ◌<◌, ◌≤◌, ◌==◌, cond, nat_le, true, false, Option, Some, None, List, [], ◌∷◌, ◌++◌, map, reverse, take, drop, length, slice_get, All, refl, ap, ap₂, sym, ◌∙◌, subst, arith, append-nil, append_assoc, length-append}
 use Rattle.std.proofs.lemmas.Bool.{eqb-true}
 use Rattle.std.proofs.lemmas.Bool.Decides.{nat_tests}
 use Rattle.std.proofs.lemmas.Option.{slice_get_within}
@@ -146,9 +146,9 @@ module _ (sig : Signature) (left right : List Term) (pairs : List Pair) (old mid
   -- without a valuation there are no instances that agree
   pub clash_none : (equations : List Equation) (classes : Classes) → AskFor lefts rights pairs equations → ((id to : CellId) → IsNext classes id to → ⊥) → HasNoValuation put classes equations
       → (values : List Term) → IsAgreeing sig left right pairs values → ⊥
-  clash_none equations classes asks none no values a =
+  clash_none equations classes asks none unsolved values a =
       let h = agreeing_values sig left right pairs old mid put lefts rights p values a in
-      no sig old.bindings equations [] (solving_begins sig left right pairs old mid put lefts rights p equations classes classes.base asks none) h.v h.valuation
+      unsolved sig old.bindings equations [] (solving_begins sig left right pairs old mid put lefts rights p equations classes classes.base asks none) h.v h.valuation
       (subst (λ k. Solves k h.v) (put_bindings sig left right pairs old mid put lefts rights p) h.solves) (agree_asked h.v lefts rights pairs equations asks h.agree)
 
   -- what the solver keeps, from where it began
