@@ -1,5 +1,5 @@
 -- The clauses of a join of rows follow from those of solving in a pool and of reading.
-use Rattle.std.proofs.Common.{ℕ, ◌↔◌, List, ◌++◌, map, refl}
+use Rattle.std.proofs.Common.{ℕ, ◌≡◌, ◌↔◌, Option, Some, IfSome, List, ◌++◌, map, refl, sym, subst}
 use Rattle.psg_terms.specs.Terms.{Term}
 use Rattle.psg_terms.specs.Signature.{Signature, HaveSorts}
 use Rattle.psg_terms.specs.Sound.{IsSound as IsSoundSignature}
@@ -36,3 +36,9 @@ module _ (sig : Signature) (left right : List Term) (pairs : List Pair) (old new
       let read = read_by new s.fits.height s.fits.falls in
       let r = has_reading new s.fits.height s.fits.falls sound in
       h read r (ls ++ rs) (s.sorted read r ls rs hl hr)
+
+-- what is known of the cells that were given
+pub found : {V : Type 0} (items : V → List CellId) (sig : Signature) (left right : List Term) (pairs : List Pair) (old new : Kept) (o : Option V) (v : V) (slice : List CellId)
+    → o ≡ Some v → slice ≡ items v → IfSome o (λ w. IsSolvedIn sig left right pairs old new (items w)) → IsSolvedIn sig left right pairs old new slice
+found items sig left right pairs old new o v slice e s h =
+    subst (IsSolvedIn sig left right pairs old new) (sym s) (subst (λ w. IfSome w (λ x. IsSolvedIn sig left right pairs old new (items x))) e h)

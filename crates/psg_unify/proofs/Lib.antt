@@ -1,12 +1,4 @@
-pub mod Binding
-pub mod Searching
-pub mod Following
-pub mod Comparing
-pub mod Joining
-pub mod WritingSteps
 pub mod Theorem
-pub mod Remembering
-pub mod Shallow
 pub mod Laws
 pub mod Closing
 pub mod Steps

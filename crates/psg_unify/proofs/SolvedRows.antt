@@ -36,16 +36,16 @@ use Rattle.psg_unify.proofs.Closing.{map-twice, state_begin}
 use Rattle.psg_unify.proofs.Patched.{read_each_of, IsFull}
 
 -- one substitution for the numbers up to n, and one for those above
-abbrev joint : ℕ → Substitution → Substitution → Substitution
+abbrev pub joint : ℕ → Substitution → Substitution → Substitution
 joint n g h s m = cond (nat_le m n) (g s m) (h s m)
 
-joint-low : (n : ℕ) (g h : Substitution) (x : Variable) → IsAtMost n x → AgreeAt (joint n g h) g x
+pub joint-low : (n : ℕ) (g h : Substitution) (x : Variable) → IsAtMost n x → AgreeAt (joint n g h) g x
 joint-low n g h x l = let t : nat_le x.1 n ≡ true = grind (arith, nat_tests) in ap (λ b. cond b (g x.0 x.1) (h x.0 x.1)) t
 
-joint-high : (n : ℕ) (g h : Substitution) (x : Variable) → IsAbove n x → AgreeAt (joint n g h) h x
+pub joint-high : (n : ℕ) (g h : Substitution) (x : Variable) → IsAbove n x → AgreeAt (joint n g h) h x
 joint-high n g h x l = let t : nat_le x.1 n ≡ false = grind (arith, nat_tests) in ap (λ b. cond b (g x.0 x.1) (h x.0 x.1)) t
 
-joint-grounding : (sig : Signature) (n : ℕ) (g h : Substitution) → IsGrounding sig g → IsGrounding sig h → IsGrounding sig (joint n g h)
+pub joint-grounding : (sig : Signature) (n : ℕ) (g h : Substitution) → IsGrounding sig g → IsGrounding sig h → IsGrounding sig (joint n g h)
 joint-grounding sig n g h hg hh = record {
   variable_free = λ s m lt. elim (nat_le m n) as (λ b. IsGround (cond b (g s m) (h s m))) [ true ↦ hg.variable_free s m lt | false ↦ hh.variable_free s m lt ];
   sorted = λ s m lt. elim (nat_le m n) as (λ b. HasSort sig (cond b (g s m) (h s m)) s) [ true ↦ hg.sorted s m lt | false ↦ hh.sorted s m lt ];

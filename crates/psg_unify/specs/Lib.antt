@@ -1,9 +1,4 @@
 pub mod Pairs
-pub mod Solving
-pub mod Chains
-pub mod Memories
-pub mod WrittenOut
-pub mod Agreement
 pub mod Reading
 pub mod Fitting
 pub mod Solved
