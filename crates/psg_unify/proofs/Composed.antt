@@ -1,5 +1,5 @@
 -- The clauses of a join of rows follow from those of solving in a pool and of reading.
-use Rattle.std.proofs.Common.{ℕ, ◌≡◌, ◌↔◌, Option, Some, IfSome, List, ◌++◌, map, refl, sym, subst}
+use Rattle.std.proofs.Common.{ℕ, ◌≡◌, ◌↔◌, Option, Some, IfSome, List, [], ◌++◌, map, refl, ap₂, sym, subst}
 use Rattle.psg_terms.specs.Terms.{Term}
 use Rattle.psg_terms.specs.Signature.{Signature, HaveSorts}
 use Rattle.psg_terms.specs.Sound.{IsSound as IsSoundSignature}
@@ -11,7 +11,8 @@ use Rattle.psg_pool.specs.Bindings.{Kept, IsSound}
 use Rattle.psg_unify.specs.Pairs.{Pair, IsAgreeing}
 use Rattle.psg_unify.specs.Reading.{Reading, IsReading}
 use Rattle.psg_unify.specs.Solved.{IsSolvedIn}
-use Rattle.psg_unify.proofs.Laws.{read_by, has_reading}
+use Rattle.psg_unify.specs.Fitting.{Fits}
+use Rattle.psg_unify.proofs.Laws.{read_by, has_reading, fits_empty}
 
 module _ (sig : Signature) (left right : List Term) (pairs : List Pair) (old new : Kept) (cells : List CellId)
     (sound : IsSound new) (s : IsSolvedIn sig left right pairs old new cells) (row : List Term)
@@ -42,3 +43,7 @@ pub found : {V : Type 0} (items : V → List CellId) (sig : Signature) (left rig
     → o ≡ Some v → slice ≡ items v → IfSome o (λ w. IsSolvedIn sig left right pairs old new (items w)) → IsSolvedIn sig left right pairs old new slice
 found items sig left right pairs old new o v slice e s h =
     subst (IsSolvedIn sig left right pairs old new) (sym s) (subst (λ w. IfSome w (λ x. IsSolvedIn sig left right pairs old new (items x))) e h)
+
+-- an empty pool fits
+pub fits_nothing : (sig : Signature) (kept : Kept) → kept.cells ≡ [] → kept.bindings ≡ [] → Fits sig kept
+fits_nothing sig kept c b = subst (Fits sig) (sym (ap₂ (λ x y. record { cells = x; bindings = y }) c b)) (fits_empty sig)

@@ -25,6 +25,6 @@ mod regions;
 mod solving;
 mod walking;
 
-pub use join::{join_in, join_rows};
+pub use join::{JoinPool, join_rows};
 pub use reading::read_row;
 pub use regions::solve_in;
