@@ -2,7 +2,6 @@ pub mod Theorem
 pub mod Laws
 pub mod Closing
 pub mod Steps
-pub mod Narrowing
 pub mod Composed
 pub mod SortsRead
 pub mod VariablesPut

@@ -99,8 +99,7 @@ module _ (sig : Signature) (kept : Kept) where
       let one : opens sig (variables (read id)) ≡ (s, number) ∷ [] = ap (λ x. opens sig (variables x)) is ∙ ap (λ p. open_first p (s, number) []) o in
       let known : noted_all k0 (opens sig (variables (read id))) ≡ k1 = ap (noted_all k0) one ∙ sym k in
       keeps read k0 k1 w0 w1 id t rest final (subst (Extends k0) (sym k) (extends-noted k0 (s, number))) h
-      (subst (λ l. EndsWith sig read l rest final) known i.ends)
-      (
+      (subst (λ l. EndsWith sig read l rest final) known i.ends) (
         m ∙ ap (variable s) f ∙ sym (ap (λ p. written p (variable s (0 + place (s, number) k1 + 1))) o) ∙ sym (ap (substitute (numbering sig 0 k1)) is),
         subst (AreKnown k1) (sym one) (subst (λ l. AreKnown l ((s, number) ∷ [])) (sym k) (among-noted k0 (s, number), tt)),
       )
@@ -113,8 +112,7 @@ module _ (sig : Signature) (kept : Kept) where
       let is : read id ≡ variable s (id.0 + 1) = r.open_cell id s holds.0 holds.1 in
       let none : opens sig (variables (read id)) ≡ [] = ap (λ x. opens sig (variables x)) is ∙ ap (λ p. open_first p (s, id.0 + 1) []) o in
       keeps read known known w0 w1 id t rest final (extends_refl known) h
-      (subst (λ l. EndsWith sig read l rest final) (ap (noted_all known) none) i.ends)
-      (
+      (subst (λ l. EndsWith sig read l rest final) (ap (noted_all known) none) i.ends) (
         m ∙ sym (ap (λ p. written p (variable s (0 + place (s, id.0 + 1) known + 1))) o) ∙ sym (ap (substitute (numbering sig 0 known)) is),
         subst (AreKnown known) (sym none) tt,
       )
@@ -159,8 +157,7 @@ module _ (sig : Signature) (kept : Kept) where
   pub leaves_con : (known : List Variable) (w0 w1 : List (Option Term)) (id : CellId) (c n : ℕ) (parts : List Term) (t : Term) (rest : List Item) → Holds kept id (Con c n) → AreWritten w0 (arguments_of kept.cells id) parts
       → t ≡ applied (symbol c) parts → IsKept w0 w1 id t → ReadsOn sig kept known known w0 w1 (Leave id ∷ rest) rest
   leaves_con known w0 w1 id c n parts t rest holds a m h read r final i =
-      keeps read known known w0 w1 id t rest final (extends_refl known) h i.ends.1
-      (
+      keeps read known known w0 w1 id t rest final (extends_refl known) h i.ends.1 (
         m ∙ ap (applied (symbol c)) (all_right read known w0 i.right (arguments_of kept.cells id) parts a)
             ∙ sym (applied-substitute (numbering sig 0 known) (symbol c) (map read (arguments_of kept.cells id)))
             ∙ sym (ap (substitute (numbering sig 0 known)) (r.con_cell id c (arguments_of kept.cells id) holds.0)),

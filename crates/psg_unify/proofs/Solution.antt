@@ -301,9 +301,8 @@ module _ (sig : Signature) (left right : List Term) (pairs : List Pair) (old mid
           let before = read_put sig left right pairs old mid put lefts rights p in
           let reads = reads_put sig left right pairs old mid put lefts rights p in
           let on = λ (ids : List CellId) (i : All (IsAmong put.cells) ids).
-              values_of sig put p.two.sound p.two.fits.height p.two.fits.falls before v reads below (old_solved v sol) k.some ids i in
-          let grounding = patch-grounding sig put.cells v k full in
-          (
+          values_of sig put p.two.sound p.two.fits.height p.two.fits.falls before v reads below (old_solved v sol) k.some ids i in
+          let grounding = patch-grounding sig put.cells v k full in (
             map v lefts,
             map v rights,
             (left_same sig left right pairs old mid put lefts rights p before reads p.joinable.left_sorts p.joinable.left_sorted).1 (map v lefts)
@@ -321,8 +320,7 @@ module _ (sig : Signature) (left right : List Term) (pairs : List Pair) (old mid
           let full : IsFull sig new.cells h.v = subst (λ k. IsFull sig k h.v) (sym more.cells_are) h.full in
           let past : Solves old.bindings h.v = subst (λ k. Solves k h.v) (put_bindings sig left right pairs old mid put lefts rights p) h.solves in
           let sol = (s.state.to h.v val past (agree_asked h.v lefts rights pairs equations asks h.agree)).0 in
-          let k = choices sig p.signature in
-          (
+          let k = choices sig p.signature in (
             patch sig new.cells h.v k.some,
             patch-grounding sig new.cells h.v k full,
             h.values_are ∙ values_of sig new sound both_heights all_fall read h.v r val sol k.some (lefts ++ rights) all_among,
@@ -332,10 +330,10 @@ module _ (sig : Signature) (left right : List Term) (pairs : List Pair) (old mid
       read_sorted ls rs hl hr =
           cells_sorts sig new sound fits_solved read r (lefts ++ rights) (ls ++ rs) all_among
           (
-            ap (λ c. map (sort_at sig c) (lefts ++ rights)) more.cells_are
-            ∙ map-both (sort_at sig put.cells) lefts rights
-            ∙ ap₂ (λ x y. x ++ y) (left_sorts sig left right pairs old mid put lefts rights p ls hl) (right_sorts sig left right pairs old mid put lefts rights p rs hr)
-            ∙ sym (map-both (λ (n : ℕ). Some n) ls rs)
+          ap (λ c. map (sort_at sig c) (lefts ++ rights)) more.cells_are
+          ∙ map-both (sort_at sig put.cells) lefts rights
+          ∙ ap₂ (λ x y. x ++ y) (left_sorts sig left right pairs old mid put lefts rights p ls hl) (right_sorts sig left right pairs old mid put lefts rights p rs hr)
+          ∙ sym (map-both (λ (n : ℕ). Some n) ls rs)
           )
 
     before_is_put : by_old old new ≡ put

@@ -57,4 +57,3 @@ module _ (sig : Signature) (left right : List Term) (pairs : List Pair) (lefts r
       ) where
         zero_plus : (k : ℕ) → 0 + k ≡ k
         zero_plus k = omega arith
-

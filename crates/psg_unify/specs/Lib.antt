@@ -4,7 +4,6 @@ pub mod Fitting
 pub mod Solved
 pub mod Valuations
 pub mod Walking
-pub mod Columns
 pub mod Putting
 pub mod Making
 pub mod Joined

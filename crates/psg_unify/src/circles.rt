@@ -56,12 +56,7 @@ fn set_progress(
 }
 
 /// A number that is at least the one given and above the number of a cell that was left.
-fn above(
-    marks: &Vec<Progress>,
-    base: usize,
-    to: CellId,
-    top: usize,
-) -> Result<usize, AllocError>
+fn above(marks: &Vec<Progress>, base: usize, to: CellId, top: usize) -> Result<usize, AllocError>
     ensures top { IfOk result (λ n. top ≤ n) }
     ensures above { IfOk result (λ n. IsLeftBelow base marks.now.items n to) }
 {
@@ -124,12 +119,7 @@ fn above_all(
 }
 
 /// Leaves a cell that is open, all cells to which it leads being left.
-fn leave(
-    pool: &Pool,
-    marks: &mut Vec<Progress>,
-    base: usize,
-    id: CellId,
-) -> Result<(), AllocError>
+fn leave(pool: &Pool, marks: &mut Vec<Progress>, base: usize, id: CellId) -> Result<(), AllocError>
     ensures { OnOk result ((rest : List Step) → IsWalking pool.now base marks.old.items (Leave id ∷ rest)
         → IsWalking pool.now base marks.new.items rest) }
 {

@@ -36,11 +36,7 @@ fn equations_of(
 }
 
 /// The cells of both rows, one behind the other.
-fn both_rows(
-    alloc: Global,
-    lefts: &[CellId],
-    rights: &[CellId],
-) -> Result<Vec<CellId>, AllocError>
+fn both_rows(alloc: Global, lefts: &[CellId], rights: &[CellId]) -> Result<Vec<CellId>, AllocError>
     ensures { IfOk result (λ v. v.items ≡ lefts.now ++ rights.now) }
 {
     let mut cells = Vec::new(alloc);
