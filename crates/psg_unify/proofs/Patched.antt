@@ -1,9 +1,8 @@
 -- Substitutions that give the values of cells, and all that a reading's variables have in common.
-use Rattle.std.proofs.Common.{◌≡◌, ◌⊎◌, inl, inr, ℕ, zero, suc, ◌<◌, ◌≤◌, ◌+◌, ◌-◌, ◌==◌, cond, true, Option, Some, None, List, [], ◌∷◌, ◌++◌, map, length, slice_get, All, refl, ap, ap₂, sym, ◌∙◌, subst, arith}
+use Rattle.std.proofs.Common.{◌≡◌, inl, inr, ℕ, zero, suc, ◌<◌, ◌+◌, ◌-◌, ◌==◌, cond, Option, Some, None, List, [], ◌∷◌, map, slice_get, All, refl, ap, sym, ◌∙◌, subst, arith}
 use Rattle.std.proofs.lemmas.Bool.{eqb-true, eq-eqb}
-use Rattle.std.proofs.lemmas.Option.{slice_get_within}
 use Rattle.std.proofs.lemmas.List.Elements.{All-weaker, All-head, All-tail}
-use Rattle.psg_terms.specs.Terms.{Term, symbol, applied}
+use Rattle.psg_terms.specs.Terms.{Term, symbol}
 use Rattle.psg_terms.specs.Signature.{Signature, HasSort}
 use Rattle.psg_terms.specs.Canonical.{Variable, variables, variables_of}
 use Rattle.psg_terms.specs.Instances.{Substitution, substitute, IsGround, IsGrounding}

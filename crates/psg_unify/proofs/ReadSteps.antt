@@ -1,8 +1,8 @@
 -- Steps of writing cells out with canonical numbers.
-use Rattle.std.proofs.Common.{◌≡◌, ◌⊎◌, inl, inr, ℕ, zero, suc, ◌<◌, ◌≤◌, ◌+◌, ◌==◌, Option, Some, None, List, [], ◌∷◌, ◌++◌, map, reverse, take, length, slice_get, All, refl, ap, ap₂, sym, ◌∙◌, subst, arith, append-nil}
+use Rattle.std.proofs.Common.{◌≡◌, inl, inr, ℕ, zero, suc, ◌≤◌, ◌+◌, ◌==◌, Option, Some, None, List, [], ◌∷◌, ◌++◌, map, reverse, take, length, slice_get, All, refl, ap, ap₂, sym, ◌∙◌, subst, append-nil}
 use Rattle.std.proofs.Math.ListN.{set}
 use Rattle.std.proofs.lemmas.Bool.{eqb-true, eqb-false}
-use Rattle.std.proofs.lemmas.List.{reverse-append, reverse-reverse, take_all}
+use Rattle.std.proofs.lemmas.List.{reverse-reverse, take_all}
 use Rattle.psg_terms.specs.Terms.{Term, variable, symbol, applied}
 use Rattle.psg_terms.specs.Signature.{Signature, HaveSorts, only_constructor}
 use Rattle.psg_terms.specs.Sound.{IsSound as IsSoundSignature}
@@ -15,7 +15,7 @@ use Rattle.psg_terms.proofs.RenamingLaws.{Extends, extends_refl, extends-noted, 
 use Rattle.psg_terms.proofs.Renumbering.{renumbered_canonical, renumbered_same}
 use Rattle.psg_pool.specs.declared.cells.CellId.{CellId}
 use Rattle.psg_pool.specs.declared.cells.Cell.TheVariants.{Free, Bound, Con}
-use Rattle.psg_pool.specs.Cells.{free, IsAmong, arguments_of}
+use Rattle.psg_pool.specs.Cells.{IsAmong, arguments_of}
 use Rattle.psg_pool.specs.Bindings.{Kept, IsSound, Holds}
 use Rattle.psg_pool.proofs.Places.{either, slice_get-set_other}
 use Rattle.psg_unify.specs.declared.walking.Item.{Item}
@@ -26,7 +26,7 @@ use Rattle.psg_unify.specs.Walking.{EndsWith}
 use Rattle.psg_unify.specs.ReadOut.{AreWritten, IsKept, IsWrittenAt, IsReadingOut, ReadsOn}
 use Rattle.psg_unify.proofs.Laws.{read_by, has_reading}
 use Rattle.psg_unify.proofs.SortsRead.{cells_have_sorts}
-use Rattle.psg_unify.proofs.Rounds.{same_cell, on_top, take_next}
+use Rattle.psg_unify.proofs.Rounds.{same_cell, take_next}
 use Rattle.psg_unify.proofs.Steps.{visits, at_con, at_bound, at_known}
 
 each_known : (known xs : List Variable) → AreKnown known xs → Each (IsAmongKnown known) xs

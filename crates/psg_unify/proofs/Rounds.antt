@@ -1,5 +1,5 @@
 -- Walks over cells that look for circles.
-use Rattle.std.proofs.Common.{◌≡◌, ◌≢◌, ◌⊎◌, ◌==◌, inl, inr, ℕ, zero, suc, ◌<◌, ◌≤◌, ◌+◌, ◌-◌, Option, Some, None, List, [], ◌∷◌, ◌++◌, map, reverse, take, length, slice_get, get_or, All, refl, ap, ap₂, sym, ◌∙◌, subst, arith}
+use Rattle.std.proofs.Common.{◌≡◌, ◌≢◌, ◌⊎◌, ◌==◌, inl, inr, ℕ, ◌<◌, ◌≤◌, ◌+◌, ◌-◌, Option, Some, None, List, [], ◌∷◌, ◌++◌, map, reverse, take, length, slice_get, get_or, All, refl, ap, sym, ◌∙◌, subst, arith}
 use Rattle.std.proofs.lemmas.Bool.{eqb-true, eqb-false}
 use Rattle.std.proofs.Math.ListN.{replicate, set}
 use Rattle.std.proofs.lemmas.List.{reverse-append, take_more, take_all, length-replicate, get_or-replicate}
@@ -9,10 +9,10 @@ use Rattle.psg_terms.specs.Sizes.{size}
 use Rattle.psg_terms.specs.Relations.{IsIn, first, later}
 use Rattle.psg_pool.specs.declared.cells.CellId.{CellId}
 use Rattle.psg_pool.specs.declared.cells.Cell.TheVariants.{Free, Bound, Con}
-use Rattle.psg_pool.specs.Cells.{Put, free, constructor, IsAmong, arguments_in, arguments_of}
-use Rattle.psg_pool.specs.Bindings.{Kept, target_of, IsSound, Holds, Leads, arrived, followed}
+use Rattle.psg_pool.specs.Cells.{Put, free, constructor, arguments_in, arguments_of}
+use Rattle.psg_pool.specs.Bindings.{Kept, IsSound, Holds, Leads, arrived, followed}
 use Rattle.psg_pool.proofs.Places.{either, some_or_none, slice_get-set_other, slice_get-set_same}
-use Rattle.psg_pool.proofs.Following.{ends_round, leads_on}
+use Rattle.psg_pool.proofs.Following.{ends_round}
 use Rattle.psg_unify.specs.declared.circles.Progress.{Progress}
 use Rattle.psg_unify.specs.declared.circles.Progress.TheVariants.{New, Open, Left}
 use Rattle.psg_unify.specs.declared.walking.Item.{Item}

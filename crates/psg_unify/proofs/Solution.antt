@@ -1,17 +1,17 @@
 -- What a solver leaves in a pool into which two rows were put.
-use Rattle.std.proofs.Common.{◌≡◌, ◌⊎◌, ◌↔◌, inl, inr, ℕ, zero, suc, ◌<◌, ◌≤◌, ◌==◌, cond, nat_le, true, false, Option, Some, None, List, [], ◌∷◌, ◌++◌, map, reverse, take, drop, length, slice_get, All, refl, ap, ap₂, sym, ◌∙◌, subst, arith, append-nil, append_assoc, length-append}
+use Rattle.std.proofs.Common.{◌≡◌, ◌⊎◌, inl, inr, ℕ, zero, suc, ◌<◌, ◌≤◌, ◌==◌, cond, nat_le, true, false, Option, Some, None, List, [], ◌∷◌, ◌++◌, map, reverse, take, drop, length, slice_get, All, refl, ap, ap₂, sym, ◌∙◌, subst, arith, append-nil, append_assoc, length-append}
 use Rattle.std.proofs.lemmas.Bool.{eqb-true}
 use Rattle.std.proofs.lemmas.Bool.Decides.{nat_tests}
 use Rattle.std.proofs.lemmas.Option.{slice_get_within}
 use Rattle.std.proofs.lemmas.List.Elements.{All-weaker, All-cons, All-head, All-tail, All-append}
 use Rattle.psg_terms.specs.Terms.{Term}
 use Rattle.psg_terms.specs.Signature.{Signature, HaveSorts}
-use Rattle.psg_terms.specs.Instances.{substitute, IsGroundInstance, HasSameInstances}
+use Rattle.psg_terms.specs.Instances.{substitute, IsGroundInstance}
 use Rattle.psg_terms.specs.Relations.{IsIn, first, later}
 use Rattle.psg_terms.proofs.SoundChoices.{choices}
 use Rattle.psg_pool.specs.declared.cells.CellId.{CellId}
 use Rattle.psg_pool.specs.declared.cells.Binding.{Binding}
-use Rattle.psg_pool.specs.Cells.{Put, free, IsAmong, IsPutFree, arguments_in, arguments_of}
+use Rattle.psg_pool.specs.Cells.{Put, free, IsAmong, arguments_in, arguments_of}
 use Rattle.psg_pool.specs.Bindings.{Kept, target_of, IsSound}
 use Rattle.psg_pool.proofs.Places.{either, some_or_none, slice_get-append, slice_get_none}
 use Rattle.psg_pool.proofs.Links.{target_of_here, target_of_there}
@@ -21,9 +21,8 @@ use Rattle.psg_unify.specs.declared.classes.Classes.{Classes}
 use Rattle.psg_unify.specs.Pairs.{Pair, AreOfEqualSort, IsAgreeing}
 use Rattle.psg_unify.specs.Reading.{Reading, IsReading}
 use Rattle.psg_unify.specs.Fitting.{Fits, Falls, sort_at}
-use Rattle.psg_unify.specs.Valuations.{Equation, Equals, IsValuation, Solves}
+use Rattle.psg_unify.specs.Valuations.{Equation, IsValuation, Solves}
 use Rattle.psg_unify.specs.Solved.{Reaches, here, by_binding, by_argument, IsGrown, by_old, IsSolvedIn}
-use Rattle.psg_unify.specs.Making.{IsPutRow}
 use Rattle.psg_unify.specs.Putting.{IsLonger}
 use Rattle.psg_unify.specs.Joined.{IsNext, IsFrom, IsSolving}
 use Rattle.psg_unify.specs.Meeting.{IsMoreBound, StaysSolving, HasNoValuation, CanSolve}
@@ -34,7 +33,7 @@ use Rattle.psg_unify.proofs.SortsRead.{cells_sorts}
 use Rattle.psg_unify.proofs.Closing.{in_all, map-twice, state_end}
 use Rattle.psg_unify.proofs.Rounds.{on_top, nothing_in, no_circle}
 use Rattle.psg_unify.proofs.Patched.{patch, patch-grounding, values_of, IsFull}
-use Rattle.psg_unify.proofs.SolvedRows.{map-both, length-map, asked_agree, agree_asked, full_under, valuation_under, HasValues, left_among, read_put, reads_put, left_same, right_same, rows_apart, left_sorts, right_sorts, left_length, right_length, put_bindings, agreeing_values, solving_begins}
+use Rattle.psg_unify.proofs.SolvedRows.{map-both, length-map, asked_agree, agree_asked, full_under, valuation_under, left_among, read_put, reads_put, left_same, right_same, rows_apart, left_sorts, right_sorts, left_length, right_length, put_bindings, agreeing_values, solving_begins}
 
 -- what holds of all members
 pub every_in : {X : Type 0} (P : X → Type 0) (xs : List X) → ((x : X) → IsIn x xs → P x) → All P xs

@@ -1,38 +1,34 @@
 -- Two rows in a pool, and what the solved pool says of them.
-use Rattle.std.proofs.Common.{◌≡◌, ◌⊎◌, ◌↔◌, inl, inr, ℕ, zero, suc, ◌<◌, ◌≤◌, ◌+◌, ◌-◌, cond, nat_le, true, false, Option, Some, None, List, [], ◌∷◌, ◌++◌, map, length, slice_get, All, refl, ap, ap₂, sym, ◌∙◌, subst, arith, append-nil, append_assoc, length-append}
+use Rattle.std.proofs.Common.{◌≡◌, inl, inr, ℕ, suc, cond, nat_le, true, false, Option, Some, None, List, [], ◌∷◌, ◌++◌, map, length, slice_get, All, refl, ap, ap₂, sym, ◌∙◌, subst, arith, append-nil, length-append}
 use Rattle.std.specs.Option.{option_map}
 use Rattle.std.proofs.lemmas.Bool.Decides.{nat_tests}
 use Rattle.std.proofs.lemmas.Option.{slice_get-map, slice_get_within}
-use Rattle.std.proofs.lemmas.List.Elements.{All-weaker, All-cons, All-head, All-tail, All-append}
+use Rattle.std.proofs.lemmas.List.Elements.{All-weaker, All-cons, All-head, All-tail}
 use Rattle.psg_terms.specs.Terms.{Term, symbol, applied}
 use Rattle.psg_terms.specs.Signature.{Signature, HasSort, HaveSorts}
 use Rattle.psg_terms.specs.Canonical.{Variable, variables_of, is_noted}
-use Rattle.psg_terms.specs.Instances.{Substitution, substitute, IsGround, IsGrounding, IsGroundInstance, AllGroundInstancesIn, HasSameInstances}
-use Rattle.psg_terms.specs.Renaming.{numbering, Renumbered}
+use Rattle.psg_terms.specs.Instances.{Substitution, substitute, IsGround, IsGrounding, AllGroundInstancesIn}
+use Rattle.psg_terms.specs.Renaming.{numbering}
 use Rattle.psg_terms.proofs.Applied.{applied-substitute}
 use Rattle.psg_terms.proofs.InstanceLaws.{Takes-substitute, ground-substitute}
 use Rattle.psg_terms.proofs.Variables.{cases}
 use Rattle.psg_terms.proofs.Unique.{Each, each-map, each-among}
-use Rattle.psg_terms.proofs.Separate.{Choices}
-use Rattle.psg_terms.proofs.SoundChoices.{choices}
 use Rattle.psg_terms.proofs.Renumbering.{renumbered_same, renumbered_above, IsAtMost, IsAbove, AgreeAt, agree_in}
 use Rattle.psg_pool.specs.declared.cells.CellId.{CellId}
 use Rattle.psg_pool.specs.Cells.{Put, free, IsAmong}
-use Rattle.psg_pool.specs.Bindings.{Kept, target_of, IsSound}
+use Rattle.psg_pool.specs.Bindings.{Kept, IsSound}
 use Rattle.psg_pool.proofs.Places.{some_or_none}
-use Rattle.psg_pool.proofs.Following.{target_of-append}
 use Rattle.psg_unify.specs.declared.classes.Classes.{Classes}
 use Rattle.psg_unify.specs.Pairs.{Pair, AgreeOn, AreOfEqualSort, IsAgreeing}
 use Rattle.psg_unify.specs.Reading.{Reading, IsReading}
 use Rattle.psg_unify.specs.Fitting.{Fits, sort_at, sort_in}
 use Rattle.psg_unify.specs.Valuations.{Equation, Equals, IsValuation, Solves, IsState}
-use Rattle.psg_unify.specs.Making.{IsPutRow}
-use Rattle.psg_unify.specs.Joined.{IsNext, AreSortedAlike, AreThereBoth, IsFrom, IsSolving}
+use Rattle.psg_unify.specs.Joined.{IsNext, AreSortedAlike, AreThereBoth, IsSolving}
 use Rattle.psg_unify.specs.Asking.{AskFor, ArePut}
 use Rattle.psg_unify.proofs.Laws.{with_cells, read_by, has_reading, reading_before}
 use Rattle.psg_unify.proofs.SortsRead.{all_at, cell_sorts}
 use Rattle.psg_unify.proofs.MadeCells.{sorts_back}
-use Rattle.psg_unify.proofs.Closing.{map-twice, state_begin}
+use Rattle.psg_unify.proofs.Closing.{state_begin}
 use Rattle.psg_unify.proofs.Patched.{read_each_of, IsFull}
 
 -- one substitution for the numbers up to n, and one for those above

@@ -5,7 +5,7 @@ use Rattle.psg_pool.specs.declared.cells.CellId.{CellId}
 use Rattle.psg_pool.specs.Cells.{arguments_of}
 use Rattle.psg_pool.specs.Bindings.{Kept, target_of}
 use Rattle.psg_unify.specs.declared.circles.Progress.{Progress}
-use Rattle.psg_unify.specs.declared.circles.Progress.TheVariants.{New, Open, Left}
+use Rattle.psg_unify.specs.declared.circles.Progress.TheVariants.{Open, Left}
 use Rattle.psg_unify.specs.declared.walking.Item.{Item}
 use Rattle.psg_unify.specs.declared.walking.Item.TheVariants.{Visit, Leave}
 use Rattle.psg_unify.specs.Solved.{Reaches}

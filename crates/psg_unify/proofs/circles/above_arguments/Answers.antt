@@ -1,6 +1,5 @@
-use Rattle.std.proofs.Common.{All, take, subst, length, arith}
+use Rattle.std.proofs.Common.{arith}
 use Rattle.psg_pool.specs.Cells.{arguments_of}
-use Rattle.psg_unify.specs.Circles.{IsLeftBelow}
 use Rattle.psg_unify.proofs.Rounds.{below_more, below_whole, none_below}
 use Rattle.psg_unify.proofs.circles.above_arguments.Goals as goal
 

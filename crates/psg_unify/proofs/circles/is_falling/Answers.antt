@@ -1,4 +1,4 @@
-use Rattle.std.proofs.Common.{[], ◌-◌, length, subst, arith}
+use Rattle.std.proofs.Common.{◌-◌, subst, arith}
 use Rattle.psg_unify.specs.Circles.{AreAllLeft}
 use Rattle.psg_unify.proofs.Rounds.{walk_begins, walk_ends, all_new}
 use Rattle.psg_unify.proofs.circles.is_falling.Goals as goal

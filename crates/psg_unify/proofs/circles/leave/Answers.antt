@@ -1,5 +1,4 @@
-use Rattle.std.proofs.Common.{Some, ap, sym, ◌∙◌, subst}
-use Rattle.psg_unify.specs.declared.circles.Progress.{Progress}
+use Rattle.std.proofs.Common.{subst}
 use Rattle.psg_unify.specs.Circles.{IsAt}
 use Rattle.psg_unify.proofs.Rounds.{leaves_cell}
 use Rattle.psg_unify.proofs.circles.leave.Goals as goal

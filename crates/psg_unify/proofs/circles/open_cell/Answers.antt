@@ -1,5 +1,4 @@
-use Rattle.std.proofs.Common.{◌∷◌, reverse, subst}
-use Rattle.std.proofs.lemmas.List.{reverse-append}
+use Rattle.std.proofs.Common.{reverse, subst}
 use Rattle.psg_unify.specs.declared.walking.Item.TheVariants.{Leave}
 use Rattle.psg_unify.specs.Circles.{HasNext}
 use Rattle.psg_unify.proofs.Rounds.{opens_cell, on_top}

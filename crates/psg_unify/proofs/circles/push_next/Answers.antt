@@ -1,4 +1,4 @@
-use Rattle.std.proofs.Common.{[], ◌∷◌, reverse, subst}
+use Rattle.std.proofs.Common.{reverse, subst}
 use Rattle.psg_pool.specs.Bindings.{Holds}
 use Rattle.psg_unify.specs.declared.walking.Item.TheVariants.{Visit}
 use Rattle.psg_unify.proofs.Rounds.{on_top, next_none, next_bound, next_con}

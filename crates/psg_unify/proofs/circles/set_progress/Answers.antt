@@ -1,4 +1,4 @@
-use Rattle.std.proofs.Common.{◌-◌, arith}
+use Rattle.std.proofs.Common.{arith}
 use Rattle.psg_unify.proofs.Rounds.{set_at}
 use Rattle.psg_unify.proofs.circles.set_progress.Goals as goal
 

@@ -1,4 +1,4 @@
-use Rattle.std.proofs.Common.{[], ◌∷◌, reverse, ap, subst, arith}
+use Rattle.std.proofs.Common.{reverse, subst, arith}
 use Rattle.psg_unify.specs.Circles.{IsWalking}
 use Rattle.psg_unify.proofs.Rounds.{on_top, none_left}
 use Rattle.psg_unify.proofs.circles.walk.Goals as goal

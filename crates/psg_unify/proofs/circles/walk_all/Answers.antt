@@ -1,4 +1,4 @@
-use Rattle.std.proofs.Common.{[], ◌∷◌, ◌++◌, reverse, ap, sym, ◌∙◌, subst}
+use Rattle.std.proofs.Common.{◌∷◌, reverse, ap, sym, ◌∙◌, subst}
 use Rattle.psg_unify.specs.declared.walking.Item.TheVariants.{Visit}
 use Rattle.psg_unify.specs.Circles.{IsWalking}
 use Rattle.psg_unify.proofs.Rounds.{on_top, walk_from}

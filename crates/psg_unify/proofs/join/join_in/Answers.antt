@@ -1,5 +1,4 @@
-use Rattle.std.proofs.Common.{sym, subst}
-use Rattle.psg_unify.proofs.Laws.{releasable, restored}
+use Rattle.psg_unify.proofs.Laws.{releasable}
 use Rattle.psg_unify.proofs.Composed.{exact_by_cells, some_by_cells, sorted_by_cells, found}
 use Rattle.psg_unify.proofs.join.join_in.Goals as goal
 

@@ -1,4 +1,3 @@
-use Rattle.std.proofs.Common.{[], Some, slice_get, sym, ap, ◌∙◌}
 use Rattle.psg_unify.proofs.ReadSteps.{none_more, none_at_all}
 use Rattle.psg_unify.proofs.reading.empty_places.Goals as goal
 

@@ -1,4 +1,4 @@
-use Rattle.std.proofs.Common.{[], ◌∷◌, reverse, ap, sym, subst, arith}
+use Rattle.std.proofs.Common.{◌∷◌, reverse, subst, arith}
 use Rattle.psg_terms.specs.Renaming.{keys}
 use Rattle.psg_unify.specs.ReadOut.{ReadsOn}
 use Rattle.psg_unify.proofs.Rounds.{on_top, none_left}

@@ -1,4 +1,4 @@
-use Rattle.std.proofs.Common.{[], ◌++◌, map, reverse, ap, sym, ◌∙◌, subst}
+use Rattle.std.proofs.Common.{◌++◌, map, reverse, ap, ◌∙◌, subst}
 use Rattle.psg_terms.specs.Renaming.{keys}
 use Rattle.psg_pool.specs.declared.cells.CellId.{CellId}
 use Rattle.psg_unify.specs.declared.walking.Item.TheVariants.{Visit}

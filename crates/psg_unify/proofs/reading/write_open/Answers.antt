@@ -1,4 +1,4 @@
-use Rattle.std.proofs.Common.{◌≡◌, ◌+◌, [], sym, ap, ◌∙◌}
+use Rattle.std.proofs.Common.{◌+◌, sym, ap, ◌∙◌}
 use Rattle.psg_terms.specs.Terms.{applied, symbol}
 use Rattle.psg_terms.specs.Renaming.{keys}
 use Rattle.psg_unify.proofs.ReadSteps.{reads_open, reads_constant}

@@ -1,4 +1,4 @@
-use Rattle.std.proofs.Common.{ℕ, ◌≡◌, ◌<◌, ◌++◌, All, List, length, reverse, sym, ap, ap₂, ◌∙◌, subst}
+use Rattle.std.proofs.Common.{ℕ, ◌<◌, ◌++◌, All, length, reverse, sym, ap₂, ◌∙◌, subst}
 use Rattle.psg_pool.specs.declared.cells.CellId.{CellId}
 use Rattle.psg_unify.specs.Pairs.{Pair}
 use Rattle.psg_unify.specs.Circles.{FallsFrom}

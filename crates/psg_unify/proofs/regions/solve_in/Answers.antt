@@ -1,4 +1,4 @@
-use Rattle.psg_unify.proofs.Solution.{goes_back, may_go_back}
+use Rattle.psg_unify.proofs.Solution.{may_go_back}
 use Rattle.psg_unify.proofs.regions.solve_in.Goals as goal
 
 pub release-requires : goal.release-requires
