@@ -10,7 +10,10 @@
 #![tactic(auto)]
 
 pub mod building;
+mod listing;
 pub mod note;
+mod parts;
+mod topping;
 mod walking;
 
 pub use building::build;

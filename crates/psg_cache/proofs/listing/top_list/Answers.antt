@@ -5,7 +5,7 @@ use Rattle.psg_cache.specs.Walks.{IsListFault}
 use Rattle.psg_cache.proofs.SpaceTables.{list_read, spaces_read}
 use Rattle.psg_cache.proofs.ListLaws.{cell_fault, cell_takes, cell_topped, end_fault, end_topped}
 use Rattle.psg_cache.proofs.Passing.{passed}
-use Rattle.psg_cache.proofs.walking.top_list.Goals as goal
+use Rattle.psg_cache.proofs.listing.top_list.Goals as goal
 
 pub eval_end-ended-requires-clause-spaces : goal.eval_end-ended-requires-clause-spaces
 eval_end-ended-requires-clause-spaces g c =

@@ -3,7 +3,7 @@ use Rattle.psg_grammar.specs.Fragments.{Fragment}
 use Rattle.psg_tree.specs.Shapes.{list_of}
 use Rattle.psg_eval.specs.Summaries.{AllSummaries}
 use Rattle.psg_cache.specs.Walks.{IsTopped}
-use Rattle.psg_cache.proofs.walking.top_list.Given as goal
+use Rattle.psg_cache.proofs.listing.top_list.Given as goal
 
 -- the cells from the number on are done
 abbrev pub invariant-loop-left : goal.invariant-loop-left

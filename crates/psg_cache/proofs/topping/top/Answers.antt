@@ -3,7 +3,7 @@ use Rattle.psg_cache.specs.Walks.{IsStepFault, names_in, top_steps}
 use Rattle.psg_cache.proofs.Counting.{hole_once, list_once, operator_once}
 use Rattle.psg_cache.proofs.Passing.{passed}
 use Rattle.psg_cache.proofs.TopLaws.{elements_taken, hole_fault, hole_topped, list_fault, list_topped, operator_fault, operator_takes, operator_topped}
-use Rattle.psg_cache.proofs.walking.top.Goals as goal
+use Rattle.psg_cache.proofs.topping.top.Goals as goal
 
 pub returns-in_err-summary-in-Hole-clause-err : goal.returns-in_err-summary-in-Hole-clause-err
 returns-in_err-summary-in-Hole-clause-err g c =

@@ -2,7 +2,7 @@ use Rattle.std.proofs.Common.{sym, ap, ◌∙◌}
 use Rattle.psg_grammar.specs.Fragments.{operator, children_of}
 use Rattle.psg_tree.specs.Shapes.{tree_of, subtrees}
 use Rattle.psg_tree.proofs.Children.{children-with_parts, children-list}
-use Rattle.psg_cache.proofs.walking.children.Goals as goal
+use Rattle.psg_cache.proofs.parts.children.Goals as goal
 
 pub returns-in_ok-found-in-Op : goal.returns-in_ok-found-in-Op
 returns-in_ok-found-in-Op c =
