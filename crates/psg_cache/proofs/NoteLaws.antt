@@ -55,7 +55,7 @@ module _ (def : Definition) where
   abbrev OfTop : Fragment → Known → Type 0
   OfTop f s = IsSummaryOf def f s × ((path : Path) → IsClean def (top_steps def path f))
 
-  abbrev OfTree : Fragment → Known → Type 0
+  abbrev pub OfTree : Fragment → Known → Type 0
   OfTree f s = IsSummaryOf def f s × ((path : Path) → IsClean def (steps_of def path f))
 
   spine_known : (f : Fragment) → IsFormed def f → IsSpine f → ((path : Path) → top_steps def path f ≡ own_steps def path f)
@@ -100,7 +100,7 @@ module _ (def : Definition) where
   top_known anything formed is below s rests are h = absurd is
   top_known (observed f) formed is below s rests are h = absurd is
 
-  abbrev Holds : Annotated → Type 0
+  abbrev pub Holds : Annotated → Type 0
   Holds n = IsFormed def (tree_in n) → OfTree (tree_in n) (whole_in n)
 
   pub children_known : (below : List Annotated) → AllByRecursion (IsFormed def) (map tree_in below) → AllByRecursion Holds below
@@ -108,7 +108,7 @@ module _ (def : Definition) where
   children_known [] formed h = tt
   children_known (n ∷ ns) formed h = ((h.0 formed.0).0, children_known ns formed.1 h.1)
 
-  children_clean : (below : List Annotated) → AllByRecursion (IsFormed def) (map tree_in below) → AllByRecursion Holds below
+  pub children_clean : (below : List Annotated) → AllByRecursion (IsFormed def) (map tree_in below) → AllByRecursion Holds below
       → (path : Path) (k : ℕ) → IsClean def (each_steps def path k (map tree_in below))
   children_clean [] formed h path k = clean-none def
   children_clean (n ∷ ns) formed h path k =
@@ -141,6 +141,10 @@ module _ (def : Definition) where
       → IsSummaryOf def (tree_in n) (whole_in n) × ((path : Path) → IsClean def (steps_of def path (tree_in n)))
   noted_known n h = noted_by def Holds step n h
 
+  pub holds : (below : List Annotated) → AllByRecursion (IsNoted def) below → AllByRecursion Holds below
+  holds [] h = tt
+  holds (n ∷ ns) h = (noted_known n h.0, holds ns h.1)
+
   -- the children of a noted tree are trees with their summaries
   pub below_known : (tree : Fragment) (below : List Annotated) → IsFormed def tree → map tree_in below ≡ children_of tree
       → AllByRecursion (IsNoted def) below
@@ -148,7 +152,4 @@ module _ (def : Definition) where
   below_known tree below formed children noted =
       let each : AllByRecursion (IsFormed def) (map tree_in below) =
       subst (AllByRecursion (IsFormed def)) (sym children) (formed_below def tree [] formed.0 formed.1.0 formed.1.1) in
-      (each, subst (λ cs. AllSummaries def cs (map whole_in below)) children (children_known below each (holds below noted))) where
-        holds : (below : List Annotated) → AllByRecursion (IsNoted def) below → AllByRecursion Holds below
-        holds [] h = tt
-        holds (n ∷ ns) h = (noted_known n h.0, holds ns h.1)
+      (each, subst (λ cs. AllSummaries def cs (map whole_in below)) children (children_known below each (holds below noted)))

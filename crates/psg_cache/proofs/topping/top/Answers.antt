@@ -17,9 +17,10 @@ returns-in_err-summary-in-Hole-clause-err g c =
 
 pub returns-in_ok-summary-in-Hole-clause-ok : goal.returns-in_ok-summary-in-Hole-clause-ok
 returns-in_ok-summary-in-Hole-clause-ok g c =
-    hole_topped c.args.language.definition.now c.args.path.now c.shape.result.now c.in-Hole.phylum c.args.tree.now
-    c.eval_hole-made.result c.args.found.now _ c.in_ok-summary-in-Hole.summary c.in-Hole.is c.shape.ensures
+    hole_topped c.args.language.definition.now c.shape.result.now c.in-Hole.phylum c.args.tree.now
+    c.eval_hole-made.result c.in_ok-summary-in-Hole.summary c.args.below.now _ _ c.in-Hole.is c.shape.ensures
     c.eval_hole-made.ensures.answer c.eval_hole-made.ensures.summary c.in_ok-summary-in-Hole.ensures.ok
+    c.alone-suffixes-in-Hole.ensures.whole c.alone-suffixes-in-Hole.ensures.rests
 
 pub eval_op-made-requires-clause-takes : goal.eval_op-made-requires-clause-takes
 eval_op-made-requires-clause-takes g c =
@@ -42,34 +43,35 @@ returns-in_err-summary-in-Op-clause-err g c =
 
 pub returns-in_ok-summary-in-Op-clause-ok : goal.returns-in_ok-summary-in-Op-clause-ok
 returns-in_ok-summary-in-Op-clause-ok g c =
-    operator_topped c.args.language.definition.now c.args.path.now c.shape.result.now c.in-Op.op c.in-Op.parts
-    c.args.tree.now _ c.args.below.now c.eval_op-made.result c.args.found.now _ c.in_ok-summary-in-Op.summary
-    c.in-Op.is c.shape.ensures c.requires.formed
+    operator_topped c.args.language.definition.now c.shape.result.now c.in-Op.op c.in-Op.parts
+    c.args.tree.now _ c.args.below.now c.eval_op-made.result c.in_ok-summary-in-Op.summary _ _
+    c.in-Op.is c.shape.ensures
     (c.as_slice-in-Op.ensures.value ∙ c.in_ok-names-in-Op.ensures ∙ ap names_in c.as_slice.ensures)
-    c.requires.summaries c.eval_op-made.ensures.answer c.eval_op-made.ensures.summary c.in_ok-summary-in-Op.ensures.ok
+    c.eval_op-made.ensures.answer c.eval_op-made.ensures.summary c.in_ok-summary-in-Op.ensures.ok
+    c.alone-suffixes-in-Op.ensures.whole c.alone-suffixes-in-Op.ensures.rests
 
-pub top_list-requires-clause-takes : goal.top_list-requires-clause-takes
-top_list-requires-clause-takes g c =
+pub top_list-suffixes-requires-clause-takes : goal.top_list-suffixes-requires-clause-takes
+top_list-suffixes-requires-clause-takes g c =
     elements_taken c.args.language.definition.now c.shape.result.now c.in-List.list c.in-List.elements
     c.in-List.unfinished c.args.tree.now c.args.below.now c.in-List.is c.shape.ensures c.requires.formed
     c.requires.summaries c.requires.usual
 
-pub returns-in_err-summary-in-List-clause-err : goal.returns-in_err-summary-in-List-clause-err
-returns-in_err-summary-in-List-clause-err g c =
+pub returns-in_err-suffixes-in-List-clause-err : goal.returns-in_err-suffixes-in-List-clause-err
+returns-in_err-suffixes-in-List-clause-err g c =
     let def = c.args.language.definition.now in
     let path = c.args.path.now in
     let tree = c.args.tree.now in
-    passed (IsStepFault def (top_steps def path tree)) _ c.in_err-summary-in-List.field-0.0
-    c.from_residual-in_err-summary-in-List.ensures.1
+    passed (IsStepFault def (top_steps def path tree)) _ c.in_err-suffixes-in-List.field-0.0
+    c.from_residual-in_err-suffixes-in-List.ensures.1
     (list_fault def path c.shape.result.now c.in-List.list c.in-List.elements c.in-List.unfinished tree
-    c.args.below.now c.in_err-summary-in-List.field-0.0 c.in-List.is c.shape.ensures c.requires.summaries
-    c.in_err-summary-in-List.ensures.err)
+    c.args.below.now c.in_err-suffixes-in-List.field-0.0 c.in-List.is c.shape.ensures c.requires.summaries
+    c.in_err-suffixes-in-List.ensures.err)
 
-pub returns-in_ok-summary-in-List-clause-ok : goal.returns-in_ok-summary-in-List-clause-ok
-returns-in_ok-summary-in-List-clause-ok g c =
-    list_topped c.args.language.definition.now c.args.path.now c.shape.result.now c.in-List.list c.in-List.elements
-    c.in-List.unfinished c.args.tree.now c.args.below.now c.args.found.now _ c.in_ok-summary-in-List.summary
-    c.in-List.is c.shape.ensures c.requires.summaries c.in_ok-summary-in-List.ensures.ok
+pub returns-in_ok-suffixes-in-List-clause-ok : goal.returns-in_ok-suffixes-in-List-clause-ok
+returns-in_ok-suffixes-in-List-clause-ok g c =
+    list_topped c.args.language.definition.now c.shape.result.now c.in-List.list c.in-List.elements
+    c.in-List.unfinished c.args.tree.now c.args.below.now _ _ c.in-List.is c.shape.ensures
+    c.requires.summaries c.in_ok-suffixes-in-List.ensures.ok
 
 pub returns-in_ok-summary-in-Hole-clause-ticks : goal.returns-in_ok-summary-in-Hole-clause-ticks
 returns-in_ok-summary-in-Hole-clause-ticks g c =
@@ -81,12 +83,12 @@ returns-in_ok-summary-in-Op-clause-ticks g c =
     let once = operator_once c.shape.result.now c.in-Op.op c.in-Op.parts c.args.tree.now c.in-Op.is c.shape.ensures in
     omega (arith, once, c.eval_op-made.ensures.ticks)
 
-pub returns-in_ok-summary-in-List-clause-ticks : goal.returns-in_ok-summary-in-List-clause-ticks
-returns-in_ok-summary-in-List-clause-ticks g c =
+pub returns-in_ok-suffixes-in-List-clause-ticks : goal.returns-in_ok-suffixes-in-List-clause-ticks
+returns-in_ok-suffixes-in-List-clause-ticks g c =
     let once = list_once c.args.language.definition.now c.shape.result.now c.in-List.list c.in-List.elements
     c.in-List.unfinished
     c.args.tree.now c.args.below.now c.in-List.is c.shape.ensures c.requires.summaries in
-    omega (arith, once, c.in_ok-summary-in-List.ensures.ticks)
+    omega (arith, once, c.in_ok-suffixes-in-List.ensures.ticks)
 
 pub returns-in_err-summary-in-Hole-clause-bounded : goal.returns-in_err-summary-in-Hole-clause-bounded
 returns-in_err-summary-in-Hole-clause-bounded g c =
@@ -108,15 +110,15 @@ returns-in_ok-summary-in-Op-clause-bounded g c =
     let once = operator_once c.shape.result.now c.in-Op.op c.in-Op.parts c.args.tree.now c.in-Op.is c.shape.ensures in
     omega (arith, once, c.eval_op-made.ensures.ticks)
 
-pub returns-in_err-summary-in-List-clause-bounded : goal.returns-in_err-summary-in-List-clause-bounded
-returns-in_err-summary-in-List-clause-bounded g c =
+pub returns-in_err-suffixes-in-List-clause-bounded : goal.returns-in_err-suffixes-in-List-clause-bounded
+returns-in_err-suffixes-in-List-clause-bounded g c =
     let once = list_once c.args.language.definition.now c.shape.result.now c.in-List.list c.in-List.elements
     c.in-List.unfinished
     c.args.tree.now c.args.below.now c.in-List.is c.shape.ensures c.requires.summaries in
     omega (arith, once, c.top_list.ensures.bounded)
 
-pub returns-in_ok-summary-in-List-clause-bounded : goal.returns-in_ok-summary-in-List-clause-bounded
-returns-in_ok-summary-in-List-clause-bounded g c =
+pub returns-in_ok-suffixes-in-List-clause-bounded : goal.returns-in_ok-suffixes-in-List-clause-bounded
+returns-in_ok-suffixes-in-List-clause-bounded g c =
     let once = list_once c.args.language.definition.now c.shape.result.now c.in-List.list c.in-List.elements
     c.in-List.unfinished
     c.args.tree.now c.args.below.now c.in-List.is c.shape.ensures c.requires.summaries in
