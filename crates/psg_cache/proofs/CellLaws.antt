@@ -17,7 +17,7 @@ use Rattle.psg_cache.specs.declared.note.NoteFault.{NoteFault}
 use Rattle.psg_cache.specs.Noted.{AreOfSuffixes, IsOfCells}
 use Rattle.psg_cache.specs.Renoting.{AreOfCells, cells_of, first_or, IsCellsFault, TakesCells}
 use Rattle.psg_cache.specs.Walks.{AreListed, IsAnswerFault, IsClean, IsStepFault}
-use Rattle.psg_cache.proofs.Each.{each_append, each_at, not_nil}
+use Rattle.psg_cache.proofs.Each.{each_append, each_at, same_some}
 use Rattle.psg_cache.proofs.Evaluations.{none_reporting}
 use Rattle.psg_cache.proofs.StepLaws.{clean-append, fault-left, fault-behind, own_clean, own_fault}
 
@@ -33,10 +33,17 @@ last_is xs x =
     let place : length (xs ++ x ∷ []) - 1 ≡ length xs = omega (arith, many) in
     ap (slice_get (xs ++ x ∷ [])) place ∙ behind_last xs x
 
+reverse_cons : {X : Type 0} (x : X) (xs : List X) → reverse (x ∷ xs) ≡ reverse xs ++ x ∷ []
+reverse_cons x xs = reverse-append (x ∷ []) xs
+
+last_turned : {X : Type 0} (x : X) (xs : List X) → slice_get (reverse (x ∷ xs)) (length (reverse (x ∷ xs)) - 1) ≡ Some x
+last_turned x xs =
+    subst (λ m. slice_get m (length m - 1) ≡ Some x) (sym (reverse_cons x xs)) (last_is (reverse xs) x)
+
 latest : (behind : Known) (xs : List Known) (s : Known)
     → slice_get (reverse xs) (length (reverse xs) - 1) ≡ Some s → s ≡ first_or behind xs
 latest behind [] s e = absurd (none-some s e)
-latest behind (x ∷ xs) s e = let h = last_is (reverse xs) x in cc
+latest behind (x ∷ xs) s e = same_some s x (sym e ∙ last_turned x xs)
 
 pub latest_some : (behind : Known) (made : List Known) (s : Known)
     → slice_get made (length made - 1) ≡ Some s → s ≡ first_or behind (reverse made)
@@ -50,7 +57,7 @@ latest_none behind made e =
     go (reverse made) (subst (λ m. slice_get m (length m - 1) ≡ None) (sym (reverse-reverse made)) e) where
       go : (xs : List Known) → slice_get (reverse xs) (length (reverse xs) - 1) ≡ None → behind ≡ first_or behind xs
       go [] e = refl
-      go (x ∷ xs) e = let h = last_is (reverse xs) x in absurd (none-some x (sym e ∙ h))
+      go (x ∷ xs) e = absurd (none-some x (sym e ∙ last_turned x xs))
 
 pub reverse_push : {X : Type 0} (xs : List X) (x : X) → reverse (xs ++ x ∷ []) ≡ x ∷ reverse xs
 reverse_push xs x = reverse-append xs (x ∷ [])

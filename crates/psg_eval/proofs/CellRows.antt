@@ -131,7 +131,7 @@ module _ (def : Definition) (sound : IsSound def) (l : ℕ) (e r : Fragment) (el
 
   module _ (kind : Kind) (of_list : rest.kind ≡ kinds.List l) (p : Partial) (part : IsPartial def kind (rest.kind ∷ []) p) (made : IsMade def (cell l e r) 1 p) where
     no_scope : Rattle.psg_grammar.specs.Lookups.is_scope def r ≡ false
-    no_scope = list_no_scope def l r (subst (Rattle.psg_eval.specs.Trees.IsOfKind def r) of_list two.kind)
+    no_scope = list_no_scope def l r (subst (Rattle.psg_grammar.specs.Kinds.IsOfKind def r) of_list two.kind)
 
     pub rest_made : (q : Partial) → IsAdded def p rest q.header q.rel → (PassesLimit q.rel → ⊥) → IsMade def (cell l e r) 2 q
     rest_made q is light = made_more def (cell l e r) sound.signature 1 p q (omega arith) made (cell_two def l e r kind p rest no_scope part two made.step q.header q.rel is) light

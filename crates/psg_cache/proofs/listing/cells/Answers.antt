@@ -71,9 +71,9 @@ loop-left-preserved g c =
 pub returns-clause-ok : goal.returns-clause-ok
 returns-clause-ok g c =
     whole_cells c.args.definition.now c.args.list c.args.elements.now c.args.behind.now c.loop-left.left
-    c.loop-left.made.items _ (omega arith) c.reverse.ensures.after c.loop-left.invariant.made
+    c.loop-left.made.items _ (omega arith) c.reverse.ensures.items c.loop-left.invariant.made
 
 pub returns-clause-usual : goal.returns-clause-usual
 returns-clause-usual g c =
-    subst (AllByRecursion (IsSummary c.args.definition.now)) (sym c.reverse.ensures.after)
+    subst (AllByRecursion (IsSummary c.args.definition.now)) (sym c.reverse.ensures.items)
     (usual_suffixes c.args.definition.now c.args.list (reverse c.loop-left.made.items) c.loop-left.invariant.suffixes)

@@ -1,4 +1,4 @@
-use Rattle.std.proofs.Common.{◌∙◌, ℕ, ap}
+use Rattle.std.proofs.Common.{◌∙◌, ℕ, ap, sym}
 use Rattle.std.specs.Prelude.{Vec}
 use Rattle.std.specs.declared.alloc.Global.{Global}
 use Rattle.psg_cache.specs.Walks.{IsListFault}
@@ -27,8 +27,8 @@ returns-in_err-end-clause-err g c =
     (end_fault def path c.args.list c.args.unfinished c.eval_end-ended.result c.in_err-end.field-0.0 elements
     c.eval_end-ended.ensures.answer c.in_err-end.ensures.err)
 
-pub cells-news-requires-clause-takes : goal.cells-news-requires-clause-takes
-cells-news-requires-clause-takes g c =
+pub cells-requires-clause-takes : goal.cells-requires-clause-takes
+cells-requires-clause-takes g c =
     end_taken c.args.language.definition.now c.args.list c.args.unfinished c.args.elements.now c.eval_end-ended.result
     c.in_ok-end.end c.requires.takes c.eval_end-ended.ensures.answer c.eval_end-ended.ensures.summary
     c.in_ok-end.ensures.ok
@@ -46,7 +46,7 @@ returns-in_err-news-clause-err g c =
 pub returns-clause-ok : goal.returns-clause-ok
 returns-clause-ok g c =
     list_topped c.args.language.definition.now c.args.list c.args.unfinished c.args.elements.now
-    c.eval_end-ended.result c.in_ok-end.end c.in_ok-news.news.items _ _ c.as_slice-none.result.now
+    c.eval_end-ended.result c.in_ok-end.end c.in_ok-news.news.items _ _ c.as_slice-2.result.now
     c.eval_end-ended.ensures.answer c.eval_end-ended.ensures.summary c.in_ok-end.ensures.ok
-    c.in_ok-news.ensures.ok c.in_ok-news.ensures.usual (c.as_slice-none.ensures.value ∙ c.new-none.ensures.items)
+    c.in_ok-news.ensures.ok c.in_ok-news.ensures.usual (c.as_slice-2.ensures.value ∙ c.new-none.ensures.items)
     c.in_ok-all.ensures
