@@ -10,3 +10,4 @@ pub mod Renoting
 pub mod Edits
 pub mod AllSummaries
 pub mod Diff
+pub mod Changes

@@ -70,6 +70,10 @@ top_evaluations (with_text f t) = top_evaluations f
 top_evaluations anything = 1
 top_evaluations (observed f) = top_evaluations f
 
+-- a list of the number
+abbrev pub IsNumbered : ℕ → Fragment → Type 0
+IsNumbered l f = (es : List Fragment) × (u : Bool) × (f ≡ list_of l es u)
+
 -- each of the relations has a row
 abbrev pub HaveRows : List Known → Type 0
 HaveRows summaries = AllByRecursion (λ (s : Known). s.rel ≡ [] → ⊥) summaries

@@ -10,11 +10,14 @@
 #![tactic(auto)]
 
 pub mod building;
+pub mod editing;
 mod listing;
 pub mod note;
 mod parts;
+mod remaking;
 mod topping;
 mod walking;
 
 pub use building::build;
+pub use editing::{inserted, removed, replaced};
 pub use note::{Note, NoteFault};
