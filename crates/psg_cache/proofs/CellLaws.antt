@@ -59,6 +59,10 @@ latest_none behind made e =
       go [] e = refl
       go (x ∷ xs) e = absurd (none-some x (sym e ∙ last_turned x xs))
 
+pub latest_is : (behind : Known) (made slice : List Known) (rest : Known) → slice ≡ made
+    → rest ≡ first_or behind (reverse slice) → rest ≡ first_or behind (reverse made)
+latest_is behind made slice rest e h = h ∙ ap (λ m. first_or behind (reverse m)) e
+
 pub reverse_push : {X : Type 0} (xs : List X) (x : X) → reverse (xs ++ x ∷ []) ≡ x ∷ reverse xs
 reverse_push xs x = reverse-append xs (x ∷ [])
 
@@ -203,7 +207,7 @@ module _ (def : Definition) where
       (fault_of_rest path l r fault i es h)
 
   -- the summaries behind a place
-  all_behind : (es : List Fragment) (elements : List Known) → AllSummaries def es elements → (i : ℕ)
+  pub all_behind : (es : List Fragment) (elements : List Known) → AllSummaries def es elements → (i : ℕ)
       → AllSummaries def (drop i es) (drop i elements)
   all_behind es elements h zero = h
   all_behind [] [] h (suc i) = tt
@@ -292,11 +296,13 @@ module _ (def : Definition) where
   listed_answers l u (e ∷ es) (b ∷ bs) s [] h = absurd h
   listed_answers l u (e ∷ es) (b ∷ bs) s (t ∷ ts) h = (h.0, listed_answers l u es bs t ts h.1)
 
-  pub cells_end : (l : ℕ) (es : List Fragment) (u : Bool) → cells_of l es (ending l u) ≡ list_of l es u
-  cells_end l [] u = refl
-  cells_end l (e ∷ es) u = ap (cell l e) (cells_end l es u)
+-- ---- cells of lists
 
-  pub cells_split : (l : ℕ) (es ds : List Fragment) (u : Bool)
-      → cells_of l es (list_of l ds u) ≡ list_of l (es ++ ds) u
-  cells_split l [] ds u = refl
-  cells_split l (e ∷ es) ds u = ap (cell l e) (cells_split l es ds u)
+pub cells_end : (l : ℕ) (es : List Fragment) (u : Bool) → cells_of l es (ending l u) ≡ list_of l es u
+cells_end l [] u = refl
+cells_end l (e ∷ es) u = ap (cell l e) (cells_end l es u)
+
+pub cells_split : (l : ℕ) (es ds : List Fragment) (u : Bool)
+    → cells_of l es (list_of l ds u) ≡ list_of l (es ++ ds) u
+cells_split l [] ds u = refl
+cells_split l (e ∷ es) ds u = ap (cell l e) (cells_split l es ds u)

@@ -25,3 +25,6 @@ pub mod DiffLaws
 pub mod WalkLaws
 pub mod FormedTrees
 pub mod ShapedTrees
+pub mod SpliceLaws
+pub mod RemakeLaws
+pub mod ChangeLaws

@@ -104,7 +104,7 @@ module _ (def : Definition) where
       → IsCellsFault def path l elements end fault → IsListFault def path l u elements fault
   cells_list_fault path l u elements answer end fault h is f es are =
       let known = answered_ok (ending l u) answer end h is in
-      subst (λ x. IsStepFault def (list_steps def path x) fault) (cells_end def l es u)
+      subst (λ x. IsStepFault def (list_steps def path x) fault) (cells_end l es u)
       (f es (ending l u) are known.0 (own_clean def path (ending l u) known.1))
 
   -- ---- what a list takes

@@ -129,7 +129,7 @@ module _ (def : Definition) where
       (answer : Result Known EvalFault) (k whole : Known) (rests : List Known) → s ≡ Op o ps → tree_of s ≡ f
       → names ≡ names_in ps → AnswersNode o names below answer → IfOk answer (IsSummary def) → answer ≡ Ok k
       → whole ≡ k → rests ≡ [] → IsTop def f below whole rests
-  operator_topped s o ps f names below answer k whole rests e there same h usual is as none =
+  operator_topped s o ps f names below answer k whole rests e there same h usual is alike none =
       let made = operator_there s o ps f e there in
       let spine : IsSpine f = subst IsSpine made (spine_parts (operator o) ps tt) in
       let top : top_operator f ≡ Some o = ap top_operator (sym made) ∙ top_parts (operator o) ps in
@@ -141,7 +141,7 @@ module _ (def : Definition) where
           subst (Answers def g) is (h g it are) in
       let here : IsTop def f below k rests =
       (answered_spine f below k rests spine nodes none, alone_usual k rests (usual_ok def answer k usual is) none) in
-      subst (λ x. IsTop def f below x rests) (sym as) here
+      subst (λ x. IsTop def f below x rests) (sym alike) here
 
   pub operator_fault : (path : Path) (s : Shape) (o : ℕ) (ps : List Part) (f : Fragment) (names : List Name)
       (below : List Known) (answer : Result Known EvalFault) (fault : NoteFault) → s ≡ Op o ps → tree_of s ≡ f

@@ -155,8 +155,8 @@ module _ (def : Definition) where
   fault_noted f faults.Heavy shallow small h = absurd h
 
   pub size_fault : (f : Fragment) (fault : NoteFault) → IsSizeFault f fault → IsNoteFault def f fault
-  size_fault f fault (inl h) = subst (IsNoteFault def f) (sym h.0) h.1
-  size_fault f fault (inr h) = subst (IsNoteFault def f) (sym h.0) h.1
+  size_fault f fault (inl (is, deep)) = subst (IsNoteFault def f) (sym is) deep
+  size_fault f fault (inr (is, shallow, big)) = subst (IsNoteFault def f) (sym is) (shallow, big)
 
   clean_whole : (f : Fragment) (n : Annotated) → IsFormed def f → IsNotedAs def f n
       → IsClean def (steps_of def [] f)
@@ -164,9 +164,10 @@ module _ (def : Definition) where
       let known = noted_known def n h.1 (subst (IsFormed def) (sym h.0) formed) in
       subst (λ x. IsClean def (steps_of def [] x)) h.0 (known.1 [])
 
-  pub note_of : IsSound def → (f : Fragment) (n : Annotated) → IsFormed def f → IsNotedAs def f n → IsSmall f
-      → weight_in n ≤ MOST_WEIGHTS → IsNoteOf def f n
-  note_of sound f n formed h small few =
+  pub note_of : IsSound def → (f : Fragment) (n : Annotated) (weight : ℕ) → IsFormed def f → IsNotedAs def f n
+      → IsSmall f → weight ≡ weight_in n → weight ≤ MOST_WEIGHTS → IsNoteOf def f n
+  note_of sound f n weight formed h small is light =
+      let few : weight_in n ≤ MOST_WEIGHTS = subst (λ w. w ≤ MOST_WEIGHTS) is light in
       let weighs = noted_weighs def n h.1 (subst (IsFormed def) (sym h.0) formed) in
       record {
         tree = h.0;
@@ -181,13 +182,15 @@ module _ (def : Definition) where
         };
       }
 
-  pub heavy_fault : (f : Fragment) (n : Annotated) (fault : NoteFault) → IsFormed def f → IsNotedAs def f n
-      → IsSmall f → (fault ≡ faults.Heavy) × (MOST_WEIGHTS < weight_in n) → IsNoteFault def f fault
-  heavy_fault f n fault formed h small heavy =
+  pub heavy_fault : (f : Fragment) (n : Annotated) (weight : ℕ) (fault : NoteFault) → IsFormed def f
+      → IsNotedAs def f n → IsSmall f → weight ≡ weight_in n → (fault ≡ faults.Heavy) × (MOST_WEIGHTS < weight)
+      → IsNoteFault def f fault
+  heavy_fault f n weight fault formed h small is heavy =
+      let over : MOST_WEIGHTS < weight_in n = subst (λ w. MOST_WEIGHTS < w) is heavy.1 in
       let weighs = noted_weighs def n h.1 (subst (IsFormed def) (sym h.0) formed) in
       subst (IsNoteFault def f) (sym heavy.0) (
         small.0,
         small.1,
         not_wide def f (clean_whole f n formed h),
-        (weight_in n, subst (λ x. HasWeights def x (weight_in n)) h.0 weighs, heavy.1),
+        (weight_in n, subst (λ x. HasWeights def x (weight_in n)) h.0 weighs, over),
       )

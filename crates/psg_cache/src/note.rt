@@ -1,5 +1,5 @@
 //! What is known of a tree.
-ghost use Rattle.std.specs.Prelude.{◌≡◌, ◌↔◌, ◌≤◌, ◌∷◌, [], length, slice_get, Some, IfOk, IfSome, IfNone, IsTrue};
+ghost use Rattle.std.specs.Prelude.{◌≡◌, ◌↔◌, ◌≤◌, ◌∷◌, [], drop, length, slice_get, Some, IfOk, IfSome, IfNone, IsTrue};
 ghost use Rattle.psg_cache.specs.Annotated.{tree_in, whole_in, rests_in, weight_in, below_in};
 ghost use Rattle.psg_cache.specs.Blames.{culprits_in};
 ghost use Rattle.psg_cache.specs.Edits.{AreCulpritsIn, IsSummaryAt, IsNoSummaryAt};
@@ -92,6 +92,14 @@ impl Note {
         ensures { result.now ≡ rests_in self.now }
     {
         self.shared.as_ref().rests.as_slice()
+    }
+
+    /// Of a list the summaries of the suffixes behind the one behind so many elements.
+    pub(crate) fn rests_behind(&self, number: usize) -> &[Summary]
+        requires { number ≤ length (rests_in self.now) }
+        ensures { result.now ≡ drop number (rests_in self.now) }
+    {
+        &self.rests()[number..]
     }
 
     /// Of a list the summary of the suffix behind so many elements.

@@ -73,10 +73,10 @@ fn relisted<L: Ledger>(
     let definition = language.definition;
     let wholes = wholes_of(alloc, below.as_slice())?;
     let all = wholes.as_slice();
-    let rests = old.rests();
     let kept = old.suffix(behind);
+    let rests = old.rests_behind(behind);
     let news = cells(alloc, definition, list, &all[..front], kept, path, steps)?;
-    let suffixes = joined(alloc, news, kept, &rests[behind..])?;
+    let suffixes = joined(alloc, news, kept, rests)?;
     let note = made_of(alloc, made, suffixes, below)?;
     Ok(note)
 }

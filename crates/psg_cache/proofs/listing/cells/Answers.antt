@@ -1,9 +1,9 @@
-use Rattle.std.proofs.Common.{◌-◌, ◌∙◌, ap, length, refl, sym, subst, arith}
+use Rattle.std.proofs.Common.{◌-◌, length, sym, subst, arith}
 use Rattle.std.specs.Prelude.{reverse}
 use Rattle.std.specs.List.{AllByRecursion}
 use Rattle.psg_eval.specs.Summaries.{IsSummary}
-use Rattle.psg_cache.specs.Renoting.{AreOfCells, first_or, IsCellsFault}
-use Rattle.psg_cache.proofs.CellLaws.{cell_answers, cell_fault, cell_takes, cells_more, cells_none, element_quiet, rest_quiet, suffixes_more, suffixes_none, usual_suffixes, whole_cells}
+use Rattle.psg_cache.specs.Renoting.{IsCellsFault}
+use Rattle.psg_cache.proofs.CellLaws.{cell_answers, cell_fault, cell_takes, cells_more, cells_none, element_quiet, latest_is, rest_quiet, suffixes_more, suffixes_none, usual_suffixes, whole_cells}
 use Rattle.psg_cache.proofs.Passing.{passed}
 use Rattle.psg_cache.proofs.listing.cells.Goals as goal
 
@@ -14,8 +14,8 @@ loop-left-init g c =
       within = omega arith;
       counted = omega arith;
       made =
-          cells_none c.args.definition.now c.args.list elements c.args.behind.now c.new.result.items c.new.ensures.items;
-      suffixes = suffixes_none c.args.definition.now c.args.list c.new.result.items c.new.ensures.items;
+          cells_none c.args.definition.now c.args.list elements c.args.behind.now c.new-made.result.items c.new-made.ensures.items;
+      suffixes = suffixes_none c.args.definition.now c.args.list c.new-made.result.items c.new-made.ensures.items;
     }
 
 pub eval_cell-answer-requires-clause-takes : goal.eval_cell-answer-requires-clause-takes
@@ -23,7 +23,8 @@ eval_cell-answer-requires-clause-takes g c =
     cell_takes c.args.definition.now c.args.list c.args.elements.now c.args.behind.now c.requires.takes
     (c.loop-left.left - 1) c.index-elements-left.result c.latest-rest.result.now c.loop-left.made.items (omega arith)
     c.index-elements-left.is
-    (c.latest-rest.ensures ∙ ap (λ m. first_or c.args.behind.now (reverse m)) c.as_slice.ensures.value)
+    (latest_is c.args.behind.now c.loop-left.made.items _ c.latest-rest.result.now c.as_slice.ensures.value
+    c.latest-rest.ensures)
     c.loop-left.invariant.suffixes
 
 pub returns-in_err-cell-clause-err : goal.returns-in_err-cell-clause-err
@@ -36,7 +37,8 @@ returns-in_err-cell-clause-err g c =
     (cell_fault def path c.args.list elements c.args.behind.now c.loop-left.left (c.loop-left.left - 1)
     c.index-elements-left.result c.latest-rest.result.now c.loop-left.made.items c.eval_cell-answer.result
     c.in_err-cell.field-0.0 (omega arith) (omega arith) c.index-elements-left.is
-    (c.latest-rest.ensures ∙ ap (λ m. first_or c.args.behind.now (reverse m)) c.as_slice.ensures.value)
+    (latest_is c.args.behind.now c.loop-left.made.items _ c.latest-rest.result.now c.as_slice.ensures.value
+    c.latest-rest.ensures)
     c.loop-left.invariant.made c.eval_cell-answer.ensures.answer c.in_err-cell.ensures.err)
 
 pub loop-left-preserved : goal.loop-left-preserved
@@ -49,7 +51,7 @@ loop-left-preserved g c =
     let element = c.index-elements-left.result in
     let rest = c.latest-rest.result.now in
     let made = c.loop-left.made.items in
-    let latest = c.latest-rest.ensures ∙ ap (λ m. first_or behind (reverse m)) c.as_slice.ensures.value in
+    let latest = latest_is behind made _ rest c.as_slice.ensures.value c.latest-rest.ensures in
     let answer = c.eval_cell-answer.result in
     record {
       within = omega arith;
