@@ -9,6 +9,9 @@ use Rattle.psg_grammar.specs.Fragments.{Fragment, children_of}
 use Rattle.psg_grammar.specs.Paths.{Path, node_at, change_at, change_child, inserted, removed, IsList}
 use Rattle.psg_grammar.specs.Steps.{steps_of}
 use Rattle.psg_grammar.specs.Work.{climb_of, leaving, work_of}
+use Rattle.psg_grammar.specs.declared.types.Kind.TheVariants as kinds
+use Rattle.psg_tree.specs.Edits.{IsInserted, IsRemoved}
+use Rattle.psg_tree.specs.Faults.{IsReplaced}
 use Rattle.psg_tree.specs.Shapes.{list_of}
 use Rattle.psg_cache.specs.declared.editing.Edit.{Edit}
 use Rattle.psg_cache.specs.declared.editing.Edit.TheVariants as edits
@@ -16,7 +19,10 @@ use Rattle.psg_cache.specs.declared.note.NoteFault.{NoteFault}
 use Rattle.psg_cache.specs.Annotated.{Annotated, tree_in, below_in}
 use Rattle.psg_cache.specs.Changes.{change_of, ticks_of, remade_ticks, IsAdded, IsKept, IsPlace, IsPut, IsTaken, TakesEdit}
 use Rattle.psg_cache.specs.Noted.{IsNoted, IsNotedAs}
-use Rattle.psg_cache.specs.Notes.{IsFormed}
+use Rattle.psg_cache.specs.Edits.{MayInsert, MayRemove, MayReplace}
+use Rattle.psg_cache.specs.Notes.{IsFormed, IsNoteOf}
+use Rattle.psg_cache.specs.Shaped.{IsShaped}
+use Rattle.psg_cache.proofs.ShapedTrees.{changed_shaped, inserted_shaped, kind_once, removed_shaped, replaced_shaped, shape_is_kind}
 use Rattle.psg_cache.specs.Walks.{AreNotesOf, IsStepFault}
 use Rattle.psg_cache.proofs.Each.{each_got, same_some}
 use Rattle.psg_cache.proofs.NoteParts.{noted_parts}
@@ -385,3 +391,61 @@ module _ (def : Definition) where
       ap (λ xs. slice_get xs k) (sym (own_notes n h.noted).0) ∙ got_map (below_in n) k old small at in
       ap (climb_of (tree_in n)) is
       ∙ ap (λ o. leaving (tree_in n) k + unwrap_or (option_map (λ t. climb_of t rest) o) 0) mine
+
+  -- ---- what the commands ask for
+
+  pub place_put : (n : Annotated) (path : Path) (new made : Fragment) → IsNoteOf def (tree_in n) n
+      → MayReplace def (tree_in n) path new → IsReplaced (tree_in n) path new made
+      → IsPlace def n path (edits.Put new) made
+  place_put n path new made note may is =
+      let (kind, shaped) = note.formed in
+      let whole = replaced_shaped def (tree_in n) kind path may.node new may.kind shaped may.there may.of_kind may.shaped in
+      record {
+        noted = note.noted;
+        formed_old = note.formed;
+        formed = (kind, subst (λ x. IsShaped def x kind) (sym is.1) whole);
+        node = may.node;
+        there = may.there;
+        takes = tt;
+        changed = is.1;
+      }
+
+  pub place_add : (n : Annotated) (path : Path) (place : ℕ) (new made : Fragment) → IsNoteOf def (tree_in n) n
+      → MayInsert def (tree_in n) path place new → IsInserted (tree_in n) path place new made
+      → IsPlace def n path (edits.Add place new) made
+  place_add n path place new made note may is =
+      let (kind, shaped) = note.formed in
+      let same : is.list ≡ may.node = same_some is.list may.node (sym is.is_there ∙ may.there) in
+      let whole = changed_shaped def (inserted place new) (tree_in n) kind path may.node shaped may.there
+      (λ K h.
+        let one : K ≡ kinds.List may.number =
+        kind_once def may.node K (kinds.List may.number) (shape_is_kind def may.node K h) may.of_kind in
+        subst (IsShaped def (inserted place new may.node)) (sym one)
+        (inserted_shaped def place new may.node may.number may.list (subst (IsShaped def may.node) one h) may.found
+        may.shaped)) in
+      record {
+        noted = note.noted;
+        formed_old = note.formed;
+        formed = (kind, subst (λ x. IsShaped def x kind) (sym is.made_is) whole);
+        node = may.node;
+        there = may.there;
+        takes = (subst IsList same is.is_list, may.within, (kinds.Phylum may.list.element, may.shaped));
+        changed = is.made_is;
+      }
+
+  pub place_take : (n : Annotated) (path : Path) (place : ℕ) (made : Fragment) → IsNoteOf def (tree_in n) n
+      → MayRemove def (tree_in n) path place → IsRemoved (tree_in n) path place made
+      → IsPlace def n path (edits.Take place) made
+  place_take n path place made note may is =
+      let (kind, shaped) = note.formed in
+      let whole = changed_shaped def (removed place) (tree_in n) kind path may.node shaped may.there
+      (λ K h. removed_shaped def place may.node K h) in
+      record {
+        noted = note.noted;
+        formed_old = note.formed;
+        formed = (kind, subst (λ x. IsShaped def x kind) (sym is.made_is) whole);
+        node = may.node;
+        there = may.there;
+        takes = (may.list, may.within);
+        changed = is.made_is;
+      }

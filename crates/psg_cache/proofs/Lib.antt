@@ -28,3 +28,4 @@ pub mod ShapedTrees
 pub mod SpliceLaws
 pub mod RemakeLaws
 pub mod ChangeLaws
+pub mod MarkLaws

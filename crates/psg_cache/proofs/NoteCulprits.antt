@@ -1,5 +1,5 @@
 -- The nodes at which a noted tree goes wrong are found by descending where a relation has no row.
-use Rattle.std.proofs.Common.{◌≡◌, inl, inr, ℕ, suc, ◌+◌, List, [], ◌∷◌, ◌++◌, length, map, refl, sym, ◌∙◌, ap, subst, append_assoc, append-nil, arith}
+use Rattle.std.proofs.Common.{◌↔◌, ◌≡◌, inl, inr, ℕ, suc, ◌+◌, List, [], ◌∷◌, ◌++◌, length, map, refl, sym, ◌∙◌, ap, subst, append_assoc, append-nil, arith}
 use Rattle.std.proofs.lemmas.List.{length-append}
 use Rattle.std.specs.List.{AllByRecursion}
 use Rattle.psg_terms.specs.Terms.{Term}
@@ -18,12 +18,12 @@ use Rattle.psg_cache.proofs.CulpritLaws.{culprits-append, culprits-none, tree_cu
 use Rattle.psg_cache.proofs.OpenTrees.{children_open, open_rows, rows_open}
 use Rattle.psg_cache.specs.Annotated.{Annotated, topped, above, tree_in, whole_in, below_in, with_below}
 use Rattle.psg_cache.specs.Noted.{IsNoted, IsTopped}
-use Rattle.psg_cache.specs.Blames.{blamed_at, blamed_below, or_itself}
+use Rattle.psg_cache.specs.Blames.{blamed_at, blamed_below, culprits_in, or_itself}
 use Rattle.psg_cache.proofs.Inducting.{noted_by, noted_with, tree-with, whole-with}
 use Rattle.psg_cache.proofs.NoteLaws.{below_known, noted_known}
 
 -- the culprits of notes that follow one another
-abbrev blamed_each : Path → ℕ → List Annotated → List Path
+abbrev pub blamed_each : Path → ℕ → List Annotated → List Path
 blamed_each path k [] = []
 blamed_each path k (c ∷ cs) =
     blamed_at (whole_in c) (path ++ k ∷ []) (blamed_below (path ++ k ∷ []) c) ++ blamed_each path (k + 1) cs
@@ -44,15 +44,20 @@ some_itself path [] e = not_nil path [] e
 some_itself path (p ∷ ps) e = not_nil p ps e
 
 -- no tree is blamed just where each has a row
-blamed-rows : (s : Known) (path : Path) (below : List Path) → (s.rel ≡ [] → ⊥) → blamed_at s path below ≡ []
+pub blamed-rows : (s : Known) (path : Path) (below : List Path) → (s.rel ≡ [] → ⊥) → blamed_at s path below ≡ []
 blamed-rows s path below h = go s.rel refl where
   go : (rows : List (List Term)) → s.rel ≡ rows → blamed_at s path below ≡ []
   go [] e = absurd (h e)
   go (row ∷ rows) e = ap (λ r. blamed_at (record { kind = s.kind; header = s.header; report = s.report; rel = r }) path below) e
 
-rows-blamed : (s : Known) (path : Path) (below : List Path) → blamed_at s path below ≡ [] → s.rel ≡ [] → ⊥
+pub rows-blamed : (s : Known) (path : Path) (below : List Path) → blamed_at s path below ≡ [] → s.rel ≡ [] → ⊥
 rows-blamed s path below e empty =
     some_itself path below (sym (ap (λ r. blamed_at (record { kind = s.kind; header = s.header; report = s.report; rel = r }) path below) empty) ∙ e)
+
+-- no tree is blamed just where the whole has a row
+pub none_blamed : (n : Annotated) → (culprits_in n ≡ []) ↔ ((whole_in n).rel ≡ [] → ⊥)
+none_blamed n =
+    (rows-blamed (whole_in n) [] (blamed_below [] n), blamed-rows (whole_in n) [] (blamed_below [] n))
 
 front_nil : {X : Type 0} (xs ys : List X) → xs ++ ys ≡ [] → (xs ≡ []) × (ys ≡ [])
 front_nil [] ys e = (refl, e)

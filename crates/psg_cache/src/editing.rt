@@ -56,7 +56,8 @@ fn added<L: Ledger>(
     let inside = longer(alloc, path, place)?;
     let child = walk(alloc, language, new, inside.as_slice(), steps)?;
     let number = place as usize;
-    let below = spliced(alloc, note.below(), number, Some(child), number)?;
+    let notes = note.below();
+    let below = spliced(alloc, notes, number, Some(child), number)?;
     let all = remade(alloc, language, note, number, number + 1, below, made, path, steps)?;
     Ok(all)
 }
@@ -79,7 +80,8 @@ fn taken<L: Ledger>(
         (IsStepFault language.entry.definition.now (steps_of language.entry.definition.now path.now made.now)) }
 {
     let number = place as usize;
-    let below = spliced(alloc, note.below(), number, None, number + 1)?;
+    let notes = note.below();
+    let below = spliced(alloc, notes, number, None, number + 1)?;
     let all = remade(alloc, language, note, number + 1, number, below, made, path, steps)?;
     Ok(all)
 }
@@ -103,7 +105,8 @@ fn raised<L: Ledger>(
         (IsStepFault language.entry.definition.now (steps_of language.entry.definition.now path.now made.now)) }
 {
     let place = number as usize;
-    let below = spliced(alloc, note.below(), place, Some(child), place + 1)?;
+    let notes = note.below();
+    let below = spliced(alloc, notes, place, Some(child), place + 1)?;
     let all = remade(alloc, language, note, place + 1, place + 1, below, made, path, steps)?;
     Ok(all)
 }
@@ -150,19 +153,20 @@ fn changed<L: Ledger>(
     ensures err { IfErr result
         (IsStepFault language.entry.definition.now (steps_of language.entry.definition.now path.now made.now)) }
 {
-    match left {
-        [] => edited(alloc, language, note, edit, made, path, steps),
-        [number, rest @ ..] => {
-            let Some(inner) = child_at(made, *number) else {
-                return Err(NoteFault::Memory);
-            };
-            let place = longer(alloc, path, *number)?;
-            let old = &note.below()[*number as usize];
-            let child = changed(alloc, language, old, rest, edit, inner, place.as_slice(), steps)?;
-            let all = raised(alloc, language, note, *number, child, made, path, steps)?;
-            Ok(all)
-        }
+    if left.is_empty() {
+        return edited(alloc, language, note, edit, made, path, steps);
     }
+    let number = left[0];
+    let rest = &left[1..];
+    let Some(inner) = child_at(made, number) else {
+        return Err(NoteFault::Memory);
+    };
+    let place = longer(alloc, path, number)?;
+    let notes = note.below();
+    let old = &notes[number as usize];
+    let child = changed(alloc, language, old, rest, edit, inner, place.as_slice(), steps)?;
+    let all = raised(alloc, language, note, number, child, made, path, steps)?;
+    Ok(all)
 }
 
 /// The changed tree. That there is no such node is no case where the place was tested, and counts as want of memory.
@@ -222,14 +226,15 @@ pub fn replaced<L: Ledger>(
     ensures fault { IfErr result (IsNoteFault definition.now (replaced_at path.now new.now (tree_in note.now))) }
     ensures ticks { steps.new ≤ steps.old + (work_of new.now + climb_of (tree_in note.now) path.now) }
 {
-    let made = tree_of(replace(alloc, note.tree(), path, new))?;
+    let changed = replace(alloc, note.tree(), path, new);
+    let made = tree_of(changed)?;
     let language = Language {
         definition,
         declaring,
     };
     let edit = Edit::Put { new: new.share()? };
-    let changed = finished(alloc, language, note, path, &edit, &made, steps)?;
-    Ok(changed)
+    let all = finished(alloc, language, note, path, &edit, &made, steps)?;
+    Ok(all)
 }
 
 /// Makes the note of the tree with one more element before the place of the list at the path.
@@ -257,7 +262,8 @@ pub fn inserted<L: Ledger>(
     ensures fault { IfErr result (IsNoteFault definition.now (change_at (inserted_at place new.now) path.now (tree_in note.now))) }
     ensures ticks { steps.new ≤ steps.old + (work_of new.now + (place + 1) + climb_of (tree_in note.now) path.now) }
 {
-    let made = tree_of(insert(alloc, note.tree(), path, place, new))?;
+    let changed = insert(alloc, note.tree(), path, place, new);
+    let made = tree_of(changed)?;
     let language = Language {
         definition,
         declaring,
@@ -266,8 +272,8 @@ pub fn inserted<L: Ledger>(
         place,
         new: new.share()?,
     };
-    let changed = finished(alloc, language, note, path, &edit, &made, steps)?;
-    Ok(changed)
+    let all = finished(alloc, language, note, path, &edit, &made, steps)?;
+    Ok(all)
 }
 
 /// Makes the note of the tree without the element at the place of the list at the path.
@@ -294,12 +300,13 @@ pub fn removed<L: Ledger>(
     ensures fault { IfErr result (IsNoteFault definition.now (change_at (removed_at place) path.now (tree_in note.now))) }
     ensures ticks { steps.new ≤ steps.old + (place + climb_of (tree_in note.now) path.now) }
 {
-    let made = tree_of(remove(alloc, note.tree(), path, place))?;
+    let changed = remove(alloc, note.tree(), path, place);
+    let made = tree_of(changed)?;
     let language = Language {
         definition,
         declaring,
     };
     let edit = Edit::Take { place };
-    let changed = finished(alloc, language, note, path, &edit, &made, steps)?;
-    Ok(changed)
+    let all = finished(alloc, language, note, path, &edit, &made, steps)?;
+    Ok(all)
 }

@@ -9,6 +9,7 @@
 //! which it goes wrong. It is made of the summaries of all nodes and list suffixes, each from those of its children.
 #![tactic(auto)]
 
+mod blaming;
 pub mod building;
 pub mod editing;
 mod listing;

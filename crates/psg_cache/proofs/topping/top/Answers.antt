@@ -20,7 +20,7 @@ returns-in_ok-summary-in-Hole-clause-ok g c =
     hole_topped c.args.language.definition.now c.shape.result.now c.in-Hole.phylum c.args.tree.now
     c.eval_hole-made.result c.in_ok-summary-in-Hole.summary c.args.below.now _ _ c.in-Hole.is c.shape.ensures
     c.eval_hole-made.ensures.answer c.eval_hole-made.ensures.summary c.in_ok-summary-in-Hole.ensures.ok
-    c.alone-suffixes-in-Hole.ensures.whole c.alone-suffixes-in-Hole.ensures.rests
+    c.alone-suffixes.ensures.whole c.alone-suffixes.ensures.rests
 
 pub eval_op-made-requires-clause-takes : goal.eval_op-made-requires-clause-takes
 eval_op-made-requires-clause-takes g c =
@@ -50,8 +50,8 @@ returns-in_ok-summary-in-Op-clause-ok g c =
     c.eval_op-made.ensures.answer c.eval_op-made.ensures.summary c.in_ok-summary-in-Op.ensures.ok
     c.alone-suffixes-in-Op.ensures.whole c.alone-suffixes-in-Op.ensures.rests
 
-pub top_list-suffixes-requires-clause-takes : goal.top_list-suffixes-requires-clause-takes
-top_list-suffixes-requires-clause-takes g c =
+pub top_list-requires-clause-takes : goal.top_list-requires-clause-takes
+top_list-requires-clause-takes g c =
     elements_taken c.args.language.definition.now c.shape.result.now c.in-List.list c.in-List.elements
     c.in-List.unfinished c.args.tree.now c.args.below.now c.in-List.is c.shape.ensures c.requires.formed
     c.requires.summaries c.requires.usual

@@ -8,18 +8,18 @@ use Rattle.psg_cache.specs.Walks.{IsTop}
 use Rattle.psg_cache.proofs.WalkLaws.{formed_children, made_noted, notes_summaries, notes_usual}
 use Rattle.psg_cache.proofs.topping.topped.Goals as goal
 
-pub top-suffixes-requires-clause-summaries : goal.top-suffixes-requires-clause-summaries
-top-suffixes-requires-clause-summaries g c =
+pub top-requires-clause-summaries : goal.top-requires-clause-summaries
+top-requires-clause-summaries g c =
     let def = c.args.language.definition.now in
     let tree = c.args.tree.now in
-    let wholes = c.as_slice-wholes.ensures.value ∙ c.in_ok-wholes.ensures ∙ ap (map whole_in) c.as_slice.ensures.value in
+    let wholes = c.as_slice-2.ensures.value ∙ c.in_ok-wholes.ensures ∙ ap (map whole_in) c.as_slice.ensures.value in
     subst (AreSummariesOf def tree) (sym wholes)
     (notes_summaries def (children_of tree) c.args.below.items (formed_children def tree c.requires.formed)
     c.requires.below)
 
-pub top-suffixes-requires-clause-usual : goal.top-suffixes-requires-clause-usual
-top-suffixes-requires-clause-usual g c =
-    let wholes = c.as_slice-wholes.ensures.value ∙ c.in_ok-wholes.ensures ∙ ap (map whole_in) c.as_slice.ensures.value in
+pub top-requires-clause-usual : goal.top-requires-clause-usual
+top-requires-clause-usual g c =
+    let wholes = c.as_slice-2.ensures.value ∙ c.in_ok-wholes.ensures ∙ ap (map whole_in) c.as_slice.ensures.value in
     subst (AllByRecursion (IsSummary c.args.language.definition.now)) (sym wholes)
     (notes_usual c.args.language.definition.now c.args.below.items c.requires.below.1)
 
@@ -27,7 +27,7 @@ pub returns-clause-ok : goal.returns-clause-ok
 returns-clause-ok g c =
     let def = c.args.language.definition.now in
     let tree = c.args.tree.now in
-    let wholes = c.as_slice-wholes.ensures.value ∙ c.in_ok-wholes.ensures ∙ ap (map whole_in) c.as_slice.ensures.value in
+    let wholes = c.as_slice-2.ensures.value ∙ c.in_ok-wholes.ensures ∙ ap (map whole_in) c.as_slice.ensures.value in
     let s = c.in_ok-suffixes.suffixes in
     made_noted def tree c.args.below.items s.whole s.rests c.in_ok-note.note c.requires.below
     (subst (λ (ws : List Known). IsTop def tree ws s.whole s.rests) wholes c.in_ok-suffixes.ensures.ok)

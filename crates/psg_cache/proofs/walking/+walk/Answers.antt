@@ -50,8 +50,8 @@ returns-in_err-note-clause-err g t c =
     (subst (λ q. IsStepFault def (steps_of def q c.index-inner-i.result) c.in_err-note.field-0.0)
     c.as_slice.ensures.value c.in_err-note.ensures.err))
 
-pub topped-whole-requires-clause-below : goal.topped-whole-requires-clause-below
-topped-whole-requires-clause-below g t c =
+pub topped-requires-clause-below : goal.topped-requires-clause-below
+topped-requires-clause-below g t c =
     let are : c.as_slice-inner.result.now ≡ children_of c.args.tree.now =
     c.as_slice-inner.ensures.value ∙ c.in_ok-all.ensures in
     notes_all c.args.language.definition.now c.args.tree.now c.as_slice-inner.result.now c.loop-i.i
