@@ -1,14 +1,17 @@
 -- A note has the summary of each node and of each list suffix.
-use Rattle.std.proofs.Common.{◌≡◌, ℕ, zero, suc, List, [], ◌∷◌, map, slice_get, Option, Some, None, refl, sym, ◌∙◌, ap, subst}
+use Rattle.std.proofs.Common.{◌≡◌, ℕ, zero, suc, Bor, length, List, [], ◌∷◌, map, slice_get, Option, Some, None, refl, sym, ◌∙◌, ap, subst}
 use Rattle.std.specs.Prelude.{option_map}
-use Rattle.std.proofs.lemmas.Option.{none-some}
+use Rattle.std.specs.Option.{option_copied}
+use Rattle.std.specs.Slice.{IsGetResult}
+use Rattle.std.proofs.lemmas.Option.{none-some, slice_get_past, slice_get_read}
 use Rattle.psg_grammar.specs.declared.types.Definition.{Definition}
 use Rattle.psg_grammar.specs.Fragments.{Fragment, hole, ending, cell, operator, with_child, with_name, with_number, with_text, anything, observed, children_of}
 use Rattle.psg_grammar.specs.Paths.{Path, IsList, node_at}
 use Rattle.psg_eval.specs.declared.summary.Known.{Known}
-use Rattle.psg_eval.specs.Summaries.{AllSummaries, IsSummaryOf}
+use Rattle.psg_eval.specs.Summaries.{AllSummaries, IsSummary, IsSummaryOf}
 use Rattle.psg_cache.specs.Notes.{IsFormed, IsNoteOf}
 use Rattle.psg_cache.proofs.RealTrees.{IsReal, real}
+use Rattle.psg_cache.specs.Edits.{IsNoSummaryAt, IsSummaryAt}
 use Rattle.psg_cache.specs.AllSummaries.{HasAllSummaries, suffix_of}
 use Rattle.psg_cache.specs.Annotated.{Annotated, tree_in, whole_in, rests_in, below_in, note_at}
 use Rattle.psg_cache.specs.Noted.{AreOfSuffixes, IsAnswered}
@@ -89,3 +92,31 @@ module _ (def : Definition) where
             suffix_known (tree_in m) (real def (tree_in m) h.1) list (map whole_in (below_in m)) (whole_in m) (rests_in m) below.1
             (answered_list (tree_in m) list (map whole_in (below_in m)) (whole_in m) (rests_in m) parts.0.answered) k suffix s at here;
       }
+
+-- ---- the summary at a path
+
+pub got_note : (xs : List Annotated) (i : ℕ) (r : Option (Bor Annotated)) → IsGetResult xs i i r
+    → option_copied r ≡ slice_get xs i
+got_note xs i None h = sym (slice_get_past xs i h.3)
+got_note xs i (Some x) h = sym (slice_get_read xs (length xs) i x.now refl h.3.0 h.1)
+
+pub summary_at : (n : Annotated) (path : Path) (m : Annotated) (s : Known) → note_at n path ≡ Some m → s ≡ whole_in m
+    → IsSummaryAt n path s
+summary_at n path m s is same def f note =
+    let formed : IsFormed def (tree_in n) = subst (IsFormed def) (sym note.tree) note.formed in
+    let both = noted_at def path n note.noted formed in
+    let h = both.1 m is in
+    let there : node_at f path ≡ Some (tree_in m) =
+    ap (λ x. node_at x path) (sym note.tree) ∙ both.0 ∙ ap (option_map tree_in) is in
+    (
+      tree_in m,
+      there,
+      subst (IsSummaryOf def (tree_in m)) (sym same) (noted_known def m h.0 h.1).0,
+      subst (IsSummary def) (sym same) (noted_parts def m h.0).0.usual.0,
+    )
+
+pub no_summary_at : (n : Annotated) (path : Path) → note_at n path ≡ None → IsNoSummaryAt n path
+no_summary_at n path is def f note =
+    let formed : IsFormed def (tree_in n) = subst (IsFormed def) (sym note.tree) note.formed in
+    let both = noted_at def path n note.noted formed in
+    ap (λ x. node_at x path) (sym note.tree) ∙ both.0 ∙ ap (option_map tree_in) is

@@ -1,5 +1,5 @@
 -- Notes along the path to a changed node.
-use Rattle.std.proofs.Common.{◌≡◌, ℕ, zero, suc, ◌+◌, ◌<◌, ◌≤◌, Bool, List, [], ◌∷◌, ◌++◌, map, length, take, drop, get_or, slice_get, Option, Some, None, refl, sym, ◌∙◌, ap, subst, append_assoc, append-nil, arith}
+use Rattle.std.proofs.Common.{◌≡◌, ℕ, zero, suc, ◌+◌, ◌<◌, ◌≤◌, Bool, List, [], ◌∷◌, ◌++◌, map, length, take, drop, get_or, slice_get, Option, Some, None, refl, sym, ◌∙◌, ap, ap₂, subst, append_assoc, append-nil, arith}
 use Rattle.std.specs.Prelude.{option_and_then, option_map, unwrap_or}
 use Rattle.std.specs.List.{AllByRecursion}
 use Rattle.std.proofs.lemmas.List.{length-map, length-take-le}
@@ -58,6 +58,15 @@ first_step : (path : Path) (o : Option Fragment) (x : Fragment) → option_and_t
     → (c : Fragment) × (o ≡ Some c) × (node_at c path ≡ Some x)
 first_step path None x e = absurd (none-some x e)
 first_step path (Some c) x e = (c, refl, e)
+
+-- a path by its first step and the others
+pub split_path : (left : Path) (k : ℕ) (rest : Path) → slice_get left 0 ≡ Some k → rest ≡ drop 1 left
+    → left ≡ k ∷ rest
+split_path [] k rest e d = absurd (none-some k e)
+split_path (j ∷ left) k rest e d = ap₂ (λ a b. a ∷ b) (same_some j k e) (sym d)
+
+pub shorter : (left : Path) (k : ℕ) (rest : Path) → left ≡ k ∷ rest → length rest + 1 ≡ length left
+shorter left k rest e = let n : length left ≡ suc (length rest) = ap length e in omega (arith, n)
 
 module _ (def : Definition) where
   own_notes : (n : Annotated) → IsNoted def n → AreNotesOf def (children_of (tree_in n)) (below_in n)

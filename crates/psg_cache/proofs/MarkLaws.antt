@@ -1,7 +1,7 @@
 -- The culprits of a note are those of its tree.
-use Rattle.std.proofs.Common.{◌≡◌, ℕ, zero, suc, ◌+◌, ◌<◌, ◌≤◌, max, true, List, [], ◌∷◌, ◌++◌, length, take, get_or, refl, sym, ◌∙◌, ap, subst, append_assoc, append-nil, arith}
+use Rattle.std.proofs.Common.{◌≡◌, ℕ, zero, suc, ◌+◌, ◌<◌, ◌≤◌, max, Bool, true, false, List, [], ◌∷◌, ◌++◌, length, take, get_or, refl, sym, ◌∙◌, ap, ap₂, subst, append_assoc, append-nil, true≢false, arith}
 use Rattle.std.specs.List.{AllByRecursion}
-use Rattle.std.proofs.lemmas.List.{length-take-le, take_all}
+use Rattle.std.proofs.lemmas.List.{length-append, length-take-le, take_all}
 use Rattle.psg_terms.proofs.DeclareLaws.{take-next}
 use Rattle.psg_terms.specs.Terms.{Term}
 use Rattle.psg_grammar.specs.declared.types.Definition.{Definition}
@@ -17,7 +17,7 @@ use Rattle.psg_cache.specs.Edits.{AreCulpritsIn}
 use Rattle.psg_cache.specs.Notes.{IsFormed, IsNoteOf, mark_by}
 use Rattle.psg_cache.proofs.CulpritLaws.{no_culprits, open_from}
 use Rattle.psg_cache.proofs.Each.{each_at, each_push, not_nil}
-use Rattle.psg_cache.proofs.NoteCulprits.{blamed_each, noted_blames, rows-blamed}
+use Rattle.psg_cache.proofs.NoteCulprits.{blamed-rows, blamed_each, noted_blames, rows-blamed}
 use Rattle.psg_cache.proofs.NoteOpen.{noted_open}
 use Rattle.psg_cache.proofs.RealTrees.{real}
 
@@ -97,3 +97,53 @@ marked n paths is def f note =
       go (p ∷ ps) e =
           let own : AreCulprits def (nodes_from [] f) (p ∷ ps) = subst (AreCulprits def (nodes_from [] f)) e culprits in
           (λ o. not_nil p ps (no_culprits def (nodes_from [] f) (p ∷ ps) (open_from def [] f (real def f note.formed) o) own), own)
+
+-- ---- whether the tree itself is one
+
+pub none_at : (s : Known) (path : Path) (below : List Path) → (s.rel ≡ [] → ⊥) → blamed_at s path below ≡ []
+none_at s path below h = blamed-rows s path below h
+
+no_rows : (s : Known) (good : Bool) → ((s.rel ≡ [] → ⊥) → good ≡ true) → good ≡ false → s.rel ≡ []
+no_rows s good h e = go s.rel refl where
+  go : (rows : List (List Term)) → s.rel ≡ rows → rows ≡ []
+  go [] same = refl
+  go (row ∷ rows) same = absurd (true≢false (sym (h (λ none. not_nil row rows (sym same ∙ none))) ∙ e))
+
+blamed_empty : (s : Known) (path : Path) (below : List Path) → s.rel ≡ [] → blamed_at s path below ≡ or_itself path below
+blamed_empty s path below e =
+    ap (λ r. blamed_at (record { kind = s.kind; header = s.header; report = s.report; rel = r }) path below) e
+
+none_more : {X : Type 0} (start more found : List X) → found ≡ start ++ more → length found ≡ length start → more ≡ []
+none_more start [] found e n = refl
+none_more start (x ∷ xs) found e n =
+    let many : length (start ++ x ∷ xs) ≡ length start + length (x ∷ xs) = length-append start (x ∷ xs) in
+    absurd (let all = ap length e in omega (arith, many, all, n))
+
+some_more : {X : Type 0} (start more found : List X) → found ≡ start ++ more → (length found ≡ length start → ⊥)
+    → more ≡ [] → ⊥
+some_more start more found e n none = n (ap length (e ∙ ap (λ l. start ++ l) none ∙ append-nil start))
+
+itself_or : (path : Path) (ps : List Path) → (ps ≡ [] → ⊥) → or_itself path ps ≡ ps
+itself_or path [] h = absurd (h refl)
+itself_or path (p ∷ ps) h = refl
+
+pub blames_itself : (n : Annotated) (path : Path) (start found after : List Path) (itself : Path) (good : Bool)
+    → (((whole_in n).rel ≡ [] → ⊥) → good ≡ true) → good ≡ false → found ≡ start ++ blamed_below path n
+    → length found ≡ length start → after ≡ found ++ itself ∷ [] → itself ≡ path
+    → after ≡ start ++ blamed_at (whole_in n) path (blamed_below path n)
+blames_itself n path start found after itself good h e is same more it =
+    let none = none_more start (blamed_below path n) found is same in
+    let empty = no_rows (whole_in n) good h e in
+    let blamed : blamed_at (whole_in n) path (blamed_below path n) ≡ path ∷ [] =
+    blamed_empty (whole_in n) path (blamed_below path n) empty ∙ ap (or_itself path) none in
+    more ∙ ap₂ (λ a b. a ++ b ∷ []) (is ∙ ap (λ l. start ++ l) none ∙ append-nil start) it
+    ∙ ap (λ l. start ++ l) (sym blamed)
+
+pub blames_below : (n : Annotated) (path : Path) (start found : List Path) (good : Bool)
+    → (((whole_in n).rel ≡ [] → ⊥) → good ≡ true) → good ≡ false → found ≡ start ++ blamed_below path n
+    → (length found ≡ length start → ⊥) → found ≡ start ++ blamed_at (whole_in n) path (blamed_below path n)
+blames_below n path start found good h e is other =
+    let empty = no_rows (whole_in n) good h e in
+    is ∙ ap (λ l. start ++ l)
+    (sym (blamed_empty (whole_in n) path (blamed_below path n) empty
+    ∙ itself_or path (blamed_below path n) (some_more start (blamed_below path n) found is other)))

@@ -11,6 +11,7 @@ use std::alloc::{AllocError, Global};
 
 /// Puts the culprits of the tree at the path behind those that were found: none where its relation has a row, else those
 /// of its children in order, or the tree itself where there are none.
+#[tactic(auto, using(crate::proofs::MarkLaws::none_at))]
 fn blame(
     alloc: Global,
     note: &Note,
@@ -20,7 +21,8 @@ fn blame(
     ensures { OnOk result (found.new.items
         ≡ found.old.items ++ blamed_at (whole_in note.now) path.now (blamed_below path.now note.now)) }
 {
-    if !note.root().rel().is_empty() {
+    let good = note.is_good();
+    if good {
         return Ok(());
     }
     let before = found.len();

@@ -1,5 +1,5 @@
 //! Notes of changed trees.
-ghost use Rattle.std.specs.Prelude.{◌≡◌, ◌+◌, ◌≤◌, [], IfErr, IfOk};
+ghost use Rattle.std.specs.Prelude.{◌≡◌, ◌+◌, ◌≤◌, ◌<◌, [], drop, length, slice_get, Some, IfErr, IfOk};
 ghost use Rattle.std.specs.Prelude.{Ok as InOk};
 ghost use Rattle.psg_grammar.specs.Paths.{change_at, replaced as replaced_at, inserted as inserted_at, removed as removed_at};
 ghost use Rattle.psg_grammar.specs.Sound.{IsSound};
@@ -135,6 +135,22 @@ fn edited<L: Ledger>(
     }
 }
 
+/// The first step.
+fn head(left: &[u32]) -> u32
+    requires { 0 < length left.now }
+    ensures { slice_get left.now 0 ≡ Some result }
+{
+    left[0]
+}
+
+/// The steps behind the first one.
+fn tail(left: &[u32]) -> &[u32]
+    requires { 0 < length left.now }
+    ensures { result.now ≡ drop 1 left.now }
+{
+    &left[1..]
+}
+
 /// The note of the tree whose node behind the steps is changed: the node, and then those above it.
 fn changed<L: Ledger>(
     alloc: Global,
@@ -156,8 +172,8 @@ fn changed<L: Ledger>(
     if left.is_empty() {
         return edited(alloc, language, note, edit, made, path, steps);
     }
-    let number = left[0];
-    let rest = &left[1..];
+    let number = head(left);
+    let rest = tail(left);
     let Some(inner) = child_at(made, number) else {
         return Err(NoteFault::Memory);
     };

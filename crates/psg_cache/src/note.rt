@@ -1,6 +1,6 @@
 //! What is known of a tree.
-ghost use Rattle.std.specs.Prelude.{◌≡◌, ◌↔◌, ◌≤◌, ◌∷◌, [], drop, length, slice_get, Some, IfOk, IfSome, IfNone, IsTrue};
-ghost use Rattle.psg_cache.specs.Annotated.{tree_in, whole_in, rests_in, weight_in, below_in};
+ghost use Rattle.std.specs.Prelude.{◌≡◌, ◌↔◌, ◌≤◌, ◌∷◌, [], drop, length, option_copied, slice_get, Some, IfOk, IfSome, IfNone, IsTrue};
+ghost use Rattle.psg_cache.specs.Annotated.{tree_in, whole_in, rests_in, weight_in, below_in, note_at};
 ghost use Rattle.psg_cache.specs.Blames.{culprits_in};
 ghost use Rattle.psg_cache.specs.Edits.{AreCulpritsIn, IsSummaryAt, IsNoSummaryAt};
 ghost use Rattle.psg_cache.specs.Noting.{annotated_of};
@@ -122,19 +122,15 @@ impl Note {
         self.shared.as_ref().weight
     }
 
-    /// The summary of the node at the path; `None` where the path leads to no node.
+    /// Finds the summary of the node at the path; `None` where the path leads to no node. It walks along the path.
     pub fn summary(&self, path: &Path) -> Option<&Summary>
         ensures some { IfSome result (λ s. IsSummaryAt self.now path.now s.now) }
         ensures none { IfNone result (IsNoSummaryAt self.now path.now) }
     {
-        let mut note = self;
-        for step in path.steps() {
-            match note.below().get(*step as usize) {
-                Some(child) => note = child,
-                None => return None,
-            }
+        match at(self, path) {
+            Some(note) => Some(note.root()),
+            None => None,
         }
-        Some(note.root())
     }
 
     /// Whether the tree is good: its relation has a row, and no node goes wrong. It takes one step.
@@ -154,6 +150,27 @@ impl Note {
             shared: self.shared.clone()?,
         })
     }
+}
+
+/// The note of the child of the number, from 0.
+fn child_note(note: &Note, number: u32) -> Option<&Note>
+    ensures { option_copied result ≡ slice_get (below_in note.now) number }
+{
+    note.below().get(number as usize)
+}
+
+/// The note of the node at the path.
+fn at<'n>(note: &'n Note, path: &Path) -> Option<&'n Note>
+    ensures { option_copied result ≡ note_at note.now path.now }
+{
+    let mut node = note;
+    for step in path.steps() {
+        match child_note(node, *step) {
+            Some(next) => node = next,
+            None => return None,
+        }
+    }
+    Some(node)
 }
 
 /// Why a tree has no note.

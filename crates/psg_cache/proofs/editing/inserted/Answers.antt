@@ -4,7 +4,9 @@ use Rattle.psg_grammar.specs.Fragments.{Fragment}
 use Rattle.psg_grammar.specs.Paths.{change_at, inserted as inserted_at}
 use Rattle.psg_tree.specs.Edits.{IsInserted}
 use Rattle.psg_tree.specs.declared.places.TreeFault.{TreeFault}
+use Rattle.psg_cache.specs.declared.editing.Edit.TheVariants as edits
 use Rattle.psg_cache.specs.Annotated.{tree_in}
+use Rattle.psg_cache.specs.Changes.{IsPlace}
 use Rattle.psg_cache.specs.Notes.{IsNoteFault, IsNoteOf}
 use Rattle.psg_cache.proofs.ChangeLaws.{place_add}
 use Rattle.psg_cache.proofs.NoteOpen.{noted_open}
@@ -24,7 +26,8 @@ finished-requires-clause-place g c =
     let told : P c.insert-changed.result =
     subst (λ t. IfOk c.insert-changed.result (IsInserted t path place new)) c.tree.ensures c.insert-changed.ensures.ok in
     let is : IsInserted tree path place new made = subst P c.in_ok-made.ensures.ok told in
-    place_add def note path place new made c.requires.note c.requires.place is
+    subst (λ t. IsPlace def note path (edits.Add place t) made) (sym c.in_ok-share.ensures)
+    (place_add def note path place new made c.requires.note c.requires.place is)
 
 pub returns-in_err-all-clause-fault : goal.returns-in_err-all-clause-fault
 returns-in_err-all-clause-fault g c =

@@ -4,7 +4,9 @@ use Rattle.psg_grammar.specs.Fragments.{Fragment}
 use Rattle.psg_grammar.specs.Paths.{replaced as replaced_at}
 use Rattle.psg_tree.specs.Faults.{IsReplaced}
 use Rattle.psg_tree.specs.declared.places.TreeFault.{TreeFault}
+use Rattle.psg_cache.specs.declared.editing.Edit.TheVariants as edits
 use Rattle.psg_cache.specs.Annotated.{tree_in}
+use Rattle.psg_cache.specs.Changes.{IsPlace}
 use Rattle.psg_cache.specs.Notes.{IsNoteFault, IsNoteOf}
 use Rattle.psg_cache.proofs.ChangeLaws.{place_put}
 use Rattle.psg_cache.proofs.NoteOpen.{noted_open}
@@ -23,7 +25,8 @@ finished-requires-clause-place g c =
     let told : P c.replace-changed.result =
     subst (λ t. IfOk c.replace-changed.result (IsReplaced t path new)) c.tree.ensures c.replace-changed.ensures.ok in
     let is : IsReplaced tree path new made = subst P c.in_ok-made.ensures.ok told in
-    place_put def note path new made c.requires.note c.requires.place is
+    subst (λ t. IsPlace def note path (edits.Put t) made) (sym c.in_ok-share.ensures)
+    (place_put def note path new made c.requires.note c.requires.place is)
 
 pub returns-in_err-all-clause-fault : goal.returns-in_err-all-clause-fault
 returns-in_err-all-clause-fault g c =
