@@ -107,8 +107,7 @@ summary_at n path m s is same def f note =
     let both = noted_at def path n note.noted formed in
     let h = both.1 m is in
     let there : node_at f path ≡ Some (tree_in m) =
-    ap (λ x. node_at x path) (sym note.tree) ∙ both.0 ∙ ap (option_map tree_in) is in
-    (
+    ap (λ x. node_at x path) (sym note.tree) ∙ both.0 ∙ ap (option_map tree_in) is in (
       tree_in m,
       there,
       subst (IsSummaryOf def (tree_in m)) (sym same) (noted_known def m h.0 h.1).0,

@@ -331,8 +331,7 @@ module _ (def : Definition) where
       let children : children_of made ≡ take k cs ++ g (tree_in old) ∷ drop (suc k) cs =
       ap children_of h.changed ∙ children_changed g (tree_in n) k (tree_in old) mine in
       let new : slice_get (children_of made) k ≡ Some (g (tree_in old)) =
-      ap (λ xs. slice_get xs k) children ∙ got_behind cs k (g (tree_in old)) (drop (suc k) cs) few in
-      (
+      ap (λ xs. slice_get xs k) children ∙ got_behind cs k (g (tree_in old)) (drop (suc k) cs) few in (
         mine,
         subst (λ x. node_at x rest ≡ Some h.node) same below,
         same_some inner (g (tree_in old)) (sym got ∙ new),
@@ -427,11 +426,11 @@ module _ (def : Definition) where
       let same : is.list ≡ may.node = same_some is.list may.node (sym is.is_there ∙ may.there) in
       let whole = changed_shaped def (inserted place new) (tree_in n) kind path may.node shaped may.there
       (λ K h.
-        let one : K ≡ kinds.List may.number =
-        kind_once def may.node K (kinds.List may.number) (shape_is_kind def may.node K h) may.of_kind in
-        subst (IsShaped def (inserted place new may.node)) (sym one)
-        (inserted_shaped def place new may.node may.number may.list (subst (IsShaped def may.node) one h) may.found
-        may.shaped)) in
+      let one : K ≡ kinds.List may.number =
+      kind_once def may.node K (kinds.List may.number) (shape_is_kind def may.node K h) may.of_kind in
+      subst (IsShaped def (inserted place new may.node)) (sym one)
+      (inserted_shaped def place new may.node may.number may.list (subst (IsShaped def may.node) one h) may.found
+      may.shaped)) in
       record {
         noted = note.noted;
         formed_old = note.formed;

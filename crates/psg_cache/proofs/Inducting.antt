@@ -54,8 +54,8 @@ module _ (def : Definition) where
 
   module _ (P : Annotated → Type 0)
       (step : (tree : Fragment) (whole : Known) (rests : List Known) (weight : ℕ) (below : List Annotated)
-          → IsTopped def tree whole rests weight below → AllByRecursion (IsNoted def) below → AllByRecursion P below
-          → P (with_below (topped tree whole rests weight) below)) where
+      → IsTopped def tree whole rests weight below → AllByRecursion (IsNoted def) below → AllByRecursion P below
+      → P (with_below (topped tree whole rests weight) below)) where
     noted_along : (n : Annotated) (more : List Annotated) → IsNotedWith def n more → AllByRecursion (IsNoted def) more
         → AllByRecursion P more → P (with_below n more)
     noted_along (topped tree whole rests weight) more h j k = step tree whole rests weight more h j k

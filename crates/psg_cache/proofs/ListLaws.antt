@@ -92,8 +92,7 @@ module _ (def : Definition) where
       → IsListTopped def l u elements s ts
   list_topped l u elements answer end news s ts none h usual is cells each empty all =
       let whole : s ∷ ts ≡ news ++ end ∷ [] = all ∙ ap (λ r. news ++ end ∷ r) empty in
-      let at_end : AreListed def l u [] end [] = subst (Answers def (ending l u)) is h in
-      (
+      let at_end : AreListed def l u [] end [] = subst (Answers def (ending l u)) is h in (
         subst (λ bs. AreListed def l u bs s ts) (append-nil elements)
             (listed_front def l u elements end news [] [] s ts cells at_end whole),
         usual_front def end news [] s ts each (usual_ok answer end usual is, tt) whole,

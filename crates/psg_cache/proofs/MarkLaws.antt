@@ -92,6 +92,7 @@ marked n paths is def f note =
       culprits =
           subst (λ x. AreCulprits def (nodes_from [] x) (culprits_in n)) note.tree
           (noted_blames def n note.noted (subst (IsFormed def) (sym note.tree) note.formed) [])
+
       go : (ps : List Path) → culprits_in n ≡ ps → IsMark def f (mark_by ps)
       go [] e = (noted_open def f n note).1 (rows-blamed (whole_in n) [] (blamed_below [] n) e)
       go (p ∷ ps) e =

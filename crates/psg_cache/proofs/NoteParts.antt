@@ -58,7 +58,7 @@ module _ (def : Definition) where
             → slice_get (children_of (tree_in n)) k ≡ option_map tree_in (slice_get (below_in n) k)
             → AllByRecursion (IsFormed def) (map tree_in (below_in n)) → AllByRecursion (IsNoted def) (below_in n)
             → (option_and_then (λ t. node_at t path) (slice_get (children_of (tree_in n)) k)
-              ≡ option_map tree_in (option_and_then (λ c. note_at c path) (slice_get (below_in n) k)))
+            ≡ option_map tree_in (option_and_then (λ c. note_at c path) (slice_get (below_in n) k)))
             × ((m : Annotated) → option_and_then (λ c. note_at c path) (slice_get (below_in n) k) ≡ Some m → IsNoted def m × IsFormed def (tree_in m))
         go deeper None e at formed noted = (
           ap (option_and_then (λ t. node_at t path)) (at ∙ ap (option_map tree_in) e)

@@ -135,10 +135,10 @@ module _ (def : Definition) where
       let top : top_operator f ≡ Some o = ap top_operator (sym made) ∙ top_parts (operator o) ps in
       let own : own_names f ≡ names = ap own_names (sym made) ∙ own_parts (operator o) ps ∙ sym same in
       let nodes : IsOfNodes def f below k = λ number g there node are.
-          let one : number ≡ o = same_some number o (sym there ∙ top) in
-          let it : IsNode def o names g =
-          subst (λ n. IsNode def n names g) one (subst (λ ns. IsNode def number ns g) own node) in
-          subst (Answers def g) is (h g it are) in
+      let one : number ≡ o = same_some number o (sym there ∙ top) in
+      let it : IsNode def o names g =
+      subst (λ n. IsNode def n names g) one (subst (λ ns. IsNode def number ns g) own node) in
+      subst (Answers def g) is (h g it are) in
       let here : IsTop def f below k rests =
       (answered_spine f below k rests spine nodes none, alone_usual k rests (usual_ok def answer k usual is) none) in
       subst (λ x. IsTop def f below x rests) (sym alike) here

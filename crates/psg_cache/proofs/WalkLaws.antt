@@ -92,7 +92,7 @@ module _ (def : Definition) where
   child_fault path pushed f is front back child fault split place clean k =
       let n : length front ≡ 0 + length front = omega arith in
       let steps : each_steps def path 0 (children_of f) ≡ each_steps def path 0 front
-          ++ (steps_of def pushed child ++ each_steps def path (length front + 1) back) =
+      ++ (steps_of def pushed child ++ each_steps def path (length front + 1) back) =
       ap (each_steps def path 0) split ∙ each_steps-append def path 0 front (child ∷ back) (length front) n
       ∙ ap (λ q. each_steps def path 0 front ++ (steps_of def q child ++ each_steps def path (length front + 1) back))
       (sym place) in

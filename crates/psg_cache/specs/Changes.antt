@@ -40,7 +40,7 @@ pub record IsPlace (def : Definition) (n : Annotated) (path : Path) (edit : Edit
 
 -- the tree has the annotated one's last children behind so many of its own; a list has the same number and end
 pub record IsKept (def : Definition) (n : Annotated) (behind front : ℕ) (made : Fragment) (below : List Annotated)
-  : Type 0 where
+    : Type 0 where
   pub noted : IsNoted def n
   pub formed_old : IsFormed def (tree_in n)
   pub kept : drop front below ≡ drop behind (below_in n)

@@ -12,12 +12,7 @@ use std::alloc::{AllocError, Global};
 /// Puts the culprits of the tree at the path behind those that were found: none where its relation has a row, else those
 /// of its children in order, or the tree itself where there are none.
 #[tactic(auto, using(crate::proofs::MarkLaws::none_at))]
-fn blame(
-    alloc: Global,
-    note: &Note,
-    path: &[u32],
-    found: &mut Vec<Path>,
-) -> Result<(), AllocError>
+fn blame(alloc: Global, note: &Note, path: &[u32], found: &mut Vec<Path>) -> Result<(), AllocError>
     ensures { OnOk result (found.new.items
         ≡ found.old.items ++ blamed_at (whole_in note.now) path.now (blamed_below path.now note.now)) }
 {

@@ -58,7 +58,17 @@ fn added<L: Ledger>(
     let number = place as usize;
     let notes = note.below();
     let below = spliced(alloc, notes, number, Some(child), number)?;
-    let all = remade(alloc, language, note, number, number + 1, below, made, path, steps)?;
+    let all = remade(
+        alloc,
+        language,
+        note,
+        number,
+        number + 1,
+        below,
+        made,
+        path,
+        steps,
+    )?;
     Ok(all)
 }
 
@@ -82,7 +92,17 @@ fn taken<L: Ledger>(
     let number = place as usize;
     let notes = note.below();
     let below = spliced(alloc, notes, number, None, number + 1)?;
-    let all = remade(alloc, language, note, number + 1, number, below, made, path, steps)?;
+    let all = remade(
+        alloc,
+        language,
+        note,
+        number + 1,
+        number,
+        below,
+        made,
+        path,
+        steps,
+    )?;
     Ok(all)
 }
 
@@ -107,7 +127,17 @@ fn raised<L: Ledger>(
     let place = number as usize;
     let notes = note.below();
     let below = spliced(alloc, notes, place, Some(child), place + 1)?;
-    let all = remade(alloc, language, note, place + 1, place + 1, below, made, path, steps)?;
+    let all = remade(
+        alloc,
+        language,
+        note,
+        place + 1,
+        place + 1,
+        below,
+        made,
+        path,
+        steps,
+    )?;
     Ok(all)
 }
 
@@ -180,7 +210,16 @@ fn changed<L: Ledger>(
     let place = longer(alloc, path, number)?;
     let notes = note.below();
     let old = &notes[number as usize];
-    let child = changed(alloc, language, old, rest, edit, inner, place.as_slice(), steps)?;
+    let child = changed(
+        alloc,
+        language,
+        old,
+        rest,
+        edit,
+        inner,
+        place.as_slice(),
+        steps,
+    )?;
     let all = raised(alloc, language, note, number, child, made, path, steps)?;
     Ok(all)
 }

@@ -130,7 +130,12 @@ fn weight_over(suffixes: &Suffixes, below: &[Note]) -> Result<u64, AllocError>
 }
 
 /// The note of a tree, of its summaries and the notes of its children.
-pub(crate) fn made_of(alloc: Global, tree: &Tree, suffixes: Suffixes, below: Vec<Note>) -> Result<Note, AllocError>
+pub(crate) fn made_of(
+    alloc: Global,
+    tree: &Tree,
+    suffixes: Suffixes,
+    below: Vec<Note>,
+) -> Result<Note, AllocError>
     ensures { IfOk result (IsMadeOf tree.now suffixes.whole suffixes.rests below.items) }
 {
     let weight = weight_over(&suffixes, below.as_slice())?;
