@@ -29,3 +29,5 @@ pub mod SpliceLaws
 pub mod RemakeLaws
 pub mod ChangeLaws
 pub mod MarkLaws
+pub mod ClimbLaws
+mod Cases

@@ -26,11 +26,11 @@ use Rattle.psg_cache.proofs.Each.{each_append}
 
 -- ---- a changed child
 
-get_last : (xs : List Fragment) (t c : Fragment) → slice_get (xs ++ t ∷ []) (length xs) ≡ Some c → c ≡ t
+pub get_last : (xs : List Fragment) (t c : Fragment) → slice_get (xs ++ t ∷ []) (length xs) ≡ Some c → c ≡ t
 get_last [] t c e = cc
 get_last (x ∷ xs) t c e = get_last xs t c e
 
-get_front : (xs : List Fragment) (t c : Fragment) (k : ℕ) → (length xs ≡ k → ⊥)
+pub get_front : (xs : List Fragment) (t c : Fragment) (k : ℕ) → (length xs ≡ k → ⊥)
     → slice_get (xs ++ t ∷ []) k ≡ Some c → slice_get xs k ≡ Some c
 get_front [] t c zero never e = absurd (never refl)
 get_front [] t c (suc k) never e = e
