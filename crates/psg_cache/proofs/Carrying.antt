@@ -1,13 +1,12 @@
 -- The evaluator's answers stand for a tree with another child, where the child's summary is the same.
-use Rattle.std.proofs.Common.{◌≡◌, inl, inr, ℕ, zero, suc, Bool, true, false, cond, List, [], ◌∷◌, ◌++◌, length, refl, sym, ◌∙◌, ap, subst}
+use Rattle.std.proofs.Common.{◌≡◌, inl, inr, ℕ, zero, suc, Bool, cond, List, [], ◌∷◌, ◌++◌, length, refl, sym, ◌∙◌, ap, subst}
 use Rattle.std.proofs.lemmas.Bool.Decides.{eqb_tells}
-use Rattle.psg_terms.specs.Names.{Name}
 use Rattle.psg_grammar.specs.declared.types.Definition.{Definition}
 use Rattle.psg_grammar.specs.Fragments.{Fragment, hole, ending, cell, operator, with_child, with_name, with_number, with_text, anything, observed, children_of, top_operator}
 use Rattle.psg_grammar.specs.Paths.{put_child}
 use Rattle.psg_eval.specs.declared.summary.Known.{Known}
 use Rattle.psg_eval.specs.Trees.{IsNode, own_names}
-use Rattle.psg_cache.specs.Noted.{AreOfSuffixes, IsAnswered, IsOfNodes}
+use Rattle.psg_cache.specs.Noted.{AreOfSuffixes, IsOfNodes}
 use Rattle.psg_cache.specs.Renoting.{AreOfCells, cells_of, first_or}
 
 top-put : (new : Fragment) (k : ℕ) (f : Fragment) → top_operator (put_child new k f) ≡ top_operator f

@@ -1,7 +1,7 @@
 -- Worked cases.
 use Rattle.std.specs.Prelude.{ℕ, ◌≡◌, ◌+◌, true, false, List, [], ◌∷◌, refl}
 use Rattle.psg_grammar.specs.Fragments.{Fragment, hole, ending, cell, operator, with_child, with_name, with_number}
-use Rattle.psg_grammar.specs.Paths.{replaced, inserted, removed, ended, change_at}
+use Rattle.psg_grammar.specs.Paths.{replaced, inserted, removed, ended}
 use Rattle.psg_terms.specs.Terms.{Term}
 use Rattle.psg_grammar.specs.declared.types.Kind.TheVariants as kinds
 use Rattle.psg_eval.specs.declared.summary.Known.{Known}

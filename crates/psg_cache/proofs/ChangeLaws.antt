@@ -1,18 +1,17 @@
 -- Notes along the path to a changed node.
-use Rattle.std.proofs.Common.{◌≡◌, ℕ, zero, suc, ◌+◌, ◌<◌, ◌≤◌, Bool, List, [], ◌∷◌, ◌++◌, map, length, take, drop, get_or, slice_get, Option, Some, None, refl, sym, ◌∙◌, ap, ap₂, subst, append_assoc, append-nil, arith}
+use Rattle.std.proofs.Common.{◌≡◌, ℕ, zero, suc, ◌+◌, ◌<◌, ◌≤◌, List, [], ◌∷◌, ◌++◌, map, length, take, drop, get_or, slice_get, Option, Some, None, refl, sym, ◌∙◌, ap, ap₂, subst, append_assoc, append-nil, arith}
 use Rattle.std.specs.Prelude.{option_and_then, option_map, unwrap_or}
 use Rattle.std.specs.List.{AllByRecursion}
 use Rattle.std.proofs.lemmas.List.{length-map, length-take-le}
 use Rattle.std.proofs.lemmas.Option.{none-some, slice_get_within}
 use Rattle.psg_grammar.specs.declared.types.Definition.{Definition}
 use Rattle.psg_grammar.specs.Fragments.{Fragment, children_of}
-use Rattle.psg_grammar.specs.Paths.{Path, node_at, change_at, change_child, inserted, removed, IsList}
+use Rattle.psg_grammar.specs.Paths.{Path, node_at, change_at, inserted, removed, IsList}
 use Rattle.psg_grammar.specs.Steps.{steps_of}
 use Rattle.psg_grammar.specs.Work.{climb_of, leaving, work_of}
 use Rattle.psg_grammar.specs.declared.types.Kind.TheVariants as kinds
 use Rattle.psg_tree.specs.Edits.{IsInserted, IsRemoved}
 use Rattle.psg_tree.specs.Faults.{IsReplaced}
-use Rattle.psg_tree.specs.Shapes.{list_of}
 use Rattle.psg_cache.specs.declared.editing.Edit.{Edit}
 use Rattle.psg_cache.specs.declared.editing.Edit.TheVariants as edits
 use Rattle.psg_cache.specs.declared.note.NoteFault.{NoteFault}
@@ -26,7 +25,7 @@ use Rattle.psg_cache.proofs.ShapedTrees.{changed_shaped, inserted_shaped, kind_o
 use Rattle.psg_cache.specs.Walks.{AreNotesOf, IsStepFault}
 use Rattle.psg_cache.proofs.Each.{each_got, same_some}
 use Rattle.psg_cache.proofs.NoteParts.{noted_parts}
-use Rattle.psg_cache.proofs.RealTrees.{IsReal, real}
+use Rattle.psg_cache.proofs.RealTrees.{real}
 use Rattle.psg_cache.proofs.SpliceLaws.{children_changed, children_inserted, children_removed, kept_behind, list_changed, list_inserted, list_removed, list_self, long_enough, notes_spliced, notes_take, ticks_changed, ticks_inserted, ticks_removed}
 use Rattle.psg_cache.proofs.WalkLaws.{child_fault, formed_children, notes_clean}
 

@@ -1,17 +1,17 @@
 -- A replaced node and the nodes above it are the whole difference.
-use Rattle.std.proofs.Common.{◌≡◌, ◌⊎◌, inl, inr, ℕ, zero, suc, ◌+◌, Bool, false, cond, List, [], ◌∷◌, ◌++◌, length, slice_get, Option, Some, None, refl, sym, ◌∙◌, ap, ap₂, subst, arith}
+use Rattle.std.proofs.Common.{◌≡◌, inl, inr, ℕ, zero, suc, ◌+◌, Bool, false, cond, [], ◌∷◌, ◌++◌, length, slice_get, Option, Some, None, refl, sym, ◌∙◌, ap, subst, arith}
 use Rattle.std.specs.Prelude.{option_and_then, option_map, unwrap_or}
 use Rattle.std.proofs.lemmas.Bool.Decides.{eqb_tells}
 use Rattle.std.proofs.lemmas.Option.{none-some}
 use Rattle.psg_grammar.specs.Fragments.{Fragment, hole, ending, cell, operator, with_child, with_name, with_number, with_text, anything, observed, children_of}
-use Rattle.psg_grammar.specs.Paths.{Path, node_at, change_child, put_child, replaced, IsList}
+use Rattle.psg_grammar.specs.Paths.{Path, node_at, change_child, put_child, replaced}
 use Rattle.psg_grammar.specs.Same.{same_tree}
 use Rattle.psg_grammar.specs.Work.{climb_of, leaving}
 use Rattle.psg_cache.specs.Diff.{diff_of}
 use Rattle.psg_cache.proofs.CulpritLaws.{real_children}
 use Rattle.psg_cache.proofs.DiffLaws.{list-diff, node-diff, same-put}
 use Rattle.psg_cache.proofs.Each.{each_got, same_some}
-use Rattle.psg_cache.proofs.RealTrees.{IsReal, IsSpine}
+use Rattle.psg_cache.proofs.RealTrees.{IsReal}
 use Rattle.psg_cache.proofs.SpliceLaws.{get_front, get_last}
 
 -- a child that is changed is put
@@ -67,8 +67,7 @@ pub climb_diff : (path : Path) (f : Fragment) → IsReal f → (node new : Fragm
     → (diff_of f (replaced path new f) ≡ diff_of node new + climb_of f path)
     × (same_tree f (replaced path new f) ≡ false)
 climb_diff [] f is node new at differs =
-    let same : node ≡ f = sym (same_some f node at) in
-    (
+    let same : node ≡ f = sym (same_some f node at) in (
       (let z : diff_of node new ≡ diff_of node new + 0 = omega arith in ap (λ x. diff_of x new) (sym same) ∙ z),
       ap (λ x. same_tree x new) (sym same) ∙ differs,
     )
@@ -82,8 +81,7 @@ climb_diff (k ∷ path) f is node new at differs =
     let climb : climb_of f (k ∷ path) ≡ leaving f k + climb_of c path =
     ap (λ o. leaving f k + unwrap_or (option_map (λ t. climb_of t path) o) 0) child in
     let sum : diff_of f (put_child inner k f) ≡ diff_of node new + climb_of f (k ∷ path) =
-    (let a = h.0 in omega (arith, a, whole, climb)) in
-    (
+    (let a = h.0 in omega (arith, a, whole, climb)) in (
       ap (diff_of f) made ∙ sum,
       ap (same_tree f) made ∙ same-put inner c f is k child ∙ h.1,
     )

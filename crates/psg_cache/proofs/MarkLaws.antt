@@ -1,20 +1,16 @@
 -- The culprits of a note are those of its tree.
-use Rattle.std.proofs.Common.{◌≡◌, ℕ, zero, suc, ◌+◌, ◌<◌, ◌≤◌, max, Bool, true, false, List, [], ◌∷◌, ◌++◌, length, take, get_or, refl, sym, ◌∙◌, ap, ap₂, subst, append_assoc, append-nil, true≢false, arith}
+use Rattle.std.proofs.Common.{◌≡◌, ℕ, suc, ◌+◌, ◌<◌, ◌≤◌, Bool, true, false, List, [], ◌∷◌, ◌++◌, length, take, get_or, refl, sym, ◌∙◌, ap, ap₂, subst, append_assoc, append-nil, true≢false, arith}
 use Rattle.std.specs.List.{AllByRecursion}
 use Rattle.std.proofs.lemmas.List.{length-append, length-take-le, take_all}
 use Rattle.psg_terms.proofs.DeclareLaws.{take-next}
 use Rattle.psg_terms.specs.Terms.{Term}
-use Rattle.psg_grammar.specs.declared.types.Definition.{Definition}
-use Rattle.psg_grammar.specs.Fragments.{Fragment}
 use Rattle.psg_grammar.specs.Marks.{nodes_from, AreCulprits, IsMark}
-use Rattle.psg_grammar.specs.Open.{IsOpen}
 use Rattle.psg_grammar.specs.Paths.{Path}
 use Rattle.psg_eval.specs.declared.summary.Known.{Known}
-use Rattle.psg_eval.specs.Summaries.{IsSummaryOf}
-use Rattle.psg_cache.specs.Annotated.{Annotated, topped, above, tree_in, whole_in, below_in, nested}
+use Rattle.psg_cache.specs.Annotated.{Annotated, topped, above, whole_in, below_in, nested}
 use Rattle.psg_cache.specs.Blames.{blamed_at, blamed_below, culprits_in, or_itself}
 use Rattle.psg_cache.specs.Edits.{AreCulpritsIn}
-use Rattle.psg_cache.specs.Notes.{IsFormed, IsNoteOf, mark_by}
+use Rattle.psg_cache.specs.Notes.{IsFormed, mark_by}
 use Rattle.psg_cache.proofs.CulpritLaws.{no_culprits, open_from}
 use Rattle.psg_cache.proofs.Each.{each_at, each_push, not_nil}
 use Rattle.psg_cache.proofs.NoteCulprits.{blamed-rows, blamed_each, noted_blames, rows-blamed}

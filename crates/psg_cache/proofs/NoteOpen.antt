@@ -1,12 +1,12 @@
 -- The root's relation tells whether a tree is open.
-use Rattle.std.proofs.Common.{◌≡◌, sym, subst}
+use Rattle.std.proofs.Common.{sym, subst}
 use Rattle.psg_grammar.specs.declared.types.Definition.{Definition}
 use Rattle.psg_grammar.specs.Fragments.{Fragment}
 use Rattle.psg_eval.specs.Summaries.{IsSummaryOf}
 use Rattle.psg_cache.specs.Notes.{IsFormed, IsNoteOf, TellsOpen}
 use Rattle.psg_cache.proofs.OpenTrees.{open_rows, rows_open}
 use Rattle.psg_cache.proofs.RealTrees.{real}
-use Rattle.psg_cache.specs.Annotated.{Annotated, tree_in, whole_in}
+use Rattle.psg_cache.specs.Annotated.{Annotated, whole_in}
 use Rattle.psg_cache.proofs.NoteLaws.{noted_known}
 
 pub noted_open : (def : Definition) (f : Fragment) (n : Annotated) → IsNoteOf def f n → TellsOpen def f n

@@ -1,5 +1,5 @@
 -- A list whose first cells are new in front of suffixes that were kept.
-use Rattle.std.proofs.Common.{◌≡◌, ℕ, zero, suc, ◌+◌, ◌≤◌, Bool, false, List, [], ◌∷◌, ◌++◌, map, length, take, drop, slice_get, Some, refl, sym, ◌∙◌, ap, subst, arith}
+use Rattle.std.proofs.Common.{◌≡◌, ℕ, zero, suc, ◌≤◌, Bool, false, List, [], ◌∷◌, ◌++◌, map, length, take, drop, slice_get, Some, refl, sym, ◌∙◌, ap, subst, arith}
 use Rattle.std.specs.List.{AllByRecursion}
 use Rattle.std.proofs.lemmas.List.{drop-map, length-map, take-append-drop}
 use Rattle.std.proofs.lemmas.Option.{none-some}
@@ -11,14 +11,13 @@ use Rattle.psg_grammar.specs.Steps.{list_steps}
 use Rattle.psg_tree.specs.Shapes.{list_of}
 use Rattle.psg_tree.proofs.Children.{children-list}
 use Rattle.psg_eval.specs.declared.summary.Known.{Known}
-use Rattle.psg_eval.specs.Summaries.{AllSummaries, AreSummariesOf, IsSummary, IsSummaryOf}
+use Rattle.psg_eval.specs.Summaries.{AllSummaries, IsSummary, IsSummaryOf}
 use Rattle.psg_cache.specs.declared.note.NoteFault.{NoteFault}
 use Rattle.psg_cache.specs.Annotated.{Annotated, tree_in, whole_in, rests_in, below_in}
 use Rattle.psg_cache.specs.Changes.{IsKept}
 use Rattle.psg_cache.specs.Noted.{IsAnswered, IsNoted, IsNotedAs}
 use Rattle.psg_cache.specs.Notes.{IsFormed}
 use Rattle.psg_cache.specs.Renoting.{AreOfCells, cells_of, IsCellsFault, TakesCells}
-use Rattle.psg_cache.specs.Shaped.{IsShaped}
 use Rattle.psg_cache.specs.Walks.{AreListed, AreNotesOf, IsClean, IsMadeOf, IsNumbered, IsStepFault, IsTop, TakesElements, top_steps}
 use Rattle.psg_cache.proofs.CellLaws.{all_behind, answers_listed, cells_split, listed_answers, listed_front, usual_front}
 use Rattle.psg_cache.proofs.CulpritLaws.{real_children}

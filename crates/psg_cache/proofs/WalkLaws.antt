@@ -11,11 +11,11 @@ use Rattle.psg_grammar.specs.Sizes.{IsBig, IsDeep}
 use Rattle.psg_grammar.specs.Sound.{IsSound}
 use Rattle.psg_grammar.specs.Steps.{HasWeights, steps_of}
 use Rattle.psg_eval.specs.declared.summary.Known.{Known}
-use Rattle.psg_eval.specs.Summaries.{AllSummaries, AreSummariesOf, IsSummary}
+use Rattle.psg_eval.specs.Summaries.{AllSummaries, IsSummary}
 use Rattle.psg_cache.specs.declared.note.NoteFault.{NoteFault}
 use Rattle.psg_cache.specs.declared.note.NoteFault.TheVariants as faults
-use Rattle.psg_cache.specs.Annotated.{Annotated, topped, tree_in, whole_in, rests_in, weight_in, with_below}
-use Rattle.psg_cache.specs.Noted.{IsNoted, IsNotedAs, IsNotedWith, IsTopped, own_weight, summed}
+use Rattle.psg_cache.specs.Annotated.{Annotated, topped, tree_in, whole_in, weight_in, with_below}
+use Rattle.psg_cache.specs.Noted.{IsNoted, IsNotedAs, IsTopped, own_weight, summed}
 use Rattle.psg_cache.specs.Notes.{IsFormed, IsNoteFault, IsNoteOf}
 use Rattle.psg_cache.specs.Walks.{AreNotesOf, each_steps, top_steps, IsClean, IsMadeOf, IsSizeFault, IsSmall, IsStepFault, IsTop}
 use Rattle.psg_cache.proofs.ChildLaws.{formed_below}

@@ -1,7 +1,7 @@
 -- How many evaluations a change from one tree to another takes.
 use Rattle.std.specs.Prelude.{ℕ, zero, suc, ◌+◌, ◌==◌, Bool, true, false, cond, length, Option, Some, None}
 use Rattle.std.specs.Bool.{beq}
-use Rattle.psg_grammar.specs.Fragments.{Fragment, hole, ending, cell, operator, with_child, with_name, with_number, with_text, top_operator, children_of}
+use Rattle.psg_grammar.specs.Fragments.{Fragment, ending, cell, with_child, with_name, with_number, with_text, top_operator, children_of}
 use Rattle.psg_grammar.specs.Same.{same_tree}
 use Rattle.psg_grammar.specs.Work.{work_of, works_of}
 

@@ -1,5 +1,5 @@
 -- What the steps of a change of a note answer.
-use Rattle.std.specs.Prelude.{ℕ, ◌≡◌, Bool, false, List, [], ◌∷◌, ◌++◌, slice_get, Option, Some, None}
+use Rattle.std.specs.Prelude.{ℕ, ◌≡◌, Bool, false, List, [], ◌∷◌, slice_get, Option, Some, None}
 use Rattle.std.specs.List.{AllByRecursion}
 use Rattle.psg_grammar.specs.declared.types.Kind.TheVariants as kinds
 use Rattle.psg_grammar.specs.declared.types.ListKind.{ListKind}
@@ -12,7 +12,7 @@ use Rattle.psg_eval.specs.Summaries.{AllSummaries, IsSummary, IsSummaryOf}
 use Rattle.psg_cache.specs.Walks.{IsClean, IsStepFault}
 use Rattle.psg_cache.specs.declared.note.NoteFault.{NoteFault}
 use Rattle.psg_cache.specs.Annotated.{Annotated}
-use Rattle.psg_cache.specs.Noted.{AreOfSuffixes, IsNotedAs, IsOfCells}
+use Rattle.psg_cache.specs.Noted.{IsNotedAs, IsOfCells}
 
 abbrev pub first_or : Known → List Known → Known
 first_or behind [] = behind

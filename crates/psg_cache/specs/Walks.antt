@@ -2,12 +2,11 @@
 use Rattle.std.specs.Prelude.{ℕ, ◌≡◌, ◌⊎◌, ◌+◌, Bool, true, false, List, [], ◌∷◌, ◌++◌, map, slice_get, Some, Result, Ok, Err}
 use Rattle.std.specs.List.{AllByRecursion}
 use Rattle.psg_terms.specs.Relations.{IsIn}
-use Rattle.psg_terms.specs.Weight.{weight_of}
 use Rattle.psg_grammar.specs.declared.types.Kind.TheVariants as kinds
 use Rattle.psg_grammar.specs.declared.types.ListKind.{ListKind}
 use Rattle.psg_grammar.specs.declared.types.Definition.{Definition}
-use Rattle.psg_grammar.specs.Fragments.{Fragment, hole, ending, cell, operator, with_child, with_name, with_number, with_text, anything, observed, children_of}
-use Rattle.psg_grammar.specs.Marks.{Located, nodes_from, AreCulprits}
+use Rattle.psg_grammar.specs.Fragments.{Fragment, hole, ending, cell, operator, with_child, with_name, with_number, with_text, anything, observed}
+use Rattle.psg_grammar.specs.Marks.{Located, nodes_from}
 use Rattle.psg_grammar.specs.Paths.{Path}
 use Rattle.psg_grammar.specs.Sizes.{IsBig, IsDeep}
 use Rattle.psg_grammar.specs.Sound.{IsSound}
@@ -19,7 +18,7 @@ use Rattle.psg_tree.specs.declared.tree.Part.TheVariants.{Sub, Name as Named, Nu
 use Rattle.psg_eval.specs.declared.summary.Known.{Known}
 use Rattle.psg_eval.specs.declared.summary.EvalFault.{EvalFault}
 use Rattle.psg_eval.specs.declared.summary.EvalFault.TheVariants as evals
-use Rattle.psg_eval.specs.Summaries.{AllSummaries, Answers, IsSummary, IsSummaryOf}
+use Rattle.psg_eval.specs.Summaries.{AllSummaries, Answers, IsSummary}
 use Rattle.psg_cache.specs.declared.parts.Language.{Language}
 use Rattle.psg_cache.specs.Annotated.{Annotated, topped, tree_in, weight_in, with_below}
 use Rattle.psg_cache.specs.Noted.{IsAnswered, IsNoted, IsOfCells, own_weight, summed}

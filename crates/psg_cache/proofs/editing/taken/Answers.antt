@@ -1,4 +1,4 @@
-use Rattle.std.proofs.Common.{◌∙◌, ◌+◌, ◌≤◌, [], ◌∷◌, ◌++◌, ap, arith, drop, length, subst, sym, take}
+use Rattle.std.proofs.Common.{◌∙◌, ◌+◌, ◌≤◌, [], ◌++◌, ap, arith, drop, length, subst, sym, take}
 use Rattle.psg_grammar.specs.Steps.{steps_of}
 use Rattle.psg_cache.specs.Annotated.{below_in}
 use Rattle.psg_cache.specs.Walks.{IsStepFault}

@@ -1,4 +1,4 @@
-use Rattle.std.proofs.Common.{◌≡◌, ◌∙◌, List, ap, map, sym, subst}
+use Rattle.std.proofs.Common.{◌∙◌, List, ap, map, sym, subst}
 use Rattle.std.specs.List.{AllByRecursion}
 use Rattle.psg_grammar.specs.Fragments.{children_of}
 use Rattle.psg_eval.specs.declared.summary.Known.{Known}
