@@ -14,32 +14,32 @@ use Rattle.psg_tree.specs.Shapes.{with_parts, list_of, tree_of}
 use Rattle.psg_tree.proofs.Children.{children-shape-list}
 use Rattle.psg_eval.specs.declared.summary.Known.{Known}
 use Rattle.psg_eval.specs.Summaries.{AllSummaries, AreSummariesOf}
-use Rattle.psg_cache.specs.Notes.{evaluations_of}
+use Rattle.psg_grammar.specs.Work.{work_of}
 use Rattle.psg_cache.specs.Walks.{top_evaluations}
 
 -- of the trees together
 abbrev pub together : List Fragment → ℕ
-together cs = sum_by evaluations_of cs
+together cs = sum_by work_of cs
 
-evaluations_split : (f : Fragment) → evaluations_of f ≡ together (children_of f) + top_evaluations f
-evaluations_split (hole p) = refl
-evaluations_split (ending l u) = refl
-evaluations_split (cell l e r) =
-    let h = evaluations_split r in
-    let both : together (children_of (cell l e r)) ≡ evaluations_of e + together (children_of r) =
-    sum_by-cons evaluations_of e (children_of r) in
+work_split : (f : Fragment) → work_of f ≡ together (children_of f) + top_evaluations f
+work_split (hole p) = refl
+work_split (ending l u) = refl
+work_split (cell l e r) =
+    let h = work_split r in
+    let both : together (children_of (cell l e r)) ≡ work_of e + together (children_of r) =
+    sum_by-cons work_of e (children_of r) in
     omega (arith, h, both)
-evaluations_split (operator o) = refl
-evaluations_split (with_child f t) =
-    let h = evaluations_split f in
-    let both : together (children_of (with_child f t)) ≡ together (children_of f) + evaluations_of t =
-    sum_by_push evaluations_of (children_of f) t in
+work_split (operator o) = refl
+work_split (with_child f t) =
+    let h = work_split f in
+    let both : together (children_of (with_child f t)) ≡ together (children_of f) + work_of t =
+    sum_by_push work_of (children_of f) t in
     omega (arith, h, both)
-evaluations_split (with_name f n) = evaluations_split f
-evaluations_split (with_number f n) = evaluations_split f
-evaluations_split (with_text f t) = evaluations_split f
-evaluations_split anything = refl
-evaluations_split (observed f) = evaluations_split f
+work_split (with_name f n) = work_split f
+work_split (with_number f n) = work_split f
+work_split (with_text f t) = work_split f
+work_split anything = refl
+work_split (observed f) = work_split f
 
 -- ---- at the top
 
@@ -83,48 +83,48 @@ together_front : (cs : List Fragment) (i : ℕ) → together (take i cs) ≤ tog
 together_front cs zero = omega arith
 together_front [] (suc i) = omega arith
 together_front (c ∷ cs) (suc i) =
-    omega (arith, together_front cs i, sum_by-cons evaluations_of c (take i cs), sum_by-cons evaluations_of c cs)
+    omega (arith, together_front cs i, sum_by-cons work_of c (take i cs), sum_by-cons work_of c cs)
 
 -- before a child no more than all are counted
 pub within_children : (f : Fragment) (children : List Fragment) (i : ℕ) (start before : ℕ) → children ≡ children_of f
-    → before ≡ start + together (take i children) → before ≤ start + evaluations_of f
+    → before ≡ start + together (take i children) → before ≤ start + work_of f
 within_children f children i start before are h =
     let all : together children ≡ together (children_of f) = ap together are in
-    let split = evaluations_split f in
+    let split = work_split f in
     omega (arith, h, together_front children i, all, split)
 
 -- and behind it neither, whatever of it was evaluated
 pub within_child : (f : Fragment) (children : List Fragment) (i : ℕ) (child : Fragment) (start before after : ℕ)
     → children ≡ children_of f → i < length children → child ≡ get_or children i child
-    → before ≡ start + together (take i children) → after ≤ before + evaluations_of child
-    → after ≤ start + evaluations_of f
+    → before ≡ start + together (take i children) → after ≤ before + work_of child
+    → after ≤ start + work_of f
 within_child f children i child start before after are small at h k =
-    let e : together (take (i + 1) children) ≡ together (take i children) + evaluations_of child =
-    ap together (take-next children i child small at) ∙ sum_by_push evaluations_of (take i children) child in
+    let e : together (take (i + 1) children) ≡ together (take i children) + work_of child =
+    ap together (take-next children i child small at) ∙ sum_by_push work_of (take i children) child in
     let all : together children ≡ together (children_of f) = ap together are in
-    let split = evaluations_split f in
+    let split = work_split f in
     omega (arith, h, k, e, together_front children (i + 1), all, split)
 
 pub within_top : (f : Fragment) (children : List Fragment) (i : ℕ) (start before after : ℕ) → children ≡ children_of f
     → before ≡ start + together (take i children) → after ≤ before + top_evaluations f
-    → after ≤ start + evaluations_of f
+    → after ≤ start + work_of f
 within_top f children i start before after are h k =
     let all : together children ≡ together (children_of f) = ap together are in
-    let split = evaluations_split f in
+    let split = work_split f in
     omega (arith, h, k, together_front children i, all, split)
 
 pub counted_more : (children : List Fragment) (i : ℕ) (child : Fragment) (start before after : ℕ) → i < length children
     → child ≡ get_or children i child → before ≡ start + together (take i children)
-    → after ≡ before + evaluations_of child → after ≡ start + together (take (i + 1) children)
+    → after ≡ before + work_of child → after ≡ start + together (take (i + 1) children)
 counted_more children i child start before after small at h k =
-    let e : together (take (i + 1) children) ≡ together (take i children) + evaluations_of child =
-    ap together (take-next children i child small at) ∙ sum_by_push evaluations_of (take i children) child in
+    let e : together (take (i + 1) children) ≡ together (take i children) + work_of child =
+    ap together (take-next children i child small at) ∙ sum_by_push work_of (take i children) child in
     omega (arith, h, k, e)
 
 pub counted_tree : (f : Fragment) (children : List Fragment) (i : ℕ) (start before after : ℕ) → children ≡ children_of f
     → length children ≤ i → before ≡ start + together (take i children) → after ≡ before + top_evaluations f
-    → after ≡ start + evaluations_of f
+    → after ≡ start + work_of f
 counted_tree f children i start before after are past h k =
     let all : together (take i children) ≡ together (children_of f) = ap together (take_all i children past ∙ are) in
-    let split = evaluations_split f in
+    let split = work_split f in
     omega (arith, h, k, all, split)

@@ -1,5 +1,5 @@
 -- What a node's summary is made of: names and children of the kinds of its items.
-use Rattle.std.proofs.Common.{◌≡◌, inl, inr, ℕ, ◌+◌, Bool, false, ◌||◌, cond, List, [], ◌∷◌, ◌++◌, map, length, slice_get, Some, refl, sym, ◌∙◌, ap, ap₂, subst, append_assoc, append-nil, arith}
+use Rattle.std.proofs.Common.{◌≡◌, inl, inr, ℕ, ◌+◌, false, cond, List, [], ◌∷◌, ◌++◌, map, length, slice_get, Some, refl, sym, ◌∙◌, ap, ap₂, subst, append_assoc, append-nil, arith}
 use Rattle.std.proofs.lemmas.Bool.{or_from}
 use Rattle.std.specs.List.{AllByRecursion}
 use Rattle.std.proofs.Common.{length-append}

@@ -7,11 +7,27 @@ pub mod StepLaws
 pub mod WeightLaws
 pub mod SpaceTables
 pub mod Evaluations
+pub mod CellLaws
 pub mod ListLaws
 pub mod Passing
 pub mod ChildLaws
 pub mod Counting
 pub mod TopLaws
+pub mod Inducting
+pub mod NoteLaws
+pub mod NoteParts
+pub mod NoteWeights
+pub mod NoteOpen
+pub mod NoteCulprits
+pub mod AllNoted
+pub mod Carrying
+pub mod DiffLaws
 pub mod WalkLaws
 pub mod FormedTrees
 pub mod ShapedTrees
+pub mod SpliceLaws
+pub mod RemakeLaws
+pub mod ChangeLaws
+pub mod MarkLaws
+pub mod ClimbLaws
+mod Cases

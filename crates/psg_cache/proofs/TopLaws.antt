@@ -1,11 +1,10 @@
 -- The top of a tree whose children are evaluated: a placeholder, an operator or a list.
-use Rattle.std.proofs.Common.{◌≡◌, ℕ, ◌<◌, Bool, List, length, refl, sym, ◌∙◌, ap, subst}
-use Rattle.std.specs.Prelude.{Result, IfOk}
+use Rattle.std.proofs.Common.{◌≡◌, ℕ, ◌<◌, Bool, List, [], ◌∷◌, length, Some, refl, sym, ◌∙◌, ap, subst, arith}
+use Rattle.std.specs.Prelude.{Result, Ok, IfOk}
 use Rattle.std.specs.List.{AllByRecursion}
 use Rattle.psg_terms.specs.Names.{Name}
-use Rattle.psg_terms.specs.Weight.{weight_of}
 use Rattle.psg_grammar.specs.declared.types.Definition.{Definition}
-use Rattle.psg_grammar.specs.Fragments.{Fragment, hole, ending, cell, operator, with_child, with_name, with_number, with_text, anything, observed, children_of}
+use Rattle.psg_grammar.specs.Fragments.{Fragment, hole, ending, cell, operator, with_child, with_name, with_number, with_text, anything, observed, children_of, top_operator}
 use Rattle.psg_grammar.specs.Paths.{Path}
 use Rattle.psg_grammar.specs.Steps.{own_steps}
 use Rattle.psg_tree.specs.declared.tree.Part.{Part}
@@ -15,19 +14,20 @@ use Rattle.psg_tree.specs.Shapes.{with_parts, list_of, tree_of}
 use Rattle.psg_tree.proofs.Children.{children-list}
 use Rattle.psg_eval.specs.declared.summary.Known.{Known}
 use Rattle.psg_eval.specs.declared.summary.EvalFault.{EvalFault}
-use Rattle.psg_eval.specs.Trees.{IsNode}
+use Rattle.psg_eval.specs.Trees.{IsNode, own_names}
 use Rattle.psg_eval.specs.Summaries.{AllSummaries, Answers, AreSummariesOf, IsSummary, TakesAt}
-use Rattle.psg_cache.specs.declared.walking.Found.{Found}
 use Rattle.psg_cache.specs.declared.note.NoteFault.{NoteFault}
+use Rattle.psg_cache.specs.Noted.{AreOfSuffixes, IsAnswered, IsOfNodes}
 use Rattle.psg_cache.specs.Shaped.{IsShaped}
 use Rattle.psg_cache.specs.Notes.{IsFormed}
-use Rattle.psg_cache.specs.Walks.{IsAdded, IsAnswerFault, IsClean, IsListFault, IsListTopped, IsStepFault, IsTopped, names_in, TakesElements, top_steps}
+use Rattle.psg_cache.specs.Walks.{IsAnswerFault, IsListFault, IsListTopped, IsStepFault, IsTop, names_in, TakesElements, top_steps}
 use Rattle.psg_cache.proofs.RealTrees.{IsReal, IsSpine, real}
+use Rattle.psg_cache.proofs.CellLaws.{answers_listed}
 use Rattle.psg_cache.proofs.CulpritLaws.{real_children}
-use Rattle.psg_cache.proofs.StepLaws.{own_clean, own_fault}
-use Rattle.psg_cache.proofs.WeightLaws.{hole_weighs, node_weighs}
-use Rattle.psg_cache.proofs.Evaluations.{is_node, spine_parts, takes_at}
-use Rattle.psg_cache.proofs.ListLaws.{answered_ok, list_takes, top_list_steps, usual_ok}
+use Rattle.psg_cache.proofs.Each.{same_some}
+use Rattle.psg_cache.proofs.StepLaws.{own_fault}
+use Rattle.psg_cache.proofs.Evaluations.{is_node, own_parts, spine_parts, takes_at, top_parts}
+use Rattle.psg_cache.proofs.ListLaws.{list_takes, top_list_steps, usual_ok}
 
 module _ (def : Definition) where
   top_own : (path : Path) (f : Fragment) → IsSpine f → top_steps def path f ≡ own_steps def path f
@@ -42,6 +42,35 @@ module _ (def : Definition) where
   top_own path anything s = absurd s
   top_own path (observed f) s = absurd s
 
+  alone_usual : (s : Known) (rests : List Known) → IsSummary def s → rests ≡ []
+      → AllByRecursion (IsSummary def) (s ∷ rests)
+  alone_usual s rests h none = subst (λ ts. AllByRecursion (IsSummary def) (s ∷ ts)) (sym none) (h, tt)
+
+  -- what the evaluator answers for an operator
+  answered_spine : (f : Fragment) (below : List Known) (s : Known) (rests : List Known) → IsSpine f
+      → IsOfNodes def f below s → rests ≡ [] → IsAnswered def f below s rests
+  answered_spine (operator o) below s rests spine h none = (h, none)
+  answered_spine (with_child f t) below s rests spine h none = (h, none)
+  answered_spine (with_name f n) below s rests spine h none = (h, none)
+  answered_spine (with_number f n) below s rests spine h none = (h, none)
+  answered_spine (with_text f t) below s rests spine h none = (h, none)
+  answered_spine (hole p) below s rests spine h none = absurd spine
+  answered_spine (ending l u) below s rests spine h none = absurd spine
+  answered_spine (cell l e r) below s rests spine h none = absurd spine
+  answered_spine anything below s rests spine h none = absurd spine
+  answered_spine (observed f) below s rests spine h none = absurd spine
+
+  -- and for a list
+  answered_list : (l : ℕ) (es : List Fragment) (u : Bool) (below : List Known) (s : Known) (rests : List Known)
+      → AreOfSuffixes def (list_of l es u) below s rests → IsAnswered def (list_of l es u) below s rests
+  answered_list l [] u below s rests h = h
+  answered_list l (e ∷ es) u below s rests h = h
+
+  pub list_answered : (l : ℕ) (es : List Fragment) (u : Bool) (below : List Known) (s : Known) (rests : List Known)
+      → IsAnswered def (list_of l es u) below s rests → AreOfSuffixes def (list_of l es u) below s rests
+  list_answered l [] u below s rests h = h
+  list_answered l (e ∷ es) u below s rests h = h
+
   -- ---- placeholders
 
   hole_there : (s : Shape) (p : ℕ) (f : Fragment) → s ≡ Hole p → tree_of s ≡ f → hole p ≡ f
@@ -52,22 +81,15 @@ module _ (def : Definition) where
   hole_phylum s p f e h formed =
       let (kind, (fits, plain)) = subst (IsFormed def) (sym (hole_there s p f e h)) formed in fits.2
 
-  pub hole_topped : (path : Path) (s : Shape) (p : ℕ) (f : Fragment) (answer : Result Known EvalFault)
-      (old new : Found) (k : Known) → s ≡ Hole p → tree_of s ≡ f
-      → Answers def (hole p) answer → IfOk answer (IsSummary def) → IsAdded answer old new k
-      → IsTopped def path f old new k
-  hole_topped path s p f answer old new k e there h usual added =
-      let (summary, within) = answered_ok def (hole p) answer k h added.answered in
-      let made : IsTopped def path (hole p) old new k = record {
-        summary = summary;
-        usual = usual_ok def answer k usual added.answered;
-        clean = own_clean def path (hole p) within;
-        own = weight_of k.rel;
-        weights = λ below none. hole_weighs def p k.rel summary.rows below none;
-        sum = added.sum;
-        same = added.same;
-      } in
-      subst (λ x. IsTopped def path x old new k) (hole_there s p f e there) made
+  pub hole_topped : (s : Shape) (p : ℕ) (f : Fragment) (answer : Result Known EvalFault) (k : Known)
+      (below : List Known) (whole : Known) (rests : List Known) → s ≡ Hole p → tree_of s ≡ f
+      → Answers def (hole p) answer → IfOk answer (IsSummary def) → answer ≡ Ok k → whole ≡ k → rests ≡ []
+      → IsTop def f below whole rests
+  hole_topped s p f answer k below whole rests e there h usual is same none =
+      let here : IsTop def (hole p) below k rests =
+      ((subst (Answers def (hole p)) is h, none), alone_usual k rests (usual_ok def answer k usual is) none) in
+      subst (λ x. IsTop def x below whole rests) (hole_there s p f e there)
+      (subst (λ x. IsTop def (hole p) below x rests) (sym same) here)
 
   pub hole_fault : (path : Path) (s : Shape) (p : ℕ) (f : Fragment) (answer : Result Known EvalFault)
       (fault : NoteFault) → s ≡ Hole p → tree_of s ≡ f → Answers def (hole p) answer → IsAnswerFault path answer fault
@@ -103,24 +125,23 @@ module _ (def : Definition) where
       h f (subst (λ n. IsNode def o n f) (sym same)
       (is_node def o ps f kind (operator_there s o ps f e there) fits plain)) are
 
-  pub operator_topped : (path : Path) (s : Shape) (o : ℕ) (ps : List Part) (f : Fragment) (names : List Name)
-      (below : List Known) (answer : Result Known EvalFault) (old new : Found) (k : Known) → s ≡ Op o ps
-      → tree_of s ≡ f → IsFormed def f
-      → names ≡ names_in ps → AreSummariesOf def f below → AnswersNode o names below answer
-      → IfOk answer (IsSummary def) → IsAdded answer old new k → IsTopped def path f old new k
-  operator_topped path s o ps f names below answer old new k e there formed same are h usual added =
-      let spine : IsSpine f = subst IsSpine (operator_there s o ps f e there) (spine_parts (operator o) ps tt) in
-      let (summary, within) = answered_ok def f answer k
-      (answers_here s o ps f names below answer e there formed same are h) added.answered in
-      record {
-        summary = summary;
-        usual = usual_ok def answer k usual added.answered;
-        clean = subst (IsClean def) (sym (top_own path f spine)) (own_clean def path f within);
-        own = weight_of k.rel;
-        weights = λ n w. node_weighs def f (real def f formed) spine k.rel summary.rows n w;
-        sum = added.sum;
-        same = added.same;
-      }
+  pub operator_topped : (s : Shape) (o : ℕ) (ps : List Part) (f : Fragment) (names : List Name) (below : List Known)
+      (answer : Result Known EvalFault) (k whole : Known) (rests : List Known) → s ≡ Op o ps → tree_of s ≡ f
+      → names ≡ names_in ps → AnswersNode o names below answer → IfOk answer (IsSummary def) → answer ≡ Ok k
+      → whole ≡ k → rests ≡ [] → IsTop def f below whole rests
+  operator_topped s o ps f names below answer k whole rests e there same h usual is alike none =
+      let made = operator_there s o ps f e there in
+      let spine : IsSpine f = subst IsSpine made (spine_parts (operator o) ps tt) in
+      let top : top_operator f ≡ Some o = ap top_operator (sym made) ∙ top_parts (operator o) ps in
+      let own : own_names f ≡ names = ap own_names (sym made) ∙ own_parts (operator o) ps ∙ sym same in
+      let nodes : IsOfNodes def f below k = λ number g there node are.
+      let one : number ≡ o = same_some number o (sym there ∙ top) in
+      let it : IsNode def o names g =
+      subst (λ n. IsNode def n names g) one (subst (λ ns. IsNode def number ns g) own node) in
+      subst (Answers def g) is (h g it are) in
+      let here : IsTop def f below k rests =
+      (answered_spine f below k rests spine nodes none, alone_usual k rests (usual_ok def answer k usual is) none) in
+      subst (λ x. IsTop def f below x rests) (sym alike) here
 
   pub operator_fault : (path : Path) (s : Shape) (o : ℕ) (ps : List Part) (f : Fragment) (names : List Name)
       (below : List Known) (answer : Result Known EvalFault) (fault : NoteFault) → s ≡ Op o ps → tree_of s ≡ f
@@ -154,13 +175,27 @@ module _ (def : Definition) where
       (subst (AllByRecursion IsReal) children (real_children f (real def f formed)))
       (subst (λ x. AllSummaries def x below) children are) usual
 
-  pub list_topped : (path : Path) (s : Shape) (l : ℕ) (es : List Fragment) (u : Bool) (f : Fragment)
-      (below : List Known) (old new : Found) (k : Known) → s ≡ ListOf l es u → tree_of s ≡ f
-      → AreSummariesOf def f below
-      → IsListTopped def path l u below old new k → IsTopped def path f old new k
-  list_topped path s l es u f below old new k e there are h =
-      subst (λ x. IsTopped def path x old new k) (list_there s l es u f e there)
-      (h es (subst (λ x. AllSummaries def x below) (elements_there s l es u f e there) are))
+  as_many : (cs : List Fragment) (below : List Known) → AllSummaries def cs below → length cs ≡ length below
+  as_many [] [] h = refl
+  as_many [] (s ∷ ss) h = absurd h
+  as_many (c ∷ cs) [] h = absurd h
+  as_many (c ∷ cs) (s ∷ ss) h = let e = as_many cs ss h.1 in omega (arith, e)
+
+  -- a list of so many elements is answered where its suffixes are
+  pub listed_top : (l : ℕ) (es : List Fragment) (u : Bool) (below : List Known) (s : Known) (rests : List Known)
+      → AllSummaries def es below → IsListTopped def l u below s rests → IsTop def (list_of l es u) below s rests
+  listed_top l es u below s rests are h = (
+    answered_list l es u below s rests (answers_listed def l u es below s rests (as_many es below are) h.0),
+    h.1,
+  )
+
+  pub list_topped : (s : Shape) (l : ℕ) (es : List Fragment) (u : Bool) (f : Fragment) (below : List Known)
+      (k : Known) (rests : List Known) → s ≡ ListOf l es u → tree_of s ≡ f → AreSummariesOf def f below
+      → IsListTopped def l u below k rests → IsTop def f below k rests
+  list_topped s l es u f below k rests e there are h =
+      subst (λ x. IsTop def x below k rests) (list_there s l es u f e there)
+      (listed_top l es u below k rests
+      (subst (λ x. AllSummaries def x below) (elements_there s l es u f e there) are) h)
 
   pub list_fault : (path : Path) (s : Shape) (l : ℕ) (es : List Fragment) (u : Bool) (f : Fragment)
       (below : List Known) (fault : NoteFault) → s ≡ ListOf l es u → tree_of s ≡ f → AreSummariesOf def f below

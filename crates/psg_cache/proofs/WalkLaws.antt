@@ -1,176 +1,147 @@
--- What a walk found in a tree, from what it found in its children and at its top.
-use Rattle.std.proofs.Common.{◌≡◌, inl, inr, ℕ, suc, ◌+◌, ◌<◌, ◌≤◌, List, [], ◌∷◌, ◌++◌, length, take, drop, get_or, refl, sym, ◌∙◌, ap, subst, append_assoc, append-nil, drop-cons, arith}
-use Rattle.std.proofs.lemmas.List.{take_all, take-append-drop, length-take-le}
+-- Notes of the children of a tree, and of the tree.
+use Rattle.std.proofs.Common.{◌≡◌, inl, inr, ℕ, zero, suc, ◌+◌, ◌<◌, ◌≤◌, List, [], ◌∷◌, ◌++◌, map, length, take, drop, get_or, refl, sym, ◌∙◌, ap, ap₂, subst, append-nil, drop-cons, arith}
+use Rattle.std.specs.List.{AllByRecursion}
+use Rattle.std.proofs.lemmas.List.{map-append, take_all, take-append-drop, length-take-le}
 use Rattle.psg_terms.proofs.DeclareLaws.{take-next}
 use Rattle.psg_grammar.specs.declared.types.Definition.{Definition}
 use Rattle.psg_grammar.specs.declared.limits.TheConstants.{MOST_WEIGHTS}
 use Rattle.psg_grammar.specs.Fragments.{Fragment, children_of}
 use Rattle.psg_grammar.specs.Paths.{Path}
-use Rattle.psg_grammar.specs.Marks.{nodes_from, AreCulprits, IsMark}
 use Rattle.psg_grammar.specs.Sizes.{IsBig, IsDeep}
 use Rattle.psg_grammar.specs.Sound.{IsSound}
-use Rattle.psg_grammar.specs.Steps.{steps_of, HasWeights}
+use Rattle.psg_grammar.specs.Steps.{HasWeights, steps_of}
 use Rattle.psg_eval.specs.declared.summary.Known.{Known}
-use Rattle.psg_eval.specs.Summaries.{AllSummaries, IsSummary, IsSummaryOf}
-use Rattle.psg_cache.specs.declared.note.Noted.{Noted}
+use Rattle.psg_eval.specs.Summaries.{AllSummaries, IsSummary}
 use Rattle.psg_cache.specs.declared.note.NoteFault.{NoteFault}
 use Rattle.psg_cache.specs.declared.note.NoteFault.TheVariants as faults
-use Rattle.psg_cache.specs.declared.walking.Found.{Found}
-use Rattle.psg_cache.specs.Notes.{mark_by, IsNoteFault, IsNoteOf}
-use Rattle.psg_cache.specs.Walks.{each_nodes, each_steps, top_steps, AreWalked, IsBlamed, IsClean, IsKept, IsStepFault, IsTopped, IsWalked}
-use Rattle.psg_cache.proofs.Each.{each_append, not_nil}
-use Rattle.psg_cache.proofs.RealTrees.{IsReal}
-use Rattle.psg_cache.proofs.OpenTrees.{rows_open}
-use Rattle.psg_cache.proofs.CulpritLaws.{each_nodes-push, culprits-append, culprits-none, no_culprits, open_from, tree_culprits}
-use Rattle.psg_cache.proofs.StepLaws.{each_steps-append, each_steps-push, clean-append, clean-none, fault-behind, fault-left, first_wide, not_wide, steps_split}
-use Rattle.psg_cache.proofs.WeightLaws.{not_heavy, weigh-push}
-
-nil-front : {X : Type 0} (xs ys : List X) → xs ++ ys ≡ [] → xs ≡ []
-nil-front [] ys e = refl
-nil-front (x ∷ xs) ys e = absurd (not_nil x (xs ++ ys) e)
-
-nil-back : {X : Type 0} (xs ys : List X) → xs ++ ys ≡ [] → ys ≡ []
-nil-back [] ys e = e
-nil-back (x ∷ xs) ys e = absurd (not_nil x (xs ++ ys) e)
-
-not_one : {X : Type 0} (x : X) (xs : List X) → xs ≡ x ∷ [] → xs ≡ [] → ⊥
-not_one x xs e f = cc
+use Rattle.psg_cache.specs.Annotated.{Annotated, topped, tree_in, whole_in, weight_in, with_below}
+use Rattle.psg_cache.specs.Noted.{IsNoted, IsNotedAs, IsTopped, own_weight, summed}
+use Rattle.psg_cache.specs.Notes.{IsFormed, IsNoteFault, IsNoteOf}
+use Rattle.psg_cache.specs.Walks.{AreNotesOf, each_steps, top_steps, IsClean, IsMadeOf, IsSizeFault, IsSmall, IsStepFault, IsTop}
+use Rattle.psg_cache.proofs.ChildLaws.{formed_below}
+use Rattle.psg_cache.proofs.Each.{each_push}
+use Rattle.psg_cache.proofs.Inducting.{noted_with, tree-with}
+use Rattle.psg_cache.proofs.NoteLaws.{children_clean, children_known, holds, noted_known}
+use Rattle.psg_cache.proofs.NoteParts.{noted_parts}
+use Rattle.psg_cache.proofs.NoteWeights.{noted_weighs}
+use Rattle.psg_cache.proofs.RealTrees.{IsReal, real}
+use Rattle.psg_cache.proofs.StepLaws.{each_steps-append, fault-behind, fault-left, first_wide, not_wide, steps_split}
+use Rattle.psg_cache.proofs.WeightLaws.{not_heavy}
 
 module _ (def : Definition) where
-  summaries-push : (cs : List Fragment) (xs : List Known) (c : Fragment) (x : Known) → AllSummaries def cs xs
-      → IsSummaryOf def c x → AllSummaries def (cs ++ c ∷ []) (xs ++ x ∷ [])
-  summaries-push [] [] c x h s = (s, tt)
-  summaries-push [] (y ∷ ys) c x h s = absurd h
-  summaries-push (d ∷ cs) [] c x h s = absurd h
-  summaries-push (d ∷ cs) (y ∷ ys) c x h s = (h.0, summaries-push cs ys c x h.1 s)
+  pub notes-none : (notes : List Annotated) → notes ≡ [] → AreNotesOf def [] notes
+  notes-none notes e = subst (AreNotesOf def []) (sym e) (refl, tt)
 
-  walked-nothing : (path : Path) (found : Found) → AreWalked def path [] [] found found
-  walked-nothing path found = record {
-    summaries_of = tt;
-    usual = tt;
-    clean = clean-none def;
-    added = 0;
-    weights = refl;
-    sum = omega arith;
-    more = [];
-    culprits = culprits-none def;
-    pushed = sym (append-nil found.culprits.items);
-    good = λ e. tt;
-  }
-
-  pub walked-none : (path : Path) (below : List Known) (found : Found) → below ≡ []
-      → AreWalked def path [] below found found
-  walked-none path below found e = subst (λ k. AreWalked def path [] k found found) (sym e) (walked-nothing path found)
-
-  walked-push : (path pushed : Path) (cs : List Fragment) (below : List Known) (start middle after : Found)
-      (c : Fragment) (s : Known)
-      → pushed ≡ path ++ (0 + length cs) ∷ [] → AreWalked def path cs below start middle
-      → IsWalked def pushed c middle after s → AreWalked def path (cs ++ c ∷ []) (below ++ s ∷ []) start after
-  walked-push path pushed cs below start middle after c s place h k =
-      let nodes : each_nodes path 0 (cs ++ c ∷ []) ≡ each_nodes path 0 cs ++ nodes_from pushed c =
-      each_nodes-push path 0 cs c ∙ ap (λ q. each_nodes path 0 cs ++ nodes_from q c) (sym place) in
-      let steps : each_steps def path 0 (cs ++ c ∷ []) ≡ each_steps def path 0 cs ++ steps_of def pushed c =
-      each_steps-push def path 0 cs c ∙ ap (λ q. each_steps def path 0 cs ++ steps_of def q c) (sym place) in
-      record {
-        summaries_of = summaries-push cs below c s h.summaries_of k.summary;
-        usual = each_append (IsSummary def) below (s ∷ []) h.usual (k.usual, tt);
-        clean =
-            subst (IsClean def) (sym steps)
-            (clean-append def (each_steps def path 0 cs) (steps_of def pushed c) h.clean k.clean);
-        added = h.added + k.added;
-        weights = weigh-push def cs c h.added k.added h.weights k.weights;
-        sum = let a = h.sum in let b = k.sum in omega (arith, a, b);
-        more = h.more ++ k.more;
-        culprits =
-            subst (λ l. AreCulprits def l (h.more ++ k.more)) (sym nodes)
-            (culprits-append def (each_nodes path 0 cs) (nodes_from pushed c) h.more k.more h.culprits k.culprits);
-        pushed = k.pushed ∙ ap (λ l. l ++ k.more) h.pushed ∙ append_assoc start.culprits.items h.more k.more;
-        good =
-            λ e. each_append (λ (b : Known). b.rel ≡ [] → ⊥) below (s ∷ []) (h.good (nil-front h.more k.more e))
-            (k.good (nil-back h.more k.more e), tt);
-      }
+  pub notes-push : (cs : List Fragment) (notes : List Annotated) (c : Fragment) (n : Annotated)
+      → AreNotesOf def cs notes → IsNotedAs def c n → AreNotesOf def (cs ++ c ∷ []) (notes ++ n ∷ [])
+  notes-push cs notes c n h k = (
+    map-append tree_in notes (n ∷ []) ∙ ap₂ (λ a b. a ++ b ∷ []) h.0 k.0,
+    each_push (IsNoted def) notes n h.1 k.1,
+  )
 
   -- one more child
-  pub walked_more : (path pushed : Path) (children : List Fragment) (i step : ℕ) (child : Fragment)
-      (below longer : List Known) (start middle after : Found) (s : Known)
-      → i < length children → child ≡ get_or children i child → step ≡ i → pushed ≡ path ++ step ∷ []
-      → longer ≡ below ++ s ∷ []
-      → AreWalked def path (take i children) below start middle → IsWalked def pushed child middle after s
-      → AreWalked def path (take (i + 1) children) longer start after
-  walked_more path pushed children i step child below longer start middle after s small at same place made h k =
-      let n : 0 + length (take i children) ≡ i = omega (arith, length-take-le i children (omega (arith, small))) in
-      let there : pushed ≡ path ++ (0 + length (take i children)) ∷ [] =
-      place ∙ ap (λ j. path ++ j ∷ []) (same ∙ sym n) in
-      subst (λ l. AreWalked def path l longer start after) (sym (take-next children i child small at))
-      (subst (λ l. AreWalked def path (take i children ++ child ∷ []) l start after) (sym made)
-      (walked-push path pushed (take i children) below start middle after child s there h k))
+  pub notes_more : (children : List Fragment) (i : ℕ) (child : Fragment) (below longer : List Annotated) (n : Annotated)
+      → i < length children → child ≡ get_or children i child → longer ≡ below ++ n ∷ []
+      → AreNotesOf def (take i children) below → IsNotedAs def child n
+      → AreNotesOf def (take (i + 1) children) longer
+  notes_more children i child below longer n small at made h k =
+      subst (λ l. AreNotesOf def l longer) (sym (take-next children i child small at))
+      (subst (AreNotesOf def (take i children ++ child ∷ [])) (sym made)
+      (notes-push (take i children) below child n h k))
 
-  -- the fault of a child is one of the tree
-  pub child_fault : (path pushed : Path) (f : Fragment) → IsReal f
-      → (children : List Fragment) (i step : ℕ) (child : Fragment) (below : List Known) (start middle : Found)
-      (fault : NoteFault)
-      → children ≡ children_of f → i < length children → child ≡ get_or children i child → step ≡ i
-      → pushed ≡ path ++ step ∷ []
-      → AreWalked def path (take i children) below start middle → IsStepFault def (steps_of def pushed child) fault
+  pub notes_all : (f : Fragment) (children : List Fragment) (i : ℕ) (below : List Annotated)
+      → children ≡ children_of f → length children ≤ i → AreNotesOf def (take i children) below
+      → AreNotesOf def (children_of f) below
+  notes_all f children i below are past h =
+      subst (λ l. AreNotesOf def l below) (take_all i children past ∙ are) h
+
+  -- ---- what is known of trees with notes
+
+  pub formed_children : (f : Fragment) → IsFormed def f → AllByRecursion (IsFormed def) (children_of f)
+  formed_children f (kind, (fits, plain)) = formed_below def f [] kind fits plain
+
+  pub notes_summaries : (cs : List Fragment) (notes : List Annotated) → AllByRecursion (IsFormed def) cs
+      → AreNotesOf def cs notes → AllSummaries def cs (map whole_in notes)
+  notes_summaries cs notes formed h =
+      subst (λ l. AllSummaries def l (map whole_in notes)) h.0
+      (children_known def notes (subst (AllByRecursion (IsFormed def)) (sym h.0) formed) (holds def notes h.1))
+
+  pub notes_clean : (path : Path) (k : ℕ) (cs : List Fragment) (notes : List Annotated)
+      → AllByRecursion (IsFormed def) cs → AreNotesOf def cs notes → IsClean def (each_steps def path k cs)
+  notes_clean path k cs notes formed h =
+      subst (λ l. IsClean def (each_steps def path k l)) h.0
+      (children_clean def notes (subst (AllByRecursion (IsFormed def)) (sym h.0) formed) (holds def notes h.1) path k)
+
+  pub notes_usual : (notes : List Annotated) → AllByRecursion (IsNoted def) notes
+      → AllByRecursion (IsSummary def) (map whole_in notes)
+  notes_usual [] h = tt
+  notes_usual (n ∷ ns) h = ((noted_parts def n h.0).0.usual.0, notes_usual ns h.1)
+
+  formed_front : (i : ℕ) (cs : List Fragment) → AllByRecursion (IsFormed def) cs
+      → AllByRecursion (IsFormed def) (take i cs)
+  formed_front zero cs h = tt
+  formed_front (suc i) [] h = tt
+  formed_front (suc i) (c ∷ cs) h = (h.0, formed_front i cs h.1)
+
+  -- ---- the fault of a child, and of the top
+
+  pub child_fault : (path pushed : Path) (f : Fragment) → IsReal f → (front back : List Fragment) (child : Fragment)
+      (fault : NoteFault) → children_of f ≡ front ++ child ∷ back → pushed ≡ path ++ length front ∷ []
+      → IsClean def (each_steps def path 0 front) → IsStepFault def (steps_of def pushed child) fault
       → IsStepFault def (steps_of def path f) fault
-  child_fault path pushed f real children i step child below start middle fault are small at same place h k =
-      let n : i ≡ 0 + length (take i children) = omega (arith, length-take-le i children (omega (arith, small))) in
-      let behind : List Fragment = drop (suc i) children in
-      let split : children_of f ≡ take i children ++ (child ∷ behind) =
+  child_fault path pushed f is front back child fault split place clean k =
+      let n : length front ≡ 0 + length front = omega arith in
+      let steps : each_steps def path 0 (children_of f) ≡ each_steps def path 0 front
+      ++ (steps_of def pushed child ++ each_steps def path (length front + 1) back) =
+      ap (each_steps def path 0) split ∙ each_steps-append def path 0 front (child ∷ back) (length front) n
+      ∙ ap (λ q. each_steps def path 0 front ++ (steps_of def q child ++ each_steps def path (length front + 1) back))
+      (sym place) in
+      subst (λ l. IsStepFault def l fault) (sym (steps_split def path f is))
+      (fault-left def (each_steps def path 0 (children_of f)) (top_steps def path f) fault
+      (subst (λ l. IsStepFault def l fault) (sym steps)
+      (fault-behind def (each_steps def path 0 front)
+      (steps_of def pushed child ++ each_steps def path (length front + 1) back) fault clean
+      (fault-left def (steps_of def pushed child) (each_steps def path (length front + 1) back) fault k))))
+
+  pub walked_fault : (path pushed : Path) (f : Fragment) → IsFormed def f → (children : List Fragment) (i step : ℕ)
+      (child : Fragment) (below : List Annotated) (fault : NoteFault) → children ≡ children_of f
+      → i < length children → child ≡ get_or children i child → step ≡ i → pushed ≡ path ++ step ∷ []
+      → AreNotesOf def (take i children) below → IsStepFault def (steps_of def pushed child) fault
+      → IsStepFault def (steps_of def path f) fault
+  walked_fault path pushed f formed children i step child below fault are small at same place h k =
+      let n : length (take i children) ≡ i = length-take-le i children (omega (arith, small)) in
+      let split : children_of f ≡ take i children ++ (child ∷ drop (suc i) children) =
       sym are ∙ sym (take-append-drop i children)
       ∙ ap (λ l. take i children ++ l) (drop-cons children i child small ∙ ap (λ x. x ∷ drop (suc i) children)
       (sym at)) in
-      let steps : each_steps def path 0 (children_of f) ≡ each_steps def path 0
-      (take i children) ++ (steps_of def pushed child ++ each_steps def path (i + 1) behind) =
-      ap (each_steps def path 0) split ∙ each_steps-append def path 0 (take i children) (child ∷ behind) i n
-      ∙ ap (λ q. each_steps def path 0 (take i children) ++ (steps_of def q child ++ each_steps def path
-      (i + 1) behind)) (ap (λ j. path ++ j ∷ []) (sym same) ∙ sym place) in
-      subst (λ l. IsStepFault def l fault) (sym (steps_split def path f real))
-      (fault-left def (each_steps def path 0 (children_of f)) (top_steps def path f) fault
-      (subst (λ l. IsStepFault def l fault) (sym steps)
-      (fault-behind def (each_steps def path 0 (take i children))
-      (steps_of def pushed child ++ each_steps def path (i + 1) behind) fault h.clean
-      (fault-left def (steps_of def pushed child) (each_steps def path (i + 1) behind) fault k))))
+      let there : pushed ≡ path ++ length (take i children) ∷ [] =
+      place ∙ ap (λ j. path ++ j ∷ []) (same ∙ sym n) in
+      let each : AllByRecursion (IsFormed def) (take i children) =
+      formed_front i children (subst (AllByRecursion (IsFormed def)) (sym are) (formed_children f formed)) in
+      child_fault path pushed f (real def f formed) (take i children) (drop (suc i) children) child fault split there
+      (notes_clean path 0 (take i children) below each h) k
 
-  -- all children were walked
-  pub walked_all : (path : Path) (f : Fragment) (children : List Fragment) (i : ℕ) (below slice : List Known)
-      (start middle : Found) → children ≡ children_of f → length children ≤ i → slice ≡ below
-      → AreWalked def path (take i children) below start middle → AreWalked def path (children_of f) slice start middle
-  walked_all path f children i below slice start middle are past same h =
-      subst (λ k. AreWalked def path (children_of f) k start middle) (sym same)
-      (subst (λ l. AreWalked def path l below start middle) (take_all i children past ∙ are) h)
-
-  pub top_fault : (path : Path) (f : Fragment) → IsReal f
-      → (below : List Known) (start middle : Found) (fault : NoteFault)
-      → AreWalked def path (children_of f) below start middle → IsStepFault def (top_steps def path f) fault
+  pub top_fault : (path : Path) (f : Fragment) → IsFormed def f → (below : List Annotated) (fault : NoteFault)
+      → AreNotesOf def (children_of f) below → IsStepFault def (top_steps def path f) fault
       → IsStepFault def (steps_of def path f) fault
-  top_fault path f real below start middle fault h k =
-      subst (λ l. IsStepFault def l fault) (sym (steps_split def path f real))
-      (fault-behind def (each_steps def path 0 (children_of f)) (top_steps def path f) fault h.clean k)
+  top_fault path f formed below fault h k =
+      subst (λ l. IsStepFault def l fault) (sym (steps_split def path f (real def f formed)))
+      (fault-behind def (each_steps def path 0 (children_of f)) (top_steps def path f) fault
+      (notes_clean path 0 (children_of f) below (formed_children f formed) h) k)
 
-  pub walked_tree : (path : Path) (f : Fragment) → IsReal f
-      → (below : List Known) (start middle after final : Found) (s : Known)
-      → AreWalked def path (children_of f) below start middle → IsTopped def path f middle after s
-      → IsBlamed s below path after final → IsWalked def path f start final s
-  walked_tree path f real below start middle after final s h t b = record {
-    summary = t.summary;
-    usual = t.usual;
-    clean =
-        subst (IsClean def) (sym (steps_split def path f real))
-        (clean-append def (each_steps def path 0 (children_of f)) (top_steps def path f) h.clean t.clean);
-    added = h.added + t.own;
-    weights = t.weights h.added h.weights;
-    sum = let p = h.sum in let q = t.sum in let r = b.weight in omega (arith, p, q, r);
-    more = h.more ++ b.pushed;
-    culprits = tree_culprits def path f real s t.summary below h.summaries_of h.more b.pushed h.culprits b.exact;
-    pushed =
-        b.all ∙ ap (λ v. v.items ++ b.pushed) t.same ∙ ap (λ l. l ++ b.pushed) h.pushed
-        ∙ append_assoc start.culprits.items h.more b.pushed;
-    good = λ e empty. elim b.exact [
-      | inl x ↦ not_one path b.pushed x.1 (nil-back h.more b.pushed e)
-      | inr x ↦ x.0 (empty, h.good (nil-front h.more b.pushed e))
-    ];
-  }
+  -- ---- the note of a tree
+
+  pub made_noted : (f : Fragment) (below : List Annotated) (s : Known) (rests : List Known) (n : Annotated)
+      → AreNotesOf def (children_of f) below → IsTop def f (map whole_in below) s rests → IsMadeOf f s rests below n
+      → IsNotedAs def f n
+  made_noted f below s rests n notes top made =
+      let weight : ℕ = summed weight_in below + summed own_weight (s ∷ rests) in
+      let node : Annotated = topped f s rests weight in
+      let it : IsTopped def f s rests weight below =
+      record { children = notes.0; answered = top.0; usual = top.1; sum = refl } in
+      let all : IsNoted def (with_below node below) =
+      noted_with def node below [] (subst (IsTopped def f s rests weight) (sym (append-nil below)) it) notes.1 in
+      subst (IsNotedAs def f) (sym made) (tree-with node below, all)
 
   -- ---- the whole tree
 
@@ -183,33 +154,43 @@ module _ (def : Definition) where
   fault_noted f faults.Big shallow small h = absurd h
   fault_noted f faults.Heavy shallow small h = absurd h
 
-  mark_is : (f : Fragment) → IsReal f → (s : Known) → IsSummaryOf def f s → (paths : List Path)
-      → AreCulprits def (nodes_from [] f) paths → (paths ≡ [] → s.rel ≡ [] → ⊥) → IsMark def f (mark_by paths)
-  mark_is f real s summary [] culprits good = rows_open def f real s.rel summary.rows (good refl)
-  mark_is f real s summary (p ∷ ps) culprits good =
-      (λ o. not_nil p ps (no_culprits def (nodes_from [] f) (p ∷ ps) (open_from def [] f real o) culprits), culprits)
+  pub size_fault : (f : Fragment) (fault : NoteFault) → IsSizeFault f fault → IsNoteFault def f fault
+  size_fault f fault (inl (is, deep)) = subst (IsNoteFault def f) (sym is) deep
+  size_fault f fault (inr (is, shallow, big)) = subst (IsNoteFault def f) (sym is) (shallow, big)
 
-  pub noted : (f : Fragment) → IsSound def → IsReal f → (start final : Found) (s : Known) → start.weight ≡ 0
-      → start.culprits.items ≡ [] → IsWalked def [] f start final s
-      → (IsDeep f → ⊥) → (IsBig f → ⊥) → final.weight ≤ MOST_WEIGHTS → (n : Noted) → IsKept f s final n
-      → IsNoteOf def f n
-  noted f sound real start final s none empty h shallow small light n kept =
-      let total : h.added ≡ n.weight = let a = h.sum in let b = kept.weight in omega (arith, a, none, b) in
-      let paths : h.more ≡ n.culprits = ap (λ l. l ++ h.more) (sym empty) ∙ sym h.pushed ∙ sym kept.culprits in
+  clean_whole : (f : Fragment) (n : Annotated) → IsFormed def f → IsNotedAs def f n
+      → IsClean def (steps_of def [] f)
+  clean_whole f n formed h =
+      let known = noted_known def n h.1 (subst (IsFormed def) (sym h.0) formed) in
+      subst (λ x. IsClean def (steps_of def [] x)) h.0 (known.1 [])
+
+  pub note_of : IsSound def → (f : Fragment) (n : Annotated) (weight : ℕ) → IsFormed def f → IsNotedAs def f n
+      → IsSmall f → weight ≡ weight_in n → weight ≤ MOST_WEIGHTS → IsNoteOf def f n
+  note_of sound f n weight formed h small is light =
+      let few : weight_in n ≤ MOST_WEIGHTS = subst (λ w. w ≤ MOST_WEIGHTS) is light in
+      let weighs = noted_weighs def n h.1 (subst (IsFormed def) (sym h.0) formed) in
       record {
-        tree = kept.tree;
-        root = subst (IsSummaryOf def f) (sym kept.root) h.summary;
-        weight = subst (HasWeights def f) total h.weights;
-        mark = subst (λ l. IsMark def f (mark_by l)) paths (mark_is f real s h.summary h.more h.culprits h.good);
+        tree = h.0;
+        formed = formed;
+        noted = h.1;
         within = record {
-          shallow = shallow;
-          small = small;
-          narrow = not_wide def f h.clean;
-          light = not_heavy def sound f h.added h.weights (let a = h.sum in omega (arith, a, none, light));
+          shallow = small.0;
+          small = small.1;
+          narrow = not_wide def f (clean_whole f n formed h);
+          light =
+              not_heavy def sound f (weight_in n) (subst (λ x. HasWeights def x (weight_in n)) h.0 weighs) few;
         };
       }
 
-  pub is_heavy : (f : Fragment) (start final : Found) (s : Known) → start.weight ≡ 0 → IsWalked def [] f start final s
-      → (IsDeep f → ⊥) → (IsBig f → ⊥) → MOST_WEIGHTS < final.weight → IsNoteFault def f faults.Heavy
-  is_heavy f start final s none h shallow small heavy =
-      (shallow, small, not_wide def f h.clean, (h.added, h.weights, let a = h.sum in omega (arith, a, none, heavy)))
+  pub heavy_fault : (f : Fragment) (n : Annotated) (weight : ℕ) (fault : NoteFault) → IsFormed def f
+      → IsNotedAs def f n → IsSmall f → weight ≡ weight_in n → (fault ≡ faults.Heavy) × (MOST_WEIGHTS < weight)
+      → IsNoteFault def f fault
+  heavy_fault f n weight fault formed h small is heavy =
+      let over : MOST_WEIGHTS < weight_in n = subst (λ w. MOST_WEIGHTS < w) is heavy.1 in
+      let weighs = noted_weighs def n h.1 (subst (IsFormed def) (sym h.0) formed) in
+      subst (IsNoteFault def f) (sym heavy.0) (
+        small.0,
+        small.1,
+        not_wide def f (clean_whole f n formed h),
+        (weight_in n, subst (λ x. HasWeights def x (weight_in n)) h.0 weighs, over),
+      )

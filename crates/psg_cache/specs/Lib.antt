@@ -1,3 +1,13 @@
 pub mod Shaped
+pub mod Annotated
+pub mod Noting
+pub mod NoteFalls
+pub mod Noted
 pub mod Notes
+pub mod Blames
 pub mod Walks
+pub mod Renoting
+pub mod Edits
+pub mod AllSummaries
+pub mod Diff
+pub mod Changes

@@ -1,14 +1,14 @@
 -- What a walk over a tree finds: the first step that passes the limit, the weight, and where the tree goes wrong.
-use Rattle.std.specs.Prelude.{ℕ, ◌≡◌, ◌⊎◌, ◌+◌, Bool, true, false, List, [], ◌∷◌, ◌++◌, slice_get, Some, Result, Ok, Err}
+use Rattle.std.specs.Prelude.{ℕ, ◌≡◌, ◌⊎◌, ◌+◌, Bool, true, false, List, [], ◌∷◌, ◌++◌, map, slice_get, Some, Result, Ok, Err}
 use Rattle.std.specs.List.{AllByRecursion}
 use Rattle.psg_terms.specs.Relations.{IsIn}
-use Rattle.psg_terms.specs.Weight.{weight_of}
 use Rattle.psg_grammar.specs.declared.types.Kind.TheVariants as kinds
 use Rattle.psg_grammar.specs.declared.types.ListKind.{ListKind}
 use Rattle.psg_grammar.specs.declared.types.Definition.{Definition}
-use Rattle.psg_grammar.specs.Fragments.{Fragment, hole, ending, cell, operator, with_child, with_name, with_number, with_text, anything, observed, children_of}
-use Rattle.psg_grammar.specs.Marks.{Located, nodes_from, AreCulprits}
+use Rattle.psg_grammar.specs.Fragments.{Fragment, hole, ending, cell, operator, with_child, with_name, with_number, with_text, anything, observed}
+use Rattle.psg_grammar.specs.Marks.{Located, nodes_from}
 use Rattle.psg_grammar.specs.Paths.{Path}
+use Rattle.psg_grammar.specs.Sizes.{IsBig, IsDeep}
 use Rattle.psg_grammar.specs.Sound.{IsSound}
 use Rattle.psg_grammar.specs.Steps.{Place, own_steps, list_steps, steps_of, HasWeights, PassesAt}
 use Rattle.psg_tree.specs.Shapes.{list_of}
@@ -18,10 +18,10 @@ use Rattle.psg_tree.specs.declared.tree.Part.TheVariants.{Sub, Name as Named, Nu
 use Rattle.psg_eval.specs.declared.summary.Known.{Known}
 use Rattle.psg_eval.specs.declared.summary.EvalFault.{EvalFault}
 use Rattle.psg_eval.specs.declared.summary.EvalFault.TheVariants as evals
-use Rattle.psg_eval.specs.Summaries.{AllSummaries, IsSummary, IsSummaryOf}
-use Rattle.psg_cache.specs.declared.walking.Found.{Found}
-use Rattle.psg_cache.specs.declared.walking.Language.{Language}
-use Rattle.psg_cache.specs.declared.note.Noted.{Noted}
+use Rattle.psg_eval.specs.Summaries.{AllSummaries, Answers, IsSummary}
+use Rattle.psg_cache.specs.declared.parts.Language.{Language}
+use Rattle.psg_cache.specs.Annotated.{Annotated, topped, tree_in, weight_in, with_below}
+use Rattle.psg_cache.specs.Noted.{IsAnswered, IsNoted, IsOfCells, own_weight, summed}
 use Rattle.psg_cache.specs.Notes.{AreDeclaringSpaces}
 use Rattle.psg_cache.specs.declared.note.NoteFault.{NoteFault}
 use Rattle.psg_cache.specs.declared.note.NoteFault.TheVariants as faults
@@ -39,11 +39,17 @@ names_in (Named n ∷ rest) = n ∷ names_in rest
 names_in (Number n ∷ rest) = names_in rest
 names_in (Text t ∷ rest) = names_in rest
 
--- the answer was the summary, and its weight was added
-pub record IsAdded (answer : Result Known EvalFault) (old new : Found) (s : Known) : Type 0 where
-  pub answered : answer ≡ Ok s
-  pub sum : new.weight ≡ old.weight + weight_of s.rel
-  pub same : new.culprits ≡ old.culprits
+-- none of the limits of sizes is passed
+abbrev pub IsSmall : Fragment → Type 0
+IsSmall f = (IsDeep f → ⊥) × (IsBig f → ⊥)
+
+abbrev pub IsSizeFault : Fragment → NoteFault → Type 0
+IsSizeFault f fault = ((fault ≡ faults.Deep) × IsDeep f) ⊎ ((fault ≡ faults.Big) × (IsDeep f → ⊥) × IsBig f)
+
+-- the note is made of the tree, its summaries and the notes of its children
+abbrev pub IsMadeOf : Fragment → Known → List Known → List Annotated → Annotated → Type 0
+IsMadeOf f s rests below n =
+    n ≡ with_below (topped f s rests (summed weight_in below + summed own_weight (s ∷ rests))) below
 
 -- the fault of the step that the answer names, for the part at the path, or want of memory
 abbrev pub IsAnswerFault : Path → Result Known EvalFault → NoteFault → Type 0
@@ -63,6 +69,10 @@ top_evaluations (with_text f t) = top_evaluations f
 top_evaluations anything = 1
 top_evaluations (observed f) = top_evaluations f
 
+-- a list of the number
+abbrev pub IsNumbered : ℕ → Fragment → Type 0
+IsNumbered l f = (es : List Fragment) × (u : Bool) × (f ≡ list_of l es u)
+
 -- each of the relations has a row
 abbrev pub HaveRows : List Known → Type 0
 HaveRows summaries = AllByRecursion (λ (s : Known). s.rel ≡ [] → ⊥) summaries
@@ -74,20 +84,6 @@ GoesWrong s below = (s.rel ≡ []) × HaveRows below
 -- the path where the tree goes wrong by itself, and no path otherwise
 abbrev pub IsBlame : Known → List Known → Path → List Path → Type 0
 IsBlame s below path pushed = (GoesWrong s below × (pushed ≡ path ∷ [])) ⊎ ((GoesWrong s below → ⊥) × (pushed ≡ []))
-
--- the blame was put behind the culprits
-pub record IsBlamed (s : Known) (below : List Known) (path : Path) (old new : Found) : Type 0 where
-  pub weight : new.weight ≡ old.weight
-  pub pushed : List Path
-  pub all : new.culprits.items ≡ old.culprits.items ++ pushed
-  pub exact : IsBlame s below path pushed
-
--- the note keeps the tree, its summary and what was found
-pub record IsKept (f : Fragment) (s : Known) (found : Found) (n : Noted) : Type 0 where
-  pub tree : n.tree ≡ f
-  pub root : n.root ≡ s
-  pub weight : n.weight ≡ found.weight
-  pub culprits : n.culprits ≡ found.culprits.items
 
 -- the nodes of trees that follow one another, the first of which has the number n
 abbrev pub each_nodes : Path → ℕ → List Fragment → List Located
@@ -138,42 +134,6 @@ module _ (def : Definition) where
   WeighTogether [] n = n ≡ 0
   WeighTogether (c ∷ cs) n = (m : ℕ) × (k : ℕ) × HasWeights def c m × WeighTogether cs k × (n ≡ m + k)
 
-  -- this was added for the trees, which are the first children of a node at the path
-  pub record AreWalked (path : Path) (cs : List Fragment) (summaries : List Known) (old new : Found) : Type 0 where
-    pub summaries_of : AllSummaries def cs summaries
-    pub usual : AllByRecursion (IsSummary def) summaries
-    pub clean : IsClean (each_steps path 0 cs)
-    pub added : ℕ
-    pub weights : WeighTogether cs added
-    pub sum : new.weight ≡ old.weight + added
-    pub more : List Path
-    pub culprits : AreCulprits def (each_nodes path 0 cs) more
-    pub pushed : new.culprits.items ≡ old.culprits.items ++ more
-    pub good : more ≡ [] → HaveRows summaries
-
-  -- this was added for the tree without its children
-  pub record IsTopped (path : Path) (f : Fragment) (old new : Found) (s : Known) : Type 0 where
-    pub summary : IsSummaryOf def f s
-    pub usual : IsSummary def s
-    pub clean : IsClean (top_steps path f)
-    pub own : ℕ
-    pub weights : (below : ℕ) → WeighTogether (children_of f) below → HasWeights def f (below + own)
-    pub sum : new.weight ≡ old.weight + own
-    pub same : new.culprits ≡ old.culprits
-
-  -- this was added for the tree
-  pub record IsWalked (path : Path) (f : Fragment) (old new : Found) (s : Known) : Type 0 where
-    pub summary : IsSummaryOf def f s
-    pub usual : IsSummary def s
-    pub clean : IsClean (steps_of def path f)
-    pub added : ℕ
-    pub weights : HasWeights def f added
-    pub sum : new.weight ≡ old.weight + added
-    pub more : List Path
-    pub culprits : AreCulprits def (nodes_from path f) more
-    pub pushed : new.culprits.items ≡ old.culprits.items ++ more
-    pub good : more ≡ [] → s.rel ≡ [] → ⊥
-
   -- a list takes these elements, which are those of some trees
   pub record TakesElements (l : ℕ) (unfinished : Bool) (elements : List Known) : Type 0 where
     pub list : ListKind
@@ -185,11 +145,24 @@ module _ (def : Definition) where
     pub silent : AllByRecursion (λ (s : Known). s.report ≡ false) elements
     pub usual : AllByRecursion (IsSummary def) elements
 
-  -- this was added for the end and the cells of each list of trees with these summaries
-  abbrev pub IsListTopped : Path → ℕ → Bool → List Known → Found → Found → Known → Type 0
-  IsListTopped path l u elements old new s =
-      (es : List Fragment) → AllSummaries def es elements → IsTopped path (list_of l es u) old new s
-
   abbrev pub IsListFault : Path → ℕ → Bool → List Known → NoteFault → Type 0
   IsListFault path l u elements fault =
       (es : List Fragment) → AllSummaries def es elements → IsStepFault (list_steps def path (list_of l es u)) fault
+
+  -- these are the notes of the trees
+  abbrev pub AreNotesOf : List Fragment → List Annotated → Type 0
+  AreNotesOf cs notes = (map tree_in notes ≡ cs) × AllByRecursion (IsNoted def) notes
+
+  -- the answers for a list and for its suffixes, by those of its elements
+  abbrev pub AreListed : ℕ → Bool → List Known → Known → List Known → Type 0
+  AreListed l u [] s [] = Answers def (ending l u) (Ok s)
+  AreListed l u (b ∷ bs) s (t ∷ ts) = IsOfCells def l b t s × AreListed l u bs t ts
+  AreListed _ _ _ _ _ = ⊥
+
+  abbrev pub IsListTopped : ℕ → Bool → List Known → Known → List Known → Type 0
+  IsListTopped l u elements s rests =
+      AreListed l u elements s rests × AllByRecursion (IsSummary def) (s ∷ rests)
+
+  -- the answers for a tree whose children have these summaries, and of a list those for its suffixes
+  abbrev pub IsTop : Fragment → List Known → Known → List Known → Type 0
+  IsTop f below s rests = IsAnswered def f below s rests × AllByRecursion (IsSummary def) (s ∷ rests)

@@ -1,24 +1,27 @@
 //! Notes from trees.
-ghost use Rattle.std.specs.Prelude.{◌≡◌, ◌↔◌, ◌+◌, ◌≤◌, IfErr, IfOk, IsTrue};
+ghost use Rattle.std.specs.Prelude.{◌≡◌, ◌↔◌, ◌+◌, ◌≤◌, ◌<◌, IfErr, IfOk, IsTrue};
 ghost use Rattle.psg_grammar.specs.Sizes.{HasLongList, IsBig, IsDeep};
 ghost use Rattle.psg_grammar.specs.Sound.{IsSound};
-ghost use Rattle.psg_cache.specs.Notes.{AreDeclaringSpaces, evaluations_of, IsFormed, IsNoteFault, IsNoteOf};
-ghost use Rattle.psg_cache.specs.Walks.{IsKept};
+ghost use Rattle.psg_grammar.specs.declared.limits.TheConstants.{MOST_WEIGHTS};
+ghost use Rattle.psg_grammar.specs.Work.{work_of};
+ghost use Rattle.psg_cache.specs.declared.note.NoteFault.TheVariants.{Heavy};
+ghost use Rattle.psg_cache.specs.Notes.{AreDeclaringSpaces, IsFormed, IsNoteFault, IsNoteOf, TellsOpen};
+ghost use Rattle.psg_cache.specs.Walks.{IsSizeFault, IsSmall};
 
-use crate::note::{Note, NoteFault, Noted};
-use crate::walking::{Found, Language, walk};
-use psg_eval::Summary;
+use crate::note::{Note, NoteFault};
+use crate::parts::Language;
+use crate::walking::walk;
 use psg_grammar::Definition;
 use psg_grammar::limits::{MOST_DEPTH, MOST_ELEMENTS, MOST_NODES, MOST_WEIGHTS};
-use psg_terms::{Seq, Steps};
+use psg_terms::Steps;
 use psg_tree::{Tree, depth, longest_list, nodes};
-use std::alloc::{AllocError, Global};
+use std::alloc::Global;
 use std::sync::ledger::Ledger;
 
-/// The note of a tree. Each node and each list suffix is evaluated once, from the summaries of its children: children
+/// Makes the note of a tree. Each node and each list suffix is evaluated once, from the summaries of its children: children
 /// in order, then the node; of a list its elements in order, then its end, then its cells from the last to the first.
-/// `steps` counts the evaluations, and where there is no note, those that were made. `declaring` has the spaces in which each phylum declares, as psg_grammar's
-/// `declaring` gives them.
+/// `steps` counts the evaluations, and where there is no note, those that were made. `declaring` has the spaces in which
+/// each phylum declares, as psg_grammar's `declaring` gives them.
 ///
 /// The tree is of some kind by its parts, as a well-formed one, but a placeholder may stand for any phylum, also for one
 /// that declares names, as there are where a definition is not yet accepted: it is valued by its hole rows and declares
@@ -38,10 +41,26 @@ pub fn build<L: Ledger>(
     requires declaring { AreDeclaringSpaces definition.now declaring.now }
     requires formed { IsFormed definition.now tree.now }
     ensures note { IfOk result (IsNoteOf definition.now tree.now) }
-    ensures ticks { IfOk result (λ _. steps.new ≡ steps.old + evaluations_of tree.now) }
+    ensures good { IfOk result (TellsOpen definition.now tree.now) }
+    ensures ticks { IfOk result (λ _. steps.new ≡ steps.old + work_of tree.now) }
     // whatever it answers
-    ensures bounded { steps.new ≤ steps.old + evaluations_of tree.now }
+    ensures bounded { steps.new ≤ steps.old + work_of tree.now }
     ensures fault { IfErr result (IsNoteFault definition.now tree.now) }
+{
+    small(tree)?;
+    let language = Language {
+        definition,
+        declaring,
+    };
+    let note = walk(alloc, language, tree, &[], steps)?;
+    light(note.weight())?;
+    Ok(note)
+}
+
+/// Tests the sizes of the tree, first its depth.
+pub(crate) fn small(tree: &Tree) -> Result<(), NoteFault>
+    ensures ok { IfOk result (λ _. IsSmall tree.now) }
+    ensures err { IfErr result (IsSizeFault tree.now) }
 {
     if is_deep(tree) {
         return Err(NoteFault::Deep);
@@ -49,35 +68,18 @@ pub fn build<L: Ledger>(
     if is_big(tree) {
         return Err(NoteFault::Big);
     }
-    let mut found = Found {
-        weight: 0,
-        culprits: Vec::new(alloc),
-    };
-    let language = Language {
-        definition,
-        declaring,
-    };
-    let root = walk(alloc, language, tree, &[], &mut found, steps)?;
-    if found.weight > MOST_WEIGHTS {
-        return Err(NoteFault::Heavy);
-    }
-    let note = kept(alloc, tree, root, found)?;
-    Ok(note)
+    Ok(())
 }
 
-/// The note of a tree, of its root's summary and of what the walk found.
-fn kept(alloc: Global, tree: &Tree, root: Summary, found: Found) -> Result<Note, AllocError>
-    ensures { IfOk result (IsKept tree.now root found) }
+/// Tests the weight of a whole tree.
+pub(crate) fn light(weight: u64) -> Result<(), NoteFault>
+    ensures ok { IfOk result (λ _. weight ≤ MOST_WEIGHTS) }
+    ensures err { IfErr result (λ fault. (fault ≡ Heavy) × (MOST_WEIGHTS < weight)) }
 {
-    let Found { weight, culprits } = found;
-    let noted = Noted {
-        tree: tree.share()?,
-        root,
-        weight,
-        culprits: Seq::of(culprits),
-    };
-    let note = Note::new(alloc, noted)?;
-    Ok(note)
+    if weight > MOST_WEIGHTS {
+        return Err(NoteFault::Heavy);
+    }
+    Ok(())
 }
 
 /// Tells whether the tree is too deep. It takes one step.

@@ -3,15 +3,24 @@
 //! ```text
 //! let note = build(alloc, &definition, declaring.as_slice(), &tree, &mut steps)?;
 //! let good = note.is_good();
+//! let changed = replaced(alloc, &definition, declaring.as_slice(), &note, &path, &new, &mut steps)?;
+//! let inner = changed.summary(&path);
 //! ```
 //!
-//! A note has a tree, the summary of its root, how much the relations of its nodes weigh together, and the nodes at
-//! which it goes wrong. It is made of the summaries of all nodes and list suffixes, each from those of its children.
+//! A note has a tree, a summary for each node and list suffix, each made of those of the children, and how much the
+//! relations of all of them weigh together. A change evaluates the new nodes and those above them; all else is shared.
 #![tactic(auto)]
 
+mod blaming;
 pub mod building;
+pub mod editing;
+mod listing;
 pub mod note;
+mod parts;
+mod remaking;
+mod topping;
 mod walking;
 
 pub use building::build;
+pub use editing::{inserted, removed, replaced};
 pub use note::{Note, NoteFault};

@@ -1,5 +1,9 @@
-//! What is known of a whole tree.
-ghost use Rattle.std.specs.Prelude.{◌≡◌, ◌↔◌, [], IfOk, IsTrue};
+//! What is known of a tree.
+ghost use Rattle.std.specs.Prelude.{◌≡◌, ◌↔◌, ◌≤◌, ◌∷◌, [], drop, length, option_copied, slice_get, Some, IfOk, IfSome, IfNone, IsTrue};
+ghost use Rattle.psg_cache.specs.Annotated.{tree_in, whole_in, rests_in, weight_in, below_in, note_at};
+ghost use Rattle.psg_cache.specs.Blames.{culprits_in};
+ghost use Rattle.psg_cache.specs.Edits.{AreCulpritsIn, IsSummaryAt, IsNoSummaryAt};
+ghost use Rattle.psg_cache.specs.Noting.{annotated_of};
 
 use psg_eval::Summary;
 use psg_terms::Seq;
@@ -9,39 +13,49 @@ use std::marker::Model;
 use std::rc::Rc;
 use thiserror::Error;
 
-/// What a note keeps.
+/// A tree with what is known of it.
+#[cycle(note)]
 #[derive(Drop)]
 pub struct Noted {
     pub tree: Tree,
-    /// The summary of the whole tree.
-    pub root: Summary,
-    /// How many variables and constructors the relations of all nodes and list suffixes have together.
+    /// The summary of the tree; of a list that of its first suffix.
+    pub whole: Summary,
+    /// The notes of the children or elements.
+    pub below: Seq<Note>,
+    /// Of a list the summaries of the suffixes behind each element, the end last.
+    pub rests: Seq<Summary>,
+    /// How many variables and constructors all relations in the tree have together.
     pub weight: u64,
-    /// The nodes that go wrong by themselves, a node before its children, children in order; none where the tree is
-    /// good.
-    pub culprits: Seq<Path>,
 }
 
-/// A tree with what is known of it, shared by its owners. Only `build` makes one.
+/// A tree with a summary for each node and list suffix, shared by its owners.
+#[cycle(note)]
 #[derive(Drop)]
 pub struct Note {
     shared: Rc<Noted>,
 }
 
 impl Model for Note {
-    ghost use Rattle.psg_cache.specs.declared.note.Noted.{Noted as Kept};
-    ghost use Rattle.psg_cache.specs.contracts.note.Noted as noted;
+    ghost use Rattle.psg_cache.specs.Annotated.{Annotated, coded_annotated, nested};
 
-    ghost Value = { Kept };
+    ghost Value = { Annotated };
 
-    ghost coded = { noted.the_row.coded };
+    ghost coded = { coded_annotated };
 
-    ghost view = { λ n. n.shared.value };
+    ghost use Rattle.psg_cache.specs.Noting.{annotated_of};
+
+    ghost view = { λ n. annotated_of n.shared.value };
+
+    ghost size = { nested };
+
+    ghost use Rattle.psg_cache.specs.NoteFalls.{noted_le-nested};
+
+    ghost size_decreases = { λ a h. noted_le-nested a.shared.value };
 }
 
 impl Note {
     pub(crate) fn new(alloc: Global, noted: Noted) -> Result<Note, AllocError>
-        ensures { IfOk result (λ n. n ≡ noted) }
+        ensures { IfOk result (λ n. n ≡ annotated_of noted) }
     {
         Ok(Note {
             shared: Rc::new(alloc, noted)?,
@@ -49,39 +63,83 @@ impl Note {
     }
 
     /// The tree.
+    #[tactic(auto, using(crate::proofs::Inducting::noted_tree))]
     pub fn tree(&self) -> &Tree
-        ensures { result.now ≡ self.now.tree }
+        ensures { result.now ≡ tree_in self.now }
     {
         &self.shared.as_ref().tree
     }
 
     /// The summary of the whole tree.
+    #[tactic(auto, using(crate::proofs::Inducting::noted_whole))]
     pub fn root(&self) -> &Summary
-        ensures { result.now ≡ self.now.root }
+        ensures { result.now ≡ whole_in self.now }
     {
-        &self.shared.as_ref().root
+        &self.shared.as_ref().whole
     }
 
-    /// How many variables and constructors the relations of all nodes and list suffixes have together.
+    /// The notes of the children or elements.
+    #[tactic(auto, using(crate::proofs::Inducting::noted_below))]
+    pub(crate) fn below(&self) -> &[Note]
+        ensures { result.now ≡ below_in self.now }
+    {
+        self.shared.as_ref().below.as_slice()
+    }
+
+    /// Of a list the summaries of the suffixes behind each element, the end last; of another tree none.
+    #[tactic(auto, using(crate::proofs::Inducting::noted_rests))]
+    pub(crate) fn rests(&self) -> &[Summary]
+        ensures { result.now ≡ rests_in self.now }
+    {
+        self.shared.as_ref().rests.as_slice()
+    }
+
+    /// Of a list the summaries of the suffixes behind the one behind so many elements.
+    pub(crate) fn rests_behind(&self, number: usize) -> &[Summary]
+        requires { number ≤ length (rests_in self.now) }
+        ensures { result.now ≡ drop number (rests_in self.now) }
+    {
+        &self.rests()[number..]
+    }
+
+    /// Of a list the summary of the suffix behind so many elements.
+    pub(crate) fn suffix(&self, number: usize) -> &Summary
+        requires { number ≤ length (rests_in self.now) }
+        ensures { Some result.now ≡ slice_get (whole_in self.now ∷ rests_in self.now) number }
+    {
+        if number == 0 {
+            self.root()
+        } else {
+            &self.rests()[number - 1]
+        }
+    }
+
+    /// How many variables and constructors all relations have together.
+    #[tactic(auto, using(crate::proofs::Inducting::noted_weight))]
     pub fn weight(&self) -> u64
-        ensures { result ≡ self.now.weight }
+        ensures { result ≡ weight_in self.now }
     {
         self.shared.as_ref().weight
     }
 
-    /// The nodes that go wrong by themselves, a node before its children, children in order; none where the tree is
-    /// good.
-    pub fn culprits(&self) -> &[Path]
-        ensures { result.now ≡ self.now.culprits }
+    /// Finds the summary of the node at the path; `None` where the path leads to no node. It walks along the path.
+    pub fn summary(&self, path: &Path) -> Option<&Summary>
+        ensures some { IfSome result (λ s. IsSummaryAt self.now path.now s.now) }
+        ensures none { IfNone result (IsNoSummaryAt self.now path.now) }
     {
-        self.shared.as_ref().culprits.as_slice()
+        match at(self, path) {
+            Some(note) => Some(note.root()),
+            None => None,
+        }
     }
 
-    /// Whether the tree is good: no node goes wrong.
+    /// Whether the tree is good: its relation has a row, and no node goes wrong. It takes one step.
+    #[tactic(auto, using(crate::proofs::NoteCulprits::none_blamed))]
     pub fn is_good(&self) -> bool
-        ensures { IsTrue result ↔ (self.now.culprits ≡ []) }
+        ensures rows { IsTrue result ↔ ((whole_in self.now).rel ≡ [] → ⊥) }
+        ensures culprits { IsTrue result ↔ (culprits_in self.now ≡ []) }
     {
-        self.culprits().is_empty()
+        !self.root().rel().is_empty()
     }
 
     /// One more owner of the same note.
@@ -92,6 +150,27 @@ impl Note {
             shared: self.shared.clone()?,
         })
     }
+}
+
+/// The note of the child of the number, from 0.
+fn child_note(note: &Note, number: u32) -> Option<&Note>
+    ensures { option_copied result ≡ slice_get (below_in note.now) number }
+{
+    note.below().get(number as usize)
+}
+
+/// The note of the node at the path.
+fn at<'n>(note: &'n Note, path: &Path) -> Option<&'n Note>
+    ensures { option_copied result ≡ note_at note.now path.now }
+{
+    let mut node = note;
+    for step in path.steps() {
+        match child_note(node, *step) {
+            Some(next) => node = next,
+            None => return None,
+        }
+    }
+    Some(node)
 }
 
 /// Why a tree has no note.

@@ -1,6 +1,6 @@
 use Rattle.std.proofs.Common.{◌≡◌, ◌+◌, take}
 use Rattle.psg_tree.specs.Shapes.{height}
-use Rattle.psg_cache.specs.Walks.{AreWalked}
+use Rattle.psg_cache.specs.Walks.{AreNotesOf}
 use Rattle.psg_cache.proofs.Counting.{together}
 use Rattle.psg_cache.proofs.walking.+walk.Given as goal
 
@@ -8,7 +8,7 @@ use Rattle.psg_cache.proofs.walking.+walk.Given as goal
 abbrev pub invariant-loop-i : goal.invariant-loop-i
 invariant-loop-i g l =
     record {
-      walked : AreWalked l.language.definition.now l.path (take l.i l.inner) l.below.items l.fn.found l.found;
+      walked : AreNotesOf l.language.definition.now (take l.i l.inner) l.below.items;
       counted : l.steps ≡ l.fn.steps + together (take l.i l.inner);
     }
 

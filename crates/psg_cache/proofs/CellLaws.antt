@@ -1,0 +1,308 @@
+-- The summaries of a list's cells, made from the last to the first in front of a suffix.
+use Rattle.std.proofs.Common.{◌≡◌, ℕ, zero, suc, ◌+◌, ◌-◌, ◌<◌, ◌||◌, Bool, false, List, [], ◌∷◌, ◌++◌, length, drop, get_or, slice_get, Some, None, refl, sym, ◌∙◌, ap, ap₂, subst, drop-cons, arith}
+use Rattle.std.specs.Prelude.{Result, Ok, IfOk, reverse}
+use Rattle.std.specs.List.{AllByRecursion}
+use Rattle.std.proofs.lemmas.List.{drop_all, length-append, reverse-append, reverse-reverse}
+use Rattle.std.proofs.lemmas.Option.{none-some}
+use Rattle.psg_grammar.specs.declared.types.Kind.TheVariants as kinds
+use Rattle.psg_grammar.specs.declared.types.Definition.{Definition}
+use Rattle.psg_grammar.specs.Fragments.{Fragment, ending, cell}
+use Rattle.psg_grammar.specs.Paths.{Path}
+use Rattle.psg_grammar.specs.Steps.{own_steps, list_steps}
+use Rattle.psg_tree.specs.Shapes.{list_of}
+use Rattle.psg_eval.specs.declared.summary.Known.{Known}
+use Rattle.psg_eval.specs.declared.summary.EvalFault.{EvalFault}
+use Rattle.psg_eval.specs.Summaries.{AllSummaries, Answers, IsSummary, IsSummaryOf, TakesCell}
+use Rattle.psg_cache.specs.declared.note.NoteFault.{NoteFault}
+use Rattle.psg_cache.specs.Noted.{AreOfSuffixes, IsOfCells}
+use Rattle.psg_cache.specs.Renoting.{AreOfCells, cells_of, first_or, IsCellsFault, TakesCells}
+use Rattle.psg_cache.specs.Walks.{AreListed, IsAnswerFault, IsClean, IsStepFault}
+use Rattle.psg_cache.proofs.Each.{each_append, each_at, same_some}
+use Rattle.psg_cache.proofs.Evaluations.{none_reporting}
+use Rattle.psg_cache.proofs.StepLaws.{clean-append, fault-left, fault-behind, own_clean, own_fault}
+
+-- ---- the last summary that was made
+
+behind_last : {X : Type 0} (xs : List X) (x : X) → slice_get (xs ++ x ∷ []) (length xs) ≡ Some x
+behind_last [] x = refl
+behind_last (y ∷ xs) x = behind_last xs x
+
+last_is : {X : Type 0} (xs : List X) (x : X) → slice_get (xs ++ x ∷ []) (length (xs ++ x ∷ []) - 1) ≡ Some x
+last_is xs x =
+    let many : length (xs ++ x ∷ []) ≡ length xs + 1 = length-append xs (x ∷ []) in
+    let place : length (xs ++ x ∷ []) - 1 ≡ length xs = omega (arith, many) in
+    ap (slice_get (xs ++ x ∷ [])) place ∙ behind_last xs x
+
+reverse_cons : {X : Type 0} (x : X) (xs : List X) → reverse (x ∷ xs) ≡ reverse xs ++ x ∷ []
+reverse_cons x xs = reverse-append (x ∷ []) xs
+
+last_turned : {X : Type 0} (x : X) (xs : List X) → slice_get (reverse (x ∷ xs)) (length (reverse (x ∷ xs)) - 1) ≡ Some x
+last_turned x xs =
+    subst (λ m. slice_get m (length m - 1) ≡ Some x) (sym (reverse_cons x xs)) (last_is (reverse xs) x)
+
+latest : (behind : Known) (xs : List Known) (s : Known)
+    → slice_get (reverse xs) (length (reverse xs) - 1) ≡ Some s → s ≡ first_or behind xs
+latest behind [] s e = absurd (none-some s e)
+latest behind (x ∷ xs) s e = same_some s x (sym e ∙ last_turned x xs)
+
+pub latest_some : (behind : Known) (made : List Known) (s : Known)
+    → slice_get made (length made - 1) ≡ Some s → s ≡ first_or behind (reverse made)
+latest_some behind made s e =
+    latest behind (reverse made) s
+    (subst (λ m. slice_get m (length m - 1) ≡ Some s) (sym (reverse-reverse made)) e)
+
+pub latest_none : (behind : Known) (made : List Known)
+    → slice_get made (length made - 1) ≡ None → behind ≡ first_or behind (reverse made)
+latest_none behind made e =
+    go (reverse made) (subst (λ m. slice_get m (length m - 1) ≡ None) (sym (reverse-reverse made)) e) where
+      go : (xs : List Known) → slice_get (reverse xs) (length (reverse xs) - 1) ≡ None → behind ≡ first_or behind xs
+      go [] e = refl
+      go (x ∷ xs) e = absurd (none-some x (sym e ∙ last_turned x xs))
+
+pub latest_is : (behind : Known) (made slice : List Known) (rest : Known) → slice ≡ made
+    → rest ≡ first_or behind (reverse slice) → rest ≡ first_or behind (reverse made)
+latest_is behind made slice rest e h = h ∙ ap (λ m. first_or behind (reverse m)) e
+
+pub reverse_push : {X : Type 0} (xs : List X) (x : X) → reverse (xs ++ x ∷ []) ≡ x ∷ reverse xs
+reverse_push xs x = reverse-append xs (x ∷ [])
+
+first_holds : (P : Known → Type 0) (behind : Known) (ss : List Known) → P behind → AllByRecursion P ss
+    → P (first_or behind ss)
+first_holds P behind [] p h = p
+first_holds P behind (s ∷ ss) p h = h.0
+
+module _ (def : Definition) where
+  -- a summary of some suffix of the list
+  pub record IsSuffix (l : ℕ) (s : Known) : Type 0 where
+    pub usual : IsSummary def s
+    pub kind : s.kind ≡ kinds.List l
+    pub silent : s.report ≡ false
+
+  pub usual_suffixes : (l : ℕ) (ss : List Known) → AllByRecursion (IsSuffix l) ss → AllByRecursion (IsSummary def) ss
+  usual_suffixes l [] h = tt
+  usual_suffixes l (s ∷ ss) h = (h.0.usual, usual_suffixes l ss h.1)
+
+  first_suffix : (l : ℕ) (elements : List Known) (behind : Known) → TakesCells def l elements behind
+      → (ss : List Known) → AllByRecursion (IsSuffix l) ss → IsSuffix l (first_or behind ss)
+  first_suffix l elements behind takes ss h =
+      first_holds (IsSuffix l) behind ss
+      (record { usual = takes.usual.0; kind = takes.rest_kind; silent = takes.silent.0 }) h
+
+  -- ---- none, one more, and all
+
+  pub cells_none : (l : ℕ) (elements : List Known) (behind : Known) (made : List Known) → made ≡ []
+      → AreOfCells def l (drop (length elements) elements) behind (reverse made)
+  cells_none l elements behind made e =
+      let none : drop (length elements) elements ≡ [] = drop_all (length elements) elements (omega arith) in
+      subst (λ m. AreOfCells def l (drop (length elements) elements) behind (reverse m)) (sym e)
+      (subst (λ bs. AreOfCells def l bs behind []) (sym none) tt)
+
+  pub suffixes_none : (l : ℕ) (made : List Known) → made ≡ [] → AllByRecursion (IsSuffix l) (reverse made)
+  suffixes_none l made e = subst (λ m. AllByRecursion (IsSuffix l) (reverse m)) (sym e) tt
+
+  pub whole_cells : (l : ℕ) (elements : List Known) (behind : Known) (left : ℕ) (made all : List Known) → left ≡ 0
+      → all ≡ reverse made → AreOfCells def l (drop left elements) behind (reverse made)
+      → AreOfCells def l elements behind all
+  whole_cells l elements behind left made all none turned h =
+      subst (AreOfCells def l elements behind) (sym turned)
+      (subst (λ k. AreOfCells def l (drop k elements) behind (reverse made)) none h)
+
+  pub cell_takes : (l : ℕ) (elements : List Known) (behind : Known) → TakesCells def l elements behind
+      → (now : ℕ) (element rest : Known) (made : List Known) → now < length elements
+      → element ≡ get_or elements now element → rest ≡ first_or behind (reverse made)
+      → AllByRecursion (IsSuffix l) (reverse made) → TakesCell def l element rest
+  cell_takes l elements behind takes now element rest made small at latest h =
+      let it : IsSuffix l rest =
+      subst (IsSuffix l) (sym latest) (first_suffix l elements behind takes (reverse made) h) in
+      let quiet = each_at (λ (s : Known). s.report ≡ false) elements now element takes.silent.1 small at in
+      let zero_reports = none_reporting def (element ∷ rest ∷ []) (quiet, (it.silent, tt)) in
+      record {
+        list = takes.list;
+        found = takes.found;
+        element_kind =
+            each_at (λ (s : Known). s.kind ≡ kinds.Phylum takes.list.element) elements now element takes.element_kinds
+            small at;
+        rest_kind = it.kind;
+        summaries = (each_at (IsSummary def) elements now element takes.usual.1 small at, (it.usual, tt));
+        reported = omega (arith, zero_reports);
+      }
+
+  pub cell_answers : (l : ℕ) (element rest s : Known) (answer : Result Known EvalFault)
+      → ((e r : Fragment) → IsSummaryOf def e element → IsSummaryOf def r rest → Answers def (cell l e r) answer)
+      → answer ≡ Ok s → IsOfCells def l element rest s
+  cell_answers l element rest s answer h is e r of_element of_rest =
+      subst (Answers def (cell l e r)) is (h e r of_element of_rest)
+
+  pub cells_more : (l : ℕ) (elements : List Known) (behind : Known) (left now : ℕ) (element rest s : Known)
+      (made longer : List Known) → left ≡ suc now → now < length elements
+      → element ≡ get_or elements now element → rest ≡ first_or behind (reverse made)
+      → longer ≡ made ++ s ∷ [] → IsOfCells def l element rest s
+      → AreOfCells def l (drop left elements) behind (reverse made)
+      → AreOfCells def l (drop now elements) behind (reverse longer)
+  cells_more l elements behind left now element rest s made longer step small at latest more h before =
+      let split : drop now elements ≡ element ∷ drop left elements =
+      drop-cons elements now element small ∙ ap₂ (λ x k. x ∷ drop k elements) (sym at) (sym step) in
+      let turned : reverse longer ≡ s ∷ reverse made = ap reverse more ∙ reverse_push made s in
+      let here : AreOfCells def l (element ∷ drop left elements) behind (s ∷ reverse made) =
+      (subst (λ r. IsOfCells def l element r s) latest h, before) in
+      subst (λ bs. AreOfCells def l bs behind (reverse longer)) (sym split)
+      (subst (λ ss. AreOfCells def l (element ∷ drop left elements) behind ss) (sym turned) here)
+
+  pub suffixes_more : (l : ℕ) (element rest s : Known) (answer : Result Known EvalFault) (made longer : List Known)
+      → element.report ≡ false → rest.report ≡ false → longer ≡ made ++ s ∷ [] → answer ≡ Ok s
+      → IfOk answer (IsSummary def) → IfOk answer (λ (x : Known). x.kind ≡ kinds.List l)
+      → IfOk answer (λ (x : Known). x.report ≡ (element.report || rest.report))
+      → AllByRecursion (IsSuffix l) (reverse made) → AllByRecursion (IsSuffix l) (reverse longer)
+  suffixes_more l element rest s answer made longer quiet silent more is usual kind report h =
+      let U : Result Known EvalFault → Type 0 = λ x. IfOk x (IsSummary def) in
+      let K : Result Known EvalFault → Type 0 = λ x. IfOk x (λ (k : Known). k.kind ≡ kinds.List l) in
+      let R : Result Known EvalFault → Type 0 =
+      λ x. IfOk x (λ (k : Known). k.report ≡ (element.report || rest.report)) in
+      let told : s.report ≡ (element.report || rest.report) = subst R is report in
+      let it : IsSuffix l s = record {
+        usual = subst U is usual;
+        kind = subst K is kind;
+        silent = told ∙ ap₂ (λ a b. a || b) quiet silent;
+      } in
+      subst (AllByRecursion (IsSuffix l)) (sym (ap reverse more ∙ reverse_push made s)) (it, h)
+
+  pub element_quiet : (l : ℕ) (elements : List Known) (behind : Known) → TakesCells def l elements behind
+      → (now : ℕ) (element : Known) → now < length elements → element ≡ get_or elements now element
+      → element.report ≡ false
+  element_quiet l elements behind takes now element small at =
+      each_at (λ (s : Known). s.report ≡ false) elements now element takes.silent.1 small at
+
+  pub rest_quiet : (l : ℕ) (elements : List Known) (behind : Known) → TakesCells def l elements behind
+      → (rest : Known) (made : List Known) → rest ≡ first_or behind (reverse made)
+      → AllByRecursion (IsSuffix l) (reverse made) → rest.report ≡ false
+  rest_quiet l elements behind takes rest made latest h =
+      ap (λ (s : Known). s.report) latest ∙ (first_suffix l elements behind takes (reverse made) h).silent
+
+  -- ---- what the cells are, and the fault of one
+
+  pub cells_known : (path : Path) (l : ℕ) (es : List Fragment) (r : Fragment) (bs : List Known) (behind : Known)
+      (ss : List Known) → AllSummaries def es bs → IsSummaryOf def r behind → IsClean def (list_steps def path r)
+      → AreOfCells def l bs behind ss
+      → IsSummaryOf def (cells_of l es r) (first_or behind ss) × IsClean def (list_steps def path (cells_of l es r))
+  cells_known path l [] r [] behind [] are summary clean h = (summary, clean)
+  cells_known path l [] r [] behind (s ∷ ss) are summary clean h = absurd h
+  cells_known path l [] r (b ∷ bs) behind ss are summary clean h = absurd are
+  cells_known path l (e ∷ es) r [] behind ss are summary clean h = absurd are
+  cells_known path l (e ∷ es) r (b ∷ bs) behind [] are summary clean h = absurd h
+  cells_known path l (e ∷ es) r (b ∷ bs) behind (s ∷ ss) are summary clean h =
+      let rest = cells_known path l es r bs behind ss are.1 summary clean h.1 in
+      let answer = h.0 e (cells_of l es r) are.0 rest.0 in (
+        answer.0,
+        clean-append def (list_steps def path (cells_of l es r)) (own_steps def path (cell l e (cells_of l es r)))
+            rest.1 (own_clean def path (cell l e (cells_of l es r)) answer.1),
+      )
+
+  fault_of_rest : (path : Path) (l : ℕ) (r : Fragment) (fault : NoteFault) (i : ℕ) (es : List Fragment)
+      → IsStepFault def (list_steps def path (cells_of l (drop i es) r)) fault
+      → IsStepFault def (list_steps def path (cells_of l es r)) fault
+  fault_of_rest path l r fault zero es h = h
+  fault_of_rest path l r fault (suc i) [] h = h
+  fault_of_rest path l r fault (suc i) (e ∷ es) h =
+      fault-left def (list_steps def path (cells_of l es r)) (own_steps def path (cell l e (cells_of l es r))) fault
+      (fault_of_rest path l r fault i es h)
+
+  -- the summaries behind a place
+  pub all_behind : (es : List Fragment) (elements : List Known) → AllSummaries def es elements → (i : ℕ)
+      → AllSummaries def (drop i es) (drop i elements)
+  all_behind es elements h zero = h
+  all_behind [] [] h (suc i) = tt
+  all_behind [] (y ∷ ys) h (suc i) = absurd h
+  all_behind (f ∷ fs) [] h (suc i) = absurd h
+  all_behind (f ∷ fs) (y ∷ ys) h (suc i) = all_behind fs ys h.1 i
+
+  -- the tree at a place
+  tree_at : (es : List Fragment) (elements : List Known) → AllSummaries def es elements → (i : ℕ) (x : Known)
+      → i < length elements → x ≡ get_or elements i x
+      → (e : Fragment) × (drop i es ≡ e ∷ drop (suc i) es) × IsSummaryOf def e x
+  tree_at [] [] h i x l e = absurd (omega (arith, l))
+  tree_at [] (y ∷ ys) h i x l e = absurd h
+  tree_at (f ∷ fs) [] h i x l e = absurd h
+  tree_at (f ∷ fs) (y ∷ ys) h zero x l e = (f, refl, subst (IsSummaryOf def f) (sym e) h.0)
+  tree_at (f ∷ fs) (y ∷ ys) h (suc i) x l e = tree_at fs ys h.1 i x (omega (arith, l)) e
+
+  pub cell_fault : (path : Path) (l : ℕ) (elements : List Known) (behind : Known) (left now : ℕ)
+      (element rest : Known) (made : List Known) (answer : Result Known EvalFault) (fault : NoteFault)
+      → left ≡ suc now → now < length elements → element ≡ get_or elements now element
+      → rest ≡ first_or behind (reverse made) → AreOfCells def l (drop left elements) behind (reverse made)
+      → ((e r : Fragment) → IsSummaryOf def e element → IsSummaryOf def r rest → Answers def (cell l e r) answer)
+      → IsAnswerFault path answer fault → IsCellsFault def path l elements behind fault
+  cell_fault path l elements behind left now element rest made answer fault step small at latest before h f es r are
+      of_behind clean =
+      let (e, split, of_element) = tree_at es elements are now element small at in
+      let places : drop now es ≡ e ∷ drop left es = split ∙ ap (λ k. e ∷ drop k es) (sym step) in
+      let inner : Fragment = cells_of l (drop left es) r in
+      let known = cells_known path l (drop left es) r (drop left elements) behind (reverse made)
+      (all_behind es elements are left) of_behind clean before in
+      let of_rest : IsSummaryOf def inner rest = subst (IsSummaryOf def inner) (sym latest) known.0 in
+      fault_of_rest path l r fault now es
+      (subst (λ (x : List Fragment). IsStepFault def (list_steps def path (cells_of l x r)) fault) (sym places)
+      (fault-behind def (list_steps def path inner) (own_steps def path (cell l e inner)) fault known.1
+      (own_fault def path (cell l e inner) answer fault (h e inner of_element of_rest) f)))
+
+  -- ---- suffixes in front of suffixes
+
+  front_first : (behind : Known) (rests ns : List Known)
+      → (ts : List Known) × (ns ++ behind ∷ rests ≡ first_or behind ns ∷ ts)
+  front_first behind rests [] = (rests, refl)
+  front_first behind rests (n ∷ ns) = (ns ++ behind ∷ rests, refl)
+
+  pub listed_front : (l : ℕ) (u : Bool) (bs : List Known) (behind : Known) (news below rests : List Known) (s : Known)
+      (ts : List Known) → AreOfCells def l bs behind news → AreListed def l u below behind rests
+      → s ∷ ts ≡ news ++ behind ∷ rests → AreListed def l u (bs ++ below) s ts
+  listed_front l u [] behind [] below rests s ts h k e =
+      let one : behind ≡ s = cc in
+      let two : rests ≡ ts = cc in
+      subst (λ x. AreListed def l u below x ts) one (subst (AreListed def l u below behind) two k)
+  listed_front l u [] behind (n ∷ ns) below rests s ts h k e = absurd h
+  listed_front l u (b ∷ bs) behind [] below rests s ts h k e = absurd h
+  listed_front l u (b ∷ bs) behind (n ∷ ns) below rests s ts h k e =
+      let (others, split) = front_first behind rests ns in
+      let one : n ≡ s = cc in
+      let two : first_or behind ns ∷ others ≡ ts = (let t : ns ++ behind ∷ rests ≡ ts = cc in sym split ∙ t) in
+      let inner = listed_front l u bs behind ns below rests (first_or behind ns) others h.1 k (sym split) in
+      let whole : AreListed def l u (b ∷ (bs ++ below)) n (first_or behind ns ∷ others) = (h.0, inner) in
+      subst (λ x. AreListed def l u (b ∷ (bs ++ below)) x ts) one
+      (subst (AreListed def l u (b ∷ (bs ++ below)) n) two whole)
+
+  pub usual_front : (behind : Known) (news rests : List Known) (s : Known) (ts : List Known)
+      → AllByRecursion (IsSummary def) news → AllByRecursion (IsSummary def) (behind ∷ rests)
+      → s ∷ ts ≡ news ++ behind ∷ rests → AllByRecursion (IsSummary def) (s ∷ ts)
+  usual_front behind news rests s ts h k e =
+      subst (AllByRecursion (IsSummary def)) (sym e) (each_append (IsSummary def) news (behind ∷ rests) h k)
+
+  -- ---- lists of trees
+
+  pub answers_listed : (l : ℕ) (u : Bool) (es : List Fragment) (below : List Known) (s : Known) (rests : List Known)
+      → length es ≡ length below → AreListed def l u below s rests → AreOfSuffixes def (list_of l es u) below s rests
+  answers_listed l u [] [] s [] many h = h
+  answers_listed l u [] [] s (t ∷ ts) many h = absurd h
+  answers_listed l u [] (b ∷ bs) s rests many h = absurd (omega (arith, many))
+  answers_listed l u (e ∷ es) [] s rests many h = absurd (omega (arith, many))
+  answers_listed l u (e ∷ es) (b ∷ bs) s [] many h = absurd h
+  answers_listed l u (e ∷ es) (b ∷ bs) s (t ∷ ts) many h =
+      (h.0, answers_listed l u es bs t ts (omega (arith, many)) h.1)
+
+  pub listed_answers : (l : ℕ) (u : Bool) (es : List Fragment) (below : List Known) (s : Known) (rests : List Known)
+      → AreOfSuffixes def (list_of l es u) below s rests → AreListed def l u below s rests
+  listed_answers l u [] [] s [] h = h
+  listed_answers l u [] [] s (t ∷ ts) h = absurd h
+  listed_answers l u [] (b ∷ bs) s rests h = absurd h
+  listed_answers l u (e ∷ es) [] s rests h = absurd h
+  listed_answers l u (e ∷ es) (b ∷ bs) s [] h = absurd h
+  listed_answers l u (e ∷ es) (b ∷ bs) s (t ∷ ts) h = (h.0, listed_answers l u es bs t ts h.1)
+
+-- ---- cells of lists
+
+pub cells_end : (l : ℕ) (es : List Fragment) (u : Bool) → cells_of l es (ending l u) ≡ list_of l es u
+cells_end l [] u = refl
+cells_end l (e ∷ es) u = ap (cell l e) (cells_end l es u)
+
+pub cells_split : (l : ℕ) (es ds : List Fragment) (u : Bool)
+    → cells_of l es (list_of l ds u) ≡ list_of l (es ++ ds) u
+cells_split l [] ds u = refl
+cells_split l (e ∷ es) ds u = ap (cell l e) (cells_split l es ds u)

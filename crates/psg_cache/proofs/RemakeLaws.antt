@@ -1,0 +1,218 @@
+-- A list whose first cells are new in front of suffixes that were kept.
+use Rattle.std.proofs.Common.{◌≡◌, ℕ, zero, suc, ◌≤◌, Bool, false, List, [], ◌∷◌, ◌++◌, map, length, take, drop, slice_get, Some, refl, sym, ◌∙◌, ap, subst, arith}
+use Rattle.std.specs.List.{AllByRecursion}
+use Rattle.std.proofs.lemmas.List.{drop-map, length-map, take-append-drop}
+use Rattle.std.proofs.lemmas.Option.{none-some}
+use Rattle.psg_grammar.specs.declared.types.Definition.{Definition}
+use Rattle.psg_grammar.specs.declared.types.Kind.TheVariants as kinds
+use Rattle.psg_grammar.specs.Fragments.{Fragment, children_of}
+use Rattle.psg_grammar.specs.Paths.{Path, IsList}
+use Rattle.psg_grammar.specs.Steps.{list_steps}
+use Rattle.psg_tree.specs.Shapes.{list_of}
+use Rattle.psg_tree.proofs.Children.{children-list}
+use Rattle.psg_eval.specs.declared.summary.Known.{Known}
+use Rattle.psg_eval.specs.Summaries.{AllSummaries, IsSummary, IsSummaryOf}
+use Rattle.psg_cache.specs.declared.note.NoteFault.{NoteFault}
+use Rattle.psg_cache.specs.Annotated.{Annotated, tree_in, whole_in, rests_in, below_in}
+use Rattle.psg_cache.specs.Changes.{IsKept}
+use Rattle.psg_cache.specs.Noted.{IsAnswered, IsNoted, IsNotedAs}
+use Rattle.psg_cache.specs.Notes.{IsFormed}
+use Rattle.psg_cache.specs.Renoting.{AreOfCells, cells_of, IsCellsFault, TakesCells}
+use Rattle.psg_cache.specs.Walks.{AreListed, AreNotesOf, IsClean, IsMadeOf, IsNumbered, IsStepFault, IsTop, TakesElements, top_steps}
+use Rattle.psg_cache.proofs.CellLaws.{all_behind, answers_listed, cells_split, listed_answers, listed_front, usual_front}
+use Rattle.psg_cache.proofs.CulpritLaws.{real_children}
+use Rattle.psg_cache.proofs.Each.{each_got, same_some}
+use Rattle.psg_cache.proofs.Evaluations.{quiet}
+use Rattle.psg_cache.proofs.ListLaws.{list_kind_is, list_takes, top_list_steps}
+use Rattle.psg_cache.proofs.NoteLaws.{list_known}
+use Rattle.psg_cache.proofs.NoteParts.{noted_parts}
+use Rattle.psg_cache.proofs.RealTrees.{IsReal, real}
+use Rattle.psg_cache.proofs.TopLaws.{list_answered, listed_top}
+use Rattle.psg_cache.proofs.WalkLaws.{formed_children, made_noted, notes_summaries, notes_usual}
+
+each_front : {X : Type 0} (P : X → Type 0) (k : ℕ) (xs : List X) → AllByRecursion P xs → AllByRecursion P (take k xs)
+each_front P zero xs h = tt
+each_front P (suc k) [] h = tt
+each_front P (suc k) (x ∷ xs) h = (h.0, each_front P k xs h.1)
+
+each_behind : {X : Type 0} (P : X → Type 0) (k : ℕ) (xs : List X) → AllByRecursion P xs → AllByRecursion P (drop k xs)
+each_behind P zero xs h = h
+each_behind P (suc k) [] h = tt
+each_behind P (suc k) (x ∷ xs) h = each_behind P k xs h.1
+
+is_list : (l : ℕ) (es : List Fragment) (u : Bool) → IsList (list_of l es u)
+is_list l [] u = tt
+is_list l (e ∷ es) u = tt
+
+real_behind : (l : ℕ) (es : List Fragment) (u : Bool) (k : ℕ) → IsReal (list_of l es u)
+    → IsReal (list_of l (drop k es) u)
+real_behind l es u zero h = h
+real_behind l [] u (suc k) h = h
+real_behind l (e ∷ es) u (suc k) h = real_behind l es u k h.1
+
+module _ (def : Definition) where
+  all_front : (es : List Fragment) (elements : List Known) → AllSummaries def es elements → (i : ℕ)
+      → AllSummaries def (take i es) (take i elements)
+  all_front es elements h zero = tt
+  all_front [] [] h (suc i) = tt
+  all_front [] (y ∷ ys) h (suc i) = absurd h
+  all_front (f ∷ fs) [] h (suc i) = absurd h
+  all_front (f ∷ fs) (y ∷ ys) h (suc i) = (h.0, all_front fs ys h.1 i)
+
+  pub as_many : (cs : List Fragment) (below : List Known) → AllSummaries def cs below → length cs ≡ length below
+  as_many [] [] h = refl
+  as_many [] (s ∷ ss) h = absurd h
+  as_many (c ∷ cs) [] h = absurd h
+  as_many (c ∷ cs) (s ∷ ss) h = let e = as_many cs ss h.1 in omega (arith, e)
+
+  listed_length : (l : ℕ) (u : Bool) (bs : List Known) (s : Known) (ts : List Known) → AreListed def l u bs s ts
+      → length ts ≡ length bs
+  listed_length l u [] s [] h = refl
+  listed_length l u [] s (t ∷ ts) h = absurd h
+  listed_length l u (b ∷ bs) s [] h = absurd h
+  listed_length l u (b ∷ bs) s (t ∷ ts) h = let e = listed_length l u bs t ts h.1 in omega (arith, e)
+
+  listed_drop : (l : ℕ) (u : Bool) (bs : List Known) (s : Known) (ts : List Known) → AreListed def l u bs s ts
+      → (k : ℕ) (x : Known) → Some x ≡ slice_get (s ∷ ts) k → AreListed def l u (drop k bs) x (drop k ts)
+  listed_drop l u bs s ts h zero x e =
+      subst (λ y. AreListed def l u bs y ts) (same_some s x (sym e)) h
+  listed_drop l u [] s [] h (suc k) x e = absurd (none-some x (sym e))
+  listed_drop l u [] s (t ∷ ts) h (suc k) x e = absurd h
+  listed_drop l u (b ∷ bs) s [] h (suc k) x e = absurd h
+  listed_drop l u (b ∷ bs) s (t ∷ ts) h (suc k) x e = listed_drop l u bs t ts h.1 k x e
+
+  -- the answers that a list's note keeps
+  noted_list : (n : Annotated) (l : ℕ) (u : Bool) → IsNoted def n → tree_in n ≡ list_of l (children_of (tree_in n)) u
+      → AreListed def l u (map whole_in (below_in n)) (whole_in n) (rests_in n)
+  noted_list n l u noted same =
+      let top = (noted_parts def n noted).0 in
+      let es : List Fragment = children_of (tree_in n) in
+      let below : List Known = map whole_in (below_in n) in
+      listed_answers def l u es below (whole_in n) (rests_in n)
+      (list_answered def l es u below (whole_in n) (rests_in n)
+      (subst (λ f. IsAnswered def f below (whole_in n) (rests_in n)) same top.answered))
+
+  -- as many suffixes behind its elements as there are elements
+  pub rests_length : (n : Annotated) (l : ℕ) (u : Bool) → IsNoted def n
+      → tree_in n ≡ list_of l (children_of (tree_in n)) u → length (rests_in n) ≡ length (below_in n)
+  rests_length n l u noted same =
+      listed_length l u (map whole_in (below_in n)) (whole_in n) (rests_in n) (noted_list n l u noted same)
+      ∙ length-map (below_in n) whole_in
+
+  -- what is known where so many cells are made anew
+  record IsRemade (l : ℕ) (es : List Fragment) (u : Bool) (front behind : ℕ) (n : Annotated) (below : List Annotated)
+      (kept : Known) : Type 0 where
+    formed : IsFormed def (list_of l es u)
+    summaries : AllSummaries def es (map whole_in below)
+    usual : AllByRecursion (IsSummary def) (map whole_in below)
+    listed : AreListed def l u (drop front (map whole_in below)) kept (drop behind (rests_in n))
+    known : IsSummaryOf def (list_of l (drop front es) u) kept
+        × ((path : Path) → IsClean def (list_steps def path (list_of l (drop front es) u)))
+    suffixes : AllByRecursion (IsSummary def) (kept ∷ drop behind (rests_in n))
+
+  remade : (made : Fragment) (l : ℕ) (es : List Fragment) (u : Bool) (front behind : ℕ) (n : Annotated)
+      (below : List Annotated) (kept : Known) → made ≡ list_of l es u → IsFormed def made
+      → AreNotesOf def (children_of made) below → IsKept def n behind front made below
+      → Some kept ≡ slice_get (whole_in n ∷ rests_in n) behind → IsRemade l es u front behind n below kept
+  remade made l es u front behind n below kept same formed notes is at =
+      let here : IsFormed def (list_of l es u) = subst (IsFormed def) same formed in
+      let children : children_of made ≡ es = ap children_of same ∙ children-list l es u in
+      let own : AreNotesOf def es below = subst (λ cs. AreNotesOf def cs below) children notes in
+      let each : AllByRecursion (IsFormed def) es =
+      subst (AllByRecursion (IsFormed def)) (children-list l es u) (formed_children def (list_of l es u) here) in
+      let summaries = notes_summaries def es below each own in
+      let same_rest : drop front (map whole_in below) ≡ drop behind (map whole_in (below_in n)) =
+      drop-map whole_in front below ∙ ap (map whole_in) is.kept ∙ sym (drop-map whole_in behind (below_in n)) in
+      let old = noted_list n l u is.noted (is.lists l es u same) in
+      let listed : AreListed def l u (drop front (map whole_in below)) kept (drop behind (rests_in n)) =
+      subst (λ bs. AreListed def l u bs kept (drop behind (rests_in n))) (sym same_rest)
+      (listed_drop l u (map whole_in (below_in n)) (whole_in n) (rests_in n) old behind kept at) in
+      let rest = all_behind def es (map whole_in below) summaries front in
+      let suffix : Fragment = list_of l (drop front es) u in
+      record {
+        formed = here;
+        summaries = summaries;
+        usual = notes_usual def below own.1;
+        listed = listed;
+        known =
+            list_known def suffix (real_behind l es u front (real def (list_of l es u) here)) (is_list l (drop front es) u)
+            (drop front (map whole_in below)) kept (drop behind (rests_in n))
+            (subst (λ cs. AllSummaries def cs (drop front (map whole_in below))) (sym (children-list l (drop front es) u))
+            rest)
+            (answers_listed def l u (drop front es) (drop front (map whole_in below)) kept (drop behind (rests_in n))
+            (as_many (drop front es) (drop front (map whole_in below)) rest) listed);
+        suffixes =
+            let all = (noted_parts def n is.noted).0.usual in (
+              each_got (IsSummary def) (whole_in n ∷ rests_in n) behind kept all (sym at),
+              each_behind (IsSummary def) behind (rests_in n) all.1,
+            );
+      }
+
+  pub remade_takes : (made : Fragment) (l : ℕ) (es : List Fragment) (u : Bool) (front behind : ℕ) (n : Annotated)
+      (below : List Annotated) (kept : Known) → made ≡ list_of l es u → IsFormed def made
+      → AreNotesOf def (children_of made) below → IsKept def n behind front made below
+      → Some kept ≡ slice_get (whole_in n ∷ rests_in n) behind
+      → TakesCells def l (take front (map whole_in below)) kept
+  remade_takes made l es u front behind n below kept same formed notes is at =
+      let h = remade made l es u front behind n below kept same formed notes is at in
+      let whole : IsReal (list_of l es u) = real def (list_of l es u) h.formed in
+      let each : AllByRecursion IsReal es = subst (AllByRecursion IsReal) (children-list l es u) (real_children (list_of l es u) whole) in
+      let takes : TakesElements def l u (map whole_in below) =
+      list_takes def l es u h.formed.0 (map whole_in below) h.formed.1 each h.summaries h.usual in
+      let suffix : Fragment = list_of l (drop front es) u in
+      record {
+        list = takes.list;
+        found = takes.found;
+        element_kinds =
+            each_front (λ (s : Known). s.kind ≡ kinds.Phylum takes.list.element) front (map whole_in below)
+            takes.element_kinds;
+        rest_kind = list_kind_is def l (drop front es) u kept h.known.0;
+        silent = (
+          h.known.0.report ∙ quiet suffix (real_behind l es u front whole),
+          each_front (λ (s : Known). s.report ≡ false) front (map whole_in below) takes.silent,
+        );
+        usual = (h.suffixes.0, each_front (IsSummary def) front (map whole_in below) takes.usual);
+      }
+
+  pub remade_fault : (path : Path) (made : Fragment) (l : ℕ) (es : List Fragment) (u : Bool) (front behind : ℕ)
+      (n : Annotated) (below : List Annotated) (kept : Known) (fault : NoteFault) → made ≡ list_of l es u
+      → IsFormed def made → AreNotesOf def (children_of made) below → IsKept def n behind front made below
+      → Some kept ≡ slice_get (whole_in n ∷ rests_in n) behind
+      → IsCellsFault def path l (take front (map whole_in below)) kept fault
+      → IsStepFault def (top_steps def path made) fault
+  remade_fault path made l es u front behind n below kept fault same formed notes is at f =
+      let h = remade made l es u front behind n below kept same formed notes is at in
+      let whole : cells_of l (take front es) (list_of l (drop front es) u) ≡ list_of l es u =
+      cells_split l (take front es) (drop front es) u ∙ ap (λ x. list_of l x u) (take-append-drop front es) in
+      subst (λ x. IsStepFault def (top_steps def path x) fault) (sym same)
+      (subst (λ x. IsStepFault def x fault) (sym (top_list_steps def path l es u))
+      (subst (λ x. IsStepFault def (list_steps def path x) fault) whole
+      (f (take front es) (list_of l (drop front es) u) (all_front es (map whole_in below) h.summaries front) h.known.0
+      (h.known.1 path))))
+
+  pub remade_noted : (made : Fragment) (l : ℕ) (es : List Fragment) (u : Bool) (front behind : ℕ) (n : Annotated)
+      (below : List Annotated) (kept : Known) (news : List Known) (s : Known) (ts : List Known) (note : Annotated)
+      → made ≡ list_of l es u → IsFormed def made → AreNotesOf def (children_of made) below
+      → IsKept def n behind front made below → Some kept ≡ slice_get (whole_in n ∷ rests_in n) behind
+      → AreOfCells def l (take front (map whole_in below)) kept news → AllByRecursion (IsSummary def) news
+      → s ∷ ts ≡ news ++ kept ∷ drop behind (rests_in n) → IsMadeOf made s ts below note → IsNotedAs def made note
+  remade_noted made l es u front behind n below kept news s ts note same formed notes is at cells usual all make =
+      let h = remade made l es u front behind n below kept same formed notes is at in
+      let wholes : List Known = map whole_in below in
+      let listed : AreListed def l u wholes s ts =
+      subst (λ bs. AreListed def l u bs s ts) (take-append-drop front wholes)
+      (listed_front def l u (take front wholes) kept news (drop front wholes) (drop behind (rests_in n)) s ts cells
+      h.listed all) in
+      let top : IsTop def made wholes s ts =
+      subst (λ x. IsTop def x wholes s ts) (sym same)
+      (listed_top def l es u wholes s ts h.summaries
+      (listed, usual_front def kept news (drop behind (rests_in n)) s ts usual h.suffixes all)) in
+      made_noted def made below s ts note notes top make
+
+  -- the kept suffix is there
+  pub kept_within : (made : Fragment) (l front behind : ℕ) (n : Annotated) (below : List Annotated)
+      → IsNumbered l made → IsKept def n behind front made below → behind ≤ length (rests_in n)
+  kept_within made l front behind n below (es, u, same) is =
+      let many = rests_length n l u is.noted (is.lists l es u same) in
+      let small = is.within.0 in
+      omega (arith, many, small)

@@ -1,0 +1,73 @@
+use Rattle.std.proofs.Common.{sym, subst}
+use Rattle.std.specs.Prelude.{Result, IfOk}
+use Rattle.psg_grammar.specs.Fragments.{Fragment}
+use Rattle.psg_grammar.specs.Paths.{replaced as replaced_at}
+use Rattle.psg_tree.specs.Faults.{IsReplaced}
+use Rattle.psg_tree.specs.declared.places.TreeFault.{TreeFault}
+use Rattle.psg_cache.specs.declared.editing.Edit.TheVariants as edits
+use Rattle.psg_cache.specs.Annotated.{tree_in}
+use Rattle.psg_cache.specs.Changes.{IsPlace}
+use Rattle.psg_cache.specs.Notes.{IsNoteFault, IsNoteOf}
+use Rattle.psg_cache.proofs.ChangeLaws.{place_put}
+use Rattle.psg_cache.proofs.NoteOpen.{noted_open}
+use Rattle.psg_cache.proofs.Passing.{passed}
+use Rattle.psg_cache.proofs.editing.replaced.Goals as goal
+
+pub finished-requires-clause-place : goal.finished-requires-clause-place
+finished-requires-clause-place g c =
+    let def = c.args.definition.now in
+    let note = c.args.note.now in
+    let tree = tree_in note in
+    let path = c.args.path.now in
+    let new = c.args.new.now in
+    let made = c.in_ok-made.made in
+    let P : Result Fragment TreeFault → Type 0 = λ r. IfOk r (IsReplaced tree path new) in
+    let told : P c.replace-changed.result =
+    subst (λ t. IfOk c.replace-changed.result (IsReplaced t path new)) c.tree.ensures c.replace-changed.ensures.ok in
+    let is : IsReplaced tree path new made = subst P c.in_ok-made.ensures.ok told in
+    subst (λ t. IsPlace def note path (edits.Put t) made) (sym c.in_ok-share.ensures)
+    (place_put def note path new made c.requires.note c.requires.place is)
+
+pub returns-in_err-all-clause-fault : goal.returns-in_err-all-clause-fault
+returns-in_err-all-clause-fault g c =
+    let def = c.args.definition.now in
+    let note = c.args.note.now in
+    let tree = tree_in note in
+    let path = c.args.path.now in
+    let new = c.args.new.now in
+    let made = c.in_ok-made.made in
+    let P : Result Fragment TreeFault → Type 0 = λ r. IfOk r (IsReplaced tree path new) in
+    let told : P c.replace-changed.result =
+    subst (λ t. IfOk c.replace-changed.result (IsReplaced t path new)) c.tree.ensures c.replace-changed.ensures.ok in
+    let is : IsReplaced tree path new made = subst P c.in_ok-made.ensures.ok told in
+    passed (IsNoteFault def (replaced_at path new tree)) _ c.in_err-all.field-0.0 c.from_residual-in_err-all.ensures.1
+    (subst (λ x. IsNoteFault def x c.in_err-all.field-0.0) is.1 c.in_err-all.ensures.fault)
+
+pub returns-clause-note : goal.returns-clause-note
+returns-clause-note g c =
+    let def = c.args.definition.now in
+    let note = c.args.note.now in
+    let tree = tree_in note in
+    let path = c.args.path.now in
+    let new = c.args.new.now in
+    let made = c.in_ok-made.made in
+    let P : Result Fragment TreeFault → Type 0 = λ r. IfOk r (IsReplaced tree path new) in
+    let told : P c.replace-changed.result =
+    subst (λ t. IfOk c.replace-changed.result (IsReplaced t path new)) c.tree.ensures c.replace-changed.ensures.ok in
+    let is : IsReplaced tree path new made = subst P c.in_ok-made.ensures.ok told in
+    subst (λ x. IsNoteOf def x c.in_ok-all.all) is.1 c.in_ok-all.ensures.note
+
+pub returns-clause-good : goal.returns-clause-good
+returns-clause-good g c =
+    let def = c.args.definition.now in
+    let note = c.args.note.now in
+    let tree = tree_in note in
+    let path = c.args.path.now in
+    let new = c.args.new.now in
+    let made = c.in_ok-made.made in
+    let P : Result Fragment TreeFault → Type 0 = λ r. IfOk r (IsReplaced tree path new) in
+    let told : P c.replace-changed.result =
+    subst (λ t. IfOk c.replace-changed.result (IsReplaced t path new)) c.tree.ensures c.replace-changed.ensures.ok in
+    let is : IsReplaced tree path new made = subst P c.in_ok-made.ensures.ok told in
+    noted_open def (replaced_at path new tree) c.in_ok-all.all
+    (subst (λ x. IsNoteOf def x c.in_ok-all.all) is.1 c.in_ok-all.ensures.note)

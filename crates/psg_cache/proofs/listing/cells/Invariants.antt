@@ -1,0 +1,19 @@
+use Rattle.std.proofs.Common.{◌≡◌, ◌+◌, ◌≤◌, length, drop}
+use Rattle.std.specs.Prelude.{reverse}
+use Rattle.std.specs.List.{AllByRecursion}
+use Rattle.psg_cache.specs.Renoting.{AreOfCells}
+use Rattle.psg_cache.proofs.CellLaws.{IsSuffix}
+use Rattle.psg_cache.proofs.listing.cells.Given as goal
+
+-- the cells from the number on are made
+abbrev pub invariant-loop-left : goal.invariant-loop-left
+invariant-loop-left g l =
+    record {
+      within : l.left ≤ length l.elements;
+      counted : l.steps + l.left ≡ l.fn.steps + length l.elements;
+      made : AreOfCells l.definition l.list (drop l.left l.elements) l.behind (reverse l.made.items);
+      suffixes : AllByRecursion (IsSuffix l.definition l.list) (reverse l.made.items);
+    }
+
+abbrev pub decreases-loop-left : goal.decreases-loop-left
+decreases-loop-left g l = l.left

@@ -1,0 +1,52 @@
+use Rattle.std.proofs.Common.{◌∙◌, ℕ, ap, sym}
+use Rattle.std.specs.Prelude.{Vec}
+use Rattle.std.specs.declared.alloc.Global.{Global}
+use Rattle.psg_cache.specs.Walks.{IsListFault}
+use Rattle.psg_cache.proofs.SpaceTables.{list_read, spaces_read}
+use Rattle.psg_cache.proofs.ListLaws.{cells_list_fault, end_fault, end_taken, list_topped}
+use Rattle.psg_cache.proofs.Passing.{passed}
+use Rattle.psg_cache.proofs.listing.top_list.Goals as goal
+
+pub eval_end-ended-requires-clause-spaces : goal.eval_end-ended-requires-clause-spaces
+eval_end-ended-requires-clause-spaces g c =
+    spaces_read c.args.language.definition.now c.requires.language.sound c.args.language.declaring.now
+    c.requires.language.declaring c.args.list c.requires.takes.list c.index-as_slice-list.result
+    c.requires.takes.found
+    (list_read c.args.language.definition.now.lists c.as_slice.result.now c.args.list c.requires.takes.list
+    c.index-as_slice-list.result c.as_slice.ensures c.requires.takes.found c.index-as_slice-list.is)
+    c.index-language-kind.result c.index-language-kind.is c.as_slice-spaces.result.now
+    (c.as_slice-spaces.ensures.value ∙ ap (λ (v : Vec ℕ Global). v.items) (sym c.index-language-kind.is))
+
+pub returns-in_err-end-clause-err : goal.returns-in_err-end-clause-err
+returns-in_err-end-clause-err g c =
+    let def = c.args.language.definition.now in
+    let path = c.args.path.now in
+    let elements = c.args.elements.now in
+    passed (IsListFault def path c.args.list c.args.unfinished elements) _ c.in_err-end.field-0.0
+    c.from_residual.ensures.1
+    (end_fault def path c.args.list c.args.unfinished c.eval_end-ended.result c.in_err-end.field-0.0 elements
+    c.eval_end-ended.ensures.answer c.in_err-end.ensures.err)
+
+pub cells-requires-clause-takes : goal.cells-requires-clause-takes
+cells-requires-clause-takes g c =
+    end_taken c.args.language.definition.now c.args.list c.args.unfinished c.args.elements.now c.eval_end-ended.result
+    c.in_ok-end.end c.requires.takes c.eval_end-ended.ensures.answer c.eval_end-ended.ensures.summary
+    c.in_ok-end.ensures.ok
+
+pub returns-in_err-news-clause-err : goal.returns-in_err-news-clause-err
+returns-in_err-news-clause-err g c =
+    let def = c.args.language.definition.now in
+    let path = c.args.path.now in
+    let elements = c.args.elements.now in
+    passed (IsListFault def path c.args.list c.args.unfinished elements) _ c.in_err-news.field-0.0
+    c.from_residual-in_err-news.ensures.1
+    (cells_list_fault def path c.args.list c.args.unfinished elements c.eval_end-ended.result c.in_ok-end.end
+    c.in_err-news.field-0.0 c.eval_end-ended.ensures.answer c.in_ok-end.ensures.ok c.in_err-news.ensures.err)
+
+pub returns-clause-ok : goal.returns-clause-ok
+returns-clause-ok g c =
+    list_topped c.args.language.definition.now c.args.list c.args.unfinished c.args.elements.now
+    c.eval_end-ended.result c.in_ok-end.end c.in_ok-news.news.items _ _ c.as_slice-2.result.now
+    c.eval_end-ended.ensures.answer c.eval_end-ended.ensures.summary c.in_ok-end.ensures.ok
+    c.in_ok-news.ensures.ok c.in_ok-news.ensures.usual (c.as_slice-2.ensures.value ∙ c.new-none.ensures.items)
+    c.in_ok-all.ensures

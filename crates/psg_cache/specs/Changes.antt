@@ -1,0 +1,85 @@
+-- What changes of a node are, and when an annotated tree takes one.
+use Rattle.std.specs.Prelude.{ℕ, ◌≡◌, ◌<◌, ◌≤◌, ◌+◌, Bool, List, drop, length, slice_get, Some}
+use Rattle.psg_grammar.specs.declared.types.Definition.{Definition}
+use Rattle.psg_grammar.specs.Fragments.{Fragment, cell, ending, children_of}
+use Rattle.psg_grammar.specs.Paths.{Path, node_at, change_at, change_child, inserted, removed, IsList}
+use Rattle.psg_grammar.specs.Work.{work_of}
+use Rattle.psg_tree.specs.Shapes.{list_of}
+use Rattle.psg_cache.specs.Annotated.{Annotated, tree_in, below_in}
+use Rattle.psg_cache.specs.Noted.{IsNoted, IsNotedAs}
+use Rattle.psg_cache.specs.Notes.{IsFormed}
+use Rattle.psg_cache.specs.declared.editing.Edit.{Edit}
+use Rattle.psg_cache.specs.declared.editing.Edit.TheVariants as edits
+
+abbrev pub change_of : Edit → Fragment → Fragment
+change_of (edits.Put new) node = new
+change_of (edits.Add place new) node = inserted place new node
+change_of (edits.Take place) node = removed place node
+
+-- the evaluations of the change itself: of the new tree, and of the cells of the list up to the place
+abbrev pub ticks_of : Edit → ℕ
+ticks_of (edits.Put new) = work_of new
+ticks_of (edits.Add place new) = work_of new + (place + 1)
+ticks_of (edits.Take place) = place
+
+-- the node takes the change
+abbrev pub TakesEdit : Definition → Edit → Fragment → Type 0
+TakesEdit def (edits.Put new) node = Unit {0}
+TakesEdit def (edits.Add place new) node = IsList node × (place ≤ length (children_of node)) × IsFormed def new
+TakesEdit def (edits.Take place) node = IsList node × (place < length (children_of node))
+
+-- the tree is made by the change of the node at the path of an annotated tree
+pub record IsPlace (def : Definition) (n : Annotated) (path : Path) (edit : Edit) (made : Fragment) : Type 0 where
+  pub noted : IsNoted def n
+  pub formed_old : IsFormed def (tree_in n)
+  pub formed : IsFormed def made
+  pub node : Fragment
+  pub there : node_at (tree_in n) path ≡ Some node
+  pub takes : TakesEdit def edit node
+  pub changed : made ≡ change_at (change_of edit) path (tree_in n)
+
+-- the tree has the annotated one's last children behind so many of its own; a list has the same number and end
+pub record IsKept (def : Definition) (n : Annotated) (behind front : ℕ) (made : Fragment) (below : List Annotated)
+    : Type 0 where
+  pub noted : IsNoted def n
+  pub formed_old : IsFormed def (tree_in n)
+  pub kept : drop front below ≡ drop behind (below_in n)
+  pub within : (behind ≤ length (below_in n)) × (front ≤ length below)
+  pub lists : (l : ℕ) (es : List Fragment) (u : Bool) → made ≡ list_of l es u
+      → tree_in n ≡ list_of l (children_of (tree_in n)) u
+
+-- the evaluations of a tree of which so many first children are new: of a list their cells, else the node
+abbrev pub remade_ticks : Fragment → ℕ → ℕ
+remade_ticks (cell l e r) n = n
+remade_ticks (ending l u) n = n
+remade_ticks _ n = 1
+
+-- a list with one more element before the place
+pub record IsAdded (def : Definition) (n : Annotated) (place : ℕ) (new made : Fragment) : Type 0 where
+  pub noted : IsNoted def n
+  pub formed_old : IsFormed def (tree_in n)
+  pub formed : IsFormed def made
+  pub fresh : IsFormed def new
+  pub list : IsList (tree_in n)
+  pub within : place ≤ length (children_of (tree_in n))
+  pub changed : made ≡ inserted place new (tree_in n)
+
+-- a list without the element at the place
+pub record IsTaken (def : Definition) (n : Annotated) (place : ℕ) (made : Fragment) : Type 0 where
+  pub noted : IsNoted def n
+  pub formed_old : IsFormed def (tree_in n)
+  pub formed : IsFormed def made
+  pub list : IsList (tree_in n)
+  pub within : place < length (children_of (tree_in n))
+  pub changed : made ≡ removed place (tree_in n)
+
+-- a node with another child of the number, which has this note
+pub record IsPut (def : Definition) (n : Annotated) (number : ℕ) (child : Annotated) (made : Fragment) : Type 0 where
+  pub noted : IsNoted def n
+  pub formed_old : IsFormed def (tree_in n)
+  pub formed : IsFormed def made
+  pub old : Fragment
+  pub there : slice_get (children_of (tree_in n)) number ≡ Some old
+  pub change : Fragment → Fragment
+  pub made_so : made ≡ change_child change number (tree_in n)
+  pub child_noted : IsNotedAs def (change old) child

@@ -1,0 +1,120 @@
+//! The parts of trees and of paths.
+ghost use Rattle.std.specs.Prelude.{◌≡◌, ◌++◌, ◌∷◌, [], IfOk, option_copied, slice_get};
+ghost use Rattle.psg_grammar.specs.Fragments.{children_of};
+ghost use Rattle.psg_tree.specs.Shapes.{child_among, subtrees};
+ghost use Rattle.psg_cache.specs.Walks.{names_in};
+
+use psg_grammar::Definition;
+use psg_terms::Txt;
+use psg_tree::{Part, Shape, Tree};
+use std::alloc::{AllocError, Global};
+
+/// The language of a walk.
+#[derive(Clone, Copy)]
+pub(crate) struct Language<'a> {
+    pub(crate) definition: &'a Definition,
+    /// For each phylum the spaces in which it declares.
+    pub(crate) declaring: &'a [Vec<u32>],
+}
+
+/// The subtrees among the parts, each with one more owner.
+fn subtrees_of(alloc: Global, parts: &[Part]) -> Result<Vec<Tree>, AllocError>
+    ensures { IfOk result (λ found. found.items ≡ subtrees parts.now) }
+{
+    let mut found = Vec::new(alloc);
+    for part in parts {
+        if let Part::Sub(child) = part {
+            found.push(child.share()?)?;
+        }
+    }
+    Ok(found)
+}
+
+/// The names among the parts, each with one more owner.
+pub(crate) fn names_of(alloc: Global, parts: &[Part]) -> Result<Vec<Txt>, AllocError>
+    ensures { IfOk result (λ found. found.items ≡ names_in parts.now) }
+{
+    let mut found = Vec::new(alloc);
+    for part in parts {
+        if let Part::Name(name) = part {
+            found.push(name.share()?)?;
+        }
+    }
+    Ok(found)
+}
+
+/// The trees, each with one more owner.
+fn copies_of(alloc: Global, trees: &[Tree]) -> Result<Vec<Tree>, AllocError>
+    ensures { IfOk result (λ found. found.items ≡ trees.now) }
+{
+    let mut found = Vec::new(alloc);
+    for tree in trees {
+        let copy = tree.share()?;
+        found.push(copy)?;
+    }
+    Ok(found)
+}
+
+/// The children of a node, each with one more owner.
+pub(crate) fn children(alloc: Global, tree: &Tree) -> Result<Vec<Tree>, AllocError>
+    ensures { IfOk result (λ found. found.items ≡ children_of tree.now) }
+{
+    match tree.shape() {
+        Shape::Op { parts, .. } => {
+            let found = subtrees_of(alloc, parts.as_slice())?;
+            Ok(found)
+        }
+        Shape::List { elements, .. } => {
+            let found = copies_of(alloc, elements.as_slice())?;
+            Ok(found)
+        }
+        Shape::Hole { .. } => Ok(Vec::new(alloc)),
+    }
+}
+
+/// The step to the child of the number. A path has no step for a number that 32 bits do not hold.
+pub(crate) fn step_of(number: usize) -> Result<u32, AllocError>
+    ensures { IfOk result (λ step. step ≡ number) }
+{
+    if number < 0x1_0000_0000 {
+        Ok(number as u32)
+    } else {
+        Err(AllocError)
+    }
+}
+
+/// The steps with one more behind them.
+pub(crate) fn longer(alloc: Global, steps: &[u32], step: u32) -> Result<Vec<u32>, AllocError>
+    ensures { IfOk result (λ all. all.items ≡ steps.now ++ step ∷ []) }
+{
+    let mut all = Vec::from_slice(alloc, steps)?;
+    all.push(step)?;
+    Ok(all)
+}
+
+/// The subtree of the number among an operator's parts, from 0.
+fn sub_at(parts: &[Part], number: u32) -> Option<&Tree>
+    ensures { option_copied result ≡ child_among parts.now number }
+{
+    let mut left = number;
+    for part in parts {
+        if let Part::Sub(child) = part {
+            if left == 0 {
+                return Some(child);
+            }
+            left -= 1;
+        }
+    }
+    None
+}
+
+/// The child of a node by its number, from 0.
+pub(crate) fn child_at(tree: &Tree, number: u32) -> Option<&Tree>
+    ensures { option_copied result ≡ slice_get (children_of tree.now) number }
+{
+    match tree.shape() {
+        Shape::Op { parts, .. } => sub_at(parts.as_slice(), number),
+        Shape::List { elements, .. } => elements.as_slice().get(number as usize),
+        Shape::Hole { .. } => None,
+    }
+}

@@ -1,0 +1,113 @@
+//! The note of a tree of which some children are new.
+ghost use Rattle.std.specs.Prelude.{◌≡◌, ◌+◌, ◌++◌, ◌≤◌, drop, length, option_to_list, take, IfErr, IfOk, OnOk};
+ghost use Rattle.psg_grammar.specs.Fragments.{children_of};
+ghost use Rattle.psg_cache.specs.Changes.{IsKept, remade_ticks};
+ghost use Rattle.psg_cache.specs.Noted.{IsNotedAs};
+ghost use Rattle.psg_cache.specs.Notes.{IsFormed};
+ghost use Rattle.psg_cache.specs.Walks.{AreNotesOf, IsKnown, IsNumbered, IsStepFault, top_steps};
+
+use crate::listing::{cells, joined};
+use crate::note::{Note, NoteFault};
+use crate::parts::Language;
+use crate::topping::{made_of, topped, wholes_of};
+use psg_terms::Steps;
+use psg_tree::{Shape, Tree};
+use std::alloc::{AllocError, Global};
+use std::sync::ledger::Ledger;
+
+/// Adds one more owner of each of the notes.
+fn push_notes(made: &mut Vec<Note>, notes: &[Note]) -> Result<(), AllocError>
+    ensures { OnOk result (made.new.items ≡ made.old.items ++ notes.now) }
+{
+    for note in notes {
+        made.push(note.share()?)?;
+    }
+    Ok(())
+}
+
+/// The notes in front of the place, the new one, and those from `behind` on.
+pub(crate) fn spliced(
+    alloc: Global,
+    notes: &[Note],
+    place: usize,
+    new: Option<Note>,
+    behind: usize,
+) -> Result<Vec<Note>, AllocError>
+    requires { (place ≤ length notes.now) × (behind ≤ length notes.now) }
+    ensures { IfOk result (λ made. made.items
+        ≡ take place notes.now ++ option_to_list new ++ drop behind notes.now) }
+{
+    let mut made = Vec::with_capacity(alloc, notes.len())?;
+    push_notes(&mut made, &notes[..place])?;
+    if let Some(note) = new {
+        made.push(note)?;
+    }
+    push_notes(&mut made, &notes[behind..])?;
+    Ok(made)
+}
+
+/// The note of a list with the summaries of its suffixes from `front` on, which are the old list's from `behind` on:
+/// the cells in front of them are evaluated.
+fn relisted<L: Ledger>(
+    alloc: Global,
+    language: Language,
+    old: &Note,
+    behind: usize,
+    front: usize,
+    list: u32,
+    below: Vec<Note>,
+    made: &Tree,
+    path: &[u32],
+    steps: &mut Steps<L>,
+) -> Result<Note, NoteFault>
+    requires language { IsKnown language }
+    requires formed { IsFormed language.definition.now made.now }
+    requires numbered { IsNumbered list made.now }
+    requires below { AreNotesOf language.definition.now (children_of made.now) below.items }
+    requires kept { IsKept language.definition.now old.now behind front made.now below.items }
+    ensures ok { IfOk result (IsNotedAs language.entry.definition.now made.now) }
+    ensures bounded { steps.new ≤ steps.old + front }
+    ensures err { IfErr result
+        (IsStepFault language.entry.definition.now (top_steps language.entry.definition.now path.now made.now)) }
+{
+    let definition = language.definition;
+    let wholes = wholes_of(alloc, below.as_slice())?;
+    let all = wholes.as_slice();
+    let kept = old.suffix(behind);
+    let rests = old.rests_behind(behind);
+    let news = cells(alloc, definition, list, &all[..front], kept, path, steps)?;
+    let suffixes = joined(alloc, news, kept, rests)?;
+    let note = made_of(alloc, made, suffixes, below)?;
+    Ok(note)
+}
+
+/// The note of a tree with these notes of its children: of a list the cells up to `front` are evaluated, and the
+/// suffixes behind them are the old list's from `behind` on; any other node is evaluated.
+pub(crate) fn remade<L: Ledger>(
+    alloc: Global,
+    language: Language,
+    old: &Note,
+    behind: usize,
+    front: usize,
+    below: Vec<Note>,
+    made: &Tree,
+    path: &[u32],
+    steps: &mut Steps<L>,
+) -> Result<Note, NoteFault>
+    requires language { IsKnown language }
+    requires formed { IsFormed language.definition.now made.now }
+    requires below { AreNotesOf language.definition.now (children_of made.now) below.items }
+    requires kept { IsKept language.definition.now old.now behind front made.now below.items }
+    ensures ok { IfOk result (IsNotedAs language.entry.definition.now made.now) }
+    ensures bounded { steps.new ≤ steps.old + remade_ticks made.now front }
+    ensures err { IfErr result
+        (IsStepFault language.entry.definition.now (top_steps language.entry.definition.now path.now made.now)) }
+{
+    match made.shape() {
+        Shape::Hole { .. } => topped(alloc, language, made, below, path, steps),
+        Shape::Op { .. } => topped(alloc, language, made, below, path, steps),
+        Shape::List { list, .. } => relisted(
+            alloc, language, old, behind, front, *list, below, made, path, steps,
+        ),
+    }
+}
