@@ -53,7 +53,8 @@ fn put_path(text: &mut String, path: &Path) -> Result<(), AllocError> {
 /// Whether the tree is good, and the paths of the nodes that go wrong by themselves.
 fn told(alloc: Global, note: &Note) -> Result<String, AllocError> {
     let mut text = String::from_str(alloc, if note.is_good() { "good" } else { "wrong" })?;
-    for path in note.culprits() {
+    let culprits = note.culprits(alloc)?;
+    for path in culprits.as_slice() {
         put_path(&mut text, path)?;
     }
     Ok(text)

@@ -100,7 +100,8 @@ pub(super) fn told(alloc: Global, note: &Note) -> Result<String, AllocError> {
     let mark = if note.is_good() { "good" } else { "wrong" };
     let weight = note.weight();
     let mut text = format!(in alloc; "{mark} {weight}")?;
-    for path in note.culprits() {
+    let culprits = note.culprits(alloc)?;
+    for path in culprits.as_slice() {
         put_path(&mut text, path)?;
     }
     Ok(text)
