@@ -28,6 +28,7 @@ use Rattle.psg_session.specs.declared.refusal.Refusal.{Refusal}
 use Rattle.psg_session.specs.declared.refusal.Refusal.TheVariants.{NoNode, NothingOpened, TooBig, TooDeep, TooHeavy, TooWide, Unknown, OtherPhylum, BadArguments}
 use Rattle.psg_session.specs.declared.replies.Reply.{Reply}
 use Rattle.psg_session.specs.declared.replies.Reply.TheVariants.{Marked}
+use Rattle.psg_session.specs.declared.edits.Edit.{Edit}
 use Rattle.psg_session.specs.Edits.{MayEdit, edited}
 use Rattle.psg_session.specs.Good.{IsGoodIn}
 use Rattle.psg_session.specs.PlainState.{Answer, Opened, State, not_asked, named_path, with_change}
@@ -132,6 +133,9 @@ MustBeGood Closes = Unit {0}
 MustBeGood Loosens = ⊥
 
 -- ---- plans
+
+abbrev pub made_of : Trial → Edit → Path → Made
+made_of trial edit cursor = record { trial = trial; edit = edit; cursor = cursor }
 
 -- A change of the opened tree that is what the command makes, and nothing else; none of the command's tests holds but
 -- perhaps those of its tree.

@@ -40,8 +40,8 @@ module _ (def : Definition) (s : State) where
   MayTick (Keep name file) n = n ≡ 0
   MayTick (Fetch file) n = n ≡ 0
 
-  -- the count went up by what the command may take
+  -- the count went up by no more than the command may take
   pub record HasTicked (command : Command) (from to : ℕ) : Type 0 where
     pub taken : ℕ
-    pub counted : to ≡ from + taken
+    pub counted : to ≤ from + taken
     pub within : MayTick command taken

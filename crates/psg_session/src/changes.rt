@@ -1,12 +1,12 @@
 //! What the changing commands make of the opened fragment, before it is tested.
-ghost use Rattle.std.specs.Prelude.{◌≡◌, ◌×◌, ◌↔◌, ◌++◌, ◌∷◌, [], ℕ, true, Some, IfNone, IfOk, IfSome, IsTrue};
+ghost use Rattle.std.specs.Prelude.{◌≡◌, ◌↔◌, ◌++◌, ◌∷◌, [], ℕ, true, Some, IfNone, IfOk, IfSome, IsTrue};
 ghost use Rattle.psg_grammar.specs.Fragments.{hole};
 ghost use Rattle.psg_grammar.specs.Kinds.{IsOfKind};
 ghost use Rattle.psg_grammar.specs.Paths.{ended, IsList};
 ghost use Rattle.psg_cache.specs.Shaped.{IsShaped};
 ghost use Rattle.psg_script.specs.declared.command.Command.TheVariants as commands;
 ghost use Rattle.psg_session.specs.declared.edits.Edit.TheVariants as edits;
-ghost use Rattle.psg_session.specs.Outcomes.{IsFreshAnswer, IsListed, IsPlan};
+ghost use Rattle.psg_session.specs.Outcomes.{made_of, IsFreshAnswer, IsListed, IsPlan};
 ghost use Rattle.psg_session.specs.PlainStep.{MayReopen, end_of};
 ghost use Rattle.psg_session.specs.Sessions.{IsEditor};
 ghost use Rattle.psg_session.specs.Views.{IsLanguage};
@@ -136,7 +136,7 @@ fn copied(alloc: Global, path: &Path) -> Result<Path, AllocError>
 
 /// Plans the tree in place of the node at the path, to which the cursor goes.
 fn put(alloc: Global, trial: Trial, path: &Path, new: Tree) -> Result<Made, AllocError>
-    ensures { IfOk result (λ made. (made.trial ≡ trial) × (made.edit ≡ edits.Put path.now new) × (made.cursor ≡ path.now)) }
+    ensures { IfOk result (λ made. made ≡ made_of trial (edits.Put path.now new) path.now) }
 {
     let at = copied(alloc, path)?;
     let cursor = copied(alloc, path)?;

@@ -1,5 +1,5 @@
 //! The editor and its steps.
-ghost use Rattle.std.specs.Prelude.{◌≡◌, ◌×◌, IfOk, IfSome, IfNone};
+ghost use Rattle.std.specs.Prelude.{◌≡◌, IfOk, IfSome, IfNone};
 ghost use Rattle.psg_grammar.specs.declared.types.Definition.{Definition as PlainDefinition};
 ghost use Rattle.psg_session.specs.Outcomes.{after, reply_in, IsChanging, IsElse, IsFit, IsGoneOn, IsOutcome, IsPlan, IsStay};
 ghost use Rattle.psg_session.specs.PlainState.{not_asked};

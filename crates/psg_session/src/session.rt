@@ -1,5 +1,5 @@
 //! A session: an editor with its language.
-ghost use Rattle.std.specs.Prelude.{◌≡◌, ◌×◌, IfErr, IfOk, MatchOption, None, Some};
+ghost use Rattle.std.specs.Prelude.{◌≡◌, IfErr, IfOk, MatchOption, None, Some};
 ghost use Rattle.psg_cache.specs.Notes.{IsNoteOf};
 ghost use Rattle.psg_session.specs.Applied.{HasApplied, HasStopped, IsRefusal};
 ghost use Rattle.psg_session.specs.Lines.{HasAnswered, HasBroken};
@@ -36,12 +36,12 @@ pub struct Session {
 
 impl Model for Session {
     ghost use Rattle.psg_session.specs.declared.session.Parts.{Parts as Kept};
-    ghost use Rattle.psg_session.specs.contracts.session.Parts as parts;
+    ghost use Rattle.psg_session.specs.contracts.session.Parts as kept_row;
     ghost use Rattle.psg_session.specs.Sessions.{IsSession};
 
     ghost Value = { Kept };
 
-    ghost coded = { parts.the_row.coded };
+    ghost coded = { kept_row.the_row.coded };
 
     ghost view = { λ s. s.parts };
 
