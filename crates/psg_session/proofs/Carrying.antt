@@ -24,7 +24,7 @@ use Rattle.psg_session.specs.declared.refusal.Refusal.{Refusal}
 use Rattle.psg_session.specs.declared.refusal.Refusal.TheVariants.{NoPlaceholder, Unknown}
 use Rattle.psg_session.specs.declared.replies.Mark.{Mark}
 use Rattle.psg_session.specs.declared.replies.Reply.TheVariants.{Refused}
-use Rattle.psg_session.specs.Edits.{edited}
+use Rattle.psg_session.specs.Edits.{edited, MayEdit}
 use Rattle.psg_session.specs.Good.{IsGoodIn}
 use Rattle.psg_session.specs.Outcomes.{changed, IsFit, IsJudged, IsMade, IsOutcome, tree_tests}
 use Rattle.psg_session.specs.PlainState.{Opened, State, not_asked, with_change, with_new}
@@ -35,7 +35,7 @@ use Rattle.psg_session.specs.Sessions.{IsEditor, IsVersion, opened_of, plain, st
 use Rattle.psg_session.specs.Ticks.{HasTicked}
 use Rattle.psg_session.specs.Views.{mark_of}
 use Rattle.psg_session.proofs.EditLaws.{edited_shaped, opened_version}
-use Rattle.psg_session.proofs.StepLaws.{opened_plain}
+use Rattle.psg_session.proofs.StepLaws.{opened_plain, some_once}
 use Rattle.psg_session.proofs.Ticking.{made_counted}
 
 -- ---- the same tests, said in another way
@@ -116,6 +116,39 @@ module _ (def : Definition) (e : Editor) (command : Command) (m : Made) (made : 
 
   pub made_ticks : (from to : ℕ) → to ≤ from + work_of tree → HasTicked def (state_of e) command from to
   made_ticks from to h = made_counted def (state_of e) from to made.makes h
+
+  -- the same, for the opened fragment that was found
+  module _ (held : OpenedTree) (opened : e.opened ≡ Some held) where
+    same_held : held ≡ made.held
+    same_held = some_once held made.held e.opened opened made.opened
+
+    pub may_here : MayEdit def (tree_in held.note) m.edit
+    may_here = subst (λ (h : OpenedTree). MayEdit def (tree_in h.note) m.edit) (sym same_held) made.may
+
+    judged_here : (answer : Result Noted Refusal) → IsJudged def m.trial (edited m.edit (tree_in held.note)) answer
+        → IsJudged def m.trial tree answer
+    judged_here answer h =
+        subst (λ (h' : OpenedTree). IsJudged def m.trial (edited m.edit (tree_in h'.note)) answer) same_held h
+
+    pub refused_here : (r : Refusal) → IsJudged def m.trial (edited m.edit (tree_in held.note)) (Err r)
+        → IsOutcome def e not_asked command (Stays (Refused r))
+    refused_here r h = refused_late r (judged_here (Err r) h)
+
+    pub changed_here : IsEditor def e → (note : Noted)
+        → IsJudged def m.trial (edited m.edit (tree_in held.note)) (Ok note) → (mark : Mark)
+        → mark_of mark ≡ mark_by note.culprits → IsOutcome def e not_asked command (Changes note m.cursor mark)
+    changed_here editor note h mark told = changed_late editor note (judged_here (Ok note) h) mark told
+
+    pub ticks_here : (from to : ℕ) → to ≤ from + work_of (edited m.edit (tree_in held.note))
+        → HasTicked def (state_of e) command from to
+    ticks_here from to h =
+        made_ticks from to (subst (λ (h' : OpenedTree). to ≤ from + work_of (edited m.edit (tree_in h'.note))) same_held h)
+
+-- a plan that refuses
+pub refused_plan : (def : Definition) (e : Editor) (command : Command) (r : Refusal)
+    → IsRefused def (IsGoodIn def) (state_of e) not_asked command r
+    → IsOutcome def e not_asked command (Stays (Refused r))
+refused_plan def e command r is = record { steps = refuses is; fit = tt }
 
 -- ---- a new fragment
 

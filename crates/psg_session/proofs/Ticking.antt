@@ -1,5 +1,6 @@
 -- How many evaluations were counted.
 use Rattle.std.proofs.Common.{◌≡◌, inl, inr, ℕ, ◌+◌, ◌≤◌, List, [], refl, sym, ap, ap₂, ◌∙◌, subst, arith}
+use Rattle.psg_terms.specs.Names.{Name}
 use Rattle.psg_grammar.specs.declared.types.Kind.{Kind}
 use Rattle.psg_grammar.specs.declared.types.Kind.TheVariants as kinds
 use Rattle.psg_grammar.specs.declared.types.Definition.{Definition}
@@ -74,3 +75,12 @@ module _ (def : Definition) (s : State) where
       → to ≤ from + work_of tree → HasTicked def s command from to
   made_counted {tree = tree} from to makes h =
       record { taken = work_of tree; counted = h; within = may_take makes (work_of tree) (omega arith) }
+
+  -- a new fragment was evaluated
+  pub new_counted : (name : Name) (kind : Kind) (tree : Fragment) → tree ≡ blank def kind → (from to : ℕ)
+      → to ≤ from + work_of tree → HasTicked def s (New name) from to
+  new_counted name kind tree is from to h = record {
+    taken = 1;
+    counted = subst (λ n. to ≤ from + n) (ap work_of is ∙ blank_work def kind) h;
+    within = omega arith;
+  }

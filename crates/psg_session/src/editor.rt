@@ -91,6 +91,7 @@ impl Editor {
 }
 
 /// Opens a new fragment of the phylum or list of the name.
+#[tactic(auto, using(crate::proofs::Ticking::quiet))]
 fn open_new<L: Ledger>(
     alloc: Global,
     language: &Language,
@@ -200,6 +201,7 @@ fn carry_out<L: Ledger>(
 }
 
 /// Does a changing command. A command that is not built counts as none.
+#[tactic(auto, using(crate::proofs::Ticking::quiet))]
 fn change<L: Ledger>(
     alloc: Global,
     language: &Language,
@@ -222,6 +224,7 @@ fn change<L: Ledger>(
 
 /// Finds what a command does to the editor. A change evaluates the whole new fragment, and `own` that of its node; `steps`
 /// counts the evaluations. It fails where memory runs out.
+#[tactic(auto, using(crate::proofs::Ticking::quiet))]
 pub fn step<L: Ledger>(
     alloc: Global,
     language: &Language,

@@ -95,6 +95,7 @@ fn names_line(alloc: Global, names: &[Txt]) -> Result<String, AllocError>
 
 /// The rows of the relation of the node at the place, each on a line: the value, and the entity of each name. It
 /// evaluates the node's tree anew, and `steps` counts the evaluations.
+#[tactic(auto, using(crate::proofs::Ticking::quiet, crate::proofs::Asking::own_ticks))]
 pub fn own<L: Ledger>(
     alloc: Global,
     language: &Language,

@@ -1,13 +1,12 @@
-use Rattle.std.proofs.Common.{◌≡◌, ◌≤◌, ◌+◌, [], Some, Ok, Err, refl, sym, ap, subst, ◌∙◌, true≢false, arith}
-use Rattle.psg_grammar.specs.Insertion.{blank}
-use Rattle.psg_grammar.specs.Work.{work_of}
+use Rattle.std.proofs.Common.{Some, Ok, Err, sym, ap, subst, ◌∙◌, true≢false}
 use Rattle.psg_cache.specs.Shaped.{IsShaped}
 use Rattle.psg_cache.proofs.ShapedTrees.{blank_shaped}
 use Rattle.psg_session.specs.declared.judging.Trial.TheVariants.{Opens}
-use Rattle.psg_session.specs.Outcomes.{IsJudged, IsNoted}
+use Rattle.psg_session.specs.Outcomes.{IsJudged}
+use Rattle.psg_session.specs.Sessions.{state_of}
 use Rattle.psg_session.proofs.Carrying.{new_declaring, new_opened, new_refused, new_unknown}
 use Rattle.psg_session.proofs.Opening.{has_kind, one_kind}
-use Rattle.psg_session.proofs.Ticking.{blank_work, quiet}
+use Rattle.psg_session.proofs.Ticking.{new_counted}
 use Rattle.psg_session.proofs.editor.open_new.Goals as goal
 
 pub kind_named-requires : goal.kind_named-requires
@@ -30,3 +29,53 @@ returns-then-is_declaring-clause-outcome g c = new_declaring c.args.language.now
 pub note_of-noted-requires-clause-formed : goal.note_of-noted-requires-clause-formed
 note_of-noted-requires-clause-formed g c = (c.in-Some.kind, subst (λ f. IsShaped c.args.language.now.definition f c.in-Some.kind) (sym c.in_ok-tree.ensures)
     (blank_shaped c.args.language.now.definition c.in-Some.kind (has_kind c.args.language.now.definition c.in-Some.kind c.as_str.result.now c.in-Some.ensures.found)))
+
+pub returns-in_err-note-clause-ticks : goal.returns-in_err-note-clause-ticks
+returns-in_err-note-clause-ticks g c =
+    new_counted c.args.language.now.definition (state_of c.args.editor.now) c.args.name.now c.in-Some.kind
+    c.in_ok-tree.tree c.in_ok-tree.ensures _ _ c.note_of-noted.ensures.ticks
+
+pub returns-in-Err-clause-outcome : goal.returns-in-Err-clause-outcome
+returns-in-Err-clause-outcome g c =
+    let def = c.args.language.now.definition in
+    let named = c.in-Some.ensures.found ∙ ap Some c.as_str.ensures in
+    new_refused def c.args.editor.now c.args.name.now c.in-Some.kind named
+    (one_kind def c.requires.language.sound c.in-Some.kind c.args.name.now named)
+    (λ declares. true≢false (sym (c.is_declaring.ensures.1 declares) ∙ c.if-is_declaring.false)) c.in-Err.refusal
+    (subst (λ f. IsJudged def Opens f (Err c.in-Err.refusal)) c.in_ok-tree.ensures
+    (subst (IsJudged def Opens c.in_ok-tree.tree) c.in-Err.is
+    (c.in_ok-note.ensures def c.in_ok-tree.tree c.note_of-noted.ensures.noted)))
+
+pub returns-in-Err-clause-ticks : goal.returns-in-Err-clause-ticks
+returns-in-Err-clause-ticks g c =
+    new_counted c.args.language.now.definition (state_of c.args.editor.now) c.args.name.now c.in-Some.kind
+    c.in_ok-tree.tree c.in_ok-tree.ensures _ _ c.note_of-noted.ensures.ticks
+
+pub returns-in_err-mark-clause-ticks : goal.returns-in_err-mark-clause-ticks
+returns-in_err-mark-clause-ticks g c =
+    new_counted c.args.language.now.definition (state_of c.args.editor.now) c.args.name.now c.in-Some.kind
+    c.in_ok-tree.tree c.in_ok-tree.ensures _ _ c.note_of-noted.ensures.ticks
+
+pub returns-in_err-cursor-clause-ticks : goal.returns-in_err-cursor-clause-ticks
+returns-in_err-cursor-clause-ticks g c =
+    new_counted c.args.language.now.definition (state_of c.args.editor.now) c.args.name.now c.in-Some.kind
+    c.in_ok-tree.tree c.in_ok-tree.ensures _ _ c.note_of-noted.ensures.ticks
+
+pub returns-clause-outcome : goal.returns-clause-outcome
+returns-clause-outcome g c =
+    let def = c.args.language.now.definition in
+    let kind = c.in-Some.kind in
+    let named = c.in-Some.ensures.found ∙ ap Some c.as_str.ensures in
+    new_opened def c.args.editor.now c.args.name.now kind named
+    (one_kind def c.requires.language.sound kind c.args.name.now named)
+    (λ declares. true≢false (sym (c.is_declaring.ensures.1 declares) ∙ c.if-is_declaring.false))
+    (blank_shaped def kind (has_kind def kind c.as_str.result.now c.in-Some.ensures.found)) c.in-Ok.note
+    (subst (λ f. IsJudged def Opens f (Ok c.in-Ok.note)) c.in_ok-tree.ensures
+    (subst (IsJudged def Opens c.in_ok-tree.tree) c.in-Ok.is
+    (c.in_ok-note.ensures def c.in_ok-tree.tree c.note_of-noted.ensures.noted)))
+    c.in_ok-cursor.cursor c.in_ok-cursor.ensures c.in_ok-mark.mark c.in_ok-mark.ensures
+
+pub returns-clause-ticks : goal.returns-clause-ticks
+returns-clause-ticks g c =
+    new_counted c.args.language.now.definition (state_of c.args.editor.now) c.args.name.now c.in-Some.kind
+    c.in_ok-tree.tree c.in_ok-tree.ensures _ _ c.note_of-noted.ensures.ticks

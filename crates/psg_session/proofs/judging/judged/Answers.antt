@@ -17,7 +17,7 @@ returns-else-is_inadmissible c = λ def f noted.
           (λ h. true≢false (sym (c.is_inadmissible.ensures.1 h) ∙ c.if-is_inadmissible.false)),
     )
 
-pub returns-in-Err : goal.returns-in-Err
-returns-in-Err c = λ def f noted.
+pub returns-in_ok-refusal-in-Err : goal.returns-in_ok-refusal-in-Err
+returns-in_ok-refusal-in-Err c = λ def f noted.
     judged_fault def c.args.trial f c.in-Err.fault c.in_ok-refusal-in-Err.refusal c.in_ok-refusal-in-Err.ensures
     (subst (IsNoted def f) c.in-Err.is noted)
