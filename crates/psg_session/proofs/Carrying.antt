@@ -152,6 +152,16 @@ refused_plan def e command r is = record { steps = refuses is; fit = tt }
 
 -- ---- a new fragment
 
+-- the state with this tree alone
+abbrev with_tree : Kind → Fragment → Path → State
+with_tree kind f c = record {
+  opened = Some (record { kind = kind; tree = f });
+  cursor = c;
+  earlier = [];
+  later = [];
+  saved = [];
+}
+
 module _ (def : Definition) (e : Editor) (name : Name) where
   -- nothing has the name
   pub new_unknown : ((kind : Kind) → HasName def kind name → ⊥)
@@ -204,20 +214,11 @@ module _ (def : Definition) (e : Editor) (name : Name) where
           opens kind (mark_of mark) (knows, (usual_all, taken)) named marks in
           record {
             steps = subst (λ (c : Path). Steps def (IsGoodIn def) (state_of e) not_asked (New name)
-                (at_cursor (tree_in note) c) (marked (mark_of mark))) (sym top)
+                (with_tree kind (tree_in note) c) (marked (mark_of mark))) (sym top)
                 (subst (λ (f : Fragment). Steps def (IsGoodIn def) (state_of e) not_asked (New name)
-                (at_cursor f []) (marked (mark_of mark))) (sym noted.tree) step);
+                (with_tree kind f []) (marked (mark_of mark))) (sym noted.tree) step);
             fit = record {
               shaped = subst (λ f. IsShaped def f kind) (sym noted.tree) shaped;
               noted = subst (λ f. IsNoteOf def f note) (sym noted.tree) noted;
             };
-          }
-        where
-          abbrev at_cursor : Fragment → Path → State
-          at_cursor f c = record {
-            opened = Some (record { kind = kind; tree = f });
-            cursor = c;
-            earlier = [];
-            later = [];
-            saved = [];
           }

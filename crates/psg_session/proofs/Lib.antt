@@ -5,6 +5,7 @@ pub mod Ticking
 pub mod Carrying
 pub mod Settling
 pub mod Applying
+pub mod Unbuilt
 pub mod Opening
 pub mod Verdicts
 pub mod Cutting
