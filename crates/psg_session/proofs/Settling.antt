@@ -26,7 +26,7 @@ all_take P zero xs h = tt
 all_take P (suc n) [] h = tt
 all_take P (suc n) (x ∷ xs) h = (h.0, all_take P n xs h.1)
 
-plain_state : Option Opened → Path → List Fragment → List Fragment → State
+abbrev plain_state : Option Opened → Path → List Fragment → List Fragment → State
 plain_state opened cursor earlier later =
     record { opened = opened; cursor = cursor; earlier = earlier; later = later; saved = [] }
 
