@@ -1,5 +1,5 @@
 -- Worked cases: the lines of a script, the text of replies, and the output of two lines.
-use Rattle.std.proofs.Common.{◌≡◌, ℕ, List, [], ◌∷◌, ◌++◌, None, refl, arith}
+use Rattle.std.proofs.Common.{◌≡◌, ℕ, List, [], ◌∷◌, ◌++◌, None, inl, refl}
 use Rattle.std.specs.Prelude.{codes}
 use Rattle.psg_grammar.specs.declared.types.Definition.{Definition}
 use Rattle.psg_grammar.specs.Fragments.{Fragment}
@@ -7,7 +7,7 @@ use Rattle.psg_grammar.specs.Marks.{good, wrong}
 use Rattle.psg_script.specs.declared.command.Command.TheVariants.{Show}
 use Rattle.psg_script.specs.Forms.{Spells}
 use Rattle.psg_session.specs.PlainState.{State, start, not_asked}
-use Rattle.psg_session.specs.Refusals.{nothing_opened}
+use Rattle.psg_session.specs.declared.refusal.Refusal.TheVariants.{NothingOpened}
 use Rattle.psg_session.specs.PlainStep.{Steps, refuses, IsRefused}
 use Rattle.psg_session.specs.Replies.{refused, marked, shown, reply_text}
 use Rattle.psg_run.specs.Output.{script_lines, Prints, ends, step}
@@ -24,8 +24,9 @@ shown_text = refl
 
 -- before anything is opened nothing can be shown, and the state stays
 module _ (def : Definition) (IsGood : Fragment → Type 0) where
-  first_test : IsRefused def IsGood start not_asked Show nothing_opened
-  first_test = record { number = 0; test = refl; holds = refl; first = λ k other less. absurd (omega (arith, less)) }
+  first_test : IsRefused def IsGood start not_asked Show NothingOpened
+  first_test = inl (refl, refl)
 
-  nothing_shown : Spells (codes "show") Show → Prints def IsGood start (codes "show" ∷ []) [] None (reply_text (refused 22) ++ []) start
-  nothing_shown spells = step Show start (refused 22) (spells, tt) (λ asked w. w) (refuses first_test) ends
+  nothing_shown : Spells (codes "show") Show
+      → Prints def IsGood start (codes "show" ∷ []) [] None (reply_text (refused NothingOpened) ++ []) start
+  nothing_shown spells = step Show start (refused NothingOpened) spells (λ asked w. w) (refuses first_test) ends

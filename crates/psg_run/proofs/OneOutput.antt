@@ -7,11 +7,15 @@ use Rattle.psg_script.specs.declared.command.Command.{Command}
 use Rattle.psg_session.specs.PlainState.{State, Answer, not_asked}
 use Rattle.psg_session.specs.Replies.{Reply, refused, reply_text}
 use Rattle.psg_session.specs.PlainStep.{Steps}
-use Rattle.psg_run.specs.Told.{Asked, Exchange}
-use Rattle.psg_run.specs.Output.{IsLineOf, Asks, Prints, ends, no_command, step, asks, wants}
+use Rattle.psg_session.specs.declared.refusal.Refusal.TheVariants.{NoCommand}
+use Rattle.psg_session.specs.Applied.{Asks}
+use Rattle.psg_session.specs.Exchanges.{Asked}
+use Rattle.psg_run.specs.Told.{Exchange}
+use Rattle.psg_script.specs.Forms.{Spells}
+use Rattle.psg_run.specs.Output.{Prints, ends, no_command, step, asks, wants}
 use Rattle.psg_run.specs.Played.{IsFrontOf}
 use Rattle.psg_run.specs.OneOutput.{HasOneOutput}
-use Rattle.psg_run.proofs.OneOutputLines.{line_once}
+use Rattle.psg_run.proofs.OneOutputLines.{spelled_once}
 use Rattle.psg_session.proofs.OneStep.{step_once}
 
 -- the same bytes before both leave the one a front of the other
@@ -20,20 +24,20 @@ front_behind text a b (rest, is) = (rest, ap (λ o. text ++ o) is ∙ sym (appen
 
 module _ (def : Definition) (IsGood : Fragment → Type 0) (sound : IsSound def) where
   -- a line has one step
-  line_step_once : (answer : Answer) {s t u : State} (line : List ℕ) (c d : Command) {reply other : Reply} → IsLineOf line c → IsLineOf line d
+  line_step_once : (answer : Answer) {s t u : State} (line : List ℕ) (c d : Command) {reply other : Reply} → Spells line c → Spells line d
       → Steps def IsGood s answer c t reply → Steps def IsGood s answer d u other → (t ≡ u) × (reply ≡ other)
   line_step_once answer {s = s} {u = u} line c d {other = other} is_line is_line' steps steps' =
-      step_once def IsGood s answer sound steps (subst (λ x. Steps def IsGood s answer x u other) (sym (line_once line c d is_line is_line')) steps')
+      step_once def IsGood s answer sound steps (subst (λ x. Steps def IsGood s answer x u other) (sym (spelled_once line c d is_line is_line')) steps')
 
   -- and either asks or not
-  not_both : (s : State) (line : List ℕ) (c d : Command) (asked : Asked) → IsLineOf line c → IsLineOf line d → ((a : Asked) → Asks def s c a → ⊥) → Asks def s d asked → ⊥
-  not_both s line c d asked is_line is_line' quiet h = quiet asked (subst (λ x. Asks def s x asked) (sym (line_once line c d is_line is_line')) h)
+  not_both : (s : State) (line : List ℕ) (c d : Command) (asked : Asked) → Spells line c → Spells line d → ((a : Asked) → Asks def s c a → ⊥) → Asks def s d asked → ⊥
+  not_both s line c d asked is_line is_line' quiet h = quiet asked (subst (λ x. Asks def s x asked) (sym (spelled_once line c d is_line is_line')) h)
 
   -- The same lines and answers give the same output and last state.
   pub prints_once : {s t u : State} {lines : List (List ℕ)} {exchanges : List Exchange} {unanswered : Option Asked} {a b : List ℕ}
       → Prints def IsGood s lines exchanges unanswered a t → Prints def IsGood s lines exchanges unanswered b u → (a ≡ b) × (t ≡ u)
   prints_once ends ends = (refl, refl)
-  prints_once (no_command never more) (no_command never' more') = let both = prints_once more more' in (ap (λ o. reply_text (refused 1) ++ o) both.0, both.1)
+  prints_once (no_command never more) (no_command never' more') = let both = prints_once more more' in (ap (λ o. reply_text (refused NoCommand) ++ o) both.0, both.1)
   prints_once (no_command never more) (step c new reply is_line quiet steps more') = absurd (never c is_line)
   prints_once (no_command never more) (asks c new reply exchange is_line asked steps more') = absurd (never c is_line)
   prints_once (no_command never more) (wants c wanted is_line asked) = absurd (never c is_line)
@@ -68,7 +72,7 @@ module _ (def : Definition) (IsGood : Fragment → Type 0) (sound : IsSound def)
   prints_front zero lines more {b = b} e ends other = (b, refl)
   prints_front (suc n) [] more {b = b} e ends other = (b, refl)
   prints_front (suc n) (line ∷ rest) more e (no_command {output = output} never prints) (no_command {output = output'} never' prints') =
-      front_behind (reply_text (refused 1)) output output' (prints_front n rest more e prints prints')
+      front_behind (reply_text (refused NoCommand)) output output' (prints_front n rest more e prints prints')
   prints_front (suc n) (line ∷ rest) more e (no_command never prints) (step c new reply is_line quiet steps prints') = absurd (never c is_line)
   prints_front (suc n) (line ∷ rest) more e (no_command never prints) (asks c new reply exchange is_line asked steps prints') = absurd (never c is_line)
   prints_front (suc n) (line ∷ rest) more e (no_command never prints) (wants c wanted is_line asked) = absurd (never c is_line)

@@ -7,7 +7,6 @@ use Rattle.psg_script.specs.Forms.{Text, IsInWord, Spells}
 use Rattle.psg_script.specs.Keywords.{keyword_of}
 use Rattle.psg_script.specs.Words.{IsBehind}
 use Rattle.psg_script.proofs.SameLemmas.{form_from_line, form_at, same_form}
-use Rattle.psg_run.specs.Output.{IsLineOf}
 
 -- the bytes before the first space, and what stands behind them
 abbrev Parted : Text → Type 0
@@ -26,6 +25,3 @@ spelled_once line c d spells other =
     let (word, behind, is, in_word, is_behind) = parted line in
     let (keyword, form) = form_from_line line word behind is in_word is_behind c spells in
     same_form (keyword_of c) c d behind form (form_at line word behind (keyword_of c) is in_word is_behind keyword d other)
-
-pub line_once : (line : List ℕ) (c d : Command) → IsLineOf line c → IsLineOf line d → c ≡ d
-line_once line c d h g = spelled_once line c d h.0 g.0

@@ -14,7 +14,8 @@ use Rattle.psg_run.specs.declared.status.Status.{Status}
 use Rattle.psg_run.specs.declared.status.Status.TheVariants as ends_with
 use Rattle.psg_session.specs.PlainState.{State, start}
 use Rattle.psg_session.specs.Replies.{feed}
-use Rattle.psg_run.specs.Told.{Asked, Exchange, Loses, Told}
+use Rattle.psg_session.specs.Exchanges.{Asked}
+use Rattle.psg_run.specs.Told.{Exchange, Loses, Told}
 use Rattle.psg_session.specs.Good.{IsGoodIn}
 use Rattle.psg_run.specs.Output.{script_lines, Prints}
 use Rattle.psg_run.specs.Played.{IsFrontOf}

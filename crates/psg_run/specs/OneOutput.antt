@@ -3,7 +3,8 @@ use Rattle.std.specs.Prelude.{ℕ, ◌≡◌, List, [], ◌++◌, take, Option, 
 use Rattle.psg_grammar.specs.declared.types.Definition.{Definition}
 use Rattle.psg_grammar.specs.Fragments.{Fragment}
 use Rattle.psg_session.specs.PlainState.{State}
-use Rattle.psg_run.specs.Told.{Asked, Exchange}
+use Rattle.psg_session.specs.Exchanges.{Asked}
+use Rattle.psg_run.specs.Told.{Exchange}
 use Rattle.psg_run.specs.Output.{Prints}
 use Rattle.psg_run.specs.Played.{IsFrontOf}
 

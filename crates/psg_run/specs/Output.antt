@@ -6,10 +6,13 @@ use Rattle.psg_grammar.specs.declared.types.Definition.{Definition}
 use Rattle.psg_grammar.specs.Fragments.{Fragment}
 use Rattle.psg_script.specs.declared.command.Command.{Command}
 use Rattle.psg_script.specs.Forms.{Spells}
+use Rattle.psg_session.specs.declared.refusal.Refusal.TheVariants.{NoCommand}
 use Rattle.psg_session.specs.PlainState.{State, not_asked}
-use Rattle.psg_session.specs.PlainStep.{IsBuilt, Steps}
+use Rattle.psg_session.specs.Applied.{Asks}
+use Rattle.psg_session.specs.Exchanges.{Asked}
+use Rattle.psg_session.specs.PlainStep.{Steps}
 use Rattle.psg_session.specs.Replies.{Reply, refused, reply_text}
-use Rattle.psg_run.specs.Told.{Asked, Exchange}
+use Rattle.psg_run.specs.Told.{Exchange}
 
 abbrev pub is_feed : ℕ → Bool
 is_feed b = b == 10
@@ -27,28 +30,20 @@ kept_lines (piece ∷ rest) = cond (is_empty (strip_carriage_return piece)) (kep
 abbrev pub script_lines : List ℕ → List (List ℕ)
 script_lines bytes = kept_lines (slice_split is_feed bytes)
 
--- the line is one of the command, which is built
-abbrev pub IsLineOf : List ℕ → Command → Type 0
-IsLineOf line command = Spells line command × IsBuilt command
-
--- What a command asks of the files, where no test before that refuses it. No command so far asks.
-abbrev pub Asks : Definition → State → Command → Asked → Type 0
-Asks def s command asked = ⊥
-
 module _ (def : Definition) (IsGood : Fragment → Type 0) where
   -- Prints s lines exchanges unanswered output t: from the state s the lines get these replies, while the files answer this;
-  -- the editor is in the state t then. A line without a command is refused with 1. Where an answer is wanting, the output
+  -- the editor is in the state t then. A line that spells no command is refused. Where an answer is wanting, the output
   -- ends.
   pub data Prints : State → List (List ℕ) → List Exchange → Option Asked → List ℕ → State → Type 0 where
     ends : {s : State} → Prints s [] [] None [] s
     no_command : {s t : State} {line : List ℕ} {rest : List (List ℕ)} {exchanges : List Exchange} {unanswered : Option Asked} {output : List ℕ}
-        → ((command : Command) → IsLineOf line command → ⊥)
-        → Prints s rest exchanges unanswered output t → Prints s (line ∷ rest) exchanges unanswered (reply_text (refused 1) ++ output) t
+        → ((command : Command) → Spells line command → ⊥)
+        → Prints s rest exchanges unanswered output t → Prints s (line ∷ rest) exchanges unanswered (reply_text (refused NoCommand) ++ output) t
     step : {s t : State} {line : List ℕ} {rest : List (List ℕ)} {exchanges : List Exchange} {unanswered : Option Asked} {output : List ℕ} (command : Command) (new : State) (reply : Reply)
-        → IsLineOf line command → ((asked : Asked) → Asks def s command asked → ⊥) → Steps def IsGood s not_asked command new reply
+        → Spells line command → ((asked : Asked) → Asks def s command asked → ⊥) → Steps def IsGood s not_asked command new reply
         → Prints new rest exchanges unanswered output t → Prints s (line ∷ rest) exchanges unanswered (reply_text reply ++ output) t
     asks : {s t : State} {line : List ℕ} {rest : List (List ℕ)} {exchanges : List Exchange} {unanswered : Option Asked} {output : List ℕ} (command : Command) (new : State) (reply : Reply) (exchange : Exchange)
-        → IsLineOf line command → Asks def s command exchange.asked → Steps def IsGood s exchange.answer command new reply
+        → Spells line command → Asks def s command exchange.asked → Steps def IsGood s exchange.answer command new reply
         → Prints new rest exchanges unanswered output t → Prints s (line ∷ rest) (exchange ∷ exchanges) unanswered (reply_text reply ++ output) t
-    wants : {s : State} {line : List ℕ} {rest : List (List ℕ)} (command : Command) (asked : Asked) → IsLineOf line command → Asks def s command asked
+    wants : {s : State} {line : List ℕ} {rest : List (List ℕ)} (command : Command) (asked : Asked) → Spells line command → Asks def s command asked
         → Prints s (line ∷ rest) [] (Some asked) [] s

@@ -3,12 +3,8 @@ use Rattle.std.specs.Prelude.{ℕ, ◌≡◌, ◌≢◌, Bool, false, cond, List
 use Rattle.std.specs.FinMap as map
 use Rattle.psg_terms.specs.Names.{Name, is_among}
 use Rattle.psg_world.specs.Files.{Held, Entry, reading, writing, bytes_of, front_of}
+use Rattle.psg_session.specs.Exchanges.{Asked, keeping, fetching, most_kept_bytes}
 use Rattle.psg_session.specs.PlainState.{Answer, stored, got, lost}
-
--- what a command asked of the files
-pub data Asked : Type 0 where
-  keeping : (name : Name) (bytes : List ℕ) → Asked
-  fetching : (name : Name) → Asked
 
 -- a question with its answer
 pub record Exchange : Type 0 where
@@ -29,10 +25,6 @@ sets k name bytes = record { held = map.insert k.held name bytes; unknown = with
 
 abbrev pub forgets : Known → Name → Known
 forgets k name = record { held = k.held; unknown = name ∷ k.unknown }
-
--- the most bytes of a kept fragment
-abbrev pub most_kept_bytes : ℕ
-most_kept_bytes = 262144
 
 -- The bytes that a fetch got: all that the name has, or one byte more than the most where it has more. Of an unknown name
 -- any bytes.

@@ -18,17 +18,17 @@ use std::sync::ledger::Ledger;
 /// Reads the script and plays it on the language.
 fn play_file<F: Files, O: Sink, L: Ledger>(
     alloc: Global,
-    language: &Language,
+    language: Language,
     script: &str,
     files: &mut F,
     out: &mut O,
     steps: &mut Steps<L>,
 ) -> Status
-    requires language { IsLanguage language.now }
+    requires language { IsLanguage language }
     ensures { Plays
         (record { held = F.holds files.old; entries = F.faults files.old; written = O.written out.old; count = O.faults out.old })
         (record { held = F.holds files.new; entries = F.faults files.new; written = O.written out.new; count = O.faults out.new })
-        language.now.definition script.now result }
+        language.definition script.now result }
 {
     let bytes = match files.read(alloc, script, MOST_SCRIPT_BYTES) {
         Ok(bytes) => bytes,
@@ -38,7 +38,7 @@ fn play_file<F: Files, O: Sink, L: Ledger>(
     if lines.len() > MOST_SCRIPT_BYTES {
         return Status::TooLong;
     }
-    match play(alloc, language, lines, out, steps) {
+    match play(alloc, language, lines, files, out, steps) {
         Ok(()) => Status::Done,
         Err(stop) => write_status(stop),
     }
@@ -79,7 +79,7 @@ fn edit<F: Files, O: Sink, L: Ledger>(
     let Ok(language) = Language::of(alloc, definition) else {
         return Status::Memory;
     };
-    play_file(alloc, &language, script, files, out, steps)
+    play_file(alloc, language, script, files, out, steps)
 }
 
 /// Does what the words say, and answers how that ended. `check DEF` says in one line whether the file DEF has a definition.

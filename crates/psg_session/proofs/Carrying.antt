@@ -1,179 +1,224 @@
 -- What a planned change is answered, from what is found of its tree.
-use Rattle.std.proofs.Common.{◌≡◌, ℕ, List, [], ◌∷◌, ◌++◌, Some, Option, refl, sym, ◌∙◌, ap, ap₂, subst, append_assoc}
-use Rattle.std.specs.List.{AllByRecursion}
+use Rattle.std.proofs.Common.{◌≡◌, ◌⊎◌, inl, inr, ℕ, ◌+◌, ◌≤◌, List, [], ◌∷◌, Some, None, Option, Result, Ok, Err, refl, sym, ◌∙◌, ap, subst}
 use Rattle.psg_terms.specs.Names.{Name}
 use Rattle.psg_grammar.specs.declared.types.Kind.{Kind}
 use Rattle.psg_grammar.specs.declared.types.Definition.{Definition}
 use Rattle.psg_grammar.specs.Fragments.{Fragment}
 use Rattle.psg_grammar.specs.Insertion.{blank}
+use Rattle.psg_grammar.specs.Marks.{IsMark}
+use Rattle.psg_grammar.specs.Paths.{Path}
+use Rattle.psg_grammar.specs.Work.{work_of}
+use Rattle.psg_cache.specs.Notes.{IsNoteOf, mark_by}
+use Rattle.psg_cache.specs.Shaped.{IsShaped}
+use Rattle.psg_cache.specs.declared.note.Noted.{Noted}
 use Rattle.psg_script.specs.declared.command.Command.{Command}
-use Rattle.psg_script.specs.declared.command.Where.TheVariants.{Cursor}
 use Rattle.psg_script.specs.declared.command.Command.TheVariants.{New}
 use Rattle.psg_session.specs.declared.changes.Made.{Made}
-use Rattle.psg_session.specs.declared.changes.Plan.TheVariants.{RefusedBy, Makes as Plans}
 use Rattle.psg_session.specs.declared.editor.Editor.{Editor}
 use Rattle.psg_session.specs.declared.editor.OpenedTree.{OpenedTree}
 use Rattle.psg_session.specs.declared.editor.Outcome.{Outcome}
-use Rattle.psg_session.specs.declared.editor.Outcome.TheVariants.{Stays, Becomes}
-use Rattle.psg_session.specs.declared.judging.Change.{Change}
-use Rattle.psg_session.specs.declared.judging.Change.TheVariants.{Opens, Grows, Closes, Loosens}
-use Rattle.psg_session.specs.declared.replies.Reply.TheVariants.{Refused, Marked, Shown, Answered}
+use Rattle.psg_session.specs.declared.editor.Outcome.TheVariants.{Stays, Opens as OpensTree, Changes}
+use Rattle.psg_session.specs.declared.judging.Trial.{Trial}
+use Rattle.psg_session.specs.declared.judging.Trial.TheVariants.{Opens, Grows, Closes, Loosens}
+use Rattle.psg_session.specs.declared.refusal.Refusal.{Refusal}
+use Rattle.psg_session.specs.declared.refusal.Refusal.TheVariants.{NoPlaceholder, Unknown}
+use Rattle.psg_session.specs.declared.replies.Mark.{Mark}
+use Rattle.psg_session.specs.declared.replies.Reply.TheVariants.{Refused}
+use Rattle.psg_session.specs.Edits.{edited, MayEdit}
 use Rattle.psg_session.specs.Good.{IsGoodIn}
-use Rattle.psg_session.specs.PlainState.{State, Opened, not_asked, with_new, with_change}
-use Rattle.psg_session.specs.Refusals.{Refusal, deep, big, wide, heavy, inadmissible, unknown, no_placeholder_here, number_of, tests_of}
-use Rattle.psg_session.specs.Replies.{refused}
-use Rattle.psg_session.specs.PlainStep.{Gives, by_change, by_new, HasName, IsDeclaringPhylum, Steps, refuses, opens, changes}
-use Rattle.psg_session.specs.Views.{mark_of, opened_of, Represents}
-use Rattle.psg_session.specs.Outcomes.{Fails, FailsFirst, PassesAll, IsJudged, IsOutcome, IsPlan, late_tests, NoneOf}
-use Rattle.psg_session.proofs.StepLaws.{Tests, plain, refused_behind, taken_by, none_append, opened_plain}
+use Rattle.psg_session.specs.Outcomes.{changed, IsFit, IsJudged, IsMade, IsOutcome, tree_tests}
+use Rattle.psg_session.specs.PlainState.{Opened, State, not_asked, with_change, with_new}
+use Rattle.psg_session.specs.PlainStep.{by_change, by_new, changes, closing, Gives, growing, HasName, IsDeclaringPhylum, IsRefused, loosening, OfResult, opening, opens, refuses, Steps}
+use Rattle.psg_session.specs.Refusals.{Passes, Refuses}
+use Rattle.psg_session.specs.Replies.{marked}
+use Rattle.psg_session.specs.Sessions.{IsEditor, IsVersion, opened_of, plain, state_of, tree_in}
+use Rattle.psg_session.specs.Ticks.{HasTicked}
+use Rattle.psg_session.specs.Views.{mark_of}
+use Rattle.psg_session.proofs.EditLaws.{edited_shaped, opened_version}
+use Rattle.psg_session.proofs.StepLaws.{opened_plain, some_once}
+use Rattle.psg_session.proofs.Ticking.{made_counted}
 
--- the command is refused with the number
-abbrev pub PlainSteps : Definition → State → Command → State → ℕ → Type 0
-PlainSteps def s command t n = Steps def (IsGoodIn def) s not_asked command t (refused n)
+-- ---- the same tests, said in another way
 
--- the tests that speak of the tree alone
-abbrev IsLate : Refusal → Type 0
-IsLate deep = Unit {0}
-IsLate big = Unit {0}
-IsLate wide = Unit {0}
-IsLate heavy = Unit {0}
-IsLate inadmissible = Unit {0}
-IsLate _ = ⊥
+again : {A B E X Y : Type 0} → (A → B) → (B → A) → (X → Y) → (A × E) ⊎ ((A → ⊥) × X) → (B × E) ⊎ ((B → ⊥) × Y)
+again up down more (inl (a, e)) = inl (up a, e)
+again up down more (inr (n, x)) = inr ((λ b. n (down b)), more x)
 
-all_late : (change : Change) → AllByRecursion IsLate (late_tests change)
-all_late Opens = (tt, tt)
-all_late Grows = (tt, (tt, (tt, (tt, (tt, tt)))))
-all_late Closes = (tt, (tt, (tt, tt)))
-all_late Loosens = (tt, (tt, tt))
+both : {A B X Y : Type 0} → (B → A) → (X → Y) → (A → ⊥) × X → (B → ⊥) × Y
+both down more (n, x) = ((λ b. n (down b)), more x)
 
-front_late : (before behind : List Refusal) → AllByRecursion IsLate (before ++ behind) → AllByRecursion IsLate before
-front_late [] behind h = tt
-front_late (r ∷ before) behind h = (h.0, front_late before behind h.1)
+module _ (def : Definition) (Of To : (Fragment → Type 0) → Type 0)
+    (up : (P : Fragment → Type 0) → Of P → To P) (down : (P : Fragment → Type 0) → To P → Of P) where
+  pub refuses_again : (trial : Trial) (r : Refusal) → Refuses (tree_tests def trial Of) r
+      → Refuses (tree_tests def trial To) r
+  refuses_again Opens r h = again (up _) (down _) (λ x. x) h
+  refuses_again Grows r h =
+      again (up _) (down _) (again (up _) (down _)
+      (again (up _) (down _) (again (up _) (down _) (again (up _) (down _) (λ x. x))))) h
+  refuses_again Closes r h = again (up _) (down _) (again (up _) (down _) (again (up _) (down _) (λ x. x))) h
+  refuses_again Loosens r h = again (up _) (down _) (again (up _) (down _) (λ x. x)) h
 
-at_late : (before behind : List Refusal) (r : Refusal) → AllByRecursion IsLate (before ++ r ∷ behind) → IsLate r
-at_late [] behind r h = h.0
-at_late (x ∷ before) behind r h = at_late before behind r h.1
+  pub passes_again : (trial : Trial) → Passes (tree_tests def trial Of) → Passes (tree_tests def trial To)
+  passes_again Opens h = both (down _) (λ x. x) h
+  passes_again Grows h =
+      both (down _) (both (down _) (both (down _) (both (down _) (both (down _) (λ x. x))))) h
+  passes_again Closes h = both (down _) (both (down _) (both (down _) (λ x. x))) h
+  passes_again Loosens h = both (down _) (both (down _) (λ x. x)) h
 
-module _ (def : Definition) (s : State) (command : Command) (tree : Fragment) (gives : Gives def s command tree)
-    (only : (other : Fragment) → Gives def s command other → other ≡ tree) where
-  holds_of : (r : Refusal) → IsLate r → Fails def tree r → Tests def s command r
-  holds_of deep late h = (tree, gives, h)
-  holds_of big late h = (tree, gives, h)
-  holds_of wide late h = (tree, gives, h)
-  holds_of heavy late h = (tree, gives, h)
-  holds_of inadmissible late h = (tree, gives, h)
-  holds_of _ late h = absurd late
+-- ---- a planned change
 
-  fails_of : (r : Refusal) → IsLate r → Tests def s command r → Fails def tree r
-  fails_of deep late (other, is, h) = subst (λ f. Fails def f deep) (only other is) h
-  fails_of big late (other, is, h) = subst (λ f. Fails def f big) (only other is) h
-  fails_of wide late (other, is, h) = subst (λ f. Fails def f wide) (only other is) h
-  fails_of heavy late (other, is, h) = subst (λ f. Fails def f heavy) (only other is) h
-  fails_of inadmissible late (other, is, h) = subst (λ f. Fails def f inadmissible) (only other is) h
-  fails_of _ late h = absurd late
+module _ (def : Definition) (e : Editor) (command : Command) (m : Made) (made : IsMade def e command m) where
+  abbrev tree : Fragment
+  tree = edited m.edit (tree_in made.held.note)
 
-  none_late : (tests : List Refusal) → AllByRecursion IsLate tests → PassesAll def tree tests → NoneOf def s command tests
-  none_late [] late passes = tt
-  none_late (r ∷ tests) late passes = ((λ h. passes.0 (fails_of r late.0 h)), none_late tests late.1 passes.1)
+  up : (P : Fragment → Type 0) → P tree → OfResult def (state_of e) command P
+  up P h = (tree, by_change made.makes, h)
 
-  -- the tree fails one of the tests behind the early ones
-  pub refused_late : (change : Change) (early : List Refusal) (r : Refusal) (n : ℕ) → tests_of command ≡ early ++ late_tests change → NoneOf def s command early
-      → FailsFirst def tree (late_tests change) r → n ≡ number_of r → (e : Editor) → Represents e s
-      → (t : State) × Represents e t × PlainSteps def s command t n
-  refused_late change early r n tests none (before, behind, split, passes, fails) is e same =
-      let late : AllByRecursion IsLate (before ++ r ∷ behind) = subst (AllByRecursion IsLate) split (all_late change) in (
-        s,
-        same,
-        subst (PlainSteps def s command s) (sym is) (refuses (refused_behind def s command (early ++ before) behind r
-            (tests ∙ ap (λ l. early ++ l) split ∙ sym (append_assoc early before (r ∷ behind)))
-            (none_append def s command early before none (none_late before (front_late before (r ∷ behind) late) passes))
-            (holds_of r (at_late before behind r late) fails))),
-      )
+  down : (P : Fragment → Type 0) → OfResult def (state_of e) command P → P tree
+  down P (other, is, h) = subst P (made.only other is) h
 
-  pub none_of_late : (change : Change) (early : List Refusal) → tests_of command ≡ early ++ late_tests change → NoneOf def s command early
-      → PassesAll def tree (late_tests change) → NoneOf def s command (tests_of command)
-  none_of_late change early tests none passes =
-      subst (NoneOf def s command) (sym tests) (none_append def s command early (late_tests change) none (none_late (late_tests change) (all_late change) passes))
+  -- its tree fails a test
+  pub refused_late : (r : Refusal) → IsJudged def m.trial tree (Err r)
+      → IsOutcome def e not_asked command (Stays (Refused r))
+  refused_late r fails = record {
+    steps = refuses (made.refused r (refuses_again def (λ P. P tree) (OfResult def (state_of e) command) up down
+        m.trial r fails));
+    fit = tt;
+  }
 
--- what the new editor has is what the plain editor goes on with
-same_opened : (kind : Kind) (tree : Fragment) (new : Option OpenedTree) → (held : OpenedTree) × (new ≡ Some held) × (held.kind ≡ kind) × (held.note.tree ≡ tree)
-    → Some (record { kind = kind; tree = tree }) ≡ opened_of new
-same_opened kind tree new (held, is, kind_is, tree_is) =
-    ap₂ (λ k t. Some (the_opened k t)) (sym kind_is) (sym tree_is) ∙ sym (ap opened_of is)
-  where
-    the_opened : Kind → Fragment → Opened
-    the_opened k t = record { kind = k; tree = t }
+  new_version : IsEditor def e → (note : Noted) → IsNoteOf def tree note → IsVersion def made.held.kind note
+  new_version editor note noted = record {
+    shaped = subst (λ f. IsShaped def f made.held.kind) (sym noted.tree)
+        (edited_shaped def m.edit (tree_in made.held.note) made.held.kind
+        (opened_version def e made.held editor made.opened).shaped made.may);
+    noted = subst (λ f. IsNoteOf def f note) (sym noted.tree) noted;
+  }
 
--- a planned change, whose tree was tested
-pub carried : (def : Definition) (e : Editor) (command : Command) (change : Change) (m : Made) (held : OpenedTree) → e.opened ≡ Some held → held.kind ≡ m.kind
-    → IsPlan def e command change (Plans m) → (outcome : Outcome) → IsJudged def change m.kind m.tree m.path outcome → IsOutcome def e command outcome
-carried def e command change m held is kind plan (Stays (Refused n)) (r, fails, number) = λ s same.
-    let made = plan s same in
-    refused_late def s command m.tree (by_change made.makes) made.only change made.early r n made.tests made.none fails number e same
-carried def e command change m held is kind plan (Stays (Marked mark)) h = absurd h
-carried def e command change m held is kind plan (Stays (Shown text mark)) h = absurd h
-carried def e command change m held is kind plan (Stays (Answered lines)) h = absurd h
-carried def e command change m held is kind plan (Becomes new (Refused n)) h = absurd h
-carried def e command change m held is kind plan (Becomes new (Marked mark)) (passes, marks, editor, opened, cursor) = (
-  (λ s same.
-      let made = plan s same in (
-        with_change s (plain held) m.tree m.path,
-        (ap (λ k. Some (the_opened k m.tree)) kind ∙ same_opened m.kind m.tree new.opened opened, sym cursor),
-        changes (plain held) (mark_of mark)
-            (taken_by def s command (none_of_late def s command m.tree (by_change made.makes) made.only change made.early made.tests made.none passes))
-            (opened_plain def e s same Cursor held is) made.makes marks,
-      )),
-  editor,
-)
-  where
-    the_opened : Kind → Fragment → Opened
-    the_opened k t = record { kind = k; tree = t }
-carried def e command change m held is kind plan (Becomes new (Shown text mark)) h = absurd h
-carried def e command change m held is kind plan (Becomes new (Answered lines)) h = absurd h
+  -- its tree passes all
+  pub changed_late : IsEditor def e → (note : Noted) → IsJudged def m.trial tree (Ok note) → (mark : Mark)
+      → mark_of mark ≡ mark_by note.culprits → IsOutcome def e not_asked command (Changes note m.cursor mark)
+  changed_late editor note (noted, passes) mark told =
+      let marks : IsMark def tree (mark_of mark) = subst (IsMark def tree) (sym told) noted.mark in
+      let taken = made.taken (passes_again def (λ P. P tree) (OfResult def (state_of e) command) up down m.trial
+      passes) in
+      let step : Steps def (IsGoodIn def) (state_of e) not_asked command
+      (with_change (state_of e) (plain made.held) tree m.cursor) (marked (mark_of mark)) =
+      changes (plain made.held) (mark_of mark) taken (opened_plain def e made.held made.opened) made.makes marks in
+      record {
+        steps = subst (λ (o : Option Opened). Steps def (IsGoodIn def) (state_of e) not_asked command
+            (changed (state_of e) o (tree_in note) m.cursor) (marked (mark_of mark)))
+            (sym (ap opened_of made.opened))
+            (subst (λ (f : Fragment). Steps def (IsGoodIn def) (state_of e) not_asked command
+            (with_change (state_of e) (plain made.held) f m.cursor) (marked (mark_of mark))) (sym noted.tree) step);
+        fit = subst (λ (o : Option OpenedTree). IsFit def o (Changes note m.cursor mark)) (sym made.opened)
+            (new_version editor note noted);
+      }
 
--- a new fragment of a kind, which was tested
-pub opened_new : (def : Definition) (name : Name) (kind : Kind) → HasName def kind name → ((other : Kind) → HasName def other name → other ≡ kind)
-    → (IsDeclaringPhylum def kind → ⊥) → (e : Editor) (outcome : Outcome) → IsJudged def Opens kind (blank def kind) [] outcome → IsOutcome def e (New name) outcome
-opened_new def name kind named only usual e outcome h = go outcome h
-  where
-    tree : Fragment
-    tree = blank def kind
+  pub made_ticks : (from to : ℕ) → to ≤ from + work_of tree → HasTicked def (state_of e) command from to
+  made_ticks from to h = made_counted def (state_of e) from to made.makes h
 
-    only_blank : (s : State) (other : Fragment) → Gives def s (New name) other → other ≡ tree
-    only_blank s other (by_new kind' named') = ap (blank def) (only kind' named')
-    only_blank s other (by_change makes) = elim makes [ ]
+  -- the same, for the opened fragment that was found
+  module _ (held : OpenedTree) (opened : e.opened ≡ Some held) where
+    same_held : held ≡ made.held
+    same_held = some_once held made.held e.opened opened made.opened
 
-    none : (s : State) → NoneOf def s (New name) (unknown ∷ no_placeholder_here ∷ [])
-    none s = ((λ h. h kind named), ((λ (other, is, declares). usual (subst (IsDeclaringPhylum def) (only other is) declares)), tt))
+    pub may_here : MayEdit def (tree_in held.note) m.edit
+    may_here = subst (λ (h : OpenedTree). MayEdit def (tree_in h.note) m.edit) (sym same_held) made.may
 
-    go : (outcome : Outcome) → IsJudged def Opens kind tree [] outcome → IsOutcome def e (New name) outcome
-    go (Stays (Refused n)) (r, fails, number) = λ s same.
-        refused_late def s (New name) tree (by_new kind named) (only_blank s) Opens (unknown ∷ no_placeholder_here ∷ []) r n refl (none s) fails number e same
-    go (Stays (Marked mark)) h = absurd h
-    go (Stays (Shown text mark)) h = absurd h
-    go (Stays (Answered lines)) h = absurd h
-    go (Becomes new (Refused n)) h = absurd h
-    go (Becomes new (Marked mark)) (passes, marks, editor, opened, cursor) = (
-      (λ s same. (
-        with_new s kind tree,
-        (same_opened kind tree new.opened opened, sym cursor),
-        opens kind (mark_of mark) (taken_by def s (New name) (none_of_late def s (New name) tree (by_new kind named) (only_blank s) Opens (unknown ∷ no_placeholder_here ∷ []) refl (none s) passes)) named marks,
-      )),
-      editor,
-    )
-    go (Becomes new (Shown text mark)) h = absurd h
-    go (Becomes new (Answered lines)) h = absurd h
+    judged_here : (answer : Result Noted Refusal) → IsJudged def m.trial (edited m.edit (tree_in held.note)) answer
+        → IsJudged def m.trial tree answer
+    judged_here answer h =
+        subst (λ (h' : OpenedTree). IsJudged def m.trial (edited m.edit (tree_in h'.note)) answer) same_held h
+
+    pub refused_here : (r : Refusal) → IsJudged def m.trial (edited m.edit (tree_in held.note)) (Err r)
+        → IsOutcome def e not_asked command (Stays (Refused r))
+    refused_here r h = refused_late r (judged_here (Err r) h)
+
+    pub changed_here : IsEditor def e → (note : Noted)
+        → IsJudged def m.trial (edited m.edit (tree_in held.note)) (Ok note) → (mark : Mark)
+        → mark_of mark ≡ mark_by note.culprits → IsOutcome def e not_asked command (Changes note m.cursor mark)
+    changed_here editor note h mark told = changed_late editor note (judged_here (Ok note) h) mark told
+
+    pub ticks_here : (from to : ℕ) → to ≤ from + work_of (edited m.edit (tree_in held.note))
+        → HasTicked def (state_of e) command from to
+    ticks_here from to h =
+        made_ticks from to (subst (λ (h' : OpenedTree). to ≤ from + work_of (edited m.edit (tree_in h'.note))) same_held h)
 
 -- a plan that refuses
-pub refused_plan : (def : Definition) (e : Editor) (command : Command) (change : Change) (n : ℕ) → IsPlan def e command change (RefusedBy n) → IsOutcome def e command (Stays (Refused n))
-refused_plan def e command change n plan = λ s same.
-    let (r, is_refused, number) = plan s same in (s, same, subst (PlainSteps def s command s) (sym number) (refuses is_refused))
+pub refused_plan : (def : Definition) (e : Editor) (command : Command) (r : Refusal)
+    → IsRefused def (IsGoodIn def) (state_of e) not_asked command r
+    → IsOutcome def e not_asked command (Stays (Refused r))
+refused_plan def e command r is = record { steps = refuses is; fit = tt }
 
--- nothing has the name
-pub new_unknown : (def : Definition) (name : Name) → ((kind : Kind) → HasName def kind name → ⊥) → (e : Editor) → IsOutcome def e (New name) (Stays (Refused 4))
-new_unknown def name never e = λ s same. (s, same, refuses (refused_behind def s (New name) [] (no_placeholder_here ∷ wide ∷ []) unknown refl tt never))
+-- ---- a new fragment
 
--- the name is that of a phylum that declares
-pub new_declaring : (def : Definition) (name : Name) (kind : Kind) → HasName def kind name → IsDeclaringPhylum def kind → (e : Editor) → IsOutcome def e (New name) (Stays (Refused 21))
-new_declaring def name kind named declares e = λ s same.
-    (s, same, refuses (refused_behind def s (New name) (unknown ∷ []) (wide ∷ []) no_placeholder_here refl ((λ h. h kind named), tt) (kind, named, declares)))
+-- the state with this tree alone
+abbrev with_tree : Kind → Fragment → Path → State
+with_tree kind f c = record {
+  opened = Some (record { kind = kind; tree = f });
+  cursor = c;
+  earlier = [];
+  later = [];
+  saved = [];
+}
+
+module _ (def : Definition) (e : Editor) (name : Name) where
+  -- nothing has the name
+  pub new_unknown : ((kind : Kind) → HasName def kind name → ⊥)
+      → IsOutcome def e not_asked (New name) (Stays (Refused Unknown))
+  new_unknown never = record { steps = refuses (inl (never, refl)); fit = tt }
+
+  module _ (kind : Kind) (named : HasName def kind name) where
+    knows : ((other : Kind) → HasName def other name → ⊥) → ⊥
+    knows never = never kind named
+
+    -- the name is that of a phylum that declares
+    pub new_declaring : IsDeclaringPhylum def kind
+        → IsOutcome def e not_asked (New name) (Stays (Refused NoPlaceholder))
+    new_declaring declares =
+        record { steps = refuses (inr (knows, inl ((kind, named, declares), refl))); fit = tt }
+
+    module _ (only : (other : Kind) → HasName def other name → other ≡ kind) (usual : IsDeclaringPhylum def kind → ⊥) where
+      usual_all : ((other : Kind) × HasName def other name × IsDeclaringPhylum def other) → ⊥
+      usual_all (other, is, declares) = usual (subst (IsDeclaringPhylum def) (only other is) declares)
+
+      only_blank : (other : Fragment) → Gives def (state_of e) (New name) other → other ≡ blank def kind
+      only_blank other (by_new kind' named') = ap (blank def) (only kind' named')
+      only_blank other (by_change makes) = elim makes [ ]
+
+      lifts : (P : Fragment → Type 0) → P (blank def kind) → OfResult def (state_of e) (New name) P
+      lifts P h = (blank def kind, by_new kind named, h)
+
+      lowers : (P : Fragment → Type 0) → OfResult def (state_of e) (New name) P → P (blank def kind)
+      lowers P (other, is, h) = subst P (only_blank other is) h
+
+      pub new_refused : (r : Refusal) → IsJudged def Opens (blank def kind) (Err r)
+          → IsOutcome def e not_asked (New name) (Stays (Refused r))
+      new_refused r fails = record {
+        steps = refuses (inr (knows, inr (usual_all, refuses_again def (λ P. P (blank def kind))
+            (OfResult def (state_of e) (New name)) lifts lowers Opens r fails)));
+        fit = tt;
+      }
+
+      pub new_opened : IsShaped def (blank def kind) kind → (note : Noted)
+          → IsJudged def Opens (blank def kind) (Ok note)
+          → (cursor : Path) → cursor ≡ [] → (mark : Mark) → mark_of mark ≡ mark_by note.culprits
+          → IsOutcome def e not_asked (New name) (OpensTree (record { kind = kind; note = note }) cursor mark)
+      new_opened shaped note (noted, passes) cursor top mark told =
+          let marks : IsMark def (blank def kind) (mark_of mark) =
+          subst (IsMark def (blank def kind)) (sym told) noted.mark in
+          let taken = passes_again def (λ P. P (blank def kind)) (OfResult def (state_of e) (New name)) lifts lowers
+          Opens passes in
+          let step : Steps def (IsGoodIn def) (state_of e) not_asked (New name)
+          (with_new (state_of e) kind (blank def kind)) (marked (mark_of mark)) =
+          opens kind (mark_of mark) (knows, (usual_all, taken)) named marks in
+          record {
+            steps = subst (λ (c : Path). Steps def (IsGoodIn def) (state_of e) not_asked (New name)
+                (with_tree kind (tree_in note) c) (marked (mark_of mark))) (sym top)
+                (subst (λ (f : Fragment). Steps def (IsGoodIn def) (state_of e) not_asked (New name)
+                (with_tree kind f []) (marked (mark_of mark))) (sym noted.tree) step);
+            fit = record {
+              shaped = subst (λ f. IsShaped def f kind) (sym noted.tree) shaped;
+              noted = subst (λ f. IsNoteOf def f note) (sym noted.tree) noted;
+            };
+          }

@@ -1,64 +1,60 @@
 -- What it is answered that a list is closed, before its tree is tested.
-use Rattle.std.proofs.Common.{◌≡◌, ℕ, true, false, [], ◌∷◌, Some, refl, sym, ◌∙◌, ap, subst}
+use Rattle.std.proofs.Common.{◌≡◌, inl, inr, true, false, Some, refl, sym, ◌∙◌, ap, subst}
 use Rattle.psg_grammar.specs.declared.types.Definition.{Definition}
 use Rattle.psg_grammar.specs.Fragments.{Fragment}
-use Rattle.psg_grammar.specs.Paths.{change_at, ended}
+use Rattle.psg_grammar.specs.Paths.{change_at, ended, replaced}
+use Rattle.psg_cache.specs.Shaped.{IsShaped}
 use Rattle.psg_script.specs.declared.command.Where.{Where}
 use Rattle.psg_script.specs.declared.command.Command.TheVariants.{Close}
-use Rattle.psg_session.specs.declared.changes.Made.{Made}
-use Rattle.psg_session.specs.declared.changes.Plan.TheVariants.{RefusedBy, Makes as Plans}
+use Rattle.psg_session.specs.declared.changes.Plan.TheVariants.{RefusedBy}
+use Rattle.psg_session.specs.declared.edits.Edit.TheVariants.{Put}
 use Rattle.psg_session.specs.declared.editor.Editor.{Editor}
 use Rattle.psg_session.specs.declared.finding.Found.{Found}
-use Rattle.psg_session.specs.declared.judging.Change.TheVariants.{Closes}
-use Rattle.psg_session.specs.PlainState.{State, Opened, named_path}
+use Rattle.psg_session.specs.declared.judging.Trial.TheVariants.{Closes}
+use Rattle.psg_session.specs.declared.refusal.Refusal.{Refusal}
+use Rattle.psg_session.specs.declared.refusal.Refusal.TheVariants.{NoPlace}
+use Rattle.psg_session.specs.PlainState.{Opened, named_path}
 use Rattle.psg_session.specs.PlainStep.{Gives, by_change, by_close, Makes, end_of}
-use Rattle.psg_session.specs.Refusals.{nothing_opened, no_node, no_place, wide, heavy, inadmissible}
-use Rattle.psg_session.specs.Views.{Represents}
-use Rattle.psg_session.specs.Outcomes.{IsFound, IsNotFound, IsPlan, NoneOf}
-use Rattle.psg_session.proofs.StepLaws.{plain, at_node, found_before, has_node, not_found_plan, opened_is, path_is, refusal_plan}
-use Rattle.psg_session.proofs.ChangeLaws.{early_none, same_old}
+use Rattle.psg_session.specs.Outcomes.{IsFound, IsMade, IsNotFound, IsPlan, made_of}
+use Rattle.psg_session.specs.Sessions.{IsEditor, plain, state_of, tree_in}
+use Rattle.psg_session.proofs.StepLaws.{at_node, has_node, is_opened, is_there, nowhere, opened_is, path_is, same_old}
+use Rattle.psg_session.proofs.ChangeLaws.{finished_shaped, may_put, put_is}
 
 abbrev IsNotUnfinished : Opened → Fragment → Type 0
 IsNotUnfinished old node = end_of node ≡ Some true → ⊥
 
 module _ (def : Definition) (e : Editor) (place : Where) where
   -- nothing is opened, or there is no node
-  pub close_nowhere : (n : ℕ) → IsNotFound e place n → IsPlan def e (Close place) Closes (RefusedBy n)
-  close_nowhere n none =
-      λ s same. not_found_plan def e s same place (Close place) Closes (no_place ∷ wide ∷ heavy ∷ inadmissible ∷ []) n
-      refl refl none
+  pub close_nowhere : (r : Refusal) → IsNotFound e place r → IsPlan def e (Close place) (RefusedBy r)
+  close_nowhere r none = nowhere def e place r none
 
   module _ (f : Found) (found : IsFound e place f) where
     -- the node is no unfinished list
-    pub close_refused : (end_of f.node.now ≡ Some true → ⊥) → IsPlan def e (Close place) Closes (RefusedBy 7)
-    close_refused never =
-        λ s same. refusal_plan def s (Close place) Closes (nothing_opened ∷ no_node ∷ [])
-        (wide ∷ heavy ∷ inadmissible ∷ []) no_place 7 refl
-        (found_before def e s same place f found (Close place) refl)
-        (has_node def e s same place f found IsNotUnfinished never) refl
+    pub close_refused : (end_of f.node.now ≡ Some true → ⊥) → IsPlan def e (Close place) (RefusedBy NoPlace)
+    close_refused never = inr (is_opened def e place f found, inr (is_there def e place f found,
+        inl (has_node def e place f found IsNotUnfinished never, refl)))
 
-    closed_once : (s : State) (same : Represents e s) (other : Fragment) → Gives def s (Close place) other
-        → other ≡ change_at (ended false) (named_path place s.cursor) f.held.now.note.tree
-    closed_once s same other (by_change (by_close old opened)) =
-        ap (λ x. change_at (ended false) (named_path place s.cursor) x.tree)
-        (same_old def e s same place f found old opened)
+    closed_once : (other : Fragment) → Gives def (state_of e) (Close place) other
+        → other ≡ change_at (ended false) (named_path place e.cursor) (tree_in f.held.now.note)
+    closed_once other (by_change (by_close old opened)) =
+        ap (λ x. change_at (ended false) (named_path place e.cursor) x.tree) (same_old def e place f found old opened)
 
     -- the list is finished
-    pub close_made : end_of f.node.now ≡ Some true → (m : Made)
-        → m.tree ≡ change_at (ended false) f.path.now f.held.now.note.tree → m.path ≡ f.path.now
-        → IsPlan def e (Close place) Closes (Plans m)
-    close_made ends m tree path = λ s same.
-        let here : named_path place s.cursor ≡ f.path.now = path_is def e s same place f found in
-        let result : change_at (ended false) (named_path place s.cursor) f.held.now.note.tree
-        ≡ m.tree = ap (λ q. change_at (ended false) q f.held.now.note.tree) here ∙ sym tree in
-        let usual : NoneOf def s (Close place)
-        (no_place ∷ []) = ((λ h. at_node def e s same place f found IsNotUnfinished h ends), tt) in
+    pub close_made : IsEditor def e → end_of f.node.now ≡ Some true → (new : Fragment) → new ≡ ended false f.node.now
+        → IsMade def e (Close place) (made_of Closes (Put f.path.now new) f.path.now)
+    close_made editor ends new is =
+        let result = put_is e def place f found (ended false) new is in
         record {
-          early = nothing_opened ∷ no_node ∷ no_place ∷ [];
-          tests = refl;
-          none = early_none def e s same place f found (Close place) (no_place ∷ []) refl usual;
-          makes = subst (λ q. Makes def s (Close place) m.tree q) (here ∙ sym path)
-              (subst (λ t. Makes def s (Close place) t (named_path place s.cursor)) result
-              (by_close (plain f.held.now) (opened_is def e s same place f found)));
-          only = λ other given. closed_once s same other given ∙ result;
+          held = f.held.now;
+          opened = found.held;
+          may = may_put def e place f editor found new
+              (λ K shaped. subst (λ t. IsShaped def t K) (sym is) (finished_shaped def f.node.now K shaped));
+          makes = subst (λ q. Makes def (state_of e) (Close place) (replaced f.path.now new (tree_in f.held.now.note)) q) (path_is def e place f found)
+              (subst (λ t. Makes def (state_of e) (Close place) t (named_path place e.cursor)) result
+              (by_close (plain f.held.now) (opened_is def e place f found)));
+          only = λ other given. closed_once other given ∙ result;
+          refused = λ r h. inr (is_opened def e place f found, inr (is_there def e place f found,
+              inr ((λ h'. at_node def e place f found IsNotUnfinished h' ends), h)));
+          taken = λ h. (is_opened def e place f found, (is_there def e place f found,
+              ((λ h'. at_node def e place f found IsNotUnfinished h' ends), h)));
         }

@@ -12,29 +12,25 @@ use Rattle.psg_grammar.specs.declared.types.Definition.{Definition}
 use Rattle.psg_grammar.specs.Fragments.{Fragment, hole, ending, cell, operator, with_child, with_name, with_number, with_text, anything, observed}
 use Rattle.psg_grammar.specs.Insertion.{Leaf}
 use Rattle.psg_grammar.specs.Kinds.{HasKind, IsOfKind}
-use Rattle.psg_grammar.specs.Paths.{change_at, IsList, ended}
 use Rattle.psg_grammar.specs.Sound.{IsSound}
 use Rattle.psg_grammar.proofs.NamePlaces.{only_op}
 use Rattle.psg_grammar.proofs.SoundParts.{phylum_in}
 use Rattle.psg_cache.specs.Shaped.{HasShape, IsShaped}
-use Rattle.psg_cache.proofs.ShapedTrees.{changed_shaped, ended_shaped, fresh_shaped, kind_once, node_shaped, shape_is_kind}
 use Rattle.psg_script.specs.declared.command.Where.{Where}
-use Rattle.psg_script.specs.declared.command.Command.{Command}
-use Rattle.psg_session.specs.declared.changes.Made.{Made}
-use Rattle.psg_session.specs.declared.changes.Plan.TheVariants.{Makes as Plans}
-use Rattle.psg_session.specs.declared.editor.Editor.{Editor}
-use Rattle.psg_session.specs.declared.editor.OpenedTree.{OpenedTree}
-use Rattle.psg_session.specs.declared.finding.Found.{Found}
 use Rattle.psg_session.specs.Leaves.{GivesLeaves}
-use Rattle.psg_session.specs.PlainState.{State, Opened}
+use Rattle.psg_grammar.specs.Paths.{change_at, ended, IsList, node_at, Path, replaced}
+use Rattle.psg_tree.proofs.Walks.{change_at-agree}
+use Rattle.psg_cache.proofs.ShapedTrees.{ended_shaped, fresh_shaped, kind_once, node_shaped, shape_is_kind}
+use Rattle.psg_session.specs.declared.edits.Edit.TheVariants.{Put}
+use Rattle.psg_session.specs.declared.editor.Editor.{Editor}
+use Rattle.psg_session.specs.declared.finding.Found.{Found}
+use Rattle.psg_session.specs.Edits.{MayEdit}
+use Rattle.psg_session.specs.Outcomes.{IsFound, IsFreshAnswer}
+use Rattle.psg_session.specs.PlainState.{Opened, named_path}
 use Rattle.psg_session.specs.PlainStep.{GivesNone, IsListOf, IsOfPhylum, IsOperator, IsOther, IsWanted, end_of}
-use Rattle.psg_session.specs.Refusals.{Refusal, no_node, nothing_opened, place_of}
-use Rattle.psg_session.specs.Views.{IsEditor, IsOpenedAs, IsOpenedTree, Represents}
-use Rattle.psg_session.specs.Outcomes.{IsFound, IsFreshAnswer, IsPlanShaped, NoneOf}
-use Rattle.psg_session.proofs.StepLaws.{plain, at_node, found_before, has_node, opened_is}
-
-pub some_once : {X : Type 0} (x y : X) (o : Option X) → o ≡ Some x → o ≡ Some y → x ≡ y
-some_once x y o e f = let d : Some x ≡ Some y = sym e ∙ f in cc
+use Rattle.psg_session.specs.Sessions.{IsEditor, state_of, tree_in}
+use Rattle.psg_session.proofs.EditLaws.{opened_version}
+use Rattle.psg_session.proofs.StepLaws.{at_node, has_node, path_is, some_once}
 
 -- what is known of the value of a call that went well
 pub ok_at : {X E : Type 0} (P : X → Type 0) (r : Result X E) (x : X) → r ≡ Ok x → IfOk r P → P x
@@ -129,60 +125,56 @@ module _ (def : Definition) where
       (subst (λ t. IsShaped def t (kinds.Phylum op.phylum)) (sym is)
       (fresh_shaped def sound o op leaves found gives.3))
 
--- ---- the opened fragment
-
-pub opened_shaped : (def : Definition) (e : Editor) (held : OpenedTree) → IsEditor def e → e.opened ≡ Some held
-    → IsShaped def held.note.tree held.kind
-opened_shaped def e held editor is = let h : IsOpenedTree def held = subst (IsOpenedAs def) is editor in h.shaped
+-- ---- the found node
 
 module _ (def : Definition) (e : Editor) (place : Where) (f : Found) (editor : IsEditor def e)
     (found : IsFound e place f) where
   pub found_shaped : (K : Kind) × IsShaped def f.node.now K
   found_shaped =
-      node_shaped def f.held.now.note.tree f.held.now.kind f.path.now f.node.now
-      (opened_shaped def e f.held.now editor found.held) found.node
+      node_shaped def (tree_in f.held.now.note) f.held.now.kind f.path.now f.node.now
+      (opened_version def e f.held.now editor found.held).shaped found.node
 
-  -- a change of the found node that keeps its kind
-  pub plan_shaped : (m : Made) (g : Fragment → Fragment) → m.tree ≡ change_at g f.path.now f.held.now.note.tree
-      → m.kind ≡ f.held.now.kind
-      → ((K : Kind) → IsShaped def f.node.now K → IsShaped def (g f.node.now) K) → IsPlanShaped def e (Plans m)
-  plan_shaped m g tree kind keeps = (
-    (f.held.now, found.held, sym kind),
-    subst (IsShaped def m.tree) (sym kind) (subst (λ t. IsShaped def t f.held.now.kind) (sym tree)
-        (changed_shaped def g f.held.now.note.tree f.held.now.kind f.path.now f.node.now
-        (opened_shaped def e f.held.now editor found.held) found.node keeps)),
-  )
+  -- a tree of the node's kind may be put in its place
+  pub may_put : (new : Fragment) → ((K : Kind) → IsShaped def f.node.now K → IsShaped def new K)
+      → MayEdit def (tree_in f.held.now.note) (Put f.path.now new)
+  may_put new keeps = let (K, shaped) = found_shaped in record {
+    node = f.node.now;
+    there = found.node;
+    kind = K;
+    of_kind = shape_is_kind def f.node.now K shaped;
+    shaped = keeps K shaped;
+  }
+
+-- a change of the found node is another tree in its place
+module _ (e : Editor) (def : Definition) (place : Where) (f : Found) (found : IsFound e place f)
+    (g : Fragment → Fragment) (new : Fragment) (is : new ≡ g f.node.now) where
+  pub put_is : change_at g (named_path place e.cursor) (tree_in f.held.now.note)
+      ≡ replaced f.path.now new (tree_in f.held.now.note)
+  put_is =
+      subst (λ q. change_at g q (tree_in f.held.now.note) ≡ replaced f.path.now new (tree_in f.held.now.note))
+      (sym (path_is def e place f found))
+      (change_at-agree g (λ old. new) f.path.now (tree_in f.held.now.note) f.node.now found.node (sym is))
 
 -- ---- the tests before the tree
 
-module _ (def : Definition) (e : Editor) (s : State) (same : Represents e s) (place : Where) (f : Found)
-    (found : IsFound e place f) where
-  pub same_old : (old : Opened) → s.opened ≡ Some old → old ≡ plain f.held.now
-  same_old old is = some_once old (plain f.held.now) s.opened is (opened_is def e s same place f found)
+-- the tests of an operator that is to be where one of the phylum is wanted
+module _ (def : Definition) (e : Editor) (place : Where) (f : Found) (found : IsFound e place f)
+    (sound : IsSound def) (k : Option ℕ) (p : ℕ) (wanted : IsWanted def k f.node.now p)
+    (only : (q : ℕ) → IsWanted def k f.node.now q → q ≡ p)
+    (name : Name) (args : List ℕ) (o : ℕ) (named : IsOperator def o name) where
+  abbrev Other : Opened → Fragment → Type 0
+  Other old node = (q : ℕ) (x : ℕ) → IsWanted def k node q → IsOperator def x name → IsOfPhylum def x q → ⊥
 
-  -- neither the first two tests hold nor these
-  pub early_none : (command : Command) (rest : List Refusal) → place_of command ≡ Some place
-      → NoneOf def s command rest → NoneOf def s command (nothing_opened ∷ no_node ∷ rest)
-  early_none command rest named none = let h = found_before def e s same place f found command named in
-      (h.0, (h.1.0, none))
+  pub not_other : IsOfPhylum def o p → IsOther def (state_of e) place k name → ⊥
+  not_other of h = at_node def e place f found Other h p o wanted named of
 
-  -- the tests of an operator that is to stand where one of the phylum is wanted
-  module _ (sound : IsSound def) (k : Option ℕ) (p : ℕ) (wanted : IsWanted def k f.node.now p)
-      (only : (q : ℕ) → IsWanted def k f.node.now q → q ≡ p)
-      (name : Name) (args : List ℕ) (o : ℕ) (named : IsOperator def o name) where
-    abbrev Other : Opened → Fragment → Type 0
-    Other old node = (q : ℕ) (x : ℕ) → IsWanted def k node q → IsOperator def x name → IsOfPhylum def x q → ⊥
+  pub is_other : (IsOfPhylum def o p → ⊥) → IsOther def (state_of e) place k name
+  is_other never = has_node def e place f found Other
+      (λ q x want other of. never
+      (subst (λ y. IsOfPhylum def y p) (one_operator def sound x o name other named)
+      (subst (IsOfPhylum def x) (only q want) of)))
 
-    pub not_other : IsOfPhylum def o p → IsOther def s place k name → ⊥
-    not_other of h = at_node def e s same place f found Other h p o wanted named of
-
-    pub is_other : (IsOfPhylum def o p → ⊥) → IsOther def s place k name
-    is_other never = has_node def e s same place f found Other
-        (λ q x want other of. never
-        (subst (λ y. IsOfPhylum def y p) (one_operator def sound x o name other named)
-        (subst (IsOfPhylum def x) (only q want) of)))
-
-    pub gives_none : ((leaves : List Leaf) → GivesLeaves def o args leaves → ⊥) → GivesNone def name args
-    gives_none never =
-        λ x leaves other gives. never leaves
-        (subst (λ y. GivesLeaves def y args leaves) (one_operator def sound x o name other named) gives)
+  pub gives_none : ((leaves : List Leaf) → GivesLeaves def o args leaves → ⊥) → GivesNone def name args
+  gives_none never =
+      λ x leaves other gives. never leaves
+      (subst (λ y. GivesLeaves def y args leaves) (one_operator def sound x o name other named) gives)

@@ -1,73 +1,29 @@
 -- What it is answered that a list is opened again, before its tree is tested.
-use Rattle.std.proofs.Common.{◌≡◌, ◌↔◌, ℕ, Bool, true, false, true≢false, not, IsTrue, [], ◌∷◌, Some, refl, sym, ◌∙◌, ap, subst}
+use Rattle.std.proofs.Common.{◌≡◌, ◌↔◌, inl, inr, Bool, true, false, true≢false, not, IsTrue, Some, refl, sym, ◌∙◌, ap, subst}
 use Rattle.psg_grammar.specs.declared.types.Kind.TheVariants as kinds
 use Rattle.psg_grammar.specs.declared.types.ListKind.{ListKind}
 use Rattle.psg_grammar.specs.declared.types.Kind.{Kind}
 use Rattle.psg_grammar.specs.declared.types.Definition.{Definition}
 use Rattle.psg_grammar.specs.Fragments.{Fragment}
-use Rattle.psg_grammar.specs.Paths.{change_at, ended, IsList}
+use Rattle.psg_grammar.specs.Paths.{change_at, ended, IsList, replaced}
 use Rattle.psg_cache.specs.Shaped.{IsShaped}
 use Rattle.psg_cache.proofs.ShapedTrees.{ended_shaped}
 use Rattle.psg_script.specs.declared.command.Where.{Where}
 use Rattle.psg_script.specs.declared.command.Command.TheVariants.{Reopen}
-use Rattle.psg_session.specs.declared.changes.Made.{Made}
-use Rattle.psg_session.specs.declared.changes.Plan.TheVariants.{RefusedBy, Makes as Plans}
+use Rattle.psg_session.specs.declared.changes.Listed.{Listed}
+use Rattle.psg_session.specs.declared.changes.Plan.TheVariants.{RefusedBy}
+use Rattle.psg_session.specs.declared.edits.Edit.TheVariants.{Put}
 use Rattle.psg_session.specs.declared.editor.Editor.{Editor}
 use Rattle.psg_session.specs.declared.finding.Found.{Found}
-use Rattle.psg_session.specs.declared.judging.Change.TheVariants.{Loosens}
-use Rattle.psg_session.specs.PlainState.{State, Opened, named_path}
+use Rattle.psg_session.specs.declared.judging.Trial.TheVariants.{Loosens}
+use Rattle.psg_session.specs.declared.refusal.Refusal.{Refusal}
+use Rattle.psg_session.specs.declared.refusal.Refusal.TheVariants.{NoPlace}
+use Rattle.psg_session.specs.PlainState.{Opened, named_path}
 use Rattle.psg_session.specs.PlainStep.{Gives, by_change, by_reopen, Makes, MayReopen, end_of}
-use Rattle.psg_session.specs.Refusals.{nothing_opened, no_node, no_place, wide, heavy}
-use Rattle.psg_session.specs.Views.{Represents}
-use Rattle.psg_session.specs.Outcomes.{IsFound, IsListed, IsNotFound, IsPlan, NoneOf}
-use Rattle.psg_session.proofs.StepLaws.{plain, at_node, found_before, has_node, not_found_plan, opened_is, path_is, refusal_plan}
-use Rattle.psg_session.proofs.ChangeLaws.{early_none, end_is_list, kind_is, one_list_kind, same_old}
-use Rattle.psg_session.specs.declared.changes.Listed.{Listed}
-
-module _ (def : Definition) (e : Editor) (place : Where) where
-  -- nothing is opened, or there is no node
-  pub reopen_nowhere : (n : ℕ) → IsNotFound e place n → IsPlan def e (Reopen place) Loosens (RefusedBy n)
-  reopen_nowhere n none =
-      λ s same. not_found_plan def e s same place (Reopen place) Loosens (no_place ∷ wide ∷ heavy ∷ []) n refl refl
-      none
-
-  abbrev MayNot : Opened → Fragment → Type 0
-  MayNot old node = MayReopen def node → ⊥
-
-  module _ (f : Found) (found : IsFound e place f) where
-    -- the node is no finished list that may be unfinished
-    pub reopen_refused : (MayReopen def f.node.now → ⊥) → IsPlan def e (Reopen place) Loosens (RefusedBy 7)
-    reopen_refused never =
-        λ s same. refusal_plan def s (Reopen place) Loosens (nothing_opened ∷ no_node ∷ []) (wide ∷ heavy ∷ [])
-        no_place 7 refl
-        (found_before def e s same place f found (Reopen place) refl)
-        (has_node def e s same place f found MayNot never) refl
-
-    reopened_once : (s : State) (same : Represents e s) (other : Fragment) → Gives def s (Reopen place) other
-        → other ≡ change_at (ended true) (named_path place s.cursor) f.held.now.note.tree
-    reopened_once s same other (by_change (by_reopen old opened)) =
-        ap (λ x. change_at (ended true) (named_path place s.cursor) x.tree)
-        (same_old def e s same place f found old opened)
-
-    -- the list is unfinished
-    pub reopen_made : MayReopen def f.node.now → (m : Made)
-        → m.tree ≡ change_at (ended true) f.path.now f.held.now.note.tree → m.path ≡ f.path.now
-        → IsPlan def e (Reopen place) Loosens (Plans m)
-    reopen_made may m tree path = λ s same.
-        let here : named_path place s.cursor ≡ f.path.now = path_is def e s same place f found in
-        let result : change_at (ended true) (named_path place s.cursor) f.held.now.note.tree
-        ≡ m.tree = ap (λ q. change_at (ended true) q f.held.now.note.tree) here ∙ sym tree in
-        let usual : NoneOf def s (Reopen place)
-        (no_place ∷ []) = ((λ h. at_node def e s same place f found MayNot h may), tt) in
-        record {
-          early = nothing_opened ∷ no_node ∷ no_place ∷ [];
-          tests = refl;
-          none = early_none def e s same place f found (Reopen place) (no_place ∷ []) refl usual;
-          makes = subst (λ q. Makes def s (Reopen place) m.tree q) (here ∙ sym path)
-              (subst (λ t. Makes def s (Reopen place) t (named_path place s.cursor)) result
-              (by_reopen (plain f.held.now) (opened_is def e s same place f found)));
-          only = λ other given. reopened_once s same other given ∙ result;
-        }
+use Rattle.psg_session.specs.Outcomes.{IsFound, IsListed, IsMade, IsNotFound, IsPlan, made_of}
+use Rattle.psg_session.specs.Sessions.{IsEditor, plain, state_of, tree_in}
+use Rattle.psg_session.proofs.StepLaws.{at_node, has_node, is_opened, is_there, nowhere, opened_is, path_is, same_old}
+use Rattle.psg_session.proofs.ChangeLaws.{end_is_list, kind_is, may_put, one_list_kind, put_is}
 
 -- a list that may be unfinished stays of its kind
 pub reopen_keeps : (def : Definition) (node : Fragment) → MayReopen def node → (K : Kind) → IsShaped def node K
@@ -76,6 +32,45 @@ reopen_keeps def node (own, (l, of, at), may, ends) K shaped =
     let is : K ≡ kinds.List l = kind_is def node K (kinds.List l) shaped of in
     subst (IsShaped def (ended true node)) (sym is)
     (ended_shaped def true node l own (subst (IsShaped def node) is shaped) at (λ e. may))
+
+module _ (def : Definition) (e : Editor) (place : Where) where
+  -- nothing is opened, or there is no node
+  pub reopen_nowhere : (r : Refusal) → IsNotFound e place r → IsPlan def e (Reopen place) (RefusedBy r)
+  reopen_nowhere r none = nowhere def e place r none
+
+  abbrev MayNot : Opened → Fragment → Type 0
+  MayNot old node = MayReopen def node → ⊥
+
+  module _ (f : Found) (found : IsFound e place f) where
+    -- the node is no finished list that may be unfinished
+    pub reopen_refused : (MayReopen def f.node.now → ⊥) → IsPlan def e (Reopen place) (RefusedBy NoPlace)
+    reopen_refused never = inr (is_opened def e place f found, inr (is_there def e place f found,
+        inl (has_node def e place f found MayNot never, refl)))
+
+    reopened_once : (other : Fragment) → Gives def (state_of e) (Reopen place) other
+        → other ≡ change_at (ended true) (named_path place e.cursor) (tree_in f.held.now.note)
+    reopened_once other (by_change (by_reopen old opened)) =
+        ap (λ x. change_at (ended true) (named_path place e.cursor) x.tree) (same_old def e place f found old opened)
+
+    -- the list is unfinished
+    pub reopen_made : IsEditor def e → MayReopen def f.node.now → (new : Fragment) → new ≡ ended true f.node.now
+        → IsMade def e (Reopen place) (made_of Loosens (Put f.path.now new) f.path.now)
+    reopen_made editor may new is =
+        let result = put_is e def place f found (ended true) new is in
+        record {
+          held = f.held.now;
+          opened = found.held;
+          may = may_put def e place f editor found new
+              (λ K shaped. subst (λ t. IsShaped def t K) (sym is) (reopen_keeps def f.node.now may K shaped));
+          makes = subst (λ q. Makes def (state_of e) (Reopen place) (replaced f.path.now new (tree_in f.held.now.note)) q) (path_is def e place f found)
+              (subst (λ t. Makes def (state_of e) (Reopen place) t (named_path place e.cursor)) result
+              (by_reopen (plain f.held.now) (opened_is def e place f found)));
+          only = λ other given. reopened_once other given ∙ result;
+          refused = λ r h. inr (is_opened def e place f found, inr (is_there def e place f found,
+              inr ((λ h'. at_node def e place f found MayNot h' may), h)));
+          taken = λ h. (is_opened def e place f found, (is_there def e place f found,
+              ((λ h'. at_node def e place f found MayNot h' may), h)));
+        }
 
 not_unfinished : (b : Bool) → IsTrue (not b) → b ≡ false
 not_unfinished true h = absurd (true≢false (sym h))

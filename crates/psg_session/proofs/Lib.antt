@@ -1,6 +1,11 @@
 pub mod Options
 pub mod StepLaws
+pub mod EditLaws
+pub mod Ticking
 pub mod Carrying
+pub mod Settling
+pub mod Applying
+pub mod Unbuilt
 pub mod Opening
 pub mod Verdicts
 pub mod Cutting

@@ -1,6 +1,5 @@
 -- A command has one step.
-use Rattle.std.proofs.Common.{◌≡◌, inl, inr, ℕ, true, false, List, [], ◌∷◌, map, chars, Option, Some, None, slice_get, refl, sym, ◌∙◌, ap, subst}
-use Rattle.std.proofs.lemmas.Bool.{cases_order}
+use Rattle.std.proofs.Common.{◌≡◌, inl, inr, ℕ, true, false, List, [], ◌∷◌, map, chars, Option, Some, None, refl, sym, ◌∙◌, ap, subst}
 use Rattle.psg_terms.specs.Names.{Name}
 use Rattle.psg_terms.specs.Terms.{Term}
 use Rattle.psg_grammar.specs.declared.types.Kind.{Kind}
@@ -23,9 +22,12 @@ use Rattle.psg_script.specs.declared.command.Command.TheVariants.{Own, Free}
 use Rattle.psg_session.specs.Answers.{free_names, names_line, rows_lines}
 use Rattle.psg_session.specs.Leaves.{given, GivesLeaves}
 use Rattle.psg_session.specs.PlainState.{State, Opened, Answer, named_path, with_new, with_change}
-use Rattle.psg_session.specs.Refusals.{Refusal, number_of, tests_of}
+use Rattle.psg_session.specs.declared.refusal.Refusal.{Refusal}
+use Rattle.psg_session.specs.Laws.{HasOneStep}
+use Rattle.psg_session.specs.Refusals.{Tests, done, test, Refuses, Passes}
+use Rattle.psg_session.proofs.StepLaws.{some_once}
 use Rattle.psg_session.specs.Replies.{Reply, refused, answered, marked, shown}
-use Rattle.psg_session.specs.PlainStep.{HasName, IsOperator, Makes, by_refine, by_insert, by_cut, by_remove, by_close, by_reopen, IsRefused, IsTaken, Steps, refuses, opens, changes, shows, owns, frees}
+use Rattle.psg_session.specs.PlainStep.{HasName, IsOperator, Makes, by_refine, by_insert, by_cut, by_remove, by_close, by_reopen, tests, IsRefused, IsTaken, Steps, refuses, opens, changes, shows, owns, frees}
 use Rattle.psg_session.proofs.RowLines.{relation_lines}
 
 -- ---- marks
@@ -48,8 +50,17 @@ mark_once IsGood f (wrong paths) (wrong others) h g =
 
 -- ---- steps
 
-some_once : {X : Type 0} (x y : X) (o : Option X) → o ≡ Some x → o ≡ Some y → x ≡ y
-some_once x y o e f = let d : Some x ≡ Some y = sym e ∙ f in cc
+refuses_once : (ts : Tests) (q r : Refusal) → Refuses ts q → Refuses ts r → q ≡ r
+refuses_once done q r h g = absurd h
+refuses_once (test x holds rest) q r (inl (h, e)) (inl (g, d)) = sym e ∙ d
+refuses_once (test x holds rest) q r (inl (h, e)) (inr (n, g)) = absurd (n h)
+refuses_once (test x holds rest) q r (inr (n, h)) (inl (g, d)) = absurd (n g)
+refuses_once (test x holds rest) q r (inr (n, h)) (inr (m, g)) = refuses_once rest q r h g
+
+passes_not : (ts : Tests) (r : Refusal) → Passes ts → Refuses ts r → ⊥
+passes_not done r h g = g
+passes_not (test x holds rest) r (n, h) (inl (g, e)) = n g
+passes_not (test x holds rest) r (n, h) (inr (m, g)) = passes_not rest r h g
 
 -- ---- names and literals
 
@@ -73,16 +84,11 @@ module _ (def : Definition) (IsGood : Fragment → Type 0) (s : State) (answer :
   -- the first test that holds is one
   refusal_once : (command : Command) (r q : Refusal) → IsRefused def IsGood s answer command r
       → IsRefused def IsGood s answer command q → r ≡ q
-  refusal_once command r q h g = elim (cases_order h.number g.number) as (λ _. r ≡ q) [
-    | inl same ↦ some_once r q (slice_get (tests_of command) g.number)
-        (subst (λ n. slice_get (tests_of command) n ≡ Some r) same h.test) g.test
-    | inr (inl before) ↦ absurd (g.first h.number r before h.test h.holds)
-    | inr (inr behind) ↦ absurd (h.first g.number q behind g.test g.holds)
-  ]
+  refusal_once command = refuses_once (tests def IsGood s answer command)
 
   not_both : (command : Command) (r : Refusal) → IsTaken def IsGood s answer command
       → IsRefused def IsGood s answer command r → ⊥
-  not_both command r taken_is h = taken_is h.number r h.test h.holds
+  not_both command r taken_is h = passes_not (tests def IsGood s answer command) r taken_is h
 
   module _ (sound : IsSound def) where
     kind_once : (a b : Kind) (name : Name) → HasName def a name → HasName def b name → a ≡ b
@@ -163,7 +169,7 @@ module _ (def : Definition) (IsGood : Fragment → Type 0) (s : State) (answer :
         → Steps def IsGood s answer command t reply → Steps def IsGood s answer command u other
         → (t ≡ u) × (reply ≡ other)
     step_once (refuses {command = command} {r = r} h) (refuses {r = q} g) =
-        (refl, ap (λ x. refused (number_of x)) (refusal_once command r q h g))
+        (refl, ap refused (refusal_once command r q h g))
     step_once (refuses {command = command} {r = r} h) (opens kind mark taken_is named is_mark) =
         absurd (not_both command r taken_is h)
     step_once (refuses {command = command} {r = r} h) (changes old mark taken_is opened makes is_mark) =
@@ -229,3 +235,7 @@ module _ (def : Definition) (IsGood : Fragment → Type 0) (s : State) (answer :
       ap (λ (x : Opened). answered (names_line (free_names def x.tree) ∷ []))
           (some_once old old' s.opened opened opened'),
     )
+
+-- a command has at most one step
+pub has_one_step : (def : Definition) (IsGood : Fragment → Type 0) → IsSound def → HasOneStep def IsGood
+has_one_step def IsGood sound s t u answer command reply other h g = step_once def IsGood s answer sound h g

@@ -7,7 +7,7 @@ use Rattle.psg_tree.specs.declared.places.TreeFault.{TreeFault}
 use Rattle.psg_tree.specs.declared.places.TreeFault.TheVariants as faults
 use Rattle.psg_tree.specs.Edits.{IsInsertFault, IsRemoveFault, IsSetFault}
 use Rattle.psg_tree.specs.Faults.{IsReplaceFault}
-use Rattle.psg_session.proofs.ChangeLaws.{some_once}
+use Rattle.psg_session.proofs.StepLaws.{some_once}
 
 only_memory : {X : Type 0} (P : TreeFault → Type 0) → ((x : TreeFault) → P x → x ≡ faults.Memory) → (r : Result X TreeFault)
     → IfErr r P → (x : TreeFault) → r ≡ Err x → x ≡ faults.Memory

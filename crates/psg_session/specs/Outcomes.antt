@@ -1,135 +1,159 @@
 -- What the parts of a step answer.
-use Rattle.std.specs.Prelude.{ℕ, ◌≡◌, ◌⊎◌, List, [], ◌∷◌, ◌++◌, length, Some, None, Result, Ok, Err}
+use Rattle.std.specs.Prelude.{ℕ, ◌≡◌, ◌⊎◌, ◌+◌, ◌≤◌, List, [], ◌∷◌, ◌++◌, length, Some, None, Option, Result, Ok, Err, take}
 use Rattle.psg_terms.specs.Names.{Name}
-use Rattle.psg_grammar.specs.declared.types.Kind.{Kind}
 use Rattle.psg_grammar.specs.declared.types.Definition.{Definition}
 use Rattle.psg_grammar.specs.Fragments.{Fragment, children_of}
 use Rattle.psg_grammar.specs.Insertion.{Leaf, fresh_operator}
-use Rattle.psg_grammar.specs.Marks.{IsMark}
 use Rattle.psg_grammar.specs.Paths.{Path, node_at, IsList}
-use Rattle.psg_grammar.specs.Sizes.{IsBig, IsDeep}
-use Rattle.psg_grammar.specs.Steps.{IsWide, IsHeavy}
-use Rattle.psg_cache.specs.Shaped.{IsShaped}
+use Rattle.psg_cache.specs.Notes.{IsNoteOf, IsNoteFault}
+use Rattle.psg_cache.specs.declared.note.Noted.{Noted}
 use Rattle.psg_cache.specs.declared.note.NoteFault.{NoteFault}
 use Rattle.psg_cache.specs.declared.note.NoteFault.TheVariants as faults
+use Rattle.psg_history.specs.declared.history.TheConstants.{VERSIONS}
 use Rattle.psg_script.specs.declared.command.Command.{Command}
-use Rattle.psg_script.specs.declared.command.Command.TheVariants.{Refine, Insert, Cut, Remove, Close, Reopen}
+use Rattle.psg_script.specs.declared.command.Command.TheVariants.{New, Refine, Insert, Cut, Remove, Close, Reopen, Show, Own, Free}
 use Rattle.psg_script.specs.declared.command.Where.{Where}
 use Rattle.psg_session.specs.declared.editor.OpenedTree.{OpenedTree}
 use Rattle.psg_session.specs.declared.editor.Editor.{Editor}
 use Rattle.psg_session.specs.declared.editor.Outcome.{Outcome}
-use Rattle.psg_session.specs.declared.editor.Outcome.TheVariants.{Stays, Becomes}
+use Rattle.psg_session.specs.declared.editor.Outcome.TheVariants.{Stays, Opens as OpensTree, Changes}
 use Rattle.psg_session.specs.declared.finding.Found.{Found}
-use Rattle.psg_session.specs.declared.judging.Change.{Change}
-use Rattle.psg_session.specs.declared.judging.Change.TheVariants.{Opens, Grows, Closes, Loosens}
+use Rattle.psg_session.specs.declared.judging.Trial.{Trial}
+use Rattle.psg_session.specs.declared.judging.Trial.TheVariants.{Opens, Grows, Closes, Loosens}
 use Rattle.psg_session.specs.declared.changes.Listed.{Listed}
 use Rattle.psg_session.specs.declared.changes.Made.{Made}
 use Rattle.psg_session.specs.declared.changes.Plan.{Plan}
 use Rattle.psg_session.specs.declared.changes.Plan.TheVariants.{RefusedBy, Makes as Plans}
+use Rattle.psg_session.specs.declared.refusal.Refusal.{Refusal}
+use Rattle.psg_session.specs.declared.refusal.Refusal.TheVariants.{NoNode, NothingOpened, TooBig, TooDeep, TooHeavy, TooWide, Unknown, OtherPhylum, BadArguments}
 use Rattle.psg_session.specs.declared.replies.Reply.{Reply}
-use Rattle.psg_session.specs.declared.replies.Reply.TheVariants.{Refused, Marked}
+use Rattle.psg_session.specs.declared.replies.Reply.TheVariants.{Marked}
+use Rattle.psg_session.specs.declared.edits.Edit.{Edit}
+use Rattle.psg_session.specs.Edits.{MayEdit, edited}
 use Rattle.psg_session.specs.Good.{IsGoodIn}
-use Rattle.psg_session.specs.PlainState.{State, not_asked, named_path}
+use Rattle.psg_session.specs.PlainState.{Answer, Opened, State, not_asked, named_path, with_change}
 use Rattle.psg_session.specs.Leaves.{GivesLeaves}
-use Rattle.psg_session.specs.PlainStep.{Applies, Gives, IsRefused, Makes, IsOperator, IsOfPhylum, IsListOf, end_of}
-use Rattle.psg_session.specs.Refusals.{Refusal, number_of, deep, big, wide, heavy, inadmissible, tests_of}
-use Rattle.psg_session.specs.Views.{mark_of, reply_of, Represents, IsEditor, Follows}
+use Rattle.psg_session.specs.PlainStep.{Gives, IsRefused, IsTaken, Makes, IsOperator, IsOfPhylum, IsListOf, OfResult, Steps, end_of, opening, growing, closing, loosening}
+use Rattle.psg_session.specs.Refusals.{Tests, Refuses, Passes}
+use Rattle.psg_session.specs.Sessions.{IsVersion, opened_of, plain, state_of, tree_in}
+use Rattle.psg_session.specs.Views.{reply_of}
 
--- the editor that follows the old one, and the reply
-abbrev pub IsSettled : Outcome → Editor → Editor → Reply → Type 0
-IsSettled (Stays reply) old new r = (new ≡ old) × (r ≡ reply)
-IsSettled (Becomes editor reply) old new r = (new ≡ editor) × (r ≡ reply)
+-- ---- what a command does to the editor
 
--- the editor stays or is followed by another one, as the plain editor's state is
-abbrev pub IsOutcome : Definition → Editor → Command → Outcome → Type 0
-IsOutcome def old command (Stays reply) = Follows def old command old (reply_of reply)
-IsOutcome def old command (Becomes new reply) = Follows def old command new (reply_of reply) × IsEditor def new
+-- the state with another tree of the opened kind; where nothing is opened it stays
+abbrev pub changed : State → Option Opened → Fragment → Path → State
+changed s None tree path = s
+changed s (Some old) tree path = with_change s old tree path
+
+-- the plain state after the command
+abbrev pub after : Editor → Outcome → State
+after e (Stays reply) = state_of e
+after e (OpensTree held cursor mark) =
+    record { opened = Some (plain held); cursor = cursor; earlier = []; later = []; saved = [] }
+after e (Changes note cursor mark) = changed (state_of e) (opened_of e.opened) (tree_in note) cursor
+
+abbrev pub reply_in : Outcome → Reply
+reply_in (Stays reply) = reply
+reply_in (OpensTree held cursor mark) = Marked mark
+reply_in (Changes note cursor mark) = Marked mark
+
+-- the editor stays
+abbrev pub IsStay : Outcome → Type 0
+IsStay (Stays reply) = Unit {0}
+IsStay (OpensTree held cursor mark) = ⊥
+IsStay (Changes note cursor mark) = ⊥
+
+-- a new version is one of the opened tree's kind
+abbrev pub IsFit : Definition → Option OpenedTree → Outcome → Type 0
+IsFit def opened (Stays reply) = Unit {0}
+IsFit def opened (OpensTree held cursor mark) = IsVersion def held.kind held.note
+IsFit def None (Changes note cursor mark) = ⊥
+IsFit def (Some held) (Changes note cursor mark) = IsVersion def held.kind note
+
+-- the plain editor takes this step, with this answer of the files
+pub record IsOutcome (def : Definition) (e : Editor) (answer : Answer) (command : Command) (outcome : Outcome) : Type 0 where
+  pub steps : Steps def (IsGoodIn def) (state_of e) answer command (after e outcome) (reply_of (reply_in outcome))
+  pub fit : IsFit def e.opened outcome
+
+-- the editor went on with another version of the opened fragment; where nothing was opened it stays
+abbrev pub IsGoneOn : Editor → Editor → Noted → Path → Type 0
+IsGoneOn old new note cursor =
+    ((old.opened ≡ None) × (new ≡ old))
+    ⊎ ((held : OpenedTree) × (old.opened ≡ Some held)
+    × (new.opened ≡ Some (record { kind = held.kind; note = note })) × (new.cursor ≡ cursor)
+    × (new.history.earlier ≡ take VERSIONS (held.note ∷ old.history.earlier)) × (new.history.later ≡ []))
+
+-- ---- the node that a command names
 
 -- the node of the place in the opened fragment
 pub record IsFound (e : Editor) (place : Where) (f : Found) : Type 0 where
   pub held : e.opened ≡ Some f.held.now
   pub path : f.path.now ≡ named_path place e.cursor
-  pub node : node_at f.held.now.note.tree f.path.now ≡ Some f.node.now
+  pub node : node_at (tree_in f.held.now.note) f.path.now ≡ Some f.node.now
 
 -- nothing is opened, or there is no node at the place
-abbrev pub IsNotFound : Editor → Where → ℕ → Type 0
-IsNotFound e place n =
-    ((n ≡ 22) × (e.opened ≡ None))
-    ⊎ ((n ≡ 2) × (held : OpenedTree) × (e.opened ≡ Some held) × (node_at held.note.tree (named_path place e.cursor) ≡ None))
+abbrev pub IsNotFound : Editor → Where → Refusal → Type 0
+IsNotFound e place r =
+    ((r ≡ NothingOpened) × (e.opened ≡ None))
+    ⊎ ((r ≡ NoNode) × (held : OpenedTree) × (e.opened ≡ Some held)
+    × (node_at (tree_in held.note) (named_path place e.cursor) ≡ None))
 
--- the tests that a change's tree is put to, in their order
-abbrev pub late_tests : Change → List Refusal
-late_tests Opens = wide ∷ []
-late_tests Grows = deep ∷ big ∷ wide ∷ heavy ∷ inadmissible ∷ []
-late_tests Closes = wide ∷ heavy ∷ inadmissible ∷ []
-late_tests Loosens = wide ∷ heavy ∷ []
+-- ---- the tests of a tree
 
--- the tree fails the test
-abbrev pub Fails : Definition → Fragment → Refusal → Type 0
-Fails def f deep = IsDeep f
-Fails def f big = IsBig f
-Fails def f wide = IsWide def f
-Fails def f heavy = IsHeavy def f
-Fails def f inadmissible = IsGoodIn def f → ⊥
-Fails def f _ = ⊥
+-- the tests of what a change gives, where `Of` says that this has a property
+abbrev pub tree_tests : Definition → Trial → ((Fragment → Type 0) → Type 0) → Tests
+tree_tests def Opens Of = opening def (IsGoodIn def) Of
+tree_tests def Grows Of = growing def (IsGoodIn def) Of
+tree_tests def Closes Of = closing def (IsGoodIn def) Of
+tree_tests def Loosens Of = loosening def (IsGoodIn def) Of
 
-abbrev pub PassesAll : Definition → Fragment → List Refusal → Type 0
-PassesAll def f [] = Unit {0}
-PassesAll def f (r ∷ rs) = (Fails def f r → ⊥) × PassesAll def f rs
+-- the tree's note, or why there is none
+abbrev pub IsNoted : Definition → Fragment → Result Noted NoteFault → Type 0
+IsNoted def f (Ok note) = IsNoteOf def f note
+IsNoted def f (Err fault) = IsNoteFault def f fault
 
--- it fails the test r of these and passes those before it
-abbrev pub FailsFirst : Definition → Fragment → List Refusal → Refusal → Type 0
-FailsFirst def f tests r = (before : List Refusal) × (behind : List Refusal) × (tests ≡ before ++ r ∷ behind) × PassesAll def f before × Fails def f r
-
--- The tree is refused by the first test that it fails. Where it passes all, it is the opened one of the new editor, with its mark.
-abbrev pub IsJudged : Definition → Change → Kind → Fragment → Path → Outcome → Type 0
-IsJudged def change kind tree path (Stays (Refused n)) = (r : Refusal) × FailsFirst def tree (late_tests change) r × (n ≡ number_of r)
-IsJudged def change kind tree path (Becomes new (Marked mark)) =
-    PassesAll def tree (late_tests change) × IsMark def tree (mark_of mark) × IsEditor def new
-    × ((held : OpenedTree) × (new.opened ≡ Some held) × (held.kind ≡ kind) × (held.note.tree ≡ tree)) × (new.cursor ≡ path)
-IsJudged def change kind tree path _ = ⊥
-
--- none of the tests holds in the state
-abbrev pub NoneOf : Definition → State → Command → List Refusal → Type 0
-NoneOf def s command [] = Unit {0}
-NoneOf def s command (r ∷ rs) = (Applies def (IsGoodIn def) s not_asked command r → ⊥) × NoneOf def s command rs
-
--- what a command makes, and nothing else, where none of its tests holds but perhaps those of its tree
-pub record IsMade (def : Definition) (s : State) (command : Command) (change : Change) (m : Made) : Type 0 where
-  pub early : List Refusal
-  pub tests : tests_of command ≡ early ++ late_tests change
-  pub none : NoneOf def s command early
-  pub makes : Makes def s command m.tree m.path
-  pub only : (tree : Fragment) → Gives def s command tree → tree ≡ m.tree
-
--- the refusal of the first test that holds, or what the command makes
-abbrev pub IsPlanIn : Definition → State → Command → Change → Plan → Type 0
-IsPlanIn def s command change (RefusedBy n) = (r : Refusal) × IsRefused def (IsGoodIn def) s not_asked command r × (n ≡ number_of r)
-IsPlanIn def s command change (Plans m) = IsMade def s command change m
-
--- in each plain state that the editor stands for
-abbrev pub IsPlan : Definition → Editor → Command → Change → Plan → Type 0
-IsPlan def e command change plan = (s : State) → Represents e s → IsPlanIn def s command change plan
-
--- the tree is one of the opened one's kind
-abbrev pub IsPlanShaped : Definition → Editor → Plan → Type 0
-IsPlanShaped def e (RefusedBy n) = Unit {0}
-IsPlanShaped def e (Plans m) = ((held : OpenedTree) × (e.opened ≡ Some held) × (held.kind ≡ m.kind)) × IsShaped def m.tree m.kind
+-- the note of the tree, which passes all tests; or the refusal of the first test that it fails
+abbrev pub IsJudged : Definition → Trial → Fragment → Result Noted Refusal → Type 0
+IsJudged def trial f (Ok note) = IsNoteOf def f note × Passes (tree_tests def trial (λ P. P f))
+IsJudged def trial f (Err r) = Refuses (tree_tests def trial (λ P. P f)) r
 
 -- the refusal of a tree whose note has this fault
-abbrev pub IsRefusalOf : Change → NoteFault → ℕ → Type 0
-IsRefusalOf change faults.Deep n = (change ≡ Grows) × (n ≡ number_of deep)
-IsRefusalOf change faults.Big n = (change ≡ Grows) × (n ≡ number_of big)
-IsRefusalOf change (faults.Wide path step) n = n ≡ number_of wide
-IsRefusalOf change faults.Heavy n = (change ≡ Opens → ⊥) × (n ≡ number_of heavy)
-IsRefusalOf change faults.Memory n = ⊥
+abbrev pub IsRefusalOf : Trial → NoteFault → Refusal → Type 0
+IsRefusalOf trial faults.Deep r = (trial ≡ Grows) × (r ≡ TooDeep)
+IsRefusalOf trial faults.Big r = (trial ≡ Grows) × (r ≡ TooBig)
+IsRefusalOf trial (faults.Wide path step) r = r ≡ TooWide
+IsRefusalOf trial faults.Heavy r = (trial ≡ Opens → ⊥) × (r ≡ TooHeavy)
+IsRefusalOf trial faults.Memory r = ⊥
 
--- the change must leave an open fragment
-abbrev pub MustBeOpen : Change → Type 0
-MustBeOpen Opens = ⊥
-MustBeOpen Grows = Unit {0}
-MustBeOpen Closes = Unit {0}
-MustBeOpen Loosens = ⊥
+-- the change must leave a good fragment
+abbrev pub MustBeGood : Trial → Type 0
+MustBeGood Opens = ⊥
+MustBeGood Grows = Unit {0}
+MustBeGood Closes = Unit {0}
+MustBeGood Loosens = ⊥
+
+-- ---- plans
+
+abbrev pub made_of : Trial → Edit → Path → Made
+made_of trial edit cursor = record { trial = trial; edit = edit; cursor = cursor }
+
+-- A change of the opened tree that is what the command makes, and nothing else; none of the command's tests holds but
+-- perhaps those of its tree.
+pub record IsMade (def : Definition) (e : Editor) (command : Command) (m : Made) : Type 0 where
+  pub held : OpenedTree
+  pub opened : e.opened ≡ Some held
+  pub may : MayEdit def (tree_in held.note) m.edit
+  pub makes : Makes def (state_of e) command (edited m.edit (tree_in held.note)) m.cursor
+  pub only : (tree : Fragment) → Gives def (state_of e) command tree → tree ≡ edited m.edit (tree_in held.note)
+  pub refused : (r : Refusal) → Refuses (tree_tests def m.trial (OfResult def (state_of e) command)) r
+      → IsRefused def (IsGoodIn def) (state_of e) not_asked command r
+  pub taken : Passes (tree_tests def m.trial (OfResult def (state_of e) command))
+      → IsTaken def (IsGoodIn def) (state_of e) not_asked command
+
+-- the refusal of the first test that holds, or what the command makes
+abbrev pub IsPlan : Definition → Editor → Command → Plan → Type 0
+IsPlan def e command (RefusedBy r) = IsRefused def (IsGoodIn def) (state_of e) not_asked command r
+IsPlan def e command (Plans m) = IsMade def e command m
 
 -- the list with what is told of it: its kind, how many elements it has, and whether it is unfinished
 pub record IsListed (def : Definition) (node : Fragment) (l : Listed) : Type 0 where
@@ -139,13 +163,15 @@ pub record IsListed (def : Definition) (node : Fragment) (l : Listed) : Type 0 w
   pub is_list : IsList node
 
 -- the operator with its names and literals; or why there is none, where one of the phylum is wanted
-abbrev pub IsFreshAnswer : Definition → ℕ → Name → List ℕ → Result Fragment ℕ → Type 0
+abbrev pub IsFreshAnswer : Definition → ℕ → Name → List ℕ → Result Fragment Refusal → Type 0
 IsFreshAnswer def p name args (Ok fresh) =
-    (o : ℕ) × (leaves : List Leaf) × IsOperator def o name × IsOfPhylum def o p × GivesLeaves def o args leaves × (fresh ≡ fresh_operator def o leaves)
-IsFreshAnswer def p name args (Err n) =
-    ((n ≡ 4) × ((o : ℕ) → IsOperator def o name → ⊥))
-    ⊎ ((n ≡ 5) × (o : ℕ) × IsOperator def o name × (IsOfPhylum def o p → ⊥))
-    ⊎ ((n ≡ 6) × (o : ℕ) × IsOperator def o name × IsOfPhylum def o p × ((leaves : List Leaf) → GivesLeaves def o args leaves → ⊥))
+    (o : ℕ) × (leaves : List Leaf) × IsOperator def o name × IsOfPhylum def o p × GivesLeaves def o args leaves
+    × (fresh ≡ fresh_operator def o leaves)
+IsFreshAnswer def p name args (Err r) =
+    ((r ≡ Unknown) × ((o : ℕ) → IsOperator def o name → ⊥))
+    ⊎ ((r ≡ OtherPhylum) × (o : ℕ) × IsOperator def o name × (IsOfPhylum def o p → ⊥))
+    ⊎ ((r ≡ BadArguments) × (o : ℕ) × IsOperator def o name × IsOfPhylum def o p
+    × ((leaves : List Leaf) → GivesLeaves def o args leaves → ⊥))
 
 -- the commands that change the opened fragment
 abbrev pub IsChanging : Command → Type 0
@@ -156,3 +182,11 @@ IsChanging (Remove place k) = Unit {0}
 IsChanging (Close place) = Unit {0}
 IsChanging (Reopen place) = Unit {0}
 IsChanging _ = ⊥
+
+-- the commands that neither open a fragment nor ask about it
+abbrev pub IsElse : Command → Type 0
+IsElse (New name) = ⊥
+IsElse Show = ⊥
+IsElse (Own place) = ⊥
+IsElse Free = ⊥
+IsElse _ = Unit {0}

@@ -20,26 +20,14 @@ use Rattle.psg_grammar.specs.Marks.{Mark, IsMarkBy}
 use Rattle.psg_tree.specs.AbstractText.{abstract_text}
 use Rattle.psg_script.specs.declared.command.Where.{Where}
 use Rattle.psg_script.specs.declared.command.Command.{Command}
-use Rattle.psg_script.specs.declared.command.Command.TheVariants.{New, Refine, Insert, Cut, Remove, Close, Reopen, Show, Own, Free}
+use Rattle.psg_script.specs.declared.command.Command.TheVariants.{New, Goto, Refine, Insert, Cut, Remove, Close, Reopen, Over, Range, Show, Screen, Relation, Own, Menu, Names, Free, Undo, Redo, Save, Paste, Keep, Fetch}
 use Rattle.psg_session.specs.PlainState.{State, Opened, Answer, named_path, with_new, with_change}
-use Rattle.psg_session.specs.Refusals.{Refusal, no_node, not_hole, unknown, other_phylum, arguments, no_place, big, deep, wide, heavy, inadmissible, no_placeholder_here, nothing_opened, number_of, tests_of, place_of}
+use Rattle.psg_session.specs.declared.refusal.Refusal.{Refusal}
+use Rattle.psg_session.specs.declared.refusal.Refusal.TheVariants.{NoCommand, NoNode, NotHole, Unknown, OtherPhylum, BadArguments, NoPlace, TooBig, TooDeep, TooWide, TooHeavy, Inadmissible, NoTokens, NoTree, NothingEarlier, NothingLater, NoFragment, ShelfFault, KeptUnreadable, NoRange, NoPlaceholder, NothingOpened, ShelfFull}
+use Rattle.psg_session.specs.Refusals.{Tests, done, test, Refuses, Passes, place_test}
 use Rattle.psg_session.specs.Replies.{Reply, refused, answered, marked, shown}
 use Rattle.psg_session.specs.Leaves.{GivesLeaves}
 use Rattle.psg_session.specs.Answers.{rows_lines, free_names, names_line}
-
--- The commands that the editor has so far. A line with another one counts as a line without a command.
-abbrev pub IsBuilt : Command → Type 0
-IsBuilt (New name) = Unit {0}
-IsBuilt (Refine place op args) = Unit {0}
-IsBuilt (Insert place k op args) = Unit {0}
-IsBuilt (Cut place) = Unit {0}
-IsBuilt (Remove place k) = Unit {0}
-IsBuilt (Close place) = Unit {0}
-IsBuilt (Reopen place) = Unit {0}
-IsBuilt Show = Unit {0}
-IsBuilt (Own place) = Unit {0}
-IsBuilt Free = Unit {0}
-IsBuilt _ = ⊥
 
 -- how a list ends, finished or not; no other node has an end
 abbrev pub end_of : Fragment → Option Bool
@@ -117,57 +105,130 @@ module _ (def : Definition) where
   abbrev pub OfResult : State → Command → (Fragment → Type 0) → Type 0
   OfResult s command P = (tree : Fragment) × Gives s command tree × P tree
 
--- The step of a definition's editor, for what counts as good: the mark says where a fragment isn't good, and a change that
--- makes one that isn't is refused.
+-- The tests of a definition's editor, for what counts as good.
 module _ (def : Definition) (IsGood : Fragment → Type 0) where
-  -- When a test holds, where none before it does. The clauses of 8, 9, 10, 11 and 12 speak of what the command gives; a command
-  -- with causes of its own for one of them gets a clause in front. A test without a clause never holds so far.
-  abbrev pub Applies : State → Answer → Command → Refusal → Type 0
-  Applies s answer command nothing_opened = s.opened ≡ None
-  Applies s answer command no_node = (place : Where) × (place_of command ≡ Some place) × IsNoNode def s place
-  Applies s answer (New name) unknown = (kind : Kind) → HasName def kind name → ⊥
-  Applies s answer (New name) no_placeholder_here = (kind : Kind) × HasName def kind name × IsDeclaringPhylum def kind
-  Applies s answer (Refine place name args) not_hole = AtNode def s place (λ old node. (p : ℕ) → node ≡ hole p → ⊥)
-  Applies s answer (Refine place name args) unknown = (o : ℕ) → IsOperator def o name → ⊥
-  Applies s answer (Refine place name args) other_phylum = IsOther def s place None name
-  Applies s answer (Refine place name args) arguments = GivesNone def name args
-  Applies s answer (Insert place k name args) no_place = AtNode def s place (λ old node. (IsList node → ⊥) ⊎ (length (children_of node) < k))
-  Applies s answer (Insert place k name args) unknown = (o : ℕ) → IsOperator def o name → ⊥
-  Applies s answer (Insert place k name args) other_phylum = IsOther def s place (Some k) name
-  Applies s answer (Insert place k name args) arguments = GivesNone def name args
-  Applies s answer (Cut place) no_placeholder_here = AtNode def s place (λ old node. (kind : Kind) × IsOfKind def node kind × IsDeclaringPhylum def kind)
-  Applies s answer (Remove place k) no_place = AtNode def s place (λ old node. (IsList node → ⊥) ⊎ (length (children_of node) ≤ k))
-  Applies s answer (Close place) no_place = AtNode def s place (λ old node. end_of node ≡ Some true → ⊥)
-  Applies s answer (Reopen place) no_place = AtNode def s place (λ old node. MayReopen def node → ⊥)
-  Applies s answer command deep = OfResult def s command IsDeep
-  Applies s answer command big = OfResult def s command IsBig
-  Applies s answer command wide = OfResult def s command (IsWide def)
-  Applies s answer command heavy = OfResult def s command (IsHeavy def)
-  Applies s answer command inadmissible = OfResult def s command (λ f. IsGood f → ⊥)
-  Applies s answer command _ = ⊥
+  -- The tests of the tree that a command gives. `Of` says that this tree has a property.
+  abbrev pub opening : ((Fragment → Type 0) → Type 0) → Tests
+  opening Of = test TooWide (Of (IsWide def)) done
 
-  -- the first test that holds
-  pub record IsRefused (s : State) (answer : Answer) (command : Command) (r : Refusal) : Type 0 where
-    pub number : ℕ
-    pub test : slice_get (tests_of command) number ≡ Some r
-    pub holds : Applies s answer command r
-    pub first : (k : ℕ) (other : Refusal) → k < number → slice_get (tests_of command) k ≡ Some other → Applies s answer command other → ⊥
+  -- where something is taken away, or a list goes on
+  abbrev pub loosening : ((Fragment → Type 0) → Type 0) → Tests
+  loosening Of = test TooWide (Of (IsWide def)) (test TooHeavy (Of (IsHeavy def)) done)
+
+  -- where a list is finished: the tree has to be good
+  abbrev pub closing : ((Fragment → Type 0) → Type 0) → Tests
+  closing Of =
+      test TooWide (Of (IsWide def))
+      (test TooHeavy (Of (IsHeavy def))
+      (test Inadmissible (Of (λ f. IsGood f → ⊥))
+      done))
+
+  -- where nodes are added
+  abbrev pub growing : ((Fragment → Type 0) → Type 0) → Tests
+  growing Of = test TooDeep (Of IsDeep) (test TooBig (Of IsBig) (closing Of))
+
+  -- where text is typed, which may be any program
+  abbrev pub typing : ((Fragment → Type 0) → Type 0) → Tests
+  typing Of = test TooDeep (Of IsDeep) (test TooBig (Of IsBig) (loosening Of))
+
+  -- nothing is opened, or no node is at the place
+  abbrev pub at_place : State → Where → Tests → Tests
+  at_place s place rest = test NothingOpened (s.opened ≡ None) (test NoNode (IsNoNode def s place) rest)
+
+  -- A command that is not built yet counts as none. Its other tests are named, and what they say comes with it.
+  abbrev pub unbuilt : Tests → Tests
+  unbuilt rest = test NoCommand (Unit {0}) rest
+
+  abbrev pub unsaid : Refusal → Tests → Tests
+  unsaid refusal rest = test refusal ⊥ rest
+
+  -- the tests of each command, in their order
+  abbrev pub tests : State → Answer → Command → Tests
+  tests s answer (New name) =
+      test Unknown ((kind : Kind) → HasName def kind name → ⊥)
+      (test NoPlaceholder ((kind : Kind) × HasName def kind name × IsDeclaringPhylum def kind)
+      (opening (OfResult def s (New name))))
+  tests s answer (Refine place name args) =
+      at_place s place
+      (test NotHole (AtNode def s place (λ old node. (p : ℕ) → node ≡ hole p → ⊥))
+      (test Unknown ((o : ℕ) → IsOperator def o name → ⊥)
+      (test OtherPhylum (IsOther def s place None name)
+      (test BadArguments (GivesNone def name args)
+      (growing (OfResult def s (Refine place name args)))))))
+  tests s answer (Insert place k name args) =
+      at_place s place
+      (test NoPlace (AtNode def s place (λ old node. (IsList node → ⊥) ⊎ (length (children_of node) < k)))
+      (test Unknown ((o : ℕ) → IsOperator def o name → ⊥)
+      (test OtherPhylum (IsOther def s place (Some k) name)
+      (test BadArguments (GivesNone def name args)
+      (growing (OfResult def s (Insert place k name args)))))))
+  tests s answer (Cut place) =
+      at_place s place
+      (test NoPlaceholder (AtNode def s place (λ old node. (kind : Kind) × IsOfKind def node kind × IsDeclaringPhylum def kind))
+      (loosening (OfResult def s (Cut place))))
+  tests s answer (Remove place k) =
+      at_place s place
+      (test NoPlace (AtNode def s place (λ old node. (IsList node → ⊥) ⊎ (length (children_of node) ≤ k)))
+      (loosening (OfResult def s (Remove place k))))
+  tests s answer (Close place) =
+      at_place s place
+      (test NoPlace (AtNode def s place (λ old node. end_of node ≡ Some true → ⊥))
+      (closing (OfResult def s (Close place))))
+  tests s answer (Reopen place) =
+      at_place s place
+      (test NoPlace (AtNode def s place (λ old node. MayReopen def node → ⊥))
+      (loosening (OfResult def s (Reopen place))))
+  tests s answer Show = test NothingOpened (s.opened ≡ None) done
+  tests s answer (Own place) = at_place s place done
+  tests s answer Free = test NothingOpened (s.opened ≡ None) done
+  tests s answer (Goto place) = unbuilt (at_place s place done)
+  tests s answer (Over place text) =
+      unbuilt (at_place s place (unsaid NoTokens (unsaid NoTree (typing (OfResult def s (Over place text))))))
+  tests s answer (Range start end text) =
+      unbuilt (test NothingOpened (s.opened ≡ None)
+      (unsaid NoRange (unsaid NoTokens (unsaid NoTree (typing (OfResult def s (Range start end text)))))))
+  tests s answer (Screen top left rows cols) = unbuilt (test NothingOpened (s.opened ≡ None) done)
+  tests s answer (Relation place) = unbuilt (at_place s place (unsaid TooWide done))
+  tests s answer (Menu place k) = unbuilt (at_place s place (unsaid (place_test k) (unsaid TooWide done)))
+  tests s answer (Names place k name) =
+      unbuilt (at_place s place (unsaid (place_test k)
+      (unsaid Unknown (unsaid OtherPhylum (unsaid BadArguments (unsaid TooWide done))))))
+  tests s answer Undo = unbuilt (test NothingOpened (s.opened ≡ None) (unsaid NothingEarlier done))
+  tests s answer Redo = unbuilt (test NothingOpened (s.opened ≡ None) (unsaid NothingLater done))
+  tests s answer (Save name place) = unbuilt (at_place s place (unsaid ShelfFull done))
+  tests s answer (Paste place k name) =
+      unbuilt (test NothingOpened (s.opened ≡ None)
+      (unsaid NoFragment
+      (test NoNode (IsNoNode def s place)
+      (unsaid (place_test k) (unsaid OtherPhylum (growing (OfResult def s (Paste place k name))))))))
+  tests s answer (Keep name file) = unbuilt (unsaid NoFragment (unsaid TooBig (unsaid ShelfFault done)))
+  tests s answer (Fetch file) =
+      unbuilt (unsaid ShelfFault (unsaid KeptUnreadable (unsaid TooBig (unsaid ShelfFull done))))
+
+  -- the first test that holds has this refusal
+  abbrev pub IsRefused : State → Answer → Command → Refusal → Type 0
+  IsRefused s answer command r = Refuses (tests s answer command) r
 
   -- no test holds
   abbrev pub IsTaken : State → Answer → Command → Type 0
-  IsTaken s answer command = (k : ℕ) (r : Refusal) → slice_get (tests_of command) k ≡ Some r → Applies s answer command r → ⊥
+  IsTaken s answer command = Passes (tests s answer command)
 
-  -- Steps s answer command new reply: at the command, with the answer of the files where it asks for one, the plain editor
-  -- goes from the state to the new one with the reply.
+  -- Steps s answer command new reply: at the command, with the answer of the files where it asks for one, the plain
+  -- editor goes from the state to the new one with the reply.
   pub data Steps (s : State) (answer : Answer) : Command → State → Reply → Type 0 where
-    refuses : {command : Command} {r : Refusal} → IsRefused s answer command r → Steps s answer command s (refused (number_of r))
-    opens : {name : Name} (kind : Kind) (mark : Mark) → IsTaken s answer (New name) → HasName def kind name → IsMarkBy IsGood (blank def kind) mark
+    refuses : {command : Command} {r : Refusal} → IsRefused s answer command r
+        → Steps s answer command s (refused r)
+    opens : {name : Name} (kind : Kind) (mark : Mark) → IsTaken s answer (New name) → HasName def kind name
+        → IsMarkBy IsGood (blank def kind) mark
         → Steps s answer (New name) (with_new s kind (blank def kind)) (marked mark)
-    changes : {command : Command} {tree : Fragment} {path : Path} (old : Opened) (mark : Mark) → IsTaken s answer command → s.opened ≡ Some old
-        → Makes def s command tree path → IsMarkBy IsGood tree mark → Steps s answer command (with_change s old tree path) (marked mark)
+    changes : {command : Command} {tree : Fragment} {path : Path} (old : Opened) (mark : Mark)
+        → IsTaken s answer command → s.opened ≡ Some old
+        → Makes def s command tree path → IsMarkBy IsGood tree mark
+        → Steps s answer command (with_change s old tree path) (marked mark)
     shows : (old : Opened) (mark : Mark) → IsTaken s answer Show → s.opened ≡ Some old → IsMarkBy IsGood old.tree mark
         → Steps s answer Show s (shown (abstract_text def old.tree ∷ []) mark)
-    owns : {place : Where} (old : Opened) (node : Fragment) (rows : List (List Term)) → IsTaken s answer (Own place) → s.opened ≡ Some old
-        → node_at old.tree (named_path place s.cursor) ≡ Some node → IsRelationOf def node rows
+    owns : {place : Where} (old : Opened) (node : Fragment) (rows : List (List Term)) → IsTaken s answer (Own place)
+        → s.opened ≡ Some old → node_at old.tree (named_path place s.cursor) ≡ Some node → IsRelationOf def node rows
         → Steps s answer (Own place) s (answered (rows_lines def.signature (names_of def node) rows))
-    frees : (old : Opened) → IsTaken s answer Free → s.opened ≡ Some old → Steps s answer Free s (answered (names_line (free_names def old.tree) ∷ []))
+    frees : (old : Opened) → IsTaken s answer Free → s.opened ≡ Some old
+        → Steps s answer Free s (answered (names_line (free_names def old.tree) ∷ []))

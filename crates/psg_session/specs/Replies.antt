@@ -1,11 +1,13 @@
 -- What a command is answered, and how that is written.
 use Rattle.std.specs.Prelude.{ℕ, List, [], ◌∷◌, ◌++◌, codes, decimal}
 use Rattle.psg_grammar.specs.Marks.{Mark}
+use Rattle.psg_session.specs.declared.refusal.Refusal.{Refusal}
 use Rattle.psg_session.specs.Marked.{mark_text}
+use Rattle.psg_session.specs.Refusals.{number_of}
 
--- a refusal by its number, or lines
+-- a refusal, or lines
 pub data Reply : Type 0 where
-  refused : (number : ℕ) → Reply
+  refused : (refusal : Refusal) → Reply
   answered : (lines : List (List ℕ)) → Reply
 
 -- the mark alone
@@ -17,7 +19,7 @@ abbrev pub shown : List (List ℕ) → Mark → Reply
 shown lines mark = answered (lines ++ mark_text mark ∷ [])
 
 abbrev pub reply_lines : Reply → List (List ℕ)
-reply_lines (refused number) = (codes "refused " ++ decimal number) ∷ []
+reply_lines (refused refusal) = (codes "refused " ++ decimal (number_of refusal)) ∷ []
 reply_lines (answered lines) = lines
 
 -- a line with its line feed

@@ -1,54 +1,47 @@
 //! What the changing commands make of the opened fragment, before it is tested.
-ghost use Rattle.std.specs.Prelude.{◌≡◌, ◌↔◌, ◌++◌, ◌∷◌, [], ℕ, true, Err, Ok, Some, IfNone, IfOk, IfSome, IsTrue};
-ghost use Rattle.psg_grammar.specs.Kinds.{IsOfKind};
-ghost use Rattle.psg_cache.specs.Shaped.{IsShaped};
+ghost use Rattle.std.specs.Prelude.{◌≡◌, ◌↔◌, ◌++◌, ◌∷◌, [], ℕ, true, Some, IfNone, IfOk, IfSome, IsTrue};
 ghost use Rattle.psg_grammar.specs.Fragments.{hole};
+ghost use Rattle.psg_grammar.specs.Kinds.{IsOfKind};
+ghost use Rattle.psg_grammar.specs.Paths.{ended, IsList};
+ghost use Rattle.psg_cache.specs.Shaped.{IsShaped};
 ghost use Rattle.psg_script.specs.declared.command.Command.TheVariants as commands;
-ghost use Rattle.psg_grammar.specs.Paths.{IsList};
-ghost use Rattle.psg_tree.specs.declared.places.TreeFault.TheVariants.{Memory};
+ghost use Rattle.psg_session.specs.declared.edits.Edit.TheVariants as edits;
+ghost use Rattle.psg_session.specs.Outcomes.{made_of, IsFreshAnswer, IsListed, IsPlan};
 ghost use Rattle.psg_session.specs.PlainStep.{MayReopen, end_of};
-ghost use Rattle.psg_session.specs.Outcomes.{IsFreshAnswer, IsListed, IsPlan, IsPlanShaped};
-ghost use Rattle.psg_session.specs.Views.{IsEditor, IsLanguage};
-ghost use Rattle.psg_session.specs.declared.judging.Change.TheVariants.{Closes, Grows, Loosens};
+ghost use Rattle.psg_session.specs.Sessions.{IsEditor};
+ghost use Rattle.psg_session.specs.Views.{IsLanguage};
 
+use crate::edits::Edit;
 use crate::editor::Editor;
 use crate::finding::find;
 use crate::insertion::{blank, fresh_operator};
+use crate::judging::Trial;
 use crate::language::Language;
 use crate::leaves::read_leaves;
+use crate::noting::tree_of;
+use crate::refusal::Refusal;
 use psg_grammar::{Definition, Kind, ListKind, op_named};
 use psg_script::Where;
 use psg_terms::Txt;
-use psg_tree::{Path, Shape, Tree, TreeFault, insert, remove, replace, set_unfinished};
+use psg_tree::{Path, Shape, Tree, set_unfinished};
 use std::alloc::{AllocError, Global};
 
-/// A tree of the kind, and where the cursor stands in it.
+/// What a command makes of the opened fragment, and the path of the cursor then.
 #[derive(Drop)]
 pub struct Made {
-    pub kind: Kind,
-    pub tree: Tree,
-    pub path: Path,
+    pub trial: Trial,
+    pub edit: Edit,
+    pub cursor: Path,
 }
 
-/// What a command makes, or the number of its refusal.
+/// What a command makes, or its refusal.
 #[derive(Drop)]
 pub enum Plan {
-    RefusedBy(u8),
+    RefusedBy(Refusal),
     Makes(Made),
 }
 
-/// The tree that was made. Its place was looked at before, so only memory can have been wanting.
-fn tree_of(made: Result<Tree, TreeFault>) -> Result<Tree, AllocError>
-    requires { (fault : TreeFault) → made ≡ Err fault → fault ≡ Memory }
-    ensures { IfOk result (λ tree. made ≡ Ok tree) }
-{
-    match made {
-        Ok(tree) => Ok(tree),
-        Err(_) => Err(AllocError),
-    }
-}
-
-/// The phylum of the placeholder that the tree is, if it is one.
+/// Gives the phylum of the placeholder that the tree is, if it is one.
 fn hole_phylum(tree: &Tree) -> Option<u32>
     ensures some { IfSome result (λ p. tree.now ≡ hole p) }
     ensures none { IfNone result ((p : ℕ) → tree.now ≡ hole p → ⊥) }
@@ -67,7 +60,7 @@ struct Listed<'a> {
     unfinished: bool,
 }
 
-/// The list that the tree is, if it is one.
+/// Gives the list that the tree is, if it is one.
 fn as_list<'a>(definition: &'a Definition, tree: &Tree) -> Option<Listed<'a>>
     requires shaped { (kind : Kind) × IsShaped definition.now tree.now kind }
     ensures some { IfSome result (λ l. IsListed definition.now tree.now l) }
@@ -87,7 +80,7 @@ fn as_list<'a>(definition: &'a Definition, tree: &Tree) -> Option<Listed<'a>>
     }
 }
 
-/// Whether the tree is an unfinished list.
+/// Tells whether the tree is an unfinished list.
 fn is_unfinished(definition: &Definition, tree: &Tree) -> bool
     requires shaped { (kind : Kind) × IsShaped definition.now tree.now kind }
     ensures { IsTrue result ↔ (end_of tree.now ≡ Some true) }
@@ -98,7 +91,7 @@ fn is_unfinished(definition: &Definition, tree: &Tree) -> bool
     }
 }
 
-/// Whether the tree is a finished list of a kind that may be unfinished.
+/// Tells whether the tree is a finished list of a kind that may be unfinished.
 fn may_reopen(definition: &Definition, tree: &Tree) -> bool
     requires shaped { (kind : Kind) × IsShaped definition.now tree.now kind }
     ensures { IsTrue result ↔ MayReopen definition.now tree.now }
@@ -109,7 +102,7 @@ fn may_reopen(definition: &Definition, tree: &Tree) -> bool
     }
 }
 
-/// The kind of a tree.
+/// Gives the kind of a tree.
 fn kind_of(definition: &Definition, tree: &Tree) -> Kind
     requires shaped { (kind : Kind) × IsShaped definition.now tree.now kind }
     ensures { IsOfKind definition.now tree.now result }
@@ -123,7 +116,39 @@ fn kind_of(definition: &Definition, tree: &Tree) -> Kind
     }
 }
 
-/// What `refine` makes: the operator in place of the placeholder.
+/// Makes the list with this end.
+fn with_end(alloc: Global, list: &Tree, unfinished: bool) -> Result<Tree, AllocError>
+    requires { IsList list.now }
+    ensures { IfOk result (λ tree. tree ≡ ended unfinished list.now) }
+{
+    let top = Path::of(alloc, &[])?;
+    let tree = tree_of(set_unfinished(alloc, list, &top, unfinished))?;
+    Ok(tree)
+}
+
+/// Makes one more path of the same steps.
+fn copied(alloc: Global, path: &Path) -> Result<Path, AllocError>
+    ensures { IfOk result (λ p. p ≡ path.now) }
+{
+    let copy = Path::of(alloc, path.steps())?;
+    Ok(copy)
+}
+
+/// Plans the tree in place of the node at the path, to which the cursor goes.
+fn put(alloc: Global, trial: Trial, path: &Path, new: Tree) -> Result<Made, AllocError>
+    ensures { IfOk result (λ made. made ≡ made_of trial (edits.Put path.now new) path.now) }
+{
+    let at = copied(alloc, path)?;
+    let cursor = copied(alloc, path)?;
+    let edit = Edit::Put { at, new };
+    Ok(Made {
+        trial,
+        edit,
+        cursor,
+    })
+}
+
+/// Plans a refinement: the operator in place of the placeholder.
 pub fn refine(
     alloc: Global,
     language: &Language,
@@ -134,55 +159,51 @@ pub fn refine(
 ) -> Result<Plan, AllocError>
     requires language { IsLanguage language.now }
     requires editor { IsEditor language.now.definition editor.now }
-    ensures plan { IfOk result (IsPlan language.now.definition editor.now
-        (commands.Refine place.now name.now arguments.now) Grows) }
-    ensures shaped { IfOk result (IsPlanShaped language.now.definition editor.now) }
+    ensures { IfOk result (IsPlan language.now.definition editor.now (commands.Refine place.now name.now arguments.now)) }
 {
     let found = match find(editor, place) {
         Ok(found) => found,
-        Err(number) => return Ok(Plan::RefusedBy(number)),
+        Err(refusal) => return Ok(Plan::RefusedBy(refusal)),
     };
     let Some(phylum) = hole_phylum(found.node) else {
-        return Ok(Plan::RefusedBy(3));
+        return Ok(Plan::RefusedBy(Refusal::NotHole));
     };
     let fresh = match fresh_of(alloc, language, phylum, name, arguments)? {
         Ok(fresh) => fresh,
-        Err(number) => return Ok(Plan::RefusedBy(number)),
+        Err(refusal) => return Ok(Plan::RefusedBy(refusal)),
     };
-    let tree = tree_of(replace(alloc, found.held.note.tree(), found.path, &fresh))?;
-    let path = Path::of(alloc, found.path.steps())?;
-    let kind = found.held.kind;
-    Ok(Plan::Makes(Made { kind, tree, path }))
+    let made = put(alloc, Trial::Grows, found.path, fresh)?;
+    Ok(Plan::Makes(made))
 }
 
-/// The operator of the name with the names and literals of the arguments, which is to stand where one of the phylum is
-/// wanted; otherwise the number of the refusal: 4 where no operator has the name, 5 where it is of another phylum, 6
-/// where the arguments are not its names and literals.
+/// Makes the operator of the name with the names and literals of the arguments, which is to be where one of the phylum is
+/// wanted. It is refused with `Unknown` where no operator has the name, with `OtherPhylum` where it is of another phylum,
+/// and with `BadArguments` where the arguments are not its names and literals.
 fn fresh_of(
     alloc: Global,
     language: &Language,
     phylum: u32,
     name: &Txt,
     arguments: &Txt,
-) -> Result<Result<Tree, u8>, AllocError>
+) -> Result<Result<Tree, Refusal>, AllocError>
     requires language { IsLanguage language.now }
     ensures { IfOk result (IsFreshAnswer language.now.definition phylum name.now arguments.now) }
 {
     let definition = &language.definition;
     let Some(op) = op_named(definition, name.as_str()) else {
-        return Ok(Err(4));
+        return Ok(Err(Refusal::Unknown));
     };
     if definition.operators.as_slice()[op as usize].phylum != phylum {
-        return Ok(Err(5));
+        return Ok(Err(Refusal::OtherPhylum));
     }
     let Some(leaves) = read_leaves(alloc, language, op, arguments.as_str())? else {
-        return Ok(Err(6));
+        return Ok(Err(Refusal::BadArguments));
     };
     let fresh = fresh_operator(alloc, definition, op, leaves.as_slice())?;
     Ok(Ok(fresh))
 }
 
-/// What `insert` makes: the operator as a new element before the place of the list.
+/// Plans an insertion: the operator as a new element before the place of the list.
 pub fn insert_element(
     alloc: Global,
     language: &Language,
@@ -194,31 +215,38 @@ pub fn insert_element(
 ) -> Result<Plan, AllocError>
     requires language { IsLanguage language.now }
     requires editor { IsEditor language.now.definition editor.now }
-    ensures plan { IfOk result (IsPlan language.now.definition editor.now
-        (commands.Insert place.now number name.now arguments.now) Grows) }
-    ensures shaped { IfOk result (IsPlanShaped language.now.definition editor.now) }
+    ensures { IfOk result (IsPlan language.now.definition editor.now (commands.Insert place.now number name.now arguments.now)) }
 {
     let found = match find(editor, place) {
         Ok(found) => found,
         Err(refusal) => return Ok(Plan::RefusedBy(refusal)),
     };
     let Some(list) = as_list(&language.definition, found.node) else {
-        return Ok(Plan::RefusedBy(7));
+        return Ok(Plan::RefusedBy(Refusal::NoPlace));
     };
     if list.elements < number as usize {
-        return Ok(Plan::RefusedBy(7));
+        return Ok(Plan::RefusedBy(Refusal::NoPlace));
     }
     let fresh = match fresh_of(alloc, language, list.kind.element, name, arguments)? {
         Ok(fresh) => fresh,
         Err(refusal) => return Ok(Plan::RefusedBy(refusal)),
     };
-    let tree = tree_of(insert(alloc, found.held.note.tree(), found.path, number, &fresh))?;
-    let path = longer(alloc, found.path, number)?;
-    let kind = found.held.kind;
-    Ok(Plan::Makes(Made { kind, tree, path }))
+    let at = copied(alloc, found.path)?;
+    let cursor = longer(alloc, found.path, number)?;
+    let edit = Edit::Add {
+        at,
+        place: number,
+        new: fresh,
+    };
+    let trial = Trial::Grows;
+    Ok(Plan::Makes(Made {
+        trial,
+        edit,
+        cursor,
+    }))
 }
 
-/// The path with one more step.
+/// Makes the path with one more step.
 fn longer(alloc: Global, path: &Path, step: u32) -> Result<Path, AllocError>
     ensures { IfOk result (λ p. p ≡ path.now ++ step ∷ []) }
 {
@@ -231,7 +259,7 @@ fn longer(alloc: Global, path: &Path, step: u32) -> Result<Path, AllocError>
     Ok(longer)
 }
 
-/// What `cut` makes: a new tree of the node's kind in its place.
+/// Plans a cut: a new tree of the node's kind in its place.
 pub fn cut(
     alloc: Global,
     language: &Language,
@@ -240,25 +268,22 @@ pub fn cut(
 ) -> Result<Plan, AllocError>
     requires language { IsLanguage language.now }
     requires editor { IsEditor language.now.definition editor.now }
-    ensures plan { IfOk result (IsPlan language.now.definition editor.now (commands.Cut place.now) Loosens) }
-    ensures shaped { IfOk result (IsPlanShaped language.now.definition editor.now) }
+    ensures { IfOk result (IsPlan language.now.definition editor.now (commands.Cut place.now)) }
 {
     let found = match find(editor, place) {
         Ok(found) => found,
-        Err(number) => return Ok(Plan::RefusedBy(number)),
+        Err(refusal) => return Ok(Plan::RefusedBy(refusal)),
     };
-    let node_kind = kind_of(&language.definition, found.node);
-    if language.is_declaring(node_kind) {
-        return Ok(Plan::RefusedBy(21));
+    let kind = kind_of(&language.definition, found.node);
+    if language.is_declaring(kind) {
+        return Ok(Plan::RefusedBy(Refusal::NoPlaceholder));
     }
-    let new = blank(alloc, &language.definition, node_kind)?;
-    let tree = tree_of(replace(alloc, found.held.note.tree(), found.path, &new))?;
-    let path = Path::of(alloc, found.path.steps())?;
-    let kind = found.held.kind;
-    Ok(Plan::Makes(Made { kind, tree, path }))
+    let new = blank(alloc, &language.definition, kind)?;
+    let made = put(alloc, Trial::Loosens, found.path, new)?;
+    Ok(Plan::Makes(made))
 }
 
-/// What `remove` makes: the list without the element.
+/// Plans a removal: the list without the element.
 pub fn remove_element(
     alloc: Global,
     language: &Language,
@@ -268,26 +293,30 @@ pub fn remove_element(
 ) -> Result<Plan, AllocError>
     requires language { IsLanguage language.now }
     requires editor { IsEditor language.now.definition editor.now }
-    ensures plan { IfOk result (IsPlan language.now.definition editor.now (commands.Remove place.now number) Loosens) }
-    ensures shaped { IfOk result (IsPlanShaped language.now.definition editor.now) }
+    ensures { IfOk result (IsPlan language.now.definition editor.now (commands.Remove place.now number)) }
 {
     let found = match find(editor, place) {
         Ok(found) => found,
         Err(refusal) => return Ok(Plan::RefusedBy(refusal)),
     };
     let Some(list) = as_list(&language.definition, found.node) else {
-        return Ok(Plan::RefusedBy(7));
+        return Ok(Plan::RefusedBy(Refusal::NoPlace));
     };
     if list.elements <= number as usize {
-        return Ok(Plan::RefusedBy(7));
+        return Ok(Plan::RefusedBy(Refusal::NoPlace));
     }
-    let tree = tree_of(remove(alloc, found.held.note.tree(), found.path, number))?;
-    let path = Path::of(alloc, found.path.steps())?;
-    let kind = found.held.kind;
-    Ok(Plan::Makes(Made { kind, tree, path }))
+    let at = copied(alloc, found.path)?;
+    let cursor = copied(alloc, found.path)?;
+    let edit = Edit::Take { at, place: number };
+    let trial = Trial::Loosens;
+    Ok(Plan::Makes(Made {
+        trial,
+        edit,
+        cursor,
+    }))
 }
 
-/// What `close` makes: the list finished.
+/// Plans that the list is finished.
 pub fn close(
     alloc: Global,
     language: &Language,
@@ -296,23 +325,21 @@ pub fn close(
 ) -> Result<Plan, AllocError>
     requires language { IsLanguage language.now }
     requires editor { IsEditor language.now.definition editor.now }
-    ensures plan { IfOk result (IsPlan language.now.definition editor.now (commands.Close place.now) Closes) }
-    ensures shaped { IfOk result (IsPlanShaped language.now.definition editor.now) }
+    ensures { IfOk result (IsPlan language.now.definition editor.now (commands.Close place.now)) }
 {
     let found = match find(editor, place) {
         Ok(found) => found,
-        Err(number) => return Ok(Plan::RefusedBy(number)),
+        Err(refusal) => return Ok(Plan::RefusedBy(refusal)),
     };
     if !is_unfinished(&language.definition, found.node) {
-        return Ok(Plan::RefusedBy(7));
+        return Ok(Plan::RefusedBy(Refusal::NoPlace));
     }
-    let tree = tree_of(set_unfinished(alloc, found.held.note.tree(), found.path, false))?;
-    let path = Path::of(alloc, found.path.steps())?;
-    let kind = found.held.kind;
-    Ok(Plan::Makes(Made { kind, tree, path }))
+    let new = with_end(alloc, found.node, false)?;
+    let made = put(alloc, Trial::Closes, found.path, new)?;
+    Ok(Plan::Makes(made))
 }
 
-/// What `reopen` makes: the list unfinished.
+/// Plans that the list is unfinished again.
 pub fn reopen(
     alloc: Global,
     language: &Language,
@@ -321,18 +348,16 @@ pub fn reopen(
 ) -> Result<Plan, AllocError>
     requires language { IsLanguage language.now }
     requires editor { IsEditor language.now.definition editor.now }
-    ensures plan { IfOk result (IsPlan language.now.definition editor.now (commands.Reopen place.now) Loosens) }
-    ensures shaped { IfOk result (IsPlanShaped language.now.definition editor.now) }
+    ensures { IfOk result (IsPlan language.now.definition editor.now (commands.Reopen place.now)) }
 {
     let found = match find(editor, place) {
         Ok(found) => found,
-        Err(number) => return Ok(Plan::RefusedBy(number)),
+        Err(refusal) => return Ok(Plan::RefusedBy(refusal)),
     };
     if !may_reopen(&language.definition, found.node) {
-        return Ok(Plan::RefusedBy(7));
+        return Ok(Plan::RefusedBy(Refusal::NoPlace));
     }
-    let tree = tree_of(set_unfinished(alloc, found.held.note.tree(), found.path, true))?;
-    let path = Path::of(alloc, found.path.steps())?;
-    let kind = found.held.kind;
-    Ok(Plan::Makes(Made { kind, tree, path }))
+    let new = with_end(alloc, found.node, true)?;
+    let made = put(alloc, Trial::Loosens, found.path, new)?;
+    Ok(Plan::Makes(made))
 }

@@ -1,19 +1,25 @@
 //! The editor and its steps.
 ghost use Rattle.std.specs.Prelude.{◌≡◌, IfOk, IfSome, IfNone};
-ghost use Rattle.psg_session.specs.Outcomes.{IsChanging, IsSettled, IsOutcome, IsPlan, IsPlanShaped};
-ghost use Rattle.psg_session.specs.PlainStep.{IsBuilt};
-ghost use Rattle.psg_session.specs.Views.{IsEditor, IsLanguage};
+ghost use Rattle.psg_grammar.specs.declared.types.Definition.{Definition as PlainDefinition};
+ghost use Rattle.psg_session.specs.Outcomes.{after, reply_in, IsChanging, IsElse, IsFit, IsGoneOn, IsOutcome, IsPlan, IsStay};
+ghost use Rattle.psg_session.specs.PlainState.{not_asked};
+ghost use Rattle.psg_session.specs.Sessions.{state_of, IsEditor};
+ghost use Rattle.psg_session.specs.Ticks.{HasTicked};
+ghost use Rattle.psg_session.specs.Views.{IsLanguage};
 ghost use Rattle.psg_script.specs.declared.command.Command.{Command as PlainCommand};
 ghost use Rattle.psg_script.specs.declared.command.Command.TheVariants as commands;
 
 use crate::changes::{Plan, close, cut, insert_element, refine, remove_element, reopen};
 use crate::insertion::blank;
-use crate::judging::{Change, judge};
+use crate::judging::{Trial, judged};
 use crate::language::Language;
+use crate::noting::{note_after, note_mark, note_of};
 use crate::questions::{free, own, show};
-use crate::replies::Reply;
+use crate::refusal::Refusal;
+use crate::replies::{Mark, Reply};
 use psg_cache::Note;
 use psg_grammar::{Kind, kind_named};
+use psg_history::History;
 use psg_script::Command;
 use psg_terms::{Steps, Txt};
 use psg_tree::Path;
@@ -32,92 +38,104 @@ pub struct OpenedTree {
 pub struct Editor {
     pub opened: Option<OpenedTree>,
     pub cursor: Path,
+    pub history: History<Note>,
 }
 
-/// What a command does: the editor stays, or another one takes its place.
+/// What a command does. All that it needs memory for is in it.
 #[derive(Drop)]
 pub enum Outcome {
+    /// The editor stays as it is.
     Stays(Reply),
-    Becomes(Editor, Reply),
+    /// Another fragment is opened.
+    Opens(OpenedTree, Path, Mark),
+    /// The opened fragment has a new version.
+    Changes(Note, Path, Mark),
 }
 
-impl Outcome {
-    /// The editor that follows the old one, and the reply.
-    pub fn settle(self, old: Editor) -> (Editor, Reply)
-        ensures { IsSettled self old result.0 result.1 }
+impl Editor {
+    /// Does what the outcome says, and gives the reply. It takes no memory.
+    pub fn settle(&mut self, outcome: Outcome) -> Reply
+        ensures state { state_of self.new ≡ after self.old outcome }
+        ensures reply { result ≡ reply_in outcome }
+        ensures stays { IsStay outcome → self.new ≡ self.old }
+        ensures editor { (def : PlainDefinition) → IsEditor def self.old → IsFit def self.old.opened outcome
+            → IsEditor def self.new }
     {
-        match self {
-            Outcome::Stays(reply) => (old, reply),
-            Outcome::Becomes(new, reply) => (new, reply),
+        match outcome {
+            Outcome::Stays(reply) => reply,
+            Outcome::Opens(held, cursor, mark) => {
+                self.opened = Some(held);
+                self.cursor = cursor;
+                self.history.clear();
+                Reply::Marked(mark)
+            }
+            Outcome::Changes(note, cursor, mark) => {
+                self.go_on(note, cursor);
+                Reply::Marked(mark)
+            }
         }
+    }
+
+    /// Goes on with another version of the opened fragment; where nothing is opened the editor stays.
+    fn go_on(&mut self, note: Note, cursor: Path)
+        ensures { IsGoneOn self.old self.new note cursor }
+    {
+        let Some(held) = self.opened.take() else {
+            return;
+        };
+        self.history.push(held.note);
+        let kind = held.kind;
+        self.opened = Some(OpenedTree { kind, note });
+        self.cursor = cursor;
     }
 }
 
-/// A new fragment of the phylum or list of the name.
+/// Opens a new fragment of the phylum or list of the name.
+#[tactic(auto, using(crate::proofs::Ticking::quiet))]
 fn open_new<L: Ledger>(
     alloc: Global,
     language: &Language,
+    editor: &Editor,
     name: &Txt,
     steps: &mut Steps<L>,
 ) -> Result<Outcome, AllocError>
     requires language { IsLanguage language.now }
-    ensures { IfOk result (λ outcome. (editor : Editor) → IsOutcome language.now.definition editor (commands.New name.now) outcome) }
+    ensures outcome { IfOk result (IsOutcome language.now.definition editor.now not_asked (commands.New name.now)) }
+    ensures ticks { HasTicked language.now.definition (state_of editor.now) (commands.New name.now) steps.old steps.new }
 {
     let Some(kind) = kind_named(&language.definition, name.as_str()) else {
-        return Ok(Outcome::Stays(Reply::Refused(4)));
+        return Ok(Outcome::Stays(Reply::Refused(Refusal::Unknown)));
     };
     if language.is_declaring(kind) {
-        return Ok(Outcome::Stays(Reply::Refused(21)));
+        return Ok(Outcome::Stays(Reply::Refused(Refusal::NoPlaceholder)));
     }
     let tree = blank(alloc, &language.definition, kind)?;
-    let top = Path::of(alloc, &[])?;
-    let outcome = judge(alloc, language, Change::Opens, kind, &tree, &top, steps)?;
-    Ok(outcome)
+    let noted = note_of(alloc, language, &tree, steps);
+    let note = match judged(Trial::Opens, noted)? {
+        Ok(note) => note,
+        Err(refusal) => return Ok(Outcome::Stays(Reply::Refused(refusal))),
+    };
+    let mark = note_mark(alloc, &note)?;
+    let cursor = Path::of(alloc, &[])?;
+    Ok(Outcome::Opens(OpenedTree { kind, note }, cursor, mark))
 }
 
-/// Does what was planned, where the tree passes the tests of the change.
-fn carry_out<L: Ledger>(
-    alloc: Global,
-    language: &Language,
-    change: Change,
-    plan: Plan,
-    steps: &mut Steps<L>,
-) -> Result<Outcome, AllocError>
-    requires language { IsLanguage language.now }
-    requires shaped { (editor : Editor) × IsPlanShaped language.now.definition editor plan }
-    ensures { IfOk result (λ outcome. (editor : Editor) (command : PlainCommand) → IsPlan language.now.definition editor command change plan
-        → IsPlanShaped language.now.definition editor plan → IsOutcome language.now.definition editor command outcome) }
-{
-    match plan {
-        Plan::RefusedBy(number) => Ok(Outcome::Stays(Reply::Refused(number))),
-        Plan::Makes(made) => {
-            let outcome = judge(
-                alloc, language, change, made.kind, &made.tree, &made.path, steps,
-            )?;
-            Ok(outcome)
-        }
-    }
-}
-
-/// What a changing command does to the editor; `None` for another command.
-fn change<L: Ledger>(
+/// Plans what a changing command makes; `None` for another command.
+fn planned(
     alloc: Global,
     language: &Language,
     editor: &Editor,
     command: &Command,
-    steps: &mut Steps<L>,
-) -> Result<Option<Outcome>, AllocError>
+) -> Result<Option<Plan>, AllocError>
     requires language { IsLanguage language.now }
     requires editor { IsEditor language.now.definition editor.now }
-    ensures outcome { IfOk result (λ outcome. IfSome outcome (IsOutcome language.now.definition editor.now command.now)) }
-    ensures none { IfOk result (λ outcome. IfNone outcome (IsChanging command.now → ⊥)) }
-    ensures some { IfOk result (λ outcome. IfSome outcome (λ _. IsChanging command.now)) }
+    ensures plan { IfOk result (λ plan. IfSome plan (IsPlan language.now.definition editor.now command.now)) }
+    ensures none { IfOk result (λ plan. IfNone plan (IsChanging command.now → ⊥)) }
 {
     match command {
         Command::Refine { at, op, args } => {
             let plan = refine(alloc, language, editor, at, op, args)?;
-            let outcome = carry_out(alloc, language, Change::Grows, plan, steps)?;
-            Ok(Some(outcome))
+            Ok(Some(plan))
         }
         Command::Insert {
             at,
@@ -126,64 +144,115 @@ fn change<L: Ledger>(
             args,
         } => {
             let plan = insert_element(alloc, language, editor, at, *place, op, args)?;
-            let outcome = carry_out(alloc, language, Change::Grows, plan, steps)?;
-            Ok(Some(outcome))
+            Ok(Some(plan))
         }
         Command::Cut { at } => {
             let plan = cut(alloc, language, editor, at)?;
-            let outcome = carry_out(alloc, language, Change::Loosens, plan, steps)?;
-            Ok(Some(outcome))
+            Ok(Some(plan))
         }
         Command::Remove { at, place } => {
             let plan = remove_element(alloc, language, editor, at, *place)?;
-            let outcome = carry_out(alloc, language, Change::Loosens, plan, steps)?;
-            Ok(Some(outcome))
+            Ok(Some(plan))
         }
         Command::Close { at } => {
             let plan = close(alloc, language, editor, at)?;
-            let outcome = carry_out(alloc, language, Change::Closes, plan, steps)?;
-            Ok(Some(outcome))
+            Ok(Some(plan))
         }
         Command::Reopen { at } => {
             let plan = reopen(alloc, language, editor, at)?;
-            let outcome = carry_out(alloc, language, Change::Loosens, plan, steps)?;
-            Ok(Some(outcome))
+            Ok(Some(plan))
         }
         _ => Ok(None),
     }
 }
 
-/// What a command does to the editor, which stays as it is where the command is refused; `None` where the editor does not
-/// have the command. A change evaluates the whole new fragment, and `own` that of its node; `steps` counts the evaluations.
+/// Does what was planned, where the tree passes the tests of the change. It evaluates the whole new tree.
+fn carry_out<L: Ledger>(
+    alloc: Global,
+    language: &Language,
+    editor: &Editor,
+    plan: Plan,
+    steps: &mut Steps<L>,
+) -> Result<Outcome, AllocError>
+    requires language { IsLanguage language.now }
+    requires editor { IsEditor language.now.definition editor.now }
+    requires plan { (command : PlainCommand) × IsPlan language.now.definition editor.now command plan }
+    ensures outcome { IfOk result (λ outcome. (command : PlainCommand)
+        → IsPlan language.now.definition editor.now command plan
+        → IsOutcome language.now.definition editor.now not_asked command outcome) }
+    ensures ticks { (command : PlainCommand) → IsPlan language.now.definition editor.now command plan
+        → HasTicked language.now.definition (state_of editor.now) command steps.old steps.new }
+{
+    let made = match plan {
+        Plan::Makes(made) => made,
+        Plan::RefusedBy(refusal) => return Ok(Outcome::Stays(Reply::Refused(refusal))),
+    };
+    // a plan that makes something has found the opened fragment
+    let Some(held) = &editor.opened else {
+        return Ok(Outcome::Stays(Reply::Refused(Refusal::NothingOpened)));
+    };
+    let noted = note_after(alloc, language, &held.note, &made.edit, steps);
+    let note = match judged(made.trial, noted)? {
+        Ok(note) => note,
+        Err(refusal) => return Ok(Outcome::Stays(Reply::Refused(refusal))),
+    };
+    let mark = note_mark(alloc, &note)?;
+    Ok(Outcome::Changes(note, made.cursor, mark))
+}
+
+/// Does a changing command. A command that is not built counts as none.
+#[tactic(auto, using(crate::proofs::Ticking::quiet))]
+fn change<L: Ledger>(
+    alloc: Global,
+    language: &Language,
+    editor: &Editor,
+    command: &Command,
+    steps: &mut Steps<L>,
+) -> Result<Outcome, AllocError>
+    requires language { IsLanguage language.now }
+    requires editor { IsEditor language.now.definition editor.now }
+    requires other { IsElse command.now }
+    ensures outcome { IfOk result (IsOutcome language.now.definition editor.now not_asked command.now) }
+    ensures ticks { HasTicked language.now.definition (state_of editor.now) command.now steps.old steps.new }
+{
+    let Some(plan) = planned(alloc, language, editor, command)? else {
+        return Ok(Outcome::Stays(Reply::Refused(Refusal::NoCommand)));
+    };
+    let outcome = carry_out(alloc, language, editor, plan, steps)?;
+    Ok(outcome)
+}
+
+/// Finds what a command does to the editor. A change evaluates the whole new fragment, and `own` that of its node; `steps`
+/// counts the evaluations. It fails where memory runs out.
+#[tactic(auto, using(crate::proofs::Ticking::quiet))]
 pub fn step<L: Ledger>(
     alloc: Global,
     language: &Language,
     editor: &Editor,
     command: &Command,
     steps: &mut Steps<L>,
-) -> Result<Option<Outcome>, AllocError>
+) -> Result<Outcome, AllocError>
     requires language { IsLanguage language.now }
     requires editor { IsEditor language.now.definition editor.now }
-    ensures built { IfOk result (λ outcome. IfSome outcome (λ _. IsBuilt command.now)) }
-    ensures outcome { IfOk result (λ outcome. IfSome outcome (IsOutcome language.now.definition editor.now command.now)) }
-    ensures none { IfOk result (λ outcome. IfNone outcome (IsBuilt command.now → ⊥)) }
+    ensures outcome { IfOk result (IsOutcome language.now.definition editor.now not_asked command.now) }
+    ensures ticks { HasTicked language.now.definition (state_of editor.now) command.now steps.old steps.new }
 {
     match command {
         Command::New { phylum } => {
-            let outcome = open_new(alloc, language, phylum, steps)?;
-            Ok(Some(outcome))
+            let outcome = open_new(alloc, language, editor, phylum, steps)?;
+            Ok(outcome)
         }
         Command::Show => {
             let outcome = show(alloc, language, editor)?;
-            Ok(Some(outcome))
+            Ok(outcome)
         }
         Command::Own { at } => {
             let outcome = own(alloc, language, editor, at, steps)?;
-            Ok(Some(outcome))
+            Ok(outcome)
         }
         Command::Free => {
             let outcome = free(alloc, language, editor)?;
-            Ok(Some(outcome))
+            Ok(outcome)
         }
         _ => {
             let outcome = change(alloc, language, editor, command, steps)?;

@@ -4,6 +4,7 @@ ghost use Rattle.psg_session.specs.Outcomes.{IsFound, IsNotFound};
 ghost use Rattle.psg_session.specs.PlainState.{named_path};
 
 use crate::editor::{Editor, OpenedTree};
+use crate::refusal::Refusal;
 use psg_script::Where;
 use psg_tree::{Path, Tree, at};
 
@@ -25,17 +26,18 @@ fn path_named<'a>(place: &'a Where, cursor: &'a Path) -> &'a Path
     }
 }
 
-/// The node of the place; otherwise the number of the refusal: 22 where nothing is opened, 2 where no node is there.
-pub fn find<'a>(editor: &'a Editor, place: &'a Where) -> Result<Found<'a>, u8>
+/// Finds the node of the place. It is refused with `NothingOpened` where nothing is opened, and with `NoNode` where no
+/// node is there.
+pub fn find<'a>(editor: &'a Editor, place: &'a Where) -> Result<Found<'a>, Refusal>
     ensures ok { IfOk result (IsFound editor.now place.now) }
     ensures err { IfErr result (IsNotFound editor.now place.now) }
 {
     let Some(held) = &editor.opened else {
-        return Err(22);
+        return Err(Refusal::NothingOpened);
     };
     let path = path_named(place, &editor.cursor);
     match at(held.note.tree(), path) {
         Some(node) => Ok(Found { held, path, node }),
-        None => Err(2),
+        None => Err(Refusal::NoNode),
     }
 }

@@ -1,23 +1,33 @@
 //! The editor: one fragment, and what the commands make of it.
 //!
 //! ```text
-//! let outcome = step(alloc, &language, &editor, &command, &mut steps)?;
+//! let mut session = Session::new(alloc, language)?;
+//! let reply = session.apply(alloc, &command, &mut files, &mut steps)?;
 //! ```
 //!
-//! What it does at a command is what the plain editor does, which is defined in this crate's specs and knows nothing but trees:
-//! the first of the command's tests that holds refuses it, otherwise it is done.
+//! What it does at a command is what the plain editor does, which is defined in this crate's specs and knows nothing but
+//! trees: the first of the command's tests that holds refuses it, otherwise it is done.
+//!
+//! A command is first planned (`changes`), its tree is noted and judged (`noting`, `judging`), and what it does is an
+//! outcome that has all memory; one place (`Editor::settle`) then changes the editor and cannot fail.
 #![tactic(auto)]
 
 pub mod changes;
+pub mod edits;
 pub mod editor;
 pub mod finding;
 mod insertion;
 pub mod judging;
 pub mod language;
+pub mod laws;
 pub mod leaves;
+mod noting;
 mod questions;
+pub mod refusal;
 pub mod replies;
+pub mod session;
 
-pub use editor::{Editor, Outcome, step};
 pub use language::Language;
+pub use refusal::Refusal;
 pub use replies::{Mark, Reply, reply_lines};
+pub use session::Session;

@@ -7,14 +7,17 @@ ghost use Rattle.psg_scope.specs.Headers.{keys};
 ghost use Rattle.psg_script.specs.declared.command.Command.TheVariants as commands;
 ghost use Rattle.psg_session.specs.Answers.{entities_text, names_line as names_line_of, row_line as row_line_of, rows_lines as rows_lines_of};
 ghost use Rattle.psg_session.specs.Outcomes.{IsOutcome};
-ghost use Rattle.psg_session.specs.Views.{IsEditor, IsLanguage, names_without};
+ghost use Rattle.psg_session.specs.PlainState.{not_asked};
+ghost use Rattle.psg_session.specs.Sessions.{state_of, IsEditor};
+ghost use Rattle.psg_session.specs.Ticks.{HasTicked};
+ghost use Rattle.psg_session.specs.Views.{IsLanguage, names_without};
 
 use crate::editor::{Editor, Outcome};
 use crate::finding::find;
-use crate::judging::note_mark;
 use crate::language::Language;
+use crate::noting::{note_mark, note_of};
+use crate::refusal::Refusal;
 use crate::replies::Reply;
-use psg_cache::build;
 use psg_eval::Summary;
 use psg_scope::NameCol;
 use psg_script::Where;
@@ -27,10 +30,10 @@ use std::sync::ledger::Ledger;
 pub fn show(alloc: Global, language: &Language, editor: &Editor) -> Result<Outcome, AllocError>
     requires language { IsLanguage language.now }
     requires editor { IsEditor language.now.definition editor.now }
-    ensures { IfOk result (IsOutcome language.now.definition editor.now commands.Show) }
+    ensures { IfOk result (IsOutcome language.now.definition editor.now not_asked commands.Show) }
 {
     let Some(held) = &editor.opened else {
-        return Ok(Outcome::Stays(Reply::Refused(22)));
+        return Ok(Outcome::Stays(Reply::Refused(Refusal::NothingOpened)));
     };
     let text = abstract_text(alloc, &language.definition, held.note.tree())?;
     let mark = note_mark(alloc, &held.note)?;
@@ -41,10 +44,10 @@ pub fn show(alloc: Global, language: &Language, editor: &Editor) -> Result<Outco
 pub fn free(alloc: Global, language: &Language, editor: &Editor) -> Result<Outcome, AllocError>
     requires language { IsLanguage language.now }
     requires editor { IsEditor language.now.definition editor.now }
-    ensures { IfOk result (IsOutcome language.now.definition editor.now commands.Free) }
+    ensures { IfOk result (IsOutcome language.now.definition editor.now not_asked commands.Free) }
 {
     let Some(held) = &editor.opened else {
-        return Ok(Outcome::Stays(Reply::Refused(22)));
+        return Ok(Outcome::Stays(Reply::Refused(Refusal::NothingOpened)));
     };
     let line = free_line(alloc, held.note.root().header().names.as_slice())?;
     let mut lines = Vec::new(alloc);
@@ -92,6 +95,7 @@ fn names_line(alloc: Global, names: &[Txt]) -> Result<String, AllocError>
 
 /// The rows of the relation of the node at the place, each on a line: the value, and the entity of each name. It
 /// evaluates the node's tree anew, and `steps` counts the evaluations.
+#[tactic(auto, using(crate::proofs::Ticking::quiet, crate::proofs::Asking::own_ticks))]
 pub fn own<L: Ledger>(
     alloc: Global,
     language: &Language,
@@ -101,15 +105,15 @@ pub fn own<L: Ledger>(
 ) -> Result<Outcome, AllocError>
     requires language { IsLanguage language.now }
     requires editor { IsEditor language.now.definition editor.now }
-    ensures { IfOk result (IsOutcome language.now.definition editor.now (commands.Own place.now)) }
+    ensures outcome { IfOk result (IsOutcome language.now.definition editor.now not_asked (commands.Own place.now)) }
+    ensures ticks { HasTicked language.now.definition (state_of editor.now) (commands.Own place.now) steps.old steps.new }
 {
     let found = match find(editor, place) {
         Ok(found) => found,
-        Err(number) => return Ok(Outcome::Stays(Reply::Refused(number))),
+        Err(refusal) => return Ok(Outcome::Stays(Reply::Refused(refusal))),
     };
-    let declaring = language.declaring.as_slice();
     // the opened fragment is within the limits, and so is each part of it
-    let Ok(note) = build(alloc, &language.definition, declaring, found.node, steps) else {
+    let Ok(note) = note_of(alloc, language, found.node, steps) else {
         return Err(AllocError);
     };
     let lines = rows_lines(alloc, &language.definition.signature, note.root())?;

@@ -5,6 +5,7 @@ ghost use Rattle.psg_session.specs.Replies.{feed_all, reply_text};
 ghost use Rattle.psg_script.specs.Forms.{steps_text};
 ghost use Rattle.psg_session.specs.Views.{mark_of, reply_of};
 
+use crate::refusal::Refusal;
 use itoa::Buffer;
 use psg_tree::Path;
 use std::alloc::{AllocError, Global};
@@ -19,8 +20,8 @@ pub enum Mark {
 /// What a command is answered.
 #[derive(Drop)]
 pub enum Reply {
-    /// The number of the refusal.
-    Refused(u8),
+    /// A refusal.
+    Refused(Refusal),
     /// The mark of the fragment.
     Marked(Mark),
     /// A line of text, and then the mark.
@@ -88,10 +89,10 @@ pub fn reply_lines(alloc: Global, reply: &Reply) -> Result<String, AllocError>
 {
     let mut text = String::new(alloc);
     match reply {
-        Reply::Refused(number) => {
+        Reply::Refused(refusal) => {
             let mut digits = Buffer::new();
             text.push_str("refused ")?;
-            text.push_str(digits.format(*number))?;
+            text.push_str(digits.format(refusal.number()))?;
         }
         Reply::Marked(mark) => push_mark(&mut text, mark)?,
         Reply::Shown(line, mark) => {

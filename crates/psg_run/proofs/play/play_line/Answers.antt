@@ -1,20 +1,44 @@
-use Rattle.std.proofs.Common.{◌≡◌, inl, [], refl, sym, ap, ◌∙◌}
+use Rattle.std.proofs.Common.{◌≡◌, refl, sym, ap, ◌∙◌}
+use Rattle.psg_session.specs.Exchanges.{Outside}
+use Rattle.psg_session.specs.Sessions.{state_of}
+use Rattle.psg_session.specs.Views.{reply_of}
 use Rattle.psg_run.proofs.Options.{on_err}
-use Rattle.psg_run.proofs.Playing.{append_known-nil, plays, plays_front}
+use Rattle.psg_run.proofs.Playing.{broken_keeps, line_keeps, line_replies, plays, plays_front, plays_nothing}
 use Rattle.psg_run.proofs.play.play_line.Goals as goal
 
-pub returns-in_err-outcome-clause-err : goal.returns-in_err-outcome-clause-err
-returns-in_err-outcome-clause-err g c =
-    on_err c.from_residual.result (record { front = []; put = append_known-nil (g.O.Sink.written c.args.out.now); right = λ s same. inl refl })
+pub returns-in_err-reply-clause-err : goal.returns-in_err-reply-clause-err
+returns-in_err-reply-clause-err g c =
+    on_err c.from_residual.result (plays_nothing c.args.session.now.language.definition
+    (state_of c.args.session.now.editor) c.args.line.now (g.O.Sink.written c.args.out.now))
+
+pub returns-in_err-reply-clause-holds : goal.returns-in_err-reply-clause-holds
+returns-in_err-reply-clause-holds g c =
+    ap (λ (o : Outside). o.held) (broken_keeps _ _ _ _ _ _ _ c.in_err-reply.ensures.broken)
+
+pub returns-in_err-reply-clause-entries : goal.returns-in_err-reply-clause-entries
+returns-in_err-reply-clause-entries g c =
+    ap (λ (o : Outside). o.entries) (broken_keeps _ _ _ _ _ _ _ c.in_err-reply.ensures.broken)
 
 pub returns-in_err-put_all-clause-err : goal.returns-in_err-put_all-clause-err
 returns-in_err-put_all-clause-err g c = on_err c.from_residual-in_err-put_all.result
-    (plays_front c.args.language.now.definition c.args.editor c.args.line.now c.in_ok-outcome.outcome c.settle-next.result.0 c.settle-next.result.1
+    (plays_front c.args.session.now.language.definition (state_of c.args.session.now.editor)
+    (state_of c.apply_line.new.session.editor) c.args.line.now (reply_of c.in_ok-reply.reply)
+    (line_replies _ _ _ _ _ _ _ _ _ c.in_ok-reply.ensures.answered)
     (g.O.Sink.written c.args.out.now) (g.O.Sink.written c.put_all.new.out) c.as_bytes.result.now
-    c.requires.editor c.in_ok-outcome.ensures c.settle-next.ensures (c.as_bytes.ensures.value ∙ c.in_ok-text.ensures) c.in_err-put_all.ensures.front)
+    (c.as_bytes.ensures.value ∙ c.in_ok-text.ensures) c.in_err-put_all.ensures.front)
 
 pub returns-clause-ok : goal.returns-clause-ok
 returns-clause-ok g c =
-    plays c.args.language.now.definition c.args.editor c.args.line.now c.in_ok-outcome.outcome c.settle-next.result.0 c.settle-next.result.1
+    plays c.args.session.now.language.definition (state_of c.args.session.now.editor)
+    (state_of c.apply_line.new.session.editor) c.args.line.now (reply_of c.in_ok-reply.reply)
+    (line_replies _ _ _ _ _ _ _ _ _ c.in_ok-reply.ensures.answered)
     (g.O.Sink.written c.args.out.now) (g.O.Sink.written c.put_all.new.out) c.as_bytes.result.now
-    c.requires.editor c.in_ok-outcome.ensures c.settle-next.ensures (c.as_bytes.ensures.value ∙ c.in_ok-text.ensures) c.in_ok-put_all.ensures.all
+    (c.as_bytes.ensures.value ∙ c.in_ok-text.ensures) c.in_ok-put_all.ensures.all
+
+pub returns-clause-holds : goal.returns-clause-holds
+returns-clause-holds g c =
+    ap (λ (o : Outside). o.held) (line_keeps _ _ _ _ _ _ _ _ _ c.in_ok-reply.ensures.answered)
+
+pub returns-clause-entries : goal.returns-clause-entries
+returns-clause-entries g c =
+    ap (λ (o : Outside). o.entries) (line_keeps _ _ _ _ _ _ _ _ _ c.in_ok-reply.ensures.answered)

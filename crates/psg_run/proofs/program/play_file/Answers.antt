@@ -19,15 +19,15 @@ returns-in-Ok-play g c = (
   c.in-Ok.bytes.items,
   read_short (g.F.Files.holds c.args.files.now) c.args.script.now MOST_SCRIPT_BYTES c.in-Ok.bytes.items c.in-Ok.ensures.front
       (subst (λ l. length l ≤ MOST_SCRIPT_BYTES) c.as_slice-lines.ensures.value c.if-lines-gt-MOST_SCRIPT_BYTES.false),
-  subst (λ l. PrintsAll c.args.language.now.definition (script_lines l) (g.O.Sink.written c.args.out.now) (g.O.Sink.written c.play.new.out)) c.as_slice-lines.ensures.value c.in-Ok-play.ensures.ok,
+  subst (λ l. PrintsAll c.args.language.definition (script_lines l) (g.O.Sink.written c.args.out.now) (g.O.Sink.written c.play.new.out)) c.as_slice-lines.ensures.value c.in-Ok-play.ensures.ok,
 )
 
 pub returns : goal.returns
-returns g c = stopped_play _ _ c.args.language.now.definition c.args.script.now c.in-Err-play.stop c.write_status.result c.write_status.ensures (
+returns g c = stopped_play _ _ c.args.language.definition c.args.script.now c.in-Err-play.stop c.write_status.result c.write_status.ensures (
   (c.in-Ok.ensures.keeps, c.in-Ok.ensures.entries),
   c.in-Ok.bytes.items,
   read_short (g.F.Files.holds c.args.files.now) c.args.script.now MOST_SCRIPT_BYTES c.in-Ok.bytes.items c.in-Ok.ensures.front
       (subst (λ l. length l ≤ MOST_SCRIPT_BYTES) c.as_slice-lines.ensures.value c.if-lines-gt-MOST_SCRIPT_BYTES.false),
-  subst (λ l. PrintsFront c.args.language.now.definition (script_lines l) (g.O.Sink.written c.args.out.now) (g.O.Sink.written c.play.new.out)) c.as_slice-lines.ensures.value c.in-Err-play.ensures.err,
+  subst (λ l. PrintsFront c.args.language.definition (script_lines l) (g.O.Sink.written c.args.out.now) (g.O.Sink.written c.play.new.out)) c.as_slice-lines.ensures.value c.in-Err-play.ensures.err,
 )
     (λ is. c.in-Err-play.ensures.failed (ap Err is))

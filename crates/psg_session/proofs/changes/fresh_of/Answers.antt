@@ -4,7 +4,8 @@ use Rattle.psg_grammar.specs.Insertion.{Leaf as PlainLeaf, fresh_operator}
 use Rattle.psg_session.specs.declared.leaves.Leaf.{Leaf}
 use Rattle.psg_session.specs.Views.{plain_leaf}
 use Rattle.psg_session.proofs.LeafLaws.{some_in, none_in}
-use Rattle.psg_session.proofs.ChangeLaws.{operator_there, some_once}
+use Rattle.psg_session.proofs.ChangeLaws.{operator_there}
+use Rattle.psg_session.proofs.StepLaws.{some_once}
 use Rattle.psg_session.proofs.Shapes.{read_at}
 use Rattle.psg_session.specs.Leaves.{GivesLeaves}
 use Rattle.psg_session.proofs.changes.fresh_of.Goals as goal

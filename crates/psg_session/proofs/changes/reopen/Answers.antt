@@ -1,15 +1,13 @@
-use Rattle.std.proofs.Common.{false, true, refl, ap, sym, true≢false, ◌∙◌}
-use Rattle.psg_grammar.specs.Paths.{change_at, ended}
-use Rattle.psg_tree.specs.Edits.{IsSet}
-use Rattle.psg_session.specs.declared.changes.Made.{Made}
-use Rattle.psg_session.proofs.ChangeLaws.{end_is_list, found_shaped, ok_at, plan_shaped}
-use Rattle.psg_session.proofs.ChangeReopen.{reopen_nowhere, reopen_refused, reopen_made, reopen_keeps}
-use Rattle.psg_session.proofs.OnlyMemory.{ends}
+use Rattle.std.proofs.Common.{false, true≢false, sym, subst, ◌∙◌}
+use Rattle.psg_session.specs.Outcomes.{IsMade}
+use Rattle.psg_script.specs.declared.command.Command.TheVariants.{Reopen}
+use Rattle.psg_session.proofs.ChangeLaws.{end_is_list, found_shaped}
+use Rattle.psg_session.proofs.ChangeReopen.{reopen_nowhere, reopen_refused, reopen_made}
 use Rattle.psg_session.proofs.changes.reopen.Goals as goal
 
-pub returns-in-Err-clause-plan : goal.returns-in-Err-clause-plan
-returns-in-Err-clause-plan c =
-    reopen_nowhere c.args.language.now.definition c.args.editor.now c.args.place.now c.in-Err.number
+pub returns-in-Err : goal.returns-in-Err
+returns-in-Err c =
+    reopen_nowhere c.args.language.now.definition c.args.editor.now c.args.place.now c.in-Err.refusal
     c.in-Err.ensures.err
 
 pub may_reopen-requires : goal.may_reopen-requires
@@ -18,35 +16,20 @@ may_reopen-requires c =
     c.requires.editor c.in-Ok.ensures.ok in
     record { shaped = shaped }
 
-pub returns-then-not-may_reopen-clause-plan : goal.returns-then-not-may_reopen-clause-plan
-returns-then-not-may_reopen-clause-plan c =
+pub returns-then-not-may_reopen : goal.returns-then-not-may_reopen
+returns-then-not-may_reopen c =
     reopen_refused c.args.language.now.definition c.args.editor.now c.args.place.now c.in-Ok.found c.in-Ok.ensures.ok
     (λ h. true≢false (sym (c.may_reopen.ensures.1 h) ∙ c.if-not-may_reopen.true))
 
-pub returns-clause-plan : goal.returns-clause-plan
-returns-clause-plan c =
-    let found = c.in-Ok.found in
-    let made : Made = record { kind = found.held.now.kind; tree = c.in_ok-tree.tree; path = c.in_ok-path.path } in
-    let done = ok_at (IsSet c.tree.result.now found.path.now true) c.set_unfinished.result c.in_ok-tree.tree
-    c.in_ok-tree.ensures c.set_unfinished.ensures.ok in
-    reopen_made c.args.language.now.definition c.args.editor.now c.args.place.now found c.in-Ok.ensures.ok
-    (c.may_reopen.ensures.0 c.if-not-may_reopen.false) made
-    (done.made_is ∙ ap (change_at (ended true) found.path.now) c.tree.ensures)
-    (c.in_ok-path.ensures ∙ c.steps.ensures)
+pub with_end-requires : goal.with_end-requires
+with_end-requires c =
+    end_is_list c.args.language.now.definition c.in-Ok.found.node.now false
+    (c.may_reopen.ensures.0 c.if-not-may_reopen.false).3
 
-pub returns-clause-shaped : goal.returns-clause-shaped
-returns-clause-shaped c =
+pub returns : goal.returns
+returns c =
     let def = c.args.language.now.definition in
     let found = c.in-Ok.found in
-    let made : Made = record { kind = found.held.now.kind; tree = c.in_ok-tree.tree; path = c.in_ok-path.path } in
-    let done = ok_at (IsSet c.tree.result.now found.path.now true) c.set_unfinished.result c.in_ok-tree.tree
-    c.in_ok-tree.ensures c.set_unfinished.ensures.ok in
-    plan_shaped def c.args.editor.now c.args.place.now found c.requires.editor c.in-Ok.ensures.ok made (ended true)
-    (done.made_is ∙ ap (change_at (ended true) found.path.now) c.tree.ensures) refl
-    (reopen_keeps def found.node.now (c.may_reopen.ensures.0 c.if-not-may_reopen.false))
-
-pub tree_of-requires : goal.tree_of-requires
-tree_of-requires c =
-    let found = c.in-Ok.found in
-    ends c.tree.result.now found.held.now.note.tree c.tree.ensures found.path.now found.node.now
-    c.in-Ok.ensures.ok.node (end_is_list c.args.language.now.definition found.node.now false (c.may_reopen.ensures.0 c.if-not-may_reopen.false).3) c.set_unfinished.result c.set_unfinished.ensures.err
+    subst (IsMade def c.args.editor.now (Reopen c.args.place.now)) (sym c.in_ok-made.ensures)
+    (reopen_made def c.args.editor.now c.args.place.now found c.in-Ok.ensures.ok c.requires.editor
+    (c.may_reopen.ensures.0 c.if-not-may_reopen.false) c.in_ok-new.new c.in_ok-new.ensures)

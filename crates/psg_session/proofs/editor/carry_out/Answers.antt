@@ -1,19 +1,81 @@
-use Rattle.std.proofs.Common.{subst}
-use Rattle.psg_session.specs.Outcomes.{IsPlan, IsPlanShaped}
-use Rattle.psg_session.proofs.Carrying.{carried, refused_plan}
+use Rattle.std.proofs.Common.{refl, sym, subst}
+use Rattle.psg_session.specs.Outcomes.{IsJudged, IsMade, IsPlan}
+use Rattle.psg_session.specs.Edits.{edited}
+use Rattle.psg_session.specs.Sessions.{state_of, tree_in}
+use Rattle.psg_session.proofs.Carrying.{changed_here, may_here, refused_here, refused_plan, ticks_here}
+use Rattle.psg_session.proofs.EditLaws.{opened_version}
+use Rattle.psg_session.proofs.Ticking.{quiet}
 use Rattle.psg_session.proofs.editor.carry_out.Goals as goal
 
-pub returns-in-RefusedBy : goal.returns-in-RefusedBy
-returns-in-RefusedBy g c = λ editor command plan shaped.
-    refused_plan c.args.language.now.definition editor command c.args.change c.in-RefusedBy.number
-    (subst (IsPlan c.args.language.now.definition editor command c.args.change) c.in-RefusedBy.is plan)
+pub returns-in-RefusedBy-clause-outcome : goal.returns-in-RefusedBy-clause-outcome
+returns-in-RefusedBy-clause-outcome g c = λ command plan.
+    refused_plan c.args.language.now.definition c.args.editor.now command c.in-RefusedBy.refusal
+    (subst (IsPlan c.args.language.now.definition c.args.editor.now command) c.in-RefusedBy.is plan)
 
-pub judge-requires-clause-shaped : goal.judge-requires-clause-shaped
-judge-requires-clause-shaped g c =
-    let (editor, shaped) = c.requires.shaped in (subst (IsPlanShaped c.args.language.now.definition editor) c.in-Makes.is shaped).1
+pub returns-in-RefusedBy-clause-ticks : goal.returns-in-RefusedBy-clause-ticks
+returns-in-RefusedBy-clause-ticks g c = λ command plan.
+    quiet c.args.language.now.definition (state_of c.args.editor.now) command _ _ refl
 
-pub returns-in_ok-outcome-in-Makes : goal.returns-in_ok-outcome-in-Makes
-returns-in_ok-outcome-in-Makes g c = λ editor command plan shaped.
+pub returns-in_default-clause-outcome : goal.returns-in_default-clause-outcome
+returns-in_default-clause-outcome g c = λ command plan.
+    let made : IsMade c.args.language.now.definition c.args.editor.now command c.in-Makes.made =
+    subst (IsPlan c.args.language.now.definition c.args.editor.now command) c.in-Makes.is plan in
+    absurd (c.in_default.not-Some made.held made.opened)
+
+pub returns-in_default-clause-ticks : goal.returns-in_default-clause-ticks
+returns-in_default-clause-ticks g c = λ command plan.
+    quiet c.args.language.now.definition (state_of c.args.editor.now) command _ _ refl
+
+pub note_after-noted-requires-clause-formed : goal.note_after-noted-requires-clause-formed
+note_after-noted-requires-clause-formed g c =
+    (c.in-Some.held.kind, (opened_version c.args.language.now.definition c.args.editor.now c.in-Some.held
+    c.requires.editor c.in-Some.is).shaped)
+
+pub note_after-noted-requires-clause-may : goal.note_after-noted-requires-clause-may
+note_after-noted-requires-clause-may g c =
+    let (command, plan) = c.requires.plan in
+    may_here c.args.language.now.definition c.args.editor.now command c.in-Makes.made
+    (subst (IsPlan c.args.language.now.definition c.args.editor.now command) c.in-Makes.is plan)
+    c.in-Some.held c.in-Some.is
+
+pub returns-in-Err-clause-outcome : goal.returns-in-Err-clause-outcome
+returns-in-Err-clause-outcome g c = λ command plan.
     let def = c.args.language.now.definition in
-    let ((held, opened, kind), formed) = subst (IsPlanShaped def editor) c.in-Makes.is shaped in
-    carried def editor command c.args.change c.in-Makes.made held opened kind (subst (IsPlan def editor command c.args.change) c.in-Makes.is plan) c.in_ok-outcome-in-Makes.outcome c.in_ok-outcome-in-Makes.ensures
+    let f = edited c.in-Makes.made.edit (tree_in c.in-Some.held.note) in
+    refused_here def c.args.editor.now command c.in-Makes.made
+    (subst (IsPlan def c.args.editor.now command) c.in-Makes.is plan) c.in-Some.held c.in-Some.is
+    c.in-Err.refusal (subst (IsJudged def c.in-Makes.made.trial f) c.in-Err.is (c.in_ok-note.ensures def f
+    c.note_after-noted.ensures.noted))
+
+pub returns-in-Err-clause-ticks : goal.returns-in-Err-clause-ticks
+returns-in-Err-clause-ticks g c = λ command plan.
+    ticks_here c.args.language.now.definition c.args.editor.now command c.in-Makes.made
+    (subst (IsPlan c.args.language.now.definition c.args.editor.now command) c.in-Makes.is plan)
+    c.in-Some.held c.in-Some.is _ _ c.note_after-noted.ensures.ticks
+
+pub returns-in_err-note-clause-ticks : goal.returns-in_err-note-clause-ticks
+returns-in_err-note-clause-ticks g c = λ command plan.
+    ticks_here c.args.language.now.definition c.args.editor.now command c.in-Makes.made
+    (subst (IsPlan c.args.language.now.definition c.args.editor.now command) c.in-Makes.is plan)
+    c.in-Some.held c.in-Some.is _ _ c.note_after-noted.ensures.ticks
+
+pub returns-in_err-mark-clause-ticks : goal.returns-in_err-mark-clause-ticks
+returns-in_err-mark-clause-ticks g c = λ command plan.
+    ticks_here c.args.language.now.definition c.args.editor.now command c.in-Makes.made
+    (subst (IsPlan c.args.language.now.definition c.args.editor.now command) c.in-Makes.is plan)
+    c.in-Some.held c.in-Some.is _ _ c.note_after-noted.ensures.ticks
+
+pub returns-clause-outcome : goal.returns-clause-outcome
+returns-clause-outcome g c = λ command plan.
+    let def = c.args.language.now.definition in
+    let f = edited c.in-Makes.made.edit (tree_in c.in-Some.held.note) in
+    changed_here def c.args.editor.now command c.in-Makes.made
+    (subst (IsPlan def c.args.editor.now command) c.in-Makes.is plan) c.in-Some.held c.in-Some.is c.requires.editor
+    c.in-Ok.note (subst (IsJudged def c.in-Makes.made.trial f) c.in-Ok.is (c.in_ok-note.ensures def f
+    c.note_after-noted.ensures.noted)) c.in_ok-mark.mark c.in_ok-mark.ensures
+
+pub returns-clause-ticks : goal.returns-clause-ticks
+returns-clause-ticks g c = λ command plan.
+    ticks_here c.args.language.now.definition c.args.editor.now command c.in-Makes.made
+    (subst (IsPlan c.args.language.now.definition c.args.editor.now command) c.in-Makes.is plan)
+    c.in-Some.held c.in-Some.is _ _ c.note_after-noted.ensures.ticks

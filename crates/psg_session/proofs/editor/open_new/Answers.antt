@@ -1,18 +1,20 @@
-use Rattle.std.proofs.Common.{[], Some, sym, ap, subst, ◌∙◌, true≢false}
+use Rattle.std.proofs.Common.{Some, Ok, Err, sym, ap, subst, ◌∙◌, true≢false}
 use Rattle.psg_cache.specs.Shaped.{IsShaped}
 use Rattle.psg_cache.proofs.ShapedTrees.{blank_shaped}
-use Rattle.psg_session.specs.declared.judging.Change.TheVariants.{Opens}
+use Rattle.psg_session.specs.declared.judging.Trial.TheVariants.{Opens}
 use Rattle.psg_session.specs.Outcomes.{IsJudged}
-use Rattle.psg_session.proofs.Carrying.{opened_new, new_unknown, new_declaring}
+use Rattle.psg_session.specs.Sessions.{state_of}
+use Rattle.psg_session.proofs.Carrying.{new_declaring, new_opened, new_refused, new_unknown}
 use Rattle.psg_session.proofs.Opening.{has_kind, one_kind}
+use Rattle.psg_session.proofs.Ticking.{new_counted}
 use Rattle.psg_session.proofs.editor.open_new.Goals as goal
-
-pub returns-in_default : goal.returns-in_default
-returns-in_default g c = new_unknown c.args.language.now.definition c.args.name.now
-    (λ kind named. c.in_default.not-Some kind (c.kind_named.ensures.only kind (named ∙ ap Some (sym c.as_str.ensures))))
 
 pub kind_named-requires : goal.kind_named-requires
 kind_named-requires g c = c.requires.language.sound
+
+pub returns-in_default-clause-outcome : goal.returns-in_default-clause-outcome
+returns-in_default-clause-outcome g c = new_unknown c.args.language.now.definition c.args.editor.now c.args.name.now
+    (λ kind named. c.in_default.not-Some kind (c.kind_named.ensures.only kind (named ∙ ap Some (sym c.as_str.ensures))))
 
 pub is_declaring-requires-clause-kind : goal.is_declaring-requires-clause-kind
 is_declaring-requires-clause-kind g c = has_kind c.args.language.now.definition c.in-Some.kind c.as_str.result.now c.in-Some.ensures.found
@@ -20,19 +22,60 @@ is_declaring-requires-clause-kind g c = has_kind c.args.language.now.definition 
 pub blank-requires : goal.blank-requires
 blank-requires g c = has_kind c.args.language.now.definition c.in-Some.kind c.as_str.result.now c.in-Some.ensures.found
 
-pub returns-then-is_declaring : goal.returns-then-is_declaring
-returns-then-is_declaring g c = new_declaring c.args.language.now.definition c.args.name.now c.in-Some.kind
+pub returns-then-is_declaring-clause-outcome : goal.returns-then-is_declaring-clause-outcome
+returns-then-is_declaring-clause-outcome g c = new_declaring c.args.language.now.definition c.args.editor.now c.args.name.now c.in-Some.kind
     (c.in-Some.ensures.found ∙ ap Some c.as_str.ensures) (c.is_declaring.ensures.0 c.if-is_declaring.true)
 
-pub judge-requires-clause-shaped : goal.judge-requires-clause-shaped
-judge-requires-clause-shaped g c = subst (λ f. IsShaped c.args.language.now.definition f c.in-Some.kind) (sym c.in_ok-tree.ensures)
-    (blank_shaped c.args.language.now.definition c.in-Some.kind (has_kind c.args.language.now.definition c.in-Some.kind c.as_str.result.now c.in-Some.ensures.found))
+pub note_of-noted-requires-clause-formed : goal.note_of-noted-requires-clause-formed
+note_of-noted-requires-clause-formed g c = (c.in-Some.kind, subst (λ f. IsShaped c.args.language.now.definition f c.in-Some.kind) (sym c.in_ok-tree.ensures)
+    (blank_shaped c.args.language.now.definition c.in-Some.kind (has_kind c.args.language.now.definition c.in-Some.kind c.as_str.result.now c.in-Some.ensures.found)))
 
-pub returns : goal.returns
-returns g c =
+pub returns-in_err-note-clause-ticks : goal.returns-in_err-note-clause-ticks
+returns-in_err-note-clause-ticks g c =
+    new_counted c.args.language.now.definition (state_of c.args.editor.now) c.args.name.now c.in-Some.kind
+    c.in_ok-tree.tree c.in_ok-tree.ensures _ _ c.note_of-noted.ensures.ticks
+
+pub returns-in-Err-clause-outcome : goal.returns-in-Err-clause-outcome
+returns-in-Err-clause-outcome g c =
     let def = c.args.language.now.definition in
-    λ editor. opened_new def c.args.name.now c.in-Some.kind (c.in-Some.ensures.found ∙ ap Some c.as_str.ensures)
-    (one_kind def c.requires.language.sound c.in-Some.kind c.args.name.now (c.in-Some.ensures.found ∙ ap Some c.as_str.ensures))
-    (λ declares. true≢false (sym (c.is_declaring.ensures.1 declares) ∙ c.if-is_declaring.false)) editor c.in_ok-outcome.outcome
-    (subst (λ f. IsJudged def Opens c.in-Some.kind f [] c.in_ok-outcome.outcome) c.in_ok-tree.ensures
-    (subst (λ p. IsJudged def Opens c.in-Some.kind c.in_ok-tree.tree p c.in_ok-outcome.outcome) c.in_ok-top.ensures c.in_ok-outcome.ensures))
+    let named = c.in-Some.ensures.found ∙ ap Some c.as_str.ensures in
+    new_refused def c.args.editor.now c.args.name.now c.in-Some.kind named
+    (one_kind def c.requires.language.sound c.in-Some.kind c.args.name.now named)
+    (λ declares. true≢false (sym (c.is_declaring.ensures.1 declares) ∙ c.if-is_declaring.false)) c.in-Err.refusal
+    (subst (λ f. IsJudged def Opens f (Err c.in-Err.refusal)) c.in_ok-tree.ensures
+    (subst (IsJudged def Opens c.in_ok-tree.tree) c.in-Err.is
+    (c.in_ok-note.ensures def c.in_ok-tree.tree c.note_of-noted.ensures.noted)))
+
+pub returns-in-Err-clause-ticks : goal.returns-in-Err-clause-ticks
+returns-in-Err-clause-ticks g c =
+    new_counted c.args.language.now.definition (state_of c.args.editor.now) c.args.name.now c.in-Some.kind
+    c.in_ok-tree.tree c.in_ok-tree.ensures _ _ c.note_of-noted.ensures.ticks
+
+pub returns-in_err-mark-clause-ticks : goal.returns-in_err-mark-clause-ticks
+returns-in_err-mark-clause-ticks g c =
+    new_counted c.args.language.now.definition (state_of c.args.editor.now) c.args.name.now c.in-Some.kind
+    c.in_ok-tree.tree c.in_ok-tree.ensures _ _ c.note_of-noted.ensures.ticks
+
+pub returns-in_err-cursor-clause-ticks : goal.returns-in_err-cursor-clause-ticks
+returns-in_err-cursor-clause-ticks g c =
+    new_counted c.args.language.now.definition (state_of c.args.editor.now) c.args.name.now c.in-Some.kind
+    c.in_ok-tree.tree c.in_ok-tree.ensures _ _ c.note_of-noted.ensures.ticks
+
+pub returns-clause-outcome : goal.returns-clause-outcome
+returns-clause-outcome g c =
+    let def = c.args.language.now.definition in
+    let kind = c.in-Some.kind in
+    let named = c.in-Some.ensures.found ∙ ap Some c.as_str.ensures in
+    new_opened def c.args.editor.now c.args.name.now kind named
+    (one_kind def c.requires.language.sound kind c.args.name.now named)
+    (λ declares. true≢false (sym (c.is_declaring.ensures.1 declares) ∙ c.if-is_declaring.false))
+    (blank_shaped def kind (has_kind def kind c.as_str.result.now c.in-Some.ensures.found)) c.in-Ok.note
+    (subst (λ f. IsJudged def Opens f (Ok c.in-Ok.note)) c.in_ok-tree.ensures
+    (subst (IsJudged def Opens c.in_ok-tree.tree) c.in-Ok.is
+    (c.in_ok-note.ensures def c.in_ok-tree.tree c.note_of-noted.ensures.noted)))
+    c.in_ok-cursor.cursor c.in_ok-cursor.ensures c.in_ok-mark.mark c.in_ok-mark.ensures
+
+pub returns-clause-ticks : goal.returns-clause-ticks
+returns-clause-ticks g c =
+    new_counted c.args.language.now.definition (state_of c.args.editor.now) c.args.name.now c.in-Some.kind
+    c.in_ok-tree.tree c.in_ok-tree.ensures _ _ c.note_of-noted.ensures.ticks

@@ -1,8 +1,6 @@
-use Rattle.std.proofs.Common.{sym, subst}
-use Rattle.psg_session.specs.Outcomes.{IsOutcome}
+use Rattle.psg_session.proofs.Unbuilt.{else_by}
 use Rattle.psg_session.proofs.editor.step.Goals as goal
 
-pub returns-in_ok-outcome-in-New-clause-outcome : goal.returns-in_ok-outcome-in-New-clause-outcome
-returns-in_ok-outcome-in-New-clause-outcome g c =
-    subst (λ command. IsOutcome c.args.language.now.definition c.args.editor.now command c.in_ok-outcome-in-New.outcome) (sym c.in-New.is)
-    (c.in_ok-outcome-in-New.ensures c.args.editor.now)
+pub change-requires-clause-other : goal.change-requires-clause-other
+change-requires-clause-other g c =
+    else_by c.args.command.now c.in_default.not-New c.in_default.not-Show c.in_default.not-Own c.in_default.not-Free

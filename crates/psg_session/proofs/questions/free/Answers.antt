@@ -7,14 +7,18 @@ use Rattle.psg_eval.specs.declared.summary.Known.{Known}
 use Rattle.psg_script.specs.declared.command.Command.TheVariants.{Free}
 use Rattle.psg_session.specs.Answers.{names_line}
 use Rattle.psg_session.specs.Replies.{answered}
-use Rattle.psg_session.specs.Views.{Follows, names_without}
+use Rattle.psg_session.specs.declared.refusal.Refusal.TheVariants.{NothingOpened}
+use Rattle.psg_session.specs.declared.replies.Reply.TheVariants.{Answered, Refused}
+use Rattle.psg_session.specs.Views.{names_without}
 use Rattle.psg_session.proofs.Options.{only_none}
-use Rattle.psg_session.proofs.Asking.{free_unopened, free_opened}
+use Rattle.psg_session.proofs.Asking.{Answers, free_unopened, free_opened, stayed}
 use Rattle.psg_session.proofs.questions.free.Goals as goal
 
 pub returns-in_default : goal.returns-in_default
-returns-in_default c = free_unopened c.args.language.now.definition c.args.editor.now
-    (only_none c.args.editor.now.opened c.in_default.not-Some)
+returns-in_default c =
+    stayed c.args.language.now.definition c.args.editor.now Free (Refused NothingOpened)
+    (free_unopened c.args.language.now.definition c.args.editor.now
+    (only_none c.args.editor.now.opened c.in_default.not-Some))
 
 pub returns : goal.returns
 returns c =
@@ -23,8 +27,9 @@ returns c =
     c.in_ok-push.ensures.items ∙ ap (λ (l : List (String Global)). l ++ line ∷ []) c.new-lines.ensures.items in
     let columns = c.as_slice.ensures ∙ ap (λ (h : Header). h.names)
     (c.header.ensures ∙ ap (λ (k : Known). k.header) c.root.ensures) in
-    subst (λ l. Follows c.args.language.now.definition c.args.editor.now Free c.args.editor.now (answered l))
+    stayed c.args.language.now.definition c.args.editor.now Free (Answered c.push.new.self)
+    (subst (λ l. Answers c.args.language.now.definition c.args.editor.now Free (answered l))
     (sym (ap (map string_bytes) lines))
     (free_opened c.args.language.now.definition c.args.editor.now c.in-Some.held c.in-Some.is c.requires.editor
     (string_bytes line)
-    (c.in_ok-line.ensures ∙ ap (λ (cols : List NameCol). names_line (names_without cols)) columns))
+    (c.in_ok-line.ensures ∙ ap (λ (cols : List NameCol). names_line (names_without cols)) columns)))

@@ -1,5 +1,5 @@
 use Rattle.std.proofs.Common.{◌≡◌, take}
-use Rattle.psg_session.proofs.judging.note_mark.Given as goal
+use Rattle.psg_session.proofs.noting.note_mark.Given as goal
 
 -- the paths so far
 abbrev pub invariant-loop-path : goal.invariant-loop-path

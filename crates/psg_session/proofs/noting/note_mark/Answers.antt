@@ -3,7 +3,7 @@ use Rattle.std.proofs.lemmas.List.{take_more, take_all}
 use Rattle.psg_grammar.specs.Marks.{wrong}
 use Rattle.psg_grammar.specs.Paths.{Path}
 use Rattle.psg_cache.specs.Notes.{mark_by}
-use Rattle.psg_session.proofs.judging.note_mark.Goals as goal
+use Rattle.psg_session.proofs.noting.note_mark.Goals as goal
 
 some_mark : (paths : List Path) → (paths ≡ [] → ⊥) → wrong paths ≡ mark_by paths
 some_mark [] some = absurd (some refl)

@@ -1,0 +1,85 @@
+-- The plain state after an outcome is settled.
+use Rattle.std.proofs.Common.{◌≡◌, inl, inr, ℕ, suc, zero, List, [], ◌∷◌, map, take, Some, None, Option, refl, sym, ◌∙◌, ap, subst}
+use Rattle.std.specs.List.{AllByRecursion}
+use Rattle.psg_grammar.specs.declared.types.Definition.{Definition}
+use Rattle.psg_grammar.specs.Fragments.{Fragment}
+use Rattle.psg_grammar.specs.Paths.{Path}
+use Rattle.psg_cache.specs.declared.note.Noted.{Noted}
+use Rattle.psg_history.specs.Versions.{Versions}
+use Rattle.psg_history.specs.declared.history.TheConstants.{VERSIONS}
+use Rattle.psg_session.specs.declared.editor.Editor.{Editor}
+use Rattle.psg_session.specs.declared.editor.OpenedTree.{OpenedTree}
+use Rattle.psg_session.specs.declared.editor.Outcome.TheVariants.{Opens as OpensTree, Changes}
+use Rattle.psg_session.specs.declared.replies.Mark.{Mark}
+use Rattle.psg_session.specs.Outcomes.{after, changed, IsFit, IsGoneOn}
+use Rattle.psg_session.specs.PlainState.{Opened, State, most_versions}
+use Rattle.psg_session.specs.Sessions.{AreVersions, IsEditor, IsVersion, opened_of, plain, state_of, tree_in}
+
+-- the first of a list, of which something is made
+take_map : {X Y : Type 0} (f : X → Y) (n : ℕ) (xs : List X) → map f (take n xs) ≡ take n (map f xs)
+take_map f zero xs = refl
+take_map f (suc n) [] = refl
+take_map f (suc n) (x ∷ xs) = ap (λ ys. f x ∷ ys) (take_map f n xs)
+
+all_take : {X : Type 0} (P : X → Type 0) (n : ℕ) (xs : List X) → AllByRecursion P xs → AllByRecursion P (take n xs)
+all_take P zero xs h = tt
+all_take P (suc n) [] h = tt
+all_take P (suc n) (x ∷ xs) h = (h.0, all_take P n xs h.1)
+
+abbrev plain_state : Option Opened → Path → List Fragment → List Fragment → State
+plain_state opened cursor earlier later =
+    record { opened = opened; cursor = cursor; earlier = earlier; later = later; saved = [] }
+
+same_state : (e : Editor) (opened : Option Opened) (cursor : Path) (earlier later : List Fragment)
+    → opened_of e.opened ≡ opened → e.cursor ≡ cursor → map tree_in e.history.earlier ≡ earlier
+    → map tree_in e.history.later ≡ later → state_of e ≡ plain_state opened cursor earlier later
+same_state e opened cursor earlier later a b c d =
+    ap (λ o. plain_state o e.cursor (map tree_in e.history.earlier) (map tree_in e.history.later)) a
+    ∙ ap (λ x. plain_state opened x (map tree_in e.history.earlier) (map tree_in e.history.later)) b
+    ∙ ap (λ x. plain_state opened cursor x (map tree_in e.history.later)) c
+    ∙ ap (λ x. plain_state opened cursor earlier x) d
+
+-- ---- another fragment is opened
+
+module _ (old new : Editor) (held : OpenedTree) (cursor : Path) (mark : Mark) (opened : new.opened ≡ Some held)
+    (there : new.cursor ≡ cursor) (earlier : new.history.earlier ≡ []) (later : new.history.later ≡ []) where
+  pub opened_state : state_of new ≡ after old (OpensTree held cursor mark)
+  opened_state =
+      same_state new (Some (plain held)) cursor [] [] (ap opened_of opened) there (ap (map tree_in) earlier)
+      (ap (map tree_in) later)
+
+  pub opened_editor : (def : Definition) → IsFit def old.opened (OpensTree held cursor mark) → IsEditor def new
+  opened_editor def fit = record {
+    earlier = subst (λ o. AreVersions def o new.history.earlier) (sym opened)
+        (fit, subst (AllByRecursion (IsVersion def held.kind)) (sym earlier) tt);
+    later = subst (λ o. AreVersions def o new.history.later) (sym opened)
+        (fit, subst (AllByRecursion (IsVersion def held.kind)) (sym later) tt);
+  }
+
+-- ---- the opened fragment goes on
+
+module _ (old new : Editor) (note : Noted) (cursor : Path) (mark : Mark) where
+  pub gone_state : IsGoneOn old new note cursor → state_of new ≡ after old (Changes note cursor mark)
+  gone_state (inl (none, same)) =
+      ap state_of same
+      ∙ ap (λ (o : Option OpenedTree). changed (state_of old) (opened_of o) (tree_in note) cursor) (sym none)
+  gone_state (inr (held, was, opened, there, earlier, later)) =
+      same_state new (Some (record { kind = held.kind; tree = tree_in note })) cursor
+      (take most_versions (tree_in held.note ∷ map tree_in old.history.earlier)) [] (ap opened_of opened) there
+      (ap (map tree_in) earlier ∙ take_map tree_in VERSIONS (held.note ∷ old.history.earlier))
+      (ap (map tree_in) later)
+      ∙ ap (λ (o : Option OpenedTree). changed (state_of old) (opened_of o) (tree_in note) cursor) (sym was)
+
+  pub gone_editor : (def : Definition) → IsGoneOn old new note cursor → IsEditor def old
+      → IsFit def old.opened (Changes note cursor mark) → IsEditor def new
+  gone_editor def (inl (none, same)) editor fit = subst (IsEditor def) (sym same) editor
+  gone_editor def (inr (held, was, opened, there, earlier, later)) editor fit =
+      let old_versions = subst (λ o. AreVersions def o old.history.earlier) was editor.earlier in
+      let is : IsVersion def held.kind note = subst (λ o. IsFit def o (Changes note cursor mark)) was fit in
+      record {
+        earlier = subst (λ o. AreVersions def o new.history.earlier) (sym opened)
+            (is, subst (AllByRecursion (IsVersion def held.kind)) (sym earlier)
+            (all_take (IsVersion def held.kind) VERSIONS (held.note ∷ old.history.earlier) old_versions));
+        later = subst (λ o. AreVersions def o new.history.later) (sym opened)
+            (is, subst (AllByRecursion (IsVersion def held.kind)) (sym later) tt);
+      }

@@ -1,0 +1,69 @@
+-- A command that is not built is refused.
+use Rattle.std.proofs.Common.{◌≡◌, inl, refl}
+use Rattle.psg_terms.specs.Names.{Name}
+use Rattle.psg_grammar.specs.declared.types.Definition.{Definition}
+use Rattle.psg_script.specs.declared.command.Where.{Where}
+use Rattle.psg_script.specs.declared.command.Command.{Command}
+use Rattle.psg_script.specs.declared.command.Command.TheVariants.{New, Goto, Refine, Insert, Cut, Remove, Close, Reopen, Over, Range, Show, Screen, Relation, Own, Menu, Names, Free, Undo, Redo, Save, Paste, Keep, Fetch}
+use Rattle.psg_session.specs.declared.editor.Editor.{Editor}
+use Rattle.psg_session.specs.declared.editor.Outcome.TheVariants.{Stays}
+use Rattle.psg_session.specs.declared.refusal.Refusal.TheVariants.{NoCommand}
+use Rattle.psg_session.specs.declared.replies.Reply.TheVariants.{Refused}
+use Rattle.psg_session.specs.Outcomes.{IsChanging, IsElse, IsOutcome}
+use Rattle.psg_session.specs.PlainState.{not_asked}
+use Rattle.psg_session.specs.PlainStep.{refuses}
+
+module _ (def : Definition) (e : Editor) where
+  abbrev IsAsNone : Command → Type 0
+  IsAsNone command = IsOutcome def e not_asked command (Stays (Refused NoCommand))
+
+  pub unbuilt_refused : (command : Command) → IsElse command → (IsChanging command → ⊥) → IsAsNone command
+  unbuilt_refused (New name) other never = absurd other
+  unbuilt_refused Show other never = absurd other
+  unbuilt_refused (Own place) other never = absurd other
+  unbuilt_refused Free other never = absurd other
+  unbuilt_refused (Refine place name args) other never = absurd (never tt)
+  unbuilt_refused (Insert place k name args) other never = absurd (never tt)
+  unbuilt_refused (Cut place) other never = absurd (never tt)
+  unbuilt_refused (Remove place k) other never = absurd (never tt)
+  unbuilt_refused (Close place) other never = absurd (never tt)
+  unbuilt_refused (Reopen place) other never = absurd (never tt)
+  unbuilt_refused (Goto place) other never = record { steps = refuses (inl (tt, refl)); fit = tt }
+  unbuilt_refused (Over place text) other never = record { steps = refuses (inl (tt, refl)); fit = tt }
+  unbuilt_refused (Range start end text) other never = record { steps = refuses (inl (tt, refl)); fit = tt }
+  unbuilt_refused (Screen top left rows cols) other never = record { steps = refuses (inl (tt, refl)); fit = tt }
+  unbuilt_refused (Relation place) other never = record { steps = refuses (inl (tt, refl)); fit = tt }
+  unbuilt_refused (Menu place k) other never = record { steps = refuses (inl (tt, refl)); fit = tt }
+  unbuilt_refused (Names place k name) other never = record { steps = refuses (inl (tt, refl)); fit = tt }
+  unbuilt_refused Undo other never = record { steps = refuses (inl (tt, refl)); fit = tt }
+  unbuilt_refused Redo other never = record { steps = refuses (inl (tt, refl)); fit = tt }
+  unbuilt_refused (Save name place) other never = record { steps = refuses (inl (tt, refl)); fit = tt }
+  unbuilt_refused (Paste place k name) other never = record { steps = refuses (inl (tt, refl)); fit = tt }
+  unbuilt_refused (Keep name file) other never = record { steps = refuses (inl (tt, refl)); fit = tt }
+  unbuilt_refused (Fetch file) other never = record { steps = refuses (inl (tt, refl)); fit = tt }
+
+pub else_by : (command : Command) → ((name : Name) → command ≡ New name → ⊥) → (command ≡ Show → ⊥)
+    → ((place : Where) → command ≡ Own place → ⊥) → (command ≡ Free → ⊥) → IsElse command
+else_by (New name) a b c d = a name refl
+else_by Show a b c d = b refl
+else_by (Own place) a b c d = c place refl
+else_by Free a b c d = d refl
+else_by (Refine place name args) a b c d = tt
+else_by (Insert place k name args) a b c d = tt
+else_by (Cut place) a b c d = tt
+else_by (Remove place k) a b c d = tt
+else_by (Close place) a b c d = tt
+else_by (Reopen place) a b c d = tt
+else_by (Goto place) a b c d = tt
+else_by (Over place text) a b c d = tt
+else_by (Range start end text) a b c d = tt
+else_by (Screen top left rows cols) a b c d = tt
+else_by (Relation place) a b c d = tt
+else_by (Menu place k) a b c d = tt
+else_by (Names place k name) a b c d = tt
+else_by Undo a b c d = tt
+else_by Redo a b c d = tt
+else_by (Save name place) a b c d = tt
+else_by (Paste place k name) a b c d = tt
+else_by (Keep name file) a b c d = tt
+else_by (Fetch file) a b c d = tt

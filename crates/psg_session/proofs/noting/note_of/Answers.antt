@@ -1,0 +1,21 @@
+use Rattle.std.proofs.Common.{◌≡◌, ◌≤◌, ◌+◌, ap, sym, subst}
+use Rattle.psg_cache.specs.Notes.{AreDeclaringSpaces}
+use Rattle.psg_session.proofs.Ticking.{evaluations_are_work}
+use Rattle.psg_session.proofs.Verdicts.{noted_by}
+use Rattle.psg_session.proofs.noting.note_of.Goals as goal
+
+pub build-requires-clause-sound : goal.build-requires-clause-sound
+build-requires-clause-sound g c = c.requires.language.sound
+
+pub build-requires-clause-declaring : goal.build-requires-clause-declaring
+build-requires-clause-declaring g c =
+    subst (AreDeclaringSpaces c.args.language.now.definition) (sym c.as_slice-declaring.ensures.value)
+    c.requires.language.declaring
+
+pub returns-clause-noted : goal.returns-clause-noted
+returns-clause-noted g c =
+    noted_by c.args.language.now.definition c.args.tree.now c.build.result c.build.ensures.note c.build.ensures.fault
+
+pub returns-clause-ticks : goal.returns-clause-ticks
+returns-clause-ticks g c =
+    subst (λ n. c.build.new.steps ≤ c.args.steps.now + n) (evaluations_are_work c.args.tree.now) c.build.ensures.bounded

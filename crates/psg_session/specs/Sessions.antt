@@ -1,0 +1,57 @@
+-- The plain state that an editor is in.
+use Rattle.std.specs.Prelude.{ℕ, ◌≡◌, ◌+◌, ◌≤◌, List, [], ◌∷◌, ◌++◌, length, map, Option, Some, None}
+use Rattle.std.specs.List.{AllByRecursion}
+use Rattle.psg_grammar.specs.declared.types.Kind.{Kind}
+use Rattle.psg_grammar.specs.declared.types.Definition.{Definition}
+use Rattle.psg_grammar.specs.Fragments.{Fragment}
+use Rattle.psg_cache.specs.Notes.{IsNoteOf}
+use Rattle.psg_cache.specs.Shaped.{IsShaped}
+use Rattle.psg_cache.specs.declared.note.Noted.{Noted}
+use Rattle.psg_session.specs.declared.editor.Editor.{Editor}
+use Rattle.psg_session.specs.declared.editor.OpenedTree.{OpenedTree}
+use Rattle.psg_session.specs.declared.session.Parts.{Parts}
+use Rattle.psg_session.specs.PlainState.{State, Opened}
+use Rattle.psg_session.specs.Views.{IsLanguage}
+
+-- the tree of a note
+abbrev pub tree_in : Noted → Fragment
+tree_in n = n.tree
+
+-- the opened fragment as the plain editor sees it
+abbrev pub plain : OpenedTree → Opened
+plain held = record { kind = held.kind; tree = tree_in held.note }
+
+abbrev pub opened_of : Option OpenedTree → Option Opened
+opened_of None = None
+opened_of (Some held) = Some (plain held)
+
+-- The plain state that the editor is in. No command saves a fragment yet.
+abbrev pub state_of : Editor → State
+state_of e = record {
+  opened = opened_of e.opened;
+  cursor = e.cursor;
+  earlier = map tree_in e.history.earlier;
+  later = map tree_in e.history.later;
+  saved = [];
+}
+
+module _ (def : Definition) where
+  -- a note of a tree of the kind
+  pub record IsVersion (kind : Kind) (n : Noted) : Type 0 where
+    pub shaped : IsShaped def (tree_in n) kind
+    pub noted : IsNoteOf def (tree_in n) n
+
+  -- the notes are versions of the opened fragment; where nothing is opened there are none
+  abbrev pub AreVersions : Option OpenedTree → List Noted → Type 0
+  AreVersions None versions = versions ≡ []
+  AreVersions (Some held) versions = IsVersion held.kind held.note × AllByRecursion (IsVersion held.kind) versions
+
+  -- the earlier and the later trees are versions of the opened one
+  pub record IsEditor (e : Editor) : Type 0 where
+    pub earlier : AreVersions e.opened e.history.earlier
+    pub later : AreVersions e.opened e.history.later
+
+-- a language, and an editor of its fragments
+pub record IsSession (p : Parts) : Type 0 where
+  pub language : IsLanguage p.language
+  pub editor : IsEditor p.language.definition p.editor

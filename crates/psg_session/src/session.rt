@@ -1,0 +1,157 @@
+//! A session: an editor with its language.
+ghost use Rattle.std.specs.Prelude.{◌≡◌, IfErr, IfOk, MatchOption, None, Some};
+ghost use Rattle.psg_cache.specs.Notes.{IsNoteOf};
+ghost use Rattle.psg_session.specs.Applied.{HasApplied, HasStopped, IsRefusal};
+ghost use Rattle.psg_session.specs.Lines.{HasAnswered, HasBroken};
+ghost use Rattle.psg_session.specs.PlainState.{start, Opened};
+ghost use Rattle.psg_session.specs.Sessions.{state_of};
+ghost use Rattle.psg_session.specs.Views.{reply_of, IsLanguage};
+
+use crate::editor::{Editor, step};
+use crate::language::Language;
+use crate::refusal::Refusal;
+use crate::replies::Reply;
+use psg_cache::Note;
+use psg_history::History;
+use psg_script::{Command, CommandFault, read_command};
+use psg_terms::Steps;
+use psg_tree::Path;
+use psg_world::Files;
+use std::alloc::{AllocError, Global};
+use std::marker::Model;
+use std::sync::ledger::Ledger;
+
+/// What a session keeps.
+#[derive(Drop)]
+pub struct Parts {
+    pub language: Language,
+    pub editor: Editor,
+}
+
+/// An editor of a language's fragments.
+#[derive(Drop)]
+pub struct Session {
+    parts: Parts,
+}
+
+impl Model for Session {
+    ghost use Rattle.psg_session.specs.declared.session.Parts.{Parts as Kept};
+    ghost use Rattle.psg_session.specs.contracts.session.Parts as kept_row;
+    ghost use Rattle.psg_session.specs.Sessions.{IsSession};
+
+    ghost Value = { Kept };
+
+    ghost coded = { kept_row.the_row.coded };
+
+    ghost view = { λ s. s.parts };
+
+    ghost invariant = { λ s. IsSession s.parts };
+}
+
+impl Session {
+    /// Makes an editor in which nothing is opened. It fails where memory runs out, and takes the memory for the versions
+    /// that are kept.
+    pub fn new(alloc: Global, language: Language) -> Result<Session, AllocError>
+        requires language { IsLanguage language }
+        ensures start { IfOk result (λ s. state_of s.editor ≡ start) }
+        ensures language { IfOk result (λ s. s.language ≡ language) }
+    {
+        let cursor = Path::of(alloc, &[])?;
+        let history = History::new(alloc)?;
+        let editor = Editor {
+            opened: None,
+            cursor,
+            history,
+        };
+        Ok(Session {
+            parts: Parts { language, editor },
+        })
+    }
+
+    /// Does what the command says, and gives the reply. After a refusal, and where memory runs out, the session is as it
+    /// was. A change evaluates the whole new fragment, and `own` that of its node; `steps` counts the evaluations.
+    pub fn apply<F: Files, L: Ledger>(
+        &mut self,
+        alloc: Global,
+        command: &Command,
+        files: &mut F,
+        steps: &mut Steps<L>,
+    ) -> Result<Reply, AllocError>
+        ensures applied { IfOk result (λ reply. HasApplied self.old.language.definition (state_of self.old.editor)
+            (state_of self.new.editor) command.now
+            (record { held = F.holds files.old; entries = F.faults files.old })
+            (record { held = F.holds files.new; entries = F.faults files.new })
+            steps.old steps.new (reply_of reply)) }
+        ensures refused { IfOk result (λ reply. IsRefusal (reply_of reply) → self.new ≡ self.old) }
+        ensures stopped { IfErr result (λ _. HasStopped self.old.language.definition (state_of self.old.editor) command.now
+            (record { held = F.holds files.old; entries = F.faults files.old })
+            (record { held = F.holds files.new; entries = F.faults files.new })
+            steps.old steps.new) }
+        ensures memory { IfErr result (λ _. self.new ≡ self.old) }
+        ensures language { self.new.language ≡ self.old.language }
+    {
+        let outcome = step(alloc, &self.parts.language, &self.parts.editor, command, steps)?;
+        let reply = self.parts.editor.settle(outcome);
+        Ok(reply)
+    }
+
+    /// Does what the line says, and gives the reply; a line that is none of a command is refused. After a refusal, and
+    /// where memory runs out, the session is as it was.
+    pub fn apply_line<F: Files, L: Ledger>(
+        &mut self,
+        alloc: Global,
+        line: &[u8],
+        files: &mut F,
+        steps: &mut Steps<L>,
+    ) -> Result<Reply, AllocError>
+        ensures answered { IfOk result (λ reply. HasAnswered self.old.language.definition (state_of self.old.editor)
+            (state_of self.new.editor) line.now
+            (record { held = F.holds files.old; entries = F.faults files.old })
+            (record { held = F.holds files.new; entries = F.faults files.new })
+            steps.old steps.new (reply_of reply)) }
+        ensures refused { IfOk result (λ reply. IsRefusal (reply_of reply) → self.new ≡ self.old) }
+        ensures broken { IfErr result (λ _. HasBroken self.old.language.definition (state_of self.old.editor) line.now
+            (record { held = F.holds files.old; entries = F.faults files.old })
+            (record { held = F.holds files.new; entries = F.faults files.new })
+            steps.old steps.new) }
+        ensures memory { IfErr result (λ _. self.new ≡ self.old) }
+        ensures language { self.new.language ≡ self.old.language }
+    {
+        let command = match read_command(alloc, line) {
+            Ok(command) => command,
+            Err(CommandFault::Memory) => return Err(AllocError),
+            Err(_) => return Ok(Reply::Refused(Refusal::NoCommand)),
+        };
+        let reply = self.apply(alloc, &command, files, steps);
+        // here and not at the end, where the proof would take each command apart on each way out
+        drop(command);
+        let reply = reply?;
+        Ok(reply)
+    }
+
+    /// Gives the note of the opened fragment; `None` where nothing is opened.
+    pub fn note(&self) -> Option<&Note>
+        ensures { MatchOption result (self.now.editor.opened ≡ None) (λ note. (old : Opened)
+            × ((state_of self.now.editor).opened ≡ Some old) × IsNoteOf self.now.language.definition old.tree note.now) }
+    {
+        match &self.parts.editor.opened {
+            Some(held) => Some(&held.note),
+            None => None,
+        }
+    }
+
+    /// Gives the path of the cursor.
+    pub fn cursor(&self) -> &Path
+        ensures { result.now ≡ (state_of self.now.editor).cursor }
+    {
+        &self.parts.editor.cursor
+    }
+
+    /// Gives the language.
+    pub fn language(&self) -> &Language
+        ensures language { result.now ≡ self.now.language }
+        ensures is_language { IsLanguage result.now }
+    {
+        &self.parts.language
+    }
+}
