@@ -11,7 +11,7 @@ use Rattle.psg_grammar.specs.Regions.{names_of}
 use Rattle.psg_grammar.specs.Relations.{IsRelationOf}
 use Rattle.psg_tree.specs.AbstractText.{abstract_text}
 use Rattle.psg_scope.specs.Headers.{keys}
-use Rattle.psg_cache.specs.declared.note.Noted.{Noted}
+use Rattle.psg_cache.specs.Annotated.{Annotated, tree_in}
 use Rattle.psg_cache.specs.Notes.{IsFormed, IsNoteOf, mark_by}
 use Rattle.psg_cache.proofs.ShapedTrees.{node_shaped}
 use Rattle.psg_script.specs.declared.command.Where.{Where}
@@ -29,7 +29,7 @@ use Rattle.psg_session.specs.declared.replies.Reply.{Reply as Given}
 use Rattle.psg_session.specs.Outcomes.{IsFound, IsNotFound, IsOutcome}
 use Rattle.psg_session.specs.PlainState.{State, not_asked}
 use Rattle.psg_session.specs.PlainStep.{Steps, refuses, shows, owns, frees}
-use Rattle.psg_session.specs.Sessions.{IsEditor, IsVersion, plain, state_of, tree_in}
+use Rattle.psg_session.specs.Sessions.{IsEditor, IsVersion, plain, state_of}
 use Rattle.psg_session.specs.Ticks.{HasTicked}
 use Rattle.psg_session.specs.Views.{names_without, reply_of}
 use Rattle.psg_session.proofs.EditLaws.{opened_version}
@@ -87,7 +87,7 @@ module _ (def : Definition) (e : Editor) where
     pub own_not_found : (r : Refusal) → IsNotFound e place r → Answers def e (Own place) (refused r)
     own_not_found r missing = refuses (nowhere def e place r missing)
 
-    pub own_found : (f : Found) → IsFound e place f → (note : Noted) → IsNoteOf def f.node.now note
+    pub own_found : (f : Found) → IsFound e place f → (note : Annotated) → IsNoteOf def f.node.now note
         → (lines : List (List ℕ)) → lines ≡ rows_lines def.signature (keys note.root.header.names) note.root.rel
         → Answers def e (Own place) (answered lines)
     own_found f found note noted lines written =

@@ -10,7 +10,7 @@ use Rattle.psg_grammar.specs.Paths.{Path}
 use Rattle.psg_grammar.specs.Work.{work_of}
 use Rattle.psg_cache.specs.Notes.{IsNoteOf, mark_by}
 use Rattle.psg_cache.specs.Shaped.{IsShaped}
-use Rattle.psg_cache.specs.declared.note.Noted.{Noted}
+use Rattle.psg_cache.specs.Annotated.{Annotated, tree_in}
 use Rattle.psg_script.specs.declared.command.Command.{Command}
 use Rattle.psg_script.specs.declared.command.Command.TheVariants.{New}
 use Rattle.psg_session.specs.declared.changes.Made.{Made}
@@ -31,7 +31,7 @@ use Rattle.psg_session.specs.PlainState.{Opened, State, not_asked, with_change, 
 use Rattle.psg_session.specs.PlainStep.{by_change, by_new, changes, closing, Gives, growing, HasName, IsDeclaringPhylum, IsRefused, loosening, OfResult, opening, opens, refuses, Steps}
 use Rattle.psg_session.specs.Refusals.{Passes, Refuses}
 use Rattle.psg_session.specs.Replies.{marked}
-use Rattle.psg_session.specs.Sessions.{IsEditor, IsVersion, opened_of, plain, state_of, tree_in}
+use Rattle.psg_session.specs.Sessions.{IsEditor, IsVersion, opened_of, plain, state_of}
 use Rattle.psg_session.specs.Ticks.{HasTicked}
 use Rattle.psg_session.specs.Views.{mark_of}
 use Rattle.psg_session.proofs.EditLaws.{edited_shaped, opened_version}
@@ -86,7 +86,7 @@ module _ (def : Definition) (e : Editor) (command : Command) (m : Made) (made : 
     fit = tt;
   }
 
-  new_version : IsEditor def e → (note : Noted) → IsNoteOf def tree note → IsVersion def made.held.kind note
+  new_version : IsEditor def e → (note : Annotated) → IsNoteOf def tree note → IsVersion def made.held.kind note
   new_version editor note noted = record {
     shaped = subst (λ f. IsShaped def f made.held.kind) (sym noted.tree)
         (edited_shaped def m.edit (tree_in made.held.note) made.held.kind
@@ -95,7 +95,7 @@ module _ (def : Definition) (e : Editor) (command : Command) (m : Made) (made : 
   }
 
   -- its tree passes all
-  pub changed_late : IsEditor def e → (note : Noted) → IsJudged def m.trial tree (Ok note) → (mark : Mark)
+  pub changed_late : IsEditor def e → (note : Annotated) → IsJudged def m.trial tree (Ok note) → (mark : Mark)
       → mark_of mark ≡ mark_by note.culprits → IsOutcome def e not_asked command (Changes note m.cursor mark)
   changed_late editor note (noted, passes) mark told =
       let marks : IsMark def tree (mark_of mark) = subst (IsMark def tree) (sym told) noted.mark in
@@ -125,7 +125,7 @@ module _ (def : Definition) (e : Editor) (command : Command) (m : Made) (made : 
     pub may_here : MayEdit def (tree_in held.note) m.edit
     may_here = subst (λ (h : OpenedTree). MayEdit def (tree_in h.note) m.edit) (sym same_held) made.may
 
-    judged_here : (answer : Result Noted Refusal) → IsJudged def m.trial (edited m.edit (tree_in held.note)) answer
+    judged_here : (answer : Result Annotated Refusal) → IsJudged def m.trial (edited m.edit (tree_in held.note)) answer
         → IsJudged def m.trial tree answer
     judged_here answer h =
         subst (λ (h' : OpenedTree). IsJudged def m.trial (edited m.edit (tree_in h'.note)) answer) same_held h
@@ -134,7 +134,7 @@ module _ (def : Definition) (e : Editor) (command : Command) (m : Made) (made : 
         → IsOutcome def e not_asked command (Stays (Refused r))
     refused_here r h = refused_late r (judged_here (Err r) h)
 
-    pub changed_here : IsEditor def e → (note : Noted)
+    pub changed_here : IsEditor def e → (note : Annotated)
         → IsJudged def m.trial (edited m.edit (tree_in held.note)) (Ok note) → (mark : Mark)
         → mark_of mark ≡ mark_by note.culprits → IsOutcome def e not_asked command (Changes note m.cursor mark)
     changed_here editor note h mark told = changed_late editor note (judged_here (Ok note) h) mark told
@@ -200,7 +200,7 @@ module _ (def : Definition) (e : Editor) (name : Name) where
         fit = tt;
       }
 
-      pub new_opened : IsShaped def (blank def kind) kind → (note : Noted)
+      pub new_opened : IsShaped def (blank def kind) kind → (note : Annotated)
           → IsJudged def Opens (blank def kind) (Ok note)
           → (cursor : Path) → cursor ≡ [] → (mark : Mark) → mark_of mark ≡ mark_by note.culprits
           → IsOutcome def e not_asked (New name) (OpensTree (record { kind = kind; note = note }) cursor mark)

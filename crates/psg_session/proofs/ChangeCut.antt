@@ -20,7 +20,8 @@ use Rattle.psg_session.specs.declared.refusal.Refusal.TheVariants.{NoPlaceholder
 use Rattle.psg_session.specs.PlainState.{Opened, named_path}
 use Rattle.psg_session.specs.PlainStep.{AtNode, Gives, by_change, by_cut, IsDeclaringPhylum, Makes}
 use Rattle.psg_session.specs.Outcomes.{IsFound, IsMade, IsNotFound, IsPlan, made_of}
-use Rattle.psg_session.specs.Sessions.{IsEditor, plain, state_of, tree_in}
+use Rattle.psg_session.specs.Sessions.{IsEditor, plain, state_of}
+use Rattle.psg_cache.specs.Annotated.{tree_in}
 use Rattle.psg_session.proofs.StepLaws.{at_node, has_node, is_opened, is_there, node_is, nowhere, opened_is, path_is, same_old}
 use Rattle.psg_session.proofs.ChangeLaws.{kind_is, may_put, put_is}
 

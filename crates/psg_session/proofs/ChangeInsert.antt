@@ -20,7 +20,8 @@ use Rattle.psg_session.specs.declared.refusal.Refusal.TheVariants.{NoPlace}
 use Rattle.psg_session.specs.PlainState.{Opened, named_path}
 use Rattle.psg_session.specs.PlainStep.{AtNode, Gives, by_change, by_insert, IsOfPhylum, IsOperator, IsOther, IsWanted, Makes}
 use Rattle.psg_session.specs.Outcomes.{IsFound, IsFreshAnswer, IsListed, IsMade, IsNotFound, IsPlan, made_of}
-use Rattle.psg_session.specs.Sessions.{plain, state_of, tree_in}
+use Rattle.psg_session.specs.Sessions.{plain, state_of}
+use Rattle.psg_cache.specs.Annotated.{tree_in}
 use Rattle.psg_session.proofs.StepLaws.{at_node, has_node, is_opened, is_there, nowhere, opened_is, path_is, same_old}
 use Rattle.psg_session.proofs.ChangeLaws.{answer_shaped, gives_none, is_other, not_other, one_list_kind, one_operator}
 use Rattle.psg_session.specs.Leaves.{GivesLeaves}

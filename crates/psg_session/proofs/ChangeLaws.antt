@@ -28,7 +28,8 @@ use Rattle.psg_session.specs.Edits.{MayEdit}
 use Rattle.psg_session.specs.Outcomes.{IsFound, IsFreshAnswer}
 use Rattle.psg_session.specs.PlainState.{Opened, named_path}
 use Rattle.psg_session.specs.PlainStep.{GivesNone, IsListOf, IsOfPhylum, IsOperator, IsOther, IsWanted, end_of}
-use Rattle.psg_session.specs.Sessions.{IsEditor, state_of, tree_in}
+use Rattle.psg_session.specs.Sessions.{IsEditor, state_of}
+use Rattle.psg_cache.specs.Annotated.{tree_in}
 use Rattle.psg_session.proofs.EditLaws.{opened_version}
 use Rattle.psg_session.proofs.StepLaws.{at_node, has_node, path_is, some_once}
 

@@ -20,7 +20,8 @@ use Rattle.psg_session.specs.declared.refusal.Refusal.TheVariants.{NotHole}
 use Rattle.psg_session.specs.PlainState.{Opened, named_path}
 use Rattle.psg_session.specs.PlainStep.{AtNode, Gives, by_change, by_refine, IsOfPhylum, IsOperator, IsOther, IsWanted, Makes}
 use Rattle.psg_session.specs.Outcomes.{IsFound, IsFreshAnswer, IsMade, IsNotFound, IsPlan, made_of}
-use Rattle.psg_session.specs.Sessions.{IsEditor, plain, state_of, tree_in}
+use Rattle.psg_session.specs.Sessions.{IsEditor, plain, state_of}
+use Rattle.psg_cache.specs.Annotated.{tree_in}
 use Rattle.psg_session.proofs.StepLaws.{at_node, has_node, is_opened, is_there, nowhere, opened_is, path_is, same_old}
 use Rattle.psg_session.proofs.ChangeLaws.{answer_shaped, gives_none, is_other, may_put, not_other, one_operator, put_is}
 use Rattle.psg_session.specs.Leaves.{GivesLeaves}

@@ -16,7 +16,8 @@ use Rattle.psg_session.specs.declared.refusal.Refusal.TheVariants.{NoPlace}
 use Rattle.psg_session.specs.PlainState.{Opened, named_path}
 use Rattle.psg_session.specs.PlainStep.{AtNode, Gives, by_change, by_remove, Makes}
 use Rattle.psg_session.specs.Outcomes.{IsFound, IsListed, IsMade, IsNotFound, IsPlan, made_of}
-use Rattle.psg_session.specs.Sessions.{plain, state_of, tree_in}
+use Rattle.psg_session.specs.Sessions.{plain, state_of}
+use Rattle.psg_cache.specs.Annotated.{tree_in}
 use Rattle.psg_session.proofs.StepLaws.{at_node, has_node, is_opened, is_there, nowhere, opened_is, path_is, same_old}
 
 -- the node is no list, or has no such element

@@ -21,7 +21,8 @@ use Rattle.psg_session.specs.declared.refusal.Refusal.TheVariants.{NoPlace}
 use Rattle.psg_session.specs.PlainState.{Opened, named_path}
 use Rattle.psg_session.specs.PlainStep.{Gives, by_change, by_reopen, Makes, MayReopen, end_of}
 use Rattle.psg_session.specs.Outcomes.{IsFound, IsListed, IsMade, IsNotFound, IsPlan, made_of}
-use Rattle.psg_session.specs.Sessions.{IsEditor, plain, state_of, tree_in}
+use Rattle.psg_session.specs.Sessions.{IsEditor, plain, state_of}
+use Rattle.psg_cache.specs.Annotated.{tree_in}
 use Rattle.psg_session.proofs.StepLaws.{at_node, has_node, is_opened, is_there, nowhere, opened_is, path_is, same_old}
 use Rattle.psg_session.proofs.ChangeLaws.{end_is_list, kind_is, may_put, one_list_kind, put_is}
 

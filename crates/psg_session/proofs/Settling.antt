@@ -4,7 +4,7 @@ use Rattle.std.specs.List.{AllByRecursion}
 use Rattle.psg_grammar.specs.declared.types.Definition.{Definition}
 use Rattle.psg_grammar.specs.Fragments.{Fragment}
 use Rattle.psg_grammar.specs.Paths.{Path}
-use Rattle.psg_cache.specs.declared.note.Noted.{Noted}
+use Rattle.psg_cache.specs.Annotated.{Annotated, tree_in}
 use Rattle.psg_history.specs.Versions.{Versions}
 use Rattle.psg_history.specs.declared.history.TheConstants.{VERSIONS}
 use Rattle.psg_session.specs.declared.editor.Editor.{Editor}
@@ -13,7 +13,7 @@ use Rattle.psg_session.specs.declared.editor.Outcome.TheVariants.{Opens as Opens
 use Rattle.psg_session.specs.declared.replies.Mark.{Mark}
 use Rattle.psg_session.specs.Outcomes.{after, changed, IsFit, IsGoneOn}
 use Rattle.psg_session.specs.PlainState.{Opened, State, most_versions}
-use Rattle.psg_session.specs.Sessions.{AreVersions, IsEditor, IsVersion, opened_of, plain, state_of, tree_in}
+use Rattle.psg_session.specs.Sessions.{AreVersions, IsEditor, IsVersion, opened_of, plain, state_of}
 
 -- the first of a list, of which something is made
 take_map : {X Y : Type 0} (f : X → Y) (n : ℕ) (xs : List X) → map f (take n xs) ≡ take n (map f xs)
@@ -58,7 +58,7 @@ module _ (old new : Editor) (held : OpenedTree) (cursor : Path) (mark : Mark) (o
 
 -- ---- the opened fragment goes on
 
-module _ (old new : Editor) (note : Noted) (cursor : Path) (mark : Mark) where
+module _ (old new : Editor) (note : Annotated) (cursor : Path) (mark : Mark) where
   pub gone_state : IsGoneOn old new note cursor → state_of new ≡ after old (Changes note cursor mark)
   gone_state (inl (none, same)) =
       ap state_of same

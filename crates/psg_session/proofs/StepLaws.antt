@@ -13,7 +13,8 @@ use Rattle.psg_session.specs.declared.refusal.Refusal.TheVariants.{NoNode, Nothi
 use Rattle.psg_session.specs.Outcomes.{IsFound, IsNotFound}
 use Rattle.psg_session.specs.PlainState.{Opened, named_path}
 use Rattle.psg_session.specs.PlainStep.{AtNode, IsNoNode}
-use Rattle.psg_session.specs.Sessions.{opened_of, plain, state_of, tree_in}
+use Rattle.psg_session.specs.Sessions.{opened_of, plain, state_of}
+use Rattle.psg_cache.specs.Annotated.{tree_in}
 
 pub some_once : {X : Type 0} (x y : X) (o : Option X) → o ≡ Some x → o ≡ Some y → x ≡ y
 some_once x y o e f = let d : Some x ≡ Some y = sym e ∙ f in cc

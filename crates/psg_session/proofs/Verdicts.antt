@@ -8,7 +8,7 @@ use Rattle.psg_grammar.specs.Marks.{IsMark}
 use Rattle.psg_grammar.specs.Paths.{Path}
 use Rattle.psg_grammar.specs.Steps.{IsWide, IsFirstWide, Place, steps_of}
 use Rattle.psg_cache.specs.Notes.{IsNoteOf, IsNoteFault, mark_by}
-use Rattle.psg_cache.specs.declared.note.Noted.{Noted}
+use Rattle.psg_cache.specs.Annotated.{Annotated}
 use Rattle.psg_cache.specs.declared.note.NoteFault.{NoteFault}
 use Rattle.psg_cache.specs.declared.note.NoteFault.TheVariants as faults
 use Rattle.psg_session.specs.declared.judging.Trial.{Trial}
@@ -19,7 +19,7 @@ use Rattle.psg_session.specs.Good.{IsGoodIn}
 use Rattle.psg_session.specs.Outcomes.{IsNoted, IsRefusalOf, MustBeGood, tree_tests}
 use Rattle.psg_session.specs.Refusals.{Refuses, Passes}
 
-pub noted_by : (def : Definition) (f : Fragment) (r : Result Noted NoteFault) → IfOk r (IsNoteOf def f)
+pub noted_by : (def : Definition) (f : Fragment) (r : Result Annotated NoteFault) → IfOk r (IsNoteOf def f)
     → IfErr r (IsNoteFault def f) → IsNoted def f r
 noted_by def f (Ok note) is never = is
 noted_by def f (Err fault) never is = is
@@ -53,7 +53,7 @@ judged_fault def Closes f faults.Heavy r (never, e) (shallow, small, narrow, h) 
 judged_fault def Loosens f faults.Heavy r (never, e) (shallow, small, narrow, h) = inr (narrow, inl (h, sym e))
 judged_fault def trial f faults.Memory r h g = absurd h
 
-module _ (def : Definition) (f : Fragment) (note : Noted) (noted : IsNoteOf def f note) where
+module _ (def : Definition) (f : Fragment) (note : Annotated) (noted : IsNoteOf def f note) where
   not_good : (note.culprits ≡ [] → ⊥) → IsGoodIn def f → ⊥
   not_good some = go note.culprits some noted.mark where
     go : (paths : List Path) → (paths ≡ [] → ⊥) → IsMark def f (mark_by paths) → IsGoodIn def f → ⊥

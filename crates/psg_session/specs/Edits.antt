@@ -17,33 +17,11 @@ edited (Put at new) f = replaced at new f
 edited (Add at place new) f = change_at (inserted place new) at f
 edited (Take at place) f = change_at (removed place) at f
 
-module _ (def : Definition) (f : Fragment) (path : Path) where
-  -- the path leads to a node of the new tree's kind
-  pub record MayReplace (new : Fragment) : Type 0 where
-    pub node : Fragment
-    pub there : node_at f path ≡ Some node
-    pub kind : Kind
-    pub of_kind : IsOfKind def node kind
-    pub shaped : IsShaped def new kind
-
-  -- the path leads to a list that takes the new tree before the place
-  pub record MayInsert (place : ℕ) (new : Fragment) : Type 0 where
-    pub node : Fragment
-    pub there : node_at f path ≡ Some node
-    pub is_list : IsList node
-    pub number : ℕ
-    pub of_kind : IsOfKind def node (kinds.List number)
-    pub list : ListKind
-    pub found : slice_get def.lists number ≡ Some list
-    pub shaped : IsShaped def new (kinds.Phylum list.element)
-    pub within : place ≤ length (children_of node)
-
-  -- the path leads to a list with an element at the place
-  pub record MayRemove (place : ℕ) : Type 0 where
-    pub node : Fragment
-    pub there : node_at f path ≡ Some node
-    pub is_list : IsList node
-    pub within : place < length (children_of node)
+-- how many evaluations the change may take: those of what is new, and of the nodes and list suffixes above it
+abbrev pub cost_of : Edit → Fragment → ℕ
+cost_of (Put at new) f = work_of new + climb_of f at
+cost_of (Add at place new) f = work_of new + (place + 1) + climb_of f at
+cost_of (Take at place) f = place + climb_of f at
 
 -- the change can be made, and leaves a tree of the same kind
 abbrev pub MayEdit : Definition → Fragment → Edit → Type 0

@@ -6,7 +6,7 @@ use Rattle.psg_grammar.specs.Fragments.{Fragment, children_of}
 use Rattle.psg_grammar.specs.Insertion.{Leaf, fresh_operator}
 use Rattle.psg_grammar.specs.Paths.{Path, node_at, IsList}
 use Rattle.psg_cache.specs.Notes.{IsNoteOf, IsNoteFault}
-use Rattle.psg_cache.specs.declared.note.Noted.{Noted}
+use Rattle.psg_cache.specs.Annotated.{Annotated, tree_in}
 use Rattle.psg_cache.specs.declared.note.NoteFault.{NoteFault}
 use Rattle.psg_cache.specs.declared.note.NoteFault.TheVariants as faults
 use Rattle.psg_history.specs.declared.history.TheConstants.{VERSIONS}
@@ -35,7 +35,7 @@ use Rattle.psg_session.specs.PlainState.{Answer, Opened, State, not_asked, named
 use Rattle.psg_session.specs.Leaves.{GivesLeaves}
 use Rattle.psg_session.specs.PlainStep.{Gives, IsRefused, IsTaken, Makes, IsOperator, IsOfPhylum, IsListOf, OfResult, Steps, end_of, opening, growing, closing, loosening}
 use Rattle.psg_session.specs.Refusals.{Tests, Refuses, Passes}
-use Rattle.psg_session.specs.Sessions.{IsVersion, opened_of, plain, state_of, tree_in}
+use Rattle.psg_session.specs.Sessions.{IsVersion, opened_of, plain, state_of}
 use Rattle.psg_session.specs.Views.{reply_of}
 
 -- ---- what a command does to the editor
@@ -76,7 +76,7 @@ pub record IsOutcome (def : Definition) (e : Editor) (answer : Answer) (command 
   pub fit : IsFit def e.opened outcome
 
 -- the editor went on with another version of the opened fragment; where nothing was opened it stays
-abbrev pub IsGoneOn : Editor → Editor → Noted → Path → Type 0
+abbrev pub IsGoneOn : Editor → Editor → Annotated → Path → Type 0
 IsGoneOn old new note cursor =
     ((old.opened ≡ None) × (new ≡ old))
     ⊎ ((held : OpenedTree) × (old.opened ≡ Some held)
@@ -108,12 +108,12 @@ tree_tests def Closes Of = closing def (IsGoodIn def) Of
 tree_tests def Loosens Of = loosening def (IsGoodIn def) Of
 
 -- the tree's note, or why there is none
-abbrev pub IsNoted : Definition → Fragment → Result Noted NoteFault → Type 0
+abbrev pub IsNoted : Definition → Fragment → Result Annotated NoteFault → Type 0
 IsNoted def f (Ok note) = IsNoteOf def f note
 IsNoted def f (Err fault) = IsNoteFault def f fault
 
 -- the note of the tree, which passes all tests; or the refusal of the first test that it fails
-abbrev pub IsJudged : Definition → Trial → Fragment → Result Noted Refusal → Type 0
+abbrev pub IsJudged : Definition → Trial → Fragment → Result Annotated Refusal → Type 0
 IsJudged def trial f (Ok note) = IsNoteOf def f note × Passes (tree_tests def trial (λ P. P f))
 IsJudged def trial f (Err r) = Refuses (tree_tests def trial (λ P. P f)) r
 

@@ -6,16 +6,12 @@ use Rattle.psg_grammar.specs.declared.types.Definition.{Definition}
 use Rattle.psg_grammar.specs.Fragments.{Fragment}
 use Rattle.psg_cache.specs.Notes.{IsNoteOf}
 use Rattle.psg_cache.specs.Shaped.{IsShaped}
-use Rattle.psg_cache.specs.declared.note.Noted.{Noted}
+use Rattle.psg_cache.specs.Annotated.{Annotated, tree_in}
 use Rattle.psg_session.specs.declared.editor.Editor.{Editor}
 use Rattle.psg_session.specs.declared.editor.OpenedTree.{OpenedTree}
 use Rattle.psg_session.specs.declared.session.Parts.{Parts}
 use Rattle.psg_session.specs.PlainState.{State, Opened}
 use Rattle.psg_session.specs.Views.{IsLanguage}
-
--- the tree of a note
-abbrev pub tree_in : Noted → Fragment
-tree_in n = n.tree
 
 -- the opened fragment as the plain editor sees it
 abbrev pub plain : OpenedTree → Opened
@@ -37,12 +33,12 @@ state_of e = record {
 
 module _ (def : Definition) where
   -- a note of a tree of the kind
-  pub record IsVersion (kind : Kind) (n : Noted) : Type 0 where
+  pub record IsVersion (kind : Kind) (n : Annotated) : Type 0 where
     pub shaped : IsShaped def (tree_in n) kind
     pub noted : IsNoteOf def (tree_in n) n
 
   -- the notes are versions of the opened fragment; where nothing is opened there are none
-  abbrev pub AreVersions : Option OpenedTree → List Noted → Type 0
+  abbrev pub AreVersions : Option OpenedTree → List Annotated → Type 0
   AreVersions None versions = versions ≡ []
   AreVersions (Some held) versions = IsVersion held.kind held.note × AllByRecursion (IsVersion held.kind) versions
 

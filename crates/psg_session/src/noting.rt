@@ -1,20 +1,20 @@
 //! Notes of the trees that commands make, and what is read from them.
 ghost use Rattle.std.specs.Prelude.{◌≡◌, ◌+◌, ◌≤◌, Err, IfOk, Ok};
-ghost use Rattle.psg_cache.specs.Notes.{IsFormed, mark_by};
-ghost use Rattle.psg_grammar.specs.declared.types.Definition.{Definition};
+ghost use Rattle.psg_cache.specs.Blames.{culprits_in};
+ghost use Rattle.psg_cache.specs.Notes.{IsFormed, IsNoteOf, mark_by};
 ghost use Rattle.psg_grammar.specs.Work.{work_of};
-ghost use Rattle.psg_session.specs.Edits.{edited, MayEdit};
+ghost use Rattle.psg_session.specs.Edits.{cost_of, edited, MayEdit};
 ghost use Rattle.psg_session.specs.Outcomes.{IsNoted};
-ghost use Rattle.psg_session.specs.Sessions.{tree_in};
+ghost use Rattle.psg_cache.specs.Annotated.{tree_in};
 ghost use Rattle.psg_session.specs.Views.{mark_of, IsLanguage};
 ghost use Rattle.psg_tree.specs.declared.places.TreeFault.TheVariants.{Memory};
 
 use crate::edits::Edit;
 use crate::language::Language;
 use crate::replies::Mark;
-use psg_cache::{Note, NoteFault, build};
+use psg_cache::{Note, NoteFault, build, inserted, removed, replaced};
 use psg_terms::Steps;
-use psg_tree::{Path, Tree, TreeFault, insert, remove, replace};
+use psg_tree::{Tree, TreeFault};
 use std::alloc::{AllocError, Global};
 use std::sync::ledger::Ledger;
 
@@ -34,8 +34,8 @@ pub fn note_of<L: Ledger>(
     build(alloc, &language.definition, declaring, tree, steps)
 }
 
-/// Gives the note of the note's tree with the change made. It evaluates the whole new tree, and `steps` counts the
-/// evaluations.
+/// Gives the note of the note's tree with the change made. It evaluates what is new and the nodes above it, and `steps`
+/// counts the evaluations.
 pub fn note_after<L: Ledger>(
     alloc: Global,
     language: &Language,
@@ -44,33 +44,19 @@ pub fn note_after<L: Ledger>(
     steps: &mut Steps<L>,
 ) -> Result<Note, NoteFault>
     requires language { IsLanguage language.now }
-    requires formed { IsFormed language.now.definition (tree_in note.now) }
+    requires noted { IsNoteOf language.now.definition (tree_in note.now) note.now }
     requires may { MayEdit language.now.definition (tree_in note.now) edit.now }
     ensures noted { IsNoted language.now.definition (edited edit.now (tree_in note.now)) result }
-    ensures ticks { steps.new ≤ steps.old + work_of (edited edit.now (tree_in note.now)) }
+    ensures ticks { steps.new ≤ steps.old + cost_of edit.now (tree_in note.now) }
 {
-    let tree = tree_after(alloc, note.tree(), edit)?;
-    note_of(alloc, language, &tree, steps)
-}
-
-/// Gives the tree with the change made.
-fn tree_after(alloc: Global, tree: &Tree, edit: &Edit) -> Result<Tree, AllocError>
-    requires may { (def : Definition) × MayEdit def tree.now edit.now }
-    ensures { IfOk result (λ made. made ≡ edited edit.now tree.now) }
-{
+    let definition = &language.definition;
+    let declaring = language.declaring.as_slice();
     match edit {
-        Edit::Put { at, new } => {
-            let made = tree_of(replace(alloc, tree, at, new))?;
-            Ok(made)
-        }
+        Edit::Put { at, new } => replaced(alloc, definition, declaring, note, at, new, steps),
         Edit::Add { at, place, new } => {
-            let made = tree_of(insert(alloc, tree, at, *place, new))?;
-            Ok(made)
+            inserted(alloc, definition, declaring, note, at, *place, new, steps)
         }
-        Edit::Take { at, place } => {
-            let made = tree_of(remove(alloc, tree, at, *place))?;
-            Ok(made)
-        }
+        Edit::Take { at, place } => removed(alloc, definition, declaring, note, at, *place, steps),
     }
 }
 
@@ -85,16 +71,13 @@ pub fn tree_of(made: Result<Tree, TreeFault>) -> Result<Tree, AllocError>
     }
 }
 
-/// Gives the mark of a note's tree.
+/// Gives the mark of a note's tree. It visits the nodes that go wrong and those above them.
 pub fn note_mark(alloc: Global, note: &Note) -> Result<Mark, AllocError>
-    ensures { IfOk result (λ mark. mark_of mark ≡ mark_by note.now.culprits) }
+    ensures { IfOk result (λ mark. mark_of mark ≡ mark_by (culprits_in note.now)) }
 {
-    if note.is_good() {
+    let culprits = note.culprits(alloc)?;
+    if culprits.is_empty() {
         return Ok(Mark::Good);
     }
-    let mut paths = Vec::new(alloc);
-    for path in note.culprits() {
-        paths.push(Path::of(alloc, path.steps())?)?;
-    }
-    Ok(Mark::Wrong(paths))
+    Ok(Mark::Wrong(culprits))
 }

@@ -1,7 +1,8 @@
 use Rattle.std.proofs.Common.{refl, sym, subst}
 use Rattle.psg_session.specs.Outcomes.{IsJudged, IsMade, IsPlan}
 use Rattle.psg_session.specs.Edits.{edited}
-use Rattle.psg_session.specs.Sessions.{state_of, tree_in}
+use Rattle.psg_session.specs.Sessions.{state_of}
+use Rattle.psg_cache.specs.Annotated.{tree_in}
 use Rattle.psg_session.proofs.Carrying.{changed_here, may_here, refused_here, refused_plan, ticks_here}
 use Rattle.psg_session.proofs.EditLaws.{opened_version}
 use Rattle.psg_session.proofs.Ticking.{quiet}

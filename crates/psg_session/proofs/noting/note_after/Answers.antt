@@ -2,7 +2,7 @@ use Rattle.std.proofs.Common.{ap, sym, subst, ◌∙◌}
 use Rattle.psg_grammar.specs.Fragments.{Fragment}
 use Rattle.psg_cache.specs.Shaped.{IsShaped}
 use Rattle.psg_session.specs.Edits.{edited, MayEdit}
-use Rattle.psg_session.specs.Sessions.{tree_in}
+use Rattle.psg_cache.specs.Annotated.{tree_in}
 use Rattle.psg_session.proofs.EditLaws.{edited_shaped}
 use Rattle.psg_session.proofs.noting.note_after.Goals as goal
 
