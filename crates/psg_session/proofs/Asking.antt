@@ -1,6 +1,5 @@
 -- Which step the plain editor takes at a question, from what was found of the opened fragment.
 use Rattle.std.proofs.Common.{◌≡◌, inl, inr, ℕ, ◌+◌, ◌≤◌, List, [], ◌∷◌, Some, None, refl, sym, ◌∙◌, ap, subst, arith}
-use Rattle.psg_grammar.specs.Work.{work_of}
 use Rattle.psg_terms.specs.Terms.{Term}
 use Rattle.psg_terms.specs.Signature.{AreTerms}
 use Rattle.psg_terms.specs.Relations.{IsIn}
@@ -11,8 +10,15 @@ use Rattle.psg_grammar.specs.Regions.{names_of}
 use Rattle.psg_grammar.specs.Relations.{IsRelationOf}
 use Rattle.psg_tree.specs.AbstractText.{abstract_text}
 use Rattle.psg_scope.specs.Headers.{keys}
-use Rattle.psg_cache.specs.Annotated.{Annotated, tree_in}
+use Rattle.psg_cache.specs.Annotated.{tree_in, whole_in}
+use Rattle.psg_cache.specs.Blames.{culprits_in}
+use Rattle.psg_cache.specs.Edits.{IsSummaryAt, IsNoSummaryAt}
 use Rattle.psg_cache.specs.Notes.{IsFormed, IsNoteOf, mark_by}
+use Rattle.psg_eval.specs.Summaries.{IsSummaryOf}
+use Rattle.psg_eval.specs.declared.summary.Known.{Known}
+use Rattle.psg_session.proofs.Verdicts.{mark_is, root_is}
+use Rattle.std.proofs.lemmas.Option.{none-some}
+use Rattle.psg_grammar.specs.Paths.{node_at}
 use Rattle.psg_cache.proofs.ShapedTrees.{node_shaped}
 use Rattle.psg_script.specs.declared.command.Where.{Where}
 use Rattle.psg_script.specs.declared.command.Command.{Command}
@@ -30,10 +36,9 @@ use Rattle.psg_session.specs.Outcomes.{IsFound, IsNotFound, IsOutcome}
 use Rattle.psg_session.specs.PlainState.{State, not_asked}
 use Rattle.psg_session.specs.PlainStep.{Steps, refuses, shows, owns, frees}
 use Rattle.psg_session.specs.Sessions.{IsEditor, IsVersion, plain, state_of}
-use Rattle.psg_session.specs.Ticks.{HasTicked}
 use Rattle.psg_session.specs.Views.{names_without, reply_of}
 use Rattle.psg_session.proofs.EditLaws.{opened_version}
-use Rattle.psg_session.proofs.StepLaws.{has_node, is_opened, is_opened_by, is_there, node_is, not_opened, nowhere, opened_is, opened_plain}
+use Rattle.psg_session.proofs.StepLaws.{has_node, is_opened, is_opened_by, is_there, node_is, not_opened, nowhere, opened_is, opened_plain, some_once}
 use Rattle.psg_session.specs.Replies.{Reply, refused, answered, shown}
 use Rattle.psg_session.proofs.KeyMarks.{free_are}
 
@@ -67,19 +72,19 @@ module _ (def : Definition) (e : Editor) where
 
   module _ (held : OpenedTree) (opened : e.opened ≡ Some held) where
     pub show_opened : IsEditor def e → (line : List ℕ) (mark : Mark) → line ≡ abstract_text def (tree_in held.note)
-        → mark ≡ mark_by held.note.culprits → Answers def e Show (shown (line ∷ []) mark)
+        → mark ≡ mark_by (culprits_in held.note) → Answers def e Show (shown (line ∷ []) mark)
     show_opened editor line mark text told =
         let marks : IsMark def (tree_in held.note) mark = subst (IsMark def (tree_in held.note)) (sym told)
-        (opened_version def e held editor opened).noted.mark in
+        (mark_is def (tree_in held.note) held.note (opened_version def e held editor opened).noted) in
         let step : Answers def e Show (shown (abstract_text def (tree_in held.note) ∷ []) mark) =
         shows (plain held) mark (is_opened_by def e held opened, tt) (opened_plain def e held opened) marks in
         subst (λ l. Answers def e Show (shown (l ∷ []) mark)) (sym text) step
 
     pub free_opened : IsEditor def e → (line : List ℕ)
-        → line ≡ names_line (names_without held.note.root.header.names) → Answers def e Free (answered (line ∷ []))
+        → line ≡ names_line (names_without (whole_in held.note).header.names) → Answers def e Free (answered (line ∷ []))
     free_opened editor line written =
-        let told = written ∙ ap names_line (free_are def (tree_in held.note) held.note.root.header
-        (opened_version def e held editor opened).noted.root.header) in
+        let told = written ∙ ap names_line (free_are def (tree_in held.note) (whole_in held.note).header
+        (root_is def (tree_in held.note) held.note (opened_version def e held editor opened).noted).header) in
         subst (λ l. Answers def e Free (answered (l ∷ []))) (sym told)
         (frees (plain held) (is_opened_by def e held opened, tt) (opened_plain def e held opened))
 
@@ -87,23 +92,29 @@ module _ (def : Definition) (e : Editor) where
     pub own_not_found : (r : Refusal) → IsNotFound e place r → Answers def e (Own place) (refused r)
     own_not_found r missing = refuses (nowhere def e place r missing)
 
-    pub own_found : (f : Found) → IsFound e place f → (note : Annotated) → IsNoteOf def f.node.now note
-        → (lines : List (List ℕ)) → lines ≡ rows_lines def.signature (keys note.root.header.names) note.root.rel
+    pub own_found : (f : Found) → IsFound e place f → (known : Known) → IsSummaryOf def f.node.now known
+        → (lines : List (List ℕ)) → lines ≡ rows_lines def.signature (keys known.header.names) known.rel
         → Answers def e (Own place) (answered lines)
-    own_found f found note noted lines written =
-        let rows = note.root.rel in
+    own_found f found known is lines written =
+        let rows = known.rel in
         let told : lines ≡ rows_lines def.signature (names_of def f.node.now) rows =
-        written ∙ ap (λ ks. rows_lines def.signature ks rows) noted.root.header.keys_are in
+        written ∙ ap (λ ks. rows_lines def.signature ks rows) is.header.keys_are in
         let step : Answers def e (Own place) (answered (rows_lines def.signature (names_of def f.node.now) rows)) =
         owns (plain f.held.now) f.node.now rows
         (is_opened def e place f found, (is_there def e place f found, tt))
-        (opened_is def e place f found) (node_is def e place f found) noted.root.rows in
+        (opened_is def e place f found) (node_is def e place f found) is.rows in
         subst (λ l. Answers def e (Own place) (answered l)) (sym told) step
 
-    pub own_ticks : (f : Found) → IsFound e place f → (from to : ℕ) → to ≤ from + work_of f.node.now
-        → HasTicked def (state_of e) (Own place) from to
-    own_ticks f found from to h = record {
-      taken = work_of f.node.now;
-      counted = h;
-      within = inr (has_node def e place f found (λ old node. work_of f.node.now ≤ work_of node) (omega arith));
-    }
+    -- the summary at the path is that of the node that was found
+    pub own_known : IsEditor def e → (f : Found) → IsFound e place f → (known : Known)
+        → IsSummaryAt f.held.now.note f.path.now known → IsSummaryOf def f.node.now known
+    own_known editor f found known at =
+        let version = opened_version def e f.held.now editor found.held in
+        let (node, there, is, usual) = at def (tree_in f.held.now.note) version.noted in
+        subst (λ x. IsSummaryOf def x known) (some_once node f.node.now (node_at (tree_in f.held.now.note) f.path.now) there found.node) is
+
+    -- there is one
+    pub own_some : IsEditor def e → (f : Found) → IsFound e place f → IsNoSummaryAt f.held.now.note f.path.now → ⊥
+    own_some editor f found none =
+        let version = opened_version def e f.held.now editor found.held in
+        none-some f.node.now (sym (none def (tree_in f.held.now.note) version.noted) ∙ found.node)

@@ -7,7 +7,7 @@ use Rattle.psg_grammar.specs.Fragments.{Fragment}
 use Rattle.psg_grammar.specs.Insertion.{blank}
 use Rattle.psg_grammar.specs.Marks.{IsMark}
 use Rattle.psg_grammar.specs.Paths.{Path}
-use Rattle.psg_grammar.specs.Work.{work_of}
+use Rattle.psg_cache.specs.Blames.{culprits_in}
 use Rattle.psg_cache.specs.Notes.{IsNoteOf, mark_by}
 use Rattle.psg_cache.specs.Shaped.{IsShaped}
 use Rattle.psg_cache.specs.Annotated.{Annotated, tree_in}
@@ -24,7 +24,7 @@ use Rattle.psg_session.specs.declared.refusal.Refusal.{Refusal}
 use Rattle.psg_session.specs.declared.refusal.Refusal.TheVariants.{NoPlaceholder, Unknown}
 use Rattle.psg_session.specs.declared.replies.Mark.{Mark}
 use Rattle.psg_session.specs.declared.replies.Reply.TheVariants.{Refused}
-use Rattle.psg_session.specs.Edits.{edited, MayEdit}
+use Rattle.psg_session.specs.Edits.{cost_of, edited, MayEdit}
 use Rattle.psg_session.specs.Good.{IsGoodIn}
 use Rattle.psg_session.specs.Outcomes.{changed, IsFit, IsJudged, IsMade, IsOutcome, tree_tests}
 use Rattle.psg_session.specs.PlainState.{Opened, State, not_asked, with_change, with_new}
@@ -36,7 +36,7 @@ use Rattle.psg_session.specs.Ticks.{HasTicked}
 use Rattle.psg_session.specs.Views.{mark_of}
 use Rattle.psg_session.proofs.EditLaws.{edited_shaped, opened_version}
 use Rattle.psg_session.proofs.StepLaws.{opened_plain, some_once}
-use Rattle.psg_session.proofs.Ticking.{made_counted}
+use Rattle.psg_session.proofs.Verdicts.{mark_is}
 
 -- ---- the same tests, said in another way
 
@@ -96,9 +96,9 @@ module _ (def : Definition) (e : Editor) (command : Command) (m : Made) (made : 
 
   -- its tree passes all
   pub changed_late : IsEditor def e → (note : Annotated) → IsJudged def m.trial tree (Ok note) → (mark : Mark)
-      → mark_of mark ≡ mark_by note.culprits → IsOutcome def e not_asked command (Changes note m.cursor mark)
+      → mark_of mark ≡ mark_by (culprits_in note) → IsOutcome def e not_asked command (Changes note m.cursor mark)
   changed_late editor note (noted, passes) mark told =
-      let marks : IsMark def tree (mark_of mark) = subst (IsMark def tree) (sym told) noted.mark in
+      let marks : IsMark def tree (mark_of mark) = subst (IsMark def tree) (sym told) (mark_is def _ note noted) in
       let taken = made.taken (passes_again def (λ P. P tree) (OfResult def (state_of e) command) up down m.trial
       passes) in
       let step : Steps def (IsGoodIn def) (state_of e) not_asked command
@@ -114,8 +114,9 @@ module _ (def : Definition) (e : Editor) (command : Command) (m : Made) (made : 
             (new_version editor note noted);
       }
 
-  pub made_ticks : (from to : ℕ) → to ≤ from + work_of tree → HasTicked def (state_of e) command from to
-  made_ticks from to h = made_counted def (state_of e) from to made.makes h
+  pub made_ticks : (from to : ℕ) → to ≤ from + cost_of m.edit (tree_in made.held.note)
+      → HasTicked def (state_of e) command from to
+  made_ticks from to h = record { taken = cost_of m.edit (tree_in made.held.note); counted = h; within = made.counts }
 
   -- the same, for the opened fragment that was found
   module _ (held : OpenedTree) (opened : e.opened ≡ Some held) where
@@ -136,13 +137,13 @@ module _ (def : Definition) (e : Editor) (command : Command) (m : Made) (made : 
 
     pub changed_here : IsEditor def e → (note : Annotated)
         → IsJudged def m.trial (edited m.edit (tree_in held.note)) (Ok note) → (mark : Mark)
-        → mark_of mark ≡ mark_by note.culprits → IsOutcome def e not_asked command (Changes note m.cursor mark)
+        → mark_of mark ≡ mark_by (culprits_in note) → IsOutcome def e not_asked command (Changes note m.cursor mark)
     changed_here editor note h mark told = changed_late editor note (judged_here (Ok note) h) mark told
 
-    pub ticks_here : (from to : ℕ) → to ≤ from + work_of (edited m.edit (tree_in held.note))
+    pub ticks_here : (from to : ℕ) → to ≤ from + cost_of m.edit (tree_in held.note)
         → HasTicked def (state_of e) command from to
     ticks_here from to h =
-        made_ticks from to (subst (λ (h' : OpenedTree). to ≤ from + work_of (edited m.edit (tree_in h'.note))) same_held h)
+        made_ticks from to (subst (λ (h' : OpenedTree). to ≤ from + cost_of m.edit (tree_in h'.note)) same_held h)
 
 -- a plan that refuses
 pub refused_plan : (def : Definition) (e : Editor) (command : Command) (r : Refusal)
@@ -202,11 +203,11 @@ module _ (def : Definition) (e : Editor) (name : Name) where
 
       pub new_opened : IsShaped def (blank def kind) kind → (note : Annotated)
           → IsJudged def Opens (blank def kind) (Ok note)
-          → (cursor : Path) → cursor ≡ [] → (mark : Mark) → mark_of mark ≡ mark_by note.culprits
+          → (cursor : Path) → cursor ≡ [] → (mark : Mark) → mark_of mark ≡ mark_by (culprits_in note)
           → IsOutcome def e not_asked (New name) (OpensTree (record { kind = kind; note = note }) cursor mark)
       new_opened shaped note (noted, passes) cursor top mark told =
           let marks : IsMark def (blank def kind) (mark_of mark) =
-          subst (IsMark def (blank def kind)) (sym told) noted.mark in
+          subst (IsMark def (blank def kind)) (sym told) (mark_is def _ note noted) in
           let taken = passes_again def (λ P. P (blank def kind)) (OfResult def (state_of e) (New name)) lifts lowers
           Opens passes in
           let step : Steps def (IsGoodIn def) (state_of e) not_asked (New name)

@@ -8,24 +8,10 @@ use Rattle.psg_grammar.specs.Fragments.{Fragment, hole, ending, cell, operator, 
 use Rattle.psg_grammar.specs.Insertion.{blank}
 use Rattle.psg_grammar.specs.Paths.{Path}
 use Rattle.psg_grammar.specs.Work.{work_of}
-use Rattle.psg_cache.specs.Notes.{evaluations_of}
 use Rattle.psg_script.specs.declared.command.Command.{Command}
 use Rattle.psg_script.specs.declared.command.Command.TheVariants.{New, Goto, Refine, Insert, Cut, Remove, Close, Reopen, Over, Range, Show, Screen, Relation, Own, Menu, Names, Free, Undo, Redo, Save, Paste, Keep, Fetch}
 use Rattle.psg_session.specs.PlainState.{State}
-use Rattle.psg_session.specs.PlainStep.{Makes, by_refine, by_insert, by_cut, by_remove, by_close, by_reopen}
 use Rattle.psg_session.specs.Ticks.{HasTicked, MayTick}
-
-pub evaluations_are_work : (f : Fragment) → evaluations_of f ≡ work_of f
-evaluations_are_work (hole p) = refl
-evaluations_are_work (ending l u) = refl
-evaluations_are_work (cell l e r) = ap₂ (λ n m. n + m + 1) (evaluations_are_work e) (evaluations_are_work r)
-evaluations_are_work (operator o) = refl
-evaluations_are_work (with_child f t) = ap₂ (λ n m. n + m) (evaluations_are_work f) (evaluations_are_work t)
-evaluations_are_work (with_name f n) = evaluations_are_work f
-evaluations_are_work (with_number f n) = evaluations_are_work f
-evaluations_are_work (with_text f t) = evaluations_are_work f
-evaluations_are_work anything = refl
-evaluations_are_work (observed f) = evaluations_are_work f
 
 pub blank_work : (def : Definition) (kind : Kind) → work_of (blank def kind) ≡ 1
 blank_work def (kinds.Phylum p) = refl
@@ -40,7 +26,7 @@ module _ (def : Definition) (s : State) where
   none_taken (Remove place k) = inl refl
   none_taken (Close place) = inl refl
   none_taken (Reopen place) = inl refl
-  none_taken (Own place) = inl refl
+  none_taken (Own place) = refl
   none_taken Show = refl
   none_taken Free = refl
   none_taken (Goto place) = refl
@@ -60,21 +46,6 @@ module _ (def : Definition) (s : State) where
   -- nothing was counted
   pub quiet : (command : Command) (from to : ℕ) → to ≡ from → HasTicked def s command from to
   quiet command from to same = record { taken = 0; counted = omega (arith, same); within = none_taken command }
-
-  -- what a change makes was evaluated
-  pub may_take : {command : Command} {tree : Fragment} {path : Path} → Makes def s command tree path
-      → (n : ℕ) → n ≤ work_of tree → MayTick def s command n
-  may_take (by_refine old o leaves opened named gives) n h = inr (_, _, by_refine old o leaves opened named gives, h)
-  may_take (by_insert old o leaves opened named gives) n h = inr (_, _, by_insert old o leaves opened named gives, h)
-  may_take (by_cut old node kind opened at is) n h = inr (_, _, by_cut old node kind opened at is, h)
-  may_take (by_remove old opened) n h = inr (_, _, by_remove old opened, h)
-  may_take (by_close old opened) n h = inr (_, _, by_close old opened, h)
-  may_take (by_reopen old opened) n h = inr (_, _, by_reopen old opened, h)
-
-  pub made_counted : {command : Command} {tree : Fragment} {path : Path} (from to : ℕ) → Makes def s command tree path
-      → to ≤ from + work_of tree → HasTicked def s command from to
-  made_counted {tree = tree} from to makes h =
-      record { taken = work_of tree; counted = h; within = may_take makes (work_of tree) (omega arith) }
 
   -- a new fragment was evaluated
   pub new_counted : (name : Name) (kind : Kind) (tree : Fragment) → tree ≡ blank def kind → (from to : ℕ)

@@ -7,8 +7,12 @@ use Rattle.psg_grammar.specs.Fragments.{Fragment}
 use Rattle.psg_grammar.specs.Marks.{IsMark}
 use Rattle.psg_grammar.specs.Paths.{Path}
 use Rattle.psg_grammar.specs.Steps.{IsWide, IsFirstWide, Place, steps_of}
-use Rattle.psg_cache.specs.Notes.{IsNoteOf, IsNoteFault, mark_by}
-use Rattle.psg_cache.specs.Annotated.{Annotated}
+use Rattle.psg_cache.specs.Blames.{culprits_in}
+use Rattle.psg_cache.specs.Notes.{IsFormed, IsNoteOf, IsNoteFault, mark_by}
+use Rattle.psg_cache.proofs.MarkLaws.{marked}
+use Rattle.psg_cache.proofs.NoteLaws.{noted_known}
+use Rattle.psg_eval.specs.Summaries.{IsSummaryOf}
+use Rattle.psg_cache.specs.Annotated.{Annotated, whole_in}
 use Rattle.psg_cache.specs.declared.note.NoteFault.{NoteFault}
 use Rattle.psg_cache.specs.declared.note.NoteFault.TheVariants as faults
 use Rattle.psg_session.specs.declared.judging.Trial.{Trial}
@@ -18,6 +22,16 @@ use Rattle.psg_session.specs.declared.refusal.Refusal.TheVariants.{Inadmissible}
 use Rattle.psg_session.specs.Good.{IsGoodIn}
 use Rattle.psg_session.specs.Outcomes.{IsNoted, IsRefusalOf, MustBeGood, tree_tests}
 use Rattle.psg_session.specs.Refusals.{Refuses, Passes}
+
+-- the summary of a note's tree
+pub root_is : (def : Definition) (f : Fragment) (note : Annotated) → IsNoteOf def f note → IsSummaryOf def f (whole_in note)
+root_is def f note noted =
+    subst (λ x. IsSummaryOf def x (whole_in note)) noted.tree
+    (noted_known def note noted.noted (subst (IsFormed def) (sym noted.tree) noted.formed)).0
+
+-- and its mark
+pub mark_is : (def : Definition) (f : Fragment) (note : Annotated) → IsNoteOf def f note → IsMark def f (mark_by (culprits_in note))
+mark_is def f note noted = marked note (culprits_in note) refl def f noted
 
 pub noted_by : (def : Definition) (f : Fragment) (r : Result Annotated NoteFault) → IfOk r (IsNoteOf def f)
     → IfErr r (IsNoteFault def f) → IsNoted def f r
@@ -54,17 +68,17 @@ judged_fault def Loosens f faults.Heavy r (never, e) (shallow, small, narrow, h)
 judged_fault def trial f faults.Memory r h g = absurd h
 
 module _ (def : Definition) (f : Fragment) (note : Annotated) (noted : IsNoteOf def f note) where
-  not_good : (note.culprits ≡ [] → ⊥) → IsGoodIn def f → ⊥
-  not_good some = go note.culprits some noted.mark where
+  not_good : (culprits_in note ≡ [] → ⊥) → IsGoodIn def f → ⊥
+  not_good some = go (culprits_in note) some (mark_is def f note noted) where
     go : (paths : List Path) → (paths ≡ [] → ⊥) → IsMark def f (mark_by paths) → IsGoodIn def f → ⊥
     go [] some mark good = some refl
     go (p ∷ paths) some mark good = mark.0 good
 
-  is_good : note.culprits ≡ [] → IsGoodIn def f
-  is_good none = subst (λ paths. IsMark def f (mark_by paths)) none noted.mark
+  is_good : culprits_in note ≡ [] → IsGoodIn def f
+  is_good none = subst (λ paths. IsMark def f (mark_by paths)) none (mark_is def f note noted)
 
   -- a tree that is not good, where it must be
-  pub judged_inadmissible : (trial : Trial) → MustBeGood trial → (note.culprits ≡ [] → ⊥) → Fails def trial f Inadmissible
+  pub judged_inadmissible : (trial : Trial) → MustBeGood trial → (culprits_in note ≡ [] → ⊥) → Fails def trial f Inadmissible
   judged_inadmissible Opens must some = absurd must
   judged_inadmissible Grows must some =
       inr (noted.within.shallow, inr (noted.within.small, inr (noted.within.narrow,
@@ -74,7 +88,7 @@ module _ (def : Definition) (f : Fragment) (note : Annotated) (noted : IsNoteOf 
   judged_inadmissible Loosens must some = absurd must
 
   -- a tree that passes its tests
-  pub judged_right : (trial : Trial) → ((MustBeGood trial × (note.culprits ≡ [] → ⊥)) → ⊥)
+  pub judged_right : (trial : Trial) → ((MustBeGood trial × (culprits_in note ≡ [] → ⊥)) → ⊥)
       → Passes (tree_tests def trial (λ P. P f))
   judged_right Opens never = (noted.within.narrow, tt)
   judged_right Grows never = (

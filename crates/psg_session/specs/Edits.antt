@@ -1,13 +1,10 @@
 -- Changes of a tree at a path.
-use Rattle.std.specs.Prelude.{ℕ, ◌≡◌, ◌<◌, ◌≤◌, length, slice_get, Some}
-use Rattle.psg_grammar.specs.declared.types.Kind.{Kind}
-use Rattle.psg_grammar.specs.declared.types.Kind.TheVariants as kinds
-use Rattle.psg_grammar.specs.declared.types.ListKind.{ListKind}
+use Rattle.std.specs.Prelude.{ℕ, ◌+◌}
 use Rattle.psg_grammar.specs.declared.types.Definition.{Definition}
-use Rattle.psg_grammar.specs.Fragments.{Fragment, children_of}
-use Rattle.psg_grammar.specs.Kinds.{IsOfKind}
-use Rattle.psg_grammar.specs.Paths.{Path, node_at, IsList, change_at, inserted, removed, replaced}
-use Rattle.psg_cache.specs.Shaped.{IsShaped}
+use Rattle.psg_grammar.specs.Fragments.{Fragment}
+use Rattle.psg_grammar.specs.Paths.{change_at, inserted, removed, replaced}
+use Rattle.psg_grammar.specs.Work.{work_of, climb_of}
+use Rattle.psg_cache.specs.Edits.{MayReplace, MayInsert, MayRemove}
 use Rattle.psg_session.specs.declared.edits.Edit.{Edit}
 use Rattle.psg_session.specs.declared.edits.Edit.TheVariants.{Put, Add, Take}
 

@@ -35,6 +35,7 @@ use Rattle.psg_session.specs.PlainState.{Answer, Opened, State, not_asked, named
 use Rattle.psg_session.specs.Leaves.{GivesLeaves}
 use Rattle.psg_session.specs.PlainStep.{Gives, IsRefused, IsTaken, Makes, IsOperator, IsOfPhylum, IsListOf, OfResult, Steps, end_of, opening, growing, closing, loosening}
 use Rattle.psg_session.specs.Refusals.{Tests, Refuses, Passes}
+use Rattle.psg_session.specs.Ticks.{MayTick}
 use Rattle.psg_session.specs.Sessions.{IsVersion, opened_of, plain, state_of}
 use Rattle.psg_session.specs.Views.{reply_of}
 
@@ -149,6 +150,7 @@ pub record IsMade (def : Definition) (e : Editor) (command : Command) (m : Made)
       → IsRefused def (IsGoodIn def) (state_of e) not_asked command r
   pub taken : Passes (tree_tests def m.trial (OfResult def (state_of e) command))
       → IsTaken def (IsGoodIn def) (state_of e) not_asked command
+  pub counts : MayTick def (state_of e) command (cost_of m.edit (tree_in held.note))
 
 -- the refusal of the first test that holds, or what the command makes
 abbrev pub IsPlan : Definition → Editor → Command → Plan → Type 0

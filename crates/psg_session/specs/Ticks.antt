@@ -1,29 +1,44 @@
--- How many evaluations a command may take.
-use Rattle.std.specs.Prelude.{ℕ, ◌≡◌, ◌≤◌, ◌⊎◌, ◌+◌, Option, Some, None}
+-- How many evaluations a command may take: those of what is new, and of the nodes and list suffixes above the place. The list
+-- that is finished, or goes on, counts whole.
+use Rattle.std.specs.Prelude.{ℕ, ◌≡◌, ◌≤◌, ◌⊎◌, ◌+◌, List}
+use Rattle.psg_terms.specs.Names.{Name}
 use Rattle.psg_grammar.specs.declared.types.Definition.{Definition}
 use Rattle.psg_grammar.specs.Fragments.{Fragment}
-use Rattle.psg_grammar.specs.Paths.{Path}
-use Rattle.psg_grammar.specs.Work.{work_of}
+use Rattle.psg_grammar.specs.Insertion.{Leaf, fresh_operator}
+use Rattle.psg_grammar.specs.Work.{work_of, climb_of}
+use Rattle.psg_script.specs.declared.command.Where.{Where}
 use Rattle.psg_script.specs.declared.command.Command.{Command}
 use Rattle.psg_script.specs.declared.command.Command.TheVariants.{New, Goto, Refine, Insert, Cut, Remove, Close, Reopen, Over, Range, Show, Screen, Relation, Own, Menu, Names, Free, Undo, Redo, Save, Paste, Keep, Fetch}
-use Rattle.psg_session.specs.PlainState.{State, Opened}
-use Rattle.psg_session.specs.PlainStep.{AtNode, Makes}
+use Rattle.psg_session.specs.Leaves.{GivesLeaves}
+use Rattle.psg_session.specs.PlainState.{State, Opened, named_path}
+use Rattle.psg_session.specs.PlainStep.{AtNode, IsOperator}
 
 module _ (def : Definition) (s : State) where
-  -- none where the command makes no tree, and at most those of the whole tree that it makes
-  abbrev pub OfMade : Command → ℕ → Type 0
-  OfMade command n = (n ≡ 0) ⊎ ((tree : Fragment) × (path : Path) × Makes def s command tree path × (n ≤ work_of tree))
+  -- the evaluations of the nodes above the place
+  abbrev pub above : Opened → Where → ℕ
+  above old place = climb_of old.tree (named_path place s.cursor)
+
+  -- none, or no more than is said of the node at the place
+  abbrev pub AtMost : Where → (Opened → Fragment → ℕ → Type 0) → ℕ → Type 0
+  AtMost place Within n = (n ≡ 0) ⊎ AtNode def s place (λ old node. Within old node n)
+
+  -- what is said of the operator with its names and literals
+  abbrev pub OfFresh : Name → List ℕ → (Fragment → Type 0) → Type 0
+  OfFresh name args P =
+      (o : ℕ) × (leaves : List Leaf) × IsOperator def o name × GivesLeaves def o args leaves × P (fresh_operator def o leaves)
 
   -- so many evaluations are within the command's bound
   abbrev pub MayTick : Command → ℕ → Type 0
   MayTick (New name) n = n ≤ 1
-  MayTick (Refine place name args) n = OfMade (Refine place name args) n
-  MayTick (Insert place k name args) n = OfMade (Insert place k name args) n
-  MayTick (Cut place) n = OfMade (Cut place) n
-  MayTick (Remove place k) n = OfMade (Remove place k) n
-  MayTick (Close place) n = OfMade (Close place) n
-  MayTick (Reopen place) n = OfMade (Reopen place) n
-  MayTick (Own place) n = (n ≡ 0) ⊎ AtNode def s place (λ old node. n ≤ work_of node)
+  MayTick (Refine place name args) n =
+      AtMost place (λ old node m. OfFresh name args (λ fresh. m ≤ work_of fresh + above old place)) n
+  MayTick (Insert place k name args) n =
+      AtMost place (λ old node m. OfFresh name args (λ fresh. m ≤ work_of fresh + (k + 1) + above old place)) n
+  MayTick (Cut place) n = AtMost place (λ old node m. m ≤ 1 + above old place) n
+  MayTick (Remove place k) n = AtMost place (λ old node m. m ≤ k + above old place) n
+  MayTick (Close place) n = AtMost place (λ old node m. m ≤ work_of node + above old place) n
+  MayTick (Reopen place) n = AtMost place (λ old node m. m ≤ work_of node + above old place) n
+  MayTick (Own place) n = n ≡ 0
   MayTick Show n = n ≡ 0
   MayTick Free n = n ≡ 0
   MayTick (Goto place) n = n ≡ 0

@@ -166,7 +166,7 @@ fn planned(
     }
 }
 
-/// Does what was planned, where the tree passes the tests of the change. It evaluates the whole new tree.
+/// Does what was planned, where the tree passes the tests of the change. It evaluates what is new and the nodes above it.
 fn carry_out<L: Ledger>(
     alloc: Global,
     language: &Language,
@@ -222,8 +222,8 @@ fn change<L: Ledger>(
     Ok(outcome)
 }
 
-/// Finds what a command does to the editor. A change evaluates the whole new fragment, and `own` that of its node; `steps`
-/// counts the evaluations. It fails where memory runs out.
+/// Finds what a command does to the editor. A change evaluates what is new and the nodes above it, and
+/// `steps` counts the evaluations. It fails where memory runs out.
 #[tactic(auto, using(crate::proofs::Ticking::quiet))]
 pub fn step<L: Ledger>(
     alloc: Global,
@@ -247,7 +247,7 @@ pub fn step<L: Ledger>(
             Ok(outcome)
         }
         Command::Own { at } => {
-            let outcome = own(alloc, language, editor, at, steps)?;
+            let outcome = own(alloc, language, editor, at)?;
             Ok(outcome)
         }
         Command::Free => {

@@ -2,6 +2,7 @@
 ghost use Rattle.std.specs.Prelude.{◌≡◌, ◌↔◌, [], IfOk, IsTrue};
 ghost use Rattle.psg_grammar.specs.declared.types.Definition.{Definition};
 ghost use Rattle.psg_grammar.specs.Fragments.{Fragment};
+ghost use Rattle.psg_cache.specs.Blames.{culprits_in};
 ghost use Rattle.psg_session.specs.Outcomes.{IsJudged, IsNoted, IsRefusalOf, MustBeGood};
 ghost use Rattle.psg_session.specs.declared.judging.Trial.TheVariants.{Grows, Opens};
 
@@ -67,7 +68,7 @@ fn refusal_of(trial: Trial, fault: &NoteFault) -> Result<Refusal, AllocError>
 
 /// Tells whether the change must leave a good fragment, and the note's tree is not good.
 fn is_inadmissible(trial: Trial, note: &Note) -> bool
-    ensures { IsTrue result ↔ (MustBeGood trial × (note.now.culprits ≡ [] → ⊥)) }
+    ensures { IsTrue result ↔ (MustBeGood trial × (culprits_in note.now ≡ [] → ⊥)) }
 {
     match trial {
         Trial::Opens => false,

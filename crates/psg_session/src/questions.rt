@@ -8,23 +8,21 @@ ghost use Rattle.psg_script.specs.declared.command.Command.TheVariants as comman
 ghost use Rattle.psg_session.specs.Answers.{entities_text, names_line as names_line_of, row_line as row_line_of, rows_lines as rows_lines_of};
 ghost use Rattle.psg_session.specs.Outcomes.{IsOutcome};
 ghost use Rattle.psg_session.specs.PlainState.{not_asked};
-ghost use Rattle.psg_session.specs.Sessions.{state_of, IsEditor};
-ghost use Rattle.psg_session.specs.Ticks.{HasTicked};
+ghost use Rattle.psg_session.specs.Sessions.{IsEditor};
 ghost use Rattle.psg_session.specs.Views.{IsLanguage, names_without};
 
 use crate::editor::{Editor, Outcome};
 use crate::finding::find;
 use crate::language::Language;
-use crate::noting::{note_mark, note_of};
+use crate::noting::note_mark;
 use crate::refusal::Refusal;
 use crate::replies::Reply;
 use psg_eval::Summary;
 use psg_scope::NameCol;
 use psg_script::Where;
-use psg_terms::{Signature, Steps, Term, Txt, term_text};
+use psg_terms::{Signature, Term, Txt, term_text};
 use psg_tree::abstract_text;
 use std::alloc::{AllocError, Global};
-use std::sync::ledger::Ledger;
 
 /// The abstract text of the opened fragment, and its mark.
 pub fn show(alloc: Global, language: &Language, editor: &Editor) -> Result<Outcome, AllocError>
@@ -94,29 +92,26 @@ fn names_line(alloc: Global, names: &[Txt]) -> Result<String, AllocError>
 }
 
 /// The rows of the relation of the node at the place, each on a line: the value, and the entity of each name. It
-/// evaluates the node's tree anew, and `steps` counts the evaluations.
-#[tactic(auto, using(crate::proofs::Ticking::quiet, crate::proofs::Asking::own_ticks))]
-pub fn own<L: Ledger>(
+/// evaluates nothing.
+pub fn own(
     alloc: Global,
     language: &Language,
     editor: &Editor,
     place: &Where,
-    steps: &mut Steps<L>,
 ) -> Result<Outcome, AllocError>
     requires language { IsLanguage language.now }
     requires editor { IsEditor language.now.definition editor.now }
-    ensures outcome { IfOk result (IsOutcome language.now.definition editor.now not_asked (commands.Own place.now)) }
-    ensures ticks { HasTicked language.now.definition (state_of editor.now) (commands.Own place.now) steps.old steps.new }
+    ensures { IfOk result (IsOutcome language.now.definition editor.now not_asked (commands.Own place.now)) }
 {
     let found = match find(editor, place) {
         Ok(found) => found,
         Err(refusal) => return Ok(Outcome::Stays(Reply::Refused(refusal))),
     };
-    // the opened fragment is within the limits, and so is each part of it
-    let Ok(note) = note_of(alloc, language, found.node, steps) else {
-        return Err(AllocError);
+    // the note has a summary of each node, so this refusal does not come
+    let Some(summary) = found.held.note.summary(found.path) else {
+        return Ok(Outcome::Stays(Reply::Refused(Refusal::NoNode)));
     };
-    let lines = rows_lines(alloc, &language.definition.signature, note.root())?;
+    let lines = rows_lines(alloc, &language.definition.signature, summary)?;
     Ok(Outcome::Stays(Reply::Answered(lines)))
 }
 
