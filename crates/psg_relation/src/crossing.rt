@@ -57,16 +57,7 @@ fn with_places(
     let mut more = made;
     for i in 0..places.len() {
         let place = places[i];
-        more = with_join(
-            alloc,
-            sig,
-            pool,
-            more,
-            one,
-            right[place].terms(),
-            pairs,
-            keep,
-        )?;
+        more = with_join(alloc, sig, pool, more, one, right[place].terms(), pairs, keep)?;
     }
     Ok(more)
 }

@@ -56,16 +56,7 @@ fn self_joins(
     let mut pool = JoinPool::new(alloc);
     let mut made = Vec::new(alloc);
     for row in rows {
-        made = with_join(
-            alloc,
-            sig,
-            &mut pool,
-            made,
-            row.terms(),
-            row.terms(),
-            pairs,
-            keep,
-        )?;
+        made = with_join(alloc, sig, &mut pool, made, row.terms(), row.terms(), pairs, keep)?;
     }
     Ok(made)
 }
