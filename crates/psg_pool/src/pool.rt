@@ -124,13 +124,6 @@ impl Pool {
         Ok(id)
     }
 
-    /// Counts the cells of the pool. It takes one step.
-    pub fn count(&self) -> usize
-        ensures { result ≡ length self.now.cells }
-    {
-        self.slots.len()
-    }
-
     /// What the cell holds. The time is constant.
     pub fn cell(&self, id: CellId) -> Cell
         requires { IsAmong self.now.cells id }

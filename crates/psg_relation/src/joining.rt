@@ -18,7 +18,7 @@ use crate::row::RelRow;
 use crate::weighing::is_heavy;
 use psg_terms::canonical::canonical;
 use psg_terms::{Signature, Term};
-use psg_unify::JoinPool;
+use psg_unify::join_rows;
 use std::alloc::{AllocError, Global};
 
 /// The row with canonical numbers, unless it is too large for a relation: then it is left as it is, and not written out.
@@ -40,7 +40,6 @@ fn made_ready(alloc: Global, sig: &Signature, columns: RelRow) -> Result<RelRow,
 fn joined_row(
     alloc: Global,
     sig: &Signature,
-    pool: &mut JoinPool,
     left: &[Term],
     right: &[Term],
     pairs: &[(usize, usize)],
@@ -52,7 +51,7 @@ fn joined_row(
         ((x : List Plain) → Joins sig.now pairs.now keep.now left.now right.now x → ⊥)
         (λ row. IsJoinOf sig.now pairs.now keep.now left.now right.now row)) }
 {
-    match pool.join(alloc, sig, left, right, pairs)? {
+    match join_rows(alloc, sig, left, right, pairs)? {
         Some(joined) => {
             let columns = kept_columns(alloc, joined.as_slice(), keep)?;
             let row = made_ready(alloc, sig, columns)?;
@@ -66,7 +65,6 @@ fn joined_row(
 pub fn with_join(
     alloc: Global,
     sig: &Signature,
-    pool: &mut JoinPool,
     made: Vec<RelRow>,
     left: &[Term],
     right: &[Term],
@@ -77,7 +75,7 @@ pub fn with_join(
     requires keep { All (λ k. k < length left.now + length right.now) keep.now }
     ensures { IfOk result (λ more. IsMore sig.now pairs.now keep.now left.now right.now made.items more.items) }
 {
-    match joined_row(alloc, sig, pool, left, right, pairs, keep)? {
+    match joined_row(alloc, sig, left, right, pairs, keep)? {
         Some(row) => {
             let mut more = made;
             more.push(row)?;
@@ -93,7 +91,8 @@ pub fn with_join(
 ///
 /// `Wide` comes exactly where this relation has more than 16,384 variables and constructors or a term deeper than 1,000;
 /// a joined row that alone is too large does not count where it is an instance of another one, and is not written out.
-/// `Memory` comes as in `Rel::of`.
+/// `Memory` comes as in `Rel::of`, and where more than 10,000 constructors are nested in what has to be
+/// compared or written.
 ///
 /// It joins each row of the one side with those rows of the other side that have the same constructor at the head of the
 /// first paired column, or a variable there, and then costs as `Rel::of` does. A row with a variable there, and a row

@@ -13,7 +13,6 @@ use crate::projection::all_columns;
 use crate::relation::{Rel, RelFault, relation_of};
 use crate::row::RelRow;
 use psg_terms::Signature;
-use psg_unify::JoinPool;
 use std::alloc::{AllocError, Global};
 
 /// How many columns the rows have, and 0 where there is none.
@@ -53,10 +52,9 @@ fn self_joins(
     requires { (row : List Plain) → IsIn row rows.now → MayMeet sig.now row row pairs.now keep.now }
     ensures { IfOk result (λ made. AreJoined sig.now pairs.now keep.now (twins rows.now) made.items) }
 {
-    let mut pool = JoinPool::new(alloc);
     let mut made = Vec::new(alloc);
     for row in rows {
-        made = with_join(alloc, sig, &mut pool, made, row.terms(), row.terms(), pairs, keep)?;
+        made = with_join(alloc, sig, made, row.terms(), row.terms(), pairs, keep)?;
     }
     Ok(made)
 }

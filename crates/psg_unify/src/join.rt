@@ -1,108 +1,102 @@
 //! The join of two rows on pairs of columns.
-ghost use Rattle.std.specs.Prelude.{◌≡◌, ◌↔◌, List, ℕ, IfOk, IfSome, IfNone, ◌++◌};
+ghost use Rattle.std.specs.Prelude.{◌≡◌, ◌<◌, ◌↔◌, List, ℕ, length, IfOk, IfSome, IfNone, IsTrue, MatchOption, map, ◌++◌, [], All, Any};
 ghost use Rattle.psg_terms.specs.Terms.{Term as Plain};
 ghost use Rattle.psg_terms.specs.Signature.{HaveSorts};
-ghost use Rattle.psg_terms.specs.Canonical.{IsCanonical};
-ghost use Rattle.psg_terms.specs.Instances.{IsGroundInstance};
+ghost use Rattle.psg_terms.specs.Canonical.{Variable, IsCanonical};
+ghost use Rattle.psg_terms.specs.Matching.{lookup};
+ghost use Rattle.psg_terms.specs.Renaming.{Renumbered};
+ghost use Rattle.psg_terms.specs.Instances.{IsGroundInstance, Substitution, substitute};
+ghost use Rattle.psg_terms.specs.Weight.{depth_of};
+ghost use Rattle.psg_unify.specs.Agreement.{IsJoinable, MakesAgree, Disjoint, IsFound};
+ghost use Rattle.psg_unify.specs.Memories.{has_pair, Gives};
 ghost use Rattle.psg_unify.specs.Pairs.{AreJoinable, IsAgreeing};
-ghost use Rattle.psg_unify.specs.Fitting.{Fits};
+ghost use Rattle.psg_unify.specs.Solving.{Resolves};
 
-use crate::reading::read_row;
-use crate::regions::solve_in;
-use psg_pool::Pool;
+use crate::equations::{Solution, unify};
+use crate::writing::{Written, write_all};
+use indexmap::IndexSet;
+use psg_terms::canonical::{Key, renumbered};
 use psg_terms::{Signature, Term};
 use std::alloc::{AllocError, Global};
-use std::marker::Model;
+use std::collections::HashMap;
 
-/// The join of two rows as `join_rows` makes it, solved in a region of the pool, which is as before afterwards.
-fn join_in(
+/// How many constructors may be nested. The functions that walk terms call themselves once for each, so this keeps the
+/// program from running out of stack.
+const DEPTH: u32 = 10_000;
+
+/// Whether a term of the row has too many constructors nested.
+fn is_deep(row: &[Term]) -> bool
+    ensures { IsTrue result ↔ Any (λ t. 10000 < depth_of t) row.now }
+{
+    for term in row {
+        if term.depth() > DEPTH as u64 {
+            return true;
+        }
+    }
+    false
+}
+
+/// Whether the table, with more variables bound, makes the rows agree on the pairs.
+fn unify_pairs(
+    alloc: Global,
+    solution: &mut Solution,
+    left: &[Term],
+    right: &[Term],
+    pairs: &[(usize, usize)],
+) -> Result<bool, AllocError>
+    requires { All (λ p. (p.0 < length left.now) × (p.1 < length right.now)) pairs.now }
+    ensures { IfOk result (λ d. Gives d (lookup solution.old.table) (lookup solution.new.table)
+        (has_pair solution.old.equal) (has_pair solution.new.equal)
+        (IsJoinable left.now right.now pairs.now) (MakesAgree left.now right.now pairs.now)) }
+{
+    for i in 0..pairs.len() {
+        let pair = pairs[i];
+        if !unify(alloc, DEPTH, solution, &left[pair.0], &right[pair.1])? {
+            return Ok(false);
+        }
+    }
+    Ok(true)
+}
+
+/// The two rows one behind the other, with the bound variables written out and canonical numbers.
+fn written_out(
     alloc: Global,
     sig: &Signature,
-    pool: &mut Pool,
+    table: &HashMap<Key, Term>,
+    left: &[Term],
+    right: &[Term],
+) -> Result<Vec<Term>, AllocError>
+    ensures { IfOk result (λ row. (f : Substitution) → Resolves f (lookup table.now)
+        → (known : List Variable) × Renumbered sig.now 0 [] known (map (substitute f) (left.now ++ right.now)) row.items) }
+{
+    let mut written = Written {
+        known: IndexSet::new(alloc),
+        memory: HashMap::new(alloc),
+    };
+    let mut row = Vec::new(alloc);
+    write_all(alloc, DEPTH, sig, table, &mut written, left, &mut row)?;
+    write_all(alloc, DEPTH, sig, table, &mut written, right, &mut row)?;
+    Ok(row)
+}
+
+/// Both rows solved on the pairs, one behind the other, where they can be made to agree.
+fn solved(
+    alloc: Global,
+    sig: &Signature,
     left: &[Term],
     right: &[Term],
     pairs: &[(usize, usize)],
 ) -> Result<Option<Vec<Term>>, AllocError>
-    requires joinable { AreJoinable sig.now left.now right.now pairs.now }
-    requires fits { Fits sig.now pool.old }
-    ensures canonical { IfOk result (λ o. IfSome o (λ row. IsCanonical sig.now row.items)) }
-    ensures exact { IfOk result (λ o. IfSome o (λ row. (values : List Plain)
-        → IsGroundInstance sig.now row.items values ↔ IsAgreeing sig.now left.now right.now pairs.now values)) }
-    ensures some { IfOk result (λ o. IfSome o (λ row. (values : List Plain)
-        × IsAgreeing sig.now left.now right.now pairs.now values)) }
-    ensures none { IfOk result (λ o. IfNone o ((values : List Plain)
-        → IsAgreeing sig.now left.now right.now pairs.now values → ⊥)) }
-    ensures sorted { IfOk result (λ o. IfSome o (λ row. (ls rs : List ℕ)
-        → HaveSorts sig.now left.now ls → HaveSorts sig.now right.now rs → HaveSorts sig.now row.items (ls ++ rs))) }
-    ensures same { pool.new ≡ pool.old }
+    requires { All (λ p. (p.0 < length left.now) × (p.1 < length right.now)) pairs.now }
+    ensures { IfOk result (λ o. MatchOption o (Disjoint left.now right.now pairs.now)
+        (λ row. IsFound sig.now left.now right.now pairs.now row.items)) }
 {
-    sig.sound();
-    let mark = pool.mark();
-    let solved = solve_in(alloc, sig, pool, left, right, pairs)?;
-    match solved {
-        Some(cells) => match read_row(alloc, sig, pool, cells.as_slice()) {
-            Ok(row) => {
-                pool.release(mark);
-                Ok(Some(row))
-            }
-            Err(error) => {
-                pool.release(mark);
-                Err(error)
-            }
-        },
-        None => Ok(None),
+    let mut solution = Solution::new(alloc);
+    if !unify_pairs(alloc, &mut solution, left, right, pairs)? {
+        return Ok(None);
     }
-}
-
-/// An empty pool in which rows are joined, one pair after the other. It keeps its memory from one to the next.
-#[derive(Drop)]
-pub struct JoinPool {
-    pool: Pool,
-}
-
-impl Model for JoinPool {
-    ghost use Rattle.std.specs.Prelude.{◌≡◌, []};
-    ghost use Rattle.psg_pool.specs.Bindings.{Kept};
-
-    ghost Value = { Kept };
-
-    ghost view = { λ p. p.pool };
-
-    ghost invariant = { λ p. (p.pool.cells ≡ []) × (p.pool.bindings ≡ []) };
-}
-
-impl JoinPool {
-    /// An empty pool. It takes no memory itself.
-    pub fn new(alloc: Global) -> JoinPool {
-        JoinPool {
-            pool: Pool::new(alloc),
-        }
-    }
-
-    /// The join of two rows as `join_rows` makes it. Errors come as there.
-    pub fn join(
-        &mut self,
-        alloc: Global,
-        sig: &Signature,
-        left: &[Term],
-        right: &[Term],
-        pairs: &[(usize, usize)],
-    ) -> Result<Option<Vec<Term>>, AllocError>
-        requires { AreJoinable sig.now left.now right.now pairs.now }
-        ensures canonical { IfOk result (λ o. IfSome o (λ row. IsCanonical sig.now row.items)) }
-        // The row's ground instances are exactly the pairs of ground instances of both rows that agree.
-        ensures exact { IfOk result (λ o. IfSome o (λ row. (values : List Plain)
-            → IsGroundInstance sig.now row.items values ↔ IsAgreeing sig.now left.now right.now pairs.now values)) }
-        ensures some { IfOk result (λ o. IfSome o (λ row. (values : List Plain)
-            × IsAgreeing sig.now left.now right.now pairs.now values)) }
-        ensures none { IfOk result (λ o. IfNone o ((values : List Plain)
-            → IsAgreeing sig.now left.now right.now pairs.now values → ⊥)) }
-        ensures sorted { IfOk result (λ o. IfSome o (λ row. (ls rs : List ℕ)
-            → HaveSorts sig.now left.now ls → HaveSorts sig.now right.now rs → HaveSorts sig.now row.items (ls ++ rs))) }
-    {
-        let row = join_in(alloc, sig, &mut self.pool, left, right, pairs)?;
-        Ok(row)
-    }
+    let row = written_out(alloc, sig, &solution.table, left, right)?;
+    Ok(Some(row))
 }
 
 /// The most general row that two rows make where they agree on pairs of columns: the left columns and then the right
@@ -110,11 +104,15 @@ impl JoinPool {
 /// of the left row and one of the right row, each from 0. The rows' variables are apart, also where they have equal
 /// numbers.
 ///
-/// Each place of both rows is put into a pool once. Chains of equations are solved in time near linear in what was put, also
-/// where the row would be exponentially large in print: each cell is written once and then shared. Terms are walked with
-/// stacks on the heap, however deep they are.
+/// It reads each place of both rows a few times, and looks a variable up in a hash table at each. Two bound variables
+/// are compared once, chains of variables are no longer than the logarithm of their number, and what a bound variable
+/// stands for is written once and then shared. So chains of equations are solved in time near linear in the rows, also
+/// where the row would be exponentially large in print. When a variable is bound to a constructor, what stands there is
+/// searched for it; so many variables that are bound to large terms take the product of both numbers.
 ///
-/// `AllocError` comes when memory runs out, and where 32 bits do not count the cells.
+/// `AllocError` comes when memory runs out, where 32 bits do not count the variables, and where more than 10,000
+/// constructors are nested in a row or in what has to be compared. Two rows whose join is at most 10,000 deep do not
+/// meet this bound.
 pub fn join_rows(
     alloc: Global,
     sig: &Signature,
@@ -134,7 +132,12 @@ pub fn join_rows(
     ensures sorted { IfOk result (λ o. IfSome o (λ row. (ls rs : List ℕ)
         → HaveSorts sig.now left.now ls → HaveSorts sig.now right.now rs → HaveSorts sig.now row.items (ls ++ rs))) }
 {
-    let mut pool = JoinPool::new(alloc);
-    let row = pool.join(alloc, sig, left, right, pairs)?;
+    sig.sound();
+    if is_deep(left) || is_deep(right) {
+        return Err(AllocError);
+    }
+    let first = renumbered(alloc, sig, 0, left)?;
+    let second = renumbered(alloc, sig, first.1, right)?;
+    let row = solved(alloc, sig, &first.0, &second.0, pairs)?;
     Ok(row)
 }

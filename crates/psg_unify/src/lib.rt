@@ -5,26 +5,20 @@
 //! let joined = join_rows(alloc, &sig, left.as_slice(), right.as_slice(), &[(1, 0)])?;
 //! ```
 //!
-//! Both rows are put into a pool as cells, each variable a free one, and the pairs are equations of cells. Solving binds
-//! free cells and joins classes of equal constructor cells, so nothing is copied; then one walk looks for circles, and
-//! another one writes the row, each cell once.
+//! Both rows get numbers apart. The pairs are solved over a table from variables to terms in which a term is kept as it
+//! came, so nothing is copied until the solved row is written out, and then each bound variable is written once and
+//! shared.
 //!
 //! What always holds:
-//! - A pool fits the signature: its cells have sorts, and none leads back to itself. So each cell reads as one term.
-//! - Each step of the solver keeps exactly those values of the cells for which its equation holds.
-//! - Each call but `solve_in` leaves the pool as it was, and so does `solve_in` where it solves nothing.
+//! - The table has no circle: some substitution writes all bound variables out.
+//! - Each step keeps exactly those solutions for which its equation holds.
+//! - What a search, a comparison or the writing remembers holds for every solution.
 #![tactic(auto)]
 
-mod circles;
-mod classes;
+mod chains;
+mod circle;
+mod equations;
 mod join;
-mod making;
-mod putting;
-mod reading;
-mod regions;
-mod solving;
-mod walking;
+mod writing;
 
-pub use join::{JoinPool, join_rows};
-pub use reading::read_row;
-pub use regions::solve_in;
+pub use join::join_rows;

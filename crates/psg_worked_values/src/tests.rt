@@ -3,7 +3,6 @@ mod headers;
 mod joins;
 mod long_joins;
 mod long_relations;
-mod regions;
 mod relations;
 mod rows;
 mod signatures;
