@@ -1,5 +1,5 @@
 -- What it is answered that a list is closed, before its tree is tested.
-use Rattle.std.proofs.Common.{◌≡◌, inl, inr, true, false, Some, refl, sym, ◌∙◌, ap, subst}
+use Rattle.std.proofs.Common.{◌≡◌, inl, inr, true, false, Some, refl, sym, ◌∙◌, ap, subst, ◌≤◌, ◌+◌}
 use Rattle.psg_grammar.specs.declared.types.Definition.{Definition}
 use Rattle.psg_grammar.specs.Fragments.{Fragment}
 use Rattle.psg_grammar.specs.Paths.{change_at, ended, replaced}
@@ -16,10 +16,13 @@ use Rattle.psg_session.specs.declared.refusal.Refusal.TheVariants.{NoPlace}
 use Rattle.psg_session.specs.PlainState.{Opened, named_path}
 use Rattle.psg_session.specs.PlainStep.{Gives, by_change, by_close, Makes, end_of}
 use Rattle.psg_session.specs.Outcomes.{IsFound, IsMade, IsNotFound, IsPlan, made_of}
+use Rattle.psg_session.specs.Ticks.{above}
+use Rattle.psg_grammar.specs.Work.{work_of, climb_of}
+use Rattle.psg_session.proofs.Ticking.{ended_work}
 use Rattle.psg_session.specs.Sessions.{IsEditor, plain, state_of}
 use Rattle.psg_cache.specs.Annotated.{tree_in}
 use Rattle.psg_session.proofs.StepLaws.{at_node, has_node, is_opened, is_there, nowhere, opened_is, path_is, same_old}
-use Rattle.psg_session.proofs.ChangeLaws.{finished_shaped, may_put, put_is}
+use Rattle.psg_session.proofs.ChangeLaws.{finished_shaped, may_put, put_is, cost_here}
 
 abbrev IsNotUnfinished : Opened → Fragment → Type 0
 IsNotUnfinished old node = end_of node ≡ Some true → ⊥
@@ -58,4 +61,9 @@ module _ (def : Definition) (e : Editor) (place : Where) where
               inr ((λ h'. at_node def e place f found IsNotUnfinished h' ends), h)));
           taken = λ h. (is_opened def e place f found, (is_there def e place f found,
               ((λ h'. at_node def e place f found IsNotUnfinished h' ends), h)));
+          counts = inr (has_node def e place f found
+              (λ old node. work_of new + climb_of (tree_in f.held.now.note) f.path.now
+              ≤ work_of node + above def (state_of e) old place)
+              (cost_here e place f found (work_of new) (work_of f.node.now)
+              (ap work_of is ∙ ended_work false f.node.now)));
         }

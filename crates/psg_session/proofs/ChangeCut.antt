@@ -1,5 +1,5 @@
 -- What a cut is answered, before its tree is tested.
-use Rattle.std.proofs.Common.{◌≡◌, inl, inr, Some, refl, sym, ◌∙◌, ap, subst}
+use Rattle.std.proofs.Common.{◌≡◌, inl, inr, Some, refl, sym, ◌∙◌, ap, subst, ◌≤◌, ◌+◌}
 use Rattle.psg_grammar.specs.Insertion.{blank}
 use Rattle.psg_grammar.specs.Kinds.{HasKind, IsOfKind}
 use Rattle.psg_grammar.specs.declared.types.Kind.{Kind}
@@ -20,10 +20,13 @@ use Rattle.psg_session.specs.declared.refusal.Refusal.TheVariants.{NoPlaceholder
 use Rattle.psg_session.specs.PlainState.{Opened, named_path}
 use Rattle.psg_session.specs.PlainStep.{AtNode, Gives, by_change, by_cut, IsDeclaringPhylum, Makes}
 use Rattle.psg_session.specs.Outcomes.{IsFound, IsMade, IsNotFound, IsPlan, made_of}
+use Rattle.psg_session.specs.Ticks.{above}
+use Rattle.psg_grammar.specs.Work.{work_of, climb_of}
+use Rattle.psg_session.proofs.Ticking.{blank_work}
 use Rattle.psg_session.specs.Sessions.{IsEditor, plain, state_of}
 use Rattle.psg_cache.specs.Annotated.{tree_in}
 use Rattle.psg_session.proofs.StepLaws.{at_node, has_node, is_opened, is_there, node_is, nowhere, opened_is, path_is, same_old}
-use Rattle.psg_session.proofs.ChangeLaws.{kind_is, may_put, put_is}
+use Rattle.psg_session.proofs.ChangeLaws.{kind_is, may_put, put_is, cost_here}
 
 module _ (def : Definition) (e : Editor) (place : Where) where
   -- nothing is opened, or there is no node
@@ -80,4 +83,8 @@ module _ (def : Definition) (e : Editor) (place : Where) where
           refused = λ r h. inr (is_opened def e place f found, inr (is_there def e place f found,
               inr (usual never, h)));
           taken = λ h. (is_opened def e place f found, (is_there def e place f found, (usual never, h)));
+          counts = inr (has_node def e place f found
+              (λ old node. work_of new + climb_of (tree_in f.held.now.note) f.path.now
+              ≤ 1 + above def (state_of e) old place)
+              (cost_here e place f found (work_of new) 1 (ap work_of fresh ∙ blank_work def kind)));
         }

@@ -1,5 +1,5 @@
 -- What an insertion is answered, before its tree is tested.
-use Rattle.std.proofs.Common.{◌≡◌, ◌⊎◌, inl, inr, ℕ, ◌<◌, ◌≤◌, List, [], ◌∷◌, ◌++◌, length, Some, Ok, Err, refl, sym, ◌∙◌, ap, subst, arith}
+use Rattle.std.proofs.Common.{◌≡◌, ◌⊎◌, inl, inr, ℕ, ◌<◌, ◌≤◌, List, [], ◌∷◌, ◌++◌, length, Some, Ok, Err, refl, sym, ◌∙◌, ap, subst, arith, ◌+◌}
 use Rattle.psg_terms.specs.Names.{Name}
 use Rattle.psg_grammar.specs.declared.types.ListKind.{ListKind}
 use Rattle.psg_grammar.specs.Insertion.{Leaf, fresh_operator, with_operator}
@@ -20,10 +20,12 @@ use Rattle.psg_session.specs.declared.refusal.Refusal.TheVariants.{NoPlace}
 use Rattle.psg_session.specs.PlainState.{Opened, named_path}
 use Rattle.psg_session.specs.PlainStep.{AtNode, Gives, by_change, by_insert, IsOfPhylum, IsOperator, IsOther, IsWanted, Makes}
 use Rattle.psg_session.specs.Outcomes.{IsFound, IsFreshAnswer, IsListed, IsMade, IsNotFound, IsPlan, made_of}
+use Rattle.psg_session.specs.Ticks.{above, OfFresh}
+use Rattle.psg_grammar.specs.Work.{work_of, climb_of}
 use Rattle.psg_session.specs.Sessions.{plain, state_of}
 use Rattle.psg_cache.specs.Annotated.{tree_in}
 use Rattle.psg_session.proofs.StepLaws.{at_node, has_node, is_opened, is_there, nowhere, opened_is, path_is, same_old}
-use Rattle.psg_session.proofs.ChangeLaws.{answer_shaped, gives_none, is_other, not_other, one_list_kind, one_operator}
+use Rattle.psg_session.proofs.ChangeLaws.{answer_shaped, gives_none, is_other, not_other, one_list_kind, one_operator, cost_here}
 use Rattle.psg_session.specs.Leaves.{GivesLeaves}
 use Rattle.psg_session.proofs.LeafReads.{one_list}
 
@@ -116,7 +118,6 @@ module _ (def : Definition) (e : Editor) (place : Where) (k : ℕ) (name : Name)
                 may = record {
                   node = f.node.now;
                   there = found.node;
-                  is_list = listed.is_list;
                   number = l;
                   of_kind = of_list;
                   list = list.kind.now;
@@ -135,4 +136,10 @@ module _ (def : Definition) (e : Editor) (place : Where) (k : ℕ) (name : Name)
                     inr (no_other, inr ((λ none. none o leaves named gives), h))))));
                 taken = λ h. (is_opened def e place f found, (is_there def e place f found,
                     (usual, ((λ h'. h' o named), (no_other, ((λ none. none o leaves named gives), h))))));
+                counts = inr (has_node def e place f found
+                    (λ old node. OfFresh def (state_of e) name args (λ x. work_of fresh + (k + 1)
+                    + climb_of (tree_in f.held.now.note) f.path.now
+                    ≤ work_of x + (k + 1) + above def (state_of e) old place))
+                    (o, leaves, named, gives, cost_here e place f found (work_of fresh + (k + 1))
+                    (work_of (fresh_operator def o leaves) + (k + 1)) (ap (λ t. work_of t + (k + 1)) is_fresh)));
               }

@@ -1,5 +1,5 @@
 -- What the changes of a found node have in common.
-use Rattle.std.proofs.Common.{◌≡◌, inl, inr, ℕ, ◌<◌, Bool, false, true≢false, List, [], ◌∷◌, length, slice_get, Some, None, Option, Result, Ok, IfOk, option_map, refl, sym, ◌∙◌, subst}
+use Rattle.std.proofs.Common.{◌≡◌, inl, inr, ℕ, ◌<◌, Bool, false, true≢false, List, [], ◌∷◌, length, slice_get, Some, None, Option, Result, Ok, IfOk, option_map, refl, sym, ◌∙◌, subst, ◌≤◌, ◌+◌, ap, arith}
 use Rattle.std.proofs.lemmas.Option.{none-some, slice_get_within}
 use Rattle.psg_terms.specs.Names.{Name}
 use Rattle.psg_grammar.specs.declared.types.Kind.{Kind}
@@ -28,6 +28,7 @@ use Rattle.psg_session.specs.Edits.{MayEdit}
 use Rattle.psg_session.specs.Outcomes.{IsFound, IsFreshAnswer}
 use Rattle.psg_session.specs.PlainState.{Opened, named_path}
 use Rattle.psg_session.specs.PlainStep.{GivesNone, IsListOf, IsOfPhylum, IsOperator, IsOther, IsWanted, end_of}
+use Rattle.psg_grammar.specs.Work.{climb_of}
 use Rattle.psg_session.specs.Sessions.{IsEditor, state_of}
 use Rattle.psg_cache.specs.Annotated.{tree_in}
 use Rattle.psg_session.proofs.EditLaws.{opened_version}
@@ -145,6 +146,16 @@ module _ (def : Definition) (e : Editor) (place : Where) (f : Found) (editor : I
     of_kind = shape_is_kind def f.node.now K shaped;
     shaped = keeps K shaped;
   }
+
+-- what a change at the found node costs, said by the place
+module _ (e : Editor) (place : Where) (f : Found) (found : IsFound e place f) where
+  pub cost_here : (n m : ℕ) → n ≡ m → n + climb_of (tree_in f.held.now.note) f.path.now
+      ≤ m + climb_of (tree_in f.held.now.note) (named_path place e.cursor)
+  cost_here n m same =
+      let same_path : climb_of (tree_in f.held.now.note) f.path.now
+      ≡ climb_of (tree_in f.held.now.note) (named_path place e.cursor) =
+      ap (climb_of (tree_in f.held.now.note)) found.path in
+      omega (arith, same, same_path)
 
 -- a change of the found node is another tree in its place
 module _ (e : Editor) (def : Definition) (place : Where) (f : Found) (found : IsFound e place f)

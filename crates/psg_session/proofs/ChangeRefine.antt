@@ -1,5 +1,5 @@
 -- What a refinement is answered, before its tree is tested.
-use Rattle.std.proofs.Common.{◌≡◌, inl, inr, ℕ, List, None, Ok, Err, refl, sym, ◌∙◌, ap, subst}
+use Rattle.std.proofs.Common.{◌≡◌, inl, inr, ℕ, List, None, Ok, Err, refl, sym, ◌∙◌, ap, subst, ◌≤◌, ◌+◌}
 use Rattle.psg_terms.specs.Names.{Name}
 use Rattle.psg_grammar.specs.Insertion.{Leaf, fresh_operator, with_operator}
 use Rattle.psg_grammar.specs.declared.types.Kind.{Kind}
@@ -20,10 +20,12 @@ use Rattle.psg_session.specs.declared.refusal.Refusal.TheVariants.{NotHole}
 use Rattle.psg_session.specs.PlainState.{Opened, named_path}
 use Rattle.psg_session.specs.PlainStep.{AtNode, Gives, by_change, by_refine, IsOfPhylum, IsOperator, IsOther, IsWanted, Makes}
 use Rattle.psg_session.specs.Outcomes.{IsFound, IsFreshAnswer, IsMade, IsNotFound, IsPlan, made_of}
+use Rattle.psg_session.specs.Ticks.{above, OfFresh}
+use Rattle.psg_grammar.specs.Work.{work_of, climb_of}
 use Rattle.psg_session.specs.Sessions.{IsEditor, plain, state_of}
 use Rattle.psg_cache.specs.Annotated.{tree_in}
 use Rattle.psg_session.proofs.StepLaws.{at_node, has_node, is_opened, is_there, nowhere, opened_is, path_is, same_old}
-use Rattle.psg_session.proofs.ChangeLaws.{answer_shaped, gives_none, is_other, may_put, not_other, one_operator, put_is}
+use Rattle.psg_session.proofs.ChangeLaws.{answer_shaped, gives_none, is_other, may_put, not_other, one_operator, put_is, cost_here}
 use Rattle.psg_session.specs.Leaves.{GivesLeaves}
 use Rattle.psg_session.proofs.LeafReads.{one_list}
 
@@ -105,4 +107,9 @@ module _ (def : Definition) (e : Editor) (place : Where) (name : Name) (args : L
                   inr (usual, inr ((λ k. k o named), inr (no_other, inr ((λ none. none o leaves named gives), h))))));
               taken = λ h. (is_opened def e place f found, (is_there def e place f found,
                   (usual, ((λ k. k o named), (no_other, ((λ none. none o leaves named gives), h))))));
+              counts = inr (has_node def e place f found
+                  (λ old node. OfFresh def (state_of e) name args (λ x. work_of fresh
+                  + climb_of (tree_in f.held.now.note) f.path.now ≤ work_of x + above def (state_of e) old place))
+                  (o, leaves, named, gives, cost_here e place f found (work_of fresh)
+                  (work_of (fresh_operator def o leaves)) (ap work_of is_fresh)));
             }

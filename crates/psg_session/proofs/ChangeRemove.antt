@@ -1,5 +1,5 @@
 -- What it is answered that an element is taken away, before its tree is tested.
-use Rattle.std.proofs.Common.{◌≡◌, ◌⊎◌, inl, inr, ℕ, ◌<◌, ◌≤◌, length, Some, refl, sym, ◌∙◌, ap, subst, arith}
+use Rattle.std.proofs.Common.{◌≡◌, ◌⊎◌, inl, inr, ℕ, ◌<◌, ◌≤◌, length, Some, refl, sym, ◌∙◌, ap, subst, arith, ◌+◌}
 use Rattle.psg_grammar.specs.declared.types.Definition.{Definition}
 use Rattle.psg_grammar.specs.Fragments.{Fragment, children_of}
 use Rattle.psg_grammar.specs.Paths.{change_at, IsList, removed}
@@ -16,6 +16,9 @@ use Rattle.psg_session.specs.declared.refusal.Refusal.TheVariants.{NoPlace}
 use Rattle.psg_session.specs.PlainState.{Opened, named_path}
 use Rattle.psg_session.specs.PlainStep.{AtNode, Gives, by_change, by_remove, Makes}
 use Rattle.psg_session.specs.Outcomes.{IsFound, IsListed, IsMade, IsNotFound, IsPlan, made_of}
+use Rattle.psg_session.specs.Ticks.{above}
+use Rattle.psg_grammar.specs.Work.{climb_of}
+use Rattle.psg_session.proofs.ChangeLaws.{cost_here}
 use Rattle.psg_session.specs.Sessions.{plain, state_of}
 use Rattle.psg_cache.specs.Annotated.{tree_in}
 use Rattle.psg_session.proofs.StepLaws.{at_node, has_node, is_opened, is_there, nowhere, opened_is, path_is, same_old}
@@ -69,7 +72,7 @@ module _ (def : Definition) (e : Editor) (place : Where) (k : ℕ) where
               may = record {
                 node = f.node.now;
                 there = found.node;
-                is_list = listed.is_list;
+                list = listed.is_list;
                 within = let same = listed.elements in omega (arith, same, within);
               };
               makes = subst (λ q. Makes def (state_of e) (Remove place k)
@@ -78,4 +81,7 @@ module _ (def : Definition) (e : Editor) (place : Where) (k : ℕ) where
               only = λ other given. removed_once other given ∙ result;
               refused = λ r h. inr (is_opened def e place f found, inr (is_there def e place f found, inr (usual, h)));
               taken = λ h. (is_opened def e place f found, (is_there def e place f found, (usual, h)));
+              counts = inr (has_node def e place f found
+                  (λ old node. k + climb_of (tree_in f.held.now.note) f.path.now ≤ k + above def (state_of e) old place)
+                  (cost_here e place f found k k refl));
             }

@@ -1,5 +1,5 @@
 -- What it is answered that a list is opened again, before its tree is tested.
-use Rattle.std.proofs.Common.{◌≡◌, ◌↔◌, inl, inr, Bool, true, false, true≢false, not, IsTrue, Some, refl, sym, ◌∙◌, ap, subst}
+use Rattle.std.proofs.Common.{◌≡◌, ◌↔◌, inl, inr, Bool, true, false, true≢false, not, IsTrue, Some, refl, sym, ◌∙◌, ap, subst, ◌≤◌, ◌+◌}
 use Rattle.psg_grammar.specs.declared.types.Kind.TheVariants as kinds
 use Rattle.psg_grammar.specs.declared.types.ListKind.{ListKind}
 use Rattle.psg_grammar.specs.declared.types.Kind.{Kind}
@@ -21,10 +21,13 @@ use Rattle.psg_session.specs.declared.refusal.Refusal.TheVariants.{NoPlace}
 use Rattle.psg_session.specs.PlainState.{Opened, named_path}
 use Rattle.psg_session.specs.PlainStep.{Gives, by_change, by_reopen, Makes, MayReopen, end_of}
 use Rattle.psg_session.specs.Outcomes.{IsFound, IsListed, IsMade, IsNotFound, IsPlan, made_of}
+use Rattle.psg_session.specs.Ticks.{above}
+use Rattle.psg_grammar.specs.Work.{work_of, climb_of}
+use Rattle.psg_session.proofs.Ticking.{ended_work}
 use Rattle.psg_session.specs.Sessions.{IsEditor, plain, state_of}
 use Rattle.psg_cache.specs.Annotated.{tree_in}
 use Rattle.psg_session.proofs.StepLaws.{at_node, has_node, is_opened, is_there, nowhere, opened_is, path_is, same_old}
-use Rattle.psg_session.proofs.ChangeLaws.{end_is_list, kind_is, may_put, one_list_kind, put_is}
+use Rattle.psg_session.proofs.ChangeLaws.{end_is_list, kind_is, may_put, one_list_kind, put_is, cost_here}
 
 -- a list that may be unfinished stays of its kind
 pub reopen_keeps : (def : Definition) (node : Fragment) → MayReopen def node → (K : Kind) → IsShaped def node K
@@ -71,6 +74,11 @@ module _ (def : Definition) (e : Editor) (place : Where) where
               inr ((λ h'. at_node def e place f found MayNot h' may), h)));
           taken = λ h. (is_opened def e place f found, (is_there def e place f found,
               ((λ h'. at_node def e place f found MayNot h' may), h)));
+          counts = inr (has_node def e place f found
+              (λ old node. work_of new + climb_of (tree_in f.held.now.note) f.path.now
+              ≤ work_of node + above def (state_of e) old place)
+              (cost_here e place f found (work_of new) (work_of f.node.now)
+              (ap work_of is ∙ ended_work true f.node.now)));
         }
 
 not_unfinished : (b : Bool) → IsTrue (not b) → b ≡ false

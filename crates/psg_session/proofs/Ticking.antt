@@ -1,17 +1,29 @@
 -- How many evaluations were counted.
-use Rattle.std.proofs.Common.{◌≡◌, inl, inr, ℕ, ◌+◌, ◌≤◌, List, [], refl, sym, ap, ap₂, ◌∙◌, subst, arith}
+use Rattle.std.proofs.Common.{Bool, ◌≡◌, inl, inr, ℕ, ◌+◌, ◌≤◌, List, [], refl, sym, ap, ap₂, ◌∙◌, subst, arith}
 use Rattle.psg_terms.specs.Names.{Name}
 use Rattle.psg_grammar.specs.declared.types.Kind.{Kind}
 use Rattle.psg_grammar.specs.declared.types.Kind.TheVariants as kinds
 use Rattle.psg_grammar.specs.declared.types.Definition.{Definition}
 use Rattle.psg_grammar.specs.Fragments.{Fragment, hole, ending, cell, operator, with_child, with_name, with_number, with_text, anything, observed}
 use Rattle.psg_grammar.specs.Insertion.{blank}
-use Rattle.psg_grammar.specs.Paths.{Path}
+use Rattle.psg_grammar.specs.Paths.{Path, ended}
 use Rattle.psg_grammar.specs.Work.{work_of}
 use Rattle.psg_script.specs.declared.command.Command.{Command}
 use Rattle.psg_script.specs.declared.command.Command.TheVariants.{New, Goto, Refine, Insert, Cut, Remove, Close, Reopen, Over, Range, Show, Screen, Relation, Own, Menu, Names, Free, Undo, Redo, Save, Paste, Keep, Fetch}
 use Rattle.psg_session.specs.PlainState.{State}
 use Rattle.psg_session.specs.Ticks.{HasTicked, MayTick}
+
+pub ended_work : (u : Bool) (f : Fragment) → work_of (ended u f) ≡ work_of f
+ended_work u (hole p) = refl
+ended_work u (ending l v) = refl
+ended_work u (cell l e r) = ap (λ n. work_of e + n + 1) (ended_work u r)
+ended_work u (operator o) = refl
+ended_work u (with_child f t) = refl
+ended_work u (with_name f n) = refl
+ended_work u (with_number f n) = refl
+ended_work u (with_text f t) = refl
+ended_work u anything = refl
+ended_work u (observed f) = refl
 
 pub blank_work : (def : Definition) (kind : Kind) → work_of (blank def kind) ≡ 1
 blank_work def (kinds.Phylum p) = refl

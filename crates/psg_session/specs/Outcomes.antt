@@ -29,7 +29,7 @@ use Rattle.psg_session.specs.declared.refusal.Refusal.TheVariants.{NoNode, Nothi
 use Rattle.psg_session.specs.declared.replies.Reply.{Reply}
 use Rattle.psg_session.specs.declared.replies.Reply.TheVariants.{Marked}
 use Rattle.psg_session.specs.declared.edits.Edit.{Edit}
-use Rattle.psg_session.specs.Edits.{MayEdit, edited}
+use Rattle.psg_session.specs.Edits.{MayEdit, cost_of, edited}
 use Rattle.psg_session.specs.Good.{IsGoodIn}
 use Rattle.psg_session.specs.PlainState.{Answer, Opened, State, not_asked, named_path, with_change}
 use Rattle.psg_session.specs.Leaves.{GivesLeaves}

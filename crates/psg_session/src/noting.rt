@@ -75,9 +75,9 @@ pub fn tree_of(made: Result<Tree, TreeFault>) -> Result<Tree, AllocError>
 pub fn note_mark(alloc: Global, note: &Note) -> Result<Mark, AllocError>
     ensures { IfOk result (λ mark. mark_of mark ≡ mark_by (culprits_in note.now)) }
 {
-    let culprits = note.culprits(alloc)?;
-    if culprits.is_empty() {
+    if note.is_good() {
         return Ok(Mark::Good);
     }
+    let culprits = note.culprits(alloc)?;
     Ok(Mark::Wrong(culprits))
 }

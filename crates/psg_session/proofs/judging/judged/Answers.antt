@@ -1,4 +1,4 @@
-use Rattle.std.proofs.Common.{Ok, subst, sym, ◌∙◌, true≢false}
+use Rattle.std.proofs.Common.{subst, sym, ◌∙◌, true≢false}
 use Rattle.psg_session.specs.Outcomes.{IsNoted}
 use Rattle.psg_session.proofs.Verdicts.{judged_fault, judged_inadmissible, judged_right}
 use Rattle.psg_session.proofs.judging.judged.Goals as goal

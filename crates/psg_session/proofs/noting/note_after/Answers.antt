@@ -1,23 +1,31 @@
-use Rattle.std.proofs.Common.{ap, sym, subst, ◌∙◌}
-use Rattle.psg_grammar.specs.Fragments.{Fragment}
-use Rattle.psg_cache.specs.Shaped.{IsShaped}
-use Rattle.psg_session.specs.Edits.{edited, MayEdit}
+use Rattle.std.proofs.Common.{IfOk, IfErr, sym, subst}
 use Rattle.psg_cache.specs.Annotated.{tree_in}
-use Rattle.psg_session.proofs.EditLaws.{edited_shaped}
+use Rattle.psg_cache.specs.Notes.{IsNoteOf, IsNoteFault}
+use Rattle.psg_session.specs.declared.edits.Edit.{Edit}
+use Rattle.psg_session.specs.Edits.{edited}
+use Rattle.psg_session.proofs.Verdicts.{noted_by}
 use Rattle.psg_session.proofs.noting.note_after.Goals as goal
 
-pub tree_after-requires : goal.tree_after-requires
-tree_after-requires g c = record {
-  may = (c.args.language.now.definition, subst (λ (f : Fragment). MayEdit c.args.language.now.definition f c.args.edit.now)
-      (sym c.tree.ensures) c.requires.may);
-}
-
-pub note_of-requires-clause-formed : goal.note_of-requires-clause-formed
-note_of-requires-clause-formed g c =
+pub returns-in-Put-clause-noted : goal.returns-in-Put-clause-noted
+returns-in-Put-clause-noted g c =
     let def = c.args.language.now.definition in
-    let (kind, shaped) = c.requires.formed in (
-      kind,
-      subst (λ (f : Fragment). IsShaped def f kind)
-          (sym (c.in_ok-tree.ensures ∙ ap (edited c.args.edit.now) c.tree.ensures))
-          (edited_shaped def c.args.edit.now (tree_in c.args.note.now) kind shaped c.requires.may),
-    )
+    let old = tree_in c.args.note.now in
+    noted_by def (edited c.args.edit.now old) c.replaced.result
+    (subst (λ (e : Edit). IfOk c.replaced.result (IsNoteOf def (edited e old))) (sym c.in-Put.is) c.replaced.ensures.note)
+    (subst (λ (e : Edit). IfErr c.replaced.result (IsNoteFault def (edited e old))) (sym c.in-Put.is) c.replaced.ensures.fault)
+
+pub returns-in-Add-clause-noted : goal.returns-in-Add-clause-noted
+returns-in-Add-clause-noted g c =
+    let def = c.args.language.now.definition in
+    let old = tree_in c.args.note.now in
+    noted_by def (edited c.args.edit.now old) c.inserted.result
+    (subst (λ (e : Edit). IfOk c.inserted.result (IsNoteOf def (edited e old))) (sym c.in-Add.is) c.inserted.ensures.note)
+    (subst (λ (e : Edit). IfErr c.inserted.result (IsNoteFault def (edited e old))) (sym c.in-Add.is) c.inserted.ensures.fault)
+
+pub returns-in-Take-clause-noted : goal.returns-in-Take-clause-noted
+returns-in-Take-clause-noted g c =
+    let def = c.args.language.now.definition in
+    let old = tree_in c.args.note.now in
+    noted_by def (edited c.args.edit.now old) c.removed.result
+    (subst (λ (e : Edit). IfOk c.removed.result (IsNoteOf def (edited e old))) (sym c.in-Take.is) c.removed.ensures.note)
+    (subst (λ (e : Edit). IfErr c.removed.result (IsNoteFault def (edited e old))) (sym c.in-Take.is) c.removed.ensures.fault)

@@ -1,6 +1,5 @@
-use Rattle.std.proofs.Common.{◌≡◌, ◌≤◌, ◌+◌, ap, sym, subst}
+use Rattle.std.proofs.Common.{sym, subst}
 use Rattle.psg_cache.specs.Notes.{AreDeclaringSpaces}
-use Rattle.psg_session.proofs.Ticking.{evaluations_are_work}
 use Rattle.psg_session.proofs.Verdicts.{noted_by}
 use Rattle.psg_session.proofs.noting.note_of.Goals as goal
 
@@ -17,5 +16,4 @@ returns-clause-noted g c =
     noted_by c.args.language.now.definition c.args.tree.now c.build.result c.build.ensures.note c.build.ensures.fault
 
 pub returns-clause-ticks : goal.returns-clause-ticks
-returns-clause-ticks g c =
-    subst (λ n. c.build.new.steps ≤ c.args.steps.now + n) (evaluations_are_work c.args.tree.now) c.build.ensures.bounded
+returns-clause-ticks g c = c.build.ensures.bounded
