@@ -27,9 +27,11 @@ returns-in_default-clause-ticks g c = λ command plan.
     quiet c.args.language.now.definition (state_of c.args.editor.now) command _ _ refl
 
 pub note_after-noted-requires-clause-formed : goal.note_after-noted-requires-clause-formed
-note_after-noted-requires-clause-formed g c =
-    (c.in-Some.held.kind, (opened_version c.args.language.now.definition c.args.editor.now c.in-Some.held
-    c.requires.editor c.in-Some.is).shaped)
+note_after-noted-requires-clause-formed g c = (
+  c.in-Some.held.kind,
+  (opened_version c.args.language.now.definition c.args.editor.now c.in-Some.held
+      c.requires.editor c.in-Some.is).shaped,
+)
 
 pub note_after-noted-requires-clause-may : goal.note_after-noted-requires-clause-may
 note_after-noted-requires-clause-may g c =

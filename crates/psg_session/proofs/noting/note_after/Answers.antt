@@ -8,8 +8,11 @@ use Rattle.psg_session.proofs.noting.note_after.Goals as goal
 
 pub tree_after-requires : goal.tree_after-requires
 tree_after-requires g c = record {
-  may = (c.args.language.now.definition, subst (λ (f : Fragment). MayEdit c.args.language.now.definition f c.args.edit.now)
-      (sym c.tree.ensures) c.requires.may);
+  may = (
+    c.args.language.now.definition,
+    subst (λ (f : Fragment). MayEdit c.args.language.now.definition f c.args.edit.now)
+        (sym c.tree.ensures) c.requires.may,
+  );
 }
 
 pub note_of-requires-clause-formed : goal.note_of-requires-clause-formed
