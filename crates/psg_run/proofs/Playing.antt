@@ -1,5 +1,5 @@
 -- A script played line by line.
-use Rattle.std.proofs.Common.{◌≡◌, ◌⊎◌, inl, inr, ℕ, suc, ◌+◌, ◌<◌, ◌≤◌, Bool, true, false, cond, List, [], ◌∷◌, ◌++◌, length, take, drop, Option, Some, None, IfSome, refl, sym, ◌∙◌, ap, subst, arith, append_assoc, append-nil, length-append}
+use Rattle.std.proofs.Common.{◌≡◌, ◌⊎◌, inl, inr, ℕ, ◌≤◌, false, cond, List, [], ◌∷◌, ◌++◌, length, take, drop, Option, Some, None, IfSome, refl, sym, ◌∙◌, ap, subst, arith, append_assoc, append-nil}
 use Rattle.std.specs.Io.KnownBytes.{append_known}
 use Rattle.std.specs.List.{slice_split}
 use Rattle.std.specs.Str.Lines.{strip_carriage_return}
@@ -7,7 +7,6 @@ use Rattle.std.proofs.lemmas.List.{take_at, take-append-drop}
 use Rattle.psg_world.specs.Sinks.{TakesFront, HasRisen}
 use Rattle.psg_grammar.specs.declared.types.Definition.{Definition}
 use Rattle.psg_script.specs.declared.command.Command.{Command}
-use Rattle.psg_script.specs.Forms.{Spells}
 use Rattle.psg_session.specs.declared.refusal.Refusal.TheVariants.{NoCommand}
 use Rattle.psg_session.specs.Applied.{Asks, HasApplied, HasStopped, IsAskedBy}
 use Rattle.psg_session.specs.Exchanges.{Asked, IsAnswered, IsCutOff, nobody, Outside}

@@ -1,4 +1,4 @@
-use Rattle.std.proofs.Common.{◌≡◌, ◌≤◌, ◌==◌, ℕ, List, length, true, true≢false, refl, sym, ap, ◌∙◌, subst}
+use Rattle.std.proofs.Common.{◌≤◌, ◌==◌, ℕ, List, length, true≢false, refl, sym, ap, ◌∙◌, subst}
 use Rattle.std.proofs.Math.Nat.{le_refl, le_trans}
 use Rattle.psg_session.specs.declared.language.Language.{Language}
 use Rattle.psg_session.specs.declared.session.Parts.{Parts}

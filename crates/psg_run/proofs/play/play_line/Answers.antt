@@ -1,4 +1,4 @@
-use Rattle.std.proofs.Common.{◌≡◌, refl, sym, ap, ◌∙◌}
+use Rattle.std.proofs.Common.{ap, ◌∙◌}
 use Rattle.psg_session.specs.Exchanges.{Outside}
 use Rattle.psg_session.specs.Sessions.{state_of}
 use Rattle.psg_session.specs.Views.{reply_of}

@@ -1,4 +1,4 @@
-use Rattle.std.proofs.Common.{◌≡◌, ◌<◌, ◌≤◌, List, ℕ, length, Err, refl, sym, ap, ◌∙◌, subst}
+use Rattle.std.proofs.Common.{◌<◌, ◌≤◌, length, Err, refl, ap, ◌∙◌, subst}
 use Rattle.psg_run.specs.declared.limits.TheConstants.{MOST_SCRIPT_BYTES}
 use Rattle.psg_run.specs.Output.{script_lines}
 use Rattle.psg_run.specs.Played.{PrintsAll, PrintsFront}
