@@ -1,11 +1,11 @@
 -- Worked case: three answers of files. A keep is stored, a keep is lost, and the lost name is fetched, with any bytes.
-use Rattle.std.proofs.Common.{◌≡◌, ℕ, List, [], ◌∷◌, None, true≢false, refl}
+use Rattle.std.proofs.Common.{List, [], ◌∷◌, None, true≢false, refl}
 use Rattle.std.specs.Prelude.{codes}
 use Rattle.std.specs.FinMap as map
-use Rattle.psg_world.specs.Files.{Held, writing}
+use Rattle.psg_world.specs.Files.{writing}
 use Rattle.psg_session.specs.Exchanges.{keeping, fetching}
 use Rattle.psg_session.specs.PlainState.{stored, got, lost}
-use Rattle.psg_run.specs.Told.{Exchange, Known, sets, forgets, Replays, nothing, keeps, keep_lost, fetches, Told, Loses, none, stores, loses_keep, gets}
+use Rattle.psg_run.specs.Told.{Exchange, Known, sets, forgets, nothing, keeps, keep_lost, fetches, Told, Loses, none, stores, loses_keep, gets}
 
 exchanges : List Exchange
 exchanges =

@@ -1,14 +1,14 @@
 -- Worked cases: the lines of a script, the text of replies, and the output of two lines.
-use Rattle.std.proofs.Common.{◌≡◌, ℕ, List, [], ◌∷◌, ◌++◌, None, inl, refl}
+use Rattle.std.proofs.Common.{◌≡◌, [], ◌∷◌, ◌++◌, None, inl, refl}
 use Rattle.std.specs.Prelude.{codes}
 use Rattle.psg_grammar.specs.declared.types.Definition.{Definition}
 use Rattle.psg_grammar.specs.Fragments.{Fragment}
 use Rattle.psg_grammar.specs.Marks.{good, wrong}
 use Rattle.psg_script.specs.declared.command.Command.TheVariants.{Show}
 use Rattle.psg_script.specs.Forms.{Spells}
-use Rattle.psg_session.specs.PlainState.{State, start, not_asked}
+use Rattle.psg_session.specs.PlainState.{start, not_asked}
 use Rattle.psg_session.specs.declared.refusal.Refusal.TheVariants.{NothingOpened}
-use Rattle.psg_session.specs.PlainStep.{Steps, refuses, IsRefused}
+use Rattle.psg_session.specs.PlainStep.{refuses, IsRefused}
 use Rattle.psg_session.specs.Replies.{refused, marked, shown, reply_text}
 use Rattle.psg_run.specs.Output.{script_lines, Prints, ends, step}
 

@@ -1,5 +1,5 @@
 -- Files that were read, and how a run ends.
-use Rattle.std.proofs.Common.{◌≡◌, ◌⊎◌, inl, inr, ℕ, ◌+◌, ◌<◌, ◌≤◌, min, List, [], ◌∷◌, ◌++◌, length, take, drop, Option, Some, None, IfSome, Result, Ok, Err, refl, sym, ◌∙◌, ap, ap₂, subst, arith, append-nil}
+use Rattle.std.proofs.Common.{◌≡◌, inl, inr, ℕ, ◌+◌, ◌<◌, ◌≤◌, min, List, [], length, take, drop, Option, Some, None, IfSome, refl, sym, ◌∙◌, ap, ap₂, subst, arith, append-nil}
 use Rattle.std.specs.Prelude.{codes}
 use Rattle.std.specs.FinMap as map
 use Rattle.std.specs.Io.KnownBytes.{append_known}
@@ -13,16 +13,14 @@ use Rattle.psg_world.specs.declared.world.WriteStop.TheVariants as stops
 use Rattle.psg_grammar.specs.declared.types.Definition.{Definition}
 use Rattle.psg_deflines.specs.declared.fault.ReadFault.{ReadFault}
 use Rattle.psg_deflines.specs.declared.fault.ReadFault.TheVariants as faults
-use Rattle.psg_defread.specs.Reading.{IsReadAs}
 use Rattle.psg_defread.specs.Refusals.{IsReadFault}
 use Rattle.psg_run.specs.declared.status.Status.{Status}
 use Rattle.psg_run.specs.declared.status.Status.TheVariants as ends_with
-use Rattle.psg_run.specs.declared.limits.TheConstants.{MOST_DEFINITION_BYTES, MOST_SCRIPT_BYTES}
-use Rattle.psg_run.specs.Output.{script_lines}
+use Rattle.psg_run.specs.declared.limits.TheConstants.{MOST_DEFINITION_BYTES}
 use Rattle.psg_run.specs.Played.{PrintsAll, PrintsFront}
 use Rattle.psg_run.specs.Told.{none, nothing}
 use Rattle.psg_session.specs.Replies.{feed}
-use Rattle.psg_run.specs.Headline.{World, Tells, IsWithin, IsLong, KeepsFiles, WroteNothing, IsDefinition, IsToldOf, HasAsked, IsFaultLine, IsAcceptedLine, IsCheckLine, IsQuiet, WritesAll, WritesFront, Says, SaysFront, FailsToRead, IsTooLong, Checks, Edits}
+use Rattle.psg_run.specs.Headline.{World, IsWithin, IsLong, KeepsFiles, WroteNothing, IsDefinition, IsToldOf, HasAsked, IsFaultLine, IsAcceptedLine, IsCheckLine, WritesAll, WritesFront, Says, SaysFront, Checks, Edits}
 use Rattle.psg_run.specs.Endings.{write_status, OfScript, Plays, PutsLine, put_whole, put_failed, put_in_part, IsRead, IsUnread, EndsFault}
 
 whole_front : (limit : ℕ) (bytes : List ℕ) → length (front_of limit bytes) ≤ limit → front_of limit bytes ≡ bytes

@@ -1,10 +1,10 @@
 -- A text cut at its first line feed.
-use Rattle.std.proofs.Common.{◌≡◌, ◌⊎◌, inl, inr, ℕ, zero, suc, ◌+◌, ◌<◌, ◌≤◌, nat_lt, not, Bool, true, false, cond, List, [], ◌∷◌, take, drop, length, Option, Some, None, refl, sym, ◌∙◌, ap, subst, arith}
+use Rattle.std.proofs.Common.{◌≡◌, ℕ, ◌+◌, ◌≤◌, nat_lt, not, Bool, true, false, cond, List, [], ◌∷◌, take, drop, length, Some, None, refl, sym, ◌∙◌, ap, subst, arith}
 use Rattle.std.specs.List.{slice_split, onto_first, position, position_or_len}
 use Rattle.std.proofs.lemmas.Option.{none-some}
 use Rattle.std.proofs.lemmas.Bool.Decides.{nat_tests}
 use Rattle.std.proofs.lemmas.List.Splits.{slice_split_first, slice_split-cons_no}
-use Rattle.psg_run.specs.Output.{is_feed, kept_lines}
+use Rattle.psg_run.specs.Output.{is_feed}
 
 some_of_cond : (b : Bool) (m n : ℕ) → cond b (Some m) None ≡ Some n → (b ≡ true) × (m ≡ n)
 some_of_cond true m n e = (refl, cc)

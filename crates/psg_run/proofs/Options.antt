@@ -1,5 +1,5 @@
 -- Options, results and lists that have nothing.
-use Rattle.std.proofs.Common.{◌≡◌, ◌==◌, true, ap, List, [], ◌∷◌, length, sym, Option, Some, None, Result, Ok, Err, OnErr, IsErrOf, ◌∙◌, arith, refl}
+use Rattle.std.proofs.Common.{◌≡◌, ◌==◌, true, ap, List, [], length, sym, Option, Some, None, Result, Ok, Err, OnErr, IsErrOf, ◌∙◌, arith, refl}
 use Rattle.std.specs.Result.{IsErrAnd}
 use Rattle.std.proofs.lemmas.Bool.Decides.{nat_tests}
 use Rattle.std.proofs.lemmas.List.{nil_from_length}

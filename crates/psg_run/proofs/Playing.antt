@@ -1,5 +1,5 @@
 -- A script played line by line.
-use Rattle.std.proofs.Common.{◌≡◌, ◌⊎◌, inl, inr, ℕ, suc, ◌+◌, ◌<◌, ◌≤◌, Bool, true, false, cond, List, [], ◌∷◌, ◌++◌, length, take, drop, Option, Some, None, IfSome, refl, sym, ◌∙◌, ap, subst, arith, append_assoc, append-nil, length-append}
+use Rattle.std.proofs.Common.{◌≡◌, ◌⊎◌, inl, inr, ℕ, ◌≤◌, false, cond, List, [], ◌∷◌, ◌++◌, length, take, drop, Option, Some, None, IfSome, refl, sym, ◌∙◌, ap, subst, arith, append_assoc, append-nil}
 use Rattle.std.specs.Io.KnownBytes.{append_known}
 use Rattle.std.specs.List.{slice_split}
 use Rattle.std.specs.Str.Lines.{strip_carriage_return}
@@ -7,13 +7,12 @@ use Rattle.std.proofs.lemmas.List.{take_at, take-append-drop}
 use Rattle.psg_world.specs.Sinks.{TakesFront, HasRisen}
 use Rattle.psg_grammar.specs.declared.types.Definition.{Definition}
 use Rattle.psg_script.specs.declared.command.Command.{Command}
-use Rattle.psg_script.specs.Forms.{Spells}
 use Rattle.psg_session.specs.declared.refusal.Refusal.TheVariants.{NoCommand}
 use Rattle.psg_session.specs.Applied.{Asks, HasApplied, HasStopped, IsAskedBy}
 use Rattle.psg_session.specs.Exchanges.{Asked, IsAnswered, IsCutOff, nobody, Outside}
 use Rattle.psg_session.specs.Good.{IsGoodIn}
 use Rattle.psg_session.specs.Lines.{at_command, at_line, HasAnswered, HasBroken, to_command as to_line_command, to_nothing as to_line_nothing}
-use Rattle.psg_session.specs.PlainState.{Answer, State, not_asked, start}
+use Rattle.psg_session.specs.PlainState.{Answer, State, got, lost, not_asked, start, stored}
 use Rattle.psg_session.specs.PlainStep.{Steps}
 use Rattle.psg_session.specs.Replies.{Reply, refused, reply_text}
 use Rattle.psg_run.specs.Output.{ends, no_command, step, is_feed, is_empty, kept_lines}
@@ -45,32 +44,31 @@ prints-append def {u = u} line reply (step {s = s} {line = first} {rest = rest} 
 
 -- ---- what a session did at a line
 
+-- no command asks, so the files stay as they were
+not_reached : (def : Definition) (s : State) (command : Command) (before after : Outside) (asked : Option Asked)
+    → IsAskedBy def s command asked → (answer : Answer) → IsAnswered before after asked answer
+    → (answer ≡ not_asked) × (after ≡ before)
+not_reached def s command before after None asks not_asked (nobody same) = (refl, same)
+not_reached def s command before after None asks stored answers = elim answers [ ]
+not_reached def s command before after None asks (got bytes) answers = elim answers [ ]
+not_reached def s command before after None asks lost answers = elim answers [ ]
+not_reached def s command before after (Some asked) asks answer answers = absurd asks
+
 module _ (def : Definition) (s t : State) (line : List ℕ) (before after : Outside) (from to : ℕ) (reply : Reply) where
-  applied_replies : (command : Command) → Spells line command → HasApplied def s t command before after from to reply
-      → Replies def s line t reply
-  applied_replies command spells h = go h.asked h.asks h.answer h.answers h.steps where
-    go : (asked : Option Asked) → IsAskedBy def s command asked → (answer : Answer)
-        → IsAnswered before after asked answer → Steps def (IsGoodIn def) s answer command t reply
-        → Replies def s line t reply
-    go None asks not_asked (nobody same) steps = to_command command spells steps
-    go (Some asked) asks answer answers steps = absurd asks
+  applied_quietly : (command : Command) → (h : HasApplied def s t command before after from to reply)
+      → (h.answer ≡ not_asked) × (after ≡ before)
+  applied_quietly command h = not_reached def s command before after h.asked h.asks h.answer h.answers
 
   pub line_replies : HasAnswered def s t line before after from to reply → Replies def s line t reply
   line_replies (to_line_nothing never state files count is) =
       subst (λ x. Replies def s line x reply) (sym state)
       (subst (λ r. Replies def s line s r) (sym is) (to_nothing never))
-  line_replies (to_line_command command spells h) = applied_replies command spells h
-
-  applied_keeps : (command : Command) → HasApplied def s t command before after from to reply → after ≡ before
-  applied_keeps command h = go h.asked h.asks h.answer h.answers where
-    go : (asked : Option Asked) → IsAskedBy def s command asked → (answer : Answer)
-        → IsAnswered before after asked answer → after ≡ before
-    go None asks not_asked (nobody same) = same
-    go (Some asked) asks answer answers = absurd asks
+  line_replies (to_line_command command spells h) = to_command command spells
+      (subst (λ a. Steps def (IsGoodIn def) s a command t reply) (applied_quietly command h).0 h.steps)
 
   pub line_keeps : HasAnswered def s t line before after from to reply → after ≡ before
   line_keeps (to_line_nothing never state files count is) = files
-  line_keeps (to_line_command command spells h) = applied_keeps command h
+  line_keeps (to_line_command command spells h) = (applied_quietly command h).1
 
 module _ (def : Definition) (s : State) (line : List ℕ) (before after : Outside) (from to : ℕ) where
   stopped_keeps : (command : Command) → HasStopped def s command before after from to → after ≡ before

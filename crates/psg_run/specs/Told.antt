@@ -1,5 +1,5 @@
 -- When the answers that commands got are those of the files.
-use Rattle.std.specs.Prelude.{ℕ, ◌≡◌, ◌≢◌, Bool, false, cond, List, [], ◌∷◌, Option, Some, None, bytes_eq}
+use Rattle.std.specs.Prelude.{ℕ, ◌≡◌, false, cond, List, [], ◌∷◌, Option, Some, None, bytes_eq}
 use Rattle.std.specs.FinMap as map
 use Rattle.psg_terms.specs.Names.{Name, is_among}
 use Rattle.psg_world.specs.Files.{Held, Entry, reading, writing, bytes_of, front_of}

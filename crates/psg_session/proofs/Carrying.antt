@@ -196,8 +196,14 @@ module _ (def : Definition) (e : Editor) (name : Name) where
       pub new_refused : (r : Refusal) → IsJudged def Opens (blank def kind) (Err r)
           → IsOutcome def e not_asked (New name) (Stays (Refused r))
       new_refused r fails = record {
-        steps = refuses (inr (knows, inr (usual_all, refuses_again def (λ P. P (blank def kind))
-            (OfResult def (state_of e) (New name)) lifts lowers Opens r fails)));
+        steps = refuses (inr (
+          knows,
+          inr (
+            usual_all,
+            refuses_again def (λ P. P (blank def kind))
+                (OfResult def (state_of e) (New name)) lifts lowers Opens r fails,
+          ),
+        ));
         fit = tt;
       }
 

@@ -46,8 +46,13 @@ module _ (def : Definition) (e : Editor) (place : Where) where
   module _ (f : Found) (found : IsFound e place f) (kind : Kind) (is : IsOfKind def f.node.now kind) where
     -- a placeholder would not say which names it declares
     pub cut_declares : IsDeclaringPhylum def kind → IsPlan def e (Cut place) (RefusedBy NoPlaceholder)
-    cut_declares declares = inr (is_opened def e place f found, inr (is_there def e place f found,
-        inl (has_node def e place f found Declares (kind, is, declares), refl)))
+    cut_declares declares = inr (
+      is_opened def e place f found,
+      inr (
+        is_there def e place f found,
+        inl (has_node def e place f found Declares (kind, is, declares), refl),
+      ),
+    )
 
     cut_once : (other : Fragment) → Gives def (state_of e) (Cut place) other
         → other ≡ replaced (named_path place e.cursor) (blank def kind) (tree_in f.held.now.note)
@@ -80,8 +85,13 @@ module _ (def : Definition) (e : Editor) (place : Where) where
               (by_cut (plain f.held.now) f.node.now kind (opened_is def e place f found)
               (node_is def e place f found) is));
           only = λ other given. cut_once other given ∙ result;
-          refused = λ r h. inr (is_opened def e place f found, inr (is_there def e place f found,
-              inr (usual never, h)));
+          refused = λ r h. inr (
+            is_opened def e place f found,
+            inr (
+              is_there def e place f found,
+              inr (usual never, h),
+            ),
+          );
           taken = λ h. (is_opened def e place f found, (is_there def e place f found, (usual never, h)));
           counts = inr (has_node def e place f found
               (λ old node. work_of new + climb_of (tree_in f.held.now.note) f.path.now

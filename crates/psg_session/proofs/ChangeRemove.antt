@@ -34,8 +34,13 @@ module _ (def : Definition) (e : Editor) (place : Where) (k : ℕ) where
 
   module _ (f : Found) (found : IsFound e place f) where
     remove_no_element : HasNoElement k (plain f.held.now) f.node.now → IsPlan def e (Remove place k) (RefusedBy NoPlace)
-    remove_no_element none = inr (is_opened def e place f found, inr (is_there def e place f found,
-        inl (has_node def e place f found (HasNoElement k) none, refl)))
+    remove_no_element none = inr (
+      is_opened def e place f found,
+      inr (
+        is_there def e place f found,
+        inl (has_node def e place f found (HasNoElement k) none, refl),
+      ),
+    )
 
     -- the node is no list
     pub remove_no_list : (IsList f.node.now → ⊥) → IsPlan def e (Remove place k) (RefusedBy NoPlace)

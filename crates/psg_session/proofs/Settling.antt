@@ -77,9 +77,11 @@ module _ (old new : Editor) (note : Annotated) (cursor : Path) (mark : Mark) whe
       let old_versions = subst (λ o. AreVersions def o old.history.earlier) was editor.earlier in
       let is : IsVersion def held.kind note = subst (λ o. IsFit def o (Changes note cursor mark)) was fit in
       record {
-        earlier = subst (λ o. AreVersions def o new.history.earlier) (sym opened)
-            (is, subst (AllByRecursion (IsVersion def held.kind)) (sym earlier)
-            (all_take (IsVersion def held.kind) VERSIONS (held.note ∷ old.history.earlier) old_versions));
+        earlier = subst (λ o. AreVersions def o new.history.earlier) (sym opened) (
+          is,
+          subst (AllByRecursion (IsVersion def held.kind)) (sym earlier)
+              (all_take (IsVersion def held.kind) VERSIONS (held.note ∷ old.history.earlier) old_versions),
+        );
         later = subst (λ o. AreVersions def o new.history.later) (sym opened)
             (is, subst (AllByRecursion (IsVersion def held.kind)) (sym later) tt);
       }

@@ -81,8 +81,16 @@ module _ (def : Definition) (f : Fragment) (note : Annotated) (noted : IsNoteOf 
   pub judged_inadmissible : (trial : Trial) → MustBeGood trial → (culprits_in note ≡ [] → ⊥) → Fails def trial f Inadmissible
   judged_inadmissible Opens must some = absurd must
   judged_inadmissible Grows must some =
-      inr (noted.within.shallow, inr (noted.within.small, inr (noted.within.narrow,
-      inr (noted.within.light, inl (not_good some, refl)))))
+      inr (
+        noted.within.shallow,
+        inr (
+          noted.within.small,
+          inr (
+            noted.within.narrow,
+            inr (noted.within.light, inl (not_good some, refl)),
+          ),
+        ),
+      )
   judged_inadmissible Closes must some =
       inr (noted.within.narrow, inr (noted.within.light, inl (not_good some, refl)))
   judged_inadmissible Loosens must some = absurd must

@@ -11,8 +11,8 @@ ghost use Rattle.psg_session.specs.PlainStep.{MayReopen, end_of};
 ghost use Rattle.psg_session.specs.Sessions.{IsEditor};
 ghost use Rattle.psg_session.specs.Views.{IsLanguage};
 
-use crate::edits::Edit;
 use crate::editor::Editor;
+use crate::edits::Edit;
 use crate::finding::find;
 use crate::insertion::{blank, fresh_operator};
 use crate::judging::Trial;

@@ -79,7 +79,10 @@ fn is_inadmissible(trial: Trial, note: &Note) -> bool
 }
 
 /// Gives the note, where its tree passes the tests of the change; otherwise the refusal of the first test that it fails.
-pub fn judged(trial: Trial, noted: Result<Note, NoteFault>) -> Result<Result<Note, Refusal>, AllocError>
+pub fn judged(
+    trial: Trial,
+    noted: Result<Note, NoteFault>,
+) -> Result<Result<Note, Refusal>, AllocError>
     ensures { IfOk result (λ answer. (def : Definition) (f : Fragment) → IsNoted def f noted
         → IsJudged def trial f answer) }
 {

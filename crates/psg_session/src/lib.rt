@@ -13,8 +13,8 @@
 #![tactic(auto)]
 
 pub mod changes;
-pub mod edits;
 pub mod editor;
+pub mod edits;
 pub mod finding;
 mod insertion;
 pub mod judging;

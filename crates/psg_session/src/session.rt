@@ -90,7 +90,13 @@ impl Session {
         ensures memory { IfErr result (λ _. self.new ≡ self.old) }
         ensures language { self.new.language ≡ self.old.language }
     {
-        let outcome = step(alloc, &self.parts.language, &self.parts.editor, command, steps)?;
+        let outcome = step(
+            alloc,
+            &self.parts.language,
+            &self.parts.editor,
+            command,
+            steps,
+        )?;
         let reply = self.parts.editor.settle(outcome);
         Ok(reply)
     }

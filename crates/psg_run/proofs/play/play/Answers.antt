@@ -1,11 +1,13 @@
-use Rattle.std.proofs.Common.{◌≡◌, ◌≤◌, ◌==◌, ℕ, List, length, true, true≢false, refl, sym, ap, ◌∙◌, subst}
-use Rattle.std.proofs.Math.Nat.{le_refl}
+use Rattle.std.proofs.Common.{◌≤◌, ◌==◌, ℕ, List, length, true≢false, refl, sym, ap, ◌∙◌, subst}
+use Rattle.std.proofs.Math.Nat.{le_refl, le_trans}
 use Rattle.psg_session.specs.declared.language.Language.{Language}
+use Rattle.psg_session.specs.declared.session.Parts.{Parts}
 use Rattle.psg_session.specs.Sessions.{state_of}
 use Rattle.psg_run.specs.Output.{script_lines}
-use Rattle.psg_run.specs.Played.{PrintsAll}
+use Rattle.psg_run.specs.Played.{PlaysLine, PlaysLineFront, PrintsAll, PrintsFront}
 use Rattle.psg_run.proofs.Options.{on_err, empty_is}
-use Rattle.psg_run.proofs.Playing.{begins, finished, nothing_put}
+use Rattle.psg_run.proofs.Playing.{SoFar, begins, finished, nothing_put, played, skipped, stopped}
+use Rattle.psg_run.proofs.play.play.Goals.{then-not-is_empty+in_ok-play_line, else-not-is_empty}
 use Rattle.psg_run.proofs.play.play.Goals as goal
 
 pub returns-in_err-session-clause-err : goal.returns-in_err-session-clause-err
@@ -24,6 +26,65 @@ loop-rest-init g c = record {
 
 pub loop-rest-smaller : goal.loop-rest-smaller
 loop-rest-smaller g c = c.cut_line-cut.ensures.shorter
+
+pub returns-in_err-play_line-clause-err : goal.returns-in_err-play_line-clause-err
+returns-in_err-play_line-clause-err g c = on_err c.from_residual-in_err-play_line.result
+    (subst (λ (l : Language). PrintsFront l.definition (script_lines c.args.script.now) (g.O.Sink.written c.args.out.now)
+    (g.O.Sink.written c.play_line.new.out)) (c.loop-rest.invariant.language ∙ c.in_ok-session.ensures.language)
+    (stopped c.loop-rest.session.language.definition (script_lines c.args.script.now) c.loop-rest.rest.now
+    c.cut_line-cut.result.rest.now c.cut_line-cut.result.line.now (state_of c.loop-rest.session.editor)
+    (g.O.Sink.written c.args.out.now) (g.O.Sink.written c.loop-rest.out) (g.O.Sink.written c.play_line.new.out)
+    c.cut_line-cut.ensures.lines
+    (λ e. true≢false (sym (ap (λ (l : List ℕ). length l == 0) (c.without_return-line.ensures ∙ e)) ∙ sym c.if-not-is_empty.ensures))
+    c.loop-rest.invariant.so_far
+    (subst (λ l. PlaysLineFront c.loop-rest.session.language.definition (state_of c.loop-rest.session.editor) l
+    (g.O.Sink.written c.loop-rest.out) (g.O.Sink.written c.play_line.new.out)) c.without_return-line.ensures
+    c.in_err-play_line.ensures.err)))
+
+pub loop-rest-preserved : goal.loop-rest-preserved
+loop-rest-preserved g c = elim c.if-not-is_empty.branch [
+  | then-not-is_empty+in_ok-play_line w ↦ record {
+    so_far = subst (λ (s : Parts). SoFar s.language.definition (script_lines c.args.script.now) c.cut_line-cut.result.rest.now
+        (state_of s.editor) (g.O.Sink.written c.args.out.now) (g.O.Sink.written c.if-not-is_empty.out)) (sym w.session-is)
+        (subst (λ o. SoFar w.play_line.new.session.language.definition (script_lines c.args.script.now)
+        c.cut_line-cut.result.rest.now (state_of w.play_line.new.session.editor) (g.O.Sink.written c.args.out.now)
+        (g.O.Sink.written o)) (sym w.out-is)
+        (subst (λ (l : Language). SoFar l.definition (script_lines c.args.script.now) c.cut_line-cut.result.rest.now
+        (state_of w.play_line.new.session.editor) (g.O.Sink.written c.args.out.now) (g.O.Sink.written w.play_line.new.out))
+        (sym w.in_ok-play_line.ensures.language)
+        (played c.loop-rest.session.language.definition (script_lines c.args.script.now) c.loop-rest.rest.now
+        c.cut_line-cut.result.rest.now c.cut_line-cut.result.line.now (state_of c.loop-rest.session.editor)
+        (state_of w.play_line.new.session.editor) (g.O.Sink.written c.args.out.now) (g.O.Sink.written c.loop-rest.out)
+        (g.O.Sink.written w.play_line.new.out) c.cut_line-cut.ensures.lines
+        (λ e. true≢false (sym (ap (λ (l : List ℕ). length l == 0) (c.without_return-line.ensures ∙ e)) ∙ sym w.if-not-is_empty.ensures))
+        c.loop-rest.invariant.so_far
+        (subst (λ l. PlaysLine c.loop-rest.session.language.definition (state_of c.loop-rest.session.editor) l
+        (state_of w.play_line.new.session.editor) (g.O.Sink.written c.loop-rest.out) (g.O.Sink.written w.play_line.new.out))
+        c.without_return-line.ensures w.in_ok-play_line.ensures.ok))));
+    language = ap (λ (s : Parts). s.language) w.session-is ∙ w.in_ok-play_line.ensures.language ∙ c.loop-rest.invariant.language;
+    holds = ap g.F.Files.holds w.files-is ∙ w.in_ok-play_line.ensures.holds ∙ c.loop-rest.invariant.holds;
+    entries = ap g.F.Files.faults w.files-is ∙ w.in_ok-play_line.ensures.entries ∙ c.loop-rest.invariant.entries;
+    never_falls = subst (λ o. g.O.Sink.faults c.args.out.now ≤ g.O.Sink.faults o) (sym w.out-is)
+        (le_trans c.loop-rest.invariant.never_falls w.in_ok-play_line.ensures.never_falls);
+  }
+  | else-not-is_empty w ↦ record {
+    so_far = subst (λ (s : Parts). SoFar s.language.definition (script_lines c.args.script.now) c.cut_line-cut.result.rest.now
+        (state_of s.editor) (g.O.Sink.written c.args.out.now) (g.O.Sink.written c.if-not-is_empty.out)) (sym w.session-is)
+        (subst (λ o. SoFar c.loop-rest.session.language.definition (script_lines c.args.script.now)
+        c.cut_line-cut.result.rest.now (state_of c.loop-rest.session.editor) (g.O.Sink.written c.args.out.now)
+        (g.O.Sink.written o)) (sym w.out-is)
+        (skipped c.loop-rest.session.language.definition (script_lines c.args.script.now) c.loop-rest.rest.now
+        c.cut_line-cut.result.rest.now c.cut_line-cut.result.line.now (state_of c.loop-rest.session.editor)
+        (g.O.Sink.written c.args.out.now) (g.O.Sink.written c.loop-rest.out) c.cut_line-cut.ensures.lines
+        (sym c.without_return-line.ensures ∙ empty_is c.without_return-line.result.now (sym w.if-not-is_empty.ensures))
+        c.loop-rest.invariant.so_far));
+    language = ap (λ (s : Parts). s.language) w.session-is ∙ c.loop-rest.invariant.language;
+    holds = ap g.F.Files.holds w.files-is ∙ c.loop-rest.invariant.holds;
+    entries = ap g.F.Files.faults w.files-is ∙ c.loop-rest.invariant.entries;
+    never_falls = subst (λ o. g.O.Sink.faults c.args.out.now ≤ g.O.Sink.faults o) (sym w.out-is)
+        c.loop-rest.invariant.never_falls;
+  }
+]
 
 pub returns-clause-ok : goal.returns-clause-ok
 returns-clause-ok g c =

@@ -1,4 +1,4 @@
-use Rattle.std.proofs.Common.{◌≡◌, refl, sym, ap, ◌∙◌}
+use Rattle.std.proofs.Common.{ap, ◌∙◌}
 use Rattle.psg_session.specs.Exchanges.{Outside}
 use Rattle.psg_session.specs.Sessions.{state_of}
 use Rattle.psg_session.specs.Views.{reply_of}
@@ -22,15 +22,23 @@ returns-in_err-reply-clause-entries g c =
 pub returns-in_err-put_all-clause-err : goal.returns-in_err-put_all-clause-err
 returns-in_err-put_all-clause-err g c = on_err c.from_residual-in_err-put_all.result
     (plays_front c.args.session.now.language.definition (state_of c.args.session.now.editor)
-    (state_of c.apply_line.new.session.editor) c.args.line.now (reply_of c.in_ok-reply.reply)
+    (state_of c.apply_line.new.self.editor) c.args.line.now (reply_of c.in_ok-reply.reply)
     (line_replies _ _ _ _ _ _ _ _ _ c.in_ok-reply.ensures.answered)
     (g.O.Sink.written c.args.out.now) (g.O.Sink.written c.put_all.new.out) c.as_bytes.result.now
     (c.as_bytes.ensures.value ∙ c.in_ok-text.ensures) c.in_err-put_all.ensures.front)
 
+pub returns-in_err-put_all-clause-holds : goal.returns-in_err-put_all-clause-holds
+returns-in_err-put_all-clause-holds g c =
+    ap (λ (o : Outside). o.held) (line_keeps _ _ _ _ _ _ _ _ _ c.in_ok-reply.ensures.answered)
+
+pub returns-in_err-put_all-clause-entries : goal.returns-in_err-put_all-clause-entries
+returns-in_err-put_all-clause-entries g c =
+    ap (λ (o : Outside). o.entries) (line_keeps _ _ _ _ _ _ _ _ _ c.in_ok-reply.ensures.answered)
+
 pub returns-clause-ok : goal.returns-clause-ok
 returns-clause-ok g c =
     plays c.args.session.now.language.definition (state_of c.args.session.now.editor)
-    (state_of c.apply_line.new.session.editor) c.args.line.now (reply_of c.in_ok-reply.reply)
+    (state_of c.apply_line.new.self.editor) c.args.line.now (reply_of c.in_ok-reply.reply)
     (line_replies _ _ _ _ _ _ _ _ _ c.in_ok-reply.ensures.answered)
     (g.O.Sink.written c.args.out.now) (g.O.Sink.written c.put_all.new.out) c.as_bytes.result.now
     (c.as_bytes.ensures.value ∙ c.in_ok-text.ensures) c.in_ok-put_all.ensures.all

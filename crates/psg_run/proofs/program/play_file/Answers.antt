@@ -1,4 +1,4 @@
-use Rattle.std.proofs.Common.{◌≡◌, ◌<◌, ◌≤◌, List, ℕ, length, Err, refl, sym, ap, ◌∙◌, subst}
+use Rattle.std.proofs.Common.{◌<◌, ◌≤◌, length, Err, refl, ap, ◌∙◌, subst}
 use Rattle.psg_run.specs.declared.limits.TheConstants.{MOST_SCRIPT_BYTES}
 use Rattle.psg_run.specs.Output.{script_lines}
 use Rattle.psg_run.specs.Played.{PrintsAll, PrintsFront}
@@ -15,7 +15,7 @@ returns-then-lines-gt-MOST_SCRIPT_BYTES g c = record {
 
 pub returns-in-Ok-play : goal.returns-in-Ok-play
 returns-in-Ok-play g c = (
-  (c.in-Ok.ensures.keeps, c.in-Ok.ensures.entries),
+  (c.in-Ok-play.ensures.holds ∙ c.in-Ok.ensures.keeps, c.in-Ok-play.ensures.entries ∙ c.in-Ok.ensures.entries),
   c.in-Ok.bytes.items,
   read_short (g.F.Files.holds c.args.files.now) c.args.script.now MOST_SCRIPT_BYTES c.in-Ok.bytes.items c.in-Ok.ensures.front
       (subst (λ l. length l ≤ MOST_SCRIPT_BYTES) c.as_slice-lines.ensures.value c.if-lines-gt-MOST_SCRIPT_BYTES.false),
@@ -24,7 +24,7 @@ returns-in-Ok-play g c = (
 
 pub returns : goal.returns
 returns g c = stopped_play _ _ c.args.language.definition c.args.script.now c.in-Err-play.stop c.write_status.result c.write_status.ensures (
-  (c.in-Ok.ensures.keeps, c.in-Ok.ensures.entries),
+  (c.in-Err-play.ensures.holds ∙ c.in-Ok.ensures.keeps, c.in-Err-play.ensures.entries ∙ c.in-Ok.ensures.entries),
   c.in-Ok.bytes.items,
   read_short (g.F.Files.holds c.args.files.now) c.args.script.now MOST_SCRIPT_BYTES c.in-Ok.bytes.items c.in-Ok.ensures.front
       (subst (λ l. length l ≤ MOST_SCRIPT_BYTES) c.as_slice-lines.ensures.value c.if-lines-gt-MOST_SCRIPT_BYTES.false),

@@ -1,5 +1,5 @@
-use Rattle.std.proofs.Common.{◌≡◌, ◌<◌, ◌≤◌, ℕ, List, length, refl, subst}
-use Rattle.psg_defread.specs.Reading.{IsReadAs, Spells, IsFaultless}
+use Rattle.std.proofs.Common.{◌<◌, ◌≤◌, length, refl, subst}
+use Rattle.psg_defread.specs.Reading.{IsReadAs}
 use Rattle.psg_defread.specs.Refusals.{IsReadFault}
 use Rattle.psg_run.specs.declared.limits.TheConstants.{MOST_DEFINITION_BYTES}
 use Rattle.psg_run.proofs.Ending.{read_short, read_long, unread}

@@ -27,8 +27,11 @@ returns-then-is_declaring-clause-outcome g c = new_declaring c.args.language.now
     (c.in-Some.ensures.found ∙ ap Some c.as_str.ensures) (c.is_declaring.ensures.0 c.if-is_declaring.true)
 
 pub note_of-noted-requires-clause-formed : goal.note_of-noted-requires-clause-formed
-note_of-noted-requires-clause-formed g c = (c.in-Some.kind, subst (λ f. IsShaped c.args.language.now.definition f c.in-Some.kind) (sym c.in_ok-tree.ensures)
-    (blank_shaped c.args.language.now.definition c.in-Some.kind (has_kind c.args.language.now.definition c.in-Some.kind c.as_str.result.now c.in-Some.ensures.found)))
+note_of-noted-requires-clause-formed g c = (
+  c.in-Some.kind,
+  subst (λ f. IsShaped c.args.language.now.definition f c.in-Some.kind) (sym c.in_ok-tree.ensures)
+      (blank_shaped c.args.language.now.definition c.in-Some.kind (has_kind c.args.language.now.definition c.in-Some.kind c.as_str.result.now c.in-Some.ensures.found)),
+)
 
 pub returns-in_err-note-clause-ticks : goal.returns-in_err-note-clause-ticks
 returns-in_err-note-clause-ticks g c =
