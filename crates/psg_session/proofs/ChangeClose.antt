@@ -35,8 +35,13 @@ module _ (def : Definition) (e : Editor) (place : Where) where
   module _ (f : Found) (found : IsFound e place f) where
     -- the node is no unfinished list
     pub close_refused : (end_of f.node.now ≡ Some true → ⊥) → IsPlan def e (Close place) (RefusedBy NoPlace)
-    close_refused never = inr (is_opened def e place f found, inr (is_there def e place f found,
-        inl (has_node def e place f found IsNotUnfinished never, refl)))
+    close_refused never = inr (
+      is_opened def e place f found,
+      inr (
+        is_there def e place f found,
+        inl (has_node def e place f found IsNotUnfinished never, refl),
+      ),
+    )
 
     closed_once : (other : Fragment) → Gives def (state_of e) (Close place) other
         → other ≡ change_at (ended false) (named_path place e.cursor) (tree_in f.held.now.note)
@@ -57,10 +62,20 @@ module _ (def : Definition) (e : Editor) (place : Where) where
               (subst (λ t. Makes def (state_of e) (Close place) t (named_path place e.cursor)) result
               (by_close (plain f.held.now) (opened_is def e place f found)));
           only = λ other given. closed_once other given ∙ result;
-          refused = λ r h. inr (is_opened def e place f found, inr (is_there def e place f found,
-              inr ((λ h'. at_node def e place f found IsNotUnfinished h' ends), h)));
-          taken = λ h. (is_opened def e place f found, (is_there def e place f found,
-              ((λ h'. at_node def e place f found IsNotUnfinished h' ends), h)));
+          refused = λ r h. inr (
+            is_opened def e place f found,
+            inr (
+              is_there def e place f found,
+              inr ((λ h'. at_node def e place f found IsNotUnfinished h' ends), h),
+            ),
+          );
+          taken = λ h. (
+            is_opened def e place f found,
+            (
+              is_there def e place f found,
+              ((λ h'. at_node def e place f found IsNotUnfinished h' ends), h),
+            ),
+          );
           counts = inr (has_node def e place f found
               (λ old node. work_of new + climb_of (tree_in f.held.now.note) f.path.now
               ≤ work_of node + above def (state_of e) old place)

@@ -41,8 +41,13 @@ module _ (def : Definition) (e : Editor) (place : Where) (k : ℕ) (name : Name)
   module _ (f : Found) (found : IsFound e place f) where
     insert_no_place : HasNoPlace k (plain f.held.now) f.node.now
         → IsPlan def e (Insert place k name args) (RefusedBy NoPlace)
-    insert_no_place none = inr (is_opened def e place f found, inr (is_there def e place f found,
-        inl (has_node def e place f found (HasNoPlace k) none, refl)))
+    insert_no_place none = inr (
+      is_opened def e place f found,
+      inr (
+        is_there def e place f found,
+        inl (has_node def e place f found (HasNoPlace k) none, refl),
+      ),
+    )
 
     -- the node is no list
     pub insert_no_list : (IsList f.node.now → ⊥) → IsPlan def e (Insert place k name args) (RefusedBy NoPlace)
@@ -71,20 +76,53 @@ module _ (def : Definition) (e : Editor) (place : Where) (k : ℕ) (name : Name)
         -- there is no such operator with these leaves
         pub insert_refused : (r : Refusal) → IsFreshAnswer def list.kind.now.element name args (Err r)
             → IsPlan def e (Insert place k name args) (RefusedBy r)
-        insert_refused r (inl (e', never)) = inr (is_opened def e place f found, inr (is_there def e place f found,
-            inr (usual, inl (never, sym e'))))
+        insert_refused r (inl (e', never)) = inr (
+          is_opened def e place f found,
+          inr (
+            is_there def e place f found,
+            inr (usual, inl (never, sym e')),
+          ),
+        )
         insert_refused r (inr (inl (e', o, named, never))) =
-            inr (is_opened def e place f found, inr (is_there def e place f found,
-            inr (usual, inr ((λ h. h o named),
-            inl (is_other def e place f found sound (Some k) list.kind.now.element wanted only_wanted name args o named
-            never, sym e')))))
+            inr (
+              is_opened def e place f found,
+              inr (
+                is_there def e place f found,
+                inr (
+                  usual,
+                  inr (
+                    (λ h. h o named),
+                    inl (
+                      is_other def e place f found sound (Some k) list.kind.now.element wanted only_wanted name args o named
+                          never,
+                      sym e',
+                    ),
+                  ),
+                ),
+              ),
+            )
         insert_refused r (inr (inr (e', o, named, of, never))) =
-            inr (is_opened def e place f found, inr (is_there def e place f found,
-            inr (usual, inr ((λ h. h o named),
-            inr (not_other def e place f found sound (Some k) list.kind.now.element wanted only_wanted name args o
-            named of,
-            inl (gives_none def e place f found sound (Some k) list.kind.now.element wanted only_wanted name args o
-            named never, sym e'))))))
+            inr (
+              is_opened def e place f found,
+              inr (
+                is_there def e place f found,
+                inr (
+                  usual,
+                  inr (
+                    (λ h. h o named),
+                    inr (
+                      not_other def e place f found sound (Some k) list.kind.now.element wanted only_wanted name args o
+                          named of,
+                      inl (
+                        gives_none def e place f found sound (Some k) list.kind.now.element wanted only_wanted name args o
+                            named never,
+                        sym e',
+                      ),
+                    ),
+                  ),
+                ),
+              ),
+            )
 
         module _ (o : ℕ) (leaves : List Leaf) (named : IsOperator def o name)
             (of : IsOfPhylum def o list.kind.now.element) (gives : GivesLeaves def o args leaves) where
@@ -131,15 +169,35 @@ module _ (def : Definition) (e : Editor) (place : Where) (k : ℕ) (name : Name)
                     (subst (λ t. Makes def (state_of e) (Insert place k name args) t (named_path place e.cursor ++ k ∷ []))
                     result (by_insert (plain f.held.now) o leaves (opened_is def e place f found) named gives));
                 only = λ other given. inserted_once other given ∙ result;
-                refused = λ r h. inr (is_opened def e place f found, inr (is_there def e place f found,
-                    inr (usual, inr ((λ h'. h' o named),
-                    inr (no_other, inr ((λ none. none o leaves named gives), h))))));
-                taken = λ h. (is_opened def e place f found, (is_there def e place f found,
-                    (usual, ((λ h'. h' o named), (no_other, ((λ none. none o leaves named gives), h))))));
+                refused = λ r h. inr (
+                  is_opened def e place f found,
+                  inr (
+                    is_there def e place f found,
+                    inr (
+                      usual,
+                      inr (
+                        (λ h'. h' o named),
+                        inr (no_other, inr ((λ none. none o leaves named gives), h)),
+                      ),
+                    ),
+                  ),
+                );
+                taken = λ h. (
+                  is_opened def e place f found,
+                  (
+                    is_there def e place f found,
+                    (usual, ((λ h'. h' o named), (no_other, ((λ none. none o leaves named gives), h)))),
+                  ),
+                );
                 counts = inr (has_node def e place f found
                     (λ old node. OfFresh def (state_of e) name args (λ x. work_of fresh + (k + 1)
                     + climb_of (tree_in f.held.now.note) f.path.now
-                    ≤ work_of x + (k + 1) + above def (state_of e) old place))
-                    (o, leaves, named, gives, cost_here e place f found (work_of fresh + (k + 1))
-                    (work_of (fresh_operator def o leaves) + (k + 1)) (ap (λ t. work_of t + (k + 1)) is_fresh)));
+                    ≤ work_of x + (k + 1) + above def (state_of e) old place)) (
+                      o,
+                      leaves,
+                      named,
+                      gives,
+                      cost_here e place f found (work_of fresh + (k + 1))
+                          (work_of (fresh_operator def o leaves) + (k + 1)) (ap (λ t. work_of t + (k + 1)) is_fresh),
+                    ));
               }

@@ -48,8 +48,13 @@ module _ (def : Definition) (e : Editor) (place : Where) (name : Name) (args : L
     -- the node is no placeholder
     pub refine_no_hole : ((p : ℕ) → f.node.now ≡ hole p → ⊥)
         → IsPlan def e (Refine place name args) (RefusedBy NotHole)
-    refine_no_hole never = inr (is_opened def e place f found, inr (is_there def e place f found,
-        inl (has_node def e place f found IsNoHole never, refl)))
+    refine_no_hole never = inr (
+      is_opened def e place f found,
+      inr (
+        is_there def e place f found,
+        inl (has_node def e place f found IsNoHole never, refl),
+      ),
+    )
 
     module _ (sound : IsSound def) (p : ℕ) (is : f.node.now ≡ hole p) where
       only_wanted : (q : ℕ) → IsWanted def None f.node.now q → q ≡ p
@@ -61,17 +66,44 @@ module _ (def : Definition) (e : Editor) (place : Where) (name : Name) (args : L
       -- there is no such operator with these leaves
       pub refine_refused : (r : Refusal) → IsFreshAnswer def p name args (Err r)
           → IsPlan def e (Refine place name args) (RefusedBy r)
-      refine_refused r (inl (e', never)) = inr (is_opened def e place f found, inr (is_there def e place f found,
-          inr (usual, inl (never, sym e'))))
+      refine_refused r (inl (e', never)) = inr (
+        is_opened def e place f found,
+        inr (
+          is_there def e place f found,
+          inr (usual, inl (never, sym e')),
+        ),
+      )
       refine_refused r (inr (inl (e', o, named, never))) =
-          inr (is_opened def e place f found, inr (is_there def e place f found,
-          inr (usual, inr ((λ h. h o named),
-          inl (is_other def e place f found sound None p is only_wanted name args o named never, sym e')))))
+          inr (
+            is_opened def e place f found,
+            inr (
+              is_there def e place f found,
+              inr (
+                usual,
+                inr (
+                  (λ h. h o named),
+                  inl (is_other def e place f found sound None p is only_wanted name args o named never, sym e'),
+                ),
+              ),
+            ),
+          )
       refine_refused r (inr (inr (e', o, named, of, never))) =
-          inr (is_opened def e place f found, inr (is_there def e place f found,
-          inr (usual, inr ((λ h. h o named),
-          inr (not_other def e place f found sound None p is only_wanted name args o named of,
-          inl (gives_none def e place f found sound None p is only_wanted name args o named never, sym e'))))))
+          inr (
+            is_opened def e place f found,
+            inr (
+              is_there def e place f found,
+              inr (
+                usual,
+                inr (
+                  (λ h. h o named),
+                  inr (
+                    not_other def e place f found sound None p is only_wanted name args o named of,
+                    inl (gives_none def e place f found sound None p is only_wanted name args o named never, sym e'),
+                  ),
+                ),
+              ),
+            ),
+          )
 
       module _ (o : ℕ) (leaves : List Leaf) (named : IsOperator def o name) (of : IsOfPhylum def o p)
           (gives : GivesLeaves def o args leaves) where
@@ -103,13 +135,28 @@ module _ (def : Definition) (e : Editor) (place : Where) (name : Name) (args : L
                   (subst (λ t. Makes def (state_of e) (Refine place name args) t (named_path place e.cursor)) result
                   (by_refine (plain f.held.now) o leaves (opened_is def e place f found) named gives));
               only = λ other given. refined_once other given ∙ result;
-              refused = λ r h. inr (is_opened def e place f found, inr (is_there def e place f found,
-                  inr (usual, inr ((λ k. k o named), inr (no_other, inr ((λ none. none o leaves named gives), h))))));
-              taken = λ h. (is_opened def e place f found, (is_there def e place f found,
-                  (usual, ((λ k. k o named), (no_other, ((λ none. none o leaves named gives), h))))));
+              refused = λ r h. inr (
+                is_opened def e place f found,
+                inr (
+                  is_there def e place f found,
+                  inr (usual, inr ((λ k. k o named), inr (no_other, inr ((λ none. none o leaves named gives), h)))),
+                ),
+              );
+              taken = λ h. (
+                is_opened def e place f found,
+                (
+                  is_there def e place f found,
+                  (usual, ((λ k. k o named), (no_other, ((λ none. none o leaves named gives), h)))),
+                ),
+              );
               counts = inr (has_node def e place f found
                   (λ old node. OfFresh def (state_of e) name args (λ x. work_of fresh
-                  + climb_of (tree_in f.held.now.note) f.path.now ≤ work_of x + above def (state_of e) old place))
-                  (o, leaves, named, gives, cost_here e place f found (work_of fresh)
-                  (work_of (fresh_operator def o leaves)) (ap work_of is_fresh)));
+                  + climb_of (tree_in f.held.now.note) f.path.now ≤ work_of x + above def (state_of e) old place)) (
+                    o,
+                    leaves,
+                    named,
+                    gives,
+                    cost_here e place f found (work_of fresh)
+                        (work_of (fresh_operator def o leaves)) (ap work_of is_fresh),
+                  ));
             }

@@ -48,8 +48,13 @@ module _ (def : Definition) (e : Editor) (place : Where) where
   module _ (f : Found) (found : IsFound e place f) where
     -- the node is no finished list that may be unfinished
     pub reopen_refused : (MayReopen def f.node.now → ⊥) → IsPlan def e (Reopen place) (RefusedBy NoPlace)
-    reopen_refused never = inr (is_opened def e place f found, inr (is_there def e place f found,
-        inl (has_node def e place f found MayNot never, refl)))
+    reopen_refused never = inr (
+      is_opened def e place f found,
+      inr (
+        is_there def e place f found,
+        inl (has_node def e place f found MayNot never, refl),
+      ),
+    )
 
     reopened_once : (other : Fragment) → Gives def (state_of e) (Reopen place) other
         → other ≡ change_at (ended true) (named_path place e.cursor) (tree_in f.held.now.note)
@@ -70,10 +75,20 @@ module _ (def : Definition) (e : Editor) (place : Where) where
               (subst (λ t. Makes def (state_of e) (Reopen place) t (named_path place e.cursor)) result
               (by_reopen (plain f.held.now) (opened_is def e place f found)));
           only = λ other given. reopened_once other given ∙ result;
-          refused = λ r h. inr (is_opened def e place f found, inr (is_there def e place f found,
-              inr ((λ h'. at_node def e place f found MayNot h' may), h)));
-          taken = λ h. (is_opened def e place f found, (is_there def e place f found,
-              ((λ h'. at_node def e place f found MayNot h' may), h)));
+          refused = λ r h. inr (
+            is_opened def e place f found,
+            inr (
+              is_there def e place f found,
+              inr ((λ h'. at_node def e place f found MayNot h' may), h),
+            ),
+          );
+          taken = λ h. (
+            is_opened def e place f found,
+            (
+              is_there def e place f found,
+              ((λ h'. at_node def e place f found MayNot h' may), h),
+            ),
+          );
           counts = inr (has_node def e place f found
               (λ old node. work_of new + climb_of (tree_in f.held.now.note) f.path.now
               ≤ work_of node + above def (state_of e) old place)
