@@ -61,13 +61,13 @@ whole-token fixed cs at ts (next all p t us begins tail) w u e z s one starts en
 -- such a token is a fixed word's
 fixed-token : (fixed : List Name) (cs rest : Chars) (t : Token) → IsToken fixed cs rest t → (w : List ℕ) → IsUtf8 w → cs ≡ chars w → IsFixedToken t → IsFixedWord w
 fixed-token fixed cs rest t (word ds r k ends size) w u e kind =
-    inl (subst IsWord e k, omega (arith, size, ap bytes_of e, ap length (encodes-chars w u)))
+    (u, inl (subst IsWord e k, omega (arith, size, ap bytes_of e, ap length (encodes-chars w u))))
 fixed-token fixed cs rest t (number ds r run ends size) w u e kind = absurd kind
 fixed-token fixed cs rest t (text ds written r spelled contents size) w u e kind = absurd kind
 fixed-token fixed cs rest t (solo c r s) w u e kind =
-    inr (inl (c, sym (encodes-chars w u) ∙ ap encode_utf8_all (sym e) ∙ solo-encoded c (solo-ascii c s), s))
+    (u, inr (inl (c, sym (encodes-chars w u) ∙ ap encode_utf8_all (sym e) ∙ solo-encoded c (solo-ascii c s), s)))
 fixed-token fixed cs rest t (symbol ds r run among apart) w u e kind =
-    inr (inr (subst (BeginsBy is_symbol) e run.begins, subst (All is_symbol) e run.all, λ same. apart (e ∙ same)))
+    (u, inr (inr (subst (BeginsBy is_symbol) e run.begins, subst (All is_symbol) e run.all, λ same. apart (e ∙ same))))
 fixed-token fixed cs rest t (hole ds r k ends size) w u e kind = absurd kind
 fixed-token fixed cs rest t (more r ends) w u e kind = absurd kind
 
@@ -98,12 +98,12 @@ made fixed w u t k kind =
 
 -- a fixed word is one token where it is among the fixed words
 pub token-from-word : (w : List ℕ) → IsUtf8 w → IsFixedWord w → IsOneOf (w ∷ []) w
-token-from-word w u (inl (k, size)) =
+token-from-word w u (utf8, inl (k, size)) =
     made (w ∷ []) w u (tokens.Word (encode_utf8_all (chars w)))
     (word (chars w) [] k refl (omega (arith, size, ap length (encodes-chars w u)))) tt
-token-from-word w u (inr (inl (c, e, s))) =
+token-from-word w u (utf8, inr (inl (c, e, s))) =
     let same : c ∷ [] ≡ chars w = chars_from_encodes (c ∷ []) w u (solo-encoded c (solo-ascii c s) ∙ sym e) in
     made (w ∷ []) w u (tokens.Solo c) (subst (λ cs. IsToken (w ∷ []) cs [] (tokens.Solo c)) same (solo c [] s)) tt
-token-from-word w u (inr (inr (begins, all, apart))) =
+token-from-word w u (utf8, inr (inr (begins, all, apart))) =
     made (w ∷ []) w u (tokens.Symbol (encode_utf8_all (chars w)))
     (symbol (chars w) [] (record { begins = begins; all = all; ends = refl }) (among-one w (encode_utf8_all (chars w)) (sym (encodes-chars w u))) apart) tt

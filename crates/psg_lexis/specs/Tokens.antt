@@ -1,5 +1,5 @@
 -- The tokens of a text, by its characters.
-use Rattle.std.specs.Prelude.{ℕ, ◌≡◌, ◌≢◌, ◌⊎◌, ◌<◌, ◌≤◌, ◌+◌, ◌*◌, ◌-◌, ◌^◌, ◌==◌, ◌||◌, Bool, true, false, cond, is_some, List, [], ◌∷◌, ◌++◌, length, encode_utf8_all, codes, chars, IsTrue}
+use Rattle.std.specs.Prelude.{ℕ, ◌≡◌, ◌≢◌, ◌⊎◌, ◌<◌, ◌≤◌, ◌+◌, ◌*◌, ◌-◌, ◌^◌, ◌==◌, ◌||◌, Bool, true, false, cond, is_some, List, [], ◌∷◌, ◌++◌, length, encode_utf8_all, codes, chars, IsTrue, IsUtf8}
 use Rattle.unicode_width.specs.Width.{char_width}
 use Rattle.psg_terms.specs.Names.{Name, is_among}
 use Rattle.psg_terms.specs.Words.{goes_on_word, IsWord}
@@ -16,13 +16,14 @@ bytes_of cs = length (encode_utf8_all cs)
 abbrev pub dots : Chars
 dots = codes "..."
 
--- The word is one token of a fragment's text: a word of at most 255 bytes, a character that stands alone, or a run of symbols
--- other than `...`.
+-- The bytes are UTF-8, and one token of a fragment's text: a word of at most 255 bytes, a character that stands alone, or a
+-- run of symbols other than `...`. Bytes that are not UTF-8 can have the characters of a word too.
 abbrev pub IsFixedWord : List ℕ → Type 0
 IsFixedWord w =
-    (IsWord (chars w) × (length w ≤ 255))
+    IsUtf8 w
+    × ((IsWord (chars w) × (length w ≤ 255))
     ⊎ (((c : ℕ) × (w ≡ c ∷ []) × (is_solo c ≡ true))
-    ⊎ (BeginsBy is_symbol (chars w) × All is_symbol (chars w) × (chars w ≢ dots)))
+    ⊎ (BeginsBy is_symbol (chars w) × All is_symbol (chars w) × (chars w ≢ dots))))
 
 -- the number that decimal digits stand for
 abbrev pub value_of : Chars → ℕ

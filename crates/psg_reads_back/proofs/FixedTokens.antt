@@ -1,6 +1,6 @@
 -- Each word of an operator and each separator of a list has its token.
 use Rattle.std.proofs.Common.{◌≡◌, ℕ, zero, suc, true, List, [], ◌∷◌, ◌++◌, Some, slice_get, subst}
-use Rattle.std.specs.Prelude.{bytes_eq, IsUtf8}
+use Rattle.std.specs.Prelude.{bytes_eq}
 use Rattle.std.specs.List.{AllByRecursion}
 use Rattle.std.proofs.lemmas.Bool.{or_left, or_right}
 use Rattle.std.proofs.lemmas.Option.{none-some}
@@ -60,11 +60,11 @@ module _ (P : Name → Type 0) where
 
 module _ (def : Definition) where
   each_token : (ws : List Name) → ((w : Name) → is_among ws w ≡ true → is_among (fixed_words def) w ≡ true)
-      → AllByRecursion IsUtf8 ws → AllByRecursion IsFixedWord ws → AllByRecursion (FixedToken def) ws
-  each_token [] among utf8 is = tt
-  each_token (w ∷ ws) among utf8 is = (
-    fixed_token def w utf8.0 (among w (or_left (bytes_eq w w) (is_among ws w) (bytes_eq-refl w))) is.0,
-    each_token ws (λ v h. among v (or_right (bytes_eq w v) (is_among ws v) h)) utf8.1 is.1,
+      → AllByRecursion IsFixedWord ws → AllByRecursion (FixedToken def) ws
+  each_token [] among is = tt
+  each_token (w ∷ ws) among is = (
+    fixed_token def w (among w (or_left (bytes_eq w w) (is_among ws w) (bytes_eq-refl w))) is.0,
+    each_token ws (λ v h. among v (or_right (bytes_eq w v) (is_among ws v) h)) is.1,
   )
 
 -- what is known of the definition's words
@@ -73,10 +73,9 @@ pub record HasTokens (def : Definition) : Type 0 where
       → AllByRecursion (FixedToken def) (words_in o.items)
   pub lists : (l : ℕ) (k : ListKind) → slice_get def.lists l ≡ Some k → FixedToken def k.separator
 
-pub has_tokens : (def : Definition) → AllByRecursion IsUtf8 (fixed_words def)
-    → AllByRecursion IsFixedWord (fixed_words def) → HasTokens def
-has_tokens def utf8 is =
-    let all : AllByRecursion (FixedToken def) (fixed_words def) = each_token def (fixed_words def) (λ w h. h) utf8 is in
+pub has_tokens : (def : Definition) → AllByRecursion IsFixedWord (fixed_words def) → HasTokens def
+has_tokens def is =
+    let all : AllByRecursion (FixedToken def) (fixed_words def) = each_token def (fixed_words def) (λ w h. h) is in
     record {
       operators = all_of_operator (FixedToken def) def.operators
           (all_in_front (FixedToken def) (operator_words def.operators) (separators def.lists) all);

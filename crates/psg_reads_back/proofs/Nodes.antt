@@ -1,6 +1,6 @@
 -- Each node of a printed tree reads back from the bytes on which it is written.
 use Rattle.std.proofs.Common.{◌≡◌, inl, inr, ℕ, ◌+◌, ◌-◌, Bool, true, false, cond, List, [], ◌∷◌, ◌++◌, length, length-append, take, drop, Option, refl, ap, sym, ◌∙◌, subst, append_assoc, arith}
-use Rattle.std.specs.Prelude.{decimal, IsUtf8}
+use Rattle.std.specs.Prelude.{decimal}
 use Rattle.std.specs.List.{AllByRecursion}
 use Rattle.psg_lexis.specs.Tokens.{IsFixedWord}
 use Rattle.psg_grammar.specs.declared.types.Kind.{Kind}
@@ -213,9 +213,9 @@ module _ (def : Definition) (sound : IsSound def) (c : ClassFacts def) (known : 
     nodes_below s n anything more kind h plain printable = absurd h
     nodes_below s n (observed f) more kind h plain printable = absurd plain
 
-pub nodes_read_back : (def : Definition) → IsSound def → AllByRecursion IsUtf8 (fixed_words def)
-    → AllByRecursion IsFixedWord (fixed_words def) → IsClass def → (f : Fragment) → NodesReadBackIfPrintable def f
-nodes_read_back def sound utf8 words class f printable kind formed =
+pub nodes_read_back : (def : Definition) → IsSound def → AllByRecursion IsFixedWord (fixed_words def) → IsClass def
+    → (f : Fragment) → NodesReadBackIfPrintable def f
+nodes_read_back def sound words class f printable kind formed =
     all_read def f (placed_in def f) (cut_in def f)
-    (nodes_from def sound (facts def class) (has_tokens def utf8 words) top_spot f kind formed.0 formed.1 printable
+    (nodes_from def sound (facts def class) (has_tokens def words) top_spot f kind formed.0 formed.1 printable
     (below_zero (operator_of def f)))

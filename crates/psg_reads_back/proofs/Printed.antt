@@ -1,6 +1,5 @@
 -- The text of each printable tree reads back as the tree.
 use Rattle.std.proofs.Common.{ℕ, ◌<◌, List, [], refl, sym, subst}
-use Rattle.std.specs.Prelude.{IsUtf8}
 use Rattle.std.specs.List.{AllByRecursion}
 use Rattle.psg_lexis.specs.Tokens.{IsFixedWord}
 use Rattle.psg_grammar.specs.declared.types.Kind.{Kind}
@@ -44,8 +43,8 @@ module _ (def : Definition) (f : Fragment) where
       from_tokens (kinds.Phylum p) a.tokens a.nesting a.has (a.yields 0 (below_zero (operator_of def f))) a.shallow
   from_whole (kinds.List l) a = from_tokens (kinds.List l) a.tokens a.nesting a.has a.yields a.shallow
 
-pub printed_reads_back : (def : Definition) → IsSound def → AllByRecursion IsUtf8 (fixed_words def)
-    → AllByRecursion IsFixedWord (fixed_words def) → IsClass def → (f : Fragment) → ReadsBackIfPrintable def f
-printed_reads_back def sound utf8 words class f printable kind formed =
-    from_whole def f kind ((claim def sound (facts def class) (has_tokens def utf8 words) f [] kind formed.0 formed.1
+pub printed_reads_back : (def : Definition) → IsSound def → AllByRecursion IsFixedWord (fixed_words def) → IsClass def
+    → (f : Fragment) → ReadsBackIfPrintable def f
+printed_reads_back def sound words class f printable kind formed =
+    from_whole def f kind ((claim def sound (facts def class) (has_tokens def words) f [] kind formed.0 formed.1
     printable).whole refl)

@@ -176,7 +176,7 @@ module _ (def : Definition) where
             (λ e. apart (same ∙ e)));
       }
 
-  pub fixed_token : (w : Name) → IsUtf8 w → is_among (fixed_words def) w ≡ true → IsFixedWord w → FixedToken def w
-  fixed_token w u among (inl (k, short)) = fixed_word w u among k short
-  fixed_token w u among (inr (inl (c, e, s))) = fixed_solo w u c e s
-  fixed_token w u among (inr (inr (begins, all, apart))) = fixed_run w u among begins all apart
+  pub fixed_token : (w : Name) → is_among (fixed_words def) w ≡ true → IsFixedWord w → FixedToken def w
+  fixed_token w among (u, inl (k, short)) = fixed_word w u among k short
+  fixed_token w among (u, inr (inl (c, e, s))) = fixed_solo w u c e s
+  fixed_token w among (u, inr (inr (begins, all, apart))) = fixed_run w u among begins all apart

@@ -1,5 +1,4 @@
 //! The laws of printed trees, as contracts of calls that do nothing.
-ghost use Rattle.std.specs.Prelude.{IsUtf8};
 ghost use Rattle.std.specs.List.{AllByRecursion};
 ghost use Rattle.psg_lexis.specs.Tokens.{IsFixedWord};
 ghost use Rattle.psg_grammar.specs.Sound.{IsSound};
@@ -12,12 +11,10 @@ ghost use Rattle.psg_reads_back.specs.Nodes.{NodesReadBackIfPrintable};
 use psg_grammar::Definition;
 
 /// States that the text of each printable well-formed tree of a kind reads back as that tree, of its kind, at level 0,
-/// with brackets nested less deep than the tree is. The definition is of the class, and each of its fixed words is UTF-8
-/// and one token: other bytes can have the characters of a word, and their text is then read as another word. The call
-/// has no cost.
+/// with brackets nested less deep than the tree is. The definition is of the class, and each of its fixed words is one
+/// token. The call has no cost.
 pub fn reads_back(_definition: &Definition)
     requires sound { IsSound _definition.now }
-    requires texts { AllByRecursion IsUtf8 (fixed_words _definition.now) }
     requires words { AllByRecursion IsFixedWord (fixed_words _definition.now) }
     requires class { IsClass _definition.now }
     ensures { (f : Fragment) → ReadsBackIfPrintable _definition.now f }
@@ -27,7 +24,6 @@ pub fn reads_back(_definition: &Definition)
 /// wanted at its place. The call has no cost.
 pub fn nodes_read_back(_definition: &Definition)
     requires sound { IsSound _definition.now }
-    requires texts { AllByRecursion IsUtf8 (fixed_words _definition.now) }
     requires words { AllByRecursion IsFixedWord (fixed_words _definition.now) }
     requires class { IsClass _definition.now }
     ensures { (f : Fragment) → NodesReadBackIfPrintable _definition.now f }
