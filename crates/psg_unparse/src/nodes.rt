@@ -1,6 +1,6 @@
 //! The walk over a tree that writes it.
 ghost use Rattle.std.specs.Prelude.{◌≡◌, ◌+◌, ◌<◌, ◌==◌, ◌&&◌, not, [], ◌∷◌, ◌++◌, length, slice_get, Some};
-ghost use Rattle.std.specs.Prelude.{IfOk, IsUtf8, OnOk};
+ghost use Rattle.std.specs.Prelude.{IfOk, OnOk};
 ghost use Rattle.std.specs.List.{AllByRecursion};
 ghost use Rattle.psg_grammar.specs.Fragments.{operator as plain_operator};
 ghost use Rattle.psg_grammar.specs.Lookups.{is_part, operator_at};
@@ -438,17 +438,17 @@ fn write_node(
 /// A span has the bytes from the first token of a node to the end of its last one. Brackets around a node are outside
 /// its span. A list without elements has an empty span, where the token in front of it ends.
 ///
-/// In a definition of the grammar class whose fixed words are UTF-8 and each one token, the text of a printable tree reads
-/// back as the tree (`back`), and the bytes of each span as the node of its path (`spans`).
+/// In a definition of the grammar class whose fixed words are each one token, the text of a printable tree reads back as
+/// the tree (`back`), and the bytes of each span as the node of its path (`spans`).
 ///
 /// It returns out of memory also where 32 bits do not count the children of a node. It takes time linear in the text
 /// and in the paths of the nodes, and calls itself once for each level of the tree.
 pub fn unparse(alloc: Global, definition: &Definition, tree: &Tree) -> Result<Printed, AllocError>
     requires sound { IsSound definition.now }
     ensures printed { IfOk result (λ printed. printed ≡ printed_of definition.now tree.now) }
-    ensures back { IfOk result (λ _. IsClass definition.now → AllByRecursion IsUtf8 (fixed_words definition.now)
+    ensures back { IfOk result (λ _. IsClass definition.now
         → AllByRecursion IsFixedWord (fixed_words definition.now) → ReadsBackIfPrintable definition.now tree.now) }
-    ensures spans { IfOk result (λ _. IsClass definition.now → AllByRecursion IsUtf8 (fixed_words definition.now)
+    ensures spans { IfOk result (λ _. IsClass definition.now
         → AllByRecursion IsFixedWord (fixed_words definition.now) → NodesReadBackIfPrintable definition.now tree.now) }
 {
     let writer = Writer::new(alloc);

@@ -13,6 +13,6 @@ returns c =
     c.new-path.ensures.items c.new-spans.ensures.items c.new-writer.ensures c.in_ok-write_node.ensures in
     record {
       printed = ap₂ made (c.in_ok-text.ensures ∙ p.0) (c.of-2.ensures ∙ p.1);
-      back = λ class texts words. printed_reads_back c.args.definition.now c.requires.sound texts words class c.args.tree.now;
-      spans = λ class texts words. nodes_read_back c.args.definition.now c.requires.sound texts words class c.args.tree.now;
+      back = λ class words. printed_reads_back c.args.definition.now c.requires.sound words class c.args.tree.now;
+      spans = λ class words. nodes_read_back c.args.definition.now c.requires.sound words class c.args.tree.now;
     }
