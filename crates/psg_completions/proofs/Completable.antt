@@ -20,7 +20,7 @@ use Rattle.psg_grammar.specs.Legal.{Entities, AreEntities, IsCompletableAs}
 use Rattle.psg_grammar.specs.Open.{IsOpenAs}
 use Rattle.psg_grammar.specs.Placed.{FitsPlaces}
 use Rattle.psg_completions.proofs.NameLaws.{among_left, among_right, among_one, among_parts}
-use Rattle.psg_completions.proofs.MixedEntities.{mixed, mixed_entities}
+use Rattle.psg_grammar.proofs.MixedEntities.{mixed, mixed_entities}
 use Rattle.psg_completions.proofs.Counting.{Renaming, AllAre, once_of, of_once}
 use Rattle.psg_completions.proofs.Growth.{Element, CanGrow, Grown, Child, Supplied}
 use Rattle.psg_completions.proofs.Growing.{grow_whole}

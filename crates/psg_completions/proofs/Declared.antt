@@ -18,7 +18,7 @@ use Rattle.psg_grammar.specs.Specimens.{tree_of, holes_of}
 use Rattle.psg_completions.specs.General.{Shows, term_at, it}
 use Rattle.psg_grammar.specs.Sound.{kind_of, IsSound}
 use Rattle.psg_completions.proofs.Usable.{IsUsableDeclare, IsFilled}
-use Rattle.psg_completions.proofs.MixedEntities.{mixed, mixed_entities}
+use Rattle.psg_grammar.proofs.MixedEntities.{mixed, mixed_entities}
 use Rattle.psg_completions.proofs.Counting.{image, Own, own_cond, image_below, image_above, image_mine, once_of}
 use Rattle.psg_completions.specs.Counts.{one_if, count}
 use Rattle.psg_completions.proofs.Growth.{Element, Supplies, CanGrow, Child, own_declared}

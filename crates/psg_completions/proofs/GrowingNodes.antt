@@ -19,7 +19,7 @@ use Rattle.psg_grammar.specs.Regions.{declared_inside, declared_in}
 use Rattle.psg_grammar.specs.WellFormed.{Fits, IsComplete, IsPlain, IsUnobserved}
 use Rattle.psg_grammar.specs.Legal.{Entities, AreEntities, Within, AgreeOutside, Legal}
 use Rattle.psg_grammar.specs.Open.{IsOfCellRow}
-use Rattle.psg_completions.proofs.MixedEntities.{mixed}
+use Rattle.psg_grammar.proofs.MixedEntities.{mixed}
 use Rattle.psg_completions.proofs.Tops.{list_no_scope, next_is}
 use Rattle.psg_completions.proofs.LegalMore.{legal_more}
 use Rattle.psg_completions.proofs.Counting.{AllAre, tally_append, image, own_cond, Renaming}

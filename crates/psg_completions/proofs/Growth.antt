@@ -16,7 +16,7 @@ use Rattle.psg_grammar.specs.Regions.{declared_inside, declared_in, unfinished_i
 use Rattle.psg_grammar.specs.WellFormed.{Fits, WellFormed, IsComplete, IsPlain, IsUnobserved, IsName}
 use Rattle.psg_grammar.specs.Legal.{Entities, AreEntities, Within, AgreeOutside, Legal, IsLegal}
 use Rattle.psg_grammar.specs.Open.{IsOfHoleRow, IsOfCellRow}
-use Rattle.psg_completions.proofs.MixedEntities.{SameOn}
+use Rattle.psg_grammar.proofs.MixedEntities.{SameOn}
 use Rattle.psg_completions.proofs.Counting.{AllAre, image, Own, own_append, own_cond, Renaming}
 use Rattle.psg_completions.specs.Counts.{count}
 use Rattle.psg_grammar.specs.declared.types.Kind.TheVariants as kinds

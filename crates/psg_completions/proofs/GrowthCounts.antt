@@ -13,7 +13,7 @@ use Rattle.psg_grammar.specs.Regions.{unfinished_inside}
 use Rattle.psg_grammar.specs.Legal.{Entities, AreEntities}
 use Rattle.psg_grammar.specs.Placed.{FitsPlaces}
 use Rattle.psg_completions.proofs.NameLaws.{without, among_left, among_right, among_parts, none_left, none_right}
-use Rattle.psg_completions.proofs.MixedEntities.{SameOn, mixed, mixed_entities}
+use Rattle.psg_grammar.proofs.MixedEntities.{SameOn, mixed, mixed_entities}
 use Rattle.psg_completions.proofs.Counting.{AllAre, tally_append, image, Own, image_mine, Renaming}
 use Rattle.psg_completions.specs.Counts.{one_if, count}
 use Rattle.psg_completions.proofs.Growth.{Kept, IsPlace}

@@ -1,6 +1,5 @@
 pub mod NameLaws
 pub mod Counting
-pub mod MixedEntities
 pub mod LegalMore
 pub mod Tops
 pub mod Quiet

@@ -20,7 +20,7 @@ use Rattle.psg_completions.proofs.Usable.{IsUsableCase, IsFilled, usable_case, c
 use Rattle.psg_completions.specs.General.{Shows, term_at}
 use Rattle.psg_grammar.specs.Sound.{kind_of, IsSound}
 use Rattle.psg_completions.proofs.NameLaws.{among_left, among_right, among_parts, none_left, none_right}
-use Rattle.psg_completions.proofs.MixedEntities.{mixed, mixed_entities}
+use Rattle.psg_grammar.proofs.MixedEntities.{mixed, mixed_entities}
 use Rattle.psg_completions.proofs.Counting.{image, Own, own_cond, image_below, image_mine, once_of, of_once}
 use Rattle.psg_completions.specs.Counts.{count}
 use Rattle.psg_completions.proofs.Growth.{Found, Supply, Supplies, CanGrow, Child, own_declared}

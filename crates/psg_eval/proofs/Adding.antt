@@ -17,7 +17,8 @@ use Rattle.psg_scope.specs.Headers.{IsKey}
 use Rattle.psg_scope.proofs.KeyLists.{either, or_cases, in_order-among}
 use Rattle.psg_eval.specs.Glues.{outer_names, NextGlue}
 use Rattle.psg_eval.proofs.Columns.{front_same, end_same, map_same, map_same_back}
-use Rattle.psg_eval.proofs.Frames.{SameOn, mixed, mixed_entities, moved, holds_frame}
+use Rattle.psg_grammar.proofs.MixedEntities.{SameOn, mixed, mixed_entities}
+use Rattle.psg_eval.proofs.Frames.{moved, holds_frame}
 use Rattle.psg_eval.proofs.Gluing.{Both, glued_relation}
 use Rattle.psg_eval.proofs.Inserting.{inserted-among, inserted-whole}
 use Rattle.psg_eval.proofs.Replacing.{Replaces, behind, names_more, distinct_apart, distinct_join, choice_with, choice_apart, parts_of, place_of}

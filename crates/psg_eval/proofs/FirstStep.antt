@@ -30,7 +30,7 @@ use Rattle.psg_scope.proofs.KeyLists.{either, in_order-among}
 use Rattle.psg_eval.specs.Trees.{IsNode}
 use Rattle.psg_eval.specs.OwnRows.{positions, slot_terms, name_terms, OwnRow}
 use Rattle.psg_eval.proofs.Columns.{map_same}
-use Rattle.psg_eval.proofs.Frames.{mixed}
+use Rattle.psg_grammar.proofs.MixedEntities.{mixed}
 use Rattle.psg_eval.proofs.Spines.{bare, choice_of, row_of, choice-row, row-choice, first_bare, bare_unfinished, bare_below, bare_names, bare_declared}
 use Rattle.psg_eval.proofs.Usual.{usual, usual_entities}
 use Rattle.psg_eval.proofs.Weaving.{holds_weave, weave_holds, weave_told, IsEntity, entity_among, split_of}

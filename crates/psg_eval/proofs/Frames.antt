@@ -12,6 +12,7 @@ use Rattle.psg_grammar.specs.Lookups.{is_scope, key_at}
 use Rattle.psg_grammar.specs.Regions.{declared_inside, unfinished_inside, names_inside, passing}
 use Rattle.psg_grammar.specs.Legal.{Entities, AreEntities, Within}
 use Rattle.psg_grammar.specs.Open.{Choice, Holds, Agrees, AgreeOpen}
+use Rattle.psg_grammar.proofs.MixedEntities.{SameOn}
 use Rattle.psg_scope.proofs.KeyLists.{either, neither, or_left, or_right, key_refl}
 use Rattle.psg_scope.proofs.HeaderLaws.{outward-among}
 
@@ -34,27 +35,7 @@ pub among_outward : (unfinished : ℕ → Bool) (declared xs : List Key) (n : Ke
     → is_among (outward unfinished declared xs) n ≡ true
 among_outward unfinished declared xs n i j k = outward-among n xs declared unfinished ∙ passes_by (is_among xs n) (unfinished (space_of n)) (is_among declared n) i j k
 
--- the same entities for these names
-abbrev pub SameOn : List Key → Entities → Entities → Type 0
-SameOn names g h = (n : Key) → is_among names n ≡ true → g n ≡ h n
-
--- the entities of the one for the names, and of the other elsewhere
-abbrev pub mixed : List Key → Entities → Entities → Entities
-mixed names g h n = cond (is_among names n) (g n) (h n)
-
 module _ (def : Definition) where
-  pub mixed_entities : (names : List Key) (g h : Entities) → AreEntities def g → AreEntities def h → AreEntities def (mixed names g h)
-  mixed_entities names g h p q = record {
-    ground = λ n. elim (either (is_among names n)) [
-      | inl e ↦ subst (λ b. IsGround (cond b (g n) (h n))) (sym e) (p.ground n)
-      | inr e ↦ subst (λ b. IsGround (cond b (g n) (h n))) (sym e) (q.ground n)
-    ];
-    sorted = λ n s at. elim (either (is_among names n)) [
-      | inl e ↦ subst (λ b. HasSort def.signature (cond b (g n) (h n)) s.sort.0) (sym e) (p.sorted n s at)
-      | inr e ↦ subst (λ b. HasSort def.signature (cond b (g n) (h n)) s.sort.0) (sym e) (q.sorted n s at)
-    ];
-  }
-
   -- Entities inside a child for other entities outside it, where these are the same for the names that pass outward.
   pub record Moved (t : Fragment) (h inner : Entities) : Type 0 where
     pub inside : Entities

@@ -20,3 +20,4 @@ pub mod PathLaws
 pub mod FillingLaws
 pub mod RelationLaws
 pub mod SameLaws
+pub mod MixedEntities
