@@ -1,6 +1,6 @@
 //! The conditions on operators that need no sets of terminals.
 ghost use Rattle.std.specs.Prelude.{◌≡◌, ◌+◌, ◌*◌, ◌-◌, ◌<◌, ◌≤◌, ◌↔◌, IfOk, IfSome, IfNone, IsTrue, map, slice_get, length, true, ℕ};
-ghost use Rattle.psg_grammar.specs.Levels.{first_level, last_level, level_number};
+ghost use Rattle.psg_grammar.specs.Levels.{level_number};
 ghost use Rattle.psg_grammar.specs.Sound.{IsLevel};
 ghost use Rattle.psg_class.specs.Forms.{AreInPhyla, asked_cell, asks, bound_cell, cells_by, codes_width, FailsTest, fits, form_cell, form_code, HaveLevels, is_own, is_token, IsBelow, IsFirstIf, IsFirstPair, LacksBracket, levels_width, Mixes, MixesAny, starts};
 ghost use Rattle.psg_class.specs.Grids.{is_set, IsTable};
@@ -8,7 +8,7 @@ ghost use Rattle.psg_class.specs.Refusal.{IsFirst};
 
 use crate::grid::{Cell, Grid, marked};
 use crate::shape::{Part, Shape};
-use psg_grammar::{Kind, Level, Phylum};
+use psg_grammar::{Kind, Level, Phylum, least_first, least_last};
 use std::alloc::{AllocError, Global};
 
 /// How many levels there are, with 0.
@@ -188,38 +188,16 @@ fn asked_level(shape: &Shape) -> u8
     let parts = shape.parts.as_slice();
     let last = parts.len().saturating_sub(1);
     let before = if is_own_at(shape.phylum, parts, 0) {
-        asked_before(shape.level)
+        least_first(shape.level)
     } else {
         0
     };
     let behind = if is_own_at(shape.phylum, parts, last) {
-        asked_behind(shape.level)
+        least_last(shape.level)
     } else {
         0
     };
     before.max(behind)
-}
-
-fn asked_before(level: Level) -> u8
-    requires { IsLevel level }
-    ensures { result ≡ first_level level }
-{
-    match level {
-        Level::Plain | Level::Prefix(_) => 0,
-        Level::Postfix(n) | Level::InfixLeft(n) => n,
-        Level::InfixRight(n) | Level::InfixNone(n) => n + 1,
-    }
-}
-
-fn asked_behind(level: Level) -> u8
-    requires { IsLevel level }
-    ensures { result ≡ last_level level }
-{
-    match level {
-        Level::Plain | Level::Postfix(_) => 0,
-        Level::Prefix(n) | Level::InfixRight(n) => n,
-        Level::InfixLeft(n) | Level::InfixNone(n) => n + 1,
-    }
 }
 
 /// The first phylum, and its first N, for which there are two forms.

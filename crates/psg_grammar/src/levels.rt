@@ -90,7 +90,8 @@ fn all_marks(items: &[Item]) -> bool
     })
 }
 
-fn least_first(level: Level) -> u8
+/// Returns the least level of a first own slot, by the operator's level: 0 where nothing of the phylum is in front.
+pub fn least_first(level: Level) -> u8
     requires { IsLevel level }
     ensures { result ≡ first_level level }
 {
@@ -101,7 +102,8 @@ fn least_first(level: Level) -> u8
     }
 }
 
-fn least_last(level: Level) -> u8
+/// Returns the least level of a last own slot, by the operator's level: 0 where nothing of the phylum is behind.
+pub fn least_last(level: Level) -> u8
     requires { IsLevel level }
     ensures { result ≡ last_level level }
 {
