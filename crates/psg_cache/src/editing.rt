@@ -15,12 +15,12 @@ ghost use Rattle.psg_cache.specs.Walks.{IsKnown, IsStepFault};
 
 use crate::building::{light, small};
 use crate::note::{Note, NoteFault};
-use crate::parts::{Language, child_at, longer};
+use crate::parts::{Language, longer};
 use crate::remaking::{remade, spliced};
 use crate::walking::walk;
 use psg_grammar::Definition;
 use psg_terms::Steps;
-use psg_tree::{Path, Tree, TreeFault, insert, remove, replace};
+use psg_tree::{Path, Tree, TreeFault, child_at, insert, remove, replace};
 use std::alloc::Global;
 use std::sync::ledger::Ledger;
 

@@ -1,7 +1,7 @@
 //! The parts of trees and of paths.
-ghost use Rattle.std.specs.Prelude.{◌≡◌, ◌++◌, ◌∷◌, [], IfOk, option_copied, slice_get};
+ghost use Rattle.std.specs.Prelude.{◌≡◌, ◌++◌, ◌∷◌, [], IfOk};
 ghost use Rattle.psg_grammar.specs.Fragments.{children_of};
-ghost use Rattle.psg_tree.specs.Shapes.{child_among, subtrees};
+ghost use Rattle.psg_tree.specs.Shapes.{subtrees};
 ghost use Rattle.psg_cache.specs.Walks.{names_in};
 
 use psg_grammar::Definition;
@@ -90,31 +90,4 @@ pub(crate) fn longer(alloc: Global, steps: &[u32], step: u32) -> Result<Vec<u32>
     let mut all = Vec::from_slice(alloc, steps)?;
     all.push(step)?;
     Ok(all)
-}
-
-/// The subtree of the number among an operator's parts, from 0.
-fn sub_at(parts: &[Part], number: u32) -> Option<&Tree>
-    ensures { option_copied result ≡ child_among parts.now number }
-{
-    let mut left = number;
-    for part in parts {
-        if let Part::Sub(child) = part {
-            if left == 0 {
-                return Some(child);
-            }
-            left -= 1;
-        }
-    }
-    None
-}
-
-/// The child of a node by its number, from 0.
-pub(crate) fn child_at(tree: &Tree, number: u32) -> Option<&Tree>
-    ensures { option_copied result ≡ slice_get (children_of tree.now) number }
-{
-    match tree.shape() {
-        Shape::Op { parts, .. } => sub_at(parts.as_slice(), number),
-        Shape::List { elements, .. } => elements.as_slice().get(number as usize),
-        Shape::Hole { .. } => None,
-    }
 }

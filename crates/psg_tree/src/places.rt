@@ -58,8 +58,9 @@ fn sub_at(parts: &[Part], number: u32) -> Option<&Tree>
     None
 }
 
-/// The child of a node by its number, from 0.
-fn child(tree: &Tree, number: u32) -> Option<&Tree>
+/// Returns the child of a node by its number, from 0, and none exactly where the node has fewer children. It walks over the
+/// parts of an operator.
+pub fn child_at(tree: &Tree, number: u32) -> Option<&Tree>
     ensures { option_copied result ≡ slice_get (children_of tree.now) number }
 {
     match tree.shape() {
@@ -76,7 +77,7 @@ pub fn at<'t>(tree: &'t Tree, path: &Path) -> Option<&'t Tree>
 {
     let mut node = tree;
     for step in path.steps() {
-        match child(node, *step) {
+        match child_at(node, *step) {
             Some(next) => node = next,
             None => return None,
         }
@@ -190,7 +191,7 @@ fn replace_below(alloc: Global, tree: &Tree, steps: &[u32], new: &Tree) -> Resul
 {
     match steps {
         [] => Ok(new.share()?),
-        [step, rest @ ..] => match child(tree, *step) {
+        [step, rest @ ..] => match child_at(tree, *step) {
             None => Err(TreeFault::NoNode),
             Some(inner) => {
                 let changed = replace_below(alloc, inner, rest, new)?;

@@ -22,8 +22,8 @@ fn operator_name(def: &Definition, op: u32) -> &str
     }
 }
 
-/// The phylum's name, empty where the definition has no phylum of the number.
-fn phylum_name(def: &Definition, phylum: u32) -> &str
+/// Returns the phylum's name, empty where the definition has no phylum of the number. It takes constant time.
+pub fn phylum_name(def: &Definition, phylum: u32) -> &str
     ensures { result.now ≡ text.phylum_name def.now phylum }
 {
     match def.phyla.as_slice().get(phylum as usize) {
@@ -45,8 +45,9 @@ fn write_escaped(out: &mut String, ch: char) -> Result<(), AllocError>
     }
 }
 
-/// Writes the text in quotes.
-fn write_quoted(out: &mut String, contents: &str) -> Result<(), AllocError>
+/// Writes the text in quotes, each quote, backslash and line feed in it as its escape. It returns out of memory, and takes
+/// time linear in the text.
+pub fn write_quoted(out: &mut String, contents: &str) -> Result<(), AllocError>
     ensures { OnOk result (string_bytes out.new ≡ string_bytes out.old ++ text.quoted contents.now) }
 {
     out.push('"')?;

@@ -1,7 +1,6 @@
 //! Laying out tokens and marks: the gap in front of a token depends on what is written before it.
 ghost use Rattle.std.specs.Prelude.{◌≡◌, ◌++◌, ◌*◌, ◌&&◌, not, true, cond, ◌∷◌, [], Some, replicate, slice_get};
-ghost use Rattle.std.specs.Prelude.{IfNone, IfSome, OnOk, chars, decimal, encode_utf8, string_bytes};
-ghost use Rattle.std.specs.List.{flat_map};
+ghost use Rattle.std.specs.Prelude.{IfNone, IfSome, OnOk, chars, decimal, string_bytes};
 ghost use Rattle.psg_grammar.specs.declared.types.Item.TheVariants as items;
 ghost use Rattle.psg_tree.specs.AbstractText as text;
 ghost use Rattle.psg_reads_back.specs.Rows as rows;
@@ -11,6 +10,7 @@ ghost use Rattle.psg_unparse.specs.Writing.{Adds, IsBegun, IsWritten, ended_by, 
 use itoa::Buffer;
 use psg_grammar::Item;
 use psg_lexis::glues;
+use psg_tree::write_quoted;
 use std::alloc::{AllocError, Global};
 
 /// The text of a row, and what the gap in front of the next token depends on: the last character of the last token, how
@@ -273,28 +273,4 @@ fn split_last(text: &str) -> Option<(&str, char)>
         Some(last) => Some((characters.as_str(), last)),
         None => None,
     }
-}
-
-/// Writes a character of a quoted text, a quote, a backslash or a line feed as its escape.
-fn write_escaped(out: &mut String, ch: char) -> Result<(), AllocError>
-    ensures { OnOk result (string_bytes out.new
-        ≡ string_bytes out.old ++ flat_map text.escaped_byte (encode_utf8 ch)) }
-{
-    match ch {
-        '"' => out.push_str("\\\""),
-        '\\' => out.push_str("\\\\"),
-        '\n' => out.push_str("\\n"),
-        _ => out.push(ch),
-    }
-}
-
-/// Writes the text in quotes.
-fn write_quoted(out: &mut String, contents: &str) -> Result<(), AllocError>
-    ensures { OnOk result (string_bytes out.new ≡ string_bytes out.old ++ text.quoted contents.now) }
-{
-    out.push('"')?;
-    for ch in contents.chars() {
-        write_escaped(out, ch)?;
-    }
-    out.push('"')
 }

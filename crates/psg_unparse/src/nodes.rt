@@ -23,7 +23,7 @@ use crate::layout::Writer;
 use crate::spans::{Printed, Span};
 use psg_grammar::{Definition, Item, ListKind, least_level, op_level};
 use psg_terms::{Seq, Txt};
-use psg_tree::{Part, Path, Shape, Tree};
+use psg_tree::{Part, Path, Shape, Tree, phylum_name};
 use std::alloc::{AllocError, Global};
 
 /// What is written so far, with the spans of the nodes that were met and the path to the one that is written.
@@ -127,16 +127,6 @@ fn is_operator_below(definition: &Definition, op: u32, wanted: u8) -> bool
     match definition.operators.as_slice().get(op as usize) {
         Some(operator) => op_level(operator) < wanted,
         None => false,
-    }
-}
-
-/// The phylum's name, empty where the definition has no phylum of the number.
-fn phylum_name(definition: &Definition, phylum: u32) -> &str
-    ensures { result.now ≡ text.phylum_name definition.now phylum }
-{
-    match definition.phyla.as_slice().get(phylum as usize) {
-        Some(phylum) => phylum.name.as_str(),
-        None => "",
     }
 }
 

@@ -1,7 +1,7 @@
 use Rattle.std.proofs.Common.{slice_get, sym, ap, ◌∙◌}
 use Rattle.psg_tree.specs.Shapes.{child_among}
 use Rattle.psg_tree.proofs.Children.{children-op, children-shape-list, got}
-use Rattle.psg_cache.proofs.parts.child_at.Goals as goal
+use Rattle.psg_tree.proofs.places.child_at.Goals as goal
 
 pub returns-in-Op : goal.returns-in-Op
 returns-in-Op c = c.sub_at.ensures ∙ ap (λ ps. child_among ps c.args.number) c.as_slice.ensures ∙ ap (λ l. slice_get l c.args.number) (sym (children-op _ _ _ _ c.in-Op.is c.shape.ensures))
