@@ -1,5 +1,4 @@
 pub mod Playing
-pub mod Options
 pub mod Feeds
 pub mod Ending
 pub mod WordForms

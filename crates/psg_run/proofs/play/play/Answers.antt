@@ -5,7 +5,7 @@ use Rattle.psg_session.specs.declared.session.Parts.{Parts}
 use Rattle.psg_session.specs.Sessions.{state_of}
 use Rattle.psg_run.specs.Output.{script_lines}
 use Rattle.psg_run.specs.Played.{PlaysLine, PlaysLineFront, PrintsAll, PrintsFront}
-use Rattle.psg_run.proofs.Options.{on_err, empty_is}
+use Rattle.psg_session.proofs.Options.{on_err, empty_is}
 use Rattle.psg_run.proofs.Playing.{SoFar, begins, finished, nothing_put, played, skipped, stopped}
 use Rattle.psg_run.proofs.play.play.Goals.{then-not-is_empty+in_ok-play_line, else-not-is_empty}
 use Rattle.psg_run.proofs.play.play.Goals as goal

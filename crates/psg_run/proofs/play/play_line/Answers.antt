@@ -2,7 +2,7 @@ use Rattle.std.proofs.Common.{ap, ◌∙◌}
 use Rattle.psg_session.specs.Exchanges.{Outside}
 use Rattle.psg_session.specs.Sessions.{state_of}
 use Rattle.psg_session.specs.Views.{reply_of}
-use Rattle.psg_run.proofs.Options.{on_err}
+use Rattle.psg_session.proofs.Options.{on_err}
 use Rattle.psg_run.proofs.Playing.{broken_keeps, line_keeps, line_replies, plays, plays_front, plays_nothing}
 use Rattle.psg_run.proofs.play.play_line.Goals as goal
 
