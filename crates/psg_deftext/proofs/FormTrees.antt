@@ -17,13 +17,14 @@ use Rattle.psg_grammar.specs.declared.types.Definition.{Definition}
 use Rattle.psg_grammar.specs.Lookups.{part_items}
 use Rattle.psg_grammar.specs.Sound.{IsKindName, IsOwnName}
 use Rattle.psg_lexis.specs.Tokens.{value_of}
+use Rattle.psg_lexis.proofs.Decimals.{decimal-value}
 use Rattle.psg_deflines.specs.WrittenTerms.{WrittenTerm, IsShallowTerm, most_nested}
 use Rattle.psg_deflines.specs.WrittenTrees.{WrittenTree, operator, with_tree, with_name, with_number, with_text, list_end, list_rest, element, place, is_front, is_list, HasTreeForm, tree_depth, place_terms, IsShallowTree}
 use Rattle.psg_defnumber.specs.Numbers.{IsKind, IsPlace, IsTree, IsPart, AreParts, IsListFrom}
 use Rattle.psg_deflaws.proofs.Lists.{all-append}
 use Rattle.psg_deftext.specs.WrittenLines.{term_written, kind_name, operator_name, tree_written, part_written, parts_written, elements_written, end_written}
 use Rattle.psg_deftext.proofs.NumberAll.{all-front, all-behind}
-use Rattle.psg_deftext.proofs.NumberNames.{decimal-value, name-found}
+use Rattle.psg_deftext.proofs.NumberNames.{name-found}
 use Rattle.psg_deftext.proofs.FormDigits.{number-spelled}
 use Rattle.psg_deftext.proofs.FormTerms.{IsNamedSymbol, IsKeptTerm, term-kept, shallow-kept}
 

@@ -1,14 +1,11 @@
 -- Variables that are named by their numbers.
 use Rattle.std.proofs.Common.{◌≡◌, ℕ, zero, suc, ◌+◌, ◌<◌, ◌≤◌, ◌^◌, false, Some, None, List, [], ◌∷◌, slice_get, refl, ap, ◌∙◌, inl, inr, arith}
 use Rattle.std.specs.Prelude.{decimal, bytes_eq}
-use Rattle.std.specs.Str.Parse.{AllDigits}
 use Rattle.std.proofs.lemmas.Bool.{or_from}
-use Rattle.std.proofs.lemmas.Fmt.{decimal_injective, decimal_is_IsNumeral_wide}
-use Rattle.std.proofs.lemmas.Str.Parse.{IsNumeralModel, numerals_by_weight, tells_digits}
+use Rattle.std.proofs.lemmas.Fmt.{decimal_injective}
 use Rattle.psg_terms.specs.Names.{Name, is_among, has_twice}
 use Rattle.psg_terms.proofs.DeclareLaws.{bytes_eq-same}
 use Rattle.psg_terms.proofs.Variables.{cases}
-use Rattle.psg_lexis.specs.Tokens.{value_of}
 use Rattle.psg_deftext.specs.WrittenLines.{name_at}
 use Rattle.psg_deftext.specs.Layout.{numbers_from}
 
@@ -61,16 +58,6 @@ unfolding number_names
 number-at k h =
     let e : 1 + k ≡ k + 1 = omega arith in
     number-at-from 1 most k (omega (arith, most-is)) ∙ ap (λ m. Some (decimal m)) e
-
--- ---- numbers
-
-own : IsNumeralModel (AllDigits 10) value_of
-own = numerals_by_weight (AllDigits 10) tells_digits value_of (record { empty = refl; more = λ c cs h. refl })
-
-pub decimal-value : (v : ℕ) → v < 2 ^ 128 → value_of (decimal v) ≡ v
-decimal-value v h =
-    let n = decimal_is_IsNumeral_wide v (let p : v < 10 ^ 64 = omega arith in p) in
-    own.same (decimal v) n.0.1 ∙ n.1
 
 -- ---- the name at a position
 

@@ -16,11 +16,12 @@ use Rattle.psg_grammar.specs.declared.types.Specimen.{Specimen, Op', List', Hole
 use Rattle.psg_grammar.specs.declared.types.Definition.{Definition}
 use Rattle.psg_grammar.specs.Lookups.{part_items}
 use Rattle.psg_grammar.specs.Sound.{HasKindSort}
+use Rattle.psg_lexis.proofs.Decimals.{decimal-value}
 use Rattle.psg_deflines.specs.WrittenTerms.{WrittenTerm}
 use Rattle.psg_deflines.specs.WrittenTrees.{WrittenTree, operator}
 use Rattle.psg_defnumber.specs.Numbers.{IsKind, IsPlace, IsTree, IsPart, AreParts, IsListFrom}
 use Rattle.psg_deftext.specs.WrittenLines.{term_written, kind_name, operator_name, tree_written, part_written, parts_written, elements_written, end_written}
-use Rattle.psg_deftext.proofs.NumberNames.{number_names, decimal-value, name-found}
+use Rattle.psg_deftext.proofs.NumberNames.{number_names, name-found}
 use Rattle.psg_deftext.proofs.NumberTerms.{IsSmallTerm, term-again}
 
 abbrev pub IsSmallEnd : Option SpecimenHole → Type 0

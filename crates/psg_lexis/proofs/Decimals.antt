@@ -1,7 +1,11 @@
 -- The value of decimal digits, as far as a walk has read them.
-use Rattle.std.proofs.Common.{◌≡◌, ℕ, zero, suc, ◌+◌, ◌-◌, ◌*◌, ◌^◌, ◌<◌, ◌≤◌, List, [], ◌∷◌, length, sym, ap, ◌∙◌, subst, arith}
+use Rattle.std.proofs.Common.{◌≡◌, ℕ, zero, suc, ◌+◌, ◌-◌, ◌*◌, ◌^◌, ◌<◌, ◌≤◌, List, [], ◌∷◌, length, refl, sym, ap, ◌∙◌, subst, arith}
+use Rattle.std.specs.Prelude.{decimal}
 use Rattle.std.specs.Str.{chars}
+use Rattle.std.specs.Str.Parse.{AllDigits}
 use Rattle.std.proofs.Math.Nat.{pow-suc}
+use Rattle.std.proofs.lemmas.Fmt.{decimal_is_IsNumeral_wide}
+use Rattle.std.proofs.lemmas.Str.Parse.{IsNumeralModel, numerals_by_weight, tells_digits}
 use Rattle.psg_lexis.specs.Classes.{Chars, is_digit, All}
 use Rattle.psg_lexis.specs.Splits.{IsFirst}
 use Rattle.psg_lexis.specs.Tokens.{value_of}
@@ -47,3 +51,12 @@ pub all_read : (value whole : ℕ) (rest : List ℕ) → chars rest ≡ []
     → value * 10 ^ length (chars rest) + value_of (chars rest) ≡ whole → value ≡ whole
 all_read value whole rest e h = let k = subst (λ cs. value * 10 ^ length cs + value_of cs ≡ whole) e h in
     omega (arith, k)
+
+own : IsNumeralModel (AllDigits 10) value_of
+own = numerals_by_weight (AllDigits 10) tells_digits value_of (record { empty = refl; more = λ c cs h. refl })
+
+-- a number as it is written has its value
+pub decimal-value : (v : ℕ) → v < 2 ^ 128 → value_of (decimal v) ≡ v
+decimal-value v h =
+    let n = decimal_is_IsNumeral_wide v (let p : v < 10 ^ 64 = omega arith in p) in
+    own.same (decimal v) n.0.1 ∙ n.1

@@ -1,24 +1,17 @@
 -- A number as it is written is one token of that value.
-use Rattle.std.proofs.Common.{◌≡◌, ◌≢◌, ℕ, ◌<◌, ◌^◌, List, [], ◌∷◌, length, refl, sym, ◌∙◌, subst, arith, le-leb}
+use Rattle.std.proofs.Common.{◌≡◌, ◌≢◌, ℕ, ◌<◌, ◌^◌, List, [], ◌∷◌, length, refl, sym, subst, arith, le-leb}
 use Rattle.std.specs.Prelude.{decimal, nat_le}
 use Rattle.std.specs.Str.Parse.{AllDigits}
 use Rattle.std.proofs.lemmas.Bool.{and_from}
 use Rattle.std.proofs.lemmas.Fmt.{decimal_is_IsNumeral_wide, IsAscii-decimal_wide}
 use Rattle.std.proofs.lemmas.Str.{chars-IsAscii, IsUtf8-from_ascii}
-use Rattle.std.proofs.lemmas.Str.Parse.{IsNumeralModel, numerals_by_weight, tells_digits}
+use Rattle.std.proofs.lemmas.Str.Parse.{tells_digits}
 use Rattle.psg_terms.specs.Names.{Name}
 use Rattle.psg_lexis.specs.Classes.{is_digit, All, IsLongest}
 use Rattle.psg_lexis.specs.Tokens.{value_of, IsToken, number as a_number}
+use Rattle.psg_lexis.proofs.Decimals.{decimal-value}
 use Rattle.psg_class.specs.Terminals.{numeral}
 use Rattle.psg_reads_back.proofs.Lexing.{IsTextOf}
-
-own : IsNumeralModel (AllDigits 10) value_of
-own = numerals_by_weight (AllDigits 10) tells_digits value_of (record { empty = refl; more = λ c cs h. refl })
-
-pub decimal-value : (v : ℕ) → v < 2 ^ 128 → value_of (decimal v) ≡ v
-decimal-value v h =
-    let n = decimal_is_IsNumeral_wide v (let p : v < 10 ^ 64 = omega arith in p) in
-    own.same (decimal v) n.0.1 ∙ n.1
 
 -- digits by the test
 digits_tested : (ds : List ℕ) → AllDigits 10 ds → All is_digit ds
