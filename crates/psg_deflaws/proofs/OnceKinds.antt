@@ -22,7 +22,9 @@ use Rattle.psg_deflines.specs.declared.lines.Line.{Line}
 use Rattle.psg_deflines.specs.declared.lines.Line.TheVariants as lines
 use Rattle.psg_defcheck.specs.Scopes.{kind_names, operator_names}
 use Rattle.psg_defnumber.specs.Numbers.{IsTerm, AreTerms, IsSort, IsKind, IsItem, AreItems, IsOperatorNamed, ArePhyla, AreLists, AreOperators, AreSpaces, IsNumbered}
-use Rattle.psg_deflaws.proofs.OnceNames.{same_at, map-at, one_place, named_place, Together, together-at}
+use Rattle.psg_deflaws.proofs.OnceNames.{same_at, named_place, Together, together-at}
+use Rattle.psg_defnumber.proofs.ListLaws.{map-at}
+use Rattle.psg_terms.proofs.Spelled.{one_place}
 use Rattle.psg_deflaws.proofs.OnceTerms.{terms-alike, rows-alike}
 use Rattle.psg_deflaws.proofs.OnceTrees.{Agree}
 use Rattle.psg_deflaws.proofs.OnceSignature.{sorts-once, symbols-once, signature-same}

@@ -1,33 +1,12 @@
 -- A name that stands once has one place.
-use Rattle.std.proofs.Common.{◌≡◌, ℕ, false, zero, suc, List, [], ◌∷◌, map, refl, ap, sym, ◌∙◌, subst, Some, slice_get}
-use Rattle.std.proofs.lemmas.Bool.{or_parts, false≢true}
-use Rattle.psg_terms.specs.Names.{Name, is_among, has_twice}
-use Rattle.psg_terms.proofs.DeclareLaws.{is_among-at}
+use Rattle.std.proofs.Common.{◌≡◌, ℕ, false, zero, suc, List, [], ◌∷◌, map, ap, sym, ◌∙◌, subst, Some, slice_get}
+use Rattle.psg_terms.specs.Names.{Name, has_twice}
+use Rattle.psg_terms.proofs.Spelled.{one_place}
+use Rattle.psg_defnumber.proofs.ListLaws.{map-at}
 
 -- what stands at a place is one value
 pub same_at : {X : Type 0} (xs : List X) (i : ℕ) (x y : X) → slice_get xs i ≡ Some x → slice_get xs i ≡ Some y → x ≡ y
 same_at xs i x y a b = cc
-
-pub one_place : (names : List Name) (i j : ℕ) (n : Name) → has_twice names ≡ false → slice_get names i ≡ Some n
-    → slice_get names j ≡ Some n → i ≡ j
-one_place [] i j n h a b = absurd (cc)
-one_place (x ∷ xs) zero zero n h a b = refl
-one_place (x ∷ xs) zero (suc j) n h a b =
-    let both = or_parts (is_among xs x) (has_twice xs) h in
-    let same : x ≡ n = cc in
-    absurd (false≢true (sym both.0 ∙ ap (is_among xs) same ∙ is_among-at xs j n b))
-one_place (x ∷ xs) (suc i) zero n h a b =
-    let both = or_parts (is_among xs x) (has_twice xs) h in
-    let same : x ≡ n = cc in
-    absurd (false≢true (sym both.0 ∙ ap (is_among xs) same ∙ is_among-at xs i n a))
-one_place (x ∷ xs) (suc i) (suc j) n h a b = ap suc (one_place xs i j n (or_parts (is_among xs x)
-    (has_twice xs) h).1 a b)
-
-pub map-at : {X Y : Type 0} (f : X → Y) (xs : List X) (i : ℕ) (x : X) → slice_get xs i ≡ Some x
-    → slice_get (map f xs) i ≡ Some (f x)
-map-at f [] i x e = absurd (cc)
-map-at f (y ∷ ys) zero x e = let same : y ≡ x = cc in ap (λ z. Some (f z)) same
-map-at f (y ∷ ys) (suc i) x e = map-at f ys i x e
 
 -- two lists with one list of names, each once, have a name at one place
 module _ {X : Type 0} (name : X → Name) (names : List Name) (once : has_twice names ≡ false) (xs ys : List X)

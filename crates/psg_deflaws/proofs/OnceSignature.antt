@@ -5,13 +5,13 @@ use Rattle.psg_terms.specs.Signature.{Symbol}
 use Rattle.psg_terms.specs.Declarations.{sort_names as written_sorts, with_sort, in_order, names_in, Numbered, AreSpelled, AreDistinct}
 use Rattle.psg_terms.specs.declared.declare.ConDecl.{ConDecl}
 use Rattle.psg_terms.proofs.DeclareLaws.{names_in-append}
-use Rattle.psg_terms.proofs.Spelled.{one_signature}
+use Rattle.psg_terms.proofs.Spelled.{one_signature, one_place}
 use Rattle.psg_grammar.specs.declared.types.Definition.{Definition}
 use Rattle.psg_deflines.specs.declared.lines.Line.{Line}
 use Rattle.psg_deflines.specs.declared.lines.Line.TheVariants as lines
 use Rattle.psg_defcheck.specs.Scopes.{sort_names, names_of, constructor_names}
 use Rattle.psg_defnumber.specs.Numbers.{sort_decls, IsNumbered}
-use Rattle.psg_deflaws.proofs.OnceNames.{one_place, map-at}
+use Rattle.psg_defnumber.proofs.ListLaws.{map-at}
 
 decls-sorts : (file : List Line) → written_sorts (sort_decls file) ≡ sort_names file
 decls-sorts [] = refl

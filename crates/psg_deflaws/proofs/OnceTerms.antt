@@ -10,7 +10,8 @@ use Rattle.psg_terms.proofs.Unique.{Each, each-front}
 use Rattle.psg_terms.proofs.RenamingLaws.{IsAmong, among-noted_all}
 use Rattle.psg_deflines.specs.WrittenTerms.{WrittenTerm, variable, named, apply}
 use Rattle.psg_defnumber.specs.Numbers.{IsTerm, AreTerms, IsNaming}
-use Rattle.psg_deflaws.proofs.OnceNames.{one_place, same_at}
+use Rattle.psg_deflaws.proofs.OnceNames.{same_at}
+use Rattle.psg_terms.proofs.Spelled.{one_place}
 
 -- the variables stand for one name and are of one sort
 pub record Alike (a b : List Name) (x y : Variable) : Type 0 where

@@ -16,7 +16,7 @@ use Rattle.psg_grammar.specs.Sound.{IsSound, HasSpaceSort}
 use Rattle.psg_deflines.specs.declared.lines.Line.{Line}
 use Rattle.psg_deflines.specs.declared.lines.Line.TheVariants as lines
 use Rattle.psg_defcheck.specs.Scopes.{sort_declared, Constructor, constructor_among, constructor_declared, KindDecl, a_phylum, kind_declared, OpDecl, operator_declared, entity_sort}
-use Rattle.psg_deflaws.proofs.OnceNames.{map-at}
+use Rattle.psg_defnumber.proofs.ListLaws.{map-at}
 use Rattle.psg_deftext.specs.Layout.{rank}
 use Rattle.psg_deftext.specs.WrittenLines.{lines_of, sort_name, sort_lines, entity_line, phylum_line, list_line, row_line, operator_lines}
 use Rattle.psg_deftext.proofs.NumberBlocks.{from_entities, from_phyla, from_lists, from_operators, from_nils, flat-front, before-entities, before-phyla, before-operators}

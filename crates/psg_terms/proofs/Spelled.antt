@@ -60,7 +60,8 @@ repeat-twice names i n r h =
     let short = has_twice-take (i + 1) (length names) names (omega arith) (ap has_twice (take_all (length names) names (omega arith)) ∙ h) in
     false≢true (sym short ∙ ap has_twice (take-at names i n r.at) ∙ has_twice-again (take i names) n r.again)
 
-one_place : (names : List Name) (i j : ℕ) (n : Name) → has_twice names ≡ false → slice_get names i ≡ Some n → slice_get names j ≡ Some n → i ≡ j
+-- a name that is once among the names has one place
+pub one_place : (names : List Name) (i j : ℕ) (n : Name) → has_twice names ≡ false → slice_get names i ≡ Some n → slice_get names j ≡ Some n → i ≡ j
 one_place [] i j n h a b = absurd (cc)
 one_place (x ∷ xs) zero zero n h a b = refl
 one_place (x ∷ xs) zero (suc j) n h a b =
