@@ -9,7 +9,7 @@ mod HeadLaws
 mod ConstructorLaws
 mod ItemLaws
 mod LineInverses
-mod Lists
+pub mod Lists
 mod Options
 mod NumberLaws
 mod PieceLaws
@@ -17,7 +17,7 @@ mod PlaceLaws
 mod PartLaws
 mod PartReads
 mod QuoteLaws
-mod SpellLaws
+pub mod SpellLaws
 mod ReadLaws
 mod Stages
 mod TermStepLaws

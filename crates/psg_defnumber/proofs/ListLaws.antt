@@ -1,6 +1,5 @@
 -- Laws of lists that grow.
-use Rattle.std.proofs.Common.{◌≡◌, ℕ, ◌+◌, ◌-◌, ◌<◌, ◌≤◌, zero, suc, List, [], ◌∷◌, ◌++◌, take, drop, get_or, length, length-drop, map, refl, ap, sym, ◌∙◌, subst, Some, slice_get, arith}
-use Rattle.std.proofs.lemmas.List.{take_all}
+use Rattle.std.proofs.Common.{◌≡◌, ℕ, zero, suc, List, [], ◌∷◌, ◌++◌, map, refl, ap, subst, Some, slice_get}
 use Rattle.psg_terms.proofs.DeclareLaws.{slice_get-front}
 use Rattle.psg_defnumber.specs.Growing.{Grows}
 
@@ -27,22 +26,3 @@ pub map-at : {X Y : Type 0} (f : X → Y) (xs : List X) (k : ℕ) (x : X) → sl
 map-at f [] k x e = absurd (cc)
 map-at f (y ∷ xs) zero x e = let same : y ≡ x = cc in ap (λ z. Some (f z)) same
 map-at f (y ∷ xs) (suc k) x e = map-at f xs k x e
-
-pub drop-next : {X : Type 0} (xs : List X) (i : ℕ) (x : X) → i < length xs → x ≡ get_or xs i x → drop i xs ≡ x ∷ drop (i + 1) xs
-drop-next [] i x h e = absurd (omega arith)
-drop-next (y ∷ ys) zero x h e = ap (λ z. z ∷ ys) (sym e)
-drop-next (y ∷ ys) (suc i) x h e = drop-next ys i x (omega arith) e ∙ ap (λ n. x ∷ drop n (y ∷ ys)) (plus-one i)
-  where
-    plus-one : (n : ℕ) → suc (n + 1) ≡ suc n + 1
-    plus-one n = omega arith
-
-nil-length : {X : Type 0} (xs : List X) → length xs ≡ 0 → xs ≡ []
-nil-length [] h = refl
-nil-length (x ∷ xs) h = absurd (omega arith)
-
-pub drop-all : {X : Type 0} (xs : List X) (i : ℕ) → length xs ≤ i → drop i xs ≡ []
-drop-all xs i h = nil-length (drop i xs) (omega (arith, length-drop i xs))
-
--- what a slice from an index to the end holds
-pub rest-whole : {X : Type 0} (xs : List X) (n : ℕ) → take (length xs - n) (drop n xs) ≡ drop n xs
-rest-whole xs n = take_all (length xs - n) (drop n xs) (omega (arith, length-drop n xs))

@@ -3,7 +3,7 @@ use Rattle.std.proofs.Common.{◌≡◌, ℕ, ◌+◌, ◌<◌, ◌≤◌, List,
 use Rattle.psg_grammar.specs.declared.types.Definition.{Definition}
 use Rattle.psg_defnumber.specs.Growing.{Lasts}
 use Rattle.psg_defnumber.specs.Putting.{Read, Puts}
-use Rattle.psg_defnumber.proofs.ListLaws.{drop-next, drop-all}
+use Rattle.psg_deflines.proofs.Lists.{drop-next, drop-all}
 
 -- What is made so far, and then what the parts from here on make.
 abbrev pub ReadsTo : {X Y : Type 0} → Definition → Read X Y → List X → List Y → List X → Type 0

@@ -16,7 +16,7 @@ use Rattle.psg_deflines.specs.Written.{IsWritten}
 use Rattle.psg_deflines.specs.Parts.{is_mark, is_sigil, goes_behind, IsPart, a_word, a_mark, a_sigil, a_quoted}
 use Rattle.psg_deflines.specs.Forms.{SpellsLine, parts_of}
 use Rattle.psg_deflines.specs.declared.lines.Line.{Line}
-use Rattle.psg_deftext.proofs.JoinParts.{line-parts}
+use Rattle.psg_deflines.proofs.SpellLaws.{line-parts}
 
 -- a space, or a character behind it in the order of codes
 abbrev pub IsClear : ℕ → Type 0

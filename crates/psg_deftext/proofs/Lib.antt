@@ -18,7 +18,6 @@ pub mod NumberLines
 pub mod PushLaws
 pub mod ShapeLaws
 pub mod SortLaws
-pub mod JoinParts
 pub mod JoinBytes
 pub mod JoinTexts
 pub mod JoinFaults

@@ -12,7 +12,7 @@ use Rattle.psg_deflines.specs.TermWalks.{Parts}
 use Rattle.psg_deflines.specs.declared.lines.LineItem.{LineItem}
 use Rattle.psg_deflines.specs.declared.lines.Line.{Line}
 use Rattle.psg_deflines.specs.declared.lines.Line.TheVariants as lines
-use Rattle.psg_deftext.proofs.JoinParts.{line-parts}
+use Rattle.psg_deflines.proofs.SpellLaws.{line-parts}
 use Rattle.psg_deftext.proofs.OnceTerms.{code, IsClosed, first-closed, term-first, term-once, terms-once}
 use Rattle.psg_deftext.proofs.OnceTrees.{tree-once}
 use Rattle.psg_deftext.proofs.OnceQuotes.{quote-once}

@@ -1,6 +1,6 @@
 use Rattle.std.proofs.Common.{◌+◌, refl, subst}
 use Rattle.psg_defnumber.specs.Putting.{Puts, ReadsHoleRows}
-use Rattle.psg_defnumber.proofs.ListLaws.{rest-whole}
+use Rattle.psg_deflines.proofs.Lists.{rest-whole}
 use Rattle.psg_defnumber.proofs.PutLaws.{reads-next, reads-end}
 use Rattle.psg_defnumber.proofs.holes.hole_rows.Goals as goal
 

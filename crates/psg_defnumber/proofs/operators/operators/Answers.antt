@@ -1,6 +1,6 @@
 use Rattle.std.proofs.Common.{◌+◌, refl, subst}
 use Rattle.psg_defnumber.specs.Putting.{Puts, ReadsOperators}
-use Rattle.psg_defnumber.proofs.ListLaws.{rest-whole}
+use Rattle.psg_deflines.proofs.Lists.{rest-whole}
 use Rattle.psg_defnumber.proofs.PutLaws.{reads-next, reads-end}
 use Rattle.psg_defnumber.proofs.operators.operators.Goals as goal
 
