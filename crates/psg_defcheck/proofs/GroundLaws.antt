@@ -24,7 +24,7 @@ use Rattle.psg_defcheck.proofs.AboveLaws.{sort_names-append}
 use Rattle.psg_defcheck.proofs.SortLaws.{all-at}
 
 -- several sorts that have terms
-inhabited-more : (file : List Line) (n : Name) (names : List Name) → AreInhabited file (n ∷ []) → AreInhabited file names → AreInhabited file (n ∷ names)
+pub inhabited-more : (file : List Line) (n : Name) (names : List Name) → AreInhabited file (n ∷ []) → AreInhabited file names → AreInhabited file (n ∷ names)
 inhabited-more file n names h k = go (n ∷ []) h n refl
   where
     go : (ns : List Name) → AreInhabited file ns → (m : Name) → ns ≡ m ∷ [] → AreInhabited file (m ∷ names)

@@ -10,6 +10,7 @@ use Rattle.psg_terms.specs.Terms.{Term}
 use Rattle.psg_terms.specs.Terms as terms
 use Rattle.psg_terms.specs.Canonical.{Variable, variables, variables_of, same_variable, is_noted, noted, noted_all, first_occurrences, IsNumberedFrom}
 use Rattle.psg_terms.proofs.DeclareLaws.{bytes_eq-same, bytes_eq-refl}
+use Rattle.psg_terms.proofs.RenamingLaws.{noted_all-append}
 use Rattle.psg_terms.proofs.Variables.{cases, same_variable-true}
 use Rattle.psg_grammar.specs.declared.types.Definition.{Definition}
 use Rattle.psg_deflaws.proofs.Lists.{cons-same}
@@ -101,10 +102,6 @@ met-variable x seen h = elim (cases (is_noted x seen)) [
 
 -- ---- terms and rows
 
-noted-append : (seen xs ys : List Variable) → noted_all seen (xs ++ ys) ≡ noted_all (noted_all seen xs) ys
-noted-append seen [] ys = refl
-noted-append seen (x ∷ xs) ys = noted-append (noted seen x) xs ys
-
 -- both of two parts are counted
 record AreCounted (seen xs ys : List Variable) : Type 0 where
   whole : noted_all seen (xs ++ ys) ≡ noted_all (noted_all seen xs) ys
@@ -113,7 +110,7 @@ record AreCounted (seen xs ys : List Variable) : Type 0 where
 
 counted-parts : (seen xs ys : List Variable) → IsCounted (noted_all seen (xs ++ ys)) → AreCounted seen xs ys
 counted-parts seen xs ys h =
-    let whole = noted-append seen xs ys in
+    let whole = noted_all-append seen xs ys in
     let both = subst IsCounted whole h in
     let (more, e) = noted-all-front (noted_all seen xs) ys in
     record {

@@ -16,16 +16,11 @@ use Rattle.psg_deflines.specs.declared.lines.Line.{Line}
 use Rattle.psg_defcheck.specs.Faults.{ArePassed}
 use Rattle.psg_defread.specs.Refusals as refusals
 use Rattle.psg_defread.specs.Reading.{IsFaultless}
-use Rattle.psg_defread.proofs.Faultless.{faultless}
+use Rattle.psg_defread.proofs.Faultless.{faultless, written_append}
 
 pub written-some : (ls : List Line) → written (map Some ls) ≡ ls
 written-some [] = refl
 written-some (line ∷ rest) = ap (λ l. line ∷ l) (written-some rest)
-
-written-append : (xs ys : List Entry) → written (xs ++ ys) ≡ written xs ++ written ys
-written-append [] ys = refl
-written-append (None ∷ xs) ys = written-append xs ys
-written-append (Some x ∷ xs) ys = ap (λ r. x ∷ r) (written-append xs ys)
 
 -- a text spells one line
 abbrev pub SpellOnce : Type 0
@@ -93,7 +88,7 @@ module _ (once : SpellOnce) where
       let same = entry-once above u e f h.0 k.0 in
       let far : (above ++ written (e ∷ [])) ++ written fs ≡ above ++ written (f ∷ fs) =
       append_assoc above (written (e ∷ [])) (written fs)
-      ∙ ap (λ l. above ++ l) (sym (written-append (e ∷ []) fs) ∙ ap (λ x. written (x ∷ fs)) same) in
+      ∙ ap (λ l. above ++ l) (sym (written_append (e ∷ []) fs) ∙ ap (λ x. written (x ∷ fs)) same) in
       subst (λ a. AllByRecursion (PassesForm a t) form_codes) far
       (clean-at (above ++ written (e ∷ [])) front t behind es fs h.1
       (subst (λ x. AreEntries (above ++ written (x ∷ [])) front fs) (sym same) k.1) (rest e es p))
@@ -135,7 +130,7 @@ module _ (once : SpellOnce) where
   entries-snoc above (u ∷ ts) [] t e h k = absurd h
   entries-snoc above (u ∷ ts) (f ∷ es) t e h k =
       let far : above ++ written (f ∷ es) ≡ (above ++ written (f ∷ [])) ++ written es =
-      ap (λ l. above ++ l) (written-append (f ∷ []) es) ∙ sym (append_assoc above (written (f ∷ [])) (written es)) in
+      ap (λ l. above ++ l) (written_append (f ∷ []) es) ∙ sym (append_assoc above (written (f ∷ [])) (written es)) in
       (h.0, entries-snoc (above ++ written (f ∷ [])) ts es t e h.1 (subst (λ a. IsEntry a t e) far k))
 
   plain-snoc : (xs ys : List Line) → AllByRecursion IsPlain xs → AllByRecursion IsPlain ys
@@ -187,14 +182,14 @@ module _ (once : SpellOnce) where
     entries-plain front [] es (f ∷ fs) e each plain h not = absurd h
     entries-plain front (t ∷ ts) es [] e each plain h not = absurd h
     entries-plain front (t ∷ ts) es (None ∷ fs) e each plain h not =
-        let same : written (es ++ None ∷ []) ≡ written es = written-append es (None ∷ []) ∙ append-nil (written es) in
+        let same : written (es ++ None ∷ []) ≡ written es = written_append es (None ∷ []) ∙ append-nil (written es) in
         let same2 : written es ++ [] ≡ written (es ++ None ∷ []) = append-nil (written es) ∙ sym same in
         entries-plain (front ++ t ∷ []) ts (es ++ None ∷ []) fs (e ∙ sym (append_assoc front (t ∷ []) ts))
         (entries-snoc [] front es t None each h.0) (subst (AllByRecursion IsPlain) (sym same) plain)
         (subst (λ a. AreEntries a ts fs) same2 h.1) not
     entries-plain front (t ∷ ts) es (Some line ∷ fs) e each plain h not =
         line-plain front t ts es line e each plain h.0 (λ own.
-        let same : written (es ++ Some line ∷ []) ≡ written es ++ line ∷ [] = written-append es (Some line ∷ []) in
+        let same : written (es ++ Some line ∷ []) ≡ written es ++ line ∷ [] = written_append es (Some line ∷ []) in
         entries-plain (front ++ t ∷ []) ts (es ++ Some line ∷ []) fs (e ∙ sym (append_assoc front (t ∷ []) ts))
         (entries-snoc [] front es t (Some line) each h.0)
         (subst (AllByRecursion IsPlain) (sym same) (plain-snoc (written es) (line ∷ []) plain (own, tt)))

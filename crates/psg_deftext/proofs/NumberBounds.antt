@@ -5,6 +5,7 @@ use Rattle.std.proofs.lemmas.Bool.Decides.{nat_tests}
 use Rattle.psg_terms.specs.Terms.{Term}
 use Rattle.psg_terms.specs.Terms as terms
 use Rattle.psg_terms.specs.Canonical.{Variable, variables, variables_of, same_variable, is_noted, noted, noted_all, first_occurrences, IsNumberedFrom}
+use Rattle.psg_terms.proofs.RenamingLaws.{noted_all-append}
 use Rattle.psg_terms.proofs.Variables.{cases}
 use Rattle.psg_deftext.proofs.NumberAll.{all-front, all-behind}
 use Rattle.psg_deftext.proofs.NumberTerms.{IsSmallTerm}
@@ -29,10 +30,6 @@ noted-all-front seen (x ∷ xs) =
     let (more, f) = noted-all-front (noted seen x) xs in
     (first ++ more, f ∙ (ap (λ l. l ++ more) e ∙ append_assoc seen first more))
 
-noted-all-append : (seen xs ys : List Variable) → noted_all seen (xs ++ ys) ≡ noted_all (noted_all seen xs) ys
-noted-all-append seen [] ys = refl
-noted-all-append seen (x ∷ xs) ys = noted-all-append (noted seen x) xs ys
-
 pub numbered-front : (n : ℕ) (xs ys : List Variable) → IsNumberedFrom n (xs ++ ys) → IsNumberedFrom n xs
 numbered-front n [] ys h = tt
 numbered-front n (x ∷ xs) ys h = (h.0, numbered-front (n + 1) xs ys h.1)
@@ -42,7 +39,7 @@ pub first-numbered : (t : Term) (rest : List Term) → IsNumberedFrom 1 (first_o
 first-numbered t rest h =
     let alone = ap (noted_all []) (append-nil (variables t)) in
     let (more, e) = noted-all-front (noted_all [] (variables t)) (variables_of rest) in
-    let whole = noted-all-append [] (variables t) (variables_of rest) ∙ e in
+    let whole = noted_all-append [] (variables t) (variables_of rest) ∙ e in
     subst (IsNumberedFrom 1) (sym alone) (
     numbered-front 1 (noted_all [] (variables t)) more (subst (IsNumberedFrom 1) whole h)
     )

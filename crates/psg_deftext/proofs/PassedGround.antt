@@ -3,7 +3,6 @@ use Rattle.std.proofs.Common.{◌≡◌, true, false, cond, inl, inr, ℕ, zero,
 use Rattle.std.specs.List.{Contains}
 use Rattle.std.proofs.lemmas.Bool.{eq-eqb}
 use Rattle.std.proofs.lemmas.List.Elements.{Contains-append_left, Contains-append_right, Contains-push}
-use Rattle.psg_terms.specs.Names.{Name}
 use Rattle.psg_terms.specs.Terms.{Term}
 use Rattle.psg_terms.specs.Terms as terms
 use Rattle.psg_terms.specs.Signature.{Signature, Symbol, Takes, AreClosed, constructors_from, only_constructor, sole}
@@ -14,6 +13,7 @@ use Rattle.psg_grammar.specs.declared.types.Definition.{Definition}
 use Rattle.psg_grammar.specs.Sound.{IsSound}
 use Rattle.psg_deflines.specs.declared.lines.Line.{Line}
 use Rattle.psg_defcheck.specs.Meanings.{AreInhabited, none, more, IsChoice}
+use Rattle.psg_defcheck.proofs.GroundLaws.{inhabited-more}
 use Rattle.psg_deflaws.proofs.OnceNames.{same_at}
 use Rattle.psg_deftext.specs.WrittenLines.{sort_name, constructors_written}
 use Rattle.psg_deftext.proofs.PassedDeclared.{Declares, constructor_written, of_sort, with_front, sort_written, sort-at}
@@ -25,16 +25,6 @@ closed-sort sig (x ∷ xs) zero s h e =
     let same : x ≡ s = let f : Some x ≡ Some s = e in cc in
     subst (λ (y : Symbol). y.sort < length sig.sorts) same h.1
 closed-sort sig (x ∷ xs) (suc k) s h e = closed-sort sig xs k s h.2 e
-
-one-more : (file : List Line) (n : Name) (names : List Name) → AreInhabited file (n ∷ []) → AreInhabited file names
-    → AreInhabited file (n ∷ names)
-one-more file n names h k = go (n ∷ []) h n refl
-  where
-    go : (ns : List Name) → AreInhabited file ns → (m : Name) → ns ≡ m ∷ [] → AreInhabited file (m ∷ names)
-    go ns none m e = absurd (cc)
-    go ns (more sort rest d c found member args others) m e =
-        let same : sort ≡ m = cc in
-        subst (λ x. AreInhabited file (x ∷ names)) same (more sort names d c found member args k)
 
 module _ (def : Definition) where
   abbrev one : Symbol → ConDecl
@@ -78,7 +68,7 @@ module _ (def : Definition) where
         subst (λ n. AreInhabited file (sort_name def n ∷ [])) of (symbol-inhabited c s at behind)
     term-inhabited (terms.apply f a) arguments sort ground (first, hf, ha) k =
         let argument = term-inhabited a [] first ground.1 ha none in
-        let behind = one-more file (sort_name def first) (map (sort_name def) arguments) argument k in
+        let behind = inhabited-more file (sort_name def first) (map (sort_name def) arguments) argument k in
         term-inhabited f (first ∷ arguments) sort ground.0 hf behind
 
     pub sort-inhabited : (s : ℕ) → s < length def.signature.sorts → AreInhabited file (sort_name def s ∷ [])
