@@ -1,5 +1,5 @@
 //! What is known of a tree.
-ghost use Rattle.std.specs.Prelude.{◌≡◌, IfOk};
+ghost use Rattle.std.specs.Prelude.{◌≡◌, ◌↔◌, IfOk, IsTrue};
 ghost use Rattle.psg_eval.specs.Leaves.{IsFaultAt};
 
 use psg_grammar::Kind;
@@ -76,6 +76,18 @@ impl Summary {
         ensures { result.now ≡ self.now.rel }
     {
         &self.shared.as_ref().rel
+    }
+
+    /// Tells whether the summaries are equal: the same kind, header and relation, and whether a value is reported. It reads
+    /// them up to the first part that differs, in at most as many steps as a header has keys, spaces and bytes of names and
+    /// a relation has variables and constructors.
+    pub fn same(&self, other: &Summary) -> bool
+        ensures { IsTrue result ↔ (self.now ≡ other.now) }
+    {
+        self.report() == other.report()
+            && self.kind() == other.kind()
+            && self.header().same(other.header())
+            && self.rel().same(other.rel())
     }
 
     /// One more owner of the same summary.

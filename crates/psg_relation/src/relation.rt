@@ -11,7 +11,7 @@ ghost use Rattle.psg_terms.specs.Weight.{PassesLimit};
 ghost use Rattle.psg_relation.specs.Choices.{AllHaveSorts, HasWide, IsOfRow, MayBeWide};
 ghost use Rattle.psg_relation.specs.Sealed.{AllReady, AreCanonicalOf};
 
-use crate::row::RelRow;
+use crate::row::{RelRow, same_rows};
 use crate::sifting::sift;
 use crate::weighing::{MOST_DEPTH, MOST_SYMBOLS, deepest_of, weight_of};
 use psg_terms::canonical::canonical;
@@ -119,6 +119,17 @@ impl Rel {
         ensures { IsTrue result ↔ (self.now ≡ []) }
     {
         self.kept.as_slice().is_empty()
+    }
+
+    /// Tells whether the relations are equal, row by row. It takes one step where they weigh differently, else at most one
+    /// for each variable and constructor, of which a relation has at most 16,384.
+    pub fn same(&self, other: &Rel) -> bool
+        ensures { IsTrue result ↔ (self.now ≡ other.now) }
+    {
+        if self.weight != other.weight {
+            return false;
+        }
+        same_rows(self.rows(), other.rows())
     }
 
     /// How many variables and constructors the rows have together, at most 16,384. It takes one step.

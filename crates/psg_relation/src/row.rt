@@ -1,7 +1,8 @@
 //! Rows of terms.
-ghost use Rattle.std.specs.Prelude.{◌≡◌, IfOk};
+ghost use Rattle.std.specs.Prelude.{◌≡◌, ◌↔◌, IfOk, IsTrue};
 
 use crate::weighing::{row_above, row_depth, row_weight};
+use psg_terms::matching::same_all;
 use psg_terms::{Seq, Term};
 use std::alloc::{AllocError, Global};
 use std::marker::Model;
@@ -80,6 +81,14 @@ impl RelRow {
         self.above
     }
 
+    /// Tells whether the rows are equal. It compares the terms, of which a part that is shared is read as often as it
+    /// occurs.
+    pub(crate) fn same(&self, other: &RelRow) -> bool
+        ensures { IsTrue result ↔ (self.now ≡ other.now) }
+    {
+        same_all(self.terms(), other.terms())
+    }
+
     /// One more owner of the row's terms.
     pub fn share(&self, alloc: Global) -> Result<RelRow, AllocError>
         ensures { IfOk result (λ r. r ≡ self.now) }
@@ -98,4 +107,19 @@ fn shared(alloc: Global, terms: &[Term]) -> Result<Vec<Term>, AllocError>
         copies.push(term.share()?)?;
     }
     Ok(copies)
+}
+
+/// Tells whether the lists have equal rows at the same places.
+pub(crate) fn same_rows(left: &[RelRow], right: &[RelRow]) -> bool
+    ensures { IsTrue result ↔ (left.now ≡ right.now) }
+{
+    if left.len() != right.len() {
+        return false;
+    }
+    for i in 0..left.len() {
+        if !left[i].same(&right[i]) {
+            return false;
+        }
+    }
+    true
 }

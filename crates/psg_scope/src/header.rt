@@ -1,5 +1,5 @@
 //! What is known of a region's keys.
-ghost use Rattle.std.specs.Prelude.{◌≡◌, ◌∷◌, [], false, IfOk};
+ghost use Rattle.std.specs.Prelude.{◌≡◌, ◌↔◌, ◌∷◌, [], false, IfOk, IsTrue};
 ghost use Rattle.psg_grammar.specs.Keys.{key_cmp};
 ghost use Rattle.psg_scope.specs.Headers.{key_of};
 
@@ -27,6 +27,13 @@ impl NameCol {
         }
     }
 
+    /// Tells whether the keys are equal and declared alike.
+    fn same(&self, other: &NameCol) -> bool
+        ensures { IsTrue result ↔ (self.now ≡ other.now) }
+    {
+        self.space == other.space && self.declared == other.declared && self.name.same(&other.name)
+    }
+
     /// The key once more, with one more owner of its name.
     pub(crate) fn share(&self, declared: bool) -> Result<NameCol, AllocError>
         ensures { IfOk result (λ c. c ≡ record self.now { declared = declared }) }
@@ -37,6 +44,36 @@ impl NameCol {
             declared,
         })
     }
+}
+
+/// Tells whether the lists have equal keys, declared alike, at the same places.
+fn same_names(left: &[NameCol], right: &[NameCol]) -> bool
+    ensures { IsTrue result ↔ (left.now ≡ right.now) }
+{
+    if left.len() != right.len() {
+        return false;
+    }
+    for i in 0..left.len() {
+        if !left[i].same(&right[i]) {
+            return false;
+        }
+    }
+    true
+}
+
+/// Tells whether the lists have the same spaces at the same places.
+fn same_spaces(left: &[u32], right: &[u32]) -> bool
+    ensures { IsTrue result ↔ (left.now ≡ right.now) }
+{
+    if left.len() != right.len() {
+        return false;
+    }
+    for i in 0..left.len() {
+        if left[i] != right[i] {
+            return false;
+        }
+    }
+    true
 }
 
 /// The keys of a region.
@@ -73,5 +110,16 @@ impl Header {
             unfinished: Seq::of(Vec::new(alloc)),
             twice: false,
         })
+    }
+
+    /// Tells whether the headers are equal: the same keys, declared alike, the same unfinished spaces, and whether a key is
+    /// declared twice. It reads each list up to the first place that differs, in at most as many steps as the headers have
+    /// keys, spaces and bytes of names.
+    pub fn same(&self, other: &Header) -> bool
+        ensures { IsTrue result ↔ (self.now ≡ other.now) }
+    {
+        self.twice == other.twice
+            && same_spaces(self.unfinished.as_slice(), other.unfinished.as_slice())
+            && same_names(self.names.as_slice(), other.names.as_slice())
     }
 }
