@@ -1,4 +1,4 @@
--- What the look-up of a definition holds.
+-- What the parse table of a definition holds.
 use Rattle.std.specs.Prelude.{ℕ, ◌≡◌, ◌↔◌, Bool, true, Some, length, slice_get}
 use Rattle.psg_grammar.specs.declared.types.Definition.{Definition}
 use Rattle.psg_grammar.specs.declared.types.Phylum.{Phylum}
@@ -6,9 +6,9 @@ use Rattle.psg_grammar.specs.WellFormed.{fixed_words}
 use Rattle.psg_class.specs.Terminals.{Terminal, a_hole, open_bracket}
 use Rattle.psg_class.specs.Follow.{Leads, Led, HasHoles}
 use Rattle.psg_parse.specs.Lookups.{Finds, opener_at}
-use Rattle.psg_parse.specs.declared.tables.Lookup.{Lookup}
+use Rattle.psg_parse.specs.declared.tables.ParseTable.{ParseTable}
 
-pub record IsLookup (def : Definition) (l : Lookup) : Type 0 where
+pub record IsParseTable (def : Definition) (l : ParseTable) : Type 0 where
   pub words : l.lexis ≡ fixed_words def
   pub count : length l.holes.items ≡ length def.phyla
   pub holes : (p : ℕ) (b : Bool) → slice_get l.holes.items p ≡ Some b → (b ≡ true) ↔ HasHoles def p

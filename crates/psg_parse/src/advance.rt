@@ -4,7 +4,7 @@ ghost use Rattle.psg_class.specs.Class.{IsClass};
 ghost use Rattle.psg_class.specs.Machine.{Frame as Plain};
 ghost use Rattle.psg_class.specs.Texts.{tokens_of};
 ghost use Rattle.psg_parse.specs.States.{Aim, IsState, Steps};
-ghost use Rattle.psg_parse.specs.Tables.{IsLookup};
+ghost use Rattle.psg_parse.specs.Tables.{IsParseTable};
 ghost use Rattle.psg_parse.specs.Work.{Advances, Takes, state_work};
 
 use crate::begins::start;
@@ -13,7 +13,7 @@ use crate::grows::grow;
 use crate::lists::list;
 use crate::state::{Mode, State, Step};
 use crate::steps::parts;
-use crate::tables::Lookup;
+use crate::tables::ParseTable;
 use psg_grammar::Definition;
 use std::alloc::{AllocError, Global};
 
@@ -21,11 +21,11 @@ use std::alloc::{AllocError, Global};
 fn advance<'a>(
     alloc: Global,
     definition: &'a Definition,
-    lookup: &Lookup,
+    lookup: &ParseTable,
     state: State<'a>,
 ) -> Result<Step<'a>, AllocError>
     requires class { IsClass definition.now }
-    requires lookup { IsLookup definition.now lookup.now }
+    requires lookup { IsParseTable definition.now lookup.now }
     ensures leads { IfOk result (λ s. (aim : Aim) (st : List Plain) → IsState state.entry aim st
         → Steps definition.now aim st (tokens_of state.entry.rest.now) s) }
     ensures advances { IfOk result (Advances (length state.entry.rest.now) (state_work state.entry)) }
@@ -67,11 +67,11 @@ fn advance<'a>(
 pub(crate) fn take<'a>(
     alloc: Global,
     definition: &'a Definition,
-    lookup: &Lookup,
+    lookup: &ParseTable,
     state: State<'a>,
 ) -> Result<Step<'a>, AllocError>
     requires class { IsClass definition.now }
-    requires lookup { IsLookup definition.now lookup.now }
+    requires lookup { IsParseTable definition.now lookup.now }
     ensures leads { IfOk result (λ s. (aim : Aim) (st : List Plain) → IsState state.entry aim st
         → Steps definition.now aim st (tokens_of state.entry.rest.now) s) }
     ensures takes { IfOk result (Takes (length state.entry.rest.now)) }

@@ -8,7 +8,7 @@ ghost use Rattle.psg_class.specs.Texts.{tokens_of};
 ghost use Rattle.psg_parse.specs.Lookups.{Finds, opener_at};
 ghost use Rattle.psg_parse.specs.Seen.{terminal_seen};
 ghost use Rattle.psg_parse.specs.States.{IsStack, running, Steps};
-ghost use Rattle.psg_parse.specs.Tables.{IsLookup, OpensBracket, OpensHole};
+ghost use Rattle.psg_parse.specs.Tables.{IsParseTable, OpensBracket, OpensHole};
 ghost use Rattle.psg_parse.specs.Work.{Falls, stack_work};
 
 use crate::lookup::{Openers, without_marks};
@@ -16,14 +16,14 @@ use crate::seen::{Seen, see};
 use crate::standing::{Built, Grown};
 use crate::state::{Frame, Mode, State, Step};
 use crate::steps::is_fixed;
-use crate::tables::Lookup;
+use crate::tables::ParseTable;
 use psg_grammar::{Definition, op_level};
 use psg_lexis::Spanned;
 use std::alloc::{AllocError, Global};
 
 /// Whether the token is the placeholder of the phylum, and it has one.
-pub(crate) fn opens_hole(definition: &Definition, lookup: &Lookup, phylum: u32, seen: Seen) -> bool
-    requires { IsLookup definition.now lookup.now }
+pub(crate) fn opens_hole(definition: &Definition, lookup: &ParseTable, phylum: u32, seen: Seen) -> bool
+    requires { IsParseTable definition.now lookup.now }
     ensures { IsTrue result ↔ OpensHole definition.now phylum (terminal_seen seen.entry) }
 {
     let Seen::Hole(name) = seen else {
@@ -64,19 +64,19 @@ pub(crate) fn find_at(table: &[Openers], phylum: u32, seen: Seen) -> Option<u32>
 /// The operator of the phylum that begins with the token.
 pub(crate) fn leading(
     definition: &Definition,
-    lookup: &Lookup,
+    lookup: &ParseTable,
     phylum: u32,
     seen: Seen,
 ) -> Option<u32>
-    requires { IsLookup definition.now lookup.now }
+    requires { IsParseTable definition.now lookup.now }
     ensures { Finds (λ n. Leads definition.now phylum n (terminal_seen seen.entry)) result }
 {
     find_at(lookup.leading.as_slice(), phylum, seen)
 }
 
 /// Whether a tree of the phylum may begin with the token.
-pub(crate) fn opens(definition: &Definition, lookup: &Lookup, phylum: u32, seen: Seen) -> bool
-    requires { IsLookup definition.now lookup.now }
+pub(crate) fn opens(definition: &Definition, lookup: &ParseTable, phylum: u32, seen: Seen) -> bool
+    requires { IsParseTable definition.now lookup.now }
     ensures { IsTrue result ↔ First definition.now phylum (terminal_seen seen.entry) }
 {
     if opens_hole(definition, lookup, phylum, seen) {
@@ -92,14 +92,14 @@ pub(crate) fn opens(definition: &Definition, lookup: &Lookup, phylum: u32, seen:
 pub(crate) fn start<'a>(
     alloc: Global,
     definition: &'a Definition,
-    lookup: &Lookup,
+    lookup: &ParseTable,
     phylum: u32,
     least: u32,
     stack: Vec<Frame<'a>>,
     rest: &'a [Spanned],
 ) -> Result<Step<'a>, AllocError>
     requires class { IsClass definition.now }
-    requires lookup { IsLookup definition.now lookup.now }
+    requires lookup { IsParseTable definition.now lookup.now }
     ensures leads { IfOk result (λ s. (st : List Plain) → IsStack stack.entry.items st
         → Steps definition.now (running (starting phylum least)) st (tokens_of rest.now) s) }
     ensures falls { IfOk result (Falls (length rest.now) (stack_work stack.entry.items)) }

@@ -10,7 +10,7 @@ ghost use Rattle.psg_parse.specs.Lookups.{Finds};
 ghost use Rattle.psg_parse.specs.Seen.{terminal_seen};
 ghost use Rattle.psg_parse.specs.Standing.{IsTree};
 ghost use Rattle.psg_parse.specs.States.{IsStack, running, Steps};
-ghost use Rattle.psg_parse.specs.Tables.{IsLookup};
+ghost use Rattle.psg_parse.specs.Tables.{IsParseTable};
 ghost use Rattle.psg_parse.specs.Work.{Falls, stack_work};
 
 use crate::begins::find_at;
@@ -19,14 +19,14 @@ use crate::seen::{Seen, see};
 use crate::standing::{Built, Grown};
 use crate::state::{Frame, Mode, State, Step};
 use crate::steps::reaches;
-use crate::tables::Lookup;
+use crate::tables::ParseTable;
 use psg_grammar::{Definition, op_level};
 use psg_lexis::Spanned;
 use std::alloc::{AllocError, Global};
 
 /// The led operator of the phylum that goes on with the token.
-pub(crate) fn led(definition: &Definition, lookup: &Lookup, phylum: u32, seen: Seen) -> Option<u32>
-    requires { IsLookup definition.now lookup.now }
+pub(crate) fn led(definition: &Definition, lookup: &ParseTable, phylum: u32, seen: Seen) -> Option<u32>
+    requires { IsParseTable definition.now lookup.now }
     ensures { Finds (λ n. Led definition.now phylum n (terminal_seen seen.entry)) result }
 {
     find_at(lookup.led.as_slice(), phylum, seen)
@@ -36,7 +36,7 @@ pub(crate) fn led(definition: &Definition, lookup: &Lookup, phylum: u32, seen: S
 pub(crate) fn grow<'a>(
     alloc: Global,
     definition: &'a Definition,
-    lookup: &Lookup,
+    lookup: &ParseTable,
     phylum: u32,
     least: u32,
     tree: Grown,
@@ -45,7 +45,7 @@ pub(crate) fn grow<'a>(
     rest: &'a [Spanned],
 ) -> Result<Step<'a>, AllocError>
     requires class { IsClass definition.now }
-    requires lookup { IsLookup definition.now lookup.now }
+    requires lookup { IsParseTable definition.now lookup.now }
     ensures leads { IfOk result (λ s. (st : List Plain) (f : Fragment) (n : ℕ) → IsStack stack.entry.items st
         → IsTree tree f n
         → Steps definition.now (running (growing phylum least f n level)) st (tokens_of rest.now) s) }

@@ -5,6 +5,8 @@
 //! let tree = parse(alloc, &definition, goal, tokens.as_slice(), &mut steps)?;
 //! ```
 //!
+//! What it looks up of a definition is a `ParseTable`; `parse_with` takes one that was made before, `parse` makes its own.
+//!
 //! It goes over the tokens once, from left to right. The operator that begins or goes on with a token is looked up by
 //! the token, and how tightly it binds says whether it is taken. What waits for a tree stands on a stack of the
 //! parser's own.
@@ -30,4 +32,5 @@ mod steps;
 mod tables;
 
 pub use fault::{Goal, ParseFault};
-pub use parser::parse;
+pub use parser::{parse, parse_with};
+pub use tables::ParseTable;

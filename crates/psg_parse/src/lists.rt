@@ -9,7 +9,7 @@ ghost use Rattle.psg_class.specs.Runs.{list as listing, start as starting};
 ghost use Rattle.psg_class.specs.Texts.{tokens_of};
 ghost use Rattle.psg_parse.specs.Standing.{AreElements};
 ghost use Rattle.psg_parse.specs.States.{giving, IsStack, running, Steps};
-ghost use Rattle.psg_parse.specs.Tables.{IsLookup};
+ghost use Rattle.psg_parse.specs.Tables.{IsParseTable};
 ghost use Rattle.psg_parse.specs.Work.{Falls, stack_work};
 
 use crate::begins::opens;
@@ -17,7 +17,7 @@ use crate::seen::see;
 use crate::standing::Listed;
 use crate::state::{Frame, Mode, State, Step};
 use crate::steps::is_fixed;
-use crate::tables::Lookup;
+use crate::tables::ParseTable;
 use psg_grammar::Definition;
 use psg_lexis::{Lexis, Spanned, Token};
 use std::alloc::{AllocError, Global};
@@ -82,13 +82,13 @@ fn is_more(token: &Token) -> bool
 pub(crate) fn list<'a>(
     alloc: Global,
     definition: &'a Definition,
-    lookup: &Lookup,
+    lookup: &ParseTable,
     list: u32,
     stack: Vec<Frame<'a>>,
     rest: &'a [Spanned],
 ) -> Result<Step<'a>, AllocError>
     requires class { IsClass definition.now }
-    requires lookup { IsLookup definition.now lookup.now }
+    requires lookup { IsParseTable definition.now lookup.now }
     ensures leads { IfOk result (λ s. (st : List Plain) → IsStack stack.entry.items st
         → Steps definition.now (running (listing list)) st (tokens_of rest.now) s) }
     ensures falls { IfOk result (Falls (length rest.now) (2 + stack_work stack.entry.items)) }

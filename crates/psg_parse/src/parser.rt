@@ -11,13 +11,14 @@ ghost use Rattle.psg_parse.specs.Answers.{IsFault, IsParsed};
 ghost use Rattle.psg_class.specs.Texts.{tokens_of};
 ghost use Rattle.psg_parse.specs.Standing.{IsTree};
 ghost use Rattle.psg_parse.specs.States.{IsBegun};
+ghost use Rattle.psg_parse.specs.Tables.{IsParseTable};
 ghost use Rattle.psg_parse.specs.Within.{IsWithin, IsBeyond};
 
 use crate::advance::take;
 use crate::fault::{Goal, ParseFault};
 use crate::standing::Grown;
 use crate::state::{Mode, State, Step};
-use crate::tables::Lookup;
+use crate::tables::ParseTable;
 use psg_grammar::{Definition, Kind, MOST_BRACKETS, MOST_DEPTH};
 use psg_lexis::{Spanned, Token};
 use psg_terms::Steps;
@@ -25,12 +26,15 @@ use psg_tree::Tree;
 use std::alloc::Global;
 use std::sync::ledger::Ledger;
 
-/// The only tree of the goal's kind and level that has these tokens. It is well formed, at most 200 deep, and its
+/// Gives the only tree of the goal's kind and level that has these tokens. It is well formed, at most 200 deep, and its
 /// brackets and those around it nest at most 400 deep.
 ///
 /// It refuses with `NoTree` where no tree has the tokens, and with `Deep` where one has them that is past a limit. It
 /// takes a step of the counter for each token that it reads. Work and memory are linear in the tokens, and deep input
 /// costs no depth of calls: past the limits no tree is kept, and what waits is one small frame for each open place.
+///
+/// It makes the table of the definition; where several lists of tokens are parsed, `parse_with` takes one that was made
+/// before.
 pub fn parse<L: Ledger>(
     alloc: Global,
     definition: &Definition,
@@ -48,12 +52,36 @@ pub fn parse<L: Ledger>(
     ensures steps { steps.new ≤ steps.old + length tokens.now }
     ensures all { OnOk result (steps.new ≡ steps.old + length tokens.now) }
 {
+    let table = ParseTable::of(alloc, definition)?;
+    let tree = parse_with(alloc, definition, &table, goal, tokens, steps)?;
+    Ok(tree)
+}
+
+/// Gives the only tree of the goal's kind and level that has these tokens, as `parse` does, with the table of the
+/// definition. Its work does not depend on the size of the definition.
+pub fn parse_with<L: Ledger>(
+    alloc: Global,
+    definition: &Definition,
+    table: &ParseTable,
+    goal: Goal,
+    tokens: &[Spanned],
+    steps: &mut Steps<L>,
+) -> Result<Tree, ParseFault>
+    requires class { IsClass definition.now }
+    requires table { IsParseTable definition.now table.now }
+    requires around { goal.around ≤ MOST_BRACKETS }
+    ensures tree { IfOk result (IsParsed definition.now goal tokens.now) }
+    ensures formed { IfOk result (λ f. WellFormed definition.now f goal.kind) }
+    ensures fault { IfErr result (IsFault definition.now goal tokens.now) }
+    // at most one step for each token, and one for each where there is a tree
+    ensures steps { steps.new ≤ steps.old + length tokens.now }
+    ensures all { OnOk result (steps.new ≡ steps.old + length tokens.now) }
+{
     read_values(tokens);
-    let lookup = Lookup::of(alloc, definition)?;
     let mut state = begin(alloc, goal, tokens);
     'tokens: loop {
         let left = state.rest.len();
-        match take(alloc, definition, &lookup, state)? {
+        match take(alloc, definition, table, state)? {
             Step::Go(next) => {
                 count(steps, left - next.rest.len());
                 state = next;

@@ -6,7 +6,7 @@ ghost use Rattle.psg_grammar.specs.WellFormed.{fixed_words, separators, words_in
 ghost use Rattle.psg_class.specs.Follow.{HasHoles};
 ghost use Rattle.psg_class.specs.Terminals.{Terminal, item_terminal};
 ghost use Rattle.psg_parse.specs.Lookups.{Finds, Has, PutsAt, opener_at, terminal_at};
-ghost use Rattle.psg_parse.specs.Tables.{IsLookup};
+ghost use Rattle.psg_parse.specs.Tables.{IsParseTable};
 
 use crate::lookup::{Openers, without_marks};
 use psg_grammar::{Definition, Item, ListKind, Operator, declaring};
@@ -14,9 +14,9 @@ use psg_lexis::Lexis;
 use psg_terms::Txt;
 use std::alloc::{AllocError, Global};
 
-/// The look-up of a definition.
+/// What the parser looks up of a definition: its fixed words, which phyla have placeholders, and its operators by tokens.
 #[derive(Drop)]
-pub(crate) struct Lookup {
+pub struct ParseTable {
     pub(crate) lexis: Lexis,
     /// For each phylum whether it has placeholders.
     pub(crate) holes: Vec<bool>,
@@ -34,14 +34,15 @@ pub(crate) enum Place {
     BehindSlot,
 }
 
-impl Lookup {
-    /// The look-up of the definition. It takes a step for each byte of the fixed words, and one for each item.
-    pub(crate) fn of(alloc: Global, definition: &Definition) -> Result<Lookup, AllocError>
+impl ParseTable {
+    /// Makes the table of the definition. It takes a step for each byte of the fixed words, and one for each item. It fails
+    /// where memory runs out.
+    pub fn of(alloc: Global, definition: &Definition) -> Result<ParseTable, AllocError>
         requires { IsSound definition.now }
-        ensures { IfOk result (IsLookup definition.now) }
+        ensures { IfOk result (IsParseTable definition.now) }
     {
         let words = fixed_words(alloc, definition)?;
-        Ok(Lookup {
+        Ok(ParseTable {
             lexis: Lexis::new(alloc, words.as_slice())?,
             holes: holes(alloc, definition)?,
             leading: openers(alloc, definition, Place::First)?,

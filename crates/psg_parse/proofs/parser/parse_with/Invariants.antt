@@ -1,7 +1,7 @@
 use Rattle.std.proofs.Common.{◌≡◌, ◌+◌, length}
 use Rattle.psg_parse.specs.Answers.{Reads}
 use Rattle.psg_parse.specs.States.{GoesOn}
-use Rattle.psg_parse.proofs.parser.parse.Given as goal
+use Rattle.psg_parse.proofs.parser.parse_with.Given as goal
 
 abbrev pub invariant-tokens : goal.invariant-tokens
 invariant-tokens g l = record {

@@ -4,7 +4,7 @@ use Rattle.psg_parse.specs.Answers.{IsParsed, Reads}
 use Rattle.psg_parse.specs.States.{Leads}
 use Rattle.psg_parse.specs.Work.{Takes}
 use Rattle.psg_parse.proofs.Taken.{begun, formed, led_on, parsed, refused, ticked}
-use Rattle.psg_parse.proofs.parser.parse.Goals as goal
+use Rattle.psg_parse.proofs.parser.parse_with.Goals as goal
 
 pub tokens-init : goal.tokens-init
 tokens-init g c = record {

@@ -1,7 +1,7 @@
 use Rattle.std.proofs.Common.{◌∙◌, arith}
 use Rattle.psg_parse.specs.Lookups.{opener_at}
 use Rattle.psg_parse.proofs.Tabled.{leads_finds, led_finds}
-use Rattle.psg_parse.proofs.tables.Lookup.of.Goals as goal
+use Rattle.psg_parse.proofs.tables.ParseTable.of.Goals as goal
 
 pub returns : goal.returns
 returns c = record {
