@@ -18,16 +18,16 @@ use Rattle.psg_lexis.proofs.Laws.{only_tokens}
 use Rattle.psg_grammar.specs.Kinds.{IsOfKind}
 use Rattle.psg_cache.proofs.ShapedTrees.{kind_once as node_kind_once}
 use Rattle.psg_script.specs.declared.command.Command.{Command}
-use Rattle.psg_script.specs.declared.command.Command.TheVariants.{Own, Free}
+use Rattle.psg_script.specs.declared.command.Command.TheVariants.{Own, Free, Undo, Redo}
 use Rattle.psg_session.specs.Answers.{free_names, names_line, rows_lines}
 use Rattle.psg_session.specs.Leaves.{given, GivesLeaves}
-use Rattle.psg_session.specs.PlainState.{State, Opened, Answer, named_path, with_new, with_change}
+use Rattle.psg_session.specs.PlainState.{State, Opened, Answer, named_path, with_new, with_change, with_version}
 use Rattle.psg_session.specs.declared.refusal.Refusal.{Refusal}
 use Rattle.psg_session.specs.Laws.{HasOneStep}
 use Rattle.psg_session.specs.Refusals.{Tests, done, test, Refuses, Passes}
 use Rattle.psg_session.proofs.StepLaws.{some_once}
 use Rattle.psg_session.specs.Replies.{Reply, refused, answered, marked, shown}
-use Rattle.psg_session.specs.PlainStep.{HasName, IsOperator, Makes, by_refine, by_insert, by_cut, by_remove, by_close, by_reopen, tests, IsRefused, IsTaken, Steps, refuses, opens, changes, shows, owns, frees}
+use Rattle.psg_session.specs.PlainStep.{HasName, IsOperator, Makes, by_refine, by_insert, by_cut, by_remove, by_close, by_reopen, tests, IsRefused, IsTaken, Steps, refuses, opens, changes, undoes, redoes, shows, owns, frees}
 use Rattle.psg_session.proofs.RowLines.{relation_lines}
 
 -- ---- marks
@@ -174,6 +174,10 @@ module _ (def : Definition) (IsGood : Fragment → Type 0) (s : State) (answer :
         absurd (not_both command r taken_is h)
     step_once (refuses {command = command} {r = r} h) (changes old mark taken_is opened makes is_mark) =
         absurd (not_both command r taken_is h)
+    step_once (refuses {command = command} {r = r} h) (undoes old tree rest mark taken_is opened is is_mark) =
+        absurd (not_both command r taken_is h)
+    step_once (refuses {command = command} {r = r} h) (redoes old tree rest mark taken_is opened is is_mark) =
+        absurd (not_both command r taken_is h)
     step_once (refuses {command = command} {r = r} h) (shows old mark taken_is opened is_mark) =
         absurd (not_both command r taken_is h)
     step_once (refuses {command = command} {r = r} h) (owns old node rows taken_is opened at rel) =
@@ -205,11 +209,45 @@ module _ (def : Definition) (IsGood : Fragment → Type 0) (s : State) (answer :
               (with_change s old' tree') both.1,
           ap marked (mark_once IsGood tree' mark mark' is_mark'' is_mark'),
         )
+    step_once (changes old mark taken_is opened makes is_mark) (undoes old' tree' rest' mark' taken_is' opened' is' is_mark') =
+        elim makes [ ]
+    step_once (changes old mark taken_is opened makes is_mark) (redoes old' tree' rest' mark' taken_is' opened' is' is_mark') =
+        elim makes [ ]
     step_once (changes old mark taken_is opened makes is_mark) (shows old' mark' taken_is' opened' is_mark') =
         elim makes [ ]
     step_once (changes old mark taken_is opened makes is_mark) (owns old' node' rows' taken_is' opened' at' rel') =
         elim makes [ ]
     step_once (changes old mark taken_is opened makes is_mark) (frees old' taken_is' opened') = elim makes [ ]
+    step_once (undoes old tree rest mark taken_is opened is is_mark) (refuses {r = r} h) =
+        absurd (not_both Undo r taken_is h)
+    step_once (undoes old tree rest mark taken_is opened is is_mark) (changes old' mark' taken_is' opened' makes' is_mark') =
+        elim makes' [ ]
+    step_once (undoes old tree rest mark taken_is opened is is_mark)
+        (undoes old' tree' rest' mark' taken_is' opened' is' is_mark') =
+        let same : old ≡ old' = some_once old old' s.opened opened opened' in
+        let both : tree ∷ rest ≡ tree' ∷ rest' = sym is ∙ is' in
+        let one : tree ≡ tree' = cc in
+        let more : rest ≡ rest' = cc in (
+          ap (λ (x : Opened). with_version s x tree rest (x.tree ∷ s.later)) same
+              ∙ ap (λ x. with_version s old' x rest (old'.tree ∷ s.later)) one
+              ∙ ap (λ x. with_version s old' tree' x (old'.tree ∷ s.later)) more,
+          ap marked (mark_once IsGood tree' mark mark' (subst (λ f. IsMarkBy IsGood f mark) one is_mark) is_mark'),
+        )
+    step_once (redoes old tree rest mark taken_is opened is is_mark) (refuses {r = r} h) =
+        absurd (not_both Redo r taken_is h)
+    step_once (redoes old tree rest mark taken_is opened is is_mark) (changes old' mark' taken_is' opened' makes' is_mark') =
+        elim makes' [ ]
+    step_once (redoes old tree rest mark taken_is opened is is_mark)
+        (redoes old' tree' rest' mark' taken_is' opened' is' is_mark') =
+        let same : old ≡ old' = some_once old old' s.opened opened opened' in
+        let both : tree ∷ rest ≡ tree' ∷ rest' = sym is ∙ is' in
+        let one : tree ≡ tree' = cc in
+        let more : rest ≡ rest' = cc in (
+          ap (λ (x : Opened). with_version s x tree (x.tree ∷ s.earlier) rest) same
+              ∙ ap (λ x. with_version s old' x (old'.tree ∷ s.earlier) rest) one
+              ∙ ap (λ x. with_version s old' tree' (old'.tree ∷ s.earlier) x) more,
+          ap marked (mark_once IsGood tree' mark mark' (subst (λ f. IsMarkBy IsGood f mark) one is_mark) is_mark'),
+        )
     step_once (shows old mark taken_is opened is_mark) (refuses {command = command} {r = r} h) =
         absurd (not_both command r taken_is h)
     step_once (shows old mark taken_is opened is_mark) (changes old' mark' taken_is' opened' makes' is_mark') =

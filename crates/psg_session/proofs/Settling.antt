@@ -30,7 +30,7 @@ abbrev plain_state : Option Opened → Path → List Fragment → List Fragment 
 plain_state opened cursor earlier later =
     record { opened = opened; cursor = cursor; earlier = earlier; later = later; saved = [] }
 
-same_state : (e : Editor) (opened : Option Opened) (cursor : Path) (earlier later : List Fragment)
+pub same_state : (e : Editor) (opened : Option Opened) (cursor : Path) (earlier later : List Fragment)
     → opened_of e.opened ≡ opened → e.cursor ≡ cursor → map tree_in e.history.earlier ≡ earlier
     → map tree_in e.history.later ≡ later → state_of e ≡ plain_state opened cursor earlier later
 same_state e opened cursor earlier later a b c d =

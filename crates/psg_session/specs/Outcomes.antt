@@ -1,5 +1,5 @@
 -- What the parts of a step answer.
-use Rattle.std.specs.Prelude.{ℕ, ◌≡◌, ◌⊎◌, ◌+◌, ◌≤◌, List, [], ◌∷◌, ◌++◌, length, Some, None, Option, Result, Ok, Err, take}
+use Rattle.std.specs.Prelude.{ℕ, ◌≡◌, ◌⊎◌, ◌+◌, ◌≤◌, List, [], ◌∷◌, ◌++◌, length, map, Some, None, Option, Result, Ok, Err, take}
 use Rattle.psg_terms.specs.Names.{Name}
 use Rattle.psg_grammar.specs.declared.types.Definition.{Definition}
 use Rattle.psg_grammar.specs.Fragments.{Fragment, children_of}
@@ -9,14 +9,15 @@ use Rattle.psg_cache.specs.Notes.{IsNoteOf, IsNoteFault}
 use Rattle.psg_cache.specs.Annotated.{Annotated, tree_in}
 use Rattle.psg_cache.specs.declared.note.NoteFault.{NoteFault}
 use Rattle.psg_cache.specs.declared.note.NoteFault.TheVariants as faults
+use Rattle.psg_history.specs.Versions.{Versions}
 use Rattle.psg_history.specs.declared.history.TheConstants.{VERSIONS}
 use Rattle.psg_script.specs.declared.command.Command.{Command}
-use Rattle.psg_script.specs.declared.command.Command.TheVariants.{New, Refine, Insert, Cut, Remove, Close, Reopen, Show, Own, Free}
+use Rattle.psg_script.specs.declared.command.Command.TheVariants.{New, Refine, Insert, Cut, Remove, Close, Reopen, Show, Own, Free, Undo, Redo}
 use Rattle.psg_script.specs.declared.command.Where.{Where}
 use Rattle.psg_session.specs.declared.editor.OpenedTree.{OpenedTree}
 use Rattle.psg_session.specs.declared.editor.Editor.{Editor}
 use Rattle.psg_session.specs.declared.editor.Outcome.{Outcome}
-use Rattle.psg_session.specs.declared.editor.Outcome.TheVariants.{Stays, Opens as OpensTree, Changes}
+use Rattle.psg_session.specs.declared.editor.Outcome.TheVariants.{Stays, Opens as OpensTree, Changes, Undoes, Redoes}
 use Rattle.psg_session.specs.declared.finding.Found.{Found}
 use Rattle.psg_session.specs.declared.judging.Trial.{Trial}
 use Rattle.psg_session.specs.declared.judging.Trial.TheVariants.{Opens, Grows, Closes, Loosens}
@@ -46,28 +47,59 @@ abbrev pub changed : State → Option Opened → Fragment → Path → State
 changed s None tree path = s
 changed s (Some old) tree path = with_change s old tree path
 
+-- The state in which the nearest earlier tree is opened, or the nearest later one; where there is none it stays.
+abbrev pub undone : State → Option Opened → List Fragment → Path → State
+undone s None earlier cursor = s
+undone s (Some old) [] cursor = s
+undone s (Some old) (tree ∷ rest) cursor = record {
+  opened = Some (record { kind = old.kind; tree = tree });
+  cursor = cursor;
+  earlier = rest;
+  later = old.tree ∷ s.later;
+  saved = s.saved;
+}
+
+abbrev pub redone : State → Option Opened → List Fragment → Path → State
+redone s None later cursor = s
+redone s (Some old) [] cursor = s
+redone s (Some old) (tree ∷ rest) cursor = record {
+  opened = Some (record { kind = old.kind; tree = tree });
+  cursor = cursor;
+  earlier = old.tree ∷ s.earlier;
+  later = rest;
+  saved = s.saved;
+}
+
 -- the plain state after the command
 abbrev pub after : Editor → Outcome → State
 after e (Stays reply) = state_of e
 after e (OpensTree held cursor mark) =
     record { opened = Some (plain held); cursor = cursor; earlier = []; later = []; saved = [] }
 after e (Changes note cursor mark) = changed (state_of e) (opened_of e.opened) (tree_in note) cursor
+after e (Undoes cursor mark) = undone (state_of e) (opened_of e.opened) (map tree_in e.history.earlier) cursor
+after e (Redoes cursor mark) = redone (state_of e) (opened_of e.opened) (map tree_in e.history.later) cursor
 
 abbrev pub reply_in : Outcome → Reply
 reply_in (Stays reply) = reply
 reply_in (OpensTree held cursor mark) = Marked mark
 reply_in (Changes note cursor mark) = Marked mark
+reply_in (Undoes cursor mark) = Marked mark
+reply_in (Redoes cursor mark) = Marked mark
 
 -- the editor stays
 abbrev pub IsStay : Outcome → Type 0
 IsStay (Stays reply) = Unit {0}
 IsStay (OpensTree held cursor mark) = ⊥
 IsStay (Changes note cursor mark) = ⊥
+IsStay (Undoes cursor mark) = ⊥
+IsStay (Redoes cursor mark) = ⊥
 
 -- a new version is one of the opened tree's kind
 abbrev pub IsFit : Definition → Option OpenedTree → Outcome → Type 0
 IsFit def opened (Stays reply) = Unit {0}
 IsFit def opened (OpensTree held cursor mark) = IsVersion def held.kind held.note
+IsFit def opened (Undoes cursor mark) = Unit {0}
+IsFit def opened (Redoes cursor mark) = Unit {0}
 IsFit def None (Changes note cursor mark) = ⊥
 IsFit def (Some held) (Changes note cursor mark) = IsVersion def held.kind note
 
@@ -83,6 +115,22 @@ IsGoneOn old new note cursor =
     ⊎ ((held : OpenedTree) × (old.opened ≡ Some held)
     × (new.opened ≡ Some (record { kind = held.kind; note = note })) × (new.cursor ≡ cursor)
     × (new.history.earlier ≡ take VERSIONS (held.note ∷ old.history.earlier)) × (new.history.later ≡ []))
+
+-- The editor stepped to another version. `from` is what a history keeps on the side to which it steps: the nearest note
+-- there is now opened. `to` is what it keeps on the other side: the note that was opened is now the nearest one there. The
+-- cursor is at the path. Where there is nothing to step to, the editor stays.
+abbrev pub HasStepped : (from to : Versions Annotated → List Annotated) → Editor → Editor → Path → Type 0
+HasStepped from to old new cursor =
+    (((old.opened ≡ None) ⊎ (from old.history ≡ [])) × (new ≡ old))
+    ⊎ ((held : OpenedTree) × (note : Annotated) × (old.opened ≡ Some held)
+    × (from old.history ≡ note ∷ from new.history) × (to new.history ≡ held.note ∷ to old.history)
+    × (new.opened ≡ Some (record { kind = held.kind; note = note })) × (new.cursor ≡ cursor))
+
+abbrev pub earlier_in : Versions Annotated → List Annotated
+earlier_in h = h.earlier
+
+abbrev pub later_in : Versions Annotated → List Annotated
+later_in h = h.later
 
 -- ---- the node that a command names
 
@@ -191,4 +239,6 @@ IsElse (New name) = ⊥
 IsElse Show = ⊥
 IsElse (Own place) = ⊥
 IsElse Free = ⊥
+IsElse Undo = ⊥
+IsElse Redo = ⊥
 IsElse _ = Unit {0}

@@ -59,3 +59,13 @@ with_change s old tree path = record {
   later = [];
   saved = s.saved;
 }
+
+-- Another version of the opened tree is opened, between these earlier and later ones.
+abbrev pub with_version : State → Opened → Fragment → List Fragment → List Fragment → State
+with_version s old tree earlier later = record {
+  opened = Some (record { kind = old.kind; tree = tree });
+  cursor = [];
+  earlier = earlier;
+  later = later;
+  saved = s.saved;
+}

@@ -21,7 +21,7 @@ use Rattle.psg_tree.specs.AbstractText.{abstract_text}
 use Rattle.psg_script.specs.declared.command.Where.{Where}
 use Rattle.psg_script.specs.declared.command.Command.{Command}
 use Rattle.psg_script.specs.declared.command.Command.TheVariants.{New, Goto, Refine, Insert, Cut, Remove, Close, Reopen, Over, Range, Show, Screen, Relation, Own, Menu, Names, Free, Undo, Redo, Save, Paste, Keep, Fetch}
-use Rattle.psg_session.specs.PlainState.{State, Opened, Answer, named_path, with_new, with_change}
+use Rattle.psg_session.specs.PlainState.{State, Opened, Answer, named_path, with_new, with_change, with_version}
 use Rattle.psg_session.specs.declared.refusal.Refusal.{Refusal}
 use Rattle.psg_session.specs.declared.refusal.Refusal.TheVariants.{NoCommand, NoNode, NotHole, Unknown, OtherPhylum, BadArguments, NoPlace, TooBig, TooDeep, TooWide, TooHeavy, Inadmissible, NoTokens, NoTree, NothingEarlier, NothingLater, NoFragment, ShelfFault, KeptUnreadable, NoRange, NoPlaceholder, NothingOpened, ShelfFull}
 use Rattle.psg_session.specs.Refusals.{Tests, done, test, Refuses, Passes, place_test}
@@ -193,8 +193,8 @@ module _ (def : Definition) (IsGood : Fragment → Type 0) where
   tests s answer (Names place k name) =
       unbuilt (at_place s place (unsaid (place_test k)
       (unsaid Unknown (unsaid OtherPhylum (unsaid BadArguments (unsaid TooWide done))))))
-  tests s answer Undo = unbuilt (test NothingOpened (s.opened ≡ None) (unsaid NothingEarlier done))
-  tests s answer Redo = unbuilt (test NothingOpened (s.opened ≡ None) (unsaid NothingLater done))
+  tests s answer Undo = test NothingOpened (s.opened ≡ None) (test NothingEarlier (s.earlier ≡ []) done)
+  tests s answer Redo = test NothingOpened (s.opened ≡ None) (test NothingLater (s.later ≡ []) done)
   tests s answer (Save name place) = unbuilt (at_place s place (unsaid ShelfFull done))
   tests s answer (Paste place k name) =
       unbuilt (test NothingOpened (s.opened ≡ None)
@@ -225,6 +225,12 @@ module _ (def : Definition) (IsGood : Fragment → Type 0) where
         → IsTaken s answer command → s.opened ≡ Some old
         → Makes def s command tree path → IsMarkBy IsGood tree mark
         → Steps s answer command (with_change s old tree path) (marked mark)
+    undoes : (old : Opened) (tree : Fragment) (rest : List Fragment) (mark : Mark)
+        → IsTaken s answer Undo → s.opened ≡ Some old → s.earlier ≡ tree ∷ rest → IsMarkBy IsGood tree mark
+        → Steps s answer Undo (with_version s old tree rest (old.tree ∷ s.later)) (marked mark)
+    redoes : (old : Opened) (tree : Fragment) (rest : List Fragment) (mark : Mark)
+        → IsTaken s answer Redo → s.opened ≡ Some old → s.later ≡ tree ∷ rest → IsMarkBy IsGood tree mark
+        → Steps s answer Redo (with_version s old tree (old.tree ∷ s.earlier) rest) (marked mark)
     shows : (old : Opened) (mark : Mark) → IsTaken s answer Show → s.opened ≡ Some old → IsMarkBy IsGood old.tree mark
         → Steps s answer Show s (shown (abstract_text def old.tree ∷ []) mark)
     owns : {place : Where} (old : Opened) (node : Fragment) (rows : List (List Term)) → IsTaken s answer (Own place)

@@ -17,6 +17,7 @@ use crate::noting::{note_after, note_mark, note_of};
 use crate::questions::{free, own, show};
 use crate::refusal::Refusal;
 use crate::replies::{Mark, Reply};
+use crate::versions::{redo, undo};
 use psg_cache::Note;
 use psg_grammar::{Kind, kind_named};
 use psg_history::History;
@@ -50,6 +51,10 @@ pub enum Outcome {
     Opens(OpenedTree, Path, Mark),
     /// The opened fragment has a new version.
     Changes(Note, Path, Mark),
+    /// The nearest earlier version is opened.
+    Undoes(Path, Mark),
+    /// The nearest later version is opened.
+    Redoes(Path, Mark),
 }
 
 impl Editor {
@@ -71,6 +76,14 @@ impl Editor {
             }
             Outcome::Changes(note, cursor, mark) => {
                 self.go_on(note, cursor);
+                Reply::Marked(mark)
+            }
+            Outcome::Undoes(cursor, mark) => {
+                self.go_back(cursor);
+                Reply::Marked(mark)
+            }
+            Outcome::Redoes(cursor, mark) => {
+                self.go_forward(cursor);
                 Reply::Marked(mark)
             }
         }
@@ -252,6 +265,14 @@ pub fn step<L: Ledger>(
         }
         Command::Free => {
             let outcome = free(alloc, language, editor)?;
+            Ok(outcome)
+        }
+        Command::Undo => {
+            let outcome = undo(alloc, language, editor)?;
+            Ok(outcome)
+        }
+        Command::Redo => {
+            let outcome = redo(alloc, language, editor)?;
             Ok(outcome)
         }
         _ => {
