@@ -30,3 +30,5 @@ pub mod ChangeCut
 pub mod ChangeRemove
 pub mod ChangeClose
 pub mod ChangeReopen
+pub mod Shelving
+pub mod ChangePaste

@@ -22,7 +22,7 @@ use Rattle.psg_session.specs.Outcomes.{after, earlier_in, later_in, HasStepped, 
 use Rattle.psg_session.specs.PlainState.{Opened, State, not_asked, with_version}
 use Rattle.psg_session.specs.PlainStep.{redoes, refuses, Steps, undoes}
 use Rattle.psg_session.specs.Replies.{marked}
-use Rattle.psg_session.specs.Sessions.{AreVersions, IsEditor, IsVersion, opened_of, plain, state_of}
+use Rattle.psg_session.specs.Sessions.{AreVersions, IsEditor, IsKept, IsVersion, opened_of, plain, state_of}
 use Rattle.psg_session.specs.Views.{mark_of}
 use Rattle.psg_session.proofs.Settling.{same_state}
 use Rattle.psg_session.proofs.StepLaws.{is_opened_by, not_opened, opened_plain}
@@ -52,9 +52,10 @@ module _ (old new : Editor) (cursor : Path) (mark : Mark) where
       ap state_of same
       ∙ sym (undone_nothing (state_of old) (opened_of old.opened) cursor)
       ∙ ap (λ ns. undone (state_of old) (opened_of old.opened) (map tree_in ns) cursor) (sym nothing)
-  back_state (inr (held, note, was, from, to, opened, there)) =
+  back_state (inr (held, note, was, from, to, opened, there, kept)) =
       same_state new (Some (record { kind = held.kind; tree = tree_in note })) cursor (map tree_in new.history.earlier)
-      (tree_in held.note ∷ map tree_in old.history.later) (ap opened_of opened) there refl (ap (map tree_in) to)
+      (tree_in held.note ∷ map tree_in old.history.later) old.saved (ap opened_of opened) there refl (ap (map tree_in) to)
+      kept
       ∙ ap (λ ns. undone (state_of old) (Some (plain held)) (map tree_in ns) cursor) (sym from)
       ∙ ap (λ (o : Option OpenedTree). undone (state_of old) (opened_of o) (map tree_in old.history.earlier) cursor)
       (sym was)
@@ -68,10 +69,10 @@ module _ (old new : Editor) (cursor : Path) (mark : Mark) where
       ap state_of same
       ∙ sym (redone_nothing (state_of old) (opened_of old.opened) cursor)
       ∙ ap (λ ns. redone (state_of old) (opened_of old.opened) (map tree_in ns) cursor) (sym nothing)
-  forward_state (inr (held, note, was, from, to, opened, there)) =
+  forward_state (inr (held, note, was, from, to, opened, there, kept)) =
       same_state new (Some (record { kind = held.kind; tree = tree_in note })) cursor
-      (tree_in held.note ∷ map tree_in old.history.earlier) (map tree_in new.history.later) (ap opened_of opened) there
-      (ap (map tree_in) to) refl
+      (tree_in held.note ∷ map tree_in old.history.earlier) (map tree_in new.history.later) old.saved
+      (ap opened_of opened) there (ap (map tree_in) to) refl kept
       ∙ ap (λ ns. redone (state_of old) (Some (plain held)) (map tree_in ns) cursor) (sym from)
       ∙ ap (λ (o : Option OpenedTree). redone (state_of old) (opened_of o) (map tree_in old.history.later) cursor)
       (sym was)
@@ -94,7 +95,7 @@ module _ (def : Definition) (held : OpenedTree) (note : Annotated) (opened : Opt
 module _ (old new : Editor) (cursor : Path) (def : Definition) (editor : IsEditor def old) where
   pub back_editor : HasStepped earlier_in later_in old new cursor → IsEditor def new
   back_editor (inl (why, same)) = subst (IsEditor def) (sym same) editor
-  back_editor (inr (held, note, was, from, to, opened, there)) =
+  back_editor (inr (held, note, was, from, to, opened, there, kept)) =
       let before = subst (λ o. AreVersions def o old.history.earlier) was editor.earlier in
       let behind = subst (λ o. AreVersions def o old.history.later) was editor.later in
       record {
@@ -102,11 +103,12 @@ module _ (old new : Editor) (cursor : Path) (def : Definition) (editor : IsEdito
             old.history.later new.history.later from to before behind;
         later = to_versions def held note new.opened opened old.history.earlier new.history.earlier old.history.later
             new.history.later from to before behind;
+        saved = subst (AllByRecursion (IsKept def)) (sym kept) editor.saved;
       }
 
   pub forward_editor : HasStepped later_in earlier_in old new cursor → IsEditor def new
   forward_editor (inl (why, same)) = subst (IsEditor def) (sym same) editor
-  forward_editor (inr (held, note, was, from, to, opened, there)) =
+  forward_editor (inr (held, note, was, from, to, opened, there, kept)) =
       let before = subst (λ o. AreVersions def o old.history.earlier) was editor.earlier in
       let behind = subst (λ o. AreVersions def o old.history.later) was editor.later in
       record {
@@ -114,6 +116,7 @@ module _ (old new : Editor) (cursor : Path) (def : Definition) (editor : IsEdito
             old.history.earlier new.history.earlier from to behind before;
         later = from_versions def held note new.opened opened old.history.later new.history.later
             old.history.earlier new.history.earlier from to behind before;
+        saved = subst (AllByRecursion (IsKept def)) (sym kept) editor.saved;
       }
 
 -- ---- what the commands do

@@ -1,17 +1,12 @@
 -- The state of the plain editor: trees and a path, and nothing that is made of them.
 use Rattle.std.specs.Prelude.{ℕ, List, [], ◌∷◌, take, Option, None, Some}
-use Rattle.psg_terms.specs.Names.{Name}
 use Rattle.psg_grammar.specs.declared.types.Kind.{Kind}
 use Rattle.psg_grammar.specs.Fragments.{Fragment}
 use Rattle.psg_grammar.specs.Paths.{Path}
 use Rattle.psg_script.specs.declared.command.Where.{Where}
 use Rattle.psg_script.specs.declared.command.Where.TheVariants.{Cursor, At}
-
--- a saved fragment
-pub record Saved : Type 0 where
-  pub name : Name
-  pub kind : Kind
-  pub tree : Fragment
+use Rattle.psg_session.specs.declared.saved.Saved.{Saved}
+use Rattle.psg_session.specs.Shelf.{saved_with}
 
 -- the opened fragment with its kind
 pub record Opened : Type 0 where
@@ -68,4 +63,14 @@ with_version s old tree earlier later = record {
   earlier = earlier;
   later = later;
   saved = s.saved;
+}
+
+-- one more fragment is saved
+abbrev pub with_saved : State → Saved → State
+with_saved s new = record {
+  opened = s.opened;
+  cursor = s.cursor;
+  earlier = s.earlier;
+  later = s.later;
+  saved = saved_with s.saved new;
 }

@@ -14,15 +14,17 @@ use crate::insertion::blank;
 use crate::judging::{Trial, judged};
 use crate::language::Language;
 use crate::noting::{note_after, note_mark, note_of};
+use crate::pasting::paste;
 use crate::questions::{free, own, show};
 use crate::refusal::Refusal;
 use crate::replies::{Mark, Reply};
+use crate::saved::{Saved, save};
 use crate::versions::{redo, undo};
 use psg_cache::Note;
 use psg_grammar::{Kind, kind_named};
 use psg_history::History;
 use psg_script::Command;
-use psg_terms::{Steps, Txt};
+use psg_terms::{Seq, Steps, Txt};
 use psg_tree::Path;
 use std::alloc::{AllocError, Global};
 use std::sync::ledger::Ledger;
@@ -40,6 +42,7 @@ pub struct Editor {
     pub opened: Option<OpenedTree>,
     pub cursor: Path,
     pub history: History<Note>,
+    pub saved: Seq<Saved>,
 }
 
 /// What a command does. All that it needs memory for is in it.
@@ -55,6 +58,8 @@ pub enum Outcome {
     Undoes(Path, Mark),
     /// The nearest later version is opened.
     Redoes(Path, Mark),
+    /// These are the saved fragments now, and the lines are the reply.
+    Saves(Seq<Saved>, Vec<String>),
 }
 
 impl Editor {
@@ -85,6 +90,10 @@ impl Editor {
             Outcome::Redoes(cursor, mark) => {
                 self.go_forward(cursor);
                 Reply::Marked(mark)
+            }
+            Outcome::Saves(saved, lines) => {
+                self.saved = saved;
+                Reply::Answered(lines)
             }
         }
     }
@@ -173,6 +182,10 @@ fn planned(
         }
         Command::Reopen { at } => {
             let plan = reopen(alloc, language, editor, at)?;
+            Ok(Some(plan))
+        }
+        Command::Paste { at, place, name } => {
+            let plan = paste(alloc, language, editor, at, *place, name)?;
             Ok(Some(plan))
         }
         _ => Ok(None),
@@ -273,6 +286,10 @@ pub fn step<L: Ledger>(
         }
         Command::Redo => {
             let outcome = redo(alloc, language, editor)?;
+            Ok(outcome)
+        }
+        Command::Save { name, at } => {
+            let outcome = save(alloc, language, editor, name, at)?;
             Ok(outcome)
         }
         _ => {
