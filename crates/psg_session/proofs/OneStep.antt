@@ -161,11 +161,11 @@ module _ (def : Definition) (IsGood : Fragment → Type 0) (s : State) (answer :
     )
     makes_once (by_paste_in {place = at} {k = k} {name = name} old x opened saved)
         (by_paste_in old' y opened' saved') = (
-      change_made_once old old' (inserted k x.tree) (named_path at s.cursor) opened opened'
-          ∙ ap (λ (z : Saved). change_at (inserted k z.tree) (named_path at s.cursor) old'.tree)
-          (some_once x y (saved_at s.saved name) saved saved'),
-      refl,
-    )
+          change_made_once old old' (inserted k x.tree) (named_path at s.cursor) opened opened'
+              ∙ ap (λ (z : Saved). change_at (inserted k z.tree) (named_path at s.cursor) old'.tree)
+              (some_once x y (saved_at s.saved name) saved saved'),
+          refl,
+        )
 
     -- the lines of a node are told by one of its relations
     lines_once : (old old' : Opened) (node node' : Fragment) (path : Path) (rows rows' : List (List Term))

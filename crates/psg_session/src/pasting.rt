@@ -31,11 +31,7 @@ pub struct Source<'a> {
 
 /// Finds the saved fragment of the name and the node of the place. It is refused with `NothingOpened` where nothing is
 /// opened, with `NoFragment` where no saved fragment has the name, and with `NoNode` where no node is there.
-fn source_of<'a>(
-    editor: &'a Editor,
-    place: &'a Where,
-    name: &Txt,
-) -> Result<Source<'a>, Refusal>
+fn source_of<'a>(editor: &'a Editor, place: &'a Where, name: &Txt) -> Result<Source<'a>, Refusal>
     ensures ok { IfOk result (IsSource editor.now place.now name.now) }
     ensures err { IfErr result (IsNoSource editor.now place.now name.now) }
 {

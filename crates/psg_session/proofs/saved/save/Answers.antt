@@ -17,7 +17,7 @@ pub returns-then-is_full : goal.returns-then-is_full
 returns-then-is_full c =
     save_full c.args.language.now.definition c.args.editor.now c.args.place.now c.args.name.now c.in-Ok.found
     c.in-Ok.ensures.ok
-    (subst (λ (xs : List Saved). IsFull xs c.args.name.now) c.as_slice.ensures (c.is_full.ensures.0 c.if-is_full.true))
+    (subst (λ (xs : List Saved). IsFull xs c.args.name.now) c.as_slice-shelf.ensures (c.is_full.ensures.0 c.if-is_full.true))
 
 pub kind_of-kind-requires : goal.kind_of-kind-requires
 kind_of-kind-requires c =
@@ -31,11 +31,11 @@ returns c =
     let done = save_done c.args.language.now.definition c.args.editor.now c.args.place.now c.args.name.now
     c.in-Ok.found c.in-Ok.ensures.ok
     (λ full. true≢false (sym (c.is_full.ensures.1
-    (subst (λ (xs : List Saved). IsFull xs c.args.name.now) (sym c.as_slice.ensures) full)) ∙ c.if-is_full.false))
+    (subst (λ (xs : List Saved). IsFull xs c.args.name.now) (sym c.as_slice-shelf.ensures) full)) ∙ c.if-is_full.false))
     c.requires.editor c.kind_of-kind.result c.kind_of-kind.ensures new
     (ap (λ (n : Name). record { name = n; kind = c.kind_of-kind.result; tree = c.in_ok-tree.tree }) c.in_ok-own_name.ensures
     ∙ ap (λ (t : Fragment). record { name = c.args.name.now; kind = c.kind_of-kind.result; tree = t }) c.in_ok-tree.ensures)
     c.in_ok-saved.saved
-    (c.in_ok-saved.ensures ∙ ap (λ (xs : List Saved). saved_with xs new) c.as_slice.ensures)
+    (c.in_ok-saved.ensures ∙ ap (λ (xs : List Saved). saved_with xs new) c.as_slice-shelf.ensures)
     (map string_bytes c.in_ok-lines.lines.items) c.in_ok-lines.ensures in
     record { steps = done.0; fit = done.1 }

@@ -1,4 +1,4 @@
-use Rattle.std.proofs.Common.{sym, ap, subst, ◌∙◌}
+use Rattle.std.proofs.Common.{refl, sym, ap, subst, ◌∙◌}
 use Rattle.std.specs.Prelude.{IsNone, option_copied}
 use Rattle.psg_session.proofs.Options.{only_none}
 use Rattle.psg_session.proofs.Stepping.{redo_moved, redo_nothing, redo_unopened}
@@ -13,7 +13,7 @@ pub returns-in_default-nearest_later : goal.returns-in_default-nearest_later
 returns-in_default-nearest_later c =
     redo_nothing c.args.language.now.definition c.args.editor.now c.in-Some.field-0 c.in-Some.is
     (c.nearest_later.ensures.none.0
-    (subst IsNone (sym (only_none c.nearest_later.result c.in_default-nearest_later.not-Some)) tt))
+    (subst IsNone (sym (only_none c.nearest_later.result c.in_default-nearest_later.not-Some)) refl))
 
 pub returns : goal.returns
 returns c =

@@ -1,4 +1,4 @@
-use Rattle.std.proofs.Common.{sym, ap, subst, ◌∙◌}
+use Rattle.std.proofs.Common.{refl, sym, ap, subst, ◌∙◌}
 use Rattle.std.specs.Prelude.{IsNone, option_copied}
 use Rattle.psg_session.proofs.Options.{only_none}
 use Rattle.psg_session.proofs.Stepping.{undo_moved, undo_nothing, undo_unopened}
@@ -13,7 +13,7 @@ pub returns-in_default-nearest_earlier : goal.returns-in_default-nearest_earlier
 returns-in_default-nearest_earlier c =
     undo_nothing c.args.language.now.definition c.args.editor.now c.in-Some.field-0 c.in-Some.is
     (c.nearest_earlier.ensures.none.0
-    (subst IsNone (sym (only_none c.nearest_earlier.result c.in_default-nearest_earlier.not-Some)) tt))
+    (subst IsNone (sym (only_none c.nearest_earlier.result c.in_default-nearest_earlier.not-Some)) refl))
 
 pub returns : goal.returns
 returns c =
