@@ -1,5 +1,5 @@
 -- What a paste is answered, before its tree is tested.
-use Rattle.std.proofs.Common.{◌≡◌, ◌⊎◌, ◌↔◌, ◌==◌, Bool, IsTrue, inl, inr, ℕ, ◌<◌, ◌≤◌, ◌+◌, Option, Some, None, List, [], ◌∷◌, ◌++◌, length, refl, sym, ◌∙◌, ap, subst, arith}
+use Rattle.std.proofs.Common.{◌≡◌, ◌↔◌, ◌==◌, Bool, IsTrue, inl, inr, ℕ, ◌<◌, ◌≤◌, ◌+◌, Option, Some, None, List, [], ◌∷◌, ◌++◌, length, refl, sym, ◌∙◌, ap, subst, arith}
 use Rattle.std.proofs.lemmas.Option.{none-some}
 use Rattle.psg_terms.specs.Names.{Name}
 use Rattle.psg_grammar.specs.declared.types.Kind.{Kind}
@@ -27,11 +27,11 @@ use Rattle.psg_session.specs.declared.saved.Saved.{Saved}
 use Rattle.psg_session.specs.declared.editor.OpenedTree.{OpenedTree}
 use Rattle.psg_session.specs.Outcomes.{IsListed, IsMade, IsNotFound, IsNoSource, IsPlan, IsSource, made_of}
 use Rattle.psg_session.specs.PlainState.{Opened, named_path}
-use Rattle.psg_session.specs.PlainStep.{AtNode, by_change, by_paste, by_paste_in, Gives, HasNoRoom, IsEmptyPlace, IsListOf, IsOtherSaved, Makes, MayTake}
-use Rattle.psg_session.specs.Sessions.{IsEditor, IsKept, plain, state_of}
+use Rattle.psg_session.specs.PlainStep.{AtNode, by_change, by_paste, by_paste_in, Gives, HasNoRoom, IsEmptyPlace, IsOtherSaved, Makes, MayTake}
+use Rattle.psg_session.specs.Sessions.{IsEditor, plain, state_of}
 use Rattle.psg_session.specs.Shelf.{saved_at}
 use Rattle.psg_session.specs.Ticks.{above, OfSaved}
-use Rattle.psg_session.proofs.ChangeLaws.{cost_here, found_shaped, kind_is, may_put, one_list_kind, put_is}
+use Rattle.psg_session.proofs.ChangeLaws.{cost_here, kind_is, may_put, one_list_kind, put_is}
 use Rattle.psg_session.proofs.Options.{empty_is}
 use Rattle.psg_session.proofs.Shelving.{kept_at}
 use Rattle.psg_session.proofs.StepLaws.{at_node, has_node, is_opened, is_opened_by, is_there, not_opened, opened_is, opened_plain, path_is, same_old, some_once}

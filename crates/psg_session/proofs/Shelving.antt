@@ -1,18 +1,17 @@
 -- Saved fragments, and what a save does.
-use Rattle.std.proofs.Common.{◌≡◌, inl, inr, Bool, true, false, ℕ, List, [], ◌∷◌, ◌++◌, Some, None, Option, refl, sym, ◌∙◌, ap, subst}
+use Rattle.std.proofs.Common.{◌≡◌, inl, inr, Bool, true, false, ℕ, List, [], ◌∷◌, ◌++◌, Some, refl, sym, subst}
 use Rattle.std.specs.List.{AllByRecursion}
 use Rattle.std.specs.Prelude.{bytes_eq, codes, cond}
 use Rattle.std.proofs.lemmas.Option.{none-some}
 use Rattle.psg_terms.specs.Names.{Name}
 use Rattle.psg_grammar.specs.declared.types.Kind.{Kind}
 use Rattle.psg_grammar.specs.declared.types.Definition.{Definition}
-use Rattle.psg_grammar.specs.Fragments.{Fragment}
 use Rattle.psg_grammar.specs.Kinds.{IsOfKind}
 use Rattle.psg_cache.specs.Shaped.{IsShaped}
 use Rattle.psg_script.specs.declared.command.Where.{Where}
 use Rattle.psg_script.specs.declared.command.Command.TheVariants.{Save}
 use Rattle.psg_session.specs.declared.editor.Editor.{Editor}
-use Rattle.psg_session.specs.declared.editor.Outcome.TheVariants.{Stays, Saves}
+use Rattle.psg_session.specs.declared.editor.Outcome.TheVariants.{Stays}
 use Rattle.psg_session.specs.declared.finding.Found.{Found}
 use Rattle.psg_session.specs.declared.refusal.Refusal.{Refusal}
 use Rattle.psg_session.specs.declared.refusal.Refusal.TheVariants.{ShelfFull}
@@ -20,7 +19,7 @@ use Rattle.psg_session.specs.declared.replies.Reply.TheVariants.{Refused}
 use Rattle.psg_session.specs.declared.saved.Saved.{Saved}
 use Rattle.psg_session.specs.Good.{IsGoodIn}
 use Rattle.psg_session.specs.Outcomes.{IsFound, IsNotFound, IsOutcome, shelved}
-use Rattle.psg_session.specs.PlainState.{State, not_asked, with_saved}
+use Rattle.psg_session.specs.PlainState.{not_asked, with_saved}
 use Rattle.psg_session.specs.PlainStep.{refuses, saves, Steps}
 use Rattle.psg_session.specs.Replies.{answered}
 use Rattle.psg_session.specs.Sessions.{IsEditor, IsKept, plain, state_of}

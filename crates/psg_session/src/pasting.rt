@@ -75,8 +75,10 @@ fn is_kind(kind: Kind, wanted: Kind) -> bool
     kind == wanted
 }
 
-/// Plans a paste: the saved fragment of the name in place of a placeholder or an empty list, or, where a number is given,
-/// as a new element before this place of the list.
+/// Plans a paste: the saved fragment of the name in place of a placeholder or an empty list. Where a number is given,
+/// it is a new element before this place of the list. A plan refuses with the first of `NothingOpened`, `NoFragment`,
+/// `NoNode`, `NotHole` (or `NoPlace`, where a number is given) and `OtherPhylum` that holds. It fails where memory runs
+/// out.
 pub fn paste(
     alloc: Global,
     language: &Language,

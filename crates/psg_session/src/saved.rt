@@ -121,8 +121,9 @@ fn saved_lines(alloc: Global, name: &Txt) -> Result<Vec<String>, AllocError>
     Ok(lines)
 }
 
-/// Finds what `save` does: the node at the place is saved under the name. It is refused with `NothingOpened` or `NoNode`
-/// where there is no node, and with `ShelfFull` where there is no room for the name. It fails where memory runs out.
+/// Finds what `save` does: the node at the place is saved under the name. It is refused with `NothingOpened` or
+/// `NoNode` where there is no node, and with `ShelfFull` where there is no room for the name. It evaluates nothing,
+/// makes one more owner of each saved fragment, and fails where memory runs out.
 pub fn save(
     alloc: Global,
     language: &Language,

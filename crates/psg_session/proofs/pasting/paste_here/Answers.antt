@@ -1,4 +1,4 @@
-use Rattle.std.proofs.Common.{Some, None, sym, subst, ◌∙◌, true≢false}
+use Rattle.std.proofs.Common.{None, sym, subst, ◌∙◌, true≢false}
 use Rattle.psg_grammar.specs.declared.types.Kind.{Kind}
 use Rattle.psg_grammar.specs.Kinds.{IsOfKind}
 use Rattle.psg_script.specs.declared.command.Command.TheVariants.{Paste}

@@ -1,6 +1,5 @@
 use Rattle.std.proofs.Common.{inl, inr, refl, sym, ap, ◌∙◌, List, Some}
 use Rattle.std.specs.Prelude.{option_copied}
-use Rattle.std.proofs.lemmas.Option.{none-some}
 use Rattle.psg_session.specs.declared.saved.Saved.{Saved}
 use Rattle.psg_session.specs.Shelf.{saved_at}
 use Rattle.psg_session.proofs.Options.{only_none}

@@ -1,4 +1,4 @@
-use Rattle.std.proofs.Common.{◌≡◌, ◌∙◌, List, ap, map, sym, subst, true≢false}
+use Rattle.std.proofs.Common.{◌∙◌, List, ap, map, sym, subst, true≢false}
 use Rattle.std.specs.Prelude.{string_bytes}
 use Rattle.psg_terms.specs.Names.{Name}
 use Rattle.psg_grammar.specs.Fragments.{Fragment}
