@@ -12,7 +12,7 @@ use Rattle.psg_grammar.specs.declared.types.Definition.{Definition}
 use Rattle.psg_script.specs.declared.command.Command.{Command}
 use Rattle.psg_session.specs.declared.editor.Editor.{Editor}
 use Rattle.psg_session.specs.declared.editor.Outcome.{Outcome}
-use Rattle.psg_session.specs.declared.editor.Outcome.TheVariants.{Stays, Opens as OpensTree, Changes}
+use Rattle.psg_session.specs.declared.editor.Outcome.TheVariants.{Stays, Opens as OpensTree, Changes, Undoes, Redoes, Saves}
 use Rattle.psg_session.specs.declared.replies.Reply.{Reply}
 use Rattle.psg_session.specs.Applied.{HasApplied, HasStopped, IsRefusal}
 use Rattle.psg_session.specs.Exchanges.{nobody, Outside}
@@ -60,6 +60,9 @@ refusal_stays outcome reply told h = go outcome (subst (λ (r : Reply). IsRefusa
   go (Stays r) h = tt
   go (OpensTree held cursor mark) h = h
   go (Changes note cursor mark) h = h
+  go (Undoes cursor mark) h = h
+  go (Redoes cursor mark) h = h
+  go (Saves saved lines) h = h
 
 -- the note of what is opened is a note of its tree
 pub note_here : (p : Parts) → IsSession p → (held : OpenedTree) → p.editor.opened ≡ Some held

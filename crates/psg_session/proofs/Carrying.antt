@@ -23,6 +23,7 @@ use Rattle.psg_session.specs.declared.judging.Trial.TheVariants.{Opens, Grows, C
 use Rattle.psg_session.specs.declared.refusal.Refusal.{Refusal}
 use Rattle.psg_session.specs.declared.refusal.Refusal.TheVariants.{NoPlaceholder, Unknown}
 use Rattle.psg_session.specs.declared.replies.Mark.{Mark}
+use Rattle.psg_session.specs.declared.saved.Saved.{Saved}
 use Rattle.psg_session.specs.declared.replies.Reply.TheVariants.{Refused}
 use Rattle.psg_session.specs.Edits.{cost_of, edited, MayEdit}
 use Rattle.psg_session.specs.Good.{IsGoodIn}
@@ -154,13 +155,13 @@ refused_plan def e command r is = record { steps = refuses is; fit = tt }
 -- ---- a new fragment
 
 -- the state with this tree alone
-abbrev with_tree : Kind → Fragment → Path → State
-with_tree kind f c = record {
+abbrev with_tree : List Saved → Kind → Fragment → Path → State
+with_tree saved kind f c = record {
   opened = Some (record { kind = kind; tree = f });
   cursor = c;
   earlier = [];
   later = [];
-  saved = [];
+  saved = saved;
 }
 
 module _ (def : Definition) (e : Editor) (name : Name) where
@@ -221,9 +222,9 @@ module _ (def : Definition) (e : Editor) (name : Name) where
           opens kind (mark_of mark) (knows, (usual_all, taken)) named marks in
           record {
             steps = subst (λ (c : Path). Steps def (IsGoodIn def) (state_of e) not_asked (New name)
-                (with_tree kind (tree_in note) c) (marked (mark_of mark))) (sym top)
+                (with_tree e.saved kind (tree_in note) c) (marked (mark_of mark))) (sym top)
                 (subst (λ (f : Fragment). Steps def (IsGoodIn def) (state_of e) not_asked (New name)
-                (with_tree kind f []) (marked (mark_of mark))) (sym noted.tree) step);
+                (with_tree e.saved kind f []) (marked (mark_of mark))) (sym noted.tree) step);
             fit = record {
               shaped = subst (λ f. IsShaped def f kind) (sym noted.tree) shaped;
               noted = subst (λ f. IsNoteOf def f note) (sym noted.tree) noted;

@@ -4,6 +4,7 @@ pub mod EditLaws
 pub mod Ticking
 pub mod Carrying
 pub mod Settling
+pub mod Stepping
 pub mod Applying
 pub mod Unbuilt
 pub mod Opening
@@ -29,3 +30,5 @@ pub mod ChangeCut
 pub mod ChangeRemove
 pub mod ChangeClose
 pub mod ChangeReopen
+pub mod Shelving
+pub mod ChangePaste

@@ -7,7 +7,7 @@ use Rattle.psg_grammar.specs.declared.types.Definition.{Definition}
 use Rattle.psg_grammar.specs.Fragments.{Fragment}
 use Rattle.psg_grammar.specs.Insertion.{blank, Leaf, with_operator}
 use Rattle.psg_grammar.specs.Marks.{Chosen, nothing, taken, passed, Mark, good, wrong, path_of, IsMarkBy}
-use Rattle.psg_grammar.specs.Paths.{Path, node_at, change_at, removed, ended, replaced}
+use Rattle.psg_grammar.specs.Paths.{Path, node_at, change_at, inserted, removed, ended, replaced}
 use Rattle.psg_grammar.specs.Regions.{names_of}
 use Rattle.psg_grammar.specs.Relations.{IsRelationOf}
 use Rattle.psg_grammar.specs.Sound.{IsSound}
@@ -18,16 +18,18 @@ use Rattle.psg_lexis.proofs.Laws.{only_tokens}
 use Rattle.psg_grammar.specs.Kinds.{IsOfKind}
 use Rattle.psg_cache.proofs.ShapedTrees.{kind_once as node_kind_once}
 use Rattle.psg_script.specs.declared.command.Command.{Command}
-use Rattle.psg_script.specs.declared.command.Command.TheVariants.{Own, Free}
+use Rattle.psg_script.specs.declared.command.Command.TheVariants.{Own, Free, Undo, Redo, Save}
 use Rattle.psg_session.specs.Answers.{free_names, names_line, rows_lines}
 use Rattle.psg_session.specs.Leaves.{given, GivesLeaves}
-use Rattle.psg_session.specs.PlainState.{State, Opened, Answer, named_path, with_new, with_change}
+use Rattle.psg_session.specs.PlainState.{State, Opened, Answer, named_path, with_new, with_change, with_version, with_saved}
 use Rattle.psg_session.specs.declared.refusal.Refusal.{Refusal}
+use Rattle.psg_session.specs.declared.saved.Saved.{Saved}
+use Rattle.psg_session.specs.Shelf.{saved_at}
 use Rattle.psg_session.specs.Laws.{HasOneStep}
 use Rattle.psg_session.specs.Refusals.{Tests, done, test, Refuses, Passes}
 use Rattle.psg_session.proofs.StepLaws.{some_once}
 use Rattle.psg_session.specs.Replies.{Reply, refused, answered, marked, shown}
-use Rattle.psg_session.specs.PlainStep.{HasName, IsOperator, Makes, by_refine, by_insert, by_cut, by_remove, by_close, by_reopen, tests, IsRefused, IsTaken, Steps, refuses, opens, changes, shows, owns, frees}
+use Rattle.psg_session.specs.PlainStep.{HasName, IsOperator, Makes, by_refine, by_insert, by_cut, by_remove, by_close, by_reopen, by_paste, by_paste_in, tests, IsRefused, IsTaken, Steps, refuses, opens, changes, undoes, redoes, saves, shows, owns, frees}
 use Rattle.psg_session.proofs.RowLines.{relation_lines}
 
 -- ---- marks
@@ -151,6 +153,19 @@ module _ (def : Definition) (IsGood : Fragment → Type 0) (s : State) (answer :
         (change_made_once old old' (ended false) (named_path at s.cursor) opened opened', refl)
     makes_once (by_reopen {place = at} old opened) (by_reopen old' opened') =
         (change_made_once old old' (ended true) (named_path at s.cursor) opened opened', refl)
+    makes_once (by_paste {place = at} {name = name} old x opened saved) (by_paste old' y opened' saved') = (
+      change_made_once old old' (λ _. x.tree) (named_path at s.cursor) opened opened'
+          ∙ ap (λ (z : Saved). replaced (named_path at s.cursor) z.tree old'.tree)
+          (some_once x y (saved_at s.saved name) saved saved'),
+      refl,
+    )
+    makes_once (by_paste_in {place = at} {k = k} {name = name} old x opened saved)
+        (by_paste_in old' y opened' saved') = (
+          change_made_once old old' (inserted k x.tree) (named_path at s.cursor) opened opened'
+              ∙ ap (λ (z : Saved). change_at (inserted k z.tree) (named_path at s.cursor) old'.tree)
+              (some_once x y (saved_at s.saved name) saved saved'),
+          refl,
+        )
 
     -- the lines of a node are told by one of its relations
     lines_once : (old old' : Opened) (node node' : Fragment) (path : Path) (rows rows' : List (List Term))
@@ -173,6 +188,12 @@ module _ (def : Definition) (IsGood : Fragment → Type 0) (s : State) (answer :
     step_once (refuses {command = command} {r = r} h) (opens kind mark taken_is named is_mark) =
         absurd (not_both command r taken_is h)
     step_once (refuses {command = command} {r = r} h) (changes old mark taken_is opened makes is_mark) =
+        absurd (not_both command r taken_is h)
+    step_once (refuses {command = command} {r = r} h) (undoes old tree rest mark taken_is opened is is_mark) =
+        absurd (not_both command r taken_is h)
+    step_once (refuses {command = command} {r = r} h) (redoes old tree rest mark taken_is opened is is_mark) =
+        absurd (not_both command r taken_is h)
+    step_once (refuses {command = command} {r = r} h) (saves old node kind taken_is opened here is) =
         absurd (not_both command r taken_is h)
     step_once (refuses {command = command} {r = r} h) (shows old mark taken_is opened is_mark) =
         absurd (not_both command r taken_is h)
@@ -205,11 +226,59 @@ module _ (def : Definition) (IsGood : Fragment → Type 0) (s : State) (answer :
               (with_change s old' tree') both.1,
           ap marked (mark_once IsGood tree' mark mark' is_mark'' is_mark'),
         )
+    step_once (changes old mark taken_is opened makes is_mark) (undoes old' tree' rest' mark' taken_is' opened' is' is_mark') =
+        elim makes [ ]
+    step_once (changes old mark taken_is opened makes is_mark) (redoes old' tree' rest' mark' taken_is' opened' is' is_mark') =
+        elim makes [ ]
+    step_once (changes old mark taken_is opened makes is_mark) (saves old' node' kind' taken_is' opened' here' is') =
+        elim makes [ ]
     step_once (changes old mark taken_is opened makes is_mark) (shows old' mark' taken_is' opened' is_mark') =
         elim makes [ ]
     step_once (changes old mark taken_is opened makes is_mark) (owns old' node' rows' taken_is' opened' at' rel') =
         elim makes [ ]
     step_once (changes old mark taken_is opened makes is_mark) (frees old' taken_is' opened') = elim makes [ ]
+    step_once (undoes old tree rest mark taken_is opened is is_mark) (refuses {r = r} h) =
+        absurd (not_both Undo r taken_is h)
+    step_once (undoes old tree rest mark taken_is opened is is_mark) (changes old' mark' taken_is' opened' makes' is_mark') =
+        elim makes' [ ]
+    step_once (undoes old tree rest mark taken_is opened is is_mark)
+        (undoes old' tree' rest' mark' taken_is' opened' is' is_mark') =
+        let same : old ≡ old' = some_once old old' s.opened opened opened' in
+        let both : tree ∷ rest ≡ tree' ∷ rest' = sym is ∙ is' in
+        let one : tree ≡ tree' = cc in
+        let more : rest ≡ rest' = cc in (
+          ap (λ (x : Opened). with_version s x tree rest (x.tree ∷ s.later)) same
+              ∙ ap (λ x. with_version s old' x rest (old'.tree ∷ s.later)) one
+              ∙ ap (λ x. with_version s old' tree' x (old'.tree ∷ s.later)) more,
+          ap marked (mark_once IsGood tree' mark mark' (subst (λ f. IsMarkBy IsGood f mark) one is_mark) is_mark'),
+        )
+    step_once (redoes old tree rest mark taken_is opened is is_mark) (refuses {r = r} h) =
+        absurd (not_both Redo r taken_is h)
+    step_once (redoes old tree rest mark taken_is opened is is_mark) (changes old' mark' taken_is' opened' makes' is_mark') =
+        elim makes' [ ]
+    step_once (redoes old tree rest mark taken_is opened is is_mark)
+        (redoes old' tree' rest' mark' taken_is' opened' is' is_mark') =
+        let same : old ≡ old' = some_once old old' s.opened opened opened' in
+        let both : tree ∷ rest ≡ tree' ∷ rest' = sym is ∙ is' in
+        let one : tree ≡ tree' = cc in
+        let more : rest ≡ rest' = cc in (
+          ap (λ (x : Opened). with_version s x tree (x.tree ∷ s.earlier) rest) same
+              ∙ ap (λ x. with_version s old' x (old'.tree ∷ s.earlier) rest) one
+              ∙ ap (λ x. with_version s old' tree' (old'.tree ∷ s.earlier) x) more,
+          ap marked (mark_once IsGood tree' mark mark' (subst (λ f. IsMarkBy IsGood f mark) one is_mark) is_mark'),
+        )
+    step_once (saves {name = name} {place = place} old node kind taken_is opened here is) (refuses {r = r} h) =
+        absurd (not_both (Save name place) r taken_is h)
+    step_once (saves old node kind taken_is opened here is) (changes old' mark' taken_is' opened' makes' is_mark') =
+        elim makes' [ ]
+    step_once (saves {name = name} {place = place} old node kind taken_is opened here is)
+        (saves old' node' kind' taken_is' opened' here' is') =
+        let one : node ≡ node' = node_once old old' node node' (named_path place s.cursor) opened opened' here here' in
+        let same : kind ≡ kind' = node_kind_once def node' kind kind' (subst (λ f. IsOfKind def f kind) one is) is' in (
+          ap (λ f. with_saved s (record { name = name; kind = kind; tree = f })) one
+              ∙ ap (λ x. with_saved s (record { name = name; kind = x; tree = node' })) same,
+          refl,
+        )
     step_once (shows old mark taken_is opened is_mark) (refuses {command = command} {r = r} h) =
         absurd (not_both command r taken_is h)
     step_once (shows old mark taken_is opened is_mark) (changes old' mark' taken_is' opened' makes' is_mark') =

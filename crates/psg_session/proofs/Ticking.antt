@@ -1,5 +1,5 @@
 -- How many evaluations were counted.
-use Rattle.std.proofs.Common.{Bool, ◌≡◌, inl, inr, ℕ, ◌+◌, ◌≤◌, List, [], refl, sym, ap, ap₂, ◌∙◌, subst, arith}
+use Rattle.std.proofs.Common.{Bool, ◌≡◌, inl, inr, ℕ, ◌+◌, ◌≤◌, List, [], Some, None, refl, sym, ap, ap₂, ◌∙◌, subst, arith}
 use Rattle.psg_terms.specs.Names.{Name}
 use Rattle.psg_grammar.specs.declared.types.Kind.{Kind}
 use Rattle.psg_grammar.specs.declared.types.Kind.TheVariants as kinds
@@ -51,7 +51,8 @@ module _ (def : Definition) (s : State) where
   none_taken Undo = refl
   none_taken Redo = refl
   none_taken (Save name place) = refl
-  none_taken (Paste place k name) = refl
+  none_taken (Paste place None name) = inl refl
+  none_taken (Paste place (Some k) name) = inl refl
   none_taken (Keep name file) = refl
   none_taken (Fetch file) = refl
 

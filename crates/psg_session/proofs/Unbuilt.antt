@@ -35,35 +35,36 @@ module _ (def : Definition) (e : Editor) where
   unbuilt_refused (Relation place) other never = record { steps = refuses (inl (tt, refl)); fit = tt }
   unbuilt_refused (Menu place k) other never = record { steps = refuses (inl (tt, refl)); fit = tt }
   unbuilt_refused (Names place k name) other never = record { steps = refuses (inl (tt, refl)); fit = tt }
-  unbuilt_refused Undo other never = record { steps = refuses (inl (tt, refl)); fit = tt }
-  unbuilt_refused Redo other never = record { steps = refuses (inl (tt, refl)); fit = tt }
-  unbuilt_refused (Save name place) other never = record { steps = refuses (inl (tt, refl)); fit = tt }
-  unbuilt_refused (Paste place k name) other never = record { steps = refuses (inl (tt, refl)); fit = tt }
+  unbuilt_refused Undo other never = absurd other
+  unbuilt_refused Redo other never = absurd other
+  unbuilt_refused (Save name place) other never = absurd other
+  unbuilt_refused (Paste place k name) other never = absurd (never tt)
   unbuilt_refused (Keep name file) other never = record { steps = refuses (inl (tt, refl)); fit = tt }
   unbuilt_refused (Fetch file) other never = record { steps = refuses (inl (tt, refl)); fit = tt }
 
 pub else_by : (command : Command) → ((name : Name) → command ≡ New name → ⊥) → (command ≡ Show → ⊥)
-    → ((place : Where) → command ≡ Own place → ⊥) → (command ≡ Free → ⊥) → IsElse command
-else_by (New name) a b c d = a name refl
-else_by Show a b c d = b refl
-else_by (Own place) a b c d = c place refl
-else_by Free a b c d = d refl
-else_by (Refine place name args) a b c d = tt
-else_by (Insert place k name args) a b c d = tt
-else_by (Cut place) a b c d = tt
-else_by (Remove place k) a b c d = tt
-else_by (Close place) a b c d = tt
-else_by (Reopen place) a b c d = tt
-else_by (Goto place) a b c d = tt
-else_by (Over place text) a b c d = tt
-else_by (Range start end text) a b c d = tt
-else_by (Screen top left rows cols) a b c d = tt
-else_by (Relation place) a b c d = tt
-else_by (Menu place k) a b c d = tt
-else_by (Names place k name) a b c d = tt
-else_by Undo a b c d = tt
-else_by Redo a b c d = tt
-else_by (Save name place) a b c d = tt
-else_by (Paste place k name) a b c d = tt
-else_by (Keep name file) a b c d = tt
-else_by (Fetch file) a b c d = tt
+    → ((place : Where) → command ≡ Own place → ⊥) → (command ≡ Free → ⊥) → (command ≡ Undo → ⊥) → (command ≡ Redo → ⊥)
+    → ((name : Name) (place : Where) → command ≡ Save name place → ⊥) → IsElse command
+else_by (New name) a b c d u r w = a name refl
+else_by Show a b c d u r w = b refl
+else_by (Own place) a b c d u r w = c place refl
+else_by Free a b c d u r w = d refl
+else_by (Refine place name args) a b c d u r w = tt
+else_by (Insert place k name args) a b c d u r w = tt
+else_by (Cut place) a b c d u r w = tt
+else_by (Remove place k) a b c d u r w = tt
+else_by (Close place) a b c d u r w = tt
+else_by (Reopen place) a b c d u r w = tt
+else_by (Goto place) a b c d u r w = tt
+else_by (Over place text) a b c d u r w = tt
+else_by (Range start end text) a b c d u r w = tt
+else_by (Screen top left rows cols) a b c d u r w = tt
+else_by (Relation place) a b c d u r w = tt
+else_by (Menu place k) a b c d u r w = tt
+else_by (Names place k name) a b c d u r w = tt
+else_by Undo a b c d u r w = u refl
+else_by Redo a b c d u r w = r refl
+else_by (Save name place) a b c d u r w = w name place refl
+else_by (Paste place k name) a b c d u r w = tt
+else_by (Keep name file) a b c d u r w = tt
+else_by (Fetch file) a b c d u r w = tt

@@ -1,3 +1,4 @@
+pub mod Shelf
 pub mod PlainState
 pub mod Marked
 pub mod Refusals

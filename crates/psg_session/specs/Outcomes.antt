@@ -1,5 +1,6 @@
 -- What the parts of a step answer.
-use Rattle.std.specs.Prelude.{ℕ, ◌≡◌, ◌⊎◌, ◌+◌, ◌≤◌, List, [], ◌∷◌, ◌++◌, length, Some, None, Option, Result, Ok, Err, take}
+use Rattle.std.specs.Prelude.{ℕ, ◌≡◌, ◌⊎◌, ◌+◌, ◌≤◌, List, [], ◌∷◌, ◌++◌, length, map, Some, None, Option, Result, Ok, Err, take}
+use Rattle.std.specs.List.{AllByRecursion}
 use Rattle.psg_terms.specs.Names.{Name}
 use Rattle.psg_grammar.specs.declared.types.Definition.{Definition}
 use Rattle.psg_grammar.specs.Fragments.{Fragment, children_of}
@@ -9,15 +10,18 @@ use Rattle.psg_cache.specs.Notes.{IsNoteOf, IsNoteFault}
 use Rattle.psg_cache.specs.Annotated.{Annotated, tree_in}
 use Rattle.psg_cache.specs.declared.note.NoteFault.{NoteFault}
 use Rattle.psg_cache.specs.declared.note.NoteFault.TheVariants as faults
+use Rattle.psg_history.specs.Versions.{Versions}
 use Rattle.psg_history.specs.declared.history.TheConstants.{VERSIONS}
 use Rattle.psg_script.specs.declared.command.Command.{Command}
-use Rattle.psg_script.specs.declared.command.Command.TheVariants.{New, Refine, Insert, Cut, Remove, Close, Reopen, Show, Own, Free}
+use Rattle.psg_script.specs.declared.command.Command.TheVariants.{New, Refine, Insert, Cut, Remove, Close, Reopen, Show, Own, Free, Undo, Redo, Save, Paste}
 use Rattle.psg_script.specs.declared.command.Where.{Where}
 use Rattle.psg_session.specs.declared.editor.OpenedTree.{OpenedTree}
 use Rattle.psg_session.specs.declared.editor.Editor.{Editor}
 use Rattle.psg_session.specs.declared.editor.Outcome.{Outcome}
-use Rattle.psg_session.specs.declared.editor.Outcome.TheVariants.{Stays, Opens as OpensTree, Changes}
+use Rattle.psg_session.specs.declared.editor.Outcome.TheVariants.{Stays, Opens as OpensTree, Changes, Undoes, Redoes, Saves}
 use Rattle.psg_session.specs.declared.finding.Found.{Found}
+use Rattle.psg_session.specs.declared.pasting.Source.{Source}
+use Rattle.psg_session.specs.Shelf.{saved_at}
 use Rattle.psg_session.specs.declared.judging.Trial.{Trial}
 use Rattle.psg_session.specs.declared.judging.Trial.TheVariants.{Opens, Grows, Closes, Loosens}
 use Rattle.psg_session.specs.declared.changes.Listed.{Listed}
@@ -25,10 +29,11 @@ use Rattle.psg_session.specs.declared.changes.Made.{Made}
 use Rattle.psg_session.specs.declared.changes.Plan.{Plan}
 use Rattle.psg_session.specs.declared.changes.Plan.TheVariants.{RefusedBy, Makes as Plans}
 use Rattle.psg_session.specs.declared.refusal.Refusal.{Refusal}
-use Rattle.psg_session.specs.declared.refusal.Refusal.TheVariants.{NoNode, NothingOpened, TooBig, TooDeep, TooHeavy, TooWide, Unknown, OtherPhylum, BadArguments}
+use Rattle.psg_session.specs.declared.refusal.Refusal.TheVariants.{NoFragment, NoNode, NothingOpened, TooBig, TooDeep, TooHeavy, TooWide, Unknown, OtherPhylum, BadArguments}
 use Rattle.psg_session.specs.declared.replies.Reply.{Reply}
-use Rattle.psg_session.specs.declared.replies.Reply.TheVariants.{Marked}
+use Rattle.psg_session.specs.declared.replies.Reply.TheVariants.{Answered, Marked}
 use Rattle.psg_session.specs.declared.edits.Edit.{Edit}
+use Rattle.psg_session.specs.declared.saved.Saved.{Saved}
 use Rattle.psg_session.specs.Edits.{MayEdit, cost_of, edited}
 use Rattle.psg_session.specs.Good.{IsGoodIn}
 use Rattle.psg_session.specs.PlainState.{Answer, Opened, State, not_asked, named_path, with_change}
@@ -36,7 +41,7 @@ use Rattle.psg_session.specs.Leaves.{GivesLeaves}
 use Rattle.psg_session.specs.PlainStep.{Gives, IsRefused, IsTaken, Makes, IsOperator, IsOfPhylum, IsListOf, OfResult, Steps, end_of, opening, growing, closing, loosening}
 use Rattle.psg_session.specs.Refusals.{Tests, Refuses, Passes}
 use Rattle.psg_session.specs.Ticks.{MayTick}
-use Rattle.psg_session.specs.Sessions.{IsVersion, opened_of, plain, state_of}
+use Rattle.psg_session.specs.Sessions.{IsKept, IsVersion, opened_of, plain, state_of}
 use Rattle.psg_session.specs.Views.{reply_of}
 
 -- ---- what a command does to the editor
@@ -46,28 +51,67 @@ abbrev pub changed : State → Option Opened → Fragment → Path → State
 changed s None tree path = s
 changed s (Some old) tree path = with_change s old tree path
 
+-- The state in which the nearest earlier tree is opened, or the nearest later one; where there is none it stays.
+abbrev pub undone : State → Option Opened → List Fragment → Path → State
+undone s None earlier cursor = s
+undone s (Some old) [] cursor = s
+undone s (Some old) (tree ∷ rest) cursor = record {
+  opened = Some (record { kind = old.kind; tree = tree });
+  cursor = cursor;
+  earlier = rest;
+  later = old.tree ∷ s.later;
+  saved = s.saved;
+}
+
+abbrev pub redone : State → Option Opened → List Fragment → Path → State
+redone s None later cursor = s
+redone s (Some old) [] cursor = s
+redone s (Some old) (tree ∷ rest) cursor = record {
+  opened = Some (record { kind = old.kind; tree = tree });
+  cursor = cursor;
+  earlier = old.tree ∷ s.earlier;
+  later = rest;
+  saved = s.saved;
+}
+
+-- the state with these saved fragments
+abbrev pub shelved : State → List Saved → State
+shelved s saved = record { opened = s.opened; cursor = s.cursor; earlier = s.earlier; later = s.later; saved = saved }
+
 -- the plain state after the command
 abbrev pub after : Editor → Outcome → State
 after e (Stays reply) = state_of e
 after e (OpensTree held cursor mark) =
-    record { opened = Some (plain held); cursor = cursor; earlier = []; later = []; saved = [] }
+    record { opened = Some (plain held); cursor = cursor; earlier = []; later = []; saved = e.saved }
 after e (Changes note cursor mark) = changed (state_of e) (opened_of e.opened) (tree_in note) cursor
+after e (Undoes cursor mark) = undone (state_of e) (opened_of e.opened) (map tree_in e.history.earlier) cursor
+after e (Redoes cursor mark) = redone (state_of e) (opened_of e.opened) (map tree_in e.history.later) cursor
+after e (Saves saved lines) = shelved (state_of e) saved
 
 abbrev pub reply_in : Outcome → Reply
 reply_in (Stays reply) = reply
 reply_in (OpensTree held cursor mark) = Marked mark
 reply_in (Changes note cursor mark) = Marked mark
+reply_in (Undoes cursor mark) = Marked mark
+reply_in (Redoes cursor mark) = Marked mark
+reply_in (Saves saved lines) = Answered lines
 
 -- the editor stays
 abbrev pub IsStay : Outcome → Type 0
 IsStay (Stays reply) = Unit {0}
 IsStay (OpensTree held cursor mark) = ⊥
 IsStay (Changes note cursor mark) = ⊥
+IsStay (Undoes cursor mark) = ⊥
+IsStay (Redoes cursor mark) = ⊥
+IsStay (Saves saved lines) = ⊥
 
--- a new version is one of the opened tree's kind
+-- A new version is one of the opened tree's kind, and saved fragments are trees of their kinds.
 abbrev pub IsFit : Definition → Option OpenedTree → Outcome → Type 0
 IsFit def opened (Stays reply) = Unit {0}
 IsFit def opened (OpensTree held cursor mark) = IsVersion def held.kind held.note
+IsFit def opened (Undoes cursor mark) = Unit {0}
+IsFit def opened (Redoes cursor mark) = Unit {0}
+IsFit def opened (Saves saved lines) = AllByRecursion (IsKept def) saved
 IsFit def None (Changes note cursor mark) = ⊥
 IsFit def (Some held) (Changes note cursor mark) = IsVersion def held.kind note
 
@@ -82,7 +126,24 @@ IsGoneOn old new note cursor =
     ((old.opened ≡ None) × (new ≡ old))
     ⊎ ((held : OpenedTree) × (old.opened ≡ Some held)
     × (new.opened ≡ Some (record { kind = held.kind; note = note })) × (new.cursor ≡ cursor)
-    × (new.history.earlier ≡ take VERSIONS (held.note ∷ old.history.earlier)) × (new.history.later ≡ []))
+    × (new.history.earlier ≡ take VERSIONS (held.note ∷ old.history.earlier)) × (new.history.later ≡ [])
+    × (new.saved ≡ old.saved))
+
+-- The editor stepped to another version. `from` is what a history keeps on the side to which it steps: the nearest note
+-- there is now opened. `to` is what it keeps on the other side: the note that was opened is now the nearest one there. The
+-- cursor is at the path. Where there is nothing to step to, the editor stays.
+abbrev pub HasStepped : (from to : Versions Annotated → List Annotated) → Editor → Editor → Path → Type 0
+HasStepped from to old new cursor =
+    (((old.opened ≡ None) ⊎ (from old.history ≡ [])) × (new ≡ old))
+    ⊎ ((held : OpenedTree) × (note : Annotated) × (old.opened ≡ Some held)
+    × (from old.history ≡ note ∷ from new.history) × (to new.history ≡ held.note ∷ to old.history)
+    × (new.opened ≡ Some (record { kind = held.kind; note = note })) × (new.cursor ≡ cursor) × (new.saved ≡ old.saved))
+
+abbrev pub earlier_in : Versions Annotated → List Annotated
+earlier_in h = h.earlier
+
+abbrev pub later_in : Versions Annotated → List Annotated
+later_in h = h.later
 
 -- ---- the node that a command names
 
@@ -98,6 +159,20 @@ IsNotFound e place r =
     ((r ≡ NothingOpened) × (e.opened ≡ None))
     ⊎ ((r ≡ NoNode) × (held : OpenedTree) × (e.opened ≡ Some held)
     × (node_at (tree_in held.note) (named_path place e.cursor) ≡ None))
+
+-- the saved fragment of the name, and the node of the place
+pub record IsSource (e : Editor) (place : Where) (name : Name) (x : Source) : Type 0 where
+  pub saved : saved_at e.saved name ≡ Some x.saved.now
+  pub found : IsFound e place x.found
+
+-- nothing is opened, or no saved fragment has the name, or there is no node at the place
+abbrev pub IsNoSource : Editor → Where → Name → Refusal → Type 0
+IsNoSource e place name r =
+    ((r ≡ NothingOpened) × (e.opened ≡ None))
+    ⊎ ((held : OpenedTree) × (e.opened ≡ Some held)
+    × (((r ≡ NoFragment) × (saved_at e.saved name ≡ None))
+    ⊎ ((r ≡ NoNode) × (x : Saved) × (saved_at e.saved name ≡ Some x)
+    × (node_at (tree_in held.note) (named_path place e.cursor) ≡ None))))
 
 -- ---- the tests of a tree
 
@@ -183,6 +258,7 @@ IsChanging (Cut place) = Unit {0}
 IsChanging (Remove place k) = Unit {0}
 IsChanging (Close place) = Unit {0}
 IsChanging (Reopen place) = Unit {0}
+IsChanging (Paste place k name) = Unit {0}
 IsChanging _ = ⊥
 
 -- the commands that neither open a fragment nor ask about it
@@ -191,4 +267,7 @@ IsElse (New name) = ⊥
 IsElse Show = ⊥
 IsElse (Own place) = ⊥
 IsElse Free = ⊥
+IsElse Undo = ⊥
+IsElse Redo = ⊥
+IsElse (Save name place) = ⊥
 IsElse _ = Unit {0}

@@ -1,17 +1,12 @@
 -- The state of the plain editor: trees and a path, and nothing that is made of them.
 use Rattle.std.specs.Prelude.{ℕ, List, [], ◌∷◌, take, Option, None, Some}
-use Rattle.psg_terms.specs.Names.{Name}
 use Rattle.psg_grammar.specs.declared.types.Kind.{Kind}
 use Rattle.psg_grammar.specs.Fragments.{Fragment}
 use Rattle.psg_grammar.specs.Paths.{Path}
 use Rattle.psg_script.specs.declared.command.Where.{Where}
 use Rattle.psg_script.specs.declared.command.Where.TheVariants.{Cursor, At}
-
--- a saved fragment
-pub record Saved : Type 0 where
-  pub name : Name
-  pub kind : Kind
-  pub tree : Fragment
+use Rattle.psg_session.specs.declared.saved.Saved.{Saved}
+use Rattle.psg_session.specs.Shelf.{saved_with}
 
 -- the opened fragment with its kind
 pub record Opened : Type 0 where
@@ -58,4 +53,24 @@ with_change s old tree path = record {
   earlier = take most_versions (old.tree ∷ s.earlier);
   later = [];
   saved = s.saved;
+}
+
+-- Another version of the opened tree is opened, between these earlier and later ones.
+abbrev pub with_version : State → Opened → Fragment → List Fragment → List Fragment → State
+with_version s old tree earlier later = record {
+  opened = Some (record { kind = old.kind; tree = tree });
+  cursor = [];
+  earlier = earlier;
+  later = later;
+  saved = s.saved;
+}
+
+-- one more fragment is saved
+abbrev pub with_saved : State → Saved → State
+with_saved s new = record {
+  opened = s.opened;
+  cursor = s.cursor;
+  earlier = s.earlier;
+  later = s.later;
+  saved = saved_with s.saved new;
 }

@@ -1,5 +1,5 @@
 -- What the plain editor does at a command: the first of the command's tests that holds refuses it, otherwise it is done.
-use Rattle.std.specs.Prelude.{ℕ, ◌≡◌, ◌<◌, ◌≤◌, ◌⊎◌, Bool, true, false, List, [], ◌∷◌, ◌++◌, length, Option, Some, None, slice_get}
+use Rattle.std.specs.Prelude.{ℕ, ◌≡◌, ◌<◌, ◌≤◌, ◌⊎◌, Bool, true, false, List, [], ◌∷◌, ◌++◌, length, codes, Option, Some, None, slice_get}
 use Rattle.psg_terms.specs.Names.{Name}
 use Rattle.psg_terms.specs.Terms.{Term}
 use Rattle.psg_grammar.specs.declared.types.Kind.{Kind}
@@ -9,7 +9,7 @@ use Rattle.psg_grammar.specs.declared.types.Operator.{Operator}
 use Rattle.psg_grammar.specs.declared.types.Definition.{Definition}
 use Rattle.psg_grammar.specs.Declaring.{is_declaring}
 use Rattle.psg_grammar.specs.Fragments.{Fragment, hole, ending, cell, children_of}
-use Rattle.psg_grammar.specs.Paths.{Path, node_at, change_at, replaced, removed, ended, IsList}
+use Rattle.psg_grammar.specs.Paths.{Path, node_at, change_at, replaced, inserted, removed, ended, IsList}
 use Rattle.psg_grammar.specs.Insertion.{Leaf, blank, with_operator}
 use Rattle.psg_grammar.specs.Kinds.{kind_name_of, op_name_of, IsOfKind}
 use Rattle.psg_grammar.specs.Regions.{names_of}
@@ -21,7 +21,9 @@ use Rattle.psg_tree.specs.AbstractText.{abstract_text}
 use Rattle.psg_script.specs.declared.command.Where.{Where}
 use Rattle.psg_script.specs.declared.command.Command.{Command}
 use Rattle.psg_script.specs.declared.command.Command.TheVariants.{New, Goto, Refine, Insert, Cut, Remove, Close, Reopen, Over, Range, Show, Screen, Relation, Own, Menu, Names, Free, Undo, Redo, Save, Paste, Keep, Fetch}
-use Rattle.psg_session.specs.PlainState.{State, Opened, Answer, named_path, with_new, with_change}
+use Rattle.psg_session.specs.PlainState.{State, Opened, Answer, named_path, with_new, with_change, with_version, with_saved}
+use Rattle.psg_session.specs.declared.saved.Saved.{Saved}
+use Rattle.psg_session.specs.Shelf.{saved_at, IsFull}
 use Rattle.psg_session.specs.declared.refusal.Refusal.{Refusal}
 use Rattle.psg_session.specs.declared.refusal.Refusal.TheVariants.{NoCommand, NoNode, NotHole, Unknown, OtherPhylum, BadArguments, NoPlace, TooBig, TooDeep, TooWide, TooHeavy, Inadmissible, NoTokens, NoTree, NothingEarlier, NothingLater, NoFragment, ShelfFault, KeptUnreadable, NoRange, NoPlaceholder, NothingOpened, ShelfFull}
 use Rattle.psg_session.specs.Refusals.{Tests, done, test, Refuses, Passes, place_test}
@@ -65,6 +67,21 @@ module _ (def : Definition) where
   abbrev pub MayReopen : Fragment → Type 0
   MayReopen node = (list : ListKind) × IsListOf node list × (list.unfinished ≡ true) × (end_of node ≡ Some false)
 
+  -- a placeholder, or a list without elements
+  abbrev pub IsEmptyPlace : Fragment → Type 0
+  IsEmptyPlace node = ((p : ℕ) × (node ≡ hole p)) ⊎ (IsList node × (children_of node ≡ []))
+
+  -- The node has no room for a saved fragment: in its own place, or as a new element.
+  abbrev pub HasNoRoom : Option ℕ → Fragment → Type 0
+  HasNoRoom None node = IsEmptyPlace node → ⊥
+  HasNoRoom (Some k) node = (IsList node → ⊥) ⊎ (length (children_of node) < k)
+
+  -- The kind that a saved fragment must have at the node: the node's own, or, for a new element, the phylum of the list's
+  -- elements.
+  abbrev pub MayTake : Option ℕ → Fragment → Kind → Type 0
+  MayTake None node kind = IsOfKind def node kind
+  MayTake (Some k) node kind = (list : ListKind) × IsListOf node list × (kind ≡ kinds.Phylum list.element)
+
   -- the opened fragment, if there is one, has the property with the node at the place
   abbrev pub AtNode : State → Where → (Opened → Fragment → Type 0) → Type 0
   AtNode s place P = (old : Opened) × (s.opened ≡ Some old) × (node : Fragment) × (node_at old.tree (named_path place s.cursor) ≡ Some node) × P old node
@@ -76,6 +93,11 @@ module _ (def : Definition) where
   -- the operator of the name is not of the phylum that is wanted at the place
   abbrev pub IsOther : State → Where → Option ℕ → Name → Type 0
   IsOther s place k name = AtNode s place (λ old node. (p : ℕ) (o : ℕ) → IsWanted k node p → IsOperator o name → IsOfPhylum o p → ⊥)
+
+  -- the saved fragment of the name is of another kind than the place
+  abbrev pub IsOtherSaved : State → Where → Option ℕ → Name → Type 0
+  IsOtherSaved s place k name =
+      AtNode s place (λ old node. (x : Saved) → saved_at s.saved name ≡ Some x → MayTake k node x.kind → ⊥)
 
   abbrev pub GivesNone : Name → List ℕ → Type 0
   GivesNone name args = (o : ℕ) (leaves : List Leaf) → IsOperator o name → GivesLeaves def o args leaves → ⊥
@@ -95,6 +117,10 @@ module _ (def : Definition) where
         → Makes s (Close place) (change_at (ended false) (named_path place s.cursor) old.tree) (named_path place s.cursor)
     by_reopen : {place : Where} (old : Opened) → s.opened ≡ Some old
         → Makes s (Reopen place) (change_at (ended true) (named_path place s.cursor) old.tree) (named_path place s.cursor)
+    by_paste : {place : Where} {name : Name} (old : Opened) (x : Saved) → s.opened ≡ Some old → saved_at s.saved name ≡ Some x
+        → Makes s (Paste place None name) (replaced (named_path place s.cursor) x.tree old.tree) (named_path place s.cursor)
+    by_paste_in : {place : Where} {k : ℕ} {name : Name} (old : Opened) (x : Saved) → s.opened ≡ Some old → saved_at s.saved name ≡ Some x
+        → Makes s (Paste place (Some k) name) (change_at (inserted k x.tree) (named_path place s.cursor) old.tree) (named_path place s.cursor ++ k ∷ [])
 
   -- what a command gives before it is tested: what a change makes, or the new tree of a kind
   pub data Gives (s : State) : Command → Fragment → Type 0 where
@@ -193,14 +219,16 @@ module _ (def : Definition) (IsGood : Fragment → Type 0) where
   tests s answer (Names place k name) =
       unbuilt (at_place s place (unsaid (place_test k)
       (unsaid Unknown (unsaid OtherPhylum (unsaid BadArguments (unsaid TooWide done))))))
-  tests s answer Undo = unbuilt (test NothingOpened (s.opened ≡ None) (unsaid NothingEarlier done))
-  tests s answer Redo = unbuilt (test NothingOpened (s.opened ≡ None) (unsaid NothingLater done))
-  tests s answer (Save name place) = unbuilt (at_place s place (unsaid ShelfFull done))
+  tests s answer Undo = test NothingOpened (s.opened ≡ None) (test NothingEarlier (s.earlier ≡ []) done)
+  tests s answer Redo = test NothingOpened (s.opened ≡ None) (test NothingLater (s.later ≡ []) done)
+  tests s answer (Save name place) = at_place s place (test ShelfFull (IsFull s.saved name) done)
   tests s answer (Paste place k name) =
-      unbuilt (test NothingOpened (s.opened ≡ None)
-      (unsaid NoFragment
+      test NothingOpened (s.opened ≡ None)
+      (test NoFragment (saved_at s.saved name ≡ None)
       (test NoNode (IsNoNode def s place)
-      (unsaid (place_test k) (unsaid OtherPhylum (growing (OfResult def s (Paste place k name))))))))
+      (test (place_test k) (AtNode def s place (λ old node. HasNoRoom def k node))
+      (test OtherPhylum (IsOtherSaved def s place k name)
+      (growing (OfResult def s (Paste place k name)))))))
   tests s answer (Keep name file) = unbuilt (unsaid NoFragment (unsaid TooBig (unsaid ShelfFault done)))
   tests s answer (Fetch file) =
       unbuilt (unsaid ShelfFault (unsaid KeptUnreadable (unsaid TooBig (unsaid ShelfFull done))))
@@ -225,6 +253,17 @@ module _ (def : Definition) (IsGood : Fragment → Type 0) where
         → IsTaken s answer command → s.opened ≡ Some old
         → Makes def s command tree path → IsMarkBy IsGood tree mark
         → Steps s answer command (with_change s old tree path) (marked mark)
+    undoes : (old : Opened) (tree : Fragment) (rest : List Fragment) (mark : Mark)
+        → IsTaken s answer Undo → s.opened ≡ Some old → s.earlier ≡ tree ∷ rest → IsMarkBy IsGood tree mark
+        → Steps s answer Undo (with_version s old tree rest (old.tree ∷ s.later)) (marked mark)
+    redoes : (old : Opened) (tree : Fragment) (rest : List Fragment) (mark : Mark)
+        → IsTaken s answer Redo → s.opened ≡ Some old → s.later ≡ tree ∷ rest → IsMarkBy IsGood tree mark
+        → Steps s answer Redo (with_version s old tree (old.tree ∷ s.earlier) rest) (marked mark)
+    saves : {name : Name} {place : Where} (old : Opened) (node : Fragment) (kind : Kind)
+        → IsTaken s answer (Save name place) → s.opened ≡ Some old
+        → node_at old.tree (named_path place s.cursor) ≡ Some node → IsOfKind def node kind
+        → Steps s answer (Save name place) (with_saved s (record { name = name; kind = kind; tree = node }))
+        (answered ((codes "saved " ++ name) ∷ []))
     shows : (old : Opened) (mark : Mark) → IsTaken s answer Show → s.opened ≡ Some old → IsMarkBy IsGood old.tree mark
         → Steps s answer Show s (shown (abstract_text def old.tree ∷ []) mark)
     owns : {place : Where} (old : Opened) (node : Fragment) (rows : List (List Term)) → IsTaken s answer (Own place)

@@ -9,6 +9,7 @@ use Rattle.psg_cache.specs.Shaped.{IsShaped}
 use Rattle.psg_cache.specs.Annotated.{Annotated, tree_in}
 use Rattle.psg_session.specs.declared.editor.Editor.{Editor}
 use Rattle.psg_session.specs.declared.editor.OpenedTree.{OpenedTree}
+use Rattle.psg_session.specs.declared.saved.Saved.{Saved}
 use Rattle.psg_session.specs.declared.session.Parts.{Parts}
 use Rattle.psg_session.specs.PlainState.{State, Opened}
 use Rattle.psg_session.specs.Views.{IsLanguage}
@@ -21,14 +22,14 @@ abbrev pub opened_of : Option OpenedTree → Option Opened
 opened_of None = None
 opened_of (Some held) = Some (plain held)
 
--- The plain state that the editor is in. No command saves a fragment yet.
+-- The plain state that the editor is in.
 abbrev pub state_of : Editor → State
 state_of e = record {
   opened = opened_of e.opened;
   cursor = e.cursor;
   earlier = map tree_in e.history.earlier;
   later = map tree_in e.history.later;
-  saved = [];
+  saved = e.saved;
 }
 
 module _ (def : Definition) where
@@ -42,10 +43,15 @@ module _ (def : Definition) where
   AreVersions None versions = versions ≡ []
   AreVersions (Some held) versions = IsVersion held.kind held.note × AllByRecursion (IsVersion held.kind) versions
 
-  -- the earlier and the later trees are versions of the opened one
+  -- a tree of its kind
+  abbrev pub IsKept : Saved → Type 0
+  IsKept x = IsShaped def x.tree x.kind
+
+  -- The earlier and the later trees are versions of the opened one. The saved ones are trees of their kinds.
   pub record IsEditor (e : Editor) : Type 0 where
     pub earlier : AreVersions e.opened e.history.earlier
     pub later : AreVersions e.opened e.history.later
+    pub saved : AllByRecursion IsKept e.saved
 
 -- a language, and an editor of its fragments
 pub record IsSession (p : Parts) : Type 0 where

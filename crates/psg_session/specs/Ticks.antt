@@ -1,6 +1,6 @@
 -- How many evaluations a command may take: those of what is new, and of the nodes and list suffixes above the place. The list
 -- that is finished, or goes on, counts whole.
-use Rattle.std.specs.Prelude.{ℕ, ◌≡◌, ◌≤◌, ◌⊎◌, ◌+◌, List}
+use Rattle.std.specs.Prelude.{ℕ, ◌≡◌, ◌≤◌, ◌⊎◌, ◌+◌, List, Some, None}
 use Rattle.psg_terms.specs.Names.{Name}
 use Rattle.psg_grammar.specs.declared.types.Definition.{Definition}
 use Rattle.psg_grammar.specs.Fragments.{Fragment}
@@ -12,6 +12,8 @@ use Rattle.psg_script.specs.declared.command.Command.TheVariants.{New, Goto, Ref
 use Rattle.psg_session.specs.Leaves.{GivesLeaves}
 use Rattle.psg_session.specs.PlainState.{State, Opened, named_path}
 use Rattle.psg_session.specs.PlainStep.{AtNode, IsOperator}
+use Rattle.psg_session.specs.Shelf.{saved_at}
+use Rattle.psg_session.specs.declared.saved.Saved.{Saved}
 
 module _ (def : Definition) (s : State) where
   -- the evaluations of the nodes above the place
@@ -26,6 +28,10 @@ module _ (def : Definition) (s : State) where
   abbrev pub OfFresh : Name → List ℕ → (Fragment → Type 0) → Type 0
   OfFresh name args P =
       (o : ℕ) × (leaves : List Leaf) × IsOperator def o name × GivesLeaves def o args leaves × P (fresh_operator def o leaves)
+
+  -- what is said of the saved fragment of the name
+  abbrev pub OfSaved : Name → (Fragment → Type 0) → Type 0
+  OfSaved name P = (x : Saved) × (saved_at s.saved name ≡ Some x) × P x.tree
 
   -- so many evaluations are within the command's bound
   abbrev pub MayTick : Command → ℕ → Type 0
@@ -51,7 +57,10 @@ module _ (def : Definition) (s : State) where
   MayTick Undo n = n ≡ 0
   MayTick Redo n = n ≡ 0
   MayTick (Save name place) n = n ≡ 0
-  MayTick (Paste place k name) n = n ≡ 0
+  MayTick (Paste place None name) n =
+      AtMost place (λ old node m. OfSaved name (λ new. m ≤ work_of new + above old place)) n
+  MayTick (Paste place (Some k) name) n =
+      AtMost place (λ old node m. OfSaved name (λ new. m ≤ work_of new + (k + 1) + above old place)) n
   MayTick (Keep name file) n = n ≡ 0
   MayTick (Fetch file) n = n ≡ 0
 

@@ -42,7 +42,7 @@ pub enum Plan {
 }
 
 /// Gives the phylum of the placeholder that the tree is, if it is one.
-fn hole_phylum(tree: &Tree) -> Option<u32>
+pub fn hole_phylum(tree: &Tree) -> Option<u32>
     ensures some { IfSome result (λ p. tree.now ≡ hole p) }
     ensures none { IfNone result ((p : ℕ) → tree.now ≡ hole p → ⊥) }
 {
@@ -54,14 +54,14 @@ fn hole_phylum(tree: &Tree) -> Option<u32>
 
 /// A list's kind with its number of elements, and whether it is unfinished.
 #[derive(Clone, Copy)]
-struct Listed<'a> {
-    kind: &'a ListKind,
-    elements: usize,
-    unfinished: bool,
+pub struct Listed<'a> {
+    pub kind: &'a ListKind,
+    pub elements: usize,
+    pub unfinished: bool,
 }
 
 /// Gives the list that the tree is, if it is one.
-fn as_list<'a>(definition: &'a Definition, tree: &Tree) -> Option<Listed<'a>>
+pub fn as_list<'a>(definition: &'a Definition, tree: &Tree) -> Option<Listed<'a>>
     requires shaped { (kind : Kind) × IsShaped definition.now tree.now kind }
     ensures some { IfSome result (λ l. IsListed definition.now tree.now l) }
     ensures none { IfNone result (IsList tree.now → ⊥) }
@@ -103,7 +103,7 @@ fn may_reopen(definition: &Definition, tree: &Tree) -> bool
 }
 
 /// Gives the kind of a tree.
-fn kind_of(definition: &Definition, tree: &Tree) -> Kind
+pub fn kind_of(definition: &Definition, tree: &Tree) -> Kind
     requires shaped { (kind : Kind) × IsShaped definition.now tree.now kind }
     ensures { IsOfKind definition.now tree.now result }
 {
@@ -127,7 +127,7 @@ fn with_end(alloc: Global, list: &Tree, unfinished: bool) -> Result<Tree, AllocE
 }
 
 /// Makes one more path of the same steps.
-fn copied(alloc: Global, path: &Path) -> Result<Path, AllocError>
+pub fn copied(alloc: Global, path: &Path) -> Result<Path, AllocError>
     ensures { IfOk result (λ p. p ≡ path.now) }
 {
     let copy = Path::of(alloc, path.steps())?;
@@ -135,7 +135,7 @@ fn copied(alloc: Global, path: &Path) -> Result<Path, AllocError>
 }
 
 /// Plans the tree in place of the node at the path, to which the cursor goes.
-fn put(alloc: Global, trial: Trial, path: &Path, new: Tree) -> Result<Made, AllocError>
+pub fn put(alloc: Global, trial: Trial, path: &Path, new: Tree) -> Result<Made, AllocError>
     ensures { IfOk result (λ made. made ≡ made_of trial (edits.Put path.now new) path.now) }
 {
     let at = copied(alloc, path)?;
@@ -247,7 +247,7 @@ pub fn insert_element(
 }
 
 /// Makes the path with one more step.
-fn longer(alloc: Global, path: &Path, step: u32) -> Result<Path, AllocError>
+pub fn longer(alloc: Global, path: &Path, step: u32) -> Result<Path, AllocError>
     ensures { IfOk result (λ p. p ≡ path.now ++ step ∷ []) }
 {
     let mut steps = Vec::new(alloc);

@@ -14,14 +14,17 @@ use crate::insertion::blank;
 use crate::judging::{Trial, judged};
 use crate::language::Language;
 use crate::noting::{note_after, note_mark, note_of};
+use crate::pasting::paste;
 use crate::questions::{free, own, show};
 use crate::refusal::Refusal;
 use crate::replies::{Mark, Reply};
+use crate::saved::{Saved, save};
+use crate::versions::{redo, undo};
 use psg_cache::Note;
 use psg_grammar::{Kind, kind_named};
 use psg_history::History;
 use psg_script::Command;
-use psg_terms::{Steps, Txt};
+use psg_terms::{Seq, Steps, Txt};
 use psg_tree::Path;
 use std::alloc::{AllocError, Global};
 use std::sync::ledger::Ledger;
@@ -39,6 +42,7 @@ pub struct Editor {
     pub opened: Option<OpenedTree>,
     pub cursor: Path,
     pub history: History<Note>,
+    pub saved: Seq<Saved>,
 }
 
 /// What a command does. All that it needs memory for is in it.
@@ -50,6 +54,12 @@ pub enum Outcome {
     Opens(OpenedTree, Path, Mark),
     /// The opened fragment has a new version.
     Changes(Note, Path, Mark),
+    /// The nearest earlier version is opened.
+    Undoes(Path, Mark),
+    /// The nearest later version is opened.
+    Redoes(Path, Mark),
+    /// These are the saved fragments now, and the lines are the reply.
+    Saves(Seq<Saved>, Vec<String>),
 }
 
 impl Editor {
@@ -72,6 +82,18 @@ impl Editor {
             Outcome::Changes(note, cursor, mark) => {
                 self.go_on(note, cursor);
                 Reply::Marked(mark)
+            }
+            Outcome::Undoes(cursor, mark) => {
+                self.go_back(cursor);
+                Reply::Marked(mark)
+            }
+            Outcome::Redoes(cursor, mark) => {
+                self.go_forward(cursor);
+                Reply::Marked(mark)
+            }
+            Outcome::Saves(saved, lines) => {
+                self.saved = saved;
+                Reply::Answered(lines)
             }
         }
     }
@@ -160,6 +182,10 @@ fn planned(
         }
         Command::Reopen { at } => {
             let plan = reopen(alloc, language, editor, at)?;
+            Ok(Some(plan))
+        }
+        Command::Paste { at, place, name } => {
+            let plan = paste(alloc, language, editor, at, *place, name)?;
             Ok(Some(plan))
         }
         _ => Ok(None),
@@ -252,6 +278,18 @@ pub fn step<L: Ledger>(
         }
         Command::Free => {
             let outcome = free(alloc, language, editor)?;
+            Ok(outcome)
+        }
+        Command::Undo => {
+            let outcome = undo(alloc, language, editor)?;
+            Ok(outcome)
+        }
+        Command::Redo => {
+            let outcome = redo(alloc, language, editor)?;
+            Ok(outcome)
+        }
+        Command::Save { name, at } => {
+            let outcome = save(alloc, language, editor, name, at)?;
             Ok(outcome)
         }
         _ => {

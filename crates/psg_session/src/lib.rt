@@ -22,10 +22,13 @@ pub mod language;
 pub mod laws;
 pub mod leaves;
 mod noting;
+pub mod pasting;
 mod questions;
 pub mod refusal;
 pub mod replies;
+pub mod saved;
 pub mod session;
+mod versions;
 
 pub use language::Language;
 pub use refusal::Refusal;

@@ -14,7 +14,7 @@ use crate::replies::Reply;
 use psg_cache::Note;
 use psg_history::History;
 use psg_script::{Command, CommandFault, read_command};
-use psg_terms::Steps;
+use psg_terms::{Seq, Steps};
 use psg_tree::Path;
 use psg_world::Files;
 use std::alloc::{AllocError, Global};
@@ -62,6 +62,7 @@ impl Session {
             opened: None,
             cursor,
             history,
+            saved: Seq::of(Vec::new(alloc)),
         };
         Ok(Session {
             parts: Parts { language, editor },

@@ -1,0 +1,174 @@
+//! Saved fragments put into the opened one.
+ghost use Rattle.std.specs.Prelude.{◌≡◌, ◌↔◌, ℕ, Some, None, IfErr, IfOk, IsTrue};
+ghost use Rattle.psg_grammar.specs.Fragments.{hole};
+ghost use Rattle.psg_cache.specs.Shaped.{IsShaped};
+ghost use Rattle.psg_script.specs.declared.command.Command.TheVariants as commands;
+ghost use Rattle.psg_session.specs.Outcomes.{IsNoSource, IsPlan, IsSource};
+ghost use Rattle.psg_session.specs.PlainStep.{IsEmptyPlace};
+ghost use Rattle.psg_session.specs.Sessions.{IsEditor};
+ghost use Rattle.psg_session.specs.Views.{IsLanguage};
+
+use crate::changes::{Made, Plan, as_list, copied, hole_phylum, kind_of, longer, put};
+use crate::editor::Editor;
+use crate::edits::Edit;
+use crate::finding::{Found, find};
+use crate::judging::Trial;
+use crate::language::Language;
+use crate::refusal::Refusal;
+use crate::saved::{Saved, saved_named};
+use psg_grammar::{Definition, Kind};
+use psg_script::Where;
+use psg_terms::Txt;
+use psg_tree::Tree;
+use std::alloc::{AllocError, Global};
+
+/// A saved fragment, and the node to which it is pasted.
+#[derive(Clone, Copy)]
+pub struct Source<'a> {
+    pub saved: &'a Saved,
+    pub found: Found<'a>,
+}
+
+/// Finds the saved fragment of the name and the node of the place. It is refused with `NothingOpened` where nothing is
+/// opened, with `NoFragment` where no saved fragment has the name, and with `NoNode` where no node is there.
+fn source_of<'a>(editor: &'a Editor, place: &'a Where, name: &Txt) -> Result<Source<'a>, Refusal>
+    ensures ok { IfOk result (IsSource editor.now place.now name.now) }
+    ensures err { IfErr result (IsNoSource editor.now place.now name.now) }
+{
+    let Some(_) = &editor.opened else {
+        return Err(Refusal::NothingOpened);
+    };
+    let Some(saved) = saved_named(editor.saved.as_slice(), name) else {
+        return Err(Refusal::NoFragment);
+    };
+    match find(editor, place) {
+        Ok(found) => Ok(Source { saved, found }),
+        Err(refusal) => Err(refusal),
+    }
+}
+
+/// Tells whether the tree is a placeholder or an empty list.
+fn is_empty_place(definition: &Definition, tree: &Tree) -> bool
+    requires shaped { (kind : Kind) × IsShaped definition.now tree.now kind }
+    ensures { IsTrue result ↔ IsEmptyPlace definition.now tree.now }
+{
+    match as_list(definition, tree) {
+        Some(list) => list.elements == 0,
+        None => is_hole(tree),
+    }
+}
+
+/// Tells whether the tree is a placeholder.
+fn is_hole(tree: &Tree) -> bool
+    ensures { IsTrue result ↔ ((p : ℕ) × (tree.now ≡ hole p)) }
+{
+    match hole_phylum(tree) {
+        Some(_) => true,
+        None => false,
+    }
+}
+
+/// Tells whether the two kinds are the same.
+fn is_kind(kind: Kind, wanted: Kind) -> bool
+    ensures { IsTrue result ↔ (kind ≡ wanted) }
+{
+    kind == wanted
+}
+
+/// Plans a paste: the saved fragment of the name in place of a placeholder or an empty list. Where a number is given,
+/// it is a new element before this place of the list. A plan refuses with the first of `NothingOpened`, `NoFragment`,
+/// `NoNode`, `NotHole` (or `NoPlace`, where a number is given) and `OtherPhylum` that holds. It fails where memory runs
+/// out.
+pub fn paste(
+    alloc: Global,
+    language: &Language,
+    editor: &Editor,
+    place: &Where,
+    number: Option<u32>,
+    name: &Txt,
+) -> Result<Plan, AllocError>
+    requires language { IsLanguage language.now }
+    requires editor { IsEditor language.now.definition editor.now }
+    ensures { IfOk result (IsPlan language.now.definition editor.now (commands.Paste place.now number name.now)) }
+{
+    match number {
+        None => {
+            let plan = paste_here(alloc, language, editor, place, name)?;
+            Ok(plan)
+        }
+        Some(number) => {
+            let element = paste_element(alloc, language, editor, place, number, name)?;
+            Ok(element)
+        }
+    }
+}
+
+/// Plans the saved fragment of the name in place of a placeholder or an empty list.
+fn paste_here(
+    alloc: Global,
+    language: &Language,
+    editor: &Editor,
+    place: &Where,
+    name: &Txt,
+) -> Result<Plan, AllocError>
+    requires language { IsLanguage language.now }
+    requires editor { IsEditor language.now.definition editor.now }
+    ensures { IfOk result (IsPlan language.now.definition editor.now (commands.Paste place.now None name.now)) }
+{
+    let source = match source_of(editor, place, name) {
+        Ok(source) => source,
+        Err(refusal) => return Ok(Plan::RefusedBy(refusal)),
+    };
+    if !is_empty_place(&language.definition, source.found.node) {
+        return Ok(Plan::RefusedBy(Refusal::NotHole));
+    }
+    let kind = kind_of(&language.definition, source.found.node);
+    if !is_kind(source.saved.kind, kind) {
+        return Ok(Plan::RefusedBy(Refusal::OtherPhylum));
+    }
+    let new = source.saved.tree.share()?;
+    let made = put(alloc, Trial::Grows, source.found.path, new)?;
+    Ok(Plan::Makes(made))
+}
+
+/// Plans the saved fragment of the name as a new element before the place of the list.
+fn paste_element(
+    alloc: Global,
+    language: &Language,
+    editor: &Editor,
+    place: &Where,
+    number: u32,
+    name: &Txt,
+) -> Result<Plan, AllocError>
+    requires language { IsLanguage language.now }
+    requires editor { IsEditor language.now.definition editor.now }
+    ensures { IfOk result (IsPlan language.now.definition editor.now (commands.Paste place.now (Some number) name.now)) }
+{
+    let source = match source_of(editor, place, name) {
+        Ok(source) => source,
+        Err(refusal) => return Ok(Plan::RefusedBy(refusal)),
+    };
+    let Some(list) = as_list(&language.definition, source.found.node) else {
+        return Ok(Plan::RefusedBy(Refusal::NoPlace));
+    };
+    if list.elements < number as usize {
+        return Ok(Plan::RefusedBy(Refusal::NoPlace));
+    }
+    if !is_kind(source.saved.kind, Kind::Phylum(list.kind.element)) {
+        return Ok(Plan::RefusedBy(Refusal::OtherPhylum));
+    }
+    let new = source.saved.tree.share()?;
+    let at = copied(alloc, source.found.path)?;
+    let cursor = longer(alloc, source.found.path, number)?;
+    let edit = Edit::Add {
+        at,
+        place: number,
+        new,
+    };
+    let trial = Trial::Grows;
+    Ok(Plan::Makes(Made {
+        trial,
+        edit,
+        cursor,
+    }))
+}

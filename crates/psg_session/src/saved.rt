@@ -1,0 +1,157 @@
+//! Saved fragments.
+ghost use Rattle.std.specs.Prelude.{◌≡◌, ◌↔◌, ◌≤◌, ◌++◌, ◌∷◌, [], None, IfOk, IsTrue, bytes_eq, codes, length, map, option_copied, string_bytes};
+ghost use Rattle.psg_script.specs.declared.command.Command.TheVariants as commands;
+ghost use Rattle.psg_session.specs.Outcomes.{IsOutcome};
+ghost use Rattle.psg_session.specs.PlainState.{not_asked};
+ghost use Rattle.psg_session.specs.Sessions.{IsEditor};
+ghost use Rattle.psg_session.specs.Shelf.{most_saved, others as others_of, saved_at, saved_with, IsFull};
+ghost use Rattle.psg_session.specs.Views.{IsLanguage};
+
+use crate::changes::kind_of;
+use crate::editor::{Editor, Outcome};
+use crate::finding::find;
+use crate::language::Language;
+use crate::refusal::Refusal;
+use crate::replies::Reply;
+use psg_grammar::Kind;
+use psg_script::Where;
+use psg_terms::{Seq, Txt};
+use psg_tree::Tree;
+use std::alloc::{AllocError, Global};
+
+/// How many fragments are saved at most.
+pub const MOST_SAVED: usize = 64;
+
+/// A saved fragment.
+#[derive(Drop)]
+pub struct Saved {
+    pub name: Txt,
+    pub kind: Kind,
+    pub tree: Tree,
+}
+
+impl Saved {
+    /// Gives one more owner of the same fragment.
+    fn share(&self) -> Result<Saved, AllocError>
+        ensures { IfOk result (λ copy. copy ≡ self.now) }
+    {
+        let name = self.name.share()?;
+        let tree = self.tree.share()?;
+        let kind = self.kind;
+        Ok(Saved { name, kind, tree })
+    }
+
+    /// Tells whether the fragment has the name.
+    fn has_name(&self, name: &Txt) -> bool
+        ensures { result ≡ bytes_eq self.now.name name.now }
+    {
+        self.name.as_str() == name.as_str()
+    }
+}
+
+/// Finds the saved fragment of the name, if there is one. It looks at each once.
+pub fn saved_named<'a>(saved: &'a [Saved], name: &Txt) -> Option<&'a Saved>
+    ensures { option_copied result ≡ saved_at saved.now name.now }
+{
+    for fragment in saved {
+        if fragment.has_name(name) {
+            return Some(fragment);
+        }
+    }
+    None
+}
+
+/// Gives the saved fragments of other names, each with one more owner.
+fn others(alloc: Global, saved: &[Saved], name: &Txt) -> Result<Vec<Saved>, AllocError>
+    ensures { IfOk result (λ kept. kept.items ≡ others_of name.now saved.now) }
+{
+    let mut kept = Vec::new(alloc);
+    for fragment in saved {
+        if !fragment.has_name(name) {
+            kept.push(fragment.share()?)?;
+        }
+    }
+    Ok(kept)
+}
+
+/// Gives the saved fragments with one more, in place of the one of its name.
+fn with_saved(alloc: Global, saved: &[Saved], new: Saved) -> Result<Seq<Saved>, AllocError>
+    ensures { IfOk result (λ kept. kept ≡ saved_with saved.now new) }
+{
+    let mut kept = others(alloc, saved, &new.name)?;
+    kept.push(new)?;
+    Ok(Seq::of(kept))
+}
+
+/// Tells whether no saved fragment has the name.
+fn is_new(saved: &[Saved], name: &Txt) -> bool
+    ensures { IsTrue result ↔ (saved_at saved.now name.now ≡ None) }
+{
+    match saved_named(saved, name) {
+        Some(_) => false,
+        None => true,
+    }
+}
+
+/// Tells whether as many fragments are saved as may be.
+fn has_most(saved: &[Saved]) -> bool
+    ensures { IsTrue result ↔ (most_saved ≤ length saved.now) }
+{
+    MOST_SAVED <= saved.len()
+}
+
+/// Tells whether there is no room for a fragment of the name.
+fn is_full(saved: &[Saved], name: &Txt) -> bool
+    ensures { IsTrue result ↔ IsFull saved.now name.now }
+{
+    if !is_new(saved, name) {
+        return false;
+    }
+    has_most(saved)
+}
+
+/// Gives the reply to a save.
+fn saved_lines(alloc: Global, name: &Txt) -> Result<Vec<String>, AllocError>
+    ensures { IfOk result (λ lines. map string_bytes lines.items ≡ (codes "saved " ++ name.now) ∷ []) }
+{
+    let mut line = String::from_str(alloc, "saved ")?;
+    line.push_str(name.as_str())?;
+    let mut lines = Vec::new(alloc);
+    lines.push(line)?;
+    Ok(lines)
+}
+
+/// Finds what `save` does: the node at the place is saved under the name. It is refused with `NothingOpened` or
+/// `NoNode` where there is no node, and with `ShelfFull` where there is no room for the name. It evaluates nothing,
+/// makes one more owner of each saved fragment, and fails where memory runs out.
+pub fn save(
+    alloc: Global,
+    language: &Language,
+    editor: &Editor,
+    name: &Txt,
+    place: &Where,
+) -> Result<Outcome, AllocError>
+    requires language { IsLanguage language.now }
+    requires editor { IsEditor language.now.definition editor.now }
+    ensures { IfOk result (IsOutcome language.now.definition editor.now not_asked (commands.Save name.now place.now)) }
+{
+    let found = match find(editor, place) {
+        Ok(found) => found,
+        Err(refusal) => return Ok(Outcome::Stays(Reply::Refused(refusal))),
+    };
+    let shelf = editor.saved.as_slice();
+    if is_full(shelf, name) {
+        return Ok(Outcome::Stays(Reply::Refused(Refusal::ShelfFull)));
+    }
+    let kind = kind_of(&language.definition, found.node);
+    let own_name = name.share()?;
+    let tree = found.node.share()?;
+    let new = Saved {
+        name: own_name,
+        kind,
+        tree,
+    };
+    let saved = with_saved(alloc, shelf, new)?;
+    let lines = saved_lines(alloc, name)?;
+    Ok(Outcome::Saves(saved, lines))
+}
