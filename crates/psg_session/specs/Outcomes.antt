@@ -11,12 +11,12 @@ use Rattle.psg_cache.specs.declared.note.NoteFault.{NoteFault}
 use Rattle.psg_cache.specs.declared.note.NoteFault.TheVariants as faults
 use Rattle.psg_history.specs.declared.history.TheConstants.{VERSIONS}
 use Rattle.psg_script.specs.declared.command.Command.{Command}
-use Rattle.psg_script.specs.declared.command.Command.TheVariants.{New, Refine, Insert, Cut, Remove, Close, Reopen, Show, Own, Free}
+use Rattle.psg_script.specs.declared.command.Command.TheVariants.{New, Goto, Refine, Insert, Cut, Remove, Close, Reopen, Show, Screen, Own, Free}
 use Rattle.psg_script.specs.declared.command.Where.{Where}
 use Rattle.psg_session.specs.declared.editor.OpenedTree.{OpenedTree}
 use Rattle.psg_session.specs.declared.editor.Editor.{Editor}
 use Rattle.psg_session.specs.declared.editor.Outcome.{Outcome}
-use Rattle.psg_session.specs.declared.editor.Outcome.TheVariants.{Stays, Opens as OpensTree, Changes}
+use Rattle.psg_session.specs.declared.editor.Outcome.TheVariants.{Stays, Goes, Opens as OpensTree, Changes}
 use Rattle.psg_session.specs.declared.finding.Found.{Found}
 use Rattle.psg_session.specs.declared.judging.Trial.{Trial}
 use Rattle.psg_session.specs.declared.judging.Trial.TheVariants.{Opens, Grows, Closes, Loosens}
@@ -27,11 +27,11 @@ use Rattle.psg_session.specs.declared.changes.Plan.TheVariants.{RefusedBy, Makes
 use Rattle.psg_session.specs.declared.refusal.Refusal.{Refusal}
 use Rattle.psg_session.specs.declared.refusal.Refusal.TheVariants.{NoNode, NothingOpened, TooBig, TooDeep, TooHeavy, TooWide, Unknown, OtherPhylum, BadArguments}
 use Rattle.psg_session.specs.declared.replies.Reply.{Reply}
-use Rattle.psg_session.specs.declared.replies.Reply.TheVariants.{Marked}
+use Rattle.psg_session.specs.declared.replies.Reply.TheVariants.{Answered, Marked}
 use Rattle.psg_session.specs.declared.edits.Edit.{Edit}
 use Rattle.psg_session.specs.Edits.{MayEdit, cost_of, edited}
 use Rattle.psg_session.specs.Good.{IsGoodIn}
-use Rattle.psg_session.specs.PlainState.{Answer, Opened, State, not_asked, named_path, with_change}
+use Rattle.psg_session.specs.PlainState.{Answer, Opened, State, not_asked, named_path, with_change, with_cursor}
 use Rattle.psg_session.specs.Leaves.{GivesLeaves}
 use Rattle.psg_session.specs.PlainStep.{Gives, IsRefused, IsTaken, Makes, IsOperator, IsOfPhylum, IsListOf, OfResult, Steps, end_of, opening, growing, closing, loosening}
 use Rattle.psg_session.specs.Refusals.{Tests, Refuses, Passes}
@@ -49,24 +49,28 @@ changed s (Some old) tree path = with_change s old tree path
 -- the plain state after the command
 abbrev pub after : Editor → Outcome → State
 after e (Stays reply) = state_of e
+after e (Goes cursor lines) = with_cursor (state_of e) cursor
 after e (OpensTree held cursor mark) =
     record { opened = Some (plain held); cursor = cursor; earlier = []; later = []; saved = [] }
 after e (Changes note cursor mark) = changed (state_of e) (opened_of e.opened) (tree_in note) cursor
 
 abbrev pub reply_in : Outcome → Reply
 reply_in (Stays reply) = reply
+reply_in (Goes cursor lines) = Answered lines
 reply_in (OpensTree held cursor mark) = Marked mark
 reply_in (Changes note cursor mark) = Marked mark
 
 -- the editor stays
 abbrev pub IsStay : Outcome → Type 0
 IsStay (Stays reply) = Unit {0}
+IsStay (Goes cursor lines) = ⊥
 IsStay (OpensTree held cursor mark) = ⊥
 IsStay (Changes note cursor mark) = ⊥
 
 -- a new version is one of the opened tree's kind
 abbrev pub IsFit : Definition → Option OpenedTree → Outcome → Type 0
 IsFit def opened (Stays reply) = Unit {0}
+IsFit def opened (Goes cursor lines) = Unit {0}
 IsFit def opened (OpensTree held cursor mark) = IsVersion def held.kind held.note
 IsFit def None (Changes note cursor mark) = ⊥
 IsFit def (Some held) (Changes note cursor mark) = IsVersion def held.kind note
@@ -185,10 +189,12 @@ IsChanging (Close place) = Unit {0}
 IsChanging (Reopen place) = Unit {0}
 IsChanging _ = ⊥
 
--- the commands that neither open a fragment nor ask about it
+-- the commands that neither open a fragment nor ask about it or move in it
 abbrev pub IsElse : Command → Type 0
 IsElse (New name) = ⊥
+IsElse (Goto place) = ⊥
 IsElse Show = ⊥
+IsElse (Screen top left rows cols) = ⊥
 IsElse (Own place) = ⊥
 IsElse Free = ⊥
 IsElse _ = Unit {0}

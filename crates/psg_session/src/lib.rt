@@ -22,6 +22,7 @@ pub mod language;
 pub mod laws;
 pub mod leaves;
 mod noting;
+mod printing;
 mod questions;
 pub mod refusal;
 pub mod replies;
