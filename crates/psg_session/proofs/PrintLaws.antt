@@ -140,7 +140,7 @@ module _ (def : Definition) where
   no_list (observed f) more l s h p = s
 
   list_shaped : (f : Fragment) (l : ℕ) → HasShape def f [] (kinds.List l) → IsPlain f → IsList f
-  list_shaped (hole x) l h p = let e : kinds.List l ≡ kinds.Phylum x = h.1.0 in absurd (cc)
+  list_shaped (hole x) l h p = let e : kinds.List l ≡ kinds.Phylum x = h.1 in absurd (cc)
   list_shaped (ending x u) l h p = tt
   list_shaped (cell x e r) l h p = tt
   list_shaped (operator o) l h p = absurd (no_list (operator o) [] l tt h p)
@@ -199,7 +199,9 @@ module _ (def : Definition) where
   some_mapped : (o : Option Placed) (s : Span) → option_map (span_of def) o ≡ Some s
       → (p : Placed) × (o ≡ Some p) × (s ≡ span_of def p)
   some_mapped None s e = absurd (none-some s e)
-  some_mapped (Some p) s e = let same : s ≡ span_of def p = cc in (p, refl, same)
+  some_mapped (Some p) s e =
+      let d : Some (span_of def p) ≡ Some s = e in
+      let same : s ≡ span_of def p = cc in (p, refl, same)
 
   -- it has the first span of the path
   pub written_first : (f : Fragment) (path : Path) (spans : List Span) → spans ≡ map (span_of def) (placed_in def f)

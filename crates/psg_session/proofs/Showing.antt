@@ -91,7 +91,7 @@ module _ (def : Definition) (e : Editor) where
       node_listed : (p : Placed) → IsWrittenAt def (tree_in f.held.now.note) f.path.now p → p.node ≡ f.node.now
       node_listed p (k, at, here, first) =
           some_once p.node f.node.now (node_at (tree_in f.held.now.note) f.path.now)
-          (listed.nodes f.path.now p (k, (at, here))) found.node
+          (listed.nodes f.path.now p (k, at, here)) found.node
 
       pub go_found : (printed : Printed) → printed ≡ printed_of def (tree_in f.held.now.note)
           → (spans : List Span) (path : Path) → spans ≡ printed.spans → path ≡ f.path.now

@@ -36,7 +36,7 @@ pub returns : goal.returns
 returns c =
     let def = c.args.language.now.definition in
     let (k, first) = c.in-Some.ensures in
-    let (kind, (name, (of_kind, (named, told)))) = c.in_ok-line.ensures in
+    let (kind, name, of_kind, named, told) = c.in_ok-line.ensures in
     go_found def c.args.editor.now c.args.place.now c.requires.editor c.in-Ok.found c.in-Ok.ensures.ok
     c.in_ok-printed.printed (c.in_ok-printed.ensures.printed ∙ ap (printed_of def) c.tree.ensures)
     c.as_slice.result.now c.steps.result.now c.as_slice.ensures c.steps.ensures

@@ -18,5 +18,5 @@ returns c =
     let written = goto_written name what span (string_bytes c.in_ok-text.text) (string_bytes c.push_path.new.text)
     (string_bytes c.push_words.new.text) c.in_ok-text.ensures.bytes c.in_ok-push_path.ensures
     c.in_ok-push_words.ensures in
-    (c.kind_of-kind.result, (name, (c.kind_of-kind.ensures, (c.kind_name-name.ensures,
-    written ∙ ap (λ w. goto_line name w span) c.what_of-what.ensures))))
+    (c.kind_of-kind.result, name, c.kind_of-kind.ensures, c.kind_name-name.ensures,
+    written ∙ ap (λ w. goto_line name w span) c.what_of-what.ensures)
