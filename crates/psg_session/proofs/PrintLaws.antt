@@ -1,7 +1,7 @@
 -- Texts and their lines, and the listed nodes of a tree.
 use Rattle.std.proofs.Common.{◌≡◌, inl, inr, ℕ, Bool, ◌+◌, ◌<◌, ◌==◌, List, [], ◌∷◌, ◌++◌, length, map, Option, Some, None, slice_get, refl, sym, ap, ◌∙◌, subst, append_assoc, append-nil, arith}
 use Rattle.std.specs.List.{join_with_byte}
-use Rattle.std.specs.Prelude.{codes, option_map}
+use Rattle.std.specs.Prelude.{codes, decimal, option_map}
 use Rattle.std.proofs.lemmas.Bool.{cases_order}
 use Rattle.std.proofs.lemmas.List.Splits.{join_with_byte-slice_split, length-slice_split}
 use Rattle.std.proofs.lemmas.Option.{none-some, slice_get-map}
@@ -10,13 +10,12 @@ use Rattle.psg_grammar.specs.declared.types.Definition.{Definition}
 use Rattle.psg_grammar.specs.declared.types.Item.{Item}
 use Rattle.psg_grammar.specs.declared.types.Item.TheVariants as items
 use Rattle.psg_grammar.specs.declared.types.Kind.{Kind}
-use Rattle.psg_grammar.specs.declared.types.Operator.{Operator}
 use Rattle.psg_grammar.specs.declared.types.Kind.TheVariants as kinds
 use Rattle.psg_grammar.specs.Fragments.{Fragment, hole, ending, cell, operator, with_child, with_name, with_number, with_text, anything, observed}
 use Rattle.psg_grammar.specs.Paths.{Path, IsList}
 use Rattle.psg_grammar.specs.WellFormed.{IsPlain}
 use Rattle.psg_cache.specs.Shaped.{HasShape, IsShaped}
-use Rattle.psg_tree.specs.AbstractText.{name_of_operator}
+use Rattle.psg_tree.specs.AbstractText.{operator_name}
 use Rattle.psg_tree.specs.declared.tree.Part.{Part}
 use Rattle.psg_tree.specs.declared.tree.Part.TheVariants.{Sub, Name as PartName, Number, Text}
 use Rattle.psg_tree.specs.declared.tree.Shape.{Shape}
@@ -69,6 +68,18 @@ shown_written old text m t1 t2 t3 e1 e2 e3 =
     ∙ sym (feed_append (lines_in text) (m ∷ [])) in
     e3 ∙ last ∙ front ∙ ap (λ (t : List ℕ). old ++ t) lines
 
+-- a text that grew by the words of a node
+pub words_written : (kind what : Name) (s : Span) (old t1 t2 t3 t4 : List ℕ) → t1 ≡ old ++ 32 ∷ kind
+    → t2 ≡ t1 ++ 32 ∷ what → t3 ≡ t2 ++ 32 ∷ decimal s.start → t4 ≡ t3 ++ 32 ∷ decimal s.end
+    → t4 ≡ old ++ node_words kind what s
+words_written kind what s old t1 t2 t3 t4 e1 e2 e3 e4 =
+    let w : List ℕ = 32 ∷ what in
+    let a : List ℕ = 32 ∷ decimal s.start in
+    let b : List ℕ = 32 ∷ decimal s.end in
+    e4 ∙ ap (λ (t : List ℕ). t ++ b) e3 ∙ append_assoc t2 a b ∙ ap (λ (t : List ℕ). t ++ (a ++ b)) e2
+    ∙ append_assoc t1 w (a ++ b) ∙ ap (λ (t : List ℕ). t ++ (w ++ (a ++ b))) e1
+    ∙ append_assoc old (32 ∷ kind) (w ++ (a ++ b))
+
 -- a text that begins with `at`, and grew by a path and by the words of a node
 pub goto_written : (kind what : Name) (s : Span) (t0 t1 t2 : List ℕ) → t0 ≡ codes "at "
     → t1 ≡ t0 ++ path_text s.path → t2 ≡ t1 ++ node_words kind what s → t2 ≡ goto_line kind what s
@@ -89,11 +100,10 @@ module _ (def : Definition) where
   what_parts f [] = refl
   what_parts f (p ∷ ps) = what_parts (with_part f p) ps ∙ what_part f p
 
-  pub what_operator : (node : Fragment) (s : Shape) (o : ℕ) (ps : List Part) (op : Operator) → tree_of s ≡ node
-      → s ≡ Op o ps → slice_get def.operators o ≡ Some op → op.name ≡ what_is def node
-  what_operator node s o ps op e is found =
-      sym (ap name_of_operator found) ∙ sym (what_parts (operator o) ps)
-      ∙ ap (what_is def) (sym (ap tree_of is) ∙ e)
+  pub what_operator : (node : Fragment) (s : Shape) (o : ℕ) (ps : List Part) → tree_of s ≡ node → s ≡ Op o ps
+      → operator_name def o ≡ what_is def node
+  what_operator node s o ps e is =
+      sym (what_parts (operator o) ps) ∙ ap (what_is def) (sym (ap tree_of is) ∙ e)
 
   what_elements : (l : ℕ) (es : List Fragment) (u : Bool) → codes "list" ≡ what_is def (list_of l es u)
   what_elements l [] u = refl

@@ -7,6 +7,7 @@ ghost use Rattle.psg_grammar.specs.declared.types.Kind.{Kind as PlainKind};
 ghost use Rattle.psg_grammar.specs.Kinds.{kind_name_of, IsOfKind};
 ghost use Rattle.psg_grammar.specs.Sound.{IsSound};
 ghost use Rattle.psg_reads_back.specs.Layout.{text_of};
+ghost use Rattle.psg_tree.specs.AbstractText.{operator_name as operator_name_of};
 ghost use Rattle.psg_script.specs.declared.command.Command.TheVariants as commands;
 ghost use Rattle.psg_session.specs.Outcomes.{IsOutcome};
 ghost use Rattle.psg_session.specs.PlainState.{not_asked};
@@ -163,27 +164,48 @@ fn push_words(
 ) -> Result<(), AllocError>
     ensures { IfOk result (λ _. string_bytes text.new ≡ string_bytes text.old ++ node_words kind.now what.now span.now) }
 {
-    let mut start = Buffer::new();
-    let mut end = Buffer::new();
+    push_word(text, kind)?;
+    push_word(text, what)?;
+    push_number(text, span.start)?;
+    push_number(text, span.end)?;
+    Ok(())
+}
+
+/// Writes the word behind the text, after a space.
+fn push_word(text: &mut String, word: &str) -> Result<(), AllocError>
+    ensures { IfOk result (λ _. string_bytes text.new ≡ string_bytes text.old ++ 32 ∷ word.now) }
+{
     text.push_str(" ")?;
-    text.push_str(kind)?;
-    text.push_str(" ")?;
-    text.push_str(what)?;
-    text.push_str(" ")?;
-    text.push_str(start.format(span.start))?;
-    text.push_str(" ")?;
-    text.push_str(end.format(span.end))?;
+    text.push_str(word)?;
+    Ok(())
+}
+
+/// Writes the number behind the text, after a space.
+fn push_number(text: &mut String, number: usize) -> Result<(), AllocError>
+    ensures { IfOk result (λ _. string_bytes text.new ≡ string_bytes text.old ++ 32 ∷ decimal number) }
+{
+    let mut digits = Buffer::new();
+    push_word(text, digits.format(number))?;
     Ok(())
 }
 
 /// Says what a node is: the name of its operator, `list`, or `?`.
 fn what_of<'a>(definition: &'a Definition, node: &Tree) -> &'a str
-    requires shaped { (kind : PlainKind) × IsShaped definition.now node.now kind }
     ensures { result.now ≡ what_is definition.now node.now }
 {
     match node.shape() {
-        Shape::Op { op, .. } => definition.operators.as_slice()[*op as usize].name.as_str(),
+        Shape::Op { op, .. } => operator_name(definition, *op),
         Shape::List { .. } => "list",
         Shape::Hole { .. } => "?",
+    }
+}
+
+/// The operator's name, empty where the definition has no operator of the number.
+fn operator_name(definition: &Definition, op: u32) -> &str
+    ensures { result.now ≡ operator_name_of definition.now op }
+{
+    match definition.operators.as_slice().get(op as usize) {
+        Some(operator) => operator.name.as_str(),
+        None => "",
     }
 }

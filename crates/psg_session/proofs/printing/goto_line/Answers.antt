@@ -16,7 +16,7 @@ returns c =
     let what = c.what_of-what.result.now in
     let span = c.args.span.now in
     let written = goto_written name what span (string_bytes c.in_ok-text.text) (string_bytes c.push_path.new.text)
-    (string_bytes c.push_words.new.text) c.in_ok-text.ensures.bytes c.in_ok-push_path.ensures
+    (string_bytes c.push_words.new.text) c.in_ok-text.ensures.ok c.in_ok-push_path.ensures
     c.in_ok-push_words.ensures in
     (c.kind_of-kind.result, name, c.kind_of-kind.ensures, c.kind_name-name.ensures,
     written ∙ ap (λ w. goto_line name w span) c.what_of-what.ensures)

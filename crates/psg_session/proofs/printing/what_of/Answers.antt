@@ -1,24 +1,11 @@
-use Rattle.std.proofs.Common.{◌<◌, ◌∙◌, Some, length, get_or, ap, sym, subst}
+use Rattle.std.proofs.Common.{◌∙◌}
 use Rattle.psg_session.proofs.PrintLaws.{what_operator, what_list, what_hole}
-use Rattle.psg_session.proofs.Shapes.{operator_in, read_at}
 use Rattle.psg_session.proofs.printing.what_of.Goals as goal
-
-pub bounds-as_slice-op : goal.bounds-as_slice-op
-bounds-as_slice-op c =
-    subst (λ os. c.in-Op.op < length os) (sym c.as_slice.ensures)
-    (operator_in c.args.definition.now c.args.node.now c.shape.result.now c.in-Op.op _ c.requires.shaped
-    c.shape.ensures c.in-Op.is)
 
 pub returns-in-Op : goal.returns-in-Op
 returns-in-Op c =
-    c.as_str.ensures
-    ∙ what_operator c.args.definition.now c.args.node.now c.shape.result.now c.in-Op.op _
-    (get_or c.as_slice.result.now c.in-Op.op c.index-as_slice-op.result) c.shape.ensures c.in-Op.is
-    (read_at c.as_slice.result.now c.args.definition.now.operators c.in-Op.op c.index-as_slice-op.result
-    c.as_slice.ensures
-    (operator_in c.args.definition.now c.args.node.now c.shape.result.now c.in-Op.op _ c.requires.shaped
-    c.shape.ensures c.in-Op.is) c.index-as_slice-op.is
-    ∙ ap Some c.index-as_slice-op.is)
+    c.operator_name.ensures
+    ∙ what_operator c.args.definition.now c.args.node.now c.shape.result.now c.in-Op.op _ c.shape.ensures c.in-Op.is
 
 pub returns-in-List : goal.returns-in-List
 returns-in-List c =
