@@ -256,18 +256,20 @@ module _ (def : Definition) (IsGood : Fragment → Type 0) (s : State) (answer :
     step_once (goes old p kind name taken_is opened at of_kind named)
         (changes old' mark' taken_is' opened' makes' is_mark') = elim makes' [ ]
     step_once (goes {place = place} old p kind name taken_is opened at of_kind named)
-        (goes old' p' kind' name' taken_is' opened' at' of_kind' named') =
-        (refl, place_once old old' p p' kind kind' name name' (named_path place s.cursor) opened opened' at at' of_kind
-        of_kind' named named')
+        (goes old' p' kind' name' taken_is' opened' at' of_kind' named') = (
+          refl,
+          place_once old old' p p' kind kind' name name' (named_path place s.cursor) opened opened' at at' of_kind
+              of_kind' named named',
+        )
     step_once (screens {top = top} {left = left} {rows = rows} {cols = cols} old taken_is opened) (refuses {r = r} h) =
         absurd (not_both (Screen top left rows cols) r taken_is h)
     step_once (screens old taken_is opened) (changes old' mark' taken_is' opened' makes' is_mark') = elim makes' [ ]
     step_once (screens {top = top} {left = left} {rows = rows} {cols = cols} old taken_is opened)
         (screens old' taken_is' opened') = (
-      refl,
-      ap (λ (x : Opened). answered (window_of (text_of def x.tree) (view_of top left rows cols)))
-          (some_once old old' s.opened opened opened'),
-    )
+          refl,
+          ap (λ (x : Opened). answered (window_of (text_of def x.tree) (view_of top left rows cols)))
+              (some_once old old' s.opened opened opened'),
+        )
     step_once (owns {place = place} old node rows taken_is opened at rel) (refuses {r = r} h) =
         absurd (not_both (Own place) r taken_is h)
     step_once (owns old node rows taken_is opened at rel) (changes old' mark' taken_is' opened' makes' is_mark') =

@@ -1,5 +1,5 @@
 -- Texts and their lines, and the listed nodes of a tree.
-use Rattle.std.proofs.Common.{◌≡◌, inl, inr, ℕ, Bool, ◌+◌, ◌<◌, ◌==◌, List, [], ◌∷◌, ◌++◌, length, map, Option, Some, None, slice_get, refl, sym, ap, ◌∙◌, subst, append_assoc, append-nil, arith}
+use Rattle.std.proofs.Common.{◌≡◌, inl, inr, ℕ, Bool, ◌+◌, ◌==◌, List, [], ◌∷◌, ◌++◌, length, map, Option, Some, None, slice_get, refl, sym, ap, ◌∙◌, subst, append_assoc, append-nil, arith}
 use Rattle.std.specs.List.{join_with_byte}
 use Rattle.std.specs.Prelude.{codes, decimal, option_map}
 use Rattle.std.proofs.lemmas.Bool.{cases_order}
@@ -218,8 +218,7 @@ module _ (def : Definition) where
       → (s : Span) (k : ℕ) → IsFirstSpan spans path s k → (p : Placed) × IsWrittenAt def f path p × (s ≡ span_of def p)
   written_first f path spans are s k is =
       let (p, at, same) = some_mapped (slice_get (placed_in def f) k) s
-      (sym (slice_get-map (span_of def) (placed_in def f) k) ∙ ap (λ (l : List Span). slice_get l k) (sym are) ∙ is.there) in
-      (
+      (sym (slice_get-map (span_of def) (placed_in def f) k) ∙ ap (λ (l : List Span). slice_get l k) (sym are) ∙ is.there) in (
         p,
         (
           k,

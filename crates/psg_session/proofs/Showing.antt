@@ -1,11 +1,10 @@
 -- Which step the plain editor takes at a command that reads the printed text.
-use Rattle.std.proofs.Common.{◌≡◌, inl, inr, ℕ, List, [], ◌∷◌, map, Some, None, refl, sym, ◌∙◌, ap, subst}
+use Rattle.std.proofs.Common.{◌≡◌, inl, ℕ, List, [], ◌∷◌, map, Some, None, refl, sym, ◌∙◌, ap, subst}
 use Rattle.std.specs.Prelude.{String, Vec, string_bytes}
 use Rattle.std.specs.declared.alloc.Global.{Global}
 use Rattle.psg_terms.specs.Names.{Name}
 use Rattle.psg_grammar.specs.declared.types.Kind.{Kind}
 use Rattle.psg_grammar.specs.declared.types.Definition.{Definition}
-use Rattle.psg_grammar.specs.Fragments.{Fragment}
 use Rattle.psg_grammar.specs.Kinds.{kind_name_of, IsOfKind}
 use Rattle.psg_grammar.specs.Marks.{Mark, IsMark}
 use Rattle.psg_grammar.specs.Paths.{Path, node_at}
@@ -30,7 +29,7 @@ use Rattle.psg_session.specs.declared.refusal.Refusal.{Refusal}
 use Rattle.psg_session.specs.declared.refusal.Refusal.TheVariants.{NothingOpened}
 use Rattle.psg_session.specs.Good.{IsGoodIn}
 use Rattle.psg_session.specs.Outcomes.{IsFound, IsNotFound, IsOutcome}
-use Rattle.psg_session.specs.PlainState.{State, named_path, not_asked, with_cursor}
+use Rattle.psg_session.specs.PlainState.{named_path, not_asked, with_cursor}
 use Rattle.psg_session.specs.PlainStep.{Steps, goes, refuses, screens, shows}
 use Rattle.psg_session.specs.Printing.{goto_line, lines_in, view_of, what_is, HasNoSpan, IsFirstSpan, IsWrittenAt}
 use Rattle.psg_session.specs.Replies.{answered, refused, shown}
@@ -38,7 +37,7 @@ use Rattle.psg_session.specs.Sessions.{IsEditor, plain, state_of}
 use Rattle.psg_session.proofs.Asking.{Answers}
 use Rattle.psg_session.proofs.EditLaws.{opened_version}
 use Rattle.psg_session.proofs.PrintLaws.{shaped_listing, written_first, written_some}
-use Rattle.psg_session.proofs.StepLaws.{is_opened, is_opened_by, is_there, not_opened, nowhere, opened_is, opened_plain, path_is, some_once}
+use Rattle.psg_session.proofs.StepLaws.{is_opened, is_opened_by, is_there, not_opened, nowhere, opened_is, opened_plain, some_once}
 use Rattle.psg_session.proofs.Verdicts.{mark_is}
 
 module _ (def : Definition) (e : Editor) where

@@ -156,12 +156,7 @@ fn goto_line(
 }
 
 /// Writes the kind, what the node is and its bytes behind the text, each after a space.
-fn push_words(
-    text: &mut String,
-    kind: &str,
-    what: &str,
-    span: &Span,
-) -> Result<(), AllocError>
+fn push_words(text: &mut String, kind: &str, what: &str, span: &Span) -> Result<(), AllocError>
     ensures { IfOk result (λ _. string_bytes text.new ≡ string_bytes text.old ++ node_words kind.now what.now span.now) }
 {
     push_word(text, kind)?;

@@ -17,6 +17,10 @@ returns c =
     let span = c.args.span.now in
     let written = goto_written name what span (string_bytes c.in_ok-text.text) (string_bytes c.push_path.new.text)
     (string_bytes c.push_words.new.text) c.in_ok-text.ensures.ok c.in_ok-push_path.ensures
-    c.in_ok-push_words.ensures in
-    (c.kind_of-kind.result, name, c.kind_of-kind.ensures, c.kind_name-name.ensures,
-    written ∙ ap (λ w. goto_line name w span) c.what_of-what.ensures)
+    c.in_ok-push_words.ensures in (
+      c.kind_of-kind.result,
+      name,
+      c.kind_of-kind.ensures,
+      c.kind_name-name.ensures,
+      written ∙ ap (λ w. goto_line name w span) c.what_of-what.ensures,
+    )
