@@ -12,7 +12,7 @@ use Rattle.psg_grammar.specs.declared.types.Definition.{Definition}
 use Rattle.psg_script.specs.declared.command.Command.{Command}
 use Rattle.psg_session.specs.declared.editor.Editor.{Editor}
 use Rattle.psg_session.specs.declared.editor.Outcome.{Outcome}
-use Rattle.psg_session.specs.declared.editor.Outcome.TheVariants.{Stays, Opens as OpensTree, Changes, Undoes, Redoes, Saves}
+use Rattle.psg_session.specs.declared.editor.Outcome.TheVariants.{Stays, Opens as OpensTree, Changes, Undoes, Redoes, Saves, Goes}
 use Rattle.psg_session.specs.declared.replies.Reply.{Reply}
 use Rattle.psg_session.specs.Applied.{HasApplied, HasStopped, IsRefusal}
 use Rattle.psg_session.specs.Exchanges.{nobody, Outside}
@@ -58,6 +58,7 @@ pub refusal_stays : (outcome : Outcome) (reply : Reply) → reply ≡ reply_in o
 refusal_stays outcome reply told h = go outcome (subst (λ (r : Reply). IsRefusal (reply_of r)) told h) where
   go : (o : Outcome) → IsRefusal (reply_of (reply_in o)) → IsStay o
   go (Stays r) h = tt
+  go (Goes cursor lines) h = h
   go (OpensTree held cursor mark) h = h
   go (Changes note cursor mark) h = h
   go (Undoes cursor mark) h = h

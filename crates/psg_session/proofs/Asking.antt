@@ -5,24 +5,21 @@ use Rattle.psg_terms.specs.Signature.{AreTerms}
 use Rattle.psg_terms.specs.Relations.{IsIn}
 use Rattle.psg_grammar.specs.declared.types.Definition.{Definition}
 use Rattle.psg_grammar.specs.Fragments.{Fragment}
-use Rattle.psg_grammar.specs.Marks.{Mark, IsMark}
 use Rattle.psg_grammar.specs.Regions.{names_of}
 use Rattle.psg_grammar.specs.Relations.{IsRelationOf}
-use Rattle.psg_tree.specs.AbstractText.{abstract_text}
 use Rattle.psg_scope.specs.Headers.{keys}
 use Rattle.psg_cache.specs.Annotated.{tree_in, whole_in}
-use Rattle.psg_cache.specs.Blames.{culprits_in}
 use Rattle.psg_cache.specs.Edits.{IsSummaryAt, IsNoSummaryAt}
-use Rattle.psg_cache.specs.Notes.{IsFormed, IsNoteOf, mark_by}
+use Rattle.psg_cache.specs.Notes.{IsFormed, IsNoteOf}
 use Rattle.psg_eval.specs.Summaries.{IsSummaryOf}
 use Rattle.psg_eval.specs.declared.summary.Known.{Known}
-use Rattle.psg_session.proofs.Verdicts.{mark_is, root_is}
+use Rattle.psg_session.proofs.Verdicts.{root_is}
 use Rattle.std.proofs.lemmas.Option.{none-some}
 use Rattle.psg_grammar.specs.Paths.{node_at}
 use Rattle.psg_cache.proofs.ShapedTrees.{node_shaped}
 use Rattle.psg_script.specs.declared.command.Where.{Where}
 use Rattle.psg_script.specs.declared.command.Command.{Command}
-use Rattle.psg_script.specs.declared.command.Command.TheVariants.{Show, Own, Free}
+use Rattle.psg_script.specs.declared.command.Command.TheVariants.{Own, Free}
 use Rattle.psg_session.specs.declared.editor.Editor.{Editor}
 use Rattle.psg_session.specs.declared.editor.OpenedTree.{OpenedTree}
 use Rattle.psg_session.specs.declared.finding.Found.{Found}
@@ -34,12 +31,12 @@ use Rattle.psg_session.specs.declared.refusal.Refusal.TheVariants.{NothingOpened
 use Rattle.psg_session.specs.declared.replies.Reply.{Reply as Given}
 use Rattle.psg_session.specs.Outcomes.{IsFound, IsNotFound, IsOutcome}
 use Rattle.psg_session.specs.PlainState.{State, not_asked}
-use Rattle.psg_session.specs.PlainStep.{Steps, refuses, shows, owns, frees}
+use Rattle.psg_session.specs.PlainStep.{Steps, refuses, owns, frees}
 use Rattle.psg_session.specs.Sessions.{IsEditor, IsVersion, plain, state_of}
 use Rattle.psg_session.specs.Views.{names_without, reply_of}
 use Rattle.psg_session.proofs.EditLaws.{opened_version}
 use Rattle.psg_session.proofs.StepLaws.{has_node, is_opened, is_opened_by, is_there, node_is, not_opened, nowhere, opened_is, opened_plain, some_once}
-use Rattle.psg_session.specs.Replies.{Reply, refused, answered, shown}
+use Rattle.psg_session.specs.Replies.{Reply, refused, answered}
 use Rattle.psg_session.proofs.KeyMarks.{free_are}
 
 -- the state stays, and the reply is this one
@@ -64,22 +61,10 @@ module _ (def : Definition) (e : Editor) where
       (opened_version def e f.held.now editor found.held).shaped found.node
 
   module _ (none : e.opened ≡ None) where
-    pub show_unopened : Answers def e Show (refused NothingOpened)
-    show_unopened = refuses (inl (not_opened def e none, refl))
-
     pub free_unopened : Answers def e Free (refused NothingOpened)
     free_unopened = refuses (inl (not_opened def e none, refl))
 
   module _ (held : OpenedTree) (opened : e.opened ≡ Some held) where
-    pub show_opened : IsEditor def e → (line : List ℕ) (mark : Mark) → line ≡ abstract_text def (tree_in held.note)
-        → mark ≡ mark_by (culprits_in held.note) → Answers def e Show (shown (line ∷ []) mark)
-    show_opened editor line mark text told =
-        let marks : IsMark def (tree_in held.note) mark = subst (IsMark def (tree_in held.note)) (sym told)
-        (mark_is def (tree_in held.note) held.note (opened_version def e held editor opened).noted) in
-        let step : Answers def e Show (shown (abstract_text def (tree_in held.note) ∷ []) mark) =
-        shows (plain held) mark (is_opened_by def e held opened, tt) (opened_plain def e held opened) marks in
-        subst (λ l. Answers def e Show (shown (l ∷ []) mark)) (sym text) step
-
     pub free_opened : IsEditor def e → (line : List ℕ)
         → line ≡ names_line (names_without (whole_in held.note).header.names) → Answers def e Free (answered (line ∷ []))
     free_opened editor line written =

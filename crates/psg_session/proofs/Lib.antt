@@ -17,6 +17,8 @@ pub mod RowLines
 pub mod KeyMarks
 pub mod DeclaringPhyla
 pub mod Asking
+pub mod PrintLaws
+pub mod Showing
 pub mod OneStep
 pub mod LeafLaws
 pub mod LeafWords

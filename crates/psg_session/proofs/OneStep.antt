@@ -13,13 +13,18 @@ use Rattle.psg_grammar.specs.Relations.{IsRelationOf}
 use Rattle.psg_grammar.specs.Sound.{IsSound}
 use Rattle.psg_grammar.specs.WellFormed.{fixed_words}
 use Rattle.psg_grammar.proofs.NamePlaces.{only_kind, only_op}
-use Rattle.psg_tree.specs.AbstractText.{abstract_text}
 use Rattle.psg_lexis.proofs.Laws.{only_tokens}
-use Rattle.psg_grammar.specs.Kinds.{IsOfKind}
+use Rattle.psg_grammar.specs.Kinds.{kind_name_of, IsOfKind}
 use Rattle.psg_cache.proofs.ShapedTrees.{kind_once as node_kind_once}
 use Rattle.psg_script.specs.declared.command.Command.{Command}
-use Rattle.psg_script.specs.declared.command.Command.TheVariants.{Own, Free, Undo, Redo, Save}
+use Rattle.psg_script.specs.declared.command.Command.TheVariants.{Own, Free, Undo, Redo, Save, Goto, Screen}
+use Rattle.psg_reads_back.specs.Layout.{text_of}
+use Rattle.psg_screen.specs.Window.{window_of}
+use Rattle.psg_unparse.specs.Spots.{span_of}
+use Rattle.psg_reads_back.specs.Spots.{Placed}
 use Rattle.psg_session.specs.Answers.{free_names, names_line, rows_lines}
+use Rattle.psg_session.specs.Printing.{goto_line, lines_in, view_of, what_is, IsWrittenAt}
+use Rattle.psg_session.proofs.PrintLaws.{written_once}
 use Rattle.psg_session.specs.Leaves.{given, GivesLeaves}
 use Rattle.psg_session.specs.PlainState.{State, Opened, Answer, named_path, with_new, with_change, with_version, with_saved}
 use Rattle.psg_session.specs.declared.refusal.Refusal.{Refusal}
@@ -29,7 +34,7 @@ use Rattle.psg_session.specs.Laws.{HasOneStep}
 use Rattle.psg_session.specs.Refusals.{Tests, done, test, Refuses, Passes}
 use Rattle.psg_session.proofs.StepLaws.{some_once}
 use Rattle.psg_session.specs.Replies.{Reply, refused, answered, marked, shown}
-use Rattle.psg_session.specs.PlainStep.{HasName, IsOperator, Makes, by_refine, by_insert, by_cut, by_remove, by_close, by_reopen, by_paste, by_paste_in, tests, IsRefused, IsTaken, Steps, refuses, opens, changes, undoes, redoes, saves, shows, owns, frees}
+use Rattle.psg_session.specs.PlainStep.{HasName, IsOperator, Makes, by_refine, by_insert, by_cut, by_remove, by_close, by_reopen, by_paste, by_paste_in, tests, IsRefused, IsTaken, Steps, refuses, opens, changes, undoes, redoes, saves, shows, owns, frees, goes, screens}
 use Rattle.psg_session.proofs.RowLines.{relation_lines}
 
 -- ---- marks
@@ -180,6 +185,24 @@ module _ (def : Definition) (IsGood : Fragment → Type 0) (s : State) (answer :
         ∙ ap answered (relation_lines def sound node' rows rows' (subst (λ f. IsRelationOf def f rows) one rel) rel'
         (names_of def node'))
 
+    -- a node is said in one way
+    place_once : (old old' : Opened) (p p' : Placed) (kind kind' : Kind) (name name' : Name) (path : Path)
+        → s.opened ≡ Some old → s.opened ≡ Some old' → IsWrittenAt def old.tree path p
+        → IsWrittenAt def old'.tree path p' → IsOfKind def p.node kind → IsOfKind def p'.node kind'
+        → HasName def kind name → HasName def kind' name'
+        → answered (goto_line name (what_is def p.node) (span_of def p) ∷ [])
+        ≡ answered (goto_line name' (what_is def p'.node) (span_of def p') ∷ [])
+    place_once old old' p p' kind kind' name name' path opened opened' at at' of_kind of_kind' named named' =
+        let same : old ≡ old' = some_once old old' s.opened opened opened' in
+        let one : p ≡ p' =
+        written_once def old'.tree path p p' (subst (λ (x : Opened). IsWrittenAt def x.tree path p) same at) at' in
+        let alike : kind ≡ kind' =
+        node_kind_once def p'.node kind kind' (subst (λ (x : Placed). IsOfKind def x.node kind) one of_kind) of_kind' in
+        let called : name ≡ name' =
+        some_once name name' (kind_name_of def kind') (subst (λ k. HasName def k name) alike named) named' in
+        ap (λ n. answered (goto_line n (what_is def p.node) (span_of def p) ∷ [])) called
+        ∙ ap (λ (x : Placed). answered (goto_line name' (what_is def x.node) (span_of def x) ∷ [])) one
+
     pub step_once : {command : Command} {t u : State} {reply other : Reply}
         → Steps def IsGood s answer command t reply → Steps def IsGood s answer command u other
         → (t ≡ u) × (reply ≡ other)
@@ -196,6 +219,10 @@ module _ (def : Definition) (IsGood : Fragment → Type 0) (s : State) (answer :
     step_once (refuses {command = command} {r = r} h) (saves old node kind taken_is opened here is) =
         absurd (not_both command r taken_is h)
     step_once (refuses {command = command} {r = r} h) (shows old mark taken_is opened is_mark) =
+        absurd (not_both command r taken_is h)
+    step_once (refuses {command = command} {r = r} h) (goes old p kind name taken_is opened at of_kind named) =
+        absurd (not_both command r taken_is h)
+    step_once (refuses {command = command} {r = r} h) (screens old taken_is opened) =
         absurd (not_both command r taken_is h)
     step_once (refuses {command = command} {r = r} h) (owns old node rows taken_is opened at rel) =
         absurd (not_both command r taken_is h)
@@ -234,6 +261,9 @@ module _ (def : Definition) (IsGood : Fragment → Type 0) (s : State) (answer :
         elim makes [ ]
     step_once (changes old mark taken_is opened makes is_mark) (shows old' mark' taken_is' opened' is_mark') =
         elim makes [ ]
+    step_once (changes old mark taken_is opened makes is_mark)
+        (goes old' p' kind' name' taken_is' opened' at' of_kind' named') = elim makes [ ]
+    step_once (changes old mark taken_is opened makes is_mark) (screens old' taken_is' opened') = elim makes [ ]
     step_once (changes old mark taken_is opened makes is_mark) (owns old' node' rows' taken_is' opened' at' rel') =
         elim makes [ ]
     step_once (changes old mark taken_is opened makes is_mark) (frees old' taken_is' opened') = elim makes [ ]
@@ -287,8 +317,27 @@ module _ (def : Definition) (IsGood : Fragment → Type 0) (s : State) (answer :
         let same : old ≡ old' = some_once old old' s.opened opened opened' in
         let is_mark'' : IsMarkBy IsGood old'.tree mark = subst (λ x. IsMarkBy IsGood x.tree mark) same is_mark in (
           refl,
-          ap (λ x. shown (abstract_text def x.tree ∷ []) mark) same ∙ ap (shown (abstract_text def old'.tree ∷ []))
+          ap (λ x. shown (lines_in (text_of def x.tree)) mark) same ∙ ap (shown (lines_in (text_of def old'.tree)))
               (mark_once IsGood old'.tree mark mark' is_mark'' is_mark'),
+        )
+    step_once (goes {place = place} old p kind name taken_is opened at of_kind named) (refuses {r = r} h) =
+        absurd (not_both (Goto place) r taken_is h)
+    step_once (goes old p kind name taken_is opened at of_kind named)
+        (changes old' mark' taken_is' opened' makes' is_mark') = elim makes' [ ]
+    step_once (goes {place = place} old p kind name taken_is opened at of_kind named)
+        (goes old' p' kind' name' taken_is' opened' at' of_kind' named') = (
+          refl,
+          place_once old old' p p' kind kind' name name' (named_path place s.cursor) opened opened' at at' of_kind
+              of_kind' named named',
+        )
+    step_once (screens {top = top} {left = left} {rows = rows} {cols = cols} old taken_is opened) (refuses {r = r} h) =
+        absurd (not_both (Screen top left rows cols) r taken_is h)
+    step_once (screens old taken_is opened) (changes old' mark' taken_is' opened' makes' is_mark') = elim makes' [ ]
+    step_once (screens {top = top} {left = left} {rows = rows} {cols = cols} old taken_is opened)
+        (screens old' taken_is' opened') = (
+          refl,
+          ap (λ (x : Opened). answered (window_of (text_of def x.tree) (view_of top left rows cols)))
+              (some_once old old' s.opened opened opened'),
         )
     step_once (owns {place = place} old node rows taken_is opened at rel) (refuses {r = r} h) =
         absurd (not_both (Own place) r taken_is h)

@@ -7,6 +7,7 @@ pub mod Good
 pub mod Leaves
 pub mod LeafItems
 pub mod Answers
+pub mod Printing
 pub mod PlainStep
 pub mod Laws
 pub mod Views

@@ -13,12 +13,12 @@ use Rattle.psg_cache.specs.declared.note.NoteFault.TheVariants as faults
 use Rattle.psg_history.specs.Versions.{Versions}
 use Rattle.psg_history.specs.declared.history.TheConstants.{VERSIONS}
 use Rattle.psg_script.specs.declared.command.Command.{Command}
-use Rattle.psg_script.specs.declared.command.Command.TheVariants.{New, Refine, Insert, Cut, Remove, Close, Reopen, Show, Own, Free, Undo, Redo, Save, Paste}
+use Rattle.psg_script.specs.declared.command.Command.TheVariants.{New, Refine, Insert, Cut, Remove, Close, Reopen, Show, Own, Free, Undo, Redo, Save, Paste, Goto, Screen}
 use Rattle.psg_script.specs.declared.command.Where.{Where}
 use Rattle.psg_session.specs.declared.editor.OpenedTree.{OpenedTree}
 use Rattle.psg_session.specs.declared.editor.Editor.{Editor}
 use Rattle.psg_session.specs.declared.editor.Outcome.{Outcome}
-use Rattle.psg_session.specs.declared.editor.Outcome.TheVariants.{Stays, Opens as OpensTree, Changes, Undoes, Redoes, Saves}
+use Rattle.psg_session.specs.declared.editor.Outcome.TheVariants.{Stays, Opens as OpensTree, Changes, Undoes, Redoes, Saves, Goes}
 use Rattle.psg_session.specs.declared.finding.Found.{Found}
 use Rattle.psg_session.specs.declared.pasting.Source.{Source}
 use Rattle.psg_session.specs.Shelf.{saved_at}
@@ -36,7 +36,7 @@ use Rattle.psg_session.specs.declared.edits.Edit.{Edit}
 use Rattle.psg_session.specs.declared.saved.Saved.{Saved}
 use Rattle.psg_session.specs.Edits.{MayEdit, cost_of, edited}
 use Rattle.psg_session.specs.Good.{IsGoodIn}
-use Rattle.psg_session.specs.PlainState.{Answer, Opened, State, not_asked, named_path, with_change}
+use Rattle.psg_session.specs.PlainState.{Answer, Opened, State, not_asked, named_path, with_change, with_cursor}
 use Rattle.psg_session.specs.Leaves.{GivesLeaves}
 use Rattle.psg_session.specs.PlainStep.{Gives, IsRefused, IsTaken, Makes, IsOperator, IsOfPhylum, IsListOf, OfResult, Steps, end_of, opening, growing, closing, loosening}
 use Rattle.psg_session.specs.Refusals.{Tests, Refuses, Passes}
@@ -81,6 +81,7 @@ shelved s saved = record { opened = s.opened; cursor = s.cursor; earlier = s.ear
 -- the plain state after the command
 abbrev pub after : Editor → Outcome → State
 after e (Stays reply) = state_of e
+after e (Goes cursor lines) = with_cursor (state_of e) cursor
 after e (OpensTree held cursor mark) =
     record { opened = Some (plain held); cursor = cursor; earlier = []; later = []; saved = e.saved }
 after e (Changes note cursor mark) = changed (state_of e) (opened_of e.opened) (tree_in note) cursor
@@ -90,6 +91,7 @@ after e (Saves saved lines) = shelved (state_of e) saved
 
 abbrev pub reply_in : Outcome → Reply
 reply_in (Stays reply) = reply
+reply_in (Goes cursor lines) = Answered lines
 reply_in (OpensTree held cursor mark) = Marked mark
 reply_in (Changes note cursor mark) = Marked mark
 reply_in (Undoes cursor mark) = Marked mark
@@ -99,6 +101,7 @@ reply_in (Saves saved lines) = Answered lines
 -- the editor stays
 abbrev pub IsStay : Outcome → Type 0
 IsStay (Stays reply) = Unit {0}
+IsStay (Goes cursor lines) = ⊥
 IsStay (OpensTree held cursor mark) = ⊥
 IsStay (Changes note cursor mark) = ⊥
 IsStay (Undoes cursor mark) = ⊥
@@ -108,6 +111,7 @@ IsStay (Saves saved lines) = ⊥
 -- A new version is one of the opened tree's kind, and saved fragments are trees of their kinds.
 abbrev pub IsFit : Definition → Option OpenedTree → Outcome → Type 0
 IsFit def opened (Stays reply) = Unit {0}
+IsFit def opened (Goes cursor lines) = Unit {0}
 IsFit def opened (OpensTree held cursor mark) = IsVersion def held.kind held.note
 IsFit def opened (Undoes cursor mark) = Unit {0}
 IsFit def opened (Redoes cursor mark) = Unit {0}
@@ -261,10 +265,12 @@ IsChanging (Reopen place) = Unit {0}
 IsChanging (Paste place k name) = Unit {0}
 IsChanging _ = ⊥
 
--- the commands that neither open a fragment nor ask about it
+-- the commands that neither open a fragment nor ask about it or move in it
 abbrev pub IsElse : Command → Type 0
 IsElse (New name) = ⊥
+IsElse (Goto place) = ⊥
 IsElse Show = ⊥
+IsElse (Screen top left rows cols) = ⊥
 IsElse (Own place) = ⊥
 IsElse Free = ⊥
 IsElse Undo = ⊥

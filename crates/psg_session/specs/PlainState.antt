@@ -41,6 +41,16 @@ named_path (At path) cursor = path
 abbrev pub with_new : State → Kind → Fragment → State
 with_new s kind tree = record { opened = Some (record { kind = kind; tree = tree }); cursor = []; earlier = []; later = []; saved = s.saved }
 
+-- the cursor alone is set
+abbrev pub with_cursor : State → Path → State
+with_cursor s path = record {
+  opened = s.opened;
+  cursor = path;
+  earlier = s.earlier;
+  later = s.later;
+  saved = s.saved;
+}
+
 -- so many earlier and so many later trees are kept
 abbrev pub most_versions : ℕ
 most_versions = 32

@@ -17,11 +17,14 @@ use Rattle.psg_grammar.specs.Relations.{IsRelationOf}
 use Rattle.psg_grammar.specs.Sizes.{IsBig, IsDeep}
 use Rattle.psg_grammar.specs.Steps.{IsWide, IsHeavy}
 use Rattle.psg_grammar.specs.Marks.{Mark, IsMarkBy}
-use Rattle.psg_tree.specs.AbstractText.{abstract_text}
+use Rattle.psg_reads_back.specs.Layout.{text_of}
+use Rattle.psg_reads_back.specs.Spots.{Placed}
+use Rattle.psg_screen.specs.Window.{window_of}
+use Rattle.psg_unparse.specs.Spots.{span_of}
 use Rattle.psg_script.specs.declared.command.Where.{Where}
 use Rattle.psg_script.specs.declared.command.Command.{Command}
 use Rattle.psg_script.specs.declared.command.Command.TheVariants.{New, Goto, Refine, Insert, Cut, Remove, Close, Reopen, Over, Range, Show, Screen, Relation, Own, Menu, Names, Free, Undo, Redo, Save, Paste, Keep, Fetch}
-use Rattle.psg_session.specs.PlainState.{State, Opened, Answer, named_path, with_new, with_change, with_version, with_saved}
+use Rattle.psg_session.specs.PlainState.{State, Opened, Answer, named_path, with_new, with_change, with_version, with_saved, with_cursor}
 use Rattle.psg_session.specs.declared.saved.Saved.{Saved}
 use Rattle.psg_session.specs.Shelf.{saved_at, IsFull}
 use Rattle.psg_session.specs.declared.refusal.Refusal.{Refusal}
@@ -30,6 +33,7 @@ use Rattle.psg_session.specs.Refusals.{Tests, done, test, Refuses, Passes, place
 use Rattle.psg_session.specs.Replies.{Reply, refused, answered, marked, shown}
 use Rattle.psg_session.specs.Leaves.{GivesLeaves}
 use Rattle.psg_session.specs.Answers.{rows_lines, free_names, names_line}
+use Rattle.psg_session.specs.Printing.{goto_line, lines_in, view_of, what_is, IsWrittenAt}
 
 -- how a list ends, finished or not; no other node has an end
 abbrev pub end_of : Fragment → Option Bool
@@ -207,13 +211,13 @@ module _ (def : Definition) (IsGood : Fragment → Type 0) where
   tests s answer Show = test NothingOpened (s.opened ≡ None) done
   tests s answer (Own place) = at_place s place done
   tests s answer Free = test NothingOpened (s.opened ≡ None) done
-  tests s answer (Goto place) = unbuilt (at_place s place done)
+  tests s answer (Goto place) = at_place s place done
   tests s answer (Over place text) =
       unbuilt (at_place s place (unsaid NoTokens (unsaid NoTree (typing (OfResult def s (Over place text))))))
   tests s answer (Range start end text) =
       unbuilt (test NothingOpened (s.opened ≡ None)
       (unsaid NoRange (unsaid NoTokens (unsaid NoTree (typing (OfResult def s (Range start end text)))))))
-  tests s answer (Screen top left rows cols) = unbuilt (test NothingOpened (s.opened ≡ None) done)
+  tests s answer (Screen top left rows cols) = test NothingOpened (s.opened ≡ None) done
   tests s answer (Relation place) = unbuilt (at_place s place (unsaid TooWide done))
   tests s answer (Menu place k) = unbuilt (at_place s place (unsaid (place_test k) (unsaid TooWide done)))
   tests s answer (Names place k name) =
@@ -265,7 +269,16 @@ module _ (def : Definition) (IsGood : Fragment → Type 0) where
         → Steps s answer (Save name place) (with_saved s (record { name = name; kind = kind; tree = node }))
         (answered ((codes "saved " ++ name) ∷ []))
     shows : (old : Opened) (mark : Mark) → IsTaken s answer Show → s.opened ≡ Some old → IsMarkBy IsGood old.tree mark
-        → Steps s answer Show s (shown (abstract_text def old.tree ∷ []) mark)
+        → Steps s answer Show s (shown (lines_in (text_of def old.tree)) mark)
+    goes : {place : Where} (old : Opened) (p : Placed) (kind : Kind) (name : Name) → IsTaken s answer (Goto place)
+        → s.opened ≡ Some old → IsWrittenAt def old.tree (named_path place s.cursor) p → IsOfKind def p.node kind
+        → HasName def kind name
+        → Steps s answer (Goto place) (with_cursor s (named_path place s.cursor))
+        (answered (goto_line name (what_is def p.node) (span_of def p) ∷ []))
+    screens : {top left rows cols : ℕ} (old : Opened) → IsTaken s answer (Screen top left rows cols)
+        → s.opened ≡ Some old
+        → Steps s answer (Screen top left rows cols) s
+        (answered (window_of (text_of def old.tree) (view_of top left rows cols)))
     owns : {place : Where} (old : Opened) (node : Fragment) (rows : List (List Term)) → IsTaken s answer (Own place)
         → s.opened ≡ Some old → node_at old.tree (named_path place s.cursor) ≡ Some node → IsRelationOf def node rows
         → Steps s answer (Own place) s (answered (rows_lines def.signature (names_of def node) rows))

@@ -14,7 +14,8 @@ use Rattle.psg_session.specs.declared.leaves.Leaf.TheVariants.{Name, Number, Tex
 use Rattle.psg_session.specs.declared.replies.Mark.{Mark}
 use Rattle.psg_session.specs.declared.replies.Mark.TheVariants.{Good, Wrong}
 use Rattle.psg_session.specs.declared.replies.Reply.{Reply}
-use Rattle.psg_session.specs.declared.replies.Reply.TheVariants.{Refused, Marked, Shown, Answered}
+use Rattle.psg_session.specs.declared.replies.Reply.TheVariants.{Refused, Marked, Shown, Answered, Seen}
+use Rattle.psg_session.specs.Printing.{lines_in}
 use Rattle.psg_session.specs.Replies.{refused, answered, marked, shown, Reply as PlainReply}
 
 abbrev pub plain_leaf : Leaf → PlainLeaf
@@ -29,8 +30,9 @@ mark_of (Wrong culprits) = wrong culprits.items
 abbrev pub reply_of : Reply → PlainReply
 reply_of (Refused refusal) = refused refusal
 reply_of (Marked mark) = marked (mark_of mark)
-reply_of (Shown line mark) = shown (string_bytes line ∷ []) (mark_of mark)
+reply_of (Shown text mark) = shown (lines_in text) (mark_of mark)
 reply_of (Answered lines) = answered (map string_bytes lines.items)
+reply_of (Seen lines) = answered lines.items
 
 -- the names of the columns that are not declared
 abbrev pub names_without : List NameCol → List PlainName

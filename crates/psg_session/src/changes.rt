@@ -103,7 +103,7 @@ fn may_reopen(definition: &Definition, tree: &Tree) -> bool
 }
 
 /// Gives the kind of a tree.
-pub fn kind_of(definition: &Definition, tree: &Tree) -> Kind
+pub(crate) fn kind_of(definition: &Definition, tree: &Tree) -> Kind
     requires shaped { (kind : Kind) × IsShaped definition.now tree.now kind }
     ensures { IsOfKind definition.now tree.now result }
 {
@@ -127,7 +127,7 @@ fn with_end(alloc: Global, list: &Tree, unfinished: bool) -> Result<Tree, AllocE
 }
 
 /// Makes one more path of the same steps.
-pub fn copied(alloc: Global, path: &Path) -> Result<Path, AllocError>
+pub(crate) fn copied(alloc: Global, path: &Path) -> Result<Path, AllocError>
     ensures { IfOk result (λ p. p ≡ path.now) }
 {
     let copy = Path::of(alloc, path.steps())?;

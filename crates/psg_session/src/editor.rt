@@ -15,7 +15,8 @@ use crate::judging::{Trial, judged};
 use crate::language::Language;
 use crate::noting::{note_after, note_mark, note_of};
 use crate::pasting::paste;
-use crate::questions::{free, own, show};
+use crate::printing::{go, screen, show};
+use crate::questions::{free, own};
 use crate::refusal::Refusal;
 use crate::replies::{Mark, Reply};
 use crate::saved::{Saved, save};
@@ -23,6 +24,7 @@ use crate::versions::{redo, undo};
 use psg_cache::Note;
 use psg_grammar::{Kind, kind_named};
 use psg_history::History;
+use psg_screen::View;
 use psg_script::Command;
 use psg_terms::{Seq, Steps, Txt};
 use psg_tree::Path;
@@ -50,6 +52,8 @@ pub struct Editor {
 pub enum Outcome {
     /// The editor stays as it is.
     Stays(Reply),
+    /// The cursor alone moves, and the reply is these lines.
+    Goes(Path, Vec<String>),
     /// Another fragment is opened.
     Opens(OpenedTree, Path, Mark),
     /// The opened fragment has a new version.
@@ -73,6 +77,10 @@ impl Editor {
     {
         match outcome {
             Outcome::Stays(reply) => reply,
+            Outcome::Goes(cursor, lines) => {
+                self.cursor = cursor;
+                Reply::Answered(lines)
+            }
             Outcome::Opens(held, cursor, mark) => {
                 self.opened = Some(held);
                 self.cursor = cursor;
@@ -268,8 +276,27 @@ pub fn step<L: Ledger>(
             let outcome = open_new(alloc, language, editor, phylum, steps)?;
             Ok(outcome)
         }
+        Command::Goto { at } => {
+            let outcome = go(alloc, language, editor, at)?;
+            Ok(outcome)
+        }
         Command::Show => {
             let outcome = show(alloc, language, editor)?;
+            Ok(outcome)
+        }
+        Command::Screen {
+            top,
+            left,
+            rows,
+            cols,
+        } => {
+            let view = View {
+                top: *top,
+                left: *left,
+                rows: *rows,
+                cols: *cols,
+            };
+            let outcome = screen(alloc, language, editor, view)?;
             Ok(outcome)
         }
         Command::Own { at } => {

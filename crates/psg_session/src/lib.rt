@@ -23,6 +23,7 @@ pub mod laws;
 pub mod leaves;
 mod noting;
 pub mod pasting;
+mod printing;
 mod questions;
 pub mod refusal;
 pub mod replies;

@@ -14,29 +14,13 @@ ghost use Rattle.psg_session.specs.Views.{IsLanguage, names_without};
 use crate::editor::{Editor, Outcome};
 use crate::finding::find;
 use crate::language::Language;
-use crate::noting::note_mark;
 use crate::refusal::Refusal;
 use crate::replies::Reply;
 use psg_eval::Summary;
 use psg_scope::NameCol;
 use psg_script::Where;
 use psg_terms::{Signature, Term, Txt, term_text};
-use psg_tree::abstract_text;
 use std::alloc::{AllocError, Global};
-
-/// The abstract text of the opened fragment, and its mark.
-pub fn show(alloc: Global, language: &Language, editor: &Editor) -> Result<Outcome, AllocError>
-    requires language { IsLanguage language.now }
-    requires editor { IsEditor language.now.definition editor.now }
-    ensures { IfOk result (IsOutcome language.now.definition editor.now not_asked commands.Show) }
-{
-    let Some(held) = &editor.opened else {
-        return Ok(Outcome::Stays(Reply::Refused(Refusal::NothingOpened)));
-    };
-    let text = abstract_text(alloc, &language.definition, held.note.tree())?;
-    let mark = note_mark(alloc, &held.note)?;
-    Ok(Outcome::Stays(Reply::Shown(text, mark)))
-}
 
 /// The names that the opened fragment uses and its outermost region does not declare.
 pub fn free(alloc: Global, language: &Language, editor: &Editor) -> Result<Outcome, AllocError>

@@ -1,12 +1,14 @@
 //! Replies and how they are written.
-ghost use Rattle.std.specs.Prelude.{◌≡◌, ◌++◌, map, IfOk, string_bytes};
+ghost use Rattle.std.specs.Prelude.{◌≡◌, ◌∷◌, ◌++◌, [], map, IfOk, string_bytes};
 ghost use Rattle.psg_session.specs.Marked.{path_text, paths_text, mark_text};
-ghost use Rattle.psg_session.specs.Replies.{feed_all, reply_text};
+ghost use Rattle.psg_session.specs.Printing.{lines_in};
+ghost use Rattle.psg_session.specs.Replies.{feed, feed_all, reply_text};
 ghost use Rattle.psg_script.specs.Forms.{steps_text};
 ghost use Rattle.psg_session.specs.Views.{mark_of, reply_of};
 
 use crate::refusal::Refusal;
 use itoa::Buffer;
+use psg_terms::Txt;
 use psg_tree::Path;
 use std::alloc::{AllocError, Global};
 
@@ -24,14 +26,16 @@ pub enum Reply {
     Refused(Refusal),
     /// The mark of the fragment.
     Marked(Mark),
-    /// A line of text, and then the mark.
-    Shown(String, Mark),
+    /// The lines of a text, which end at line feeds, and then the mark.
+    Shown(Txt, Mark),
     /// Lines of text.
     Answered(Vec<String>),
+    /// The lines of a window.
+    Seen(Vec<Txt>),
 }
 
 /// Writes the path behind the text.
-fn push_path(text: &mut String, path: &Path) -> Result<(), AllocError>
+pub(crate) fn push_path(text: &mut String, path: &Path) -> Result<(), AllocError>
     ensures { IfOk result (λ _. string_bytes text.new ≡ string_bytes text.old ++ path_text path.now) }
 {
     let steps = path.steps();
@@ -95,13 +99,16 @@ pub fn reply_lines(alloc: Global, reply: &Reply) -> Result<String, AllocError>
             text.push_str(digits.format(refusal.number()))?;
         }
         Reply::Marked(mark) => push_mark(&mut text, mark)?,
-        Reply::Shown(line, mark) => {
-            text.push_str(line.as_str())?;
-            text.push_str("\n")?;
-            push_mark(&mut text, mark)?;
+        Reply::Shown(shown, mark) => {
+            push_shown(&mut text, shown.as_str(), mark)?;
+            return Ok(text);
         }
         Reply::Answered(lines) => {
             push_lines(&mut text, lines.as_slice())?;
+            return Ok(text);
+        }
+        Reply::Seen(lines) => {
+            push_seen(&mut text, lines.as_slice())?;
             return Ok(text);
         }
     }
@@ -117,5 +124,36 @@ fn push_lines(text: &mut String, lines: &[String]) -> Result<(), AllocError>
         text.push_str(line.as_str())?;
         text.push_str("\n")?;
     }
+    Ok(())
+}
+
+/// Writes each line of a window with its line feed behind the text.
+fn push_seen(text: &mut String, lines: &[Txt]) -> Result<(), AllocError>
+    ensures { IfOk result (λ _. string_bytes text.new ≡ string_bytes text.old ++ feed_all lines.now) }
+{
+    for line in lines {
+        text.push_str(line.as_str())?;
+        text.push_str("\n")?;
+    }
+    Ok(())
+}
+
+/// Writes the shown text, which has a line or more, and then the mark behind the text, each line with its line feed.
+fn push_shown(text: &mut String, shown: &str, mark: &Mark) -> Result<(), AllocError>
+    ensures { IfOk result (λ _. string_bytes text.new
+        ≡ string_bytes text.old ++ feed_all (lines_in shown.now ++ mark_text (mark_of mark.now) ∷ [])) }
+{
+    push_line(text, shown)?;
+    push_mark(text, mark)?;
+    text.push_str("\n")?;
+    Ok(())
+}
+
+/// Writes the line with its line feed behind the text.
+fn push_line(text: &mut String, line: &str) -> Result<(), AllocError>
+    ensures { IfOk result (λ _. string_bytes text.new ≡ string_bytes text.old ++ feed line.now) }
+{
+    text.push_str(line)?;
+    text.push_str("\n")?;
     Ok(())
 }

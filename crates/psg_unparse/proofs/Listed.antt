@@ -18,7 +18,7 @@ use Rattle.psg_unparse.specs.Listing.{IsListing}
 
 -- ---- operators take parts, and lists go on with lists
 
-abbrev IsSpine : Fragment → Type 0
+abbrev pub IsSpine : Fragment → Type 0
 IsSpine (operator o) = Unit {0}
 IsSpine (with_child f t) = Unit {0}
 IsSpine (with_name f n) = Unit {0}
@@ -26,7 +26,7 @@ IsSpine (with_number f n) = Unit {0}
 IsSpine (with_text f n) = Unit {0}
 IsSpine _ = ⊥
 
-abbrev IsProper : Fragment → Type 0
+abbrev pub IsProper : Fragment → Type 0
 IsProper (hole p) = Unit {0}
 IsProper (ending l u) = Unit {0}
 IsProper (cell l e r) = IsProper e × (IsProper r × IsList r)
@@ -375,13 +375,14 @@ module _ (def : Definition) where
   reach s n anything h c k u q t m g d e = absurd h
   reach s n (observed f) h c k u q t m g d e = absurd h
 
+pub proper_listing : (def : Definition) (f : Fragment) → IsProper f → IsListing def f
+proper_listing def f p = record {
+  nodes = λ path q l.
+      let a : IsAt f [] q = each-at (IsAt f []) (placed_in def f) l.0 q (all-at def top_spot f p) l.1 in
+      ap (node_at f) (sym l.2 ∙ a.path_is) ∙ a.node;
+  all = λ path t e. among-got path t (placed_in def f) (reach-top def top_spot f p (reach def top_spot 0 f p (λ _. refl)) path t e);
+  once = once-same (placed_in def f) (once-top def top_spot f p (once def top_spot 0 f p (λ _. refl)));
+}
+
 pub listing : (def : Definition) (f : Fragment) (kind : Kind) → WellFormed def f kind → IsListing def f
-listing def f kind h =
-    let p : IsProper f = proper def f [] kind h.0 h.1 in
-    record {
-      nodes = λ path q l.
-          let a : IsAt f [] q = each-at (IsAt f []) (placed_in def f) l.0 q (all-at def top_spot f p) l.1 in
-          ap (node_at f) (sym l.2 ∙ a.path_is) ∙ a.node;
-      all = λ path t e. among-got path t (placed_in def f) (reach-top def top_spot f p (reach def top_spot 0 f p (λ _. refl)) path t e);
-      once = once-same (placed_in def f) (once-top def top_spot f p (once def top_spot 0 f p (λ _. refl)));
-    }
+listing def f kind h = proper_listing def f (proper def f [] kind h.0 h.1)

@@ -15,7 +15,7 @@ use std::sync::ledger::{Blank, Ledger};
 /// The script that opens a sum, and its output.
 const SUM: &str = "new Exp\nrefine / plus\nshow\nrefine /0 tru\nshow\n";
 
-const SUM_OUTPUT: &str = "ok\nok\nplus(?Exp,?Exp)\nok\nrefused 12\nplus(?Exp,?Exp)\nok\n";
+const SUM_OUTPUT: &str = "ok\nok\n( ?Exp + ?Exp )\nok\nrefused 12\n( ?Exp + ?Exp )\nok\n";
 
 const CHECK: &[&str] = &["check", "lang"];
 

@@ -31,3 +31,10 @@ returns-in-Redoes-clause-state c =
 pub returns-in-Redoes-clause-editor : goal.returns-in-Redoes-clause-editor
 returns-in-Redoes-clause-editor c = λ def editor fit.
     forward_editor c.args.self.now c.go_forward.new.self c.in-Redoes.cursor def editor c.go_forward.ensures
+
+pub returns-in-Goes-clause-state : goal.returns-in-Goes-clause-state
+returns-in-Goes-clause-state c = ap (after c.args.self.now) (sym c.in-Goes.is)
+
+pub returns-in-Goes-clause-editor : goal.returns-in-Goes-clause-editor
+returns-in-Goes-clause-editor c = λ def editor fit.
+    record { earlier = editor.earlier; later = editor.later; saved = editor.saved }

@@ -1,13 +1,16 @@
 use Rattle.std.proofs.Common.{ap, ◌∙◌}
-use Rattle.std.specs.Prelude.{string_bytes}
-use Rattle.psg_tree.specs.AbstractText.{abstract_text}
+use Rattle.psg_reads_back.specs.Layout.{text_of}
 use Rattle.psg_session.specs.Views.{mark_of}
 use Rattle.psg_session.proofs.Options.{only_none}
 use Rattle.psg_script.specs.declared.command.Command.TheVariants.{Show}
 use Rattle.psg_session.specs.declared.refusal.Refusal.TheVariants.{NothingOpened}
 use Rattle.psg_session.specs.declared.replies.Reply.TheVariants.{Refused, Shown}
-use Rattle.psg_session.proofs.Asking.{show_unopened, show_opened, stayed}
-use Rattle.psg_session.proofs.questions.show.Goals as goal
+use Rattle.psg_session.proofs.Asking.{stayed}
+use Rattle.psg_session.proofs.Showing.{show_unopened, show_opened}
+use Rattle.psg_session.proofs.printing.show.Goals as goal
+
+pub text_of-requires : goal.text_of-requires
+text_of-requires c = record { sound = c.requires.language.sound }
 
 pub returns-in_default : goal.returns-in_default
 returns-in_default c =
@@ -19,5 +22,5 @@ pub returns : goal.returns
 returns c =
     stayed c.args.language.now.definition c.args.editor.now Show (Shown c.in_ok-text.text c.in_ok-mark.mark)
     (show_opened c.args.language.now.definition c.args.editor.now c.in-Some.held c.in-Some.is c.requires.editor
-    (string_bytes c.in_ok-text.text) (mark_of c.in_ok-mark.mark)
-    (c.in_ok-text.ensures ∙ ap (abstract_text c.args.language.now.definition) c.tree.ensures) c.in_ok-mark.ensures)
+    c.in_ok-text.text (mark_of c.in_ok-mark.mark)
+    (c.in_ok-text.ensures ∙ ap (text_of c.args.language.now.definition) c.tree.ensures) c.in_ok-mark.ensures)
