@@ -1,5 +1,5 @@
 -- A command that is not built is refused.
-use Rattle.std.proofs.Common.{◌≡◌, inl, refl}
+use Rattle.std.proofs.Common.{◌≡◌, inl, ℕ, List, refl}
 use Rattle.psg_terms.specs.Names.{Name}
 use Rattle.psg_grammar.specs.declared.types.Definition.{Definition}
 use Rattle.psg_script.specs.declared.command.Where.{Where}
@@ -19,6 +19,7 @@ module _ (def : Definition) (e : Editor) where
 
   pub unbuilt_refused : (command : Command) → IsElse command → (IsChanging command → ⊥) → IsAsNone command
   unbuilt_refused (New name) other never = absurd other
+  unbuilt_refused (Over place text) other never = absurd other
   unbuilt_refused Show other never = absurd other
   unbuilt_refused (Own place) other never = absurd other
   unbuilt_refused Free other never = absurd other
@@ -29,7 +30,6 @@ module _ (def : Definition) (e : Editor) where
   unbuilt_refused (Close place) other never = absurd (never tt)
   unbuilt_refused (Reopen place) other never = absurd (never tt)
   unbuilt_refused (Goto place) other never = record { steps = refuses (inl (tt, refl)); fit = tt }
-  unbuilt_refused (Over place text) other never = record { steps = refuses (inl (tt, refl)); fit = tt }
   unbuilt_refused (Range start end text) other never = record { steps = refuses (inl (tt, refl)); fit = tt }
   unbuilt_refused (Screen top left rows cols) other never = record { steps = refuses (inl (tt, refl)); fit = tt }
   unbuilt_refused (Relation place) other never = record { steps = refuses (inl (tt, refl)); fit = tt }
@@ -42,28 +42,29 @@ module _ (def : Definition) (e : Editor) where
   unbuilt_refused (Keep name file) other never = record { steps = refuses (inl (tt, refl)); fit = tt }
   unbuilt_refused (Fetch file) other never = record { steps = refuses (inl (tt, refl)); fit = tt }
 
-pub else_by : (command : Command) → ((name : Name) → command ≡ New name → ⊥) → (command ≡ Show → ⊥)
+pub else_by : (command : Command) → ((name : Name) → command ≡ New name → ⊥)
+    → ((place : Where) (text : List ℕ) → command ≡ Over place text → ⊥) → (command ≡ Show → ⊥)
     → ((place : Where) → command ≡ Own place → ⊥) → (command ≡ Free → ⊥) → IsElse command
-else_by (New name) a b c d = a name refl
-else_by Show a b c d = b refl
-else_by (Own place) a b c d = c place refl
-else_by Free a b c d = d refl
-else_by (Refine place name args) a b c d = tt
-else_by (Insert place k name args) a b c d = tt
-else_by (Cut place) a b c d = tt
-else_by (Remove place k) a b c d = tt
-else_by (Close place) a b c d = tt
-else_by (Reopen place) a b c d = tt
-else_by (Goto place) a b c d = tt
-else_by (Over place text) a b c d = tt
-else_by (Range start end text) a b c d = tt
-else_by (Screen top left rows cols) a b c d = tt
-else_by (Relation place) a b c d = tt
-else_by (Menu place k) a b c d = tt
-else_by (Names place k name) a b c d = tt
-else_by Undo a b c d = tt
-else_by Redo a b c d = tt
-else_by (Save name place) a b c d = tt
-else_by (Paste place k name) a b c d = tt
-else_by (Keep name file) a b c d = tt
-else_by (Fetch file) a b c d = tt
+else_by (New name) a o b c d = a name refl
+else_by Show a o b c d = b refl
+else_by (Own place) a o b c d = c place refl
+else_by Free a o b c d = d refl
+else_by (Refine place name args) a o b c d = tt
+else_by (Insert place k name args) a o b c d = tt
+else_by (Cut place) a o b c d = tt
+else_by (Remove place k) a o b c d = tt
+else_by (Close place) a o b c d = tt
+else_by (Reopen place) a o b c d = tt
+else_by (Goto place) a o b c d = tt
+else_by (Over place text) a o b c d = o place text refl
+else_by (Range start end text) a o b c d = tt
+else_by (Screen top left rows cols) a o b c d = tt
+else_by (Relation place) a o b c d = tt
+else_by (Menu place k) a o b c d = tt
+else_by (Names place k name) a o b c d = tt
+else_by Undo a o b c d = tt
+else_by Redo a o b c d = tt
+else_by (Save name place) a o b c d = tt
+else_by (Paste place k name) a o b c d = tt
+else_by (Keep name file) a o b c d = tt
+else_by (Fetch file) a o b c d = tt

@@ -6,6 +6,7 @@ pub mod Good
 pub mod Leaves
 pub mod LeafItems
 pub mod Answers
+pub mod Typed
 pub mod PlainStep
 pub mod Laws
 pub mod Views

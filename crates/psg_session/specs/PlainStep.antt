@@ -17,6 +17,7 @@ use Rattle.psg_grammar.specs.Relations.{IsRelationOf}
 use Rattle.psg_grammar.specs.Sizes.{IsBig, IsDeep}
 use Rattle.psg_grammar.specs.Steps.{IsWide, IsHeavy}
 use Rattle.psg_grammar.specs.Marks.{Mark, IsMarkBy}
+use Rattle.psg_class.specs.Texts.{HasNoTokens}
 use Rattle.psg_tree.specs.AbstractText.{abstract_text}
 use Rattle.psg_script.specs.declared.command.Where.{Where}
 use Rattle.psg_script.specs.declared.command.Command.{Command}
@@ -27,6 +28,7 @@ use Rattle.psg_session.specs.declared.refusal.Refusal.TheVariants.{NoCommand, No
 use Rattle.psg_session.specs.Refusals.{Tests, done, test, Refuses, Passes, place_test}
 use Rattle.psg_session.specs.Replies.{Reply, refused, answered, marked, shown}
 use Rattle.psg_session.specs.Leaves.{GivesLeaves}
+use Rattle.psg_session.specs.Typed.{HasNoTreeFor, NestsTooDeep, ReadsFor}
 use Rattle.psg_session.specs.Answers.{rows_lines, free_names, names_line}
 
 -- how a list ends, finished or not; no other node has an end
@@ -95,6 +97,8 @@ module _ (def : Definition) where
         → Makes s (Close place) (change_at (ended false) (named_path place s.cursor) old.tree) (named_path place s.cursor)
     by_reopen : {place : Where} (old : Opened) → s.opened ≡ Some old
         → Makes s (Reopen place) (change_at (ended true) (named_path place s.cursor) old.tree) (named_path place s.cursor)
+    by_over : {place : Where} {text : List ℕ} (old : Opened) (node new : Fragment) (nesting : ℕ) → s.opened ≡ Some old → node_at old.tree (named_path place s.cursor) ≡ Some node → ReadsFor def node text new nesting
+        → Makes s (Over place text) (replaced (named_path place s.cursor) new old.tree) (named_path place s.cursor)
 
   -- what a command gives before it is tested: what a change makes, or the new tree of a kind
   pub data Gives (s : State) : Command → Fragment → Type 0 where
@@ -127,9 +131,9 @@ module _ (def : Definition) (IsGood : Fragment → Type 0) where
   abbrev pub growing : ((Fragment → Type 0) → Type 0) → Tests
   growing Of = test TooDeep (Of IsDeep) (test TooBig (Of IsBig) (closing Of))
 
-  -- where text is typed, which may be any program
-  abbrev pub typing : ((Fragment → Type 0) → Type 0) → Tests
-  typing Of = test TooDeep (Of IsDeep) (test TooBig (Of IsBig) (loosening Of))
+  -- Where text is typed, which may be any program. Its brackets may nest too deep while its tree, which has none, does not.
+  abbrev pub typing : Type 0 → ((Fragment → Type 0) → Type 0) → Tests
+  typing Nested Of = test TooDeep (Nested ⊎ Of IsDeep) (test TooBig (Of IsBig) (loosening Of))
 
   -- nothing is opened, or no node is at the place
   abbrev pub at_place : State → Where → Tests → Tests
@@ -183,10 +187,13 @@ module _ (def : Definition) (IsGood : Fragment → Type 0) where
   tests s answer Free = test NothingOpened (s.opened ≡ None) done
   tests s answer (Goto place) = unbuilt (at_place s place done)
   tests s answer (Over place text) =
-      unbuilt (at_place s place (unsaid NoTokens (unsaid NoTree (typing (OfResult def s (Over place text))))))
+      at_place s place
+      (test NoTokens (HasNoTokens def text)
+      (test NoTree (AtNode def s place (λ old node. HasNoTreeFor def node text))
+      (typing (AtNode def s place (λ old node. NestsTooDeep def node text)) (OfResult def s (Over place text)))))
   tests s answer (Range start end text) =
       unbuilt (test NothingOpened (s.opened ≡ None)
-      (unsaid NoRange (unsaid NoTokens (unsaid NoTree (typing (OfResult def s (Range start end text)))))))
+      (unsaid NoRange (unsaid NoTokens (unsaid NoTree (typing ⊥ (OfResult def s (Range start end text)))))))
   tests s answer (Screen top left rows cols) = unbuilt (test NothingOpened (s.opened ≡ None) done)
   tests s answer (Relation place) = unbuilt (at_place s place (unsaid TooWide done))
   tests s answer (Menu place k) = unbuilt (at_place s place (unsaid (place_test k) (unsaid TooWide done)))

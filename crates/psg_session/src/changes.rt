@@ -103,7 +103,7 @@ fn may_reopen(definition: &Definition, tree: &Tree) -> bool
 }
 
 /// Gives the kind of a tree.
-fn kind_of(definition: &Definition, tree: &Tree) -> Kind
+pub(crate) fn kind_of(definition: &Definition, tree: &Tree) -> Kind
     requires shaped { (kind : Kind) × IsShaped definition.now tree.now kind }
     ensures { IsOfKind definition.now tree.now result }
 {
@@ -135,7 +135,7 @@ fn copied(alloc: Global, path: &Path) -> Result<Path, AllocError>
 }
 
 /// Plans the tree in place of the node at the path, to which the cursor goes.
-fn put(alloc: Global, trial: Trial, path: &Path, new: Tree) -> Result<Made, AllocError>
+pub(crate) fn put(alloc: Global, trial: Trial, path: &Path, new: Tree) -> Result<Made, AllocError>
     ensures { IfOk result (λ made. made ≡ made_of trial (edits.Put path.now new) path.now) }
 {
     let at = copied(alloc, path)?;

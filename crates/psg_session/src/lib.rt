@@ -26,6 +26,7 @@ mod questions;
 pub mod refusal;
 pub mod replies;
 pub mod session;
+mod typed;
 
 pub use language::Language;
 pub use refusal::Refusal;
