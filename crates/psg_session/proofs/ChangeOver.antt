@@ -266,8 +266,8 @@ module _ (def : Definition) (e : Editor) (place : Where) (text : List ℕ) where
             both_ticks from so_far to read
             (subst (λ (h : OpenedTree). to ≤ so_far + cost_of (Put f.path.now new) (tree_in h.note)) two
             (subst (λ (x : Made). to ≤ so_far + cost_of x.edit (tree_in held.note)) one le)) where
-          plan_once : (a b : Made) → Plans b ≡ Plans a → a ≡ b
-          plan_once a b same = cc
+              plan_once : (a b : Made) → Plans b ≡ Plans a → a ≡ b
+              plan_once a b same = cc
 
   -- a plan that refuses spends nothing more
   pub refused_spends : (r : Refusal) (from so_far : ℕ) → HasTicked def (state_of e) (Over place text) from so_far
@@ -277,7 +277,7 @@ module _ (def : Definition) (e : Editor) (place : Where) (text : List ℕ) where
     counted = let h = ticked.counted in omega (arith, same, h);
     within = ticked.within;
   }
-  refused_spends r from so_far ticked to (inr (m, is_plan, rest)) = absurd (apart m is_plan) where
+  refused_spends r from so_far ticked to (inr (m, is_plan, held, opened, le)) = absurd (apart m is_plan) where
     apart : (m : Made) → RefusedBy r ≡ Plans m → ⊥
     apart m same = cc
 

@@ -154,7 +154,6 @@ module _ (def : Definition) (IsGood : Fragment → Type 0) (s : State) (answer :
         (change_made_once old old' (ended false) (named_path at s.cursor) opened opened', refl)
     makes_once (by_reopen {place = at} old opened) (by_reopen old' opened') =
         (change_made_once old old' (ended true) (named_path at s.cursor) opened opened', refl)
-
     makes_once (by_over {place = at} {text = text} old node new n opened here reads)
         (by_over old' node' new' n' opened' here' reads') =
         let one : node ≡ node' = node_once old old' node node' (named_path at s.cursor) opened opened' here here' in

@@ -31,7 +31,7 @@ pub returns-in_err-new-clause-ticks : goal.returns-in_err-new-clause-ticks
 returns-in_err-new-clause-ticks g c =
     let def = c.args.language.now.definition in
     read_ticks def c.args.editor.now c.args.place.now c.args.text.now c.in-Ok.found c.in-Ok.ensures.ok _ _
-    (subst (λ t. HasRead def t c.args.steps.now c.read_tree-new.new.steps) c.as_str.ensures
+    (subst (λ t. HasRead def t c.args.steps.now c.read_tree.new.steps) c.as_str.ensures
     c.in_err-new.ensures.read)
 
 pub returns-in-Err-2-clause-plan : goal.returns-in-Err-2-clause-plan
@@ -46,7 +46,7 @@ pub returns-in-Err-2-clause-ticks : goal.returns-in-Err-2-clause-ticks
 returns-in-Err-2-clause-ticks g c =
     let def = c.args.language.now.definition in
     read_ticks def c.args.editor.now c.args.place.now c.args.text.now c.in-Ok.found c.in-Ok.ensures.ok _ _
-    (subst (λ t. HasRead def t c.args.steps.now c.read_tree-new.new.steps) c.as_str.ensures
+    (subst (λ t. HasRead def t c.args.steps.now c.read_tree.new.steps) c.as_str.ensures
     c.in_ok-new.ensures.read)
 
 pub returns-in-Err-2-clause-spends : goal.returns-in-Err-2-clause-spends
@@ -54,14 +54,14 @@ returns-in-Err-2-clause-spends g c =
     let def = c.args.language.now.definition in
     refused_spends def c.args.editor.now c.args.place.now c.args.text.now c.in-Err-2.refusal _ _
     (read_ticks def c.args.editor.now c.args.place.now c.args.text.now c.in-Ok.found c.in-Ok.ensures.ok _ _
-    (subst (λ t. HasRead def t c.args.steps.now c.read_tree-new.new.steps) c.as_str.ensures
+    (subst (λ t. HasRead def t c.args.steps.now c.read_tree.new.steps) c.as_str.ensures
     c.in_ok-new.ensures.read))
 
 pub returns-in_err-made-clause-ticks : goal.returns-in_err-made-clause-ticks
 returns-in_err-made-clause-ticks g c =
     let def = c.args.language.now.definition in
     read_ticks def c.args.editor.now c.args.place.now c.args.text.now c.in-Ok.found c.in-Ok.ensures.ok _ _
-    (subst (λ t. HasRead def t c.args.steps.now c.read_tree-new.new.steps) c.as_str.ensures
+    (subst (λ t. HasRead def t c.args.steps.now c.read_tree.new.steps) c.as_str.ensures
     c.in_ok-new.ensures.read)
 
 pub returns-clause-plan : goal.returns-clause-plan
@@ -78,7 +78,7 @@ pub returns-clause-ticks : goal.returns-clause-ticks
 returns-clause-ticks g c =
     let def = c.args.language.now.definition in
     read_ticks def c.args.editor.now c.args.place.now c.args.text.now c.in-Ok.found c.in-Ok.ensures.ok _ _
-    (subst (λ t. HasRead def t c.args.steps.now c.read_tree-new.new.steps) c.as_str.ensures
+    (subst (λ t. HasRead def t c.args.steps.now c.read_tree.new.steps) c.as_str.ensures
     c.in_ok-new.ensures.read)
 
 pub returns-clause-spends : goal.returns-clause-spends
@@ -90,5 +90,5 @@ returns-clause-spends g c =
     made_spends def c.args.editor.now c.args.place.now c.args.text.now c.in-Ok.found c.in-Ok.ensures.ok
     c.kind_of-kind.result c.kind_of-kind.ensures c.requires.language.class c.in-Ok-2.new tree c.in_ok-made.made
     c.in_ok-made.ensures _ _
-    (subst (λ t. HasRead def t c.args.steps.now c.read_tree-new.new.steps) c.as_str.ensures
+    (subst (λ t. HasRead def t c.args.steps.now c.read_tree.new.steps) c.as_str.ensures
     c.in_ok-new.ensures.read)

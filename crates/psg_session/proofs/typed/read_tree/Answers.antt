@@ -37,8 +37,8 @@ returns-in-Ok-clause-read g c =
     c.in-Some.tokens c.in-Some.is c.in_ok-tokens.ensures.some) c.as_slice.ensures.value _ _
     c.parse_with-parsed.ensures.steps
 
-pub returns-in_ok-refusal-in-Err-clause-answer : goal.returns-in_ok-refusal-in-Err-clause-answer
-returns-in_ok-refusal-in-Err-clause-answer g c =
+pub returns-clause-answer : goal.returns-clause-answer
+returns-clause-answer g c =
     let def = c.args.language.now.definition in
     not_parsed def c.args.kind c.args.text.now c.in-Some.tokens.items c.as_slice.result.now
     (some_in (λ (v : Vec Spanned Global). TextTokens def c.args.text.now v.items) c.in_ok-tokens.field-0
@@ -47,8 +47,8 @@ returns-in_ok-refusal-in-Err-clause-answer g c =
     (err_at (IsFault def (goal_of c.args.kind) c.as_slice.result.now) c.parse_with-parsed.result c.in-Err.fault
     c.in-Err.is c.parse_with-parsed.ensures.fault) c.in_ok-refusal-in-Err.ensures
 
-pub returns-in_ok-refusal-in-Err-clause-read : goal.returns-in_ok-refusal-in-Err-clause-read
-returns-in_ok-refusal-in-Err-clause-read g c =
+pub returns-clause-read : goal.returns-clause-read
+returns-clause-read g c =
     let def = c.args.language.now.definition in
     ticks_read def c.args.kind c.args.text.now c.in-Some.tokens.items c.as_slice.result.now
     (some_in (λ (v : Vec Spanned Global). TextTokens def c.args.text.now v.items) c.in_ok-tokens.field-0
