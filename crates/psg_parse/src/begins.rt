@@ -22,7 +22,12 @@ use psg_lexis::Spanned;
 use std::alloc::{AllocError, Global};
 
 /// Whether the token is the placeholder of the phylum, and it has one.
-pub(crate) fn opens_hole(definition: &Definition, lookup: &ParseTable, phylum: u32, seen: Seen) -> bool
+pub(crate) fn opens_hole(
+    definition: &Definition,
+    lookup: &ParseTable,
+    phylum: u32,
+    seen: Seen,
+) -> bool
     requires { IsParseTable definition.now lookup.now }
     ensures { IsTrue result ↔ OpensHole definition.now phylum (terminal_seen seen.entry) }
 {

@@ -25,7 +25,12 @@ use psg_lexis::Spanned;
 use std::alloc::{AllocError, Global};
 
 /// The led operator of the phylum that goes on with the token.
-pub(crate) fn led(definition: &Definition, lookup: &ParseTable, phylum: u32, seen: Seen) -> Option<u32>
+pub(crate) fn led(
+    definition: &Definition,
+    lookup: &ParseTable,
+    phylum: u32,
+    seen: Seen,
+) -> Option<u32>
     requires { IsParseTable definition.now lookup.now }
     ensures { Finds (λ n. Led definition.now phylum n (terminal_seen seen.entry)) result }
 {

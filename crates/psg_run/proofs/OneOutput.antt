@@ -2,6 +2,7 @@
 use Rattle.std.proofs.Common.{◌≡◌, ℕ, zero, suc, List, [], ◌∷◌, ◌++◌, take, Option, refl, sym, ◌∙◌, ap, subst, append_assoc}
 use Rattle.psg_grammar.specs.declared.types.Definition.{Definition}
 use Rattle.psg_grammar.specs.Fragments.{Fragment}
+use Rattle.psg_class.specs.Class.{IsClass}
 use Rattle.psg_grammar.specs.Sound.{IsSound}
 use Rattle.psg_script.specs.declared.command.Command.{Command}
 use Rattle.psg_session.specs.PlainState.{State, Answer, not_asked}
@@ -22,12 +23,12 @@ use Rattle.psg_session.proofs.OneStep.{step_once}
 front_behind : (text a b : List ℕ) → IsFrontOf a b → IsFrontOf (text ++ a) (text ++ b)
 front_behind text a b (rest, is) = (rest, ap (λ o. text ++ o) is ∙ sym (append_assoc text a rest))
 
-module _ (def : Definition) (IsGood : Fragment → Type 0) (sound : IsSound def) where
+module _ (def : Definition) (IsGood : Fragment → Type 0) (sound : IsSound def) (is_class : IsClass def) where
   -- a line has one step
   line_step_once : (answer : Answer) {s t u : State} (line : List ℕ) (c d : Command) {reply other : Reply} → Spells line c → Spells line d
       → Steps def IsGood s answer c t reply → Steps def IsGood s answer d u other → (t ≡ u) × (reply ≡ other)
   line_step_once answer {s = s} {u = u} line c d {other = other} is_line is_line' steps steps' =
-      step_once def IsGood s answer sound steps (subst (λ x. Steps def IsGood s answer x u other) (sym (spelled_once line c d is_line is_line')) steps')
+      step_once def IsGood s answer sound is_class steps (subst (λ x. Steps def IsGood s answer x u other) (sym (spelled_once line c d is_line is_line')) steps')
 
   -- and either asks or not
   not_both : (s : State) (line : List ℕ) (c d : Command) (asked : Asked) → Spells line c → Spells line d → ((a : Asked) → Asks def s c a → ⊥) → Asks def s d asked → ⊥

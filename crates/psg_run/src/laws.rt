@@ -1,12 +1,15 @@
 //! Laws of the plain editor, as contracts of calls that do nothing.
+ghost use Rattle.psg_class.specs.Class.{IsClass};
 ghost use Rattle.psg_grammar.specs.Sound.{IsSound};
 ghost use Rattle.psg_run.specs.OneOutput.{HasOneOutput};
 ghost use Rattle.psg_session.specs.Good.{IsGoodIn};
 
 use psg_grammar::Definition;
 
-/// The plain editor gives each script one output. It does nothing at run time.
+/// States that the plain editor gives each script one output, where no text is read as two trees. It does nothing at run
+/// time.
 pub fn one_output(definition: &Definition)
-    requires { IsSound definition.now }
+    requires sound { IsSound definition.now }
+    requires class { IsClass definition.now }
     ensures { HasOneOutput definition.now (IsGoodIn definition.now) }
 {}

@@ -19,7 +19,7 @@ use Rattle.psg_session.specs.declared.editor.OpenedTree.{OpenedTree}
 use Rattle.psg_session.specs.declared.editor.Outcome.{Outcome}
 use Rattle.psg_session.specs.declared.editor.Outcome.TheVariants.{Stays, Opens as OpensTree, Changes}
 use Rattle.psg_session.specs.declared.judging.Trial.{Trial}
-use Rattle.psg_session.specs.declared.judging.Trial.TheVariants.{Opens, Grows, Closes, Loosens}
+use Rattle.psg_session.specs.declared.judging.Trial.TheVariants.{Opens, Grows, Types, Closes, Loosens}
 use Rattle.psg_session.specs.declared.refusal.Refusal.{Refusal}
 use Rattle.psg_session.specs.declared.refusal.Refusal.TheVariants.{NoPlaceholder, Unknown}
 use Rattle.psg_session.specs.declared.replies.Mark.{Mark}
@@ -56,6 +56,9 @@ module _ (def : Definition) (Of To : (Fragment → Type 0) → Type 0)
   refuses_again Grows r h =
       again (up _) (down _) (again (up _) (down _)
       (again (up _) (down _) (again (up _) (down _) (again (up _) (down _) (λ x. x))))) h
+  refuses_again Types r h =
+      again (up _) (down _) (again (up _) (down _)
+      (again (up _) (down _) (again (up _) (down _) (λ x. x)))) h
   refuses_again Closes r h = again (up _) (down _) (again (up _) (down _) (again (up _) (down _) (λ x. x))) h
   refuses_again Loosens r h = again (up _) (down _) (again (up _) (down _) (λ x. x)) h
 
@@ -63,6 +66,7 @@ module _ (def : Definition) (Of To : (Fragment → Type 0) → Type 0)
   passes_again Opens h = both (down _) (λ x. x) h
   passes_again Grows h =
       both (down _) (both (down _) (both (down _) (both (down _) (both (down _) (λ x. x))))) h
+  passes_again Types h = both (down _) (both (down _) (both (down _) (both (down _) (λ x. x)))) h
   passes_again Closes h = both (down _) (both (down _) (both (down _) (λ x. x))) h
   passes_again Loosens h = both (down _) (both (down _) (λ x. x)) h
 

@@ -26,6 +26,9 @@ pub mod LeafReads
 pub mod LeafNames
 pub mod ChangeLaws
 pub mod OnlyMemory
+pub mod Depths
+pub mod TypedLaws
+pub mod ChangeOver
 pub mod ChangeRefine
 pub mod ChangeInsert
 pub mod ChangeCut

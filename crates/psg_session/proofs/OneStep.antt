@@ -15,6 +15,7 @@ use Rattle.psg_grammar.specs.WellFormed.{fixed_words}
 use Rattle.psg_grammar.proofs.NamePlaces.{only_kind, only_op}
 use Rattle.psg_lexis.proofs.Laws.{only_tokens}
 use Rattle.psg_grammar.specs.Kinds.{kind_name_of, IsOfKind}
+use Rattle.psg_class.specs.Class.{IsClass}
 use Rattle.psg_cache.proofs.ShapedTrees.{kind_once as node_kind_once}
 use Rattle.psg_script.specs.declared.command.Command.{Command}
 use Rattle.psg_script.specs.declared.command.Command.TheVariants.{Own, Free, Undo, Redo, Save, Goto, Screen}
@@ -34,8 +35,10 @@ use Rattle.psg_session.specs.Laws.{HasOneStep}
 use Rattle.psg_session.specs.Refusals.{Tests, done, test, Refuses, Passes}
 use Rattle.psg_session.proofs.StepLaws.{some_once}
 use Rattle.psg_session.specs.Replies.{Reply, refused, answered, marked, shown}
-use Rattle.psg_session.specs.PlainStep.{HasName, IsOperator, Makes, by_refine, by_insert, by_cut, by_remove, by_close, by_reopen, by_paste, by_paste_in, tests, IsRefused, IsTaken, Steps, refuses, opens, changes, undoes, redoes, saves, shows, owns, frees, goes, screens}
+use Rattle.psg_session.specs.PlainStep.{HasName, IsOperator, Makes, by_refine, by_insert, by_cut, by_remove, by_close, by_reopen, by_paste, by_paste_in, tests, IsRefused, IsTaken, Steps, refuses, opens, changes, undoes, redoes, saves, shows, owns, frees, goes, screens, by_over}
 use Rattle.psg_session.proofs.RowLines.{relation_lines}
+use Rattle.psg_session.proofs.TypedLaws.{read_once}
+use Rattle.psg_session.specs.Typed.{ReadsFor}
 
 -- ---- marks
 
@@ -97,7 +100,7 @@ module _ (def : Definition) (IsGood : Fragment → Type 0) (s : State) (answer :
       → IsRefused def IsGood s answer command r → ⊥
   not_both command r taken_is h = passes_not (tests def IsGood s answer command) r taken_is h
 
-  module _ (sound : IsSound def) where
+  module _ (sound : IsSound def) (is_class : IsClass def) where
     kind_once : (a b : Kind) (name : Name) → HasName def a name → HasName def b name → a ≡ b
     kind_once a b name = only_kind def sound.kind_names a b name
 
@@ -169,6 +172,15 @@ module _ (def : Definition) (IsGood : Fragment → Type 0) (s : State) (answer :
           change_made_once old old' (inserted k x.tree) (named_path at s.cursor) opened opened'
               ∙ ap (λ (z : Saved). change_at (inserted k z.tree) (named_path at s.cursor) old'.tree)
               (some_once x y (saved_at s.saved name) saved saved'),
+          refl,
+        )
+    makes_once (by_over {place = at} {text = text} old node new n opened here reads)
+        (by_over old' node' new' n' opened' here' reads') =
+        let one : node ≡ node' = node_once old old' node node' (named_path at s.cursor) opened opened' here here' in
+        let same : new ≡ new' = (read_once def is_class node' text new new' n n'
+        (subst (λ f. ReadsFor def f text new n) one reads) reads').tree in (
+          change_made_once old old' (λ _. new) (named_path at s.cursor) opened opened'
+              ∙ ap (λ x. replaced (named_path at s.cursor) x old'.tree) same,
           refl,
         )
 
@@ -355,5 +367,7 @@ module _ (def : Definition) (IsGood : Fragment → Type 0) (s : State) (answer :
     )
 
 -- a command has at most one step
-pub has_one_step : (def : Definition) (IsGood : Fragment → Type 0) → IsSound def → HasOneStep def IsGood
-has_one_step def IsGood sound s t u answer command reply other h g = step_once def IsGood s answer sound h g
+pub has_one_step : (def : Definition) (IsGood : Fragment → Type 0) → IsSound def → IsClass def
+    → HasOneStep def IsGood
+has_one_step def IsGood sound is_class s t u answer command reply other h g =
+    step_once def IsGood s answer sound is_class h g

@@ -42,7 +42,7 @@ module _ (def : Definition) (s : State) where
   none_taken Show = refl
   none_taken Free = refl
   none_taken (Goto place) = refl
-  none_taken (Over place text) = refl
+  none_taken (Over place text) = inl refl
   none_taken (Range start end text) = refl
   none_taken (Screen top left rows cols) = refl
   none_taken (Relation place) = refl

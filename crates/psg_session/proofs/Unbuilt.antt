@@ -1,5 +1,5 @@
 -- A command that is not built is refused.
-use Rattle.std.proofs.Common.{◌≡◌, inl, ℕ, refl}
+use Rattle.std.proofs.Common.{◌≡◌, inl, ℕ, refl, List}
 use Rattle.psg_terms.specs.Names.{Name}
 use Rattle.psg_grammar.specs.declared.types.Definition.{Definition}
 use Rattle.psg_script.specs.declared.command.Where.{Where}
@@ -19,6 +19,7 @@ module _ (def : Definition) (e : Editor) where
 
   pub unbuilt_refused : (command : Command) → IsElse command → (IsChanging command → ⊥) → IsAsNone command
   unbuilt_refused (New name) other never = absurd other
+  unbuilt_refused (Over place text) other never = absurd other
   unbuilt_refused Show other never = absurd other
   unbuilt_refused (Own place) other never = absurd other
   unbuilt_refused Free other never = absurd other
@@ -29,7 +30,6 @@ module _ (def : Definition) (e : Editor) where
   unbuilt_refused (Close place) other never = absurd (never tt)
   unbuilt_refused (Reopen place) other never = absurd (never tt)
   unbuilt_refused (Goto place) other never = absurd other
-  unbuilt_refused (Over place text) other never = record { steps = refuses (inl (tt, refl)); fit = tt }
   unbuilt_refused (Range start end text) other never = record { steps = refuses (inl (tt, refl)); fit = tt }
   unbuilt_refused (Screen top left rows cols) other never = absurd other
   unbuilt_refused (Relation place) other never = record { steps = refuses (inl (tt, refl)); fit = tt }
@@ -45,6 +45,7 @@ module _ (def : Definition) (e : Editor) where
 pub else_by : (command : Command)
     → ((name : Name) → command ≡ New name → ⊥)
     → ((place : Where) → command ≡ Goto place → ⊥)
+    → ((place : Where) (text : List ℕ) → command ≡ Over place text → ⊥)
     → (command ≡ Show → ⊥)
     → ((top left rows cols : ℕ) → command ≡ Screen top left rows cols → ⊥)
     → ((place : Where) → command ≡ Own place → ⊥)
@@ -53,26 +54,26 @@ pub else_by : (command : Command)
     → (command ≡ Redo → ⊥)
     → ((name : Name) (place : Where) → command ≡ Save name place → ⊥)
     → IsElse command
-else_by (New name) a b c d g h i j l = a name refl
-else_by (Goto place) a b c d g h i j l = b place refl
-else_by (Refine place name args) a b c d g h i j l = tt
-else_by (Insert place k name args) a b c d g h i j l = tt
-else_by (Cut place) a b c d g h i j l = tt
-else_by (Remove place k) a b c d g h i j l = tt
-else_by (Close place) a b c d g h i j l = tt
-else_by (Reopen place) a b c d g h i j l = tt
-else_by (Over place text) a b c d g h i j l = tt
-else_by (Range start end text) a b c d g h i j l = tt
-else_by Show a b c d g h i j l = c refl
-else_by (Screen top left rows cols) a b c d g h i j l = d top left rows cols refl
-else_by (Relation place) a b c d g h i j l = tt
-else_by (Own place) a b c d g h i j l = g place refl
-else_by (Menu place k) a b c d g h i j l = tt
-else_by (Names place k name) a b c d g h i j l = tt
-else_by Free a b c d g h i j l = h refl
-else_by Undo a b c d g h i j l = i refl
-else_by Redo a b c d g h i j l = j refl
-else_by (Save name place) a b c d g h i j l = l name place refl
-else_by (Paste place k name) a b c d g h i j l = tt
-else_by (Keep name file) a b c d g h i j l = tt
-else_by (Fetch file) a b c d g h i j l = tt
+else_by (New name) a b c d g h i j l m = a name refl
+else_by (Goto place) a b c d g h i j l m = b place refl
+else_by (Refine place name args) a b c d g h i j l m = tt
+else_by (Insert place k name args) a b c d g h i j l m = tt
+else_by (Cut place) a b c d g h i j l m = tt
+else_by (Remove place k) a b c d g h i j l m = tt
+else_by (Close place) a b c d g h i j l m = tt
+else_by (Reopen place) a b c d g h i j l m = tt
+else_by (Over place text) a b c d g h i j l m = c place text refl
+else_by (Range start end text) a b c d g h i j l m = tt
+else_by Show a b c d g h i j l m = d refl
+else_by (Screen top left rows cols) a b c d g h i j l m = g top left rows cols refl
+else_by (Relation place) a b c d g h i j l m = tt
+else_by (Own place) a b c d g h i j l m = h place refl
+else_by (Menu place k) a b c d g h i j l m = tt
+else_by (Names place k name) a b c d g h i j l m = tt
+else_by Free a b c d g h i j l m = i refl
+else_by Undo a b c d g h i j l m = j refl
+else_by Redo a b c d g h i j l m = l refl
+else_by (Save name place) a b c d g h i j l m = m name place refl
+else_by (Paste place k name) a b c d g h i j l m = tt
+else_by (Keep name file) a b c d g h i j l m = tt
+else_by (Fetch file) a b c d g h i j l m = tt

@@ -16,7 +16,7 @@ use Rattle.psg_cache.specs.Annotated.{Annotated, whole_in}
 use Rattle.psg_cache.specs.declared.note.NoteFault.{NoteFault}
 use Rattle.psg_cache.specs.declared.note.NoteFault.TheVariants as faults
 use Rattle.psg_session.specs.declared.judging.Trial.{Trial}
-use Rattle.psg_session.specs.declared.judging.Trial.TheVariants.{Opens, Grows, Closes, Loosens}
+use Rattle.psg_session.specs.declared.judging.Trial.TheVariants.{Opens, Grows, Types, Closes, Loosens}
 use Rattle.psg_session.specs.declared.refusal.Refusal.{Refusal}
 use Rattle.psg_session.specs.declared.refusal.Refusal.TheVariants.{Inadmissible}
 use Rattle.psg_session.specs.Good.{IsGoodIn}
@@ -52,20 +52,35 @@ Fails def trial f r = Refuses (tree_tests def trial (λ P. P f)) r
 -- a tree without a note
 pub judged_fault : (def : Definition) (trial : Trial) (f : Fragment) (fault : NoteFault) (r : Refusal)
     → IsRefusalOf trial fault r → IsNoteFault def f fault → Fails def trial f r
-judged_fault def trial f faults.Deep r (is, e) h = subst (λ t. Fails def t f r) (sym is) (inl (h, sym e))
-judged_fault def trial f faults.Big r (is, e) (shallow, h) =
-    subst (λ t. Fails def t f r) (sym is) (inr (shallow, inl (h, sym e)))
+judged_fault def Opens f faults.Deep r (is, e) h = absurd is
+judged_fault def Grows f faults.Deep r (is, e) h = inl (h, sym e)
+judged_fault def Types f faults.Deep r (is, e) h = inl (h, sym e)
+judged_fault def Closes f faults.Deep r (is, e) h = absurd is
+judged_fault def Loosens f faults.Deep r (is, e) h = absurd is
+judged_fault def Opens f faults.Big r (is, e) h = absurd is
+judged_fault def Grows f faults.Big r (is, e) (shallow, h) = inr (shallow, inl (h, sym e))
+judged_fault def Types f faults.Big r (is, e) (shallow, h) = inr (shallow, inl (h, sym e))
+judged_fault def Closes f faults.Big r (is, e) h = absurd is
+judged_fault def Loosens f faults.Big r (is, e) h = absurd is
 judged_fault def Opens f (faults.Wide at step) r e (shallow, small, part, h) = inl (first_is_wide def f _ h, sym e)
 judged_fault def Grows f (faults.Wide at step) r e (shallow, small, part, h) =
+    inr (shallow, inr (small, inl (first_is_wide def f _ h, sym e)))
+judged_fault def Types f (faults.Wide at step) r e (shallow, small, part, h) =
     inr (shallow, inr (small, inl (first_is_wide def f _ h, sym e)))
 judged_fault def Closes f (faults.Wide at step) r e (shallow, small, part, h) = inl (first_is_wide def f _ h, sym e)
 judged_fault def Loosens f (faults.Wide at step) r e (shallow, small, part, h) = inl (first_is_wide def f _ h, sym e)
 judged_fault def Opens f faults.Heavy r (never, e) h = absurd (never refl)
 judged_fault def Grows f faults.Heavy r (never, e) (shallow, small, narrow, h) =
     inr (shallow, inr (small, inr (narrow, inl (h, sym e))))
+judged_fault def Types f faults.Heavy r (never, e) (shallow, small, narrow, h) =
+    inr (shallow, inr (small, inr (narrow, inl (h, sym e))))
 judged_fault def Closes f faults.Heavy r (never, e) (shallow, small, narrow, h) = inr (narrow, inl (h, sym e))
 judged_fault def Loosens f faults.Heavy r (never, e) (shallow, small, narrow, h) = inr (narrow, inl (h, sym e))
-judged_fault def trial f faults.Memory r h g = absurd h
+judged_fault def Opens f faults.Memory r h g = absurd h
+judged_fault def Grows f faults.Memory r h g = absurd h
+judged_fault def Types f faults.Memory r h g = absurd h
+judged_fault def Closes f faults.Memory r h g = absurd h
+judged_fault def Loosens f faults.Memory r h g = absurd h
 
 module _ (def : Definition) (f : Fragment) (note : Annotated) (noted : IsNoteOf def f note) where
   not_good : (culprits_in note ≡ [] → ⊥) → IsGoodIn def f → ⊥
@@ -91,6 +106,7 @@ module _ (def : Definition) (f : Fragment) (note : Annotated) (noted : IsNoteOf 
           ),
         ),
       )
+  judged_inadmissible Types must some = absurd must
   judged_inadmissible Closes must some =
       inr (noted.within.narrow, inr (noted.within.light, inl (not_good some, refl)))
   judged_inadmissible Loosens must some = absurd must
@@ -106,6 +122,8 @@ module _ (def : Definition) (f : Fragment) (note : Annotated) (noted : IsNoteOf 
       (noted.within.narrow, (noted.within.light, ((λ bad. never (tt, λ none. bad (is_good none))), tt))),
     ),
   )
+  judged_right Types never =
+      (noted.within.shallow, (noted.within.small, (noted.within.narrow, (noted.within.light, tt))))
   judged_right Closes never =
       (noted.within.narrow, (noted.within.light, ((λ bad. never (tt, λ none. bad (is_good none))), tt)))
   judged_right Loosens never = (noted.within.narrow, (noted.within.light, tt))

@@ -8,6 +8,7 @@ pub mod Leaves
 pub mod LeafItems
 pub mod Answers
 pub mod Printing
+pub mod Typed
 pub mod PlainStep
 pub mod Laws
 pub mod Views

@@ -6,6 +6,7 @@ use Rattle.psg_grammar.specs.declared.types.Definition.{Definition}
 use Rattle.psg_grammar.specs.Fragments.{Fragment, children_of}
 use Rattle.psg_grammar.specs.Insertion.{Leaf, fresh_operator}
 use Rattle.psg_grammar.specs.Paths.{Path, node_at, IsList}
+use Rattle.psg_grammar.specs.Sizes.{IsBig, IsDeep}
 use Rattle.psg_cache.specs.Notes.{IsNoteOf, IsNoteFault}
 use Rattle.psg_cache.specs.Annotated.{Annotated, tree_in}
 use Rattle.psg_cache.specs.declared.note.NoteFault.{NoteFault}
@@ -13,7 +14,7 @@ use Rattle.psg_cache.specs.declared.note.NoteFault.TheVariants as faults
 use Rattle.psg_history.specs.Versions.{Versions}
 use Rattle.psg_history.specs.declared.history.TheConstants.{VERSIONS}
 use Rattle.psg_script.specs.declared.command.Command.{Command}
-use Rattle.psg_script.specs.declared.command.Command.TheVariants.{New, Refine, Insert, Cut, Remove, Close, Reopen, Show, Own, Free, Undo, Redo, Save, Paste, Goto, Screen}
+use Rattle.psg_script.specs.declared.command.Command.TheVariants.{New, Refine, Insert, Cut, Remove, Close, Reopen, Show, Own, Free, Undo, Redo, Save, Paste, Goto, Screen, Over}
 use Rattle.psg_script.specs.declared.command.Where.{Where}
 use Rattle.psg_session.specs.declared.editor.OpenedTree.{OpenedTree}
 use Rattle.psg_session.specs.declared.editor.Editor.{Editor}
@@ -23,7 +24,7 @@ use Rattle.psg_session.specs.declared.finding.Found.{Found}
 use Rattle.psg_session.specs.declared.pasting.Source.{Source}
 use Rattle.psg_session.specs.Shelf.{saved_at}
 use Rattle.psg_session.specs.declared.judging.Trial.{Trial}
-use Rattle.psg_session.specs.declared.judging.Trial.TheVariants.{Opens, Grows, Closes, Loosens}
+use Rattle.psg_session.specs.declared.judging.Trial.TheVariants.{Opens, Grows, Types, Closes, Loosens}
 use Rattle.psg_session.specs.declared.changes.Listed.{Listed}
 use Rattle.psg_session.specs.declared.changes.Made.{Made}
 use Rattle.psg_session.specs.declared.changes.Plan.{Plan}
@@ -39,8 +40,8 @@ use Rattle.psg_session.specs.Good.{IsGoodIn}
 use Rattle.psg_session.specs.PlainState.{Answer, Opened, State, not_asked, named_path, with_change, with_cursor}
 use Rattle.psg_session.specs.Leaves.{GivesLeaves}
 use Rattle.psg_session.specs.PlainStep.{Gives, IsRefused, IsTaken, Makes, IsOperator, IsOfPhylum, IsListOf, OfResult, Steps, end_of, opening, growing, closing, loosening}
-use Rattle.psg_session.specs.Refusals.{Tests, Refuses, Passes}
-use Rattle.psg_session.specs.Ticks.{MayTick}
+use Rattle.psg_session.specs.Refusals.{Tests, Refuses, Passes, test}
+use Rattle.psg_session.specs.Ticks.{MayTick, HasTicked}
 use Rattle.psg_session.specs.Sessions.{IsKept, IsVersion, opened_of, plain, state_of}
 use Rattle.psg_session.specs.Views.{reply_of}
 
@@ -184,6 +185,7 @@ IsNoSource e place name r =
 abbrev pub tree_tests : Definition → Trial → ((Fragment → Type 0) → Type 0) → Tests
 tree_tests def Opens Of = opening def (IsGoodIn def) Of
 tree_tests def Grows Of = growing def (IsGoodIn def) Of
+tree_tests def Types Of = test TooDeep (Of IsDeep) (test TooBig (Of IsBig) (loosening def (IsGoodIn def) Of))
 tree_tests def Closes Of = closing def (IsGoodIn def) Of
 tree_tests def Loosens Of = loosening def (IsGoodIn def) Of
 
@@ -197,10 +199,18 @@ abbrev pub IsJudged : Definition → Trial → Fragment → Result Annotated Ref
 IsJudged def trial f (Ok note) = IsNoteOf def f note × Passes (tree_tests def trial (λ P. P f))
 IsJudged def trial f (Err r) = Refuses (tree_tests def trial (λ P. P f)) r
 
+-- the change may add nodes
+abbrev pub MayGrow : Trial → Type 0
+MayGrow Opens = ⊥
+MayGrow Grows = Unit {0}
+MayGrow Types = Unit {0}
+MayGrow Closes = ⊥
+MayGrow Loosens = ⊥
+
 -- the refusal of a tree whose note has this fault
 abbrev pub IsRefusalOf : Trial → NoteFault → Refusal → Type 0
-IsRefusalOf trial faults.Deep r = (trial ≡ Grows) × (r ≡ TooDeep)
-IsRefusalOf trial faults.Big r = (trial ≡ Grows) × (r ≡ TooBig)
+IsRefusalOf trial faults.Deep r = MayGrow trial × (r ≡ TooDeep)
+IsRefusalOf trial faults.Big r = MayGrow trial × (r ≡ TooBig)
 IsRefusalOf trial (faults.Wide path step) r = r ≡ TooWide
 IsRefusalOf trial faults.Heavy r = (trial ≡ Opens → ⊥) × (r ≡ TooHeavy)
 IsRefusalOf trial faults.Memory r = ⊥
@@ -209,6 +219,7 @@ IsRefusalOf trial faults.Memory r = ⊥
 abbrev pub MustBeGood : Trial → Type 0
 MustBeGood Opens = ⊥
 MustBeGood Grows = Unit {0}
+MustBeGood Types = ⊥
 MustBeGood Closes = Unit {0}
 MustBeGood Loosens = ⊥
 
@@ -235,6 +246,18 @@ pub record IsMade (def : Definition) (e : Editor) (command : Command) (m : Made)
 abbrev pub IsPlan : Definition → Editor → Command → Plan → Type 0
 IsPlan def e command (RefusedBy r) = IsRefused def (IsGoodIn def) (state_of e) not_asked command r
 IsPlan def e command (Plans m) = IsMade def e command m
+
+-- The counter went up by no more than the planned change costs; where nothing was planned it stayed.
+abbrev pub Spends : Editor → Plan → ℕ → ℕ → Type 0
+Spends e plan from to =
+    (to ≡ from)
+    ⊎ ((m : Made) × (plan ≡ Plans m) × (held : OpenedTree) × (e.opened ≡ Some held)
+    × (to ≤ from + cost_of m.edit (tree_in held.note)))
+
+-- where the counter is at the number `so_far`, the planned change may be made within the bound of the command
+abbrev pub MaySpend : Definition → Editor → Command → ℕ → ℕ → Plan → Type 0
+MaySpend def e command from so_far plan =
+    (to : ℕ) → Spends e plan so_far to → HasTicked def (state_of e) command from to
 
 -- the list with what is told of it: its kind, how many elements it has, and whether it is unfinished
 pub record IsListed (def : Definition) (node : Fragment) (l : Listed) : Type 0 where
@@ -265,10 +288,11 @@ IsChanging (Reopen place) = Unit {0}
 IsChanging (Paste place k name) = Unit {0}
 IsChanging _ = ⊥
 
--- the commands that neither open a fragment nor ask about it or move in it
+-- the commands that neither open a fragment, nor read typed text, nor ask about the fragment or move in it
 abbrev pub IsElse : Command → Type 0
 IsElse (New name) = ⊥
 IsElse (Goto place) = ⊥
+IsElse (Over place text) = ⊥
 IsElse Show = ⊥
 IsElse (Screen top left rows cols) = ⊥
 IsElse (Own place) = ⊥

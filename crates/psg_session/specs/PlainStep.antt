@@ -21,6 +21,7 @@ use Rattle.psg_reads_back.specs.Layout.{text_of}
 use Rattle.psg_reads_back.specs.Spots.{Placed}
 use Rattle.psg_screen.specs.Window.{window_of}
 use Rattle.psg_unparse.specs.Spots.{span_of}
+use Rattle.psg_class.specs.Texts.{HasNoTokens}
 use Rattle.psg_script.specs.declared.command.Where.{Where}
 use Rattle.psg_script.specs.declared.command.Command.{Command}
 use Rattle.psg_script.specs.declared.command.Command.TheVariants.{New, Goto, Refine, Insert, Cut, Remove, Close, Reopen, Over, Range, Show, Screen, Relation, Own, Menu, Names, Free, Undo, Redo, Save, Paste, Keep, Fetch}
@@ -32,6 +33,7 @@ use Rattle.psg_session.specs.declared.refusal.Refusal.TheVariants.{NoCommand, No
 use Rattle.psg_session.specs.Refusals.{Tests, done, test, Refuses, Passes, place_test}
 use Rattle.psg_session.specs.Replies.{Reply, refused, answered, marked, shown}
 use Rattle.psg_session.specs.Leaves.{GivesLeaves}
+use Rattle.psg_session.specs.Typed.{HasNoTreeFor, NestsTooDeep, ReadsFor}
 use Rattle.psg_session.specs.Answers.{rows_lines, free_names, names_line}
 use Rattle.psg_session.specs.Printing.{goto_line, lines_in, view_of, what_is, IsWrittenAt}
 
@@ -125,6 +127,8 @@ module _ (def : Definition) where
         → Makes s (Paste place None name) (replaced (named_path place s.cursor) x.tree old.tree) (named_path place s.cursor)
     by_paste_in : {place : Where} {k : ℕ} {name : Name} (old : Opened) (x : Saved) → s.opened ≡ Some old → saved_at s.saved name ≡ Some x
         → Makes s (Paste place (Some k) name) (change_at (inserted k x.tree) (named_path place s.cursor) old.tree) (named_path place s.cursor ++ k ∷ [])
+    by_over : {place : Where} {text : List ℕ} (old : Opened) (node new : Fragment) (nesting : ℕ) → s.opened ≡ Some old → node_at old.tree (named_path place s.cursor) ≡ Some node → ReadsFor def node text new nesting
+        → Makes s (Over place text) (replaced (named_path place s.cursor) new old.tree) (named_path place s.cursor)
 
   -- what a command gives before it is tested: what a change makes, or the new tree of a kind
   pub data Gives (s : State) : Command → Fragment → Type 0 where
@@ -157,9 +161,9 @@ module _ (def : Definition) (IsGood : Fragment → Type 0) where
   abbrev pub growing : ((Fragment → Type 0) → Type 0) → Tests
   growing Of = test TooDeep (Of IsDeep) (test TooBig (Of IsBig) (closing Of))
 
-  -- where text is typed, which may be any program
-  abbrev pub typing : ((Fragment → Type 0) → Type 0) → Tests
-  typing Of = test TooDeep (Of IsDeep) (test TooBig (Of IsBig) (loosening Of))
+  -- Where text is typed, which may be any program. Its brackets may nest too deep while its tree, which has none, does not.
+  abbrev pub typing : Type 0 → ((Fragment → Type 0) → Type 0) → Tests
+  typing Nested Of = test TooDeep (Nested ⊎ Of IsDeep) (test TooBig (Of IsBig) (loosening Of))
 
   -- nothing is opened, or no node is at the place
   abbrev pub at_place : State → Where → Tests → Tests
@@ -213,10 +217,13 @@ module _ (def : Definition) (IsGood : Fragment → Type 0) where
   tests s answer Free = test NothingOpened (s.opened ≡ None) done
   tests s answer (Goto place) = at_place s place done
   tests s answer (Over place text) =
-      unbuilt (at_place s place (unsaid NoTokens (unsaid NoTree (typing (OfResult def s (Over place text))))))
+      at_place s place
+      (test NoTokens (HasNoTokens def text)
+      (test NoTree (AtNode def s place (λ old node. HasNoTreeFor def node text))
+      (typing (AtNode def s place (λ old node. NestsTooDeep def node text)) (OfResult def s (Over place text)))))
   tests s answer (Range start end text) =
       unbuilt (test NothingOpened (s.opened ≡ None)
-      (unsaid NoRange (unsaid NoTokens (unsaid NoTree (typing (OfResult def s (Range start end text)))))))
+      (unsaid NoRange (unsaid NoTokens (unsaid NoTree (typing ⊥ (OfResult def s (Range start end text)))))))
   tests s answer (Screen top left rows cols) = test NothingOpened (s.opened ≡ None) done
   tests s answer (Relation place) = unbuilt (at_place s place (unsaid TooWide done))
   tests s answer (Menu place k) = unbuilt (at_place s place (unsaid (place_test k) (unsaid TooWide done)))

@@ -1,11 +1,13 @@
 -- How many evaluations a command may take: those of what is new, and of the nodes and list suffixes above the place. The list
--- that is finished, or goes on, counts whole.
-use Rattle.std.specs.Prelude.{ℕ, ◌≡◌, ◌≤◌, ◌⊎◌, ◌+◌, List, Some, None}
+-- that is finished, or goes on, counts whole. Typed text counts one for each of its tokens too.
+use Rattle.std.specs.Prelude.{ℕ, ◌≡◌, ◌≤◌, ◌⊎◌, ◌+◌, List, Some, None, length}
 use Rattle.psg_terms.specs.Names.{Name}
 use Rattle.psg_grammar.specs.declared.types.Definition.{Definition}
 use Rattle.psg_grammar.specs.Fragments.{Fragment}
 use Rattle.psg_grammar.specs.Insertion.{Leaf, fresh_operator}
 use Rattle.psg_grammar.specs.Work.{work_of, climb_of}
+use Rattle.psg_class.specs.Texts.{TextTokens}
+use Rattle.psg_lexis.specs.declared.token.Spanned.{Spanned}
 use Rattle.psg_script.specs.declared.command.Where.{Where}
 use Rattle.psg_script.specs.declared.command.Command.{Command}
 use Rattle.psg_script.specs.declared.command.Command.TheVariants.{New, Goto, Refine, Insert, Cut, Remove, Close, Reopen, Over, Range, Show, Screen, Relation, Own, Menu, Names, Free, Undo, Redo, Save, Paste, Keep, Fetch}
@@ -14,6 +16,7 @@ use Rattle.psg_session.specs.PlainState.{State, Opened, named_path}
 use Rattle.psg_session.specs.PlainStep.{AtNode, IsOperator}
 use Rattle.psg_session.specs.Shelf.{saved_at}
 use Rattle.psg_session.specs.declared.saved.Saved.{Saved}
+use Rattle.psg_session.specs.Typed.{ReadsFor}
 
 module _ (def : Definition) (s : State) where
   -- the evaluations of the nodes above the place
@@ -33,6 +36,14 @@ module _ (def : Definition) (s : State) where
   abbrev pub OfSaved : Name → (Fragment → Type 0) → Type 0
   OfSaved name P = (x : Saved) × (saved_at s.saved name ≡ Some x) × P x.tree
 
+  -- no more than the tokens of the text; or than these, the tree that is read from them, and the nodes above the place
+  abbrev pub OfTyped : Where → List ℕ → Opened → Fragment → ℕ → Type 0
+  OfTyped place text old node m =
+      (ts : List Spanned) × TextTokens def text ts
+      × ((m ≤ length ts)
+      ⊎ ((new : Fragment) × (nesting : ℕ) × ReadsFor def node text new nesting
+      × (m ≤ length ts + (work_of new + above old place))))
+
   -- so many evaluations are within the command's bound
   abbrev pub MayTick : Command → ℕ → Type 0
   MayTick (New name) n = n ≤ 1
@@ -48,7 +59,7 @@ module _ (def : Definition) (s : State) where
   MayTick Show n = n ≡ 0
   MayTick Free n = n ≡ 0
   MayTick (Goto place) n = n ≡ 0
-  MayTick (Over place text) n = n ≡ 0
+  MayTick (Over place text) n = AtMost place (OfTyped place text) n
   MayTick (Range start end text) n = n ≡ 0
   MayTick (Screen top left rows cols) n = n ≡ 0
   MayTick (Relation place) n = n ≡ 0

@@ -135,7 +135,7 @@ pub(crate) fn copied(alloc: Global, path: &Path) -> Result<Path, AllocError>
 }
 
 /// Plans the tree in place of the node at the path, to which the cursor goes.
-pub fn put(alloc: Global, trial: Trial, path: &Path, new: Tree) -> Result<Made, AllocError>
+pub(crate) fn put(alloc: Global, trial: Trial, path: &Path, new: Tree) -> Result<Made, AllocError>
     ensures { IfOk result (λ made. made ≡ made_of trial (edits.Put path.now new) path.now) }
 {
     let at = copied(alloc, path)?;

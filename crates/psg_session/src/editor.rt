@@ -1,7 +1,7 @@
 //! The editor and its steps.
 ghost use Rattle.std.specs.Prelude.{◌≡◌, IfOk, IfSome, IfNone};
 ghost use Rattle.psg_grammar.specs.declared.types.Definition.{Definition as PlainDefinition};
-ghost use Rattle.psg_session.specs.Outcomes.{after, reply_in, IsChanging, IsElse, IsFit, IsGoneOn, IsOutcome, IsPlan, IsStay};
+ghost use Rattle.psg_session.specs.Outcomes.{after, reply_in, IsChanging, IsElse, IsFit, IsGoneOn, IsOutcome, IsPlan, IsStay, Spends};
 ghost use Rattle.psg_session.specs.PlainState.{not_asked};
 ghost use Rattle.psg_session.specs.Sessions.{state_of, IsEditor};
 ghost use Rattle.psg_session.specs.Ticks.{HasTicked};
@@ -20,6 +20,7 @@ use crate::questions::{free, own};
 use crate::refusal::Refusal;
 use crate::replies::{Mark, Reply};
 use crate::saved::{Saved, save};
+use crate::typed::type_over;
 use crate::versions::{redo, undo};
 use psg_cache::Note;
 use psg_grammar::{Kind, kind_named};
@@ -201,7 +202,7 @@ fn planned(
 }
 
 /// Does what was planned, where the tree passes the tests of the change. It evaluates what is new and the nodes above it.
-fn carry_out<L: Ledger>(
+pub(crate) fn carry_out<L: Ledger>(
     alloc: Global,
     language: &Language,
     editor: &Editor,
@@ -216,6 +217,7 @@ fn carry_out<L: Ledger>(
         → IsOutcome language.now.definition editor.now not_asked command outcome) }
     ensures ticks { (command : PlainCommand) → IsPlan language.now.definition editor.now command plan
         → HasTicked language.now.definition (state_of editor.now) command steps.old steps.new }
+    ensures spends { Spends editor.now plan steps.old steps.new }
 {
     let made = match plan {
         Plan::Makes(made) => made,
@@ -257,7 +259,7 @@ fn change<L: Ledger>(
 }
 
 /// Finds what a command does to the editor. A change evaluates what is new and the nodes above it, and
-/// `steps` counts the evaluations. It fails where memory runs out.
+/// `steps` counts the evaluations, and the tokens of typed text. It fails where memory runs out.
 #[tactic(auto, using(crate::proofs::Ticking::quiet))]
 pub fn step<L: Ledger>(
     alloc: Global,
@@ -278,6 +280,10 @@ pub fn step<L: Ledger>(
         }
         Command::Goto { at } => {
             let outcome = go(alloc, language, editor, at)?;
+            Ok(outcome)
+        }
+        Command::Over { at, text } => {
+            let outcome = type_over(alloc, language, editor, at, text, steps)?;
             Ok(outcome)
         }
         Command::Show => {

@@ -3,8 +3,8 @@ ghost use Rattle.std.specs.Prelude.{◌≡◌, ◌↔◌, [], IfOk, IsTrue};
 ghost use Rattle.psg_grammar.specs.declared.types.Definition.{Definition};
 ghost use Rattle.psg_grammar.specs.Fragments.{Fragment};
 ghost use Rattle.psg_cache.specs.Blames.{culprits_in};
-ghost use Rattle.psg_session.specs.Outcomes.{IsJudged, IsNoted, IsRefusalOf, MustBeGood};
-ghost use Rattle.psg_session.specs.declared.judging.Trial.TheVariants.{Grows, Opens};
+ghost use Rattle.psg_session.specs.Outcomes.{IsJudged, IsNoted, IsRefusalOf, MayGrow, MustBeGood};
+ghost use Rattle.psg_session.specs.declared.judging.Trial.TheVariants.{Opens};
 
 use crate::refusal::Refusal;
 use psg_cache::{Note, NoteFault};
@@ -17,20 +17,25 @@ pub enum Trial {
     Opens,
     /// It adds nodes: the tree may be too deep, too big, too wide or too heavy, and has to be good.
     Grows,
+    /// It puts typed text in: the tree may be too deep, too big, too wide or too heavy.
+    Types,
     /// It finishes a list: the tree may be too wide or too heavy, and has to be good.
     Closes,
     /// It takes something away or lets a list go on: the tree may be too wide or too heavy.
     Loosens,
 }
 
-/// Gives the refusal, where the change adds nodes. A change that adds none makes no tree larger, so such a fault of its
+/// Gives the refusal, where the change may add nodes. A change that adds none makes no tree larger, so such a fault of its
 /// tree does not come; it is answered by want of memory.
 fn where_it_grows(trial: Trial, refusal: Refusal) -> Result<Refusal, AllocError>
-    ensures { IfOk result (λ r. (trial ≡ Grows) × (r ≡ refusal)) }
+    ensures { IfOk result (λ r. MayGrow trial × (r ≡ refusal)) }
 {
     match trial {
+        Trial::Opens => Err(AllocError),
         Trial::Grows => Ok(refusal),
-        _ => Err(AllocError),
+        Trial::Types => Ok(refusal),
+        Trial::Closes => Err(AllocError),
+        Trial::Loosens => Err(AllocError),
     }
 }
 
@@ -73,6 +78,7 @@ fn is_inadmissible(trial: Trial, note: &Note) -> bool
     match trial {
         Trial::Opens => false,
         Trial::Grows => !note.is_good(),
+        Trial::Types => false,
         Trial::Closes => !note.is_good(),
         Trial::Loosens => false,
     }

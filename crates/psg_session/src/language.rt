@@ -1,38 +1,49 @@
 //! A definition with what an editor makes of it once.
 ghost use Rattle.std.specs.Prelude.{◌≡◌, ◌++◌, ◌↔◌, IfOk, IsTrue, OnOk};
+ghost use Rattle.std.specs.List.{AllByRecursion};
+ghost use Rattle.psg_class.specs.Class.{IsClass};
 ghost use Rattle.psg_grammar.specs.Sound.{IsSound};
 ghost use Rattle.psg_grammar.specs.WellFormed.{fixed_words as fixed_words_of, separators, words_in};
 ghost use Rattle.psg_grammar.specs.Kinds.{HasKind};
+ghost use Rattle.psg_lexis.specs.Tokens.{IsFixedWord};
 ghost use Rattle.psg_session.specs.PlainStep.{IsDeclaringPhylum};
 ghost use Rattle.psg_session.specs.Views.{IsLanguage};
 
 use psg_grammar::{Definition, Item, Kind, ListKind, declaring};
 use psg_lexis::Lexis;
+use psg_parse::ParseTable;
 use psg_terms::Txt;
 use std::alloc::{AllocError, Global};
 
-/// A definition, for each phylum the spaces in which it declares, and its fixed words.
+/// A definition of the grammar class, for each phylum the spaces in which it declares, its fixed words, and what the
+/// parser looks up of it.
 #[derive(Drop)]
 pub struct Language {
     pub definition: Definition,
     pub declaring: Vec<Vec<u32>>,
     pub lexis: Lexis,
+    pub table: ParseTable,
 }
 
 impl Language {
-    /// The language of a definition. It walks the definition once for its words, and searches it for what declares.
+    /// Makes the language of a definition. It walks the definition once for its words and once for the parser's table,
+    /// and searches it for what declares. It fails where memory runs out.
     pub fn of(alloc: Global, definition: Definition) -> Result<Language, AllocError>
-        requires { IsSound definition }
+        requires sound { IsSound definition }
+        requires class { IsClass definition }
+        requires words { AllByRecursion IsFixedWord (fixed_words_of definition) }
         ensures definition { IfOk result (λ l. l.definition ≡ definition) }
         ensures language { IfOk result IsLanguage }
     {
         let words = fixed_words(alloc, &definition)?;
         let lexis = Lexis::new(alloc, words.as_slice())?;
         let declaring = declaring(alloc, &definition)?;
+        let table = ParseTable::of(alloc, &definition)?;
         Ok(Language {
             definition,
             declaring,
             lexis,
+            table,
         })
     }
 

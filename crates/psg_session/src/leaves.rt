@@ -58,7 +58,7 @@ pub fn read_leaves(
 }
 
 /// Whether there was no memory for the tokens, so that the text may have some.
-fn is_memory(fault: LexFault) -> bool
+pub(crate) fn is_memory(fault: LexFault) -> bool
     ensures { IsTrue result ↔ (fault ≡ LexFault.Memory) }
 {
     match fault {

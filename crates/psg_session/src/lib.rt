@@ -8,7 +8,7 @@
 //! What it does at a command is what the plain editor does, which is defined in this crate's specs and knows nothing but
 //! trees: the first of the command's tests that holds refuses it, otherwise it is done.
 //!
-//! A command is first planned (`changes`), its tree is noted and judged (`noting`, `judging`), and what it does is an
+//! A command is first planned (`changes`, `typed`), its tree is noted and judged (`noting`, `judging`), and what it does is an
 //! outcome that has all memory; one place (`Editor::settle`) then changes the editor and cannot fail.
 #![tactic(auto)]
 
@@ -29,6 +29,7 @@ pub mod refusal;
 pub mod replies;
 pub mod saved;
 pub mod session;
+mod typed;
 mod versions;
 
 pub use language::Language;

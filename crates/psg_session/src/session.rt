@@ -70,7 +70,8 @@ impl Session {
     }
 
     /// Does what the command says, and gives the reply. After a refusal, and where memory runs out, the session is as it
-    /// was. A change evaluates what is new and the nodes above it, and `steps` counts the evaluations.
+    /// was. A change evaluates what is new and the nodes above it, and `steps` counts the evaluations, and the tokens of
+    /// typed text.
     pub fn apply<F: Files, L: Ledger>(
         &mut self,
         alloc: Global,

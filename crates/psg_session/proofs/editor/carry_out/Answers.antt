@@ -1,4 +1,4 @@
-use Rattle.std.proofs.Common.{refl, sym, subst}
+use Rattle.std.proofs.Common.{inl, inr, refl, sym, subst}
 use Rattle.psg_session.specs.Outcomes.{IsJudged, IsMade, IsPlan}
 use Rattle.psg_session.specs.Edits.{edited}
 use Rattle.psg_session.specs.Sessions.{state_of}
@@ -79,3 +79,19 @@ returns-clause-ticks g c = λ command plan.
     ticks_here c.args.language.now.definition c.args.editor.now command c.in-Makes.made
     (subst (IsPlan c.args.language.now.definition c.args.editor.now command) c.in-Makes.is plan)
     c.in-Some.held c.in-Some.is _ _ c.note_after-noted.ensures.ticks
+
+pub returns-in_err-note-clause-spends : goal.returns-in_err-note-clause-spends
+returns-in_err-note-clause-spends g c =
+    inr (c.in-Makes.made, c.in-Makes.is, c.in-Some.held, c.in-Some.is, c.note_after-noted.ensures.ticks)
+
+pub returns-in-Err-clause-spends : goal.returns-in-Err-clause-spends
+returns-in-Err-clause-spends g c =
+    inr (c.in-Makes.made, c.in-Makes.is, c.in-Some.held, c.in-Some.is, c.note_after-noted.ensures.ticks)
+
+pub returns-in_err-mark-clause-spends : goal.returns-in_err-mark-clause-spends
+returns-in_err-mark-clause-spends g c =
+    inr (c.in-Makes.made, c.in-Makes.is, c.in-Some.held, c.in-Some.is, c.note_after-noted.ensures.ticks)
+
+pub returns-clause-spends : goal.returns-clause-spends
+returns-clause-spends g c =
+    inr (c.in-Makes.made, c.in-Makes.is, c.in-Some.held, c.in-Some.is, c.note_after-noted.ensures.ticks)
