@@ -1,5 +1,5 @@
 //! The parts of trees and of paths.
-ghost use Rattle.std.specs.Prelude.{◌≡◌, ◌++◌, ◌∷◌, [], IfOk, option_copied, slice_get};
+ghost use Rattle.std.specs.Prelude.{◌≡◌, ◌<◌, ◌++◌, ◌∷◌, [], length, IfOk, Some, option_copied, slice_get};
 ghost use Rattle.psg_grammar.specs.Fragments.{children_of};
 ghost use Rattle.psg_tree.specs.Shapes.{child_among, subtrees};
 ghost use Rattle.psg_cache.specs.Walks.{names_in};
@@ -108,13 +108,24 @@ fn sub_at(parts: &[Part], number: u32) -> Option<&Tree>
     None
 }
 
-/// The child of a node by its number, from 0.
-pub(crate) fn child_at(tree: &Tree, number: u32) -> Option<&Tree>
+/// The child of a node by its number, from 0, if there is one.
+fn child_at(tree: &Tree, number: u32) -> Option<&Tree>
     ensures { option_copied result ≡ slice_get (children_of tree.now) number }
 {
     match tree.shape() {
         Shape::Op { parts, .. } => sub_at(parts.as_slice(), number),
         Shape::List { elements, .. } => elements.as_slice().get(number as usize),
         Shape::Hole { .. } => None,
+    }
+}
+
+/// The child of a node by its number, from 0.
+pub(crate) fn child_of(tree: &Tree, number: u32) -> &Tree
+    requires { number < length (children_of tree.now) }
+    ensures { slice_get (children_of tree.now) number ≡ Some result.now }
+{
+    match child_at(tree, number) {
+        Some(child) => child,
+        None => unreachable!(),
     }
 }
