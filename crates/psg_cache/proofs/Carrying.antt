@@ -9,7 +9,7 @@ use Rattle.psg_eval.specs.Trees.{IsNode, own_names}
 use Rattle.psg_cache.specs.Noted.{AreOfSuffixes, IsOfNodes}
 use Rattle.psg_cache.specs.Renoting.{AreOfCells, cells_of, first_or}
 
-top-put : (new : Fragment) (k : ℕ) (f : Fragment) → top_operator (put_child new k f) ≡ top_operator f
+pub top-put : (new : Fragment) (k : ℕ) (f : Fragment) → top_operator (put_child new k f) ≡ top_operator f
 top-put new k (hole p) = refl
 top-put new k (ending l u) = refl
 top-put new zero (cell l e r) = refl
@@ -24,7 +24,7 @@ top-put new k (with_text f t) = top-put new k f
 top-put new k anything = refl
 top-put new k (observed f) = top-put new k f
 
-names-put : (new : Fragment) (k : ℕ) (f : Fragment) → own_names (put_child new k f) ≡ own_names f
+pub names-put : (new : Fragment) (k : ℕ) (f : Fragment) → own_names (put_child new k f) ≡ own_names f
 names-put new k (hole p) = refl
 names-put new k (ending l u) = refl
 names-put new zero (cell l e r) = refl

@@ -1,8 +1,8 @@
 -- The summaries of a list's cells, made from the last to the first in front of a suffix.
-use Rattle.std.proofs.Common.{◌≡◌, ℕ, zero, suc, ◌+◌, ◌-◌, ◌<◌, ◌||◌, Bool, false, List, [], ◌∷◌, ◌++◌, length, drop, get_or, slice_get, Some, None, refl, sym, ◌∙◌, ap, ap₂, subst, drop-cons, arith}
+use Rattle.std.proofs.Common.{◌≡◌, ◌⊎◌, inl, inr, ℕ, zero, suc, ◌+◌, ◌-◌, ◌<◌, ◌≤◌, ◌||◌, Bool, false, List, [], ◌∷◌, ◌++◌, length, drop, take, get_or, slice_get, Some, None, refl, sym, ◌∙◌, ap, ap₂, subst, drop-cons, arith}
 use Rattle.std.specs.Prelude.{Result, Ok, IfOk, reverse}
 use Rattle.std.specs.List.{AllByRecursion}
-use Rattle.std.proofs.lemmas.List.{drop_all, length-append, reverse-append, reverse-reverse}
+use Rattle.std.proofs.lemmas.List.{drop_all, length-append, reverse-append, reverse-reverse, take-append-drop}
 use Rattle.std.proofs.lemmas.Option.{none-some}
 use Rattle.psg_grammar.specs.declared.types.Kind.TheVariants as kinds
 use Rattle.psg_grammar.specs.declared.types.Definition.{Definition}
@@ -100,12 +100,67 @@ module _ (def : Definition) where
   pub suffixes_none : (l : ℕ) (made : List Known) → made ≡ [] → AllByRecursion (IsSuffix l) (reverse made)
   suffixes_none l made e = subst (λ m. AllByRecursion (IsSuffix l) (reverse m)) (sym e) tt
 
-  pub whole_cells : (l : ℕ) (elements : List Known) (behind : Known) (left : ℕ) (made all : List Known) → left ≡ 0
-      → all ≡ reverse made → AreOfCells def l (drop left elements) behind (reverse made)
+  first_of_old : (was : Known) (j : ℕ) (os : List Known)
+      → first_or (first_or was (drop j os)) (take j os) ≡ first_or was os
+  first_of_old was zero os = refl
+  first_of_old was (suc j) [] = refl
+  first_of_old was (suc j) (o ∷ os) = refl
+
+  first_append : (behind : Known) (ss ts : List Known) → first_or (first_or behind ts) ss ≡ first_or behind (ss ++ ts)
+  first_append behind [] ts = refl
+  first_append behind (s ∷ ss) ts = refl
+
+  -- the old cells of fewer first elements
+  old_front : (l k left : ℕ) (es : List Known) (was : Known) (os : List Known) → AreOfCells def l (take k es) was os
+      → left ≤ length os → AreOfCells def l (take left es) (first_or was (drop left os)) (take left os)
+  old_front l k zero es was os h small = tt
+  old_front l k (suc left) es was [] h small = absurd (omega (arith, small))
+  old_front l zero (suc left) es was (o ∷ os) h small = absurd h
+  old_front l (suc k) (suc left) [] was (o ∷ os) h small = absurd h
+  old_front l (suc k) (suc left) (e ∷ es) was (o ∷ os) h small = (
+    subst (λ x. IsOfCells def l e x o) (sym (first_of_old was left os)) h.0,
+    old_front l k left es was os h.1 (omega (arith, small)),
+  )
+
+  cells_joined : (l : ℕ) (xs ys : List Known) (behind : Known) (ss ts : List Known)
+      → AreOfCells def l xs (first_or behind ts) ss → AreOfCells def l ys behind ts
+      → AreOfCells def l (xs ++ ys) behind (ss ++ ts)
+  cells_joined l [] ys behind [] ts h k = k
+  cells_joined l [] ys behind (s ∷ ss) ts h k = absurd h
+  cells_joined l (x ∷ xs) ys behind [] ts h k = absurd h
+  cells_joined l (x ∷ xs) ys behind (s ∷ ss) ts h k =
+      (subst (λ r. IsOfCells def l x r s) (first_append behind ss ts) h.0, cells_joined l xs ys behind ss ts h.1 k)
+
+  -- the old cells in front of the new ones, where the new suffix is the old one
+  pub kept_cells : (l : ℕ) (elements : List Known) (behind was : Known) (k left : ℕ) (olds made all : List Known)
+      → AreOfCells def l (take k elements) was olds → left ≤ length olds
+      → (left ≡ 0) ⊎ (first_or behind (reverse made) ≡ first_or was (drop left olds))
+      → all ≡ take left olds ++ reverse made → AreOfCells def l (drop left elements) behind (reverse made)
       → AreOfCells def l elements behind all
-  whole_cells l elements behind left made all none turned h =
-      subst (AreOfCells def l elements behind) (sym turned)
-      (subst (λ k. AreOfCells def l (drop k elements) behind (reverse made)) none h)
+  kept_cells l elements behind was k left olds made all before small stops is h =
+      let latest : Known = first_or behind (reverse made) in
+      let front : AreOfCells def l (take left elements) latest (take left olds) =
+      elim stops [
+        | inl none ↦ subst (λ n. AreOfCells def l (take n elements) latest (take n olds)) (sym none) tt
+        | inr same ↦
+            subst (λ x. AreOfCells def l (take left elements) x (take left olds)) (sym same)
+            (old_front l k left elements was olds before small)
+      ] in
+      subst (AreOfCells def l elements behind) (sym is)
+      (subst (λ es. AreOfCells def l es behind (take left olds ++ reverse made)) (take-append-drop left elements)
+      (cells_joined l (take left elements) (drop left elements) behind (take left olds) (reverse made) front h))
+
+  each_first : (P : Known → Type 0) (k : ℕ) (ss : List Known) → AllByRecursion P ss → AllByRecursion P (take k ss)
+  each_first P zero ss h = tt
+  each_first P (suc k) [] h = tt
+  each_first P (suc k) (s ∷ ss) h = (h.0, each_first P k ss h.1)
+
+  pub kept_usual : (left : ℕ) (olds made all : List Known) → AllByRecursion (IsSummary def) olds
+      → AllByRecursion (IsSummary def) (reverse made) → all ≡ take left olds ++ reverse made
+      → AllByRecursion (IsSummary def) all
+  kept_usual left olds made all before h is =
+      subst (AllByRecursion (IsSummary def)) (sym is)
+      (each_append (IsSummary def) (take left olds) (reverse made) (each_first (IsSummary def) left olds before) h)
 
   pub cell_takes : (l : ℕ) (elements : List Known) (behind : Known) → TakesCells def l elements behind
       → (now : ℕ) (element rest : Known) (made : List Known) → now < length elements

@@ -1,21 +1,25 @@
 -- Notes along the path to a changed node.
-use Rattle.std.proofs.Common.{◌≡◌, ℕ, zero, suc, ◌+◌, ◌<◌, ◌≤◌, List, [], ◌∷◌, ◌++◌, map, length, take, drop, get_or, slice_get, Option, Some, None, refl, sym, ◌∙◌, ap, ap₂, subst, append_assoc, append-nil, arith}
-use Rattle.std.specs.Prelude.{option_and_then, option_map, unwrap_or}
+use Rattle.std.proofs.Common.{◌≡◌, ◌⊎◌, inl, inr, ℕ, zero, suc, ◌+◌, ◌-◌, ◌<◌, ◌≤◌, List, [], ◌∷◌, ◌++◌, map, length, take, drop, get_or, slice_get, Option, Some, None, refl, sym, ◌∙◌, ap, ap₂, subst, append_assoc, append-nil, arith}
+use Rattle.std.specs.Prelude.{option_and_then, option_map, unwrap_or, Result, Ok, Err, IfErr}
 use Rattle.std.specs.List.{AllByRecursion}
-use Rattle.std.proofs.lemmas.List.{length-map, length-take-le}
+use Rattle.std.proofs.lemmas.List.{drop-map, length-map, length-take-le, take-map}
 use Rattle.std.proofs.lemmas.Option.{none-some, slice_get_within}
 use Rattle.psg_grammar.specs.declared.types.Definition.{Definition}
-use Rattle.psg_grammar.specs.Fragments.{Fragment, children_of}
-use Rattle.psg_grammar.specs.Paths.{Path, node_at, change_at, inserted, removed, IsList}
+use Rattle.psg_grammar.specs.Fragments.{Fragment, hole, ending, cell, operator, with_child, with_name, with_number, with_text, anything, observed, children_of, top_operator}
+use Rattle.psg_grammar.specs.Paths.{Path, node_at, change_at, put_child, inserted, removed, IsList}
 use Rattle.psg_grammar.specs.Steps.{steps_of}
 use Rattle.psg_grammar.specs.Work.{climb_of, leaving, work_of}
 use Rattle.psg_grammar.specs.declared.types.Kind.TheVariants as kinds
-use Rattle.psg_tree.specs.Edits.{IsInserted, IsRemoved}
-use Rattle.psg_tree.specs.Faults.{IsReplaced}
+use Rattle.psg_tree.specs.Edits.{IsInserted, IsInsertFault, IsRemoved, IsRemoveFault}
+use Rattle.psg_tree.specs.Faults.{IsReplaced, IsReplaceFault}
+use Rattle.psg_tree.specs.declared.places.TreeFault.{TreeFault}
+use Rattle.psg_tree.specs.declared.places.TreeFault.TheVariants as trees
 use Rattle.psg_cache.specs.declared.editing.Edit.{Edit}
 use Rattle.psg_cache.specs.declared.editing.Edit.TheVariants as edits
 use Rattle.psg_cache.specs.declared.note.NoteFault.{NoteFault}
-use Rattle.psg_cache.specs.Annotated.{Annotated, tree_in, below_in}
+use Rattle.psg_eval.specs.declared.summary.Known.{Known}
+use Rattle.psg_eval.specs.Trees.{own_names}
+use Rattle.psg_cache.specs.Annotated.{Annotated, tree_in, whole_in, below_in}
 use Rattle.psg_cache.specs.Changes.{change_of, ticks_of, remade_ticks, IsAdded, IsKept, IsPlace, IsPut, IsTaken, TakesEdit}
 use Rattle.psg_cache.specs.Noted.{IsNoted, IsNotedAs}
 use Rattle.psg_cache.specs.Edits.{MayInsert, MayRemove, MayReplace}
@@ -23,10 +27,14 @@ use Rattle.psg_cache.specs.Notes.{IsFormed, IsNoteOf}
 use Rattle.psg_cache.specs.Shaped.{IsShaped}
 use Rattle.psg_cache.proofs.ShapedTrees.{changed_shaped, inserted_shaped, kind_once, removed_shaped, replaced_shaped, shape_is_kind}
 use Rattle.psg_cache.specs.Walks.{AreNotesOf, IsStepFault}
+use Rattle.psg_cache.proofs.Carrying.{names-put, top-put}
+use Rattle.psg_cache.proofs.ClimbLaws.{change-put}
 use Rattle.psg_cache.proofs.Each.{each_got, same_some}
 use Rattle.psg_cache.proofs.NoteParts.{noted_parts}
-use Rattle.psg_cache.proofs.RealTrees.{real}
-use Rattle.psg_cache.proofs.SpliceLaws.{children_changed, children_inserted, children_removed, kept_behind, list_changed, list_inserted, list_removed, list_self, long_enough, notes_spliced, notes_take, ticks_changed, ticks_inserted, ticks_removed}
+use Rattle.psg_cache.proofs.CulpritLaws.{real_children}
+use Rattle.psg_cache.proofs.RealTrees.{IsReal, IsSpine, real}
+use Rattle.psg_grammar.specs.Kinds.{IsOfKind}
+use Rattle.psg_cache.proofs.SpliceLaws.{children_changed, children_inserted, children_removed, fewer_ticks, kept_behind, list_changed, list_inserted, list_removed, list_self, long_enough, notes_spliced, notes_take, spine_once, spliced_same, taken_front, ticks_changed, ticks_inserted, ticks_removed}
 use Rattle.psg_cache.proofs.WalkLaws.{child_fault, formed_children, notes_clean}
 
 each_take : {X : Type 0} (P : X → Type 0) (k : ℕ) (xs : List X) → AllByRecursion P xs → AllByRecursion P (take k xs)
@@ -66,6 +74,15 @@ split_path (j ∷ left) k rest e d = ap₂ (λ a b. a ∷ b) (same_some j k e) (
 
 pub shorter : (left : Path) (k : ℕ) (rest : Path) → left ≡ k ∷ rest → length rest + 1 ≡ length left
 shorter left k rest e = let n : length left ≡ suc (length rest) = ap length e in omega (arith, n)
+
+-- summaries of equal notes
+wholes_behind : (j k : ℕ) (ns ms : List Annotated) → drop j ns ≡ drop k ms
+    → drop j (map whole_in ns) ≡ drop k (map whole_in ms)
+wholes_behind j k ns ms e = drop-map whole_in j ns ∙ ap (map whole_in) e ∙ sym (drop-map whole_in k ms)
+
+wholes_before : (k : ℕ) (ns ms : List Annotated) → take k ns ≡ take k ms
+    → take k (map whole_in ns) ≡ take k (map whole_in ms)
+wholes_before k ns ms e = take-map whole_in k ns ∙ ap (map whole_in) e ∙ sym (take-map whole_in k ms)
 
 module _ (def : Definition) where
   own_notes : (n : Annotated) → IsNoted def n → AreNotesOf def (children_of (tree_in n)) (below_in n)
@@ -117,15 +134,19 @@ module _ (def : Definition) where
 
   pub added_kept : (n : Annotated) (place : ℕ) (new made : Fragment) (child : Annotated) (all : List Annotated)
       → IsAdded def n place new made → all ≡ (take place (below_in n) ++ child ∷ []) ++ drop place (below_in n)
-      → IsKept def n place (place + 1) made all
+      → IsKept def n place place (place + 1) made all
   added_kept n place new made child all h is =
       let small = added_within n place new made h in
       record {
         noted = h.noted;
         formed_old = h.formed_old;
         kept =
-            ap (drop (place + 1)) is
-            ∙ kept_behind place place (below_in n) (child ∷ []) (place + 1) small (omega arith);
+            wholes_behind (place + 1) place all (below_in n) (ap (drop (place + 1)) is
+            ∙ kept_behind place place (below_in n) (child ∷ []) (place + 1) small (omega arith));
+        first =
+            wholes_before place all (below_in n) (ap (take place) is ∙ taken_front place place (below_in n) (child ∷ []) small);
+        fewer = (omega arith, omega arith);
+        nodes = λ o top none. absurd (let z = none in omega (arith, z));
         within = (
           small,
           subst (λ x. place + 1 ≤ length x) (sym is)
@@ -175,14 +196,25 @@ module _ (def : Definition) where
 
   pub taken_kept : (n : Annotated) (place : ℕ) (made : Fragment) (all : List Annotated) → IsTaken def n place made
       → all ≡ (take place (below_in n) ++ []) ++ drop (place + 1) (below_in n)
-      → IsKept def n (place + 1) place made all
+      → IsKept def n place (place + 1) place made all
   taken_kept n place made all h is =
       let small = taken_within n place made h in
       let few : place ≤ length (below_in n) = omega (arith, small) in
       record {
         noted = h.noted;
         formed_old = h.formed_old;
-        kept = ap (drop place) is ∙ kept_behind place (place + 1) (below_in n) [] place few (omega arith);
+        kept =
+            wholes_behind place (place + 1) all (below_in n)
+            (ap (drop place) is ∙ kept_behind place (place + 1) (below_in n) [] place few (omega arith));
+        first =
+            wholes_before place all (below_in n) (ap (take place) is ∙ taken_front place (place + 1) (below_in n) [] few);
+        fewer = (omega arith, omega arith);
+        nodes = λ o top empty.
+            let none : remade_ticks made 0 ≡ 0 =
+            ap (λ x. remade_ticks x 0) h.changed
+            ∙ ticks_removed place 0 (tree_in n) (real def (tree_in n) h.formed_old) h.list h.within in
+            let once = spine_once made o 0 top in
+            absurd (omega (arith, none, once));
         within = (
           omega (arith, small),
           subst (λ x. place ≤ length x) (sym is)
@@ -230,30 +262,72 @@ module _ (def : Definition) where
       (notes_spliced def k (k + 1) cs (new ∷ []) (below_in n) (child ∷ []) (own_notes n h.noted)
       (ap (λ x. x ∷ []) h.child_noted.0, (h.child_noted.1, tt))))
 
-  pub put_kept : (n : Annotated) (k : ℕ) (child : Annotated) (made : Fragment) (all : List Annotated)
+  pub put_kept : (n : Annotated) (k front : ℕ) (child old : Annotated) (made : Fragment) (all : List Annotated)
       → IsPut def n k child made → all ≡ (take k (below_in n) ++ child ∷ []) ++ drop (k + 1) (below_in n)
-      → IsKept def n (k + 1) (k + 1) made all
-  put_kept n k child made all h is =
+      → old ≡ get_or (below_in n) k old
+      → ((front ≡ 0) × (whole_in child ≡ whole_in old)) ⊎ (front ≡ k + 1)
+      → IsKept def n (front - 1) front front made all
+  put_kept n k front child old made all h is at changed =
       let small = put_within n k child made h in
       let few : k ≤ length (below_in n) = omega (arith, small) in
+      let ws : List Known = map whole_in all in
+      let olds : List Known = map whole_in (below_in n) in
+      let one : k + 1 ≡ suc k = omega arith in
+      let put : made ≡ put_child (h.change h.old) k (tree_in n) = h.made_so ∙ change-put h.change (tree_in n) k h.old h.there in
       record {
         noted = h.noted;
         formed_old = h.formed_old;
-        kept = ap (drop (k + 1)) is ∙ kept_behind k (k + 1) (below_in n) (child ∷ []) (k + 1) few (omega arith);
-        within = (
-          omega (arith, small),
-          subst (λ x. k + 1 ≤ length x) (sym is)
-              (long_enough k (k + 1) (below_in n) (child ∷ []) (k + 1) few (omega arith)),
+        kept = elim changed [
+          | inl none ↦
+              let alike : ws ≡ olds =
+              ap (map whole_in) (is ∙ ap (λ j. (take k (below_in n) ++ child ∷ []) ++ drop j (below_in n)) one)
+              ∙ spliced_same k (below_in n) child old small at none.1 in
+              ap (drop front) alike
+          | inr more ↦
+              subst (λ j. drop j ws ≡ drop j olds) (sym more)
+              (wholes_behind (k + 1) (k + 1) all (below_in n)
+              (ap (drop (k + 1)) is ∙ kept_behind k (k + 1) (below_in n) (child ∷ []) (k + 1) few (omega arith)))
+        ];
+        first = elim changed [
+          | inl none ↦
+              let empty : front - 1 ≡ 0 = (let z = none.0 in omega (arith, z)) in
+              subst (λ j. take j ws ≡ take j olds) (sym empty) refl
+          | inr more ↦
+              let same : front - 1 ≡ k = omega (arith, more) in
+              subst (λ j. take j ws ≡ take j olds) (sym same)
+              (wholes_before k all (below_in n) (ap (take k) is ∙ taken_front k (k + 1) (below_in n) (child ∷ []) few))
+        ];
+        fewer = (omega arith, omega arith);
+        nodes = λ o top none. (
+          none,
+          sym (ap top_operator put ∙ top-put (h.change h.old) k (tree_in n)) ∙ top,
+          ap own_names put ∙ names-put (h.change h.old) k (tree_in n),
         );
+        within =
+            let most : front ≤ k + 1 =
+            elim changed [ inl none ↦ (let z = none.0 in omega (arith, z)) | inr more ↦ omega (arith, more) ] in
+            let long : k + 1 ≤ length all =
+            subst (λ x. k + 1 ≤ length x) (sym is)
+            (long_enough k (k + 1) (below_in n) (child ∷ []) (k + 1) few (omega arith)) in
+            (omega (arith, small, most), omega (arith, long, most));
         lists = λ l es u same.
             let (ds, it) = list_changed h.change (tree_in n) k l es u (sym h.made_so ∙ same) in
             list_self (tree_in n) l ds u it;
       }
 
-  pub put_ticks : (n : Annotated) (k : ℕ) (child : Annotated) (made : Fragment) → IsPut def n k child made
-      → remade_ticks made (k + 1) ≡ leaving (tree_in n) k
-  put_ticks n k child made h =
-      ap (λ x. remade_ticks x (k + 1)) h.made_so ∙ ticks_changed h.change (tree_in n) k h.old h.there
+  pub put_ticks : (n : Annotated) (k front : ℕ) (child old : Annotated) (made : Fragment) → IsPut def n k child made
+      → ((front ≡ 0) × (whole_in child ≡ whole_in old)) ⊎ (front ≡ k + 1)
+      → remade_ticks made front ≤ leaving (tree_in n) k
+  put_ticks n k front child old made h changed =
+      let most : remade_ticks made (k + 1) ≡ leaving (tree_in n) k =
+      ap (λ x. remade_ticks x (k + 1)) h.made_so ∙ ticks_changed h.change (tree_in n) k h.old h.there in
+      elim changed [
+        | inl none ↦
+            let less = fewer_ticks made k in
+            let here = ap (remade_ticks made) none.0 in
+            omega (arith, most, less, here)
+        | inr more ↦ let here = ap (remade_ticks made) more in omega (arith, most, here)
+      ]
 
   -- ---- the changes of a node
 
@@ -335,6 +409,20 @@ module _ (def : Definition) where
         subst (λ x. node_at x rest ≡ Some h.node) same below,
         same_some inner (g (tree_in old)) (sym got ∙ new),
       )
+
+  -- the changed node has the child too
+  pub step_made : (n : Annotated) (k : ℕ) (left rest : Path) (edit : Edit) (made : Fragment) → left ≡ k ∷ rest
+      → IsPlace def n left edit made → k < length (children_of made)
+  step_made n k left rest edit made is h' =
+      let h : IsPlace def n (k ∷ rest) edit made = subst (λ p. IsPlace def n p edit made) is h' in
+      let cs : List Fragment = children_of (tree_in n) in
+      let (c, there, below) = step_there n k rest edit made h in
+      let g : Fragment → Fragment = change_at (change_of edit) rest in
+      let few : k ≤ length cs = (let s = slice_get_within cs k c there in omega (arith, s)) in
+      let children : children_of made ≡ take k cs ++ g c ∷ drop (suc k) cs =
+      ap children_of h.changed ∙ children_changed g (tree_in n) k c there in
+      slice_get_within (children_of made) k (g c)
+      (ap (λ xs. slice_get xs k) children ∙ got_behind cs k (g c) (drop (suc k) cs) few)
 
   pub step_place : (n : Annotated) (k : ℕ) (left rest : Path) (edit : Edit) (made : Fragment) (old : Annotated)
       (inner : Fragment) → left ≡ k ∷ rest → IsPlace def n left edit made → k < length (below_in n)
@@ -456,3 +544,75 @@ module _ (def : Definition) where
         takes = (may.list, may.within);
         changed = is.made_is;
       }
+
+  -- at a place that is there a change has no other fault than want of memory
+
+  pub memory_put : (path : Path) (f new : Fragment) → MayReplace def f path new → (r : Result Fragment TreeFault)
+      → IfErr r (IsReplaceFault f path) → IfErr r (λ t. t ≡ trees.Memory)
+  memory_put path f new may (Ok made) h = h
+  memory_put path f new may (Err trees.NoNode) h = absurd (none-some may.node (sym h ∙ may.there))
+  memory_put path f new may (Err trees.NotList) h = absurd h
+  memory_put path f new may (Err trees.NoPlace) h = absurd h
+  memory_put path f new may (Err trees.Memory) h = refl
+
+  real_at : (path : Path) (f node : Fragment) → IsReal f → node_at f path ≡ Some node → IsReal node
+  real_at [] f node is at = subst IsReal (same_some f node at) is
+  real_at (k ∷ path) f node is at =
+      let (c, child, below) = first_step path (slice_get (children_of f) k) node at in
+      real_at path c node (each_got IsReal (children_of f) k c (real_children f is) child) below
+
+  spine_kind : (f : Fragment) (l : ℕ) → IsSpine f → IsOfKind def f (kinds.List l) → ⊥
+  spine_kind (operator o) l is h = let (op, at, e) = h in cc
+  spine_kind (with_child f t) l is h = spine_kind f l is h
+  spine_kind (with_name f n) l is h = spine_kind f l is h
+  spine_kind (with_number f n) l is h = spine_kind f l is h
+  spine_kind (with_text f t) l is h = spine_kind f l is h
+  spine_kind (hole p) l is h = absurd is
+  spine_kind (ending m u) l is h = absurd is
+  spine_kind (cell m e r) l is h = absurd is
+  spine_kind anything l is h = absurd is
+  spine_kind (observed f) l is h = absurd is
+
+  list_of_kind : (f : Fragment) (l : ℕ) → IsReal f → IsOfKind def f (kinds.List l) → IsList f
+  list_of_kind (ending m u) l is h = tt
+  list_of_kind (cell m e r) l is h = tt
+  list_of_kind (hole p) l is h = absurd (cc)
+  list_of_kind (operator o) l is h = absurd (spine_kind (operator o) l tt h)
+  list_of_kind (with_child f t) l is h = absurd (spine_kind f l is.2 h)
+  list_of_kind (with_name f n) l is h = absurd (spine_kind f l is.1 h)
+  list_of_kind (with_number f n) l is h = absurd (spine_kind f l is.1 h)
+  list_of_kind (with_text f t) l is h = absurd (spine_kind f l is.1 h)
+  list_of_kind anything l is h = absurd is
+  list_of_kind (observed f) l is h = absurd is
+
+  pub memory_add : (path : Path) (place : ℕ) (f new : Fragment) → IsFormed def f → MayInsert def f path place new
+      → (r : Result Fragment TreeFault) → IfErr r (IsInsertFault f path place) → IfErr r (λ t. t ≡ trees.Memory)
+  memory_add path place f new formed may (Ok made) h = h
+  memory_add path place f new formed may (Err trees.NoNode) h = absurd (none-some may.node (sym h ∙ may.there))
+  memory_add path place f new formed may (Err trees.NotList) h =
+      let (node, there, never) = h in
+      let same : may.node ≡ node = same_some may.node node (sym may.there ∙ there) in
+      absurd (never (list_of_kind node may.number (real_at path f node (real def f formed) there)
+      (subst (λ x. IsOfKind def x (kinds.List may.number)) same may.of_kind)))
+  memory_add path place f new formed may (Err trees.NoPlace) h =
+      let (list, there, is, past) = h in
+      let same : may.node ≡ list = same_some may.node list (sym may.there ∙ there) in
+      let many = ap (λ x. length (children_of x)) same in
+      let small = may.within in
+      absurd (omega (arith, past, many, small))
+  memory_add path place f new formed may (Err trees.Memory) h = refl
+
+  pub memory_take : (path : Path) (place : ℕ) (f : Fragment) → MayRemove def f path place
+      → (r : Result Fragment TreeFault) → IfErr r (IsRemoveFault f path place) → IfErr r (λ t. t ≡ trees.Memory)
+  memory_take path place f may (Ok made) h = h
+  memory_take path place f may (Err trees.NoNode) h = absurd (none-some may.node (sym h ∙ may.there))
+  memory_take path place f may (Err trees.NotList) h =
+      let (node, there, never) = h in
+      absurd (never (subst IsList (same_some may.node node (sym may.there ∙ there)) may.list))
+  memory_take path place f may (Err trees.NoPlace) h =
+      let (list, there, is, past) = h in
+      let same : may.node ≡ list = same_some may.node list (sym may.there ∙ there) in
+      let many = ap (λ x. length (children_of x)) same in
+      let small = may.within in
+      absurd (omega (arith, past, many, small))
+  memory_take path place f may (Err trees.Memory) h = refl

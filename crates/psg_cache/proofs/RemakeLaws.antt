@@ -1,11 +1,11 @@
 -- A list whose first cells are new in front of suffixes that were kept.
 use Rattle.std.proofs.Common.{◌≡◌, ℕ, zero, suc, ◌≤◌, Bool, false, List, [], ◌∷◌, ◌++◌, map, length, take, drop, slice_get, Some, refl, sym, ◌∙◌, ap, subst, arith}
 use Rattle.std.specs.List.{AllByRecursion}
-use Rattle.std.proofs.lemmas.List.{drop-map, length-map, take-append-drop}
+use Rattle.std.proofs.lemmas.List.{length-map, take-append-drop}
 use Rattle.std.proofs.lemmas.Option.{none-some}
 use Rattle.psg_grammar.specs.declared.types.Definition.{Definition}
 use Rattle.psg_grammar.specs.declared.types.Kind.TheVariants as kinds
-use Rattle.psg_grammar.specs.Fragments.{Fragment, children_of}
+use Rattle.psg_grammar.specs.Fragments.{Fragment, children_of, top_operator}
 use Rattle.psg_grammar.specs.Paths.{Path, IsList}
 use Rattle.psg_grammar.specs.Steps.{list_steps}
 use Rattle.psg_tree.specs.Shapes.{list_of}
@@ -15,10 +15,11 @@ use Rattle.psg_eval.specs.Summaries.{AllSummaries, IsSummary, IsSummaryOf}
 use Rattle.psg_cache.specs.declared.note.NoteFault.{NoteFault}
 use Rattle.psg_cache.specs.Annotated.{Annotated, tree_in, whole_in, rests_in, below_in}
 use Rattle.psg_cache.specs.Changes.{IsKept}
-use Rattle.psg_cache.specs.Noted.{IsAnswered, IsNoted, IsNotedAs}
+use Rattle.psg_cache.specs.Noted.{IsAnswered, IsNoted, IsNotedAs, IsOfCells, IsOfNodes}
 use Rattle.psg_cache.specs.Notes.{IsFormed}
-use Rattle.psg_cache.specs.Renoting.{AreOfCells, cells_of, IsCellsFault, TakesCells}
+use Rattle.psg_cache.specs.Renoting.{AreOfCells, cells_of, first_or, IsCellsFault, TakesCells}
 use Rattle.psg_cache.specs.Walks.{AreListed, AreNotesOf, IsClean, IsMadeOf, IsNumbered, IsStepFault, IsTop, TakesElements, top_steps}
+use Rattle.psg_cache.proofs.Carrying.{nodes-put}
 use Rattle.psg_cache.proofs.CellLaws.{all_behind, answers_listed, cells_split, listed_answers, listed_front, usual_front}
 use Rattle.psg_cache.proofs.CulpritLaws.{real_children}
 use Rattle.psg_cache.proofs.Each.{each_got, same_some}
@@ -27,7 +28,7 @@ use Rattle.psg_cache.proofs.ListLaws.{list_kind_is, list_takes, top_list_steps}
 use Rattle.psg_cache.proofs.NoteLaws.{list_known}
 use Rattle.psg_cache.proofs.NoteParts.{noted_parts}
 use Rattle.psg_cache.proofs.RealTrees.{IsReal, real}
-use Rattle.psg_cache.proofs.TopLaws.{list_answered, listed_top}
+use Rattle.psg_cache.proofs.TopLaws.{answered_nodes, list_answered, listed_top, nodes_answered}
 use Rattle.psg_cache.proofs.WalkLaws.{formed_children, made_noted, notes_summaries, notes_usual}
 
 each_front : {X : Type 0} (P : X → Type 0) (k : ℕ) (xs : List X) → AllByRecursion P xs → AllByRecursion P (take k xs)
@@ -110,11 +111,11 @@ module _ (def : Definition) where
         × ((path : Path) → IsClean def (list_steps def path (list_of l (drop front es) u)))
     suffixes : AllByRecursion (IsSummary def) (kept ∷ drop behind (rests_in n))
 
-  remade : (made : Fragment) (l : ℕ) (es : List Fragment) (u : Bool) (front behind : ℕ) (n : Annotated)
+  remade : (made : Fragment) (l : ℕ) (es : List Fragment) (u : Bool) (first front behind : ℕ) (n : Annotated)
       (below : List Annotated) (kept : Known) → made ≡ list_of l es u → IsFormed def made
-      → AreNotesOf def (children_of made) below → IsKept def n behind front made below
+      → AreNotesOf def (children_of made) below → IsKept def n first behind front made below
       → Some kept ≡ slice_get (whole_in n ∷ rests_in n) behind → IsRemade l es u front behind n below kept
-  remade made l es u front behind n below kept same formed notes is at =
+  remade made l es u first front behind n below kept same formed notes is at =
       let here : IsFormed def (list_of l es u) = subst (IsFormed def) same formed in
       let children : children_of made ≡ es = ap children_of same ∙ children-list l es u in
       let own : AreNotesOf def es below = subst (λ cs. AreNotesOf def cs below) children notes in
@@ -122,7 +123,7 @@ module _ (def : Definition) where
       subst (AllByRecursion (IsFormed def)) (children-list l es u) (formed_children def (list_of l es u) here) in
       let summaries = notes_summaries def es below each own in
       let same_rest : drop front (map whole_in below) ≡ drop behind (map whole_in (below_in n)) =
-      drop-map whole_in front below ∙ ap (map whole_in) is.kept ∙ sym (drop-map whole_in behind (below_in n)) in
+      is.kept in
       let old = noted_list n l u is.noted (is.lists l es u same) in
       let listed : AreListed def l u (drop front (map whole_in below)) kept (drop behind (rests_in n)) =
       subst (λ bs. AreListed def l u bs kept (drop behind (rests_in n))) (sym same_rest)
@@ -148,13 +149,13 @@ module _ (def : Definition) where
             );
       }
 
-  pub remade_takes : (made : Fragment) (l : ℕ) (es : List Fragment) (u : Bool) (front behind : ℕ) (n : Annotated)
+  pub remade_takes : (made : Fragment) (l : ℕ) (es : List Fragment) (u : Bool) (first front behind : ℕ) (n : Annotated)
       (below : List Annotated) (kept : Known) → made ≡ list_of l es u → IsFormed def made
-      → AreNotesOf def (children_of made) below → IsKept def n behind front made below
+      → AreNotesOf def (children_of made) below → IsKept def n first behind front made below
       → Some kept ≡ slice_get (whole_in n ∷ rests_in n) behind
       → TakesCells def l (take front (map whole_in below)) kept
-  remade_takes made l es u front behind n below kept same formed notes is at =
-      let h = remade made l es u front behind n below kept same formed notes is at in
+  remade_takes made l es u first front behind n below kept same formed notes is at =
+      let h = remade made l es u first front behind n below kept same formed notes is at in
       let whole : IsReal (list_of l es u) = real def (list_of l es u) h.formed in
       let each : AllByRecursion IsReal es = subst (AllByRecursion IsReal) (children-list l es u) (real_children (list_of l es u) whole) in
       let takes : TakesElements def l u (map whole_in below) =
@@ -174,14 +175,14 @@ module _ (def : Definition) where
         usual = (h.suffixes.0, each_front (IsSummary def) front (map whole_in below) takes.usual);
       }
 
-  pub remade_fault : (path : Path) (made : Fragment) (l : ℕ) (es : List Fragment) (u : Bool) (front behind : ℕ)
+  pub remade_fault : (path : Path) (made : Fragment) (l : ℕ) (es : List Fragment) (u : Bool) (first front behind : ℕ)
       (n : Annotated) (below : List Annotated) (kept : Known) (fault : NoteFault) → made ≡ list_of l es u
-      → IsFormed def made → AreNotesOf def (children_of made) below → IsKept def n behind front made below
+      → IsFormed def made → AreNotesOf def (children_of made) below → IsKept def n first behind front made below
       → Some kept ≡ slice_get (whole_in n ∷ rests_in n) behind
       → IsCellsFault def path l (take front (map whole_in below)) kept fault
       → IsStepFault def (top_steps def path made) fault
-  remade_fault path made l es u front behind n below kept fault same formed notes is at f =
-      let h = remade made l es u front behind n below kept same formed notes is at in
+  remade_fault path made l es u first front behind n below kept fault same formed notes is at f =
+      let h = remade made l es u first front behind n below kept same formed notes is at in
       let whole : cells_of l (take front es) (list_of l (drop front es) u) ≡ list_of l es u =
       cells_split l (take front es) (drop front es) u ∙ ap (λ x. list_of l x u) (take-append-drop front es) in
       subst (λ x. IsStepFault def (top_steps def path x) fault) (sym same)
@@ -190,14 +191,14 @@ module _ (def : Definition) where
       (f (take front es) (list_of l (drop front es) u) (all_front es (map whole_in below) h.summaries front) h.known.0
       (h.known.1 path))))
 
-  pub remade_noted : (made : Fragment) (l : ℕ) (es : List Fragment) (u : Bool) (front behind : ℕ) (n : Annotated)
+  pub remade_noted : (made : Fragment) (l : ℕ) (es : List Fragment) (u : Bool) (first front behind : ℕ) (n : Annotated)
       (below : List Annotated) (kept : Known) (news : List Known) (s : Known) (ts : List Known) (note : Annotated)
       → made ≡ list_of l es u → IsFormed def made → AreNotesOf def (children_of made) below
-      → IsKept def n behind front made below → Some kept ≡ slice_get (whole_in n ∷ rests_in n) behind
+      → IsKept def n first behind front made below → Some kept ≡ slice_get (whole_in n ∷ rests_in n) behind
       → AreOfCells def l (take front (map whole_in below)) kept news → AllByRecursion (IsSummary def) news
       → s ∷ ts ≡ news ++ kept ∷ drop behind (rests_in n) → IsMadeOf made s ts below note → IsNotedAs def made note
-  remade_noted made l es u front behind n below kept news s ts note same formed notes is at cells usual all make =
-      let h = remade made l es u front behind n below kept same formed notes is at in
+  remade_noted made l es u first front behind n below kept news s ts note same formed notes is at cells usual all make =
+      let h = remade made l es u first front behind n below kept same formed notes is at in
       let wholes : List Known = map whole_in below in
       let listed : AreListed def l u wholes s ts =
       subst (λ bs. AreListed def l u bs s ts) (take-append-drop front wholes)
@@ -210,9 +211,77 @@ module _ (def : Definition) where
       made_noted def made below s ts note notes top make
 
   -- the kept suffix is there
-  pub kept_within : (made : Fragment) (l front behind : ℕ) (n : Annotated) (below : List Annotated)
-      → IsNumbered l made → IsKept def n behind front made below → behind ≤ length (rests_in n)
-  kept_within made l front behind n below (es, u, same) is =
+  pub kept_within : (made : Fragment) (l first front behind : ℕ) (n : Annotated) (below : List Annotated)
+      → IsNumbered l made → IsKept def n first behind front made below → behind ≤ length (rests_in n)
+  kept_within made l first front behind n below (es, u, same) is =
       let many = rests_length n l u is.noted (is.lists l es u same) in
       let small = is.within.0 in
       omega (arith, many, small)
+
+  pub first_within : (made : Fragment) (l first front behind : ℕ) (n : Annotated) (below : List Annotated)
+      → IsNumbered l made → IsKept def n first behind front made below → first ≤ length (rests_in n)
+  first_within made l first front behind n below numbered is =
+      let small = kept_within made l first front behind n below numbered is in
+      let few = is.fewer.0 in
+      omega (arith, small, few)
+
+  -- ---- the old cells of the first elements
+
+  first_there : (t : Known) (ts : List Known) (k : ℕ) (x : Known) → Some x ≡ slice_get (t ∷ ts) k
+      → t ≡ first_or x (take k (t ∷ ts))
+  first_there t ts zero x e = same_some t x (sym e)
+  first_there t ts (suc k) x e = refl
+
+  listed_take : (l : ℕ) (u : Bool) (bs : List Known) (s : Known) (ts : List Known) → AreListed def l u bs s ts
+      → (k : ℕ) (x : Known) → Some x ≡ slice_get (s ∷ ts) k → AreOfCells def l (take k bs) x (take k (s ∷ ts))
+  listed_take l u bs s ts h zero x e = tt
+  listed_take l u [] s [] h (suc k) x e = absurd (none-some x (sym e))
+  listed_take l u [] s (t ∷ ts) h (suc k) x e = absurd h
+  listed_take l u (b ∷ bs) s [] h (suc k) x e = absurd h
+  listed_take l u (b ∷ bs) s (t ∷ ts) h (suc k) x e =
+      (subst (λ r. IsOfCells def l b r s) (first_there t ts k x e) h.0, listed_take l u bs t ts h.1 k x e)
+
+  fewer_taken : (k m : ℕ) (xs : List Known) → k ≤ m → take k (take m xs) ≡ take k xs
+  fewer_taken zero m xs small = refl
+  fewer_taken (suc k) zero xs small = absurd (omega (arith, small))
+  fewer_taken (suc k) (suc m) [] small = refl
+  fewer_taken (suc k) (suc m) (x ∷ xs) small = ap (λ ys. x ∷ ys) (fewer_taken k m xs (omega (arith, small)))
+
+  pub remade_olds : (made : Fragment) (l : ℕ) (es : List Fragment) (u : Bool) (first front behind : ℕ) (n : Annotated)
+      (below : List Annotated) (was : Known) → made ≡ list_of l es u → IsKept def n first behind front made below
+      → Some was ≡ slice_get (whole_in n ∷ rests_in n) first
+      → AreOfCells def l (take first (take front (map whole_in below))) was (take first (whole_in n ∷ rests_in n))
+  remade_olds made l es u first front behind n below was same is at =
+      let old = noted_list n l u is.noted (is.lists l es u same) in
+      let alike : take first (take front (map whole_in below)) ≡ take first (map whole_in (below_in n)) =
+      fewer_taken first front (map whole_in below) is.fewer.1 ∙ is.first in
+      subst (λ bs. AreOfCells def l bs was (take first (whole_in n ∷ rests_in n))) (sym alike)
+      (listed_take l u (map whole_in (below_in n)) (whole_in n) (rests_in n) old first was at)
+
+  pub olds_usual : (made : Fragment) (first front behind : ℕ) (n : Annotated) (below : List Annotated)
+      → IsKept def n first behind front made below
+      → AllByRecursion (IsSummary def) (take first (whole_in n ∷ rests_in n))
+  olds_usual made first front behind n below is =
+      each_front (IsSummary def) first (whole_in n ∷ rests_in n) (noted_parts def n is.noted).0.usual
+
+  -- ---- a node whose children have the old summaries
+
+  pub unchanged_noted : (made : Fragment) (o : ℕ) (first front behind : ℕ) (n : Annotated) (below : List Annotated)
+      (note : Annotated) → top_operator made ≡ Some o → IsFormed def made → AreNotesOf def (children_of made) below
+      → IsKept def n first behind front made below → front ≡ 0 → IsMadeOf made (whole_in n) [] below note
+      → IsNotedAs def made note
+  unchanged_noted made o first front behind n below note at formed notes is empty make =
+      let (none, top, names) = is.nodes o at empty in
+      let ws : List Known = map whole_in below in
+      let olds : List Known = map whole_in (below_in n) in
+      let wholes : ws ≡ olds = sym (ap (λ k. drop k ws) empty) ∙ is.kept ∙ ap (λ k. drop k olds) none in
+      let parts = noted_parts def n is.noted in
+      let old : IsOfNodes def (tree_in n) olds (whole_in n) =
+      answered_nodes def (tree_in n) o olds (whole_in n) (rests_in n) top (real def (tree_in n) is.formed_old)
+      parts.0.answered in
+      let new : IsOfNodes def made ws (whole_in n) =
+      nodes-put def (tree_in n) made ws (whole_in n) (at ∙ sym top) names
+      (subst (λ x. IsOfNodes def (tree_in n) x (whole_in n)) (sym wholes) old) in
+      let whole : IsTop def made ws (whole_in n) [] =
+      (nodes_answered def made o ws (whole_in n) at (real def made formed) new, (parts.0.usual.0, tt)) in
+      made_noted def made below (whole_in n) [] note notes whole make

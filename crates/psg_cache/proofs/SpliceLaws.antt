@@ -1,5 +1,5 @@
 -- Children of changed nodes, and the notes of them.
-use Rattle.std.proofs.Common.{◌≡◌, inl, inr, ℕ, zero, suc, ◌+◌, ◌<◌, ◌≤◌, ◌==◌, Bool, true, false, cond, List, [], ◌∷◌, ◌++◌, length, take, drop, slice_get, Some, None, refl, sym, ◌∙◌, ap, ap₂, subst, append_assoc, arith}
+use Rattle.std.proofs.Common.{◌≡◌, inl, inr, ℕ, zero, suc, ◌+◌, ◌<◌, ◌≤◌, ◌==◌, Bool, true, false, cond, List, [], ◌∷◌, ◌++◌, length, map, take, drop, get_or, slice_get, Some, None, refl, sym, ◌∙◌, ap, ap₂, subst, append_assoc, arith}
 use Rattle.std.specs.List.{AllByRecursion}
 use Rattle.std.proofs.lemmas.Bool.Decides.{eqb_tells}
 use Rattle.std.proofs.lemmas.List.{drop_all, drop_at, drop-append-le, drop-map, length-append, length-take-le, map-append, take_at, take-append-le, take-map}
@@ -17,7 +17,7 @@ use Rattle.psg_tree.specs.declared.tree.Shape.{Shape}
 use Rattle.psg_tree.specs.declared.tree.Shape.TheVariants.{Op, List as ListOf, Hole}
 use Rattle.psg_tree.specs.Shapes.{list_of, tree_of, with_parts}
 use Rattle.psg_tree.proofs.Children.{children-list}
-use Rattle.psg_cache.specs.Annotated.{Annotated, tree_in}
+use Rattle.psg_cache.specs.Annotated.{Annotated, tree_in, whole_in}
 use Rattle.psg_cache.specs.Changes.{remade_ticks}
 use Rattle.psg_cache.specs.Noted.{IsNoted}
 use Rattle.psg_cache.specs.Shaped.{HasShape}
@@ -345,6 +345,22 @@ kept_behind p b ns ms n small many =
     let all : length (take p ns ++ ms) ≡ length (take p ns) + length ms = length-append (take p ns) ms in
     drop_at (take p ns ++ ms) (drop b ns) n (omega (arith, front, all, many))
 
+-- what stands in front of them
+pub taken_front : {X : Type 0} (p b : ℕ) (ns ms : List X) → p ≤ length ns
+    → take p ((take p ns ++ ms) ++ drop b ns) ≡ take p ns
+taken_front p b ns ms small =
+    ap (take p) (append_assoc (take p ns) ms (drop b ns))
+    ∙ take_at (take p ns) (ms ++ drop b ns) p (length-take-le p ns small)
+
+-- one with the same summary in the place of another
+pub spliced_same : (k : ℕ) (ns : List Annotated) (c old : Annotated) → k < length ns → old ≡ get_or ns k old
+    → whole_in c ≡ whole_in old
+    → map whole_in ((take k ns ++ c ∷ []) ++ drop (suc k) ns) ≡ map whole_in ns
+spliced_same k [] c old small at same = absurd (omega (arith, small))
+spliced_same zero (n ∷ ns) c old small at same = ap (λ s. s ∷ map whole_in ns) (same ∙ ap whole_in at)
+spliced_same (suc k) (n ∷ ns) c old small at same =
+    ap (λ ss. whole_in n ∷ ss) (spliced_same k ns c old (omega (arith, small)) at same)
+
 pub long_enough : {X : Type 0} (p b : ℕ) (ns ms : List X) (n : ℕ) → p ≤ length ns → n ≡ p + length ms
     → n ≤ length ((take p ns ++ ms) ++ drop b ns)
 long_enough p b ns ms n small many =
@@ -386,3 +402,28 @@ list_ticks s l es u f n e there = ap (λ x. remade_ticks x n) (sym there ∙ ap 
   go : (es : List Fragment) → remade_ticks (list_of l es u) n ≡ n
   go [] = refl
   go (x ∷ es) = refl
+
+pub spine_once : (f : Fragment) (o n : ℕ) → top_operator f ≡ Some o → remade_ticks f n ≡ 1
+spine_once (operator k) o n top = refl
+spine_once (with_child f t) o n top = refl
+spine_once (with_name f t) o n top = refl
+spine_once (with_number f t) o n top = refl
+spine_once (with_text f t) o n top = refl
+spine_once (hole p) o n top = refl
+spine_once (ending l u) o n top = absurd (none-some o top)
+spine_once (cell l e r) o n top = absurd (none-some o top)
+spine_once anything o n top = refl
+spine_once (observed f) o n top = refl
+
+-- none of them takes at most as many as some
+pub fewer_ticks : (f : Fragment) (n : ℕ) → remade_ticks f 0 ≤ remade_ticks f (n + 1)
+fewer_ticks (operator k) n = omega arith
+fewer_ticks (with_child f t) n = omega arith
+fewer_ticks (with_name f t) n = omega arith
+fewer_ticks (with_number f t) n = omega arith
+fewer_ticks (with_text f t) n = omega arith
+fewer_ticks (hole p) n = omega arith
+fewer_ticks (ending l u) n = omega arith
+fewer_ticks (cell l e r) n = omega arith
+fewer_ticks anything n = omega arith
+fewer_ticks (observed f) n = omega arith

@@ -2,6 +2,7 @@
 use Rattle.std.proofs.Common.{◌≡◌, ℕ, ◌<◌, Bool, List, [], ◌∷◌, length, Some, refl, sym, ◌∙◌, ap, subst, arith}
 use Rattle.std.specs.Prelude.{Result, Ok, IfOk}
 use Rattle.std.specs.List.{AllByRecursion}
+use Rattle.std.proofs.lemmas.Option.{none-some}
 use Rattle.psg_terms.specs.Names.{Name}
 use Rattle.psg_grammar.specs.declared.types.Definition.{Definition}
 use Rattle.psg_grammar.specs.Fragments.{Fragment, hole, ending, cell, operator, with_child, with_name, with_number, with_text, anything, observed, children_of, top_operator}
@@ -59,6 +60,32 @@ module _ (def : Definition) where
   answered_spine (cell l e r) below s rests spine h none = absurd spine
   answered_spine anything below s rests spine h none = absurd spine
   answered_spine (observed f) below s rests spine h none = absurd spine
+
+  pub nodes_answered : (f : Fragment) (o : ℕ) (below : List Known) (s : Known) → top_operator f ≡ Some o → IsReal f
+      → IsOfNodes def f below s → IsAnswered def f below s []
+  nodes_answered (operator k) o below s top is h = (h, refl)
+  nodes_answered (with_child f t) o below s top is h = (h, refl)
+  nodes_answered (with_name f n) o below s top is h = (h, refl)
+  nodes_answered (with_number f n) o below s top is h = (h, refl)
+  nodes_answered (with_text f t) o below s top is h = (h, refl)
+  nodes_answered (hole p) o below s top is h = absurd (none-some o top)
+  nodes_answered (ending l u) o below s top is h = absurd (none-some o top)
+  nodes_answered (cell l e r) o below s top is h = absurd (none-some o top)
+  nodes_answered anything o below s top is h = absurd is
+  nodes_answered (observed f) o below s top is h = absurd is
+
+  pub answered_nodes : (f : Fragment) (o : ℕ) (below : List Known) (s : Known) (rests : List Known)
+      → top_operator f ≡ Some o → IsReal f → IsAnswered def f below s rests → IsOfNodes def f below s
+  answered_nodes (operator k) o below s rests top is h = h.0
+  answered_nodes (with_child f t) o below s rests top is h = h.0
+  answered_nodes (with_name f n) o below s rests top is h = h.0
+  answered_nodes (with_number f n) o below s rests top is h = h.0
+  answered_nodes (with_text f t) o below s rests top is h = h.0
+  answered_nodes (hole p) o below s rests top is h = absurd (none-some o top)
+  answered_nodes (ending l u) o below s rests top is h = absurd (none-some o top)
+  answered_nodes (cell l e r) o below s rests top is h = absurd (none-some o top)
+  answered_nodes anything o below s rests top is h = absurd is
+  answered_nodes (observed f) o below s rests top is h = absurd is
 
   -- and for a list
   answered_list : (l : ℕ) (es : List Fragment) (u : Bool) (below : List Known) (s : Known) (rests : List Known)

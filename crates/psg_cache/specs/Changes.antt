@@ -1,11 +1,12 @@
 -- What changes of a node are, and when an annotated tree takes one.
-use Rattle.std.specs.Prelude.{ℕ, ◌≡◌, ◌<◌, ◌≤◌, ◌+◌, Bool, List, drop, length, slice_get, Some}
+use Rattle.std.specs.Prelude.{ℕ, ◌≡◌, ◌<◌, ◌≤◌, ◌+◌, Bool, List, drop, length, map, slice_get, Some, take}
 use Rattle.psg_grammar.specs.declared.types.Definition.{Definition}
-use Rattle.psg_grammar.specs.Fragments.{Fragment, cell, ending, children_of}
+use Rattle.psg_grammar.specs.Fragments.{Fragment, cell, ending, children_of, top_operator}
 use Rattle.psg_grammar.specs.Paths.{Path, node_at, change_at, change_child, inserted, removed, IsList}
 use Rattle.psg_grammar.specs.Work.{work_of}
 use Rattle.psg_tree.specs.Shapes.{list_of}
-use Rattle.psg_cache.specs.Annotated.{Annotated, tree_in, below_in}
+use Rattle.psg_eval.specs.Trees.{own_names}
+use Rattle.psg_cache.specs.Annotated.{Annotated, tree_in, whole_in, below_in}
 use Rattle.psg_cache.specs.Noted.{IsNoted, IsNotedAs}
 use Rattle.psg_cache.specs.Notes.{IsFormed}
 use Rattle.psg_cache.specs.declared.editing.Edit.{Edit}
@@ -38,15 +39,20 @@ pub record IsPlace (def : Definition) (n : Annotated) (path : Path) (edit : Edit
   pub takes : TakesEdit def edit node
   pub changed : made ≡ change_at (change_of edit) path (tree_in n)
 
--- the tree has the annotated one's last children behind so many of its own; a list has the same number and end
-pub record IsKept (def : Definition) (n : Annotated) (behind front : ℕ) (made : Fragment) (below : List Annotated)
+-- The tree has the annotated one's last children behind so many of its own, and its first ones up to a number, or others with the
+-- same summaries. A list has the same number and end; a node of which all children are such has the same operator and names.
+pub record IsKept (def : Definition) (n : Annotated) (same behind front : ℕ) (made : Fragment) (below : List Annotated)
     : Type 0 where
   pub noted : IsNoted def n
   pub formed_old : IsFormed def (tree_in n)
-  pub kept : drop front below ≡ drop behind (below_in n)
+  pub kept : drop front (map whole_in below) ≡ drop behind (map whole_in (below_in n))
+  pub first : take same (map whole_in below) ≡ take same (map whole_in (below_in n))
+  pub fewer : (same ≤ behind) × (same ≤ front)
   pub within : (behind ≤ length (below_in n)) × (front ≤ length below)
   pub lists : (l : ℕ) (es : List Fragment) (u : Bool) → made ≡ list_of l es u
       → tree_in n ≡ list_of l (children_of (tree_in n)) u
+  pub nodes : (o : ℕ) → top_operator made ≡ Some o → front ≡ 0
+      → (behind ≡ 0) × (top_operator (tree_in n) ≡ Some o) × (own_names made ≡ own_names (tree_in n))
 
 -- the evaluations of a tree of which so many first children are new: of a list their cells, else the node
 abbrev pub remade_ticks : Fragment → ℕ → ℕ

@@ -1,12 +1,13 @@
 //! Notes of changed trees.
-ghost use Rattle.std.specs.Prelude.{◌≡◌, ◌+◌, ◌≤◌, ◌<◌, [], drop, length, slice_get, Some, IfErr, IfOk};
+ghost use Rattle.std.specs.Prelude.{◌≡◌, ◌+◌, ◌^◌, ◌⊎◌, ◌≤◌, ◌<◌, [], drop, length, slice_get, Some, IfErr, IfOk};
 ghost use Rattle.std.specs.Prelude.{Ok as InOk};
 ghost use Rattle.psg_grammar.specs.Paths.{change_at, replaced as replaced_at, inserted as inserted_at, removed as removed_at};
 ghost use Rattle.psg_grammar.specs.Sound.{IsSound};
 ghost use Rattle.psg_grammar.specs.Steps.{steps_of};
 ghost use Rattle.psg_grammar.specs.Work.{climb_of, leaving, work_of};
+ghost use Rattle.psg_tree.specs.declared.places.TreeFault.TheVariants.{Memory as NoMemory};
 ghost use Rattle.psg_cache.specs.declared.note.NoteFault.TheVariants.{Memory};
-ghost use Rattle.psg_cache.specs.Annotated.{tree_in};
+ghost use Rattle.psg_cache.specs.Annotated.{tree_in, whole_in};
 ghost use Rattle.psg_cache.specs.Changes.{IsPlace, IsPut, IsAdded, IsTaken, ticks_of};
 ghost use Rattle.psg_cache.specs.Edits.{MayReplace, MayInsert, MayRemove};
 ghost use Rattle.psg_cache.specs.Noted.{IsNotedAs};
@@ -15,12 +16,12 @@ ghost use Rattle.psg_cache.specs.Walks.{IsKnown, IsStepFault};
 
 use crate::building::{light, small};
 use crate::note::{Note, NoteFault};
-use crate::parts::{Language, longer};
+use crate::parts::{Language, child_of, longer};
 use crate::remaking::{remade, spliced};
 use crate::walking::walk;
 use psg_grammar::Definition;
 use psg_terms::Steps;
-use psg_tree::{Path, Tree, TreeFault, child_at, insert, remove, replace};
+use psg_tree::{Path, Tree, TreeFault, insert, remove, replace};
 use std::alloc::Global;
 use std::sync::ledger::Ledger;
 
@@ -63,6 +64,7 @@ fn added<L: Ledger>(
         language,
         note,
         number,
+        number,
         number + 1,
         below,
         made,
@@ -96,6 +98,7 @@ fn taken<L: Ledger>(
         alloc,
         language,
         note,
+        number,
         number + 1,
         number,
         below,
@@ -104,6 +107,18 @@ fn taken<L: Ledger>(
         steps,
     )?;
     Ok(all)
+}
+
+/// How many first children have other summaries than before where the one at the place is new: none where its summary is
+/// the old one's.
+fn first_changed(old: &Note, new: &Note, place: usize) -> usize
+    requires { place < 2 ^ 32 }
+    ensures { ((result ≡ 0) × (whole_in new.now ≡ whole_in old.now)) ⊎ (result ≡ place + 1) }
+{
+    if new.root().same(old.root()) {
+        return 0;
+    }
+    place + 1
 }
 
 /// The note of a node with another child.
@@ -126,17 +141,11 @@ fn raised<L: Ledger>(
 {
     let place = number as usize;
     let notes = note.below();
+    let front = first_changed(&notes[place], &child, place);
+    let same = front.saturating_sub(1);
     let below = spliced(alloc, notes, place, Some(child), place + 1)?;
     let all = remade(
-        alloc,
-        language,
-        note,
-        place + 1,
-        place + 1,
-        below,
-        made,
-        path,
-        steps,
+        alloc, language, note, same, front, front, below, made, path, steps,
     )?;
     Ok(all)
 }
@@ -204,9 +213,7 @@ fn changed<L: Ledger>(
     }
     let number = head(left);
     let rest = tail(left);
-    let Some(inner) = child_at(made, number) else {
-        return Err(NoteFault::Memory);
-    };
+    let inner = child_of(made, number);
     let place = longer(alloc, path, number)?;
     let notes = note.below();
     let old = &notes[number as usize];
@@ -224,8 +231,9 @@ fn changed<L: Ledger>(
     Ok(all)
 }
 
-/// The changed tree. That there is no such node is no case where the place was tested, and counts as want of memory.
+/// The changed tree. Where the place was tested a change has no other fault than want of memory.
 fn tree_of(made: Result<Tree, TreeFault>) -> Result<Tree, NoteFault>
+    requires { IfErr made (λ fault. fault ≡ NoMemory) }
     ensures ok { IfOk result (λ tree. made ≡ InOk tree) }
     ensures err { IfErr result (λ fault. fault ≡ Memory) }
 {
@@ -259,7 +267,8 @@ fn finished<L: Ledger>(
 
 /// Makes the note of the tree with another one in place of the node at the path.
 ///
-/// The nodes on the path are evaluated anew, of a list on it the cells up to the path's element; all else is shared.
+/// The nodes on the path are evaluated anew, of a list on it the cells up to the path's element, up to where a summary
+/// is the old one; all else is shared.
 /// `steps` counts the evaluations, whatever is answered. The faults are tested as by `build`: `Deep`, `Big`, then `Wide`
 /// with the first step of the resulting tree whose relation passes the limit, then `Heavy`. `Memory` comes when memory
 /// runs out, at any time.
@@ -294,7 +303,8 @@ pub fn replaced<L: Ledger>(
 
 /// Makes the note of the tree with one more element before the place of the list at the path.
 ///
-/// The nodes on the path are evaluated anew, of a list on it the cells up to the path's element; all else is shared.
+/// The nodes on the path are evaluated anew, of a list on it the cells up to the path's element, up to where a summary
+/// is the old one; all else is shared.
 /// `steps` counts the evaluations, whatever is answered. The faults are tested as by `build`: `Deep`, `Big`, then `Wide`
 /// with the first step of the resulting tree whose relation passes the limit, then `Heavy`. `Memory` comes when memory
 /// runs out, at any time.
@@ -333,7 +343,8 @@ pub fn inserted<L: Ledger>(
 
 /// Makes the note of the tree without the element at the place of the list at the path.
 ///
-/// The nodes on the path are evaluated anew, of a list on it the cells up to the path's element; all else is shared.
+/// The nodes on the path are evaluated anew, of a list on it the cells up to the path's element, up to where a summary
+/// is the old one; all else is shared.
 /// `steps` counts the evaluations, whatever is answered. The faults are tested as by `build`: `Deep`, `Big`, then `Wide`
 /// with the first step of the resulting tree whose relation passes the limit, then `Heavy`. `Memory` comes when memory
 /// runs out, at any time.

@@ -1,13 +1,15 @@
 //! The summaries of the suffixes of a list.
-ghost use Rattle.std.specs.Prelude.{◌≡◌, ◌+◌, ◌++◌, ◌∷◌, ◌≤◌, [], reverse, length, IfErr, IfOk, OnOk};
+ghost use Rattle.std.specs.Prelude.{◌≡◌, ◌+◌, ◌++◌, ◌∷◌, ◌≤◌, ◌<◌, ◌⊎◌, ℕ, [], false, drop, reverse, length, take};
+ghost use Rattle.std.specs.Prelude.{IfErr, IfOk, IsTrue, OnOk};
 ghost use Rattle.std.specs.List.{AllByRecursion};
 ghost use Rattle.psg_grammar.specs.Sound.{IsSound};
 ghost use Rattle.psg_eval.specs.Summaries.{IsSummary};
+ghost use Rattle.psg_cache.specs.Annotated.{rests_in, whole_in};
 ghost use Rattle.psg_cache.specs.Renoting.{AreOfCells, first_or, IsCellsFault, TakesCells};
 ghost use Rattle.psg_cache.specs.Walks.{IsAnswerFault, IsKnown, IsListFault, IsListTopped, TakesElements};
 ghost use Rattle.std.specs.Prelude.{Ok as InOk};
 
-use crate::note::NoteFault;
+use crate::note::{Note, NoteFault};
 use crate::parts::Language;
 use psg_eval::{EvalFault, Summary, eval_cell, eval_end};
 use psg_grammar::Definition;
@@ -52,38 +54,6 @@ fn latest<'a>(made: &'a [Summary], behind: &'a Summary) -> &'a Summary
     }
 }
 
-/// The summaries of the suffixes that begin with these elements, in front of a suffix: of the cells from the last to the
-/// first.
-pub(crate) fn cells<L: Ledger>(
-    alloc: Global,
-    definition: &Definition,
-    list: u32,
-    elements: &[Summary],
-    behind: &Summary,
-    path: &[u32],
-    steps: &mut Steps<L>,
-) -> Result<Vec<Summary>, NoteFault>
-    requires sound { IsSound definition.now }
-    requires takes { TakesCells definition.now list elements.now behind.now }
-    ensures ok { IfOk result (λ news. AreOfCells definition.now list elements.now behind.now news.items) }
-    ensures usual { IfOk result (λ news. AllByRecursion (IsSummary definition.now) news.items) }
-    ensures ticks { IfOk result (λ _. steps.new ≡ steps.old + length elements.now) }
-    ensures bounded { steps.new ≤ steps.old + length elements.now }
-    ensures err { IfErr result (IsCellsFault definition.now path.now list elements.now behind.now) }
-{
-    let mut made = Vec::new(alloc);
-    let mut left = elements.len();
-    while left > 0 {
-        left -= 1;
-        let rest = latest(made.as_slice(), behind);
-        let answer = eval_cell(alloc, definition, list, &elements[left], rest, steps);
-        let cell = answered(alloc, path, answer)?;
-        made.push(cell)?;
-    }
-    made.reverse();
-    Ok(made)
-}
-
 /// Adds one more owner of each of the summaries.
 fn push_shared(made: &mut Vec<Summary>, summaries: &[Summary]) -> Result<(), AllocError>
     ensures { OnOk result (made.new.items ≡ made.old.items ++ summaries.now) }
@@ -92,6 +62,92 @@ fn push_shared(made: &mut Vec<Summary>, summaries: &[Summary]) -> Result<(), All
         made.push(summary.share()?)?;
     }
     Ok(())
+}
+
+/// The old suffix at the place, or the one behind them where there is none.
+fn old_at<'a>(olds: &'a [Summary], was: &'a Summary, place: usize) -> &'a Summary
+    ensures { result.now ≡ first_or was.now (drop place olds.now) }
+{
+    match olds.get(place) {
+        Some(old) => old,
+        None => was,
+    }
+}
+
+/// Tells whether the cell in front of the place is evaluated: there is one, and the suffix at the place is not the old one.
+fn is_due(made: &[Summary], behind: &Summary, olds: &[Summary], was: &Summary, place: usize) -> bool
+    ensures more { IsTrue result → 0 < place }
+    ensures done { result ≡ false → (place ≤ length olds.now)
+        × ((place ≡ 0) ⊎ (first_or behind.now (reverse made.now) ≡ first_or was.now (drop place olds.now))) }
+{
+    if place == 0 {
+        return false;
+    }
+    if place > olds.len() {
+        return true;
+    }
+    let old = old_at(olds, was, place);
+    let new = latest(made, behind);
+    !new.same(old)
+}
+
+/// The summaries of the suffixes that begin with these elements, in front of a suffix: of the cells from the last to the
+/// first. `olds` has those of an old list with the same first elements, in front of `was`: from a suffix on that is the
+/// old one, they are shared.
+pub(crate) fn cells<L: Ledger>(
+    alloc: Global,
+    definition: &Definition,
+    list: u32,
+    elements: &[Summary],
+    olds: &[Summary],
+    was: &Summary,
+    behind: &Summary,
+    path: &[u32],
+    steps: &mut Steps<L>,
+) -> Result<Vec<Summary>, NoteFault>
+    requires sound { IsSound definition.now }
+    requires takes { TakesCells definition.now list elements.now behind.now }
+    requires olds { (k : ℕ) × AreOfCells definition.now list (take k elements.now) was.now olds.now }
+    requires old_usual { AllByRecursion (IsSummary definition.now) olds.now }
+    ensures ok { IfOk result (λ news. AreOfCells definition.now list elements.now behind.now news.items) }
+    ensures usual { IfOk result (λ news. AllByRecursion (IsSummary definition.now) news.items) }
+    ensures ticks { IfOk result (λ _. olds.now ≡ [] → steps.new ≡ steps.old + length elements.now) }
+    ensures bounded { steps.new ≤ steps.old + length elements.now }
+    ensures err { IfErr result (IsCellsFault definition.now path.now list elements.now behind.now) }
+{
+    let mut made = Vec::new(alloc);
+    let mut left = elements.len();
+    'turn: while is_due(made.as_slice(), behind, olds, was, left) {
+        left -= 1;
+        let latter = made.as_slice();
+        let rest = latest(latter, behind);
+        let answer = eval_cell(alloc, definition, list, &elements[left], rest, steps);
+        let cell = answered(alloc, path, answer)?;
+        made.push(cell)?;
+    }
+    made.reverse();
+    let mut all = Vec::with_capacity(alloc, elements.len())?;
+    push_shared(&mut all, &olds[..left])?;
+    let turned = made.as_slice();
+    push_shared(&mut all, turned)?;
+    Ok(all)
+}
+
+/// Of a list the summaries of the suffixes in front of the one behind so many elements.
+pub(crate) fn suffixes_before(
+    alloc: Global,
+    note: &Note,
+    number: usize,
+) -> Result<Vec<Summary>, AllocError>
+    requires { number ≤ length (rests_in note.now) }
+    ensures { IfOk result (λ found. found.items ≡ take number (whole_in note.now ∷ rests_in note.now)) }
+{
+    let mut found = Vec::new(alloc);
+    if number > 0 {
+        found.push(note.root().share()?)?;
+        push_shared(&mut found, &note.rests()[..number - 1])?;
+    }
+    Ok(found)
 }
 
 /// The first of the summaries, and those behind it.
@@ -151,8 +207,11 @@ pub(crate) fn top_list<L: Ledger>(
     let spaces = language.declaring[kind.element as usize].as_slice();
     let ended = eval_end(alloc, definition, spaces, list, unfinished, steps);
     let end = answered(alloc, path, ended)?;
-    let news = cells(alloc, definition, list, elements, &end, path, steps)?;
     let none = Vec::new(alloc);
-    let all = joined(alloc, news, &end, none.as_slice())?;
+    let olds = none.as_slice();
+    let news = cells(
+        alloc, definition, list, elements, olds, &end, &end, path, steps,
+    )?;
+    let all = joined(alloc, news, &end, olds)?;
     Ok(all)
 }

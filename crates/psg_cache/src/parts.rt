@@ -1,12 +1,12 @@
 //! The parts of trees and of paths.
-ghost use Rattle.std.specs.Prelude.{◌≡◌, ◌++◌, ◌∷◌, [], IfOk};
+ghost use Rattle.std.specs.Prelude.{◌≡◌, ◌<◌, ◌++◌, ◌∷◌, [], length, IfOk, Some, option_copied, slice_get};
 ghost use Rattle.psg_grammar.specs.Fragments.{children_of};
 ghost use Rattle.psg_tree.specs.Shapes.{subtrees};
 ghost use Rattle.psg_cache.specs.Walks.{names_in};
 
 use psg_grammar::Definition;
 use psg_terms::Txt;
-use psg_tree::{Part, Shape, Tree};
+use psg_tree::{Part, Shape, Tree, child_at};
 use std::alloc::{AllocError, Global};
 
 /// The language of a walk.
@@ -90,4 +90,15 @@ pub(crate) fn longer(alloc: Global, steps: &[u32], step: u32) -> Result<Vec<u32>
     let mut all = Vec::from_slice(alloc, steps)?;
     all.push(step)?;
     Ok(all)
+}
+
+/// The child of a node by its number, from 0.
+pub(crate) fn child_of(tree: &Tree, number: u32) -> &Tree
+    requires { number < length (children_of tree.now) }
+    ensures { slice_get (children_of tree.now) number ≡ Some result.now }
+{
+    match child_at(tree, number) {
+        Some(child) => child,
+        None => unreachable!(),
+    }
 }

@@ -18,7 +18,7 @@ use std::alloc::{AllocError, Global};
 use std::sync::ledger::Ledger;
 
 /// The summary of a tree that is no list.
-fn alone(alloc: Global, summary: Summary) -> Suffixes
+pub(crate) fn alone(alloc: Global, summary: Summary) -> Suffixes
     ensures whole { result.whole ≡ summary }
     ensures rests { result.rests ≡ [] }
 {

@@ -1,14 +1,14 @@
 use Rattle.std.proofs.Common.{sym, subst}
-use Rattle.std.specs.Prelude.{Result, IfOk}
+use Rattle.std.specs.Prelude.{Result, IfErr, IfOk}
 use Rattle.psg_grammar.specs.Fragments.{Fragment}
 use Rattle.psg_grammar.specs.Paths.{change_at, inserted as inserted_at}
-use Rattle.psg_tree.specs.Edits.{IsInserted}
+use Rattle.psg_tree.specs.Edits.{IsInserted, IsInsertFault}
 use Rattle.psg_tree.specs.declared.places.TreeFault.{TreeFault}
 use Rattle.psg_cache.specs.declared.editing.Edit.TheVariants as edits
 use Rattle.psg_cache.specs.Annotated.{tree_in}
 use Rattle.psg_cache.specs.Changes.{IsPlace}
 use Rattle.psg_cache.specs.Notes.{IsNoteFault, IsNoteOf}
-use Rattle.psg_cache.proofs.ChangeLaws.{place_add}
+use Rattle.psg_cache.proofs.ChangeLaws.{memory_add, place_add}
 use Rattle.psg_cache.proofs.NoteOpen.{noted_open}
 use Rattle.psg_cache.proofs.Passing.{passed}
 use Rattle.psg_cache.proofs.editing.inserted.Goals as goal
@@ -75,3 +75,12 @@ returns-clause-good g c =
     let is : IsInserted tree path place new made = subst P c.in_ok-made.ensures.ok told in
     noted_open def (change_at (inserted_at place new) path tree) c.in_ok-all.all
     (subst (λ x. IsNoteOf def x c.in_ok-all.all) is.made_is c.in_ok-all.ensures.note)
+
+pub tree_of-requires : goal.tree_of-requires
+tree_of-requires g c =
+    let tree = tree_in c.args.note.now in
+    let path = c.args.path.now in
+    let place = c.args.place in
+    let new = c.args.new.now in
+    memory_add c.args.definition.now path place tree new c.requires.note.formed c.requires.place c.insert-changed.result
+    (subst (λ t. IfErr c.insert-changed.result (IsInsertFault t path place)) c.tree.ensures c.insert-changed.ensures.err)

@@ -1,6 +1,7 @@
-use Rattle.std.proofs.Common.{◌∙◌, ◌+◌, ◌≤◌, [], ◌∷◌, ◌++◌, ap, arith, drop, length, subst, sym, take}
+use Rattle.std.proofs.Common.{◌∙◌, ◌+◌, ◌<◌, ◌≤◌, [], ◌∷◌, ◌++◌, ap, arith, drop, get_or, length, subst, sym, take}
 use Rattle.psg_grammar.specs.Steps.{steps_of}
 use Rattle.psg_cache.specs.Annotated.{below_in}
+use Rattle.psg_cache.specs.Changes.{IsKept}
 use Rattle.psg_cache.specs.Walks.{IsStepFault}
 use Rattle.psg_cache.proofs.ChangeLaws.{put_kept, put_notes, put_ticks, put_within}
 use Rattle.psg_cache.proofs.Passing.{passed}
@@ -35,7 +36,12 @@ remade-requires-clause-kept g c =
     let below = c.in_ok-below.below.items in
     let is = c.in_ok-below.ensures
     ∙ ap (λ ns. (take c.args.number ns ++ c.args.child ∷ []) ++ drop (c.args.number + 1) ns) c.below-notes.ensures in
-    put_kept def note c.args.number c.args.child made below c.requires.put is
+    subst (λ k. IsKept def note k c.first_changed-front.result c.first_changed-front.result made below)
+    (sym c.saturating_sub-same.ensures)
+    (put_kept def note c.args.number c.first_changed-front.result c.args.child c.index-notes-place.result made below
+    c.requires.put is
+    (c.index-notes-place.is ∙ ap (λ ns. get_or ns c.args.number c.index-notes-place.result) c.below-notes.ensures)
+    c.first_changed-front.ensures)
 
 pub returns-in_err-all-clause-err : goal.returns-in_err-all-clause-err
 returns-in_err-all-clause-err g c =
@@ -56,7 +62,8 @@ returns-in_err-all-clause-bounded g c =
     let def = c.args.language.definition.now in
     let note = c.args.note.now in
     let made = c.args.made.now in
-    let ticks = put_ticks def note c.args.number c.args.child made c.requires.put in
+    let ticks = put_ticks def note c.args.number c.first_changed-front.result c.args.child c.index-notes-place.result made
+    c.requires.put c.first_changed-front.ensures in
     omega (arith, ticks, c.remade.ensures.bounded)
 
 pub returns-clause-bounded : goal.returns-clause-bounded
@@ -64,5 +71,12 @@ returns-clause-bounded g c =
     let def = c.args.language.definition.now in
     let note = c.args.note.now in
     let made = c.args.made.now in
-    let ticks = put_ticks def note c.args.number c.args.child made c.requires.put in
+    let ticks = put_ticks def note c.args.number c.first_changed-front.result c.args.child c.index-notes-place.result made
+    c.requires.put c.first_changed-front.ensures in
     omega (arith, ticks, c.remade.ensures.bounded)
+
+pub bounds-notes-place : goal.bounds-notes-place
+bounds-notes-place g c =
+    let small = put_within c.args.language.definition.now c.args.note.now c.args.number c.args.child c.args.made.now
+    c.requires.put in
+    subst (λ ns. c.args.number < length ns) (sym c.below-notes.ensures) small

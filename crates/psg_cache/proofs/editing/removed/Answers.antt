@@ -1,12 +1,12 @@
 use Rattle.std.proofs.Common.{subst}
-use Rattle.std.specs.Prelude.{Result, IfOk}
+use Rattle.std.specs.Prelude.{Result, IfErr, IfOk}
 use Rattle.psg_grammar.specs.Fragments.{Fragment}
 use Rattle.psg_grammar.specs.Paths.{change_at, removed as removed_at}
-use Rattle.psg_tree.specs.Edits.{IsRemoved}
+use Rattle.psg_tree.specs.Edits.{IsRemoved, IsRemoveFault}
 use Rattle.psg_tree.specs.declared.places.TreeFault.{TreeFault}
 use Rattle.psg_cache.specs.Annotated.{tree_in}
 use Rattle.psg_cache.specs.Notes.{IsNoteFault, IsNoteOf}
-use Rattle.psg_cache.proofs.ChangeLaws.{place_take}
+use Rattle.psg_cache.proofs.ChangeLaws.{memory_take, place_take}
 use Rattle.psg_cache.proofs.NoteOpen.{noted_open}
 use Rattle.psg_cache.proofs.Passing.{passed}
 use Rattle.psg_cache.proofs.editing.removed.Goals as goal
@@ -68,3 +68,11 @@ returns-clause-good g c =
     let is : IsRemoved tree path place made = subst P c.in_ok-made.ensures.ok told in
     noted_open def (change_at (removed_at place) path tree) c.in_ok-all.all
     (subst (λ x. IsNoteOf def x c.in_ok-all.all) is.made_is c.in_ok-all.ensures.note)
+
+pub tree_of-requires : goal.tree_of-requires
+tree_of-requires g c =
+    let tree = tree_in c.args.note.now in
+    let path = c.args.path.now in
+    let place = c.args.place in
+    memory_take c.args.definition.now path place tree c.requires.place c.remove-changed.result
+    (subst (λ t. IfErr c.remove-changed.result (IsRemoveFault t path place)) c.tree.ensures c.remove-changed.ensures.err)

@@ -1,14 +1,14 @@
 use Rattle.std.proofs.Common.{sym, subst}
-use Rattle.std.specs.Prelude.{Result, IfOk}
+use Rattle.std.specs.Prelude.{Result, IfErr, IfOk}
 use Rattle.psg_grammar.specs.Fragments.{Fragment}
 use Rattle.psg_grammar.specs.Paths.{replaced as replaced_at}
-use Rattle.psg_tree.specs.Faults.{IsReplaced}
+use Rattle.psg_tree.specs.Faults.{IsReplaced, IsReplaceFault}
 use Rattle.psg_tree.specs.declared.places.TreeFault.{TreeFault}
 use Rattle.psg_cache.specs.declared.editing.Edit.TheVariants as edits
 use Rattle.psg_cache.specs.Annotated.{tree_in}
 use Rattle.psg_cache.specs.Changes.{IsPlace}
 use Rattle.psg_cache.specs.Notes.{IsNoteFault, IsNoteOf}
-use Rattle.psg_cache.proofs.ChangeLaws.{place_put}
+use Rattle.psg_cache.proofs.ChangeLaws.{memory_put, place_put}
 use Rattle.psg_cache.proofs.NoteOpen.{noted_open}
 use Rattle.psg_cache.proofs.Passing.{passed}
 use Rattle.psg_cache.proofs.editing.replaced.Goals as goal
@@ -71,3 +71,11 @@ returns-clause-good g c =
     let is : IsReplaced tree path new made = subst P c.in_ok-made.ensures.ok told in
     noted_open def (replaced_at path new tree) c.in_ok-all.all
     (subst (λ x. IsNoteOf def x c.in_ok-all.all) is.1 c.in_ok-all.ensures.note)
+
+pub tree_of-requires : goal.tree_of-requires
+tree_of-requires g c =
+    let tree = tree_in c.args.note.now in
+    let path = c.args.path.now in
+    let new = c.args.new.now in
+    memory_put c.args.definition.now path tree new c.requires.place c.replace-changed.result
+    (subst (λ t. IfErr c.replace-changed.result (IsReplaceFault t path)) c.tree.ensures c.replace-changed.ensures.err)

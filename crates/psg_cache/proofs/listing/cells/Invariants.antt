@@ -6,8 +6,8 @@ use Rattle.psg_cache.proofs.CellLaws.{IsSuffix}
 use Rattle.psg_cache.proofs.listing.cells.Given as goal
 
 -- the cells from the number on are made
-abbrev pub invariant-loop-left : goal.invariant-loop-left
-invariant-loop-left g l =
+abbrev pub invariant-turn : goal.invariant-turn
+invariant-turn g l =
     record {
       within : l.left ≤ length l.elements;
       counted : l.steps + l.left ≡ l.fn.steps + length l.elements;
@@ -15,5 +15,5 @@ invariant-loop-left g l =
       suffixes : AllByRecursion (IsSuffix l.definition l.list) (reverse l.made.items);
     }
 
-abbrev pub decreases-loop-left : goal.decreases-loop-left
-decreases-loop-left g l = l.left
+abbrev pub decreases-turn : goal.decreases-turn
+decreases-turn g l = l.left
