@@ -1,5 +1,5 @@
 //! The parts of trees and of paths.
-ghost use Rattle.std.specs.Prelude.{◌≡◌, ◌<◌, ◌++◌, ◌∷◌, [], length, IfOk, Some, option_copied, slice_get};
+ghost use Rattle.std.specs.Prelude.{◌≡◌, ◌<◌, ◌++◌, ◌∷◌, [], length, IfOk, Some, slice_get};
 ghost use Rattle.psg_grammar.specs.Fragments.{children_of};
 ghost use Rattle.psg_tree.specs.Shapes.{subtrees};
 ghost use Rattle.psg_cache.specs.Walks.{names_in};
