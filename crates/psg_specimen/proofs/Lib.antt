@@ -1,0 +1,15 @@
+pub mod WordLaws
+pub mod Firsts
+pub mod BareLaws
+pub mod QuietLaws
+pub mod MarkLaws
+pub mod Stages
+pub mod FirstOnes
+pub mod CaseLaws
+pub mod VariableLaws
+pub mod OverLaws
+pub mod CaseSteps
+pub mod InRange
+pub mod PartLaws
+pub mod HoleLaws
+pub mod Pairs

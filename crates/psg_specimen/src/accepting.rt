@@ -1,0 +1,45 @@
+//! The conditions in their order, as far as they are tested here: each part tests what it names where all before it hold.
+ghost use Rattle.std.specs.Prelude.{IfErr, OnOk};
+ghost use Rattle.psg_class.specs.Class.{IsClass};
+ghost use Rattle.psg_grammar.specs.Sound.{IsSound};
+ghost use Rattle.psg_specimen.specs.Conditions.{Met3, Met6, Met7};
+ghost use Rattle.psg_specimen.specs.Refusal.{Refuses};
+
+use crate::cases::first_uncased;
+use crate::fault::AcceptFault;
+use crate::forms::{first_declaring, first_scope, first_without_row};
+use psg_grammar::Definition;
+use std::alloc::Global;
+
+/// Tests scopes, the slots of declaring phyla, and that each kind has a hole row.
+pub(crate) fn check_forms(alloc: Global, definition: &Definition) -> Result<(), AcceptFault>
+    requires sound { IsSound definition.now }
+    requires class { IsClass definition.now }
+    ensures met { OnOk result (Met3 definition.now) }
+    ensures refusal { IfErr result (Refuses definition.now) }
+{
+    if let Some(operator) = first_scope(definition) {
+        return Err(AcceptFault::Scope(operator as u32));
+    }
+    if let Some((operator, slot)) = first_declaring(alloc, definition)? {
+        return Err(AcceptFault::Declaring(operator as u32, slot as u32));
+    }
+    if let Some(kind) = first_without_row(alloc, definition)? {
+        return Err(AcceptFault::NoRow(kind));
+    }
+    Ok(())
+}
+
+/// Tests the cases of each hole row.
+pub(crate) fn check_cases(alloc: Global, definition: &Definition) -> Result<(), AcceptFault>
+    requires sound { IsSound definition.now }
+    requires class { IsClass definition.now }
+    requires before { Met6 definition.now }
+    ensures met { OnOk result (Met7 definition.now) }
+    ensures refusal { IfErr result (Refuses definition.now) }
+{
+    if let Some(row) = first_uncased(alloc, definition)? {
+        return Err(AcceptFault::Cases(row as u32));
+    }
+    Ok(())
+}

@@ -1,0 +1,19 @@
+//! Whether a definition is accepted: its hole rows and declare rows say the truth of trees.
+//!
+//! The conditions and their order stand in `specs/Conditions` and `specs/Refusal`, the texts of refusals in `specs/Texts`.
+//! `accept_text(alloc, &refused)` writes the text of a refusal. There is no call yet that accepts: the parts of `accepting`
+//! test the conditions on scopes, slots, kinds and cases, each where all conditions before it hold, and `places` tests that
+//! hole places are smaller. What covers rows, and what is tested of specimens by evaluation, has no code here.
+#![tactic(auto)]
+
+mod accepting;
+mod cases;
+pub mod fault;
+mod forms;
+mod holes;
+pub mod laws;
+mod places;
+mod text;
+
+pub use fault::{AcceptFault, Refused, Site};
+pub use text::accept_text;
