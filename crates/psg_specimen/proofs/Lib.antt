@@ -13,3 +13,7 @@ pub mod InRange
 pub mod PartLaws
 pub mod HoleLaws
 pub mod Pairs
+pub mod Triples
+pub mod PlaceLaws
+pub mod InstanceLaws
+pub mod ItLaws

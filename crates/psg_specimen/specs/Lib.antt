@@ -6,4 +6,6 @@ pub mod Walks
 pub mod Tables
 pub mod Variables
 pub mod OneRefusal
+pub mod Its
 pub mod Parts
+pub mod Wanted

@@ -2,12 +2,13 @@
 ghost use Rattle.std.specs.Prelude.{IfErr, OnOk};
 ghost use Rattle.psg_class.specs.Class.{IsClass};
 ghost use Rattle.psg_grammar.specs.Sound.{IsSound};
-ghost use Rattle.psg_specimen.specs.Conditions.{Met3, Met6, Met7};
+ghost use Rattle.psg_specimen.specs.Conditions.{Met3, Met6, Met7, Met8, Met9};
 ghost use Rattle.psg_specimen.specs.Refusal.{Refuses};
 
 use crate::cases::first_uncased;
 use crate::fault::AcceptFault;
 use crate::forms::{first_declaring, first_scope, first_without_row};
+use crate::places::{Wanted, first_place};
 use psg_grammar::Definition;
 use std::alloc::Global;
 
@@ -40,6 +41,34 @@ pub(crate) fn check_cases(alloc: Global, definition: &Definition) -> Result<(), 
 {
     if let Some(row) = first_uncased(alloc, definition)? {
         return Err(AcceptFault::Cases(row as u32));
+    }
+    Ok(())
+}
+
+/// Tests that the hole places of specimens are smaller than what they stand in.
+pub(crate) fn check_smaller(alloc: Global, definition: &Definition) -> Result<(), AcceptFault>
+    requires sound { IsSound definition.now }
+    requires class { IsClass definition.now }
+    requires before { Met7 definition.now }
+    ensures met { OnOk result (Met8 definition.now) }
+    ensures refusal { IfErr result (Refuses definition.now) }
+{
+    if let Some((site, place)) = first_place(alloc, definition, Wanted::Smaller)? {
+        return Err(AcceptFault::NotSmaller(site, place));
+    }
+    Ok(())
+}
+
+/// Tests that the hole places of specimens are instances of hole rows.
+pub(crate) fn check_instances(alloc: Global, definition: &Definition) -> Result<(), AcceptFault>
+    requires sound { IsSound definition.now }
+    requires class { IsClass definition.now }
+    requires before { Met8 definition.now }
+    ensures met { OnOk result (Met9 definition.now) }
+    ensures refusal { IfErr result (Refuses definition.now) }
+{
+    if let Some((site, place)) = first_place(alloc, definition, Wanted::OfOneRow)? {
+        return Err(AcceptFault::OpenHole(site, place));
     }
     Ok(())
 }

@@ -8,9 +8,12 @@
 
 mod accepting;
 mod cases;
+mod declares;
 pub mod fault;
 mod forms;
 mod holes;
+mod instances;
+mod its;
 pub mod laws;
 mod places;
 mod text;

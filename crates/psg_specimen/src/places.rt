@@ -1,66 +1,172 @@
-//! The hole places of specimens.
-ghost use Rattle.std.specs.Prelude.{◌≡◌, ◌⊎◌, ◌↔◌, IfOk, IsTrue, Some, slice_get};
+//! The hole places of specimens: what is wanted of each, and the first one of a definition of which it is not so.
+ghost use Rattle.std.specs.Prelude.{◌≡◌, ◌⊎◌, ◌↔◌, ◌<◌, ◌^◌, IfOk, IsTrue, Some, length, slice_get};
 ghost use Rattle.psg_grammar.specs.declared.types.Case.{Case as PlainCase};
 ghost use Rattle.psg_grammar.specs.declared.types.DeclareRow.{DeclareRow as PlainRow};
-ghost use Rattle.psg_completions.specs.Places.{IsPart, IsSmallerPlace};
+ghost use Rattle.psg_grammar.specs.declared.types.HoleRow.{HoleRow as PlainHole};
+ghost use Rattle.psg_grammar.specs.Sound.{IsSound};
+ghost use Rattle.psg_completions.specs.Places.{IsPart};
 ghost use Rattle.psg_specimen.specs.Parts.{IsAmong};
-ghost use Rattle.psg_specimen.specs.Walks.{Finds, FindsTwo};
+ghost use Rattle.psg_specimen.specs.declared.fault.Site.TheVariants as sites;
+ghost use Rattle.psg_specimen.specs.Walks.{Finds, FindsPlace, FindsThree, FindsTwo};
+ghost use Rattle.psg_specimen.specs.Wanted.{IsWanted, IsWantedPlace, Wants};
 
+use crate::fault::Site;
 use crate::holes::add_places;
-use psg_grammar::{Case, DeclareRow, Specimen};
+use crate::instances::is_of_one_row;
+use psg_grammar::{Case, DeclareRow, Definition, HoleRow, Specimen, SpecimenHole};
 use psg_terms::matching::same;
 use psg_terms::{Node, Term};
 use std::alloc::{AllocError, Global};
 
-/// The first hole place of a specimen whose term is no proper subterm of the bound.
-pub(crate) fn first_not_smaller(
+/// What is wanted of the term of a hole place.
+#[derive(Clone, Copy)]
+pub(crate) enum Wanted {
+    /// It is a proper subterm of the case's term, or of the declare row's entity.
+    Smaller,
+    /// It is an instance of the term of one hole row of its kind.
+    OfOneRow,
+}
+
+/// Answers the first hole place that is not as wanted, with its number in its specimen: cases of hole rows before declare
+/// rows. A place whose number has more than 32 bits ends in want of memory.
+pub(crate) fn first_place(
     alloc: Global,
+    definition: &Definition,
+    wanted: Wanted,
+) -> Result<Option<(Site, u32)>, AllocError>
+    requires { IsSound definition.now }
+    ensures { IfOk result (FindsPlace (Wants definition.now wanted)) }
+{
+    let rows = definition.hole_rows.as_slice();
+    if let Some((row, (case, place))) = first_in_rows(alloc, definition, wanted, rows)? {
+        let number = number_of(place)?;
+        return Ok(Some((in_case(row as u32, case as u32), number)));
+    }
+    let declares = definition.declare_rows.as_slice();
+    if let Some((row, place)) = first_in_declares(alloc, definition, wanted, declares)? {
+        let number = number_of(place)?;
+        return Ok(Some((in_declare(row as u32), number)));
+    }
+    Ok(None)
+}
+
+fn in_case(row: u32, case: u32) -> Site
+    ensures { result ≡ sites.Hole row case }
+{
+    Site::Hole { row, case }
+}
+
+fn in_declare(row: u32) -> Site
+    ensures { result ≡ sites.Declare row }
+{
+    Site::Declare { row }
+}
+
+fn number_of(place: usize) -> Result<u32, AllocError>
+    ensures { IfOk result (λ n. n ≡ place) }
+{
+    if place >= 0x1_0000_0000 {
+        return Err(AllocError);
+    }
+    Ok(place as u32)
+}
+
+/// Answers the first hole row with a case with a hole place that is not as wanted, and the case and the place.
+fn first_in_rows(
+    alloc: Global,
+    definition: &Definition,
+    wanted: Wanted,
+    rows: &[HoleRow],
+) -> Result<Option<(usize, (usize, usize))>, AllocError>
+    ensures { IfOk result (FindsThree (λ r c h. (row : PlainHole) → slice_get rows.now r ≡ Some row
+        → (one : PlainCase) → slice_get row.cases c ≡ Some one
+        → IsWantedPlace definition.now wanted one.specimen one.term h)) }
+{
+    for number in 0..rows.len() {
+        let row = &rows[number];
+        if let Some(pair) = first_in_cases(alloc, definition, wanted, row.cases.as_slice())? {
+            return Ok(Some((number, pair)));
+        }
+    }
+    Ok(None)
+}
+
+/// Answers the first case with a hole place that is not as wanted, and the place.
+fn first_in_cases(
+    alloc: Global,
+    definition: &Definition,
+    wanted: Wanted,
+    cases: &[Case],
+) -> Result<Option<(usize, usize)>, AllocError>
+    ensures { IfOk result (FindsTwo (λ c h. (one : PlainCase) → slice_get cases.now c ≡ Some one
+        → IsWantedPlace definition.now wanted one.specimen one.term h)) }
+{
+    for number in 0..cases.len() {
+        let case = &cases[number];
+        if let Some(place) = first_unwanted(alloc, definition, wanted, &case.specimen, &case.term)?
+        {
+            return Ok(Some((number, place)));
+        }
+    }
+    Ok(None)
+}
+
+/// Answers the first declare row with a hole place that is not as wanted, and the place.
+fn first_in_declares(
+    alloc: Global,
+    definition: &Definition,
+    wanted: Wanted,
+    rows: &[DeclareRow],
+) -> Result<Option<(usize, usize)>, AllocError>
+    ensures { IfOk result (FindsTwo (λ k h. (d : PlainRow) → slice_get rows.now k ≡ Some d
+        → IsWantedPlace definition.now wanted d.specimen d.term h)) }
+{
+    for number in 0..rows.len() {
+        let row = &rows[number];
+        if let Some(place) = first_unwanted(alloc, definition, wanted, &row.specimen, &row.term)? {
+            return Ok(Some((number, place)));
+        }
+    }
+    Ok(None)
+}
+
+/// Answers the first hole place of a specimen that is not as wanted.
+fn first_unwanted(
+    alloc: Global,
+    definition: &Definition,
+    wanted: Wanted,
     specimen: &Specimen,
     bound: &Term,
 ) -> Result<Option<usize>, AllocError>
-    ensures { IfOk result (Finds (IsSmallerPlace specimen.now bound.now)) }
+    ensures { IfOk result (Finds (IsWantedPlace definition.now wanted specimen.now bound.now)) }
 {
     let mut places = Vec::new(alloc);
     add_places(specimen, &mut places)?;
     let places = places.as_slice();
     for number in 0..places.len() {
-        if !is_part(&places[number].term, bound) {
+        if !is_wanted(alloc, definition, wanted, &places[number], bound)? {
             return Ok(Some(number));
         }
     }
     Ok(None)
 }
 
-/// The first case of a hole row with a hole place whose term is no proper subterm of the case's, and the place.
-pub(crate) fn first_in_cases(
+fn is_wanted(
     alloc: Global,
-    cases: &[Case],
-) -> Result<Option<(usize, usize)>, AllocError>
-    ensures { IfOk result (FindsTwo (λ c h. (one : PlainCase) → slice_get cases.now c ≡ Some one → IsSmallerPlace one.specimen one.term h)) }
+    definition: &Definition,
+    wanted: Wanted,
+    place: &SpecimenHole,
+    bound: &Term,
+) -> Result<bool, AllocError>
+    ensures { IfOk result (λ b. IsTrue b ↔ IsWanted definition.now wanted place.now bound.now) }
 {
-    for number in 0..cases.len() {
-        let case = &cases[number];
-        if let Some(place) = first_not_smaller(alloc, &case.specimen, &case.term)? {
-            return Ok(Some((number, place)));
+    match wanted {
+        Wanted::Smaller => Ok(is_part(&place.term, bound)),
+        Wanted::OfOneRow => {
+            let found = is_of_one_row(alloc, definition, place)?;
+            Ok(found)
         }
     }
-    Ok(None)
-}
-
-/// The first declare row with a hole place whose term is no proper subterm of the row's entity, and the place.
-pub(crate) fn first_in_declares(
-    alloc: Global,
-    rows: &[DeclareRow],
-) -> Result<Option<(usize, usize)>, AllocError>
-    ensures { IfOk result (FindsTwo (λ k h. (d : PlainRow) → slice_get rows.now k ≡ Some d → IsSmallerPlace d.specimen d.term h)) }
-{
-    for number in 0..rows.len() {
-        let row = &rows[number];
-        if let Some(place) = first_not_smaller(alloc, &row.specimen, &row.term)? {
-            return Ok(Some((number, place)));
-        }
-    }
-    Ok(None)
 }
 
 /// Whether the part is a proper subterm. Only subterms that are as large as the part are compared with it, so each place of
