@@ -17,3 +17,6 @@ pub mod Triples
 pub mod PlaceLaws
 pub mod InstanceLaws
 pub mod ItLaws
+pub mod ItCounts
+pub mod Gets
+pub mod ClearLaws

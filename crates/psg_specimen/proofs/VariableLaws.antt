@@ -22,7 +22,7 @@ number_of (variable s n) = n
 number_of (symbol c) = 0
 number_of (apply f a) = 0
 
-same_variable : (s n r k : ℕ) → variable s n ≡ variable r k → (s ≡ r) × (n ≡ k)
+pub same_variable : (s n r k : ℕ) → variable s n ≡ variable r k → (s ≡ r) × (n ≡ k)
 same_variable s n r k e = (ap sort_of e, ap number_of e)
 
 keys_same : (k j : Key) → same_key k j ≡ true → variable k.sort.0 k.number ≡ variable j.sort.0 j.number

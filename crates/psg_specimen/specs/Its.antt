@@ -78,7 +78,10 @@ module _ (def : Definition) where
   its_of_elements inside [] = []
   its_of_elements inside (s ∷ rest) = its_in inside (tree_of s) ++ its_of_elements inside rest
 
+abbrev pub declares_there : ℕ → Spot → Bool
+declares_there s x = x.declares && (x.space == s)
+
 -- how many declare in the space
 abbrev pub declare_in : ℕ → List Spot → ℕ
 declare_in s [] = 0
-declare_in s (x ∷ xs) = cond (x.declares && (x.space == s)) 1 0 + declare_in s xs
+declare_in s (x ∷ xs) = cond (declares_there s x) 1 0 + declare_in s xs

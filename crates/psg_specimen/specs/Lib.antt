@@ -7,5 +7,6 @@ pub mod Tables
 pub mod Variables
 pub mod OneRefusal
 pub mod Its
+pub mod Clear
 pub mod Parts
 pub mod Wanted

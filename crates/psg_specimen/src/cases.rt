@@ -165,7 +165,7 @@ fn is_different(
     }
 }
 
-fn is_constant(term: &Term, con: ConId) -> bool
+pub(crate) fn is_constant(term: &Term, con: ConId) -> bool
     ensures { IsTrue result ↔ (term.now ≡ symbol con.0) }
 {
     match term.node() {

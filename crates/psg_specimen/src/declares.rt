@@ -1,8 +1,8 @@
 //! What the specimens of declare rows declare.
-ghost use Rattle.std.specs.Prelude.{◌≡◌, ◌↔◌, IfOk, IsTrue};
+ghost use Rattle.std.specs.Prelude.{◌≡◌, ◌↔◌, IfOk, IsTrue, count_by};
 ghost use Rattle.std.specs.List.{AllByRecursion};
 ghost use Rattle.psg_specimen.specs.Declares.{DeclaresIt, IsDeclaration, IsOperator};
-ghost use Rattle.psg_specimen.specs.Its.{declare_in};
+ghost use Rattle.psg_specimen.specs.Its.{declares_there};
 ghost use Rattle.psg_specimen.specs.Walks.{Finds};
 
 use crate::its::{Spot, add_its};
@@ -69,7 +69,7 @@ fn are_of(space: u32, its: &[Spot]) -> bool
 
 /// How many of the names declare in the space.
 fn declaring(space: u32, its: &[Spot]) -> usize
-    ensures { result ≡ declare_in space its.now }
+    ensures { result ≡ count_by (declares_there space) its.now }
 {
     its.iter()
         .filter(|spot| spot.declares && spot.space == space)

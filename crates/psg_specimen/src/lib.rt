@@ -8,6 +8,7 @@
 
 mod accepting;
 mod cases;
+mod clear;
 mod declares;
 pub mod fault;
 mod forms;
