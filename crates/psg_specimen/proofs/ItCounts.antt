@@ -1,5 +1,5 @@
 -- The names `it` that declare, and their spaces.
-use Rattle.std.proofs.Common.{◌≡◌, inl, inr, ℕ, ◌+◌, ◌==◌, ◌&&◌, not, Bool, true, false, cond, List, [], ◌∷◌, ◌++◌, length, get_or, Option, Some, None, refl, sym, ap, ap₂, ◌∙◌, subst, arith, eqb-true, eq-eqb, true≢false, bytes_eq}
+use Rattle.std.proofs.Common.{◌≡◌, inl, inr, ℕ, zero, suc, ◌+◌, ◌==◌, ◌&&◌, not, Bool, true, false, cond, List, [], ◌∷◌, ◌++◌, length, get_or, Option, Some, None, refl, sym, ap, ap₂, ◌∙◌, subst, arith, eqb-true, eq-eqb, true≢false, bytes_eq}
 use Rattle.std.specs.Prelude.{◌↔◌, codes, count_by}
 use Rattle.std.specs.List.{AllByRecursion}
 use Rattle.std.proofs.lemmas.Bool.{cases_Bool, and_parts}
@@ -92,7 +92,7 @@ module _ (s : ℕ) where
   named b (Some items.In) n = silent b 0 n
   named b (Some items.Out) n = silent b 0 n
 
-  none_of : (b : Bool) → 0 ≡ cond b 0 0
+  none_of : (b : Bool) → ◌≡◌ {A = ℕ} 0 (cond b 0 0)
   none_of true = refl
   none_of false = refl
 
@@ -220,4 +220,4 @@ counted_by s xs = sym (is_count_by (declare_in s) (declares_there s) refl (λ x 
 
 pub all_at : (s : ℕ) (xs : List Spot) → ((m : ℕ) → At xs (λ (x : Spot). x.space ≡ s) m) → AllOf s xs
 all_at s [] h = tt
-all_at s (x ∷ xs) h = (h 0 x refl, all_at s xs (λ m. h (m + 1)))
+all_at s (x ∷ xs) h = (h zero x refl, all_at s xs (λ m. h (suc m)))

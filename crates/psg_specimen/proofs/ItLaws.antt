@@ -145,7 +145,7 @@ module _ (def : Definition) where
       → x ≡ spot_in spots i → after ≡ now ++ its_of_part def b x p → now ≡ before ++ its_of_parts def b spots 0 (take i ps) → after ≡ before ++ its_of_parts def b spots 0 (take (i + 1) ps)
   part_next b spots before now after ps i x p lt e xe a h =
       a ∙ ap (λ l. l ++ its_of_part def b x p) h ∙ append_assoc before (its_of_parts def b spots 0 (take i ps)) (its_of_part def b x p)
-      ∙ ap (λ l. before ++ l) (ap (λ z. its_of_parts def b spots 0 (take i ps) ++ its_of_part def b z p) (xe ∙ ap (spot_in spots) (sym (long ps i lt)))
+      ∙ ap (λ l. before ++ l) (ap (λ z. its_of_parts def b spots 0 (take i ps) ++ its_of_part def b z p) (xe ∙ ap (spot_in spots) (let k = long ps i lt in let n : i ≡ 0 + length (take i ps) = omega (arith, k) in n))
       ∙ sym (ap (its_of_parts def b spots 0) (take-next ps i p lt e) ∙ parts_snoc b spots 0 (take i ps) p))
 
   elements_snoc : (b : Bool) (ss : List Specimen) (s : Specimen) → its_of_elements def b (ss ++ s ∷ []) ≡ its_of_elements def b ss ++ its_in def b (tree_of s)

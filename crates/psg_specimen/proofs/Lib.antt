@@ -20,3 +20,4 @@ pub mod ItLaws
 pub mod ItCounts
 pub mod Gets
 pub mod ClearLaws
+pub mod DeclarableLaws

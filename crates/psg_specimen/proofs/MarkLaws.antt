@@ -32,13 +32,13 @@ marks_same a b e =
 pub mark_itself : (a : Mark) → same_mark a a ≡ true
 mark_itself a = ap₂ (λ x y. x && y) (bool_itself a.is_list) (eq-eqb a.number a.number refl)
 
-take_get : {X : Type 0} (xs : List X) (i n : ℕ) (x : X) → n < i → slice_get xs n ≡ Some x → slice_get (take i xs) n ≡ Some x
+pub take_get : {X : Type 0} (xs : List X) (i n : ℕ) (x : X) → n < i → slice_get xs n ≡ Some x → slice_get (take i xs) n ≡ Some x
 take_get {X = X} [] i n x lt e = absurd (let f : ◌≡◌ {A = Option X} None (Some x) = e in cc)
 take_get (y ∷ xs) zero n x lt e = absurd (omega (arith, lt))
 take_get (y ∷ xs) (suc i) zero x lt e = e
 take_get (y ∷ xs) (suc i) (suc n) x lt e = take_get xs i n x (omega (arith, lt)) e
 
-get_take : {X : Type 0} (xs : List X) (i n : ℕ) (x : X) → slice_get (take i xs) n ≡ Some x → (n < i) × (slice_get xs n ≡ Some x)
+pub get_take : {X : Type 0} (xs : List X) (i n : ℕ) (x : X) → slice_get (take i xs) n ≡ Some x → (n < i) × (slice_get xs n ≡ Some x)
 get_take {X = X} [] zero n x e = absurd (let f : ◌≡◌ {A = Option X} None (Some x) = e in cc)
 get_take {X = X} [] (suc i) n x e = absurd (let f : ◌≡◌ {A = Option X} None (Some x) = e in cc)
 get_take {X = X} (y ∷ xs) zero n x e = absurd (let f : ◌≡◌ {A = Option X} None (Some x) = e in cc)

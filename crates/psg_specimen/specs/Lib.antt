@@ -6,6 +6,7 @@ pub mod Walks
 pub mod Tables
 pub mod Variables
 pub mod OneRefusal
+pub mod Given
 pub mod Its
 pub mod Clear
 pub mod Parts

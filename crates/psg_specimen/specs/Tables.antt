@@ -5,6 +5,7 @@ use Rattle.std.specs.HashSet.{HashSet, contains}
 use Rattle.std.specs.declared.hash.FoldHasher.{FoldHasher}
 use Rattle.std.specs.declared.hash.BuildHasherDefault.{BuildHasherDefault}
 use Rattle.std.specs.List.{AllByRecursion}
+use Rattle.std.specs.List.Sorted.{IsStrictlyIncreasing}
 use Rattle.std.specs.declared.alloc.Global.{Global}
 use Rattle.psg_grammar.specs.declared.types.Kind.{Kind}
 use Rattle.psg_grammar.specs.declared.types.Kind.TheVariants as kinds
@@ -25,6 +26,11 @@ slots_of _ = []
 pub record AreTables (def : Definition) (found : List (Vec ℕ Global)) : Type 0 where
   pub one_each : length found ≡ length def.phyla
   pub exact : (p : ℕ) (spaces : Vec ℕ Global) → slice_get found p ≡ Some spaces → (s : ℕ) → Contains spaces.items s ↔ (is_declaring def s (kinds.Phylum p) ≡ true)
+
+-- the spaces in which a list declares, ascending
+pub record AreSpaces (def : Definition) (list : ℕ) (spaces : List ℕ) : Type 0 where
+  pub increasing : IsStrictlyIncreasing spaces
+  pub exact : (s : ℕ) → Contains spaces s ↔ (is_declaring def s (kinds.List list) ≡ true)
 
 -- kinds of the definition
 abbrev pub AreKinds : Definition → List Kind → Type 0

@@ -2,14 +2,18 @@
 ghost use Rattle.std.specs.Prelude.{IfErr, OnOk};
 ghost use Rattle.psg_class.specs.Class.{IsClass};
 ghost use Rattle.psg_grammar.specs.Sound.{IsSound};
-ghost use Rattle.psg_specimen.specs.Conditions.{Met3, Met6, Met7, Met8, Met9};
+ghost use Rattle.psg_specimen.specs.Conditions.{IsMet, Met11, Met12, Met13, Met3, Met6, Met7, Met8, Met9};
 ghost use Rattle.psg_specimen.specs.Refusal.{Refuses};
 
 use crate::cases::first_uncased;
+use crate::clear::first_unclear;
+use crate::declarable::first_undeclared;
+use crate::declares::first_astray;
 use crate::fault::AcceptFault;
 use crate::forms::{first_declaring, first_scope, first_without_row};
 use crate::places::{Wanted, first_place};
 use psg_grammar::Definition;
+use psg_terms::ConId;
 use std::alloc::Global;
 
 /// Tests scopes, the slots of declaring phyla, and that each kind has a hole row.
@@ -69,6 +73,48 @@ pub(crate) fn check_instances(alloc: Global, definition: &Definition) -> Result<
 {
     if let Some((site, place)) = first_place(alloc, definition, Wanted::OfOneRow)? {
         return Err(AcceptFault::OpenHole(site, place));
+    }
+    Ok(())
+}
+
+/// Tests what the specimens of declare rows declare.
+pub(crate) fn check_declares(alloc: Global, definition: &Definition) -> Result<(), AcceptFault>
+    requires sound { IsSound definition.now }
+    requires class { IsClass definition.now }
+    requires before { Met11 definition.now }
+    ensures met { OnOk result (Met12 definition.now) }
+    ensures refusal { IfErr result (Refuses definition.now) }
+{
+    if let Some(row) = first_astray(alloc, definition)? {
+        return Err(AcceptFault::NotIt(row as u32));
+    }
+    Ok(())
+}
+
+/// Tests that each unfinished list that declares can declare a name with each entity.
+pub(crate) fn check_declarable(alloc: Global, definition: &Definition) -> Result<(), AcceptFault>
+    requires sound { IsSound definition.now }
+    requires class { IsClass definition.now }
+    requires before { Met12 definition.now }
+    ensures met { OnOk result (Met13 definition.now) }
+    ensures refusal { IfErr result (Refuses definition.now) }
+{
+    if let Some((list, (space, con))) = first_undeclared(alloc, definition)? {
+        return Err(AcceptFault::NoDeclare(list as u32, space, ConId(con)));
+    }
+    Ok(())
+}
+
+/// Tests that the elements that declare rows show leave the values of lists. It is the last condition.
+pub(crate) fn check_clear(alloc: Global, definition: &Definition) -> Result<(), AcceptFault>
+    requires sound { IsSound definition.now }
+    requires class { IsClass definition.now }
+    requires before { Met13 definition.now }
+    ensures met { OnOk result (IsMet definition.now) }
+    ensures refusal { IfErr result (Refuses definition.now) }
+{
+    if let Some(row) = first_unclear(alloc, definition)? {
+        return Err(AcceptFault::NotClear(row as u32));
     }
     Ok(())
 }

@@ -76,13 +76,15 @@ fn is_clear_by(
     if columns.len() != 2 {
         return Ok(false);
     }
-    if !same(&row.head, &columns[1]) {
+    let element = &columns[0];
+    let rest = &columns[1];
+    if !same(&row.head, rest) {
         return Ok(false);
     }
-    if !is_rest(sig, sort, &columns[0], &columns[1]) {
+    if !is_rest(sig, sort, element, rest) {
         return Ok(false);
     }
-    let made = is_made_of(alloc, value, &columns[0])?;
+    let made = is_made_of(alloc, value, element)?;
     Ok(made)
 }
 

@@ -9,6 +9,7 @@
 mod accepting;
 mod cases;
 mod clear;
+mod declarable;
 mod declares;
 pub mod fault;
 mod forms;

@@ -13,6 +13,5 @@ pub returns-clause-met : goal.returns-clause-met
 returns-clause-met c =
     let held = subst (FindsPlace (IsOpenAt c.args.definition.now)) c.in_default.is c.in_ok-site.ensures in (
       c.requires.before,
-      (λ r row at d one there h. held (sites.Hole r d) h row at one there),
-      (λ k d at h. held (sites.Declare k) h d at),
+      (λ r row at d one there h. held (sites.Hole r d) h row at one there, λ k d at h. held (sites.Declare k) h d at),
     )

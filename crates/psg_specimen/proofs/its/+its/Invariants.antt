@@ -1,10 +1,6 @@
-use Rattle.std.proofs.Common.{◌≡◌, ◌×◌, ◌++◌, take}
+use Rattle.std.proofs.Common.{◌≡◌, ◌++◌, take}
 use Rattle.psg_specimen.specs.Its.{its_of_elements, its_of_parts}
 use Rattle.psg_specimen.proofs.its.+its.Given as goal
-
-abbrev pub decreases-add_its : goal.decreases-add_its
-
-abbrev pub decreases-add_part : goal.decreases-add_part
 
 abbrev pub invariant-add_its-loop-part : goal.invariant-add_its-loop-part
 invariant-add_its-loop-part l = (l.place ≡ l.part-index) × (l.its.items ≡ l.fn.its.items ++ its_of_parts l.fn.definition l.region l.spots.items 0 (take l.part-index l.part-items))

@@ -13,7 +13,7 @@ returns-then-inside c =
     sym (ap (λ b. b && not (scopes (slice_get c.args.definition.now.operators c.args.op))) c.if-inside.true ∙ ap (λ o. not (scopes o)) at)
 
 pub returns-else-inside : goal.returns-else-inside
-returns-else-inside c = sym (ap (λ b. b && not (scopes (slice_get c.args.definition.now.operators c.args.op))) c.if-inside.false)
+returns-else-inside c = c.if-inside.false ∙ sym (ap (λ b. b && not (scopes (slice_get c.args.definition.now.operators c.args.op))) c.if-inside.false)
 
 pub returns-in-None : goal.returns-in-None
 returns-in-None c =

@@ -13,4 +13,4 @@ returns-in_ok-found-in-Some c =
 pub returns-in-None : goal.returns-in-None
 returns-in-None c =
     let at = ap (λ l. slice_get l c.args.op) (sym c.as_slice.ensures) ∙ got_none c.as_slice.result.now c.args.op c.get.result c.get.ensures.lookup c.in-None.is in
-    sym (ap (λ o. spots_of (items_of o)) at)
+    c.new.ensures.items ∙ sym (ap (λ o. spots_of (items_of o)) at)

@@ -1,4 +1,4 @@
-use Rattle.std.proofs.Common.{ℕ, ◌≡◌, Some, slice_get, subst, sym, ◌∙◌, ap, arith}
+use Rattle.std.proofs.Common.{ℕ, ◌≡◌, Some, slice_get, subst, arith}
 use Rattle.psg_grammar.specs.declared.types.Case.{Case}
 use Rattle.psg_grammar.specs.declared.types.HoleRow.{HoleRow}
 use Rattle.psg_grammar.specs.declared.types.Definition.{Definition}
@@ -18,7 +18,7 @@ loop-number-preserved c =
     let def = c.args.definition.now in
     let w = c.args.wanted in
     let found = subst (FindsTwo (λ d k. (one : Case) → slice_get c.as_slice.result.now d ≡ Some one → IsWantedPlace def w one.specimen one.term k)) c.in_default.is c.in_ok-pair.ensures in
-    let own = subst (λ cases. (d k : ℕ) (one : Case) → slice_get cases d ≡ Some one → IsWantedPlace def w one.specimen one.term k) (c.as_slice.ensures ∙ ap (λ (r : HoleRow). r.cases) (sym c.index-rows-number.is)) found in
+    let own = subst (λ cases. (d k : ℕ) (one : Case) → slice_get cases d ≡ Some one → IsWantedPlace def w one.specimen one.term k) c.as_slice.ensures found in
     more c.args.rows.now (λ (y : HoleRow). (d k : ℕ) → Q def w y d k) c.loop-number.number x c.loop-number-test.true c.index-rows-number.is own c.loop-number.invariant
 
 pub returns-in-Some : goal.returns-in-Some
@@ -27,7 +27,7 @@ returns-in-Some c =
     let def = c.args.definition.now in
     let w = c.args.wanted in
     let found = subst (FindsTwo (λ d k. (one : Case) → slice_get c.as_slice.result.now d ≡ Some one → IsWantedPlace def w one.specimen one.term k)) c.in-Some.is c.in_ok-pair.ensures in
-    let own = subst (λ cases. FindsTwo (λ d k. (one : Case) → slice_get cases d ≡ Some one → IsWantedPlace def w one.specimen one.term k) (Some c.in-Some.pair)) (c.as_slice.ensures ∙ ap (λ (r : HoleRow). r.cases) (sym c.index-rows-number.is)) found in
+    let own = subst (λ cases. FindsTwo (λ d k. (one : Case) → slice_get cases d ≡ Some one → IsWantedPlace def w one.specimen one.term k) (Some c.in-Some.pair)) c.as_slice.ensures found in
     triple_first c.args.rows.now (Q def w) c.loop-number.number x c.in-Some.pair.0 c.in-Some.pair.1 c.loop-number-test.true c.index-rows-number.is own c.loop-number.invariant
 
 pub returns : goal.returns
