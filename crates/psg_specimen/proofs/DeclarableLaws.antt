@@ -9,6 +9,7 @@ use Rattle.psg_terms.specs.Marks.{con_numbers}
 use Rattle.psg_terms.specs.Relations.{IsIn, first, later}
 use Rattle.psg_terms.specs.Signature.{Signature, Symbol, constructors_from, constructors_of}
 use Rattle.psg_terms.specs.declared.sorts.ConId.{ConId}
+use Rattle.psg_terms.proofs.Nodes.{same_constructor}
 use Rattle.psg_grammar.proofs.Increasing.{rising}
 use Rattle.std.specs.declared.alloc.Global.{Global}
 use Rattle.psg_grammar.specs.declared.types.Kind.{Kind}
@@ -104,6 +105,15 @@ module _ (sig : Signature) (row : DeclareRow) where
   -- a row that gives nothing
   pub adds_none : (old : Given → Bool) → ((d : ℕ) → IsOver sig d row.term → ⊥) → (k : Given) → (old k ≡ true) ↔ ((old k ≡ true) ⊎ IsGivenBy sig row k)
   adds_none old none k = (λ t. inl t, λ h. elim h [ inl t ↦ t | inr of ↦ absurd (none k.con of.over) ])
+
+  pub none_other : (made : ℕ) (args : List Term) → row.term ≡ applied (symbol made) args → (IsOver sig made row.term → ⊥) → (d : ℕ) → IsOver sig d row.term → ⊥
+  none_other made args e refuted d o = refuted (subst (λ k. IsOver sig k row.term) (sym (same_constructor made d args o.arguments (sym e ∙ o.term_is))) o)
+
+  pub none_large : (made : ℕ) (args : List Term) → row.term ≡ applied (symbol made) args → length sig.symbols ≤ made → (d : ℕ) → IsOver sig d row.term → ⊥
+  none_large made args e le d o = absurd (
+      let same = same_constructor made d args o.arguments (sym e ∙ o.term_is) in
+      let lt = get_inside sig.symbols d o.made o.found in
+      omega (arith, same, lt, le))
 
 -- ---- the constructors of a sort rise
 

@@ -21,3 +21,4 @@ pub mod ItCounts
 pub mod Gets
 pub mod ClearLaws
 pub mod DeclarableLaws
+pub mod CoverLaws

@@ -2,6 +2,7 @@
 use Rattle.std.specs.Prelude.{ℕ, ◌≡◌, [], ◌∷◌, Some, slice_get}
 use Rattle.psg_terms.specs.Terms.{Term}
 use Rattle.psg_terms.specs.Instances.{IsInstance}
+use Rattle.psg_grammar.specs.declared.types.Kind.{Kind}
 use Rattle.psg_grammar.specs.declared.types.HoleRow.{HoleRow}
 use Rattle.psg_grammar.specs.declared.types.Specimen.{Specimen}
 use Rattle.psg_grammar.specs.declared.types.SpecimenHole.{SpecimenHole}
@@ -12,6 +13,9 @@ use Rattle.psg_specimen.specs.Refusal.{IsSmallerAt, IsOpenAt}
 use Rattle.psg_specimen.specs.declared.fault.Site.{Site}
 use Rattle.psg_specimen.specs.declared.places.Wanted.{Wanted}
 use Rattle.psg_specimen.specs.declared.places.Wanted.TheVariants as wanted
+
+abbrev pub as_place : Kind → Term → SpecimenHole
+as_place kind term = record { kind = kind; term = term }
 
 -- the place's term is an instance of the row's, and both are of one kind
 pub record IsOfRow (place : SpecimenHole) (row : HoleRow) : Type 0 where

@@ -2,11 +2,12 @@
 ghost use Rattle.std.specs.Prelude.{IfErr, OnOk};
 ghost use Rattle.psg_class.specs.Class.{IsClass};
 ghost use Rattle.psg_grammar.specs.Sound.{IsSound};
-ghost use Rattle.psg_specimen.specs.Conditions.{IsMet, Met11, Met12, Met13, Met3, Met6, Met7, Met8, Met9};
+ghost use Rattle.psg_specimen.specs.Conditions.{IsMet, Met11, Met12, Met13, Met3, Met4, Met5, Met6, Met7, Met8, Met9};
 ghost use Rattle.psg_specimen.specs.Refusal.{Refuses};
 
 use crate::cases::first_uncased;
 use crate::clear::first_unclear;
+use crate::covering::first_uncovered_nil;
 use crate::declarable::first_undeclared;
 use crate::declares::first_astray;
 use crate::fault::AcceptFault;
@@ -31,6 +32,20 @@ pub(crate) fn check_forms(alloc: Global, definition: &Definition) -> Result<(), 
     }
     if let Some(kind) = first_without_row(alloc, definition)? {
         return Err(AcceptFault::NoRow(kind));
+    }
+    Ok(())
+}
+
+/// Tests that hole rows have the values of nil rows.
+pub(crate) fn check_nils(alloc: Global, definition: &Definition) -> Result<(), AcceptFault>
+    requires sound { IsSound definition.now }
+    requires class { IsClass definition.now }
+    requires before { Met4 definition.now }
+    ensures met { OnOk result (Met5 definition.now) }
+    ensures refusal { IfErr result (Refuses definition.now) }
+{
+    if let Some((list, row)) = first_uncovered_nil(alloc, definition)? {
+        return Err(AcceptFault::UncoveredNil(list as u32, row as u32));
     }
     Ok(())
 }

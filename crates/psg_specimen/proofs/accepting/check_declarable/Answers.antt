@@ -4,8 +4,8 @@ use Rattle.psg_specimen.specs.Walks.{FindsThree}
 use Rattle.psg_specimen.proofs.DeclarableLaws.{list_in, space_in, con_in_range}
 use Rattle.psg_specimen.proofs.accepting.check_declarable.Goals as goal
 
-pub overflow_cast-result-in-Some : goal.overflow_cast-result-in-Some
-overflow_cast-result-in-Some c =
+pub overflow_cast-result : goal.overflow_cast-result
+overflow_cast-result c =
     let found = subst (FindsThree (IsDeclarable c.args.definition.now)) c.in-Some.is c.in_ok-list.ensures in
     let h = list_in c.args.definition.now c.in-Some.list c.in-Some.space c.in-Some.con found.0 in
     let k = c.requires.sound.few_lists in omega (arith, h, k)
