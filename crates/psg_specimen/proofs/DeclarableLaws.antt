@@ -22,7 +22,7 @@ use Rattle.psg_grammar.specs.Declaring.{Declares, by_list, is_declaring}
 use Rattle.psg_grammar.specs.DeclaringTables.{AreSpacesOf}
 use Rattle.psg_completions.specs.Cases.{IsOver}
 use Rattle.psg_completions.specs.Elements.{HasDeclareRow, IsDeclarable}
-use Rattle.psg_specimen.specs.Given.{AreGiven, FindsCon, given_by, same_given, IsDeclarableIn, IsDeclarableOf, IsGiven, IsGivenBy}
+use Rattle.psg_specimen.specs.Given.{AreGiven, FindsCon, given_by, HasCon, same_given, IsDeclarableIn, IsDeclarableOf, IsGiven, IsGivenBy}
 use Rattle.psg_specimen.specs.Refusal.{IsFirst, IsFirstOfThree, IsFirstOfTwo}
 use Rattle.psg_specimen.specs.Tables.{AreSpaces}
 use Rattle.psg_specimen.specs.Walks.{Finds, FindsTwo}
@@ -141,11 +141,13 @@ pub constructors_rise : (sig : Signature) (s : ℕ) → Rising (constructors_of 
 constructors_rise sig s = (rising_from 0 s sig.symbols).1
 
 all_in : (P : ℕ → Type 0) (xs : List ℕ) (x : ℕ) → AllByRecursion P xs → IsIn x xs → P x
+all_in P [] x h p = elim p [ ]
 all_in P (y ∷ xs) x h first = h.0
 all_in P (y ∷ xs) x h (later p) = all_in P xs x h.1 p
 
 -- a number of the list is at a place, before the place of a greater one
 pub con_place : (cs : List ConId) (d : ℕ) → IsIn d (con_numbers cs) → (j : ℕ) × (k : ConId) × (slice_get cs j ≡ Some k) × (k.0 ≡ d)
+con_place [] d p = elim p [ ]
 con_place (x ∷ cs) d first = (0, x, refl, refl)
 con_place (x ∷ cs) d (later p) = let (j, k, at, is) = con_place cs d p in (suc j, k, at, is)
 
@@ -325,3 +327,8 @@ module _ (def : Definition) (l s c : ℕ) (fails : IsDeclarable def l s c → �
     | inr le ↦ absurd (fails (λ list at u d space there p. absurd (
         let lt : c < length def.signature.symbols = all_in (λ k. k < length def.signature.symbols) (constructors_of def.signature space.sort.0) c (constructors_there def.signature space.sort.0) p in omega (arith, le, lt))))
   ]
+
+-- the first constructor that is missing
+pub missing_at : (has : Given → Bool) (l s : ℕ) (cs : List ConId) (i : ℕ) (c : ConId) → i < length cs → c ≡ get_or cs i c → (HasCon has l s c → ⊥)
+    → ((m : ℕ) → m < i → At cs (HasCon has l s) m) → FindsCon has l s cs (Some c.0)
+missing_at has l s cs i c lt is missing before = (i, c, read cs i c lt is, refl, missing, before)

@@ -15,7 +15,7 @@ get_inside {X = X} [] n x e = absurd (let y : ◌≡◌ {A = Option X} None (Som
 get_inside (y ∷ xs) zero x e = omega arith
 get_inside (y ∷ xs) (suc n) x e = let h = get_inside xs n x e in omega (arith, h)
 
-get_at : {X : Type 0} (xs : List X) (n : ℕ) (d : X) → n < length xs → slice_get xs n ≡ Some (get_or xs n d)
+pub get_at : {X : Type 0} (xs : List X) (n : ℕ) (d : X) → n < length xs → slice_get xs n ≡ Some (get_or xs n d)
 get_at [] n d h = absurd (omega arith)
 get_at (x ∷ xs) zero d h = refl
 get_at (x ∷ xs) (suc n) d h = get_at xs n d (omega arith)

@@ -9,7 +9,8 @@ use Rattle.psg_grammar.specs.declared.types.DeclareRow.{DeclareRow}
 use Rattle.psg_grammar.specs.declared.types.Definition.{Definition}
 use Rattle.psg_completions.specs.Elements.{IsAbsent, IsClear}
 
--- the value of a rest: a variable that the element's term does not have, or the constant of the list's one-constant sort
+-- the value of a rest: a variable that the element's term does not have, or the constant of the list's one-constant
+-- sort
 abbrev pub IsRest : Signature → ℕ → Term → Term → Type 0
 IsRest sig sort element rest =
     ((s : ℕ) × (n : ℕ) × (rest ≡ variable s n) × IsAbsent s n element)

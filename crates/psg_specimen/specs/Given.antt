@@ -44,7 +44,8 @@ HasCon has l s c = has (given_by l s c.0) ≡ true
 -- the number of the first constructor that is not there for the list and the space, or none
 abbrev pub FindsCon : (Given → Bool) → ℕ → ℕ → List ConId → Option ℕ → Type 0
 FindsCon has l s cs o = MatchOption o ((m : ℕ) (c : ConId) → slice_get cs m ≡ Some c → HasCon has l s c)
-    (λ d. (i : ℕ) × (c : ConId) × (slice_get cs i ≡ Some c) × (c.0 ≡ d) × (HasCon has l s c → ⊥) × ((m : ℕ) → m < i → (k : ConId) → slice_get cs m ≡ Some k → HasCon has l s k))
+    (λ d. (i : ℕ) × (c : ConId) × (slice_get cs i ≡ Some c) × (c.0 ≡ d) 
+    × (HasCon has l s c → ⊥) × ((m : ℕ) → m < i → (k : ConId) → slice_get cs m ≡ Some k → HasCon has l s k))
 
 -- what the set has is what the declare rows of the definition give
 abbrev pub AreGiven : Definition → (Given → Bool) → Type 0
@@ -52,8 +53,10 @@ AreGiven def has = (k : Given) → (has k ≡ true) ↔ IsGiven def.signature de
 
 -- the list has a declare row in the space where the constructor is one of its entities
 abbrev pub IsDeclarableIn : Definition → ℕ → ℕ → ℕ → Type 0
-IsDeclarableIn def l s c = (space : Space) → slice_get def.spaces s ≡ Some space → IsIn c (constructors_of def.signature space.sort.0) → HasDeclareRow def l s c
+IsDeclarableIn def l s c = (space : Space) → slice_get def.spaces s ≡ Some space
+    → IsIn c (constructors_of def.signature space.sort.0) → HasDeclareRow def l s c
 
 -- that of a list of the number, if it is of the unfinished kind and declares in the space
 abbrev pub IsDeclarableOf : Definition → ℕ → ListKind → ℕ → ℕ → Type 0
-IsDeclarableOf def l list s c = list.unfinished ≡ true → is_declaring def s (kinds.List l) ≡ true → IsDeclarableIn def l s c
+IsDeclarableOf def l list s c = list.unfinished ≡ true → is_declaring def s (kinds.List l) ≡ true
+    → IsDeclarableIn def l s c

@@ -72,7 +72,8 @@ module _ (def : Definition) where
   -- those of the parts of an operator with these spots, from the number on
   abbrev pub its_of_parts : Bool → List Spot → ℕ → List SpecimenPart → List Spot
   its_of_parts inside spots k [] = []
-  its_of_parts inside spots k (p ∷ rest) = its_of_part inside (spot_in spots k) p ++ its_of_parts inside spots (k + 1) rest
+  its_of_parts inside spots k (p ∷ rest) = its_of_part inside (spot_in spots k) p
+      ++ its_of_parts inside spots (k + 1) rest
 
   abbrev pub its_of_elements : Bool → List Specimen → List Spot
   its_of_elements inside [] = []

@@ -1,4 +1,5 @@
-//! The conditions in their order, as far as they are tested here: each part tests what it names where all before it hold.
+//! The conditions in their order, as far as they are tested here: each part tests what it names where all before it
+//! hold.
 ghost use Rattle.std.specs.Prelude.{◌≡◌, ◌↔◌, IfErr, IsTrue, OnOk};
 ghost use Rattle.psg_class.specs.declared.fault.ClassFault.TheVariants as classes;
 ghost use Rattle.psg_class.specs.Class.{IsClass};
@@ -45,8 +46,8 @@ pub(crate) fn check_places(alloc: Global, definition: &Definition) -> Result<(),
     Ok(())
 }
 
-/// Tests what specimens of declare rows declare, for which entities there are declare rows, and that lists keep their values.
-/// These are the last conditions.
+/// Tests what specimens of declare rows declare, for which entities there are declare rows, and that lists keep their
+/// values. These are the last conditions.
 pub(crate) fn check_elements(alloc: Global, definition: &Definition) -> Result<(), AcceptFault>
     requires sound { IsSound definition.now }
     requires class { IsClass definition.now }

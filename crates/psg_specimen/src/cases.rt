@@ -140,8 +140,10 @@ fn is_different(
     arg: &Term,
     sort: &SortId,
 ) -> Result<bool, AllocError>
-    ensures test { IfOk result (λ b. (rest : List Plain) → AreMet (has_key met.old) rest → IsTrue b ↔ IsDifferent sig.now arg.now sort.now.0 rest) }
-    ensures met { IfOk result (λ b. (rest : List Plain) → AreMet (has_key met.old) rest → IsTrue b → AreMet (has_key met.new) (arg.now ∷ rest)) }
+    ensures test { IfOk result (λ b. (rest : List Plain) → AreMet (has_key met.old) rest
+        → IsTrue b ↔ IsDifferent sig.now arg.now sort.now.0 rest) }
+    ensures met { IfOk result (λ b. (rest : List Plain) → AreMet (has_key met.old) rest
+        → IsTrue b → AreMet (has_key met.new) (arg.now ∷ rest)) }
 {
     if let Some(con) = sig.constant_of(*sort) {
         return Ok(is_constant(arg, con));

@@ -12,7 +12,8 @@ use psg_terms::matching::same;
 use psg_terms::{Node, Signature, SortId, Term};
 use std::alloc::{AllocError, Global};
 
-/// Answers the first declare row whose list has no cell row by which an element of the row's value leaves the list's value.
+/// Answers the first declare row whose list has no cell row by which an element of the row's value leaves the list's
+/// value.
 ///
 /// For each declare row the cell rows of its list are gone over in order, up to one that serves.
 pub(crate) fn first_unclear(

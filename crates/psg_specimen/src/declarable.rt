@@ -31,8 +31,9 @@ struct Given {
 /// Answers the first unfinished list that declares in a space in which it has no declare row for a constructor, and the
 /// numbers of the space and of the constructor.
 ///
-/// One pass over the declare rows puts what they give into a set. Then each list is asked for the constructors of the spaces
-/// in which its elements declare, up to the first that is missing, so at most one more is asked for than there are rows.
+/// One pass over the declare rows puts what they give into a set. Then each list is asked for the constructors of the
+/// spaces in which its elements declare, up to the first that is missing, so at most one more is asked for than there
+/// are rows.
 pub(crate) fn first_undeclared(
     alloc: Global,
     definition: &Definition,
@@ -76,8 +77,7 @@ fn first_in_list(
     if !list.unfinished {
         return None;
     }
-    for place in 0..spaces.len() {
-        let space = &spaces[place];
+    for space in spaces {
         if let Some(con) = first_in_space(definition, given, number, *space) {
             return Some((*space, con));
         }
@@ -113,8 +113,7 @@ fn first_missing(
 ) -> Option<u32>
     ensures { FindsCon (has_given given.now) list space cons.now result }
 {
-    for place in 0..cons.len() {
-        let con = &cons[place];
+    for con in cons {
         let wanted = given_by(list, space, con.0);
         if !given.contains(&wanted) {
             return Some(con.0);
@@ -152,7 +151,8 @@ fn add_row(
     set: &mut HashSet<Given>,
     row: &DeclareRow,
 ) -> Result<(), AllocError>
-    ensures { OnOk result ((k : PlainGiven) → (has_given set.new k ≡ true) ↔ ((has_given set.old k ≡ true) ⊎ IsGivenBy sig.now row.now k)) }
+    ensures { OnOk result ((k : PlainGiven) → (has_given set.new k ≡ true)
+        ↔ ((has_given set.old k ≡ true) ⊎ IsGivenBy sig.now row.now k)) }
 {
     match row.term.node() {
         Node::Con { con, .. } => {

@@ -9,8 +9,8 @@ use crate::its::{Spot, add_its};
 use psg_grammar::{DeclareRow, Definition, Specimen};
 use std::alloc::{AllocError, Global};
 
-/// Answers the first declare row whose specimen is no operator, does not declare `$it` once in its region in the space of the
-/// row, or has `$it` in another space. It reads each specimen once.
+/// Answers the first declare row whose specimen is no operator, does not declare `$it` once in its region in the
+/// space of the row, or has `$it` in another space. It reads each specimen once.
 pub(crate) fn first_astray(
     alloc: Global,
     definition: &Definition,

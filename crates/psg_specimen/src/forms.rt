@@ -1,4 +1,5 @@
-//! The conditions on operators, slots and kinds: scopes without names, slots that declare nothing, and a hole row for each kind.
+//! The conditions on operators, slots and kinds: scopes without names, slots that declare nothing, and a hole row for
+//! each kind.
 ghost use Rattle.std.specs.Prelude.{◌≡◌, ◌<◌, ◌++◌, ◌↔◌, ◌^◌, ℕ, length, slice_get, true, IfOk, IfSome, IsTrue, MatchOption, OnOk, Some};
 ghost use Rattle.psg_grammar.specs.declared.types.Kind.{Kind as PlainKind};
 ghost use Rattle.psg_grammar.specs.declared.types.Operator.{Operator as PlainOperator};

@@ -12,7 +12,8 @@ use std::slice;
 
 /// Tests whether the place's term is an instance of the term of one hole row of its kind.
 ///
-/// The rows are gone over in order, and only those of the place's kind whose term begins as its own are compared with it.
+/// The rows are gone over in order, and only those of the place's kind whose term begins as its own are compared with
+/// it.
 pub(crate) fn is_of_one_row(
     alloc: Global,
     definition: &Definition,

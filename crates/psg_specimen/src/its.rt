@@ -15,9 +15,9 @@ pub(crate) struct Spot {
     pub declares: bool,
 }
 
-/// Puts a spot behind the others for each name `it` of the specimen, in order. The spot declares where the name does so in
-/// the region around the specimen: that is not asked where `inside` is false, nor in a scope operator. The call calls itself
-/// as deep as the specimen is nested, in a definition that was read 32 times.
+/// Puts a spot behind the others for each name `it` of the specimen, in order. The spot declares where the name does
+/// so in the region around the specimen: that is not asked where `inside` is false, nor in a scope operator. The call
+/// calls itself as deep as the specimen is nested, in a definition that was read 32 times.
 #[cycle(its)]
 pub(crate) fn add_its(
     alloc: Global,

@@ -1,9 +1,10 @@
 //! Whether a definition is accepted: its hole rows and declare rows say the truth of trees.
 //!
-//! The conditions and their order stand in `specs/Conditions` and `specs/Refusal`, the texts of refusals in `specs/Texts`.
-//! `accept_text(alloc, &refused)` writes the text of a refusal. There is no call yet that accepts: the parts of `accepting`
-//! test the conditions on scopes, slots, kinds, nil rows, cases, hole places and declare rows, each where all conditions before
-//! it hold. What covers rows of operators and cells, and what is tested of specimens by evaluation, has no code here.
+//! The conditions and their order stand in `specs/Conditions` and `specs/Refusal`, the texts of refusals in
+//! `specs/Texts`. `accept_text(alloc, &refused)` writes the text of a refusal. There is no call yet that accepts: the
+//! parts of `accepting` test the conditions on scopes, slots, kinds, nil rows, cases, hole places and declare rows,
+//! each where all conditions before it hold. What covers rows of operators and cells, and what is tested of specimens
+//! by evaluation, has no code here.
 #![tactic(auto)]
 
 mod accepting;

@@ -27,8 +27,8 @@ pub(crate) enum Wanted {
     OfOneRow,
 }
 
-/// Answers the first hole place that is not as wanted, with its number in its specimen: cases of hole rows before declare
-/// rows. A place whose number has more than 32 bits ends in want of memory.
+/// Answers the first hole place that is not as wanted, with its number in its specimen: cases of hole rows before
+/// declare rows. A place whose number has more than 32 bits ends in want of memory.
 pub(crate) fn first_place(
     alloc: Global,
     definition: &Definition,
@@ -169,8 +169,8 @@ fn is_wanted(
     }
 }
 
-/// Whether the part is a proper subterm. Only subterms that are as large as the part are compared with it, so each place of
-/// the whole is read at most twice.
+/// Whether the part is a proper subterm. Only subterms that are as large as the part are compared with it, so each
+/// place of the whole is read at most twice.
 #[cycle(part)]
 pub(crate) fn is_part(part: &Term, whole: &Term) -> bool
     ensures { IsTrue result ↔ IsPart part.now whole.now }

@@ -12,8 +12,8 @@ use psg_grammar::{Definition, Kind, kind_name};
 use psg_terms::ConId;
 use std::alloc::{AllocError, Global};
 
-/// Writes the text of a refusal, as `refused Cases hole 9`: the condition, then the names and numbers of the thing for which
-/// it fails. A refusal of the grammar class has its own text. The fault is not want of memory.
+/// Writes the text of a refusal, as `refused Cases hole 9`: the condition, then the names and numbers of the thing
+/// for which it fails. A refusal of the grammar class has its own text. The fault is not want of memory.
 pub fn accept_text(alloc: Global, refused: &Refused) -> Result<String, AllocError>
     requires { IsOf refused.now.definition refused.now.fault }
     ensures { IfOk result (λ t. string_bytes t ≡ refusal_text refused.now.definition refused.now.fault) }
@@ -82,7 +82,8 @@ fn constructor_name(definition: &Definition, con: ConId) -> &str
 }
 
 fn declaring_text(alloc: Global, operator: &str, slot: u32) -> Result<String, AllocError>
-    ensures { IfOk result (λ t. string_bytes t ≡ line (codes "Declaring" ∷ operator.now ∷ codes "slot" ∷ decimal slot ∷ [])) }
+    ensures { IfOk result (λ t. string_bytes t
+        ≡ line (codes "Declaring" ∷ operator.now ∷ codes "slot" ∷ decimal slot ∷ [])) }
 {
     let mut text = named(alloc, "Declaring", operator)?;
     add(&mut text, "slot")?;
@@ -130,7 +131,8 @@ fn site_text(alloc: Global, condition: &str, site: Site) -> Result<String, Alloc
 }
 
 fn case_text(alloc: Global, condition: &str, row: u32, case: u32) -> Result<String, AllocError>
-    ensures { IfOk result (λ t. string_bytes t ≡ line (condition.now ∷ codes "hole" ∷ decimal row ∷ codes "case" ∷ decimal case ∷ [])) }
+    ensures { IfOk result (λ t. string_bytes t
+        ≡ line (condition.now ∷ codes "hole" ∷ decimal row ∷ codes "case" ∷ decimal case ∷ [])) }
 {
     let mut text = named(alloc, condition, "hole")?;
     add_number(&mut text, row)?;
@@ -183,7 +185,8 @@ fn named(alloc: Global, condition: &str, name: &str) -> Result<String, AllocErro
 
 /// Puts one more word at the end.
 fn add(text: &mut String, word: &str) -> Result<(), AllocError>
-    ensures { OnOk result ((ws : List (List ℕ)) → string_bytes text.old ≡ line ws → string_bytes text.new ≡ line (ws ++ word.now ∷ [])) }
+    ensures { OnOk result ((ws : List (List ℕ)) → string_bytes text.old ≡ line ws
+        → string_bytes text.new ≡ line (ws ++ word.now ∷ [])) }
 {
     text.push_str(" ")?;
     text.push_str(word)?;
@@ -191,7 +194,8 @@ fn add(text: &mut String, word: &str) -> Result<(), AllocError>
 }
 
 fn add_number(text: &mut String, number: u32) -> Result<(), AllocError>
-    ensures { OnOk result ((ws : List (List ℕ)) → string_bytes text.old ≡ line ws → string_bytes text.new ≡ line (ws ++ decimal number ∷ [])) }
+    ensures { OnOk result ((ws : List (List ℕ)) → string_bytes text.old ≡ line ws
+        → string_bytes text.new ≡ line (ws ++ decimal number ∷ [])) }
 {
     write!(text, " {number}")?;
     Ok(())
