@@ -51,11 +51,11 @@ module _ (def : Definition) (sound : IsSound def) where
         same = one.same;
         is = (instance_exact sig sound.signature (one.row.term ∷ []) (row ∷ []) (list.sort.0 ∷ []) (subst (HasSort sig one.row.term) sorted whole.term.0, tt) (term.0, tt) (term.1, tt)).1
             (λ others instance.
-              let (f, ground, e) = instance in
-              let value = holds f ground in
-              let (g, grounded, is) = value.value in
-              let same_row : value.row ≡ one.row = get_same def.hole_rows r value.row one.row value.chosen one.chosen in
-              subst (IsGroundInstance sig (one.row.term ∷ [])) (sym e) (g, grounded, ap (λ t. t ∷ []) (is ∙ ap (λ (x : HoleRow). substitute g x.term) same_row)));
+            let (f, ground, e) = instance in
+            let value = holds f ground in
+            let (g, grounded, is) = value.value in
+            let same_row : value.row ≡ one.row = get_same def.hole_rows r value.row one.row value.chosen one.chosen in
+            subst (IsGroundInstance sig (one.row.term ∷ [])) (sym e) (g, grounded, ap (λ t. t ∷ []) (is ∙ ap (λ (x : HoleRow). substitute g x.term) same_row)));
       }
 
   pub nils_held : (l : ℕ) (list : ListKind) → slice_get def.lists l ≡ Some list → ((k : ℕ) → At list.nil_rows (Serves l) k) → (k : ℕ) → IsCoveredNil def l k

@@ -78,10 +78,10 @@ module _ (sig : Signature) (row : DeclareRow) where
   adds_own old new c args g e over other g_is step k = (
     λ t. elim (cases_Bool (same_given g k)) [
       | inl s ↦ inr (let same : given_by row.list row.space c ≡ k = sym g_is ∙ givens_same g k s in record {
-          of_list = ap (λ (x : Given). x.place.list) same;
-          of_space = ap (λ (x : Given). x.place.space) same;
-          over = subst (λ d. IsOver sig d row.term) (ap (λ (x : Given). x.con) same) over;
-        })
+        of_list = ap (λ (x : Given). x.place.list) same;
+        of_space = ap (λ (x : Given). x.place.space) same;
+        over = subst (λ d. IsOver sig d row.term) (ap (λ (x : Given). x.con) same) over;
+      })
       | inr f ↦ inl (sym (step k ∙ ap (λ b. cond b true (old k)) f) ∙ t)
     ],
     λ h. elim h [
@@ -177,11 +177,16 @@ module _ (def : Definition) (has : Given → Bool) (given : AreGiven def has) (l
   }
 
   of_row : (c : ℕ) (g : Given) → g ≡ given_by l s c → HasDeclareRow def l s c → has g ≡ true
-  of_row c g e row = (given g).1 (row.number, row.row, row.chosen, record {
-    of_list = row.of_list ∙ sym (ap (λ (x : Given). x.place.list) e);
-    of_space = row.of_space ∙ sym (ap (λ (x : Given). x.place.space) e);
-    over = subst (λ d. IsOver def.signature d row.row.term) (sym (ap (λ (x : Given). x.con) e)) row.over;
-  })
+  of_row c g e row = (given g).1 (
+    row.number,
+    row.row,
+    row.chosen,
+    record {
+      of_list = row.of_list ∙ sym (ap (λ (x : Given). x.place.list) e);
+      of_space = row.of_space ∙ sym (ap (λ (x : Given). x.place.space) e);
+      over = subst (λ d. IsOver def.signature d row.row.term) (sym (ap (λ (x : Given). x.con) e)) row.over;
+    },
+  )
 
   module _ (space : Space) (at : slice_get def.spaces s ≡ Some space) (cs : List ConId) (all : con_numbers cs ≡ constructors_of def.signature space.sort.0) where
     own_space : (other : Space) → slice_get def.spaces s ≡ Some other → other ≡ space

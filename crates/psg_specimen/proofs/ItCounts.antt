@@ -39,12 +39,12 @@ bools false true there back = absurd (true≢false (sym (back refl)))
 -- two keys are equal where their spaces and names are
 keys_by : (t s : ℕ) (n m : List ℕ) → bytes_eq (t ∷ n) (s ∷ m) ≡ ((t == s) && bytes_eq n m)
 keys_by t s n m = bools (bytes_eq (t ∷ n) (s ∷ m)) ((t == s) && bytes_eq n m) (
-  λ h. let e = bytes_eq-same (t ∷ n) (s ∷ m) h in
-      ap₂ (λ a b. a && b) (eq-eqb t s (ap space_of e)) (subst (λ k. bytes_eq n k ≡ true) (ap name_in e) (bytes_eq-refl n))
-) (
-  λ h. let both = and_parts (t == s) (bytes_eq n m) h in
-      subst (λ k. bytes_eq (t ∷ n) k ≡ true) (ap₂ (λ a b. a ∷ b) (eqb-true t s both.0) (bytes_eq-same n m both.1)) (bytes_eq-refl (t ∷ n))
-)
+    λ h. let e = bytes_eq-same (t ∷ n) (s ∷ m) h in
+    ap₂ (λ a b. a && b) (eq-eqb t s (ap space_of e)) (subst (λ k. bytes_eq n k ≡ true) (ap name_in e) (bytes_eq-refl n))
+    ) (
+    λ h. let both = and_parts (t == s) (bytes_eq n m) h in
+    subst (λ k. bytes_eq (t ∷ n) k ≡ true) (ap₂ (λ a b. a ∷ b) (eqb-true t s both.0) (bytes_eq-same n m both.1)) (bytes_eq-refl (t ∷ n))
+    )
 
 declare_cond : (s : ℕ) (e : Bool) (x : Spot) → declare_in s (cond e (x ∷ []) []) ≡ cond e (cond (x.declares && (x.space == s)) 1 0 + 0) 0
 declare_cond s true x = refl

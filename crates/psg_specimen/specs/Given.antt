@@ -44,7 +44,7 @@ HasCon has l s c = has (given_by l s c.0) ≡ true
 -- the number of the first constructor that is not there for the list and the space, or none
 abbrev pub FindsCon : (Given → Bool) → ℕ → ℕ → List ConId → Option ℕ → Type 0
 FindsCon has l s cs o = MatchOption o ((m : ℕ) (c : ConId) → slice_get cs m ≡ Some c → HasCon has l s c)
-    (λ d. (i : ℕ) × (c : ConId) × (slice_get cs i ≡ Some c) × (c.0 ≡ d) 
+    (λ d. (i : ℕ) × (c : ConId) × (slice_get cs i ≡ Some c) × (c.0 ≡ d)
     × (HasCon has l s c → ⊥) × ((m : ℕ) → m < i → (k : ConId) → slice_get cs m ≡ Some k → HasCon has l s k))
 
 -- what the set has is what the declare rows of the definition give

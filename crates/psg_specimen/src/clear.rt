@@ -57,7 +57,13 @@ fn is_clear(
 {
     let rows = list.cell_rows.as_slice();
     for number in 0..rows.len() {
-        if is_clear_by(alloc, &definition.signature, list.sort, &rows[number], value)? {
+        if is_clear_by(
+            alloc,
+            &definition.signature,
+            list.sort,
+            &rows[number],
+            value,
+        )? {
             return Ok(true);
         }
     }

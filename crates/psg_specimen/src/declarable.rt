@@ -41,7 +41,11 @@ pub(crate) fn first_undeclared(
     requires { IsSound definition.now }
     ensures { IfOk result (FindsThree (IsDeclarable definition.now)) }
 {
-    let given = all_given(alloc, &definition.signature, definition.declare_rows.as_slice())?;
+    let given = all_given(
+        alloc,
+        &definition.signature,
+        definition.declare_rows.as_slice(),
+    )?;
     let spaces = declaring(alloc, definition)?;
     let table = spaces.as_slice();
     let lists = definition.lists.as_slice();
@@ -105,12 +109,7 @@ fn first_in_space(
 }
 
 /// Answers the first of the constructors that the set does not have for the list and the space.
-fn first_missing(
-    cons: &[ConId],
-    given: &HashSet<Given>,
-    list: u32,
-    space: u32,
-) -> Option<u32>
+fn first_missing(cons: &[ConId], given: &HashSet<Given>, list: u32, space: u32) -> Option<u32>
     ensures { FindsCon (has_given given.now) list space cons.now result }
 {
     for con in cons {

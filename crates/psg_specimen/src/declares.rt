@@ -26,11 +26,7 @@ pub(crate) fn first_astray(
     Ok(None)
 }
 
-fn declares_it(
-    alloc: Global,
-    definition: &Definition,
-    row: &DeclareRow,
-) -> Result<bool, AllocError>
+fn declares_it(alloc: Global, definition: &Definition, row: &DeclareRow) -> Result<bool, AllocError>
     ensures { IfOk result (λ b. IsTrue b ↔ DeclaresIt definition.now row.now) }
 {
     if !is_operator(&row.specimen) {

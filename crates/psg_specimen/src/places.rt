@@ -103,8 +103,13 @@ fn first_in_cases(
 {
     for number in 0..cases.len() {
         let case = &cases[number];
-        if let Some(place) = first_unwanted(alloc, definition, wanted, &case.specimen, &case.term)?
-        {
+        if let Some(place) = first_unwanted(
+            alloc,
+            definition,
+            wanted,
+            &case.specimen,
+            &case.term,
+        )? {
             return Ok(Some((number, place)));
         }
     }

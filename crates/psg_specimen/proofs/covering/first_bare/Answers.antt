@@ -18,7 +18,7 @@ pub returns-then-not-branch : goal.returns-then-not-branch
 returns-then-not-branch c =
     let test = subst (λ p. IsTrue c.in_ok-is_of_one_row.field-0 ↔ IsOfOneRow c.args.definition.now p) c.in_ok-place.ensures c.in_ok-is_of_one_row.ensures in (
       fails c.args.rows.now (λ row. IsOfOneRow c.args.definition.now (as_place (kinds.List c.args.list) row)) c.loop-number.number c.index-rows-number.result c.loop-number-test.true c.index-rows-number.is
-      (λ p. true≢false (sym (test.1 p) ∙ c.if-not-branch.true)),
+          (λ p. true≢false (sym (test.1 p) ∙ c.if-not-branch.true)),
       c.loop-number.invariant,
     )
 
