@@ -1,0 +1,13 @@
+pub mod Declares
+pub mod Conditions
+pub mod Refusal
+pub mod Texts
+pub mod Walks
+pub mod Tables
+pub mod Variables
+pub mod OneRefusal
+pub mod Given
+pub mod Its
+pub mod Clear
+pub mod Parts
+pub mod Wanted
