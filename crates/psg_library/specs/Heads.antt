@@ -1,5 +1,5 @@
 -- The first line of the bytes of a kept fragment: it has the name of the fragment and that of its kind.
-use Rattle.std.specs.Prelude.{ℕ, ◌≡◌, ◌⊎◌, ◌==◌, Bool, List, ◌∷◌, ◌++◌, codes, IsUtf8}
+use Rattle.std.specs.Prelude.{ℕ, ◌≡◌, ◌⊎◌, ◌==◌, not, Bool, List, ◌∷◌, ◌++◌, codes, IsUtf8}
 use Rattle.std.specs.List.{before_first, after_first}
 use Rattle.std.specs.Str.Lines.{strip_carriage_return}
 use Rattle.psg_script.specs.Forms.{IsName, IsWord}
@@ -17,6 +17,10 @@ pub record IsHead (line name word : List ℕ) : Type 0 where
   pub named : IsName name
   pub more : IsWord word
   pub written : (line ≡ head_of name word) ⊎ (line ≡ older_head_of name word)
+
+-- a byte of a word, as a test
+abbrev pub is_in_word : ℕ → Bool
+is_in_word b = not (b == 32)
 
 abbrev pub is_feed : ℕ → Bool
 is_feed b = b == 10

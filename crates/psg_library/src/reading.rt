@@ -1,5 +1,6 @@
 //! The fragment that bytes keep.
 ghost use Rattle.std.specs.Prelude.{◌≡◌, IfErr, IfOk, MatchResult};
+ghost use Rattle.psg_grammar.specs.Kinds.{HasKind};
 ghost use Rattle.psg_grammar.specs.Sound.{IsSound};
 ghost use Rattle.psg_grammar.specs.WellFormed.{WellFormed, fixed_words};
 ghost use Rattle.psg_class.specs.Class.{IsClass};
@@ -35,6 +36,7 @@ struct Begun<'a> {
 /// `NoTree` where no tree of the kind has them, `Deep` where one has them that is past a limit. `Memory` may be returned at
 /// any time. It takes a step of the counter for each token that is parsed. Work and memory are linear in the bytes, beside
 /// the table of the parser.
+#[tactic(none)]
 pub fn read_fragment<L: Ledger>(
     alloc: Global,
     definition: &Definition,
@@ -47,6 +49,7 @@ pub fn read_fragment<L: Ledger>(
     requires lexis { lexis.now ≡ fixed_words definition.now }
     ensures kept { IfOk result (IsKept definition.now bytes.now) }
     ensures formed { IfOk result (λ saved. WellFormed definition.now saved.tree saved.kind) }
+    ensures kind { IfOk result (λ saved. HasKind definition.now saved.kind) }
     ensures fault { IfErr result (OrMemory (IsFirstFault definition.now bytes.now)) }
     // no other answer is possible, want of memory aside
     ensures whole { (saved : Plain) → IsKept definition.now bytes.now saved
@@ -66,6 +69,7 @@ pub fn read_fragment<L: Ledger>(
 }
 
 /// The head of the bytes and the text behind it.
+#[tactic(none)]
 fn begin<'a>(definition: &Definition, bytes: &'a [u8]) -> Result<Begun<'a>, KeptFault>
     requires { IsSound definition.now }
     ensures head { IfOk result (λ begun. BeginsAs definition.now bytes.now begun.name.now begun.kind) }
@@ -86,6 +90,7 @@ fn begin<'a>(definition: &Definition, bytes: &'a [u8]) -> Result<Begun<'a>, Kept
 }
 
 /// The tree of the kind that the text reads as.
+#[tactic(none)]
 fn read_tree<L: Ledger>(
     alloc: Global,
     definition: &Definition,

@@ -1,5 +1,5 @@
 //! The bytes of a fragment.
-ghost use Rattle.std.specs.Prelude.{◌≡◌, IfOk};
+ghost use Rattle.std.specs.Prelude.{◌≡◌, ◌∷◌, ◌++◌, [], IfOk, codes, string_bytes};
 ghost use Rattle.psg_grammar.specs.Kinds.{HasKind};
 ghost use Rattle.psg_grammar.specs.Sound.{IsSound};
 ghost use Rattle.psg_library.specs.Keeping.{bytes_of};
@@ -28,6 +28,14 @@ pub fn fragment_bytes(
     let printed = unparse(alloc, definition, tree)?;
     let word = kind_name(definition, kind);
     let text = printed.text.as_str();
-    let bytes = format!(in alloc; "fragment 2 {name} {word}\n{text}\n")?;
+    let bytes = kept_text(alloc, name, word, text)?;
     Ok(bytes.into_bytes())
+}
+
+/// The head line with the name and the word, and the text on lines of its own.
+fn kept_text(alloc: Global, name: &str, word: &str, text: &str) -> Result<String, AllocError>
+    ensures { IfOk result (λ bytes. string_bytes bytes
+        ≡ codes "fragment 2 " ++ (name.now ++ 32 ∷ (word.now ++ 10 ∷ (text.now ++ 10 ∷ [])))) }
+{
+    format!(in alloc; "fragment 2 {name} {word}\n{text}\n")
 }
