@@ -19,7 +19,9 @@ use Rattle.psg_parse.specs.declared.fault.ParseFault.{ParseFault}
 use Rattle.psg_parse.specs.declared.fault.ParseFault.TheVariants as parsing
 use Rattle.psg_parse.specs.Answers.{IsFault, IsParsed, IsTooDeep}
 use Rattle.psg_library.specs.Faults.{of_tokens, of_tree}
-use Rattle.psg_library.specs.Keeping.{IsReadAs, IsTextFault, no_tokens, no_tree, too_deep, OrMemory}
+use Rattle.psg_library.specs.declared.fragment.KeptFault.{KeptFault}
+use Rattle.psg_library.specs.Heads.{text_in}
+use Rattle.psg_library.specs.Keeping.{BeginsAs, IsReadAs, IsTextFault, no_tokens, no_tree, too_deep, IsFirstFault, unread, IsKept, CountsTokens, MayCount, counted, OrMemory}
 
 -- the whole text is to be a tree of the kind
 abbrev pub goal_of : Kind → Goal
@@ -60,3 +62,26 @@ module _ (def : Definition) (kind : Kind) (text : List ℕ) where
           depth = p.depth;
           brackets = omega (arith, brackets);
         }
+
+-- the tokens that were found are those of the text
+pub seen : (def : Definition) (text : List ℕ) (fixed : List (List ℕ)) (ts us : List Spanned) → fixed ≡ fixed_words def → us ≡ ts
+    → HasTokens fixed (chars text) 0 ts → TextTokens def text us
+seen def text fixed ts us same items h =
+    subst (λ w. HasTokens w (chars text) 0 us) same (subst (λ vs. HasTokens fixed (chars text) 0 vs) (sym items) h)
+
+-- ---- behind a head
+
+module _ (def : Definition) (bytes : List ℕ) (name : List ℕ) (kind : Kind) (text : List ℕ) (b : BeginsAs def bytes name kind) (e : text ≡ text_in bytes) where
+  pub first_fault : (f : KeptFault) → OrMemory (IsTextFault def kind text) f → OrMemory (IsFirstFault def bytes) f
+  first_fault f (inl h) = inl h
+  first_fault f (inr h) = inr (unread name kind f b (subst (λ t. IsTextFault def kind t f) e h))
+
+  pub counts : (before after : ℕ) → CountsTokens def text before after → MayCount def bytes before after
+  counts before after h = counted name kind b (subst (λ t. CountsTokens def t before after) e h)
+
+  pub kept : (n : List ℕ) (f : Fragment) → n ≡ name → IsReadAs def kind text f
+      → IsKept def bytes (record { name = n; kind = kind; tree = f })
+  kept n f same h = record {
+    begins = subst (λ m. BeginsAs def bytes m kind) (sym same) b;
+    reads = subst (λ t. IsReadAs def kind t f) e h;
+  }

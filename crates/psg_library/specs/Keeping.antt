@@ -68,8 +68,8 @@ module _ (def : Definition) (bytes : List ℕ) where
   -- What may be counted while the bytes are read: the tokens of the text behind a head that names a kind. Where there is no
   -- such head, or the text has no tokens, nothing is counted.
   pub data MayCount (before after : ℕ) : Type 0 where
-    nothing : after ≡ before → MayCount before after
-    text : (name : List ℕ) (kind : Kind) → BeginsAs name kind → CountsTokens def (text_in bytes) before after
+    uncounted : after ≡ before → MayCount before after
+    counted : (name : List ℕ) (kind : Kind) → BeginsAs name kind → CountsTokens def (text_in bytes) before after
         → MayCount before after
 
 -- the first fault, or there was no memory

@@ -36,7 +36,6 @@ struct Begun<'a> {
 /// `NoTree` where no tree of the kind has them, `Deep` where one has them that is past a limit. `Memory` may be returned at
 /// any time. It takes a step of the counter for each token that is parsed. Work and memory are linear in the bytes, beside
 /// the table of the parser.
-#[tactic(none)]
 pub fn read_fragment<L: Ledger>(
     alloc: Global,
     definition: &Definition,
@@ -69,7 +68,6 @@ pub fn read_fragment<L: Ledger>(
 }
 
 /// The head of the bytes and the text behind it.
-#[tactic(none)]
 fn begin<'a>(definition: &Definition, bytes: &'a [u8]) -> Result<Begun<'a>, KeptFault>
     requires { IsSound definition.now }
     ensures head { IfOk result (λ begun. BeginsAs definition.now bytes.now begun.name.now begun.kind) }
@@ -90,7 +88,6 @@ fn begin<'a>(definition: &Definition, bytes: &'a [u8]) -> Result<Begun<'a>, Kept
 }
 
 /// The tree of the kind that the text reads as.
-#[tactic(none)]
 fn read_tree<L: Ledger>(
     alloc: Global,
     definition: &Definition,
