@@ -64,7 +64,6 @@ not_returned (b ∷ l) none = by (end_of b l)
             sym (kept (b ∷ l)
             (ap (λ n. n == 13) (subst (λ m. slice_index m (length m - 1) ≡ h.last) (sym h.whole) (at_end h.front h.last)) ∙ e))
 
-
 -- ---- a text without a line feed is one line
 
 pub uncut_line : (text : List ℕ) → position_or_len is_feed text ≡ length text → text ≡ before_first is_feed text

@@ -38,7 +38,10 @@ const FILES: &[(&[u8], &str)] = &[
     (b"fragment 2 f2_ Exp\n7\n", "f2_ Exp num(7)"),
     (b"fragment fragment Exp\n7\n", "fragment Exp num(7)"),
     // lists, and a head without a line feed
-    (b"fragment 2 f Args\n1, 2, ...\n", "f Args [num(1),num(2)|...]"),
+    (
+        b"fragment 2 f Args\n1, 2, ...\n",
+        "f Args [num(1),num(2)|...]",
+    ),
     (b"fragment 2 f Args\n", "f Args []"),
     (b"fragment 2 f Args", "f Args []"),
     (b"fragment 2 f Args\r", "f Args []"),
@@ -72,8 +75,14 @@ const FILES: &[(&[u8], &str)] = &[
 /// Bytes, and the bytes that are written of the fragment that they keep.
 const WRITTEN: &[(&[u8], &[u8])] = &[
     (b"fragment f Exp\r\n1+2", b"fragment 2 f Exp\n1 + 2\n"),
-    (b"fragment g Exp\n1 + (2 + ~ (3))", b"fragment 2 g Exp\n1 + (2 + ~ 3)\n"),
-    (b"fragment 2 h Args\n1,2,...", b"fragment 2 h Args\n1, 2, ...\n"),
+    (
+        b"fragment g Exp\n1 + (2 + ~ (3))",
+        b"fragment 2 g Exp\n1 + (2 + ~ 3)\n",
+    ),
+    (
+        b"fragment 2 h Args\n1,2,...",
+        b"fragment 2 h Args\n1, 2, ...\n",
+    ),
     (b"fragment 2 h Args\n \n", b"fragment 2 h Args\n\n"),
 ];
 
@@ -108,7 +117,13 @@ fn counted<L: Ledger>(
     requires some { 0 < L.parts }
 {
     let mut steps = Steps::<L>::of(ledger);
-    read_fragment(alloc, &language.definition, &language.lexis, bytes, &mut steps)
+    read_fragment(
+        alloc,
+        &language.definition,
+        &language.lexis,
+        bytes,
+        &mut steps,
+    )
 }
 
 /// The fragment of the bytes.

@@ -16,13 +16,13 @@ pub returns-in_err-begun-clause-whole : goal.returns-in_err-begun-clause-whole
 returns-in_err-begun-clause-whole g c =
     let p = err_from_is_err_and c.from_residual.result c.from_residual.ensures.1 in
     λ s k. rw (p.1, p.2)
-    (memory_alone c.args.definition.now c.requires.sound c.requires.class c.args.bytes.now c.in_err-begun.field-0 s (inr c.in_err-begun.ensures.fault) k)
+    (memory_alone c.args.definition.now c.requires.sound c.requires.class c.args.bytes.now c.in_err-begun.field-0.0 s (inr c.in_err-begun.ensures.fault) k)
 
 pub returns-in_err-begun-clause-broken : goal.returns-in_err-begun-clause-broken
 returns-in_err-begun-clause-broken g c =
     let p = err_from_is_err_and c.from_residual.result c.from_residual.ensures.1 in
     λ x k. rw (p.1, p.2)
-    (fault_alone c.args.definition.now c.requires.sound c.requires.class c.args.bytes.now c.in_err-begun.field-0 x (inr c.in_err-begun.ensures.fault) k)
+    (fault_alone c.args.definition.now c.requires.sound c.requires.class c.args.bytes.now c.in_err-begun.field-0.0 x (inr c.in_err-begun.ensures.fault) k)
 
 pub returns-in_err-begun-clause-steps : goal.returns-in_err-begun-clause-steps
 returns-in_err-begun-clause-steps g c = uncounted refl
@@ -31,21 +31,21 @@ pub returns-in_err-tree-clause-fault : goal.returns-in_err-tree-clause-fault
 returns-in_err-tree-clause-fault g c =
     let p = err_from_is_err_and c.from_residual-in_err-tree.result c.from_residual-in_err-tree.ensures.1 in
     rw (p.1, p.2)
-    (first_fault c.args.definition.now c.args.bytes.now c.in_ok-begun.begun.name.now c.in_ok-begun.begun.kind c.in_ok-begun.begun.text.now c.in_ok-begun.ensures.head c.in_ok-begun.ensures.text c.in_err-tree.field-0 c.in_err-tree.ensures.fault)
+    (first_fault c.args.definition.now c.args.bytes.now c.in_ok-begun.begun.name.now c.in_ok-begun.begun.kind c.in_ok-begun.begun.text.now c.in_ok-begun.ensures.head c.in_ok-begun.ensures.text c.in_err-tree.field-0.0 c.in_err-tree.ensures.fault)
 
 pub returns-in_err-tree-clause-whole : goal.returns-in_err-tree-clause-whole
 returns-in_err-tree-clause-whole g c =
     let p = err_from_is_err_and c.from_residual-in_err-tree.result c.from_residual-in_err-tree.ensures.1 in
-    let first = first_fault c.args.definition.now c.args.bytes.now c.in_ok-begun.begun.name.now c.in_ok-begun.begun.kind c.in_ok-begun.begun.text.now c.in_ok-begun.ensures.head c.in_ok-begun.ensures.text c.in_err-tree.field-0 c.in_err-tree.ensures.fault in
+    let first = first_fault c.args.definition.now c.args.bytes.now c.in_ok-begun.begun.name.now c.in_ok-begun.begun.kind c.in_ok-begun.begun.text.now c.in_ok-begun.ensures.head c.in_ok-begun.ensures.text c.in_err-tree.field-0.0 c.in_err-tree.ensures.fault in
     λ s k. rw (p.1, p.2)
-    (memory_alone c.args.definition.now c.requires.sound c.requires.class c.args.bytes.now c.in_err-tree.field-0 s first k)
+    (memory_alone c.args.definition.now c.requires.sound c.requires.class c.args.bytes.now c.in_err-tree.field-0.0 s first k)
 
 pub returns-in_err-tree-clause-broken : goal.returns-in_err-tree-clause-broken
 returns-in_err-tree-clause-broken g c =
     let p = err_from_is_err_and c.from_residual-in_err-tree.result c.from_residual-in_err-tree.ensures.1 in
-    let first = first_fault c.args.definition.now c.args.bytes.now c.in_ok-begun.begun.name.now c.in_ok-begun.begun.kind c.in_ok-begun.begun.text.now c.in_ok-begun.ensures.head c.in_ok-begun.ensures.text c.in_err-tree.field-0 c.in_err-tree.ensures.fault in
+    let first = first_fault c.args.definition.now c.args.bytes.now c.in_ok-begun.begun.name.now c.in_ok-begun.begun.kind c.in_ok-begun.begun.text.now c.in_ok-begun.ensures.head c.in_ok-begun.ensures.text c.in_err-tree.field-0.0 c.in_err-tree.ensures.fault in
     λ x k. rw (p.1, p.2)
-    (fault_alone c.args.definition.now c.requires.sound c.requires.class c.args.bytes.now c.in_err-tree.field-0 x first k)
+    (fault_alone c.args.definition.now c.requires.sound c.requires.class c.args.bytes.now c.in_err-tree.field-0.0 x first k)
 
 pub returns-in_err-tree-clause-steps : goal.returns-in_err-tree-clause-steps
 returns-in_err-tree-clause-steps g c =

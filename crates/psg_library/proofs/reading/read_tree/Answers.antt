@@ -8,7 +8,7 @@ pub returns-in_err-tokens-clause-fault : goal.returns-in_err-tokens-clause-fault
 returns-in_err-tokens-clause-fault g c =
     let p = err_from_is_err_and c.from_residual.result c.from_residual.ensures.1 in
     rw (p.1, p.2)
-    (lexed_fault c.args.definition.now c.args.kind c.args.text.now c.args.lexis.now c.requires.lexis c.in_err-tokens.field-0 c.in_err-tokens.ensures.err)
+    (lexed_fault c.args.definition.now c.args.kind c.args.text.now c.args.lexis.now c.requires.lexis c.in_err-tokens.field-0.0 c.in_err-tokens.ensures.err)
 
 pub returns-in_err-tokens-clause-steps : goal.returns-in_err-tokens-clause-steps
 returns-in_err-tokens-clause-steps g c = nothing refl
@@ -18,7 +18,7 @@ returns-in_err-tree-clause-fault g c =
     let p = err_from_is_err_and c.from_residual-in_err-tree.result c.from_residual-in_err-tree.ensures.1 in
     let are = seen c.args.definition.now c.args.text.now c.args.lexis.now c.in_ok-tokens.tokens.items c.as_slice.result.now c.requires.lexis c.as_slice.ensures.value c.in_ok-tokens.ensures.ok in
     rw (p.1, p.2)
-    (parsed_fault c.args.definition.now c.args.kind c.args.text.now c.as_slice.result.now are c.in_err-tree.field-0 c.in_err-tree.ensures.fault)
+    (parsed_fault c.args.definition.now c.args.kind c.args.text.now c.as_slice.result.now are c.in_err-tree.field-0.0 c.in_err-tree.ensures.fault)
 
 pub returns-in_err-tree-clause-steps : goal.returns-in_err-tree-clause-steps
 returns-in_err-tree-clause-steps g c =
