@@ -1,0 +1,19 @@
+-- What the faults of a text's tokens and of their tree are here.
+use Rattle.psg_lexis.specs.declared.token.LexFault.{LexFault}
+use Rattle.psg_lexis.specs.declared.token.LexFault.TheVariants as lexical
+use Rattle.psg_parse.specs.declared.fault.ParseFault.{ParseFault}
+use Rattle.psg_parse.specs.declared.fault.ParseFault.TheVariants as parsing
+use Rattle.psg_library.specs.declared.fragment.KeptFault.{KeptFault}
+use Rattle.psg_library.specs.declared.fragment.KeptFault.TheVariants as faults
+
+abbrev pub of_tokens : LexFault → KeptFault
+of_tokens (lexical.BadChar n) = faults.NoTokens
+of_tokens (lexical.BadRun n) = faults.NoTokens
+of_tokens (lexical.Unended n) = faults.NoTokens
+of_tokens (lexical.TooLarge n) = faults.NoTokens
+of_tokens lexical.Memory = faults.Memory
+
+abbrev pub of_tree : ParseFault → KeptFault
+of_tree parsing.NoTree = faults.NoTree
+of_tree parsing.Deep = faults.Deep
+of_tree parsing.Memory = faults.Memory
