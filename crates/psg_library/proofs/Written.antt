@@ -150,7 +150,7 @@ module _ (def : Definition) (sound : IsSound def) where
 
 -- ---- the bytes
 
-module _ (def : Definition) (sound : IsSound def) (texts : AllByRecursion IsUtf8 (fixed_words def)) (words : AllByRecursion IsFixedWord (fixed_words def)) (class : IsClass def) where
+module _ (def : Definition) (sound : IsSound def) (words : AllByRecursion IsFixedWord (fixed_words def)) (class : IsClass def) where
   whole_utf8 : (f : Fragment) (kind : Kind) → WholeBack def f kind → IsUtf8 (text_of def f)
   whole_utf8 f (kinds.Phylum p) a = laid_utf8 (fixed_words def) [] (row def f) a.tokens a.has
   whole_utf8 f (kinds.List l) a = laid_utf8 (fixed_words def) [] (row def f) a.tokens a.has
@@ -158,7 +158,7 @@ module _ (def : Definition) (sound : IsSound def) (texts : AllByRecursion IsUtf8
   text_utf8 : (f : Fragment) (kind : Kind) → IsPrintable f → WellFormed def f kind → IsUtf8 (text_of def f)
   text_utf8 f kind printable formed =
       whole_utf8 f kind
-      ((claim def sound (facts def class) (has_tokens def texts words) f [] kind formed.0 formed.1 printable).whole refl)
+      ((claim def sound (facts def class) (has_tokens def words) f [] kind formed.0 formed.1 printable).whole refl)
 
   pub written_is_kept : (s : SavedFragment) → IsKeptIfPrintable def s
   written_is_kept s name printable formed depth =
@@ -168,7 +168,7 @@ module _ (def : Definition) (sound : IsSound def) (texts : AllByRecursion IsUtf8
       let head : List ℕ = head_of s.name w.word in
       let heads : AllPlain head = head_plain s.name w.word (name_plain s.name name) plain.0 in
       let utf8 : IsUtf8 text = text_utf8 s.tree s.kind printable formed in
-      let back = printed_reads_back def sound texts words class s.tree printable s.kind formed in
+      let back = printed_reads_back def sound words class s.tree printable s.kind formed in
       let rest : List ℕ = text ++ 10 ∷ [] in
       let whole : IsUtf8 (head ++ 10 ∷ rest) =
       IsUtf8-append head (10 ∷ rest) (ascii_utf8 head (all_ascii head heads))

@@ -1,5 +1,5 @@
 //! The laws of kept fragments, as contracts of calls that do nothing.
-ghost use Rattle.std.specs.Prelude.{ℕ, IsUtf8, List};
+ghost use Rattle.std.specs.Prelude.{ℕ, List};
 ghost use Rattle.std.specs.List.{AllByRecursion};
 ghost use Rattle.psg_lexis.specs.Tokens.{IsFixedWord};
 ghost use Rattle.psg_grammar.specs.Sound.{IsSound};
@@ -19,10 +19,9 @@ pub fn one_reading(_definition: &Definition)
 
 /// States that what is written of a fragment keeps it, where its name is one and its tree is well formed, printable and at
 /// most 200 deep. So what `fragment_bytes` wrote of it `read_fragment` reads as the same name, kind and tree. The definition
-/// is of the class, and each of its fixed words is UTF-8 and one token. The call has no cost.
+/// is of the class, and each of its fixed words is one token. The call has no cost.
 pub fn written_is_kept(_definition: &Definition)
     requires sound { IsSound _definition.now }
-    requires texts { AllByRecursion IsUtf8 (fixed_words _definition.now) }
     requires words { AllByRecursion IsFixedWord (fixed_words _definition.now) }
     requires class { IsClass _definition.now }
     ensures { (saved : SavedFragment) → IsKeptIfPrintable _definition.now saved }
