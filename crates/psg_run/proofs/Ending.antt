@@ -11,17 +11,14 @@ use Rattle.psg_world.specs.Sinks.{HasRisen, TakesFront}
 use Rattle.psg_world.specs.declared.world.WriteStop.{WriteStop}
 use Rattle.psg_world.specs.declared.world.WriteStop.TheVariants as stops
 use Rattle.psg_grammar.specs.declared.types.Definition.{Definition}
-use Rattle.psg_deflines.specs.declared.fault.ReadFault.{ReadFault}
-use Rattle.psg_deflines.specs.declared.fault.ReadFault.TheVariants as faults
-use Rattle.psg_defread.specs.Refusals.{IsReadFault}
 use Rattle.psg_run.specs.declared.status.Status.{Status}
 use Rattle.psg_run.specs.declared.status.Status.TheVariants as ends_with
 use Rattle.psg_run.specs.declared.limits.TheConstants.{MOST_DEFINITION_BYTES}
 use Rattle.psg_run.specs.Played.{PrintsAll, PrintsFront}
 use Rattle.psg_run.specs.Told.{none, nothing}
 use Rattle.psg_session.specs.Replies.{feed}
-use Rattle.psg_run.specs.Headline.{World, IsWithin, IsLong, KeepsFiles, WroteNothing, IsDefinition, IsToldOf, HasAsked, IsFaultLine, IsAcceptedLine, IsCheckLine, WritesAll, WritesFront, Says, SaysFront, Checks, Edits}
-use Rattle.psg_run.specs.Endings.{write_status, OfScript, Plays, PutsLine, put_whole, put_failed, put_in_part, IsRead, IsUnread, EndsFault}
+use Rattle.psg_run.specs.Headline.{World, IsWithin, IsLong, KeepsFiles, WroteNothing, IsDefinition, IsToldOf, HasAsked, IsRefusalLine, IsAcceptedLine, IsCheckLine, WritesAll, WritesFront, Says, SaysFront, Checks, Edits}
+use Rattle.psg_run.specs.Endings.{write_status, OfScript, Plays, PutsLine, put_whole, put_failed, put_in_part, IsRead, IsUnread, EndsRefused, no_memory, by_line}
 
 whole_front : (limit : ℕ) (bytes : List ℕ) → length (front_of limit bytes) ≤ limit → front_of limit bytes ≡ bytes
 whole_front limit bytes small = take_all (limit + 1) bytes (let e : length (take (limit + 1) bytes) ≡ min (limit + 1) (length bytes) = length-take (limit + 1) bytes in omega (arith, e, small))
@@ -89,14 +86,14 @@ module _ (old mid : World) (written : Option (List ℕ)) (count : ℕ) (file : N
 weaker : (P Q : List ℕ → List ℕ → Type 0) → ((bytes line : List ℕ) → P bytes line → Q bytes line) → (old new : World) (file : Name) → SaysFront P old new file → SaysFront Q old new file
 weaker P Q all old new file h = record { bytes = h.bytes; short = h.short; line = h.line; says = all h.bytes h.line h.says; front = h.front; is_front = h.is_front; wrote = h.wrote; files = h.files }
 
--- bytes that were not read as a definition
+-- bytes that are no accepted definition
 pub unread : (old mid : World) (written : Option (List ℕ)) (count : ℕ) (file : Name) → KeepsFiles old mid → WroteNothing old mid → mid.count ≡ old.count
-    → (bytes : List ℕ) → IsWithin old.held file MOST_DEFINITION_BYTES bytes → (fault : ReadFault) (status : Status) → IsReadFault bytes fault
-    → EndsFault fault mid.written written mid.count count status → IsUnread old (after_line mid written count) file status
-unread old mid written count file files wrote same bytes short faults.Memory status any (is, kept) =
+    → (bytes : List ℕ) → IsWithin old.held file MOST_DEFINITION_BYTES bytes → (status : Status)
+    → EndsRefused bytes mid.written written mid.count count status → IsUnread old (after_line mid written count) file status
+unread old mid written count file files wrote same bytes short status (no_memory is kept) =
     subst (IsUnread old (after_line mid written count) file) (sym is) (inr (files, kept ∙ wrote))
-unread old mid written count file files wrote same bytes short (faults.Def fault) status refusal put =
-    line_put old mid written count file files wrote same IsFaultLine bytes short _ (fault, refusal, refl) (IsUnread old (after_line mid written count) file)
+unread old mid written count file files wrote same bytes short status (by_line line refusal put) =
+    line_put old mid written count file files wrote same IsRefusalLine bytes short line refusal (IsUnread old (after_line mid written count) file)
     ends_with.DefinitionRefused status (λ h. h) (λ h risen. (h, risen)) (λ h. inl h) put
 
 pub unread_checks : (old new : World) (file : Name) (status : Status) → IsUnread old new file status → Checks old new file status
@@ -104,8 +101,8 @@ unread_checks old new file ends_with.Done h = absurd h
 unread_checks old new file ends_with.DefinitionRefused h = h
 unread_checks old new file ends_with.Words h = h
 unread_checks old new file ends_with.ReadFault h = h
-unread_checks old new file ends_with.WriteFault (h, risen) = (weaker IsFaultLine IsCheckLine (λ bytes line says. inl says) old new file h, risen)
-unread_checks old new file ends_with.Memory (inl h) = inl (weaker IsFaultLine IsCheckLine (λ bytes line says. inl says) old new file h)
+unread_checks old new file ends_with.WriteFault (h, risen) = (weaker IsRefusalLine IsCheckLine (λ bytes line says. inl says) old new file h, risen)
+unread_checks old new file ends_with.Memory (inl h) = inl (weaker IsRefusalLine IsCheckLine (λ bytes line says. inl says) old new file h)
 unread_checks old new file ends_with.Memory (inr h) = inr h
 unread_checks old new file ends_with.TooLong h = h
 

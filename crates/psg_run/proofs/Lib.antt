@@ -7,3 +7,4 @@ pub mod OneOutputLines
 pub mod OneOutput
 pub mod CaseOutput
 pub mod CaseFiles
+pub mod FixedWordLaws

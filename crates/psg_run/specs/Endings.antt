@@ -3,9 +3,6 @@ use Rattle.std.specs.Prelude.{ℕ, ◌≡◌, ◌⊎◌, List, Option}
 use Rattle.std.specs.Io.KnownBytes.{append_known}
 use Rattle.psg_terms.specs.Names.{Name}
 use Rattle.psg_grammar.specs.declared.types.Definition.{Definition}
-use Rattle.psg_deflines.specs.FaultText.{fault_text}
-use Rattle.psg_deflines.specs.declared.fault.ReadFault.{ReadFault}
-use Rattle.psg_deflines.specs.declared.fault.ReadFault.TheVariants as faults
 use Rattle.psg_world.specs.Sinks.{HasRisen, TakesFront}
 use Rattle.psg_world.specs.declared.world.ReadStop.{ReadStop}
 use Rattle.psg_world.specs.declared.world.ReadStop.TheVariants as read_stops
@@ -16,7 +13,7 @@ use Rattle.psg_run.specs.declared.status.Status.TheVariants as ends_with
 use Rattle.psg_session.specs.Replies.{feed}
 use Rattle.psg_run.specs.Output.{script_lines}
 use Rattle.psg_run.specs.Played.{PrintsAll, PrintsFront}
-use Rattle.psg_run.specs.Headline.{World, KeepsFiles, WroteNothing, IsWithin, IsFaultLine, IsDefinition, IsQuiet, Says, SaysFront, FailsToRead, IsTooLong}
+use Rattle.psg_run.specs.Headline.{World, KeepsFiles, WroteNothing, IsWithin, IsRefusalLine, IsDefinition, IsQuiet, Says, SaysFront, FailsToRead, IsTooLong}
 
 abbrev pub read_status : ReadStop → Status
 read_status read_stops.Failed = ends_with.ReadFault
@@ -56,14 +53,16 @@ pub record IsRead (old new : World) (definition : Name) (def : Definition) : Typ
 -- how a run ends that read no definition
 abbrev pub IsUnread : World → World → Name → Status → Type 0
 IsUnread old new definition ends_with.Done = ⊥
-IsUnread old new definition ends_with.DefinitionRefused = Says IsFaultLine old new definition
+IsUnread old new definition ends_with.DefinitionRefused = Says IsRefusalLine old new definition
 IsUnread old new definition ends_with.Words = ⊥
 IsUnread old new definition ends_with.ReadFault = FailsToRead old new definition
-IsUnread old new definition ends_with.WriteFault = SaysFront IsFaultLine old new definition × HasRisen old.count new.count
-IsUnread old new definition ends_with.Memory = SaysFront IsFaultLine old new definition ⊎ IsQuiet old new
+IsUnread old new definition ends_with.WriteFault = SaysFront IsRefusalLine old new definition × HasRisen old.count new.count
+IsUnread old new definition ends_with.Memory = SaysFront IsRefusalLine old new definition ⊎ IsQuiet old new
 IsUnread old new definition ends_with.TooLong = IsTooLong old new definition 1048576
 
--- where the bytes are no definition
-abbrev pub EndsFault : ReadFault → Option (List ℕ) → Option (List ℕ) → ℕ → ℕ → Status → Type 0
-EndsFault faults.Memory written written' count count' status = (status ≡ ends_with.Memory) × (written' ≡ written)
-EndsFault (faults.Def fault) written written' count count' status = PutsLine (fault_text fault) ends_with.DefinitionRefused written written' count count' status
+-- how a run ends whose bytes are no accepted definition: a line says why, as far as the status says
+pub data EndsRefused (bytes : List ℕ) (written written' : Option (List ℕ)) (count count' : ℕ) (status : Status) : Type 0 where
+  no_memory : status ≡ ends_with.Memory → written' ≡ written → EndsRefused bytes written written' count count' status
+  by_line : (line : List ℕ) → IsRefusalLine bytes line
+      → PutsLine line ends_with.DefinitionRefused written written' count count' status
+      → EndsRefused bytes written written' count count' status

@@ -4,6 +4,9 @@ use Rattle.std.specs.declared.alloc.Global.{Global}
 use Rattle.std.specs.Io.KnownBytes.{append_known}
 use Rattle.psg_terms.specs.Names.{Name}
 use Rattle.psg_grammar.specs.declared.types.Definition.{Definition}
+use Rattle.psg_class.specs.Class.{IsClass}
+use Rattle.psg_class.specs.Refusal.{IsRefusal, fault_text as class_text}
+use Rattle.psg_class.specs.declared.fault.ClassFault.{ClassFault}
 use Rattle.psg_deflines.specs.FaultText.{fault_text}
 use Rattle.psg_deflines.specs.declared.fault.DefFault.{DefFault}
 use Rattle.psg_defread.specs.Reading.{IsReadAs}
@@ -62,19 +65,27 @@ IsWithin held name limit bytes = Tells held name bytes × (length bytes ≤ limi
 abbrev pub IsLong : Option Held → Name → ℕ → Type 0
 IsLong held name limit = (bytes : List ℕ) × Tells held name bytes × (limit < length bytes)
 
--- the file of the name is read as the definition
-abbrev pub IsDefinition : Option Held → Name → Definition → Type 0
-IsDefinition held name def = (bytes : List ℕ) × IsWithin held name 1048576 bytes × IsReadAs bytes def
+-- the bytes are read as the definition, and it is of the grammar class
+pub record IsAccepted (bytes : List ℕ) (def : Definition) : Type 0 where
+  pub read : IsReadAs bytes def
+  pub class : IsClass def
 
--- What is said of the bytes of a definition's file in one line: their first fault; or that they are a definition.
-abbrev pub IsFaultLine : List ℕ → List ℕ → Type 0
-IsFaultLine bytes line = (fault : DefFault) × Refusal bytes fault × (line ≡ fault_text fault)
+-- the file of the name has an accepted definition
+abbrev pub IsDefinition : Option Held → Name → Definition → Type 0
+IsDefinition held name def = (bytes : List ℕ) × IsWithin held name 1048576 bytes × IsAccepted bytes def
+
+-- What is said of the bytes of a definition's file in one line. They are no definition, and the line names their first fault;
+-- or they are one that is not of the grammar class, and the line names the first condition that fails.
+pub data IsRefusalLine (bytes line : List ℕ) : Type 0 where
+  no_definition : (fault : DefFault) → Refusal bytes fault → line ≡ fault_text fault → IsRefusalLine bytes line
+  no_class : (def : Definition) (fault : ClassFault) → IsReadAs bytes def → IsRefusal def fault → line ≡ class_text def fault
+      → IsRefusalLine bytes line
 
 abbrev pub IsAcceptedLine : List ℕ → List ℕ → Type 0
-IsAcceptedLine bytes line = ((def : Definition) × IsReadAs bytes def) × (line ≡ codes "accepted")
+IsAcceptedLine bytes line = ((def : Definition) × IsAccepted bytes def) × (line ≡ codes "accepted")
 
 abbrev pub IsCheckLine : List ℕ → List ℕ → Type 0
-IsCheckLine bytes line = IsFaultLine bytes line ⊎ IsAcceptedLine bytes line
+IsCheckLine bytes line = IsRefusalLine bytes line ⊎ IsAcceptedLine bytes line
 
 -- Where both maps are told, the exchanges go from the one to the other. In any case the failed calls are those of the answers
 -- that were lost.
@@ -160,7 +171,7 @@ IsQuiet old new = KeepsFiles old new × WroteNothing old new
 -- What stands at each status of `check`. Each but Memory stands with its cause.
 abbrev pub Checks : World → World → Name → Status → Type 0
 Checks old new definition ends_with.Done = Says IsAcceptedLine old new definition
-Checks old new definition ends_with.DefinitionRefused = Says IsFaultLine old new definition
+Checks old new definition ends_with.DefinitionRefused = Says IsRefusalLine old new definition
 Checks old new definition ends_with.Words = ⊥
 Checks old new definition ends_with.ReadFault = FailsToRead old new definition
 Checks old new definition ends_with.WriteFault = SaysFront IsCheckLine old new definition × HasRisen old.count new.count
@@ -172,14 +183,14 @@ Checks old new definition ends_with.TooLong = IsTooLong old new definition 10485
 -- or Memory.
 abbrev pub Edits : World → World → Name → Name → Status → Type 0
 Edits old new definition script ends_with.Done = WritesAll old new definition script
-Edits old new definition script ends_with.DefinitionRefused = Says IsFaultLine old new definition
+Edits old new definition script ends_with.DefinitionRefused = Says IsRefusalLine old new definition
 Edits old new definition script ends_with.Words = ⊥
 Edits old new definition script ends_with.ReadFault =
     FailsToRead old new definition ⊎ (((def : Definition) × IsDefinition old.held definition def) × FailsToRead old new script)
 Edits old new definition script ends_with.WriteFault =
-    (WritesFront None old new definition script ⊎ SaysFront IsFaultLine old new definition) × HasRisen old.count new.count
+    (WritesFront None old new definition script ⊎ SaysFront IsRefusalLine old new definition) × HasRisen old.count new.count
 Edits old new definition script ends_with.Memory =
-    (((unanswered : Option Asked) × WritesFront unanswered old new definition script) ⊎ SaysFront IsFaultLine old new definition) ⊎ IsQuiet old new
+    (((unanswered : Option Asked) × WritesFront unanswered old new definition script) ⊎ SaysFront IsRefusalLine old new definition) ⊎ IsQuiet old new
 Edits old new definition script ends_with.TooLong =
     IsTooLong old new definition 1048576
     ⊎ (((def : Definition) × IsDefinition old.held definition def) × IsTooLong old new script 4194304)
