@@ -3,13 +3,16 @@ ghost use Rattle.std.specs.Prelude.{ℕ, ◌≡◌, ◌<◌, ◌^◌, List, IfOk
 ghost use Rattle.std.specs.List.{AllByRecursion};
 ghost use Rattle.psg_class.specs.Checks.{Refuses};
 ghost use Rattle.psg_class.specs.Class.{IsClass};
-ghost use Rattle.psg_defread.specs.Reading.{IsReadAs};
+ghost use Rattle.psg_defread.specs.Reading.{IsReadAs, Spells};
 ghost use Rattle.psg_defread.specs.Refusals.{IsReadFault};
+ghost use Rattle.psg_grammar.specs.declared.types.Definition.{Definition as Plain};
 ghost use Rattle.psg_grammar.specs.Sound.{IsSound};
 ghost use Rattle.psg_grammar.specs.WellFormed.{fixed_words};
 ghost use Rattle.psg_lexis.specs.Tokens.{IsFixedWord};
-ghost use Rattle.psg_run.specs.Endings.{read_status as read_status_of, write_status as write_status_of, EndsRefused, IsRead, IsUnread, PutsLine};
-ghost use Rattle.psg_run.specs.Headline.{IsAccepted};
+ghost use Rattle.psg_run.specs.Causes.{HasDefinition, IsAccepted, PutsLine, in_file};
+ghost use Rattle.psg_run.specs.Endings.{read_status as read_status_of, write_status as write_status_of, EndsRefused};
+ghost use Rattle.psg_run.specs.Promise.{EndsEarly};
+ghost use Rattle.psg_run.specs.Worlds.{seen};
 
 use crate::limits::MOST_DEFINITION_BYTES;
 use crate::status::Status;
@@ -41,7 +44,8 @@ pub fn write_status(stop: WriteStop) -> Status
 
 /// Writes the line with its line feed; `done` where it was written whole.
 pub fn put_line<O: Sink>(alloc: Global, out: &mut O, line: &str, done: Status) -> Status
-    ensures { PutsLine line.now done (O.written out.old) (O.written out.new) (O.faults out.old) (O.faults out.new) result }
+    ensures { PutsLine line.now done (O.written out.old) (O.written out.new) (O.faults out.old) (O.faults out.new)
+        result }
 {
     let Ok(text) = format!(in alloc; "{line}\n") else {
         return Status::Memory;
@@ -75,6 +79,7 @@ fn end_class_fault<O: Sink>(
 ) -> Status
     requires refuses { Refuses definition.now fault.now }
     ensures { (bytes : List ℕ) → IsReadAs bytes definition.now
+        → ((other : Plain) → Spells bytes other → other ≡ definition.now)
         → EndsRefused bytes (O.written out.old) (O.written out.new) (O.faults out.old) (O.faults out.new) result }
 {
     if let ClassFault::Memory = fault {
@@ -86,8 +91,8 @@ fn end_class_fault<O: Sink>(
     put_line(alloc, out, line.as_str(), Status::DefinitionRefused)
 }
 
-/// Gives the definition that the text is, where it is one and is of the grammar class. Otherwise the line that says why it is
-/// refused goes to `out`, and the status says how that ended.
+/// Gives the definition that the text is, where it is one and is of the grammar class. Otherwise the line that says
+/// why it is refused goes to `out`, and the status says how that ended.
 fn accept<O: Sink>(alloc: Global, text: &[u8], out: &mut O) -> Result<Definition, Status>
     requires { length text.now < 2 ^ 32 }
     ensures ok { IfOk result (IsAccepted text.now) }
@@ -108,25 +113,24 @@ fn accept<O: Sink>(alloc: Global, text: &[u8], out: &mut O) -> Result<Definition
 }
 
 /// Reads the definition of the file. The order of tests is that the file is read, its length, whether its bytes are a
-/// definition, and whether it is of the grammar class. Where it is not, the status says how the run ends, and the line of the
-/// first fault goes to `out`.
+/// definition, and whether it is of the grammar class. Where it is not, the status says how the run ends, and the line
+/// of the first fault goes to `out`.
 pub fn read_language<F: Files, O: Sink>(
     alloc: Global,
     file: &str,
     files: &mut F,
     out: &mut O,
 ) -> Result<Definition, Status>
-    ensures ok { IfOk result (IsRead
-        (record { held = F.holds files.old; entries = F.faults files.old; written = O.written out.old; count = O.faults out.old })
-        (record { held = F.holds files.new; entries = F.faults files.new; written = O.written out.new; count = O.faults out.new })
-        file.now) }
+    ensures ok { IfOk result (HasDefinition (F.holds files.old) (in_file file.now)) }
     ensures sound { IfOk result IsSound }
     ensures class { IfOk result IsClass }
     ensures words { IfOk result (λ d. AllByRecursion IsFixedWord (fixed_words d)) }
-    ensures err { IfErr result (IsUnread
-        (record { held = F.holds files.old; entries = F.faults files.old; written = O.written out.old; count = O.faults out.old })
-        (record { held = F.holds files.new; entries = F.faults files.new; written = O.written out.new; count = O.faults out.new })
-        file.now) }
+    ensures holds { IfOk result (λ _. F.holds files.new ≡ F.holds files.old) }
+    ensures entries { IfOk result (λ _. F.faults files.new ≡ F.faults files.old) }
+    ensures quiet { IfOk result (λ _. out.new ≡ out.old) }
+    ensures err { IfErr result (λ status. (ticks : ℕ) → EndsEarly (in_file file.now)
+        (seen (F.holds files.old) (F.faults files.old) (O.written out.old) (O.faults out.old) ticks)
+        (seen (F.holds files.new) (F.faults files.new) (O.written out.new) (O.faults out.new) ticks) status) }
 {
     let bytes = match files.read(alloc, file, MOST_DEFINITION_BYTES) {
         Ok(bytes) => bytes,
@@ -136,6 +140,8 @@ pub fn read_language<F: Files, O: Sink>(
     if text.len() > MOST_DEFINITION_BYTES {
         return Err(Status::TooLong);
     }
-    let definition = accept(alloc, text, out)?;
-    Ok(definition)
+    match accept(alloc, text, out) {
+        Ok(definition) => Ok(definition),
+        Err(status) => Err(status),
+    }
 }
