@@ -13,7 +13,7 @@ pub has_one_run : (def : Definition) → IsSound def → HasOneRun def
 has_one_run def sound script old new old' new' held a b exchanges =
     let bytes : b.bytes ≡ a.bytes = b.played.is_script.0 ∙ ap (λ h. bytes_of h script) held ∙ sym a.played.is_script.0 in
     let replies = subst (λ e. RepliesToAll def (script_lines a.bytes) e None b.output) exchanges
-        (subst (λ l. RepliesToAll def (script_lines l) b.exchanges None b.output) bytes b.is_output) in
+    (subst (λ l. RepliesToAll def (script_lines l) b.exchanges None b.output) bytes b.is_output) in
     let same : a.output ≡ b.output = (prints_once def (IsGoodIn def) sound a.is_output.1 replies.1).0 in
     let left : Some new.written ≡ Some (old.written ++ a.output) = a.wrote in
     let right : Some new'.written ≡ Some (old'.written ++ b.output) = b.wrote in

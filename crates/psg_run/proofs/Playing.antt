@@ -75,11 +75,18 @@ module _ (def : Definition) (s t : State) (line : List ℕ) (before after : Outs
   applied_quietly command h = not_reached def s command before after h.asked h.asks h.answer h.answers
 
   pub line_replies : HasAnswered def s t line before after from to reply → (n : ℕ) × Replies def s line t reply n × (to ≤ from + n)
-  line_replies (to_line_nothing never state files count is) =
-      (0, subst (λ x. Replies def s line x reply 0) (sym state)
-      (subst (λ r. Replies def s line s r 0) (sym is) (to_nothing never)), omega (arith, count))
-  line_replies (to_line_command command spells h) = (h.ticked.taken, to_command command spells
-      (subst (λ a. Steps def (IsGoodIn def) s a command t reply) (applied_quietly command h).0 h.steps) h.ticked.within, h.ticked.counted)
+  line_replies (to_line_nothing never state files count is) = (
+    0,
+    subst (λ x. Replies def s line x reply 0) (sym state)
+        (subst (λ r. Replies def s line s r 0) (sym is) (to_nothing never)),
+    omega (arith, count),
+  )
+  line_replies (to_line_command command spells h) = (
+    h.ticked.taken,
+    to_command command spells
+        (subst (λ a. Steps def (IsGoodIn def) s a command t reply) (applied_quietly command h).0 h.steps) h.ticked.within,
+    h.ticked.counted,
+  )
 
   pub line_keeps : HasAnswered def s t line before after from to reply → after ≡ before
   line_keeps (to_line_nothing never state files count is) = files

@@ -99,7 +99,7 @@ abbrev pub Checks : Source → World → World → Status → Type 0
 Checks source old new status =
     EndsEarly source old new status
     ⊎ ((def : Definition) × HasDefinition old.held source def
-      × SaysLine (codes "accepted") ends_with.Done old new status)
+    × SaysLine (codes "accepted") ends_with.Done old new status)
 
 -- evaluations along the lines, from the start of the plain editor
 abbrev pub SpentFromStart : Definition → List (List ℕ) → List Exchange → ℕ → ℕ → Type 0

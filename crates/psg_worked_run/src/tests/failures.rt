@@ -15,7 +15,8 @@ type Row<'a> = (
 );
 
 /// A definition that is read, of which an operator begins with a slot of another phylum.
-const OUTSIDE: &str = "psg 1\nsort S = s\nphylum P : S\nphylum Q : S\nop q : Q = \"q\"\nop u : P = Q\n";
+const OUTSIDE: &str =
+    "psg 1\nsort S = s\nphylum P : S\nphylum Q : S\nop q : Q = \"q\"\nop u : P = Q\n";
 
 const ROWS: &[Row<'static>] = &[
     (CHECK, (CONSTS, ""), (&[], &[1]), Status::WriteFault, ""),

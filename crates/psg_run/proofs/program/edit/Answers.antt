@@ -10,10 +10,14 @@ pub returns-in-Err : goal.returns-in-Err
 returns-in-Err g c = inl (c.in-Err.ensures.err c.args.steps.now)
 
 pub returns-in_default : goal.returns-in_default
-returns-in_default g c = inr (c.in-Ok.definition, c.in-Ok.ensures.ok, no_room_left refl (record {
-  files = record { held = c.in-Ok.ensures.holds; entries = c.in-Ok.ensures.entries; ticks = refl };
-  wrote = ap g.O.Sink.written c.in-Ok.ensures.quiet;
-}))
+returns-in_default g c = inr (
+  c.in-Ok.definition,
+  c.in-Ok.ensures.ok,
+  no_room_left refl (record {
+    files = record { held = c.in-Ok.ensures.holds; entries = c.in-Ok.ensures.entries; ticks = refl };
+    wrote = ap g.O.Sink.written c.in-Ok.ensures.quiet;
+  }),
+)
 
 pub returns : goal.returns
 returns g c =
