@@ -17,7 +17,7 @@ use std::sync::ledger::{Blank, Ledger};
 const HELP: &str = "psg: editors of small languages, from their definitions
 
   psg check DEF         says whether the file DEF has the definition of a language: accepted, or the first line
-                        with a fault and the number of the fault
+                        with a fault and the number of the fault, or the first condition of the grammar that fails
   psg edit DEF SCRIPT   reads the definition of a language from the file DEF, and runs each line of the file
                         SCRIPT as a command of an editor of it; the replies go to standard output
   psg --help            writes this text

@@ -1,8 +1,11 @@
 pub mod Playing
 pub mod Feeds
 pub mod Ending
+pub mod Completing
 pub mod WordForms
 pub mod OneOutputLines
 pub mod OneOutput
+pub mod OneRun
 pub mod CaseOutput
 pub mod CaseFiles
+pub mod FixedWordLaws

@@ -14,7 +14,7 @@ use Rattle.psg_session.specs.Exchanges.{Asked}
 use Rattle.psg_run.specs.Told.{Exchange}
 use Rattle.psg_script.specs.Forms.{Spells}
 use Rattle.psg_run.specs.Output.{Prints, ends, no_command, step, asks, wants}
-use Rattle.psg_run.specs.Played.{IsFrontOf}
+use Rattle.psg_run.specs.Worlds.{IsFrontOf}
 use Rattle.psg_run.specs.OneOutput.{HasOneOutput}
 use Rattle.psg_run.proofs.OneOutputLines.{spelled_once}
 use Rattle.psg_session.proofs.OneStep.{step_once}

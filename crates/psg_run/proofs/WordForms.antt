@@ -5,8 +5,11 @@ use Rattle.std.specs.declared.alloc.Global.{Global}
 use Rattle.psg_terms.specs.Names.{Name}
 use Rattle.psg_run.specs.declared.status.Status.{Status}
 use Rattle.psg_run.specs.declared.words.Form.{Form as Found}
-use Rattle.psg_run.specs.Wanted.{form_told, HasNoForm, IsWanted}
-use Rattle.psg_run.specs.Headline.{World, Form, check, edit, IsForm, IsRunOf, IsRun, texts_of}
+use Rattle.psg_run.specs.declared.status.Status.TheVariants as ends_with
+use Rattle.psg_run.specs.Wanted.{form_told, IsWanted}
+use Rattle.psg_run.specs.Worlds.{World, texts_of}
+use Rattle.psg_run.specs.Promise.{Form, check, edit, HasNoForm, IsForm, IsRunOf, IsRun}
+use Rattle.psg_run.proofs.Completing.{does_run}
 
 pub two_words : (words : List (String Global)) (a b : String Global) → 2 ≤ length words → length words < 3 → a ≡ get_or words 0 a → b ≡ get_or words 1 b
     → texts_of words ≡ string_bytes a ∷ string_bytes b ∷ []
@@ -54,7 +57,13 @@ one_form words (edit d s) (check e) p q = let whole : codes "edit" ∷ d ∷ s �
 one_form words (edit d s) (edit e t) p q = let whole : codes "edit" ∷ d ∷ s ∷ [] ≡ codes "edit" ∷ e ∷ t ∷ [] = sym p ∙ q in cc
 
 pub of_form : (words : List Name) (found : Found) (old new : World) (status : Status) → IsWanted words found → IsRunOf (form_told found) old new status → IsRun words old new status
-of_form words found old new status wanted ran = record {
+of_form words found old new status wanted ran = does_run words old new status (record {
   of_form = λ form is. subst (λ f. IsRunOf f old new status) (one_form words (form_told found) form wanted is) ran;
   no_form = λ never. absurd (never (form_told found) wanted);
-}
+})
+
+pub of_no_form : (words : List Name) (w : World) → HasNoForm words → IsRun words w w ends_with.Words
+of_no_form words w never = does_run words w w ends_with.Words (record {
+  of_form = λ form is. absurd (never form is);
+  no_form = λ none. (refl, (record { files = record { held = refl; entries = refl; ticks = refl }; wrote = refl }, refl));
+})

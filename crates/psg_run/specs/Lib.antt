@@ -2,7 +2,10 @@ pub mod Told
 pub mod Output
 pub mod Played
 pub mod OneOutput
-pub mod Headline
+pub mod Worlds
+pub mod Causes
+pub mod Spends
+pub mod Promise
 pub mod Endings
 pub mod Codes
 pub mod Wanted

@@ -26,26 +26,30 @@ sets k name bytes = record { held = map.insert k.held name bytes; unknown = with
 abbrev pub forgets : Known → Name → Known
 forgets k name = record { held = k.held; unknown = name ∷ k.unknown }
 
--- The bytes that a fetch got: all that the name has, or one byte more than the most where it has more. Of an unknown name
--- any bytes.
+-- The bytes that a fetch got: all that the name has, or one byte more than the most where it has more. Of an unknown
+-- name any bytes.
 abbrev pub IsGot : Known → Name → List ℕ → Type 0
 IsGot k name bytes = is_among k.unknown name ≡ false → bytes ≡ front_of most_kept_bytes (bytes_of k.held name)
 
--- Replays k exchanges fresh k': along the exchanges the files go from what is known of them to k', and the failed calls are
--- these, one for each answer that was lost, in order.
+-- Replays k exchanges fresh k': along the exchanges the files go from what is known of them to k', and the failed
+-- calls are these, one for each answer that was lost, in order.
 pub data Replays : Known → List Exchange → List Entry → Known → Type 0 where
   nothing : {k : Known} → Replays k [] [] k
   keeps : {k k' : Known} {rest : List Exchange} {fresh : List Entry} {name : Name} {bytes : List ℕ}
-      → Replays (sets k name bytes) rest fresh k' → Replays k (record { asked = keeping name bytes; answer = stored } ∷ rest) fresh k'
+      → Replays (sets k name bytes) rest fresh k'
+      → Replays k (record { asked = keeping name bytes; answer = stored } ∷ rest) fresh k'
   keep_lost : {k k' : Known} {rest : List Exchange} {fresh : List Entry} {name : Name} {bytes : List ℕ}
-      → Replays (forgets k name) rest fresh k' → Replays k (record { asked = keeping name bytes; answer = lost } ∷ rest) (writing name ∷ fresh) k'
+      → Replays (forgets k name) rest fresh k'
+      → Replays k (record { asked = keeping name bytes; answer = lost } ∷ rest) (writing name ∷ fresh) k'
   fetches : {k k' : Known} {rest : List Exchange} {fresh : List Entry} {name : Name} {bytes : List ℕ}
-      → IsGot k name bytes → Replays k rest fresh k' → Replays k (record { asked = fetching name; answer = got bytes } ∷ rest) fresh k'
+      → IsGot k name bytes → Replays k rest fresh k'
+      → Replays k (record { asked = fetching name; answer = got bytes } ∷ rest) fresh k'
   fetch_lost : {k k' : Known} {rest : List Exchange} {fresh : List Entry} {name : Name}
-      → Replays k rest fresh k' → Replays k (record { asked = fetching name; answer = lost } ∷ rest) (reading name ∷ fresh) k'
+      → Replays k rest fresh k'
+      → Replays k (record { asked = fetching name; answer = lost } ∷ rest) (reading name ∷ fresh) k'
 
--- Loses exchanges fresh: each answer is one to its question, and the failed calls are these, one for each answer that was
--- lost, in order.
+-- Loses exchanges fresh: each answer is one to its question, and the failed calls are these, one for each answer that
+-- was lost, in order.
 pub data Loses : List Exchange → List Entry → Type 0 where
   none : Loses [] []
   stores : {rest : List Exchange} {fresh : List Entry} {name : Name} {bytes : List ℕ}
@@ -63,9 +67,11 @@ after_last k None = k
 after_last k (Some (keeping name bytes)) = forgets k name
 after_last k (Some (fetching name)) = k
 
--- The answers are replayed from the map before, in which each name is known. The map after them agrees with the replayed
--- one on each known name.
-pub record Told (exchanges : List Exchange) (unanswered : Option Asked) (before after : Held) (fresh : List Entry) : Type 0 where
+-- The answers are replayed from the map before, in which each name is known. The map after them agrees with the
+-- replayed one on each known name.
+pub record Told (exchanges : List Exchange) (unanswered : Option Asked) (before after : Held)
+    (fresh : List Entry) : Type 0 where
   pub last : Known
   pub replays : Replays (record { held = before; unknown = [] }) exchanges fresh last
-  pub agrees : (name : Name) → is_among (after_last last unanswered).unknown name ≡ false → map.get after name ≡ map.get (after_last last unanswered).held name
+  pub agrees : (name : Name) → is_among (after_last last unanswered).unknown name ≡ false
+      → map.get after name ≡ map.get (after_last last unanswered).held name

@@ -3,7 +3,7 @@ use Rattle.std.specs.Prelude.{List}
 use Rattle.psg_terms.specs.Names.{Name}
 use Rattle.psg_run.specs.declared.words.Form.{Form as Found}
 use Rattle.psg_run.specs.declared.words.Form.TheVariants.{Check, Edit}
-use Rattle.psg_run.specs.Headline.{Form, check, edit, IsForm}
+use Rattle.psg_run.specs.Promise.{Form, check, edit, IsForm}
 
 abbrev pub form_told : Found → Form
 form_told (Check definition) = check definition.now
@@ -11,6 +11,3 @@ form_told (Edit definition script) = edit definition.now script.now
 
 abbrev pub IsWanted : List Name → Found → Type 0
 IsWanted words found = IsForm words (form_told found)
-
-abbrev pub HasNoForm : List Name → Type 0
-HasNoForm words = (form : Form) → IsForm words form → ⊥

@@ -1,7 +1,7 @@
 //! Laws of the plain editor, as contracts of calls that do nothing.
 ghost use Rattle.psg_class.specs.Class.{IsClass};
 ghost use Rattle.psg_grammar.specs.Sound.{IsSound};
-ghost use Rattle.psg_run.specs.OneOutput.{HasOneOutput};
+ghost use Rattle.psg_run.specs.OneOutput.{HasOneOutput, HasOneRun};
 ghost use Rattle.psg_session.specs.Good.{IsGoodIn};
 
 use psg_grammar::Definition;
@@ -12,4 +12,12 @@ pub fn one_output(definition: &Definition)
     requires sound { IsSound definition.now }
     requires class { IsClass definition.now }
     ensures { HasOneOutput definition.now (IsGoodIn definition.now) }
+{}
+
+/// Two runs of a script on the definition, with status 0 and over the same files, write the same. It does nothing at
+/// run time.
+pub fn one_run(definition: &Definition)
+    requires sound { IsSound definition.now }
+    requires class { IsClass definition.now }
+    ensures { HasOneRun definition.now }
 {}

@@ -1,8 +1,8 @@
 //! A run of the program: from words, files and a sink to a status.
 //!
-//! `run(alloc, &words, &mut files, &mut out, &mut steps)` does what the words say. For `check DEF` it says whether a file has a
-//! definition. For `edit DEF SCRIPT` it writes the replies of the plain editor, which is defined in this crate's specs and knows
-//! nothing but trees.
+//! `run(alloc, &words, &mut files, &mut out, &mut steps)` does what the words say. For `check DEF` it says whether a
+//! file has a definition. For `edit DEF SCRIPT` it writes the replies of the plain editor, which is defined in this
+//! crate's specs and knows nothing but trees.
 #![tactic(auto)]
 
 pub mod laws;

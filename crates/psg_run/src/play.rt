@@ -23,9 +23,9 @@ fn play_line<F: Files, O: Sink, L: Ledger>(
     steps: &mut Steps<L>,
 ) -> Result<(), WriteStop>
     ensures ok { OnOk result (PlaysLine session.old.language.definition (state_of session.old.editor) line.now
-        (state_of session.new.editor) (O.written out.old) (O.written out.new)) }
+        (state_of session.new.editor) (O.written out.old) (O.written out.new) steps.old steps.new) }
     ensures err { OnErr result (PlaysLineFront session.old.language.definition (state_of session.old.editor) line.now
-        (O.written out.old) (O.written out.new)) }
+        (O.written out.old) (O.written out.new) steps.old steps.new) }
     ensures language { session.new.language ≡ session.old.language }
     ensures holds { F.holds files.new ≡ F.holds files.old }
     ensures entries { F.faults files.new ≡ F.faults files.old }
@@ -38,8 +38,8 @@ fn play_line<F: Files, O: Sink, L: Ledger>(
     Ok(())
 }
 
-/// Puts the replies to the lines of the script, those of each line before the next one is looked at. It takes the time of the
-/// script and of its commands.
+/// Puts the replies to the lines of the script, those of each line before the next one is looked at. It takes the time
+/// of the script and of its commands.
 pub fn play<F: Files, O: Sink, L: Ledger>(
     alloc: Global,
     language: Language,
@@ -50,9 +50,9 @@ pub fn play<F: Files, O: Sink, L: Ledger>(
 ) -> Result<(), WriteStop>
     requires language { IsLanguage language }
     ensures ok { OnOk result (PrintsAll language.definition (script_lines script.now) (O.written out.old)
-        (O.written out.new)) }
+        (O.written out.new) steps.old steps.new) }
     ensures err { OnErr result (PrintsFront language.definition (script_lines script.now) (O.written out.old)
-        (O.written out.new)) }
+        (O.written out.new) steps.old steps.new) }
     ensures holds { F.holds files.new ≡ F.holds files.old }
     ensures entries { F.faults files.new ≡ F.faults files.old }
     ensures failed { IsErrOf result WriteStop.Failed → HasRisen (O.faults out.old) (O.faults out.new) }

@@ -1,8 +1,10 @@
 //! The whole program.
-ghost use Rattle.std.specs.Prelude.{◌≡◌, ◌≤◌, map, string_bytes, IfOk, IfErr};
+ghost use Rattle.std.specs.Prelude.{ℕ, ◌≡◌, map, string_bytes, IfOk, IfErr};
 ghost use Rattle.psg_session.specs.Views.{IsLanguage};
-ghost use Rattle.psg_run.specs.Endings.{Plays};
-ghost use Rattle.psg_run.specs.Headline.{texts_of, IsRun, Checks, Edits};
+ghost use Rattle.psg_run.specs.Causes.{in_file};
+ghost use Rattle.psg_run.specs.Output.{RepliesToAll};
+ghost use Rattle.psg_run.specs.Promise.{IsRun, Checks, Edits, Plays, SpentFromStart};
+ghost use Rattle.psg_run.specs.Worlds.{seen, texts_of};
 
 use crate::limits::MOST_SCRIPT_BYTES;
 use crate::play::play;
@@ -25,10 +27,9 @@ fn play_file<F: Files, O: Sink, L: Ledger>(
     steps: &mut Steps<L>,
 ) -> Status
     requires language { IsLanguage language }
-    ensures { Plays
-        (record { held = F.holds files.old; entries = F.faults files.old; written = O.written out.old; count = O.faults out.old })
-        (record { held = F.holds files.new; entries = F.faults files.new; written = O.written out.new; count = O.faults out.new })
-        language.definition script.now result }
+    ensures { Plays RepliesToAll SpentFromStart language.definition script.now
+        (seen (F.holds files.old) (F.faults files.old) (O.written out.old) (O.faults out.old) steps.old)
+        (seen (F.holds files.new) (F.faults files.new) (O.written out.new) (O.faults out.new) steps.new) result }
 {
     let bytes = match files.read(alloc, script, MOST_SCRIPT_BYTES) {
         Ok(bytes) => bytes,
@@ -44,12 +45,11 @@ fn play_file<F: Files, O: Sink, L: Ledger>(
     }
 }
 
-/// Says whether the file has a definition: `accepted`, or the line of its first fault.
+/// Says whether the file has a definition of the grammar class: `accepted`, or the line of its first fault.
 fn check<F: Files, O: Sink>(alloc: Global, definition: &str, files: &mut F, out: &mut O) -> Status
-    ensures { Checks
-        (record { held = F.holds files.old; entries = F.faults files.old; written = O.written out.old; count = O.faults out.old })
-        (record { held = F.holds files.new; entries = F.faults files.new; written = O.written out.new; count = O.faults out.new })
-        definition.now result }
+    ensures { (ticks : ℕ) → Checks (in_file definition.now)
+        (seen (F.holds files.old) (F.faults files.old) (O.written out.old) (O.faults out.old) ticks)
+        (seen (F.holds files.new) (F.faults files.new) (O.written out.new) (O.faults out.new) ticks) result }
 {
     if let Err(status) = read_language(alloc, definition, files, out) {
         return status;
@@ -57,8 +57,8 @@ fn check<F: Files, O: Sink>(alloc: Global, definition: &str, files: &mut F, out:
     put_line(alloc, out, "accepted", Status::Done)
 }
 
-/// Plays the script on the definition. The order of tests is: the definition is read, its length, whether it is one, the
-/// script is read, its length, then its lines.
+/// Plays the script on the definition. The order of tests is: the definition is read, its length, whether it is one,
+/// whether it is of the grammar class, the script is read, its length, then its lines.
 fn edit<F: Files, O: Sink, L: Ledger>(
     alloc: Global,
     definition: &str,
@@ -67,10 +67,9 @@ fn edit<F: Files, O: Sink, L: Ledger>(
     out: &mut O,
     steps: &mut Steps<L>,
 ) -> Status
-    ensures { Edits
-        (record { held = F.holds files.old; entries = F.faults files.old; written = O.written out.old; count = O.faults out.old })
-        (record { held = F.holds files.new; entries = F.faults files.new; written = O.written out.new; count = O.faults out.new })
-        definition.now script.now result }
+    ensures { Edits RepliesToAll SpentFromStart (in_file definition.now) script.now
+        (seen (F.holds files.old) (F.faults files.old) (O.written out.old) (O.faults out.old) steps.old)
+        (seen (F.holds files.new) (F.faults files.new) (O.written out.new) (O.faults out.new) steps.new) result }
 {
     let definition = match read_language(alloc, definition, files, out) {
         Ok(definition) => definition,
@@ -82,10 +81,10 @@ fn edit<F: Files, O: Sink, L: Ledger>(
     play_file(alloc, language, script, files, out, steps)
 }
 
-/// Does what the words say, and answers how that ended. `check DEF` says in one line whether the file DEF has a definition.
-/// `edit DEF SCRIPT` plays each line of the file SCRIPT, a command, on an editor of the definition; the replies go to `out`.
-/// `steps` counts evaluations of nodes and list suffixes: a command that opens or changes a fragment evaluates
-/// all of it, and `own` that of its node.
+/// Does what the words say, and answers how that ended. `check DEF` says in one line whether the file DEF has a
+/// definition that is accepted. `edit DEF SCRIPT` plays each line of the file SCRIPT, a command, on an editor of the
+/// definition; the replies go to `out`. `steps` counts evaluations of nodes and list suffixes: a command evaluates what
+/// is new and what is above it.
 pub fn run<F: Files, O: Sink, L: Ledger>(
     alloc: Global,
     words: &[String],
@@ -94,8 +93,8 @@ pub fn run<F: Files, O: Sink, L: Ledger>(
     steps: &mut Steps<L>,
 ) -> Status
     ensures run { IsRun (texts_of words.now)
-        (record { held = F.holds files.old; entries = F.faults files.old; written = O.written out.old; count = O.faults out.old })
-        (record { held = F.holds files.new; entries = F.faults files.new; written = O.written out.new; count = O.faults out.new })
+        (seen (F.holds files.old) (F.faults files.old) (O.written out.old) (O.faults out.old) steps.old)
+        (seen (F.holds files.new) (F.faults files.new) (O.written out.new) (O.faults out.new) steps.new)
         result }
 {
     match form_of(words) {

@@ -1,11 +1,22 @@
 //! The file of a definition, and the lines that are said of it.
-ghost use Rattle.std.specs.Prelude.{◌≡◌, IfOk, IfErr, string_bytes};
-ghost use Rattle.psg_deflines.specs.FaultText.{fault_text as fault_text_of};
+ghost use Rattle.std.specs.Prelude.{ℕ, ◌≡◌, ◌<◌, ◌^◌, List, IfOk, IfErr, length, string_bytes};
+ghost use Rattle.std.specs.List.{AllByRecursion};
+ghost use Rattle.psg_class.specs.Checks.{Refuses};
+ghost use Rattle.psg_class.specs.Class.{IsClass};
+ghost use Rattle.psg_defread.specs.Reading.{IsReadAs, Spells};
+ghost use Rattle.psg_defread.specs.Refusals.{IsReadFault};
+ghost use Rattle.psg_grammar.specs.declared.types.Definition.{Definition as Plain};
 ghost use Rattle.psg_grammar.specs.Sound.{IsSound};
-ghost use Rattle.psg_run.specs.Endings.{read_status as read_status_of, write_status as write_status_of, EndsFault, IsRead, IsUnread, PutsLine};
+ghost use Rattle.psg_grammar.specs.WellFormed.{fixed_words};
+ghost use Rattle.psg_lexis.specs.Tokens.{IsFixedWord};
+ghost use Rattle.psg_run.specs.Causes.{HasDefinition, IsAccepted, PutsLine, in_file};
+ghost use Rattle.psg_run.specs.Endings.{read_status as read_status_of, write_status as write_status_of, EndsRefused};
+ghost use Rattle.psg_run.specs.Promise.{EndsEarly};
+ghost use Rattle.psg_run.specs.Worlds.{seen};
 
 use crate::limits::MOST_DEFINITION_BYTES;
 use crate::status::Status;
+use psg_class::{ClassFault, class_check, class_text};
 use psg_defread::{ReadFault, fault_text, read_definition};
 use psg_grammar::Definition;
 use psg_world::{Files, ReadStop, Sink, WriteStop, put_all};
@@ -33,7 +44,8 @@ pub fn write_status(stop: WriteStop) -> Status
 
 /// Writes the line with its line feed; `done` where it was written whole.
 pub fn put_line<O: Sink>(alloc: Global, out: &mut O, line: &str, done: Status) -> Status
-    ensures { PutsLine line.now done (O.written out.old) (O.written out.new) (O.faults out.old) (O.faults out.new) result }
+    ensures { PutsLine line.now done (O.written out.old) (O.written out.new) (O.faults out.old) (O.faults out.new)
+        result }
 {
     let Ok(text) = format!(in alloc; "{line}\n") else {
         return Status::Memory;
@@ -46,7 +58,8 @@ pub fn put_line<O: Sink>(alloc: Global, out: &mut O, line: &str, done: Status) -
 
 /// Writes why the bytes are no definition.
 fn end_fault<O: Sink>(alloc: Global, fault: ReadFault, out: &mut O) -> Status
-    ensures { EndsFault fault (O.written out.old) (O.written out.new) (O.faults out.old) (O.faults out.new) result }
+    ensures { (bytes : List ℕ) → IsReadFault bytes fault
+        → EndsRefused bytes (O.written out.old) (O.written out.new) (O.faults out.old) (O.faults out.new) result }
 {
     let ReadFault::Def(fault) = fault else {
         return Status::Memory;
@@ -57,23 +70,67 @@ fn end_fault<O: Sink>(alloc: Global, fault: ReadFault, out: &mut O) -> Status
     put_line(alloc, out, line.as_str(), Status::DefinitionRefused)
 }
 
-/// The definition of the file, or how the run ends without one: the order of tests is that the file is read, its length, and
-/// whether its bytes are a definition; the line of its first fault goes to `out`.
+/// Writes why the definition is not of the grammar class.
+fn end_class_fault<O: Sink>(
+    alloc: Global,
+    definition: &Definition,
+    fault: &ClassFault,
+    out: &mut O,
+) -> Status
+    requires refuses { Refuses definition.now fault.now }
+    ensures { (bytes : List ℕ) → IsReadAs bytes definition.now
+        → ((other : Plain) → Spells bytes other → other ≡ definition.now)
+        → EndsRefused bytes (O.written out.old) (O.written out.new) (O.faults out.old) (O.faults out.new) result }
+{
+    if let ClassFault::Memory = fault {
+        return Status::Memory;
+    }
+    let Ok(line) = class_text(alloc, definition, fault) else {
+        return Status::Memory;
+    };
+    put_line(alloc, out, line.as_str(), Status::DefinitionRefused)
+}
+
+/// Gives the definition that the text is, where it is one and is of the grammar class. Otherwise the line that says
+/// why it is refused goes to `out`, and the status says how that ended.
+fn accept<O: Sink>(alloc: Global, text: &[u8], out: &mut O) -> Result<Definition, Status>
+    requires { length text.now < 2 ^ 32 }
+    ensures ok { IfOk result (IsAccepted text.now) }
+    ensures sound { IfOk result IsSound }
+    ensures words { IfOk result (λ d. AllByRecursion IsFixedWord (fixed_words d)) }
+    ensures quiet { IfOk result (λ _. out.new ≡ out.old) }
+    ensures err { IfErr result (EndsRefused text.now (O.written out.old) (O.written out.new) (O.faults out.old)
+        (O.faults out.new)) }
+{
+    let definition = match read_definition(alloc, text) {
+        Ok(definition) => definition,
+        Err(fault) => return Err(end_fault(alloc, fault, out)),
+    };
+    match class_check(alloc, &definition) {
+        Ok(()) => Ok(definition),
+        Err(fault) => Err(end_class_fault(alloc, &definition, &fault, out)),
+    }
+}
+
+/// Reads the definition of the file. The order of tests is that the file is read, its length, whether its bytes are a
+/// definition, and whether it is of the grammar class. Where it is not, the status says how the run ends, and the line
+/// of the first fault goes to `out`.
 pub fn read_language<F: Files, O: Sink>(
     alloc: Global,
     file: &str,
     files: &mut F,
     out: &mut O,
 ) -> Result<Definition, Status>
-    ensures ok { IfOk result (IsRead
-        (record { held = F.holds files.old; entries = F.faults files.old; written = O.written out.old; count = O.faults out.old })
-        (record { held = F.holds files.new; entries = F.faults files.new; written = O.written out.new; count = O.faults out.new })
-        file.now) }
+    ensures ok { IfOk result (HasDefinition (F.holds files.old) (in_file file.now)) }
     ensures sound { IfOk result IsSound }
-    ensures err { IfErr result (IsUnread
-        (record { held = F.holds files.old; entries = F.faults files.old; written = O.written out.old; count = O.faults out.old })
-        (record { held = F.holds files.new; entries = F.faults files.new; written = O.written out.new; count = O.faults out.new })
-        file.now) }
+    ensures class { IfOk result IsClass }
+    ensures words { IfOk result (λ d. AllByRecursion IsFixedWord (fixed_words d)) }
+    ensures holds { IfOk result (λ _. F.holds files.new ≡ F.holds files.old) }
+    ensures entries { IfOk result (λ _. F.faults files.new ≡ F.faults files.old) }
+    ensures quiet { IfOk result (λ _. out.new ≡ out.old) }
+    ensures err { IfErr result (λ status. (ticks : ℕ) → EndsEarly (in_file file.now)
+        (seen (F.holds files.old) (F.faults files.old) (O.written out.old) (O.faults out.old) ticks)
+        (seen (F.holds files.new) (F.faults files.new) (O.written out.new) (O.faults out.new) ticks) status) }
 {
     let bytes = match files.read(alloc, file, MOST_DEFINITION_BYTES) {
         Ok(bytes) => bytes,
@@ -83,8 +140,8 @@ pub fn read_language<F: Files, O: Sink>(
     if text.len() > MOST_DEFINITION_BYTES {
         return Err(Status::TooLong);
     }
-    match read_definition(alloc, text) {
-        Ok(language) => Ok(language),
-        Err(fault) => Err(end_fault(alloc, fault, out)),
+    match accept(alloc, text, out) {
+        Ok(definition) => Ok(definition),
+        Err(status) => Err(status),
     }
 }

@@ -7,7 +7,8 @@ ghost use Rattle.psg_run.specs.Codes.{code_of};
 pub enum Status {
     /// The script was read to its end, and every reply was written.
     Done,
-    /// The bytes of the definition are no definition, and the line that says so was written.
+    /// The bytes of the definition are no definition, or one that is not of the grammar class, and the line that says
+    /// so was written.
     DefinitionRefused,
     /// The words have none of the forms; nothing was read or written.
     Words,

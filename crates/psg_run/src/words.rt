@@ -1,7 +1,8 @@
 //! What the words of a run ask for.
 ghost use Rattle.std.specs.Prelude.{◌≡◌, ◌∷◌, [], MatchOption, codes};
-ghost use Rattle.psg_run.specs.Headline.{texts_of};
-ghost use Rattle.psg_run.specs.Wanted.{HasNoForm, IsWanted};
+ghost use Rattle.psg_run.specs.Promise.{HasNoForm};
+ghost use Rattle.psg_run.specs.Wanted.{IsWanted};
+ghost use Rattle.psg_run.specs.Worlds.{texts_of};
 
 /// A form of words.
 #[derive(Drop)]
@@ -19,7 +20,8 @@ pub enum Form<'a> {
 
 /// What two words ask for.
 fn of_two<'a>(form: &str, definition: &'a str) -> Option<Form<'a>>
-    ensures { MatchOption result (HasNoForm (form.now ∷ definition.now ∷ [])) (IsWanted (form.now ∷ definition.now ∷ [])) }
+    ensures { MatchOption result (HasNoForm (form.now ∷ definition.now ∷ []))
+        (IsWanted (form.now ∷ definition.now ∷ [])) }
 {
     if form == "check" {
         Some(Form::Check { definition })
@@ -30,7 +32,8 @@ fn of_two<'a>(form: &str, definition: &'a str) -> Option<Form<'a>>
 
 /// What three words ask for.
 fn of_three<'a>(form: &str, definition: &'a str, script: &'a str) -> Option<Form<'a>>
-    ensures { MatchOption result (HasNoForm (form.now ∷ definition.now ∷ script.now ∷ [])) (IsWanted (form.now ∷ definition.now ∷ script.now ∷ [])) }
+    ensures { MatchOption result (HasNoForm (form.now ∷ definition.now ∷ script.now ∷ []))
+        (IsWanted (form.now ∷ definition.now ∷ script.now ∷ [])) }
 {
     if form == "edit" {
         Some(Form::Edit { definition, script })

@@ -4,7 +4,8 @@ use psg_langs::CONSTS;
 use psg_run::Status;
 use std::test::Fail;
 
-/// Words, a definition and a script, the reads and the writes that fail, how the run ends, and what it has written by then.
+/// Words, a definition and a script, the reads and the writes that fail, how the run ends, and what it has written by
+/// then.
 type Row<'a> = (
     &'a [&'a str],
     (&'a str, &'a str),
@@ -12,6 +13,10 @@ type Row<'a> = (
     Status,
     &'a str,
 );
+
+/// A definition that is read, of which an operator begins with a slot of another phylum.
+const OUTSIDE: &str =
+    "psg 1\nsort S = s\nphylum P : S\nphylum Q : S\nop q : Q = \"q\"\nop u : P = Q\n";
 
 const ROWS: &[Row<'static>] = &[
     (CHECK, (CONSTS, ""), (&[], &[1]), Status::WriteFault, ""),
@@ -40,6 +45,14 @@ const ROWS: &[Row<'static>] = &[
         "ok\nok\n( ?Exp + ?Exp )\nok\nrefused 12\n",
     ),
     (EDIT, ("", ""), (&[], &[1]), Status::WriteFault, ""),
+    (CHECK, (OUTSIDE, ""), (&[], &[1]), Status::WriteFault, ""),
+    (
+        EDIT,
+        (OUTSIDE, SUM),
+        (&[2], &[]),
+        Status::DefinitionRefused,
+        "refused NoFirst u\n",
+    ),
     (EDIT, (CONSTS, SUM), (&[1], &[]), Status::ReadFault, ""),
     (EDIT, (CONSTS, SUM), (&[2], &[]), Status::ReadFault, ""),
     (

@@ -12,12 +12,12 @@ use Rattle.psg_run.proofs.play.play.Goals as goal
 
 pub returns-in_err-session-clause-err : goal.returns-in_err-session-clause-err
 returns-in_err-session-clause-err g c = on_err c.from_residual.result
-    (nothing_put c.args.language.definition (script_lines c.args.script.now) (g.O.Sink.written c.args.out.now))
+    (nothing_put c.args.language.definition (script_lines c.args.script.now) (g.O.Sink.written c.args.out.now) c.args.steps.now)
 
 pub loop-rest-init : goal.loop-rest-init
 loop-rest-init g c = record {
   so_far = begins c.in_ok-session.session.language.definition (script_lines c.args.script.now) c.args.script.now
-      (state_of c.in_ok-session.session.editor) (g.O.Sink.written c.args.out.now) c.in_ok-session.ensures.start;
+      (state_of c.in_ok-session.session.editor) (g.O.Sink.written c.args.out.now) c.args.steps.now c.in_ok-session.ensures.start;
   language = refl;
   holds = refl;
   entries = refl;
@@ -30,37 +30,42 @@ loop-rest-smaller g c = c.cut_line-cut.ensures.shorter
 pub returns-in_err-play_line-clause-err : goal.returns-in_err-play_line-clause-err
 returns-in_err-play_line-clause-err g c = on_err c.from_residual-in_err-play_line.result
     (subst (λ (l : Language). PrintsFront l.definition (script_lines c.args.script.now) (g.O.Sink.written c.args.out.now)
-    (g.O.Sink.written c.play_line.new.out)) (c.loop-rest.invariant.language ∙ c.in_ok-session.ensures.language)
+    (g.O.Sink.written c.play_line.new.out) c.args.steps.now c.play_line.new.steps) (c.loop-rest.invariant.language ∙ c.in_ok-session.ensures.language)
     (stopped c.loop-rest.session.language.definition (script_lines c.args.script.now) c.loop-rest.rest.now
     c.cut_line-cut.result.rest.now c.cut_line-cut.result.line.now (state_of c.loop-rest.session.editor)
     (g.O.Sink.written c.args.out.now) (g.O.Sink.written c.loop-rest.out) (g.O.Sink.written c.play_line.new.out)
-    c.cut_line-cut.ensures.lines
+    c.args.steps.now c.loop-rest.steps c.play_line.new.steps c.cut_line-cut.ensures.lines
     (λ e. true≢false (sym (ap (λ (l : List ℕ). length l == 0) (c.without_return-line.ensures ∙ e)) ∙ sym c.if-not-is_empty.ensures))
     c.loop-rest.invariant.so_far
     (subst (λ l. PlaysLineFront c.loop-rest.session.language.definition (state_of c.loop-rest.session.editor) l
-    (g.O.Sink.written c.loop-rest.out) (g.O.Sink.written c.play_line.new.out)) c.without_return-line.ensures
-    c.in_err-play_line.ensures.err)))
+    (g.O.Sink.written c.loop-rest.out) (g.O.Sink.written c.play_line.new.out) c.loop-rest.steps c.play_line.new.steps)
+    c.without_return-line.ensures c.in_err-play_line.ensures.err)))
 
 pub loop-rest-preserved : goal.loop-rest-preserved
 loop-rest-preserved g c = elim c.if-not-is_empty.branch [
   | then-not-is_empty+in_ok-play_line w ↦ record {
     so_far = subst (λ (s : Parts). SoFar s.language.definition (script_lines c.args.script.now) c.cut_line-cut.result.rest.now
-        (state_of s.editor) (g.O.Sink.written c.args.out.now) (g.O.Sink.written c.if-not-is_empty.out)) (sym w.session-is)
+        (state_of s.editor) (g.O.Sink.written c.args.out.now) (g.O.Sink.written c.if-not-is_empty.out) c.args.steps.now
+        c.if-not-is_empty.steps) (sym w.session-is)
         (subst (λ o. SoFar w.play_line.new.session.language.definition (script_lines c.args.script.now)
         c.cut_line-cut.result.rest.now (state_of w.play_line.new.session.editor) (g.O.Sink.written c.args.out.now)
-        (g.O.Sink.written o)) (sym w.out-is)
+        (g.O.Sink.written o) c.args.steps.now c.if-not-is_empty.steps) (sym w.out-is)
+        (subst (λ n. SoFar w.play_line.new.session.language.definition (script_lines c.args.script.now)
+        c.cut_line-cut.result.rest.now (state_of w.play_line.new.session.editor) (g.O.Sink.written c.args.out.now)
+        (g.O.Sink.written w.play_line.new.out) c.args.steps.now n) (sym w.steps-is)
         (subst (λ (l : Language). SoFar l.definition (script_lines c.args.script.now) c.cut_line-cut.result.rest.now
-        (state_of w.play_line.new.session.editor) (g.O.Sink.written c.args.out.now) (g.O.Sink.written w.play_line.new.out))
-        (sym w.in_ok-play_line.ensures.language)
+        (state_of w.play_line.new.session.editor) (g.O.Sink.written c.args.out.now) (g.O.Sink.written w.play_line.new.out)
+        c.args.steps.now w.play_line.new.steps) (sym w.in_ok-play_line.ensures.language)
         (played c.loop-rest.session.language.definition (script_lines c.args.script.now) c.loop-rest.rest.now
         c.cut_line-cut.result.rest.now c.cut_line-cut.result.line.now (state_of c.loop-rest.session.editor)
         (state_of w.play_line.new.session.editor) (g.O.Sink.written c.args.out.now) (g.O.Sink.written c.loop-rest.out)
-        (g.O.Sink.written w.play_line.new.out) c.cut_line-cut.ensures.lines
+        (g.O.Sink.written w.play_line.new.out) c.args.steps.now c.loop-rest.steps w.play_line.new.steps
+        c.cut_line-cut.ensures.lines
         (λ e. true≢false (sym (ap (λ (l : List ℕ). length l == 0) (c.without_return-line.ensures ∙ e)) ∙ sym w.if-not-is_empty.ensures))
         c.loop-rest.invariant.so_far
         (subst (λ l. PlaysLine c.loop-rest.session.language.definition (state_of c.loop-rest.session.editor) l
-        (state_of w.play_line.new.session.editor) (g.O.Sink.written c.loop-rest.out) (g.O.Sink.written w.play_line.new.out))
-        c.without_return-line.ensures w.in_ok-play_line.ensures.ok))));
+        (state_of w.play_line.new.session.editor) (g.O.Sink.written c.loop-rest.out) (g.O.Sink.written w.play_line.new.out)
+        c.loop-rest.steps w.play_line.new.steps) c.without_return-line.ensures w.in_ok-play_line.ensures.ok)))));
     language = ap (λ (s : Parts). s.language) w.session-is ∙ w.in_ok-play_line.ensures.language ∙ c.loop-rest.invariant.language;
     holds = ap g.F.Files.holds w.files-is ∙ w.in_ok-play_line.ensures.holds ∙ c.loop-rest.invariant.holds;
     entries = ap g.F.Files.faults w.files-is ∙ w.in_ok-play_line.ensures.entries ∙ c.loop-rest.invariant.entries;
@@ -69,15 +74,20 @@ loop-rest-preserved g c = elim c.if-not-is_empty.branch [
   }
   | else-not-is_empty w ↦ record {
     so_far = subst (λ (s : Parts). SoFar s.language.definition (script_lines c.args.script.now) c.cut_line-cut.result.rest.now
-        (state_of s.editor) (g.O.Sink.written c.args.out.now) (g.O.Sink.written c.if-not-is_empty.out)) (sym w.session-is)
+        (state_of s.editor) (g.O.Sink.written c.args.out.now) (g.O.Sink.written c.if-not-is_empty.out) c.args.steps.now
+        c.if-not-is_empty.steps) (sym w.session-is)
         (subst (λ o. SoFar c.loop-rest.session.language.definition (script_lines c.args.script.now)
         c.cut_line-cut.result.rest.now (state_of c.loop-rest.session.editor) (g.O.Sink.written c.args.out.now)
-        (g.O.Sink.written o)) (sym w.out-is)
+        (g.O.Sink.written o) c.args.steps.now c.if-not-is_empty.steps) (sym w.out-is)
+        (subst (λ n. SoFar c.loop-rest.session.language.definition (script_lines c.args.script.now)
+        c.cut_line-cut.result.rest.now (state_of c.loop-rest.session.editor) (g.O.Sink.written c.args.out.now)
+        (g.O.Sink.written c.loop-rest.out) c.args.steps.now n) (sym w.steps-is)
         (skipped c.loop-rest.session.language.definition (script_lines c.args.script.now) c.loop-rest.rest.now
         c.cut_line-cut.result.rest.now c.cut_line-cut.result.line.now (state_of c.loop-rest.session.editor)
-        (g.O.Sink.written c.args.out.now) (g.O.Sink.written c.loop-rest.out) c.cut_line-cut.ensures.lines
+        (g.O.Sink.written c.args.out.now) (g.O.Sink.written c.loop-rest.out) c.args.steps.now c.loop-rest.steps
+        c.cut_line-cut.ensures.lines
         (sym c.without_return-line.ensures ∙ empty_is c.without_return-line.result.now (sym w.if-not-is_empty.ensures))
-        c.loop-rest.invariant.so_far));
+        c.loop-rest.invariant.so_far)));
     language = ap (λ (s : Parts). s.language) w.session-is ∙ c.loop-rest.invariant.language;
     holds = ap g.F.Files.holds w.files-is ∙ c.loop-rest.invariant.holds;
     entries = ap g.F.Files.faults w.files-is ∙ c.loop-rest.invariant.entries;
@@ -89,7 +99,8 @@ loop-rest-preserved g c = elim c.if-not-is_empty.branch [
 pub returns-clause-ok : goal.returns-clause-ok
 returns-clause-ok g c =
     subst (λ (l : Language). PrintsAll l.definition (script_lines c.args.script.now) (g.O.Sink.written c.args.out.now)
-    (g.O.Sink.written c.loop-rest.out)) (c.loop-rest.invariant.language ∙ c.in_ok-session.ensures.language)
+    (g.O.Sink.written c.loop-rest.out) c.args.steps.now c.loop-rest.steps)
+    (c.loop-rest.invariant.language ∙ c.in_ok-session.ensures.language)
     (finished c.loop-rest.session.language.definition (script_lines c.args.script.now) (state_of c.loop-rest.session.editor)
-    c.loop-rest.rest.now (g.O.Sink.written c.args.out.now) (g.O.Sink.written c.loop-rest.out)
+    c.loop-rest.rest.now (g.O.Sink.written c.args.out.now) (g.O.Sink.written c.loop-rest.out) c.args.steps.now c.loop-rest.steps
     (empty_is c.loop-rest.rest.now (sym c.loop-rest-test.ensures)) c.loop-rest.invariant.so_far)

@@ -3,13 +3,14 @@ use Rattle.psg_session.specs.Exchanges.{Outside}
 use Rattle.psg_session.specs.Sessions.{state_of}
 use Rattle.psg_session.specs.Views.{reply_of}
 use Rattle.psg_session.proofs.Options.{on_err}
-use Rattle.psg_run.proofs.Playing.{broken_keeps, line_keeps, line_replies, plays, plays_front, plays_nothing}
+use Rattle.psg_run.proofs.Playing.{broken_keeps, broken_spends, line_keeps, line_replies, plays, plays_front, plays_nothing}
 use Rattle.psg_run.proofs.play.play_line.Goals as goal
 
 pub returns-in_err-reply-clause-err : goal.returns-in_err-reply-clause-err
 returns-in_err-reply-clause-err g c =
     on_err c.from_residual.result (plays_nothing c.args.session.now.language.definition
-    (state_of c.args.session.now.editor) c.args.line.now (g.O.Sink.written c.args.out.now))
+    (state_of c.args.session.now.editor) c.args.line.now (g.O.Sink.written c.args.out.now) c.args.steps.now
+    c.apply_line.new.steps (broken_spends _ _ _ _ _ _ _ c.in_err-reply.ensures.broken))
 
 pub returns-in_err-reply-clause-holds : goal.returns-in_err-reply-clause-holds
 returns-in_err-reply-clause-holds g c =
@@ -22,7 +23,7 @@ returns-in_err-reply-clause-entries g c =
 pub returns-in_err-put_all-clause-err : goal.returns-in_err-put_all-clause-err
 returns-in_err-put_all-clause-err g c = on_err c.from_residual-in_err-put_all.result
     (plays_front c.args.session.now.language.definition (state_of c.args.session.now.editor)
-    (state_of c.apply_line.new.self.editor) c.args.line.now (reply_of c.in_ok-reply.reply)
+    (state_of c.apply_line.new.self.editor) c.args.line.now (reply_of c.in_ok-reply.reply) c.args.steps.now c.apply_line.new.steps
     (line_replies _ _ _ _ _ _ _ _ _ c.in_ok-reply.ensures.answered)
     (g.O.Sink.written c.args.out.now) (g.O.Sink.written c.put_all.new.out) c.as_bytes.result.now
     (c.as_bytes.ensures.value ∙ c.in_ok-text.ensures) c.in_err-put_all.ensures.front)
@@ -38,7 +39,7 @@ returns-in_err-put_all-clause-entries g c =
 pub returns-clause-ok : goal.returns-clause-ok
 returns-clause-ok g c =
     plays c.args.session.now.language.definition (state_of c.args.session.now.editor)
-    (state_of c.apply_line.new.self.editor) c.args.line.now (reply_of c.in_ok-reply.reply)
+    (state_of c.apply_line.new.self.editor) c.args.line.now (reply_of c.in_ok-reply.reply) c.args.steps.now c.apply_line.new.steps
     (line_replies _ _ _ _ _ _ _ _ _ c.in_ok-reply.ensures.answered)
     (g.O.Sink.written c.args.out.now) (g.O.Sink.written c.put_all.new.out) c.as_bytes.result.now
     (c.as_bytes.ensures.value ∙ c.in_ok-text.ensures) c.in_ok-put_all.ensures.all

@@ -1,12 +1,19 @@
-use Rattle.psg_run.proofs.Ending.{accepted, unread_checks}
+use Rattle.std.proofs.Common.{inl, inr, refl, ap, subst}
+use Rattle.std.specs.Prelude.{codes}
+use Rattle.psg_run.specs.declared.status.Status.TheVariants as ends_with
+use Rattle.psg_run.specs.Causes.{PutsLine}
 use Rattle.psg_run.proofs.program.check.Goals as goal
 
 pub returns-in-Err : goal.returns-in-Err
-returns-in-Err g c = unread_checks _ _ c.args.definition.now c.in-Err.status c.in-Err.ensures.err
+returns-in-Err g c = λ ticks. inl (c.in-Err.ensures.err ticks)
 
 pub returns : goal.returns
-returns g c =
-    accepted
-    (record { held = g.F.Files.holds c.args.files.now; entries = g.F.Files.faults c.args.files.now; written = g.O.Sink.written c.args.out.now; count = g.O.Sink.faults c.args.out.now })
-    (record { held = g.F.Files.holds c.read_language.new.files; entries = g.F.Files.faults c.read_language.new.files; written = g.O.Sink.written c.read_language.new.out; count = g.O.Sink.faults c.read_language.new.out })
-    _ _ c.args.definition.now c.in_default.field-0 c.put_line.result c.in_default.ensures.ok c.put_line.ensures
+returns g c = λ ticks. inr (
+  c.in_default.field-0,
+  c.in_default.ensures.ok,
+  (
+    record { held = c.in_default.ensures.holds; entries = c.in_default.ensures.entries; ticks = refl },
+    subst (λ o. PutsLine (codes "accepted") ends_with.Done (g.O.Sink.written o) (g.O.Sink.written c.put_line.new.out)
+        (g.O.Sink.faults o) (g.O.Sink.faults c.put_line.new.out) c.put_line.result) c.in_default.ensures.quiet c.put_line.ensures,
+  ),
+)

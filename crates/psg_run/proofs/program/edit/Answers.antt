@@ -1,19 +1,32 @@
-use Rattle.std.proofs.Common.{subst}
-use Rattle.psg_run.specs.Endings.{Plays}
-use Rattle.psg_run.specs.Headline.{World}
-use Rattle.psg_run.proofs.Ending.{played, unmade, unread_edits}
+use Rattle.std.proofs.Common.{inl, inr, refl, ap, subst}
+use Rattle.psg_run.specs.declared.status.Status.TheVariants as ends_with
+use Rattle.psg_run.specs.Output.{RepliesToAll}
+use Rattle.psg_run.specs.Promise.{Plays, SpentFromStart, no_room_left}
+use Rattle.psg_run.specs.Worlds.{World, seen}
+use Rattle.psg_run.proofs.Ending.{played_on}
 use Rattle.psg_run.proofs.program.edit.Goals as goal
 
 pub returns-in-Err : goal.returns-in-Err
-returns-in-Err g c = unread_edits _ _ c.args.definition.now c.args.script.now c.in-Err.status c.in-Err.ensures.err
+returns-in-Err g c = inl (c.in-Err.ensures.err c.args.steps.now)
 
 pub returns-in_default : goal.returns-in_default
-returns-in_default g c = unmade _ _ c.args.definition.now c.args.script.now c.in-Ok.definition c.in-Ok.ensures.ok
+returns-in_default g c = inr (
+  c.in-Ok.definition,
+  c.in-Ok.ensures.ok,
+  no_room_left refl (record {
+    files = record { held = c.in-Ok.ensures.holds; entries = c.in-Ok.ensures.entries; ticks = refl };
+    wrote = ap g.O.Sink.written c.in-Ok.ensures.quiet;
+  }),
+)
 
 pub returns : goal.returns
 returns g c =
-    let old : World = record { held = g.F.Files.holds c.args.files.now; entries = g.F.Files.faults c.args.files.now; written = g.O.Sink.written c.args.out.now; count = g.O.Sink.faults c.args.out.now } in
-    let mid : World = record { held = g.F.Files.holds c.read_language.new.files; entries = g.F.Files.faults c.read_language.new.files; written = g.O.Sink.written c.read_language.new.out; count = g.O.Sink.faults c.read_language.new.out } in
-    let new : World = record { held = g.F.Files.holds c.play_file.new.files; entries = g.F.Files.faults c.play_file.new.files; written = g.O.Sink.written c.play_file.new.out; count = g.O.Sink.faults c.play_file.new.out } in
-    played old mid new c.args.definition.now c.args.script.now c.in-Ok.definition c.play_file.result c.in-Ok.ensures.ok
-    (subst (λ d. Plays mid new d c.args.script.now c.play_file.result) c.in-Ok-of.ensures.definition c.play_file.ensures)
+    let new : World = seen (g.F.Files.holds c.play_file.new.files) (g.F.Files.faults c.play_file.new.files) (g.O.Sink.written c.play_file.new.out) (g.O.Sink.faults c.play_file.new.out) c.play_file.new.steps in
+    let mid : World = seen (g.F.Files.holds c.read_language.new.files) (g.F.Files.faults c.read_language.new.files) (g.O.Sink.written c.read_language.new.out) (g.O.Sink.faults c.read_language.new.out) c.args.steps.now in
+    played_on (g.F.Files.holds c.args.files.now) (g.F.Files.holds c.read_language.new.files) (g.F.Files.faults c.args.files.now)
+    (g.F.Files.faults c.read_language.new.files) (g.O.Sink.written c.args.out.now) (g.O.Sink.written c.read_language.new.out)
+    (g.O.Sink.faults c.args.out.now) (g.O.Sink.faults c.read_language.new.out) c.args.steps.now new c.args.definition.now
+    c.args.script.now c.in-Ok.definition c.play_file.result c.in-Ok.ensures.holds c.in-Ok.ensures.entries
+    (ap g.O.Sink.written c.in-Ok.ensures.quiet) (ap g.O.Sink.faults c.in-Ok.ensures.quiet) c.in-Ok.ensures.ok
+    (subst (λ d. Plays RepliesToAll SpentFromStart d c.args.script.now mid new c.play_file.result) c.in-Ok-of.ensures.definition
+    c.play_file.ensures)
