@@ -7,7 +7,7 @@ use Rattle.psg_run.proofs.source.end_class_fault.Goals as goal
 pub returns : goal.returns
 returns g c = λ bytes read only.
     let line : c.as_str.result.now ≡ fault_text c.args.definition.now c.args.fault.now = search rules in
-    elim c.requires [
+    elim c.requires.refuses [
       | inl memory ↦ absurd (c.in_default.not-Memory memory)
       | inr (refusal, of) ↦ by_line c.as_str.result.now
           (no_class c.args.definition.now c.args.fault.now read only refusal line) c.put_line.ensures
