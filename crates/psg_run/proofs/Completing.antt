@@ -1,5 +1,5 @@
 -- Runs for which nothing goes wrong outside.
-use Rattle.std.proofs.Common.{◌≡◌, inl, inr, ℕ, ◌<◌, ◌≤◌, ◌⊎◌, List, [], ◌∷◌, ◌++◌, length, Option, Some, None, refl, sym, ◌∙◌, subst, arith}
+use Rattle.std.proofs.Common.{◌≡◌, inl, inr, ℕ, ◌<◌, ◌≤◌, ◌⊎◌, List, [], ◌∷◌, ◌++◌, length, Option, Some, sym, ◌∙◌, subst, arith}
 use Rattle.std.specs.Prelude.{codes}
 use Rattle.psg_terms.specs.Names.{Name}
 use Rattle.psg_terms.specs.Relations.{first}
@@ -8,16 +8,15 @@ use Rattle.psg_class.specs.Class.{IsClass}
 use Rattle.psg_class.specs.Refusal.{IsRefusal}
 use Rattle.psg_class.specs.declared.fault.ClassFault.{ClassFault}
 use Rattle.psg_class.specs.declared.fault.ClassFault.TheVariants as faults
-use Rattle.psg_defread.specs.Refusals.{Refusal}
 use Rattle.psg_world.specs.Files.{Held, reading, bytes_of}
 use Rattle.psg_world.specs.Sinks.{HasRisen}
 use Rattle.psg_session.specs.Replies.{feed}
 use Rattle.psg_run.specs.declared.status.Status.{Status}
 use Rattle.psg_run.specs.declared.status.Status.TheVariants as ends_with
 use Rattle.psg_run.specs.Output.{RepliesToAll}
-use Rattle.psg_run.specs.Worlds.{World, InMemory, told, Tells}
+use Rattle.psg_run.specs.Worlds.{World, InMemory, told}
 use Rattle.psg_run.specs.Causes.{HasDefinition, IsRefusalLine, IsTooLong, in_file, no_class, no_definition, most_definition_bytes, most_script_bytes, put_failed, put_in_part, put_whole}
-use Rattle.psg_run.specs.Promise.{Checks, Does, Edits, EndsEarly, Form, GoesWell, IsForm, IsRun, IsRunOf, Plays, SpentFromStart, WasRead, WritesWhole, check, edit, all_written, broken_off, is_refused, no_room, no_room_left, script_long, script_unread, source_long, source_unread, write_failed}
+use Rattle.psg_run.specs.Promise.{Checks, Does, Edits, EndsEarly, Form, GoesWell, IsRun, IsRunOf, SpentFromStart, WasRead, WritesWhole, check, edit, all_written, broken_off, is_refused, no_room, no_room_left, script_long, script_unread, source_long, source_unread, write_failed}
 
 -- a definition of the class is not refused by it
 not_of_class : (def : Definition) (fault : ClassFault) → IsClass def → IsRefusal def fault → ⊥
