@@ -1,5 +1,5 @@
 -- Files that were read, and how a run ends.
-use Rattle.std.proofs.Common.{◌≡◌, inl, inr, ℕ, ◌+◌, ◌<◌, ◌≤◌, min, List, [], length, take, Option, Some, None, Err, IfSome, refl, sym, ◌∙◌, ap, ap₂, subst, arith, append-nil}
+use Rattle.std.proofs.Common.{◌≡◌, inr, ℕ, ◌+◌, ◌<◌, ◌≤◌, min, List, [], length, take, Option, Some, None, Err, IfSome, refl, sym, ◌∙◌, ap, ap₂, subst, arith, append-nil}
 use Rattle.std.specs.FinMap as map
 use Rattle.std.proofs.lemmas.Option.{none-some}
 use Rattle.std.proofs.lemmas.List.{length-take, take_all}
@@ -12,14 +12,13 @@ use Rattle.psg_world.specs.declared.world.WriteStop.{WriteStop}
 use Rattle.psg_world.specs.declared.world.WriteStop.TheVariants as stops
 use Rattle.psg_grammar.specs.declared.types.Definition.{Definition}
 use Rattle.psg_run.specs.declared.status.Status.{Status}
-use Rattle.psg_run.specs.declared.status.Status.TheVariants as ends_with
 use Rattle.psg_run.specs.Output.{RepliesToAll, script_lines}
 use Rattle.psg_run.specs.Played.{PrintsAll, PrintsFront}
 use Rattle.psg_run.specs.Told.{none, nothing}
 use Rattle.psg_run.specs.Worlds.{World, IsQuiet, IsWithin, KeepsFiles, Tells, seen}
 use Rattle.psg_run.specs.Causes.{FailsToRead, HasAsked, HasDefinition, IsToldOf, IsTooLong, in_file, most_definition_bytes, most_script_bytes}
 use Rattle.psg_run.specs.Endings.{EndsRefused, by_line, no_memory, read_status, write_status}
-use Rattle.psg_run.specs.Promise.{EndsEarly, Edits, IsPlayed, Plays, SpentFromStart, WritesAll, WritesFront, all_written, broken_off, is_refused, no_room, no_room_left, script_unread, source_unread, write_failed}
+use Rattle.psg_run.specs.Promise.{EndsEarly, Edits, Plays, SpentFromStart, WritesAll, WritesFront, broken_off, is_refused, no_room, no_room_left, script_unread, source_unread, write_failed}
 
 whole_front : (limit : ℕ) (bytes : List ℕ) → length (front_of limit bytes) ≤ limit → front_of limit bytes ≡ bytes
 whole_front limit bytes small = take_all (limit + 1) bytes (let e : length (take (limit + 1) bytes) ≡ min (limit + 1) (length bytes) = length-take (limit + 1) bytes in omega (arith, e, small))

@@ -1,13 +1,12 @@
 -- Two runs over the same files write the same.
-use Rattle.std.proofs.Common.{◌≡◌, List, ◌++◌, Some, None, refl, sym, ◌∙◌, ap, subst}
+use Rattle.std.proofs.Common.{◌≡◌, ◌++◌, Some, None, sym, ◌∙◌, ap, subst}
 use Rattle.psg_grammar.specs.declared.types.Definition.{Definition}
 use Rattle.psg_grammar.specs.Sound.{IsSound}
 use Rattle.psg_class.specs.Class.{IsClass}
 use Rattle.psg_session.specs.Good.{IsGoodIn}
-use Rattle.psg_session.specs.PlainState.{start}
 use Rattle.psg_world.specs.Files.{bytes_of}
 use Rattle.psg_run.specs.OneOutput.{HasOneRun}
-use Rattle.psg_run.specs.Output.{Prints, RepliesToAll, script_lines}
+use Rattle.psg_run.specs.Output.{RepliesToAll, script_lines}
 use Rattle.psg_run.proofs.OneOutput.{prints_once}
 
 pub has_one_run : (def : Definition) → IsSound def → IsClass def → HasOneRun def

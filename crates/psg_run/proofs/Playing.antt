@@ -88,6 +88,9 @@ module _ (def : Definition) (s t : State) (line : List ℕ) (before after : Outs
     h.ticked.counted,
   )
 
+  pub answered_spends : HasAnswered def s t line before after from to reply → (n : ℕ) × MaySpend def s line n × (to ≤ from + n)
+  answered_spends h = let made = line_replies h in (made.0, may_spend def reply made.0 made.1, made.2)
+
   pub line_keeps : HasAnswered def s t line before after from to reply → after ≡ before
   line_keeps (to_line_nothing never state files count is) = files
   line_keeps (to_line_command command spells h) = (applied_quietly command h).1

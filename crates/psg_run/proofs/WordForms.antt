@@ -4,11 +4,11 @@ use Rattle.std.specs.Prelude.{String, string_bytes, codes}
 use Rattle.std.specs.declared.alloc.Global.{Global}
 use Rattle.psg_terms.specs.Names.{Name}
 use Rattle.psg_run.specs.declared.status.Status.{Status}
-use Rattle.psg_run.specs.declared.words.Form.{Form as Found}
 use Rattle.psg_run.specs.declared.status.Status.TheVariants as ends_with
-use Rattle.psg_run.specs.Wanted.{form_told, IsWanted}
+use Rattle.psg_run.specs.Causes.{in_file}
+use Rattle.psg_run.specs.Output.{RepliesToAll}
 use Rattle.psg_run.specs.Worlds.{World, texts_of}
-use Rattle.psg_run.specs.Promise.{Form, check, edit, HasNoForm, IsForm, IsRunOf, IsRun}
+use Rattle.psg_run.specs.Promise.{Checks, Edits, Form, check, edit, HasNoForm, IsForm, IsRunOf, IsRun, SpentFromStart}
 use Rattle.psg_run.proofs.Completing.{does_run}
 
 pub two_words : (words : List (String Global)) (a b : String Global) → 2 ≤ length words → length words < 3 → a ≡ get_or words 0 a → b ≡ get_or words 1 b
@@ -56,14 +56,23 @@ one_form words (check d) (edit e s) p q = let whole : codes "check" ∷ d ∷ []
 one_form words (edit d s) (check e) p q = let whole : codes "edit" ∷ d ∷ s ∷ [] ≡ codes "check" ∷ e ∷ [] = sym p ∙ q in cc
 one_form words (edit d s) (edit e t) p q = let whole : codes "edit" ∷ d ∷ s ∷ [] ≡ codes "edit" ∷ e ∷ t ∷ [] = sym p ∙ q in cc
 
-pub of_form : (words : List Name) (found : Found) (old new : World) (status : Status) → IsWanted words found → IsRunOf (form_told found) old new status → IsRun words old new status
-of_form words found old new status wanted ran = does_run words old new status (record {
-  of_form = λ form is. subst (λ f. IsRunOf f old new status) (one_form words (form_told found) form wanted is) ran;
-  no_form = λ never. absurd (never (form_told found) wanted);
-})
+module _ (words : List Name) where
+  of_form : (form : Form) (old new : World) (status : Status) → IsForm words form → IsRunOf form old new status → IsRun words old new status
+  of_form form old new status is ran = does_run words old new status (record {
+    of_form = λ other wanted. subst (λ f. IsRunOf f old new status) (one_form words form other is wanted) ran;
+    no_form = λ never. absurd (never form is);
+  })
+
+  pub of_check : (definition : Name) (old new : World) (status : Status) → words ≡ codes "check" ∷ definition ∷ []
+      → Checks (in_file definition) old new status → IsRun words old new status
+  of_check definition old new status is ran = of_form (check definition) old new status is ran
+
+  pub of_edit : (definition script : Name) (old new : World) (status : Status) → words ≡ codes "edit" ∷ definition ∷ script ∷ []
+      → Edits RepliesToAll SpentFromStart (in_file definition) script old new status → IsRun words old new status
+  of_edit definition script old new status is ran = of_form (edit definition script) old new status is ran
 
 pub of_no_form : (words : List Name) (w : World) → HasNoForm words → IsRun words w w ends_with.Words
 of_no_form words w never = does_run words w w ends_with.Words (record {
   of_form = λ form is. absurd (never form is);
-  no_form = λ none. (refl, (record { files = record { held = refl; entries = refl; ticks = refl }; wrote = refl }, refl));
+  no_form = λ none. (refl, record { files = record { held = refl; entries = refl; ticks = refl }; wrote = refl }, refl);
 })

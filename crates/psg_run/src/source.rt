@@ -85,10 +85,10 @@ fn end_class_fault<O: Sink>(
     if let ClassFault::Memory = fault {
         return Status::Memory;
     }
-    let Ok(line) = class_text(alloc, definition, fault) else {
+    let Ok(text) = class_text(alloc, definition, fault) else {
         return Status::Memory;
     };
-    put_line(alloc, out, line.as_str(), Status::DefinitionRefused)
+    put_line(alloc, out, text.as_str(), Status::DefinitionRefused)
 }
 
 /// Gives the definition that the text is, where it is one and is of the grammar class. Otherwise the line that says

@@ -3,7 +3,7 @@ use Rattle.psg_session.specs.Exchanges.{Outside}
 use Rattle.psg_session.specs.Sessions.{state_of}
 use Rattle.psg_session.specs.Views.{reply_of}
 use Rattle.psg_session.proofs.Options.{on_err}
-use Rattle.psg_run.proofs.Playing.{broken_keeps, broken_spends, line_keeps, line_replies, plays, plays_front, plays_nothing}
+use Rattle.psg_run.proofs.Playing.{answered_spends, broken_keeps, broken_spends, line_keeps, line_replies, plays, plays_front, plays_nothing}
 use Rattle.psg_run.proofs.play.play_line.Goals as goal
 
 pub returns-in_err-reply-clause-err : goal.returns-in_err-reply-clause-err
@@ -19,6 +19,12 @@ returns-in_err-reply-clause-holds g c =
 pub returns-in_err-reply-clause-entries : goal.returns-in_err-reply-clause-entries
 returns-in_err-reply-clause-entries g c =
     ap (λ (o : Outside). o.entries) (broken_keeps _ _ _ _ _ _ _ c.in_err-reply.ensures.broken)
+
+pub returns-in_err-text-clause-err : goal.returns-in_err-text-clause-err
+returns-in_err-text-clause-err g c =
+    on_err c.from_residual-in_err-text.result (plays_nothing c.args.session.now.language.definition
+    (state_of c.args.session.now.editor) c.args.line.now (g.O.Sink.written c.args.out.now) c.args.steps.now
+    c.apply_line.new.steps (answered_spends _ _ _ _ _ _ _ _ _ c.in_ok-reply.ensures.answered))
 
 pub returns-in_err-put_all-clause-err : goal.returns-in_err-put_all-clause-err
 returns-in_err-put_all-clause-err g c = on_err c.from_residual-in_err-put_all.result

@@ -1,4 +1,4 @@
-use Rattle.std.proofs.Common.{inl, inr, refl, ap, subst}
+use Rattle.std.proofs.Common.{inl, inr, refl, subst}
 use Rattle.std.specs.Prelude.{codes}
 use Rattle.psg_run.specs.declared.status.Status.TheVariants as ends_with
 use Rattle.psg_run.specs.Causes.{PutsLine}

@@ -1,5 +1,4 @@
 use Rattle.std.proofs.Common.{inl, inr, refl, ap, subst}
-use Rattle.psg_run.specs.declared.status.Status.TheVariants as ends_with
 use Rattle.psg_run.specs.Output.{RepliesToAll}
 use Rattle.psg_run.specs.Promise.{Plays, SpentFromStart, no_room_left}
 use Rattle.psg_run.specs.Worlds.{World, seen}

@@ -1,6 +1,5 @@
 use Rattle.std.proofs.Common.{rules, ◌≡◌}
 use Rattle.psg_deflines.specs.FaultText.{fault_text}
-use Rattle.psg_defread.specs.Refusals.{IsReadFault}
 use Rattle.psg_run.specs.Causes.{no_definition}
 use Rattle.psg_run.specs.Endings.{by_line}
 use Rattle.psg_run.proofs.source.end_fault.Goals as goal

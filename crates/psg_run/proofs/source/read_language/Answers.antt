@@ -1,6 +1,6 @@
 use Rattle.std.proofs.Common.{◌<◌, ◌≤◌, length, refl, subst}
 use Rattle.psg_run.specs.declared.limits.TheConstants.{MOST_DEFINITION_BYTES}
-use Rattle.psg_run.specs.Causes.{IsAccepted, in_file}
+use Rattle.psg_run.specs.Causes.{IsAccepted}
 use Rattle.psg_run.specs.Endings.{EndsRefused}
 use Rattle.psg_run.specs.Promise.{source_long}
 use Rattle.psg_run.specs.Worlds.{seen}
