@@ -1,7 +1,8 @@
 -- The exit status of the process, for each way in which a run ends.
 use Rattle.std.specs.Prelude.{ℕ}
 use Rattle.psg_run.specs.declared.status.Status.{Status}
-use Rattle.psg_run.specs.declared.status.Status.TheVariants.{Done, DefinitionRefused, Words, ReadFault, WriteFault, Memory, TooLong}
+use Rattle.psg_run.specs.declared.status.Status.TheVariants.{Done, DefinitionRefused, Words, ReadFault, WriteFault}
+use Rattle.psg_run.specs.declared.status.Status.TheVariants.{Memory, TooLong}
 
 abbrev pub code_of : Status → ℕ
 code_of Done = 0

@@ -20,7 +20,8 @@ pub record HasOneOutput (def : Definition) (IsGood : Fragment → Type 0) : Type
       → Prints def IsGood s (take n lines) [] None a t → Prints def IsGood s lines [] None b u → IsFrontOf a b
   -- the same where the files are asked, with the first of the answers, and where an answer is wanting
   pub with_answers : (s : State) (lines : List (List ℕ)) (n : ℕ) (exchanges more : List Exchange)
-      (unanswered : Option Asked) (a b : List ℕ) (t u : State) → Prints def IsGood s (take n lines) exchanges unanswered a t
+      (unanswered : Option Asked) (a b : List ℕ) (t u : State)
+      → Prints def IsGood s (take n lines) exchanges unanswered a t
       → Prints def IsGood s lines (exchanges ++ more) None b u → IsFrontOf a b
 
 -- Two runs that played one script to its end over files that held the same, and whose commands got the same answers,

@@ -16,7 +16,8 @@ use Rattle.psg_run.specs.Told.{Exchange}
 use Rattle.psg_run.specs.Output.{script_lines, RepliesToAll}
 use Rattle.psg_run.specs.Spends.{HasSpent}
 use Rattle.psg_run.specs.Worlds.{World, InMemory, told, IsFrontOf, IsQuiet, IsWithin, Wrote}
-use Rattle.psg_run.specs.Causes.{FailsToRead, HasAsked, HasDefinition, IsOfSource, IsRefusalLine, IsSourceLong, IsTooLong, SaysLine, Source, SourceFails, in_file, most_script_bytes}
+use Rattle.psg_run.specs.Causes.{FailsToRead, HasAsked, HasDefinition, IsOfSource, IsRefusalLine, IsSourceLong}
+use Rattle.psg_run.specs.Causes.{IsTooLong, SaysLine, Source, SourceFails, in_file, most_script_bytes}
 
 -- What the words ask for.
 pub data Form : Type 0 where

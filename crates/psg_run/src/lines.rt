@@ -22,7 +22,8 @@ fn first_feed(bytes: &[u8]) -> Option<usize>
 pub fn cut_line(bytes: &[u8]) -> Cut<'_>
     requires { 0 < length bytes.now }
     ensures shorter { length result.rest.now < length bytes.now }
-    ensures lines { kept_lines (slice_split is_feed bytes.now) ≡ kept_lines (result.line.now ∷ slice_split is_feed result.rest.now) }
+    ensures lines { kept_lines (slice_split is_feed bytes.now)
+        ≡ kept_lines (result.line.now ∷ slice_split is_feed result.rest.now) }
 {
     match first_feed(bytes) {
         Some(end) => Cut {
