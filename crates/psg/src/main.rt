@@ -30,7 +30,13 @@ Commands of a script, one a line; a path is / or /0/1, or . for the node that wa
   cut PATH              a placeholder, or an empty list, in place of the node
   remove PATH K         the list without the element
   close PATH, reopen PATH   the list finished; unfinished again
+  over PATH TEXT        the program that the text spells, in place of the node
+  undo, redo            the version before the last change; the one after it
+  save NAME PATH        keeps the tree at the path under the name
+  paste PATH NAME       the saved tree in place of a placeholder or an empty list; paste PATH K NAME into a list
   show                  the program, and then the mark: ok, or wrong with the paths of what goes wrong
+  screen TOP LEFT ROWS COLS   a window of the program's text
+  goto PATH             the node is where . is; its kind, its operator and its place in the text
   own PATH              what the node can mean: a line for each value, with its names' entities
   free                  the names that may be declared outside
 
