@@ -5,7 +5,7 @@ ghost use Rattle.std.specs.Prelude.{◌≡◌, ◌<◌};
 
 use psg_run::{Status, run};
 use psg_terms::Steps;
-use psg_world::{Files, HostFiles, HostSink, Sink, WriteStop, put_all};
+use psg_world::{Files, HostFiles, HostSink, Input, ReaderInput, Sink, WriteStop, put_all};
 use std::alloc::Global;
 use std::env;
 use std::io::ErrorKind;
@@ -20,8 +20,16 @@ const HELP: &str = "psg: editors of small languages, from their definitions
                         with a fault and the number of the fault, or the first condition of the grammar that fails
   psg edit DEF SCRIPT   reads the definition of a language from the file DEF, and runs each line of the file
                         SCRIPT as a command of an editor of it; the replies go to standard output
+  psg live DEF          does the same with the lines of standard input; each reply is written before the next line
+                        is read
   psg --help            writes this text
   psg --version         writes the version
+
+By the launcher ./psg alone:
+  ./psg codes           writes what the numbers and names of replies mean; ./psg codes 12 those of one, with an example
+  ./psg commands        writes the commands with their replies and refusals
+  ./psg --explain WORDS..   says on standard error, in words, what is refused; without the word where that is a terminal
+  ./psg --build         proves the program and builds it
 
 Commands of a script, one a line; a path is / or /0/1, or . for the node that was changed last:
   new KIND              a new program: a placeholder of the phylum, or an empty list
@@ -34,14 +42,17 @@ Commands of a script, one a line; a path is / or /0/1, or . for the node that wa
   undo, redo            the version before the last change; the one after it
   save NAME PATH        keeps the tree at the path under the name
   paste PATH NAME       the saved tree in place of a placeholder or an empty list; paste PATH K NAME into a list
+  keep NAME FILE        writes the saved tree of the name to the file
+  fetch FILE            saves the tree that the file keeps, under the name that stands there
   show                  the program, and then the mark: ok, or wrong with the paths of what goes wrong
   screen TOP LEFT ROWS COLS   a window of the program's text
   goto PATH             the node is where . is; its kind, its operator and its place in the text
   own PATH              what the node can mean: a line for each value, with its names' entities
+  relation PATH         what the node can mean in the completions of the program
   free                  the names that may be declared outside
 
-Exit status: 0 done, 1 the definition is refused, 2 these words have no form, 3 a file can't be read,
-4 the output can't be written, 5 out of memory, 6 a file is too long.
+Exit status: 0 done, 1 the definition is refused, 2 these words have no form, 3 a file or standard input can't be
+read, 4 the output can't be written, 5 out of memory, 6 a file is too long.
 ";
 
 /// What `--version` writes.
@@ -57,10 +68,11 @@ fn tell<O: Sink>(alloc: Global, out: &mut O, text: &str) -> Status {
 }
 
 /// Does what the words behind the program's name say.
-fn answer<F: Files, O: Sink, L: Ledger>(
+fn answer<F: Files, I: Input, O: Sink, L: Ledger>(
     alloc: Global,
     words: &[String],
     files: &mut F,
+    input: &mut I,
     out: &mut O,
     ledger: Blank,
 ) -> Status
@@ -76,7 +88,7 @@ fn answer<F: Files, O: Sink, L: Ledger>(
         }
     }
     let mut steps = Steps::<L>::of(ledger);
-    run(alloc, words, files, out, &mut steps)
+    run(alloc, words, files, input, out, &mut steps)
 }
 
 fn main(rt: HostRuntime) -> ExitCode {
@@ -93,11 +105,13 @@ fn main(rt: HostRuntime) -> ExitCode {
         return ExitCode::from(Status::Memory.code());
     };
     let mut files = HostFiles::new(alloc, &rt);
+    let mut input = ReaderInput::new(alloc, rt.reader());
     let mut out = HostSink::new(&rt);
-    let status = answer::<_, _, Brand>(
+    let status = answer::<_, _, _, Brand>(
         alloc,
         words.as_slice(),
         &mut files,
+        &mut input,
         &mut out,
         Blank::new(1),
     );

@@ -64,7 +64,7 @@ other = refl
 
 -- two elements go wrong by themselves, so the list above them is none of the culprits
 abbrev known : List (List Term) → Known
-known rows = record { kind = kinds.List 1; header = record { names = []; unfinished = []; twice = false }; report = false; rel = rows }
+known rows = record { kind = kinds.List 1; header = record { names = []; unfinished = []; twice = false }; seen = 0; rel = rows }
 
 abbrev leaf : List (List Term) → Annotated
 leaf rows = topped (hole 2) (known rows) [] 0

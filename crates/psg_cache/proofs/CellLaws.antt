@@ -1,5 +1,5 @@
 -- The summaries of a list's cells, made from the last to the first in front of a suffix.
-use Rattle.std.proofs.Common.{◌≡◌, ◌⊎◌, inl, inr, ℕ, zero, suc, ◌+◌, ◌-◌, ◌<◌, ◌≤◌, ◌||◌, Bool, false, List, [], ◌∷◌, ◌++◌, length, drop, take, get_or, slice_get, Some, None, refl, sym, ◌∙◌, ap, ap₂, subst, drop-cons, arith}
+use Rattle.std.proofs.Common.{◌≡◌, ◌⊎◌, inl, inr, ℕ, zero, suc, ◌+◌, ◌-◌, ◌<◌, ◌≤◌, Bool, List, [], ◌∷◌, ◌++◌, length, drop, take, get_or, slice_get, Some, None, refl, sym, ◌∙◌, ap, ap₂, subst, drop-cons, arith}
 use Rattle.std.specs.Prelude.{Result, Ok, IfOk, reverse}
 use Rattle.std.specs.List.{AllByRecursion}
 use Rattle.std.proofs.lemmas.List.{drop_all, length-append, reverse-append, reverse-reverse, take-append-drop}
@@ -18,7 +18,6 @@ use Rattle.psg_cache.specs.Noted.{AreOfSuffixes, IsOfCells}
 use Rattle.psg_cache.specs.Renoting.{AreOfCells, cells_of, first_or, IsCellsFault, TakesCells}
 use Rattle.psg_cache.specs.Walks.{AreListed, IsAnswerFault, IsClean, IsStepFault}
 use Rattle.psg_cache.proofs.Each.{each_append, each_at, same_some}
-use Rattle.psg_cache.proofs.Evaluations.{none_reporting}
 use Rattle.psg_cache.proofs.StepLaws.{clean-append, fault-left, fault-behind, own_clean, own_fault}
 
 -- ---- the last summary that was made
@@ -76,7 +75,6 @@ module _ (def : Definition) where
   pub record IsSuffix (l : ℕ) (s : Known) : Type 0 where
     pub usual : IsSummary def s
     pub kind : s.kind ≡ kinds.List l
-    pub silent : s.report ≡ false
 
   pub usual_suffixes : (l : ℕ) (ss : List Known) → AllByRecursion (IsSuffix l) ss → AllByRecursion (IsSummary def) ss
   usual_suffixes l [] h = tt
@@ -86,7 +84,7 @@ module _ (def : Definition) where
       → (ss : List Known) → AllByRecursion (IsSuffix l) ss → IsSuffix l (first_or behind ss)
   first_suffix l elements behind takes ss h =
       first_holds (IsSuffix l) behind ss
-      (record { usual = takes.usual.0; kind = takes.rest_kind; silent = takes.silent.0 }) h
+      (record { usual = takes.usual.0; kind = takes.rest_kind }) h
 
   -- ---- none, one more, and all
 
@@ -169,8 +167,6 @@ module _ (def : Definition) where
   cell_takes l elements behind takes now element rest made small at latest h =
       let it : IsSuffix l rest =
       subst (IsSuffix l) (sym latest) (first_suffix l elements behind takes (reverse made) h) in
-      let quiet = each_at (λ (s : Known). s.report ≡ false) elements now element takes.silent.1 small at in
-      let zero_reports = none_reporting def (element ∷ rest ∷ []) (quiet, (it.silent, tt)) in
       record {
         list = takes.list;
         found = takes.found;
@@ -179,7 +175,6 @@ module _ (def : Definition) where
             small at;
         rest_kind = it.kind;
         summaries = (each_at (IsSummary def) elements now element takes.usual.1 small at, (it.usual, tt));
-        reported = omega (arith, zero_reports);
       }
 
   pub cell_answers : (l : ℕ) (element rest s : Known) (answer : Result Known EvalFault)
@@ -203,35 +198,18 @@ module _ (def : Definition) where
       subst (λ bs. AreOfCells def l bs behind (reverse longer)) (sym split)
       (subst (λ ss. AreOfCells def l (element ∷ drop left elements) behind ss) (sym turned) here)
 
-  pub suffixes_more : (l : ℕ) (element rest s : Known) (answer : Result Known EvalFault) (made longer : List Known)
-      → element.report ≡ false → rest.report ≡ false → longer ≡ made ++ s ∷ [] → answer ≡ Ok s
+  pub suffixes_more : (l : ℕ) (s : Known) (answer : Result Known EvalFault) (made longer : List Known)
+      → longer ≡ made ++ s ∷ [] → answer ≡ Ok s
       → IfOk answer (IsSummary def) → IfOk answer (λ (x : Known). x.kind ≡ kinds.List l)
-      → IfOk answer (λ (x : Known). x.report ≡ (element.report || rest.report))
       → AllByRecursion (IsSuffix l) (reverse made) → AllByRecursion (IsSuffix l) (reverse longer)
-  suffixes_more l element rest s answer made longer quiet silent more is usual kind report h =
+  suffixes_more l s answer made longer more is usual kind h =
       let U : Result Known EvalFault → Type 0 = λ x. IfOk x (IsSummary def) in
       let K : Result Known EvalFault → Type 0 = λ x. IfOk x (λ (k : Known). k.kind ≡ kinds.List l) in
-      let R : Result Known EvalFault → Type 0 =
-      λ x. IfOk x (λ (k : Known). k.report ≡ (element.report || rest.report)) in
-      let told : s.report ≡ (element.report || rest.report) = subst R is report in
       let it : IsSuffix l s = record {
         usual = subst U is usual;
         kind = subst K is kind;
-        silent = told ∙ ap₂ (λ a b. a || b) quiet silent;
       } in
       subst (AllByRecursion (IsSuffix l)) (sym (ap reverse more ∙ reverse_push made s)) (it, h)
-
-  pub element_quiet : (l : ℕ) (elements : List Known) (behind : Known) → TakesCells def l elements behind
-      → (now : ℕ) (element : Known) → now < length elements → element ≡ get_or elements now element
-      → element.report ≡ false
-  element_quiet l elements behind takes now element small at =
-      each_at (λ (s : Known). s.report ≡ false) elements now element takes.silent.1 small at
-
-  pub rest_quiet : (l : ℕ) (elements : List Known) (behind : Known) → TakesCells def l elements behind
-      → (rest : Known) (made : List Known) → rest ≡ first_or behind (reverse made)
-      → AllByRecursion (IsSuffix l) (reverse made) → rest.report ≡ false
-  rest_quiet l elements behind takes rest made latest h =
-      ap (λ (s : Known). s.report) latest ∙ (first_suffix l elements behind takes (reverse made) h).silent
 
   -- ---- what the cells are, and the fault of one
 

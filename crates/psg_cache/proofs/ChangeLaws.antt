@@ -8,10 +8,10 @@ use Rattle.psg_grammar.specs.declared.types.Definition.{Definition}
 use Rattle.psg_grammar.specs.Fragments.{Fragment, hole, ending, cell, operator, with_child, with_name, with_number, with_text, anything, observed, children_of, top_operator}
 use Rattle.psg_grammar.specs.Paths.{Path, node_at, change_at, put_child, inserted, removed, IsList}
 use Rattle.psg_grammar.specs.Steps.{steps_of}
-use Rattle.psg_grammar.specs.Work.{climb_of, leaving, work_of}
+use Rattle.psg_grammar.specs.Work.{climb_of, leaving}
 use Rattle.psg_grammar.specs.declared.types.Kind.TheVariants as kinds
 use Rattle.psg_tree.specs.Edits.{IsInserted, IsInsertFault, IsRemoved, IsRemoveFault}
-use Rattle.psg_tree.specs.Faults.{IsReplaced, IsReplaceFault}
+use Rattle.psg_tree.specs.Faults.{IsReplaceFault}
 use Rattle.psg_tree.specs.declared.places.TreeFault.{TreeFault}
 use Rattle.psg_tree.specs.declared.places.TreeFault.TheVariants as trees
 use Rattle.psg_cache.specs.declared.editing.Edit.{Edit}
@@ -20,12 +20,12 @@ use Rattle.psg_cache.specs.declared.note.NoteFault.{NoteFault}
 use Rattle.psg_eval.specs.declared.summary.Known.{Known}
 use Rattle.psg_eval.specs.Trees.{own_names}
 use Rattle.psg_cache.specs.Annotated.{Annotated, tree_in, whole_in, below_in}
-use Rattle.psg_cache.specs.Changes.{change_of, ticks_of, remade_ticks, IsAdded, IsKept, IsPlace, IsPut, IsTaken, TakesEdit}
+use Rattle.psg_cache.specs.Changes.{change_of, remade_ticks, IsAdded, IsKept, IsPlace, IsPut, IsTaken, TakesEdit}
 use Rattle.psg_cache.specs.Noted.{IsNoted, IsNotedAs}
 use Rattle.psg_cache.specs.Edits.{MayInsert, MayRemove, MayReplace}
 use Rattle.psg_cache.specs.Notes.{IsFormed, IsNoteOf}
 use Rattle.psg_cache.specs.Shaped.{IsShaped}
-use Rattle.psg_cache.proofs.ShapedTrees.{changed_shaped, inserted_shaped, kind_once, removed_shaped, replaced_shaped, shape_is_kind}
+use Rattle.psg_cache.proofs.ShapedTrees.{changed_shaped, inserted_shaped, kind_once, removed_shaped, shape_is_kind}
 use Rattle.psg_cache.specs.Walks.{AreNotesOf, IsStepFault}
 use Rattle.psg_cache.proofs.Carrying.{names-put, top-put}
 use Rattle.psg_cache.proofs.ClimbLaws.{change-put}
@@ -42,7 +42,7 @@ each_take P zero xs h = tt
 each_take P (suc k) [] h = tt
 each_take P (suc k) (x ∷ xs) h = (h.0, each_take P k xs h.1)
 
-got_behind : (xs : List Fragment) (k : ℕ) (y : Fragment) (ys : List Fragment) → k ≤ length xs
+pub got_behind : (xs : List Fragment) (k : ℕ) (y : Fragment) (ys : List Fragment) → k ≤ length xs
     → slice_get (take k xs ++ y ∷ ys) k ≡ Some y
 got_behind xs zero y ys small = refl
 got_behind [] (suc k) y ys small = absurd (omega (arith, small))
@@ -61,7 +61,7 @@ noted_there def (m ∷ ns) zero n h small at = subst (IsNoted def) (sym at) h.0
 noted_there def (m ∷ ns) (suc k) n h small at = noted_there def ns k n h.1 (omega (arith, small)) at
 
 -- the child at the first step, and the node behind it
-first_step : (path : Path) (o : Option Fragment) (x : Fragment) → option_and_then (λ t. node_at t path) o ≡ Some x
+pub first_step : (path : Path) (o : Option Fragment) (x : Fragment) → option_and_then (λ t. node_at t path) o ≡ Some x
     → (c : Fragment) × (o ≡ Some c) × (node_at c path ≡ Some x)
 first_step path None x e = absurd (none-some x e)
 first_step path (Some c) x e = (c, refl, e)
@@ -92,7 +92,7 @@ module _ (def : Definition) where
   below_length n h = sym (length-map (below_in n) tree_in) ∙ ap length (own_notes n h).0
 
   -- the fault of a new child behind the first ones of the old node
-  new_fault : (path : Path) (n : Annotated) (made : Fragment) (k : ℕ) (child : Fragment) (back : List Fragment)
+  pub new_fault : (path : Path) (n : Annotated) (made : Fragment) (k : ℕ) (child : Fragment) (back : List Fragment)
       (fault : NoteFault) → IsNoted def n → IsFormed def (tree_in n) → IsFormed def made
       → k ≤ length (children_of (tree_in n)) → children_of made ≡ take k (children_of (tree_in n)) ++ child ∷ back
       → IsStepFault def (steps_of def (path ++ k ∷ []) child) fault → IsStepFault def (steps_of def path made) fault
@@ -103,6 +103,19 @@ module _ (def : Definition) where
       child_fault def path (path ++ k ∷ []) made (real def made formed) (take k cs) back child fault children
       (ap (λ j. path ++ j ∷ []) (sym (length-take-le k cs small)))
       (notes_clean def path 0 (take k cs) (take k (below_in n)) each front) f
+
+  pub own_trees : (n : Annotated) → IsNoted def n → map tree_in (below_in n) ≡ children_of (tree_in n)
+  own_trees n h = (own_notes n h).0
+
+  pub below_noted : (n : Annotated) (k : ℕ) (c : Annotated) → IsNoted def n → k < length (below_in n)
+      → c ≡ get_or (below_in n) k c → IsNoted def c
+  below_noted n k c noted small at = noted_there def (below_in n) k c (own_notes n noted).1 small at
+
+  pub below_formed : (n : Annotated) (k : ℕ) (c : Annotated) → IsNoted def n → IsFormed def (tree_in n)
+      → k < length (below_in n) → c ≡ get_or (below_in n) k c → IsFormed def (tree_in c)
+  below_formed n k c noted formed small at =
+      each_got (IsFormed def) (children_of (tree_in n)) k (tree_in c) (formed_children def (tree_in n) formed)
+      (ap (λ xs. slice_get xs k) (sym (own_notes n noted).0) ∙ got_map (below_in n) k c small at)
 
   -- ---- one more element
 
@@ -331,16 +344,17 @@ module _ (def : Definition) where
 
   -- ---- the changes of a node
 
-  pub edit_put : (n : Annotated) (edit : Edit) (new made : Fragment) → edit ≡ edits.Put new
-      → IsPlace def n [] edit made → (made ≡ new) × (work_of made ≡ ticks_of edit)
-  edit_put n edit new made is h =
-      let same : made ≡ new = h.changed ∙ ap (λ e. change_of e (tree_in n)) is in
-      (same, ap work_of same ∙ sym (ap ticks_of is))
-
   here : (n : Annotated) (edit : Edit) (made : Fragment) → (h : IsPlace def n [] edit made)
       → TakesEdit def edit (tree_in n)
   here n edit made h = let same : tree_in n ≡ h.node = same_some (tree_in n) h.node h.there in
       subst (TakesEdit def edit) (sym same) h.takes
+
+  pub edit_put : (n : Annotated) (edit : Edit) (new : Annotated) (made : Fragment) → edit ≡ edits.Put new
+      → IsPlace def n [] edit made → IsNotedAs def made new
+  edit_put n edit new made is h =
+      let same : made ≡ tree_in new = h.changed ∙ ap (λ e. change_of e (tree_in n)) is in
+      let takes : IsNoted def new = subst (λ e. TakesEdit def e (tree_in n)) is (here n edit made h) in
+      (sym same, takes)
 
   pub edit_add : (n : Annotated) (edit : Edit) (place : ℕ) (new made : Fragment) → edit ≡ edits.Add place new
       → IsPlace def n [] edit made → IsAdded def n place new made
@@ -488,22 +502,6 @@ module _ (def : Definition) where
       ∙ ap (λ o. leaving (tree_in n) k + unwrap_or (option_map (λ t. climb_of t rest) o) 0) mine
 
   -- ---- what the commands ask for
-
-  pub place_put : (n : Annotated) (path : Path) (new made : Fragment) → IsNoteOf def (tree_in n) n
-      → MayReplace def (tree_in n) path new → IsReplaced (tree_in n) path new made
-      → IsPlace def n path (edits.Put new) made
-  place_put n path new made note may is =
-      let (kind, shaped) = note.formed in
-      let whole = replaced_shaped def (tree_in n) kind path may.node new may.kind shaped may.there may.of_kind may.shaped in
-      record {
-        noted = note.noted;
-        formed_old = note.formed;
-        formed = (kind, subst (λ x. IsShaped def x kind) (sym is.1) whole);
-        node = may.node;
-        there = may.there;
-        takes = tt;
-        changed = is.1;
-      }
 
   pub place_add : (n : Annotated) (path : Path) (place : ℕ) (new made : Fragment) → IsNoteOf def (tree_in n) n
       → MayInsert def (tree_in n) path place new → IsInserted (tree_in n) path place new made

@@ -21,7 +21,7 @@ use Rattle.psg_cache.specs.Walks.{top_evaluations}
 abbrev pub together : List Fragment → ℕ
 together cs = sum_by work_of cs
 
-work_split : (f : Fragment) → work_of f ≡ together (children_of f) + top_evaluations f
+pub work_split : (f : Fragment) → work_of f ≡ together (children_of f) + top_evaluations f
 work_split (hole p) = refl
 work_split (ending l u) = refl
 work_split (cell l e r) =
@@ -79,7 +79,7 @@ list_once def s l es u f below e there are =
 
 -- ---- of a walk
 
-together_front : (cs : List Fragment) (i : ℕ) → together (take i cs) ≤ together cs
+pub together_front : (cs : List Fragment) (i : ℕ) → together (take i cs) ≤ together cs
 together_front cs zero = omega arith
 together_front [] (suc i) = omega arith
 together_front (c ∷ cs) (suc i) =

@@ -1,6 +1,5 @@
 -- What a node's summary is made of: names and children of the kinds of its items.
-use Rattle.std.proofs.Common.{◌≡◌, inl, inr, ℕ, ◌+◌, false, cond, List, [], ◌∷◌, ◌++◌, map, length, slice_get, Some, refl, sym, ◌∙◌, ap, ap₂, subst, append_assoc, append-nil, arith}
-use Rattle.std.proofs.lemmas.Bool.{or_from}
+use Rattle.std.proofs.Common.{◌≡◌, inl, inr, ℕ, ◌+◌, List, [], ◌∷◌, ◌++◌, map, length, slice_get, Some, refl, sym, ◌∙◌, ap, ap₂, subst, append_assoc, append-nil}
 use Rattle.std.specs.List.{AllByRecursion}
 use Rattle.std.proofs.Common.{length-append}
 use Rattle.psg_grammar.specs.declared.types.Kind.{Kind}
@@ -16,26 +15,13 @@ use Rattle.psg_tree.specs.declared.tree.Part.{Part}
 use Rattle.psg_tree.specs.declared.tree.Part.TheVariants.{Sub, Name as Named, Number, Text}
 use Rattle.psg_tree.specs.Shapes.{with_part, with_parts}
 use Rattle.psg_eval.specs.declared.summary.Known.{Known}
-use Rattle.psg_eval.specs.Trees.{HasParts, IsNode, own_names, reports}
+use Rattle.psg_eval.specs.Trees.{HasParts, IsNode, own_names}
 use Rattle.psg_grammar.specs.Kinds.{IsOfKind}
-use Rattle.psg_eval.specs.Summaries.{AllSummaries, IsSummary, IsSummaryOf, slot_kinds, are_names, reporting, TakesAt}
+use Rattle.psg_eval.specs.Summaries.{AllSummaries, IsSummary, IsSummaryOf, slot_kinds, are_names, TakesAt}
 use Rattle.psg_cache.specs.Shaped.{HasShape}
 use Rattle.psg_cache.specs.Walks.{names_in}
 use Rattle.psg_cache.proofs.Each.{same_some}
-use Rattle.psg_cache.proofs.RealTrees.{IsReal, IsSpine}
-
--- nothing is reported in such a tree
-pub quiet : (f : Fragment) → IsReal f → reports f ≡ false
-quiet (hole p) real = refl
-quiet (ending l u) real = refl
-quiet (cell l e r) real = or_from (reports e) (reports r) (quiet e real.0) (quiet r real.1)
-quiet (operator o) real = refl
-quiet (with_child f t) real = or_from (reports f) (reports t) (quiet f real.0) (quiet t real.1)
-quiet (with_name f n) real = quiet f real.0
-quiet (with_number f n) real = quiet f real.0
-quiet (with_text f t) real = quiet f real.0
-quiet anything real = absurd real
-quiet (observed f) real = absurd real
+use Rattle.psg_cache.proofs.RealTrees.{IsSpine}
 
 -- the names of a node with parts
 own_part : (f : Fragment) (p : Part) → own_names (with_part f p) ≡ own_names f ++ names_in (p ∷ [])
@@ -113,7 +99,7 @@ module _ (def : Definition) where
       → HasParts def f more
   has_parts (operator o) more kind (op, found, e, k) plain s = (op, found, e)
   has_parts (with_child f t) more kind (k, hf, ht) plain s =
-      (k, has_parts f (items.Slot k ∷ more) kind hf plain.0 s, kind_fits t [] k ht plain.1)
+      (k, has_parts f (items.Slot k ∷ more) kind hf plain.0 s)
   has_parts (with_name f n) more kind (inl (a, h), name) plain s =
       inl (a, has_parts f (items.Refers a ∷ more) kind h plain s)
   has_parts (with_name f n) more kind (inr (a, h), name) plain s =
@@ -321,35 +307,16 @@ module _ (def : Definition) where
   has_items anything more kind h plain s = absurd s
   has_items (observed f) more kind h plain s = absurd s
 
-  all_quiet : (cs : List Fragment) (summaries : List Known) → AllByRecursion IsReal cs → AllSummaries def cs summaries
-      → AllByRecursion (λ (s : Known). s.report ≡ false) summaries
-  all_quiet [] [] real s = tt
-  all_quiet [] (x ∷ xs) real s = absurd s
-  all_quiet (c ∷ cs) [] real s = absurd s
-  all_quiet (c ∷ cs) (x ∷ xs) real s = (s.0.report ∙ quiet c real.0, all_quiet cs xs real.1 s.1)
-
-  pub none_reporting : (summaries : List Known) → AllByRecursion (λ (s : Known). s.report ≡ false) summaries
-      → length (reporting def summaries) ≡ 0
-  none_reporting [] h = refl
-  none_reporting (x ∷ xs) h =
-      ap (λ b. length (cond b (x ∷ reporting def xs) (reporting def xs))) h.0 ∙ none_reporting xs h.1
-
-  pub quiet_children : (cs : List Fragment) (summaries : List Known) → AllByRecursion IsReal cs
-      → AllSummaries def cs summaries → AllByRecursion (λ (s : Known). s.report ≡ false) summaries
-  quiet_children cs summaries real s = all_quiet cs summaries real s
-
   -- an operator takes the names and children of its node
   pub takes_at : (o : ℕ) (ps : List Part) (f : Fragment) (kind : Kind) → with_parts (operator o) ps ≡ f
-      → HasShape def f [] kind → IsPlain f → AllByRecursion IsReal (children_of f)
-      → (summaries : List Known) → AllSummaries def (children_of f) summaries
+      → HasShape def f [] kind → IsPlain f → (summaries : List Known) → AllSummaries def (children_of f) summaries
       → AllByRecursion (IsSummary def) summaries → TakesAt def o (names_in ps) summaries
-  takes_at o ps f kind made fits plain real summaries are usual =
+  takes_at o ps f kind made fits plain summaries are usual =
       let spine : IsSpine f = subst IsSpine made (spine_parts (operator o) ps tt) in
       let h = has_items f [] kind fits plain spine in
       let number : h.number ≡ o = same_some h.number o
       (sym h.top ∙ ap top_operator (sym made) ∙ top_parts (operator o) ps) in
-      let whole : part_items h.op.items ≡ h.done = h.all ∙ append-nil h.done in
-      let none = none_reporting summaries (all_quiet (children_of f) summaries real are) in (
+      let whole : part_items h.op.items ≡ h.done = h.all ∙ append-nil h.done in (
         h.op,
         subst (λ n. slice_get def.operators n ≡ Some h.op) number h.found,
         record {
@@ -360,7 +327,6 @@ module _ (def : Definition) where
               kinds_known (children_of f) h.child_kinds summaries h.children are ∙ sym h.slots
               ∙ ap (slot_kinds def) (sym whole) ∙ slots-parts h.op.items;
           summaries = usual;
-          reported = omega (arith, none);
         },
       )
 

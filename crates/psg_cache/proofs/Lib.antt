@@ -31,3 +31,11 @@ pub mod ChangeLaws
 pub mod MarkLaws
 pub mod ClimbLaws
 mod Cases
+pub mod PairLaws
+pub mod AlikeLaws
+pub mod RenoteLaws
+pub mod JoinLaws
+pub mod ExchangeLaws
+pub mod FrameParts
+pub mod NoteFraming
+pub mod Completed

@@ -19,9 +19,8 @@ use Rattle.psg_cache.specs.Shaped.{HasShape, IsShaped}
 use Rattle.psg_cache.specs.Walks.{AreListed, IsAnswerFault, IsStepFault, IsListFault, IsListTopped, TakesElements, top_steps}
 use Rattle.psg_cache.proofs.CellLaws.{cells_end, listed_front, usual_front}
 use Rattle.psg_cache.proofs.Each.{same_some}
-use Rattle.psg_cache.proofs.RealTrees.{IsReal}
 use Rattle.psg_cache.proofs.StepLaws.{fault-left, own_clean, own_fault}
-use Rattle.psg_cache.proofs.Evaluations.{kind_known, quiet_children}
+use Rattle.psg_cache.proofs.Evaluations.{kind_known}
 
 module _ (def : Definition) where
   pub answered_ok : (f : Fragment) (r : Result Known EvalFault) (s : Known) → Answers def f r → r ≡ Ok s
@@ -81,7 +80,6 @@ module _ (def : Definition) where
         found = takes.found;
         element_kinds = takes.element_kinds;
         rest_kind = known.0.kind;
-        silent = (known.0.report, takes.silent);
         usual = (usual_ok answer end usual is, takes.usual);
       }
 
@@ -137,9 +135,9 @@ module _ (def : Definition) where
       (kind_known def x (kinds.Phylum p) y h.0.0 h.0.1 s.0, element_kinds p xs ys h.1 s.1)
 
   pub list_takes : (l : ℕ) (es : List Fragment) (u : Bool) (kind : Kind) (elements : List Known)
-      → IsShaped def (list_of l es u) kind → AllByRecursion IsReal es → AllSummaries def es elements
+      → IsShaped def (list_of l es u) kind → AllSummaries def es elements
       → AllByRecursion (IsSummary def) elements → TakesElements def l u elements
-  list_takes l es u kind elements w real are usual =
+  list_takes l es u kind elements w are usual =
       let (own, found) = known_list l es u kind w in
       let (may_end, parts) = list_parts l own es u kind found w in
       record {
@@ -149,6 +147,5 @@ module _ (def : Definition) where
         trees = es;
         summaries_of = are;
         element_kinds = element_kinds own.element es elements parts are;
-        silent = quiet_children def es elements real are;
         usual = usual;
       }

@@ -108,7 +108,7 @@ no_rows s good h e = go s.rel refl where
 
 blamed_empty : (s : Known) (path : Path) (below : List Path) → s.rel ≡ [] → blamed_at s path below ≡ or_itself path below
 blamed_empty s path below e =
-    ap (λ r. blamed_at (record { kind = s.kind; header = s.header; report = s.report; rel = r }) path below) e
+    ap (λ r. blamed_at (record { kind = s.kind; header = s.header; seen = s.seen; rel = r }) path below) e
 
 none_more : {X : Type 0} (start more found : List X) → found ≡ start ++ more → length found ≡ length start → more ≡ []
 none_more start [] found e n = refl

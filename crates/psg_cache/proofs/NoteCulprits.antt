@@ -48,11 +48,11 @@ pub blamed-rows : (s : Known) (path : Path) (below : List Path) → (s.rel ≡ [
 blamed-rows s path below h = go s.rel refl where
   go : (rows : List (List Term)) → s.rel ≡ rows → blamed_at s path below ≡ []
   go [] e = absurd (h e)
-  go (row ∷ rows) e = ap (λ r. blamed_at (record { kind = s.kind; header = s.header; report = s.report; rel = r }) path below) e
+  go (row ∷ rows) e = ap (λ r. blamed_at (record { kind = s.kind; header = s.header; seen = s.seen; rel = r }) path below) e
 
 pub rows-blamed : (s : Known) (path : Path) (below : List Path) → blamed_at s path below ≡ [] → s.rel ≡ [] → ⊥
 rows-blamed s path below e empty =
-    some_itself path below (sym (ap (λ r. blamed_at (record { kind = s.kind; header = s.header; report = s.report; rel = r }) path below) empty) ∙ e)
+    some_itself path below (sym (ap (λ r. blamed_at (record { kind = s.kind; header = s.header; seen = s.seen; rel = r }) path below) empty) ∙ e)
 
 -- no tree is blamed just where the whole has a row
 pub none_blamed : (n : Annotated) → (culprits_in n ≡ []) ↔ ((whole_in n).rel ≡ [] → ⊥)
@@ -85,13 +85,13 @@ blame_told s below path more rows none opens = go s.rel refl more refl where
     path ∷ [],
     inl ((e, rows f), refl),
     ap (λ m. m ++ path ∷ []) f ∙ ap (or_itself path) (sym f)
-        ∙ sym (ap (λ x. blamed_at (record { kind = s.kind; header = s.header; report = s.report; rel = x }) path more) e),
+        ∙ sym (ap (λ x. blamed_at (record { kind = s.kind; header = s.header; seen = s.seen; rel = x }) path more) e),
   )
   go [] e (p ∷ ps) f = (
     [],
     inr ((λ g. not_nil p ps (sym f ∙ none g.1)), refl),
     append-nil more ∙ f ∙ ap (or_itself path) (sym f)
-        ∙ sym (ap (λ x. blamed_at (record { kind = s.kind; header = s.header; report = s.report; rel = x }) path more) e),
+        ∙ sym (ap (λ x. blamed_at (record { kind = s.kind; header = s.header; seen = s.seen; rel = x }) path more) e),
   )
   go (row ∷ r) e m f =
       let has : s.rel ≡ [] → ⊥ = λ g. not_nil row r (sym e ∙ g) in (

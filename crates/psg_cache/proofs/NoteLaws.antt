@@ -17,7 +17,6 @@ use Rattle.psg_cache.specs.Notes.{IsFormed}
 use Rattle.psg_cache.specs.Walks.{each_steps, top_steps, IsClean}
 use Rattle.psg_cache.proofs.RealTrees.{IsReal, IsSpine, real}
 use Rattle.psg_cache.proofs.ChildLaws.{formed_below}
-use Rattle.psg_cache.proofs.Evaluations.{kind_fits}
 use Rattle.psg_cache.proofs.StepLaws.{clean-none, clean-append, own_clean, steps_split}
 use Rattle.psg_cache.specs.Annotated.{Annotated, topped, tree_in, whole_in, with_below}
 use Rattle.psg_cache.specs.Noted.{AreOfSuffixes, IsAnswered, IsOfNodes, IsNoted, IsTopped}
@@ -40,7 +39,7 @@ module _ (def : Definition) where
   parts_of : (f : Fragment) (more : List Item) (kind : Kind) → HasShape def f more kind → IsPlain f → IsSpine f → HasParts def f more
   parts_of (operator o) more kind (op, found, e, k) plain s = (op, found, e)
   parts_of (with_child f t) more kind (k, hf, ht) plain s =
-      (k, parts_of f (items.Slot k ∷ more) kind hf plain.0 s, kind_fits def t [] k ht plain.1)
+      (k, parts_of f (items.Slot k ∷ more) kind hf plain.0 s)
   parts_of (with_name f n) more kind (inl (a, h), name) plain s = inl (a, parts_of f (items.Refers a ∷ more) kind h plain s)
   parts_of (with_name f n) more kind (inr (a, h), name) plain s = inr (a, parts_of f (items.Declares a ∷ more) kind h plain s)
   parts_of (with_number f n) more kind (h, small) plain s = parts_of f (items.Number ∷ more) kind h plain s

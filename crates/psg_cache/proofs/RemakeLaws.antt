@@ -1,5 +1,5 @@
 -- A list whose first cells are new in front of suffixes that were kept.
-use Rattle.std.proofs.Common.{◌≡◌, ℕ, zero, suc, ◌≤◌, Bool, false, List, [], ◌∷◌, ◌++◌, map, length, take, drop, slice_get, Some, refl, sym, ◌∙◌, ap, subst, arith}
+use Rattle.std.proofs.Common.{◌≡◌, ℕ, zero, suc, ◌≤◌, Bool, List, [], ◌∷◌, ◌++◌, map, length, take, drop, slice_get, Some, refl, sym, ◌∙◌, ap, subst, arith}
 use Rattle.std.specs.List.{AllByRecursion}
 use Rattle.std.proofs.lemmas.List.{length-map, take-append-drop}
 use Rattle.std.proofs.lemmas.Option.{none-some}
@@ -21,9 +21,7 @@ use Rattle.psg_cache.specs.Renoting.{AreOfCells, cells_of, first_or, IsCellsFaul
 use Rattle.psg_cache.specs.Walks.{AreListed, AreNotesOf, IsClean, IsMadeOf, IsNumbered, IsStepFault, IsTop, TakesElements, top_steps}
 use Rattle.psg_cache.proofs.Carrying.{nodes-put}
 use Rattle.psg_cache.proofs.CellLaws.{all_behind, answers_listed, cells_split, listed_answers, listed_front, usual_front}
-use Rattle.psg_cache.proofs.CulpritLaws.{real_children}
 use Rattle.psg_cache.proofs.Each.{each_got, same_some}
-use Rattle.psg_cache.proofs.Evaluations.{quiet}
 use Rattle.psg_cache.proofs.ListLaws.{list_kind_is, list_takes, top_list_steps}
 use Rattle.psg_cache.proofs.NoteLaws.{list_known}
 use Rattle.psg_cache.proofs.NoteParts.{noted_parts}
@@ -156,11 +154,8 @@ module _ (def : Definition) where
       → TakesCells def l (take front (map whole_in below)) kept
   remade_takes made l es u first front behind n below kept same formed notes is at =
       let h = remade made l es u first front behind n below kept same formed notes is at in
-      let whole : IsReal (list_of l es u) = real def (list_of l es u) h.formed in
-      let each : AllByRecursion IsReal es = subst (AllByRecursion IsReal) (children-list l es u) (real_children (list_of l es u) whole) in
       let takes : TakesElements def l u (map whole_in below) =
-      list_takes def l es u h.formed.0 (map whole_in below) h.formed.1 each h.summaries h.usual in
-      let suffix : Fragment = list_of l (drop front es) u in
+      list_takes def l es u h.formed.0 (map whole_in below) h.formed.1 h.summaries h.usual in
       record {
         list = takes.list;
         found = takes.found;
@@ -168,10 +163,6 @@ module _ (def : Definition) where
             each_front (λ (s : Known). s.kind ≡ kinds.Phylum takes.list.element) front (map whole_in below)
             takes.element_kinds;
         rest_kind = list_kind_is def l (drop front es) u kept h.known.0;
-        silent = (
-          h.known.0.report ∙ quiet suffix (real_behind l es u front whole),
-          each_front (λ (s : Known). s.report ≡ false) front (map whole_in below) takes.silent,
-        );
         usual = (h.suffixes.0, each_front (IsSummary def) front (map whole_in below) takes.usual);
       }
 

@@ -125,11 +125,11 @@ pub list_self : (f : Fragment) (l : ℕ) (es : List Fragment) (u : Bool) → f �
     → f ≡ list_of l (children_of f) u
 list_self f l es u e = e ∙ ap (λ x. list_of l x u) (sym (children-list l es u) ∙ ap children_of (sym e))
 
-no_operator : (l : ℕ) (es : List Fragment) (u : Bool) → top_operator (list_of l es u) ≡ None
+pub no_operator : (l : ℕ) (es : List Fragment) (u : Bool) → top_operator (list_of l es u) ≡ None
 no_operator l [] u = refl
 no_operator l (e ∷ es) u = refl
 
-not_list : (f : Fragment) (o l : ℕ) (es : List Fragment) (u : Bool) → top_operator f ≡ Some o
+pub not_list : (f : Fragment) (o l : ℕ) (es : List Fragment) (u : Bool) → top_operator f ≡ Some o
     → f ≡ list_of l es u → ⊥
 not_list f o l es u top e = none-some o (sym (ap top_operator e ∙ no_operator l es u) ∙ top)
 

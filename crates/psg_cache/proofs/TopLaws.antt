@@ -22,9 +22,8 @@ use Rattle.psg_cache.specs.Noted.{AreOfSuffixes, IsAnswered, IsOfNodes}
 use Rattle.psg_cache.specs.Shaped.{IsShaped}
 use Rattle.psg_cache.specs.Notes.{IsFormed}
 use Rattle.psg_cache.specs.Walks.{IsAnswerFault, IsListFault, IsListTopped, IsStepFault, IsTop, names_in, TakesElements, top_steps}
-use Rattle.psg_cache.proofs.RealTrees.{IsReal, IsSpine, real}
+use Rattle.psg_cache.proofs.RealTrees.{IsReal, IsSpine}
 use Rattle.psg_cache.proofs.CellLaws.{answers_listed}
-use Rattle.psg_cache.proofs.CulpritLaws.{real_children}
 use Rattle.psg_cache.proofs.Each.{same_some}
 use Rattle.psg_cache.proofs.StepLaws.{own_fault}
 use Rattle.psg_cache.proofs.Evaluations.{is_node, own_parts, spine_parts, takes_at, top_parts}
@@ -141,8 +140,7 @@ module _ (def : Definition) where
   operator_takes s o ps f names below e there formed same are usual =
       let (kind, (fits, plain)) = formed in
       subst (λ n. TakesAt def o n below) (sym same)
-      (takes_at def o ps f kind (operator_there s o ps f e there) fits plain (real_children f (real def f formed))
-      below are usual)
+      (takes_at def o ps f kind (operator_there s o ps f e there) fits plain below are usual)
 
   answers_here : (s : Shape) (o : ℕ) (ps : List Part) (f : Fragment) (names : List Name) (below : List Known)
       (answer : Result Known EvalFault) → s ≡ Op o ps → tree_of s ≡ f → IsFormed def f → names ≡ names_in ps
@@ -199,7 +197,6 @@ module _ (def : Definition) where
       let children = elements_there s l es u f e there in
       let (kind, w) = formed in
       list_takes def l es u kind below (subst (λ x. IsShaped def x kind) (sym list) w)
-      (subst (AllByRecursion IsReal) children (real_children f (real def f formed)))
       (subst (λ x. AllSummaries def x below) children are) usual
 
   as_many : (cs : List Fragment) (below : List Known) → AllSummaries def cs below → length cs ≡ length below

@@ -2,30 +2,31 @@
 use Rattle.std.specs.Prelude.{ℕ, ◌≡◌, ◌<◌, ◌≤◌, ◌+◌, Bool, List, drop, length, map, slice_get, Some, take}
 use Rattle.psg_grammar.specs.declared.types.Definition.{Definition}
 use Rattle.psg_grammar.specs.Fragments.{Fragment, cell, ending, children_of, top_operator}
-use Rattle.psg_grammar.specs.Paths.{Path, node_at, change_at, change_child, inserted, removed, IsList}
+use Rattle.psg_grammar.specs.Paths.{Path, node_at, change_at, change_child, inserted, removed, replaced, IsList}
 use Rattle.psg_grammar.specs.Work.{work_of}
 use Rattle.psg_tree.specs.Shapes.{list_of}
 use Rattle.psg_eval.specs.Trees.{own_names}
 use Rattle.psg_cache.specs.Annotated.{Annotated, tree_in, whole_in, below_in}
 use Rattle.psg_cache.specs.Noted.{IsNoted, IsNotedAs}
-use Rattle.psg_cache.specs.Notes.{IsFormed}
+use Rattle.psg_cache.specs.Notes.{IsFormed, IsNoteOf}
 use Rattle.psg_cache.specs.declared.editing.Edit.{Edit}
 use Rattle.psg_cache.specs.declared.editing.Edit.TheVariants as edits
 
 abbrev pub change_of : Edit → Fragment → Fragment
-change_of (edits.Put new) node = new
+change_of (edits.Put new) node = tree_in new
 change_of (edits.Add place new) node = inserted place new node
 change_of (edits.Take place) node = removed place node
 
--- the evaluations of the change itself: of the new tree, and of the cells of the list up to the place
+-- the evaluations of the change itself: of the new element, and of the cells of the list up to the place; a tree that is put there
+-- has its note
 abbrev pub ticks_of : Edit → ℕ
-ticks_of (edits.Put new) = work_of new
+ticks_of (edits.Put new) = 0
 ticks_of (edits.Add place new) = work_of new + (place + 1)
 ticks_of (edits.Take place) = place
 
 -- the node takes the change
 abbrev pub TakesEdit : Definition → Edit → Fragment → Type 0
-TakesEdit def (edits.Put new) node = Unit {0}
+TakesEdit def (edits.Put new) node = IsNoted def new
 TakesEdit def (edits.Add place new) node = IsList node × (place ≤ length (children_of node)) × IsFormed def new
 TakesEdit def (edits.Take place) node = IsList node × (place < length (children_of node))
 
@@ -38,6 +39,15 @@ pub record IsPlace (def : Definition) (n : Annotated) (path : Path) (edit : Edit
   pub there : node_at (tree_in n) path ≡ Some node
   pub takes : TakesEdit def edit node
   pub changed : made ≡ change_at (change_of edit) path (tree_in n)
+
+-- the tree is that of the note with the new one in place of the node at the path
+pub record IsExchange (def : Definition) (n : Annotated) (path : Path) (new made : Fragment) : Type 0 where
+  pub whole : IsNoteOf def (tree_in n) n
+  pub formed : IsFormed def made
+  pub formed_new : IsFormed def new
+  pub node : Fragment
+  pub there : node_at (tree_in n) path ≡ Some node
+  pub changed : made ≡ replaced path new (tree_in n)
 
 -- The tree has the annotated one's last children behind so many of its own, and its first ones up to a number, or others with the
 -- same summaries. A list has the same number and end; a node of which all children are such has the same operator and names.

@@ -11,3 +11,6 @@ pub mod Edits
 pub mod AllSummaries
 pub mod Diff
 pub mod Changes
+pub mod Alike
+pub mod NoteFrames
+pub mod Completed

@@ -1,15 +1,14 @@
 -- What a note says of its tree, and what is said where there is none.
-use Rattle.std.specs.Prelude.{ℕ, ◌≡◌, List, [], ◌∷◌, length, Vec, slice_get, Some, ◌↔◌}
-use Rattle.std.specs.declared.alloc.Global.{Global}
+use Rattle.std.specs.Prelude.{ℕ, ◌≡◌, List, [], ◌∷◌, ◌↔◌}
 use Rattle.psg_grammar.specs.declared.types.Kind.{Kind}
 use Rattle.psg_grammar.specs.declared.types.Definition.{Definition}
-use Rattle.psg_grammar.specs.DeclaringTables.{AreSpacesOf}
 use Rattle.psg_grammar.specs.Fragments.{Fragment}
 use Rattle.psg_grammar.specs.Open.{IsOpen}
 use Rattle.psg_grammar.specs.Marks.{Mark, good, wrong}
 use Rattle.psg_grammar.specs.Paths.{Path}
 use Rattle.psg_grammar.specs.Sizes.{IsBig, IsDeep}
 use Rattle.psg_grammar.specs.Steps.{IsFirstWide, IsHeavy, IsWide}
+pub use Rattle.psg_eval.specs.SpaceTables.{AreDeclaringSpaces}
 use Rattle.psg_cache.specs.Annotated.{Annotated, tree_in, whole_in}
 use Rattle.psg_cache.specs.Noted.{IsNoted}
 use Rattle.psg_cache.specs.Shaped.{IsShaped}
@@ -19,11 +18,6 @@ use Rattle.psg_cache.specs.declared.note.NoteFault.TheVariants as faults
 -- a tree of some kind
 abbrev pub IsFormed : Definition → Fragment → Type 0
 IsFormed def f = (kind : Kind) × IsShaped def f kind
-
--- for each phylum the spaces in which it declares
-pub record AreDeclaringSpaces (def : Definition) (found : List (Vec ℕ Global)) : Type 0 where
-  pub one_each : length found ≡ length def.phyla
-  pub exact : (p : ℕ) (spaces : Vec ℕ Global) → slice_get found p ≡ Some spaces → AreSpacesOf def p spaces.items
 
 -- a tree that goes wrong has a node at which it does
 abbrev pub mark_by : List Path → Mark

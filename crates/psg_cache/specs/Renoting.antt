@@ -1,5 +1,5 @@
 -- What the steps of a change of a note answer.
-use Rattle.std.specs.Prelude.{ℕ, ◌≡◌, Bool, false, List, [], ◌∷◌, slice_get, Option, Some, None}
+use Rattle.std.specs.Prelude.{ℕ, ◌≡◌, Bool, true, false, List, [], ◌∷◌, slice_get, Option, Some, None}
 use Rattle.std.specs.List.{AllByRecursion}
 use Rattle.psg_grammar.specs.declared.types.Kind.TheVariants as kinds
 use Rattle.psg_grammar.specs.declared.types.ListKind.{ListKind}
@@ -17,6 +17,11 @@ use Rattle.psg_cache.specs.Noted.{IsNotedAs, IsOfCells}
 abbrev pub first_or : Known → List Known → Known
 first_or behind [] = behind
 first_or behind (s ∷ ss) = s
+
+-- the new note, or the old one where there is none
+abbrev pub IsKeptOr : Annotated → Option Annotated → Annotated → Bool → Type 0
+IsKeptOr old None note equal = (note ≡ old) × (equal ≡ true)
+IsKeptOr old (Some n) note equal = (note ≡ n) × (equal ≡ false)
 
 -- elements in front of a list
 abbrev pub cells_of : ℕ → List Fragment → Fragment → Fragment
@@ -47,7 +52,6 @@ module _ (def : Definition) where
     pub found : slice_get def.lists l ≡ Some list
     pub element_kinds : AllByRecursion (λ (s : Known). s.kind ≡ kinds.Phylum list.element) elements
     pub rest_kind : behind.kind ≡ kinds.List l
-    pub silent : AllByRecursion (λ (s : Known). s.report ≡ false) (behind ∷ elements)
     pub usual : AllByRecursion (IsSummary def) (behind ∷ elements)
 
   -- one of the cells' steps is the first that passes the limit, whatever the elements and the suffix are, where its own are clean

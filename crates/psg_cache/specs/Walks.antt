@@ -1,5 +1,5 @@
 -- What a walk over a tree finds: the first step that passes the limit, the weight, and where the tree goes wrong.
-use Rattle.std.specs.Prelude.{ℕ, ◌≡◌, ◌⊎◌, ◌+◌, Bool, true, false, List, [], ◌∷◌, ◌++◌, map, slice_get, Some, Result, Ok, Err}
+use Rattle.std.specs.Prelude.{ℕ, ◌≡◌, ◌⊎◌, ◌+◌, Bool, true, List, [], ◌∷◌, ◌++◌, map, slice_get, Some, Result, Ok, Err}
 use Rattle.std.specs.List.{AllByRecursion}
 use Rattle.psg_terms.specs.Relations.{IsIn}
 use Rattle.psg_grammar.specs.declared.types.Kind.TheVariants as kinds
@@ -142,7 +142,6 @@ module _ (def : Definition) where
     pub trees : List Fragment
     pub summaries_of : AllSummaries def trees elements
     pub element_kinds : AllByRecursion (λ (s : Known). s.kind ≡ kinds.Phylum list.element) elements
-    pub silent : AllByRecursion (λ (s : Known). s.report ≡ false) elements
     pub usual : AllByRecursion (IsSummary def) elements
 
   abbrev pub IsListFault : Path → ℕ → Bool → List Known → NoteFault → Type 0

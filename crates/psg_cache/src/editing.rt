@@ -8,16 +8,18 @@ ghost use Rattle.psg_grammar.specs.Work.{climb_of, leaving, work_of};
 ghost use Rattle.psg_tree.specs.declared.places.TreeFault.TheVariants.{Memory as NoMemory};
 ghost use Rattle.psg_cache.specs.declared.note.NoteFault.TheVariants.{Memory};
 ghost use Rattle.psg_cache.specs.Annotated.{tree_in, whole_in};
-ghost use Rattle.psg_cache.specs.Changes.{IsPlace, IsPut, IsAdded, IsTaken, ticks_of};
+ghost use Rattle.psg_cache.specs.Changes.{IsExchange, IsPlace, IsPut, IsAdded, IsTaken, ticks_of};
+ghost use Rattle.psg_cache.specs.Diff.{diff_of};
 ghost use Rattle.psg_cache.specs.Edits.{MayReplace, MayInsert, MayRemove};
 ghost use Rattle.psg_cache.specs.Noted.{IsNotedAs};
 ghost use Rattle.psg_cache.specs.Notes.{AreDeclaringSpaces, IsNoteFault, IsNoteOf, TellsOpen};
-ghost use Rattle.psg_cache.specs.Walks.{IsKnown, IsStepFault};
+ghost use Rattle.psg_cache.specs.Walks.{IsKnown, IsSmall, IsStepFault};
 
 use crate::building::{light, small};
-use crate::note::{Note, NoteFault};
+use crate::note::{Note, NoteFault, there};
 use crate::parts::{Language, child_of, longer};
 use crate::remaking::{remade, spliced};
+use crate::renoting::renoted;
 use crate::walking::walk;
 use psg_grammar::Definition;
 use psg_terms::Steps;
@@ -28,8 +30,8 @@ use std::sync::ledger::Ledger;
 /// A change of a node.
 #[derive(Drop)]
 pub(crate) enum Edit {
-    /// Another tree in its place.
-    Put { new: Tree },
+    /// Another tree in its place, which has this note.
+    Put { new: Note },
     /// One more element before the place of a list.
     Add { place: u32, new: Tree },
     /// A list without the element at the place.
@@ -168,7 +170,10 @@ fn edited<L: Ledger>(
         (IsStepFault language.entry.definition.now (steps_of language.entry.definition.now path.now made.now)) }
 {
     match edit {
-        Edit::Put { .. } => walk(alloc, language, made, path, steps),
+        Edit::Put { new } => {
+            let all = new.share()?;
+            Ok(all)
+        }
         Edit::Add { place, new } => added(alloc, language, note, *place, new, made, path, steps),
         Edit::Take { place } => taken(alloc, language, note, *place, made, path, steps),
     }
@@ -243,6 +248,28 @@ fn tree_of(made: Result<Tree, TreeFault>) -> Result<Tree, NoteFault>
     }
 }
 
+/// The note of the changed tree, whose sizes are tested, and then its weight.
+fn climbed<L: Ledger>(
+    alloc: Global,
+    language: Language,
+    note: &Note,
+    path: &Path,
+    edit: &Edit,
+    made: &Tree,
+    steps: &mut Steps<L>,
+) -> Result<Note, NoteFault>
+    requires language { IsKnown language }
+    requires small { IsSmall made.now }
+    requires place { IsPlace language.definition.now note.now path.now edit.now made.now }
+    ensures note { IfOk result (IsNoteOf language.entry.definition.now made.now) }
+    ensures ticks { steps.new ≤ steps.old + (ticks_of edit.now + climb_of (tree_in note.now) path.now) }
+    ensures fault { IfErr result (IsNoteFault language.entry.definition.now made.now) }
+{
+    let all = changed(alloc, language, note, path.steps(), edit, made, &[], steps)?;
+    light(all.weight())?;
+    Ok(all)
+}
+
 /// The note of the changed tree, whose limits are tested.
 fn finished<L: Ledger>(
     alloc: Global,
@@ -260,15 +287,44 @@ fn finished<L: Ledger>(
     ensures fault { IfErr result (IsNoteFault language.entry.definition.now made.now) }
 {
     small(made)?;
-    let all = changed(alloc, language, note, path.steps(), edit, made, &[], steps)?;
-    light(all.weight())?;
+    let all = climbed(alloc, language, note, path, edit, made, steps)?;
+    Ok(all)
+}
+
+/// The note of the tree with the new one in place of the node at the path: the old one where that is equal to the node.
+fn exchanged<L: Ledger>(
+    alloc: Global,
+    language: Language,
+    note: &Note,
+    path: &Path,
+    new: &Tree,
+    made: &Tree,
+    steps: &mut Steps<L>,
+) -> Result<Note, NoteFault>
+    requires language { IsKnown language }
+    requires place { IsExchange language.definition.now note.now path.now new.now made.now }
+    ensures note { IfOk result (IsNoteOf language.entry.definition.now made.now) }
+    ensures ticks { steps.new ≤ steps.old + diff_of (tree_in note.now) made.now }
+    ensures fault { IfErr result (IsNoteFault language.entry.definition.now made.now) }
+{
+    small(made)?;
+    let old = there(note, path);
+    let inner = renoted(alloc, language, old, new, path.steps(), steps)?;
+    let Some(child) = inner else {
+        let same = note.share()?;
+        return Ok(same);
+    };
+    let edit = Edit::Put { new: child };
+    let all = climbed(alloc, language, note, path, &edit, made, steps)?;
     Ok(all)
 }
 
 /// Makes the note of the tree with another one in place of the node at the path.
 ///
-/// The nodes on the path are evaluated anew, of a list on it the cells up to the path's element, up to where a summary
-/// is the old one; all else is shared.
+/// The new tree is compared with the old node, place by place, in one step for each of its nodes and the bytes of its
+/// names and texts: equal subtrees at the same places keep their notes, and where the trees are equal the note is the
+/// old one. The nodes on the path are evaluated anew, of a list on it the cells up to the path's element, up to where a
+/// summary is the old one; all else is shared.
 /// `steps` counts the evaluations, whatever is answered. The faults are tested as by `build`: `Deep`, `Big`, then `Wide`
 /// with the first step of the resulting tree whose relation passes the limit, then `Heavy`. `Memory` comes when memory
 /// runs out, at any time.
@@ -288,7 +344,7 @@ pub fn replaced<L: Ledger>(
     ensures note { IfOk result (IsNoteOf definition.now (replaced_at path.now new.now (tree_in note.now))) }
     ensures good { IfOk result (TellsOpen definition.now (replaced_at path.now new.now (tree_in note.now))) }
     ensures fault { IfErr result (IsNoteFault definition.now (replaced_at path.now new.now (tree_in note.now))) }
-    ensures ticks { steps.new ≤ steps.old + (work_of new.now + climb_of (tree_in note.now) path.now) }
+    ensures ticks { steps.new ≤ steps.old + diff_of (tree_in note.now) (replaced_at path.now new.now (tree_in note.now)) }
 {
     let changed = replace(alloc, note.tree(), path, new);
     let made = tree_of(changed)?;
@@ -296,8 +352,7 @@ pub fn replaced<L: Ledger>(
         definition,
         declaring,
     };
-    let edit = Edit::Put { new: new.share()? };
-    let all = finished(alloc, language, note, path, &edit, &made, steps)?;
+    let all = exchanged(alloc, language, note, path, new, &made, steps)?;
     Ok(all)
 }
 

@@ -14,10 +14,13 @@
 mod blaming;
 pub mod building;
 pub mod editing;
+mod framing;
+pub mod laws;
 mod listing;
 pub mod note;
 mod parts;
 mod remaking;
+mod renoting;
 mod topping;
 mod walking;
 

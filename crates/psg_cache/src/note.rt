@@ -1,6 +1,6 @@
 //! What is known of a tree.
 ghost use Rattle.std.specs.Prelude.{◌≡◌, ◌↔◌, ◌≤◌, ◌∷◌, [], drop, length, option_copied, slice_get, Some, IfOk, IfSome, IfNone, IsTrue};
-ghost use Rattle.psg_cache.specs.Annotated.{tree_in, whole_in, rests_in, weight_in, below_in, note_at};
+ghost use Rattle.psg_cache.specs.Annotated.{Annotated, tree_in, whole_in, rests_in, weight_in, below_in, note_at};
 ghost use Rattle.psg_cache.specs.Blames.{culprits_in};
 ghost use Rattle.psg_cache.specs.Edits.{AreCulpritsIn, IsSummaryAt, IsNoSummaryAt};
 ghost use Rattle.psg_cache.specs.Noting.{annotated_of};
@@ -142,6 +142,15 @@ impl Note {
         !self.root().rel().is_empty()
     }
 
+    /// Counts the owners of the note of the node at the path, 0 where the path leads to no node: one for each note of a
+    /// larger tree that shares it, and one for each note of it that a caller has.
+    pub fn owners(&self, path: &Path) -> usize {
+        match at(self, path) {
+            Some(note) => Rc::strong_count(&note.shared),
+            None => 0,
+        }
+    }
+
     /// One more owner of the same note.
     pub fn share(&self) -> Result<Note, AllocError>
         ensures { IfOk result (λ n. n ≡ self.now) }
@@ -153,7 +162,7 @@ impl Note {
 }
 
 /// The note of the child of the number, from 0.
-fn child_note(note: &Note, number: u32) -> Option<&Note>
+pub(crate) fn child_note(note: &Note, number: u32) -> Option<&Note>
     ensures { option_copied result ≡ slice_get (below_in note.now) number }
 {
     note.below().get(number as usize)
@@ -171,6 +180,17 @@ fn at<'n>(note: &'n Note, path: &Path) -> Option<&'n Note>
         }
     }
     Some(node)
+}
+
+/// The note of the node at the path, which is there.
+pub(crate) fn there<'n>(note: &'n Note, path: &Path) -> &'n Note
+    requires { (n : Annotated) × (note_at note.now path.now ≡ Some n) }
+    ensures { note_at note.now path.now ≡ Some result.now }
+{
+    match at(note, path) {
+        Some(node) => node,
+        None => unreachable!(),
+    }
 }
 
 /// Why a tree has no note.

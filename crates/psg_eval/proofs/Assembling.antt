@@ -18,7 +18,7 @@ use Rattle.psg_eval.specs.Outside.{IsClosed}
 use Rattle.psg_eval.specs.Partials.{IsAdded, IsPartial}
 use Rattle.psg_eval.specs.Summaries.{IsFirstPassing, IsSummaryOf, StaysWithin}
 use Rattle.psg_eval.specs.Stages.{IsInside, IsMade, IsStep}
-use Rattle.psg_eval.specs.Trees.{HasParts, reports}
+use Rattle.psg_eval.specs.Trees.{HasParts, seen_in}
 use Rattle.psg_grammar.specs.Kinds.{IsOfKind}
 use Rattle.psg_eval.proofs.PartialSorts.{key_sorts_many, kind_sorts_many}
 use Rattle.psg_eval.proofs.Passing.{close_passes, close_stays}
@@ -74,18 +74,18 @@ module _ (def : Definition) (f : Fragment) (parts : HasParts def f []) where
         sorts : List ℕ
         sorts = ((part.sort ∷ part.seen) ++ part.wanted) ++ part.key_sorts
 
-        width : length sorts ≡ 1 + cond p.report 1 0 + (length (children_of f) - n) + length (keys p.header.names)
+        width : length sorts ≡ 1 + p.seen + (length (children_of f) - n) + length (keys p.header.names)
         width =
             let ks = key_sorts_many def p.header.names part.key_sorts part.keys_sorted in
             let ws = kind_sorts_many def (s.kind ∷ kinds) part.wanted part.wanted_sorts in
-            let seen = part.reported in
+            let many_seen = part.reported in
             omega (arith, ks, ws, many, length-append ((part.sort ∷ part.seen) ++ part.wanted) part.key_sorts, length-append (part.sort ∷ part.seen) part.wanted)
 
         by : (b : Bool) → h.twice ≡ b → IsStep def f (n + 1) h rows
         by true e = subst (IsStep def f (n + 1) h) (sym (is.none e)) (next_twice def f parts t s n at summary p.header h p.rel made.step is.region e)
         by false e =
             let (ss, rel) = is.made e in
-            next_ok def f parts t s n at summary p.header h p.rel made.step is.region (cond p.report 1 0) sorts ss rows part.sorted width e rel
+            next_ok def f parts t s n at summary p.header h p.rel made.step is.region p.seen sorts ss rows part.sorted width e rel
 
       there : n + 1 ≤ children_count f
       there = let e = count_is def f [] parts in let m = many in omega arith
@@ -98,23 +98,23 @@ module _ (def : Definition) (f : Fragment) (parts : HasParts def f []) where
 
     -- ---- the whole, with all children
 
-    module _ (kind : Kind) (p : Partial) (of_kind : IsOfKind def f kind) (report : p.report ≡ reports f) (made : IsMade def f (children_count f) p) where
+    module _ (kind : Kind) (p : Partial) (of_kind : IsOfKind def f kind) (seen : p.seen ≡ seen_in f) (made : IsMade def f (children_count f) p) where
       inside : IsInside def f p.header p.rel
       inside = whole_inside def f p.header p.rel parts made.step
 
-      pub open_answer : is_scope def f ≡ false → IsSummaryOf def f (record { kind = kind; header = p.header; report = p.report; rel = p.rel }) × StaysWithin def f
+      pub open_answer : is_scope def f ≡ false → IsSummaryOf def f (record { kind = kind; header = p.header; seen = p.seen; rel = p.rel }) × StaysWithin def f
       open_answer scope =
           let whole = open_ok def f p.header p.rel scope inside in (
-            record { kind = of_kind; header = whole.0; report = report; rows = whole.1 },
+            record { kind = of_kind; header = whole.0; seen = seen; rows = whole.1 },
             λ k le. made.light k (subst (λ b. k ≤ cond b (children_count f + 1) (children_count f)) scope le),
           )
 
       module _ (scope : is_scope def f ≡ true) where
-        pub closed_answer : (q : Partial) → IsClosed def p q.header q.rel → q.report ≡ p.report → (PassesLimit q.rel → ⊥)
-            → IsSummaryOf def f (record { kind = kind; header = q.header; report = q.report; rel = q.rel }) × StaysWithin def f
+        pub closed_answer : (q : Partial) → IsClosed def p q.header q.rel → q.seen ≡ p.seen → (PassesLimit q.rel → ⊥)
+            → IsSummaryOf def f (record { kind = kind; header = q.header; seen = q.seen; rel = q.rel }) × StaysWithin def f
         closed_answer q is same light =
             let rel = close_ok def f scope p.header q.header p.rel inside is.region is.sorts q.rel is.made in (
-              record { kind = of_kind; header = closed_whole def f scope p.header q.header p.rel inside is.region; report = same ∙ report; rows = (is.sorts, rel) },
+              record { kind = of_kind; header = closed_whole def f scope p.header q.header p.rel inside is.region; seen = same ∙ seen; rows = (is.sorts, rel) },
               λ k le passes. elim (up_to k (children_count f) (subst (λ b. k ≤ cond b (children_count f + 1) (children_count f)) scope le)) [
                 | inl lt ↦ made.light k lt passes
                 | inr e ↦ close_stays def f sound k is.sorts q.rel e rel light passes

@@ -1,5 +1,5 @@
 -- The cell rows of a list, and the answer for a cell.
-use Rattle.std.proofs.Common.{◌≡◌, ℕ, ◌≤◌, ◌||◌, Bool, true, false, cond, List, [], ◌∷◌, ◌++◌, map, length, refl, ap, ap₂, sym, ◌∙◌, subst, Some, slice_get, append-nil, arith}
+use Rattle.std.proofs.Common.{◌≡◌, ℕ, ◌+◌, false, List, [], ◌∷◌, ◌++◌, map, refl, ap, ap₂, sym, ◌∙◌, subst, Some, slice_get, append-nil, arith}
 use Rattle.std.specs.Prelude.{Result, Ok, IfOk}
 use Rattle.std.specs.List.{AllByRecursion}
 use Rattle.psg_terms.specs.Terms.{Term}
@@ -24,7 +24,7 @@ use Rattle.psg_eval.specs.declared.summary.Known.{Known}
 use Rattle.psg_eval.specs.OwnRows.{whole_row}
 use Rattle.psg_eval.specs.Partials.{IsAdded, IsPartial}
 use Rattle.psg_eval.specs.Stages.{IsCellStart, IsMade, IsNumbered}
-use Rattle.psg_eval.specs.Summaries.{AreKeySorts, IsFirstPassing, IsSummary, IsSummaryOf, reporting, StaysWithin, TakesCell}
+use Rattle.psg_eval.specs.Summaries.{AreKeySorts, IsFirstPassing, IsSummary, IsSummaryOf, StaysWithin, TakesCell}
 use Rattle.psg_eval.proofs.Assembling.{made_first, made_more, wide_first, wide_more}
 use Rattle.psg_eval.proofs.CellSteps.{cell_one, cell_start, cell_two}
 use Rattle.psg_eval.proofs.Cells.{list_no_scope}
@@ -45,16 +45,8 @@ rows_sorted def head columns rows each row i =
     let is = each_in (IsRow def head columns) source rows each j in
     subst (λ z. HaveSorts def.signature z (head ∷ columns)) (sym d) (is.of_head.0, is.of_columns)
 
--- only one of two reports
-pub one_reports : (def : Definition) (a b : Known) → length (reporting def (a ∷ b ∷ [])) ≤ 1 → a.report ≡ true → b.report ≡ true → ⊥
-one_reports def a b h ea eb = both a.report b.report h ea eb where
-  both : (x y : Bool) → length (cond x (a ∷ cond y (b ∷ []) []) (cond y (b ∷ []) [])) ≤ 1 → x ≡ true → y ≡ true → ⊥
-  both true true h e d = omega arith
-  both true false h e d = absurd (cc)
-  both false y h e d = absurd (cc)
-
 -- a node all of whose children are added has a summary
-pub whole_summary : (def : Definition) (kind : Kind) (p : Partial) → IsPartial def kind [] p → IsSummary def (record { kind = kind; header = p.header; report = p.report; rel = p.rel })
+pub whole_summary : (def : Definition) (kind : Kind) (p : Partial) → IsPartial def kind [] p → IsSummary def (record { kind = kind; header = p.header; seen = p.seen; rel = p.rel })
 whole_summary def kind p part = record {
   header = part.header;
   sort = part.sort;
@@ -78,7 +70,7 @@ module _ (def : Definition) (sound : IsSound def) (l : ℕ) (list : ListKind) (f
   cell_sorted = rows_sorted def list.sort.0 (shape.element ∷ list.sort.0 ∷ []) list.cell_rows shape.cells
 
   pub cell_partial : (h : Header) (made : List (List Term)) → h ≡ record { names = []; unfinished = []; twice = false } → AllHaveSorts def.signature made cell_sorts
-      → IsPartial def (kinds.List l) (kinds.Phylum list.element ∷ kinds.List l ∷ []) (record { header = h; report = false; wanted = 2; rel = made })
+      → IsPartial def (kinds.List l) (kinds.Phylum list.element ∷ kinds.List l ∷ []) (record { header = h; seen = 0; wanted = 2; rel = made })
   cell_partial h made none sorted = record {
     header = ordered-of (no_header (λ n. false) [] tt (λ n. refl) h none);
     sort = list.sort.0;
@@ -110,8 +102,8 @@ pub next_step : (def : Definition) (kind child : Kind) (others : List Kind) (bef
 next_step def kind child others before made n after e h part =
     numbered_if (λ (p : Partial). (k : Kind) (ks : List Kind) → IsPartial def k (child ∷ ks) before → IsPartial def k ks p) made n after e h kind others part
 
-pub next_report : (b c : Bool) (made : Result Partial RelFault) (n : ℕ) (after : Partial) → IsNumbered made n (Ok after) → IfOk made (λ (p : Partial). p.report ≡ (b || c)) → b ≡ false → after.report ≡ c
-next_report b c made n after e h silent = numbered_if (λ (p : Partial). p.report ≡ (b || c)) made n after e h ∙ ap (λ x. x || c) silent
+pub next_seen : (b c : ℕ) (made : Result Partial RelFault) (n : ℕ) (after : Partial) → IsNumbered made n (Ok after) → IfOk made (λ (p : Partial). p.seen ≡ b + c) → b ≡ 0 → after.seen ≡ c
+next_seen b c made n after e h silent = numbered_if (λ (p : Partial). p.seen ≡ b + c) made n after e h ∙ (let z : b + c ≡ c = omega arith in z)
 
 module _ (def : Definition) (sound : IsSound def) (l : ℕ) (e r : Fragment) (element rest : Known) (one : IsSummaryOf def e element) (two : IsSummaryOf def r rest) where
   -- ---- the steps
@@ -141,10 +133,10 @@ module _ (def : Definition) (sound : IsSound def) (l : ℕ) (e r : Fragment) (el
 
   -- ---- the whole
 
-  pub cell_answer : (p : Partial) → p.report ≡ (element.report || rest.report) → IsMade def (cell l e r) 2 p
-      → IsSummaryOf def (cell l e r) (record { kind = kinds.List l; header = p.header; report = p.report; rel = p.rel }) × StaysWithin def (cell l e r)
-  cell_answer p report made =
+  pub cell_answer : (p : Partial) → p.seen ≡ element.seen + rest.seen → IsMade def (cell l e r) 2 p
+      → IsSummaryOf def (cell l e r) (record { kind = kinds.List l; header = p.header; seen = p.seen; rel = p.rel }) × StaysWithin def (cell l e r)
+  cell_answer p seen made =
       let whole = open_ok def (cell l e r) p.header p.rel refl made.step in (
-        record { kind = refl; header = whole.0; report = report ∙ ap₂ (λ a b. a || b) one.report two.report; rows = whole.1 },
+        record { kind = refl; header = whole.0; seen = seen ∙ ap₂ (λ a b. a + b) one.seen two.seen; rows = whole.1 },
         λ k le. made.light k le,
       )

@@ -1,5 +1,5 @@
 -- The steps of a cell, for rows made as those of an operator with two children.
-use Rattle.std.proofs.Common.{◌≡◌, ℕ, ◌+◌, ◌&&◌, not, Bool, true, false, cond, List, [], ◌∷◌, ◌++◌, length, refl, sym, ◌∙◌, subst, length-append, arith}
+use Rattle.std.proofs.Common.{◌≡◌, ℕ, ◌+◌, ◌&&◌, not, Bool, true, false, List, [], ◌∷◌, ◌++◌, length, refl, sym, ◌∙◌, subst, length-append, arith}
 use Rattle.psg_terms.specs.Terms.{Term}
 use Rattle.psg_terms.specs.Relations.{IsRelation, IsGlued}
 use Rattle.psg_grammar.specs.declared.types.Kind.{Kind}
@@ -37,7 +37,7 @@ module _ (def : Definition) (t a b : Fragment) (r : Replaces def t a b) (kind : 
     sorts : List ℕ
     sorts = ((part.sort ∷ part.seen) ++ part.wanted) ++ part.key_sorts
 
-    width : length sorts ≡ 1 + cond p.report 1 0 + (1 + behind def t r) + length (keys p.header.names)
+    width : length sorts ≡ 1 + p.seen + (1 + behind def t r) + length (keys p.header.names)
     width =
         let ks = key_sorts_many def p.header.names part.key_sorts part.keys_sorted in
         let ws = kind_sorts_many def (s.kind ∷ kinds) part.wanted part.wanted_sorts in
@@ -48,7 +48,7 @@ module _ (def : Definition) (t a b : Fragment) (r : Replaces def t a b) (kind : 
     by true e = subst (IsInside def b h) (sym (added.none e)) (record { header = header; sorts = []; relation = twice_empty def b [] (sym header.repeats ∙ e) })
     by false e =
         let (ss, rel) = added.made e in
-        let before = cond p.report 1 0 in
+        let before = p.seen in
         let own : keys p.header.names ≡ in_order (names_inside def a) = is.header.keys_are in
         let others : keys s.header.names ≡ names_of def t = summary.header.keys_are in
         record {

@@ -1,5 +1,5 @@
 -- From the relation of its rows to the answer for a tree without children.
-use Rattle.std.proofs.Common.{◌≡◌, ℕ, ◌<◌, ◌≤◌, zero, suc, Bool, true, false, cond, List, [], ◌∷◌, map, length, get_or, refl, ap, sym, ◌∙◌, subst, Some, slice_get, arith}
+use Rattle.std.proofs.Common.{◌≡◌, ℕ, ◌<◌, ◌≤◌, zero, suc, Bool, true, false, List, [], ◌∷◌, map, length, get_or, refl, ap, sym, ◌∙◌, subst, Some, slice_get, arith}
 use Rattle.std.specs.Prelude.{Result, Ok, Err, IfOk}
 use Rattle.std.specs.List.{AllByRecursion}
 use Rattle.psg_terms.specs.Terms.{Term}
@@ -28,7 +28,7 @@ use Rattle.psg_eval.specs.declared.summary.Known.{Known}
 use Rattle.psg_eval.specs.Leaves.{IsLeafOf}
 use Rattle.psg_eval.specs.OwnRows.{AreHoleRows}
 use Rattle.psg_eval.specs.Summaries.{Answers, AreSpacesOfList, IsHeaderOf, IsSummary}
-use Rattle.psg_eval.specs.Trees.{reports}
+use Rattle.psg_eval.specs.Trees.{seen_in}
 use Rattle.psg_grammar.specs.Kinds.{IsOfKind}
 use Rattle.psg_eval.proofs.Closing.{inside_relation}
 use Rattle.psg_eval.proofs.Ends.{hole_relation, open_end_relation, end_relation}
@@ -42,7 +42,7 @@ only_zero : (k n : ℕ) → k ≤ n → n ≡ 0 → k ≡ 0
 only_zero k n h e = omega arith
 
 module _ (def : Definition) (sound : IsSound def) (f : Fragment) (kind : Kind) (h : Header) (rows : List (List Term)) (sort : ℕ)
-    (of_kind : IsOfKind def f kind) (header : IsHeaderOf def f h) (bare : reports f ≡ false) (last : last_step def f ≡ 0) (count : children_count f ≡ 0)
+    (of_kind : IsOfKind def f kind) (header : IsHeaderOf def f h) (bare : seen_in f ≡ 0) (last : last_step def f ≡ 0) (count : children_count f ≡ 0)
     (family : (made : List (List Term)) → IsRelation def.signature (sort ∷ []) (IsOfRow def.signature rows) made → IsRelation def.signature (sort ∷ []) (IsPossible def f) made)
     (inside : (made : List (List Term)) → IsRelation def.signature (sort ∷ []) (IsPossible def f) made → IsRelation def.signature (sort ∷ []) (IsPossibleInside def (first_children 0 f)) made) where
   light : (made : List (List Term)) → IsRelation def.signature (sort ∷ []) (IsOfRow def.signature rows) made → (PassesLimit made → ⊥) → (k : ℕ) → k ≤ last_step def f → PassesAt def f k → ⊥
@@ -54,7 +54,7 @@ module _ (def : Definition) (sound : IsSound def) (f : Fragment) (kind : Kind) (
     record {
       kind = subst (IsOfKind def f) (sym ek) of_kind;
       header = subst (IsHeaderOf def f) (sym eh) header;
-      report = er ∙ sym bare;
+      seen = er ∙ sym bare;
       rows = (sort ∷ [], family s.rel rel);
     },
     light s.rel rel none,
@@ -74,7 +74,7 @@ leaf_summary def kind h unfinished rows sort has none is (Ok s) (ek, eh, er, rel
   sort = sort;
   kind_sort = subst (λ k. HasKindSort def k sort) (sym ek) has;
   seen = [];
-  reported = ap (λ b. cond b 1 0) (sym er);
+  reported = sym er;
   key_sorts = [];
   keys_sorted = subst (λ (k : Header). Rattle.psg_eval.specs.Summaries.AreKeySorts def k.names []) (sym eh) (subst (λ cols. Rattle.psg_eval.specs.Summaries.AreKeySorts def cols []) (sym none) refl);
   sorted = λ row i. (rel.shapes row i).sorted;

@@ -37,3 +37,10 @@ pub mod Halves
 pub mod OwnColumns
 pub mod OwnPlaces
 pub mod OwnSelect
+pub mod ReportedRows
+pub mod FirstWide
+pub mod CellClimb
+pub mod FrameLaws
+pub mod Places
+pub mod PlaceSteps
+pub mod PatternSteps

@@ -22,7 +22,7 @@ use Rattle.psg_eval.proofs.Adding.{added_relation}
 use Rattle.psg_eval.proofs.Replacing.{Replaces, here, before_free, before_name, before_number, before_text, behind}
 
 -- an element of a list with one more behind it
-get_push : {X : Type 0} (xs : List X) (u : X) (n : ℕ) (t : X) → slice_get (xs ++ u ∷ []) n ≡ Some t → (slice_get xs n ≡ Some t) ⊎ ((n ≡ length xs) × (u ≡ t))
+pub get_push : {X : Type 0} (xs : List X) (u : X) (n : ℕ) (t : X) → slice_get (xs ++ u ∷ []) n ≡ Some t → (slice_get xs n ≡ Some t) ⊎ ((n ≡ length xs) × (u ≡ t))
 get_push [] u zero t e = inr (refl, cc)
 get_push [] u (suc n) t e = absurd (cc)
 get_push (x ∷ xs) u zero t e = inl e
@@ -33,7 +33,7 @@ module _ (def : Definition) where
 
   pub all_there : (n : ℕ) (f : Fragment) (more : List Item) → HasParts def f more → length (children_of f) ≤ n → first_children n f ≡ f
   all_there n (operator o) more h le = refl
-  all_there n (with_child f u) more (k, h, _) le =
+  all_there n (with_child f u) more (k, h) le =
       let size = length-append (children_of f) (u ∷ []) in
       let test : nat_lt (length (children_of f)) n ≡ true = lt-ltb (length (children_of f)) n (omega arith) in
       ap₂ with_child (all_there n f (items.Slot k ∷ more) h (omega arith)) (ap (λ b. cond b u anything) test)
@@ -54,7 +54,7 @@ module _ (def : Definition) where
   pub adds : (t f : Fragment) (more : List Item) (n : ℕ) → HasParts def f more → slice_get (children_of f) n ≡ Some t
       → Adds t n (first_children n f) (first_children (suc n) f) (length (children_of f))
   adds t (operator o) more n h e = absurd (cc)
-  adds t (with_child f u) more n (k, h, _) e =
+  adds t (with_child f u) more n (k, h) e =
       let size = length-append (children_of f) (u ∷ []) in
       elim (get_push (children_of f) u n t e) [
         | inl i ↦

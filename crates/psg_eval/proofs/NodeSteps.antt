@@ -1,8 +1,9 @@
 -- The steps of an operator by the children of its node.
-use Rattle.std.proofs.Common.{◌≡◌, inl, inr, ℕ, zero, suc, ◌+◌, ◌-◌, ◌<◌, ◌≤◌, ◌||◌, Bool, true, false, cond, List, [], ◌∷◌, ◌++◌, length, take, drop, get_or, Some, refl, ap, sym, ◌∙◌, subst, true≢false, arith}
+use Rattle.std.proofs.Common.{◌≡◌, ℕ, zero, suc, ◌+◌, ◌-◌, ◌<◌, ◌≤◌, Bool, true, false, List, [], ◌∷◌, ◌++◌, length, take, drop, get_or, Some, refl, ap, sym, ◌∙◌, subst, arith}
 use Rattle.std.specs.Prelude.{Result, Ok, Err}
-use Rattle.std.specs.List.{slice_get, list_any}
-use Rattle.std.proofs.lemmas.List.{length-drop, length-map}
+use Rattle.std.specs.List.{slice_get, sum_by}
+use Rattle.std.proofs.lemmas.List.Sums.{sum_by-append}
+use Rattle.std.proofs.lemmas.List.{length-drop, length-map, take_all}
 use Rattle.psg_terms.specs.Terms.{Term}
 use Rattle.psg_terms.specs.Names.{Name}
 use Rattle.psg_terms.specs.Weight.{PassesLimit}
@@ -19,7 +20,6 @@ use Rattle.psg_grammar.specs.Lookups.{is_scope}
 use Rattle.psg_grammar.specs.Sound.{IsSound}
 use Rattle.psg_grammar.specs.Steps.{children_count}
 use Rattle.psg_scope.specs.declared.header.Header.{Header}
-use Rattle.psg_scope.proofs.KeyLists.{or-assoc, or-false, or_cases}
 use Rattle.psg_eval.specs.declared.partial.Partial.{Partial}
 use Rattle.psg_eval.specs.declared.summary.EvalFault.{EvalFault}
 use Rattle.psg_eval.specs.declared.summary.EvalFault.TheVariants as faults
@@ -28,57 +28,24 @@ use Rattle.psg_eval.specs.Outside.{IsClosed}
 use Rattle.psg_eval.specs.Own.{IsOwnStep}
 use Rattle.psg_eval.specs.Partials.{IsAdded, IsPartial}
 use Rattle.psg_eval.specs.Stages.{kinds_of, IsMade, IsStep, MatchMade, MatchOuter, MatchWhole}
-use Rattle.psg_eval.specs.Summaries.{Answers, AreSummariesOf, IsFirstPassing, reporting, slot_kinds}
-use Rattle.psg_eval.specs.Trees.{HasParts, IsNode, reports}
+use Rattle.psg_eval.specs.Summaries.{Answers, AreSummariesOf, IsFirstPassing, slot_kinds}
+use Rattle.psg_eval.specs.Trees.{HasParts, IsNode, seen_in}
 use Rattle.psg_grammar.specs.Kinds.{IsOfKind}
 use Rattle.psg_eval.proofs.Assembling.{made_first, made_next, wide_first, wide_next, open_answer, closed_answer, closed_wide}
 use Rattle.psg_eval.proofs.LeafAnswers.{at_place}
-use Rattle.psg_eval.proofs.Nodes.{as_many, child_at, node_count, node_kind, node_reports, node_scope}
+use Rattle.psg_eval.proofs.Nodes.{as_many, child_at, node_count, node_kind, node_scope, node_seen}
 use Rattle.psg_eval.proofs.Stepping.{first_ok, first_twice}
 use Rattle.psg_eval.proofs.WalkSteps.{drop_at, drop_end}
 
--- ---- which children report
+-- ---- how many values are seen in the first children
 
-abbrev pub any_report : List Known → Bool
-any_report xs = list_any (λ (s : Known). s.report) xs
+abbrev pub seen_by : List Known → ℕ
+seen_by xs = sum_by (λ (s : Known). s.seen) xs
 
-any_push : (xs : List Known) (s : Known) → any_report (xs ++ s ∷ []) ≡ (any_report xs || s.report)
-any_push [] s = or-false s.report
-any_push (x ∷ xs) s = ap (λ b. x.report || b) (any_push xs s) ∙ sym (or-assoc x.report (any_report xs) s.report)
-
-module _ (def : Definition) where
-  count_more : (b : Bool) (x : Known) (rest : List Known) → length rest ≤ length (cond b (x ∷ rest) rest)
-  count_more true x rest = omega arith
-  count_more false x rest = omega arith
-
-  count_one : (b : Bool) (x : Known) (rest : List Known) → b ≡ true → length rest + 1 ≤ length (cond b (x ∷ rest) rest)
-  count_one true x rest e = omega arith
-  count_one false x rest e = absurd (true≢false (sym e))
-
-  some_reports : (xs : List Known) (i : ℕ) (s : Known) → slice_get xs i ≡ Some s → s.report ≡ true → 1 ≤ length (reporting def xs)
-  some_reports [] i s at e = absurd (cc)
-  some_reports (x ∷ xs) zero s at e =
-      let same : s ≡ x = cc in
-      let h = count_one x.report x (reporting def xs) (ap (λ (z : Known). z.report) (sym same) ∙ e) in
-      omega arith
-  some_reports (x ∷ xs) (suc i) s at e =
-      let h = some_reports xs i s at e in
-      let k = count_more x.report x (reporting def xs) in
-      omega arith
-
-  -- where one of the first children reports, no later one does
-  pub reports_apart : (xs : List Known) (i : ℕ) (s : Known) → slice_get xs i ≡ Some s → length (reporting def xs) ≤ 1 → any_report (take i xs) ≡ true → s.report ≡ true → ⊥
-  reports_apart [] i s at few e d = absurd (cc)
-  reports_apart (x ∷ xs) zero s at few e d = true≢false (sym e)
-  reports_apart (x ∷ xs) (suc i) s at few e d = elim (or_cases x.report (any_report (take i xs)) e) [
-    | inl r ↦
-        let h = some_reports xs i s at d in
-        let k = count_one x.report x (reporting def xs) r in
-        absurd (omega arith)
-    | inr r ↦
-        let k = count_more x.report x (reporting def xs) in
-        reports_apart xs i s at (omega arith) r d
-  ]
+seen_push : (xs : List Known) (s : Known) → seen_by (xs ++ s ∷ []) ≡ seen_by xs + s.seen
+seen_push xs s =
+    let one : seen_by (s ∷ []) ≡ s.seen = (let z : 0 + s.seen ≡ s.seen = omega arith in z) in
+    sum_by-append (λ (x : Known). x.seen) xs (s ∷ []) ∙ ap (λ n. seen_by xs + n) one
 
 -- ---- the first children
 
@@ -86,17 +53,14 @@ module _ (def : Definition) where
 pub record IsGoneUpTo (def : Definition) (children : List Known) (begin now : Partial) (i : ℕ) : Type 0 where
   pub made : (f : Fragment) → HasParts def f [] → AreSummariesOf def f children → IsMade def f 0 begin → IsMade def f i now
   pub partial : (kind : Kind) → IsPartial def kind (kinds_of children) begin → IsPartial def kind (kinds_of (drop i children)) now
-  pub report : now.report ≡ any_report (take i children)
+  pub seen : now.seen ≡ begin.seen + seen_by (take i children)
 
-pub gone_none : (def : Definition) (children : List Known) (begin : Partial) → begin.report ≡ false → IsGoneUpTo def children begin begin 0
-gone_none def children begin silent = record { made = λ f parts all is. is; partial = λ kind part. part; report = silent }
+pub gone_none : (def : Definition) (children : List Known) (begin : Partial) → IsGoneUpTo def children begin begin 0
+gone_none def children begin = record { made = λ f parts all is. is; partial = λ kind part. part; seen = omega arith }
 
 module _ (def : Definition) (children : List Known) (begin now : Partial) (i : ℕ) (s : Known) (at : slice_get children i ≡ Some s) (gone : IsGoneUpTo def children begin now i) where
   pub now_partial : (kind : Kind) → IsPartial def kind (kinds_of children) begin → IsPartial def kind (s.kind ∷ kinds_of (drop (i + 1) children)) now
   now_partial kind part = subst (λ l. IsPartial def kind (kinds_of l) now) (drop_at children i s at) (gone.partial kind part)
-
-  pub now_apart : length (reporting def children) ≤ 1 → now.report ≡ true → s.report ≡ true → ⊥
-  now_apart few e d = reports_apart def children i s at few (sym gone.report ∙ e) d
 
   module _ (sound : IsSound def) (kind : Kind) (part : IsPartial def kind (kinds_of children) begin) (f : Fragment) (parts : HasParts def f []) (all : AreSummariesOf def f children) (is : IsMade def f 0 begin) where
     abbrev child : Fragment
@@ -125,9 +89,13 @@ module _ (def : Definition) (children : List Known) (begin now : Partial) (i : �
         let found = child_at def (children_of f) children all i s at in
         wide_next def f parts sound.signature i found.0 found.1 kind (kinds_of (drop (i + 1) children)) now s many (now_partial kind part) found.2 (gone.made f parts all is) h rows added passes
 
--- the report with one child more
-pub report_more : (children : List Known) (i : ℕ) (s : Known) (b : Bool) → i < length children → s ≡ get_or children i s → b ≡ (any_report (take i children) || s.report) → b ≡ any_report (take (i + 1) children)
-report_more children i s b l e h = h ∙ sym (any_push (take i children) s) ∙ sym (ap any_report (take-next children i s l e))
+-- with one child more
+pub seen_more : (children : List Known) (i : ℕ) (s : Known) (n begin : ℕ) → i < length children → s ≡ get_or children i s → n ≡ begin + seen_by (take i children) + s.seen
+    → n ≡ begin + seen_by (take (i + 1) children)
+seen_more children i s n begin l e h = omega (arith, seen_push (take i children) s, ap seen_by (take-next children i s l e))
+
+pub seen_all : (children : List Known) (i : ℕ) (n begin : ℕ) → i ≡ length children → n ≡ begin + seen_by (take i children) → n ≡ begin + seen_by children
+seen_all children i n begin e h = h ∙ ap (λ xs. begin + seen_by xs) (take_all i children (omega arith))
 
 pub all_gone : (def : Definition) (children : List Known) (begin now : Partial) (i : ℕ) → i ≡ length children → IsGoneUpTo def children begin now i → (kind : Kind) → IsPartial def kind (kinds_of children) begin → IsPartial def kind [] now
 all_gone def children begin now i e gone kind part = subst (λ l. IsPartial def kind (kinds_of l) now) (drop_end children i (omega arith)) (gone.partial kind part)
@@ -148,28 +116,28 @@ module _ (def : Definition) (sound : IsSound def) (o : ℕ) (op : Operator) (fou
   own_wide h rows is passes = wide_first def f sound.signature h rows (own_step h rows is) passes
 
   -- from the answer for the operator to that for the tree
-  module _ (children : List Known) (all : AreSummariesOf def f children) (whole : Partial) (report : whole.report ≡ any_report children) where
+  module _ (children : List Known) (all : AreSummariesOf def f children) (whole : Partial) (seen : whole.seen ≡ seen_by children) where
     pub whole_answer : (result : Result Partial EvalFault) → MatchWhole def op whole (length children) result → IsMade def f (length children) whole → MatchOuter def f (kinds.Phylum op.phylum) result
     whole_answer result h made =
         h f node.parts (node_kind def o op found names f node) (node_scope def o op found names f node) (node_count def o op found names f children node all)
-        (report ∙ node_reports def f children node.parts all) made
+        (seen ∙ node_seen def f children node.parts all) made
 
 -- ---- what stands outside sees
 
 module _ (def : Definition) (sound : IsSound def) (op : Operator) (whole : Partial) (count : ℕ) (f : Fragment) (parts : HasParts def f []) (of_kind : IsOfKind def f (kinds.Phylum op.phylum))
-    (scope : is_scope def f ≡ op.scope) (many : children_count f ≡ count) (report : whole.report ≡ reports f) (made : IsMade def f count whole) where
+    (scope : is_scope def f ≡ op.scope) (many : children_count f ≡ count) (seen : whole.seen ≡ seen_in f) (made : IsMade def f count whole) where
   whole_made : IsMade def f (children_count f) whole
   whole_made = subst (λ n. IsMade def f n whole) (sym many) made
 
   pub same_outside : op.scope ≡ false → MatchOuter def f (kinds.Phylum op.phylum) (Ok whole)
-  same_outside e = open_answer def f parts sound.signature (kinds.Phylum op.phylum) whole of_kind report whole_made (scope ∙ e)
+  same_outside e = open_answer def f parts sound.signature (kinds.Phylum op.phylum) whole of_kind seen whole_made (scope ∙ e)
 
-  pub closed_outside : op.scope ≡ true → (q : Partial) → IsClosed def whole q.header q.rel → q.report ≡ whole.report → (PassesLimit q.rel → ⊥) → MatchOuter def f (kinds.Phylum op.phylum) (Ok q)
-  closed_outside e q is same light = closed_answer def f parts sound.signature (kinds.Phylum op.phylum) whole of_kind report whole_made (scope ∙ e) q is same light
+  pub closed_outside : op.scope ≡ true → (q : Partial) → IsClosed def whole q.header q.rel → q.seen ≡ whole.seen → (PassesLimit q.rel → ⊥) → MatchOuter def f (kinds.Phylum op.phylum) (Ok q)
+  closed_outside e q is same light = closed_answer def f parts sound.signature (kinds.Phylum op.phylum) whole of_kind seen whole_made (scope ∙ e) q is same light
 
   pub outside_wide : op.scope ≡ true → (h : Header) (rows : List (List Term)) → IsClosed def whole h rows → PassesLimit rows → IsFirstPassing def f (count + 1)
   outside_wide e h rows is passes =
-      subst (λ n. IsFirstPassing def f (n + 1)) many (closed_wide def f parts sound.signature (kinds.Phylum op.phylum) whole of_kind report whole_made (scope ∙ e) h rows is passes)
+      subst (λ n. IsFirstPassing def f (n + 1)) many (closed_wide def f parts sound.signature (kinds.Phylum op.phylum) whole of_kind seen whole_made (scope ∙ e) h rows is passes)
 
 pub made_outer : (def : Definition) (f : Fragment) (kind : Kind) (n : ℕ) (e : EvalFault) → MatchMade def f n (Err e) → MatchOuter def f kind (Err e)
 made_outer def f kind n (faults.Wide k) h = h

@@ -1,6 +1,7 @@
 -- What a node is by its parts, and its children by their summaries.
-use Rattle.std.proofs.Common.{◌≡◌, inl, inr, ℕ, zero, suc, ◌+◌, ◌||◌, cond, List, [], ◌∷◌, ◌++◌, length, Option, Some, refl, ap, sym, ◌∙◌, subst}
-use Rattle.std.specs.List.{slice_get, list_any}
+use Rattle.std.proofs.Common.{◌≡◌, inl, inr, ℕ, zero, suc, ◌+◌, cond, List, [], ◌∷◌, length, Option, Some, refl, ap, ap₂, sym, ◌∙◌, subst, arith}
+use Rattle.std.specs.List.{slice_get, sum_by}
+use Rattle.std.proofs.lemmas.List.Sums.{sum_by-append, sum_by-cons}
 use Rattle.std.specs.Option.{option_and_then}
 use Rattle.psg_terms.specs.Names.{Name}
 use Rattle.psg_grammar.specs.declared.types.Item.{Item}
@@ -11,9 +12,8 @@ use Rattle.psg_grammar.specs.declared.types.Definition.{Definition}
 use Rattle.psg_grammar.specs.Fragments.{Fragment, hole, ending, cell, operator, with_child, with_name, with_number, with_text, anything, observed, top_operator, children_of}
 use Rattle.psg_grammar.specs.Lookups.{is_scope, operator_at, scopes}
 use Rattle.psg_grammar.specs.Steps.{children_count, last_step}
-use Rattle.psg_scope.proofs.KeyLists.{or-assoc, or-false}
 use Rattle.psg_eval.specs.declared.summary.Known.{Known}
-use Rattle.psg_eval.specs.Trees.{reports, HasParts, IsNode}
+use Rattle.psg_eval.specs.Trees.{seen_in, HasParts, IsNode}
 use Rattle.psg_grammar.specs.Kinds.{IsOfKind}
 use Rattle.psg_eval.specs.Summaries.{IsSummaryOf, AllSummaries}
 use Rattle.psg_eval.proofs.RegionSteps.{count_is}
@@ -34,33 +34,31 @@ module _ (def : Definition) where
   child_at (f ∷ fs) (r ∷ ss) h zero s e = (f, refl, let same : r ≡ s = let d : Some r ≡ Some s = e in cc in subst (IsSummaryOf def f) same h.0)
   child_at (f ∷ fs) (r ∷ ss) h (suc n) s e = child_at fs ss h.1 n s e
 
-  any-append : (fs gs : List Fragment) → list_any reports (fs ++ gs) ≡ (list_any reports fs || list_any reports gs)
-  any-append [] gs = refl
-  any-append (f ∷ fs) gs = ap (λ b. reports f || b) (any-append fs gs) ∙ sym (or-assoc (reports f) (list_any reports fs) (list_any reports gs))
+  pub seen-children : (f : Fragment) (more : List Item) → HasParts def f more → seen_in f ≡ sum_by seen_in (children_of f)
+  seen-children (operator o) more h = refl
+  seen-children (with_child f t) more (k, h) =
+      let one : sum_by seen_in (t ∷ []) ≡ seen_in t = (let z : 0 + seen_in t ≡ seen_in t = omega arith in z) in
+      ap₂ (λ m n. m + n) (seen-children f (items.Slot k ∷ more) h) (sym one) ∙ sym (sum_by-append seen_in (children_of f) (t ∷ []))
+  seen-children (with_name f n) more (inl (s, h)) = seen-children f (items.Refers s ∷ more) h
+  seen-children (with_name f n) more (inr (s, h)) = seen-children f (items.Declares s ∷ more) h
+  seen-children (with_number f n) more h = seen-children f (items.Number ∷ more) h
+  seen-children (with_text f n) more h = seen-children f (items.Text ∷ more) h
+  seen-children (hole p) more h = absurd h
+  seen-children (ending l u) more h = absurd h
+  seen-children (cell l e r) more h = absurd h
+  seen-children anything more h = absurd h
+  seen-children (observed f) more h = absurd h
 
-  reports-children : (f : Fragment) (more : List Item) → HasParts def f more → reports f ≡ list_any reports (children_of f)
-  reports-children (operator o) more h = refl
-  reports-children (with_child f t) more (k, h, _) =
-      ap (λ b. b || reports t) (reports-children f (items.Slot k ∷ more) h) ∙ ap (λ b. list_any reports (children_of f) || b) (sym (or-false (reports t))) ∙ sym (any-append (children_of f) (t ∷ []))
-  reports-children (with_name f n) more (inl (s, h)) = reports-children f (items.Refers s ∷ more) h
-  reports-children (with_name f n) more (inr (s, h)) = reports-children f (items.Declares s ∷ more) h
-  reports-children (with_number f n) more h = reports-children f (items.Number ∷ more) h
-  reports-children (with_text f n) more h = reports-children f (items.Text ∷ more) h
-  reports-children (hole p) more h = absurd h
-  reports-children (ending l u) more h = absurd h
-  reports-children (cell l e r) more h = absurd h
-  reports-children anything more h = absurd h
-  reports-children (observed f) more h = absurd h
+  seen-summaries : (fs : List Fragment) (ss : List Known) → AllSummaries def fs ss → sum_by seen_in fs ≡ sum_by (λ (s : Known). s.seen) ss
+  seen-summaries [] [] h = refl
+  seen-summaries [] (s ∷ ss) h = absurd h
+  seen-summaries (f ∷ fs) [] h = absurd h
+  seen-summaries (f ∷ fs) (s ∷ ss) (h, hs) =
+      sum_by-cons seen_in f fs ∙ ap₂ (λ m n. m + n) (sym h.seen) (seen-summaries fs ss hs) ∙ sym (sum_by-cons (λ (x : Known). x.seen) s ss)
 
-  reports-summaries : (fs : List Fragment) (ss : List Known) → AllSummaries def fs ss → list_any reports fs ≡ list_any (λ (s : Known). s.report) ss
-  reports-summaries [] [] h = refl
-  reports-summaries [] (s ∷ ss) h = absurd h
-  reports-summaries (f ∷ fs) [] h = absurd h
-  reports-summaries (f ∷ fs) (s ∷ ss) (h, hs) = ap (λ b. b || list_any reports fs) (sym h.report) ∙ ap (λ b. s.report || b) (reports-summaries fs ss hs)
-
-  -- a node reports where one of its children does
-  pub node_reports : (f : Fragment) (ss : List Known) → HasParts def f [] → AllSummaries def (children_of f) ss → list_any (λ (s : Known). s.report) ss ≡ reports f
-  node_reports f ss h all = sym (reports-children f [] h ∙ reports-summaries (children_of f) ss all)
+  -- in a node those values are seen that are seen in its children
+  pub node_seen : (f : Fragment) (ss : List Known) → HasParts def f [] → AllSummaries def (children_of f) ss → sum_by (λ (s : Known). s.seen) ss ≡ seen_in f
+  node_seen f ss h all = sym (seen-children f [] h ∙ seen-summaries (children_of f) ss all)
 
   -- ---- the operator
 
@@ -69,7 +67,7 @@ module _ (def : Definition) where
     kind_by (operator p) more top h =
         let same : o ≡ p = cc in
         (op, ap (slice_get def.operators) (sym same) ∙ found, refl)
-    kind_by (with_child f t) more top (k, h, _) = kind_by f (items.Slot k ∷ more) top h
+    kind_by (with_child f t) more top (k, h) = kind_by f (items.Slot k ∷ more) top h
     kind_by (with_name f n) more top (inl (s, h)) = kind_by f (items.Refers s ∷ more) top h
     kind_by (with_name f n) more top (inr (s, h)) = kind_by f (items.Declares s ∷ more) top h
     kind_by (with_number f n) more top h = kind_by f (items.Number ∷ more) top h

@@ -1,5 +1,5 @@
 -- The rows of a scope operator without the keys that end inside.
-use Rattle.std.proofs.Common.{◌≡◌, ◌↔◌, ℕ, ◌+◌, ◌<◌, zero, suc, cond, List, [], ◌∷◌, ◌++◌, All, map, length, take, drop, refl, ap, ap₂, sym, ◌∙◌, subst, Some, slice_get, option_map, length-append, append-nil, arith}
+use Rattle.std.proofs.Common.{◌≡◌, ◌↔◌, ℕ, ◌+◌, ◌<◌, zero, suc, List, [], ◌∷◌, ◌++◌, All, map, length, take, drop, refl, ap, ap₂, sym, ◌∙◌, subst, Some, slice_get, option_map, length-append, append-nil, arith}
 use Rattle.std.specs.Prelude.{slice_index_or}
 use Rattle.std.proofs.lemmas.Option.{slice_get-map, slice_get_within}
 use Rattle.std.proofs.lemmas.List.{length-map, take-append-drop, length-take-le}
@@ -86,7 +86,7 @@ module _ (K L : List Key) (rising : AreRising K) (seen : ℕ) (kept : List ℕ) 
 
 module _ (def : Definition) (kind : Kind) (p : Partial) (part : IsPartial def kind [] p) (outside : Header) (kept : List ℕ) (places : ArePlaces p.header.names kept (keys outside.names)) where
   abbrev pub columns : List ℕ
-  columns = columns_at (1 + cond p.report 1 0) kept
+  columns = columns_at (1 + p.seen) kept
 
   abbrev pub own_sorts : List ℕ
   own_sorts = (part.sort ∷ part.seen) ++ map (key_sort def) (keys p.header.names)
@@ -98,9 +98,9 @@ module _ (def : Definition) (kind : Kind) (p : Partial) (part : IsPartial def ki
       subst (AllHaveSorts def.signature p.rel) none part.sorted
 
   own_picks : Picks own_sorts columns ((part.sort ∷ part.seen) ++ map (key_sort def) (keys outside.names))
-  own_picks = cut_picks (key_sort def) (part.sort ∷ part.seen) (1 + cond p.report 1 0) (let e = part.reported in omega arith) (keys p.header.names) kept (keys outside.names) places own_sorts refl
+  own_picks = cut_picks (key_sort def) (part.sort ∷ part.seen) (1 + p.seen) (let e = part.reported in omega arith) (keys p.header.names) kept (keys outside.names) places own_sorts refl
 
-  own_width : length own_sorts ≡ (1 + cond p.report 1 0) + length (keys p.header.names)
+  own_width : length own_sorts ≡ (1 + p.seen) + length (keys p.header.names)
   own_width = let e = part.reported in omega (arith, length-append (part.sort ∷ part.seen) (map (key_sort def) (keys p.header.names)), length-map (keys p.header.names) (key_sort def))
 
   pub kept_below : All (λ k. k < length p.header.names) kept
@@ -117,10 +117,10 @@ module _ (def : Definition) (kind : Kind) (p : Partial) (part : IsPartial def ki
       → IsRelation def.signature ss (IsCut def.signature (CloseGlue (keys p.header.names) (keys outside.names)) p.rel) made
   closed_rows region ss made rel =
       cut_same def.signature ss own_sorts columns (CloseGlue (keys p.header.names) (keys outside.names)) p.rel own_sorted
-      (λ q x width. close_same (keys p.header.names) (keys outside.names) region.keys_rise (cond p.report 1 0) kept places q x (width ∙ own_width)) made rel
+      (λ q x width. close_same (keys p.header.names) (keys outside.names) region.keys_rise p.seen kept places q x (width ∙ own_width)) made rel
 
   pub closed_partial : IsOrdered outside → PassesOutward p.header outside → (made : List (List Term)) → AllHaveSorts def.signature made (picked own_sorts columns)
-      → IsPartial def kind [] (record { header = outside; report = p.report; wanted = 0; rel = made })
+      → IsPartial def kind [] (record { header = outside; seen = p.seen; wanted = 0; rel = made })
   closed_partial region close made sorted = record {
     header = region;
     sort = part.sort;

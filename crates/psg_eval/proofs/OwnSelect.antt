@@ -1,5 +1,5 @@
 -- The rows of an operator in which positions with one key agree are the own rows of its nodes.
-use Rattle.std.proofs.Common.{◌≡◌, ℕ, ◌<◌, ◌≤◌, suc, zero, false, cond, List, [], ◌∷◌, ◌++◌, map, length, All, refl, ap, sym, ◌∙◌, subst, Option, Some, slice_get, arith}
+use Rattle.std.proofs.Common.{◌≡◌, ℕ, ◌<◌, ◌≤◌, suc, zero, List, [], ◌∷◌, ◌++◌, map, length, All, refl, ap, sym, ◌∙◌, subst, Option, Some, slice_get, arith}
 use Rattle.std.proofs.lemmas.List.{length-map}
 use Rattle.psg_terms.specs.Names.{Name}
 use Rattle.psg_terms.specs.Terms.{Term}
@@ -106,14 +106,14 @@ module _ (def : Definition) (op : Operator) (names : List Name) (slots : List �
   own_within row i = subst (λ n. All (λ k. k < n) kept) (sym (sorts_length def.signature row row_sorts (own_sorted row i)))
       (picks_within row_sorts kept ((shape.sort ∷ placed_sorts.wanted) ++ key_sorts.0) kept_picks)
 
-  pub own_partial : (rel : List (List Term)) → AllHaveSorts def.signature rel (picked row_sorts kept) → (p : Partial) → p.header ≡ own.header → p.report ≡ false → p.wanted ≡ length slots → p.rel ≡ rel
+  pub own_partial : (rel : List (List Term)) → AllHaveSorts def.signature rel (picked row_sorts kept) → (p : Partial) → p.header ≡ own.header → p.seen ≡ 0 → p.wanted ≡ length slots → p.rel ≡ rel
       → IsPartial def (kinds.Phylum op.phylum) (slot_kinds def op.items) p
   own_partial rel sorted p eh er ew el = record {
     header = subst (λ h. IsOrdered h) (sym eh) are.ordered;
     sort = shape.sort;
     kind_sort = shape.phylum_sort;
     seen = [];
-    reported = sym (ap (λ b. cond b 1 0) er);
+    reported = sym er;
     wanted = placed_sorts.wanted;
     wanted_sorts = placed_sorts.wanted_sorts;
     many = ew ∙ ap length are.slots_are ∙ slot_count def op.items 1;

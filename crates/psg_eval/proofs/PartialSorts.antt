@@ -1,5 +1,5 @@
 -- The sorts of a node's rows with one more child.
-use Rattle.std.proofs.Common.{◌≡◌, inl, inr, ℕ, ◌+◌, ◌||◌, suc, Bool, true, false, cond, List, [], ◌∷◌, ◌++◌, map, length, refl, ap, ap₂, sym, ◌∙◌, subst, Option, Some, length-append, arith}
+use Rattle.std.proofs.Common.{◌≡◌, inl, inr, ℕ, ◌+◌, suc, List, [], ◌∷◌, ◌++◌, map, length, refl, ap, ap₂, sym, ◌∙◌, subst, Option, Some, length-append, arith}
 use Rattle.psg_terms.specs.Terms.{Term}
 use Rattle.psg_terms.specs.Relations.{IsGlued, IsRelation}
 use Rattle.psg_grammar.specs.Keys.{Key, space_of}
@@ -66,13 +66,8 @@ module _ (def : Definition) where
   equal_sorts ls rs [] h = tt
   equal_sorts ls rs (c ∷ pairs) h = (h.0, equal_sorts ls rs pairs h.1)
 
-  both_reports : (a b : Bool) (xs ys : List ℕ) → length xs ≡ cond a 1 0 → length ys ≡ cond b 1 0 → (a ≡ true → b ≡ true → ⊥) → length (xs ++ ys) ≡ cond (a || b) 1 0
-  both_reports true true xs ys e d n = absurd (n refl refl)
-  both_reports true false xs ys e d n = omega (arith, length-append xs ys)
-  both_reports false b xs ys e d n = length-append xs ys ∙ ap₂ (λ m n. m + n) e d ∙ (let z : 0 + cond b 1 0 ≡ cond b 1 0 = omega arith in z)
-
   module _ (kind : Kind) (kinds : List Kind) (p : Partial) (c : Known) (h : Header) (pairs : List Columns) (keep : List ℕ) (part : IsPartial def kind (c.kind ∷ kinds) p) (sum : IsSummary def c)
-      (l : IsLayout (cond p.report 1 0) p.wanted (cond c.report 1 0) (keys p.header.names) (keys c.header.names) (keys h.names) pairs keep) where
+      (l : IsLayout p.seen p.wanted c.seen (keys p.header.names) (keys c.header.names) (keys h.names) pairs keep) where
     abbrev pub first_sort : ℕ
     first_sort = part.wanted_sorts.0
 
@@ -109,7 +104,7 @@ module _ (def : Definition) where
     pub picks : (E : List ℕ) × Picks (left_sorts ++ right_sorts) l.of_keys E × Along IsKeySort (keys h.names) E
         × Picks (left_sorts ++ right_sorts) keep ((((part.sort ∷ part.seen) ++ sum.seen) ++ other_sorts) ++ E)
     picks = layout_picks part.sort part.seen first_sort other_sorts part.key_sorts sum.sort sum.seen sum.key_sorts
-        (cond p.report 1 0) p.wanted (cond c.report 1 0) (keys p.header.names) (keys c.header.names) (keys h.names) pairs keep l
+        p.seen p.wanted c.seen (keys p.header.names) (keys c.header.names) (keys h.names) pairs keep l
         (sym part.reported) many_left (sym sum.reported) many_keys many_child IsKeySort (along_sorts p.header.names part.key_sorts part.keys_sorted) (along_sorts c.header.names sum.key_sorts sum.keys_sorted)
 
     pub kept_sorts : picked (left_sorts ++ right_sorts) keep ≡ ((part.sort ∷ (part.seen ++ sum.seen)) ++ other_sorts) ++ picks.0
@@ -123,7 +118,7 @@ module _ (def : Definition) where
       rights = right_sorted;
       equal = λ one other i j. equal_sorts left_sorts right_sorts pairs
           (layout_pairs part.sort part.seen first_sort other_sorts part.key_sorts sum.sort sum.seen sum.key_sorts
-          (cond p.report 1 0) p.wanted (cond c.report 1 0) (keys p.header.names) (keys c.header.names) (keys h.names) pairs keep l
+          p.seen p.wanted c.seen (keys p.header.names) (keys c.header.names) (keys h.names) pairs keep l
           (sym part.reported) many_left (sym sum.reported) many_keys many_child IsKeySort key_sort_same
           (along_sorts p.header.names part.key_sorts part.keys_sorted) (along_sorts c.header.names sum.key_sorts sum.keys_sorted) same_kind);
       within = λ one other i j. within_sorts def.signature one other left_sorts right_sorts keep (length (left_sorts ++ right_sorts)) (left_sorted one i) (right_sorted other j)
@@ -131,14 +126,14 @@ module _ (def : Definition) where
           (picks_within (left_sorts ++ right_sorts) keep ((((part.sort ∷ part.seen) ++ sum.seen) ++ other_sorts) ++ picks.0) picks.3);
     }
 
-    pub next_partial : IsOrdered h → (p.report ≡ true → c.report ≡ true → ⊥) → (more : ℕ) → more + 1 ≡ p.wanted → (made : List (List Term))
-        → AllHaveSorts def.signature made (picked (left_sorts ++ right_sorts) keep) → (q : Partial) → q.header ≡ h → q.report ≡ (p.report || c.report) → q.wanted ≡ more → q.rel ≡ made → IsPartial def kind kinds q
-    next_partial region apart more em made sorted q eh er ew el = record {
+    pub next_partial : IsOrdered h → (more : ℕ) → more + 1 ≡ p.wanted → (made : List (List Term))
+        → AllHaveSorts def.signature made (picked (left_sorts ++ right_sorts) keep) → (q : Partial) → q.header ≡ h → q.seen ≡ p.seen + c.seen → q.wanted ≡ more → q.rel ≡ made → IsPartial def kind kinds q
+    next_partial region more em made sorted q eh er ew el = record {
       header = subst IsOrdered (sym eh) region;
       sort = part.sort;
       kind_sort = part.kind_sort;
       seen = part.seen ++ sum.seen;
-      reported = both_reports p.report c.report part.seen sum.seen part.reported sum.reported apart ∙ ap (λ b. cond b 1 0) (sym er);
+      reported = length-append part.seen sum.seen ∙ ap₂ (λ m n. m + n) part.reported sum.reported ∙ sym er;
       wanted = other_sorts;
       wanted_sorts = part.wanted_sorts.4;
       many = let m = part.many in omega arith;
@@ -148,7 +143,7 @@ module _ (def : Definition) where
       sorted = subst (λ rows. AllHaveSorts def.signature rows (((part.sort ∷ (part.seen ++ sum.seen)) ++ other_sorts) ++ picks.0)) (sym el) (subst (AllHaveSorts def.signature made) kept_sorts sorted);
     }
 
-    left_length : length left_sorts ≡ 1 + cond p.report 1 0 + p.wanted + length (keys p.header.names)
+    left_length : length left_sorts ≡ 1 + p.seen + p.wanted + length (keys p.header.names)
     left_length =
         let a = length-append ((part.sort ∷ part.seen) ++ (first_sort ∷ other_sorts)) part.key_sorts in
         let b = length-append (part.sort ∷ part.seen) (first_sort ∷ other_sorts) in
@@ -157,7 +152,7 @@ module _ (def : Definition) where
         let m = many_left in
         omega arith
 
-    right_length : length right_sorts ≡ 1 + cond c.report 1 0 + length (keys c.header.names)
+    right_length : length right_sorts ≡ 1 + c.seen + length (keys c.header.names)
     right_length =
         let a = length-append (sum.sort ∷ sum.seen) sum.key_sorts in
         let r = sum.reported in
@@ -165,20 +160,20 @@ module _ (def : Definition) where
         omega arith
 
     pub as_next : IsOrdered h → (ss : List ℕ) (rows : List (List Term)) → IsRelation def.signature ss (IsGlued def.signature (Agrees pairs keep) p.rel c.rel) rows
-        → IsRelation def.signature ss (IsGlued def.signature (NextGlue (cond p.report 1 0) (keys p.header.names) (keys c.header.names) (keys h.names)) p.rel c.rel) rows
-    as_next region ss rows = as_glued (cond p.report 1 0) p.wanted (cond c.report 1 0) (keys p.header.names) (keys c.header.names) (keys h.names) pairs keep l (region.keys_rise)
+        → IsRelation def.signature ss (IsGlued def.signature (NextGlue p.seen (keys p.header.names) (keys c.header.names) (keys h.names)) p.rel c.rel) rows
+    as_next region ss rows = as_glued p.seen p.wanted c.seen (keys p.header.names) (keys c.header.names) (keys h.names) pairs keep l (region.keys_rise)
         def.signature p.rel c.rel left_sorts right_sorts left_sorted right_sorted left_length right_length (let m = many_left in omega arith) ss rows
 
   -- a region that declares a key twice has no rows
   module _ (kind : Kind) (kinds : List Kind) (p : Partial) (c : Known) (h : Header) (part : IsPartial def kind (c.kind ∷ kinds) p) (sum : IsSummary def c) where
-    pub empty_partial : IsOrdered h → IsUnion p.header c.header h → (p.report ≡ true → c.report ≡ true → ⊥) → (more : ℕ) → more + 1 ≡ p.wanted
-        → (q : Partial) → q.header ≡ h → q.report ≡ (p.report || c.report) → q.wanted ≡ more → q.rel ≡ [] → IsPartial def kind kinds q
-    empty_partial region join apart more em q eh er ew el = record {
+    pub empty_partial : IsOrdered h → IsUnion p.header c.header h → (more : ℕ) → more + 1 ≡ p.wanted
+        → (q : Partial) → q.header ≡ h → q.seen ≡ p.seen + c.seen → q.wanted ≡ more → q.rel ≡ [] → IsPartial def kind kinds q
+    empty_partial region join more em q eh er ew el = record {
       header = subst IsOrdered (sym eh) region;
       sort = part.sort;
       kind_sort = part.kind_sort;
       seen = part.seen ++ sum.seen;
-      reported = both_reports p.report c.report part.seen sum.seen part.reported sum.reported apart ∙ ap (λ b. cond b 1 0) (sym er);
+      reported = length-append part.seen sum.seen ∙ ap₂ (λ m n. m + n) part.reported sum.reported ∙ sym er;
       wanted = part.wanted_sorts.1;
       wanted_sorts = part.wanted_sorts.4;
       many = let m = part.many in omega arith;

@@ -86,7 +86,7 @@ slice_get-seam (y ∷ xs) x ys = slice_get-seam xs x ys
 module _ (def : Definition) where
   pub first_bare : (f : Fragment) (more : List Item) → HasParts def f more → first_children 0 f ≡ bare f
   first_bare (operator o) more h = refl
-  first_bare (with_child f t) more (k, h, _) =
+  first_bare (with_child f t) more (k, h) =
       ap₂ with_child (first_bare f (items.Slot k ∷ more) h) (ap (λ b. cond b t anything) (le-ltb (length (children_of f)) 0 (omega arith)))
   first_bare (with_name f n) more (inl (s, h)) = ap (λ x. with_name x n) (first_bare f (items.Refers s ∷ more) h)
   first_bare (with_name f n) more (inr (s, h)) = ap (λ x. with_name x n) (first_bare f (items.Declares s ∷ more) h)
@@ -152,7 +152,7 @@ module _ (def : Definition) where
     done_of (operator p) more top (other, at, e) =
         let same = same_operator p top other at in
         record { done = []; split = sym (e ∙ ap (λ (x : Operator). part_items x.items) same); count = refl; top = top }
-    done_of (with_child f t) more top (k, h, _) = done_more f (with_child f t) (items.Slot k) more refl refl (done_of f (items.Slot k ∷ more) top h)
+    done_of (with_child f t) more top (k, h) = done_more f (with_child f t) (items.Slot k) more refl refl (done_of f (items.Slot k ∷ more) top h)
     done_of (with_name f n) more top (inl (s, h)) = done_more f (with_name f n) (items.Refers s) more refl refl (done_of f (items.Refers s ∷ more) top h)
     done_of (with_name f n) more top (inr (s, h)) = done_more f (with_name f n) (items.Declares s) more refl refl (done_of f (items.Declares s ∷ more) top h)
     done_of (with_number f n) more top h = done_more f (with_number f n) items.Number more refl refl (done_of f (items.Number ∷ more) top h)
@@ -188,7 +188,7 @@ module _ (def : Definition) where
     names_so_far (operator p) more top (other, at, e) rest =
         let same = same_operator p top other at in
         ap (λ l. keys (positions l rest)) (sym (e ∙ ap (λ (x : Operator). part_items x.items) same))
-    names_so_far (with_child f t) more top (k, h, _) rest =
+    names_so_far (with_child f t) more top (k, h) rest =
         names_so_far f (items.Slot k ∷ more) top h rest ∙ ap (λ l. l ++ keys (positions more rest)) (sym (append-nil (names_inside def (bare f))))
     names_so_far (with_name f n) more top (inl (s, h)) rest =
         ap (λ l. keys (positions parts l)) (append_assoc (own_names f) (n ∷ []) rest) ∙ names_so_far f (items.Refers s ∷ more) top h (n ∷ rest)
@@ -215,7 +215,7 @@ module _ (def : Definition) where
     declared_so_far (operator p) more top (other, at, e) rest =
         let same = same_operator p top other at in
         ap (λ l. declared_keys (positions l rest)) (sym (e ∙ ap (λ (x : Operator). part_items x.items) same))
-    declared_so_far (with_child f t) more top (k, h, _) rest =
+    declared_so_far (with_child f t) more top (k, h) rest =
         declared_so_far f (items.Slot k ∷ more) top h rest ∙ ap (λ l. l ++ declared_keys (positions more rest)) (sym (append-nil (declared_inside def (bare f))))
     declared_so_far (with_name f n) more top (inl (s, h)) rest =
         ap (λ l. declared_keys (positions parts l)) (append_assoc (own_names f) (n ∷ []) rest) ∙ declared_so_far f (items.Refers s ∷ more) top h (n ∷ rest)

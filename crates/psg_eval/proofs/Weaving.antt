@@ -57,7 +57,7 @@ module _ (def : Definition) (o : ℕ) (op : Operator) (found : slice_get def.ope
   holds_weave (operator p) more top h g c columns v before after (e, row) =
       let same : p ≡ o = cc in
       record { own = []; values = []; weaves = (refl, refl, refl); before_is = e; row = subst (λ q. IsOfOperatorRow def q c v columns) same row }
-  holds_weave (with_child f t) more top (k, h, _) g c columns v before after (u, mid, inner, hf, ei, agr, (none, mid_is)) =
+  holds_weave (with_child f t) more top (k, h) g c columns v before after (u, mid, inner, hf, ei, agr, (none, mid_is)) =
       let w = holds_weave f (items.Slot k ∷ more) top h g c.0 (u ∷ columns) v before mid hf in
       record {
         own = w.own ++ u ∷ [];
@@ -158,7 +158,7 @@ module _ (def : Definition) (o : ℕ) (op : Operator) (found : slice_get def.ope
         slots = ap₂ (λ l k. slot_terms l (k ++ columns)) all a ∙ ap (λ l. l ++ slot_terms more columns) (sym b);
         names = ap₂ (λ l k. name_terms l (k ++ columns)) all a ∙ ap (λ l. l ++ name_terms more columns) (sym c);
       }
-  weave_told (with_child f t) more top (k, h, _) own values terms (front, seen, u, e, d, w) columns =
+  weave_told (with_child f t) more top (k, h) own values terms (front, seen, u, e, d, w) columns =
       slot_told k more own values terms columns front seen u e d (weave_told f (items.Slot k ∷ more) top h front seen terms w (u ∷ columns))
   weave_told (with_name f n) more top (inl (s, h)) own values terms (front, kept, u, e, d, w) columns =
       name_told (items.Refers s) more own values terms columns front kept u e d refl refl (weave_told f (items.Refers s ∷ more) top h front values kept w (u ∷ columns))
@@ -268,7 +268,7 @@ module _ (def : Definition) (o : ℕ) (op : Operator) (found : slice_get def.ope
         weaves = (refl, refl, refl);
         entities = tt;
       }
-  split_of (with_child f t) more top (k, h, _) full sorts are sorted ground =
+  split_of (with_child f t) more top (k, h) full sorts are sorted ground =
       let w = split_of f (items.Slot k ∷ more) top h full sorts are sorted ground in
       let (r, rest_sorts, sorts_are, _, rest_are) = w.are_columns in
       let (u, rest, e2, hu, gu, hs, gs) = first_of w.columns r rest_sorts (subst (HaveSorts def.signature w.columns) sorts_are w.sorted) w.ground in

@@ -15,8 +15,8 @@ abbrev pub outer_names : Definition → Fragment → List Key
 outer_names def t = passing (is_scope def t) (λ s. unfinished_inside def s t) (declared_inside def t) (names_inside def t)
 
 -- The row p has the keys K, the row q of a child has the keys L, and x has the keys M. The first wanted value of p, behind the
--- values that are seen before it, is the value of q; equal keys have equal entities. In x the values that the child
--- reports stand in its place.
+-- values that are seen before it, is the value of q; equal keys have equal entities. In x the values that are
+-- seen in the child are in its place.
 pub record NextGlue (before : ℕ) (K L M : List Key) (p q x : List Term) : Type 0 where
   pub value : Term
   pub seen : List Term

@@ -8,3 +8,10 @@ pub mod Partials
 pub mod Outside
 pub mod Leaves
 pub mod Stages
+pub mod ClimbSteps
+pub mod Frames
+pub mod Climbing
+pub mod Reporting
+pub mod Questions
+pub mod Patterns
+pub mod SpaceTables

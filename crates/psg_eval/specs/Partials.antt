@@ -1,5 +1,5 @@
 -- What is known of a node with its first children.
-use Rattle.std.specs.Prelude.{ℕ, ◌≡◌, ◌<◌, ◌^◌, Bool, true, false, cond, ◌||◌, List, [], ◌∷◌, ◌++◌, length, Result, Ok, Err}
+use Rattle.std.specs.Prelude.{ℕ, ◌≡◌, ◌<◌, ◌^◌, Bool, true, false, ◌||◌, List, [], ◌∷◌, ◌++◌, length, Result, Ok, Err}
 use Rattle.psg_terms.specs.Terms.{Term}
 use Rattle.psg_terms.specs.Relations.{IsRelation, IsGlued}
 use Rattle.psg_terms.specs.Weight.{PassesLimit}
@@ -24,13 +24,13 @@ module _ (def : Definition) where
   AreKindSorts (k ∷ kinds) sorts = (s : ℕ) × (rest : List ℕ) × (sorts ≡ s ∷ rest) × HasKindSort def k s × AreKindSorts kinds rest
 
   -- A node of the kind, where children of these kinds are still wanted: an ordered header, and rows of the sorts of the kind,
-  -- of the reported value, of the wanted values and of the keys.
+  -- of the seen values, of the wanted values and of the keys.
   pub record IsPartial (kind : Kind) (kinds : List Kind) (p : Partial) : Type 0 where
     pub header : IsOrdered p.header
     pub sort : ℕ
     pub kind_sort : HasKindSort def kind sort
     pub seen : List ℕ
-    pub reported : length seen ≡ cond p.report 1 0
+    pub reported : length seen ≡ p.seen
     pub wanted : List ℕ
     pub wanted_sorts : AreKindSorts kinds wanted
     pub many : p.wanted ≡ length kinds
@@ -46,7 +46,7 @@ module _ (def : Definition) where
         → IsHeader (names ++ others) (declared ++ others_declared) (λ s. unfinished s || others_unfinished s) header
     pub none : header.twice ≡ true → rows ≡ []
     pub made : header.twice ≡ false → (ss : List ℕ)
-        × IsRelation def.signature ss (IsGlued def.signature (NextGlue (cond p.report 1 0) (keys p.header.names) (keys child.header.names) (keys header.names)) p.rel child.rel) rows
+        × IsRelation def.signature ss (IsGlued def.signature (NextGlue p.seen (keys p.header.names) (keys child.header.names) (keys header.names)) p.rel child.rel) rows
 
 -- the step's header and rows, which do not pass the limit; or some that do
 abbrev pub MatchStep : (Header → List (List Term) → Type 0) → Result Partial RelFault → Type 0

@@ -20,7 +20,7 @@ use Rattle.psg_eval.specs.declared.summary.EvalFault.{EvalFault}
 use Rattle.psg_eval.specs.declared.summary.EvalFault.TheVariants as faults
 use Rattle.psg_eval.specs.Leaves.{IsFaultAt}
 use Rattle.psg_eval.specs.Summaries.{IsFirstPassing, IsSummaryOf, StaysWithin}
-use Rattle.psg_eval.specs.Trees.{HasParts, reports}
+use Rattle.psg_eval.specs.Trees.{HasParts, seen_in}
 use Rattle.psg_grammar.specs.Kinds.{IsOfKind}
 
 module _ (def : Definition) where
@@ -51,14 +51,14 @@ module _ (def : Definition) where
 
   -- the node as what stands outside sees it; or the first of the steps that passes the limit; or want of memory
   abbrev pub MatchOuter : Fragment → Kind → Result Partial EvalFault → Type 0
-  MatchOuter f kind (Ok q) = IsSummaryOf def f (record { kind = kind; header = q.header; report = q.report; rel = q.rel }) × StaysWithin def f
+  MatchOuter f kind (Ok q) = IsSummaryOf def f (record { kind = kind; header = q.header; seen = q.seen; rel = q.rel }) × StaysWithin def f
   MatchOuter f kind (Err (faults.Wide step)) = IsFirstPassing def f step
   MatchOuter f kind (Err faults.Memory) = Unit {0}
 
   -- of every node of the operator with so many children, which is as far as this
   abbrev pub MatchWhole : Operator → Partial → ℕ → Result Partial EvalFault → Type 0
   MatchWhole op whole count result = (f : Fragment) → HasParts def f [] → IsOfKind def f (kinds.Phylum op.phylum) → is_scope def f ≡ op.scope → children_count f ≡ count
-      → whole.report ≡ reports f → IsMade f count whole → MatchOuter f (kinds.Phylum op.phylum) result
+      → whole.seen ≡ seen_in f → IsMade f count whole → MatchOuter f (kinds.Phylum op.phylum) result
 
   -- header and rows of a cell of the list without its two children
   pub record IsCellStart (l : ℕ) (h : Header) (rows : List (List Term)) : Type 0 where

@@ -1,5 +1,5 @@
 -- What the summary of a tree says, and what is said where there is none.
-use Rattle.std.specs.Prelude.{ℕ, ◌≡◌, ◌<◌, ◌≤◌, ◌&&◌, not, cond, List, [], ◌∷◌, ◌++◌, length, map, Result, Ok, Err, Some, slice_get}
+use Rattle.std.specs.Prelude.{ℕ, ◌≡◌, ◌<◌, ◌≤◌, ◌&&◌, not, List, [], ◌∷◌, ◌++◌, length, map, Result, Ok, Err, Some, slice_get}
 use Rattle.std.specs.List.{AllByRecursion}
 use Rattle.psg_terms.specs.Names.{Name}
 use Rattle.psg_grammar.specs.declared.types.Kind.{Kind}
@@ -23,7 +23,7 @@ use Rattle.psg_scope.specs.Headers.{AreAscending, has_space, IsHeader, IsOrdered
 use Rattle.psg_eval.specs.declared.summary.Known.{Known}
 use Rattle.psg_eval.specs.declared.summary.EvalFault.{EvalFault}
 use Rattle.psg_eval.specs.declared.summary.EvalFault.TheVariants as faults
-use Rattle.psg_eval.specs.Trees.{reports}
+use Rattle.psg_eval.specs.Trees.{seen_in}
 use Rattle.psg_grammar.specs.Kinds.{IsOfKind}
 
 module _ (def : Definition) where
@@ -36,7 +36,7 @@ module _ (def : Definition) where
   pub record IsSummaryOf (f : Fragment) (s : Known) : Type 0 where
     pub kind : IsOfKind def f s.kind
     pub header : IsHeaderOf f s.header
-    pub report : s.report ≡ reports f
+    pub seen : s.seen ≡ seen_in f
     pub rows : IsRelationOf def f s.rel
 
   abbrev pub AllSummaries : List Fragment → List Known → Type 0
@@ -54,13 +54,13 @@ module _ (def : Definition) where
   AreKeySorts [] sorts = sorts ≡ []
   AreKeySorts (c ∷ cols) sorts = (s : ℕ) × (rest : List ℕ) × (sorts ≡ s ∷ rest) × HasSpaceSort def c.space s × AreKeySorts cols rest
 
-  -- what every summary is, whatever its tree: an ordered header, and rows of the sorts of kind and spaces
+  -- what every summary is, whatever its tree: an ordered header, and rows of the sorts of the kind, of the seen values and of the spaces
   pub record IsSummary (s : Known) : Type 0 where
     pub header : IsOrdered s.header
     pub sort : ℕ
     pub kind_sort : HasKindSort def s.kind sort
     pub seen : List ℕ
-    pub reported : length seen ≡ cond s.report 1 0
+    pub reported : length seen ≡ s.seen
     pub key_sorts : List ℕ
     pub keys_sorted : AreKeySorts s.header.names key_sorts
     pub sorted : AllHaveSorts def.signature s.rel ((sort ∷ seen) ++ key_sorts)
@@ -78,17 +78,11 @@ module _ (def : Definition) where
   are_names (items.Declares s ∷ rest) = items.Declares s ∷ are_names rest
   are_names (_ ∷ rest) = are_names rest
 
-  -- the summaries that report
-  abbrev pub reporting : List Known → List Known
-  reporting [] = []
-  reporting (s ∷ rest) = cond s.report (s ∷ reporting rest) (reporting rest)
-
-  -- an operator takes these names and children: one of each position and slot, of the slots' kinds, and one that reports at most
+  -- an operator takes these names and children: one of each position and slot, of the slots' kinds
   pub record Takes (op : Operator) (names : List Name) (children : List Known) : Type 0 where
     pub names_fit : length (are_names op.items) ≡ length names
     pub kinds_fit : map (λ (s : Known). s.kind) children ≡ slot_kinds op.items
     pub summaries : AllByRecursion IsSummary children
-    pub reported : length (reporting children) ≤ 1
 
   abbrev pub TakesAt : ℕ → List Name → List Known → Type 0
   TakesAt o names children = (op : Operator) × (slice_get def.operators o ≡ Some op) × Takes op names children
@@ -100,7 +94,6 @@ module _ (def : Definition) where
     pub element_kind : element.kind ≡ kinds.Phylum list.element
     pub rest_kind : rest.kind ≡ kinds.List l
     pub summaries : AllByRecursion IsSummary (element ∷ rest ∷ [])
-    pub reported : length (reporting (element ∷ rest ∷ [])) ≤ 1
 
   -- the spaces in which the list's elements declare, ascending
   pub record AreSpacesOfList (l : ℕ) (spaces : List ℕ) : Type 0 where

@@ -29,7 +29,7 @@ pub record GrowsBy (old new : Placed) (pairs : List Columns) (column left right 
   pub rights : new.rights ≡ old.rights + right
 
 -- The pairs and the kept columns of a row with so many seen and wanted values and the keys K, and of a child's row with so many
--- reported values and the keys L. The first wanted value is the child's value.
+-- seen values and the keys L. The first wanted value is the child's value.
 pub record IsLayout (seen wanted more : ℕ) (K L M : List Key) (pairs : List Columns) (keep : List ℕ) : Type 0 where
   pub on_keys : List Columns
   pub of_keys : List ℕ

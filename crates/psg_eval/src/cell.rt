@@ -1,5 +1,5 @@
 //! The first cell of a list.
-ghost use Rattle.std.specs.Prelude.{◌≡◌, ◌<◌, ◌∷◌, ◌||◌, [], false, length, slice_get, Some, IfOk};
+ghost use Rattle.std.specs.Prelude.{◌≡◌, ◌+◌, ◌<◌, ◌∷◌, [], length, slice_get, Some, IfOk};
 ghost use Rattle.psg_grammar.specs.Fragments.{Fragment, cell as a_cell};
 ghost use Rattle.psg_grammar.specs.Sound.{IsSound};
 ghost use Rattle.psg_grammar.specs.declared.types.Kind.TheVariants.{List as OfList, Phylum as OfPhylum};
@@ -10,19 +10,23 @@ ghost use Rattle.psg_eval.specs.Summaries.{IsSummaryOf, TakesCell};
 
 use crate::leaves::{no_keys, whole_rows};
 use crate::partial::{Partial, numbered, with_child};
-use crate::summary::{EvalFault, Summary};
+use crate::summary::{EvalFault, Known};
 use psg_grammar::Definition;
 use psg_relation::{Rel, RelFault};
 use std::alloc::Global;
 
 /// A cell of the list without its two children.
-fn cell_start(alloc: Global, definition: &Definition, list: u32) -> Result<Partial, RelFault>
+pub(crate) fn cell_start(
+    alloc: Global,
+    definition: &Definition,
+    list: u32,
+) -> Result<Partial, RelFault>
     requires sound { IsSound definition.now }
     requires there { list < length definition.now.lists }
     ensures step { MatchStep (IsCellStart definition.now list) result }
     ensures partial { IfOk result (λ p. (kind : ListKind) → slice_get definition.now.lists list ≡ Some kind
         → IsPartial definition.now (OfList list) (OfPhylum kind.element ∷ OfList list ∷ []) p) }
-    ensures report { IfOk result (λ p. p.report ≡ false) }
+    ensures seen { IfOk result (λ p. p.seen ≡ 0) }
 {
     let this = &definition.lists.as_slice()[list as usize];
     let header = no_keys(alloc, Vec::new(alloc));
@@ -30,7 +34,7 @@ fn cell_start(alloc: Global, definition: &Definition, list: u32) -> Result<Parti
     let rel = Rel::of(alloc, &definition.signature, rows.as_slice())?;
     Ok(Partial {
         header,
-        report: false,
+        seen: 0,
         wanted: 2,
         rel,
     })
@@ -41,15 +45,15 @@ pub(crate) fn cell_parts(
     alloc: Global,
     definition: &Definition,
     list: u32,
-    element: &Summary,
-    rest: &Summary,
+    element: &Known,
+    rest: &Known,
 ) -> Result<Partial, EvalFault>
     requires sound { IsSound definition.now }
     requires takes { TakesCell definition.now list element.now rest.now }
     ensures made { (e r : Fragment) → IsSummaryOf definition.now e element.now → IsSummaryOf definition.now r rest.now
         → MatchMade definition.now (a_cell list e r) 2 result }
     ensures partial { IfOk result (IsPartial definition.now (OfList list) []) }
-    ensures report { IfOk result (λ p. p.report ≡ (element.now.report || rest.now.report)) }
+    ensures seen { IfOk result (λ p. p.seen ≡ element.now.seen + rest.now.seen) }
 {
     let first = numbered(cell_start(alloc, definition, list), 0)?;
     let begun = numbered(with_child(alloc, definition, &first, element), 1)?;

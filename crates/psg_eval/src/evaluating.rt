@@ -1,10 +1,9 @@
 //! Summaries of nodes, cells, ends and placeholders.
-ghost use Rattle.std.specs.Prelude.{◌≡◌, ◌+◌, ◌<◌, ◌||◌, ℕ, true, length, slice_get, Some, IfOk, List};
+ghost use Rattle.std.specs.Prelude.{◌≡◌, ◌+◌, ◌<◌, ℕ, true, length, slice_get, Some, IfOk, List, sum_by};
 ghost use Rattle.psg_grammar.specs.Fragments.{Fragment, hole, ending, cell};
 ghost use Rattle.psg_grammar.specs.declared.types.Kind.TheVariants.{List as OfList, Phylum as OfPhylum};
 ghost use Rattle.psg_grammar.specs.declared.types.Operator.{Operator};
 ghost use Rattle.psg_eval.specs.declared.summary.Known.{Known as Kept};
-ghost use Rattle.std.specs.List.{list_any};
 ghost use Rattle.psg_grammar.specs.Sound.{IsSound};
 ghost use Rattle.psg_grammar.specs.WellFormed.{IsListEnd};
 ghost use Rattle.psg_eval.specs.Trees.{IsNode};
@@ -57,7 +56,7 @@ pub fn eval_op<L: Ledger>(
     ensures answer { (f : Fragment) → IsNode definition.now op names.now f → AreSummariesOf definition.now f children.now → Answers definition.now f result }
     ensures summary { IfOk result (IsSummary definition.now) }
     ensures kind { IfOk result (λ s. (o : Operator) → slice_get definition.now.operators op ≡ Some o → s.kind ≡ OfPhylum o.phylum) }
-    ensures report { IfOk result (λ s. s.report ≡ list_any (λ (c : Kept). c.report) children.now) }
+    ensures seen { IfOk result (λ s. s.seen ≡ sum_by (λ (c : Kept). c.seen) children.now) }
     ensures ticks { steps.new ≡ steps.old + 1 }
 {
     steps.tick();
@@ -81,11 +80,11 @@ pub fn eval_cell<L: Ledger>(
         → Answers definition.now (cell list e r) result }
     ensures summary { IfOk result (IsSummary definition.now) }
     ensures kind { IfOk result (λ s. s.kind ≡ OfList list) }
-    ensures report { IfOk result (λ s. s.report ≡ (element.now.report || rest.now.report)) }
+    ensures seen { IfOk result (λ s. s.seen ≡ element.now.seen + rest.now.seen) }
     ensures ticks { steps.new ≡ steps.old + 1 }
 {
     steps.tick();
-    let whole = cell_parts(alloc, definition, list, element, rest)?;
+    let whole = cell_parts(alloc, definition, list, element.known(), rest.known())?;
     let summary = summary_of(alloc, Kind::List(list), whole)?;
     Ok(summary)
 }

@@ -104,7 +104,7 @@ fn leaf(
             let known = Known {
                 kind,
                 header,
-                report: false,
+                seen: 0,
                 rel,
             };
             Ok(Summary::new(alloc, known)?)

@@ -11,6 +11,7 @@
 #![tactic(auto)]
 
 mod cell;
+pub mod climbing;
 pub mod evaluating;
 pub mod frame;
 mod leaves;
@@ -18,9 +19,19 @@ mod node;
 mod outside;
 mod own;
 mod partial;
+mod parts;
+pub mod pattern;
+pub mod patterning;
 mod placing;
+pub mod question;
+pub mod reporting;
 pub mod summary;
 
+pub use climbing::climb;
 pub use evaluating::{eval_cell, eval_end, eval_hole, eval_op};
 pub use frame::Frame;
+pub use pattern::Pattern;
+pub use patterning::{pattern_cell, pattern_end, pattern_op};
+pub use question::{FocusFault, asked};
+pub use reporting::with_report;
 pub use summary::{EvalFault, Summary};

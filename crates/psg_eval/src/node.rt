@@ -1,6 +1,6 @@
 //! An operator's node with its children.
-ghost use Rattle.std.specs.Prelude.{◌≡◌, ◌≤◌, ◌+◌, ◌<◌, ◌^◌, [], false, ℕ, List, length, map, slice_get, Some, IfOk};
-ghost use Rattle.std.specs.List.{AllByRecursion, list_any};
+ghost use Rattle.std.specs.Prelude.{◌≡◌, ◌+◌, ◌<◌, ◌^◌, [], ℕ, List, length, slice_get, Some, IfOk, sum_by};
+ghost use Rattle.std.specs.List.{AllByRecursion};
 ghost use Rattle.psg_grammar.specs.Fragments.{Fragment};
 ghost use Rattle.psg_grammar.specs.Sound.{IsOperator, IsSound};
 ghost use Rattle.psg_grammar.specs.declared.types.Kind.{Kind as PlainKind};
@@ -8,7 +8,7 @@ ghost use Rattle.psg_grammar.specs.declared.types.Kind.TheVariants.{Phylum as Of
 ghost use Rattle.psg_eval.specs.declared.summary.Known.{Known as Kept};
 ghost use Rattle.psg_eval.specs.Partials.{IsPartial};
 ghost use Rattle.psg_eval.specs.Stages.{kinds_of, IsMade, MatchMade, MatchWhole};
-ghost use Rattle.psg_eval.specs.Summaries.{Answers, AreSummariesOf, IsSummary, Takes, reporting};
+ghost use Rattle.psg_eval.specs.Summaries.{Answers, AreSummariesOf, IsSummary, Takes};
 ghost use Rattle.psg_eval.specs.Trees.{HasParts, IsNode};
 
 use crate::outside::closed;
@@ -29,16 +29,15 @@ fn with_children(
     requires sound { IsSound definition.now }
     requires partial { (kind : PlainKind) × IsPartial definition.now kind (kinds_of children.now) first }
     requires summaries { AllByRecursion (IsSummary definition.now) children.now }
-    requires reported { length (reporting definition.now children.now) ≤ 1 }
-    requires silent { first.report ≡ false }
     ensures made { (f : Fragment) → HasParts definition.now f [] → AreSummariesOf definition.now f children.now → IsMade definition.now f 0 first
         → MatchMade definition.now f (length children.now) result }
     ensures partial { IfOk result (λ p. (kind : PlainKind) → IsPartial definition.now kind (kinds_of children.now) first → IsPartial definition.now kind [] p) }
-    ensures report { IfOk result (λ p. p.report ≡ list_any (λ (s : Kept). s.report) children.now) }
+    ensures seen { IfOk result (λ p. p.seen ≡ first.seen + sum_by (λ (s : Kept). s.seen) children.now) }
 {
     let mut partial = first;
     for i in 0..children.len() {
-        let next = numbered(with_child(alloc, definition, &partial, &children[i]), i + 1)?;
+        let child = children[i].known();
+        let next = numbered(with_child(alloc, definition, &partial, child), i + 1)?;
         partial = next;
     }
     Ok(partial)
@@ -58,7 +57,7 @@ fn all_children(
     ensures made { (o : ℕ) (f : Fragment) → slice_get definition.now.operators o ≡ Some operator.now → IsNode definition.now o names.now f
         → AreSummariesOf definition.now f children.now → MatchMade definition.now f (length children.now) result }
     ensures partial { IfOk result (IsPartial definition.now (OfPhylum operator.now.phylum) []) }
-    ensures report { IfOk result (λ p. p.report ≡ list_any (λ (s : Kept). s.report) children.now) }
+    ensures seen { IfOk result (λ p. p.seen ≡ sum_by (λ (s : Kept). s.seen) children.now) }
 {
     let first = numbered(first_step(alloc, definition, operator, names), 0)?;
     let whole = with_children(alloc, definition, first, children)?;
@@ -66,7 +65,7 @@ fn all_children(
 }
 
 /// The node as what stands outside sees it: of a scope operator only the keys remain that pass outward.
-fn outer(
+pub(crate) fn outer(
     alloc: Global,
     definition: &Definition,
     operator: &Operator,
@@ -78,7 +77,7 @@ fn outer(
     requires partial { IsPartial definition.now (OfPhylum operator.now.phylum) [] whole }
     ensures made { MatchWhole definition.now operator.now whole count result }
     ensures partial { IfOk result (IsPartial definition.now (OfPhylum operator.now.phylum) []) }
-    ensures report { IfOk result (λ p. p.report ≡ whole.report) }
+    ensures seen { IfOk result (λ p. p.seen ≡ whole.seen) }
 {
     if !operator.scope {
         return Ok(whole);
@@ -102,7 +101,7 @@ pub(crate) fn node(
         → AreSummariesOf definition.now f children.now → Answers definition.now f result }
     ensures summary { IfOk result (IsSummary definition.now) }
     ensures kind { IfOk result (λ s. s.kind ≡ OfPhylum operator.now.phylum) }
-    ensures report { IfOk result (λ s. s.report ≡ list_any (λ (c : Kept). c.report) children.now) }
+    ensures seen { IfOk result (λ s. s.seen ≡ sum_by (λ (c : Kept). c.seen) children.now) }
 {
     let whole = all_children(alloc, definition, operator, names, children)?;
     let outside = outer(alloc, definition, operator, children.len(), whole)?;

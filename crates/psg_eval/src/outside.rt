@@ -1,11 +1,11 @@
 //! The last step of a scope operator: what is known outside of it.
-ghost use Rattle.std.specs.Prelude.{◌≡◌, ◌+◌, ◌<◌, ◌^◌, ◌++◌, [], All, cond, map, IfOk, OnOk};
+ghost use Rattle.std.specs.Prelude.{◌≡◌, ◌+◌, ◌<◌, ◌^◌, ◌++◌, [], All, map, IfOk, OnOk};
 ghost use Rattle.psg_grammar.specs.declared.types.Kind.{Kind as PlainKind};
 ghost use Rattle.psg_eval.specs.Outside.{IsClosed};
 ghost use Rattle.psg_eval.specs.Partials.{IsPartial, MatchStep};
 ghost use Rattle.psg_eval.specs.Walks.{run};
 
-use crate::partial::{Partial, count, push_run};
+use crate::partial::{Partial, push_run};
 use psg_grammar::Definition;
 use psg_relation::{RelFault, project};
 use psg_scope::close_region;
@@ -22,19 +22,18 @@ fn push_columns(columns: &mut Vec<usize>, front: usize, kept: &[usize]) -> Resul
     Ok(())
 }
 
-/// The columns of a whole node's rows: the value, the reported value where there is one, and of so many keys those at these
-/// places.
+/// The columns of a whole node's rows: the value, the seen values, and of so many keys those at these places.
 fn kept_columns(
     alloc: Global,
-    report: bool,
+    seen: u32,
     keys: usize,
     kept: &[usize],
 ) -> Result<Vec<usize>, AllocError>
-    requires room { keys + 2 < 2 ^ 64 }
+    requires room { keys + seen + 1 < 2 ^ 64 }
     requires within { All (λ k. k < keys) kept.now }
-    ensures { IfOk result (λ v. v.items ≡ run 0 (1 + cond report 1 0) ++ map (λ k. (1 + cond report 1 0) + k) kept.now) }
+    ensures { IfOk result (λ v. v.items ≡ run 0 (1 + seen) ++ map (λ k. (1 + seen) + k) kept.now) }
 {
-    let front = 1 + count(report);
+    let front = 1 + seen as usize;
     let mut columns = Vec::with_capacity(alloc, front + keys)?;
     push_run(&mut columns, 0, front)?;
     push_columns(&mut columns, front, kept)?;
@@ -50,15 +49,15 @@ pub(crate) fn closed(
     requires { (kind : PlainKind) × IsPartial definition.now kind [] inside.now }
     ensures step { MatchStep (IsClosed definition.now inside.now) result }
     ensures partial { IfOk result (λ p. (kind : PlainKind) → IsPartial definition.now kind [] inside.now → IsPartial definition.now kind [] p) }
-    ensures report { IfOk result (λ p. p.report ≡ inside.now.report) }
+    ensures seen { IfOk result (λ p. p.seen ≡ inside.now.seen) }
 {
     let outside = close_region(alloc, &inside.header)?;
     let names = inside.header.names.as_slice();
-    let keep = kept_columns(alloc, inside.report, names.len(), outside.kept.as_slice())?;
+    let keep = kept_columns(alloc, inside.seen, names.len(), outside.kept.as_slice())?;
     let rel = project(alloc, &definition.signature, &inside.rel, keep.as_slice())?;
     Ok(Partial {
         header: outside.header,
-        report: inside.report,
+        seen: inside.seen,
         wanted: 0,
         rel,
     })

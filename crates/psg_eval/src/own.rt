@@ -144,7 +144,7 @@ fn own_rows(
     requires own { (names : List Name) × AreOwn definition.now operator.now names slots.now own.now }
     ensures sorted { IfOk result (λ rel. (names : List Name) → AreOwn definition.now operator.now names slots.now own.now
         → IsPartial definition.now (Phylum operator.now.phylum) (slot_kinds definition.now operator.now.items)
-        (record { header = own.now.header; report = false; wanted = length slots.now; rel = rel })) }
+        (record { header = own.now.header; seen = 0; wanted = length slots.now; rel = rel })) }
     ensures rows { IfOk result (λ rel. (names : List Name) → AreOwn definition.now operator.now names slots.now own.now
         → (ss : List ℕ) × IsRelation definition.now.signature ss (OwnRow definition.now.signature operator.now names) rel) }
     ensures within { IfOk result (λ rel. PassesLimit rel → ⊥) }
@@ -175,7 +175,7 @@ pub(crate) fn first_step(
     requires names { length (are_names definition.now operator.now.items) ≡ length names.now }
     ensures step { MatchStep (IsOwnStep definition.now operator.now names.now) result }
     ensures partial { IfOk result (IsPartial definition.now (Phylum operator.now.phylum) (slot_kinds definition.now operator.now.items)) }
-    ensures report { IfOk result (λ p. p.report ≡ false) }
+    ensures seen { IfOk result (λ p. p.seen ≡ 0) }
 {
     let found = item_places(alloc, operator.items.as_slice(), names)?;
     let own = own_keys(alloc, found.positions.as_slice(), found.names.as_slice())?;
@@ -187,7 +187,7 @@ pub(crate) fn first_step(
     };
     Ok(Partial {
         header: own.header,
-        report: false,
+        seen: 0,
         wanted: slots.len() as u32,
         rel,
     })

@@ -1,5 +1,5 @@
 //! A node with its first children, and one child more.
-ghost use Rattle.std.specs.Prelude.{◌≡◌, ◌+◌, ◌<◌, ◌≤◌, ◌∷◌, ◌||◌, ◌^◌, true, false, cond, ℕ, List, IfOk, IfErr, OnOk, ◌++◌, length};
+ghost use Rattle.std.specs.Prelude.{◌≡◌, ◌+◌, ◌<◌, ◌∷◌, ◌-◌, ◌^◌, ℕ, List, IfOk, IfErr, OnOk, ◌++◌};
 ghost use Rattle.psg_terms.specs.Relations.{IsGlued, IsRelation};
 ghost use Rattle.psg_terms.specs.Weight.{PassesLimit};
 ghost use Rattle.psg_grammar.specs.declared.types.Definition.{Definition as Language};
@@ -24,12 +24,11 @@ use std::alloc::{AllocError, Global};
 pub(crate) struct Partial {
     /// The keys of the region so far.
     pub(crate) header: Header,
-    /// Whether one of the children reports a value.
-    pub(crate) report: bool,
+    /// How many values are seen in the children.
+    pub(crate) seen: u32,
     /// How many children are still to be added.
     pub(crate) wanted: u32,
-    /// The columns are the value, the reported value where there is one, a value for each child to come, and the entities
-    /// of the keys.
+    /// The columns are the value, the seen values, a value for each child to come, and the entities of the keys.
     pub(crate) rel: Rel,
 }
 
@@ -40,19 +39,14 @@ pub(crate) struct Layout {
     pub(crate) keep: Vec<usize>,
 }
 
-/// How many values are reported.
-pub(crate) fn count(report: bool) -> usize
-    ensures value { result ≡ cond report 1 0 }
-    ensures small { result ≤ 1 }
+/// How many values are seen on both sides. `AllocError` is returned where 32 bits do not hold the number.
+fn both_seen(one: u32, two: u32) -> Result<u32, AllocError>
+    ensures { IfOk result (λ n. n ≡ one + two) }
 {
-    if report { 1 } else { 0 }
-}
-
-/// Without a branch, so that what follows is proved once.
-fn is_either(one: bool, two: bool) -> bool
-    ensures { result ≡ (one || two) }
-{
-    one || two
+    match one.checked_add(two) {
+        Some(sum) => Ok(sum),
+        None => Err(AllocError),
+    }
 }
 
 /// Puts so many numbers from one on at the end.
@@ -84,20 +78,20 @@ pub(crate) fn numbers(alloc: Global, from: usize, count: usize) -> Result<Vec<us
 fn child_layout(
     alloc: Global,
     before: &Partial,
-    child: &Summary,
+    child: &Known,
     joined: &Joined,
 ) -> Result<Layout, AllocError>
     requires some { 0 < before.now.wanted }
     requires left { ArePlaces joined.now.header.names joined.now.left (keys before.now.header.names) }
     requires right { ArePlaces joined.now.header.names joined.now.right (keys child.now.header.names) }
-    ensures { IfOk result (λ l. IsLayout (cond before.now.report 1 0) before.now.wanted (cond child.now.report 1 0) (keys before.now.header.names) (keys child.now.header.names)
+    ensures { IfOk result (λ l. IsLayout before.now.seen before.now.wanted child.now.seen (keys before.now.header.names) (keys child.now.header.names)
         (keys joined.now.header.names) l.pairs.items l.keep.items) }
 {
-    let first = 1 + count(before.report);
-    let more = count(child.report());
+    let first = 1 + before.seen as usize;
+    let more = child.seen as usize;
     let wanted = before.wanted as usize;
     let lefts = before.header.names.as_slice().len();
-    let rights = child.header().names.as_slice().len();
+    let rights = child.header.names.as_slice().len();
     let width = first + wanted + lefts;
     let left = numbers(alloc, first + wanted, lefts)?;
     let right = numbers(alloc, 1 + more, rights)?;
@@ -116,7 +110,7 @@ fn joined_rows(
     alloc: Global,
     definition: &Definition,
     before: &Partial,
-    child: &Summary,
+    child: &Known,
     joined: &Joined,
 ) -> Result<Rel, RelFault>
     requires partial { (kind : PlainKind) × (kinds : List PlainKind) × IsPartial definition.now kind (child.now.kind ∷ kinds) before.now }
@@ -125,21 +119,20 @@ fn joined_rows(
     requires left { ArePlaces joined.now.header.names joined.now.left (keys before.now.header.names) }
     requires right { ArePlaces joined.now.header.names joined.now.right (keys child.now.header.names) }
     ensures sorted { IfOk result (λ rel. (kind : PlainKind) (kinds : List PlainKind) → IsPartial definition.now kind (child.now.kind ∷ kinds) before.now
-        → (before.now.report ≡ true → child.now.report ≡ true → ⊥)
         → (more : ℕ) → more + 1 ≡ before.now.wanted
-        → IsPartial definition.now kind kinds (record { header = joined.now.header; report = before.now.report || child.now.report; wanted = more; rel = rel })) }
+        → IsPartial definition.now kind kinds (record { header = joined.now.header; seen = before.now.seen + child.now.seen; wanted = more; rel = rel })) }
     ensures rows { IfOk result (λ rel. (ss : List ℕ) × IsRelation definition.now.signature ss
-        (IsGlued definition.now.signature (NextGlue (cond before.now.report 1 0) (keys before.now.header.names) (keys child.now.header.names) (keys joined.now.header.names)) before.now.rel child.now.rel) rel) }
+        (IsGlued definition.now.signature (NextGlue before.now.seen (keys before.now.header.names) (keys child.now.header.names) (keys joined.now.header.names)) before.now.rel child.now.rel) rel) }
     ensures within { IfOk result (λ rel. PassesLimit rel → ⊥) }
     ensures wide { IfErr result (MayBeWide ((ss : List ℕ) × HasWide definition.now.signature ss
-        (IsGlued definition.now.signature (NextGlue (cond before.now.report 1 0) (keys before.now.header.names) (keys child.now.header.names) (keys joined.now.header.names)) before.now.rel child.now.rel))) }
+        (IsGlued definition.now.signature (NextGlue before.now.seen (keys before.now.header.names) (keys child.now.header.names) (keys joined.now.header.names)) before.now.rel child.now.rel))) }
 {
     let layout = child_layout(alloc, before, child, joined)?;
     psg_relation::join(
         alloc,
         &definition.signature,
         &before.rel,
-        child.rel(),
+        &child.rel,
         layout.pairs.as_slice(),
         layout.keep.as_slice(),
     )
@@ -150,17 +143,17 @@ pub(crate) fn with_child(
     alloc: Global,
     definition: &Definition,
     before: &Partial,
-    child: &Summary,
+    child: &Known,
 ) -> Result<Partial, RelFault>
     requires partial { (kind : PlainKind) × (kinds : List PlainKind) × IsPartial definition.now kind (child.now.kind ∷ kinds) before.now }
     requires child { IsSummary definition.now child.now }
-    requires report { before.now.report ≡ true → child.now.report ≡ true → ⊥ }
     ensures step { MatchStep (IsAdded definition.now before.now child.now) result }
     ensures partial { IfOk result (λ p. (kind : PlainKind) (kinds : List PlainKind) → IsPartial definition.now kind (child.now.kind ∷ kinds) before.now
         → IsPartial definition.now kind kinds p) }
-    ensures report { IfOk result (λ p. p.report ≡ (before.now.report || child.now.report)) }
+    ensures seen { IfOk result (λ p. p.seen ≡ before.now.seen + child.now.seen) }
 {
-    let joined = psg_scope::join(alloc, &before.header, child.header())?;
+    let seen = both_seen(before.seen, child.seen)?;
+    let joined = psg_scope::join(alloc, &before.header, &child.header)?;
     let rel = if joined.header.twice {
         Rel::empty(alloc, &definition.signature)
     } else {
@@ -168,7 +161,7 @@ pub(crate) fn with_child(
     };
     Ok(Partial {
         header: joined.header,
-        report: is_either(before.report, child.report()),
+        seen,
         wanted: before.wanted - 1,
         rel,
     })
@@ -186,14 +179,29 @@ pub(crate) fn numbered(made: Result<Partial, RelFault>, step: usize) -> Result<P
 
 /// The summary of a node of this kind, all of whose children are added.
 pub(crate) fn summary_of(alloc: Global, kind: Kind, whole: Partial) -> Result<Summary, AllocError>
-    ensures { IfOk result (λ s. s ≡ record { kind = kind; header = whole.header; report = whole.report; rel = whole.rel }) }
+    ensures { IfOk result (λ s. s ≡ record { kind = kind; header = whole.header; seen = whole.seen; rel = whole.rel }) }
 {
     let known = Known {
         kind,
         header: whole.header,
-        report: whole.report,
+        seen: whole.seen,
         rel: whole.rel,
     };
     let summary = Summary::new(alloc, known)?;
     Ok(summary)
+}
+
+/// The node with a place as its next child. A place may have any value, so the first wanted value is now the last that is
+/// seen, and the rows are the same.
+pub(crate) fn with_place(before: Partial) -> Result<Partial, AllocError>
+    requires { 0 < before.wanted }
+    ensures { IfOk result (λ p. p ≡ record { header = before.header; seen = before.seen + 1; wanted = before.wanted - 1; rel = before.rel }) }
+{
+    let seen = both_seen(before.seen, 1)?;
+    Ok(Partial {
+        header: before.header,
+        seen,
+        wanted: before.wanted - 1,
+        rel: before.rel,
+    })
 }

@@ -1,5 +1,5 @@
 //! What is known of a tree.
-ghost use Rattle.std.specs.Prelude.{◌≡◌, ◌↔◌, IfOk, IsTrue};
+ghost use Rattle.std.specs.Prelude.{◌≡◌, ◌↔◌, ◌<◌, IfOk, IsTrue};
 ghost use Rattle.psg_eval.specs.Leaves.{IsFaultAt};
 
 use psg_grammar::Kind;
@@ -17,10 +17,10 @@ pub struct Known {
     pub kind: Kind,
     /// The keys of its region, or those that pass outward from it where it is a scope operator.
     pub header: Header,
-    /// Whether the value of some node is reported, in a column of its own behind the value.
-    pub report: bool,
-    /// The columns are the value, the reported value where there is one, and the entities of the header's keys. Where a
-    /// region declares a key twice there are no rows.
+    /// How many values are seen, each in a column of its own after the value, from left to right.
+    pub seen: u32,
+    /// The columns are the value, the seen values, and the entities of the header's keys. Where a region declares a key
+    /// twice there are no rows.
     pub rel: Rel,
 }
 
@@ -64,30 +64,44 @@ impl Summary {
         &self.shared.as_ref().header
     }
 
-    /// Whether the value of some node is reported, in a column of its own behind the value.
-    pub fn report(&self) -> bool
-        ensures { result ≡ self.now.report }
+    /// Returns how many values are seen, each in a column of its own after the value, from left to right.
+    pub fn seen(&self) -> u32
+        ensures { result ≡ self.now.seen }
     {
-        self.shared.as_ref().report
+        self.shared.as_ref().seen
     }
 
-    /// The most general rows: the value, the reported value where there is one, and the entities of the header's keys.
+    /// Tells whether a value is seen.
+    pub fn report(&self) -> bool
+        ensures { IsTrue result ↔ (0 < self.now.seen) }
+    {
+        self.seen() > 0
+    }
+
+    /// The most general rows: the value, the seen values, and the entities of the header's keys.
     pub fn rel(&self) -> &Rel
         ensures { result.now ≡ self.now.rel }
     {
         &self.shared.as_ref().rel
     }
 
-    /// Tells whether the summaries are equal: the same kind, header and relation, and whether a value is reported. It reads
-    /// them up to the first part that differs, in at most as many steps as a header has keys, spaces and bytes of names and
-    /// a relation has variables and constructors.
+    /// Tells whether the summaries are equal: the same kind, header, relation and number of seen values. It reads them up to
+    /// the first part that differs, in at most as many steps as a header has keys, spaces and bytes of names and a relation
+    /// has variables and constructors.
     pub fn same(&self, other: &Summary) -> bool
         ensures { IsTrue result ↔ (self.now ≡ other.now) }
     {
-        self.report() == other.report()
+        self.seen() == other.seen()
             && self.kind() == other.kind()
             && self.header().same(other.header())
             && self.rel().same(other.rel())
+    }
+
+    /// What is kept, as the steps of a node take it.
+    pub(crate) fn known(&self) -> &Known
+        ensures { result.now ≡ self.now }
+    {
+        self.shared.as_ref()
     }
 
     /// One more owner of the same summary.

@@ -1,5 +1,5 @@
 //! What is kept, and why bytes keep nothing.
-ghost use Rattle.std.specs.Prelude.{◌≡◌};
+ghost use Rattle.std.specs.Prelude.{◌≡◌, IfOk};
 ghost use Rattle.psg_library.specs.declared.fragment.KeptFault.TheVariants.{Memory};
 ghost use Rattle.psg_library.specs.Faults.{of_tokens, of_tree};
 
@@ -17,6 +17,18 @@ pub struct SavedFragment {
     pub name: Txt,
     pub kind: Kind,
     pub tree: Tree,
+}
+
+impl SavedFragment {
+    /// Gives one more owner of the same fragment. It fails where memory runs out.
+    pub fn share(&self) -> Result<SavedFragment, AllocError>
+        ensures { IfOk result (λ copy. copy ≡ self.now) }
+    {
+        let name = self.name.share()?;
+        let tree = self.tree.share()?;
+        let kind = self.kind;
+        Ok(SavedFragment { name, kind, tree })
+    }
 }
 
 /// Why bytes keep no fragment of a language.

@@ -2,7 +2,7 @@
 //!
 //! ```text
 //! let bytes = fragment_bytes(alloc, &definition, "f", kind, &tree)?;
-//! let saved = read_fragment(alloc, &definition, &lexis, bytes.as_slice(), &mut steps)?;
+//! let saved = read_fragment(alloc, &definition, &lexis, &table, bytes.as_slice(), &mut steps)?;
 //! ```
 //!
 //! The bytes are a head line, as `fragment 2 f Exp`, and then the printed text of the tree. Only the head line has a form

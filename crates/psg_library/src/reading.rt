@@ -4,6 +4,7 @@ ghost use Rattle.psg_grammar.specs.Kinds.{HasKind};
 ghost use Rattle.psg_grammar.specs.Sound.{IsSound};
 ghost use Rattle.psg_grammar.specs.WellFormed.{WellFormed, fixed_words};
 ghost use Rattle.psg_class.specs.Class.{IsClass};
+ghost use Rattle.psg_parse.specs.Tables.{IsParseTable};
 ghost use Rattle.psg_library.specs.declared.fragment.SavedFragment.{SavedFragment as Plain};
 ghost use Rattle.psg_library.specs.declared.fragment.KeptFault.{KeptFault as Fault};
 ghost use Rattle.psg_library.specs.declared.fragment.KeptFault.TheVariants as faults;
@@ -14,7 +15,7 @@ use crate::fragment::{KeptFault, SavedFragment};
 use crate::head::{first_line, read_head};
 use psg_grammar::{Definition, Kind, kind_named};
 use psg_lexis::{Lexis, lex};
-use psg_parse::{Goal, parse};
+use psg_parse::{Goal, ParseTable, parse_with};
 use psg_terms::{Steps, Txt};
 use psg_tree::Tree;
 use std::alloc::Global;
@@ -34,18 +35,19 @@ struct Begun<'a> {
 /// It refuses with the first of these that is there: `Head` where the bytes are not UTF-8 or their first line is no head,
 /// `Phylum` where the language has no kind of the name in the head, `NoTokens` where the text behind the head has none,
 /// `NoTree` where no tree of the kind has them, `Deep` where one has them that is past a limit. `Memory` may be returned at
-/// any time. It takes a step of the counter for each token that is parsed. Work and memory are linear in the bytes, beside
-/// the table of the parser.
+/// any time. It takes a step of the counter for each token that is parsed. Work and memory are linear in the bytes.
 pub fn read_fragment<L: Ledger>(
     alloc: Global,
     definition: &Definition,
     lexis: &Lexis,
+    table: &ParseTable,
     bytes: &[u8],
     steps: &mut Steps<L>,
 ) -> Result<SavedFragment, KeptFault>
     requires sound { IsSound definition.now }
     requires class { IsClass definition.now }
     requires lexis { lexis.now ≡ fixed_words definition.now }
+    requires table { IsParseTable definition.now table.now }
     ensures kept { IfOk result (IsKept definition.now bytes.now) }
     ensures formed { IfOk result (λ saved. WellFormed definition.now saved.tree saved.kind) }
     ensures kind { IfOk result (λ saved. HasKind definition.now saved.kind) }
@@ -58,7 +60,9 @@ pub fn read_fragment<L: Ledger>(
     ensures steps { MayCount definition.now bytes.now steps.old steps.new }
 {
     let begun = begin(definition, bytes)?;
-    let tree = read_tree(alloc, definition, lexis, begun.kind, begun.text, steps)?;
+    let tree = read_tree(
+        alloc, definition, lexis, table, begun.kind, begun.text, steps,
+    )?;
     let name = Txt::copy_of(alloc, begun.name)?;
     Ok(SavedFragment {
         name,
@@ -92,6 +96,7 @@ fn read_tree<L: Ledger>(
     alloc: Global,
     definition: &Definition,
     lexis: &Lexis,
+    table: &ParseTable,
     kind: Kind,
     text: &str,
     steps: &mut Steps<L>,
@@ -99,6 +104,7 @@ fn read_tree<L: Ledger>(
     requires sound { IsSound definition.now }
     requires class { IsClass definition.now }
     requires lexis { lexis.now ≡ fixed_words definition.now }
+    requires table { IsParseTable definition.now table.now }
     ensures tree { IfOk result (IsReadAs definition.now kind text.now) }
     ensures formed { IfOk result (λ tree. WellFormed definition.now tree kind) }
     ensures fault { IfErr result (OrMemory (IsTextFault definition.now kind text.now)) }
@@ -110,6 +116,6 @@ fn read_tree<L: Ledger>(
         around: 0,
     };
     let tokens = lex(alloc, lexis, text)?;
-    let tree = parse(alloc, definition, goal, tokens.as_slice(), steps)?;
+    let tree = parse_with(alloc, definition, table, goal, tokens.as_slice(), steps)?;
     Ok(tree)
 }

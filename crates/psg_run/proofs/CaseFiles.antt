@@ -4,7 +4,7 @@ use Rattle.std.specs.Prelude.{codes}
 use Rattle.std.specs.FinMap as map
 use Rattle.psg_world.specs.Files.{writing}
 use Rattle.psg_session.specs.Exchanges.{keeping, fetching}
-use Rattle.psg_session.specs.PlainState.{stored, got, lost}
+use Rattle.psg_session.specs.PlainState.{not_asked, stored, got, lost}
 use Rattle.psg_run.specs.Told.{Exchange, Known, sets, forgets, nothing, keeps, keep_lost, fetches, Told, Loses, none, stores, loses_keep, gets}
 
 exchanges : List Exchange
@@ -20,11 +20,12 @@ before = record { held = map.empty; unknown = [] }
 after : Known
 after = forgets (sets before (codes "f") (1 ∷ [])) (codes "g")
 
-three_answers : Told exchanges None map.empty after.held (writing (codes "g") ∷ [])
+three_answers : Told exchanges None not_asked map.empty after.held (writing (codes "g") ∷ [])
 unfolding exchanges before after
 three_answers = record {
   last = after;
   replays = keeps (keep_lost (fetches (λ known. absurd (true≢false known)) nothing));
+  gives = tt;
   agrees = λ name known. refl;
 }
 

@@ -1,7 +1,5 @@
 -- Files that were read, and how a run ends.
-use Rattle.std.proofs.Common.{◌≡◌, inr, ℕ, ◌+◌, ◌<◌, ◌≤◌, min, List, [], length, take, Option, Some, None, Err, IfSome, refl, sym, ◌∙◌, ap, ap₂, subst, arith, append-nil}
-use Rattle.std.specs.FinMap as map
-use Rattle.std.proofs.lemmas.Option.{none-some}
+use Rattle.std.proofs.Common.{◌≡◌, inr, ℕ, ◌+◌, ◌<◌, ◌≤◌, min, List, [], length, take, Option, Some, None, Err, IfSome, refl, ◌∙◌, ap₂, subst, arith}
 use Rattle.std.proofs.lemmas.List.{length-take, take_all}
 use Rattle.psg_terms.specs.Names.{Name}
 use Rattle.psg_world.specs.Files.{Held, Entry, bytes_of, front_of, entries_after_read}
@@ -13,12 +11,14 @@ use Rattle.psg_world.specs.declared.world.WriteStop.TheVariants as stops
 use Rattle.psg_grammar.specs.declared.types.Definition.{Definition}
 use Rattle.psg_run.specs.declared.status.Status.{Status}
 use Rattle.psg_run.specs.Output.{RepliesToAll, script_lines}
-use Rattle.psg_run.specs.Played.{PrintsAll, PrintsFront}
-use Rattle.psg_run.specs.Told.{none, nothing}
-use Rattle.psg_run.specs.Worlds.{World, IsQuiet, IsWithin, KeepsFiles, Tells, seen}
-use Rattle.psg_run.specs.Causes.{FailsToRead, HasAsked, HasDefinition, IsToldOf, IsTooLong, in_file, most_definition_bytes, most_script_bytes}
+use Rattle.psg_run.specs.Played.{Happened, PrintsAll, PrintsFront}
+use Rattle.psg_session.specs.Exchanges.{Asked, Outside}
+use Rattle.psg_session.specs.PlainState.{not_asked}
+use Rattle.psg_run.proofs.Telling.{files_of, has_asked}
+use Rattle.psg_run.specs.Worlds.{Incoming, World, IsQuiet, IsWithin, KeepsFiles, Tells, seen}
+use Rattle.psg_run.specs.Causes.{FailsToRead, HasDefinition, IsTooLong, in_file, most_definition_bytes, most_script_bytes}
 use Rattle.psg_run.specs.Endings.{EndsRefused, by_line, no_memory, read_status, write_status}
-use Rattle.psg_run.specs.Promise.{EndsEarly, Edits, Plays, SpentFromStart, WritesAll, WritesFront, broken_off, is_refused, no_room, no_room_left, script_unread, source_unread, write_failed}
+use Rattle.psg_run.specs.Promise.{AnswersAll, AnswersFront, EndsEarly, Edits, Lives, Plays, Talks, SpentFromStart, WritesAll, WritesFront, broken_off, is_refused, no_room, no_room_left, script_unread, source_unread, write_failed}
 
 whole_front : (limit : ℕ) (bytes : List ℕ) → length (front_of limit bytes) ≤ limit → front_of limit bytes ≡ bytes
 whole_front limit bytes small = take_all (limit + 1) bytes (let e : length (take (limit + 1) bytes) ≡ min (limit + 1) (length bytes) = length-take (limit + 1) bytes in omega (arith, e, small))
@@ -70,40 +70,36 @@ unread old new file status bytes files short (by_line line refusal put) = is_ref
 
 -- ---- the script
 
-told_same : (before after : Option Held) → after ≡ before → IsToldOf [] None before after []
-told_same None None e = none
-told_same None (Some a) e = absurd (none-some a (sym e))
-told_same (Some b) None e = absurd (none-some b e)
-told_same (Some b) (Some a) e = let same : a ≡ b = cc in record { last = record { held = b; unknown = [] }; replays = nothing; agrees = λ name known. ap (λ m. map.get m name) same }
+pub same_files : {h h' : Option Held} {e e' : List Entry} → h' ≡ h → e' ≡ e
+    → ◌≡◌ {A = Outside} (record { held = h'; entries = e' }) (record { held = h; entries = e })
+same_files held entries = ap₂ (λ x y. record { held = x; entries = y }) held entries
 
-module _ (def : Definition) (script : Name) (old new : World) (held : new.held ≡ old.held) (entries : new.entries ≡ old.entries) where
-  -- nothing was asked of the files
-  asked : HasAsked [] None old new
-  asked = record {
-    fresh = [];
-    entries = entries ∙ sym (append-nil old.entries);
-    answers = told_same old.held new.held held;
-    quiet = λ none asked. (held, entries);
+module _ (def : Definition) (lines : List (List ℕ)) (old new : World) (before : Outside) (same : before ≡ files_of old) where
+  pub answers_all : PrintsAll def lines before (files_of new) old.written new.written old.ticks new.ticks
+      → AnswersAll RepliesToAll SpentFromStart def lines old new
+  answers_all prints = record {
+    exchanges = prints.exchanges;
+    played = record {
+      asked = has_asked old new prints.exchanges (files_of new) None not_asked
+          (subst (λ o. Happened o prints.exchanges (files_of new)) same prints.happened) refl refl;
+      spent = prints.spent;
+    };
+    output = prints.output;
+    is_output = (prints.end, prints.prints);
+    wrote = prints.put;
   }
 
-  module _ (bytes : List ℕ) (short : IsWithin old.held script most_script_bytes bytes) where
-    pub written_all : PrintsAll def (script_lines bytes) old.written new.written old.ticks new.ticks → WritesAll RepliesToAll SpentFromStart def script old new
-    written_all prints = record {
-      bytes = bytes;
-      exchanges = [];
-      played = record { is_script = short; asked = asked; spent = prints.spent };
-      output = prints.output;
-      is_output = (prints.end, prints.prints);
-      wrote = prints.put;
-    }
-
-    written_front : PrintsFront def (script_lines bytes) old.written new.written old.ticks new.ticks
-        → WritesFront RepliesToAll SpentFromStart None def script old new
-    written_front prints = record {
-      bytes = bytes;
-      exchanges = [];
-      played = record { is_script = short; asked = asked; spent = prints.spent };
-      lines = prints.count;
+  module _ (stop : WriteStop) (prints : PrintsFront def lines before (files_of new) old.written new.written old.ticks new.ticks stop) where
+    fronted : AnswersFront RepliesToAll SpentFromStart prints.unanswered def lines old new
+    fronted = record {
+      exchanges = prints.exchanges;
+      given = prints.given;
+      played = record {
+        asked = has_asked old new prints.exchanges prints.mid prints.unanswered prints.given
+            (subst (λ o. Happened o prints.exchanges prints.mid) same prints.happened) prints.cut_off prints.gives;
+        spent = prints.spent;
+      };
+      count = prints.count;
       output = prints.output;
       is_output = (prints.end, prints.prints);
       front = prints.front;
@@ -111,11 +107,37 @@ module _ (def : Definition) (script : Name) (old new : World) (held : new.held �
       wrote = prints.put;
     }
 
-    pub stopped_play : (stop : WriteStop) (status : Status) → status ≡ write_status stop
-        → PrintsFront def (script_lines bytes) old.written new.written old.ticks new.ticks
-        → (stop ≡ stops.Failed → HasRisen old.count new.count) → Plays RepliesToAll SpentFromStart def script old new status
-    stopped_play stops.Failed status is prints risen = write_failed is (written_front prints) (risen refl)
-    stopped_play stops.Memory status is prints risen = broken_off is None (written_front prints)
+    pub answers_front : (unanswered : Option Asked) → prints.unanswered ≡ unanswered
+        → AnswersFront RepliesToAll SpentFromStart unanswered def lines old new
+    answers_front unanswered is = subst (λ u. AnswersFront RepliesToAll SpentFromStart u def lines old new) is fronted
+
+module _ (def : Definition) (script : Name) (old new : World) (bytes : List ℕ)
+    (short : IsWithin old.held script most_script_bytes bytes) (before : Outside) (same : before ≡ files_of old) where
+  pub written_all : PrintsAll def (script_lines bytes) before (files_of new) old.written new.written old.ticks new.ticks
+      → WritesAll RepliesToAll SpentFromStart def script old new
+  written_all prints = record {
+    bytes = bytes;
+    is_script = short;
+    answers = answers_all def (script_lines bytes) old new before same prints;
+  }
+
+  module _ (stop : WriteStop) (prints : PrintsFront def (script_lines bytes) before (files_of new) old.written new.written
+      old.ticks new.ticks stop) where
+    written_front : (unanswered : Option Asked) → prints.unanswered ≡ unanswered
+        → WritesFront RepliesToAll SpentFromStart unanswered def script old new
+    written_front unanswered is = record {
+      bytes = bytes;
+      is_script = short;
+      answers = answers_front def (script_lines bytes) old new before same stop prints unanswered is;
+    }
+
+  pub stopped_play : (stop : WriteStop) (status : Status) → status ≡ write_status stop
+      → PrintsFront def (script_lines bytes) before (files_of new) old.written new.written old.ticks new.ticks stop
+      → (stop ≡ stops.Failed → HasRisen old.count new.count) → Plays RepliesToAll SpentFromStart def script old new status
+  stopped_play stops.Failed status is prints risen =
+      write_failed is (written_front stops.Failed prints None (prints.by_memory refl)) (risen refl)
+  stopped_play stops.Memory status is prints risen =
+      broken_off is prints.unanswered (written_front stops.Memory prints prints.unanswered refl)
 
 same_seen : (h h' : Option Held) (e e' : List Entry) (w w' : Option (List ℕ)) (c c' t : ℕ) → h' ≡ h → e' ≡ e → w' ≡ w → c' ≡ c → seen h' e' w' c' t ≡ seen h e w c t
 same_seen h h' e e' w w' c c' t held entries wrote count =
@@ -127,3 +149,10 @@ pub played_on : (h h' : Option Held) (e e' : List Entry) (w w' : Option (List �
     → Edits RepliesToAll SpentFromStart (in_file file) script (seen h e w c t) new status
 played_on h h' e e' w w' c c' t new file script def status held entries wrote count has plays =
     inr (def, has, subst (λ o. Plays RepliesToAll SpentFromStart def script o new status) (same_seen h h' e e' w w' c c' t held entries wrote count) plays)
+
+-- a session on a definition that was read before
+pub talked_on : (h h' : Option Held) (e e' : List Entry) (w w' : Option (List ℕ)) (c c' t : ℕ) (new : World) (input input' : Incoming) (file : Name) (def : Definition) (status : Status)
+    → h' ≡ h → e' ≡ e → w' ≡ w → c' ≡ c → HasDefinition h (in_file file) def → Talks RepliesToAll SpentFromStart def input input' (seen h' e' w' c' t) new status
+    → Lives RepliesToAll SpentFromStart (in_file file) input input' (seen h e w c t) new status
+talked_on h h' e e' w w' c c' t new input input' file def status held entries wrote count has talks =
+    inr (def, has, subst (λ o. Talks RepliesToAll SpentFromStart def input input' o new status) (same_seen h h' e e' w w' c c' t held entries wrote count) talks)

@@ -1,6 +1,8 @@
+pub mod Telling
 pub mod Playing
 pub mod Feeds
 pub mod Ending
+pub mod Listening
 pub mod Completing
 pub mod WordForms
 pub mod OneOutputLines

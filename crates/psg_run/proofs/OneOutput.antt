@@ -9,7 +9,7 @@ use Rattle.psg_session.specs.PlainState.{State, Answer, not_asked}
 use Rattle.psg_session.specs.Replies.{Reply, refused, reply_text}
 use Rattle.psg_session.specs.PlainStep.{Steps}
 use Rattle.psg_session.specs.declared.refusal.Refusal.TheVariants.{NoCommand}
-use Rattle.psg_session.specs.Applied.{Asks}
+use Rattle.psg_session.specs.Kept.{Asks}
 use Rattle.psg_session.specs.Exchanges.{Asked}
 use Rattle.psg_run.specs.Told.{Exchange}
 use Rattle.psg_script.specs.Forms.{Spells}

@@ -1,14 +1,14 @@
 -- The words of a run.
-use Rattle.std.proofs.Common.{◌≡◌, ◌<◌, ◌≤◌, List, [], ◌∷◌, length, get_or, refl, sym, ap, ap₂, ◌∙◌, subst, arith}
-use Rattle.std.specs.Prelude.{String, string_bytes, codes}
+use Rattle.std.proofs.Common.{◌≡◌, ◌<◌, ◌≤◌, List, [], ◌∷◌, length, get_or, true≢false, refl, sym, ap, ap₂, ◌∙◌, subst, arith}
+use Rattle.std.specs.Prelude.{String, bytes_eq, string_bytes, codes}
 use Rattle.std.specs.declared.alloc.Global.{Global}
 use Rattle.psg_terms.specs.Names.{Name}
 use Rattle.psg_run.specs.declared.status.Status.{Status}
 use Rattle.psg_run.specs.declared.status.Status.TheVariants as ends_with
 use Rattle.psg_run.specs.Causes.{in_file}
 use Rattle.psg_run.specs.Output.{RepliesToAll}
-use Rattle.psg_run.specs.Worlds.{World, texts_of}
-use Rattle.psg_run.specs.Promise.{Checks, Edits, Form, check, edit, HasNoForm, IsForm, IsRunOf, IsRun, SpentFromStart}
+use Rattle.psg_run.specs.Worlds.{World, Incoming, texts_of}
+use Rattle.psg_run.specs.Promise.{Checks, Edits, Form, Lives, check, edit, live, HasNoForm, IsForm, IsRunOf, IsRun, SpentFromStart}
 use Rattle.psg_run.proofs.Completing.{does_run}
 
 pub two_words : (words : List (String Global)) (a b : String Global) → 2 ≤ length words → length words < 3 → a ≡ get_or words 0 a → b ≡ get_or words 1 b
@@ -29,50 +29,71 @@ three_words (x ∷ y ∷ z ∷ w ∷ more_words) a b c more less ea eb ec = absu
 
 -- ---- forms
 
-pub two_other : (a b : Name) → (a ≡ codes "check" → ⊥) → HasNoForm (a ∷ b ∷ [])
-two_other a b never (check d) e = never cc
-two_other a b never (edit d s) e = cc
+pub two_other : (a b : Name) → (a ≡ codes "check" → ⊥) → (a ≡ codes "live" → ⊥) → HasNoForm (a ∷ b ∷ [])
+two_other a b no_check no_live (check d) e = no_check cc
+two_other a b no_check no_live (edit d s) e = cc
+two_other a b no_check no_live (live d) e = no_live cc
 
 pub three_other : (a b c : Name) → (a ≡ codes "edit" → ⊥) → HasNoForm (a ∷ b ∷ c ∷ [])
 three_other a b c never (check d) e = cc
 three_other a b c never (edit d s) e = never cc
+three_other a b c never (live d) e = cc
 
 -- neither two words nor three
 pub other_count : (words : List (String Global)) → (length words ≡ 2 → ⊥) → (length words ≡ 3 → ⊥) → HasNoForm (texts_of words)
 other_count [] two three (check d) e = cc
 other_count [] two three (edit d s) e = cc
+other_count [] two three (live d) e = cc
 other_count (x ∷ []) two three (check d) e = cc
 other_count (x ∷ []) two three (edit d s) e = cc
+other_count (x ∷ []) two three (live d) e = cc
 other_count (x ∷ y ∷ []) two three form e = two refl
 other_count (x ∷ y ∷ z ∷ []) two three form e = three refl
 other_count (x ∷ y ∷ z ∷ w ∷ more) two three (check d) e = cc
 other_count (x ∷ y ∷ z ∷ w ∷ more) two three (edit d s) e = cc
+other_count (x ∷ y ∷ z ∷ w ∷ more) two three (live d) e = cc
 
 -- ---- runs
+
+not_live : codes "check" ≡ codes "live" → ⊥
+not_live e = true≢false (ap (λ w. bytes_eq w (codes "check")) e)
+
+check_is : (d e : Name) → codes "check" ∷ d ∷ [] ≡ codes "live" ∷ e ∷ [] → codes "check" ≡ codes "live"
+check_is d e whole = cc
 
 one_form : (words : List Name) (a b : Form) → IsForm words a → IsForm words b → a ≡ b
 one_form words (check d) (check e) p q = let whole : codes "check" ∷ d ∷ [] ≡ codes "check" ∷ e ∷ [] = sym p ∙ q in cc
 one_form words (check d) (edit e s) p q = let whole : codes "check" ∷ d ∷ [] ≡ codes "edit" ∷ e ∷ s ∷ [] = sym p ∙ q in cc
+one_form words (check d) (live e) p q = absurd (not_live (check_is d e (sym p ∙ q)))
 one_form words (edit d s) (check e) p q = let whole : codes "edit" ∷ d ∷ s ∷ [] ≡ codes "check" ∷ e ∷ [] = sym p ∙ q in cc
 one_form words (edit d s) (edit e t) p q = let whole : codes "edit" ∷ d ∷ s ∷ [] ≡ codes "edit" ∷ e ∷ t ∷ [] = sym p ∙ q in cc
+one_form words (edit d s) (live e) p q = let whole : codes "edit" ∷ d ∷ s ∷ [] ≡ codes "live" ∷ e ∷ [] = sym p ∙ q in cc
+one_form words (live d) (check e) p q = absurd (not_live (check_is e d (sym q ∙ p)))
+one_form words (live d) (edit e s) p q = let whole : codes "live" ∷ d ∷ [] ≡ codes "edit" ∷ e ∷ s ∷ [] = sym p ∙ q in cc
+one_form words (live d) (live e) p q = let whole : codes "live" ∷ d ∷ [] ≡ codes "live" ∷ e ∷ [] = sym p ∙ q in cc
 
 module _ (words : List Name) where
-  of_form : (form : Form) (old new : World) (status : Status) → IsForm words form → IsRunOf form old new status → IsRun words old new status
-  of_form form old new status is ran = does_run words old new status (record {
-    of_form = λ other wanted. subst (λ f. IsRunOf f old new status) (one_form words form other is wanted) ran;
+  of_form : (form : Form) (input input' : Incoming) (old new : World) (status : Status) → IsForm words form → IsRunOf form input input' old new status
+      → IsRun words input input' old new status
+  of_form form input input' old new status is ran = does_run words input input' old new status (record {
+    of_form = λ other wanted. subst (λ f. IsRunOf f input input' old new status) (one_form words form other is wanted) ran;
     no_form = λ never. absurd (never form is);
   })
 
-  pub of_check : (definition : Name) (old new : World) (status : Status) → words ≡ codes "check" ∷ definition ∷ []
-      → Checks (in_file definition) old new status → IsRun words old new status
-  of_check definition old new status is ran = of_form (check definition) old new status is ran
+  pub of_check : (definition : Name) (input : Incoming) (old new : World) (status : Status) → words ≡ codes "check" ∷ definition ∷ []
+      → Checks (in_file definition) old new status → IsRun words input input old new status
+  of_check definition input old new status is ran = of_form (check definition) input input old new status is (ran, refl)
 
-  pub of_edit : (definition script : Name) (old new : World) (status : Status) → words ≡ codes "edit" ∷ definition ∷ script ∷ []
-      → Edits RepliesToAll SpentFromStart (in_file definition) script old new status → IsRun words old new status
-  of_edit definition script old new status is ran = of_form (edit definition script) old new status is ran
+  pub of_edit : (definition script : Name) (input : Incoming) (old new : World) (status : Status) → words ≡ codes "edit" ∷ definition ∷ script ∷ []
+      → Edits RepliesToAll SpentFromStart (in_file definition) script old new status → IsRun words input input old new status
+  of_edit definition script input old new status is ran = of_form (edit definition script) input input old new status is (ran, refl)
 
-pub of_no_form : (words : List Name) (w : World) → HasNoForm words → IsRun words w w ends_with.Words
-of_no_form words w never = does_run words w w ends_with.Words (record {
+  pub of_live : (definition : Name) (input input' : Incoming) (old new : World) (status : Status) → words ≡ codes "live" ∷ definition ∷ []
+      → Lives RepliesToAll SpentFromStart (in_file definition) input input' old new status → IsRun words input input' old new status
+  of_live definition input input' old new status is ran = of_form (live definition) input input' old new status is ran
+
+pub of_no_form : (words : List Name) (input : Incoming) (w : World) → HasNoForm words → IsRun words input input w w ends_with.Words
+of_no_form words input w never = does_run words input input w w ends_with.Words (record {
   of_form = λ form is. absurd (never form is);
-  no_form = λ none. (refl, record { files = record { held = refl; entries = refl; ticks = refl }; wrote = refl }, refl);
+  no_form = λ none. (refl, record { files = record { held = refl; entries = refl; ticks = refl }; wrote = refl }, refl, refl);
 })

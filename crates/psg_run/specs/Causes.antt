@@ -3,9 +3,9 @@ use Rattle.std.specs.Prelude.{ℕ, ◌≡◌, ◌<◌, List, [], ◌∷◌, ◌+
 use Rattle.std.specs.Io.KnownBytes.{append_known}
 use Rattle.psg_terms.specs.Names.{Name}
 use Rattle.psg_grammar.specs.declared.types.Definition.{Definition}
-use Rattle.psg_class.specs.Class.{IsClass}
-use Rattle.psg_class.specs.Refusal.{IsRefusal, fault_text as class_text}
-use Rattle.psg_class.specs.declared.fault.ClassFault.{ClassFault}
+use Rattle.psg_specimen.specs.Refusal.{IsRefusal, IsAccepted as IsAcceptable}
+use Rattle.psg_specimen.specs.Texts.{refusal_text}
+use Rattle.psg_specimen.specs.declared.fault.AcceptFault.{AcceptFault}
 use Rattle.psg_deflines.specs.FaultText.{fault_text}
 use Rattle.psg_deflines.specs.declared.fault.DefFault.{DefFault}
 use Rattle.psg_defread.specs.Reading.{IsReadAs, Spells}
@@ -13,10 +13,11 @@ use Rattle.psg_defread.specs.Refusals.{Refusal}
 use Rattle.psg_world.specs.Files.{Held, Entry, reading}
 use Rattle.psg_world.specs.Sinks.{HasRisen, TakesFront}
 use Rattle.psg_session.specs.Exchanges.{Asked}
+use Rattle.psg_session.specs.PlainState.{Answer}
 use Rattle.psg_session.specs.Replies.{feed}
 use Rattle.psg_run.specs.declared.status.Status.{Status}
 use Rattle.psg_run.specs.declared.status.Status.TheVariants as ends_with
-use Rattle.psg_run.specs.Told.{Exchange, Loses, Told}
+use Rattle.psg_run.specs.Told.{Exchange, Loses, MayGive, Told}
 use Rattle.psg_run.specs.Worlds.{World, IsQuiet, IsWithin, KeepsFiles, Tells}
 
 abbrev pub most_definition_bytes : ℕ
@@ -27,18 +28,18 @@ most_script_bytes = 4194304
 
 -- ---- definitions
 
--- the bytes are read as the definition, and it is of the grammar class
+-- the bytes are read as the definition, and no condition of acceptance fails
 pub record IsAccepted (bytes : List ℕ) (def : Definition) : Type 0 where
   pub read : IsReadAs bytes def
-  pub class : IsClass def
+  pub accepted : IsAcceptable def
 
--- The bytes are no definition, and the line names their first fault; or they are only one, which is not of the grammar
--- class, and the line names the first condition that fails.
+-- The bytes are no definition, and the line names their first fault; or they are only one, which is not accepted, and the
+-- line names the first condition that fails.
 pub data IsRefusalLine (bytes line : List ℕ) : Type 0 where
   no_definition : (fault : DefFault) → Refusal bytes fault → line ≡ fault_text fault → IsRefusalLine bytes line
-  no_class : (def : Definition) (fault : ClassFault) → IsReadAs bytes def
+  not_accepted : (def : Definition) (fault : AcceptFault) → IsReadAs bytes def
       → ((other : Definition) → Spells bytes other → other ≡ def) → IsRefusal def fault
-      → line ≡ class_text def fault → IsRefusalLine bytes line
+      → line ≡ refusal_text def fault → IsRefusalLine bytes line
 
 -- Where a definition is from: a file, or a text that the program has.
 pub data Source : Type 0 where
@@ -102,15 +103,19 @@ SaysLine line done old new status =
 
 -- Where both maps are told, the exchanges go from the one to the other. In any case the failed calls are those of the
 -- answers that were lost.
-abbrev pub IsToldOf : List Exchange → Option Asked → Option Held → Option Held → List Entry → Type 0
-IsToldOf exchanges unanswered None None fresh = Loses exchanges fresh
-IsToldOf exchanges unanswered None (Some after) fresh = ⊥
-IsToldOf exchanges unanswered (Some before) None fresh = ⊥
-IsToldOf exchanges unanswered (Some before) (Some after) fresh = Told exchanges unanswered before after fresh
+abbrev pub IsToldOf : List Exchange → Option Asked → Answer → Option Held → Option Held → List Entry → Type 0
+IsToldOf exchanges unanswered given None None fresh = Loses exchanges fresh
+IsToldOf exchanges unanswered given None (Some after) fresh = ⊥
+IsToldOf exchanges unanswered given (Some before) None fresh = ⊥
+IsToldOf exchanges unanswered given (Some before) (Some after) fresh =
+    Told exchanges unanswered given before after fresh
 
--- What commands asked and were answered is what happened to the files; without such a command nothing did.
-pub record HasAsked (exchanges : List Exchange) (unanswered : Option Asked) (old new : World) : Type 0 where
+-- What commands asked and were answered is what happened to the files; without such a command nothing did. Where the last
+-- one was not answered, for want of memory, `given` is what it got, if it got anything.
+pub record HasAsked (exchanges : List Exchange) (unanswered : Option Asked) (given : Answer) (old new : World)
+    : Type 0 where
   pub fresh : List Entry
   pub entries : new.entries ≡ old.entries ++ fresh
-  pub answers : IsToldOf exchanges unanswered old.held new.held fresh
+  pub answers : IsToldOf exchanges unanswered given old.held new.held fresh
+  pub gives : MayGive unanswered given
   pub quiet : exchanges ≡ [] → unanswered ≡ None → (new.held ≡ old.held) × (new.entries ≡ old.entries)

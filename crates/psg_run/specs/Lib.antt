@@ -1,5 +1,6 @@
 pub mod Told
 pub mod Output
+pub mod Live
 pub mod Played
 pub mod OneOutput
 pub mod Worlds

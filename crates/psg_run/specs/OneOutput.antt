@@ -29,5 +29,6 @@ pub record HasOneOutput (def : Definition) (IsGood : Fragment → Type 0) : Type
 abbrev pub HasOneRun : Definition → Type 0
 HasOneRun def = (script : Name) (old new old' new' : InMemory) → old'.held ≡ old.held
     → (a : WritesAll RepliesToAll SpentFromStart def script (told old) (told new))
-    → (b : WritesAll RepliesToAll SpentFromStart def script (told old') (told new')) → b.exchanges ≡ a.exchanges
+    → (b : WritesAll RepliesToAll SpentFromStart def script (told old') (told new'))
+    → b.answers.exchanges ≡ a.answers.exchanges
     → (output : List ℕ) × (new.written ≡ old.written ++ output) × (new'.written ≡ old'.written ++ output)

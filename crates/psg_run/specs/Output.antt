@@ -7,9 +7,9 @@ use Rattle.psg_grammar.specs.Fragments.{Fragment}
 use Rattle.psg_script.specs.declared.command.Command.{Command}
 use Rattle.psg_script.specs.Forms.{Spells}
 use Rattle.psg_session.specs.declared.refusal.Refusal.TheVariants.{NoCommand}
-use Rattle.psg_session.specs.Good.{IsGoodIn}
+use Rattle.psg_grammar.specs.Legal.{IsCompletable}
 use Rattle.psg_session.specs.PlainState.{State, start, not_asked}
-use Rattle.psg_session.specs.Applied.{Asks}
+use Rattle.psg_session.specs.Kept.{Asks}
 use Rattle.psg_session.specs.Exchanges.{Asked}
 use Rattle.psg_session.specs.PlainStep.{Steps}
 use Rattle.psg_session.specs.Replies.{Reply, refused, reply_text}
@@ -63,4 +63,4 @@ module _ (def : Definition) (IsGood : Fragment → Type 0) where
 -- the output is the replies to the lines, from the start of the plain editor
 abbrev pub RepliesToAll : Definition → List (List ℕ) → List Exchange → Option Asked → List ℕ → Type 0
 RepliesToAll def lines exchanges unanswered output =
-    (end : State) × Prints def (IsGoodIn def) start lines exchanges unanswered output end
+    (end : State) × Prints def (IsCompletable def) start lines exchanges unanswered output end

@@ -2,20 +2,20 @@
 -- editor replies, and Spends how many evaluations that takes.
 use Rattle.std.specs.Prelude.{ℕ, ◌≡◌, ◌⊎◌, ◌≤◌, List, [], ◌∷◌, ◌++◌, length, take, Option, Some, None, codes}
 use Rattle.psg_terms.specs.Names.{Name}
-use Rattle.psg_terms.specs.Relations.{IsIn}
 use Rattle.psg_grammar.specs.declared.types.Definition.{Definition}
-use Rattle.psg_world.specs.Files.{Entry, reading, bytes_of}
+use Rattle.psg_world.specs.Files.{bytes_of}
 use Rattle.psg_world.specs.Sinks.{HasRisen}
 use Rattle.psg_session.specs.Exchanges.{Asked}
-use Rattle.psg_session.specs.Good.{IsGoodIn}
-use Rattle.psg_session.specs.PlainState.{start}
+use Rattle.psg_grammar.specs.Legal.{IsCompletable}
+use Rattle.psg_session.specs.PlainState.{Answer, not_asked, start}
 use Rattle.psg_session.specs.Replies.{feed}
 use Rattle.psg_run.specs.declared.status.Status.{Status}
 use Rattle.psg_run.specs.declared.status.Status.TheVariants as ends_with
 use Rattle.psg_run.specs.Told.{Exchange}
 use Rattle.psg_run.specs.Output.{script_lines, RepliesToAll}
 use Rattle.psg_run.specs.Spends.{HasSpent}
-use Rattle.psg_run.specs.Worlds.{World, InMemory, told, IsFrontOf, IsQuiet, IsWithin, Wrote}
+use Rattle.psg_run.specs.Live.{AreAll, FailsToGive, Gave, GaveAll, live_lines}
+use Rattle.psg_run.specs.Worlds.{World, InMemory, Incoming, told, IsFrontOf, IsQuiet, IsWithin, Wrote}
 use Rattle.psg_run.specs.Causes.{FailsToRead, HasAsked, HasDefinition, IsOfSource, IsRefusalLine, IsSourceLong}
 use Rattle.psg_run.specs.Causes.{IsTooLong, SaysLine, Source, SourceFails, in_file, most_script_bytes}
 
@@ -23,10 +23,12 @@ use Rattle.psg_run.specs.Causes.{IsTooLong, SaysLine, Source, SourceFails, in_fi
 pub data Form : Type 0 where
   check : (definition : Name) → Form
   edit : (definition script : Name) → Form
+  live : (definition : Name) → Form
 
 abbrev pub IsForm : List Name → Form → Type 0
 IsForm words (check definition) = words ≡ codes "check" ∷ definition ∷ []
 IsForm words (edit definition script) = words ≡ codes "edit" ∷ definition ∷ script ∷ []
+IsForm words (live definition) = words ≡ codes "live" ∷ definition ∷ []
 
 abbrev pub HasNoForm : List Name → Type 0
 HasNoForm words = (form : Form) → IsForm words form → ⊥
@@ -44,38 +46,50 @@ pub data EndsEarly (source : Source) (old new : World) (status : Status) : Type 
 abbrev pub OutputOf : Type 1
 OutputOf = Definition → List (List ℕ) → List Exchange → Option Asked → List ℕ → Type 0
 
--- from which count to which the evaluations along the lines may go
+-- From which count to which the evaluations along the lines may go. The answer is what the last command got, if it got
+-- anything, where memory ran out.
 abbrev pub BoundOf : Type 1
-BoundOf = Definition → List (List ℕ) → List Exchange → ℕ → ℕ → Type 0
+BoundOf = Definition → List (List ℕ) → List Exchange → Answer → ℕ → ℕ → Type 0
 
 module _ (Output : OutputOf) (Spent : BoundOf) where
-  -- The script was read; its commands asked the files this, with so many evaluations.
-  pub record IsPlayed (def : Definition) (script : Name) (old new : World) (bytes : List ℕ) (exchanges : List Exchange)
-      (unanswered : Option Asked) : Type 0 where
-    pub is_script : IsWithin old.held script most_script_bytes bytes
-    pub asked : HasAsked exchanges unanswered old new
-    pub spent : Spent def (script_lines bytes) exchanges old.ticks new.ticks
+  -- The lines were played; their commands asked the files this, with so many evaluations.
+  pub record ArePlayed (def : Definition) (lines : List (List ℕ)) (old new : World) (exchanges : List Exchange)
+      (unanswered : Option Asked) (given : Answer) : Type 0 where
+    pub asked : HasAsked exchanges unanswered given old new
+    pub spent : Spent def lines exchanges given old.ticks new.ticks
 
-  -- the whole output was written
-  pub record WritesAll (def : Definition) (script : Name) (old new : World) : Type 0 where
-    pub bytes : List ℕ
+  -- the whole output of the lines was written
+  pub record AnswersAll (def : Definition) (lines : List (List ℕ)) (old new : World) : Type 0 where
     pub exchanges : List Exchange
-    pub played : IsPlayed def script old new bytes exchanges None
+    pub played : ArePlayed def lines old new exchanges None not_asked
     pub output : List ℕ
-    pub is_output : Output def (script_lines bytes) exchanges None output
+    pub is_output : Output def lines exchanges None output
     pub wrote : Wrote old new output
 
   -- a front of the output of the first lines was written; the last of them may have asked for what was not answered
-  pub record WritesFront (unanswered : Option Asked) (def : Definition) (script : Name) (old new : World) : Type 0 where
-    pub bytes : List ℕ
+  pub record AnswersFront (unanswered : Option Asked) (def : Definition) (lines : List (List ℕ)) (old new : World)
+      : Type 0 where
     pub exchanges : List Exchange
-    pub played : IsPlayed def script old new bytes exchanges unanswered
-    pub lines : ℕ
+    pub given : Answer
+    pub played : ArePlayed def lines old new exchanges unanswered given
+    pub count : ℕ
     pub output : List ℕ
-    pub is_output : Output def (take lines (script_lines bytes)) exchanges unanswered output
+    pub is_output : Output def (take count lines) exchanges unanswered output
     pub front : List ℕ
     pub is_front : IsFrontOf front output
     pub wrote : Wrote old new front
+
+  -- the script was read, and the whole output was written
+  pub record WritesAll (def : Definition) (script : Name) (old new : World) : Type 0 where
+    pub bytes : List ℕ
+    pub is_script : IsWithin old.held script most_script_bytes bytes
+    pub answers : AnswersAll def (script_lines bytes) old new
+
+  -- the script was read, and a front of the output of its first lines was written
+  pub record WritesFront (unanswered : Option Asked) (def : Definition) (script : Name) (old new : World) : Type 0 where
+    pub bytes : List ℕ
+    pub is_script : IsWithin old.held script most_script_bytes bytes
+    pub answers : AnswersFront unanswered def (script_lines bytes) old new
 
   -- A run on a definition, by each status with its cause.
   pub data Plays (def : Definition) (script : Name) (old new : World) (status : Status) : Type 0 where
@@ -89,11 +103,31 @@ module _ (Output : OutputOf) (Spent : BoundOf) where
         → Plays def script old new status
     no_room_left : status ≡ ends_with.Memory → IsQuiet old new → Plays def script old new status
 
+  -- A run on a definition whose commands come from the input, by each status with its cause. Where a read of the
+  -- input fails, the replies to all lines that were read before are written.
+  pub data Talks (def : Definition) (input input' : Incoming) (old new : World) (status : Status) : Type 0 where
+    all_answered : status ≡ ends_with.Done → (lines : List (List ℕ)) → GaveAll input input' lines
+        → AnswersAll def (live_lines lines) old new → Talks def input input' old new status
+    line_unread : status ≡ ends_with.ReadFault → (lines : List (List ℕ)) → FailsToGive input input' lines
+        → AnswersAll def (live_lines lines) old new → Talks def input input' old new status
+    answer_failed : status ≡ ends_with.WriteFault → (lines : List (List ℕ)) → Gave input input' lines
+        → AnswersFront None def (live_lines lines) old new → HasRisen old.count new.count
+        → Talks def input input' old new status
+    ended_within : status ≡ ends_with.Memory → (unanswered : Option Asked) → (lines : List (List ℕ))
+        → Gave input input' lines → AnswersFront unanswered def (live_lines lines) old new
+        → Talks def input input' old new status
+
   -- A run that reads a definition from the source, and plays the script on it.
   abbrev pub Edits : Source → Name → World → World → Status → Type 0
   Edits source script old new status =
       EndsEarly source old new status
       ⊎ ((def : Definition) × HasDefinition old.held source def × Plays def script old new status)
+
+  -- A run that reads a definition from the source, and then commands from the input.
+  abbrev pub Lives : Source → Incoming → Incoming → World → World → Status → Type 0
+  Lives source input input' old new status =
+      (EndsEarly source old new status × (input' ≡ input))
+      ⊎ ((def : Definition) × HasDefinition old.held source def × Talks def input input' old new status)
 
 -- A run that says whether the source has an accepted definition.
 abbrev pub Checks : Source → World → World → Status → Type 0
@@ -103,50 +137,64 @@ Checks source old new status =
     × SaysLine (codes "accepted") ends_with.Done old new status)
 
 -- evaluations along the lines, from the start of the plain editor
-abbrev pub SpentFromStart : Definition → List (List ℕ) → List Exchange → ℕ → ℕ → Type 0
-SpentFromStart def lines exchanges from to = HasSpent def (IsGoodIn def) start lines exchanges from to
+abbrev pub SpentFromStart : Definition → List (List ℕ) → List Exchange → Answer → ℕ → ℕ → Type 0
+SpentFromStart def lines exchanges given from to = HasSpent def (IsCompletable def) start lines exchanges given from to
 
-abbrev pub IsRunOf : Form → World → World → Status → Type 0
-IsRunOf (check definition) old new status = Checks (in_file definition) old new status
-IsRunOf (edit definition script) old new status =
-    Edits RepliesToAll SpentFromStart (in_file definition) script old new status
+-- The input is read for a live session alone.
+abbrev pub IsRunOf : Form → Incoming → Incoming → World → World → Status → Type 0
+IsRunOf (check definition) input input' old new status =
+    Checks (in_file definition) old new status × (input' ≡ input)
+IsRunOf (edit definition script) input input' old new status =
+    Edits RepliesToAll SpentFromStart (in_file definition) script old new status × (input' ≡ input)
+IsRunOf (live definition) input input' old new status =
+    Lives RepliesToAll SpentFromStart (in_file definition) input input' old new status
 
 -- What the words ask for is done; words of no form have their status, and nothing else happens.
-pub record Does (words : List Name) (old new : World) (status : Status) : Type 0 where
-  pub of_form : (form : Form) → IsForm words form → IsRunOf form old new status
-  pub no_form : HasNoForm words → (status ≡ ends_with.Words) × IsQuiet old new × (new.count ≡ old.count)
+pub record Does (words : List Name) (input input' : Incoming) (old new : World) (status : Status) : Type 0 where
+  pub of_form : (form : Form) → IsForm words form → IsRunOf form input input' old new status
+  pub no_form : HasNoForm words
+      → (status ≡ ends_with.Words) × IsQuiet old new × (new.count ≡ old.count) × (input' ≡ input)
 
 -- ---- files and a sink in memory
 
--- no read of the file failed in the run
+-- The run did not end at its own read of the file. A read by a command may fail.
 abbrev pub WasRead : InMemory → InMemory → Name → Type 0
-WasRead old new file = (fresh : List Entry) → new.entries ≡ old.entries ++ fresh → IsIn (reading file) fresh → ⊥
+WasRead old new file = FailsToRead (told old) (told new) file → ⊥
 
--- The definition is accepted, the files are short, no read of them failed, and the sink's count has not risen.
-abbrev pub GoesWell : Form → InMemory → InMemory → Type 0
-GoesWell (check d) old new =
+-- The definition is accepted, the files are short, the run's own reads of them and of the input did not fail, and the
+-- sink's count has not risen.
+abbrev pub GoesWell : Form → Incoming → Incoming → InMemory → InMemory → Type 0
+GoesWell (check d) input input' old new =
     ((def : Definition) × HasDefinition (Some old.held) (in_file d) def) × WasRead old new d
     × (HasRisen old.count new.count → ⊥)
-GoesWell (edit d s) old new =
+GoesWell (edit d s) input input' old new =
     ((def : Definition) × HasDefinition (Some old.held) (in_file d) def) × WasRead old new d
     × (HasRisen old.count new.count → ⊥) × (length (bytes_of old.held s) ≤ most_script_bytes) × WasRead old new s
+GoesWell (live d) input input' old new =
+    ((def : Definition) × HasDefinition (Some old.held) (in_file d) def) × WasRead old new d
+    × (HasRisen old.count new.count → ⊥) × (input'.missed ≡ input.missed)
 
 -- the whole output
-abbrev pub WritesWhole : Form → InMemory → InMemory → Type 0
-WritesWhole (check d) old new = new.written ≡ old.written ++ feed (codes "accepted")
-WritesWhole (edit d s) old new =
+abbrev pub WritesWhole : Form → Incoming → InMemory → InMemory → Type 0
+WritesWhole (check d) input old new = new.written ≡ old.written ++ feed (codes "accepted")
+WritesWhole (edit d s) input old new =
     (def : Definition) × HasDefinition (Some old.held) (in_file d) def
     × WritesAll RepliesToAll SpentFromStart def s (told old) (told new)
+WritesWhole (live d) input old new =
+    (def : Definition) × HasDefinition (Some old.held) (in_file d) def
+    × (lines : List (List ℕ)) × AreAll input.lines lines
+    × AnswersAll RepliesToAll SpentFromStart def (live_lines lines) (told old) (told new)
 
 -- A run over files and a sink in memory. Where all goes well outside, the whole output was written, or memory was
 -- wanting.
-pub record IsRunInMemory (words : List Name) (old new : InMemory) (status : Status) : Type 0 where
-  pub does : Does words (told old) (told new) status
-  pub complete : (form : Form) → IsForm words form → GoesWell form old new
-      → (status ≡ ends_with.Memory) ⊎ ((status ≡ ends_with.Done) × WritesWhole form old new)
+pub record IsRunInMemory (words : List Name) (input input' : Incoming) (old new : InMemory) (status : Status)
+    : Type 0 where
+  pub does : Does words input input' (told old) (told new) status
+  pub complete : (form : Form) → IsForm words form → GoesWell form input input' old new
+      → (status ≡ ends_with.Memory) ⊎ ((status ≡ ends_with.Done) × WritesWhole form input old new)
 
 -- A run. Files and a sink in memory tell what they hold; of others that is left which speaks of no content.
-pub record IsRun (words : List Name) (old new : World) (status : Status) : Type 0 where
+pub record IsRun (words : List Name) (input input' : Incoming) (old new : World) (status : Status) : Type 0 where
   pub in_memory : (before after : InMemory) → old ≡ told before → new ≡ told after
-      → IsRunInMemory words before after status
-  pub otherwise : Does words old new status
+      → IsRunInMemory words input input' before after status
+  pub otherwise : Does words input input' old new status

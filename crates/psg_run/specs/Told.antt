@@ -1,10 +1,10 @@
 -- When the answers that commands got are those of the files.
-use Rattle.std.specs.Prelude.{ℕ, ◌≡◌, false, cond, List, [], ◌∷◌, Option, Some, None, bytes_eq}
+use Rattle.std.specs.Prelude.{ℕ, ◌≡◌, ◌≤◌, ◌+◌, false, cond, length, List, [], ◌∷◌, Option, Some, None, bytes_eq}
 use Rattle.std.specs.FinMap as map
 use Rattle.psg_terms.specs.Names.{Name, is_among}
 use Rattle.psg_world.specs.Files.{Held, Entry, reading, writing, bytes_of, front_of}
 use Rattle.psg_session.specs.Exchanges.{Asked, keeping, fetching, most_kept_bytes}
-use Rattle.psg_session.specs.PlainState.{Answer, stored, got, lost}
+use Rattle.psg_session.specs.PlainState.{Answer, not_asked, stored, got, lost}
 
 -- a question with its answer
 pub record Exchange : Type 0 where
@@ -67,11 +67,22 @@ after_last k None = k
 after_last k (Some (keeping name bytes)) = forgets k name
 after_last k (Some (fetching name)) = k
 
+-- What was given to the question for which no answer is left: perhaps the bytes of a file that was fetched.
+abbrev pub MayGive : Option Asked → Answer → Type 0
+MayGive (Some (fetching name)) (got bytes) = length bytes ≤ most_kept_bytes + 1
+MayGive unanswered answer = answer ≡ not_asked
+
+-- these bytes are those of the file
+abbrev pub IsGivenBy : Known → Option Asked → Answer → Type 0
+IsGivenBy k (Some (fetching name)) (got bytes) = IsGot k name bytes
+IsGivenBy k unanswered answer = Unit {0}
+
 -- The answers are replayed from the map before, in which each name is known. The map after them agrees with the
--- replayed one on each known name.
-pub record Told (exchanges : List Exchange) (unanswered : Option Asked) (before after : Held)
+-- replayed one on each known name. What was given at last is of the replayed map.
+pub record Told (exchanges : List Exchange) (unanswered : Option Asked) (given : Answer) (before after : Held)
     (fresh : List Entry) : Type 0 where
   pub last : Known
   pub replays : Replays (record { held = before; unknown = [] }) exchanges fresh last
+  pub gives : IsGivenBy last unanswered given
   pub agrees : (name : Name) → is_among (after_last last unanswered).unknown name ≡ false
       → map.get after name ≡ map.get (after_last last unanswered).held name

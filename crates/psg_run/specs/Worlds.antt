@@ -1,4 +1,4 @@
--- What stands outside a run: files, a sink, and the count of evaluations.
+-- What stands outside a run: files, a sink, an input, and the count of evaluations.
 use Rattle.std.specs.Prelude.{ℕ, ◌≡◌, ◌≤◌, ◌++◌, List, length, map, Option, Some, None, String, string_bytes}
 use Rattle.std.specs.declared.alloc.Global.{Global}
 use Rattle.std.specs.Io.KnownBytes.{append_known}
@@ -28,6 +28,16 @@ told m = record { held = Some m.held; entries = m.entries; written = Some m.writ
 abbrev pub seen : Option Held → List Entry → Option (List ℕ) → ℕ → ℕ → World
 seen held entries written count ticks =
     record { held = held; entries = entries; written = written; count = count; ticks = ticks }
+
+-- What an input has still to give, where that is told; how many lines it gave; and of each read that failed, how many
+-- lines were given before it.
+pub record Incoming : Type 0 where
+  pub lines : Option (List (List ℕ))
+  pub given : ℕ
+  pub missed : List ℕ
+
+abbrev pub coming : Option (List (List ℕ)) → ℕ → List ℕ → Incoming
+coming lines given missed = record { lines = lines; given = given; missed = missed }
 
 abbrev pub texts_of : List (String Global) → List Name
 texts_of words = map string_bytes words

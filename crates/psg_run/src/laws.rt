@@ -2,7 +2,7 @@
 ghost use Rattle.psg_class.specs.Class.{IsClass};
 ghost use Rattle.psg_grammar.specs.Sound.{IsSound};
 ghost use Rattle.psg_run.specs.OneOutput.{HasOneOutput, HasOneRun};
-ghost use Rattle.psg_session.specs.Good.{IsGoodIn};
+ghost use Rattle.psg_grammar.specs.Legal.{IsCompletable};
 
 use psg_grammar::Definition;
 
@@ -11,7 +11,7 @@ use psg_grammar::Definition;
 pub fn one_output(definition: &Definition)
     requires sound { IsSound definition.now }
     requires class { IsClass definition.now }
-    ensures { HasOneOutput definition.now (IsGoodIn definition.now) }
+    ensures { HasOneOutput definition.now (IsCompletable definition.now) }
 {}
 
 /// Two runs of a script on the definition, with status 0 and over the same files, write the same. It does nothing at

@@ -1,20 +1,21 @@
 //! A script played on a new session.
-ghost use Rattle.std.specs.Prelude.{◌≡◌, ◌≤◌, OnOk, OnErr, IsErrOf};
+ghost use Rattle.std.specs.Prelude.{◌≡◌, ◌≤◌, IfErr, OnOk, IsErrOf};
 ghost use Rattle.psg_world.specs.Sinks.{HasRisen};
 ghost use Rattle.psg_run.specs.Output.{script_lines};
 ghost use Rattle.psg_run.specs.Played.{PrintsAll, PrintsFront, PlaysLine, PlaysLineFront};
 ghost use Rattle.psg_session.specs.Sessions.{state_of};
-ghost use Rattle.psg_session.specs.Views.{IsLanguage};
+ghost use Rattle.psg_specimen.specs.Languages.{IsLanguage};
 
 use crate::lines::{cut_line, without_return};
-use psg_session::{Language, Session, reply_lines};
+use psg_session::{Session, reply_lines};
+use psg_specimen::Language;
 use psg_terms::Steps;
 use psg_world::{Files, Sink, WriteStop, put_all};
 use std::alloc::Global;
 use std::sync::ledger::Ledger;
 
-/// Puts the reply to a line. No command asks anything of the files yet.
-fn play_line<F: Files, O: Sink, L: Ledger>(
+/// Puts the reply to a line.
+pub fn play_line<F: Files, O: Sink, L: Ledger>(
     alloc: Global,
     session: &mut Session,
     line: &[u8],
@@ -23,12 +24,15 @@ fn play_line<F: Files, O: Sink, L: Ledger>(
     steps: &mut Steps<L>,
 ) -> Result<(), WriteStop>
     ensures ok { OnOk result (PlaysLine session.old.language.definition (state_of session.old.editor) line.now
-        (state_of session.new.editor) (O.written out.old) (O.written out.new) steps.old steps.new) }
-    ensures err { OnErr result (PlaysLineFront session.old.language.definition (state_of session.old.editor) line.now
+        (state_of session.new.editor)
+        (record { held = F.holds files.old; entries = F.faults files.old })
+        (record { held = F.holds files.new; entries = F.faults files.new })
+        (O.written out.old) (O.written out.new) steps.old steps.new) }
+    ensures err { IfErr result (PlaysLineFront session.old.language.definition (state_of session.old.editor) line.now
+        (record { held = F.holds files.old; entries = F.faults files.old })
+        (record { held = F.holds files.new; entries = F.faults files.new })
         (O.written out.old) (O.written out.new) steps.old steps.new) }
     ensures language { session.new.language ≡ session.old.language }
-    ensures holds { F.holds files.new ≡ F.holds files.old }
-    ensures entries { F.faults files.new ≡ F.faults files.old }
     ensures failed { IsErrOf result WriteStop.Failed → HasRisen (O.faults out.old) (O.faults out.new) }
     ensures never_falls { O.faults out.old ≤ O.faults out.new }
 {
@@ -49,12 +53,14 @@ pub fn play<F: Files, O: Sink, L: Ledger>(
     steps: &mut Steps<L>,
 ) -> Result<(), WriteStop>
     requires language { IsLanguage language }
-    ensures ok { OnOk result (PrintsAll language.definition (script_lines script.now) (O.written out.old)
-        (O.written out.new) steps.old steps.new) }
-    ensures err { OnErr result (PrintsFront language.definition (script_lines script.now) (O.written out.old)
-        (O.written out.new) steps.old steps.new) }
-    ensures holds { F.holds files.new ≡ F.holds files.old }
-    ensures entries { F.faults files.new ≡ F.faults files.old }
+    ensures ok { OnOk result (PrintsAll language.definition (script_lines script.now)
+        (record { held = F.holds files.old; entries = F.faults files.old })
+        (record { held = F.holds files.new; entries = F.faults files.new })
+        (O.written out.old) (O.written out.new) steps.old steps.new) }
+    ensures err { IfErr result (PrintsFront language.definition (script_lines script.now)
+        (record { held = F.holds files.old; entries = F.faults files.old })
+        (record { held = F.holds files.new; entries = F.faults files.new })
+        (O.written out.old) (O.written out.new) steps.old steps.new) }
     ensures failed { IsErrOf result WriteStop.Failed → HasRisen (O.faults out.old) (O.faults out.new) }
     ensures never_falls { O.faults out.old ≤ O.faults out.new }
 {

@@ -1,19 +1,20 @@
 //! The whole program.
 ghost use Rattle.std.specs.Prelude.{ℕ, ◌≡◌, map, string_bytes, IfOk, IfErr};
-ghost use Rattle.psg_session.specs.Views.{IsLanguage};
+ghost use Rattle.psg_specimen.specs.Languages.{IsLanguage};
 ghost use Rattle.psg_run.specs.Causes.{in_file};
 ghost use Rattle.psg_run.specs.Output.{RepliesToAll};
-ghost use Rattle.psg_run.specs.Promise.{IsRun, Checks, Edits, Plays, SpentFromStart};
-ghost use Rattle.psg_run.specs.Worlds.{seen, texts_of};
+ghost use Rattle.psg_run.specs.Promise.{IsRun, Checks, Edits, Lives, Plays, SpentFromStart};
+ghost use Rattle.psg_run.specs.Worlds.{coming, seen, texts_of};
 
 use crate::limits::MOST_SCRIPT_BYTES;
+use crate::live::talk;
 use crate::play::play;
 use crate::source::{put_line, read_language, read_status, write_status};
 use crate::status::Status;
 use crate::words::{Form, form_of};
-use psg_session::Language;
+use psg_specimen::Language;
 use psg_terms::Steps;
-use psg_world::{Files, Sink};
+use psg_world::{Files, Input, Sink};
 use std::alloc::Global;
 use std::sync::ledger::Ledger;
 
@@ -45,7 +46,7 @@ fn play_file<F: Files, O: Sink, L: Ledger>(
     }
 }
 
-/// Says whether the file has a definition of the grammar class: `accepted`, or the line of its first fault.
+/// Says whether the file has an accepted definition: `accepted`, or the line of its first fault.
 fn check<F: Files, O: Sink>(alloc: Global, definition: &str, files: &mut F, out: &mut O) -> Status
     ensures { (ticks : ℕ) → Checks (in_file definition.now)
         (seen (F.holds files.old) (F.faults files.old) (O.written out.old) (O.faults out.old) ticks)
@@ -58,7 +59,7 @@ fn check<F: Files, O: Sink>(alloc: Global, definition: &str, files: &mut F, out:
 }
 
 /// Plays the script on the definition. The order of tests is: the definition is read, its length, whether it is one,
-/// whether it is of the grammar class, the script is read, its length, then its lines.
+/// whether it is accepted, the script is read, its length, then its lines.
 fn edit<F: Files, O: Sink, L: Ledger>(
     alloc: Global,
     definition: &str,
@@ -71,28 +72,52 @@ fn edit<F: Files, O: Sink, L: Ledger>(
         (seen (F.holds files.old) (F.faults files.old) (O.written out.old) (O.faults out.old) steps.old)
         (seen (F.holds files.new) (F.faults files.new) (O.written out.new) (O.faults out.new) steps.new) result }
 {
-    let definition = match read_language(alloc, definition, files, out) {
-        Ok(definition) => definition,
+    let language = match read_language(alloc, definition, files, out) {
+        Ok(language) => language,
         Err(status) => return status,
-    };
-    let Ok(language) = Language::of(alloc, definition) else {
-        return Status::Memory;
     };
     play_file(alloc, language, script, files, out, steps)
 }
 
+/// Plays the lines of the input on the definition. The order of tests is: the definition is read, its length, whether
+/// it is one, whether it is accepted, then the lines as they come.
+fn live<F: Files, I: Input, O: Sink, L: Ledger>(
+    alloc: Global,
+    definition: &str,
+    files: &mut F,
+    input: &mut I,
+    out: &mut O,
+    steps: &mut Steps<L>,
+) -> Status
+    ensures { Lives RepliesToAll SpentFromStart (in_file definition.now)
+        (coming (I.lines input.old) (I.given input.old) (I.missed input.old))
+        (coming (I.lines input.new) (I.given input.new) (I.missed input.new))
+        (seen (F.holds files.old) (F.faults files.old) (O.written out.old) (O.faults out.old) steps.old)
+        (seen (F.holds files.new) (F.faults files.new) (O.written out.new) (O.faults out.new) steps.new) result }
+{
+    let language = match read_language(alloc, definition, files, out) {
+        Ok(language) => language,
+        Err(status) => return status,
+    };
+    talk(alloc, language, files, input, out, steps)
+}
+
 /// Does what the words say, and answers how that ended. `check DEF` says in one line whether the file DEF has a
 /// definition that is accepted. `edit DEF SCRIPT` plays each line of the file SCRIPT, a command, on an editor of the
-/// definition; the replies go to `out`. `steps` counts evaluations of nodes and list suffixes: a command evaluates what
-/// is new and what is above it.
-pub fn run<F: Files, O: Sink, L: Ledger>(
+/// definition; the replies go to `out`. `live DEF` plays the lines of the input so, and puts the reply to each before it
+/// reads the next one. `steps` counts evaluations of nodes and list suffixes: a command evaluates what is new and what
+/// is above it.
+pub fn run<F: Files, I: Input, O: Sink, L: Ledger>(
     alloc: Global,
     words: &[String],
     files: &mut F,
+    input: &mut I,
     out: &mut O,
     steps: &mut Steps<L>,
 ) -> Status
     ensures run { IsRun (texts_of words.now)
+        (coming (I.lines input.old) (I.given input.old) (I.missed input.old))
+        (coming (I.lines input.new) (I.given input.new) (I.missed input.new))
         (seen (F.holds files.old) (F.faults files.old) (O.written out.old) (O.faults out.old) steps.old)
         (seen (F.holds files.new) (F.faults files.new) (O.written out.new) (O.faults out.new) steps.new)
         result }
@@ -102,6 +127,7 @@ pub fn run<F: Files, O: Sink, L: Ledger>(
         Some(Form::Edit { definition, script }) => {
             edit(alloc, definition, script, files, out, steps)
         }
+        Some(Form::Live { definition }) => live(alloc, definition, files, input, out, steps),
         None => Status::Words,
     }
 }

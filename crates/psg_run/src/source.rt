@@ -1,14 +1,10 @@
 //! The file of a definition, and the lines that are said of it.
 ghost use Rattle.std.specs.Prelude.{ℕ, ◌≡◌, ◌<◌, ◌^◌, List, IfOk, IfErr, length, string_bytes};
-ghost use Rattle.std.specs.List.{AllByRecursion};
-ghost use Rattle.psg_class.specs.Checks.{Refuses};
-ghost use Rattle.psg_class.specs.Class.{IsClass};
+ghost use Rattle.psg_specimen.specs.Languages.{IsLanguage};
+ghost use Rattle.psg_specimen.specs.Refusal.{Refuses};
 ghost use Rattle.psg_defread.specs.Reading.{IsReadAs, Spells};
 ghost use Rattle.psg_defread.specs.Refusals.{IsReadFault};
 ghost use Rattle.psg_grammar.specs.declared.types.Definition.{Definition as Plain};
-ghost use Rattle.psg_grammar.specs.Sound.{IsSound};
-ghost use Rattle.psg_grammar.specs.WellFormed.{fixed_words};
-ghost use Rattle.psg_lexis.specs.Tokens.{IsFixedWord};
 ghost use Rattle.psg_run.specs.Causes.{HasDefinition, IsAccepted, PutsLine, in_file};
 ghost use Rattle.psg_run.specs.Endings.{read_status as read_status_of, write_status as write_status_of, EndsRefused};
 ghost use Rattle.psg_run.specs.Promise.{EndsEarly};
@@ -16,9 +12,8 @@ ghost use Rattle.psg_run.specs.Worlds.{seen};
 
 use crate::limits::MOST_DEFINITION_BYTES;
 use crate::status::Status;
-use psg_class::{ClassFault, class_check, class_text};
 use psg_defread::{ReadFault, fault_text, read_definition};
-use psg_grammar::Definition;
+use psg_specimen::{AcceptFault, Language, Refused, accept, accept_text};
 use psg_world::{Files, ReadStop, Sink, WriteStop, put_all};
 use std::alloc::Global;
 
@@ -70,34 +65,28 @@ fn end_fault<O: Sink>(alloc: Global, fault: ReadFault, out: &mut O) -> Status
     put_line(alloc, out, line.as_str(), Status::DefinitionRefused)
 }
 
-/// Writes why the definition is not of the grammar class.
-fn end_class_fault<O: Sink>(
-    alloc: Global,
-    definition: &Definition,
-    fault: &ClassFault,
-    out: &mut O,
-) -> Status
-    requires refuses { Refuses definition.now fault.now }
-    ensures { (bytes : List ℕ) → IsReadAs bytes definition.now
-        → ((other : Plain) → Spells bytes other → other ≡ definition.now)
+/// Writes why the definition is not accepted.
+fn end_refused<O: Sink>(alloc: Global, refused: &Refused, out: &mut O) -> Status
+    requires refuses { Refuses refused.now.definition refused.now.fault }
+    ensures { (bytes : List ℕ) → IsReadAs bytes refused.now.definition
+        → ((other : Plain) → Spells bytes other → other ≡ refused.now.definition)
         → EndsRefused bytes (O.written out.old) (O.written out.new) (O.faults out.old) (O.faults out.new) result }
 {
-    if let ClassFault::Memory = fault {
+    if let AcceptFault::Memory = refused.fault {
         return Status::Memory;
     }
-    let Ok(text) = class_text(alloc, definition, fault) else {
+    let Ok(text) = accept_text(alloc, refused) else {
         return Status::Memory;
     };
     put_line(alloc, out, text.as_str(), Status::DefinitionRefused)
 }
 
-/// Gives the definition that the text is, where it is one and is of the grammar class. Otherwise the line that says
+/// Gives the language of the definition that the text is, where it is one and is accepted. Otherwise the line that says
 /// why it is refused goes to `out`, and the status says how that ended.
-fn accept<O: Sink>(alloc: Global, text: &[u8], out: &mut O) -> Result<Definition, Status>
+fn language_of<O: Sink>(alloc: Global, text: &[u8], out: &mut O) -> Result<Language, Status>
     requires { length text.now < 2 ^ 32 }
-    ensures ok { IfOk result (IsAccepted text.now) }
-    ensures sound { IfOk result IsSound }
-    ensures words { IfOk result (λ d. AllByRecursion IsFixedWord (fixed_words d)) }
+    ensures ok { IfOk result (λ l. IsAccepted text.now l.definition) }
+    ensures language { IfOk result IsLanguage }
     ensures quiet { IfOk result (λ _. out.new ≡ out.old) }
     ensures err { IfErr result (EndsRefused text.now (O.written out.old) (O.written out.new) (O.faults out.old)
         (O.faults out.new)) }
@@ -106,25 +95,23 @@ fn accept<O: Sink>(alloc: Global, text: &[u8], out: &mut O) -> Result<Definition
         Ok(definition) => definition,
         Err(fault) => return Err(end_fault(alloc, fault, out)),
     };
-    match class_check(alloc, &definition) {
-        Ok(()) => Ok(definition),
-        Err(fault) => Err(end_class_fault(alloc, &definition, &fault, out)),
+    match accept(alloc, definition) {
+        Ok(language) => Ok(language),
+        Err(refused) => Err(end_refused(alloc, &refused, out)),
     }
 }
 
-/// Reads the definition of the file. The order of tests is that the file is read, its length, whether its bytes are a
-/// definition, and whether it is of the grammar class. Where it is not, the status says how the run ends, and the line
-/// of the first fault goes to `out`.
+/// Reads the definition of the file, and gives its language. The order of tests is that the file is read, its length,
+/// whether its bytes are a definition, and whether it is accepted. Where it is not, the status says how the run ends, and
+/// the line of the first fault goes to `out`.
 pub fn read_language<F: Files, O: Sink>(
     alloc: Global,
     file: &str,
     files: &mut F,
     out: &mut O,
-) -> Result<Definition, Status>
-    ensures ok { IfOk result (HasDefinition (F.holds files.old) (in_file file.now)) }
-    ensures sound { IfOk result IsSound }
-    ensures class { IfOk result IsClass }
-    ensures words { IfOk result (λ d. AllByRecursion IsFixedWord (fixed_words d)) }
+) -> Result<Language, Status>
+    ensures ok { IfOk result (λ l. HasDefinition (F.holds files.old) (in_file file.now) l.definition) }
+    ensures language { IfOk result IsLanguage }
     ensures holds { IfOk result (λ _. F.holds files.new ≡ F.holds files.old) }
     ensures entries { IfOk result (λ _. F.faults files.new ≡ F.faults files.old) }
     ensures quiet { IfOk result (λ _. out.new ≡ out.old) }
@@ -140,8 +127,8 @@ pub fn read_language<F: Files, O: Sink>(
     if text.len() > MOST_DEFINITION_BYTES {
         return Err(Status::TooLong);
     }
-    match accept(alloc, text, out) {
-        Ok(definition) => Ok(definition),
+    match language_of(alloc, text, out) {
+        Ok(language) => Ok(language),
         Err(status) => Err(status),
     }
 }

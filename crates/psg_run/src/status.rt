@@ -5,14 +5,15 @@ ghost use Rattle.psg_run.specs.Codes.{code_of};
 /// How a run of the program ends. Its number is the exit status.
 #[derive(Clone, Copy, Debug, PartialEq, Eq)]
 pub enum Status {
-    /// The script was read to its end, and every reply was written.
+    /// The script or the input was read to its end, and every reply was written.
     Done,
     /// The bytes of the definition are no definition, or one that is not of the grammar class, and the line that says
     /// so was written.
     DefinitionRefused,
     /// The words have none of the forms; nothing was read or written.
     Words,
-    /// A read of the definition or of the script failed; nothing was written.
+    /// A read of the definition or of the script failed, and nothing was written; or one of the input failed, and the
+    /// replies to the lines before were written.
     ReadFault,
     /// A write of the output failed; a front of the output was written.
     WriteFault,

@@ -16,6 +16,10 @@ pub enum Form<'a> {
         definition: &'a str,
         script: &'a str,
     },
+    /// `live DEF`
+    Live {
+        definition: &'a str,
+    },
 }
 
 /// What two words ask for.
@@ -25,6 +29,8 @@ fn of_two<'a>(form: &str, definition: &'a str) -> Option<Form<'a>>
 {
     if form == "check" {
         Some(Form::Check { definition })
+    } else if form == "live" {
+        Some(Form::Live { definition })
     } else {
         None
     }

@@ -1,5 +1,5 @@
 -- What an outcome says of a session.
-use Rattle.std.proofs.Common.{◌≡◌, ℕ, List, Some, None, Result, Ok, Err, IfErr, refl, sym, ap, subst}
+use Rattle.std.proofs.Common.{◌≡◌, ℕ, List, Some, Result, Ok, Err, IfErr, sym, ap, subst}
 use Rattle.std.specs.declared.alloc.AllocError.{AllocError}
 use Rattle.psg_cache.specs.Notes.{IsNoteOf}
 use Rattle.psg_script.specs.Forms.{Spells}
@@ -15,41 +15,51 @@ use Rattle.psg_session.specs.declared.editor.Outcome.{Outcome}
 use Rattle.psg_session.specs.declared.editor.Outcome.TheVariants.{Stays, Opens as OpensTree, Changes, Undoes, Redoes, Saves, Goes}
 use Rattle.psg_session.specs.declared.replies.Reply.{Reply}
 use Rattle.psg_session.specs.Applied.{HasApplied, HasStopped, IsRefusal}
-use Rattle.psg_session.specs.Exchanges.{nobody, Outside}
+use Rattle.psg_session.specs.Exchanges.{Outside}
+use Rattle.psg_grammar.specs.Sound.{IsSound}
+use Rattle.psg_specimen.specs.Languages.{IsLanguage}
+use Rattle.psg_specimen.specs.Refusal.{IsAccepted}
+use Rattle.psg_specimen.specs.declared.language.Language.{Language}
+use Rattle.psg_session.specs.Formed.{HasText, IsFormedState}
 use Rattle.psg_session.specs.Good.{IsGoodIn}
-use Rattle.psg_session.specs.Outcomes.{after, IsOutcome, IsStay, reply_in}
-use Rattle.psg_session.specs.PlainState.{Opened, State, not_asked}
+use Rattle.psg_session.proofs.ByCompletions.{accepted_forms, accepted_steps}
+use Rattle.std.proofs.lemmas.Option.{none-some}
+use Rattle.psg_session.specs.Outcomes.{after, IsStay, reply_in}
+use Rattle.psg_session.specs.Reached.{HasReached}
+use Rattle.psg_session.specs.PlainState.{Opened, State, start}
 use Rattle.psg_session.specs.PlainStep.{Steps}
-use Rattle.psg_session.specs.Sessions.{IsSession, opened_of, plain, state_of}
-use Rattle.psg_session.specs.Ticks.{HasTicked}
+use Rattle.psg_session.specs.Sessions.{IsEditor, IsSession, opened_of, plain, state_of}
 use Rattle.psg_session.specs.Views.{reply_of}
 
 module _ (def : Definition) (old : Editor) (command : Command) (before after_it : Outside) (from to : ℕ)
-    (same : after_it ≡ before) (ticked : HasTicked def (state_of old) command from to) where
-  -- nothing was asked of the files
-  pub applied : (outcome : Outcome) → IsOutcome def old not_asked command outcome
-      → (new : Editor) → state_of new ≡ after old outcome → (reply : Reply) → reply ≡ reply_in outcome
-      → HasApplied def (state_of old) (state_of new) command before after_it from to (reply_of reply)
-  applied outcome is new state reply told = record {
-    asked = None;
-    asks = λ asked h. h;
-    answer = not_asked;
-    answers = nobody same;
-    steps = subst (λ (t : State). Steps def (IsGoodIn def) (state_of old) not_asked command t (reply_of reply))
-        (sym state)
-        (subst (λ (r : Reply). Steps def (IsGoodIn def) (state_of old) not_asked command (after old outcome) (reply_of r))
-        (sym told) is.steps);
-    ticked = ticked;
-  }
+    (outcome : Outcome) (is : HasReached def old command before after_it from to outcome) (sound : IsSound def)
+    (accepted : IsAccepted def) (formed : IsFormedState def (state_of old)) (text : HasText command) where
+  -- the step that the editor took, by the open judgement
+  taken : (new : Editor) → state_of new ≡ after old outcome → (reply : Reply) → reply ≡ reply_in outcome
+      → Steps def (IsGoodIn def) (state_of old) is.answer command (state_of new) (reply_of reply)
+  taken new state reply told =
+      subst (λ (t : State). Steps def (IsGoodIn def) (state_of old) is.answer command t (reply_of reply)) (sym state)
+      (subst (λ (r : Reply). Steps def (IsGoodIn def) (state_of old) is.answer command (after old outcome) (reply_of r))
+      (sym told) is.is_outcome.steps)
 
-  pub stopped : HasStopped def (state_of old) command before after_it from to
-  stopped = record {
-    asked = None;
-    asks = tt;
-    cut_off = same;
-    answer = not_asked;
-    got = refl;
-    ticked = ticked;
+  -- the trees are of their kinds again
+  pub stays_formed : (new : Editor) → state_of new ≡ after old outcome → (reply : Reply) → reply ≡ reply_in outcome
+      → IsFormedState def (state_of new)
+  stays_formed new state reply told =
+      accepted_forms def sound accepted (state_of old) (state_of new) is.answer command (reply_of reply) text formed
+      (taken new state reply told)
+
+  -- the outcome is settled
+  pub applied : (new : Editor) → state_of new ≡ after old outcome → (reply : Reply) → reply ≡ reply_in outcome
+      → HasApplied def (state_of old) (state_of new) command before after_it from to (reply_of reply)
+  applied new state reply told = record {
+    asked = is.asked;
+    asks = is.asks;
+    answer = is.answer;
+    answers = is.answers;
+    steps = (accepted_steps def sound accepted (state_of old) (state_of new) is.answer command (reply_of reply) text formed).0
+        (taken new state reply told);
+    ticked = is.ticked;
   }
 
 -- an outcome that refuses leaves the editor as it is
@@ -81,15 +91,54 @@ note_in p q same session held opened =
     × IsNoteOf x.language.definition old.tree held.note) same (note_here p session held opened)
 
 -- what was applied to the parts that the session keeps
-pub applied_in : (p q : Parts) → p ≡ q → (command : Command) (before after_it : Outside) (from to : ℕ)
-    → after_it ≡ before → HasTicked p.language.definition (state_of p.editor) command from to
-    → (outcome : Outcome) → IsOutcome p.language.definition p.editor not_asked command outcome
+pub applied_in : (p q : Parts) → p ≡ q → IsSession p → (command : Command) → HasText command
+    → (before after_it : Outside) (from to : ℕ)
+    → (outcome : Outcome) → HasReached p.language.definition p.editor command before after_it from to outcome
     → (new : Editor) → state_of new ≡ after p.editor outcome → (reply : Reply) → reply ≡ reply_in outcome
     → HasApplied q.language.definition (state_of q.editor) (state_of new) command before after_it from to (reply_of reply)
-applied_in p q same command before after_it from to files ticked outcome is new state reply told =
+applied_in p q same session command text before after_it from to outcome is new state reply told =
     subst (λ (x : Parts). HasApplied x.language.definition (state_of x.editor) (state_of new) command before after_it
     from to (reply_of reply)) same
-    (applied p.language.definition p.editor command before after_it from to files ticked outcome is new state reply told)
+    (applied p.language.definition p.editor command before after_it from to outcome is session.language.sound
+    session.language.accepted session.formed text new state reply told)
+
+-- The session after an outcome was settled.
+pub session_after : (p : Parts) → IsSession p → (command : Command) → HasText command
+    → (before after_it : Outside) (from to : ℕ)
+    → (outcome : Outcome) → HasReached p.language.definition p.editor command before after_it from to outcome
+    → (new : Editor) → IsEditor p.language.definition new → state_of new ≡ after p.editor outcome → (reply : Reply)
+    → reply ≡ reply_in outcome → IsSession (record { language = p.language; editor = new })
+session_after p session command text before after_it from to outcome is new editor state reply told = record {
+  language = session.language;
+  editor = editor;
+  formed = stays_formed p.language.definition p.editor command before after_it from to outcome is session.language.sound
+      session.language.accepted session.formed text new state reply told;
+}
+
+-- a session in which nothing is opened
+pub begun : (language : Language) → IsLanguage language → (e : Editor) → IsEditor language.definition e
+    → state_of e ≡ start → IsSession (record { language = language; editor = e })
+begun language is e editor state = record {
+  language = is;
+  editor = editor;
+  formed = subst (IsFormedState language.definition) (sym state) nothing;
+} where
+  nothing : IsFormedState language.definition start
+  nothing = record {
+    opened = λ old e. absurd (none-some old e);
+    cursor = λ old e. absurd (none-some old e);
+    earlier = λ old e. tt;
+    later = λ old e. tt;
+    saved = tt;
+  }
+
+pub stopped_in : {X : Type 0} (p q : Parts) → p ≡ q → (command : Command) (before after_it : Outside) (from to : ℕ)
+    → HasStopped p.language.definition (state_of p.editor) command before after_it from to
+    → (r : Result X AllocError)
+    → IfErr r (λ _. HasStopped q.language.definition (state_of q.editor) command before after_it from to)
+stopped_in p q same command before after_it from to is (Ok x) = tt
+stopped_in p q same command before after_it from to is (Err e) =
+    subst (λ (x : Parts). HasStopped x.language.definition (state_of x.editor) command before after_it from to) same is
 
 -- ---- lines
 

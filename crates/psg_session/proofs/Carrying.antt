@@ -23,7 +23,7 @@ use Rattle.psg_session.specs.declared.judging.Trial.TheVariants.{Opens, Grows, T
 use Rattle.psg_session.specs.declared.refusal.Refusal.{Refusal}
 use Rattle.psg_session.specs.declared.refusal.Refusal.TheVariants.{NoPlaceholder, Unknown}
 use Rattle.psg_session.specs.declared.replies.Mark.{Mark}
-use Rattle.psg_session.specs.declared.saved.Saved.{Saved}
+use Rattle.psg_library.specs.declared.fragment.SavedFragment.{SavedFragment as Saved}
 use Rattle.psg_session.specs.declared.replies.Reply.TheVariants.{Refused}
 use Rattle.psg_session.specs.Edits.{cost_of, edited, MayEdit}
 use Rattle.psg_session.specs.Good.{IsGoodIn}

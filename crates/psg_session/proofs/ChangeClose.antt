@@ -1,5 +1,5 @@
 -- What it is answered that a list is closed, before its tree is tested.
-use Rattle.std.proofs.Common.{◌≡◌, inl, inr, true, false, Some, refl, sym, ◌∙◌, ap, subst, ◌≤◌, ◌+◌}
+use Rattle.std.proofs.Common.{arith, ◌≡◌, inl, inr, true, false, Some, refl, sym, ◌∙◌, ap, subst, ◌≤◌, ◌+◌}
 use Rattle.psg_grammar.specs.declared.types.Definition.{Definition}
 use Rattle.psg_grammar.specs.Fragments.{Fragment}
 use Rattle.psg_grammar.specs.Paths.{change_at, ended, replaced}
@@ -53,14 +53,17 @@ module _ (def : Definition) (e : Editor) (place : Where) where
         → IsMade def e (Close place) (made_of Closes (Put f.path.now new) f.path.now)
     close_made editor ends new is =
         let result = put_is e def place f found (ended false) new is in
+        let tree : Fragment = replaced f.path.now new (tree_in f.held.now.note) in
+        let it : Makes def (state_of e) (Close place) tree f.path.now =
+        subst (λ q. Makes def (state_of e) (Close place) (replaced f.path.now new (tree_in f.held.now.note)) q) (path_is def e place f found)
+        (subst (λ t. Makes def (state_of e) (Close place) t (named_path place e.cursor)) result
+        (by_close (plain f.held.now) (opened_is def e place f found))) in
         record {
           held = f.held.now;
           opened = found.held;
           may = may_put def e place f editor found new
               (λ K shaped. subst (λ t. IsShaped def t K) (sym is) (finished_shaped def f.node.now K shaped));
-          makes = subst (λ q. Makes def (state_of e) (Close place) (replaced f.path.now new (tree_in f.held.now.note)) q) (path_is def e place f found)
-              (subst (λ t. Makes def (state_of e) (Close place) t (named_path place e.cursor)) result
-              (by_close (plain f.held.now) (opened_is def e place f found)));
+          makes = it;
           only = λ other given. closed_once other given ∙ result;
           refused = λ r h. inr (
             is_opened def e place f found,
@@ -76,9 +79,5 @@ module _ (def : Definition) (e : Editor) (place : Where) where
               ((λ h'. at_node def e place f found IsNotUnfinished h' ends), h),
             ),
           );
-          counts = inr (has_node def e place f found
-              (λ old node. work_of new + climb_of (tree_in f.held.now.note) f.path.now
-              ≤ work_of node + above def (state_of e) old place)
-              (cost_here e place f found (work_of new) (work_of f.node.now)
-              (ap work_of is ∙ ended_work false f.node.now)));
+          counts = inr (plain f.held.now, tree, f.path.now, opened_is def e place f found, it, omega arith);
         }

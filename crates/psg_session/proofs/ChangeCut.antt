@@ -1,5 +1,5 @@
 -- What a cut is answered, before its tree is tested.
-use Rattle.std.proofs.Common.{◌≡◌, inl, inr, Some, refl, sym, ◌∙◌, ap, subst, ◌≤◌, ◌+◌}
+use Rattle.std.proofs.Common.{arith, ◌≡◌, inl, inr, Some, refl, sym, ◌∙◌, ap, subst, ◌≤◌, ◌+◌}
 use Rattle.psg_grammar.specs.Insertion.{blank}
 use Rattle.psg_grammar.specs.Kinds.{HasKind, IsOfKind}
 use Rattle.psg_grammar.specs.declared.types.Kind.{Kind}
@@ -74,16 +74,19 @@ module _ (def : Definition) (e : Editor) (place : Where) where
         → new ≡ blank def kind → IsMade def e (Cut place) (made_of Loosens (Put f.path.now new) f.path.now)
     cut_made editor there never new fresh =
         let result = put_is e def place f found (λ old. blank def kind) new fresh in
+        let tree : Fragment = replaced f.path.now new (tree_in f.held.now.note) in
+        let it : Makes def (state_of e) (Cut place) tree f.path.now =
+        subst (λ q. Makes def (state_of e) (Cut place) (replaced f.path.now new (tree_in f.held.now.note)) q)
+        (path_is def e place f found)
+        (subst (λ t. Makes def (state_of e) (Cut place) t (named_path place e.cursor)) result
+        (by_cut (plain f.held.now) f.node.now kind (opened_is def e place f found)
+        (node_is def e place f found) is)) in
         record {
           held = f.held.now;
           opened = found.held;
           may = may_put def e place f editor found new
               (λ K shaped. cut_keeps f.node.now kind is there new fresh K shaped);
-          makes = subst (λ q. Makes def (state_of e) (Cut place) (replaced f.path.now new (tree_in f.held.now.note)) q)
-              (path_is def e place f found)
-              (subst (λ t. Makes def (state_of e) (Cut place) t (named_path place e.cursor)) result
-              (by_cut (plain f.held.now) f.node.now kind (opened_is def e place f found)
-              (node_is def e place f found) is));
+          makes = it;
           only = λ other given. cut_once other given ∙ result;
           refused = λ r h. inr (
             is_opened def e place f found,
@@ -93,8 +96,5 @@ module _ (def : Definition) (e : Editor) (place : Where) where
             ),
           );
           taken = λ h. (is_opened def e place f found, (is_there def e place f found, (usual never, h)));
-          counts = inr (has_node def e place f found
-              (λ old node. work_of new + climb_of (tree_in f.held.now.note) f.path.now
-              ≤ 1 + above def (state_of e) old place)
-              (cost_here e place f found (work_of new) 1 (ap work_of fresh ∙ blank_work def kind)));
+          counts = inr (plain f.held.now, tree, f.path.now, opened_is def e place f found, it, omega arith);
         }

@@ -150,6 +150,12 @@ module _ (def : Definition) (e : Editor) (place : Where) (k : ℕ) (name : Name)
               ≡ change_at (inserted k fresh) f.path.now (tree_in f.held.now.note) =
               ap (λ q. with_operator def (tree_in f.held.now.note) q (Some k) o leaves) here
               ∙ ap (λ t. change_at (inserted k t) f.path.now (tree_in f.held.now.note)) (sym is_fresh) in
+              let tree : Fragment = change_at (inserted k fresh) f.path.now (tree_in f.held.now.note) in
+              let it : Makes def (state_of e) (Insert place k name args) tree (f.path.now ++ k ∷ []) =
+              subst (λ (q : Path). Makes def (state_of e) (Insert place k name args)
+              (change_at (inserted k fresh) f.path.now (tree_in f.held.now.note)) (q ++ k ∷ [])) here
+              (subst (λ t. Makes def (state_of e) (Insert place k name args) t (named_path place e.cursor ++ k ∷ []))
+              result (by_insert (plain f.held.now) o leaves (opened_is def e place f found) named gives)) in
               record {
                 held = f.held.now;
                 opened = found.held;
@@ -164,10 +170,7 @@ module _ (def : Definition) (e : Editor) (place : Where) (k : ℕ) (name : Name)
                       (o, leaves, named, of, gives, is_fresh);
                   within = let same = listed.elements in omega (arith, same, within);
                 };
-                makes = subst (λ (q : Path). Makes def (state_of e) (Insert place k name args)
-                    (change_at (inserted k fresh) f.path.now (tree_in f.held.now.note)) (q ++ k ∷ [])) here
-                    (subst (λ t. Makes def (state_of e) (Insert place k name args) t (named_path place e.cursor ++ k ∷ []))
-                    result (by_insert (plain f.held.now) o leaves (opened_is def e place f found) named gives));
+                makes = it;
                 only = λ other given. inserted_once other given ∙ result;
                 refused = λ r h. inr (
                   is_opened def e place f found,
@@ -189,15 +192,19 @@ module _ (def : Definition) (e : Editor) (place : Where) (k : ℕ) (name : Name)
                     (usual, ((λ h'. h' o named), (no_other, ((λ none. none o leaves named gives), h)))),
                   ),
                 );
-                counts = inr (has_node def e place f found
-                    (λ old node. OfFresh def (state_of e) name args (λ x. work_of fresh + (k + 1)
-                    + climb_of (tree_in f.held.now.note) f.path.now
-                    ≤ work_of x + (k + 1) + above def (state_of e) old place)) (
-                      o,
-                      leaves,
-                      named,
-                      gives,
-                      cost_here e place f found (work_of fresh + (k + 1))
-                          (work_of (fresh_operator def o leaves) + (k + 1)) (ap (λ t. work_of t + (k + 1)) is_fresh),
-                    ));
+                counts = inr (
+                  plain f.held.now,
+                  tree,
+                  f.path.now ++ k ∷ [],
+                  opened_is def e place f found,
+                  it,
+                  (
+                    o,
+                    leaves,
+                    named,
+                    gives,
+                    cost_here e place f found (work_of fresh + (k + 1))
+                        (work_of (fresh_operator def o leaves) + (k + 1)) (ap (λ t. work_of t + (k + 1)) is_fresh),
+                  ),
+                );
               }

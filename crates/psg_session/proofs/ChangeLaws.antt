@@ -59,7 +59,7 @@ module _ (def : Definition) where
   pub kind_is : (node : Fragment) (K kind : Kind) → IsShaped def node K → IsOfKind def node kind → K ≡ kind
   kind_is node K kind shaped h = kind_once def node K kind (shape_is_kind def node K shaped) h
 
-  has_shape_kind : IsSound def → (f : Fragment) (more : List Item) (kind : Kind) → HasShape def f more kind
+  pub has_shape_kind : IsSound def → (f : Fragment) (more : List Item) (kind : Kind) → HasShape def f more kind
       → HasKind def kind
   has_shape_kind sound (hole p) more kind (none, is, small) = subst (HasKind def) (sym is) small
   has_shape_kind sound (ending l u) more kind (none, is, (k, found, may)) =

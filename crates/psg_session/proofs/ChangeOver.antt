@@ -25,6 +25,7 @@ use Rattle.psg_session.specs.declared.finding.Found.{Found}
 use Rattle.psg_session.specs.declared.judging.Trial.TheVariants.{Types}
 use Rattle.psg_session.specs.declared.refusal.Refusal.{Refusal}
 use Rattle.psg_session.specs.declared.refusal.Refusal.TheVariants.{NoTokens, NoTree, TooDeep}
+use Rattle.psg_cache.specs.Diff.{diff_of}
 use Rattle.psg_session.specs.Edits.{cost_of}
 use Rattle.psg_session.specs.Good.{IsGoodIn}
 use Rattle.psg_session.specs.Outcomes.{IsFound, IsMade, IsNotFound, IsPlan, made_of, MaySpend, Spends, tree_tests}
@@ -68,7 +69,7 @@ module _ (def : Definition) (e : Editor) (place : Where) (text : List ℕ) where
     read_ticks from to (inr (ts, are, le)) = record {
       taken = length ts;
       counted = le;
-      within = inr (has_node def e place f found (λ old node. OfTyped def (state_of e) place text old node (length ts))
+      within = inr (has_node def e place f found (λ old node. OfTyped def (state_of e) place text old (length ts))
           (ts, are, inl (omega arith)));
     }
 
@@ -205,19 +206,21 @@ module _ (def : Definition) (e : Editor) (place : Where) (text : List ℕ) where
           ),
         )
 
+        made_so : Makes def (state_of e) (Over place text) (replaced f.path.now new (tree_in f.held.now.note)) f.path.now
+        made_so =
+            let result = put_is e def place f found (λ old. new) new refl in
+            subst (λ q. Makes def (state_of e) (Over place text) (replaced f.path.now new (tree_in f.held.now.note)) q)
+            (path_is def e place f found)
+            (subst (λ t. Makes def (state_of e) (Over place text) t (named_path place e.cursor)) result
+            (result_of new tree.nesting here))
+
         -- what the change costs, after the tokens were read
         with_tokens : (ts : List Spanned) → TextTokens def text ts → (n : ℕ)
-            → n ≤ length ts + (work_of new + climb_of (tree_in f.held.now.note) f.path.now)
+            → n ≤ length ts + diff_of (tree_in f.held.now.note) (replaced f.path.now new (tree_in f.held.now.note))
             → MayTick def (state_of e) (Over place text) n
         with_tokens ts are n le =
-            let cost : work_of new + climb_of (tree_in f.held.now.note) f.path.now
-            ≤ work_of new + climb_of (tree_in f.held.now.note) (named_path place e.cursor) =
-            cost_here e place f found (work_of new) (work_of new) refl in
-            let all : n ≤ length ts
-            + (work_of new + climb_of (tree_in f.held.now.note) (named_path place e.cursor)) =
-            omega (arith, le, cost) in
-            inr (has_node def e place f found (λ old node. OfTyped def (state_of e) place text old node n)
-            (ts, are, inr (new, tree.nesting, here, all)))
+            inr (has_node def e place f found (λ old node. OfTyped def (state_of e) place text old n)
+            (ts, are, inr (replaced f.path.now new (tree_in f.held.now.note), f.path.now, made_so, le)))
 
         -- the tree is in place of the node
         pub over_made : IsEditor def e
@@ -228,31 +231,28 @@ module _ (def : Definition) (e : Editor) (place : Where) (text : List ℕ) where
               held = f.held.now;
               opened = found.held;
               may = may_put def e place f editor found new keeps;
-              makes = subst (λ q. Makes def (state_of e) (Over place text)
-                  (replaced f.path.now new (tree_in f.held.now.note)) q) (path_is def e place f found)
-                  (subst (λ t. Makes def (state_of e) (Over place text) t (named_path place e.cursor)) result
-                  (result_of new tree.nesting here));
+              makes = made_so;
               only = λ other given. over_once other given ∙ result;
               refused = refuses_typed;
               taken = takes_typed;
               counts = with_tokens tree.reads.tokens tree.reads.are
-                  (work_of new + climb_of (tree_in f.held.now.note) f.path.now) (omega arith);
+                  (diff_of (tree_in f.held.now.note) (replaced f.path.now new (tree_in f.held.now.note))) (omega arith);
             }
 
         -- the counts of the tokens and of the change together
         both_ticks : (from so_far to : ℕ) → HasRead def text from so_far
-            → to ≤ so_far + (work_of new + climb_of (tree_in f.held.now.note) f.path.now)
+            → to ≤ so_far + (diff_of (tree_in f.held.now.note) (replaced f.path.now new (tree_in f.held.now.note)))
             → HasTicked def (state_of e) (Over place text) from to
         both_ticks from so_far to (inl same) le = record {
-          taken = work_of new + climb_of (tree_in f.held.now.note) f.path.now;
+          taken = diff_of (tree_in f.held.now.note) (replaced f.path.now new (tree_in f.held.now.note));
           counted = omega (arith, same, le);
           within = with_tokens tree.reads.tokens tree.reads.are
-              (work_of new + climb_of (tree_in f.held.now.note) f.path.now) (omega arith);
+              (diff_of (tree_in f.held.now.note) (replaced f.path.now new (tree_in f.held.now.note))) (omega arith);
         }
         both_ticks from so_far to (inr (ts, are, read)) le = record {
-          taken = length ts + (work_of new + climb_of (tree_in f.held.now.note) f.path.now);
+          taken = length ts + (diff_of (tree_in f.held.now.note) (replaced f.path.now new (tree_in f.held.now.note)));
           counted = omega (arith, read, le);
-          within = with_tokens ts are (length ts + (work_of new + climb_of (tree_in f.held.now.note) f.path.now))
+          within = with_tokens ts are (length ts + (diff_of (tree_in f.held.now.note) (replaced f.path.now new (tree_in f.held.now.note))))
               (omega arith);
         }
 

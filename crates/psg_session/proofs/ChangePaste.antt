@@ -23,7 +23,7 @@ use Rattle.psg_session.specs.declared.judging.Trial.TheVariants.{Grows}
 use Rattle.psg_session.specs.declared.pasting.Source.{Source}
 use Rattle.psg_session.specs.declared.refusal.Refusal.{Refusal}
 use Rattle.psg_session.specs.declared.refusal.Refusal.TheVariants.{NotHole, NoPlace, OtherPhylum}
-use Rattle.psg_session.specs.declared.saved.Saved.{Saved}
+use Rattle.psg_library.specs.declared.fragment.SavedFragment.{SavedFragment as Saved}
 use Rattle.psg_session.specs.declared.editor.OpenedTree.{OpenedTree}
 use Rattle.psg_session.specs.Outcomes.{IsListed, IsMade, IsNotFound, IsNoSource, IsPlan, IsSource, made_of}
 use Rattle.psg_session.specs.PlainState.{Opened, named_path}
@@ -159,15 +159,18 @@ module _ (def : Definition) (e : Editor) (place : Where) (name : Name) (x : Sour
         let result = put_is e def place f found (λ old. x.saved.now.tree) new is in
         let shaped : IsShaped def new x.saved.now.kind =
         subst (λ t. IsShaped def t x.saved.now.kind) (sym is) (kept_at def e.saved name x.saved.now source.saved editor.saved) in
+        let tree : Fragment = replaced f.path.now new (tree_in f.held.now.note) in
+        let it : Makes def (state_of e) (Paste place None name) tree f.path.now =
+        subst (λ q. Makes def (state_of e) (Paste place None name)
+        (replaced f.path.now new (tree_in f.held.now.note)) q) (path_is def e place f found)
+        (subst (λ t. Makes def (state_of e) (Paste place None name) t (named_path place e.cursor)) result
+        (by_paste (plain f.held.now) x.saved.now (opened_is def e place f found) source.saved)) in
         record {
           held = f.held.now;
           opened = found.held;
           may = may_put def e place f editor found new
               (λ K node. subst (IsShaped def new) (sym (kind_is def f.node.now K x.saved.now.kind node takes)) shaped);
-          makes = subst (λ q. Makes def (state_of e) (Paste place None name)
-              (replaced f.path.now new (tree_in f.held.now.note)) q) (path_is def e place f found)
-              (subst (λ t. Makes def (state_of e) (Paste place None name) t (named_path place e.cursor)) result
-              (by_paste (plain f.held.now) x.saved.now (opened_is def e place f found) source.saved));
+          makes = it;
           only = λ other given. pasted_once other given ∙ result;
           refused = λ r h. inr (
             is_opened def e place f found,
@@ -195,13 +198,7 @@ module _ (def : Definition) (e : Editor) (place : Where) (name : Name) (x : Sour
               ),
             ),
           );
-          counts = inr (has_node def e place f found
-              (λ old node. OfSaved def (state_of e) name (λ t. work_of new
-              + climb_of (tree_in f.held.now.note) f.path.now ≤ work_of t + above def (state_of e) old place)) (
-                x.saved.now,
-                source.saved,
-                cost_here e place f found (work_of new) (work_of x.saved.now.tree) (ap work_of is),
-              ));
+          counts = inr (plain f.held.now, tree, f.path.now, opened_is def e place f found, it, omega arith);
         }
 
   -- ---- as a new element
@@ -279,6 +276,12 @@ module _ (def : Definition) (e : Editor) (place : Where) (name : Name) (x : Sour
             ≡ change_at (inserted k new) f.path.now (tree_in f.held.now.note) =
             ap (λ q. change_at (inserted k x.saved.now.tree) q (tree_in f.held.now.note)) here
             ∙ ap (λ t. change_at (inserted k t) f.path.now (tree_in f.held.now.note)) (sym is) in
+            let tree : Fragment = change_at (inserted k new) f.path.now (tree_in f.held.now.note) in
+            let it : Makes def (state_of e) (Paste place (Some k) name) tree (f.path.now ++ k ∷ []) =
+            subst (λ q. Makes def (state_of e) (Paste place (Some k) name)
+            (change_at (inserted k new) f.path.now (tree_in f.held.now.note)) (q ++ k ∷ [])) here
+            (subst (λ t. Makes def (state_of e) (Paste place (Some k) name) t (named_path place e.cursor ++ k ∷ []))
+            result (by_paste_in (plain f.held.now) x.saved.now (opened_is def e place f found) source.saved)) in
             record {
               held = f.held.now;
               opened = found.held;
@@ -294,10 +297,7 @@ module _ (def : Definition) (e : Editor) (place : Where) (name : Name) (x : Sour
                     (kept_at def e.saved name x.saved.now source.saved editor.saved));
                 within = let same = listed.elements in omega (arith, same, within);
               };
-              makes = subst (λ q. Makes def (state_of e) (Paste place (Some k) name)
-                  (change_at (inserted k new) f.path.now (tree_in f.held.now.note)) (q ++ k ∷ [])) here
-                  (subst (λ t. Makes def (state_of e) (Paste place (Some k) name) t (named_path place e.cursor ++ k ∷ []))
-                  result (by_paste_in (plain f.held.now) x.saved.now (opened_is def e place f found) source.saved));
+              makes = it;
               only = λ other given. pasted_in_once other given ∙ result;
               refused = λ r h. inr (
                 is_opened def e place f found,
@@ -325,13 +325,17 @@ module _ (def : Definition) (e : Editor) (place : Where) (name : Name) (x : Sour
                   ),
                 ),
               );
-              counts = inr (has_node def e place f found
-                  (λ old node. OfSaved def (state_of e) name (λ t. work_of new + (k + 1)
-                  + climb_of (tree_in f.held.now.note) f.path.now
-                  ≤ work_of t + (k + 1) + above def (state_of e) old place)) (
-                    x.saved.now,
-                    source.saved,
-                    cost_here e place f found (work_of new + (k + 1)) (work_of x.saved.now.tree + (k + 1))
-                        (ap (λ t. work_of t + (k + 1)) is),
-                  ));
+              counts = inr (
+                plain f.held.now,
+                tree,
+                f.path.now ++ k ∷ [],
+                opened_is def e place f found,
+                it,
+                (
+                  x.saved.now,
+                  source.saved,
+                  cost_here e place f found (work_of new + (k + 1)) (work_of x.saved.now.tree + (k + 1))
+                      (ap (λ t. work_of t + (k + 1)) is),
+                ),
+              );
             }

@@ -1,5 +1,5 @@
 -- What a refinement is answered, before its tree is tested.
-use Rattle.std.proofs.Common.{◌≡◌, inl, inr, ℕ, List, None, Ok, Err, refl, sym, ◌∙◌, ap, subst, ◌≤◌, ◌+◌}
+use Rattle.std.proofs.Common.{arith, ◌≡◌, inl, inr, ℕ, List, None, Ok, Err, refl, sym, ◌∙◌, ap, subst, ◌≤◌, ◌+◌}
 use Rattle.psg_terms.specs.Names.{Name}
 use Rattle.psg_grammar.specs.Insertion.{Leaf, fresh_operator, with_operator}
 use Rattle.psg_grammar.specs.declared.types.Kind.{Kind}
@@ -125,15 +125,18 @@ module _ (def : Definition) (e : Editor) (place : Where) (name : Name) (args : L
             → IsMade def e (Refine place name args) (made_of Grows (Put f.path.now fresh) f.path.now)
         refine_made editor fresh is_fresh =
             let result = put_is e def place f found (λ old. fresh_operator def o leaves) fresh is_fresh in
+            let tree : Fragment = replaced f.path.now fresh (tree_in f.held.now.note) in
+            let it : Makes def (state_of e) (Refine place name args) tree f.path.now =
+            subst (λ q. Makes def (state_of e) (Refine place name args)
+            (replaced f.path.now fresh (tree_in f.held.now.note)) q) (path_is def e place f found)
+            (subst (λ t. Makes def (state_of e) (Refine place name args) t (named_path place e.cursor)) result
+            (by_refine (plain f.held.now) o leaves (opened_is def e place f found) named gives)) in
             record {
               held = f.held.now;
               opened = found.held;
               may = may_put def e place f editor found fresh
                   (refine_keeps sound f.node.now p is fresh (o, leaves, named, of, gives, is_fresh));
-              makes = subst (λ q. Makes def (state_of e) (Refine place name args)
-                  (replaced f.path.now fresh (tree_in f.held.now.note)) q) (path_is def e place f found)
-                  (subst (λ t. Makes def (state_of e) (Refine place name args) t (named_path place e.cursor)) result
-                  (by_refine (plain f.held.now) o leaves (opened_is def e place f found) named gives));
+              makes = it;
               only = λ other given. refined_once other given ∙ result;
               refused = λ r h. inr (
                 is_opened def e place f found,
@@ -149,14 +152,5 @@ module _ (def : Definition) (e : Editor) (place : Where) (name : Name) (args : L
                   (usual, ((λ k. k o named), (no_other, ((λ none. none o leaves named gives), h)))),
                 ),
               );
-              counts = inr (has_node def e place f found
-                  (λ old node. OfFresh def (state_of e) name args (λ x. work_of fresh
-                  + climb_of (tree_in f.held.now.note) f.path.now ≤ work_of x + above def (state_of e) old place)) (
-                    o,
-                    leaves,
-                    named,
-                    gives,
-                    cost_here e place f found (work_of fresh)
-                        (work_of (fresh_operator def o leaves)) (ap work_of is_fresh),
-                  ));
+              counts = inr (plain f.held.now, tree, f.path.now, opened_is def e place f found, it, omega arith);
             }

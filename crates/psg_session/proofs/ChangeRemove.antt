@@ -71,6 +71,11 @@ module _ (def : Definition) (e : Editor) (place : Where) (k : ℕ) where
             let result : change_at (removed k) (named_path place e.cursor) (tree_in f.held.now.note)
             ≡ change_at (removed k) f.path.now (tree_in f.held.now.note) =
             ap (λ q. change_at (removed k) q (tree_in f.held.now.note)) here in
+            let tree : Fragment = change_at (removed k) f.path.now (tree_in f.held.now.note) in
+            let it : Makes def (state_of e) (Remove place k) tree f.path.now =
+            subst (λ q. Makes def (state_of e) (Remove place k)
+            (change_at (removed k) q (tree_in f.held.now.note)) q) here
+            (by_remove (plain f.held.now) (opened_is def e place f found)) in
             record {
               held = f.held.now;
               opened = found.held;
@@ -80,13 +85,9 @@ module _ (def : Definition) (e : Editor) (place : Where) (k : ℕ) where
                 list = listed.is_list;
                 within = let same = listed.elements in omega (arith, same, within);
               };
-              makes = subst (λ q. Makes def (state_of e) (Remove place k)
-                  (change_at (removed k) q (tree_in f.held.now.note)) q) here
-                  (by_remove (plain f.held.now) (opened_is def e place f found));
+              makes = it;
               only = λ other given. removed_once other given ∙ result;
               refused = λ r h. inr (is_opened def e place f found, inr (is_there def e place f found, inr (usual, h)));
               taken = λ h. (is_opened def e place f found, (is_there def e place f found, (usual, h)));
-              counts = inr (has_node def e place f found
-                  (λ old node. k + climb_of (tree_in f.held.now.note) f.path.now ≤ k + above def (state_of e) old place)
-                  (cost_here e place f found k k refl));
+              counts = inr (plain f.held.now, tree, f.path.now, opened_is def e place f found, it, cost_here e place f found k k refl);
             }

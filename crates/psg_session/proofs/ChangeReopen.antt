@@ -1,5 +1,5 @@
 -- What it is answered that a list is opened again, before its tree is tested.
-use Rattle.std.proofs.Common.{◌≡◌, ◌↔◌, inl, inr, Bool, true, false, true≢false, not, IsTrue, Some, refl, sym, ◌∙◌, ap, subst, ◌≤◌, ◌+◌}
+use Rattle.std.proofs.Common.{arith, ◌≡◌, ◌↔◌, inl, inr, Bool, true, false, true≢false, not, IsTrue, Some, refl, sym, ◌∙◌, ap, subst, ◌≤◌, ◌+◌}
 use Rattle.psg_grammar.specs.declared.types.Kind.TheVariants as kinds
 use Rattle.psg_grammar.specs.declared.types.ListKind.{ListKind}
 use Rattle.psg_grammar.specs.declared.types.Kind.{Kind}
@@ -66,14 +66,17 @@ module _ (def : Definition) (e : Editor) (place : Where) where
         → IsMade def e (Reopen place) (made_of Loosens (Put f.path.now new) f.path.now)
     reopen_made editor may new is =
         let result = put_is e def place f found (ended true) new is in
+        let tree : Fragment = replaced f.path.now new (tree_in f.held.now.note) in
+        let it : Makes def (state_of e) (Reopen place) tree f.path.now =
+        subst (λ q. Makes def (state_of e) (Reopen place) (replaced f.path.now new (tree_in f.held.now.note)) q) (path_is def e place f found)
+        (subst (λ t. Makes def (state_of e) (Reopen place) t (named_path place e.cursor)) result
+        (by_reopen (plain f.held.now) (opened_is def e place f found))) in
         record {
           held = f.held.now;
           opened = found.held;
           may = may_put def e place f editor found new
               (λ K shaped. subst (λ t. IsShaped def t K) (sym is) (reopen_keeps def f.node.now may K shaped));
-          makes = subst (λ q. Makes def (state_of e) (Reopen place) (replaced f.path.now new (tree_in f.held.now.note)) q) (path_is def e place f found)
-              (subst (λ t. Makes def (state_of e) (Reopen place) t (named_path place e.cursor)) result
-              (by_reopen (plain f.held.now) (opened_is def e place f found)));
+          makes = it;
           only = λ other given. reopened_once other given ∙ result;
           refused = λ r h. inr (
             is_opened def e place f found,
@@ -89,11 +92,7 @@ module _ (def : Definition) (e : Editor) (place : Where) where
               ((λ h'. at_node def e place f found MayNot h' may), h),
             ),
           );
-          counts = inr (has_node def e place f found
-              (λ old node. work_of new + climb_of (tree_in f.held.now.note) f.path.now
-              ≤ work_of node + above def (state_of e) old place)
-              (cost_here e place f found (work_of new) (work_of f.node.now)
-              (ap work_of is ∙ ended_work true f.node.now)));
+          counts = inr (plain f.held.now, tree, f.path.now, opened_is def e place f found, it, omega arith);
         }
 
 not_unfinished : (b : Bool) → IsTrue (not b) → b ≡ false

@@ -5,7 +5,7 @@ use Rattle.std.proofs.lemmas.Str.{encodes-chars}
 use Rattle.psg_terms.specs.Names.{Name, is_among}
 use Rattle.psg_terms.specs.Words.{IsWord}
 use Rattle.psg_grammar.specs.WellFormed.{IsName}
-use Rattle.psg_session.specs.declared.language.Language.{Language}
+use Rattle.psg_specimen.specs.declared.language.Language.{Language}
 use Rattle.psg_session.specs.declared.leaves.Leaf.{Leaf}
 use Rattle.psg_session.specs.declared.leaves.Leaf.TheVariants as leaves
 use Rattle.psg_session.specs.Leaves.{HasWord}

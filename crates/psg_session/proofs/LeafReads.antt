@@ -9,7 +9,7 @@ use Rattle.psg_grammar.specs.WellFormed.{fixed_words}
 use Rattle.psg_lexis.specs.Tokens.{HasTokens}
 use Rattle.psg_lexis.specs.declared.token.Spanned.{Spanned}
 use Rattle.psg_lexis.proofs.Laws.{only_tokens}
-use Rattle.psg_session.specs.declared.language.Language.{Language}
+use Rattle.psg_specimen.specs.declared.language.Language.{Language}
 use Rattle.psg_session.specs.declared.leaves.Leaf.{Leaf}
 use Rattle.psg_session.specs.Leaves.{given, GivesLeaves}
 use Rattle.psg_session.specs.Views.{plain_leaf, IsLanguage}

@@ -5,7 +5,6 @@ pub mod Ticking
 pub mod Carrying
 pub mod Settling
 pub mod Stepping
-pub mod Applying
 pub mod Unbuilt
 pub mod Opening
 pub mod Verdicts
@@ -15,11 +14,18 @@ pub mod Bounds
 pub mod Filling
 pub mod RowLines
 pub mod KeyMarks
-pub mod DeclaringPhyla
 pub mod Asking
 pub mod PrintLaws
 pub mod Showing
 pub mod OneStep
+pub mod TokenValues
+pub mod QuietHoles
+pub mod FetchedTrees
+pub mod FormedMakes
+pub mod FormedSteps
+pub mod SameSteps
+pub mod ByCompletions
+pub mod Applying
 pub mod LeafLaws
 pub mod LeafWords
 pub mod LeafReads
@@ -37,3 +43,5 @@ pub mod ChangeClose
 pub mod ChangeReopen
 pub mod Shelving
 pub mod ChangePaste
+pub mod KeptLaws
+pub mod RelationLaws

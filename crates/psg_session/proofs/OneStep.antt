@@ -1,5 +1,6 @@
 -- A command has one step.
-use Rattle.std.proofs.Common.{◌≡◌, inl, inr, ℕ, true, false, List, [], ◌∷◌, map, chars, Option, Some, None, refl, sym, ◌∙◌, ap, subst}
+use Rattle.std.specs.Prelude.{codes}
+use Rattle.std.proofs.Common.{◌≡◌, inl, inr, ℕ, true, false, List, [], ◌∷◌, ◌++◌, map, chars, Option, Some, None, refl, sym, ◌∙◌, ap, subst}
 use Rattle.psg_terms.specs.Names.{Name}
 use Rattle.psg_terms.specs.Terms.{Term}
 use Rattle.psg_grammar.specs.declared.types.Kind.{Kind}
@@ -9,7 +10,7 @@ use Rattle.psg_grammar.specs.Insertion.{blank, Leaf, with_operator}
 use Rattle.psg_grammar.specs.Marks.{Chosen, nothing, taken, passed, Mark, good, wrong, path_of, IsMarkBy}
 use Rattle.psg_grammar.specs.Paths.{Path, node_at, change_at, inserted, removed, ended, replaced}
 use Rattle.psg_grammar.specs.Regions.{names_of}
-use Rattle.psg_grammar.specs.Relations.{IsRelationOf}
+use Rattle.psg_grammar.specs.Relations.{IsRelationOf, IsShownRelation}
 use Rattle.psg_grammar.specs.Sound.{IsSound}
 use Rattle.psg_grammar.specs.WellFormed.{fixed_words}
 use Rattle.psg_grammar.proofs.NamePlaces.{only_kind, only_op}
@@ -18,7 +19,7 @@ use Rattle.psg_grammar.specs.Kinds.{kind_name_of, IsOfKind}
 use Rattle.psg_class.specs.Class.{IsClass}
 use Rattle.psg_cache.proofs.ShapedTrees.{kind_once as node_kind_once}
 use Rattle.psg_script.specs.declared.command.Command.{Command}
-use Rattle.psg_script.specs.declared.command.Command.TheVariants.{Own, Free, Undo, Redo, Save, Goto, Screen}
+use Rattle.psg_script.specs.declared.command.Command.TheVariants.{Own, Free, Undo, Redo, Save, Keep, Fetch, Goto, Screen, Relation}
 use Rattle.psg_reads_back.specs.Layout.{text_of}
 use Rattle.psg_screen.specs.Window.{window_of}
 use Rattle.psg_unparse.specs.Spots.{span_of}
@@ -27,16 +28,18 @@ use Rattle.psg_session.specs.Answers.{free_names, names_line, rows_lines}
 use Rattle.psg_session.specs.Printing.{goto_line, lines_in, view_of, what_is, IsWrittenAt}
 use Rattle.psg_session.proofs.PrintLaws.{written_once}
 use Rattle.psg_session.specs.Leaves.{given, GivesLeaves}
-use Rattle.psg_session.specs.PlainState.{State, Opened, Answer, named_path, with_new, with_change, with_version, with_saved}
+use Rattle.psg_library.specs.Keeping.{IsKept}
+use Rattle.psg_library.proofs.OneReading.{kept_alone}
+use Rattle.psg_session.specs.PlainState.{State, Opened, Answer, got, named_path, with_new, with_change, with_version, with_saved}
 use Rattle.psg_session.specs.declared.refusal.Refusal.{Refusal}
-use Rattle.psg_session.specs.declared.saved.Saved.{Saved}
+use Rattle.psg_library.specs.declared.fragment.SavedFragment.{SavedFragment as Saved}
 use Rattle.psg_session.specs.Shelf.{saved_at}
 use Rattle.psg_session.specs.Laws.{HasOneStep}
 use Rattle.psg_session.specs.Refusals.{Tests, done, test, Refuses, Passes}
 use Rattle.psg_session.proofs.StepLaws.{some_once}
 use Rattle.psg_session.specs.Replies.{Reply, refused, answered, marked, shown}
-use Rattle.psg_session.specs.PlainStep.{HasName, IsOperator, Makes, by_refine, by_insert, by_cut, by_remove, by_close, by_reopen, by_paste, by_paste_in, tests, IsRefused, IsTaken, Steps, refuses, opens, changes, undoes, redoes, saves, shows, owns, frees, goes, screens, by_over}
-use Rattle.psg_session.proofs.RowLines.{relation_lines}
+use Rattle.psg_session.specs.PlainStep.{HasName, IsOperator, Makes, by_refine, by_insert, by_cut, by_remove, by_close, by_reopen, by_paste, by_paste_in, tests, IsRefused, IsTaken, Steps, refuses, opens, changes, undoes, redoes, saves, keeps, fetches, shows, owns, frees, goes, screens, by_over, relates}
+use Rattle.psg_session.proofs.RowLines.{relation_lines, shown_lines}
 use Rattle.psg_session.proofs.TypedLaws.{read_once}
 use Rattle.psg_session.specs.Typed.{ReadsFor}
 
@@ -197,6 +200,16 @@ module _ (def : Definition) (IsGood : Fragment → Type 0) (s : State) (answer :
         ∙ ap answered (relation_lines def sound node' rows rows' (subst (λ f. IsRelationOf def f rows) one rel) rel'
         (names_of def node'))
 
+    -- and those of its values in the fragment
+    shown_once : (old old' : Opened) (path : Path) (rows rows' : List (List Term))
+        → s.opened ≡ Some old → s.opened ≡ Some old' → IsShownRelation def old.tree path rows
+        → IsShownRelation def old'.tree path rows'
+        → answered (rows_lines def.signature [] rows) ≡ answered (rows_lines def.signature [] rows')
+    shown_once old old' path rows rows' opened opened' rel rel' =
+        let same : old ≡ old' = some_once old old' s.opened opened opened' in
+        ap answered (shown_lines def sound old'.tree path rows rows'
+        (subst (λ (x : Opened). IsShownRelation def x.tree path rows) same rel) rel' [])
+
     -- a node is said in one way
     place_once : (old old' : Opened) (p p' : Placed) (kind kind' : Kind) (name name' : Name) (path : Path)
         → s.opened ≡ Some old → s.opened ≡ Some old' → IsWrittenAt def old.tree path p
@@ -215,6 +228,14 @@ module _ (def : Definition) (IsGood : Fragment → Type 0) (s : State) (answer :
         ap (λ n. answered (goto_line n (what_is def p.node) (span_of def p) ∷ [])) called
         ∙ ap (λ (x : Placed). answered (goto_line name' (what_is def x.node) (span_of def x) ∷ [])) one
 
+    -- what was got keeps one fragment
+    fetched_once : (bytes bytes' : List ℕ) (x x' : Saved) → answer ≡ got bytes → answer ≡ got bytes'
+        → IsKept def bytes x → IsKept def bytes' x' → x ≡ x'
+    fetched_once bytes bytes' x x' is is' kept kept' =
+        let both : got bytes ≡ got bytes' = sym is ∙ is' in
+        let one : bytes ≡ bytes' = cc in
+        kept_alone def sound is_class bytes' x x' (subst (λ b. IsKept def b x) one kept) kept'
+
     pub step_once : {command : Command} {t u : State} {reply other : Reply}
         → Steps def IsGood s answer command t reply → Steps def IsGood s answer command u other
         → (t ≡ u) × (reply ≡ other)
@@ -230,6 +251,9 @@ module _ (def : Definition) (IsGood : Fragment → Type 0) (s : State) (answer :
         absurd (not_both command r taken_is h)
     step_once (refuses {command = command} {r = r} h) (saves old node kind taken_is opened here is) =
         absurd (not_both command r taken_is h)
+    step_once (refuses {command = command} {r = r} h) (keeps taken_is is) = absurd (not_both command r taken_is h)
+    step_once (refuses {command = command} {r = r} h) (fetches bytes x taken_is is kept) =
+        absurd (not_both command r taken_is h)
     step_once (refuses {command = command} {r = r} h) (shows old mark taken_is opened is_mark) =
         absurd (not_both command r taken_is h)
     step_once (refuses {command = command} {r = r} h) (goes old p kind name taken_is opened at of_kind named) =
@@ -237,6 +261,8 @@ module _ (def : Definition) (IsGood : Fragment → Type 0) (s : State) (answer :
     step_once (refuses {command = command} {r = r} h) (screens old taken_is opened) =
         absurd (not_both command r taken_is h)
     step_once (refuses {command = command} {r = r} h) (owns old node rows taken_is opened at rel) =
+        absurd (not_both command r taken_is h)
+    step_once (refuses {command = command} {r = r} h) (relates old rows taken_is opened rel) =
         absurd (not_both command r taken_is h)
     step_once (refuses {command = command} {r = r} h) (frees old taken_is opened) =
         absurd (not_both command r taken_is h)
@@ -275,6 +301,8 @@ module _ (def : Definition) (IsGood : Fragment → Type 0) (s : State) (answer :
         elim makes [ ]
     step_once (changes old mark taken_is opened makes is_mark)
         (goes old' p' kind' name' taken_is' opened' at' of_kind' named') = elim makes [ ]
+    step_once (changes old mark taken_is opened makes is_mark) (keeps taken_is' is') = elim makes [ ]
+    step_once (changes old mark taken_is opened makes is_mark) (fetches bytes' x' taken_is' is' kept') = elim makes [ ]
     step_once (changes old mark taken_is opened makes is_mark) (screens old' taken_is' opened') = elim makes [ ]
     step_once (changes old mark taken_is opened makes is_mark) (owns old' node' rows' taken_is' opened' at' rel') =
         elim makes [ ]
@@ -321,6 +349,18 @@ module _ (def : Definition) (IsGood : Fragment → Type 0) (s : State) (answer :
               ∙ ap (λ x. with_saved s (record { name = name; kind = x; tree = node' })) same,
           refl,
         )
+    step_once (keeps {name = name} {file = file} taken_is is) (refuses {r = r} h) =
+        absurd (not_both (Keep name file) r taken_is h)
+    step_once (keeps taken_is is) (changes old' mark' taken_is' opened' makes' is_mark') = elim makes' [ ]
+    step_once (keeps taken_is is) (keeps taken_is' is') = (refl, refl)
+    step_once (fetches {file = file} bytes x taken_is is kept) (refuses {r = r} h) =
+        absurd (not_both (Fetch file) r taken_is h)
+    step_once (fetches bytes x taken_is is kept) (changes old' mark' taken_is' opened' makes' is_mark') = elim makes' [ ]
+    step_once (fetches bytes x taken_is is kept) (fetches bytes' x' taken_is' is' kept') =
+        let same : x ≡ x' = fetched_once bytes bytes' x x' is is' kept kept' in (
+          ap (with_saved s) same,
+          ap (λ (z : Saved). answered ((codes "fetched " ++ z.name) ∷ [])) same,
+        )
     step_once (shows old mark taken_is opened is_mark) (refuses {command = command} {r = r} h) =
         absurd (not_both command r taken_is h)
     step_once (shows old mark taken_is opened is_mark) (changes old' mark' taken_is' opened' makes' is_mark') =
@@ -358,6 +398,13 @@ module _ (def : Definition) (IsGood : Fragment → Type 0) (s : State) (answer :
     step_once (owns {place = place} old node rows taken_is opened at rel)
         (owns old' node' rows' taken_is' opened' at' rel') =
         (refl, lines_once old old' node node' (named_path place s.cursor) rows rows' opened opened' at at' rel rel')
+    step_once (changes old mark taken_is opened makes is_mark) (relates old' rows' taken_is' opened' rel') = elim makes [ ]
+    step_once (relates {place = place} old rows taken_is opened rel) (refuses {r = r} h) =
+        absurd (not_both (Relation place) r taken_is h)
+    step_once (relates old rows taken_is opened rel) (changes old' mark' taken_is' opened' makes' is_mark') =
+        elim makes' [ ]
+    step_once (relates {place = place} old rows taken_is opened rel) (relates old' rows' taken_is' opened' rel') =
+        (refl, shown_once old old' (named_path place s.cursor) rows rows' opened opened' rel rel')
     step_once (frees old taken_is opened) (refuses {r = r} h) = absurd (not_both Free r taken_is h)
     step_once (frees old taken_is opened) (changes old' mark' taken_is' opened' makes' is_mark') = elim makes' [ ]
     step_once (frees old taken_is opened) (frees old' taken_is' opened') = (

@@ -9,11 +9,12 @@ use Rattle.psg_terms.specs.Terms.{Term, variable, symbol, apply}
 use Rattle.psg_terms.specs.Names.{Name}
 use Rattle.psg_terms.specs.Signature.{Signature, Symbol}
 use Rattle.psg_terms.specs.Text.{symbol_name, term_text, opened, row_text}
-use Rattle.psg_terms.specs.Relations.{IsIn, first, later}
+use Rattle.psg_terms.specs.Relations.{IsIn, IsRelation, first, later}
 use Rattle.psg_grammar.specs.declared.types.Definition.{Definition}
 use Rattle.psg_grammar.specs.Fragments.{Fragment}
 use Rattle.psg_grammar.specs.Keys.{Key, name_in}
-use Rattle.psg_grammar.specs.Relations.{IsPossible, IsRelationOf}
+use Rattle.psg_grammar.specs.Paths.{Path, observe}
+use Rattle.psg_grammar.specs.Relations.{IsPossible, IsRelationOf, IsSeen, IsShownRelation}
 use Rattle.psg_grammar.specs.Sound.{IsSound, IsOwnName, goes_on_name, is_lower}
 use Rattle.psg_scope.proofs.KeyLists.{and_left, and_right}
 use Rattle.psg_terms.proofs.OneRelation.{sorts_length, same_rows}
@@ -164,16 +165,28 @@ module _ (sig : Signature) where
         (same_rows_texts rows others (λ r o h k. wide r o (later h) (later k)) back)
 
 module _ (def : Definition) (sound : IsSound def) where
-  pub relation_lines : (f : Fragment) (rows others : List (List Term)) → IsRelationOf def f rows
-      → IsRelationOf def f others
+  -- the lines of two relations of what is possible
+  family_lines : {C : Type 0} (P : C → List Term → Type 0) (ls rs : List ℕ) (rows others : List (List Term)) → IsRelation def.signature ls P rows
+      → IsRelation def.signature rs P others
       → (ks : List Key) → rows_lines def.signature ks rows ≡ rows_lines def.signature ks others
-  relation_lines f rows others (ls, rel) (rs, other) ks =
+  family_lines P ls rs rows others rel other ks =
       let sig : Signature = def.signature in
       let wide = λ (row one : List Term) (h : IsIn row rows) (k : IsIn one others).
-      sorts_length sig row rs (other.shapes row (same_rows sig sound.signature (IsPossible def f) ls rs rows others
+      sorts_length sig row rs (other.shapes row (same_rows sig sound.signature P ls rs rows others
       rel other row h)).sorted
       ∙ sym (sorts_length sig one rs (other.shapes one k).sorted) in
       lines_are sig ks rows
       ∙ ap (lines_of ks) (same_rows_texts sig sound.constructor_names rows others wide
-      (same_row_texts sig sound.signature (IsPossible def f) ls rs rows others rel other))
+      (same_row_texts sig sound.signature P ls rs rows others rel other))
       ∙ sym (lines_are sig ks others)
+
+  pub relation_lines : (f : Fragment) (rows others : List (List Term)) → IsRelationOf def f rows
+      → IsRelationOf def f others
+      → (ks : List Key) → rows_lines def.signature ks rows ≡ rows_lines def.signature ks others
+  relation_lines f rows others (ls, rel) (rs, other) ks = family_lines (IsPossible def f) ls rs rows others rel other ks
+
+  -- and of two relations of a node's values
+  pub shown_lines : (f : Fragment) (path : Path) (rows others : List (List Term)) → IsShownRelation def f path rows
+      → IsShownRelation def f path others
+      → (ks : List Key) → rows_lines def.signature ks rows ≡ rows_lines def.signature ks others
+  shown_lines f path rows others (ls, rel) (rs, other) ks = family_lines (IsSeen def (observe path f)) ls rs rows others rel other ks

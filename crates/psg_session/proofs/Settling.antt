@@ -11,7 +11,7 @@ use Rattle.psg_session.specs.declared.editor.Editor.{Editor}
 use Rattle.psg_session.specs.declared.editor.OpenedTree.{OpenedTree}
 use Rattle.psg_session.specs.declared.editor.Outcome.TheVariants.{Opens as OpensTree, Changes}
 use Rattle.psg_session.specs.declared.replies.Mark.{Mark}
-use Rattle.psg_session.specs.declared.saved.Saved.{Saved}
+use Rattle.psg_library.specs.declared.fragment.SavedFragment.{SavedFragment as Saved}
 use Rattle.psg_session.specs.Outcomes.{after, changed, shelved, IsFit, IsGoneOn}
 use Rattle.psg_session.specs.PlainState.{Opened, State, most_versions}
 use Rattle.psg_session.specs.Sessions.{AreVersions, IsEditor, IsKept, IsVersion, opened_of, plain, state_of}

@@ -16,7 +16,7 @@ use Rattle.psg_session.specs.declared.finding.Found.{Found}
 use Rattle.psg_session.specs.declared.refusal.Refusal.{Refusal}
 use Rattle.psg_session.specs.declared.refusal.Refusal.TheVariants.{ShelfFull}
 use Rattle.psg_session.specs.declared.replies.Reply.TheVariants.{Refused}
-use Rattle.psg_session.specs.declared.saved.Saved.{Saved}
+use Rattle.psg_library.specs.declared.fragment.SavedFragment.{SavedFragment as Saved}
 use Rattle.psg_session.specs.Good.{IsGoodIn}
 use Rattle.psg_session.specs.Outcomes.{IsFound, IsNotFound, IsOutcome, shelved}
 use Rattle.psg_session.specs.PlainState.{not_asked, with_saved}
@@ -37,14 +37,14 @@ module _ (P : Saved → Type 0) where
     go false d more = more d
 
   -- of those of other names
-  all_others : (name : Name) (xs : List Saved) → AllByRecursion P xs → AllByRecursion P (others name xs)
+  pub all_others : (name : Name) (xs : List Saved) → AllByRecursion P xs → AllByRecursion P (others name xs)
   all_others name [] h = tt
   all_others name (x ∷ xs) h = go (bytes_eq x.name name) (all_others name xs h.1) where
     go : (b : Bool) → AllByRecursion P (others name xs) → AllByRecursion P (cond b (others name xs) (x ∷ others name xs))
     go true more = more
     go false more = (h.0, more)
 
-  all_more : (xs : List Saved) (x : Saved) → AllByRecursion P xs → P x → AllByRecursion P (xs ++ x ∷ [])
+  pub all_more : (xs : List Saved) (x : Saved) → AllByRecursion P xs → P x → AllByRecursion P (xs ++ x ∷ [])
   all_more [] x h p = (p, tt)
   all_more (y ∷ ys) x h p = (h.0, all_more ys x h.1 p)
 

@@ -45,7 +45,7 @@ module _ (def : Definition) (s : State) where
   none_taken (Over place text) = inl refl
   none_taken (Range start end text) = refl
   none_taken (Screen top left rows cols) = refl
-  none_taken (Relation place) = refl
+  none_taken (Relation place) = inl refl
   none_taken (Menu place k) = refl
   none_taken (Names place k name) = refl
   none_taken Undo = refl

@@ -1,17 +1,14 @@
 -- What a command does to an editor, as the plain editor does it.
 use Rattle.std.specs.Prelude.{ℕ, ◌≡◌, Option, Some, None, IfSome}
 use Rattle.psg_grammar.specs.declared.types.Definition.{Definition}
+use Rattle.psg_grammar.specs.Legal.{IsCompletable}
 use Rattle.psg_script.specs.declared.command.Command.{Command}
 use Rattle.psg_session.specs.PlainState.{State, Answer}
 use Rattle.psg_session.specs.PlainStep.{Steps}
-use Rattle.psg_session.specs.Good.{IsGoodIn}
 use Rattle.psg_session.specs.Replies.{Reply, refused, answered}
 use Rattle.psg_session.specs.Exchanges.{Asked, Outside, IsAnswered, IsCutOff, MayGet}
-use Rattle.psg_session.specs.Ticks.{HasTicked}
-
--- What a command asks of the files, where no test before that refuses it. No command so far asks.
-abbrev pub Asks : Definition → State → Command → Asked → Type 0
-Asks def s command asked = ⊥
+use Rattle.psg_session.specs.Kept.{Asks}
+use Rattle.psg_session.specs.Ticks.{HasTickedWith}
 
 -- this is asked, or nothing is
 abbrev pub IsAskedBy : Definition → State → Command → Option Asked → Type 0
@@ -30,8 +27,8 @@ pub record HasApplied (def : Definition) (s t : State) (command : Command) (befo
   pub asks : IsAskedBy def s command asked
   pub answer : Answer
   pub answers : IsAnswered before after asked answer
-  pub steps : Steps def (IsGoodIn def) s answer command t reply
-  pub ticked : HasTicked def s command from to
+  pub steps : Steps def (IsCompletable def) s answer command t reply
+  pub ticked : HasTickedWith def s answer command from to
 
 -- Memory was wanting, perhaps after the command had asked.
 pub record HasStopped (def : Definition) (s : State) (command : Command) (before after : Outside) (from to : ℕ)
@@ -41,4 +38,4 @@ pub record HasStopped (def : Definition) (s : State) (command : Command) (before
   pub cut_off : IsCutOff before after asked
   pub answer : Answer
   pub got : MayGet before asked answer
-  pub ticked : HasTicked def s command from to
+  pub ticked : HasTickedWith def s answer command from to

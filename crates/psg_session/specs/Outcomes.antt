@@ -14,7 +14,7 @@ use Rattle.psg_cache.specs.declared.note.NoteFault.TheVariants as faults
 use Rattle.psg_history.specs.Versions.{Versions}
 use Rattle.psg_history.specs.declared.history.TheConstants.{VERSIONS}
 use Rattle.psg_script.specs.declared.command.Command.{Command}
-use Rattle.psg_script.specs.declared.command.Command.TheVariants.{New, Refine, Insert, Cut, Remove, Close, Reopen, Show, Own, Free, Undo, Redo, Save, Paste, Goto, Screen, Over}
+use Rattle.psg_script.specs.declared.command.Command.TheVariants.{New, Refine, Insert, Cut, Remove, Close, Reopen, Show, Relation, Own, Free, Undo, Redo, Save, Paste, Keep, Fetch, Goto, Screen, Over}
 use Rattle.psg_script.specs.declared.command.Where.{Where}
 use Rattle.psg_session.specs.declared.editor.OpenedTree.{OpenedTree}
 use Rattle.psg_session.specs.declared.editor.Editor.{Editor}
@@ -34,7 +34,7 @@ use Rattle.psg_session.specs.declared.refusal.Refusal.TheVariants.{NoFragment, N
 use Rattle.psg_session.specs.declared.replies.Reply.{Reply}
 use Rattle.psg_session.specs.declared.replies.Reply.TheVariants.{Answered, Marked}
 use Rattle.psg_session.specs.declared.edits.Edit.{Edit}
-use Rattle.psg_session.specs.declared.saved.Saved.{Saved}
+use Rattle.psg_library.specs.declared.fragment.SavedFragment.{SavedFragment as Saved}
 use Rattle.psg_session.specs.Edits.{MayEdit, cost_of, edited}
 use Rattle.psg_session.specs.Good.{IsGoodIn}
 use Rattle.psg_session.specs.PlainState.{Answer, Opened, State, not_asked, named_path, with_change, with_cursor}
@@ -288,7 +288,8 @@ IsChanging (Reopen place) = Unit {0}
 IsChanging (Paste place k name) = Unit {0}
 IsChanging _ = ⊥
 
--- the commands that neither open a fragment, nor read typed text, nor ask about the fragment or move in it
+-- the commands that neither open a fragment, nor read typed text, nor ask about the fragment or move in it, nor reach the
+-- files
 abbrev pub IsElse : Command → Type 0
 IsElse (New name) = ⊥
 IsElse (Goto place) = ⊥
@@ -296,8 +297,11 @@ IsElse (Over place text) = ⊥
 IsElse Show = ⊥
 IsElse (Screen top left rows cols) = ⊥
 IsElse (Own place) = ⊥
+IsElse (Relation place) = ⊥
 IsElse Free = ⊥
 IsElse Undo = ⊥
 IsElse Redo = ⊥
 IsElse (Save name place) = ⊥
+IsElse (Keep name file) = ⊥
+IsElse (Fetch file) = ⊥
 IsElse _ = Unit {0}

@@ -5,7 +5,7 @@ use Rattle.psg_grammar.specs.Fragments.{Fragment}
 use Rattle.psg_grammar.specs.Paths.{Path}
 use Rattle.psg_script.specs.declared.command.Where.{Where}
 use Rattle.psg_script.specs.declared.command.Where.TheVariants.{Cursor, At}
-use Rattle.psg_session.specs.declared.saved.Saved.{Saved}
+use Rattle.psg_library.specs.declared.fragment.SavedFragment.{SavedFragment as Saved}
 use Rattle.psg_session.specs.Shelf.{saved_with}
 
 -- the opened fragment with its kind

@@ -7,26 +7,29 @@ use Rattle.psg_grammar.specs.declared.types.Kind.TheVariants as kinds
 use Rattle.psg_grammar.specs.declared.types.ListKind.{ListKind}
 use Rattle.psg_grammar.specs.declared.types.Operator.{Operator}
 use Rattle.psg_grammar.specs.declared.types.Definition.{Definition}
-use Rattle.psg_grammar.specs.Declaring.{is_declaring}
+pub use Rattle.psg_specimen.specs.Languages.{IsDeclaringPhylum}
 use Rattle.psg_grammar.specs.Fragments.{Fragment, hole, ending, cell, children_of}
 use Rattle.psg_grammar.specs.Paths.{Path, node_at, change_at, replaced, inserted, removed, ended, IsList}
 use Rattle.psg_grammar.specs.Insertion.{Leaf, blank, with_operator}
 use Rattle.psg_grammar.specs.Kinds.{kind_name_of, op_name_of, IsOfKind}
 use Rattle.psg_grammar.specs.Regions.{names_of}
-use Rattle.psg_grammar.specs.Relations.{IsRelationOf}
+use Rattle.psg_grammar.specs.Relations.{IsRelationOf, IsShownRelation}
 use Rattle.psg_grammar.specs.Sizes.{IsBig, IsDeep}
-use Rattle.psg_grammar.specs.Steps.{IsWide, IsHeavy}
+use Rattle.psg_grammar.specs.Steps.{IsWide, IsHeavy, IsWideAt}
 use Rattle.psg_grammar.specs.Marks.{Mark, IsMarkBy}
 use Rattle.psg_reads_back.specs.Layout.{text_of}
 use Rattle.psg_reads_back.specs.Spots.{Placed}
+use Rattle.psg_library.specs.Keeping.{IsKept}
 use Rattle.psg_screen.specs.Window.{window_of}
 use Rattle.psg_unparse.specs.Spots.{span_of}
 use Rattle.psg_class.specs.Texts.{HasNoTokens}
 use Rattle.psg_script.specs.declared.command.Where.{Where}
 use Rattle.psg_script.specs.declared.command.Command.{Command}
 use Rattle.psg_script.specs.declared.command.Command.TheVariants.{New, Goto, Refine, Insert, Cut, Remove, Close, Reopen, Over, Range, Show, Screen, Relation, Own, Menu, Names, Free, Undo, Redo, Save, Paste, Keep, Fetch}
-use Rattle.psg_session.specs.PlainState.{State, Opened, Answer, named_path, with_new, with_change, with_version, with_saved, with_cursor}
-use Rattle.psg_session.specs.declared.saved.Saved.{Saved}
+use Rattle.psg_session.specs.Exchanges.{most_kept_bytes}
+use Rattle.psg_session.specs.Kept.{IsUnreadable, OfBytes, OfFetched}
+use Rattle.psg_session.specs.PlainState.{State, Opened, Answer, stored, got, lost, named_path, with_new, with_change, with_version, with_saved, with_cursor}
+use Rattle.psg_library.specs.declared.fragment.SavedFragment.{SavedFragment as Saved}
 use Rattle.psg_session.specs.Shelf.{saved_at, IsFull}
 use Rattle.psg_session.specs.declared.refusal.Refusal.{Refusal}
 use Rattle.psg_session.specs.declared.refusal.Refusal.TheVariants.{NoCommand, NoNode, NotHole, Unknown, OtherPhylum, BadArguments, NoPlace, TooBig, TooDeep, TooWide, TooHeavy, Inadmissible, NoTokens, NoTree, NothingEarlier, NothingLater, NoFragment, ShelfFault, KeptUnreadable, NoRange, NoPlaceholder, NothingOpened, ShelfFull}
@@ -53,11 +56,6 @@ module _ (def : Definition) where
   -- the operator is of the phylum
   abbrev pub IsOfPhylum : ℕ → ℕ → Type 0
   IsOfPhylum o p = (op : Operator) × (slice_get def.operators o ≡ Some op) × (op.phylum ≡ p)
-
-  -- a phylum that declares names; a placeholder of it would not say which
-  abbrev pub IsDeclaringPhylum : Kind → Type 0
-  IsDeclaringPhylum (kinds.Phylum p) = (space : ℕ) × (is_declaring def space (kinds.Phylum p) ≡ true)
-  IsDeclaringPhylum (kinds.List l) = ⊥
 
   -- the node is a list of the kind
   abbrev pub IsListOf : Fragment → ListKind → Type 0
@@ -225,7 +223,8 @@ module _ (def : Definition) (IsGood : Fragment → Type 0) where
       unbuilt (test NothingOpened (s.opened ≡ None)
       (unsaid NoRange (unsaid NoTokens (unsaid NoTree (typing ⊥ (OfResult def s (Range start end text)))))))
   tests s answer (Screen top left rows cols) = test NothingOpened (s.opened ≡ None) done
-  tests s answer (Relation place) = unbuilt (at_place s place (unsaid TooWide done))
+  tests s answer (Relation place) =
+      at_place s place (test TooWide (AtNode def s place (λ old node. IsWideAt def old.tree (named_path place s.cursor))) done)
   tests s answer (Menu place k) = unbuilt (at_place s place (unsaid (place_test k) (unsaid TooWide done)))
   tests s answer (Names place k name) =
       unbuilt (at_place s place (unsaid (place_test k)
@@ -240,9 +239,15 @@ module _ (def : Definition) (IsGood : Fragment → Type 0) where
       (test (place_test k) (AtNode def s place (λ old node. HasNoRoom def k node))
       (test OtherPhylum (IsOtherSaved def s place k name)
       (growing (OfResult def s (Paste place k name)))))))
-  tests s answer (Keep name file) = unbuilt (unsaid NoFragment (unsaid TooBig (unsaid ShelfFault done)))
+  tests s answer (Keep name file) =
+      test NoFragment (saved_at s.saved name ≡ None)
+      (test TooBig (OfBytes def s name (λ bytes. most_kept_bytes < length bytes))
+      (test ShelfFault (answer ≡ lost) done))
   tests s answer (Fetch file) =
-      unbuilt (unsaid ShelfFault (unsaid KeptUnreadable (unsaid TooBig (unsaid ShelfFull done))))
+      test ShelfFault (answer ≡ lost)
+      (test KeptUnreadable (IsUnreadable def answer)
+      (test TooBig (OfFetched def answer (λ x. IsBig x.tree))
+      (test ShelfFull (OfFetched def answer (λ x. IsFull s.saved x.name)) done)))
 
   -- the first test that holds has this refusal
   abbrev pub IsRefused : State → Answer → Command → Refusal → Type 0
@@ -275,6 +280,11 @@ module _ (def : Definition) (IsGood : Fragment → Type 0) where
         → node_at old.tree (named_path place s.cursor) ≡ Some node → IsOfKind def node kind
         → Steps s answer (Save name place) (with_saved s (record { name = name; kind = kind; tree = node }))
         (answered ((codes "saved " ++ name) ∷ []))
+    keeps : {name file : Name} → IsTaken s answer (Keep name file) → answer ≡ stored
+        → Steps s answer (Keep name file) s (answered ((codes "kept " ++ name) ∷ []))
+    fetches : {file : Name} (bytes : List ℕ) (x : Saved) → IsTaken s answer (Fetch file) → answer ≡ got bytes
+        → IsKept def bytes x
+        → Steps s answer (Fetch file) (with_saved s x) (answered ((codes "fetched " ++ x.name) ∷ []))
     shows : (old : Opened) (mark : Mark) → IsTaken s answer Show → s.opened ≡ Some old → IsMarkBy IsGood old.tree mark
         → Steps s answer Show s (shown (lines_in (text_of def old.tree)) mark)
     goes : {place : Where} (old : Opened) (p : Placed) (kind : Kind) (name : Name) → IsTaken s answer (Goto place)
@@ -289,5 +299,8 @@ module _ (def : Definition) (IsGood : Fragment → Type 0) where
     owns : {place : Where} (old : Opened) (node : Fragment) (rows : List (List Term)) → IsTaken s answer (Own place)
         → s.opened ≡ Some old → node_at old.tree (named_path place s.cursor) ≡ Some node → IsRelationOf def node rows
         → Steps s answer (Own place) s (answered (rows_lines def.signature (names_of def node) rows))
+    relates : {place : Where} (old : Opened) (rows : List (List Term)) → IsTaken s answer (Relation place)
+        → s.opened ≡ Some old → IsShownRelation def old.tree (named_path place s.cursor) rows
+        → Steps s answer (Relation place) s (answered (rows_lines def.signature [] rows))
     frees : (old : Opened) → IsTaken s answer Free → s.opened ≡ Some old
         → Steps s answer Free s (answered (names_line (free_names def old.tree) ∷ []))

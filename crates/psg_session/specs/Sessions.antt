@@ -9,9 +9,10 @@ use Rattle.psg_cache.specs.Shaped.{IsShaped}
 use Rattle.psg_cache.specs.Annotated.{Annotated, tree_in}
 use Rattle.psg_session.specs.declared.editor.Editor.{Editor}
 use Rattle.psg_session.specs.declared.editor.OpenedTree.{OpenedTree}
-use Rattle.psg_session.specs.declared.saved.Saved.{Saved}
+use Rattle.psg_library.specs.declared.fragment.SavedFragment.{SavedFragment as Saved}
 use Rattle.psg_session.specs.declared.session.Parts.{Parts}
 use Rattle.psg_session.specs.PlainState.{State, Opened}
+use Rattle.psg_session.specs.Formed.{IsFormedState}
 use Rattle.psg_session.specs.Views.{IsLanguage}
 
 -- the opened fragment as the plain editor sees it
@@ -53,7 +54,8 @@ module _ (def : Definition) where
     pub later : AreVersions e.opened e.history.later
     pub saved : AllByRecursion IsKept e.saved
 
--- a language, and an editor of its fragments
+-- a language, and an editor of its fragments, all of which are well-formed trees
 pub record IsSession (p : Parts) : Type 0 where
   pub language : IsLanguage p.language
   pub editor : IsEditor p.language.definition p.editor
+  pub formed : IsFormedState p.language.definition (state_of p.editor)

@@ -1,7 +1,7 @@
 -- The saved fragments.
 use Rattle.std.specs.Prelude.{ℕ, ◌≡◌, ◌≤◌, cond, List, [], ◌∷◌, ◌++◌, length, Option, None, bytes_eq, find}
 use Rattle.psg_terms.specs.Names.{Name}
-use Rattle.psg_session.specs.declared.saved.Saved.{Saved}
+use Rattle.psg_library.specs.declared.fragment.SavedFragment.{SavedFragment as Saved}
 
 -- so many fragments are saved at most
 abbrev pub most_saved : ℕ

@@ -1,18 +1,10 @@
 -- The editor's values as the plain editor sees them.
-use Rattle.std.specs.Prelude.{◌≡◌, cond, List, [], ◌∷◌, map, string_bytes}
-use Rattle.std.specs.List.{AllByRecursion}
-use Rattle.psg_class.specs.Class.{IsClass}
+use Rattle.std.specs.Prelude.{cond, List, [], ◌∷◌, map, string_bytes}
 use Rattle.psg_grammar.specs.Insertion.{Leaf as PlainLeaf, a_name, a_number, a_text}
 use Rattle.psg_grammar.specs.Marks.{good, wrong, Mark as PlainMark}
-use Rattle.psg_grammar.specs.Sound.{IsSound}
-use Rattle.psg_grammar.specs.WellFormed.{fixed_words}
-use Rattle.psg_grammar.specs.declared.types.Definition.{Definition}
-use Rattle.psg_cache.specs.Notes.{AreDeclaringSpaces}
-use Rattle.psg_lexis.specs.Tokens.{IsFixedWord}
-use Rattle.psg_parse.specs.Tables.{IsParseTable}
+pub use Rattle.psg_specimen.specs.Languages.{IsLanguage}
 use Rattle.psg_scope.specs.declared.header.NameCol.{NameCol}
 use Rattle.psg_terms.specs.Names.{Name as PlainName}
-use Rattle.psg_session.specs.declared.language.Language.{Language}
 use Rattle.psg_session.specs.declared.leaves.Leaf.{Leaf}
 use Rattle.psg_session.specs.declared.leaves.Leaf.TheVariants.{Name, Number, Text}
 use Rattle.psg_session.specs.declared.replies.Mark.{Mark}
@@ -42,12 +34,3 @@ reply_of (Seen lines) = answered lines.items
 abbrev pub names_without : List NameCol → List PlainName
 names_without [] = []
 names_without (c ∷ cs) = cond c.declared (names_without cs) (c.name ∷ names_without cs)
-
--- a sound definition of the class, each of whose fixed words is one token, with what is made of it
-pub record IsLanguage (l : Language) : Type 0 where
-  pub sound : IsSound l.definition
-  pub declaring : AreDeclaringSpaces l.definition l.declaring.items
-  pub words : l.lexis ≡ fixed_words l.definition
-  pub class : IsClass l.definition
-  pub tokens : AllByRecursion IsFixedWord (fixed_words l.definition)
-  pub table : IsParseTable l.definition l.table

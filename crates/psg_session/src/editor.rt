@@ -3,6 +3,7 @@ ghost use Rattle.std.specs.Prelude.{◌≡◌, IfOk, IfSome, IfNone};
 ghost use Rattle.psg_grammar.specs.declared.types.Definition.{Definition as PlainDefinition};
 ghost use Rattle.psg_session.specs.Outcomes.{after, reply_in, IsChanging, IsElse, IsFit, IsGoneOn, IsOutcome, IsPlan, IsStay, Spends};
 ghost use Rattle.psg_session.specs.PlainState.{not_asked};
+ghost use Rattle.psg_session.specs.Reached.{IsReaching};
 ghost use Rattle.psg_session.specs.Sessions.{state_of, IsEditor};
 ghost use Rattle.psg_session.specs.Ticks.{HasTicked};
 ghost use Rattle.psg_session.specs.Views.{IsLanguage};
@@ -12,21 +13,23 @@ ghost use Rattle.psg_script.specs.declared.command.Command.TheVariants as comman
 use crate::changes::{Plan, close, cut, insert_element, refine, remove_element, reopen};
 use crate::insertion::blank;
 use crate::judging::{Trial, judged};
-use crate::language::Language;
 use crate::noting::{note_after, note_mark, note_of};
 use crate::pasting::paste;
 use crate::printing::{go, screen, show};
 use crate::questions::{free, own};
 use crate::refusal::Refusal;
+use crate::relating::relation;
 use crate::replies::{Mark, Reply};
-use crate::saved::{Saved, save};
+use crate::saved::save;
 use crate::typed::type_over;
 use crate::versions::{redo, undo};
 use psg_cache::Note;
 use psg_grammar::{Kind, kind_named};
 use psg_history::History;
+use psg_library::SavedFragment;
 use psg_screen::View;
 use psg_script::Command;
+use psg_specimen::Language;
 use psg_terms::{Seq, Steps, Txt};
 use psg_tree::Path;
 use std::alloc::{AllocError, Global};
@@ -45,7 +48,7 @@ pub struct Editor {
     pub opened: Option<OpenedTree>,
     pub cursor: Path,
     pub history: History<Note>,
-    pub saved: Seq<Saved>,
+    pub saved: Seq<SavedFragment>,
 }
 
 /// What a command does. All that it needs memory for is in it.
@@ -64,7 +67,7 @@ pub enum Outcome {
     /// The nearest later version is opened.
     Redoes(Path, Mark),
     /// These are the saved fragments now, and the lines are the reply.
-    Saves(Seq<Saved>, Vec<String>),
+    Saves(Seq<SavedFragment>, Vec<String>),
 }
 
 impl Editor {
@@ -258,8 +261,8 @@ fn change<L: Ledger>(
     Ok(outcome)
 }
 
-/// Finds what a command does to the editor. A change evaluates what is new and the nodes above it, and
-/// `steps` counts the evaluations, and the tokens of typed text. It fails where memory runs out.
+/// Finds what a command does to the editor that asks nothing of the files. A change evaluates what is new and the nodes
+/// above it, and `steps` counts the evaluations, and the tokens of typed text. It fails where memory runs out.
 #[tactic(auto, using(crate::proofs::Ticking::quiet))]
 pub fn step<L: Ledger>(
     alloc: Global,
@@ -270,6 +273,7 @@ pub fn step<L: Ledger>(
 ) -> Result<Outcome, AllocError>
     requires language { IsLanguage language.now }
     requires editor { IsEditor language.now.definition editor.now }
+    requires alone { IsReaching command.now → ⊥ }
     ensures outcome { IfOk result (IsOutcome language.now.definition editor.now not_asked command.now) }
     ensures ticks { HasTicked language.now.definition (state_of editor.now) command.now steps.old steps.new }
 {
@@ -307,6 +311,10 @@ pub fn step<L: Ledger>(
         }
         Command::Own { at } => {
             let outcome = own(alloc, language, editor, at)?;
+            Ok(outcome)
+        }
+        Command::Relation { at } => {
+            let outcome = relation(alloc, language, editor, at, steps)?;
             Ok(outcome)
         }
         Command::Free => {

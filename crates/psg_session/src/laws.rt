@@ -1,8 +1,10 @@
 //! Laws of the plain editor, as contracts of calls that do nothing.
 ghost use Rattle.psg_class.specs.Class.{IsClass};
+ghost use Rattle.psg_grammar.specs.Legal.{IsCompletable};
 ghost use Rattle.psg_grammar.specs.Sound.{IsSound};
 ghost use Rattle.psg_session.specs.Good.{IsGoodIn};
-ghost use Rattle.psg_session.specs.Laws.{HasOneStep};
+ghost use Rattle.psg_session.specs.Laws.{HasOneStep, KeepsForm, StepsByCompletions};
+ghost use Rattle.psg_specimen.specs.Refusal.{IsAccepted};
 
 use psg_grammar::Definition;
 
@@ -10,5 +12,21 @@ use psg_grammar::Definition;
 pub fn one_step(definition: &Definition)
     requires sound { IsSound definition.now }
     requires class { IsClass definition.now }
-    ensures { HasOneStep definition.now (IsGoodIn definition.now) }
+    ensures { HasOneStep definition.now (IsCompletable definition.now) }
+{}
+
+/// States that a command leads from a state whose trees are of their kinds, and whose cursor is at a node, to such a
+/// state. So all states that an editor comes to are of this form. It does nothing at run time.
+pub fn forms_are_kept(definition: &Definition)
+    requires sound { IsSound definition.now }
+    requires accepted { IsAccepted definition.now }
+    ensures { KeepsForm definition.now (IsGoodIn definition.now) }
+{}
+
+/// States that the steps by the open judgement are those by legal completions: marks, culprits and refusals speak of
+/// programs. It does nothing at run time.
+pub fn steps_by_completions(definition: &Definition)
+    requires sound { IsSound definition.now }
+    requires accepted { IsAccepted definition.now }
+    ensures { StepsByCompletions definition.now }
 {}

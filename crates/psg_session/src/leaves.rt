@@ -7,9 +7,9 @@ ghost use Rattle.psg_session.specs.Leaves.{given, HasWord, leaf_of as plain_leaf
 ghost use Rattle.psg_session.specs.LeafItems.{has_leaf, IsNameLeaf, IsNumberLeaf, IsTextLeaf, IsNextLeaf, Suits};
 ghost use Rattle.psg_session.specs.Views.{plain_leaf, IsLanguage};
 
-use crate::language::Language;
 use psg_grammar::Item;
 use psg_lexis::{LexFault, Spanned, Token, lex};
+use psg_specimen::Language;
 use psg_terms::Txt;
 use std::alloc::{AllocError, Global};
 

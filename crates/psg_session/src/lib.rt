@@ -8,7 +8,7 @@
 //! What it does at a command is what the plain editor does, which is defined in this crate's specs and knows nothing but
 //! trees: the first of the command's tests that holds refuses it, otherwise it is done.
 //!
-//! A command is first planned (`changes`, `typed`), its tree is noted and judged (`noting`, `judging`), and what it does is an
+//! A command that reaches the files asks them at its end (`kept`). Each other one is first planned (`changes`, `typed`), its tree is noted and judged (`noting`, `judging`), and what it does is an
 //! outcome that has all memory; one place (`Editor::settle`) then changes the editor and cannot fail.
 #![tactic(auto)]
 
@@ -18,7 +18,7 @@ pub mod edits;
 pub mod finding;
 mod insertion;
 pub mod judging;
-pub mod language;
+pub mod kept;
 pub mod laws;
 pub mod leaves;
 mod noting;
@@ -26,13 +26,13 @@ pub mod pasting;
 mod printing;
 mod questions;
 pub mod refusal;
+mod relating;
 pub mod replies;
 pub mod saved;
 pub mod session;
 mod typed;
 mod versions;
 
-pub use language::Language;
 pub use refusal::Refusal;
 pub use replies::{Mark, Reply, reply_lines};
 pub use session::Session;

@@ -10,9 +10,9 @@ ghost use Rattle.psg_session.specs.Views.{mark_of, IsLanguage};
 ghost use Rattle.psg_tree.specs.declared.places.TreeFault.TheVariants.{Memory};
 
 use crate::edits::Edit;
-use crate::language::Language;
 use crate::replies::Mark;
 use psg_cache::{Note, NoteFault, build, inserted, removed, replaced};
+use psg_specimen::Language;
 use psg_terms::Steps;
 use psg_tree::{Tree, TreeFault};
 use std::alloc::{AllocError, Global};

@@ -13,11 +13,12 @@ use crate::editor::Editor;
 use crate::edits::Edit;
 use crate::finding::{Found, find};
 use crate::judging::Trial;
-use crate::language::Language;
 use crate::refusal::Refusal;
-use crate::saved::{Saved, saved_named};
+use crate::saved::saved_named;
 use psg_grammar::{Definition, Kind};
+use psg_library::SavedFragment;
 use psg_script::Where;
+use psg_specimen::Language;
 use psg_terms::Txt;
 use psg_tree::Tree;
 use std::alloc::{AllocError, Global};
@@ -25,7 +26,7 @@ use std::alloc::{AllocError, Global};
 /// A saved fragment, and the node to which it is pasted.
 #[derive(Clone, Copy)]
 pub struct Source<'a> {
-    pub saved: &'a Saved,
+    pub saved: &'a SavedFragment,
     pub found: Found<'a>,
 }
 

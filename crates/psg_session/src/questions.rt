@@ -13,12 +13,12 @@ ghost use Rattle.psg_session.specs.Views.{IsLanguage, names_without};
 
 use crate::editor::{Editor, Outcome};
 use crate::finding::find;
-use crate::language::Language;
 use crate::refusal::Refusal;
 use crate::replies::Reply;
 use psg_eval::Summary;
 use psg_scope::NameCol;
 use psg_script::Where;
+use psg_specimen::Language;
 use psg_terms::{Signature, Term, Txt, term_text};
 use std::alloc::{AllocError, Global};
 

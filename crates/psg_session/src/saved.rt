@@ -10,51 +10,30 @@ ghost use Rattle.psg_session.specs.Views.{IsLanguage};
 use crate::changes::kind_of;
 use crate::editor::{Editor, Outcome};
 use crate::finding::find;
-use crate::language::Language;
 use crate::refusal::Refusal;
 use crate::replies::Reply;
-use psg_grammar::Kind;
+use psg_library::SavedFragment;
 use psg_script::Where;
+use psg_specimen::Language;
 use psg_terms::{Seq, Txt};
-use psg_tree::Tree;
 use std::alloc::{AllocError, Global};
 
 /// How many fragments are saved at most.
 pub const MOST_SAVED: usize = 64;
 
-/// A saved fragment.
-#[derive(Drop)]
-pub struct Saved {
-    pub name: Txt,
-    pub kind: Kind,
-    pub tree: Tree,
-}
-
-impl Saved {
-    /// Gives one more owner of the same fragment.
-    fn share(&self) -> Result<Saved, AllocError>
-        ensures { IfOk result (λ copy. copy ≡ self.now) }
-    {
-        let name = self.name.share()?;
-        let tree = self.tree.share()?;
-        let kind = self.kind;
-        Ok(Saved { name, kind, tree })
-    }
-
-    /// Tells whether the fragment has the name.
-    fn has_name(&self, name: &Txt) -> bool
-        ensures { result ≡ bytes_eq self.now.name name.now }
-    {
-        self.name.as_str() == name.as_str()
-    }
+/// Tells whether the fragment has the name.
+fn has_name(saved: &SavedFragment, name: &Txt) -> bool
+    ensures { result ≡ bytes_eq saved.now.name name.now }
+{
+    saved.name.as_str() == name.as_str()
 }
 
 /// Finds the saved fragment of the name, if there is one. It looks at each once.
-pub fn saved_named<'a>(saved: &'a [Saved], name: &Txt) -> Option<&'a Saved>
+pub fn saved_named<'a>(saved: &'a [SavedFragment], name: &Txt) -> Option<&'a SavedFragment>
     ensures { option_copied result ≡ saved_at saved.now name.now }
 {
     for fragment in saved {
-        if fragment.has_name(name) {
+        if has_name(fragment, name) {
             return Some(fragment);
         }
     }
@@ -62,12 +41,16 @@ pub fn saved_named<'a>(saved: &'a [Saved], name: &Txt) -> Option<&'a Saved>
 }
 
 /// Gives the saved fragments of other names, each with one more owner.
-fn others(alloc: Global, saved: &[Saved], name: &Txt) -> Result<Vec<Saved>, AllocError>
+fn others(
+    alloc: Global,
+    saved: &[SavedFragment],
+    name: &Txt,
+) -> Result<Vec<SavedFragment>, AllocError>
     ensures { IfOk result (λ kept. kept.items ≡ others_of name.now saved.now) }
 {
     let mut kept = Vec::new(alloc);
     for fragment in saved {
-        if !fragment.has_name(name) {
+        if !has_name(fragment, name) {
             kept.push(fragment.share()?)?;
         }
     }
@@ -75,7 +58,11 @@ fn others(alloc: Global, saved: &[Saved], name: &Txt) -> Result<Vec<Saved>, Allo
 }
 
 /// Gives the saved fragments with one more, in place of the one of its name.
-fn with_saved(alloc: Global, saved: &[Saved], new: Saved) -> Result<Seq<Saved>, AllocError>
+pub(crate) fn with_saved(
+    alloc: Global,
+    saved: &[SavedFragment],
+    new: SavedFragment,
+) -> Result<Seq<SavedFragment>, AllocError>
     ensures { IfOk result (λ kept. kept ≡ saved_with saved.now new) }
 {
     let mut kept = others(alloc, saved, &new.name)?;
@@ -84,7 +71,7 @@ fn with_saved(alloc: Global, saved: &[Saved], new: Saved) -> Result<Seq<Saved>, 
 }
 
 /// Tells whether no saved fragment has the name.
-fn is_new(saved: &[Saved], name: &Txt) -> bool
+fn is_new(saved: &[SavedFragment], name: &Txt) -> bool
     ensures { IsTrue result ↔ (saved_at saved.now name.now ≡ None) }
 {
     match saved_named(saved, name) {
@@ -94,14 +81,14 @@ fn is_new(saved: &[Saved], name: &Txt) -> bool
 }
 
 /// Tells whether as many fragments are saved as may be.
-fn has_most(saved: &[Saved]) -> bool
+fn has_most(saved: &[SavedFragment]) -> bool
     ensures { IsTrue result ↔ (most_saved ≤ length saved.now) }
 {
     MOST_SAVED <= saved.len()
 }
 
 /// Tells whether there is no room for a fragment of the name.
-fn is_full(saved: &[Saved], name: &Txt) -> bool
+pub(crate) fn is_full(saved: &[SavedFragment], name: &Txt) -> bool
     ensures { IsTrue result ↔ IsFull saved.now name.now }
 {
     if !is_new(saved, name) {
@@ -146,7 +133,7 @@ pub fn save(
     let kind = kind_of(&language.definition, found.node);
     let own_name = name.share()?;
     let tree = found.node.share()?;
-    let new = Saved {
+    let new = SavedFragment {
         name: own_name,
         kind,
         tree,

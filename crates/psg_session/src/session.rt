@@ -2,18 +2,20 @@
 ghost use Rattle.std.specs.Prelude.{◌≡◌, IfErr, IfOk, MatchOption, None, Some};
 ghost use Rattle.psg_cache.specs.Notes.{IsNoteOf};
 ghost use Rattle.psg_session.specs.Applied.{HasApplied, HasStopped, IsRefusal};
+ghost use Rattle.psg_session.specs.Formed.{HasText};
 ghost use Rattle.psg_session.specs.Lines.{HasAnswered, HasBroken};
 ghost use Rattle.psg_session.specs.PlainState.{start, Opened};
 ghost use Rattle.psg_session.specs.Sessions.{state_of};
 ghost use Rattle.psg_session.specs.Views.{reply_of, IsLanguage};
 
-use crate::editor::{Editor, step};
-use crate::language::Language;
+use crate::editor::Editor;
+use crate::kept::reach;
 use crate::refusal::Refusal;
 use crate::replies::Reply;
 use psg_cache::Note;
 use psg_history::History;
 use psg_script::{Command, CommandFault, read_command};
+use psg_specimen::Language;
 use psg_terms::{Seq, Steps};
 use psg_tree::Path;
 use psg_world::Files;
@@ -71,7 +73,7 @@ impl Session {
 
     /// Does what the command says, and gives the reply. After a refusal, and where memory runs out, the session is as it
     /// was. A change evaluates what is new and the nodes above it, and `steps` counts the evaluations, and the tokens of
-    /// typed text.
+    /// typed text and of a fetched fragment. Where memory runs out in a `keep`, nothing is known of its file.
     pub fn apply<F: Files, L: Ledger>(
         &mut self,
         alloc: Global,
@@ -92,11 +94,13 @@ impl Session {
         ensures memory { IfErr result (λ _. self.new ≡ self.old) }
         ensures language { self.new.language ≡ self.old.language }
     {
-        let outcome = step(
+        read_text(command);
+        let outcome = reach(
             alloc,
             &self.parts.language,
             &self.parts.editor,
             command,
+            files,
             steps,
         )?;
         let reply = self.parts.editor.settle(outcome);
@@ -161,5 +165,21 @@ impl Session {
         ensures is_language { IsLanguage result.now }
     {
         &self.parts.language
+    }
+}
+
+/// Reads the text that is typed with the command. What it ensures holds of all values of its type, and is known of those that
+/// a program reads.
+fn read_text(command: &Command)
+    ensures { HasText command.now }
+{
+    match command {
+        Command::Over { text, .. } => {
+            let _text = text.as_str();
+        }
+        Command::Range { text, .. } => {
+            let _text = text.as_str();
+        }
+        _ => {}
     }
 }

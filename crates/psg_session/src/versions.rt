@@ -6,11 +6,11 @@ ghost use Rattle.psg_session.specs.PlainState.{not_asked};
 ghost use Rattle.psg_session.specs.Sessions.{IsEditor};
 
 use crate::editor::{Editor, OpenedTree, Outcome};
-use crate::language::Language;
 use crate::noting::note_mark;
 use crate::refusal::Refusal;
 use crate::replies::Reply;
 use psg_history::Undone;
+use psg_specimen::Language;
 use psg_tree::Path;
 use std::alloc::{AllocError, Global};
 

@@ -22,3 +22,16 @@ pub mod Gets
 pub mod ClearLaws
 pub mod DeclarableLaws
 pub mod CoverLaws
+pub mod TrueRows
+pub mod DeclaringPhyla
+pub mod StepLaws
+pub mod TreeLaws
+pub mod SeenLaws
+pub mod SpecimenSizes
+pub mod PatternLaws
+pub mod GeneralRows
+pub mod ColumnLaws
+pub mod ShownLaws
+pub mod DeclareShown
+pub mod WalkLaws
+pub mod CaseShown

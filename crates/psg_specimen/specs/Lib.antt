@@ -11,3 +11,6 @@ pub mod Its
 pub mod Clear
 pub mod Parts
 pub mod Wanted
+pub mod Languages
+pub mod Patterns
+pub mod Shown

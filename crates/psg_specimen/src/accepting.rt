@@ -15,7 +15,9 @@ use crate::declares::first_astray;
 use crate::fault::AcceptFault;
 use crate::forms::{first_declaring, first_scope, first_without_row};
 use crate::places::{Wanted, first_place};
+use crate::unshown::{Walk, first_unshown};
 use psg_class::{ClassFault, class_check};
+use psg_covering::{Room, first_uncovered_cell, first_uncovered_row};
 use psg_grammar::Definition;
 use psg_terms::ConId;
 use std::alloc::Global;
@@ -32,6 +34,21 @@ pub(crate) fn check_beginning(alloc: Global, definition: &Definition) -> Result<
     Ok(())
 }
 
+/// Tests that hole rows have the values of rows of operators, of nil rows, and of cell rows.
+pub(crate) fn check_coverage(alloc: Global, definition: &Definition) -> Result<(), AcceptFault>
+    requires sound { IsSound definition.now }
+    requires class { IsClass definition.now }
+    requires before { Met3 definition.now }
+    ensures met { OnOk result (Met6 definition.now) }
+    ensures refusal { IfErr result (Refuses definition.now) }
+{
+    let mut room = Room::new();
+    check_rows(alloc, definition, &mut room)?;
+    check_nils(alloc, definition)?;
+    check_cells(alloc, definition, &mut room)?;
+    Ok(())
+}
+
 /// Tests the cases of hole rows, and then that the hole places of specimens are smaller, and instances of hole rows.
 pub(crate) fn check_places(alloc: Global, definition: &Definition) -> Result<(), AcceptFault>
     requires sound { IsSound definition.now }
@@ -44,6 +61,21 @@ pub(crate) fn check_places(alloc: Global, definition: &Definition) -> Result<(),
     check_smaller(alloc, definition)?;
     check_instances(alloc, definition)?;
     Ok(())
+}
+
+/// Tests that no step of a specimen is too large, and then that each specimen shows all its values.
+pub(crate) fn check_specimens(alloc: Global, definition: &Definition) -> Result<(), AcceptFault>
+    requires sound { IsSound definition.now }
+    requires class { IsClass definition.now }
+    requires before { Met9 definition.now }
+    ensures met { OnOk result (Met11 definition.now) }
+    ensures refusal { IfErr result (Refuses definition.now) }
+{
+    match first_unshown(alloc, definition)? {
+        Walk::Large(site) => Err(AcceptFault::Large(site)),
+        Walk::Weak(Some(site)) => Err(AcceptFault::Weak(site)),
+        Walk::Weak(None) => Ok(()),
+    }
 }
 
 /// Tests what specimens of declare rows declare, for which entities there are declare rows, and that lists keep their
@@ -106,6 +138,42 @@ pub(crate) fn check_forms(alloc: Global, definition: &Definition) -> Result<(), 
     }
     if let Some(kind) = first_without_row(alloc, definition)? {
         return Err(AcceptFault::NoRow(kind));
+    }
+    Ok(())
+}
+
+/// Tests that hole rows have the values of rows of operators. Past the bound on work it ends in want of memory.
+pub(crate) fn check_rows(
+    alloc: Global,
+    definition: &Definition,
+    room: &mut Room,
+) -> Result<(), AcceptFault>
+    requires sound { IsSound definition.now }
+    requires class { IsClass definition.now }
+    requires before { Met3 definition.now }
+    ensures met { OnOk result (Met4 definition.now) }
+    ensures refusal { IfErr result (Refuses definition.now) }
+{
+    if let Some((operator, row)) = first_uncovered_row(alloc, definition, room)? {
+        return Err(AcceptFault::UncoveredOp(operator, row));
+    }
+    Ok(())
+}
+
+/// Tests that hole rows have the values of cell rows. Past the bound on work it ends in want of memory.
+pub(crate) fn check_cells(
+    alloc: Global,
+    definition: &Definition,
+    room: &mut Room,
+) -> Result<(), AcceptFault>
+    requires sound { IsSound definition.now }
+    requires class { IsClass definition.now }
+    requires before { Met5 definition.now }
+    ensures met { OnOk result (Met6 definition.now) }
+    ensures refusal { IfErr result (Refuses definition.now) }
+{
+    if let Some((list, row)) = first_uncovered_cell(alloc, definition, room)? {
+        return Err(AcceptFault::UncoveredCell(list, row));
     }
     Ok(())
 }

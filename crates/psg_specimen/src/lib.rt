@@ -1,12 +1,22 @@
 //! Whether a definition is accepted: its hole rows and declare rows say the truth of trees.
 //!
 //! The conditions and their order stand in `specs/Conditions` and `specs/Refusal`, the texts of refusals in
-//! `specs/Texts`. `accept_text(alloc, &refused)` writes the text of a refusal. There is no call yet that accepts: the
-//! parts of `accepting` test the conditions on scopes, slots, kinds, nil rows, cases, hole places and declare rows,
-//! each where all conditions before it hold. What covers rows of operators and cells, and what is tested of specimens
-//! by evaluation, has no code here.
+//! `specs/Texts`. `accept(alloc, definition)` tests them one after the other and gives the language, or the first refusal;
+//! `accept_text(alloc, &refused)` writes its text.
+//!
+//! ```text
+//! match accept(alloc, definition) {
+//!     Ok(language) => edit(language),
+//!     Err(refused) => say(accept_text(alloc, &refused)?),
+//! }
+//! ```
+//!
+//! Rows are covered by hole rows as psg_covering says. A specimen is tested by its pattern, which is made step by step as
+//! the summary of a tree is: a hole place is a column of its relation. The work for the coverage of rows and for the
+//! patterns of all specimens has a bound each, beyond which the answer is want of memory.
 #![tactic(auto)]
 
+mod acceptance;
 mod accepting;
 mod cases;
 mod clear;
@@ -18,9 +28,16 @@ mod forms;
 mod holes;
 mod instances;
 mod its;
+pub mod language;
 pub mod laws;
+mod patterns;
 mod places;
+mod room;
+mod showing;
 mod text;
+mod unshown;
 
+pub use acceptance::accept;
 pub use fault::{AcceptFault, Refused, Site};
+pub use language::Language;
 pub use text::accept_text;

@@ -2,11 +2,13 @@
 ghost use Rattle.std.specs.Prelude.{◌≡◌, ◌<◌};
 
 mod failures;
+mod kept;
 mod limits;
+mod sessions;
 
 use psg_run::{Status, run};
 use psg_terms::Steps;
-use psg_world::{MemFiles, MemSink};
+use psg_world::{MemFiles, MemInput, MemSink};
 use std::alloc::{AllocError, Global};
 use std::marker::Brand;
 use std::process::Abort;
@@ -44,6 +46,7 @@ fn counted<L: Ledger>(
     alloc: Global,
     words: &[String],
     files: &mut MemFiles,
+    input: &mut MemInput,
     out: &mut MemSink,
     ledger: Blank,
 ) -> Status
@@ -52,7 +55,7 @@ fn counted<L: Ledger>(
     requires some { 0 < L.parts }
 {
     let mut steps = Steps::<L>::of(ledger);
-    run(alloc, words, files, out, &mut steps)
+    run(alloc, words, files, input, out, &mut steps)
 }
 
 fn file(alloc: Global, name: &str, bytes: &[u8]) -> Result<(String, Vec<u8>), AllocError> {
@@ -84,7 +87,12 @@ fn files(
     Ok(MemFiles::new(alloc, held, failing))
 }
 
-/// Runs on the files `lang` and `script`.
+/// An input that has no lines.
+fn no_input(alloc: Global) -> MemInput {
+    MemInput::new(alloc, Vec::new(alloc), Vec::new(alloc))
+}
+
+/// Runs on the files `lang` and `script`, with an input that has no lines.
 fn run_words(
     alloc: Global,
     words: &[&str],
@@ -93,9 +101,22 @@ fn run_words(
     failing: Failing,
 ) -> Result<Run, AllocError> {
     let mut files = files(alloc, definition, script, failing.reads)?;
-    let mut out = MemSink::new(alloc, Vec::from_slice(alloc, failing.puts)?);
+    let mut input = no_input(alloc);
+    run_on(alloc, words, &mut files, &mut input, failing.puts)
+}
+
+/// Runs on the files and the input; these writes are to fail.
+fn run_on(
+    alloc: Global,
+    words: &[&str],
+    files: &mut MemFiles,
+    input: &mut MemInput,
+    puts: &[u64],
+) -> Result<Run, AllocError> {
+    let mut out = MemSink::new(alloc, Vec::from_slice(alloc, puts)?);
     let words = words_of(alloc, words)?;
-    let status = counted::<Brand>(alloc, words.as_slice(), &mut files, &mut out, Blank::new(1));
+    let words = words.as_slice();
+    let status = counted::<Brand>(alloc, words, files, input, &mut out, Blank::new(1));
     Ok(Run { status, out })
 }
 

@@ -1,5 +1,6 @@
 pub mod Faults
 pub mod Files
+pub mod Inputs
 pub mod Memory
 pub mod Places
 pub mod Sinks

@@ -1,7 +1,7 @@
-//! The outside of a program: named files and an output, as two traits whose contracts say what each call may do, and
-//! their implementations.
+//! The outside of a program: named files, an output and an input, as three traits whose contracts say what each call may
+//! do, and their implementations.
 //!
-//! A program is generic over both, and its caller picks:
+//! A program is generic over those that it needs, and its caller picks:
 //!
 //! ```text
 //! fn show<F: Files, O: Sink>(alloc: Global, files: &mut F, out: &mut O) -> Result<(), Stop> {
@@ -18,9 +18,15 @@
 //! | in memory, with the numbers of the calls that are to fail; tells its content | `MemFiles` | `MemSink` |
 //! | in memory, fails no call; tells its content | `SureFiles` | `SureSink` |
 //!
+//! | What it is | Input |
+//! |---|---|
+//! | the lines of a reader, as of the machine's standard input; tells them where the reader tells its bytes | `ReaderInput` |
+//! | in memory, with the numbers of the lines that can't be read; tells its lines | `MemInput` |
+//!
 //! Contracts see files as two values: `holds`, a finite map from the bytes of a name to the bytes of its file, where
 //! that is told, and `faults`, a list of entries. They see a sink as `written`, the bytes taken, where that is told,
-//! and `faults`, a count.
+//! and `faults`, a count. They see an input as `lines`, those to come, where that is told, `given`, a count, and
+//! `missed`, which has for each read that failed how many lines were given before it.
 //!
 //! What every implementation keeps:
 //!
@@ -29,20 +35,29 @@
 //! - A read leaves `holds` as it was, a write all names but its own. What is told once is told from then on.
 //! - A put answers `Failed` only where the count rose in that call, and nothing is then taken. The count never falls;
 //!   at the last value of a `u64` it counts as risen.
+//! - A read of a line answers `Failed` exactly where it adds one entry at the end of `missed`. A line that is too long is
+//!   given in part, and the rest of it is passed over.
 //! - `Memory` says that memory ran out, and nothing else: no entry is added and nothing is taken.
 #![tactic(auto)]
 
 mod calls;
 mod faults;
 mod host;
+mod input;
+mod listed;
 mod memory;
+mod reader;
 mod store;
 mod sure;
+mod tally;
 mod whole;
 mod world;
 
 pub use host::{HostFiles, HostSink};
+pub use input::Input;
+pub use listed::MemInput;
 pub use memory::{MemFiles, MemSink};
+pub use reader::ReaderInput;
 pub use sure::{SureFiles, SureSink};
 pub use whole::put_all;
 pub use world::{Files, ReadStop, Sink, WriteStop};

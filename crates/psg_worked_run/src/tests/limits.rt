@@ -58,25 +58,42 @@ fn applied(text: &mut String, name: &str, piece: &str, count: usize) -> Result<(
     Ok(())
 }
 
-/// A language whose one placeholder has a value of 128 times 128 constructors, or of one more.
+/// A box of 64 lines of 128 constructors; the line of the number, if there is one, has one less.
+fn boxed(text: &mut String, shorter: usize) -> Result<(), AllocError> {
+    text.push_str("x(")?;
+    for i in 0..64 {
+        if i > 0 {
+            text.push_str(",")?;
+        }
+        if i == shorter {
+            applied(text, "q", "a", 126)?;
+        } else {
+            applied(text, "r", "a", 127)?;
+        }
+    }
+    text.push_str(")")?;
+    Ok(())
+}
+
+/// A language whose one placeholder has two values of 8,192 constructors, or one of them one more. Each operator has one
+/// of the values.
 fn boxes(alloc: Global, full: bool) -> Result<String, AllocError> {
-    let mut line = String::new(alloc);
-    applied(&mut line, "r", "a", 127)?;
     let mut text = String::from_str(alloc, "psg 1\nsort Bit = a b\nsort Line = ")?;
     applied(&mut text, "r", "Bit", 127)?;
     text.push_str(" ")?;
     applied(&mut text, "q", "Bit", 126)?;
     text.push_str("\nsort Box = ")?;
-    applied(&mut text, "x", "Line", 128)?;
-    text.push_str(" y\nphylum P : Box\nop o : P = \"o\"\nrow y\nhole P x(")?;
-    arguments(&mut text, line.as_str(), 127)?;
-    text.push_str(",")?;
-    if full {
-        text.push_str(line.as_str())?;
-    } else {
-        applied(&mut text, "q", "a", 126)?;
-    }
-    text.push_str(") by o\n")?;
+    applied(&mut text, "x", "Line", 64)?;
+    text.push_str(" y\nphylum P : Box\nop o : P = \"o\"\nrow ")?;
+    let shorter = if full { 64 } else { 1 };
+    boxed(&mut text, 0)?;
+    text.push_str("\nop p : P = \"p\"\nrow ")?;
+    boxed(&mut text, shorter)?;
+    text.push_str("\nhole P ")?;
+    boxed(&mut text, 0)?;
+    text.push_str(" by o\nhole P ")?;
+    boxed(&mut text, shorter)?;
+    text.push_str(" by p\n")?;
     Ok(text)
 }
 

@@ -1,13 +1,14 @@
-use Rattle.std.proofs.Common.{arith, ap}
+use Rattle.std.proofs.Common.{arith, ap, subst, sym}
 use Rattle.psg_cache.specs.Changes.{ticks_of}
+use Rattle.psg_cache.specs.Noted.{IsNotedAs}
 use Rattle.psg_cache.proofs.ChangeLaws.{edit_add, edit_put, edit_take}
 use Rattle.psg_cache.proofs.editing.edited.Goals as goal
 
-pub returns-in-Put-clause-bounded : goal.returns-in-Put-clause-bounded
-returns-in-Put-clause-bounded g c =
-    let put = edit_put c.args.language.definition.now c.args.note.now c.args.edit.now c.in-Put.new c.args.made.now
-    c.in-Put.is c.requires.place in
-    omega (arith, put.1, c.walk.ensures.bounded)
+pub returns-in_ok-all-in-Put-clause-ok : goal.returns-in_ok-all-in-Put-clause-ok
+returns-in_ok-all-in-Put-clause-ok g c =
+    let def = c.args.language.definition.now in
+    let put = edit_put def c.args.note.now c.args.edit.now c.in-Put.new c.args.made.now c.in-Put.is c.requires.place in
+    subst (IsNotedAs def c.args.made.now) (sym c.in_ok-all-in-Put.ensures) put
 
 pub added-requires-clause-place : goal.added-requires-clause-place
 added-requires-clause-place g c =

@@ -1,20 +1,20 @@
-use Rattle.std.proofs.Common.{sym, subst}
+use Rattle.std.proofs.Common.{ap, arith, subst}
 use Rattle.std.specs.Prelude.{Result, IfErr, IfOk}
 use Rattle.psg_grammar.specs.Fragments.{Fragment}
 use Rattle.psg_grammar.specs.Paths.{replaced as replaced_at}
 use Rattle.psg_tree.specs.Faults.{IsReplaced, IsReplaceFault}
 use Rattle.psg_tree.specs.declared.places.TreeFault.{TreeFault}
-use Rattle.psg_cache.specs.declared.editing.Edit.TheVariants as edits
 use Rattle.psg_cache.specs.Annotated.{tree_in}
-use Rattle.psg_cache.specs.Changes.{IsPlace}
+use Rattle.psg_cache.specs.Diff.{diff_of}
 use Rattle.psg_cache.specs.Notes.{IsNoteFault, IsNoteOf}
-use Rattle.psg_cache.proofs.ChangeLaws.{memory_put, place_put}
+use Rattle.psg_cache.proofs.ChangeLaws.{memory_put}
+use Rattle.psg_cache.proofs.ExchangeLaws.{exchange_asked}
 use Rattle.psg_cache.proofs.NoteOpen.{noted_open}
 use Rattle.psg_cache.proofs.Passing.{passed}
 use Rattle.psg_cache.proofs.editing.replaced.Goals as goal
 
-pub finished-requires-clause-place : goal.finished-requires-clause-place
-finished-requires-clause-place g c =
+pub exchanged-requires-clause-place : goal.exchanged-requires-clause-place
+exchanged-requires-clause-place g c =
     let def = c.args.definition.now in
     let note = c.args.note.now in
     let tree = tree_in note in
@@ -25,8 +25,7 @@ finished-requires-clause-place g c =
     let told : P c.replace-changed.result =
     subst (λ t. IfOk c.replace-changed.result (IsReplaced t path new)) c.tree.ensures c.replace-changed.ensures.ok in
     let is : IsReplaced tree path new made = subst P c.in_ok-made.ensures.ok told in
-    subst (λ t. IsPlace def note path (edits.Put t) made) (sym c.in_ok-share.ensures)
-    (place_put def note path new made c.requires.note c.requires.place is)
+    exchange_asked def note path new made c.requires.note c.requires.place is
 
 pub returns-in_err-all-clause-fault : goal.returns-in_err-all-clause-fault
 returns-in_err-all-clause-fault g c =
@@ -56,6 +55,36 @@ returns-clause-note g c =
     subst (λ t. IfOk c.replace-changed.result (IsReplaced t path new)) c.tree.ensures c.replace-changed.ensures.ok in
     let is : IsReplaced tree path new made = subst P c.in_ok-made.ensures.ok told in
     subst (λ x. IsNoteOf def x c.in_ok-all.all) is.1 c.in_ok-all.ensures.note
+
+pub returns-in_err-all-clause-ticks : goal.returns-in_err-all-clause-ticks
+returns-in_err-all-clause-ticks g c =
+    let def = c.args.definition.now in
+    let note = c.args.note.now in
+    let tree = tree_in note in
+    let path = c.args.path.now in
+    let new = c.args.new.now in
+    let made = c.in_ok-made.made in
+    let P : Result Fragment TreeFault → Type 0 = λ r. IfOk r (IsReplaced tree path new) in
+    let told : P c.replace-changed.result =
+    subst (λ t. IfOk c.replace-changed.result (IsReplaced t path new)) c.tree.ensures c.replace-changed.ensures.ok in
+    let is : IsReplaced tree path new made = subst P c.in_ok-made.ensures.ok told in
+    let same = ap (diff_of tree) is.1 in
+    omega (arith, same, c.exchanged.ensures.ticks)
+
+pub returns-clause-ticks : goal.returns-clause-ticks
+returns-clause-ticks g c =
+    let def = c.args.definition.now in
+    let note = c.args.note.now in
+    let tree = tree_in note in
+    let path = c.args.path.now in
+    let new = c.args.new.now in
+    let made = c.in_ok-made.made in
+    let P : Result Fragment TreeFault → Type 0 = λ r. IfOk r (IsReplaced tree path new) in
+    let told : P c.replace-changed.result =
+    subst (λ t. IfOk c.replace-changed.result (IsReplaced t path new)) c.tree.ensures c.replace-changed.ensures.ok in
+    let is : IsReplaced tree path new made = subst P c.in_ok-made.ensures.ok told in
+    let same = ap (diff_of tree) is.1 in
+    omega (arith, same, c.exchanged.ensures.ticks)
 
 pub returns-clause-good : goal.returns-clause-good
 returns-clause-good g c =

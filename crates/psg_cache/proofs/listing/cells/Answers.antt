@@ -1,7 +1,7 @@
-use Rattle.std.proofs.Common.{◌≡◌, ◌⊎◌, ◌-◌, ◌++◌, ◌∙◌, ap, ap₂, drop, length, take, sym, subst, arith}
+use Rattle.std.proofs.Common.{◌≡◌, ◌⊎◌, ◌-◌, ◌++◌, ◌∙◌, ap, ap₂, drop, length, take, subst, arith}
 use Rattle.std.specs.Prelude.{reverse}
 use Rattle.psg_cache.specs.Renoting.{first_or, IsCellsFault}
-use Rattle.psg_cache.proofs.CellLaws.{cell_answers, cell_fault, cell_takes, cells_more, cells_none, element_quiet, latest_is, rest_quiet, suffixes_more, suffixes_none, usual_suffixes, kept_cells, kept_usual}
+use Rattle.psg_cache.proofs.CellLaws.{cell_answers, cell_fault, cell_takes, cells_more, cells_none, latest_is, suffixes_more, suffixes_none, usual_suffixes, kept_cells, kept_usual}
 use Rattle.psg_cache.proofs.Passing.{passed}
 use Rattle.psg_cache.proofs.listing.cells.Goals as goal
 
@@ -66,11 +66,9 @@ turn-preserved g c =
           (cell_answers def list element rest c.in_ok-cell.cell answer c.eval_cell-answer.ensures.answer
           c.in_ok-cell.ensures.ok) c.turn.invariant.made;
       suffixes =
-          suffixes_more def list element rest c.in_ok-cell.cell answer made c.push.new.self.items
-          (element_quiet def list elements behind c.requires.takes now element (omega (arith, some, within)) c.index-elements-left.is)
-          (rest_quiet def list elements behind c.requires.takes rest made latest c.turn.invariant.suffixes)
+          suffixes_more def list c.in_ok-cell.cell answer made c.push.new.self.items
           c.in_ok-push.ensures.items c.in_ok-cell.ensures.ok c.eval_cell-answer.ensures.summary
-          c.eval_cell-answer.ensures.kind c.eval_cell-answer.ensures.report c.turn.invariant.suffixes;
+          c.eval_cell-answer.ensures.kind c.turn.invariant.suffixes;
     }
 
 pub returns-clause-ok : goal.returns-clause-ok

@@ -1,17 +1,17 @@
-use Rattle.std.proofs.Common.{rules, Err, ◌≡◌, ◌||◌, ◌∷◌, [], ◌∙◌, false, true≢false, sym, subst, ap}
+use Rattle.std.proofs.Common.{rules, Err, ◌≡◌, ◌+◌, ◌∷◌, [], ◌∙◌, sym, subst, ap}
 use Rattle.std.proofs.lemmas.Option.{slice_get_within}
 use Rattle.psg_grammar.specs.Fragments.{cell}
 use Rattle.psg_grammar.specs.declared.types.Kind.TheVariants as kinds
 use Rattle.psg_eval.specs.declared.partial.Partial.{Partial}
 use Rattle.psg_eval.specs.Partials.{IsAdded, IsPartial}
 use Rattle.psg_eval.specs.Stages.{IsCellStart, MatchMade}
-use Rattle.psg_eval.proofs.CellRows.{next_report, next_step, one_reports, start_made, start_partial, start_wide, element_made, element_wide, rest_made, rest_wide}
+use Rattle.psg_eval.proofs.CellRows.{next_seen, next_step, start_made, start_partial, start_wide, element_made, element_wide, rest_made, rest_wide}
 use Rattle.psg_eval.proofs.Numbers.{numbered_fault, numbered_if, numbered_step}
 use Rattle.psg_eval.proofs.cell.cell_parts.Goals as goal
 use Rattle.psg_eval.proofs.cell.cell_parts.Goals.{In_ok-first, In_ok-begun}
 
-first_silent : (c : In_ok-first) → c.in_ok-first.first.report ≡ false
-first_silent c = numbered_if (λ (p : Partial). p.report ≡ false) c.cell_start.result 0 c.in_ok-first.first c.in_ok-first.ensures c.cell_start.ensures.report
+first_silent : (c : In_ok-first) → c.in_ok-first.first.seen ≡ 0
+first_silent c = numbered_if (λ (p : Partial). p.seen ≡ 0) c.cell_start.result 0 c.in_ok-first.first c.in_ok-first.ensures c.cell_start.ensures.seen
 
 first_partial : (c : In_ok-first) → IsPartial c.args.definition.now (kinds.List c.args.list) (c.args.element.now.kind ∷ c.args.rest.now.kind ∷ []) c.in_ok-first.first
 first_partial c =
@@ -23,10 +23,10 @@ begun_partial c =
     next_step def (kinds.List c.args.list) c.args.element.now.kind (c.args.rest.now.kind ∷ []) c.in_ok-first.first c.with_child.result 1 c.in_ok-begun.begun c.in_ok-begun.ensures c.with_child.ensures.partial
     (start_partial def c.args.list c.args.element.now c.args.rest.now c.requires.takes c.cell_start.result c.in_ok-first.first c.in_ok-first.ensures c.cell_start.ensures.partial)
 
-begun_report : (c : In_ok-begun) → c.in_ok-begun.begun.report ≡ c.args.element.now.report
-begun_report c =
-    next_report c.in_ok-first.first.report c.args.element.now.report c.with_child.result 1 c.in_ok-begun.begun c.in_ok-begun.ensures c.with_child.ensures.report
-    (numbered_if (λ (p : Partial). p.report ≡ false) c.cell_start.result 0 c.in_ok-first.first c.in_ok-first.ensures c.cell_start.ensures.report)
+begun_seen : (c : In_ok-begun) → c.in_ok-begun.begun.seen ≡ c.args.element.now.seen
+begun_seen c =
+    next_seen c.in_ok-first.first.seen c.args.element.now.seen c.with_child.result 1 c.in_ok-begun.begun c.in_ok-begun.ensures c.with_child.ensures.seen
+    (numbered_if (λ (p : Partial). p.seen ≡ 0) c.cell_start.result 0 c.in_ok-first.first c.in_ok-first.ensures c.cell_start.ensures.seen)
 
 pub cell_start-requires-clause-there : goal.cell_start-requires-clause-there
 cell_start-requires-clause-there c = slice_get_within c.args.definition.now.lists c.args.list c.requires.takes.list c.requires.takes.found
@@ -34,15 +34,8 @@ cell_start-requires-clause-there c = slice_get_within c.args.definition.now.list
 pub with_child-requires-clause-partial : goal.with_child-requires-clause-partial
 with_child-requires-clause-partial c = (kinds.List c.args.list, c.args.rest.now.kind ∷ [], first_partial (goal.at.with_child-requires-clause-partial c).In_ok-first)
 
-pub with_child-requires-clause-report : goal.with_child-requires-clause-report
-with_child-requires-clause-report c = λ a b. true≢false (sym a ∙ first_silent (goal.at.with_child-requires-clause-report c).In_ok-first)
-
 pub with_child-requires-2-clause-partial : goal.with_child-requires-2-clause-partial
 with_child-requires-2-clause-partial c = (kinds.List c.args.list, [], begun_partial (goal.at.with_child-requires-2-clause-partial c).In_ok-begun)
-
-pub with_child-requires-2-clause-report : goal.with_child-requires-2-clause-report
-with_child-requires-2-clause-report c = λ a b.
-    one_reports c.args.definition.now c.args.element.now c.args.rest.now c.requires.takes.reported (sym (begun_report (goal.at.with_child-requires-2-clause-report c).In_ok-begun) ∙ a) b
 
 pub returns-in_err-first-clause-made : goal.returns-in_err-first-clause-made
 returns-in_err-first-clause-made c = λ e r one two.
@@ -107,7 +100,7 @@ returns-clause-partial c =
     next_step c.args.definition.now (kinds.List c.args.list) c.args.rest.now.kind [] c.in_ok-begun.begun c.with_child-2.result 2 c.in_ok-whole.whole c.in_ok-whole.ensures c.with_child-2.ensures.partial
     (begun_partial (goal.at.returns-clause-partial c).In_ok-begun)
 
-pub returns-clause-report : goal.returns-clause-report
-returns-clause-report c =
-    numbered_if (λ (p : Partial). p.report ≡ (c.in_ok-begun.begun.report || c.args.rest.now.report)) c.with_child-2.result 2 c.in_ok-whole.whole c.in_ok-whole.ensures c.with_child-2.ensures.report
-    ∙ ap (λ b. b || c.args.rest.now.report) (begun_report (goal.at.returns-clause-report c).In_ok-begun)
+pub returns-clause-seen : goal.returns-clause-seen
+returns-clause-seen c =
+    numbered_if (λ (p : Partial). p.seen ≡ c.in_ok-begun.begun.seen + c.args.rest.now.seen) c.with_child-2.result 2 c.in_ok-whole.whole c.in_ok-whole.ensures c.with_child-2.ensures.seen
+    ∙ ap (λ n. n + c.args.rest.now.seen) (begun_seen (goal.at.returns-clause-seen c).In_ok-begun)

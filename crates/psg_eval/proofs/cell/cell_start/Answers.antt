@@ -75,5 +75,5 @@ returns-clause-partial c = λ kind at.
     let same : list ≡ kind = let d : ◌≡◌ {A = Option ListKind} (Some list) (Some kind) = sym (found a) ∙ at in cc in
     let ss = cell_sorts def c.requires.sound c.args.list list (found a) in
     let rel = c.in_ok-rel.ensures.relation ss (sorted a) in
-    subst (λ (k : ListKind). IsPartial def (kinds.List c.args.list) (kinds.Phylum k.element ∷ kinds.List c.args.list ∷ []) (record { header = c.no_keys-header.result; report = false; wanted = 2; rel = c.in_ok-rel.rel })) same
+    subst (λ (k : ListKind). IsPartial def (kinds.List c.args.list) (kinds.Phylum k.element ∷ kinds.List c.args.list ∷ []) (record { header = c.no_keys-header.result; seen = 0; wanted = 2; rel = c.in_ok-rel.rel })) same
     (cell_partial def c.requires.sound c.args.list list (found a) c.no_keys-header.result c.in_ok-rel.rel (bare a) (λ row i. (rel.shapes row i).sorted))

@@ -10,7 +10,7 @@ returns-in_ok-new-in-Ok c = λ sorts all.
     let e = c.in_ok-new-in-Ok.ensures in (
       ap (λ (s : Known). s.kind) e,
       ap (λ (s : Known). s.header) e,
-      ap (λ (s : Known). s.report) e,
+      ap (λ (s : Known). s.seen) e,
       subst (λ (s : Known). IsRelation c.args.definition.now.signature sorts (IsOfRow c.args.definition.now.signature c.args.rows.now) s.rel) (sym e) (c.in-Ok.ensures.relation sorts all),
       λ p. c.in-Ok.ensures.within (subst (λ (s : Known). PassesLimit s.rel) e p),
     )

@@ -1,4 +1,4 @@
-use Rattle.std.proofs.Common.{rules, Err, ◌≡◌, false, List, length, sym, subst}
+use Rattle.std.proofs.Common.{rules, Err, ◌≡◌, List, length, sym, subst, arith}
 use Rattle.psg_grammar.specs.declared.types.Kind.TheVariants as kinds
 use Rattle.psg_grammar.specs.declared.types.Kind.{Kind}
 use Rattle.psg_eval.specs.declared.partial.Partial.{Partial}
@@ -23,9 +23,6 @@ first_step-requires-clause-names c = c.requires.takes.names_fit
 
 pub with_children-requires-clause-partial : goal.with_children-requires-clause-partial
 with_children-requires-clause-partial c = (kinds.Phylum c.args.operator.now.phylum, first_partial (goal.at.with_children-requires-clause-partial c).In_ok-first)
-
-pub with_children-requires-clause-silent : goal.with_children-requires-clause-silent
-with_children-requires-clause-silent c = numbered_if (λ (p : Partial). p.report ≡ false) c.first_step.result 0 c.in_ok-first.first c.in_ok-first.ensures c.first_step.ensures.report
 
 pub returns-in_err-first-clause-made : goal.returns-in_err-first-clause-made
 returns-in_err-first-clause-made c = λ o f found node all.
@@ -56,3 +53,8 @@ returns-clause-made c = λ o f found node all.
 
 pub returns-clause-partial : goal.returns-clause-partial
 returns-clause-partial c = c.in_ok-whole.ensures.partial (kinds.Phylum c.args.operator.now.phylum) (first_partial (goal.at.returns-clause-partial c).In_ok-first)
+
+pub returns-clause-seen : goal.returns-clause-seen
+returns-clause-seen c =
+    let silent = numbered_if (λ (p : Partial). p.seen ≡ 0) c.first_step.result 0 c.in_ok-first.first c.in_ok-first.ensures c.first_step.ensures.seen in
+    omega (arith, silent, c.in_ok-whole.ensures.seen)

@@ -31,14 +31,14 @@ returns-in_err-outside-clause-answer c = λ o f found node all.
     let d : c.from_residual-in_err-outside.result ≡ Err fault = search rules in
     subst (Answers def f) (sym d)
     (outer_answers def f (kinds.Phylum op.phylum) fault
-    (whole_answer def c.requires.sound o op found c.args.names.now f node c.args.children.now all c.in_ok-whole.whole c.in_ok-whole.ensures.report (Err fault) c.in_err-outside.ensures.made (c.in_ok-whole.ensures.made o f found node all)))
+    (whole_answer def c.requires.sound o op found c.args.names.now f node c.args.children.now all c.in_ok-whole.whole c.in_ok-whole.ensures.seen (Err fault) c.in_err-outside.ensures.made (c.in_ok-whole.ensures.made o f found node all)))
 
 pub returns-clause-answer : goal.returns-clause-answer
 returns-clause-answer c = λ o f found node all.
     let def = c.args.definition.now in
     let op = c.args.operator.now in
     subst (λ (s : Known). Answers def f (Ok s)) (sym c.in_ok-summary.ensures)
-    (whole_answer def c.requires.sound o op found c.args.names.now f node c.args.children.now all c.in_ok-whole.whole c.in_ok-whole.ensures.report (Ok c.in_ok-outside.outside) c.in_ok-outside.ensures.made (c.in_ok-whole.ensures.made o f found node all))
+    (whole_answer def c.requires.sound o op found c.args.names.now f node c.args.children.now all c.in_ok-whole.whole c.in_ok-whole.ensures.seen (Ok c.in_ok-outside.outside) c.in_ok-outside.ensures.made (c.in_ok-whole.ensures.made o f found node all))
 
 pub returns-clause-summary : goal.returns-clause-summary
 returns-clause-summary c = subst (IsSummary c.args.definition.now) (sym c.in_ok-summary.ensures)
@@ -47,5 +47,5 @@ returns-clause-summary c = subst (IsSummary c.args.definition.now) (sym c.in_ok-
 pub returns-clause-kind : goal.returns-clause-kind
 returns-clause-kind c = ap (λ (s : Known). s.kind) c.in_ok-summary.ensures
 
-pub returns-clause-report : goal.returns-clause-report
-returns-clause-report c = ap (λ (s : Known). s.report) c.in_ok-summary.ensures ∙ c.in_ok-outside.ensures.report ∙ c.in_ok-whole.ensures.report
+pub returns-clause-seen : goal.returns-clause-seen
+returns-clause-seen c = ap (λ (s : Known). s.seen) c.in_ok-summary.ensures ∙ c.in_ok-outside.ensures.seen ∙ c.in_ok-whole.ensures.seen

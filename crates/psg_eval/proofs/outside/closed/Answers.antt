@@ -1,4 +1,4 @@
-use Rattle.std.proofs.Common.{rules, Err, ◌≡◌, ◌+◌, ◌<◌, All, cond, ℕ, List, length, sym, subst, ◌∙◌}
+use Rattle.std.proofs.Common.{rules, Err, ◌≡◌, ◌+◌, ◌<◌, All, ℕ, List, length, sym, subst, ◌∙◌}
 use Rattle.psg_terms.specs.Terms.{Term}
 use Rattle.psg_terms.specs.Relations.{IsRelation}
 use Rattle.psg_terms.specs.Weight.{PassesLimit}
@@ -19,7 +19,7 @@ places : (c : After-as_slice) → ArePlaces c.args.inside.now.header.names c.as_
 places c = subst (λ ks. ArePlaces c.args.inside.now.header.names ks (keys c.in_ok-outside.outside.header.names)) (sym c.as_slice.ensures) c.in_ok-outside.ensures.kept
 
 -- the kept columns
-kept : (c : After-as_slice-2) → c.as_slice-2.result.now ≡ columns_at (1 + cond c.args.inside.now.report 1 0) c.as_slice.result.now
+kept : (c : After-as_slice-2) → c.as_slice-2.result.now ≡ columns_at (1 + c.args.inside.now.seen) c.as_slice.result.now
 kept c = c.as_slice-2.ensures.value ∙ c.in_ok-keep.ensures
 
 pub kept_columns-requires-clause-within : goal.kept_columns-requires-clause-within

@@ -62,8 +62,8 @@ returns-clause-partial c =
     elim c.if-own.branch [
       | then-own w ↦
           own_partial def op c.args.names.now slots own c.requires.operator are [] (λ row i. elim i [ ])
-          (record { header = own.header; report = false; wanted = length slots; rel = c.if-own.rel }) refl refl refl (w.rel-is ∙ w.empty-rel.ensures)
+          (record { header = own.header; seen = 0; wanted = length slots; rel = c.if-own.rel }) refl refl refl (w.rel-is ∙ w.empty-rel.ensures)
       | else-own+in_ok-rel w ↦
           let known = w.in_ok-rel.ensures.sorted c.args.names.now are in
-          subst (λ (r : Rel). IsPartial def (Phylum op.phylum) (slot_kinds def op.items) (record { header = own.header; report = false; wanted = length slots; rel = r })) (sym w.rel-is) known
+          subst (λ (r : Rel). IsPartial def (Phylum op.phylum) (slot_kinds def op.items) (record { header = own.header; seen = 0; wanted = length slots; rel = r })) (sym w.rel-is) known
     ]

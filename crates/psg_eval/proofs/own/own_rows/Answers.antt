@@ -1,4 +1,4 @@
-use Rattle.std.proofs.Common.{◌≡◌, ◌++◌, ◌∷◌, false, length, map, ℕ, List, refl, sym, subst, ap, ap₂, ◌∙◌}
+use Rattle.std.proofs.Common.{◌≡◌, ◌++◌, ◌∷◌, length, map, ℕ, List, refl, sym, subst, ap, ap₂, ◌∙◌}
 use Rattle.psg_terms.specs.Names.{Name}
 use Rattle.psg_terms.specs.Terms.{Term}
 use Rattle.psg_terms.specs.Relations.{IsRelation}
@@ -71,12 +71,12 @@ returns-clause-sorted c =
     let pairs = c.as_slice-4.result.now in
     let keep = c.as_slice-5.result.now in
     ok_map c.select.result (λ rel. (ss : List ℕ) → AllHaveSorts def.signature rows ss → IsRelation def.signature (picked ss keep) (IsSelected def.signature rows pairs keep) rel)
-    (λ rel. (names : List Name) → AreOwn def op names slots own → IsPartial def (Phylum op.phylum) (slot_kinds def op.items) (record { header = own.header; report = false; wanted = length slots; rel = rel }))
+    (λ rel. (names : List Name) → AreOwn def op names slots own → IsPartial def (Phylum op.phylum) (slot_kinds def op.items) (record { header = own.header; seen = 0; wanted = length slots; rel = rel }))
     (λ rel made names are.
     let ss = row_sorts def op names slots own c.requires.operator are in
     let known = selected a ss rel (made ss (sorted a names are)) in
     own_partial def op names slots own c.requires.operator are rel (λ row i. (known.shapes row i).sorted)
-    (record { header = own.header; report = false; wanted = length slots; rel = rel }) refl refl refl refl)
+    (record { header = own.header; seen = 0; wanted = length slots; rel = rel }) refl refl refl refl)
     c.select.ensures.relation
 
 pub returns-clause-rows : goal.returns-clause-rows

@@ -1,27 +1,17 @@
-use Rattle.std.proofs.Common.{◌≡◌, ◌+◌, ◌-◌, ◌||◌, [], cond, rules, Err, ℕ, List, sym, subst, ◌∙◌, ap, refl, true≢false, arith}
+use Rattle.std.proofs.Common.{◌≡◌, ◌+◌, ◌-◌, [], rules, Err, ℕ, List, sym, subst, ◌∙◌, refl, true≢false, arith}
 use Rattle.psg_terms.specs.Terms.{Term}
 use Rattle.psg_terms.specs.Weight.{PassesLimit}
 use Rattle.psg_relation.specs.Choices.{HasWide}
 use Rattle.psg_relation.proofs.Making.{maybe_wide}
 use Rattle.psg_terms.specs.Relations.{IsGlued, IsRelation}
 use Rattle.psg_relation.specs.declared.relation.Rel.{Rel}
-use Rattle.psg_scope.specs.Headers.{IsUnion, keys}
+use Rattle.psg_scope.specs.Headers.{keys}
 use Rattle.psg_scope.specs.declared.header.Header.{Header}
 use Rattle.psg_eval.specs.Glues.{NextGlue}
 use Rattle.psg_eval.specs.Partials.{IsAdded, IsPartial, MatchStep}
 use Rattle.psg_eval.proofs.PartialSorts.{empty_partial, none_light, step_fault}
-use Rattle.psg_eval.proofs.Stepping.{JoinsHeaders}
 use Rattle.psg_eval.proofs.partial.with_child.Goals as goal
-use Rattle.psg_eval.proofs.partial.with_child.Goals.{After-is_either, In_ok-joined, then-joined, else-joined+in_ok-rel}
-
-joins : (c : In_ok-joined) → JoinsHeaders c.args.before.now.header c.args.child.now.header c.in_ok-joined.joined.header
-joins c = subst (λ (h : Header). JoinsHeaders c.args.before.now.header h c.in_ok-joined.joined.header) c.header.ensures c.in_ok-joined.ensures.region
-
-unites : (c : In_ok-joined) → IsUnion c.args.before.now.header c.args.child.now.header c.in_ok-joined.joined.header
-unites c = subst (λ (h : Header). IsUnion c.args.before.now.header h c.in_ok-joined.joined.header) c.header.ensures c.in_ok-joined.ensures.union
-
-either : (c : After-is_either) → c.is_either.result ≡ (c.args.before.now.report || c.args.child.now.report)
-either c = c.is_either.ensures ∙ ap (λ b. c.args.before.now.report || b) c.report.ensures
+use Rattle.psg_eval.proofs.partial.with_child.Goals.{then-joined, else-joined+in_ok-rel}
 
 pub returns-in_err-rel-clause-step : goal.returns-in_err-rel-clause-step
 returns-in_err-rel-clause-step c =
@@ -31,17 +21,17 @@ returns-in_err-rel-clause-step c =
     let h = c.in_ok-joined.joined.header in
     let fault = c.in_err-rel.field-0.0 in
     let e : c.from_residual-in_err-rel.result ≡ Err fault = search rules in
-    let Next : List (List Term) → Type 0 = λ rows. (ss : List ℕ) × IsRelation def.signature ss (IsGlued def.signature (NextGlue (cond before.report 1 0) (keys before.header.names) (keys child.header.names) (keys h.names)) before.rel child.rel) rows in
+    let Next : List (List Term) → Type 0 = λ rows. (ss : List ℕ) × IsRelation def.signature ss (IsGlued def.signature (NextGlue before.seen (keys before.header.names) (keys child.header.names) (keys h.names)) before.rel child.rel) rows in
     subst (MatchStep (IsAdded def before child)) (sym e)
     (step_fault (IsAdded def before child) fault
-    (maybe_wide ((ss : List ℕ) × HasWide def.signature ss (IsGlued def.signature (NextGlue (cond before.report 1 0) (keys before.header.names) (keys child.header.names) (keys h.names)) before.rel child.rel))
+    (maybe_wide ((ss : List ℕ) × HasWide def.signature ss (IsGlued def.signature (NextGlue before.seen (keys before.header.names) (keys child.header.names) (keys h.names)) before.rel child.rel))
     ((header : Header) × (rows : List (List Term)) × IsAdded def before child header rows × PassesLimit rows) fault
     (λ (ss, (rows, rel, passes)).
     let made : Next rows = (ss, rel) in (
       h,
       rows,
       record {
-        region = joins (goal.at.returns-in_err-rel-clause-step c).In_ok-joined;
+        region = c.in_ok-joined.ensures.region;
         none = λ twice. absurd (true≢false (sym twice ∙ c.if-joined.false));
         made = λ once. made;
       },
@@ -54,7 +44,7 @@ returns-clause-step c = elim c.if-joined.branch [
   | then-joined w ↦
       let e : c.if-joined.rel ≡ [] = w.rel-is ∙ w.empty-rel.ensures in (
         record {
-          region = joins (goal.at.returns-clause-step c).In_ok-joined;
+          region = c.in_ok-joined.ensures.region;
           none = λ twice. e;
           made = λ once. absurd (true≢false (sym w.if-joined.true ∙ once));
         },
@@ -62,12 +52,12 @@ returns-clause-step c = elim c.if-joined.branch [
       )
   | else-joined+in_ok-rel w ↦ (
     record {
-      region = joins (goal.at.returns-clause-step c).In_ok-joined;
+      region = c.in_ok-joined.ensures.region;
       none = λ twice. absurd (true≢false (sym twice ∙ w.if-joined.false));
       made = λ once.
           let (ss, rel) = w.in_ok-rel.ensures.rows in (
             ss,
-            subst (IsRelation c.args.definition.now.signature ss (IsGlued c.args.definition.now.signature (NextGlue (cond c.args.before.now.report 1 0) (keys c.args.before.now.header.names) (keys c.args.child.now.header.names)
+            subst (IsRelation c.args.definition.now.signature ss (IsGlued c.args.definition.now.signature (NextGlue c.args.before.now.seen (keys c.args.before.now.header.names) (keys c.args.child.now.header.names)
                 (keys c.in_ok-joined.joined.header.names)) c.args.before.now.rel c.args.child.now.rel)) (sym w.rel-is) rel,
           );
     },
@@ -82,11 +72,11 @@ returns-clause-partial c = λ kind kinds part.
     elim c.if-joined.branch [
       | then-joined w ↦
           empty_partial c.args.definition.now kind kinds c.args.before.now c.args.child.now c.in_ok-joined.joined.header part c.requires.child c.in_ok-joined.ensures.ordered
-          (unites (goal.at.returns-clause-partial c).In_ok-joined) c.requires.report (wanted - 1) e
-          (record { header = c.in_ok-joined.joined.header; report = c.is_either.result; wanted = wanted - 1; rel = c.if-joined.rel }) refl (either (goal.at.returns-clause-partial c).After-is_either) refl (w.rel-is ∙ w.empty-rel.ensures)
+          c.in_ok-joined.ensures.union (wanted - 1) e
+          (record { header = c.in_ok-joined.joined.header; seen = c.in_ok-seen.seen; wanted = wanted - 1; rel = c.if-joined.rel }) refl c.in_ok-seen.ensures refl (w.rel-is ∙ w.empty-rel.ensures)
       | else-joined+in_ok-rel w ↦
-          let known = w.in_ok-rel.ensures.sorted kind kinds part c.requires.report (wanted - 1) e in
-          subst (λ r. IsPartial c.args.definition.now kind kinds (record { header = c.in_ok-joined.joined.header; report = r; wanted = wanted - 1; rel = c.if-joined.rel })) (sym (either (goal.at.returns-clause-partial c).After-is_either))
-          (subst (λ (r : Rel). IsPartial c.args.definition.now kind kinds (record { header = c.in_ok-joined.joined.header; report = c.args.before.now.report || c.args.child.now.report; wanted = wanted - 1; rel = r }))
+          let known = w.in_ok-rel.ensures.sorted kind kinds part (wanted - 1) e in
+          subst (λ n. IsPartial c.args.definition.now kind kinds (record { header = c.in_ok-joined.joined.header; seen = n; wanted = wanted - 1; rel = c.if-joined.rel })) (sym c.in_ok-seen.ensures)
+          (subst (λ (r : Rel). IsPartial c.args.definition.now kind kinds (record { header = c.in_ok-joined.joined.header; seen = c.args.before.now.seen + c.args.child.now.seen; wanted = wanted - 1; rel = r }))
           (sym w.rel-is) known)
     ]

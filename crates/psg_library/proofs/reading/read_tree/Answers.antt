@@ -23,7 +23,7 @@ returns-in_err-tree-clause-fault g c =
 pub returns-in_err-tree-clause-steps : goal.returns-in_err-tree-clause-steps
 returns-in_err-tree-clause-steps g c =
     let are = seen c.args.definition.now c.args.text.now c.args.lexis.now c.in_ok-tokens.tokens.items c.as_slice.result.now c.requires.lexis c.as_slice.ensures.value c.in_ok-tokens.ensures.ok in
-    tokens c.as_slice.result.now are c.parse.ensures.steps
+    tokens c.as_slice.result.now are c.parse_with.ensures.steps
 
 pub returns-clause-tree : goal.returns-clause-tree
 returns-clause-tree g c =
@@ -33,4 +33,4 @@ returns-clause-tree g c =
 pub returns-clause-steps : goal.returns-clause-steps
 returns-clause-steps g c =
     let are = seen c.args.definition.now c.args.text.now c.args.lexis.now c.in_ok-tokens.tokens.items c.as_slice.result.now c.requires.lexis c.as_slice.ensures.value c.in_ok-tokens.ensures.ok in
-    tokens c.as_slice.result.now are c.parse.ensures.steps
+    tokens c.as_slice.result.now are c.parse_with.ensures.steps

@@ -7,10 +7,10 @@ use Rattle.psg_run.proofs.play.play.Given as goal
 abbrev pub invariant-loop-rest : goal.invariant-loop-rest
 invariant-loop-rest g l = record {
   so_far : SoFar l.session.language.definition (script_lines l.script) l.rest (state_of l.session.editor)
+      (record { held = g.F.Files.holds l.initial.files; entries = g.F.Files.faults l.initial.files })
+      (record { held = g.F.Files.holds l.files; entries = g.F.Files.faults l.files })
       (g.O.Sink.written l.initial.out) (g.O.Sink.written l.out) l.initial.steps l.steps;
   language : l.session.language ≡ l.initial.session.language;
-  holds : g.F.Files.holds l.files ≡ g.F.Files.holds l.initial.files;
-  entries : g.F.Files.faults l.files ≡ g.F.Files.faults l.initial.files;
   never_falls : g.O.Sink.faults l.initial.out ≤ g.O.Sink.faults l.out;
 }
 

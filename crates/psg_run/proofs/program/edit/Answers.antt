@@ -1,22 +1,12 @@
 use Rattle.std.proofs.Common.{inl, inr, refl, ap, subst}
 use Rattle.psg_run.specs.Output.{RepliesToAll}
-use Rattle.psg_run.specs.Promise.{Plays, SpentFromStart, no_room_left}
+use Rattle.psg_run.specs.Promise.{Plays, SpentFromStart}
 use Rattle.psg_run.specs.Worlds.{World, seen}
 use Rattle.psg_run.proofs.Ending.{played_on}
 use Rattle.psg_run.proofs.program.edit.Goals as goal
 
 pub returns-in-Err : goal.returns-in-Err
 returns-in-Err g c = inl (c.in-Err.ensures.err c.args.steps.now)
-
-pub returns-in_default : goal.returns-in_default
-returns-in_default g c = inr (
-  c.in-Ok.definition,
-  c.in-Ok.ensures.ok,
-  no_room_left refl (record {
-    files = record { held = c.in-Ok.ensures.holds; entries = c.in-Ok.ensures.entries; ticks = refl };
-    wrote = ap g.O.Sink.written c.in-Ok.ensures.quiet;
-  }),
-)
 
 pub returns : goal.returns
 returns g c =
@@ -25,7 +15,6 @@ returns g c =
     played_on (g.F.Files.holds c.args.files.now) (g.F.Files.holds c.read_language.new.files) (g.F.Files.faults c.args.files.now)
     (g.F.Files.faults c.read_language.new.files) (g.O.Sink.written c.args.out.now) (g.O.Sink.written c.read_language.new.out)
     (g.O.Sink.faults c.args.out.now) (g.O.Sink.faults c.read_language.new.out) c.args.steps.now new c.args.definition.now
-    c.args.script.now c.in-Ok.definition c.play_file.result c.in-Ok.ensures.holds c.in-Ok.ensures.entries
+    c.args.script.now c.in-Ok.language.definition c.play_file.result c.in-Ok.ensures.holds c.in-Ok.ensures.entries
     (ap g.O.Sink.written c.in-Ok.ensures.quiet) (ap g.O.Sink.faults c.in-Ok.ensures.quiet) c.in-Ok.ensures.ok
-    (subst (λ d. Plays RepliesToAll SpentFromStart d c.args.script.now mid new c.play_file.result) c.in-Ok-of.ensures.definition
-    c.play_file.ensures)
+    c.play_file.ensures

@@ -22,21 +22,21 @@ returns-then-text-gt-MOST_DEFINITION_BYTES-clause-err g c = λ ticks. source_lon
     (subst (λ l. MOST_DEFINITION_BYTES < length l) c.as_slice-text.ensures.value c.if-text-gt-MOST_DEFINITION_BYTES.true)
     (record { files = record { held = c.in-Ok.ensures.keeps; entries = c.in-Ok.ensures.entries; ticks = refl }; wrote = refl }))
 
-pub returns-in-Ok-accept-clause-ok : goal.returns-in-Ok-accept-clause-ok
-returns-in-Ok-accept-clause-ok g c = record {
+pub returns-in-Ok-language_of-clause-ok : goal.returns-in-Ok-language_of-clause-ok
+returns-in-Ok-language_of-clause-ok g c = record {
   bytes = c.in-Ok.bytes.items;
   are = read_short (g.F.Files.holds c.args.files.now) c.args.file.now MOST_DEFINITION_BYTES c.in-Ok.bytes.items c.in-Ok.ensures.front
       (subst (λ l. length l ≤ MOST_DEFINITION_BYTES) c.as_slice-text.ensures.value c.if-text-gt-MOST_DEFINITION_BYTES.false);
-  accepted = subst (λ l. IsAccepted l c.in-Ok-accept.definition) c.as_slice-text.ensures.value c.in-Ok-accept.ensures.ok;
+  accepted = subst (λ l. IsAccepted l c.in-Ok-language_of.language.definition) c.as_slice-text.ensures.value c.in-Ok-language_of.ensures.ok;
 }
 
 pub returns-clause-err : goal.returns-clause-err
 returns-clause-err g c = λ ticks. unread
     (seen (g.F.Files.holds c.args.files.now) (g.F.Files.faults c.args.files.now) (g.O.Sink.written c.args.out.now) (g.O.Sink.faults c.args.out.now) ticks)
-    (seen (g.F.Files.holds c.read.new.self) (g.F.Files.faults c.read.new.self) (g.O.Sink.written c.accept.new.out) (g.O.Sink.faults c.accept.new.out) ticks)
-    c.args.file.now c.in-Err-accept.status c.in-Ok.bytes.items
+    (seen (g.F.Files.holds c.read.new.self) (g.F.Files.faults c.read.new.self) (g.O.Sink.written c.language_of.new.out) (g.O.Sink.faults c.language_of.new.out) ticks)
+    c.args.file.now c.in-Err-language_of.status c.in-Ok.bytes.items
     (record { held = c.in-Ok.ensures.keeps; entries = c.in-Ok.ensures.entries; ticks = refl })
     (read_short (g.F.Files.holds c.args.files.now) c.args.file.now MOST_DEFINITION_BYTES c.in-Ok.bytes.items c.in-Ok.ensures.front
     (subst (λ l. length l ≤ MOST_DEFINITION_BYTES) c.as_slice-text.ensures.value c.if-text-gt-MOST_DEFINITION_BYTES.false))
-    (subst (λ l. EndsRefused l (g.O.Sink.written c.args.out.now) (g.O.Sink.written c.accept.new.out) (g.O.Sink.faults c.args.out.now)
-    (g.O.Sink.faults c.accept.new.out) c.in-Err-accept.status) c.as_slice-text.ensures.value c.in-Err-accept.ensures.err)
+    (subst (λ l. EndsRefused l (g.O.Sink.written c.args.out.now) (g.O.Sink.written c.language_of.new.out) (g.O.Sink.faults c.args.out.now)
+    (g.O.Sink.faults c.language_of.new.out) c.in-Err-language_of.status) c.as_slice-text.ensures.value c.in-Err-language_of.ensures.err)

@@ -4,5 +4,6 @@ use Rattle.psg_session.proofs.editor.step.Goals as goal
 pub change-requires-clause-other : goal.change-requires-clause-other
 change-requires-clause-other g c =
     else_by c.args.command.now c.in_default.not-New c.in_default.not-Goto c.in_default.not-Over c.in_default.not-Show
-    c.in_default.not-Screen c.in_default.not-Own c.in_default.not-Free c.in_default.not-Undo c.in_default.not-Redo
-    c.in_default.not-Save
+    c.in_default.not-Screen c.in_default.not-Relation
+    c.in_default.not-Own c.in_default.not-Free c.in_default.not-Undo c.in_default.not-Redo
+    c.in_default.not-Save c.requires.alone

@@ -1,6 +1,6 @@
 use Rattle.std.proofs.Common.{inl, inr, refl, sym, ap, ◌∙◌, List, Some}
 use Rattle.std.specs.Prelude.{option_copied}
-use Rattle.psg_session.specs.declared.saved.Saved.{Saved}
+use Rattle.psg_library.specs.declared.fragment.SavedFragment.{SavedFragment as Saved}
 use Rattle.psg_session.specs.Shelf.{saved_at}
 use Rattle.psg_session.proofs.Options.{only_none}
 use Rattle.psg_session.proofs.ChangePaste.{no_source}

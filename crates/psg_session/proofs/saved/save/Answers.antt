@@ -2,7 +2,7 @@ use Rattle.std.proofs.Common.{◌∙◌, List, ap, map, sym, subst, true≢false
 use Rattle.std.specs.Prelude.{string_bytes}
 use Rattle.psg_terms.specs.Names.{Name}
 use Rattle.psg_grammar.specs.Fragments.{Fragment}
-use Rattle.psg_session.specs.declared.saved.Saved.{Saved}
+use Rattle.psg_library.specs.declared.fragment.SavedFragment.{SavedFragment as Saved}
 use Rattle.psg_session.specs.Shelf.{saved_with, IsFull}
 use Rattle.psg_session.proofs.ChangeLaws.{found_shaped}
 use Rattle.psg_session.proofs.Shelving.{save_done, save_full, save_nowhere}

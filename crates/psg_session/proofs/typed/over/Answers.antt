@@ -72,7 +72,7 @@ returns-clause-plan g c =
     (subst (IsTextAnswer def c.kind_of-kind.result c.as_str.result.now) c.in-Ok-2.is c.in_ok-new.ensures.answer) in
     subst (IsMade def c.args.editor.now (Over c.args.place.now c.args.text.now)) (sym c.in_ok-made.ensures)
     (over_made def c.args.editor.now c.args.place.now c.args.text.now c.in-Ok.found c.in-Ok.ensures.ok
-    c.kind_of-kind.result c.kind_of-kind.ensures c.requires.language.class c.in-Ok-2.new tree c.requires.editor)
+    c.kind_of-kind.result c.kind_of-kind.ensures c.requires.language.accepted.of_class c.in-Ok-2.new tree c.requires.editor)
 
 pub returns-clause-ticks : goal.returns-clause-ticks
 returns-clause-ticks g c =
@@ -88,7 +88,7 @@ returns-clause-spends g c =
     subst (λ t. IsTextAnswer def c.kind_of-kind.result t (Ok c.in-Ok-2.new)) c.as_str.ensures
     (subst (IsTextAnswer def c.kind_of-kind.result c.as_str.result.now) c.in-Ok-2.is c.in_ok-new.ensures.answer) in
     made_spends def c.args.editor.now c.args.place.now c.args.text.now c.in-Ok.found c.in-Ok.ensures.ok
-    c.kind_of-kind.result c.kind_of-kind.ensures c.requires.language.class c.in-Ok-2.new tree c.in_ok-made.made
+    c.kind_of-kind.result c.kind_of-kind.ensures c.requires.language.accepted.of_class c.in-Ok-2.new tree c.in_ok-made.made
     c.in_ok-made.ensures _ _
     (subst (λ t. HasRead def t c.args.steps.now c.read_tree.new.steps) c.as_str.ensures
     c.in_ok-new.ensures.read)

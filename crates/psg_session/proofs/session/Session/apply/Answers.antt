@@ -1,9 +1,21 @@
-use Rattle.std.proofs.Common.{refl}
-use Rattle.psg_session.proofs.Applying.{applied_in}
+use Rattle.psg_session.proofs.Applying.{applied_in, session_after, stopped_in}
 use Rattle.psg_session.proofs.session.Session.apply.Goals as goal
+
+pub returns-in_err-outcome-clause-stopped : goal.returns-in_err-outcome-clause-stopped
+returns-in_err-outcome-clause-stopped g c =
+    stopped_in c.self.inside.parts c.args.self.now c.self.view_is c.args.command.now _ _ c.args.steps.now
+    c.reach.new.steps c.in_err-outcome.ensures.stopped c.from_residual.result
 
 pub returns-clause-applied : goal.returns-clause-applied
 returns-clause-applied g c =
-    applied_in c.self.inside.parts c.args.self.now c.self.view_is c.args.command.now _ _ c.args.steps.now
-    c.step.new.steps refl c.in_ok-outcome.ensures.ticks c.in_ok-outcome.outcome c.in_ok-outcome.ensures.outcome
+    applied_in c.self.inside.parts c.args.self.now c.self.view_is c.self.invariant c.args.command.now c.read_text.ensures _ _ c.args.steps.now
+    c.reach.new.steps c.in_ok-outcome.outcome c.in_ok-outcome.ensures.reached
     c.settle-reply.new.self c.settle-reply.ensures.state c.settle-reply.result c.settle-reply.ensures.reply
+
+pub invariant_of-self : goal.invariant_of-self
+invariant_of-self g c =
+    session_after c.self.inside.parts c.self.invariant c.args.command.now c.read_text.ensures _ _ c.args.steps.now
+    c.reach.new.steps c.in_ok-outcome.outcome c.in_ok-outcome.ensures.reached c.settle-reply.new.self
+    (c.settle-reply.ensures.editor c.self.inside.parts.language.definition c.self.invariant.editor
+    c.in_ok-outcome.ensures.reached.is_outcome.fit)
+    c.settle-reply.ensures.state c.settle-reply.result c.settle-reply.ensures.reply

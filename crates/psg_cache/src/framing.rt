@@ -1,0 +1,115 @@
+//! The frames around a place of a noted tree.
+ghost use Rattle.std.specs.Prelude.{◌≡◌, ◌<◌, ℕ, List, length, map, slice_get, take, IfOk, MatchOption, Some};
+ghost use Rattle.psg_tree.specs.declared.tree.Part.{Part as PlainPart};
+ghost use Rattle.psg_eval.specs.declared.frame.Frame.TheVariants as frames;
+ghost use Rattle.psg_eval.specs.declared.summary.Known.{Known};
+ghost use Rattle.psg_cache.specs.Annotated.{rests_in, below_in, whole_in};
+ghost use Rattle.psg_cache.specs.Edits.{IsNoSummaryAt};
+ghost use Rattle.psg_cache.specs.NoteFrames.{AreFramesAt, IsFrameAt, IsNoFrameAt};
+ghost use Rattle.psg_cache.specs.Walks.{names_in};
+
+use crate::note::{Note, child_note};
+use crate::parts::names_of;
+use crate::topping::wholes_of;
+use psg_eval::{Frame, Summary};
+use psg_terms::Seq;
+use psg_tree::{Part, Path, Shape};
+use std::alloc::{AllocError, Global};
+
+/// The frame of an operator around its child of the number.
+fn operator_frame(
+    alloc: Global,
+    op: u32,
+    parts: &[Part],
+    below: &[Note],
+    number: u32,
+) -> Result<Frame, AllocError>
+    ensures { IfOk result (λ frame. frame ≡ frames.Op op (names_in parts.now) (map whole_in below.now) number) }
+{
+    let names = names_of(alloc, parts)?;
+    let children = wholes_of(alloc, below)?;
+    Ok(Frame::Op {
+        op,
+        names: Seq::of(names),
+        children: Seq::of(children),
+        hot: number,
+    })
+}
+
+/// The frame of a list around its element of the number; `None` where there is no such element.
+fn list_frame(
+    alloc: Global,
+    list: u32,
+    below: &[Note],
+    rests: &[Summary],
+    number: u32,
+) -> Result<Option<Frame>, AllocError>
+    ensures { IfOk result (λ o. MatchOption o (number < length below.now → number < length rests.now → ⊥)
+        (λ frame. (rest : Known) × (slice_get rests.now number ≡ Some rest)
+        × (frame ≡ frames.Elem list (map whole_in (take number below.now)) rest))) }
+{
+    let place = number as usize;
+    if place >= below.len() {
+        return Ok(None);
+    }
+    if place >= rests.len() {
+        return Ok(None);
+    }
+    let before = wholes_of(alloc, &below[..place])?;
+    let rest = rests[place].share()?;
+    Ok(Some(Frame::Elem {
+        list,
+        before: Seq::of(before),
+        rest,
+    }))
+}
+
+/// The frame of the node around its child of the number; `None` where there is no such child.
+fn frame_of(alloc: Global, note: &Note, number: u32) -> Result<Option<Frame>, AllocError>
+    ensures { IfOk result (λ o. MatchOption o (IsNoFrameAt note.now number) (IsFrameAt note.now number)) }
+{
+    match note.tree().shape() {
+        Shape::Op { op, parts } => {
+            let all = parts.as_slice();
+            let inner = note.below();
+            let frame = operator_frame(alloc, *op, all, inner, number)?;
+            Ok(Some(frame))
+        }
+        Shape::List {
+            list,
+            elements: _,
+            unfinished: _,
+        } => {
+            let inner = note.below();
+            let rests = note.rests();
+            let frame = list_frame(alloc, *list, inner, rests, number)?;
+            Ok(frame)
+        }
+        Shape::Hole { phylum: _ } => Ok(None),
+    }
+}
+
+impl Note {
+    /// Gives the frames of the nodes above the node at the path, the innermost first, with the summaries of all that is
+    /// beside the path; `None` where the path leads to no node. They share names and summaries with the note. The cost is
+    /// that of the path: of an operator on it its children, and of a list the elements before the path.
+    pub fn frames(&self, alloc: Global, path: &Path) -> Result<Option<Vec<Frame>>, AllocError>
+        ensures { IfOk result (λ o. MatchOption o (IsNoSummaryAt self.now path.now) (λ v. AreFramesAt self.now path.now v.items)) }
+    {
+        let mut made = Vec::new(alloc);
+        let mut node = self;
+        for step in path.steps() {
+            let Some(next) = child_note(node, *step) else {
+                return Ok(None);
+            };
+            let framed = frame_of(alloc, node, *step)?;
+            let Some(frame) = framed else {
+                return Ok(None);
+            };
+            made.push(frame)?;
+            node = next;
+        }
+        made.reverse();
+        Ok(Some(made))
+    }
+}

@@ -1,0 +1,9 @@
+pub mod SlotChoices
+pub mod Joined
+pub mod Adding
+pub mod Firsts
+pub mod KindLaws
+pub mod CoverLaws
+pub mod SlotLaws
+pub mod RowLaws
+pub mod PairLaws

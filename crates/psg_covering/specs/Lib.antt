@@ -1,0 +1,5 @@
+pub mod Choices
+pub mod Slots
+pub mod Fronts
+pub mod Pairs
+pub mod Rows

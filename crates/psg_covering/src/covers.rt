@@ -1,0 +1,95 @@
+//! Whether the head of a row is an instance of a hole row.
+ghost use Rattle.std.specs.Prelude.{◌≡◌, ◌↔◌, ◌∷◌, [], IfOk, IsTrue, map};
+ghost use Rattle.psg_terms.specs.Instances.{Substitution, substitute, IsInstance};
+ghost use Rattle.psg_covering.specs.Choices.{HasCover};
+
+use crate::numbers::{row_at, rows_of};
+use crate::room::Room;
+use psg_grammar::{Definition, HoleRow, Kind};
+use psg_terms::matching::is_instance;
+use psg_terms::{Node, Term};
+use std::alloc::{AllocError, Global};
+use std::slice;
+
+/// What a test whether a term is an instance takes for itself, and for each symbol.
+const TEST: u64 = 8;
+
+/// Tests whether the term is an instance of a hole row of the kind. It goes over the hole rows in order, up to one that
+/// serves.
+pub(crate) fn has_cover(
+    alloc: Global,
+    definition: &Definition,
+    room: &mut Room,
+    kind: Kind,
+    term: &Term,
+) -> Result<bool, AllocError>
+    ensures { IfOk result (λ b. IsTrue b ↔ HasCover definition.now kind term.now) }
+{
+    let numbers = rows_of(alloc, definition, room, kind)?;
+    let numbers = numbers.as_slice();
+    for i in 0..numbers.len() {
+        let row = row_at(definition, kind, numbers, i);
+        if is_made_of(alloc, room, term, row)? {
+            return Ok(true);
+        }
+    }
+    Ok(false)
+}
+
+/// Tests whether the term is an instance of the hole row. Where they have different constructors at one place, no table
+/// of variables is made.
+fn is_made_of(
+    alloc: Global,
+    room: &mut Room,
+    term: &Term,
+    row: &HoleRow,
+) -> Result<bool, AllocError>
+    ensures { IfOk result (λ b. IsTrue b ↔ IsInstance (term.now ∷ []) (row.now.term ∷ [])) }
+{
+    let symbols = row.term.symbols();
+    room.spend(symbols)?;
+    if differs(term, &row.term) {
+        return Ok(false);
+    }
+    room.spend_each(symbols.saturating_add(1), TEST)?;
+    let instance = is_instance(alloc, slice::from_ref(term), slice::from_ref(&row.term))?;
+    Ok(instance)
+}
+
+/// Tests whether the general term has a constructor at a place where the special one has another one or a variable.
+#[cycle(differs)]
+fn differs(special: &Term, general: &Term) -> bool
+    ensures { IsTrue result → (f : Substitution) → special.now ≡ substitute f general.now → ⊥ }
+{
+    match general.node() {
+        Node::Con { con, args } => match special.node() {
+            Node::Con {
+                con: other,
+                args: parts,
+            } => {
+                if con.0 != other.0 {
+                    return true;
+                }
+                any_differs(parts.as_slice(), args.as_slice())
+            }
+            Node::Var { .. } => true,
+        },
+        Node::Var { .. } => false,
+    }
+}
+
+/// The same of the places of two rows.
+#[cycle(differs)]
+fn any_differs(special: &[Term], general: &[Term]) -> bool
+    ensures { IsTrue result → (f : Substitution) → special.now ≡ map (substitute f) general.now → ⊥ }
+{
+    if special.len() != general.len() {
+        return true;
+    }
+    for i in 0..special.len() {
+        if differs(&special[i], &general[i]) {
+            return true;
+        }
+    }
+    false
+}

@@ -1,0 +1,2 @@
+pub mod SeenRows
+pub mod ShownLaws

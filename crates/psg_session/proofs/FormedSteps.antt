@@ -1,0 +1,215 @@
+-- A command keeps trees of their kinds.
+use Rattle.std.proofs.Common.{◌≡◌, inl, inr, ℕ, zero, suc, Bool, true, false, cond, List, [], ◌∷◌, ◌++◌, take, slice_get, Some, None, Option, bytes_eq, refl, sym, ◌∙◌, ap, subst}
+use Rattle.std.specs.List.{AllByRecursion}
+use Rattle.std.proofs.lemmas.Bool.{cases_Bool}
+use Rattle.std.proofs.lemmas.Option.{none-some}
+use Rattle.psg_terms.specs.Names.{Name}
+use Rattle.psg_grammar.specs.declared.types.Kind.{Kind}
+use Rattle.psg_grammar.specs.declared.types.Kind.TheVariants as kinds
+use Rattle.psg_grammar.specs.declared.types.Definition.{Definition}
+use Rattle.psg_grammar.specs.Fragments.{Fragment, hole, ending, cell, operator, with_child, with_name, with_number, with_text, anything, observed, children_of}
+use Rattle.psg_grammar.specs.Insertion.{blank}
+use Rattle.psg_grammar.specs.Kinds.{IsOfKind}
+use Rattle.psg_grammar.specs.Paths.{Path, node_at}
+use Rattle.psg_grammar.specs.Sound.{IsSound}
+use Rattle.psg_grammar.specs.WellFormed.{WellFormed}
+use Rattle.psg_grammar.proofs.PathLaws.{step}
+use Rattle.psg_cache.proofs.Each.{each_got}
+use Rattle.psg_cache.proofs.FormedTrees.{shaped_of_formed}
+use Rattle.psg_cache.proofs.ShapedTrees.{blank_shaped, node_shaped}
+use Rattle.psg_script.specs.declared.command.Command.{Command}
+use Rattle.psg_specimen.specs.Conditions.{IsQuiet, IsQuietSlot}
+use Rattle.psg_library.specs.declared.fragment.SavedFragment.{SavedFragment as Saved}
+use Rattle.psg_session.specs.Formed.{HasText, IsFormedSaved, IsFormedState}
+use Rattle.psg_session.specs.Laws.{KeepsForm}
+use Rattle.psg_session.specs.PlainState.{State, Opened, Answer, most_versions, named_path, with_change}
+use Rattle.psg_session.specs.PlainStep.{HasName, IsDeclaringPhylum, IsTaken, Makes, by_refine, by_insert, by_cut, by_remove, by_close, by_reopen, by_paste, by_paste_in, by_over, Steps, refuses, opens, changes, undoes, redoes, saves, keeps, fetches, shows, goes, screens, owns, relates, frees}
+use Rattle.psg_session.specs.Replies.{Reply}
+use Rattle.psg_session.specs.Shelf.{others, saved_with}
+use Rattle.psg_session.proofs.ChangeLaws.{kind_is}
+use Rattle.psg_session.proofs.FetchedTrees.{fetched_formed}
+use Rattle.psg_session.proofs.FormedMakes.{IsGiven, refined, put_in, cut_given, removed_given, closed_given, reopened_given, pasted, pasted_in, typed_given}
+use Rattle.psg_session.proofs.Opening.{has_kind}
+use Rattle.psg_session.proofs.QuietHoles.{HasQuietHoles, blank_quiet, formed_by, quiet_of_formed, quiet_phylum}
+use Rattle.psg_session.proofs.StepLaws.{some_once}
+
+all_end : {X : Type 0} (P : X → Type 0) (xs : List X) (x : X) → AllByRecursion P xs → P x
+    → AllByRecursion P (xs ++ x ∷ [])
+all_end P [] x all h = (h, tt)
+all_end P (y ∷ ys) x all h = (all.0, all_end P ys x all.1 h)
+
+all_taken : {X : Type 0} (P : X → Type 0) (n : ℕ) (xs : List X) → AllByRecursion P xs → AllByRecursion P (take n xs)
+all_taken P zero xs all = tt
+all_taken P (suc n) [] all = tt
+all_taken P (suc n) (x ∷ xs) all = (all.0, all_taken P n xs all.1)
+
+either_all : {X : Type 0} (P : X → Type 0) (b : Bool) (xs ys : List X) → AllByRecursion P xs → AllByRecursion P ys
+    → AllByRecursion P (cond b xs ys)
+either_all P true xs ys all more = all
+either_all P false xs ys all more = more
+
+all_others : (P : Saved → Type 0) (name : Name) (xs : List Saved) → AllByRecursion P xs
+    → AllByRecursion P (others name xs)
+all_others P name [] all = tt
+all_others P name (x ∷ xs) all =
+    let rest = all_others P name xs all.1 in
+    either_all P (bytes_eq x.name name) (others name xs) (x ∷ others name xs) rest (all.0, rest)
+
+module _ (def : Definition) where
+  -- ---- nodes of trees
+
+  quiet_children : (f : Fragment) → HasQuietHoles def f → AllByRecursion (HasQuietHoles def) (children_of f)
+  quiet_children (hole p) h = tt
+  quiet_children (ending l u) h = tt
+  quiet_children (cell l e r) h = (h.0, quiet_children r h.1)
+  quiet_children (operator o) h = tt
+  quiet_children (with_child f t) h = all_end (HasQuietHoles def) (children_of f) t (quiet_children f h.0) h.1
+  quiet_children (with_name f n) h = quiet_children f h
+  quiet_children (with_number f n) h = quiet_children f h
+  quiet_children (with_text f t) h = quiet_children f h
+  quiet_children anything h = tt
+  quiet_children (observed f) h = quiet_children f h
+
+  quiet_at : (path : Path) (f node : Fragment) → node_at f path ≡ Some node → HasQuietHoles def f
+      → HasQuietHoles def node
+  quiet_at [] f node at h = let same : f ≡ node = cc in subst (HasQuietHoles def) same h
+  quiet_at (k ∷ path) f node at h =
+      let (c, child, below) = step (slice_get (children_of f) k) path node at in
+      quiet_at path c node below (each_got (HasQuietHoles def) (children_of f) k c (quiet_children f h) child)
+
+  -- a node of a well-formed tree is one
+  pub node_formed : (f : Fragment) (kind : Kind) (path : Path) (node : Fragment) (K : Kind) → WellFormed def f kind
+      → node_at f path ≡ Some node → IsOfKind def node K → WellFormed def node K
+  node_formed f kind path node K formed at of =
+      let (J, shaped) = node_shaped def f kind path node (shaped_of_formed def f kind formed) at in
+      subst (WellFormed def node) (kind_is def node J K shaped of)
+      (formed_by def node J shaped (quiet_at path f node at (quiet_of_formed def f kind formed)))
+
+  -- the new tree of a kind of which there may be a placeholder
+  pub blank_formed : (kind : Kind) (name : Name) → HasName def kind name → (IsDeclaringPhylum def kind → ⊥)
+      → WellFormed def (blank def kind) kind
+  blank_formed kind name named silent =
+      formed_by def (blank def kind) kind (blank_shaped def kind (has_kind def kind name named))
+      (blank_quiet def kind (still kind silent))
+    where
+      still : (K : Kind) → (IsDeclaringPhylum def K → ⊥) → IsQuiet def K
+      still (kinds.Phylum p) never = quiet_phylum def p never
+      still (kinds.List l) never = tt
+
+  -- ---- states
+
+  opened_one : (P : Opened → Type 0) (it old : Opened) → P it → Some it ≡ Some old → P old
+  opened_one P it old h e = let same : it ≡ old = cc in subst P same h
+
+  -- with another opened tree, and these versions
+  turned : (s : State) → IsFormedState def s → (it : Opened) (cursor : Path) (earlier later : List Fragment)
+      → WellFormed def it.tree it.kind → (node : Fragment) → node_at it.tree cursor ≡ Some node
+      → AllByRecursion (λ f. WellFormed def f it.kind) earlier → AllByRecursion (λ f. WellFormed def f it.kind) later
+      → IsFormedState def (record { opened = Some it; cursor = cursor; earlier = earlier; later = later; saved = s.saved })
+  turned s formed it cursor earlier later whole node at are also = record {
+    opened = λ old e. opened_one (λ o. WellFormed def o.tree o.kind) it old whole e;
+    cursor = λ old e.
+        opened_one (λ o. (x : Fragment) × (node_at o.tree cursor ≡ Some x)) it old (node, at) e;
+    earlier = λ old e. opened_one (λ o. AllByRecursion (λ f. WellFormed def f o.kind) earlier) it old are e;
+    later = λ old e. opened_one (λ o. AllByRecursion (λ f. WellFormed def f o.kind) later) it old also e;
+    saved = formed.saved;
+  }
+
+  module _ (IsGood : Fragment → Type 0) (sound : IsSound def) (slots : (o k : ℕ) → IsQuietSlot def o k)
+      (s : State) (answer : Answer) (formed : IsFormedState def s) where
+    -- what a change gives, by a tree of the kind that is opened
+    abbrev pub IsOne : Opened → Fragment → Path → Type 0
+    IsOne old tree path = WellFormed def tree old.kind × (node : Fragment) × (node_at tree path ≡ Some node)
+
+    one_given : (a b : Opened) → s.opened ≡ Some a → s.opened ≡ Some b → (tree : Fragment) (path : Path) → IsOne a tree path
+        → IsOne b tree path
+    one_given a b e d tree path h = subst (λ o. IsOne o tree path) (some_once a b s.opened e d) h
+
+    pub makes_given : {command : Command} {tree : Fragment} {path : Path} → HasText command
+        → IsTaken def IsGood s answer command → (old : Opened) → s.opened ≡ Some old → Makes def s command tree path
+        → IsOne old tree path
+    makes_given text taken old opened (by_refine {place = place} {name = name} {args = args} it o leaves e named gives) =
+        one_given it old e opened _ _
+        (refined def sound slots s formed place it e name args o leaves named gives taken.1.0 taken.1.1.0
+        taken.1.1.1.1.0)
+    makes_given text taken old opened (by_insert {place = place} {k = k} {name = name} {args = args} it o leaves e named
+        gives) =
+        one_given it old e opened _ _
+        (put_in def sound slots s formed place it e name args o leaves named gives k taken.1.0 taken.1.1.0
+        taken.1.1.1.1.0)
+    makes_given text taken old opened (by_cut {place = place} it node kind e at of) =
+        one_given it old e opened _ _ (cut_given def sound slots s formed place it e node kind at of taken.1.1.0)
+    makes_given text taken old opened (by_remove {place = place} {k = k} it e) =
+        one_given it old e opened _ _ (removed_given def sound slots s formed place it e k taken.1.0)
+    makes_given text taken old opened (by_close {place = place} it e) =
+        one_given it old e opened _ _ (closed_given def sound slots s formed place it e taken.1.0)
+    makes_given text taken old opened (by_reopen {place = place} it e) =
+        one_given it old e opened _ _ (reopened_given def sound slots s formed place it e taken.1.0 taken.1.1.0)
+    makes_given text taken old opened (by_paste {place = place} {name = name} it x e is_saved) =
+        one_given it old e opened _ _
+        (pasted def sound slots s formed place it e name x is_saved taken.1.1.0 taken.1.1.1.1.0)
+    makes_given text taken old opened (by_paste_in {place = place} {k = k} {name = name} it x e is_saved) =
+        one_given it old e opened _ _
+        (pasted_in def sound slots s formed place it e name x is_saved k taken.1.1.0 taken.1.1.1.0 taken.1.1.1.1.0)
+    makes_given text taken old opened (by_over {place = place} {text = typed} it node new nesting e at reads) =
+        one_given it old e opened _ _ (typed_given def sound slots s formed place it e typed node new nesting text at reads)
+
+    pub step_formed : {command : Command} {t : State} {reply : Reply} → HasText command
+        → Steps def IsGood s answer command t reply → IsFormedState def t
+    step_formed text (refuses refused_is) = formed
+    step_formed text (opens {name = name} kind mark taken named is_mark) =
+        turned s formed (record { kind = kind; tree = blank def kind }) [] [] []
+        (blank_formed kind name named (λ loud. taken.1.0 (kind, named, loud))) (blank def kind) refl tt tt
+    step_formed text (changes {tree = tree} {path = path} old mark taken opened makes is_mark) =
+        let (whole, node, at) = makes_given text taken old opened makes in
+        turned s formed (record { kind = old.kind; tree = tree }) path (take most_versions (old.tree ∷ s.earlier)) []
+        whole node at
+        (all_taken (λ f. WellFormed def f old.kind) most_versions (old.tree ∷ s.earlier)
+        (formed.opened old opened, formed.earlier old opened)) tt
+    step_formed text (undoes old tree rest mark taken opened is is_mark) =
+        let all = subst (AllByRecursion (λ f. WellFormed def f old.kind)) is (formed.earlier old opened) in
+        turned s formed (record { kind = old.kind; tree = tree }) [] rest (old.tree ∷ s.later) all.0 tree refl all.1
+        (formed.opened old opened, formed.later old opened)
+    step_formed text (redoes old tree rest mark taken opened is is_mark) =
+        let all = subst (AllByRecursion (λ f. WellFormed def f old.kind)) is (formed.later old opened) in
+        turned s formed (record { kind = old.kind; tree = tree }) [] (old.tree ∷ s.earlier) rest all.0 tree refl
+        (formed.opened old opened, formed.earlier old opened) all.1
+    step_formed text (saves {name = name} {place = place} old node kind taken opened at of) = record {
+      opened = formed.opened;
+      cursor = formed.cursor;
+      earlier = formed.earlier;
+      later = formed.later;
+      saved = all_end (IsFormedSaved def) (others name s.saved) (record { name = name; kind = kind; tree = node })
+          (all_others (IsFormedSaved def) name s.saved formed.saved)
+          (node_formed old.tree old.kind (named_path place s.cursor) node kind (formed.opened old opened) at of);
+    }
+    step_formed text (keeps taken is) = formed
+    step_formed text (fetches bytes x taken is kept) = record {
+      opened = formed.opened;
+      cursor = formed.cursor;
+      earlier = formed.earlier;
+      later = formed.later;
+      saved = all_end (IsFormedSaved def) (others x.name s.saved) x
+          (all_others (IsFormedSaved def) x.name s.saved formed.saved) (fetched_formed def bytes x kept);
+    }
+    step_formed text (shows old mark taken opened is_mark) = formed
+    step_formed text (goes {place = place} old p kind name taken opened written of named) = record {
+      opened = formed.opened;
+      cursor = λ it e. there (node_at it.tree (named_path place s.cursor)) it e refl;
+      earlier = formed.earlier;
+      later = formed.later;
+      saved = formed.saved;
+    } where
+      there : (o : Option Fragment) → (it : Opened) → s.opened ≡ Some it
+          → node_at it.tree (named_path place s.cursor) ≡ o → (node : Fragment) × (node_at it.tree (named_path place s.cursor) ≡ Some node)
+      there None it e at = absurd (taken.1.0 (it, e, at))
+      there (Some node) it e at = (node, at)
+    step_formed text (screens old taken opened) = formed
+    step_formed text (owns old node rows taken opened at of) = formed
+    step_formed text (relates old rows taken opened is) = formed
+    step_formed text (frees old taken opened) = formed
+
+pub keeps_form : (def : Definition) (IsGood : Fragment → Type 0) → IsSound def
+    → ((o k : ℕ) → IsQuietSlot def o k) → KeepsForm def IsGood
+keeps_form def IsGood sound slots s t answer command reply text formed steps =
+    step_formed def IsGood sound slots s answer formed text steps

@@ -1,0 +1,285 @@
+//! Saved fragments in files.
+ghost use Rattle.std.specs.Prelude.{◌≡◌, ◌↔◌, ◌++◌, ◌∷◌, ℕ, [], IfErr, IfOk, IsTrue, map, string_bytes};
+ghost use Rattle.psg_terms.specs.Names.{Name};
+ghost use Rattle.psg_grammar.specs.Sizes.{HasLongList, IsBig};
+ghost use Rattle.psg_library.specs.declared.fragment.KeptFault.TheVariants as faults;
+ghost use Rattle.psg_library.specs.Keeping.{MayCount};
+ghost use Rattle.psg_script.specs.declared.command.Command.TheVariants as commands;
+ghost use Rattle.psg_session.specs.declared.refusal.Refusal.TheVariants.{KeptUnreadable};
+ghost use Rattle.psg_session.specs.Applied.{HasStopped};
+ghost use Rattle.psg_session.specs.PlainState.{got};
+ghost use Rattle.psg_session.specs.Outcomes.{IsOutcome};
+ghost use Rattle.psg_session.specs.Exchanges.{Outside};
+ghost use Rattle.psg_session.specs.Reached.{HasReached, IsFragmentAnswer, IsReaching};
+ghost use Rattle.psg_session.specs.Sessions.{state_of, IsEditor};
+ghost use Rattle.psg_session.specs.Views.{IsLanguage};
+
+use crate::editor::{Editor, Outcome, step};
+use crate::refusal::Refusal;
+use crate::replies::Reply;
+use crate::saved::{is_full, saved_named, with_saved};
+use psg_library::{KeptFault, SavedFragment, fragment_bytes, read_fragment};
+use psg_script::Command;
+use psg_specimen::Language;
+use psg_terms::{Steps, Txt};
+use psg_tree::{Tree, longest_list, nodes};
+use psg_world::{Files, ReadStop, WriteStop};
+use std::alloc::{AllocError, Global};
+use std::sync::ledger::Ledger;
+
+/// The most bytes of a kept fragment.
+pub const MOST_KEPT_BYTES: usize = 262_144;
+
+/// The most nodes of a tree.
+const MOST_NODES: u64 = 20_000;
+
+/// The most elements of a list.
+const MOST_ELEMENTS: u64 = 4_096;
+
+/// Gives the one line of a reply: the word and the name.
+fn named_line(alloc: Global, word: &str, name: &str) -> Result<Vec<String>, AllocError>
+    ensures { IfOk result (λ lines. map string_bytes lines.items ≡ (word.now ++ name.now) ∷ []) }
+{
+    let mut line = String::from_str(alloc, word)?;
+    line.push_str(name)?;
+    let mut lines = Vec::new(alloc);
+    lines.push(line)?;
+    Ok(lines)
+}
+
+/// Finds what `keep` does: the saved fragment of the name is written to the file. It is refused with `NoFragment` where no
+/// saved fragment has the name, with `TooBig` where its bytes are more than a file may have, and with `ShelfFault` where the
+/// file is not written. It fails where memory runs out; of the file nothing is known then. Its time is that of printing the
+/// fragment and of the write.
+pub fn keep<F: Files>(
+    alloc: Global,
+    language: &Language,
+    editor: &Editor,
+    name: &Txt,
+    file: &Txt,
+    files: &mut F,
+) -> Result<Outcome, AllocError>
+    requires language { IsLanguage language.now }
+    requires editor { IsEditor language.now.definition editor.now }
+    ensures reached { (count : ℕ) → IfOk result (HasReached language.now.definition editor.now
+        (commands.Keep name.now file.now)
+        (record { held = F.holds files.old; entries = F.faults files.old })
+        (record { held = F.holds files.new; entries = F.faults files.new })
+        count count) }
+    ensures stopped { (count : ℕ) → IfErr result (λ _. HasStopped language.now.definition (state_of editor.now)
+        (commands.Keep name.now file.now)
+        (record { held = F.holds files.old; entries = F.faults files.old })
+        (record { held = F.holds files.new; entries = F.faults files.new })
+        count count) }
+{
+    let Some(saved) = saved_named(editor.saved.as_slice(), name) else {
+        return Ok(Outcome::Stays(Reply::Refused(Refusal::NoFragment)));
+    };
+    let definition = &language.definition;
+    let own_name = saved.name.as_str();
+    let bytes = fragment_bytes(alloc, definition, own_name, saved.kind, &saved.tree)?;
+    let word = name.as_str();
+    let lines = named_line(alloc, "kept ", word)?;
+    let shown = bytes.as_slice();
+    if shown.len() > MOST_KEPT_BYTES {
+        return Ok(Outcome::Stays(Reply::Refused(Refusal::TooBig)));
+    }
+    let to = file.as_str();
+    match files.write(alloc, to, shown) {
+        Ok(()) => Ok(Outcome::Stays(Reply::Answered(lines))),
+        Err(WriteStop::Failed) => Ok(Outcome::Stays(Reply::Refused(Refusal::ShelfFault))),
+        Err(WriteStop::Memory) => Err(AllocError),
+    }
+}
+
+/// Tells whether a list of the tree has too many elements. It takes one step.
+#[tactic(auto, using(psg_cache::proofs::LongLists::long_lists))]
+fn has_long_list(tree: &Tree) -> bool
+    ensures { IsTrue result ↔ HasLongList tree.now }
+{
+    longest_list(tree) > MOST_ELEMENTS
+}
+
+/// Tells whether the tree has too many nodes, or a list of it too many elements. It takes one step.
+fn is_big(tree: &Tree) -> bool
+    ensures { IsTrue result ↔ IsBig tree.now }
+{
+    if nodes(tree) > MOST_NODES {
+        return true;
+    }
+    has_long_list(tree)
+}
+
+/// Gives the refusal of bytes that are not read for this fault.
+fn refusal_of(fault: KeptFault) -> Result<Refusal, AllocError>
+    ensures { IfOk result (λ r. (r ≡ KeptUnreadable) × (fault ≡ faults.Memory → ⊥)) }
+{
+    match fault {
+        KeptFault::Head => Ok(Refusal::KeptUnreadable),
+        KeptFault::Phylum => Ok(Refusal::KeptUnreadable),
+        KeptFault::NoTokens => Ok(Refusal::KeptUnreadable),
+        KeptFault::NoTree => Ok(Refusal::KeptUnreadable),
+        KeptFault::Deep => Ok(Refusal::KeptUnreadable),
+        KeptFault::Memory => Err(AllocError),
+    }
+}
+
+/// Reads the fragment that the bytes of a file keep. It is refused with `KeptUnreadable` where they are too many or keep
+/// none, and with `TooBig` where its tree has too many nodes or elements. It takes a step of the counter for each token of
+/// the text, and fails where memory runs out.
+fn read_kept<L: Ledger>(
+    alloc: Global,
+    language: &Language,
+    bytes: &[u8],
+    steps: &mut Steps<L>,
+) -> Result<Result<SavedFragment, Refusal>, AllocError>
+    requires language { IsLanguage language.now }
+    ensures fragment { IfOk result (IsFragmentAnswer language.now.definition bytes.now) }
+    ensures read { MayCount language.now.definition bytes.now steps.old steps.new }
+{
+    if bytes.len() > MOST_KEPT_BYTES {
+        return Ok(Err(Refusal::KeptUnreadable));
+    }
+    let definition = &language.definition;
+    let found = read_fragment(
+        alloc,
+        definition,
+        &language.lexis,
+        &language.table,
+        bytes,
+        steps,
+    );
+    let saved = match found {
+        Ok(saved) => saved,
+        Err(fault) => {
+            let refusal = refusal_of(fault)?;
+            return Ok(Err(refusal));
+        }
+    };
+    if is_big(&saved.tree) {
+        return Ok(Err(Refusal::TooBig));
+    }
+    Ok(Ok(saved))
+}
+
+/// Finds what a fetch does that got these bytes. It is refused as `read_kept` says, and with `ShelfFull` where there is no
+/// room for the name.
+fn take_in<L: Ledger>(
+    alloc: Global,
+    language: &Language,
+    editor: &Editor,
+    bytes: &[u8],
+    steps: &mut Steps<L>,
+) -> Result<Outcome, AllocError>
+    requires language { IsLanguage language.now }
+    requires editor { IsEditor language.now.definition editor.now }
+    ensures outcome { (file : Name) → IfOk result (IsOutcome language.now.definition editor.now (got bytes.now)
+        (commands.Fetch file)) }
+    ensures read { MayCount language.now.definition bytes.now steps.old steps.new }
+{
+    let saved = match read_kept(alloc, language, bytes, steps)? {
+        Ok(saved) => saved,
+        Err(refusal) => return Ok(Outcome::Stays(Reply::Refused(refusal))),
+    };
+    let shelf = editor.saved.as_slice();
+    if is_full(shelf, &saved.name) {
+        return Ok(Outcome::Stays(Reply::Refused(Refusal::ShelfFull)));
+    }
+    let word = saved.name.as_str();
+    let lines = named_line(alloc, "fetched ", word)?;
+    let kept = with_saved(alloc, shelf, saved)?;
+    Ok(Outcome::Saves(kept, lines))
+}
+
+/// Finds what `fetch` does: the fragment that the file keeps is saved under its name. It is refused with `ShelfFault` where
+/// the file is not read, with `KeptUnreadable` where its bytes are too many or keep no fragment of the language, with
+/// `TooBig` where the tree has too many nodes or elements, and with `ShelfFull` where there is no room for the name. It takes
+/// a step of the counter for each token of the text, evaluates nothing, and fails where memory runs out.
+pub fn fetch<F: Files, L: Ledger>(
+    alloc: Global,
+    language: &Language,
+    editor: &Editor,
+    file: &Txt,
+    files: &mut F,
+    steps: &mut Steps<L>,
+) -> Result<Outcome, AllocError>
+    requires language { IsLanguage language.now }
+    requires editor { IsEditor language.now.definition editor.now }
+    ensures reached { IfOk result (HasReached language.now.definition editor.now (commands.Fetch file.now)
+        (record { held = F.holds files.old; entries = F.faults files.old })
+        (record { held = F.holds files.new; entries = F.faults files.new })
+        steps.old steps.new) }
+    ensures stopped { IfErr result (λ _. HasStopped language.now.definition (state_of editor.now)
+        (commands.Fetch file.now)
+        (record { held = F.holds files.old; entries = F.faults files.old })
+        (record { held = F.holds files.new; entries = F.faults files.new })
+        steps.old steps.new) }
+{
+    let from = file.as_str();
+    let bytes = match files.read(alloc, from, MOST_KEPT_BYTES) {
+        Ok(bytes) => bytes,
+        Err(ReadStop::Failed) => return Ok(Outcome::Stays(Reply::Refused(Refusal::ShelfFault))),
+        Err(ReadStop::Memory) => return Err(AllocError),
+    };
+    let shown = bytes.as_slice();
+    let outcome = take_in(alloc, language, editor, shown, steps)?;
+    Ok(outcome)
+}
+
+/// Finds what a command does to the editor that asks nothing of the files, whatever these hold.
+fn step_alone<L: Ledger>(
+    alloc: Global,
+    language: &Language,
+    editor: &Editor,
+    command: &Command,
+    steps: &mut Steps<L>,
+) -> Result<Outcome, AllocError>
+    requires language { IsLanguage language.now }
+    requires editor { IsEditor language.now.definition editor.now }
+    requires alone { IsReaching command.now → ⊥ }
+    ensures reached { (outside : Outside) → IfOk result (HasReached language.now.definition editor.now command.now
+        outside outside steps.old steps.new) }
+    ensures stopped { (outside : Outside) → IfErr result (λ _. HasStopped language.now.definition (state_of editor.now)
+        command.now outside outside steps.old steps.new) }
+{
+    let outcome = step(alloc, language, editor, command, steps)?;
+    Ok(outcome)
+}
+
+/// Finds what a command does to the editor. A `keep` writes its file and a `fetch` reads it; no other command asks anything
+/// of the files. `steps` counts evaluations, and the tokens of typed text and of a fetched fragment. It fails where memory
+/// runs out.
+pub fn reach<F: Files, L: Ledger>(
+    alloc: Global,
+    language: &Language,
+    editor: &Editor,
+    command: &Command,
+    files: &mut F,
+    steps: &mut Steps<L>,
+) -> Result<Outcome, AllocError>
+    requires language { IsLanguage language.now }
+    requires editor { IsEditor language.now.definition editor.now }
+    ensures reached { IfOk result (HasReached language.now.definition editor.now command.now
+        (record { held = F.holds files.old; entries = F.faults files.old })
+        (record { held = F.holds files.new; entries = F.faults files.new })
+        steps.old steps.new) }
+    ensures stopped { IfErr result (λ _. HasStopped language.now.definition (state_of editor.now) command.now
+        (record { held = F.holds files.old; entries = F.faults files.old })
+        (record { held = F.holds files.new; entries = F.faults files.new })
+        steps.old steps.new) }
+{
+    match command {
+        Command::Keep { name, file } => {
+            let outcome = keep(alloc, language, editor, name, file, files)?;
+            Ok(outcome)
+        }
+        Command::Fetch { file } => {
+            let outcome = fetch(alloc, language, editor, file, files, steps)?;
+            Ok(outcome)
+        }
+        _ => {
+            let outcome = step_alone(alloc, language, editor, command, steps)?;
+            Ok(outcome)
+        }
+    }
+}

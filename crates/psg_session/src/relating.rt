@@ -1,0 +1,111 @@
+//! The values that a node of the opened fragment may have.
+ghost use Rattle.std.specs.Prelude.{◌≡◌, ◌∷◌, [], ℕ, map, string_bytes, IfOk};
+ghost use Rattle.psg_terms.specs.Relations.{IsIn};
+ghost use Rattle.psg_terms.specs.Signature.{HasSort};
+ghost use Rattle.psg_terms.specs.Terms.{Term as Plain};
+ghost use Rattle.psg_focus.specs.Shown.{rows_of};
+ghost use Rattle.psg_script.specs.declared.command.Command.TheVariants as commands;
+ghost use Rattle.psg_session.specs.Answers.{row_line as row_line_of, rows_lines as rows_lines_of};
+ghost use Rattle.psg_session.specs.Outcomes.{IsOutcome};
+ghost use Rattle.psg_session.specs.PlainState.{not_asked};
+ghost use Rattle.psg_session.specs.Relating.{IsRelated};
+ghost use Rattle.psg_session.specs.Sessions.{state_of, IsEditor};
+ghost use Rattle.psg_session.specs.Ticks.{HasTicked};
+ghost use Rattle.psg_session.specs.Views.{IsLanguage};
+
+use crate::editor::{Editor, Outcome};
+use crate::finding::find;
+use crate::refusal::Refusal;
+use crate::replies::Reply;
+use psg_eval::FocusFault;
+use psg_focus::relation_at;
+use psg_script::Where;
+use psg_specimen::Language;
+use psg_terms::{Signature, Steps, Term, term_text};
+use std::alloc::{AllocError, Global};
+use std::sync::ledger::Ledger;
+
+/// The term as the line of a row without names.
+fn term_line(alloc: Global, signature: &Signature, term: &Term) -> Result<String, AllocError>
+    requires { (s : ℕ) × HasSort signature.now term.now s }
+    ensures { IfOk result (λ text. string_bytes text ≡ row_line_of signature.now [] (term.now ∷ [])) }
+{
+    let text = term_text(alloc, signature, term)?;
+    Ok(text)
+}
+
+/// The terms, each on a line, or `none`.
+fn terms_lines(
+    alloc: Global,
+    signature: &Signature,
+    terms: &[Term],
+) -> Result<Vec<String>, AllocError>
+    requires { (t : Plain) → IsIn t terms.now → (s : ℕ) × HasSort signature.now t s }
+    ensures { IfOk result (λ lines. map string_bytes lines.items ≡ rows_lines_of signature.now [] (rows_of terms.now)) }
+{
+    let mut lines = Vec::new(alloc);
+    if terms.is_empty() {
+        let none = String::from_str(alloc, "none")?;
+        lines.push(none)?;
+        return Ok(lines);
+    }
+    for term in terms {
+        let line = term_line(alloc, signature, term)?;
+        lines.push(line)?;
+    }
+    Ok(lines)
+}
+
+/// The reply to a question whose answer was too wide.
+fn answer(
+    alloc: Global,
+    signature: &Signature,
+    shown: Result<Vec<Term>, FocusFault>,
+) -> Result<Reply, AllocError>
+    requires { IfOk shown (λ terms. (t : Plain) → IsIn t terms.items → (s : ℕ) × HasSort signature.now t s) }
+    ensures { IfOk result (IsRelated signature.now shown) }
+{
+    match shown {
+        Ok(terms) => {
+            let lines = terms_lines(alloc, signature, terms.as_slice())?;
+            Ok(Reply::Answered(lines))
+        }
+        Err(FocusFault::Wide) => Ok(Reply::Refused(Refusal::TooWide)),
+        Err(FocusFault::Memory) => Err(AllocError),
+    }
+}
+
+/// The values that the node at the place may have in the completions of the fragment, each on a line. It evaluates the nodes
+/// above it once more.
+#[tactic(auto, using(crate::proofs::Ticking::quiet))]
+pub fn relation<L: Ledger>(
+    alloc: Global,
+    language: &Language,
+    editor: &Editor,
+    place: &Where,
+    steps: &mut Steps<L>,
+) -> Result<Outcome, AllocError>
+    requires language { IsLanguage language.now }
+    requires editor { IsEditor language.now.definition editor.now }
+    ensures outcome { IfOk result (IsOutcome language.now.definition editor.now not_asked (commands.Relation place.now)) }
+    ensures ticks { HasTicked language.now.definition (state_of editor.now) (commands.Relation place.now) steps.old steps.new }
+{
+    let found = match find(editor, place) {
+        Ok(found) => found,
+        Err(refusal) => return Ok(Outcome::Stays(Reply::Refused(refusal))),
+    };
+    let note = &found.held.note;
+    // the note has a summary of each node and frames around it, so these refusals do not come
+    let Some(summary) = note.summary(found.path) else {
+        return Ok(Outcome::Stays(Reply::Refused(Refusal::NoNode)));
+    };
+    let framed = note.frames(alloc, found.path)?;
+    let Some(frames) = framed else {
+        return Ok(Outcome::Stays(Reply::Refused(Refusal::NoNode)));
+    };
+    let definition = &language.definition;
+    let around = frames.as_slice();
+    let shown = relation_at(alloc, definition, around, summary, steps);
+    let reply = answer(alloc, &definition.signature, shown)?;
+    Ok(Outcome::Stays(reply))
+}

@@ -1,0 +1,35 @@
+-- An accepted definition with what an editor makes of it once.
+use Rattle.std.specs.Prelude.{ℕ, ◌≡◌, true}
+use Rattle.std.specs.List.{AllByRecursion}
+use Rattle.psg_grammar.specs.declared.types.Kind.{Kind}
+use Rattle.psg_grammar.specs.declared.types.Kind.TheVariants as kinds
+use Rattle.psg_grammar.specs.declared.types.Definition.{Definition}
+use Rattle.psg_grammar.specs.Declaring.{is_declaring}
+use Rattle.psg_grammar.specs.Sound.{IsSound}
+use Rattle.psg_grammar.specs.WellFormed.{fixed_words}
+use Rattle.psg_lexis.specs.Tokens.{IsFixedWord}
+pub use Rattle.psg_eval.specs.SpaceTables.{AreDeclaringSpaces}
+use Rattle.psg_parse.specs.Tables.{IsParseTable}
+use Rattle.psg_specimen.specs.Refusal.{IsAccepted}
+use Rattle.psg_specimen.specs.declared.language.Language.{Language}
+use Rattle.psg_specimen.specs.declared.language.Made.{Made}
+
+-- a phylum that declares names; a placeholder of it would not say which
+abbrev pub IsDeclaringPhylum : Definition → Kind → Type 0
+IsDeclaringPhylum def (kinds.Phylum p) = (space : ℕ) × (is_declaring def space (kinds.Phylum p) ≡ true)
+IsDeclaringPhylum def (kinds.List l) = ⊥
+
+-- what is made of the definition once
+pub record IsMadeOf (def : Definition) (m : Made) : Type 0 where
+  pub declaring : AreDeclaringSpaces def m.declaring.items
+  pub words : m.lexis ≡ fixed_words def
+  pub table : IsParseTable def m.table
+
+-- a sound and accepted definition, each of whose fixed words is one token, with what is made of it
+pub record IsLanguage (l : Language) : Type 0 where
+  pub sound : IsSound l.definition
+  pub declaring : AreDeclaringSpaces l.definition l.declaring.items
+  pub words : l.lexis ≡ fixed_words l.definition
+  pub accepted : IsAccepted l.definition
+  pub tokens : AllByRecursion IsFixedWord (fixed_words l.definition)
+  pub table : IsParseTable l.definition l.table
