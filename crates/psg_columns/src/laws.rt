@@ -1,0 +1,12 @@
+//! What does not grow where columns go.
+ghost use Rattle.psg_columns.specs.Fewer.{FewerColumns};
+
+use psg_terms::Signature;
+
+/// States that a relation of columns, each of which is kept once, is within the limit where the rows that have the
+/// columns are.
+pub fn fewer_columns(signature: &Signature)
+    ensures { FewerColumns signature.now }
+{
+    signature.sound();
+}

@@ -1,0 +1,11 @@
+pub mod Permuting
+pub mod Turned
+pub mod Judged
+pub mod Inserted
+pub mod Law
+pub mod Orders
+pub mod Picking
+pub mod Reordered
+pub mod Relating
+pub mod Widths
+pub mod Written
