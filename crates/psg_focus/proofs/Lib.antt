@@ -1,2 +1,3 @@
 pub mod SeenRows
 pub mod ShownLaws
+pub mod PossibleLaws

@@ -1,21 +1,24 @@
 -- The rows of the reported value alone, from those of the whole tree.
-use Rattle.std.proofs.Common.{◌≡◌, ◌↔◌, ℕ, ◌+◌, ◌<◌, zero, suc, All, List, [], ◌∷◌, ◌++◌, map, take, get_or, length, slice_get, refl, ap, sym, ◌∙◌, subst, length-append, arith}
-use Rattle.std.specs.Prelude.{slice_index_or}
+use Rattle.std.proofs.Common.{◌≡◌, ◌↔◌, ℕ, ◌+◌, ◌<◌, zero, suc, All, List, [], ◌∷◌, ◌++◌, map, take, get_or, length, refl, ap, sym, ◌∙◌, subst, length-append, arith}
+use Rattle.std.specs.Prelude.{slice_index_or, IfErr, Result, Err}
 use Rattle.std.proofs.lemmas.List.{length-map}
 use Rattle.psg_terms.specs.Terms.{Term}
 use Rattle.psg_terms.specs.Signature.{HaveSorts}
-use Rattle.psg_terms.specs.Relations.{IsIn, IsRelation}
+use Rattle.psg_terms.specs.Relations.{IsRelation}
+use Rattle.psg_terms.specs.Weight.{PassesLimit}
 use Rattle.psg_terms.proofs.OneRelation.{instance_sorts, sorts_length}
 use Rattle.psg_grammar.specs.declared.types.Definition.{Definition}
 use Rattle.psg_grammar.specs.Fragments.{Fragment}
 use Rattle.psg_grammar.specs.Open.{Choice}
 use Rattle.psg_grammar.specs.Regions.{names_of}
 use Rattle.psg_grammar.specs.Relations.{IsPossible, IsSeen, IsSeenRelationOf}
-use Rattle.psg_relation.specs.Choices.{AllHaveSorts, AllWithin, IsProjected, picked}
+use Rattle.psg_columns.specs.Fewer.{FewerColumns, KeptOnce}
+use Rattle.psg_relation.specs.Choices.{AllHaveSorts, AllWithin, HasWide, IsProjected, MayBeWide, picked}
+use Rattle.psg_relation.specs.declared.relation.RelFault.{RelFault}
+use Rattle.psg_relation.specs.declared.relation.RelFault.TheVariants.{Wide}
 use Rattle.psg_relation.proofs.Relating.{carried}
-use Rattle.psg_scope.specs.Headers.{keys, key_of}
+use Rattle.psg_scope.specs.Headers.{key_of}
 use Rattle.psg_eval.specs.declared.summary.Known.{Known}
-use Rattle.psg_eval.specs.Glues.{IsCut}
 use Rattle.psg_eval.specs.Summaries.{IsSummary, IsSummaryOf}
 use Rattle.psg_eval.proofs.Gluing.{CutOf, cut_relation, cut_same}
 use Rattle.psg_eval.proofs.PartialSorts.{key_sorts_many}
@@ -47,6 +50,15 @@ one_within row n w = by where
   by zero d l = omega (arith, w)
   by (suc k) d l = absurd (omega (arith, l))
 
+some_wide : {X : Type 0} (r : Result X RelFault) (P : Type 0) → IfErr r (MayBeWide P) → r ≡ Err Wide → P
+some_wide r P h e = subst (λ z. IfErr z (MayBeWide P)) e h
+
+-- one column is kept once
+second_once : KeptOnce (1 ∷ [])
+second_once zero zero k a b = refl
+second_once zero (suc j) k a b = absurd (cc)
+second_once (suc i) j k a b = absurd (cc)
+
 module _ (def : Definition) (s : Known) (usual : IsSummary def s) (reported : s.seen ≡ 1) where
   abbrev pub whole_sorts : List ℕ
   whole_sorts = (usual.sort ∷ usual.seen) ++ usual.key_sorts
@@ -59,6 +71,24 @@ module _ (def : Definition) (s : Known) (usual : IsSummary def s) (reported : s.
 
   pub second_within : AllWithin s.rel (1 ∷ [])
   second_within = λ row i. one_within row (length s.header.names) (sorts_length def.signature row whole_sorts (usual.sorted row i) ∙ width)
+
+  pub within_same : (rows : List (List Term)) (cols : List ℕ) → rows ≡ s.rel → cols ≡ 1 ∷ [] → AllWithin rows cols
+  within_same rows cols e f = subst (λ (r : List (List Term)). AllWithin r cols) (sym e) (subst (AllWithin s.rel) (sym f) second_within)
+
+  pub sorts_same : (rows : List (List Term)) → rows ≡ s.rel → AllHaveSorts def.signature rows whole_sorts
+  sorts_same rows e = subst (λ (r : List (List Term)). AllHaveSorts def.signature r whole_sorts) (sym e) usual.sorted
+
+  abbrev pub SomeWide : List (List Term) → List ℕ → Type 0
+  SomeWide rows cols = (sorts : List ℕ) → AllHaveSorts def.signature rows sorts → HasWide def.signature (picked sorts cols) (IsProjected def.signature rows cols)
+
+  -- where the rows are within the limit, no relation of their second column passes it
+  pub second_light : {X : Type 0} (result : Result X RelFault) (rows : List (List Term)) (cols : List ℕ) → rows ≡ s.rel → cols ≡ 1 ∷ [] → FewerColumns def.signature → (PassesLimit rows → ⊥)
+      → IfErr result (MayBeWide (SomeWide rows cols)) → result ≡ Err Wide → ⊥
+  second_light result rows cols e f fewer light may is =
+      let some = some_wide result (SomeWide rows cols) may is in
+      let sorted = sorts_same rows e in
+      let (made, rel, passes) = some whole_sorts sorted in
+      fewer whole_sorts rows cols sorted (within_same rows cols e f) (subst KeptOnce (sym f) second_once) light made rel passes
 
   module _ (f : Fragment) (is : IsSummaryOf def f s) where
     names_many : length (names_of def f) ≡ length s.header.names

@@ -1,16 +1,15 @@
 -- From the climb with the node's value observed to the answer.
-use Rattle.std.proofs.Common.{◌≡◌, ◌⊎◌, inl, inr, ℕ, zero, suc, List, [], ◌∷◌, ◌++◌, map, Option, Some, None, slice_get, refl, ap, sym, ◌∙◌, subst}
+use Rattle.std.proofs.Common.{◌≡◌, ◌⊎◌, inl, inr, ℕ, zero, suc, List, [], ◌∷◌, ◌++◌, Option, Some, None, slice_get, sym, ◌∙◌, subst}
 use Rattle.std.specs.Prelude.{IfOk, Result, Ok, Err, Vec}
 use Rattle.std.specs.declared.alloc.Global.{Global}
 use Rattle.psg_terms.specs.Terms.{Term}
 use Rattle.psg_terms.specs.Relations.{IsIn, first, later}
-use Rattle.psg_terms.specs.Weight.{PassesLimit}
 use Rattle.psg_grammar.specs.declared.types.Definition.{Definition}
 use Rattle.psg_grammar.specs.Fragments.{Fragment, hole, ending, cell, operator, with_child, with_name, with_number, with_text, anything, observed, children_of}
-use Rattle.psg_grammar.specs.Paths.{Path, node_at, observe}
+use Rattle.psg_grammar.specs.Paths.{Path, observe}
 use Rattle.psg_grammar.specs.Relations.{IsPossible, IsRelationOf, IsSeenRelationOf, IsShownRelation}
 use Rattle.psg_grammar.specs.Sound.{IsSound}
-use Rattle.psg_grammar.specs.Steps.{Place, IsWideAt, PassesAt, own_steps, steps_above, steps_at, steps_of_some}
+use Rattle.psg_grammar.specs.Steps.{Place, IsWideAt, own_steps, steps_above, steps_at, steps_of_some}
 use Rattle.psg_eval.specs.declared.frame.Frame.{Frame}
 use Rattle.psg_eval.specs.declared.summary.EvalFault.{EvalFault}
 use Rattle.psg_eval.specs.declared.summary.EvalFault.TheVariants as faults
@@ -18,7 +17,7 @@ use Rattle.psg_eval.specs.declared.summary.Known.{Known}
 use Rattle.psg_eval.specs.declared.question.FocusFault.{FocusFault}
 use Rattle.psg_eval.specs.declared.question.FocusFault.TheVariants as questions
 use Rattle.psg_eval.specs.Climbing.{IsClimbed, IsObserved}
-use Rattle.psg_eval.specs.ClimbSteps.{climb_steps, climb_steps_at, AreWithin, IsFirstOf}
+use Rattle.psg_eval.specs.ClimbSteps.{climb_steps, climb_steps_at, IsFirstOf}
 use Rattle.psg_eval.specs.Frames.{StandFor}
 use Rattle.psg_eval.specs.Questions.{IsAsked}
 use Rattle.psg_eval.specs.Summaries.{IsSummaryOf}

@@ -1,6 +1,8 @@
 -- The values of a node, as a question about it is answered.
 use Rattle.std.specs.Prelude.{◌≡◌, List, [], ◌∷◌, map, Result, Ok, Err, Vec}
 use Rattle.std.specs.declared.alloc.Global.{Global}
+use Rattle.psg_terms.specs.Instances.{IsGroundInstance}
+use Rattle.psg_terms.specs.Relations.{IsIn}
 use Rattle.psg_terms.specs.Terms.{Term}
 use Rattle.psg_grammar.specs.declared.types.Definition.{Definition}
 use Rattle.psg_grammar.specs.Fragments.{Fragment}
@@ -13,6 +15,10 @@ use Rattle.psg_eval.specs.declared.question.FocusFault.TheVariants as questions
 -- each term as a row
 abbrev pub rows_of : List Term → List (List Term)
 rows_of terms = map (λ t. t ∷ []) terms
+
+-- the value is one of the terms with terms without variables in place of its variables
+abbrev pub IsOfSome : Definition → List Term → Term → Type 0
+IsOfSome def terms u = (t : Term) × IsIn t terms × IsGroundInstance def.signature (t ∷ []) (u ∷ [])
 
 -- the values at the node as most general terms, where they are not too wide; and they are too wide where the answer says so
 abbrev pub IsShown : Definition → Path → Fragment → Result (Vec Term Global) FocusFault → Type 0

@@ -1,4 +1,4 @@
-use Rattle.std.proofs.Common.{rules, ℕ, ◌≡◌, ◌∷◌, [], ◌∙◌, List, ap, sym, subst}
+use Rattle.std.proofs.Common.{rules, ◌≡◌, ◌∷◌, [], ◌∙◌, List, sym, subst}
 use Rattle.std.specs.Prelude.{Ok, Err}
 use Rattle.psg_terms.specs.Terms.{Term}
 use Rattle.psg_terms.proofs.OneRelation.{sorts_length}
@@ -7,7 +7,8 @@ use Rattle.psg_eval.specs.declared.summary.Known.{Known}
 use Rattle.psg_eval.specs.Frames.{CanClimb}
 use Rattle.psg_eval.specs.Summaries.{IsSummary}
 use Rattle.psg_focus.specs.Shown.{IsShown}
-use Rattle.psg_focus.proofs.ShownLaws.{asked_if, climbed_fault, noted_fault, shown_all}
+use Rattle.psg_focus.proofs.PossibleLaws.{possible}
+use Rattle.psg_focus.proofs.ShownLaws.{ShowsAll, asked_if, climbed_fault, noted_fault, shown_all}
 use Rattle.psg_focus.proofs.relating.relation_at.Goals as goal
 
 pub returns-in_err-seen-clause-shown : goal.returns-in_err-seen-clause-shown
@@ -57,6 +58,17 @@ returns-clause-shown g c =
     shown_all c.args.definition.now c.requires.sound c.args.frames.now c.args.own.now c.with_report-noted.result c.climb-climbed.result c.in_ok-seen.seen c.in_ok-whole.whole c.in_ok-rel.rel
     c.in_ok-terms.terms c.with_report-noted.ensures.answer c.in_ok-seen.ensures c.climb-climbed.ensures.answer c.in_ok-whole.ensures c.in_ok-rel.ensures.seen
     (c.in_ok-terms.ensures ∙ c.rows-rows.ensures.rows)
+
+pub returns-clause-possible : goal.returns-clause-possible
+returns-clause-possible g c =
+    let def = c.args.definition.now in
+    let around = c.args.frames.now in
+    let own = c.args.own.now in
+    let shows : ShowsAll def c.requires.sound around own (Ok c.in_ok-terms.terms) =
+    shown_all def c.requires.sound around own c.with_report-noted.result c.climb-climbed.result c.in_ok-seen.seen c.in_ok-whole.whole c.in_ok-rel.rel
+    c.in_ok-terms.terms c.with_report-noted.ensures.answer c.in_ok-seen.ensures c.climb-climbed.ensures.answer c.in_ok-whole.ensures c.in_ok-rel.ensures.seen
+    (c.in_ok-terms.ensures ∙ c.rows-rows.ensures.rows) in
+    possible def c.requires.sound around own (Ok c.in_ok-terms.terms) shows
 
 pub returns-clause-sorted : goal.returns-clause-sorted
 returns-clause-sorted g c =
