@@ -62,17 +62,17 @@ got_map f [] k x e = absurd (none-some x e)
 got_map f (y ∷ xs) zero x e = let same : y ≡ x = same_some y x e in ap (λ z. Some (f z)) same
 got_map f (y ∷ xs) (suc k) x e = got_map f xs k x e
 
-all_front : (P : Known → Type 0) (k : ℕ) (xs : List Known) → AllByRecursion P xs → AllByRecursion P (take k xs)
+pub all_front : (P : Known → Type 0) (k : ℕ) (xs : List Known) → AllByRecursion P xs → AllByRecursion P (take k xs)
 all_front P zero xs all = tt
 all_front P (suc k) [] all = tt
 all_front P (suc k) (x ∷ xs) all = (all.0, all_front P k xs all.1)
 
-all_three : (P Q R : Known → Type 0) (T : Known → Type 0) (xs : List Known) → ((x : Known) → P x → Q x → R x → T x)
+pub all_three : (P Q R : Known → Type 0) (T : Known → Type 0) (xs : List Known) → ((x : Known) → P x → Q x → R x → T x)
     → AllByRecursion P xs → AllByRecursion Q xs → AllByRecursion R xs → AllByRecursion T xs
 all_three P Q R T [] f p q r = tt
 all_three P Q R T (x ∷ xs) f p q r = (f x p.0 q.0 r.0, all_three P Q R T xs f p.1 q.1 r.1)
 
-all_kind : (j k : Kind) (xs : List Known) → j ≡ k → AllByRecursion (λ (s : Known). s.kind ≡ j) xs → AllByRecursion (λ (s : Known). s.kind ≡ k) xs
+pub all_kind : (j k : Kind) (xs : List Known) → j ≡ k → AllByRecursion (λ (s : Known). s.kind ≡ j) xs → AllByRecursion (λ (s : Known). s.kind ≡ k) xs
 all_kind j k xs e all = subst (λ i. AllByRecursion (λ (s : Known). s.kind ≡ i) xs) e all
 
 -- nothing is observed in such a tree
@@ -89,7 +89,7 @@ quiet anything real = absurd real
 quiet (observed f) real = absurd real
 
 module _ (def : Definition) where
-  quiet_children : (cs : List Fragment) (summaries : List Known) → AllByRecursion IsReal cs → AllSummaries def cs summaries → AllByRecursion IsSilent summaries
+  pub quiet_children : (cs : List Fragment) (summaries : List Known) → AllByRecursion IsReal cs → AllSummaries def cs summaries → AllByRecursion IsSilent summaries
   quiet_children [] [] real s = tt
   quiet_children [] (x ∷ xs) real s = absurd s
   quiet_children (c ∷ cs) [] real s = absurd s
@@ -108,7 +108,7 @@ module _ (def : Definition) where
   as_many (c ∷ cs) [] h = absurd h
   as_many (c ∷ cs) (s ∷ ss) h = let e = as_many cs ss h.1 in omega (arith, e)
 
-  usual_below : (below : List Annotated) → AllByRecursion (IsNoted def) below → AllByRecursion (IsSummary def) (map whole_in below)
+  pub usual_below : (below : List Annotated) → AllByRecursion (IsNoted def) below → AllByRecursion (IsSummary def) (map whole_in below)
   usual_below [] h = tt
   usual_below (n ∷ ns) h = ((noted_parts def n h.0).0.usual.0, usual_below ns h.1)
 
@@ -213,7 +213,7 @@ module _ (def : Definition) where
   leaving_list l [] u k = refl
   leaving_list l (e ∷ es) u k = refl
 
-  is_list : (l : ℕ) (es : List Fragment) (u : Bool) → IsList (list_of l es u)
+  pub is_list : (l : ℕ) (es : List Fragment) (u : Bool) → IsList (list_of l es u)
   is_list l [] u = tt
   is_list l (e ∷ es) u = tt
 
@@ -305,7 +305,7 @@ no_frame_hole n k p s e there def noted formed =
     no_children tree_in (below_in n) [] k ((noted_parts def n noted).0.children ∙ ap children_of (sym made)) (omega arith)
 
 -- a list has a suffix after each of its elements
-suffixes_many : (def : Definition) (l : ℕ) (es : List Fragment) (u : Bool) (below : List Known) (s : Known) (rests : List Known)
+pub suffixes_many : (def : Definition) (l : ℕ) (es : List Fragment) (u : Bool) (below : List Known) (s : Known) (rests : List Known)
     → AreOfSuffixes def (list_of l es u) below s rests → length rests ≡ length es
 suffixes_many def l [] u [] s [] h = refl
 suffixes_many def l [] u [] s (x ∷ xs) h = absurd h

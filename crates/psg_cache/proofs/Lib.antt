@@ -38,4 +38,5 @@ pub mod JoinLaws
 pub mod ExchangeLaws
 pub mod FrameParts
 pub mod NoteFraming
+pub mod GapFrames
 pub mod Completed

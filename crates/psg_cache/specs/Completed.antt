@@ -1,23 +1,23 @@
 -- What a note says of programs.
-use Rattle.std.specs.Prelude.{ℕ, ◌↔◌, List}
-use Rattle.psg_terms.specs.Terms.{Term}
-use Rattle.psg_terms.specs.Relations.{IsIn}
+use Rattle.std.specs.Prelude.{◌≡◌, ◌↔◌, []}
 use Rattle.psg_grammar.specs.declared.types.Kind.{Kind}
 use Rattle.psg_grammar.specs.declared.types.Definition.{Definition}
 use Rattle.psg_grammar.specs.Fragments.{Fragment}
 use Rattle.psg_grammar.specs.Legal.{IsCompletable}
 use Rattle.psg_grammar.specs.Marks.{IsMarkBy}
 use Rattle.psg_grammar.specs.WellFormed.{WellFormed}
+use Rattle.psg_completions.specs.Conditions.{HasTrueRows}
 use Rattle.psg_cache.specs.Annotated.{Annotated, whole_in}
 use Rattle.psg_cache.specs.Blames.{culprits_in}
-use Rattle.psg_cache.specs.Notes.{IsNoteOf, mark_by}
+use Rattle.psg_cache.specs.Notes.{mark_by}
 
--- The relation of the note's tree has a row exactly where the tree has a legal completion.
-abbrev pub RelatesByCompletions : Definition → Annotated → Type 0
-RelatesByCompletions def n = (f : Fragment) (kind : Kind) → IsNoteOf def f n → WellFormed def f kind
-    → ((row : List Term) × IsIn row (whole_in n).rel) ↔ IsCompletable def f
+module _ (def : Definition) (f : Fragment) where
+  pub record IsByCompletions (n : Annotated) : Type 0 where
+    -- the tree has a legal completion just where its relation has a row
+    pub relation : IsCompletable def f ↔ ((whole_in n).rel ≡ [] → ⊥)
+    -- the culprits are the nodes that have none while each of their children has one
+    pub culprits : IsMarkBy (IsCompletable def) f (mark_by (culprits_in n))
 
--- The note's culprits are the nodes of its tree that have no legal completion while each of their children has one.
-abbrev pub BlamesByCompletions : Definition → Annotated → Type 0
-BlamesByCompletions def n = (f : Fragment) (kind : Kind) → IsNoteOf def f n → WellFormed def f kind
-    → IsMarkBy (IsCompletable def) f (mark_by (culprits_in n))
+  -- where the definition's rows are true of trees, a note of the well-formed tree says this
+  abbrev pub TellsCompletable : Annotated → Type 0
+  TellsCompletable n = HasTrueRows def → (kind : Kind) → WellFormed def f kind → IsByCompletions n

@@ -1,5 +1,5 @@
 -- The frames around a place of a noted tree.
-use Rattle.std.specs.Prelude.{ℕ, ◌≡◌, ◌≤◌, ◌+◌, List, Some, None, length, slice_get}
+use Rattle.std.specs.Prelude.{ℕ, ◌≡◌, ◌≤◌, ◌+◌, List, [], ◌∷◌, Some, None, length, slice_get}
 use Rattle.psg_grammar.specs.declared.types.Kind.{Kind}
 use Rattle.psg_grammar.specs.declared.types.Kind.TheVariants as kinds
 use Rattle.psg_grammar.specs.declared.types.ListKind.{ListKind}
@@ -50,6 +50,16 @@ module _ (def : Definition) where
     pub takes : (kind above : Kind) → IsOfKind def (tree_in child) kind → IsOfKind def (tree_in n) above → TakesAny frame kind above
     pub cost : rungs_in frame ≡ leaving (tree_in n) k
 
+  -- the frame is the node's around a new element before the element k of its list, and takes any summary of an element
+  pub record IsElementFrame (n : Annotated) (k : ℕ) (frame : Frame) : Type 0 where
+    pub number : ℕ
+    pub of_kind : IsOfKind def (tree_in n) (kinds.List number)
+    pub list : ListKind
+    pub found : slice_get def.lists number ≡ Some list
+    pub stand : StandAt def (frame ∷ []) [] (Some k) (tree_in n)
+    pub takes : TakesAny frame (kinds.Phylum list.element) (kinds.List number)
+    pub cost : rungs_in frame ≡ k + 1
+
 -- for each definition by which the note is one: the frame is that of its node around its child of the number
 abbrev pub IsFrameAt : Annotated → ℕ → Frame → Type 0
 IsFrameAt n k frame = (def : Definition) (child : Annotated) → IsNoted def n → IsFormed def (tree_in n) → slice_get (below_in n) k ≡ Some child
@@ -58,6 +68,15 @@ IsFrameAt n k frame = (def : Definition) (child : Annotated) → IsNoted def n �
 -- for each such definition there is no such child
 abbrev pub IsNoFrameAt : Annotated → ℕ → Type 0
 IsNoFrameAt n k = (def : Definition) → IsNoted def n → IsFormed def (tree_in n) → slice_get (below_in n) k ≡ None
+
+-- for each such definition the frame is that of its node around a new element before the element k
+abbrev pub IsFrameBefore : Annotated → ℕ → Frame → Type 0
+IsFrameBefore n k frame = (def : Definition) → IsNoted def n → IsFormed def (tree_in n) → IsElementFrame def n k frame
+
+-- for each such definition its node is no list with so many elements
+abbrev pub IsNoPlaceIn : Annotated → ℕ → Type 0
+IsNoPlaceIn n k = (def : Definition) → IsNoted def n → IsFormed def (tree_in n)
+    → IsList (tree_in n) → k ≤ length (children_of (tree_in n)) → ⊥
 
 -- for each tree of which this is the note
 abbrev pub AreFramesAt : Annotated → Path → List Frame → Type 0

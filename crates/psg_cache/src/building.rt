@@ -5,6 +5,7 @@ ghost use Rattle.psg_grammar.specs.Sound.{IsSound};
 ghost use Rattle.psg_grammar.specs.declared.limits.TheConstants.{MOST_WEIGHTS};
 ghost use Rattle.psg_grammar.specs.Work.{work_of};
 ghost use Rattle.psg_cache.specs.declared.note.NoteFault.TheVariants.{Heavy};
+ghost use Rattle.psg_cache.specs.Completed.{TellsCompletable};
 ghost use Rattle.psg_cache.specs.Notes.{AreDeclaringSpaces, IsFormed, IsNoteFault, IsNoteOf, TellsOpen};
 ghost use Rattle.psg_cache.specs.Walks.{IsSizeFault, IsSmall};
 
@@ -42,6 +43,7 @@ pub fn build<L: Ledger>(
     requires formed { IsFormed definition.now tree.now }
     ensures note { IfOk result (IsNoteOf definition.now tree.now) }
     ensures good { IfOk result (TellsOpen definition.now tree.now) }
+    ensures completions { IfOk result (TellsCompletable definition.now tree.now) }
     ensures ticks { IfOk result (λ _. steps.new ≡ steps.old + work_of tree.now) }
     // whatever it answers
     ensures bounded { steps.new ≤ steps.old + work_of tree.now }

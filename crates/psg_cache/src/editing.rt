@@ -9,6 +9,7 @@ ghost use Rattle.psg_tree.specs.declared.places.TreeFault.TheVariants.{Memory as
 ghost use Rattle.psg_cache.specs.declared.note.NoteFault.TheVariants.{Memory};
 ghost use Rattle.psg_cache.specs.Annotated.{tree_in, whole_in};
 ghost use Rattle.psg_cache.specs.Changes.{IsExchange, IsPlace, IsPut, IsAdded, IsTaken, ticks_of};
+ghost use Rattle.psg_cache.specs.Completed.{TellsCompletable};
 ghost use Rattle.psg_cache.specs.Diff.{diff_of};
 ghost use Rattle.psg_cache.specs.Edits.{MayReplace, MayInsert, MayRemove};
 ghost use Rattle.psg_cache.specs.Noted.{IsNotedAs};
@@ -343,6 +344,8 @@ pub fn replaced<L: Ledger>(
     requires place { MayReplace definition.now (tree_in note.now) path.now new.now }
     ensures note { IfOk result (IsNoteOf definition.now (replaced_at path.now new.now (tree_in note.now))) }
     ensures good { IfOk result (TellsOpen definition.now (replaced_at path.now new.now (tree_in note.now))) }
+    ensures completions { IfOk result
+        (TellsCompletable definition.now (replaced_at path.now new.now (tree_in note.now))) }
     ensures fault { IfErr result (IsNoteFault definition.now (replaced_at path.now new.now (tree_in note.now))) }
     ensures ticks { steps.new ≤ steps.old + diff_of (tree_in note.now) (replaced_at path.now new.now (tree_in note.now)) }
 {
@@ -379,6 +382,8 @@ pub fn inserted<L: Ledger>(
     requires place { MayInsert definition.now (tree_in note.now) path.now place new.now }
     ensures note { IfOk result (IsNoteOf definition.now (change_at (inserted_at place new.now) path.now (tree_in note.now))) }
     ensures good { IfOk result (TellsOpen definition.now (change_at (inserted_at place new.now) path.now (tree_in note.now))) }
+    ensures completions { IfOk result
+        (TellsCompletable definition.now (change_at (inserted_at place new.now) path.now (tree_in note.now))) }
     ensures fault { IfErr result (IsNoteFault definition.now (change_at (inserted_at place new.now) path.now (tree_in note.now))) }
     ensures ticks { steps.new ≤ steps.old + (work_of new.now + (place + 1) + climb_of (tree_in note.now) path.now) }
 {
@@ -418,6 +423,8 @@ pub fn removed<L: Ledger>(
     requires place { MayRemove definition.now (tree_in note.now) path.now place }
     ensures note { IfOk result (IsNoteOf definition.now (change_at (removed_at place) path.now (tree_in note.now))) }
     ensures good { IfOk result (TellsOpen definition.now (change_at (removed_at place) path.now (tree_in note.now))) }
+    ensures completions { IfOk result
+        (TellsCompletable definition.now (change_at (removed_at place) path.now (tree_in note.now))) }
     ensures fault { IfErr result (IsNoteFault definition.now (change_at (removed_at place) path.now (tree_in note.now))) }
     ensures ticks { steps.new ≤ steps.old + (place + climb_of (tree_in note.now) path.now) }
 {

@@ -15,7 +15,6 @@ mod blaming;
 pub mod building;
 pub mod editing;
 mod framing;
-pub mod laws;
 mod listing;
 pub mod note;
 mod parts;

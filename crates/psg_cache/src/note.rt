@@ -142,15 +142,6 @@ impl Note {
         !self.root().rel().is_empty()
     }
 
-    /// Counts the owners of the note of the node at the path, 0 where the path leads to no node: one for each note of a
-    /// larger tree that shares it, and one for each note of it that a caller has.
-    pub fn owners(&self, path: &Path) -> usize {
-        match at(self, path) {
-            Some(note) => Rc::strong_count(&note.shared),
-            None => 0,
-        }
-    }
-
     /// One more owner of the same note.
     pub fn share(&self) -> Result<Note, AllocError>
         ensures { IfOk result (λ n. n ≡ self.now) }
@@ -169,7 +160,7 @@ pub(crate) fn child_note(note: &Note, number: u32) -> Option<&Note>
 }
 
 /// The note of the node at the path.
-fn at<'n>(note: &'n Note, path: &Path) -> Option<&'n Note>
+pub(crate) fn at<'n>(note: &'n Note, path: &Path) -> Option<&'n Note>
     ensures { option_copied result ≡ note_at note.now path.now }
 {
     let mut node = note;

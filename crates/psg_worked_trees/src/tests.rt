@@ -2,6 +2,7 @@
 mod definitions;
 mod edits;
 mod forms;
+mod framing;
 mod limits;
 mod little;
 mod notes;

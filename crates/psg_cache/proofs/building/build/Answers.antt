@@ -1,4 +1,5 @@
 use Rattle.psg_cache.specs.Notes.{IsNoteFault}
+use Rattle.psg_cache.proofs.Completed.{noted_completable}
 use Rattle.psg_cache.proofs.NoteOpen.{noted_open}
 use Rattle.psg_cache.proofs.Passing.{passed}
 use Rattle.psg_cache.proofs.WalkLaws.{fault_noted, heavy_fault, note_of, size_fault}
@@ -35,5 +36,11 @@ returns-clause-note g c =
 pub returns-clause-good : goal.returns-clause-good
 returns-clause-good g c =
     noted_open c.args.definition.now c.args.tree.now c.in_ok-note.note
+    (note_of c.args.definition.now c.requires.sound c.args.tree.now c.in_ok-note.note c.weight.result
+    c.requires.formed c.in_ok-note.ensures.ok c.in_ok-small.ensures.ok c.weight.ensures c.in_ok-light.ensures.ok)
+
+pub returns-clause-completions : goal.returns-clause-completions
+returns-clause-completions g c =
+    noted_completable c.args.definition.now c.requires.sound c.args.tree.now c.in_ok-note.note
     (note_of c.args.definition.now c.requires.sound c.args.tree.now c.in_ok-note.note c.weight.result
     c.requires.formed c.in_ok-note.ensures.ok c.in_ok-small.ensures.ok c.weight.ensures c.in_ok-light.ensures.ok)

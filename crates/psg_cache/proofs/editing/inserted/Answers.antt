@@ -9,6 +9,7 @@ use Rattle.psg_cache.specs.Annotated.{tree_in}
 use Rattle.psg_cache.specs.Changes.{IsPlace}
 use Rattle.psg_cache.specs.Notes.{IsNoteFault, IsNoteOf}
 use Rattle.psg_cache.proofs.ChangeLaws.{memory_add, place_add}
+use Rattle.psg_cache.proofs.Completed.{noted_completable}
 use Rattle.psg_cache.proofs.NoteOpen.{noted_open}
 use Rattle.psg_cache.proofs.Passing.{passed}
 use Rattle.psg_cache.proofs.editing.inserted.Goals as goal
@@ -74,6 +75,22 @@ returns-clause-good g c =
     subst (λ t. IfOk c.insert-changed.result (IsInserted t path place new)) c.tree.ensures c.insert-changed.ensures.ok in
     let is : IsInserted tree path place new made = subst P c.in_ok-made.ensures.ok told in
     noted_open def (change_at (inserted_at place new) path tree) c.in_ok-all.all
+    (subst (λ x. IsNoteOf def x c.in_ok-all.all) is.made_is c.in_ok-all.ensures.note)
+
+pub returns-clause-completions : goal.returns-clause-completions
+returns-clause-completions g c =
+    let def = c.args.definition.now in
+    let note = c.args.note.now in
+    let tree = tree_in note in
+    let path = c.args.path.now in
+    let place = c.args.place in
+    let new = c.args.new.now in
+    let made = c.in_ok-made.made in
+    let P : Result Fragment TreeFault → Type 0 = λ r. IfOk r (IsInserted tree path place new) in
+    let told : P c.insert-changed.result =
+    subst (λ t. IfOk c.insert-changed.result (IsInserted t path place new)) c.tree.ensures c.insert-changed.ensures.ok in
+    let is : IsInserted tree path place new made = subst P c.in_ok-made.ensures.ok told in
+    noted_completable def c.requires.sound (change_at (inserted_at place new) path tree) c.in_ok-all.all
     (subst (λ x. IsNoteOf def x c.in_ok-all.all) is.made_is c.in_ok-all.ensures.note)
 
 pub tree_of-requires : goal.tree_of-requires

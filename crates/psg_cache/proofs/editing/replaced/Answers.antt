@@ -9,6 +9,7 @@ use Rattle.psg_cache.specs.Diff.{diff_of}
 use Rattle.psg_cache.specs.Notes.{IsNoteFault, IsNoteOf}
 use Rattle.psg_cache.proofs.ChangeLaws.{memory_put}
 use Rattle.psg_cache.proofs.ExchangeLaws.{exchange_asked}
+use Rattle.psg_cache.proofs.Completed.{noted_completable}
 use Rattle.psg_cache.proofs.NoteOpen.{noted_open}
 use Rattle.psg_cache.proofs.Passing.{passed}
 use Rattle.psg_cache.proofs.editing.replaced.Goals as goal
@@ -99,6 +100,21 @@ returns-clause-good g c =
     subst (λ t. IfOk c.replace-changed.result (IsReplaced t path new)) c.tree.ensures c.replace-changed.ensures.ok in
     let is : IsReplaced tree path new made = subst P c.in_ok-made.ensures.ok told in
     noted_open def (replaced_at path new tree) c.in_ok-all.all
+    (subst (λ x. IsNoteOf def x c.in_ok-all.all) is.1 c.in_ok-all.ensures.note)
+
+pub returns-clause-completions : goal.returns-clause-completions
+returns-clause-completions g c =
+    let def = c.args.definition.now in
+    let note = c.args.note.now in
+    let tree = tree_in note in
+    let path = c.args.path.now in
+    let new = c.args.new.now in
+    let made = c.in_ok-made.made in
+    let P : Result Fragment TreeFault → Type 0 = λ r. IfOk r (IsReplaced tree path new) in
+    let told : P c.replace-changed.result =
+    subst (λ t. IfOk c.replace-changed.result (IsReplaced t path new)) c.tree.ensures c.replace-changed.ensures.ok in
+    let is : IsReplaced tree path new made = subst P c.in_ok-made.ensures.ok told in
+    noted_completable def c.requires.sound (replaced_at path new tree) c.in_ok-all.all
     (subst (λ x. IsNoteOf def x c.in_ok-all.all) is.1 c.in_ok-all.ensures.note)
 
 pub tree_of-requires : goal.tree_of-requires
