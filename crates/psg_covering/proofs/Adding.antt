@@ -2,7 +2,7 @@
 use Rattle.std.proofs.Common.{◌≡◌, ◌⊎◌, ◌↔◌, ◌<◌, ◌+◌, ◌==◌, inl, inr, ℕ, Bool, eqb-true, arith, IsTrue, List, [], ◌∷◌, ◌++◌, take, length, get_or, Some, slice_get, refl, ap, sym, ◌∙◌, subst}
 use Rattle.psg_terms.specs.Terms.{Term}
 use Rattle.psg_terms.specs.Signature.{AreTerms, HaveSorts}
-use Rattle.psg_terms.specs.Relations.{IsIn, first, later}
+use Rattle.psg_terms.specs.Relations.{IsIn, first}
 use Rattle.psg_terms.proofs.DeclareLaws.{take-next}
 use Rattle.psg_relation.proofs.Members.{in-left, in-last, in-split, in-next}
 use Rattle.psg_grammar.specs.declared.types.Kind.{Kind}
@@ -155,12 +155,12 @@ module _ (def : Definition) (kind : Kind) where
       (by_more slot ks row numbers i number h lt (any_default numbers i 0 number lt) of)
 
   pub choices_end : (slot : Kind) (ks : List Kind) (row : List Term) (old new : List (List Term)) (numbers items : List ℕ) (i : ℕ) → numbers ≡ items → i ≡ length numbers
-      → ((r : ℕ) (h : HoleRow) → IsRowOf def slot r h → IsIn r items) → Adds def kind ks old new (AreCoveredBy slot ks row (take i numbers))
+      → ((r : ℕ) (h : HoleRow) → IsRowOf def slot r h → IsIn r items ⊎ IsNone def row h) → Adds def kind ks old new (AreCoveredBy slot ks row (take i numbers))
       → Adds def kind ks old new (IsCovered def kind (slot ∷ ks) row)
   choices_end slot ks row old new numbers items i e d among a =
       adds_same ks old new (AreCoveredBy slot ks row numbers) (IsCovered def kind (slot ∷ ks) row)
       (subst (λ l. Adds def kind ks old new (AreCoveredBy slot ks row l)) (take_all numbers i d) a)
-      (by_all slot ks row numbers (λ r h of. inl (subst (IsIn r) (sym e) (among r h of))))
+      (by_all slot ks row numbers (λ r h of. elim (among r h of) [ inl j ↦ inl (subst (IsIn r) (sym e) j) | inr none ↦ inr (none_covered def kind ks row h none) ]))
 
   pub rows_begin : (slot : Kind) (ks : List Kind) (rows : List (List Term)) → rows ≡ [] → Adds def kind ks [] rows (AllCovered def kind (slot ∷ ks) [])
   rows_begin slot ks rows e = subst (λ r. Adds def kind ks [] r (AllCovered def kind (slot ∷ ks) [])) (sym e) (adds_none ks [] (AllCovered def kind (slot ∷ ks) []) (λ row i. elim i [ ]))

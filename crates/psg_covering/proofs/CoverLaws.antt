@@ -1,5 +1,5 @@
 -- Terms that are instances of those of hole rows.
-use Rattle.std.proofs.Common.{◌≡◌, ◌≢◌, ℕ, zero, suc, ◌<◌, ◌+◌, inl, inr, Option, List, [], ◌∷◌, length, take, get_or, map, Some, slice_get, refl, sym, ap, ◌∙◌, subst, arith}
+use Rattle.std.proofs.Common.{◌≡◌, ◌≢◌, ℕ, zero, suc, ◌<◌, ◌+◌, inl, inr, List, [], ◌∷◌, length, take, get_or, map, slice_get, refl, sym, ap, ◌∙◌, subst, arith}
 use Rattle.psg_terms.specs.Terms.{Term, variable, symbol, apply, applied}
 use Rattle.psg_terms.specs.Instances.{Substitution, substitute, IsInstance}
 use Rattle.psg_terms.specs.Relations.{IsIn}
@@ -66,7 +66,8 @@ module _ (def : Definition) (kind : Kind) (head : Term) where
     | inr e ↦ refuted (subst (λ (x : HoleRow). IsInstance (head ∷ []) (x.term ∷ [])) (get_same def.hole_rows number g h (ap (slice_get def.hole_rows) (sym e) ∙ of.0) at.0) instance)
   ]
 
-  pub none_at_all : (numbers items : List ℕ) (i : ℕ) → numbers ≡ items → i ≡ length numbers → ((r : ℕ) (h : HoleRow) → IsRowOf def kind r h → IsIn r items)
+  pub none_at_all : (numbers items : List ℕ) (i : ℕ) → numbers ≡ items → i ≡ length numbers
+      → ((r : ℕ) (h : HoleRow) → IsRowOf def kind r h → IsInstance (head ∷ []) (h.term ∷ []) → IsIn r items)
       → NoneCovers (take i numbers) → HasCover def kind head → ⊥
   none_at_all numbers items i e d among none (r, h, of, instance) =
-      none r (subst (IsIn r) (sym e ∙ sym (take_all numbers i d)) (among r h of)) h of instance
+      none r (subst (IsIn r) (sym e ∙ sym (take_all numbers i d)) (among r h of instance)) h of instance

@@ -3,7 +3,7 @@ use Rattle.std.proofs.Common.{Bor, drop, take, ◌≡◌, ◌≢◌, ◌⊎◌, 
 use Rattle.std.specs.Option.{option_copied}
 use Rattle.std.specs.Slice.{IsGetResult}
 use Rattle.std.proofs.lemmas.Bool.{cases_Bool}
-use Rattle.std.proofs.lemmas.Option.{slice_get_read, none-some}
+use Rattle.std.proofs.lemmas.Option.{slice_get_past, slice_get_read, none-some}
 use Rattle.psg_terms.specs.Relations.{IsIn, first, later}
 
 -- what holds of the thing at a place, and of each place where there is none
@@ -85,6 +85,10 @@ any_default (x ∷ xs) (suc i) d e lt = any_default xs i d e (omega arith)
 pub got_some : {X : Type 0} (xs : List X) (i : ℕ) (r : Option (Bor X)) (x : Bor X) → IsGetResult xs i i r → r ≡ Some x → slice_get xs i ≡ Some x.now
 got_some {X} xs i None x h e = absurd (none-some x e)
 got_some {X} xs i (Some y) x h e = slice_get_read xs (length xs) i y.now refl h.3.0 h.1 ∙ ap (λ (z : Bor X). Some z.now) (let same : y ≡ x = cc in same)
+
+pub got_none_at : {X : Type 0} (xs : List X) (i : ℕ) (r : Option (Bor X)) → IsGetResult xs i i r → r ≡ None → slice_get xs i ≡ None
+got_none_at {X} xs i None h e = slice_get_past xs i h.3
+got_none_at {X} xs i (Some y) h e = absurd (cc)
 
 pub got_first : {X : Type 0} (xs : List X) (r : Option (Bor X)) (x : Bor X) (y : X) (ys : List X) → option_copied r ≡ slice_get xs 0 → r ≡ Some x → xs ≡ y ∷ ys → x.now ≡ y
 got_first {X} xs None x y ys h e d = absurd (none-some x e)

@@ -4,6 +4,7 @@ pub mod Adding
 pub mod Firsts
 pub mod KindLaws
 pub mod CoverLaws
+pub mod IndexLaws
 pub mod SlotLaws
 pub mod RowLaws
 pub mod PairLaws

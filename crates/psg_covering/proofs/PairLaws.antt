@@ -1,7 +1,7 @@
 -- Walks over things each of which has places.
-use Rattle.std.proofs.Common.{◌≡◌, inl, inr, ℕ, ◌<◌, ◌≤◌, ◌^◌, List, length, get_or, Option, Some, None, slice_get, refl, sym, ap, ◌∙◌, subst, arith}
+use Rattle.std.proofs.Common.{◌≡◌, inl, inr, ℕ, ◌<◌, List, length, Some, None, slice_get, sym, subst}
 use Rattle.psg_covering.specs.Pairs.{Finds, FindsPair}
-use Rattle.psg_covering.proofs.Firsts.{At, all, get_inside, get_same, read}
+use Rattle.psg_covering.proofs.Firsts.{get_inside, get_same}
 
 module _ {X : Type 0} (xs : List X) (Q : ℕ → X → ℕ → Type 0) where
   abbrev pub Holds : ℕ → ℕ → Type 0

@@ -1,11 +1,10 @@
 -- One slot more, and the two ends of the search.
-use Rattle.std.proofs.Common.{◌≡◌, ◌⊎◌, ◌↔◌, inl, inr, ℕ, List, [], ◌∷◌, map, refl, ap, sym, ◌∙◌, subst, Option, Some, None, slice_get}
+use Rattle.std.proofs.Common.{◌≡◌, ◌⊎◌, inl, inr, ℕ, List, [], ◌∷◌, map, refl, ap, sym, ◌∙◌, subst, Option, Some, None, slice_get}
 use Rattle.std.proofs.lemmas.Bool.Decides.{eqb_tells}
 use Rattle.std.proofs.lemmas.Option.{none-some}
 use Rattle.psg_terms.specs.Terms.{Term}
 use Rattle.psg_terms.specs.Signature.{HasSort, HaveSorts}
-use Rattle.psg_terms.specs.Instances.{Substitution, substitute, IsInstance, IsGroundInstance}
-use Rattle.psg_terms.specs.Canonical.{AreWrittenOut}
+use Rattle.psg_terms.specs.Instances.{Substitution, substitute, IsGroundInstance}
 use Rattle.psg_terms.proofs.Separate.{grounding}
 use Rattle.psg_terms.proofs.SoundChoices.{choices}
 use Rattle.psg_terms.proofs.Exact.{instance_exact}

@@ -6,7 +6,7 @@ use Rattle.psg_terms.specs.Relations.{IsIn}
 use Rattle.psg_grammar.specs.declared.types.Kind.{Kind}
 use Rattle.psg_grammar.specs.declared.types.HoleRow.{HoleRow}
 use Rattle.psg_grammar.specs.declared.types.Definition.{Definition}
-use Rattle.psg_covering.specs.Choices.{Fits, HasCover, IsCovered, IsCoveredFor, IsRowOf}
+use Rattle.psg_covering.specs.Choices.{Fits, HasCover, IsCovered, IsRowOf}
 
 -- the number is put at the end, if the row is of the kind
 abbrev pub IsNoted : Kind → ℕ → HoleRow → List ℕ → List ℕ → Type 0

@@ -1,14 +1,18 @@
 //! One slot more: what its hole rows make of the rows of a front.
-ghost use Rattle.std.specs.Prelude.{◌≡◌, ◌≤◌, ◌<◌, ◌-◌, ◌↔◌, ◌∷◌, ℕ, All, List, IfOk, IfSome, IsTrue, MatchOption, OnOk, slice_get};
+ghost use Rattle.std.specs.Prelude.{◌≡◌, ◌≤◌, ◌<◌, ◌-◌, ◌⊎◌, ◌↔◌, ◌∷◌, ℕ, All, List, IfOk, IfSome, IsTrue, MatchOption, OnOk, slice_get};
 ghost use Rattle.psg_terms.specs.Terms.{Term as Plain};
+ghost use Rattle.psg_terms.specs.Relations.{IsIn};
 ghost use Rattle.psg_grammar.specs.declared.types.Kind.{Kind as PlainKind};
+ghost use Rattle.psg_grammar.specs.declared.types.HoleRow.{HoleRow as PlainHole};
 ghost use Rattle.psg_grammar.specs.Sound.{IsSound};
 ghost use Rattle.psg_covering.specs.Choices.{Fits, HasCover, IsCovered, IsCoveredFor, IsRowOf};
-ghost use Rattle.psg_covering.specs.Fronts.{Adds, AllCovered, AllFit, AreBare, IsChosen, IsNone, run};
+ghost use Rattle.psg_covering.specs.Index.{IsIndex};
+ghost use Rattle.psg_covering.specs.Fronts.{Adds, AllCovered, AllFit, AreBare, AreRowsOf, IsChosen, IsNone, run};
 
 use crate::covers::has_cover;
 use crate::front::Front;
-use crate::numbers::{row_at, rows_of};
+use crate::index::{Index, rows_meeting};
+use crate::numbers::row_at;
 use crate::room::Room;
 use psg_grammar::{Definition, HoleRow, Kind};
 use psg_relation::RelRow;
@@ -30,12 +34,14 @@ const KEPT: u64 = 256;
 pub(crate) fn next_front(
     alloc: Global,
     definition: &Definition,
+    index: &Index,
     room: &mut Room,
     kind: Kind,
     slot: Kind,
     front: &[RelRow],
 ) -> Result<Vec<RelRow>, AllocError>
     requires sound { IsSound definition.now }
+    requires index { IsIndex definition.now index.now }
     requires fits { (ks : List PlainKind) × AllFit definition.now kind (slot ∷ ks) front.now }
     ensures fits { IfOk result (λ next. (ks : List PlainKind) → AllFit definition.now kind (slot ∷ ks) front.now
         → AllFit definition.now kind ks next.items) }
@@ -45,7 +51,9 @@ pub(crate) fn next_front(
 {
     let mut next = Front::new(alloc);
     for i in 0..front.len() {
-        add_choices(alloc, definition, room, kind, slot, &front[i], &mut next)?;
+        add_choices(
+            alloc, definition, index, room, kind, slot, &front[i], &mut next,
+        )?;
     }
     Ok(next.rows)
 }
@@ -54,6 +62,7 @@ pub(crate) fn next_front(
 fn add_choices(
     alloc: Global,
     definition: &Definition,
+    index: &Index,
     room: &mut Room,
     kind: Kind,
     slot: Kind,
@@ -61,24 +70,49 @@ fn add_choices(
     next: &mut Front,
 ) -> Result<(), AllocError>
     requires sound { IsSound definition.now }
+    requires index { IsIndex definition.now index.now }
     requires fits { (ks : List PlainKind) × Fits definition.now kind (slot ∷ ks) row.now }
     ensures { OnOk result ((ks : List PlainKind) → Fits definition.now kind (slot ∷ ks) row.now
         → Adds definition.now kind ks next.old.rows.items next.new.rows.items
         (IsCovered definition.now kind (slot ∷ ks) row.now)) }
 {
-    let numbers = rows_of(alloc, definition, room, slot)?;
+    let numbers = rows_for(alloc, definition, index, room, slot, row.terms())?;
     let numbers = numbers.as_slice();
     for i in 0..numbers.len() {
         let hole = row_at(definition, slot, numbers, i);
-        add_choice(alloc, definition, room, kind, slot, row, hole, next)?;
+        add_choice(alloc, definition, index, room, kind, slot, row, hole, next)?;
     }
     Ok(())
+}
+
+/// Answers the numbers of hole rows of the slot, among them all that have a value in common with the first column.
+fn rows_for(
+    alloc: Global,
+    definition: &Definition,
+    index: &Index,
+    room: &mut Room,
+    slot: Kind,
+    row: &[Term],
+) -> Result<Vec<usize>, AllocError>
+    requires { IsIndex definition.now index.now }
+    ensures rows { IfOk result (λ v. AreRowsOf definition.now slot v.items) }
+    ensures among { IfOk result (λ v. (r : ℕ) (h : PlainHole) → IsRowOf definition.now slot r h
+        → IsIn r v.items ⊎ IsNone definition.now row.now h) }
+{
+    match row.get(1) {
+        Some(column) => {
+            let numbers = rows_meeting(alloc, definition, index, room, slot, column)?;
+            Ok(numbers)
+        }
+        None => Ok(Vec::new(alloc)),
+    }
 }
 
 /// Puts in what the row becomes where the hole row is chosen for its first column, if they have a value in common.
 fn add_choice(
     alloc: Global,
     definition: &Definition,
+    index: &Index,
     room: &mut Room,
     kind: Kind,
     slot: Kind,
@@ -87,6 +121,7 @@ fn add_choice(
     next: &mut Front,
 ) -> Result<(), AllocError>
     requires sound { IsSound definition.now }
+    requires index { IsIndex definition.now index.now }
     requires fits { (ks : List PlainKind) × Fits definition.now kind (slot ∷ ks) row.now }
     requires hole { (r : ℕ) × IsRowOf definition.now slot r hole.now }
     ensures { OnOk result ((ks : List PlainKind) → Fits definition.now kind (slot ∷ ks) row.now
@@ -97,7 +132,7 @@ fn add_choice(
     room.spend(ONE_JOIN)?;
     room.spend_each(row.symbols().saturating_add(hole.term.symbols()), JOINED)?;
     if let Some(made) = chosen(alloc, definition, slot, row.terms(), hole)? {
-        add_row(alloc, definition, room, kind, made, next)?;
+        add_row(alloc, definition, index, room, kind, made, next)?;
     }
     Ok(())
 }
@@ -163,18 +198,20 @@ fn kept(alloc: Global, width: usize) -> Result<Vec<usize>, AllocError>
 pub(crate) fn add_row(
     alloc: Global,
     definition: &Definition,
+    index: &Index,
     room: &mut Room,
     kind: Kind,
     row: RelRow,
     front: &mut Front,
 ) -> Result<(), AllocError>
     requires sound { IsSound definition.now }
+    requires index { IsIndex definition.now index.now }
     requires fits { (ks : List PlainKind) × Fits definition.now kind ks row }
     ensures { OnOk result ((ks : List PlainKind) → Fits definition.now kind ks row
         → Adds definition.now kind ks front.old.rows.items front.new.rows.items (IsCovered definition.now kind ks row)) }
 {
     room.spend_each(row.symbols(), JOINED)?;
-    if has_head_cover(alloc, definition, room, kind, row.terms())? {
+    if has_head_cover(alloc, definition, index, room, kind, row.terms())? {
         return Ok(());
     }
     room.spend_each(row.symbols(), KEPT)?;
@@ -185,16 +222,18 @@ pub(crate) fn add_row(
 fn has_head_cover(
     alloc: Global,
     definition: &Definition,
+    index: &Index,
     room: &mut Room,
     kind: Kind,
     row: &[Term],
 ) -> Result<bool, AllocError>
+    requires { IsIndex definition.now index.now }
     ensures { IfOk result (λ b. (head : Plain) (columns : List Plain) → row.now ≡ head ∷ columns
         → IsTrue b ↔ HasCover definition.now kind head) }
 {
     match row.first() {
         Some(head) => {
-            let covered = has_cover(alloc, definition, room, kind, head)?;
+            let covered = has_cover(alloc, definition, index, room, kind, head)?;
             Ok(covered)
         }
         None => Ok(false),

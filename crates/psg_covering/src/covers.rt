@@ -2,8 +2,10 @@
 ghost use Rattle.std.specs.Prelude.{◌≡◌, ◌↔◌, ◌∷◌, [], IfOk, IsTrue, map};
 ghost use Rattle.psg_terms.specs.Instances.{Substitution, substitute, IsInstance};
 ghost use Rattle.psg_covering.specs.Choices.{HasCover};
+ghost use Rattle.psg_covering.specs.Index.{IsIndex};
 
-use crate::numbers::{row_at, rows_of};
+use crate::index::{Index, rows_meeting};
+use crate::numbers::row_at;
 use crate::room::Room;
 use psg_grammar::{Definition, HoleRow, Kind};
 use psg_terms::matching::is_instance;
@@ -14,18 +16,20 @@ use std::slice;
 /// What a test whether a term is an instance takes for itself, and for each symbol.
 const TEST: u64 = 8;
 
-/// Tests whether the term is an instance of a hole row of the kind. It goes over the hole rows in order, up to one that
-/// serves.
+/// Tests whether the term is an instance of a hole row of the kind. It goes over the hole rows that begin as the term
+/// does, up to one that serves.
 pub(crate) fn has_cover(
     alloc: Global,
     definition: &Definition,
+    index: &Index,
     room: &mut Room,
     kind: Kind,
     term: &Term,
 ) -> Result<bool, AllocError>
+    requires { IsIndex definition.now index.now }
     ensures { IfOk result (λ b. IsTrue b ↔ HasCover definition.now kind term.now) }
 {
-    let numbers = rows_of(alloc, definition, room, kind)?;
+    let numbers = rows_meeting(alloc, definition, index, room, kind, term)?;
     let numbers = numbers.as_slice();
     for i in 0..numbers.len() {
         let row = row_at(definition, kind, numbers, i);

@@ -18,6 +18,7 @@
 mod choosing;
 mod covers;
 mod front;
+mod index;
 mod numbers;
 mod room;
 mod searching;

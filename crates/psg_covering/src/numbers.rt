@@ -1,32 +1,10 @@
 //! The hole rows of a kind.
-ghost use Rattle.std.specs.Prelude.{◌≡◌, ◌<◌, ◌↔◌, ℕ, IfOk, IsTrue, OnOk, Some, length, slice_get, slice_index_or};
-ghost use Rattle.psg_terms.specs.Relations.{IsIn};
-ghost use Rattle.psg_grammar.specs.declared.types.HoleRow.{HoleRow as PlainHole};
+ghost use Rattle.std.specs.Prelude.{◌≡◌, ◌<◌, ◌↔◌, IsTrue, OnOk, Some, length, slice_get, slice_index_or};
 ghost use Rattle.psg_covering.specs.Choices.{IsRowOf};
 ghost use Rattle.psg_covering.specs.Fronts.{AreRowsOf, IsNoted};
 
-use crate::room::Room;
 use psg_grammar::{Definition, HoleRow, Kind};
-use std::alloc::{AllocError, Global};
-
-/// Answers the numbers of the hole rows of the kind. It passes over all hole rows.
-pub(crate) fn rows_of(
-    alloc: Global,
-    definition: &Definition,
-    room: &mut Room,
-    kind: Kind,
-) -> Result<Vec<usize>, AllocError>
-    ensures rows { IfOk result (λ v. AreRowsOf definition.now kind v.items) }
-    ensures all { IfOk result (λ v. (r : ℕ) (h : PlainHole) → IsRowOf definition.now kind r h → IsIn r v.items) }
-{
-    let rows = definition.hole_rows.as_slice();
-    room.spend(rows.len() as u64)?;
-    let mut numbers = Vec::new(alloc);
-    for number in 0..rows.len() {
-        note_row(&mut numbers, number, &rows[number], kind)?;
-    }
-    Ok(numbers)
-}
+use std::alloc::AllocError;
 
 /// Answers the hole row with the number at the place.
 pub(crate) fn row_at<'a>(
@@ -43,7 +21,7 @@ pub(crate) fn row_at<'a>(
     row_of(definition.hole_rows.as_slice(), numbers[place])
 }
 
-fn row_of<'a>(rows: &'a [HoleRow], number: usize) -> &'a HoleRow
+pub(crate) fn row_of<'a>(rows: &'a [HoleRow], number: usize) -> &'a HoleRow
     requires { number < length rows.now }
     ensures { slice_get rows.now number ≡ Some result.now }
 {
@@ -51,7 +29,7 @@ fn row_of<'a>(rows: &'a [HoleRow], number: usize) -> &'a HoleRow
 }
 
 /// Puts the number at the end, if the row is of the kind.
-fn note_row(
+pub(crate) fn note_row(
     numbers: &mut Vec<usize>,
     number: usize,
     row: &HoleRow,

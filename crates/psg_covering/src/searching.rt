@@ -2,9 +2,11 @@
 ghost use Rattle.std.specs.Prelude.{◌≡◌, ◌<◌, ◌↔◌, IfOk, IsTrue, Some, length, slice_get};
 ghost use Rattle.psg_grammar.specs.Sound.{IsSound};
 ghost use Rattle.psg_covering.specs.Choices.{Fits, IsCovered};
+ghost use Rattle.psg_covering.specs.Index.{IsIndex};
 
 use crate::choosing::{add_row, next_front};
 use crate::front::Front;
+use crate::index::Index;
 use crate::room::Room;
 use psg_grammar::{Definition, Kind};
 use psg_relation::RelRow;
@@ -18,21 +20,23 @@ use std::alloc::{AllocError, Global};
 pub(crate) fn is_covered(
     alloc: Global,
     definition: &Definition,
+    index: &Index,
     room: &mut Room,
     kind: Kind,
     slots: &[Kind],
     row: RelRow,
 ) -> Result<bool, AllocError>
     requires sound { IsSound definition.now }
+    requires index { IsIndex definition.now index.now }
     requires fits { Fits definition.now kind slots.now row }
     ensures { IfOk result (λ b. IsTrue b ↔ IsCovered definition.now kind slots.now row) }
 {
     let mut first = Front::new(alloc);
-    add_row(alloc, definition, room, kind, row, &mut first)?;
+    add_row(alloc, definition, index, room, kind, row, &mut first)?;
     let mut front = first.rows;
     for number in 0..slots.len() {
         let slot = slot_at(slots, number);
-        front = next_front(alloc, definition, room, kind, slot, front.as_slice())?;
+        front = next_front(alloc, definition, index, room, kind, slot, front.as_slice())?;
     }
     Ok(front.as_slice().is_empty())
 }

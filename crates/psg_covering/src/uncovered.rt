@@ -3,9 +3,11 @@ ghost use Rattle.std.specs.Prelude.{◌≡◌, ◌↔◌, ◌∷◌, IfOk, IsTru
 ghost use Rattle.psg_grammar.specs.declared.types.Row.{Row as PlainRow};
 ghost use Rattle.psg_grammar.specs.Sound.{IsOperator, IsSound};
 ghost use Rattle.psg_completions.specs.Covered.{IsCoveredCell, IsCoveredRow};
+ghost use Rattle.psg_covering.specs.Index.{IsIndex};
 ghost use Rattle.psg_covering.specs.Pairs.{Finds, FindsPair};
 ghost use Rattle.psg_covering.specs.Rows.{IsCellCovered, IsCellOfList, IsRowCovered, IsRowOfOperator};
 
+use crate::index::Index;
 use crate::room::Room;
 use crate::searching::is_covered;
 use crate::slots::{slot_kinds, slot_row};
@@ -17,8 +19,9 @@ use std::alloc::{AllocError, Global};
 /// Answers the first row of an operator that has values of no hole row: the operator and the row by their numbers, in
 /// the order of operators and then of rows.
 ///
-/// For a row whose head is an instance of a hole row of the phylum the hole rows are gone over once. Otherwise hole
-/// rows are chosen slot by slot, and for each row that is made they are gone over once. `AllocError` comes when memory
+/// Hole rows are found by the constructors with which their terms begin. For a row whose head is an instance of a hole
+/// row of the phylum, those that begin as its head does are gone over. Otherwise hole rows are chosen slot by slot, of
+/// those that may have a value in common with the column, and each row that is made is looked up so. `AllocError` comes when memory
 /// runs out, and where the search takes more than is left of the room.
 pub fn first_uncovered_row(
     alloc: Global,
@@ -28,9 +31,10 @@ pub fn first_uncovered_row(
     requires { IsSound definition.now }
     ensures { IfOk result (FindsPair (IsCoveredRow definition.now)) }
 {
+    let index = Index::of(alloc, definition)?;
     let operators = definition.operators.as_slice();
     for number in 0..operators.len() {
-        if let Some(row) = first_of_operator(alloc, definition, room, &operators[number])? {
+        if let Some(row) = first_of_operator(alloc, definition, &index, room, &operators[number])? {
             return Ok(Some((number as u32, row)));
         }
     }
@@ -49,9 +53,17 @@ pub fn first_uncovered_cell(
     requires { IsSound definition.now }
     ensures { IfOk result (FindsPair (IsCoveredCell definition.now)) }
 {
+    let index = Index::of(alloc, definition)?;
     let lists = definition.lists.as_slice();
     for number in 0..lists.len() {
-        if let Some(row) = first_of_list(alloc, definition, room, number as u32, &lists[number])? {
+        if let Some(row) = first_of_list(
+            alloc,
+            definition,
+            &index,
+            room,
+            number as u32,
+            &lists[number],
+        )? {
             return Ok(Some((number as u32, row)));
         }
     }
@@ -62,17 +74,19 @@ pub fn first_uncovered_cell(
 fn first_of_operator(
     alloc: Global,
     definition: &Definition,
+    index: &Index,
     room: &mut Room,
     operator: &Operator,
 ) -> Result<Option<u32>, AllocError>
     requires sound { IsSound definition.now }
+    requires index { IsIndex definition.now index.now }
     requires operator { IsOperator definition.now operator.now }
     ensures { IfOk result (Finds (λ k. (row : PlainRow) → slice_get operator.now.rows k ≡ Some row
         → IsRowCovered definition.now operator.now row)) }
 {
     let rows = operator.rows.as_slice();
     for number in 0..rows.len() {
-        if !is_row_covered(alloc, definition, room, operator, &rows[number])? {
+        if !is_row_covered(alloc, definition, index, room, operator, &rows[number])? {
             return Ok(Some(number as u32));
         }
     }
@@ -82,11 +96,13 @@ fn first_of_operator(
 fn is_row_covered(
     alloc: Global,
     definition: &Definition,
+    index: &Index,
     room: &mut Room,
     operator: &Operator,
     row: &Row,
 ) -> Result<bool, AllocError>
     requires sound { IsSound definition.now }
+    requires index { IsIndex definition.now index.now }
     requires row { IsRowOfOperator definition.now operator.now row.now }
     ensures { IfOk result (λ b. IsTrue b ↔ IsRowCovered definition.now operator.now row.now) }
 {
@@ -97,6 +113,7 @@ fn is_row_covered(
     let covered = is_covered(
         alloc,
         definition,
+        index,
         room,
         kind,
         slots.as_slice(),
@@ -109,18 +126,20 @@ fn is_row_covered(
 fn first_of_list(
     alloc: Global,
     definition: &Definition,
+    index: &Index,
     room: &mut Room,
     number: u32,
     list: &ListKind,
 ) -> Result<Option<u32>, AllocError>
     requires sound { IsSound definition.now }
+    requires index { IsIndex definition.now index.now }
     requires list { slice_get definition.now.lists number ≡ Some list.now }
     ensures { IfOk result (Finds (λ k. (row : PlainRow) → slice_get list.now.cell_rows k ≡ Some row
         → IsCellCovered definition.now number list.now row)) }
 {
     let rows = list.cell_rows.as_slice();
     for cell in 0..rows.len() {
-        if !is_cell_covered(alloc, definition, room, number, list, &rows[cell])? {
+        if !is_cell_covered(alloc, definition, index, room, number, list, &rows[cell])? {
             return Ok(Some(cell as u32));
         }
     }
@@ -130,12 +149,14 @@ fn first_of_list(
 fn is_cell_covered(
     alloc: Global,
     definition: &Definition,
+    index: &Index,
     room: &mut Room,
     number: u32,
     list: &ListKind,
     row: &Row,
 ) -> Result<bool, AllocError>
     requires sound { IsSound definition.now }
+    requires index { IsIndex definition.now index.now }
     requires list { slice_get definition.now.lists number ≡ Some list.now }
     requires row { IsCellOfList definition.now list.now row.now }
     ensures { IfOk result (λ b. IsTrue b ↔ IsCellCovered definition.now number list.now row.now) }
@@ -143,7 +164,15 @@ fn is_cell_covered(
     let slots = [Kind::Phylum(list.element), Kind::List(number)];
     let terms = whole_row(alloc, &row.head, row.columns.as_slice())?;
     let kind = Kind::List(number);
-    let covered = is_covered(alloc, definition, room, kind, &slots, RelRow::new(terms))?;
+    let covered = is_covered(
+        alloc,
+        definition,
+        index,
+        room,
+        kind,
+        &slots,
+        RelRow::new(terms),
+    )?;
     Ok(covered)
 }
 

@@ -1,9 +1,9 @@
 -- Nil rows and the hole rows of their lists.
-use Rattle.std.proofs.Common.{◌≡◌, inl, inr, ℕ, ◌<◌, ◌≤◌, ◌^◌, List, [], ◌∷◌, length, map, Some, slice_get, refl, sym, ap, ◌∙◌, subst, arith}
+use Rattle.std.proofs.Common.{◌≡◌, inl, inr, ℕ, ◌<◌, ◌^◌, [], ◌∷◌, length, Some, slice_get, refl, sym, ap, ◌∙◌, subst, arith}
 use Rattle.std.proofs.lemmas.Bool.{cases_lt}
 use Rattle.psg_terms.specs.Terms.{Term}
 use Rattle.psg_terms.specs.Signature.{HasSort}
-use Rattle.psg_terms.specs.Instances.{substitute, IsGroundInstance, IsGrounding}
+use Rattle.psg_terms.specs.Instances.{substitute, IsGroundInstance}
 use Rattle.psg_terms.proofs.Exact.{instance_exact}
 use Rattle.psg_terms.proofs.Separate.{grounding}
 use Rattle.psg_terms.proofs.SoundChoices.{choices}

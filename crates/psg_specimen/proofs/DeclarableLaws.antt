@@ -2,7 +2,6 @@
 use Rattle.std.proofs.Common.{◌≡◌, ◌≢◌, ◌⊎◌, inl, inr, ℕ, zero, suc, ◌+◌, ◌<◌, ◌≤◌, ◌==◌, ◌&&◌, Bool, true, false, cond, List, [], ◌∷◌, length, take, get_or, Option, Some, None, Contains, slice_get, refl, sym, ap, ap₂, ◌∙◌, subst, arith, eqb-true, eq-eqb, true≢false}
 use Rattle.std.specs.Prelude.{◌↔◌, IfSome, Vec}
 use Rattle.std.specs.List.{AllByRecursion}
-use Rattle.std.specs.List.Sorted.{IsStrictlyIncreasing}
 use Rattle.std.proofs.lemmas.Bool.{cases_Bool, cases_lt, and_parts}
 use Rattle.psg_terms.specs.Terms.{Term, symbol, applied}
 use Rattle.psg_terms.specs.Marks.{con_numbers}
@@ -25,7 +24,7 @@ use Rattle.psg_completions.specs.Elements.{HasDeclareRow, IsDeclarable}
 use Rattle.psg_specimen.specs.Given.{AreGiven, FindsCon, given_by, HasCon, same_given, IsDeclarableIn, IsDeclarableOf, IsGiven, IsGivenBy}
 use Rattle.psg_specimen.specs.Refusal.{IsFirst, IsFirstOfThree, IsFirstOfTwo}
 use Rattle.psg_specimen.specs.Tables.{AreSpaces}
-use Rattle.psg_specimen.specs.Walks.{Finds, FindsTwo}
+use Rattle.psg_specimen.specs.Walks.{Finds}
 use Rattle.psg_specimen.specs.declared.declarable.Given.{Given}
 use Rattle.psg_specimen.proofs.Firsts.{At, get_at, get_inside, get_same, read}
 use Rattle.psg_specimen.proofs.MarkLaws.{take_get, get_take}

@@ -16,6 +16,7 @@ use Rattle.psg_specimen.specs.declared.fault.Site.TheVariants as sites
 use Rattle.psg_specimen.specs.declared.fault.AcceptFault.{AcceptFault}
 use Rattle.psg_specimen.specs.declared.fault.AcceptFault.TheVariants as faults
 use Rattle.psg_specimen.proofs.Firsts.{number_cases}
+use Rattle.psg_specimen.proofs.OneClass.{one_class}
 use Rattle.psg_specimen.proofs.Stages.{one_stage, stage}
 
 order : (n m : ℕ) → (n ≡ m) ⊎ ((n < m) ⊎ (m < n))
@@ -77,7 +78,7 @@ first_place H s t h k (refuted, before, held) (wrong, earlier, fine) = elim (sit
 
 module _ (def : Definition) where
   same_stage : (f g : AcceptFault) → stage f ≡ stage g → IsRefusal def f → IsRefusal def g → AreSame f g
-  same_stage (faults.Class a) (faults.Class x) e h k = tt
+  same_stage (faults.Class a) (faults.Class x) e h k = one_class def a x h k
   same_stage (faults.Class a) g e h k = absurd (omega (arith, e))
   same_stage (faults.Scope a) (faults.Scope x) e h k = ap faults.Scope (first_one (IsBareScope def) a x h.1 k.1)
   same_stage (faults.Scope a) g e h k = absurd (omega (arith, e))

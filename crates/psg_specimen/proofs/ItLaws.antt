@@ -1,7 +1,7 @@
 -- The names `it` of a specimen by its parts and elements.
 use mathlib.Core.Former.{Count}
-use Rattle.std.proofs.Common.{◌≡◌, inl, inr, ℕ, zero, suc, ◌+◌, ◌<◌, ◌≤◌, ◌==◌, ◌&&◌, not, Bool, true, false, cond, List, [], ◌∷◌, ◌++◌, length, take, get_or, Option, Some, None, slice_get, refl, sym, ap, ap₂, ◌∙◌, subst, arith, append-nil, append_assoc}
-use Rattle.std.specs.Prelude.{bytes_eq, codes, ◌↔◌, option_and_then}
+use Rattle.std.proofs.Common.{◌≡◌, ℕ, zero, suc, ◌+◌, ◌<◌, ◌≤◌, ◌&&◌, not, Bool, true, false, List, [], ◌∷◌, ◌++◌, length, take, get_or, Option, Some, None, slice_get, refl, sym, ap, ap₂, ◌∙◌, arith, append-nil, append_assoc}
+use Rattle.std.specs.Prelude.{option_and_then}
 use Rattle.std.proofs.lemmas.List.{take_all}
 use Rattle.psg_terms.proofs.DeclareLaws.{take-next}
 use Rattle.psg_grammar.specs.declared.types.Item.{Item}
@@ -10,11 +10,11 @@ use Rattle.psg_grammar.specs.declared.types.SpecimenHole.{SpecimenHole}
 use Rattle.psg_grammar.specs.declared.types.Specimen.{Specimen, Op, Op', List as ListOf, List', Row_of-Specimen, end_of-Specimen, more_of-Specimen, Row_of-SpecimenPart, end_of-SpecimenPart, more_of-SpecimenPart, items-the_row-SpecimenPart, items_hidden-the_row-SpecimenPart-0, items-the_row-Specimen, items_hidden-the_row-Specimen-1}
 use Rattle.psg_grammar.specs.declared.types.SpecimenPart.{SpecimenPart, Sub, Name, Number, Text}
 use Rattle.psg_grammar.specs.declared.types.Definition.{Definition}
-use Rattle.psg_grammar.specs.Fragments.{Fragment, hole, ending, cell, operator, with_child, with_name, with_number, with_text, anything, observed, top_operator, parts_count}
-use Rattle.psg_grammar.specs.Lookups.{is_part, is_scope, items_of, next_item, operator_at, part_items, scopes}
-use Rattle.psg_grammar.specs.Specimens.{tree_of, with_row, part_of, list_of, end_tree}
+use Rattle.psg_grammar.specs.Fragments.{Fragment, operator, with_child, with_name, with_number, with_text, top_operator, parts_count}
+use Rattle.psg_grammar.specs.Lookups.{is_scope, items_of, operator_at, part_items, scopes}
+use Rattle.psg_grammar.specs.Specimens.{tree_of, with_row, list_of, end_tree}
 use Rattle.psg_specimen.specs.declared.its.Spot.{Spot}
-use Rattle.psg_specimen.specs.Its.{item_spot, its_in, its_inside, its_of_elements, its_of_part, its_of_parts, one_it, part_spots, spot_by, spot_in, spot_of, spot_or, spots_of, there_or}
+use Rattle.psg_specimen.specs.Its.{item_spot, its_in, its_inside, its_of_elements, its_of_part, its_of_parts, one_it, part_spots, spot_by, spot_in, spot_or, spots_of, there_or}
 
 -- ---- the spots of items
 

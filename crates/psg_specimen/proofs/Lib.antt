@@ -4,6 +4,8 @@ pub mod BareLaws
 pub mod QuietLaws
 pub mod MarkLaws
 pub mod Stages
+pub mod OneTerminal
+pub mod OneClass
 pub mod FirstOnes
 pub mod CaseLaws
 pub mod VariableLaws

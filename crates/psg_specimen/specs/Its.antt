@@ -1,12 +1,12 @@
 -- The names `it` of a specimen.
-use Rattle.std.specs.Prelude.{ℕ, ◌+◌, ◌==◌, ◌&&◌, not, Bool, true, false, cond, List, [], ◌∷◌, ◌++◌, map, Option, Some, None, slice_get, bytes_eq, codes}
+use Rattle.std.specs.Prelude.{ℕ, ◌+◌, ◌==◌, ◌&&◌, not, Bool, true, false, cond, List, [], ◌∷◌, ◌++◌, Option, Some, None, slice_get, bytes_eq, codes}
 use Rattle.psg_grammar.specs.declared.types.Item.{Item}
 use Rattle.psg_grammar.specs.declared.types.Item.TheVariants as items
 use Rattle.psg_grammar.specs.declared.types.Specimen.{Specimen}
 use Rattle.psg_grammar.specs.declared.types.SpecimenPart.{SpecimenPart, Sub, Name, Number, Text}
 use Rattle.psg_grammar.specs.declared.types.Definition.{Definition}
 use Rattle.psg_grammar.specs.Fragments.{Fragment, hole, ending, cell, operator, with_child, with_name, with_number, with_text, anything, observed}
-use Rattle.psg_grammar.specs.Lookups.{is_part, is_scope, next_item, part_items}
+use Rattle.psg_grammar.specs.Lookups.{is_part, is_scope, next_item}
 use Rattle.psg_grammar.specs.Specimens.{tree_of}
 use Rattle.psg_specimen.specs.declared.its.Spot.{Spot}
 

@@ -2,6 +2,8 @@
 ghost use Rattle.std.specs.Prelude.{◌≡◌, IfErr, IfOk, OnOk};
 ghost use Rattle.std.specs.List.{AllByRecursion};
 ghost use Rattle.psg_class.specs.Class.{IsClass};
+ghost use Rattle.psg_class.specs.Only.{HasOnlyTrees};
+ghost use Rattle.psg_completions.specs.Completions.{OpenOrCompletable, RowOrTree};
 ghost use Rattle.psg_grammar.specs.Sound.{IsSound};
 ghost use Rattle.psg_grammar.specs.WellFormed.{fixed_words};
 ghost use Rattle.psg_lexis.specs.Tokens.{IsFixedWord};
@@ -14,6 +16,7 @@ use crate::accepting::{
 };
 use crate::fault::{AcceptFault, Refused};
 use crate::language::{Language, Made};
+use crate::laws::promises;
 use psg_grammar::Definition;
 use std::alloc::Global;
 
@@ -41,6 +44,12 @@ pub fn accept(alloc: Global, definition: Definition) -> Result<Language, Refused
     requires words { AllByRecursion IsFixedWord (fixed_words definition) }
     ensures language { IfOk result (λ l. l.definition ≡ definition) }
     ensures accepted { OnOk result (IsAccepted definition) }
+    // a value is one of a hole row exactly where a complete legal tree has it
+    ensures values { OnOk result (RowOrTree definition) }
+    // a tree is open exactly where it has a legal completion
+    ensures completions { OnOk result (OpenOrCompletable definition) }
+    // no list of tokens has two trees
+    ensures trees { OnOk result (HasOnlyTrees definition) }
     ensures kept { IfOk result IsLanguage }
     ensures back { IfErr result (λ r. r.definition ≡ definition) }
     ensures refusal { IfErr result (λ r. Refuses definition r.fault) }
@@ -48,6 +57,7 @@ pub fn accept(alloc: Global, definition: Definition) -> Result<Language, Refused
     if let Err(fault) = check(alloc, &definition) {
         return Err(Refused { definition, fault });
     }
+    promises(&definition);
     match Made::of(alloc, &definition) {
         Ok(made) => Ok(Language {
             definition,

@@ -1,6 +1,5 @@
-use Rattle.std.proofs.Common.{◌∷◌, List, sym, subst}
-use Rattle.std.specs.Prelude.{IfSome, MatchOption, Option}
-use Rattle.psg_terms.specs.Terms.{Term}
+use Rattle.std.proofs.Common.{◌∷◌, sym, subst}
+use Rattle.std.specs.Prelude.{IfSome, MatchOption}
 use Rattle.psg_covering.specs.Choices.{Fits}
 use Rattle.psg_covering.specs.Fronts.{IsChosen, IsNone}
 use Rattle.psg_covering.proofs.Adding.{made_none, made_some}

@@ -1,5 +1,6 @@
-use Rattle.std.proofs.Common.{get_or, sym, subst, arith}
-use Rattle.psg_covering.specs.Fronts.{AreRowsOf}
+use Rattle.std.proofs.Common.{◌⊎◌, get_or, sym, subst, arith}
+use Rattle.psg_terms.specs.Relations.{IsIn}
+use Rattle.psg_covering.specs.Fronts.{AreRowsOf, IsNone}
 use Rattle.psg_covering.proofs.Adding.{choices_begin, choices_end, choices_more}
 use Rattle.psg_covering.proofs.choosing.add_choices.Goals as goal
 
@@ -20,4 +21,5 @@ loop-i-preserved c ks fits =
 pub returns : goal.returns
 returns c ks fits =
     choices_end c.args.definition.now c.args.kind c.args.slot ks c.args.row.now c.args.next.now.rows.items c.loop-i.next.rows.items c.as_slice-numbers.result.now c.in_ok-numbers.numbers.items c.loop-i.i
-    c.as_slice-numbers.ensures.value (omega (arith, c.loop-i-test.false)) c.in_ok-numbers.ensures.all (c.loop-i.invariant ks fits)
+    c.as_slice-numbers.ensures.value (omega (arith, c.loop-i-test.false))
+    (λ r h of. subst (λ x. IsIn r c.in_ok-numbers.numbers.items ⊎ IsNone c.args.definition.now x h) c.terms.ensures (c.in_ok-numbers.ensures.among r h of)) (c.loop-i.invariant ks fits)

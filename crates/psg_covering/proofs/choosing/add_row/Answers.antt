@@ -1,5 +1,4 @@
-use Rattle.std.proofs.Common.{sym, ◌∙◌, subst, true≢false}
-use Rattle.std.specs.Prelude.{◌↔◌, IsTrue}
+use Rattle.std.proofs.Common.{sym, ◌∙◌, true≢false}
 use Rattle.psg_covering.proofs.Adding.{drop_covered, fit_terms, put_row}
 use Rattle.psg_covering.proofs.choosing.add_row.Goals as goal
 

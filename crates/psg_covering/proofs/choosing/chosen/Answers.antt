@@ -1,8 +1,6 @@
-use Rattle.std.proofs.Common.{◌≡◌, [], ◌∷◌, length, sym, ap, ◌∙◌, subst, arith}
+use Rattle.std.proofs.Common.{[], ◌∷◌, length, sym, ap, subst, arith}
 use Rattle.std.specs.Prelude.{All, ◌<◌}
 use Rattle.psg_unify.specs.Pairs.{AreJoinable}
-use Rattle.psg_covering.specs.Choices.{Fits}
-use Rattle.psg_covering.specs.Fronts.{IsChosen, IsNone}
 use Rattle.psg_covering.proofs.Joined.{first_chosen, first_fits, may_join, wide}
 use Rattle.psg_covering.proofs.choosing.chosen.Goals as goal
 

@@ -1,4 +1,4 @@
-use Rattle.std.proofs.Common.{◌≡◌, ◌≤◌, ◌<◌, ◌-◌, ◌∷◌, ℕ}
+use Rattle.std.proofs.Common.{◌≡◌, ◌≤◌, ◌<◌, ◌-◌, ◌∷◌}
 use Rattle.std.specs.Prelude.{All}
 use Rattle.psg_covering.specs.Fronts.{run}
 use Rattle.psg_covering.proofs.choosing.kept.Given as goal

@@ -1,4 +1,4 @@
-use Rattle.std.proofs.Common.{◌≡◌, length, get_or, map, Some, slice_get, sym, ap, ◌∙◌, subst, arith, true≢false}
+use Rattle.std.proofs.Common.{◌≡◌, map, sym, ap, ◌∙◌, arith, true≢false}
 use Rattle.psg_terms.specs.Terms.{symbol, applied}
 use Rattle.psg_terms.specs.Shapes.{term_of}
 use Rattle.psg_terms.specs.Sizes.{size, sizes}

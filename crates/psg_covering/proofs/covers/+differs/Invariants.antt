@@ -1,4 +1,3 @@
-use Rattle.std.proofs.Common.{◌≡◌, ◌<◌, ℕ}
 use Rattle.psg_terms.specs.Sizes.{size, sizes}
 use Rattle.psg_covering.proofs.covers.+differs.Given as goal
 

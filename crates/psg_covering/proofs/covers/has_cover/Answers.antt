@@ -2,6 +2,7 @@ use Rattle.std.proofs.Common.{refl, get_or, sym, ◌∙◌, subst, arith, true�
 use Rattle.psg_covering.specs.Fronts.{AreRowsOf}
 use Rattle.psg_covering.proofs.Firsts.{any_default}
 use Rattle.psg_covering.proofs.CoverLaws.{none_at_all, none_begin, none_more}
+use Rattle.psg_covering.proofs.IndexLaws.{instance_meets}
 use Rattle.psg_covering.proofs.covers.has_cover.Goals as goal
 
 pub loop-i-init : goal.loop-i-init
@@ -26,6 +27,7 @@ returns-then-branch c = (
 pub returns : goal.returns
 returns c = (
   λ h. absurd (true≢false (sym h)),
-  λ cover. absurd (none_at_all c.args.definition.now c.args.kind c.args.term.now c.as_slice-numbers.result.now c.in_ok-numbers.numbers.items c.loop-i.i c.as_slice-numbers.ensures.value (omega (arith, c.loop-i-test.false)) c.in_ok-numbers.ensures.all
+  λ cover. absurd (none_at_all c.args.definition.now c.args.kind c.args.term.now c.as_slice-numbers.result.now c.in_ok-numbers.numbers.items c.loop-i.i c.as_slice-numbers.ensures.value (omega (arith, c.loop-i-test.false))
+      (λ r h of instance. c.in_ok-numbers.ensures.met r h of (instance_meets c.args.term.now h.term instance))
       c.loop-i.invariant cover),
 )

@@ -1,4 +1,4 @@
-use Rattle.std.proofs.Common.{sym, ap, ◌∙◌, subst}
+use Rattle.std.proofs.Common.{sym, ◌∙◌, subst}
 use Rattle.psg_terms.specs.Relations.{IsIn}
 use Rattle.psg_covering.proofs.Firsts.{get_in, got_some}
 use Rattle.psg_covering.proofs.front.is_there.Goals as goal

@@ -1,7 +1,7 @@
-use Rattle.std.proofs.Common.{◌^◌, length, refl, slice_get, sym, ap, ◌∙◌, arith, true≢false}
+use Rattle.std.proofs.Common.{length, refl, slice_get, sym, ap, ◌∙◌, arith, true≢false}
 use Rattle.psg_grammar.specs.Sound.{IsRow}
-use Rattle.psg_grammar.proofs.SoundParts.{each_at, list_sound}
-use Rattle.psg_covering.specs.Rows.{IsCellCovered, IsRowCovered}
+use Rattle.psg_grammar.proofs.SoundParts.{each_at}
+use Rattle.psg_covering.specs.Rows.{IsRowCovered}
 use Rattle.psg_covering.proofs.Firsts.{all, more, read}
 use Rattle.psg_covering.proofs.uncovered.first_of_operator.Goals as goal
 

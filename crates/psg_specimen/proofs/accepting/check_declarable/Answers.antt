@@ -1,4 +1,4 @@
-use Rattle.std.proofs.Common.{◌^◌, inr, subst, arith}
+use Rattle.std.proofs.Common.{inr, subst, arith}
 use Rattle.psg_completions.specs.Elements.{IsDeclarable}
 use Rattle.psg_specimen.specs.Walks.{FindsThree}
 use Rattle.psg_specimen.proofs.DeclarableLaws.{list_in, space_in, con_in_range}

@@ -1,4 +1,4 @@
-use Rattle.std.proofs.Common.{◌^◌, inr, subst, arith}
+use Rattle.std.proofs.Common.{inr, subst, arith}
 use Rattle.psg_completions.specs.Covered.{IsCoveredNil}
 use Rattle.psg_specimen.specs.Walks.{FindsTwo}
 use Rattle.psg_specimen.proofs.CoverLaws.{nil_list_in, nil_row_in}

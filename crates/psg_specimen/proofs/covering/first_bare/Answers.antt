@@ -1,8 +1,6 @@
-use Rattle.std.proofs.Common.{◌≡◌, true, length, refl, sym, ◌∙◌, subst, true≢false, arith}
+use Rattle.std.proofs.Common.{length, refl, sym, ◌∙◌, subst, true≢false, arith}
 use Rattle.std.specs.Prelude.{◌↔◌, IsTrue}
-use Rattle.psg_terms.specs.Terms.{Term}
 use Rattle.psg_grammar.specs.declared.types.Kind.TheVariants as kinds
-use Rattle.psg_grammar.specs.declared.types.Definition.{Definition}
 use Rattle.psg_completions.specs.Places.{IsOfOneRow}
 use Rattle.psg_specimen.specs.Wanted.{as_place}
 use Rattle.psg_specimen.proofs.Firsts.{more, fails, all}

@@ -1,4 +1,4 @@
-use Rattle.std.proofs.Common.{◌≡◌, ℕ, ◌<◌, ◌^◌, length, Option, Some, None, slice_get, sym, ap, ◌∙◌, subst, arith}
+use Rattle.std.proofs.Common.{ℕ, length, Some, slice_get, sym, ap, ◌∙◌, subst, arith}
 use Rattle.psg_grammar.specs.declared.types.ListKind.{ListKind}
 use Rattle.psg_completions.specs.Covered.{IsCoveredNil}
 use Rattle.psg_specimen.specs.Walks.{Finds}
