@@ -41,7 +41,7 @@ not_glued c d h (inr (p, q)) =
     false≢true (sym h ∙ or_second (goes_on_word c && goes_on_word d) (is_symbol c && is_symbol d)
     (both_true (is_symbol c) (is_symbol d) p q))
 
-abbrev IsGapByte : ℕ → Type 0
+abbrev pub IsGapByte : ℕ → Type 0
 IsGapByte b = (b ≡ 32) ⊎ (b ≡ 10)
 
 space_apart : (c : ℕ) → Glue c 32 → ⊥
@@ -54,13 +54,13 @@ unfolding unicode_ident
 feed_apart c (inl (p, q)) = false≢true q
 feed_apart c (inr (p, q)) = false≢true q
 
-gap_apart : (c b : ℕ) → IsGapByte b → Glue c b → ⊥
+pub gap_apart : (c b : ℕ) → IsGapByte b → Glue c b → ⊥
 gap_apart c b (inl e) g = space_apart c (subst (Glue c) e g)
 gap_apart c b (inr e) g = feed_apart c (subst (Glue c) e g)
 
 -- ---- gaps
 
-abbrev Blanks : List ℕ → Type 0
+abbrev pub Blanks : List ℕ → Type 0
 Blanks bs = AllByRecursion IsGapByte bs
 
 spaces : (n : ℕ) → Blanks (replicate n 32)
@@ -84,11 +84,11 @@ after_some c before cs = gap_by (list_any is_line (marks_behind [] before))
     (list_any is_tight (marks_behind [] before) && not (list_any is_space (marks_behind [] before))) (glues_first c cs)
     (2 * open_behind 0 before)
 
-blanks_after : (c : Option ℕ) (before : List Piece) (cs : List ℕ) → Blanks (gap_after c before cs)
+pub blanks_after : (c : Option ℕ) (before : List Piece) (cs : List ℕ) → Blanks (gap_after c before cs)
 blanks_after None before cs = tt
 blanks_after (Some c) before cs = (after_some c before cs).blanks
 
-chars_gap : (b : ℕ) (bs : List ℕ) → IsGapByte b → chars (b ∷ bs) ≡ b ∷ chars bs
+pub chars_gap : (b : ℕ) (bs : List ℕ) → IsGapByte b → chars (b ∷ bs) ≡ b ∷ chars bs
 unfolding chars encode
 chars_gap b bs (inl e) = subst (λ x. chars (x ∷ bs) ≡ x ∷ chars bs) (sym e)
     (chars-append (32 ∷ []) bs (32 ∷ [], (refl, refl)))
@@ -111,7 +111,7 @@ lead_and_bare before (token t ∷ rest) = refl
 lead_and_bare before (mark i ∷ rest) = lead_and_bare (before ++ mark i ∷ []) rest
 
 module _ (fixed : List Name) where
-  skip_gap : (g bs : List ℕ) (at : ℕ) (ss : List Spanned) → Blanks g → HasTokens fixed (chars bs) (at + length g) ss
+  pub skip_gap : (g bs : List ℕ) (at : ℕ) (ss : List Spanned) → Blanks g → HasTokens fixed (chars bs) (at + length g) ss
       → HasTokens fixed (chars (g ++ bs)) at ss
   skip_gap [] bs at ss a h = subst (λ n. HasTokens fixed (chars bs) n ss) (omega arith) h
   skip_gap (b ∷ g) bs at ss a h =

@@ -32,11 +32,11 @@ use Rattle.psg_reads_back.proofs.Trees.{claim}
 
 -- ---- the bytes of a node
 
-take_front : (xs ys : List ℕ) → take (length xs) (xs ++ ys) ≡ xs
+pub take_front : (xs ys : List ℕ) → take (length xs) (xs ++ ys) ≡ xs
 take_front [] ys = refl
 take_front (x ∷ xs) ys = ap (λ zs. x ∷ zs) (take_front xs ys)
 
-drop_front : (xs ys : List ℕ) → drop (length xs) (xs ++ ys) ≡ ys
+pub drop_front : (xs ys : List ℕ) → drop (length xs) (xs ++ ys) ≡ ys
 drop_front [] ys = refl
 drop_front (x ∷ xs) ys = drop_front xs ys
 
@@ -51,17 +51,17 @@ part_between a x b start end s e =
     size = omega (arith, e, length-append a x)
 
 module _ (def : Definition) (f : Fragment) (p : Placed) (cut : IsCutAt def (row def f) p) where
-  own : List ℕ
+  pub own : List ℕ
   own = bare p.spot.before (row def p.node)
 
-  front : List ℕ
+  pub front : List ℕ
   front = laid [] p.spot.before ++ lead p.spot.before (row def p.node)
 
-  behind : List ℕ
+  pub behind : List ℕ
   behind = laid (p.spot.before ++ row def p.node) p.spot.behind
 
   -- the row up to the end of the node
-  up_to : laid [] (p.spot.before ++ row def p.node) ≡ front ++ own
+  pub up_to : laid [] (p.spot.before ++ row def p.node) ≡ front ++ own
   unfolding own front
   up_to =
       laid-append [] p.spot.before (row def p.node)
@@ -69,7 +69,7 @@ module _ (def : Definition) (f : Fragment) (p : Placed) (cut : IsCutAt def (row 
       ∙ sym (append_assoc (laid [] p.spot.before) (lead p.spot.before (row def p.node))
       (bare p.spot.before (row def p.node)))
 
-  whole : text_of def f ≡ front ++ (own ++ behind)
+  pub whole : text_of def f ≡ front ++ (own ++ behind)
   unfolding behind
   whole =
       ap (laid []) (sym cut ∙ sym (append_assoc p.spot.before (row def p.node) p.spot.behind))
@@ -133,7 +133,7 @@ module _ (def : Definition) where
   all_read f (p ∷ ps) cuts backs = (reads_back f p cuts.0 backs.0, all_read f ps cuts.1 backs.1)
 
 -- inside brackets each level is right
-bracket_level : (x : Option Operator) (least : ℕ) → is_below_level x (cond (is_below_level x least) 0 least) ≡ false
+pub bracket_level : (x : Option Operator) (least : ℕ) → is_below_level x (cond (is_below_level x least) 0 least) ≡ false
 bracket_level x least = by (is_below_level x least) refl where
   by : (b : Bool) → is_below_level x least ≡ b → is_below_level x (cond b 0 least) ≡ false
   by true e = below_zero x

@@ -141,13 +141,18 @@ module _ (def : Definition) (sound : IsSound def) (c : ClassFacts def) where
         place : (whole rest same front : ℕ) → rest ≡ same → whole ≡ front + same → whole - rest ≡ front
         place whole rest same front e h = omega arith
 
+    -- a tree that stands in brackets is of a phylum with brackets
+    pub brackets_there : (p : ℕ) (a : PartBack def f (items.Slot (kinds.Phylum p) ∷ more) kind) → TreeBack def t p
+        → is_below_level (operator_of def t) (wanted def f) ≡ true → HasBrackets def p
+    brackets_there p a b h =
+        let q = front_at def known f (items.Slot (kinds.Phylum p)) more kind a in
+        by_operator a.n a.o a.found q.front p (behind_first (left def f)) q.whole t b (operator_of def t) refl
+        (subst (λ l. is_below_level (operator_of def t) l ≡ true) (least_there p a) h)
+
     slot_there : (p : ℕ) (a : PartBack def f (items.Slot (kinds.Phylum p) ∷ more) kind) → TreeBack def t p
         → SlotBack t p (wanted def f) (is_below_level (operator_of def t) (wanted def f))
     slot_there p a b =
-        let q = front_at def known f (items.Slot (kinds.Phylum p)) more kind a in
-        in_slot t p (wanted def f) b (is_below_level (operator_of def t) (wanted def f)) refl
-        (λ h. by_operator a.n a.o a.found q.front p (behind_first (left def f)) q.whole t b (operator_of def t) refl
-        (subst (λ l. is_below_level (operator_of def t) l ≡ true) (least_there p a) h))
+        in_slot t p (wanted def f) b (is_below_level (operator_of def t) (wanted def f)) refl (brackets_there p a b)
 
     pub part_tree : (p : ℕ) → PartBack def f (items.Slot (kinds.Phylum p) ∷ more) kind → TreeBack def t p
         → PartBack def (with_child f t) more kind

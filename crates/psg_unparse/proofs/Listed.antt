@@ -76,7 +76,7 @@ module _ (def : Definition) where
   list_fits anything l h p = absurd h
   list_fits (observed f) l h p = absurd p
 
-  proper : (f : Fragment) (more : List Item) (kind : Kind) → Fits def f more kind → IsPlain f → IsProper f
+  pub proper : (f : Fragment) (more : List Item) (kind : Kind) → Fits def f more kind → IsPlain f → IsProper f
   proper (hole x) more kind h p = tt
   proper (ending x u) more kind h p = tt
   proper (cell x e r) more kind (m, k, lk, got, he, hr, un) p =
@@ -93,30 +93,30 @@ module _ (def : Definition) where
 
 -- ---- lists
 
-each-append : (P : Placed → Type 0) (xs ys : List Placed) → AllByRecursion P xs → AllByRecursion P ys → AllByRecursion P (xs ++ ys)
+pub each-append : (P : Placed → Type 0) (xs ys : List Placed) → AllByRecursion P xs → AllByRecursion P ys → AllByRecursion P (xs ++ ys)
 each-append P [] ys a b = b
 each-append P (x ∷ xs) ys a b = (a.0, each-append P xs ys a.1 b)
 
-each-as : (P Q : Placed → Type 0) → ((p : Placed) → P p → Q p) → (xs : List Placed) → AllByRecursion P xs → AllByRecursion Q xs
+pub each-as : (P Q : Placed → Type 0) → ((p : Placed) → P p → Q p) → (xs : List Placed) → AllByRecursion P xs → AllByRecursion Q xs
 each-as P Q g [] a = tt
 each-as P Q g (x ∷ xs) a = (g x a.0, each-as P Q g xs a.1)
 
-each-at : (P : Placed → Type 0) (xs : List Placed) (k : ℕ) (p : Placed) → AllByRecursion P xs → slice_get xs k ≡ Some p → P p
+pub each-at : (P : Placed → Type 0) (xs : List Placed) (k : ℕ) (p : Placed) → AllByRecursion P xs → slice_get xs k ≡ Some p → P p
 each-at P [] k p a e = absurd (cc)
 each-at P (x ∷ xs) zero p a e = let same : x ≡ p = cc in subst P same a.0
 each-at P (x ∷ xs) (suc k) p a e = each-at P xs k p a.1 e
 
-get-front : (xs ys : List Fragment) (k : ℕ) (t : Fragment) → slice_get xs k ≡ Some t → slice_get (xs ++ ys) k ≡ Some t
+pub get-front : (xs ys : List Fragment) (k : ℕ) (t : Fragment) → slice_get xs k ≡ Some t → slice_get (xs ++ ys) k ≡ Some t
 get-front [] ys k t e = absurd (cc)
 get-front (x ∷ xs) ys zero t e = e
 get-front (x ∷ xs) ys (suc k) t e = get-front xs ys k t e
 
-get-last : (xs : List Fragment) (t : Fragment) → slice_get (xs ++ t ∷ []) (length xs) ≡ Some t
+pub get-last : (xs : List Fragment) (t : Fragment) → slice_get (xs ++ t ∷ []) (length xs) ≡ Some t
 get-last [] t = refl
 get-last (x ∷ xs) t = get-last xs t
 
 -- a child of the node with one more child is one of the others, or the last
-get-split : (xs : List Fragment) (t : Fragment) (k : ℕ) (u : Fragment) → slice_get (xs ++ t ∷ []) k ≡ Some u
+pub get-split : (xs : List Fragment) (t : Fragment) (k : ℕ) (u : Fragment) → slice_get (xs ++ t ∷ []) k ≡ Some u
     → (slice_get xs k ≡ Some u) ⊎ ((k ≡ length xs) × (t ≡ u))
 get-split [] t zero u e = let same : t ≡ u = cc in inr (refl, same)
 get-split [] t (suc k) u e = absurd (cc)
@@ -128,7 +128,7 @@ get-split (x ∷ xs) t (suc k) u e = elim (get-split xs t k u e) [ inl h ↦ inl
 path-step : (path : Path) (m k : ℕ) (q r : Path) → path ++ m ∷ q ≡ path ++ k ∷ r → m ≡ k
 path-step path m k q r e = let f : m ∷ q ≡ k ∷ r = append_cancel_left path (m ∷ q) (k ∷ r) e in cc
 
-path-longer : (path : Path) (m : ℕ) (q : Path) → path ≡ path ++ m ∷ q → ⊥
+pub path-longer : (path : Path) (m : ℕ) (q : Path) → path ≡ path ++ m ∷ q → ⊥
 path-longer path m q e = let f : [] ≡ m ∷ q = append_cancel_left path [] (m ∷ q) (append-nil path ∙ e) in absurd (cc)
 
 -- the node is at a path below this one
@@ -173,7 +173,7 @@ at-below n number child t children path p s g a = record {
 }
 
 module _ (def : Definition) where
-  placed-top : (s : Spot) (f : Fragment) → IsProper f → record { spot = s; node = f } ∷ placed_below def s 0 f ≡ placed_from def s f
+  pub placed-top : (s : Spot) (f : Fragment) → IsProper f → record { spot = s; node = f } ∷ placed_below def s 0 f ≡ placed_from def s f
   placed-top s (hole p) h = refl
   placed-top s (ending l u) h = refl
   placed-top s (cell l e r) h = refl
@@ -191,10 +191,10 @@ module _ (def : Definition) where
       (record { rest = []; path_is = sym (append-nil s.path); node = refl }, each-as (IsBelow 0 (children_of f) s.path) (IsAt f s.path) (below-at f s.path) (placed_below def s 0 f) a)
 
   -- the parts of an operator are counted from 0
-  abbrev Counts : ℕ → Fragment → Type 0
+  abbrev pub Counts : ℕ → Fragment → Type 0
   Counts n f = IsSpine f → n ≡ 0
 
-  no-spine : (r : Fragment) (n : ℕ) → IsList r → Counts n r
+  pub no-spine : (r : Fragment) (n : ℕ) → IsList r → Counts n r
   no-spine (ending l u) n h s = absurd s
   no-spine (cell l e r) n h s = absurd s
   no-spine (hole p) n h s = absurd h

@@ -65,8 +65,8 @@ impl Printer {
     }
 }
 
-/// Whether the item has a part of the tree.
-fn is_part(item: &Item) -> bool
+/// Tells whether the item has a part of the tree.
+pub fn is_part(item: &Item) -> bool
     ensures { result ≡ is_part item.now }
 {
     matches!(
@@ -75,8 +75,8 @@ fn is_part(item: &Item) -> bool
     )
 }
 
-/// The items of the operator of the number, none where the definition has no such operator.
-fn items_of(definition: &Definition, op: u32) -> &[Item]
+/// Gives the items of the operator of the number, none where the definition has no such operator.
+pub fn items_of(definition: &Definition, op: u32) -> &[Item]
     ensures { result.now ≡ items_in (operator_at definition.now op) }
 {
     match definition.operators.as_slice().get(op as usize) {
@@ -85,8 +85,8 @@ fn items_of(definition: &Definition, op: u32) -> &[Item]
     }
 }
 
-/// The items behind the first one.
-fn behind_first(items: &[Item]) -> &[Item]
+/// Gives the items after the first one.
+pub fn behind_first(items: &[Item]) -> &[Item]
     ensures { result.now ≡ rows.behind_first items.now }
 {
     match items.split_first() {
@@ -95,8 +95,8 @@ fn behind_first(items: &[Item]) -> &[Item]
     }
 }
 
-/// The least level of a tree at the operator's item of the number: 0 where it is no slot.
-fn level_wanted(definition: &Definition, op: u32, place: usize) -> u8
+/// Gives the least level of a tree at the operator's item of the number: 0 where it is no slot.
+pub fn level_wanted(definition: &Definition, op: u32, place: usize) -> u8
     requires { IsSound definition.now }
     ensures { result ≡ level_wanted (operator_at definition.now op) place }
 {
@@ -109,8 +109,9 @@ fn level_wanted(definition: &Definition, op: u32, place: usize) -> u8
     }
 }
 
-/// Whether the tree needs brackets where a tree of at least the level is wanted. Placeholders and lists have no level.
-fn is_below(definition: &Definition, tree: &Tree, wanted: u8) -> bool
+/// Tells whether the tree needs brackets where a tree of at least the level is wanted. Placeholders and lists have no
+/// level.
+pub fn is_below(definition: &Definition, tree: &Tree, wanted: u8) -> bool
     ensures { result ≡ is_below definition.now tree.now wanted }
 {
     match tree.shape() {

@@ -1,0 +1,13 @@
+pub mod Holes
+pub mod RowsOnce
+pub mod Parts
+pub mod Spots
+pub mod Fills
+pub mod Seams
+pub mod Cuts
+pub mod Typed
+pub mod Depths
+pub mod Readings
+pub mod Surrounded
+pub mod FirstTokens
+pub mod Nested

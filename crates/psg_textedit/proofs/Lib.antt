@@ -1,0 +1,5 @@
+pub mod Widening
+pub mod Roots
+pub mod Ways
+pub mod NodeReads
+pub mod Best

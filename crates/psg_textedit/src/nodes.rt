@@ -1,0 +1,79 @@
+//! A node of a printed tree, read again with its bytes replaced.
+ghost use Rattle.std.specs.Prelude.{IfOk};
+ghost use Rattle.psg_reads_back.specs.Spots.{IsPlacedAt, Placed};
+ghost use Rattle.psg_regions.specs.Regions.{region_of};
+ghost use Rattle.psg_textedit.specs.Typing.{HasRead, MayRead};
+ghost use Rattle.psg_textedit.specs.Jobs.{IsHere, IsJob, IsPathAnswer, language_of, tree_in, typing_in};
+
+use crate::change::{Reader, Typed};
+use crate::places::{kind_of, place_of};
+use crate::reading::{Reading, Region, read_region};
+use crate::spans::span_at;
+use crate::texts::region;
+use psg_grammar::Kind;
+use psg_lexis::Spanned;
+use psg_parse::Goal;
+use psg_terms::Steps;
+use psg_tree::Tree;
+use psg_unparse::Printed;
+use std::alloc::{AllocError, Global};
+use std::sync::ledger::Ledger;
+
+/// A printed tree of a kind, what is typed into it, and the whole new text: its bytes by their number, and its tokens.
+#[derive(Clone, Copy)]
+pub(crate) struct Job<'a> {
+    pub(crate) reader: &'a Reader<'a>,
+    pub(crate) tree: &'a Tree,
+    pub(crate) kind: Kind,
+    pub(crate) printed: &'a Printed,
+    pub(crate) typed: &'a Typed<'a>,
+    pub(crate) bytes: usize,
+    pub(crate) all: &'a [Spanned],
+}
+
+/// Reads the new region of the node at the path, as a tree of the node's kind at the level that is wanted there. It makes
+/// the region's text, lexes it, looks at the whole new text's tokens once for each border, and takes a step for each token
+/// of the region at most.
+pub(crate) fn read_node<L: Ledger>(
+    alloc: Global,
+    job: &Job<'_>,
+    path: &[u32],
+    steps: &mut Steps<L>,
+) -> Result<Reading, AllocError>
+    requires job { IsJob job.now }
+    requires here { IsHere job.now path.now }
+    ensures answer { IfOk result (IsPathAnswer job.now path.now) }
+    ensures counted { IfOk result (λ _. (p : Placed) → IsPlacedAt (language_of job.now) (tree_in job.now) path.now p
+        → HasRead (language_of job.now) (region_of (language_of job.now) (tree_in job.now) (typing_in job.now) p)
+        steps.old steps.new) }
+    ensures steps { (p : Placed) → IsPlacedAt (language_of job.now) (tree_in job.now) path.now p
+        → MayRead (language_of job.now) (region_of (language_of job.now) (tree_in job.now) (typing_in job.now) p)
+        steps.old steps.new }
+{
+    // each node has a span and a place, so these two answers are not given
+    let spans = job.printed.spans.as_slice();
+    let Some(span) = span_at(spans, path) else {
+        return Ok(Reading::Unclean);
+    };
+    let Some(place) = place_of(job.reader.definition, job.tree, path) else {
+        return Ok(Reading::Unclean);
+    };
+    let kind = kind_of(job.reader.definition, place.node);
+    let text = job.printed.text.as_str();
+    let behind = text.len() - span.end;
+    let end = job.bytes - behind;
+    let region_in = Region {
+        all: job.all,
+        start: span.start,
+        end,
+    };
+    let goal = Goal {
+        kind,
+        least: place.least,
+        around: place.around,
+    };
+    let new = region(alloc, text, span, job.typed)?;
+    let own = new.as_str();
+    let reading = read_region(alloc, job.reader, &region_in, goal, own, steps)?;
+    Ok(reading)
+}
