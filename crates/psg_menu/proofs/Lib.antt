@@ -1,0 +1,12 @@
+pub mod WideTrees
+pub mod FrameWide
+pub mod TrialPlaces
+pub mod OpenRows
+pub mod NewTrees
+pub mod TrialLaws
+pub mod SpaceReads
+pub mod BlankLaws
+pub mod WordLaws
+pub mod MenuLaws
+pub mod FormedTrials
+pub mod NameLaws
