@@ -22,6 +22,8 @@ const HELP: &str = "psg: editors of small languages, from their definitions
                         SCRIPT as a command of an editor of it; the replies go to standard output
   psg live DEF          does the same with the lines of standard input; each reply is written before the next line
                         is read
+  psg gen N             plays a script that is made for the number N, from 1 to 1,000, on a language that the program
+                        has, and writes five lines of the program that it builds: nodes, bytes, weight, menu, mark
   psg --help            writes this text
   psg --version         writes the version
 
@@ -39,6 +41,7 @@ Commands of a script, one a line; a path is / or /0/1, or . for the node that wa
   remove PATH K         the list without the element
   close PATH, reopen PATH   the list finished; unfinished again
   over PATH TEXT        the program that the text spells, in place of the node
+  range START END TEXT  the text in place of bytes of the program's text, from START on and before END
   undo, redo            the version before the last change; the one after it
   save NAME PATH        keeps the tree at the path under the name
   paste PATH NAME       the saved tree in place of a placeholder or an empty list; paste PATH K NAME into a list
@@ -49,6 +52,8 @@ Commands of a script, one a line; a path is / or /0/1, or . for the node that wa
   goto PATH             the node is where . is; its kind, its operator and its place in the text
   own PATH              what the node can mean: a line for each value, with its names' entities
   relation PATH         what the node can mean in the completions of the program
+  menu PATH             the operators that may stand at the placeholder; menu PATH K before place K of the list
+  names PATH OP         the names of the program with which the operator may stand there; names PATH K OP in a list
   free                  the names that may be declared outside
 
 Exit status: 0 done, 1 the definition is refused, 2 these words have no form, 3 a file or standard input can't be

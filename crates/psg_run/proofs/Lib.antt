@@ -1,5 +1,8 @@
 pub mod Telling
 pub mod Playing
+pub mod PlainLines
+pub mod Going
+pub mod Summing
 pub mod Feeds
 pub mod Ending
 pub mod Listening

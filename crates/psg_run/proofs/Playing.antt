@@ -85,7 +85,7 @@ module _ (def : Definition) where
       (asks command new reply exchange spells asked steps (prints_append prints more_prints))
 
   -- one more line in front, with its evaluations
-  one_spend : {s t : State} {line : List ℕ} {rest : List (List ℕ)} {xs ys : List Exchange} {given : Answer} {m : ℕ}
+  pub one_spend : {s t : State} {line : List ℕ} {rest : List (List ℕ)} {xs ys : List Exchange} {given : Answer} {m : ℕ}
       (reply : Reply) (n total : ℕ) → Replies def s line xs t reply n
       → SpendsOn t rest ys given m → total ≡ n + m → SpendsOn s (line ∷ rest) (xs ++ ys) given total
   one_spend {s = s} {line = line} {rest = rest} {ys = ys} {given = given} {m = m} reply n total (to_nothing never) more is =
@@ -116,7 +116,7 @@ module _ (def : Definition) where
 -- ---- what a session did at a line
 
 -- where the files gave nothing, the command alone is counted
-tick_alone : (def : Definition) (s : State) (command : Command) (n : ℕ) → MayTickWith def s not_asked command n
+pub tick_alone : (def : Definition) (s : State) (command : Command) (n : ℕ) → MayTickWith def s not_asked command n
     → MayTick def s command n
 tick_alone def s command n may =
     let none : may.read ≡ 0 = may.reading in
@@ -125,7 +125,7 @@ tick_alone def s command n may =
     subst (MayTick def s command) same may.within
 
 -- the line was replied to so
-abbrev RepliedSo : Definition → State → List ℕ → State → Outside → Outside → ℕ → ℕ → Reply → Type 0
+abbrev pub RepliedSo : Definition → State → List ℕ → State → Outside → Outside → ℕ → ℕ → Reply → Type 0
 RepliedSo def s line t before after from to reply =
     (r : IsReplied def s line t before after from to) × (r.reply ≡ reply)
 
@@ -160,7 +160,7 @@ module _ (def : Definition) (s t : State) (line : List ℕ) (before after : Outs
     refl,
   )
 
-  line_replied : HasAnswered def s t line before after from to reply → RepliedSo def s line t before after from to reply
+  pub line_replied : HasAnswered def s t line before after from to reply → RepliedSo def s line t before after from to reply
   line_replied (to_line_nothing never state files count is) = (
     record {
       reply = reply;

@@ -1,6 +1,8 @@
 -- The words of a run.
-use Rattle.std.proofs.Common.{◌≡◌, ◌<◌, ◌≤◌, List, [], ◌∷◌, length, get_or, true≢false, refl, sym, ap, ap₂, ◌∙◌, subst, arith}
-use Rattle.std.specs.Prelude.{String, bytes_eq, string_bytes, codes}
+use Rattle.std.proofs.Common.{◌≡◌, ℕ, ◌<◌, ◌≤◌, List, [], ◌∷◌, length, get_or, true≢false, refl, sym, ap, ap₂, ◌∙◌, subst, arith}
+use Rattle.std.specs.Prelude.{String, bytes_eq, string_bytes, codes, decimal}
+use Rattle.std.proofs.lemmas.Fmt.{decimal_injective}
+use Rattle.psg_script.specs.Reading.{IsNumeralUpTo}
 use Rattle.std.specs.declared.alloc.Global.{Global}
 use Rattle.psg_terms.specs.Names.{Name}
 use Rattle.psg_run.specs.declared.status.Status.{Status}
@@ -8,7 +10,8 @@ use Rattle.psg_run.specs.declared.status.Status.TheVariants as ends_with
 use Rattle.psg_run.specs.Causes.{in_file}
 use Rattle.psg_run.specs.Output.{RepliesToAll}
 use Rattle.psg_run.specs.Worlds.{World, Incoming, texts_of}
-use Rattle.psg_run.specs.Promise.{Checks, Edits, Form, Lives, check, edit, live, HasNoForm, IsForm, IsRunOf, IsRun, SpentFromStart}
+use Rattle.psg_run.specs.Generated.{mini}
+use Rattle.psg_run.specs.Promise.{Checks, Edits, Form, GeneratesOn, Lives, check, edit, live, gen, HasNoForm, IsForm, IsRunOf, IsRun, SpentFromStart}
 use Rattle.psg_run.proofs.Completing.{does_run}
 
 pub two_words : (words : List (String Global)) (a b : String Global) → 2 ≤ length words → length words < 3 → a ≡ get_or words 0 a → b ≡ get_or words 1 b
@@ -29,29 +32,57 @@ three_words (x ∷ y ∷ z ∷ w ∷ more_words) a b c more less ea eb ec = absu
 
 -- ---- forms
 
-pub two_other : (a b : Name) → (a ≡ codes "check" → ⊥) → (a ≡ codes "live" → ⊥) → HasNoForm (a ∷ b ∷ [])
-two_other a b no_check no_live (check d) e = no_check cc
-two_other a b no_check no_live (edit d s) e = cc
-two_other a b no_check no_live (live d) e = no_live cc
+first_is : (a b : Name) (xs ys : List Name) → a ∷ xs ≡ b ∷ ys → a ≡ b
+first_is a b xs ys e = cc
+
+second_is : (a b c d : Name) → a ∷ c ∷ [] ≡ b ∷ d ∷ [] → c ≡ d
+second_is a b c d e = cc
+
+not_check : codes "gen" ≡ codes "check" → ⊥
+not_check e = true≢false (ap (λ w. bytes_eq w (codes "gen")) e)
+
+not_live_gen : codes "gen" ≡ codes "live" → ⊥
+not_live_gen e = true≢false (ap (λ w. bytes_eq w (codes "gen")) e)
+
+pub two_other : (a b : Name) → (a ≡ codes "check" → ⊥) → (a ≡ codes "live" → ⊥) → (a ≡ codes "gen" → ⊥) → HasNoForm (a ∷ b ∷ [])
+two_other a b no_check no_live no_gen (check d) e = no_check cc
+two_other a b no_check no_live no_gen (edit d s) e = cc
+two_other a b no_check no_live no_gen (live d) e = no_live cc
+two_other a b no_check no_live no_gen (gen n) (e, low, high) = no_gen cc
+
+-- `gen` and a word that is no number of those for which a script is made
+pub no_number : (a b : Name) → a ≡ codes "gen" → ((n : ℕ) → IsNumeralUpTo 1000 n b → ⊥) → HasNoForm (a ∷ b ∷ [])
+no_number a b is never (check d) e = not_check (sym is ∙ first_is a (codes "check") (b ∷ []) (d ∷ []) e)
+no_number a b is never (edit d s) e = cc
+no_number a b is never (live d) e = not_live_gen (sym is ∙ first_is a (codes "live") (b ∷ []) (d ∷ []) e)
+no_number a b is never (gen n) (e, low, high) = never n ((omega (arith, high), second_is a (codes "gen") b (decimal n) e), low, high)
+
+-- `gen` and a number
+pub number_wanted : (a b : Name) (n : ℕ) → a ≡ codes "gen" → IsNumeralUpTo 1000 n b → IsForm (a ∷ b ∷ []) (gen n)
+number_wanted a b n is (numeral, low, high) = (ap₂ (λ x y. x ∷ y ∷ []) is numeral.1, low, high)
 
 pub three_other : (a b c : Name) → (a ≡ codes "edit" → ⊥) → HasNoForm (a ∷ b ∷ c ∷ [])
 three_other a b c never (check d) e = cc
 three_other a b c never (edit d s) e = never cc
 three_other a b c never (live d) e = cc
+three_other a b c never (gen n) (e, low, high) = cc
 
 -- neither two words nor three
 pub other_count : (words : List (String Global)) → (length words ≡ 2 → ⊥) → (length words ≡ 3 → ⊥) → HasNoForm (texts_of words)
 other_count [] two three (check d) e = cc
 other_count [] two three (edit d s) e = cc
 other_count [] two three (live d) e = cc
+other_count [] two three (gen n) (e, low, high) = cc
 other_count (x ∷ []) two three (check d) e = cc
 other_count (x ∷ []) two three (edit d s) e = cc
 other_count (x ∷ []) two three (live d) e = cc
+other_count (x ∷ []) two three (gen n) (e, low, high) = cc
 other_count (x ∷ y ∷ []) two three form e = two refl
 other_count (x ∷ y ∷ z ∷ []) two three form e = three refl
 other_count (x ∷ y ∷ z ∷ w ∷ more) two three (check d) e = cc
 other_count (x ∷ y ∷ z ∷ w ∷ more) two three (edit d s) e = cc
 other_count (x ∷ y ∷ z ∷ w ∷ more) two three (live d) e = cc
+other_count (x ∷ y ∷ z ∷ w ∷ more) two three (gen n) (e, low, high) = cc
 
 -- ---- runs
 
@@ -70,6 +101,15 @@ one_form words (edit d s) (edit e t) p q = let whole : codes "edit" ∷ d ∷ s 
 one_form words (edit d s) (live e) p q = let whole : codes "edit" ∷ d ∷ s ∷ [] ≡ codes "live" ∷ e ∷ [] = sym p ∙ q in cc
 one_form words (live d) (check e) p q = absurd (not_live (check_is e d (sym q ∙ p)))
 one_form words (live d) (edit e s) p q = let whole : codes "live" ∷ d ∷ [] ≡ codes "edit" ∷ e ∷ s ∷ [] = sym p ∙ q in cc
+one_form words (check d) (gen n) p (q, low, high) = absurd (not_check (first_is (codes "gen") (codes "check") (decimal n ∷ []) (d ∷ []) (sym q ∙ p)))
+one_form words (edit d s) (gen n) p (q, low, high) = let whole : codes "edit" ∷ d ∷ s ∷ [] ≡ codes "gen" ∷ decimal n ∷ [] = sym p ∙ q in cc
+one_form words (live d) (gen n) p (q, low, high) = absurd (not_live_gen (first_is (codes "gen") (codes "live") (decimal n ∷ []) (d ∷ []) (sym q ∙ p)))
+one_form words (gen n) (check d) (p, low, high) q = absurd (not_check (first_is (codes "gen") (codes "check") (decimal n ∷ []) (d ∷ []) (sym p ∙ q)))
+one_form words (gen n) (edit d s) (p, low, high) q = let whole : codes "edit" ∷ d ∷ s ∷ [] ≡ codes "gen" ∷ decimal n ∷ [] = sym q ∙ p in cc
+one_form words (gen n) (live d) (p, low, high) q = absurd (not_live_gen (first_is (codes "gen") (codes "live") (decimal n ∷ []) (d ∷ []) (sym p ∙ q)))
+one_form words (gen n) (gen m) (p, low, high) (q, low', high') =
+    ap gen (decimal_injective n m (omega (arith, high)) (omega (arith, high'))
+    (second_is (codes "gen") (codes "gen") (decimal n) (decimal m) (sym p ∙ q)))
 one_form words (live d) (live e) p q = let whole : codes "live" ∷ d ∷ [] ≡ codes "live" ∷ e ∷ [] = sym p ∙ q in cc
 
 module _ (words : List Name) where
@@ -91,6 +131,10 @@ module _ (words : List Name) where
   pub of_live : (definition : Name) (input input' : Incoming) (old new : World) (status : Status) → words ≡ codes "live" ∷ definition ∷ []
       → Lives RepliesToAll SpentFromStart (in_file definition) input input' old new status → IsRun words input input' old new status
   of_live definition input input' old new status is ran = of_form (live definition) input input' old new status is ran
+
+  pub of_gen : (number : ℕ) (input : Incoming) (old new : World) (status : Status) → IsForm words (gen number)
+      → GeneratesOn mini number old new status → IsRun words input input old new status
+  of_gen number input old new status is ran = of_form (gen number) input input old new status is (ran, refl)
 
 pub of_no_form : (words : List Name) (input : Incoming) (w : World) → HasNoForm words → IsRun words input input w w ends_with.Words
 of_no_form words input w never = does_run words input input w w ends_with.Words (record {

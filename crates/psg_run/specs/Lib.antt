@@ -6,6 +6,8 @@ pub mod OneOutput
 pub mod Worlds
 pub mod Causes
 pub mod Spends
+pub mod Generated
+pub mod Quiet
 pub mod Promise
 pub mod Endings
 pub mod Codes

@@ -1,6 +1,6 @@
 -- The promise of a run of the program. Causes says why a run ends, Worlds what stands outside, Output what the plain
 -- editor replies, and Spends how many evaluations that takes.
-use Rattle.std.specs.Prelude.{ℕ, ◌≡◌, ◌⊎◌, ◌≤◌, List, [], ◌∷◌, ◌++◌, length, take, Option, Some, None, codes}
+use Rattle.std.specs.Prelude.{ℕ, ◌≡◌, ◌⊎◌, ◌≤◌, List, [], ◌∷◌, ◌++◌, length, take, Option, Some, None, codes, decimal}
 use Rattle.psg_terms.specs.Names.{Name}
 use Rattle.psg_grammar.specs.declared.types.Definition.{Definition}
 use Rattle.psg_world.specs.Files.{bytes_of}
@@ -8,12 +8,14 @@ use Rattle.psg_world.specs.Sinks.{HasRisen}
 use Rattle.psg_session.specs.Exchanges.{Asked}
 use Rattle.psg_grammar.specs.Legal.{IsCompletable}
 use Rattle.psg_session.specs.PlainState.{Answer, not_asked, start}
-use Rattle.psg_session.specs.Replies.{feed}
+use Rattle.psg_script.specs.Script.{script_lines as made_lines}
+use Rattle.psg_session.specs.Replies.{feed, feed_all}
 use Rattle.psg_run.specs.declared.status.Status.{Status}
 use Rattle.psg_run.specs.declared.status.Status.TheVariants as ends_with
 use Rattle.psg_run.specs.Told.{Exchange}
 use Rattle.psg_run.specs.Output.{script_lines, RepliesToAll}
 use Rattle.psg_run.specs.Spends.{HasSpent}
+use Rattle.psg_run.specs.Generated.{Generated, mini}
 use Rattle.psg_run.specs.Live.{AreAll, FailsToGive, Gave, GaveAll, live_lines}
 use Rattle.psg_run.specs.Worlds.{World, InMemory, Incoming, told, IsFrontOf, IsQuiet, IsWithin, Wrote}
 use Rattle.psg_run.specs.Causes.{FailsToRead, HasAsked, HasDefinition, IsOfSource, IsRefusalLine, IsSourceLong}
@@ -24,11 +26,13 @@ pub data Form : Type 0 where
   check : (definition : Name) → Form
   edit : (definition script : Name) → Form
   live : (definition : Name) → Form
+  gen : (number : ℕ) → Form
 
 abbrev pub IsForm : List Name → Form → Type 0
 IsForm words (check definition) = words ≡ codes "check" ∷ definition ∷ []
 IsForm words (edit definition script) = words ≡ codes "edit" ∷ definition ∷ script ∷ []
 IsForm words (live definition) = words ≡ codes "live" ∷ definition ∷ []
+IsForm words (gen number) = (words ≡ codes "gen" ∷ decimal number ∷ []) × (1 ≤ number) × (number ≤ 1000)
 
 abbrev pub HasNoForm : List Name → Type 0
 HasNoForm words = (form : Form) → IsForm words form → ⊥
@@ -136,6 +140,31 @@ Checks source old new status =
     ⊎ ((def : Definition) × HasDefinition old.held source def
     × SaysLine (codes "accepted") ends_with.Done old new status)
 
+-- The files were not touched.
+pub record LeavesFiles (old new : World) : Type 0 where
+  pub held : new.held ≡ old.held
+  pub entries : new.entries ≡ old.entries
+
+-- A run that plays the script which is made for the number, by each status with its cause. Nothing is written before the
+-- script is played to its end. `spent` says how many evaluations its lines may take.
+pub data Generates (def : Definition) (number : ℕ) (old new : World) (status : Status) : Type 0 where
+  all_told : status ≡ ends_with.Done → (lines : List (List ℕ)) → Generated def number old.ticks new.ticks lines
+      → Wrote old new (feed_all lines) → Generates def number old new status
+  tell_failed : status ≡ ends_with.WriteFault → (lines : List (List ℕ)) → Generated def number old.ticks new.ticks lines
+      → (front : List ℕ) → IsFrontOf front (feed_all lines) → Wrote old new front → HasRisen old.count new.count
+      → Generates def number old new status
+  told_in_part : status ≡ ends_with.Memory → (lines : List (List ℕ)) → Generated def number old.ticks new.ticks lines
+      → (front : List ℕ) → IsFrontOf front (feed_all lines) → Wrote old new front → Generates def number old new status
+  ended_before : status ≡ ends_with.Memory → new.written ≡ old.written
+      → HasSpent def (IsCompletable def) start (made_lines number) [] not_asked old.ticks new.ticks
+      → Generates def number old new status
+
+-- A run that reads a definition from the source, and plays on it the script which is made for the number.
+abbrev pub GeneratesOn : Source → ℕ → World → World → Status → Type 0
+GeneratesOn source number old new status =
+    EndsEarly source old new status
+    ⊎ ((def : Definition) × HasDefinition old.held source def × LeavesFiles old new × Generates def number old new status)
+
 -- evaluations along the lines, from the start of the plain editor
 abbrev pub SpentFromStart : Definition → List (List ℕ) → List Exchange → Answer → ℕ → ℕ → Type 0
 SpentFromStart def lines exchanges given from to = HasSpent def (IsCompletable def) start lines exchanges given from to
@@ -148,6 +177,7 @@ IsRunOf (edit definition script) input input' old new status =
     Edits RepliesToAll SpentFromStart (in_file definition) script old new status × (input' ≡ input)
 IsRunOf (live definition) input input' old new status =
     Lives RepliesToAll SpentFromStart (in_file definition) input input' old new status
+IsRunOf (gen number) input input' old new status = GeneratesOn mini number old new status × (input' ≡ input)
 
 -- What the words ask for is done; words of no form have their status, and nothing else happens.
 pub record Does (words : List Name) (input input' : Incoming) (old new : World) (status : Status) : Type 0 where
@@ -173,6 +203,8 @@ GoesWell (edit d s) input input' old new =
 GoesWell (live d) input input' old new =
     ((def : Definition) × HasDefinition (Some old.held) (in_file d) def) × WasRead old new d
     × (HasRisen old.count new.count → ⊥) × (input'.missed ≡ input.missed)
+GoesWell (gen number) input input' old new =
+    ((def : Definition) × HasDefinition (Some old.held) mini def) × (HasRisen old.count new.count → ⊥)
 
 -- the whole output
 abbrev pub WritesWhole : Form → Incoming → InMemory → InMemory → Type 0
@@ -184,6 +216,10 @@ WritesWhole (live d) input old new =
     (def : Definition) × HasDefinition (Some old.held) (in_file d) def
     × (lines : List (List ℕ)) × AreAll input.lines lines
     × AnswersAll RepliesToAll SpentFromStart def (live_lines lines) (told old) (told new)
+WritesWhole (gen number) input old new =
+    (def : Definition) × HasDefinition (Some old.held) mini def
+    × (lines : List (List ℕ)) × Generated def number old.ticks new.ticks lines
+    × (new.written ≡ old.written ++ feed_all lines)
 
 -- A run over files and a sink in memory. Where all goes well outside, the whole output was written, or memory was
 -- wanting.

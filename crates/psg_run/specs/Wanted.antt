@@ -2,13 +2,14 @@
 use Rattle.std.specs.Prelude.{List}
 use Rattle.psg_terms.specs.Names.{Name}
 use Rattle.psg_run.specs.declared.words.Form.{Form as Found}
-use Rattle.psg_run.specs.declared.words.Form.TheVariants.{Check, Edit, Live}
-use Rattle.psg_run.specs.Promise.{Form, check, edit, live, IsForm}
+use Rattle.psg_run.specs.declared.words.Form.TheVariants.{Check, Edit, Live, Gen}
+use Rattle.psg_run.specs.Promise.{Form, check, edit, live, gen, IsForm}
 
 abbrev pub form_told : Found → Form
 form_told (Check definition) = check definition.now
 form_told (Edit definition script) = edit definition.now script.now
 form_told (Live definition) = live definition.now
+form_told (Gen number) = gen number
 
 abbrev pub IsWanted : List Name → Found → Type 0
 IsWanted words found = IsForm words (form_told found)

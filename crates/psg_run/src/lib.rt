@@ -5,6 +5,7 @@
 //! psg_session's specs and knows nothing but trees. For `live DEF` it writes them to the lines of the input.
 #![tactic(auto)]
 
+mod generating;
 pub mod laws;
 pub mod limits;
 mod lines;

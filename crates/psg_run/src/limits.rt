@@ -8,3 +8,6 @@ pub const MOST_SCRIPT_BYTES: usize = 4_194_304;
 
 /// The most bytes of a line of a live session.
 pub const MOST_LINE_BYTES: usize = 1_048_576;
+
+/// The greatest number for which `gen` makes a script.
+pub const MOST_GENERATED: u32 = 1_000;

@@ -6,6 +6,7 @@ ghost use Rattle.psg_run.specs.Output.{RepliesToAll};
 ghost use Rattle.psg_run.specs.Promise.{IsRun, Checks, Edits, Lives, Plays, SpentFromStart};
 ghost use Rattle.psg_run.specs.Worlds.{coming, seen, texts_of};
 
+use crate::generating::generate;
 use crate::limits::MOST_SCRIPT_BYTES;
 use crate::live::talk;
 use crate::play::play;
@@ -105,7 +106,8 @@ fn live<F: Files, I: Input, O: Sink, L: Ledger>(
 /// Does what the words say, and answers how that ended. `check DEF` says in one line whether the file DEF has a
 /// definition that is accepted. `edit DEF SCRIPT` plays each line of the file SCRIPT, a command, on an editor of the
 /// definition; the replies go to `out`. `live DEF` plays the lines of the input so, and puts the reply to each before it
-/// reads the next one. `steps` counts evaluations of nodes and list suffixes: a command evaluates what is new and what
+/// reads the next one. `gen N` plays a script that is made for the number N, from 1 to 1,000, on the language MINI, and
+/// writes five lines of the program then. `steps` counts evaluations of nodes and list suffixes: a command evaluates what is new and what
 /// is above it.
 pub fn run<F: Files, I: Input, O: Sink, L: Ledger>(
     alloc: Global,
@@ -128,6 +130,7 @@ pub fn run<F: Files, I: Input, O: Sink, L: Ledger>(
             edit(alloc, definition, script, files, out, steps)
         }
         Some(Form::Live { definition }) => live(alloc, definition, files, input, out, steps),
+        Some(Form::Gen { number }) => generate(alloc, number, files, out, steps),
         None => Status::Words,
     }
 }

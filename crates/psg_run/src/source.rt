@@ -83,7 +83,7 @@ fn end_refused<O: Sink>(alloc: Global, refused: &Refused, out: &mut O) -> Status
 
 /// Gives the language of the definition that the text is, where it is one and is accepted. Otherwise the line that says
 /// why it is refused goes to `out`, and the status says how that ended.
-fn language_of<O: Sink>(alloc: Global, text: &[u8], out: &mut O) -> Result<Language, Status>
+pub fn language_of<O: Sink>(alloc: Global, text: &[u8], out: &mut O) -> Result<Language, Status>
     requires { length text.now < 2 ^ 32 }
     ensures ok { IfOk result (λ l. IsAccepted text.now l.definition) }
     ensures language { IfOk result IsLanguage }

@@ -1,8 +1,12 @@
 //! What the words of a run ask for.
 ghost use Rattle.std.specs.Prelude.{◌≡◌, ◌∷◌, [], MatchOption, codes};
+ghost use Rattle.psg_terms.specs.Names.{Name};
 ghost use Rattle.psg_run.specs.Promise.{HasNoForm};
 ghost use Rattle.psg_run.specs.Wanted.{IsWanted};
 ghost use Rattle.psg_run.specs.Worlds.{texts_of};
+
+use crate::limits::MOST_GENERATED;
+use psg_script::read_up_to;
 
 /// A form of words.
 #[derive(Drop)]
@@ -20,17 +24,34 @@ pub enum Form<'a> {
     Live {
         definition: &'a str,
     },
+    /// `gen N`
+    Gen {
+        number: u32,
+    },
+}
+
+/// What `gen` asks for with this word.
+fn of_number<'a>(word: &str) -> Option<Form<'a>>
+    ensures { (form : Name) → form ≡ codes "gen" → MatchOption result (HasNoForm (form ∷ word.now ∷ []))
+        (IsWanted (form ∷ word.now ∷ [])) }
+{
+    match read_up_to(MOST_GENERATED, word) {
+        Some(number) => Some(Form::Gen { number }),
+        None => None,
+    }
 }
 
 /// What two words ask for.
-fn of_two<'a>(form: &str, definition: &'a str) -> Option<Form<'a>>
-    ensures { MatchOption result (HasNoForm (form.now ∷ definition.now ∷ []))
-        (IsWanted (form.now ∷ definition.now ∷ [])) }
+fn of_two<'a>(form: &str, word: &'a str) -> Option<Form<'a>>
+    ensures { MatchOption result (HasNoForm (form.now ∷ word.now ∷ []))
+        (IsWanted (form.now ∷ word.now ∷ [])) }
 {
     if form == "check" {
-        Some(Form::Check { definition })
+        Some(Form::Check { definition: word })
     } else if form == "live" {
-        Some(Form::Live { definition })
+        Some(Form::Live { definition: word })
+    } else if form == "gen" {
+        of_number(word)
     } else {
         None
     }

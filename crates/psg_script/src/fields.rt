@@ -23,7 +23,8 @@ pub fn read_number(word: &str) -> Option<u32>
     word.parse().ok()
 }
 
-/// The number from 1 to `most` that a word is the decimal of.
+/// Gives the number from 1 to `most` that the word is the decimal of; `None` where it is the decimal of no such number. A
+/// decimal has no sign, and no zero before other digits.
 pub fn read_up_to(most: u32, word: &str) -> Option<u32>
     ensures { Reads (IsNumeralUpTo most) word.now result }
 {

@@ -17,7 +17,7 @@ pub mod text;
 mod words;
 
 pub use command::{Command, CommandFault, Where};
-pub use fields::is_name;
+pub use fields::{is_name, read_up_to};
 pub use read::read_command;
 pub use script::make_script;
 pub use text::command_text;

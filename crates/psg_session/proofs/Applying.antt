@@ -130,6 +130,7 @@ begun language is e editor state = record {
     earlier = λ old e. tt;
     later = λ old e. tt;
     saved = tt;
+    printable = record { opened = λ old e. absurd (none-some old e); earlier = tt; later = tt; saved = tt };
   }
 
 pub stopped_in : {X : Type 0} (p q : Parts) → p ≡ q → (command : Command) (before after_it : Outside) (from to : ℕ)

@@ -33,9 +33,11 @@ use Rattle.psg_session.specs.PlainStep.{by_change, by_new, changes, closing, Giv
 use Rattle.psg_session.specs.Refusals.{Passes, Refuses}
 use Rattle.psg_session.specs.Replies.{marked}
 use Rattle.psg_session.specs.Sessions.{IsEditor, IsVersion, opened_of, plain, state_of}
+use Rattle.psg_session.specs.Shrinking.{IsSmallFor}
 use Rattle.psg_session.specs.Ticks.{HasTicked}
 use Rattle.psg_session.specs.Views.{mark_of}
 use Rattle.psg_session.proofs.EditLaws.{edited_shaped, opened_version}
+use Rattle.psg_session.proofs.Smaller.{small_by}
 use Rattle.psg_session.proofs.StepLaws.{opened_plain, some_once}
 use Rattle.psg_session.proofs.Verdicts.{mark_is}
 
@@ -130,6 +132,13 @@ module _ (def : Definition) (e : Editor) (command : Command) (m : Made) (made : 
 
     pub may_here : MayEdit def (tree_in held.note) m.edit
     may_here = subst (λ (h : OpenedTree). MayEdit def (tree_in h.note) m.edit) (sym same_held) made.may
+
+    -- its tree passes none of the limits that are not tested
+    pub small_here : IsEditor def e → IsSmallFor def m.trial (edited m.edit (tree_in held.note))
+    small_here editor =
+        subst (λ (h : OpenedTree). IsSmallFor def m.trial (edited m.edit (tree_in h.note))) (sym same_held)
+        (small_by def (tree_in made.held.note) tree
+        (opened_version def e made.held editor made.opened).noted.within m.trial made.sized)
 
     judged_here : (answer : Result Annotated Refusal) → IsJudged def m.trial (edited m.edit (tree_in held.note)) answer
         → IsJudged def m.trial tree answer

@@ -21,6 +21,7 @@ use Rattle.psg_grammar.specs.Work.{work_of, climb_of}
 use Rattle.psg_session.proofs.Ticking.{ended_work}
 use Rattle.psg_session.specs.Sessions.{IsEditor, plain, state_of}
 use Rattle.psg_cache.specs.Annotated.{tree_in}
+use Rattle.psg_session.proofs.Smaller.{ended_smaller}
 use Rattle.psg_session.proofs.StepLaws.{at_node, has_node, is_opened, is_there, nowhere, opened_is, path_is, same_old}
 use Rattle.psg_session.proofs.ChangeLaws.{finished_shaped, may_put, put_is, cost_here}
 
@@ -79,5 +80,6 @@ module _ (def : Definition) (e : Editor) (place : Where) where
               ((λ h'. at_node def e place f found IsNotUnfinished h' ends), h),
             ),
           );
+          sized = ended_smaller (tree_in f.held.now.note) f.node.now f.path.now found.node false new is;
           counts = inr (plain f.held.now, tree, f.path.now, opened_is def e place f found, it, omega arith);
         }

@@ -25,6 +25,7 @@ use Rattle.psg_grammar.specs.Work.{work_of, climb_of}
 use Rattle.psg_session.proofs.Ticking.{blank_work}
 use Rattle.psg_session.specs.Sessions.{IsEditor, plain, state_of}
 use Rattle.psg_cache.specs.Annotated.{tree_in}
+use Rattle.psg_session.proofs.Smaller.{cut_smaller}
 use Rattle.psg_session.proofs.StepLaws.{at_node, has_node, is_opened, is_there, node_is, nowhere, opened_is, path_is, same_old}
 use Rattle.psg_session.proofs.ChangeLaws.{kind_is, may_put, put_is, cost_here}
 
@@ -96,5 +97,6 @@ module _ (def : Definition) (e : Editor) (place : Where) where
             ),
           );
           taken = λ h. (is_opened def e place f found, (is_there def e place f found, (usual never, h)));
+          sized = cut_smaller (tree_in f.held.now.note) f.node.now f.path.now found.node def kind new fresh;
           counts = inr (plain f.held.now, tree, f.path.now, opened_is def e place f found, it, omega arith);
         }

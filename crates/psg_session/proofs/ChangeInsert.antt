@@ -192,6 +192,7 @@ module _ (def : Definition) (e : Editor) (place : Where) (k : ℕ) (name : Name)
                     (usual, ((λ h'. h' o named), (no_other, ((λ none. none o leaves named gives), h)))),
                   ),
                 );
+                sized = tt;
                 counts = inr (
                   plain f.held.now,
                   tree,

@@ -41,11 +41,11 @@ use Rattle.psg_session.proofs.StepLaws.{at_node, has_node, is_opened, is_there, 
 use Rattle.psg_session.proofs.TypedLaws.{has_tree_for, no_fault, read_once, read_tokens}
 
 -- where the brackets do not nest too deep, only the tree may be too deep
-neither : {N D : Type 0} → (N → ⊥) → (D → ⊥) → N ⊎ D → ⊥
+pub neither : {N D : Type 0} → (N → ⊥) → (D → ⊥) → N ⊎ D → ⊥
 neither never shallow (inl n) = never n
 neither never shallow (inr d) = shallow d
 
-or_nests : {N D E X : Type 0} → (N → ⊥) → (D × E) ⊎ ((D → ⊥) × X) → ((N ⊎ D) × E) ⊎ ((N ⊎ D → ⊥) × X)
+pub or_nests : {N D E X : Type 0} → (N → ⊥) → (D × E) ⊎ ((D → ⊥) × X) → ((N ⊎ D) × E) ⊎ ((N ⊎ D → ⊥) × X)
 or_nests never (inl (d, is)) = inl (inr d, is)
 or_nests never (inr (shallow, x)) = inr (neither never shallow, x)
 
@@ -235,6 +235,7 @@ module _ (def : Definition) (e : Editor) (place : Where) (text : List ℕ) where
               only = λ other given. over_once other given ∙ result;
               refused = refuses_typed;
               taken = takes_typed;
+              sized = tt;
               counts = with_tokens tree.reads.tokens tree.reads.are
                   (diff_of (tree_in f.held.now.note) (replaced f.path.now new (tree_in f.held.now.note))) (omega arith);
             }

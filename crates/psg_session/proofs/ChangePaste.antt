@@ -198,6 +198,7 @@ module _ (def : Definition) (e : Editor) (place : Where) (name : Name) (x : Sour
               ),
             ),
           );
+          sized = tt;
           counts = inr (plain f.held.now, tree, f.path.now, opened_is def e place f found, it, omega arith);
         }
 
@@ -325,6 +326,7 @@ module _ (def : Definition) (e : Editor) (place : Where) (name : Name) (x : Sour
                   ),
                 ),
               );
+              sized = tt;
               counts = inr (
                 plain f.held.now,
                 tree,

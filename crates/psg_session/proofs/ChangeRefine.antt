@@ -152,5 +152,6 @@ module _ (def : Definition) (e : Editor) (place : Where) (name : Name) (args : L
                   (usual, ((λ k. k o named), (no_other, ((λ none. none o leaves named gives), h)))),
                 ),
               );
+              sized = tt;
               counts = inr (plain f.held.now, tree, f.path.now, opened_is def e place f found, it, omega arith);
             }

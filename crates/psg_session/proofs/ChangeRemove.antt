@@ -21,6 +21,7 @@ use Rattle.psg_grammar.specs.Work.{climb_of}
 use Rattle.psg_session.proofs.ChangeLaws.{cost_here}
 use Rattle.psg_session.specs.Sessions.{plain, state_of}
 use Rattle.psg_cache.specs.Annotated.{tree_in}
+use Rattle.psg_session.proofs.Smaller.{removed_smaller}
 use Rattle.psg_session.proofs.StepLaws.{at_node, has_node, is_opened, is_there, nowhere, opened_is, path_is, same_old}
 
 -- the node is no list, or has no such element
@@ -89,5 +90,6 @@ module _ (def : Definition) (e : Editor) (place : Where) (k : ℕ) where
               only = λ other given. removed_once other given ∙ result;
               refused = λ r h. inr (is_opened def e place f found, inr (is_there def e place f found, inr (usual, h)));
               taken = λ h. (is_opened def e place f found, (is_there def e place f found, (usual, h)));
+              sized = removed_smaller (tree_in f.held.now.note) f.node.now f.path.now found.node k;
               counts = inr (plain f.held.now, tree, f.path.now, opened_is def e place f found, it, cost_here e place f found k k refl);
             }

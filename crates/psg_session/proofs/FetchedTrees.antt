@@ -19,7 +19,7 @@ feed_is : (b : ℕ) → is_feed b ≡ true → b ≡ 10
 feed_is b e = elim (eqb_tells b 10) [ inl y ↦ y.1 | inr n ↦ absurd (true≢false (sym e ∙ n.0)) ]
 
 -- what is behind the first line of a UTF-8 text is one
-rest_utf8 : (bs : List ℕ) → IsUtf8 bs → IsUtf8 (text_in bs)
+pub rest_utf8 : (bs : List ℕ) → IsUtf8 bs → IsUtf8 (text_in bs)
 rest_utf8 bs utf8 =
     let k : ℕ = position_or_len is_feed bs in
     elim (cases_lt k (length bs)) [

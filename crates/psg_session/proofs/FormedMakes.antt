@@ -45,7 +45,7 @@ some_or : (o : Option Fragment) → (o ≡ None → ⊥) → (x : Fragment) × (
 some_or None never = absurd (never refl)
 some_or (Some x) never = (x, refl)
 
-hole_or : (x : Fragment) → ((p : ℕ) × (x ≡ hole p)) ⊎ ((p : ℕ) → x ≡ hole p → ⊥)
+pub hole_or : (x : Fragment) → ((p : ℕ) × (x ≡ hole p)) ⊎ ((p : ℕ) → x ≡ hole p → ⊥)
 hole_or (hole p) = inl (p, refl)
 hole_or (ending l u) = inr (λ p e. cc)
 hole_or (cell l e r) = inr (λ p d. cc)
@@ -88,7 +88,7 @@ named_operator None name e = absurd (none-some name e)
 named_operator (Some op) name e = (op, refl)
 
 -- what holds of all holds of the one that is found
-found_has : (name : Name) (P : Saved → Type 0) (xs : List Saved) (x : Saved) → AllByRecursion P xs
+pub found_has : (name : Name) (P : Saved → Type 0) (xs : List Saved) (x : Saved) → AllByRecursion P xs
     → saved_at xs name ≡ Some x → P x
 found_has name P [] x all e = absurd (none-some x e)
 found_has name P (y ∷ ys) x all e = elim (cases_Bool (bytes_eq y.name name)) [
@@ -191,7 +191,7 @@ module _ (def : Definition) where
     quiet : HasQuietHoles def old.tree
     quiet = quiet_of_formed def old.tree old.kind (formed.opened old opened)
 
-    node_there : (IsNoNode def s place → ⊥) → (node : Fragment) × (node_at old.tree there ≡ Some node)
+    pub node_there : (IsNoNode def s place → ⊥) → (node : Fragment) × (node_at old.tree there ≡ Some node)
     node_there some = some_or (node_at old.tree there) (λ none. some (old, opened, none))
 
     changed_given : (g : Fragment → Fragment) (node : Fragment) → node_at old.tree there ≡ Some node
@@ -206,14 +206,14 @@ module _ (def : Definition) where
           (change-below g there [] old.tree node at),
     )
 
-    put_given : (new node : Fragment) (K : Kind) → node_at old.tree there ≡ Some node → IsOfKind def node K
+    pub put_given : (new node : Fragment) (K : Kind) → node_at old.tree there ≡ Some node → IsOfKind def node K
         → IsShaped def new K → HasQuietHoles def new → IsGiven (replaced there new old.tree) there
     put_given new node K at is fresh stays =
         changed_given (λ x. new) node at
         (λ J h. subst (IsShaped def new) (kind_once def node K J is (shape_is_kind def node J h)) fresh) (λ x h. stays)
 
     -- a new element of a list
-    added_given : (k : ℕ) (new node : Fragment) (l : ℕ) (list : ListKind) → node_at old.tree there ≡ Some node
+    pub added_given : (k : ℕ) (new node : Fragment) (l : ℕ) (list : ListKind) → node_at old.tree there ≡ Some node
         → IsShaped def node (kinds.List l) → slice_get def.lists l ≡ Some list → IsList node
         → (length (children_of node) < k → ⊥) → IsShaped def new (kinds.Phylum list.element) → HasQuietHoles def new
         → IsGiven (change_at (inserted k new) there old.tree) (there ++ k ∷ [])
@@ -230,7 +230,7 @@ module _ (def : Definition) where
         )
 
     -- the list at the place, and that the new place is in it
-    list_at : (k : ℕ) → (IsNoNode def s place → ⊥)
+    pub list_at : (k : ℕ) → (IsNoNode def s place → ⊥)
         → (AtNode def s place (λ o node. (IsList node → ⊥) ⊎ (length (children_of node) < k)) → ⊥)
         → (node : Fragment) × (l : ℕ) × (list : ListKind) × (node_at old.tree there ≡ Some node)
         × IsShaped def node (kinds.List l) × (slice_get def.lists l ≡ Some list) × IsListOf def node list × IsList node
@@ -257,7 +257,7 @@ module _ (def : Definition) where
     -- ---- new operators
 
     -- the operator is of the phylum that is wanted
-    of_phylum : (k : Option ℕ) (name : Name) (node : Fragment) (p : ℕ) → node_at old.tree there ≡ Some node
+    pub of_phylum : (k : Option ℕ) (name : Name) (node : Fragment) (p : ℕ) → node_at old.tree there ≡ Some node
         → ((q : ℕ) → IsWanted def k node q → q ≡ p) → (IsOther def s place k name → ⊥) → (o : ℕ)
         → IsOperator def o name
         → (op : Operator) × (slice_get def.operators o ≡ Some op) × (op.phylum ≡ p)

@@ -20,40 +20,21 @@ use Rattle.psg_cache.proofs.ShapedTrees.{blank_shaped, node_shaped}
 use Rattle.psg_script.specs.declared.command.Command.{Command}
 use Rattle.psg_specimen.specs.Conditions.{IsQuiet, IsQuietSlot}
 use Rattle.psg_library.specs.declared.fragment.SavedFragment.{SavedFragment as Saved}
-use Rattle.psg_session.specs.Formed.{HasText, IsFormedSaved, IsFormedState}
+use Rattle.psg_session.specs.Formed.{HasText, IsFormedSaved, IsFormedState, IsPrintableState}
 use Rattle.psg_session.specs.Laws.{KeepsForm}
 use Rattle.psg_session.specs.PlainState.{State, Opened, Answer, most_versions, named_path, with_change}
-use Rattle.psg_session.specs.PlainStep.{HasName, IsDeclaringPhylum, IsTaken, Makes, by_refine, by_insert, by_cut, by_remove, by_close, by_reopen, by_paste, by_paste_in, by_over, Steps, refuses, opens, changes, undoes, redoes, saves, keeps, fetches, shows, goes, screens, owns, relates, frees}
+use Rattle.psg_session.specs.PlainStep.{HasName, IsDeclaringPhylum, IsTaken, Makes, by_refine, by_insert, by_cut, by_remove, by_close, by_reopen, by_paste, by_paste_in, by_over, by_range, Steps, refuses, opens, changes, undoes, redoes, saves, keeps, fetches, shows, goes, screens, owns, relates, frees, offers, suggests}
 use Rattle.psg_session.specs.Replies.{Reply}
 use Rattle.psg_session.specs.Shelf.{others, saved_with}
+use Rattle.psg_session.proofs.AllOf.{all_end, all_others, all_taken}
 use Rattle.psg_session.proofs.ChangeLaws.{kind_is}
 use Rattle.psg_session.proofs.FetchedTrees.{fetched_formed}
 use Rattle.psg_session.proofs.FormedMakes.{IsGiven, refined, put_in, cut_given, removed_given, closed_given, reopened_given, pasted, pasted_in, typed_given}
 use Rattle.psg_session.proofs.Opening.{has_kind}
+use Rattle.psg_session.proofs.PrintableTrees.{node_printable}
+use Rattle.psg_session.proofs.PrintableSteps.{changed_state, fetched_printable, new_printable, read_formed, redone_printable, saved_printable, undone_printable}
 use Rattle.psg_session.proofs.QuietHoles.{HasQuietHoles, blank_quiet, formed_by, quiet_of_formed, quiet_phylum}
 use Rattle.psg_session.proofs.StepLaws.{some_once}
-
-all_end : {X : Type 0} (P : X → Type 0) (xs : List X) (x : X) → AllByRecursion P xs → P x
-    → AllByRecursion P (xs ++ x ∷ [])
-all_end P [] x all h = (h, tt)
-all_end P (y ∷ ys) x all h = (all.0, all_end P ys x all.1 h)
-
-all_taken : {X : Type 0} (P : X → Type 0) (n : ℕ) (xs : List X) → AllByRecursion P xs → AllByRecursion P (take n xs)
-all_taken P zero xs all = tt
-all_taken P (suc n) [] all = tt
-all_taken P (suc n) (x ∷ xs) all = (all.0, all_taken P n xs all.1)
-
-either_all : {X : Type 0} (P : X → Type 0) (b : Bool) (xs ys : List X) → AllByRecursion P xs → AllByRecursion P ys
-    → AllByRecursion P (cond b xs ys)
-either_all P true xs ys all more = all
-either_all P false xs ys all more = more
-
-all_others : (P : Saved → Type 0) (name : Name) (xs : List Saved) → AllByRecursion P xs
-    → AllByRecursion P (others name xs)
-all_others P name [] all = tt
-all_others P name (x ∷ xs) all =
-    let rest = all_others P name xs all.1 in
-    either_all P (bytes_eq x.name name) (others name xs) (x ∷ others name xs) rest (all.0, rest)
 
 module _ (def : Definition) where
   -- ---- nodes of trees
@@ -105,14 +86,16 @@ module _ (def : Definition) where
   turned : (s : State) → IsFormedState def s → (it : Opened) (cursor : Path) (earlier later : List Fragment)
       → WellFormed def it.tree it.kind → (node : Fragment) → node_at it.tree cursor ≡ Some node
       → AllByRecursion (λ f. WellFormed def f it.kind) earlier → AllByRecursion (λ f. WellFormed def f it.kind) later
+      → IsPrintableState (record { opened = Some it; cursor = cursor; earlier = earlier; later = later; saved = s.saved })
       → IsFormedState def (record { opened = Some it; cursor = cursor; earlier = earlier; later = later; saved = s.saved })
-  turned s formed it cursor earlier later whole node at are also = record {
+  turned s formed it cursor earlier later whole node at are also printable = record {
     opened = λ old e. opened_one (λ o. WellFormed def o.tree o.kind) it old whole e;
     cursor = λ old e.
         opened_one (λ o. (x : Fragment) × (node_at o.tree cursor ≡ Some x)) it old (node, at) e;
     earlier = λ old e. opened_one (λ o. AllByRecursion (λ f. WellFormed def f o.kind) earlier) it old are e;
     later = λ old e. opened_one (λ o. AllByRecursion (λ f. WellFormed def f o.kind) later) it old also e;
     saved = formed.saved;
+    printable = printable;
   }
 
   module _ (IsGood : Fragment → Type 0) (sound : IsSound def) (slots : (o k : ℕ) → IsQuietSlot def o k)
@@ -153,6 +136,8 @@ module _ (def : Definition) where
         (pasted_in def sound slots s formed place it e name x is_saved k taken.1.1.0 taken.1.1.1.0 taken.1.1.1.1.0)
     makes_given text taken old opened (by_over {place = place} {text = typed} it node new nesting e at reads) =
         one_given it old e opened _ _ (typed_given def sound slots s formed place it e typed node new nesting text at reads)
+    makes_given text taken old opened (by_range it tree nesting e reads) =
+        one_given it old e opened tree [] (read_formed def it tree nesting reads, tree, refl)
 
     pub step_formed : {command : Command} {t : State} {reply : Reply} → HasText command
         → Steps def IsGood s answer command t reply → IsFormedState def t
@@ -160,20 +145,24 @@ module _ (def : Definition) where
     step_formed text (opens {name = name} kind mark taken named is_mark) =
         turned s formed (record { kind = kind; tree = blank def kind }) [] [] []
         (blank_formed kind name named (λ loud. taken.1.0 (kind, named, loud))) (blank def kind) refl tt tt
+        (new_printable def s formed.printable kind)
     step_formed text (changes {tree = tree} {path = path} old mark taken opened makes is_mark) =
         let (whole, node, at) = makes_given text taken old opened makes in
         turned s formed (record { kind = old.kind; tree = tree }) path (take most_versions (old.tree ∷ s.earlier)) []
         whole node at
         (all_taken (λ f. WellFormed def f old.kind) most_versions (old.tree ∷ s.earlier)
         (formed.opened old opened, formed.earlier old opened)) tt
+        (changed_state def s formed.printable text old tree path opened makes)
     step_formed text (undoes old tree rest mark taken opened is is_mark) =
         let all = subst (AllByRecursion (λ f. WellFormed def f old.kind)) is (formed.earlier old opened) in
         turned s formed (record { kind = old.kind; tree = tree }) [] rest (old.tree ∷ s.later) all.0 tree refl all.1
         (formed.opened old opened, formed.later old opened)
+        (undone_printable s formed.printable old tree rest opened is)
     step_formed text (redoes old tree rest mark taken opened is is_mark) =
         let all = subst (AllByRecursion (λ f. WellFormed def f old.kind)) is (formed.later old opened) in
         turned s formed (record { kind = old.kind; tree = tree }) [] (old.tree ∷ s.earlier) rest all.0 tree refl
         (formed.opened old opened, formed.earlier old opened) all.1
+        (redone_printable s formed.printable old tree rest opened is)
     step_formed text (saves {name = name} {place = place} old node kind taken opened at of) = record {
       opened = formed.opened;
       cursor = formed.cursor;
@@ -182,6 +171,8 @@ module _ (def : Definition) where
       saved = all_end (IsFormedSaved def) (others name s.saved) (record { name = name; kind = kind; tree = node })
           (all_others (IsFormedSaved def) name s.saved formed.saved)
           (node_formed old.tree old.kind (named_path place s.cursor) node kind (formed.opened old opened) at of);
+      printable = saved_printable s formed.printable (record { name = name; kind = kind; tree = node })
+          (node_printable (named_path place s.cursor) old.tree node at (formed.printable.opened old opened));
     }
     step_formed text (keeps taken is) = formed
     step_formed text (fetches bytes x taken is kept) = record {
@@ -191,6 +182,7 @@ module _ (def : Definition) where
       later = formed.later;
       saved = all_end (IsFormedSaved def) (others x.name s.saved) x
           (all_others (IsFormedSaved def) x.name s.saved formed.saved) (fetched_formed def bytes x kept);
+      printable = saved_printable s formed.printable x (fetched_printable def bytes x kept);
     }
     step_formed text (shows old mark taken opened is_mark) = formed
     step_formed text (goes {place = place} old p kind name taken opened written of named) = record {
@@ -199,6 +191,12 @@ module _ (def : Definition) where
       earlier = formed.earlier;
       later = formed.later;
       saved = formed.saved;
+      printable = record {
+        opened = formed.printable.opened;
+        earlier = formed.printable.earlier;
+        later = formed.printable.later;
+        saved = formed.printable.saved;
+      };
     } where
       there : (o : Option Fragment) → (it : Opened) → s.opened ≡ Some it
           → node_at it.tree (named_path place s.cursor) ≡ o → (node : Fragment) × (node_at it.tree (named_path place s.cursor) ≡ Some node)
@@ -208,6 +206,8 @@ module _ (def : Definition) where
     step_formed text (owns old node rows taken opened at of) = formed
     step_formed text (relates old rows taken opened is) = formed
     step_formed text (frees old taken opened) = formed
+    step_formed text (offers old node p ops names taken opened at want menu named) = formed
+    step_formed text (suggests old o names taken opened named menu) = formed
 
 pub keeps_form : (def : Definition) (IsGood : Fragment → Type 0) → IsSound def
     → ((o k : ℕ) → IsQuietSlot def o k) → KeepsForm def IsGood

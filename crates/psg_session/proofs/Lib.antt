@@ -5,8 +5,9 @@ pub mod Ticking
 pub mod Carrying
 pub mod Settling
 pub mod Stepping
-pub mod Unbuilt
+pub mod Changing
 pub mod Opening
+pub mod Smaller
 pub mod Verdicts
 pub mod Cutting
 pub mod Shapes
@@ -21,7 +22,12 @@ pub mod OneStep
 pub mod TokenValues
 pub mod QuietHoles
 pub mod FetchedTrees
+pub mod AllOf
+pub mod ShortTokens
+pub mod PrintableYields
+pub mod PrintableTrees
 pub mod FormedMakes
+pub mod PrintableSteps
 pub mod FormedSteps
 pub mod SameSteps
 pub mod ByCompletions
@@ -35,6 +41,8 @@ pub mod OnlyMemory
 pub mod Depths
 pub mod TypedLaws
 pub mod ChangeOver
+pub mod ChangeRange
+pub mod RangeTexts
 pub mod ChangeRefine
 pub mod ChangeInsert
 pub mod ChangeCut
@@ -45,3 +53,8 @@ pub mod Shelving
 pub mod ChangePaste
 pub mod KeptLaws
 pub mod RelationLaws
+pub mod Measured
+pub mod FormedTrials
+pub mod MenuLaws
+pub mod NameWalks
+pub mod Offers

@@ -7,7 +7,7 @@ use Rattle.psg_grammar.specs.declared.types.Kind.{Kind}
 use Rattle.psg_grammar.specs.declared.types.Definition.{Definition}
 use Rattle.psg_grammar.specs.Fragments.{Fragment}
 use Rattle.psg_grammar.specs.Insertion.{blank, Leaf, with_operator}
-use Rattle.psg_grammar.specs.Marks.{Chosen, nothing, taken, passed, Mark, good, wrong, path_of, IsMarkBy}
+use Rattle.psg_grammar.specs.Marks.{Mark, good, wrong, path_of, IsMarkBy}
 use Rattle.psg_grammar.specs.Paths.{Path, node_at, change_at, inserted, removed, ended, replaced}
 use Rattle.psg_grammar.specs.Regions.{names_of}
 use Rattle.psg_grammar.specs.Relations.{IsRelationOf, IsShownRelation}
@@ -19,7 +19,7 @@ use Rattle.psg_grammar.specs.Kinds.{kind_name_of, IsOfKind}
 use Rattle.psg_class.specs.Class.{IsClass}
 use Rattle.psg_cache.proofs.ShapedTrees.{kind_once as node_kind_once}
 use Rattle.psg_script.specs.declared.command.Command.{Command}
-use Rattle.psg_script.specs.declared.command.Command.TheVariants.{Own, Free, Undo, Redo, Save, Keep, Fetch, Goto, Screen, Relation}
+use Rattle.psg_script.specs.declared.command.Command.TheVariants.{Own, Free, Undo, Redo, Save, Keep, Fetch, Goto, Screen, Relation, Menu, Names}
 use Rattle.psg_reads_back.specs.Layout.{text_of}
 use Rattle.psg_screen.specs.Window.{window_of}
 use Rattle.psg_unparse.specs.Spots.{span_of}
@@ -38,20 +38,15 @@ use Rattle.psg_session.specs.Laws.{HasOneStep}
 use Rattle.psg_session.specs.Refusals.{Tests, done, test, Refuses, Passes}
 use Rattle.psg_session.proofs.StepLaws.{some_once}
 use Rattle.psg_session.specs.Replies.{Reply, refused, answered, marked, shown}
-use Rattle.psg_session.specs.PlainStep.{HasName, IsOperator, Makes, by_refine, by_insert, by_cut, by_remove, by_close, by_reopen, by_paste, by_paste_in, tests, IsRefused, IsTaken, Steps, refuses, opens, changes, undoes, redoes, saves, keeps, fetches, shows, owns, frees, goes, screens, by_over, relates}
+use Rattle.psg_session.specs.PlainStep.{HasName, IsOperator, Makes, by_refine, by_insert, by_cut, by_remove, by_close, by_reopen, by_paste, by_paste_in, tests, IsRefused, IsTaken, Steps, refuses, opens, changes, undoes, redoes, saves, keeps, fetches, shows, owns, frees, goes, screens, by_over, by_range, relates, offers, suggests}
+use Rattle.psg_session.proofs.MenuLaws.{chosen_once, offered_once, suggested_once}
 use Rattle.psg_session.proofs.RowLines.{relation_lines, shown_lines}
-use Rattle.psg_session.proofs.TypedLaws.{read_once}
+use Rattle.psg_session.proofs.TypedLaws.{one_tree, read_once}
+use Rattle.psg_session.specs.Ranged.{ReadsWith, replacing, text_with}
+use Rattle.psg_regions.specs.Regions.{Typing}
 use Rattle.psg_session.specs.Typed.{ReadsFor}
 
 -- ---- marks
-
--- the members that have a property are chosen in one way
-chosen_once : {X : Type 0} {P : X → Type 0} {xs ys zs : List X} → Chosen P xs ys → Chosen P xs zs → ys ≡ zs
-chosen_once nothing nothing = refl
-chosen_once (taken {x = x} has more) (taken has' more') = ap (λ l. x ∷ l) (chosen_once more more')
-chosen_once (taken has more) (passed never more') = absurd (never has)
-chosen_once (passed never more) (taken has more') = absurd (never has)
-chosen_once (passed never more) (passed never' more') = chosen_once more more'
 
 pub mark_once : (IsGood : Fragment → Type 0) (f : Fragment) (a b : Mark) → IsMarkBy IsGood f a → IsMarkBy IsGood f b
     → a ≡ b
@@ -186,6 +181,17 @@ module _ (def : Definition) (IsGood : Fragment → Type 0) (s : State) (answer :
               ∙ ap (λ x. replaced (named_path at s.cursor) x old'.tree) same,
           refl,
         )
+    makes_once (by_range {start = start} {end = end} {text = text} old tree n opened reads)
+        (by_range old' tree' n' opened' reads') = (
+          range_once (replacing start end text) tree tree' n n'
+              (subst (λ (x : Opened). ReadsWith def (replacing start end text) x tree n)
+              (some_once old old' s.opened opened opened') reads) reads',
+          refl,
+        ) where
+          range_once : {x : Opened} (e : Typing) (f g : Fragment) (n m : ℕ) → ReadsWith def e x f n → ReadsWith def e x g m
+              → f ≡ g
+          range_once {x = x} e f g n m r q =
+              (one_tree def is_class x.kind (text_with def e x) f g n m r.reads q.reads).tree
 
     -- the lines of a node are told by one of its relations
     lines_once : (old old' : Opened) (node node' : Fragment) (path : Path) (rows rows' : List (List Term))
@@ -265,6 +271,10 @@ module _ (def : Definition) (IsGood : Fragment → Type 0) (s : State) (answer :
     step_once (refuses {command = command} {r = r} h) (relates old rows taken_is opened rel) =
         absurd (not_both command r taken_is h)
     step_once (refuses {command = command} {r = r} h) (frees old taken_is opened) =
+        absurd (not_both command r taken_is h)
+    step_once (refuses {command = command} {r = r} h) (offers old node p ops names taken_is opened at want menu named) =
+        absurd (not_both command r taken_is h)
+    step_once (refuses {command = command} {r = r} h) (suggests old o names taken_is opened named menu) =
         absurd (not_both command r taken_is h)
     step_once (opens kind mark taken_is named is_mark) (refuses {command = command} {r = r} h) =
         absurd (not_both command r taken_is h)
@@ -405,6 +415,32 @@ module _ (def : Definition) (IsGood : Fragment → Type 0) (s : State) (answer :
         elim makes' [ ]
     step_once (relates {place = place} old rows taken_is opened rel) (relates old' rows' taken_is' opened' rel') =
         (refl, shown_once old old' (named_path place s.cursor) rows rows' opened opened' rel rel')
+    step_once (changes old mark taken_is opened makes is_mark)
+        (offers old' node' p' ops' names' taken_is' opened' at' want' menu' named') = elim makes [ ]
+    step_once (changes old mark taken_is opened makes is_mark) (suggests old' o' names' taken_is' opened' named' menu') =
+        elim makes [ ]
+    step_once (offers {place = place} {k = k} old node p ops names taken_is opened at want menu named) (refuses {r = r} h) =
+        absurd (not_both (Menu place k) r taken_is h)
+    step_once (offers old node p ops names taken_is opened at want menu named)
+        (changes old' mark' taken_is' opened' makes' is_mark') = elim makes' [ ]
+    step_once (offers {place = place} {k = k} old node p ops names taken_is opened at want menu named)
+        (offers old' node' p' ops' names' taken_is' opened' at' want' menu' named') = (
+          refl,
+          ap (λ ns. answered (names_line ns ∷ []))
+              (offered_once def sound IsGood s (named_path place s.cursor) k old old' opened opened' node node' p p' ops ops'
+              names names' at at' want want' menu menu' named named'),
+        )
+    step_once (suggests {place = place} {k = k} {name = name} old o names taken_is opened named menu) (refuses {r = r} h) =
+        absurd (not_both (Names place k name) r taken_is h)
+    step_once (suggests old o names taken_is opened named menu) (changes old' mark' taken_is' opened' makes' is_mark') =
+        elim makes' [ ]
+    step_once (suggests {place = place} {k = k} {name = name} old o names taken_is opened named menu)
+        (suggests old' o' names' taken_is' opened' named' menu') = (
+          refl,
+          ap (λ ns. answered (names_line ns ∷ []))
+              (suggested_once def sound IsGood s (named_path place s.cursor) k old old' opened opened' name o o' names names'
+              named named' menu menu'),
+        )
     step_once (frees old taken_is opened) (refuses {r = r} h) = absurd (not_both Free r taken_is h)
     step_once (frees old taken_is opened) (changes old' mark' taken_is' opened' makes' is_mark') = elim makes' [ ]
     step_once (frees old taken_is opened) (frees old' taken_is' opened') = (

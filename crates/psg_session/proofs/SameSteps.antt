@@ -10,6 +10,9 @@ use Rattle.psg_grammar.specs.Marks.{Mark, IsMarkBy}
 use Rattle.psg_grammar.specs.Paths.{Path, node_at, IsList}
 use Rattle.psg_grammar.specs.Sound.{IsSound}
 use Rattle.psg_grammar.specs.WellFormed.{WellFormed}
+use Rattle.psg_grammar.specs.Insertion.{with_operator}
+use Rattle.psg_renaming.specs.Occurring.{occurring}
+use Rattle.psg_menu.specs.Menus.{in_byte_order}
 use Rattle.psg_script.specs.declared.command.Where.{Where}
 use Rattle.psg_script.specs.declared.command.Command.{Command}
 use Rattle.psg_script.specs.declared.command.Command.TheVariants.{New, Goto, Refine, Insert, Cut, Remove, Close, Reopen, Over, Range, Show, Screen, Relation, Own, Menu, Names, Free, Undo, Redo, Save, Paste, Keep, Fetch}
@@ -17,11 +20,13 @@ use Rattle.psg_specimen.specs.Conditions.{IsQuietSlot}
 use Rattle.psg_session.specs.declared.refusal.Refusal.{Refusal}
 use Rattle.psg_session.specs.Formed.{HasText, IsFormedState}
 use Rattle.psg_session.specs.PlainState.{State, Opened, Answer, named_path}
-use Rattle.psg_session.specs.PlainStep.{AtNode, HasNoRoom, IsNoNode, IsOther, IsOtherSaved, Gives, by_change, by_new, IsTaken, OfResult, Makes, by_refine, by_insert, by_close, by_paste, by_paste_in, Steps, refuses, opens, changes, undoes, redoes, saves, keeps, fetches, shows, goes, screens, owns, relates, frees, closing, growing, tests}
+use Rattle.psg_session.specs.PlainStep.{AtNode, HasNoRoom, IsNoNode, IsOther, IsOtherSaved, Gives, by_change, by_new, IsTaken, OfResult, Makes, by_refine, by_insert, by_close, by_paste, by_paste_in, Steps, refuses, opens, changes, undoes, redoes, saves, keeps, fetches, shows, goes, screens, owns, relates, frees, offers, suggests, closing, growing, tests}
 use Rattle.psg_session.specs.Refusals.{Tests, done, test, Refuses, Passes}
 use Rattle.psg_session.specs.Replies.{Reply}
 use Rattle.psg_session.proofs.FormedMakes.{refined, put_in, closed_given, pasted, pasted_in}
 use Rattle.psg_session.proofs.FormedSteps.{blank_formed, keeps_form, makes_given}
+use Rattle.psg_session.proofs.FormedTrials.{named_phylum, operator_in, trial_formed, wanted_at}
+use Rattle.psg_session.proofs.MenuLaws.{menu_same, naming_same}
 
 -- ---- tests
 
@@ -259,3 +264,19 @@ module _ (def : Definition) (A B : Fragment → Type 0) (sound : IsSound def) (s
   same_step text (relates {place = place} old rows taken opened is) =
       relates old rows (still_taken (Relation place) taken) opened is
   same_step text (frees old taken opened) = frees old (still_taken Free taken) opened
+  same_step text (offers {place = place} {k = k} old node p ops names taken opened at want menu named) =
+      let path = named_path place s.cursor in
+      offers old node p ops names (still_taken (Menu place k) taken) opened at want
+      (menu_same def A B old.tree path k p ops
+      (λ o i leaves are. agree (with_operator def old.tree path k o leaves) old.kind
+      (trial_formed def sound slots s formed place old opened taken.1.0 k taken.1.1.0 node p at want o (operator_in def p o i) leaves are))
+      menu) named
+  same_step text (suggests {place = place} {k = k} {name = name} old o names taken opened named menu) =
+      let path = named_path place s.cursor in
+      let w = wanted_at def sound slots s formed place old opened taken.1.0 k taken.1.1.0 in
+      let there = named_phylum def sound slots s formed place old opened taken.1.0 k w name o taken.1.1.1.1.0 named in
+      suggests old o names (still_taken (Names place k name) taken) opened named
+      (naming_same def A B old.tree path k o (in_byte_order (occurring old.tree)) names
+      (λ leaves are. agree (with_operator def old.tree path k o leaves) old.kind
+      (trial_formed def sound slots s formed place old opened taken.1.0 k taken.1.1.0 w.node w.phylum w.at w.wanted o there leaves are))
+      menu)

@@ -43,11 +43,11 @@ module _ (def : Definition) (s : State) where
   none_taken Free = refl
   none_taken (Goto place) = refl
   none_taken (Over place text) = inl refl
-  none_taken (Range start end text) = refl
+  none_taken (Range start end text) = inl refl
   none_taken (Screen top left rows cols) = refl
   none_taken (Relation place) = inl refl
-  none_taken (Menu place k) = refl
-  none_taken (Names place k name) = refl
+  none_taken (Menu place k) = inl refl
+  none_taken (Names place k name) = inl refl
   none_taken Undo = refl
   none_taken Redo = refl
   none_taken (Save name place) = refl

@@ -14,7 +14,7 @@ use Rattle.psg_cache.specs.declared.note.NoteFault.TheVariants as faults
 use Rattle.psg_history.specs.Versions.{Versions}
 use Rattle.psg_history.specs.declared.history.TheConstants.{VERSIONS}
 use Rattle.psg_script.specs.declared.command.Command.{Command}
-use Rattle.psg_script.specs.declared.command.Command.TheVariants.{New, Refine, Insert, Cut, Remove, Close, Reopen, Show, Relation, Own, Free, Undo, Redo, Save, Paste, Keep, Fetch, Goto, Screen, Over}
+use Rattle.psg_script.specs.declared.command.Command.TheVariants.{Refine, Insert, Cut, Remove, Close, Reopen, Paste}
 use Rattle.psg_script.specs.declared.command.Where.{Where}
 use Rattle.psg_session.specs.declared.editor.OpenedTree.{OpenedTree}
 use Rattle.psg_session.specs.declared.editor.Editor.{Editor}
@@ -41,6 +41,7 @@ use Rattle.psg_session.specs.PlainState.{Answer, Opened, State, not_asked, named
 use Rattle.psg_session.specs.Leaves.{GivesLeaves}
 use Rattle.psg_session.specs.PlainStep.{Gives, IsRefused, IsTaken, Makes, IsOperator, IsOfPhylum, IsListOf, OfResult, Steps, end_of, opening, growing, closing, loosening}
 use Rattle.psg_session.specs.Refusals.{Tests, Refuses, Passes, test}
+use Rattle.psg_session.specs.Shrinking.{IsSizedBy}
 use Rattle.psg_session.specs.Ticks.{MayTick, HasTicked}
 use Rattle.psg_session.specs.Sessions.{IsKept, IsVersion, opened_of, plain, state_of}
 use Rattle.psg_session.specs.Views.{reply_of}
@@ -199,21 +200,13 @@ abbrev pub IsJudged : Definition → Trial → Fragment → Result Annotated Ref
 IsJudged def trial f (Ok note) = IsNoteOf def f note × Passes (tree_tests def trial (λ P. P f))
 IsJudged def trial f (Err r) = Refuses (tree_tests def trial (λ P. P f)) r
 
--- the change may add nodes
-abbrev pub MayGrow : Trial → Type 0
-MayGrow Opens = ⊥
-MayGrow Grows = Unit {0}
-MayGrow Types = Unit {0}
-MayGrow Closes = ⊥
-MayGrow Loosens = ⊥
-
 -- the refusal of a tree whose note has this fault
-abbrev pub IsRefusalOf : Trial → NoteFault → Refusal → Type 0
-IsRefusalOf trial faults.Deep r = MayGrow trial × (r ≡ TooDeep)
-IsRefusalOf trial faults.Big r = MayGrow trial × (r ≡ TooBig)
-IsRefusalOf trial (faults.Wide path step) r = r ≡ TooWide
-IsRefusalOf trial faults.Heavy r = (trial ≡ Opens → ⊥) × (r ≡ TooHeavy)
-IsRefusalOf trial faults.Memory r = ⊥
+abbrev pub IsRefusalOf : NoteFault → Refusal → Type 0
+IsRefusalOf faults.Deep r = r ≡ TooDeep
+IsRefusalOf faults.Big r = r ≡ TooBig
+IsRefusalOf (faults.Wide path step) r = r ≡ TooWide
+IsRefusalOf faults.Heavy r = r ≡ TooHeavy
+IsRefusalOf faults.Memory r = ⊥
 
 -- the change must leave a good fragment
 abbrev pub MustBeGood : Trial → Type 0
@@ -229,7 +222,7 @@ abbrev pub made_of : Trial → Edit → Path → Made
 made_of trial edit cursor = record { trial = trial; edit = edit; cursor = cursor }
 
 -- A change of the opened tree that is what the command makes, and nothing else; none of the command's tests holds but
--- perhaps those of its tree.
+-- perhaps those of its tree. Where it adds nothing, the tree is no larger than the old one.
 pub record IsMade (def : Definition) (e : Editor) (command : Command) (m : Made) : Type 0 where
   pub held : OpenedTree
   pub opened : e.opened ≡ Some held
@@ -241,6 +234,7 @@ pub record IsMade (def : Definition) (e : Editor) (command : Command) (m : Made)
   pub taken : Passes (tree_tests def m.trial (OfResult def (state_of e) command))
       → IsTaken def (IsGoodIn def) (state_of e) not_asked command
   pub counts : MayTick def (state_of e) command (cost_of m.edit (tree_in held.note))
+  pub sized : IsSizedBy m.trial (tree_in held.note) (edited m.edit (tree_in held.note))
 
 -- the refusal of the first test that holds, or what the command makes
 abbrev pub IsPlan : Definition → Editor → Command → Plan → Type 0
@@ -277,7 +271,7 @@ IsFreshAnswer def p name args (Err r) =
     ⊎ ((r ≡ BadArguments) × (o : ℕ) × IsOperator def o name × IsOfPhylum def o p
     × ((leaves : List Leaf) → GivesLeaves def o args leaves → ⊥))
 
--- the commands that change the opened fragment
+-- the commands that change the opened fragment without typed text
 abbrev pub IsChanging : Command → Type 0
 IsChanging (Refine place op args) = Unit {0}
 IsChanging (Insert place k op args) = Unit {0}
@@ -287,21 +281,3 @@ IsChanging (Close place) = Unit {0}
 IsChanging (Reopen place) = Unit {0}
 IsChanging (Paste place k name) = Unit {0}
 IsChanging _ = ⊥
-
--- the commands that neither open a fragment, nor read typed text, nor ask about the fragment or move in it, nor reach the
--- files
-abbrev pub IsElse : Command → Type 0
-IsElse (New name) = ⊥
-IsElse (Goto place) = ⊥
-IsElse (Over place text) = ⊥
-IsElse Show = ⊥
-IsElse (Screen top left rows cols) = ⊥
-IsElse (Own place) = ⊥
-IsElse (Relation place) = ⊥
-IsElse Free = ⊥
-IsElse Undo = ⊥
-IsElse Redo = ⊥
-IsElse (Save name place) = ⊥
-IsElse (Keep name file) = ⊥
-IsElse (Fetch file) = ⊥
-IsElse _ = Unit {0}

@@ -1,5 +1,5 @@
 -- What the plain editor does at a command: the first of the command's tests that holds refuses it, otherwise it is done.
-use Rattle.std.specs.Prelude.{ℕ, ◌≡◌, ◌<◌, ◌≤◌, ◌⊎◌, Bool, true, false, List, [], ◌∷◌, ◌++◌, length, codes, Option, Some, None, slice_get}
+use Rattle.std.specs.Prelude.{ℕ, ◌≡◌, ◌<◌, ◌≤◌, ◌⊎◌, Bool, true, false, List, [], ◌∷◌, ◌++◌, length, map, codes, Option, Some, None, slice_get}
 use Rattle.psg_terms.specs.Names.{Name}
 use Rattle.psg_terms.specs.Terms.{Term}
 use Rattle.psg_grammar.specs.declared.types.Kind.{Kind}
@@ -22,7 +22,11 @@ use Rattle.psg_reads_back.specs.Spots.{Placed}
 use Rattle.psg_library.specs.Keeping.{IsKept}
 use Rattle.psg_screen.specs.Window.{window_of}
 use Rattle.psg_unparse.specs.Spots.{span_of}
-use Rattle.psg_class.specs.Texts.{HasNoTokens}
+use Rattle.psg_regions.specs.Regions.{IsOutside}
+use Rattle.psg_class.specs.Texts.{HasNoTokens, HasNoTree}
+use Rattle.psg_renaming.specs.Occurring.{occurring}
+use Rattle.psg_menu.specs.Menus.{in_byte_order, IsMenu, IsNameMenu, HasWideTrial, HasWideNaming}
+use Rattle.psg_menu.specs.Answers.{HasOneName}
 use Rattle.psg_script.specs.declared.command.Where.{Where}
 use Rattle.psg_script.specs.declared.command.Command.{Command}
 use Rattle.psg_script.specs.declared.command.Command.TheVariants.{New, Goto, Refine, Insert, Cut, Remove, Close, Reopen, Over, Range, Show, Screen, Relation, Own, Menu, Names, Free, Undo, Redo, Save, Paste, Keep, Fetch}
@@ -32,11 +36,12 @@ use Rattle.psg_session.specs.PlainState.{State, Opened, Answer, stored, got, los
 use Rattle.psg_library.specs.declared.fragment.SavedFragment.{SavedFragment as Saved}
 use Rattle.psg_session.specs.Shelf.{saved_at, IsFull}
 use Rattle.psg_session.specs.declared.refusal.Refusal.{Refusal}
-use Rattle.psg_session.specs.declared.refusal.Refusal.TheVariants.{NoCommand, NoNode, NotHole, Unknown, OtherPhylum, BadArguments, NoPlace, TooBig, TooDeep, TooWide, TooHeavy, Inadmissible, NoTokens, NoTree, NothingEarlier, NothingLater, NoFragment, ShelfFault, KeptUnreadable, NoRange, NoPlaceholder, NothingOpened, ShelfFull}
+use Rattle.psg_session.specs.declared.refusal.Refusal.TheVariants.{NoNode, NotHole, Unknown, OtherPhylum, BadArguments, NoPlace, TooBig, TooDeep, TooWide, TooHeavy, Inadmissible, NoTokens, NoTree, NothingEarlier, NothingLater, NoFragment, ShelfFault, KeptUnreadable, NoRange, NoPlaceholder, NothingOpened, ShelfFull}
 use Rattle.psg_session.specs.Refusals.{Tests, done, test, Refuses, Passes, place_test}
 use Rattle.psg_session.specs.Replies.{Reply, refused, answered, marked, shown}
 use Rattle.psg_session.specs.Leaves.{GivesLeaves}
 use Rattle.psg_session.specs.Typed.{HasNoTreeFor, NestsTooDeep, ReadsFor}
+use Rattle.psg_session.specs.Ranged.{NestsTooDeepWith, OfOpened, ReadsWith, replacing, text_with}
 use Rattle.psg_session.specs.Answers.{rows_lines, free_names, names_line}
 use Rattle.psg_session.specs.Printing.{goto_line, lines_in, view_of, what_is, IsWrittenAt}
 
@@ -80,6 +85,11 @@ module _ (def : Definition) where
   HasNoRoom None node = IsEmptyPlace node → ⊥
   HasNoRoom (Some k) node = (IsList node → ⊥) ⊎ (length (children_of node) < k)
 
+  -- The node has no place for an operator: it is no placeholder, or, for a new element, no list with such a place.
+  abbrev pub HasNoPlace : Option ℕ → Fragment → Type 0
+  HasNoPlace None node = (p : ℕ) → node ≡ hole p → ⊥
+  HasNoPlace (Some k) node = (IsList node → ⊥) ⊎ (length (children_of node) < k)
+
   -- The kind that a saved fragment must have at the node: the node's own, or, for a new element, the phylum of the list's
   -- elements.
   abbrev pub MayTake : Option ℕ → Fragment → Kind → Type 0
@@ -102,6 +112,21 @@ module _ (def : Definition) where
   abbrev pub IsOtherSaved : State → Where → Option ℕ → Name → Type 0
   IsOtherSaved s place k name =
       AtNode s place (λ old node. (x : Saved) → saved_at s.saved name ≡ Some x → MayTake k node x.kind → ⊥)
+
+  -- no operator of the name has exactly one name
+  abbrev pub HasNotOneName : Name → Type 0
+  HasNotOneName name = (o p : ℕ) → IsOperator o name → HasOneName def o p → ⊥
+
+  -- where an operator of the wanted phylum is tried at the place, the tree of a trial is too wide
+  abbrev pub IsMenuTooWide : State → Where → Option ℕ → Type 0
+  IsMenuTooWide s place k =
+      AtNode s place (λ old node. (p : ℕ) × IsWanted k node p × HasWideTrial def old.tree (named_path place s.cursor) k p)
+
+  -- where the operator is tried there with a name that occurs in the fragment, it is
+  abbrev pub IsNamesTooWide : State → Where → Option ℕ → Name → Type 0
+  IsNamesTooWide s place k name =
+      AtNode s place (λ old node. (o : ℕ) × IsOperator o name
+      × HasWideNaming def old.tree (named_path place s.cursor) k o (in_byte_order (occurring old.tree)))
 
   abbrev pub GivesNone : Name → List ℕ → Type 0
   GivesNone name args = (o : ℕ) (leaves : List Leaf) → IsOperator o name → GivesLeaves def o args leaves → ⊥
@@ -127,6 +152,8 @@ module _ (def : Definition) where
         → Makes s (Paste place (Some k) name) (change_at (inserted k x.tree) (named_path place s.cursor) old.tree) (named_path place s.cursor ++ k ∷ [])
     by_over : {place : Where} {text : List ℕ} (old : Opened) (node new : Fragment) (nesting : ℕ) → s.opened ≡ Some old → node_at old.tree (named_path place s.cursor) ≡ Some node → ReadsFor def node text new nesting
         → Makes s (Over place text) (replaced (named_path place s.cursor) new old.tree) (named_path place s.cursor)
+    by_range : {start end : ℕ} {text : List ℕ} (old : Opened) (tree : Fragment) (nesting : ℕ) → s.opened ≡ Some old → ReadsWith def (replacing start end text) old tree nesting
+        → Makes s (Range start end text) tree []
 
   -- what a command gives before it is tested: what a change makes, or the new tree of a kind
   pub data Gives (s : State) : Command → Fragment → Type 0 where
@@ -166,13 +193,6 @@ module _ (def : Definition) (IsGood : Fragment → Type 0) where
   -- nothing is opened, or no node is at the place
   abbrev pub at_place : State → Where → Tests → Tests
   at_place s place rest = test NothingOpened (s.opened ≡ None) (test NoNode (IsNoNode def s place) rest)
-
-  -- A command that is not built yet counts as none. Its other tests are named, and what they say comes with it.
-  abbrev pub unbuilt : Tests → Tests
-  unbuilt rest = test NoCommand (Unit {0}) rest
-
-  abbrev pub unsaid : Refusal → Tests → Tests
-  unsaid refusal rest = test refusal ⊥ rest
 
   -- the tests of each command, in their order
   abbrev pub tests : State → Answer → Command → Tests
@@ -220,15 +240,25 @@ module _ (def : Definition) (IsGood : Fragment → Type 0) where
       (test NoTree (AtNode def s place (λ old node. HasNoTreeFor def node text))
       (typing (AtNode def s place (λ old node. NestsTooDeep def node text)) (OfResult def s (Over place text)))))
   tests s answer (Range start end text) =
-      unbuilt (test NothingOpened (s.opened ≡ None)
-      (unsaid NoRange (unsaid NoTokens (unsaid NoTree (typing ⊥ (OfResult def s (Range start end text)))))))
+      test NothingOpened (s.opened ≡ None)
+      (test NoRange (OfOpened s (λ old. IsOutside (replacing start end text) (text_of def old.tree)))
+      (test NoTokens (OfOpened s (λ old. HasNoTokens def (text_with def (replacing start end text) old)))
+      (test NoTree (OfOpened s (λ old. HasNoTree def old.kind (text_with def (replacing start end text) old)))
+      (typing (OfOpened s (NestsTooDeepWith def (replacing start end text))) (OfResult def s (Range start end text))))))
   tests s answer (Screen top left rows cols) = test NothingOpened (s.opened ≡ None) done
   tests s answer (Relation place) =
       at_place s place (test TooWide (AtNode def s place (λ old node. IsWideAt def old.tree (named_path place s.cursor))) done)
-  tests s answer (Menu place k) = unbuilt (at_place s place (unsaid (place_test k) (unsaid TooWide done)))
+  tests s answer (Menu place k) =
+      at_place s place
+      (test (place_test k) (AtNode def s place (λ old node. HasNoPlace def k node))
+      (test TooWide (IsMenuTooWide def s place k) done))
   tests s answer (Names place k name) =
-      unbuilt (at_place s place (unsaid (place_test k)
-      (unsaid Unknown (unsaid OtherPhylum (unsaid BadArguments (unsaid TooWide done))))))
+      at_place s place
+      (test (place_test k) (AtNode def s place (λ old node. HasNoPlace def k node))
+      (test Unknown ((o : ℕ) → IsOperator def o name → ⊥)
+      (test OtherPhylum (IsOther def s place k name)
+      (test BadArguments (HasNotOneName def name)
+      (test TooWide (IsNamesTooWide def s place k name) done)))))
   tests s answer Undo = test NothingOpened (s.opened ≡ None) (test NothingEarlier (s.earlier ≡ []) done)
   tests s answer Redo = test NothingOpened (s.opened ≡ None) (test NothingLater (s.later ≡ []) done)
   tests s answer (Save name place) = at_place s place (test ShelfFull (IsFull s.saved name) done)
@@ -304,3 +334,12 @@ module _ (def : Definition) (IsGood : Fragment → Type 0) where
         → Steps s answer (Relation place) s (answered (rows_lines def.signature [] rows))
     frees : (old : Opened) → IsTaken s answer Free → s.opened ≡ Some old
         → Steps s answer Free s (answered (names_line (free_names def old.tree) ∷ []))
+    offers : {place : Where} {k : Option ℕ} (old : Opened) (node : Fragment) (p : ℕ) (ops : List ℕ) (names : List Name)
+        → IsTaken s answer (Menu place k) → s.opened ≡ Some old
+        → node_at old.tree (named_path place s.cursor) ≡ Some node → IsWanted def k node p
+        → IsMenu def old.tree (named_path place s.cursor) k IsGood p ops → map (op_name_of def) ops ≡ map Some names
+        → Steps s answer (Menu place k) s (answered (names_line names ∷ []))
+    suggests : {place : Where} {k : Option ℕ} {name : Name} (old : Opened) (o : ℕ) (names : List Name)
+        → IsTaken s answer (Names place k name) → s.opened ≡ Some old → IsOperator def o name
+        → IsNameMenu def old.tree (named_path place s.cursor) k IsGood o names
+        → Steps s answer (Names place k name) s (answered (names_line names ∷ []))

@@ -1,6 +1,7 @@
 -- How many evaluations a command may take, where it makes a tree: those by which it differs from the old one, or those of a new
--- element and of the nodes and list suffixes above it. Typed text counts one for each of its tokens too.
-use Rattle.std.specs.Prelude.{ℕ, ◌≡◌, ◌≤◌, ◌⊎◌, ◌+◌, List, Some, None, length}
+-- element and of the nodes and list suffixes above it. Typed text counts one for each of its tokens too, and
+-- replaced bytes one for each token of the nodes that are read again.
+use Rattle.std.specs.Prelude.{ℕ, ◌≡◌, ◌≤◌, ◌⊎◌, ◌+◌, List, Option, Some, None, length, ◌*◌, sum_by}
 use Rattle.psg_terms.specs.Names.{Name}
 use Rattle.psg_grammar.specs.declared.types.Definition.{Definition}
 use Rattle.psg_grammar.specs.Fragments.{Fragment}
@@ -9,14 +10,20 @@ use Rattle.psg_grammar.specs.Paths.{Path}
 use Rattle.psg_grammar.specs.Work.{work_of, climb_of}
 use Rattle.psg_cache.specs.Diff.{diff_of}
 use Rattle.psg_class.specs.Texts.{TextTokens}
+use Rattle.psg_grammar.specs.Lookups.{operator_at}
+use Rattle.psg_renaming.specs.Occurring.{occurring}
+use Rattle.psg_menu.specs.Menus.{in_byte_order, operators_of}
+use Rattle.psg_menu.specs.Answers.{slots_of}
 use Rattle.psg_lexis.specs.declared.token.Spanned.{Spanned}
+use Rattle.psg_regions.specs.Regions.{IsReading}
 use Rattle.psg_script.specs.declared.command.Where.{Where}
 use Rattle.psg_script.specs.declared.command.Command.{Command}
 use Rattle.psg_script.specs.declared.command.Command.TheVariants.{New, Goto, Refine, Insert, Cut, Remove, Close, Reopen, Over, Range, Show, Screen, Relation, Own, Menu, Names, Free, Undo, Redo, Save, Paste, Keep, Fetch}
 use Rattle.psg_session.specs.Leaves.{GivesLeaves}
 use Rattle.psg_session.specs.Kept.{MayRead}
 use Rattle.psg_session.specs.PlainState.{Answer, State, Opened, named_path}
-use Rattle.psg_session.specs.PlainStep.{AtNode, IsOperator, Makes}
+use Rattle.psg_session.specs.PlainStep.{AtNode, IsOperator, Makes, IsWanted}
+use Rattle.psg_session.specs.Ranged.{OfOpened, replacing}
 use Rattle.psg_session.specs.Shelf.{saved_at}
 use Rattle.psg_library.specs.declared.fragment.SavedFragment.{SavedFragment as Saved}
 
@@ -53,6 +60,28 @@ module _ (def : Definition) (s : State) where
       ⊎ ((tree : Fragment) × (path : Path) × Makes def s (Over place text) tree path
       × (n ≤ length ts + diff_of old.tree tree)))
 
+  -- Whatever the reading of the change is: no more than the tokens that it reads; or than these and what the tree that is made
+  -- differs by from the old one. There is at most one reading.
+  abbrev pub OfRanged : ℕ → ℕ → List ℕ → Opened → ℕ → Type 0
+  OfRanged start end text old n =
+      (found : Option Path) (read : ℕ) → IsReading def old.tree (replacing start end text) found read
+      → (n ≤ read)
+      ⊎ ((tree : Fragment) × (path : Path) × Makes def s (Range start end text) tree path
+      × (n ≤ read + diff_of old.tree tree))
+
+  -- the evaluations above the place, and those of a list up to a new element
+  abbrev pub above_trial : Opened → Where → Option ℕ → ℕ
+  above_trial old place None = above old place
+  above_trial old place (Some k) = (k + 1) + above old place
+
+  -- of each operator of the phylum: one, its slots, and a climb
+  abbrev pub menu_work : ℕ → ℕ → ℕ
+  menu_work p climb = sum_by (λ o. 1 + slots_of def (operator_at def o) + climb) (operators_of def p)
+
+  -- the same of each candidate
+  abbrev pub names_work : ℕ → List Name → ℕ → ℕ
+  names_work o candidates climb = length candidates * (1 + slots_of def (operator_at def o) + climb)
+
   -- so many evaluations are within the command's bound
   abbrev pub MayTick : Command → ℕ → Type 0
   MayTick (New name) n = n ≤ 1
@@ -69,11 +98,15 @@ module _ (def : Definition) (s : State) where
   MayTick Free n = n ≡ 0
   MayTick (Goto place) n = n ≡ 0
   MayTick (Over place text) n = (n ≡ 0) ⊎ AtNode def s place (λ old node. OfTyped place text old n)
-  MayTick (Range start end text) n = n ≡ 0
+  MayTick (Range start end text) n = (n ≡ 0) ⊎ OfOpened s (λ old. OfRanged start end text old n)
   MayTick (Screen top left rows cols) n = n ≡ 0
   MayTick (Relation place) n = (n ≡ 0) ⊎ AtNode def s place (λ old node. n ≤ 1 + above old place)
-  MayTick (Menu place k) n = n ≡ 0
-  MayTick (Names place k name) n = n ≡ 0
+  MayTick (Menu place k) n =
+      (n ≡ 0) ⊎ AtNode def s place (λ old node. (p : ℕ) × IsWanted def k node p × (n ≤ menu_work p (above_trial old place k)))
+  MayTick (Names place k name) n =
+      (n ≡ 0)
+      ⊎ AtNode def s place (λ old node. (o : ℕ) × IsOperator def o name
+      × (n ≤ names_work o (in_byte_order (occurring old.tree)) (above_trial old place k)))
   MayTick Undo n = n ≡ 0
   MayTick Redo n = n ≡ 0
   MayTick (Save name place) n = n ≡ 0

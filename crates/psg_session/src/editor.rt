@@ -1,7 +1,8 @@
 //! The editor and its steps.
 ghost use Rattle.std.specs.Prelude.{◌≡◌, IfOk, IfSome, IfNone};
 ghost use Rattle.psg_grammar.specs.declared.types.Definition.{Definition as PlainDefinition};
-ghost use Rattle.psg_session.specs.Outcomes.{after, reply_in, IsChanging, IsElse, IsFit, IsGoneOn, IsOutcome, IsPlan, IsStay, Spends};
+ghost use Rattle.psg_session.specs.Formed.{IsFormedState};
+ghost use Rattle.psg_session.specs.Outcomes.{after, reply_in, IsChanging, IsFit, IsGoneOn, IsOutcome, IsPlan, IsStay, Spends};
 ghost use Rattle.psg_session.specs.PlainState.{not_asked};
 ghost use Rattle.psg_session.specs.Reached.{IsReaching};
 ghost use Rattle.psg_session.specs.Sessions.{state_of, IsEditor};
@@ -13,10 +14,12 @@ ghost use Rattle.psg_script.specs.declared.command.Command.TheVariants as comman
 use crate::changes::{Plan, close, cut, insert_element, refine, remove_element, reopen};
 use crate::insertion::blank;
 use crate::judging::{Trial, judged};
+use crate::menus::{menu, suggest};
 use crate::noting::{note_after, note_mark, note_of};
 use crate::pasting::paste;
 use crate::printing::{go, screen, show};
 use crate::questions::{free, own};
+use crate::ranged::replace_bytes;
 use crate::refusal::Refusal;
 use crate::relating::relation;
 use crate::replies::{Mark, Reply};
@@ -239,7 +242,7 @@ pub(crate) fn carry_out<L: Ledger>(
     Ok(Outcome::Changes(note, made.cursor, mark))
 }
 
-/// Does a changing command. A command that is not built counts as none.
+/// Does a changing command.
 #[tactic(auto, using(crate::proofs::Ticking::quiet))]
 fn change<L: Ledger>(
     alloc: Global,
@@ -250,10 +253,11 @@ fn change<L: Ledger>(
 ) -> Result<Outcome, AllocError>
     requires language { IsLanguage language.now }
     requires editor { IsEditor language.now.definition editor.now }
-    requires other { IsElse command.now }
+    requires changing { IsChanging command.now }
     ensures outcome { IfOk result (IsOutcome language.now.definition editor.now not_asked command.now) }
     ensures ticks { HasTicked language.now.definition (state_of editor.now) command.now steps.old steps.new }
 {
+    // a changing command has a plan
     let Some(plan) = planned(alloc, language, editor, command)? else {
         return Ok(Outcome::Stays(Reply::Refused(Refusal::NoCommand)));
     };
@@ -273,6 +277,7 @@ pub fn step<L: Ledger>(
 ) -> Result<Outcome, AllocError>
     requires language { IsLanguage language.now }
     requires editor { IsEditor language.now.definition editor.now }
+    requires formed { IsFormedState language.now.definition (state_of editor.now) }
     requires alone { IsReaching command.now → ⊥ }
     ensures outcome { IfOk result (IsOutcome language.now.definition editor.now not_asked command.now) }
     ensures ticks { HasTicked language.now.definition (state_of editor.now) command.now steps.old steps.new }
@@ -288,6 +293,10 @@ pub fn step<L: Ledger>(
         }
         Command::Over { at, text } => {
             let outcome = type_over(alloc, language, editor, at, text, steps)?;
+            Ok(outcome)
+        }
+        Command::Range { start, end, text } => {
+            let outcome = replace_bytes(alloc, language, editor, *start, *end, text, steps)?;
             Ok(outcome)
         }
         Command::Show => {
@@ -315,6 +324,14 @@ pub fn step<L: Ledger>(
         }
         Command::Relation { at } => {
             let outcome = relation(alloc, language, editor, at, steps)?;
+            Ok(outcome)
+        }
+        Command::Menu { at, place } => {
+            let outcome = menu(alloc, language, editor, at, *place, steps)?;
+            Ok(outcome)
+        }
+        Command::Names { at, place, op } => {
+            let outcome = suggest(alloc, language, editor, at, *place, op, steps)?;
             Ok(outcome)
         }
         Command::Free => {

@@ -1,10 +1,11 @@
 //! The tests of what a command makes.
-ghost use Rattle.std.specs.Prelude.{◌≡◌, ◌↔◌, [], IfOk, IsTrue};
+ghost use Rattle.std.specs.Prelude.{◌≡◌, ◌↔◌, [], Err, IfErr, IfOk, IsTrue};
 ghost use Rattle.psg_grammar.specs.declared.types.Definition.{Definition};
 ghost use Rattle.psg_grammar.specs.Fragments.{Fragment};
 ghost use Rattle.psg_cache.specs.Blames.{culprits_in};
-ghost use Rattle.psg_session.specs.Outcomes.{IsJudged, IsNoted, IsRefusalOf, MayGrow, MustBeGood};
-ghost use Rattle.psg_session.specs.declared.judging.Trial.TheVariants.{Opens};
+ghost use Rattle.psg_cache.specs.declared.note.NoteFault.TheVariants as faults;
+ghost use Rattle.psg_session.specs.Outcomes.{IsJudged, IsNoted, IsRefusalOf, MustBeGood};
+ghost use Rattle.psg_session.specs.Shrinking.{IsSmallFor};
 
 use crate::refusal::Refusal;
 use psg_cache::{Note, NoteFault};
@@ -25,48 +26,16 @@ pub enum Trial {
     Loosens,
 }
 
-/// Gives the refusal, where the change may add nodes. A change that adds none makes no tree larger, so such a fault of its
-/// tree does not come; it is answered by want of memory.
-fn where_it_grows(trial: Trial, refusal: Refusal) -> Result<Refusal, AllocError>
-    ensures { IfOk result (λ r. MayGrow trial × (r ≡ refusal)) }
-{
-    match trial {
-        Trial::Opens => Err(AllocError),
-        Trial::Grows => Ok(refusal),
-        Trial::Types => Ok(refusal),
-        Trial::Closes => Err(AllocError),
-        Trial::Loosens => Err(AllocError),
-    }
-}
-
-/// Gives the refusal, where the change is not that of a new fragment, which is never too heavy where it is not too wide.
-fn where_it_changes(trial: Trial, refusal: Refusal) -> Result<Refusal, AllocError>
-    ensures { IfOk result (λ r. (trial ≡ Opens → ⊥) × (r ≡ refusal)) }
-{
-    match trial {
-        Trial::Opens => Err(AllocError),
-        _ => Ok(refusal),
-    }
-}
-
 /// Gives the refusal of a tree whose note has this fault.
-fn refusal_of(trial: Trial, fault: &NoteFault) -> Result<Refusal, AllocError>
-    ensures { IfOk result (IsRefusalOf trial fault.now) }
+fn refusal_of(fault: &NoteFault) -> Result<Refusal, AllocError>
+    ensures refusal { IfOk result (IsRefusalOf fault.now) }
+    ensures memory { IfErr result (λ _. fault.now ≡ faults.Memory) }
 {
     match fault {
-        NoteFault::Deep => {
-            let refusal = where_it_grows(trial, Refusal::TooDeep)?;
-            Ok(refusal)
-        }
-        NoteFault::Big => {
-            let refusal = where_it_grows(trial, Refusal::TooBig)?;
-            Ok(refusal)
-        }
+        NoteFault::Deep => Ok(Refusal::TooDeep),
+        NoteFault::Big => Ok(Refusal::TooBig),
         NoteFault::Wide { .. } => Ok(Refusal::TooWide),
-        NoteFault::Heavy => {
-            let refusal = where_it_changes(trial, Refusal::TooHeavy)?;
-            Ok(refusal)
-        }
+        NoteFault::Heavy => Ok(Refusal::TooHeavy),
         NoteFault::Memory => Err(AllocError),
     }
 }
@@ -85,12 +54,15 @@ fn is_inadmissible(trial: Trial, note: &Note) -> bool
 }
 
 /// Gives the note, where its tree passes the tests of the change; otherwise the refusal of the first test that it fails.
+/// A limit that is not tested there is one that the tree cannot pass, since the change adds nothing. The call fails only
+/// where memory ran out for the note.
 pub fn judged(
     trial: Trial,
     noted: Result<Note, NoteFault>,
 ) -> Result<Result<Note, Refusal>, AllocError>
-    ensures { IfOk result (λ answer. (def : Definition) (f : Fragment) → IsNoted def f noted
-        → IsJudged def trial f answer) }
+    ensures judged { IfOk result (λ answer. (def : Definition) (f : Fragment) → IsNoted def f noted
+        → IsSmallFor def trial f → IsJudged def trial f answer) }
+    ensures memory { IfErr result (λ _. noted ≡ Err faults.Memory) }
 {
     match noted {
         Ok(note) => {
@@ -101,7 +73,7 @@ pub fn judged(
             }
         }
         Err(fault) => {
-            let refusal = refusal_of(trial, &fault)?;
+            let refusal = refusal_of(&fault)?;
             Ok(Err(refusal))
         }
     }

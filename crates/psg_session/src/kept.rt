@@ -7,6 +7,7 @@ ghost use Rattle.psg_library.specs.Keeping.{MayCount};
 ghost use Rattle.psg_script.specs.declared.command.Command.TheVariants as commands;
 ghost use Rattle.psg_session.specs.declared.refusal.Refusal.TheVariants.{KeptUnreadable};
 ghost use Rattle.psg_session.specs.Applied.{HasStopped};
+ghost use Rattle.psg_session.specs.Formed.{IsFormedState};
 ghost use Rattle.psg_session.specs.PlainState.{got};
 ghost use Rattle.psg_session.specs.Outcomes.{IsOutcome};
 ghost use Rattle.psg_session.specs.Exchanges.{Outside};
@@ -236,6 +237,7 @@ fn step_alone<L: Ledger>(
 ) -> Result<Outcome, AllocError>
     requires language { IsLanguage language.now }
     requires editor { IsEditor language.now.definition editor.now }
+    requires formed { IsFormedState language.now.definition (state_of editor.now) }
     requires alone { IsReaching command.now → ⊥ }
     ensures reached { (outside : Outside) → IfOk result (HasReached language.now.definition editor.now command.now
         outside outside steps.old steps.new) }
@@ -259,6 +261,7 @@ pub fn reach<F: Files, L: Ledger>(
 ) -> Result<Outcome, AllocError>
     requires language { IsLanguage language.now }
     requires editor { IsEditor language.now.definition editor.now }
+    requires formed { IsFormedState language.now.definition (state_of editor.now) }
     ensures reached { IfOk result (HasReached language.now.definition editor.now command.now
         (record { held = F.holds files.old; entries = F.faults files.old })
         (record { held = F.holds files.new; entries = F.faults files.new })

@@ -8,7 +8,7 @@
 //! What it does at a command is what the plain editor does, which is defined in this crate's specs and knows nothing but
 //! trees: the first of the command's tests that holds refuses it, otherwise it is done.
 //!
-//! A command that reaches the files asks them at its end (`kept`). Each other one is first planned (`changes`, `typed`), its tree is noted and judged (`noting`, `judging`), and what it does is an
+//! A command that reaches the files asks them at its end (`kept`). Each other one is first planned (`changes`, `typed`, `ranged`), its tree is noted and judged (`noting`, `judging`), and what it does is an
 //! outcome that has all memory; one place (`Editor::settle`) then changes the editor and cannot fail.
 #![tactic(auto)]
 
@@ -16,15 +16,19 @@ pub mod changes;
 pub mod editor;
 pub mod edits;
 pub mod finding;
+mod gathering;
 mod insertion;
 pub mod judging;
 pub mod kept;
 pub mod laws;
 pub mod leaves;
+pub mod measuring;
+pub mod menus;
 mod noting;
 pub mod pasting;
 mod printing;
 mod questions;
+mod ranged;
 pub mod refusal;
 mod relating;
 pub mod replies;
@@ -33,6 +37,7 @@ pub mod session;
 mod typed;
 mod versions;
 
+pub use measuring::Extent;
 pub use refusal::Refusal;
 pub use replies::{Mark, Reply, reply_lines};
 pub use session::Session;

@@ -95,7 +95,11 @@ pub fn go(
 }
 
 /// Gives the text of a tree.
-fn text_of(alloc: Global, definition: &Definition, tree: &Tree) -> Result<Txt, AllocError>
+pub(crate) fn text_of(
+    alloc: Global,
+    definition: &Definition,
+    tree: &Tree,
+) -> Result<Txt, AllocError>
     requires sound { IsSound definition.now }
     ensures { IfOk result (λ text. text ≡ text_of definition.now tree.now) }
 {

@@ -60,7 +60,7 @@ fn undeclared(alloc: Global, names: &[NameCol]) -> Result<Vec<Txt>, AllocError>
 }
 
 /// The names with a space between two, or `none`.
-fn names_line(alloc: Global, names: &[Txt]) -> Result<String, AllocError>
+pub(crate) fn names_line(alloc: Global, names: &[Txt]) -> Result<String, AllocError>
     ensures { IfOk result (λ text. string_bytes text ≡ names_line_of names.now) }
 {
     let [first, rest @ ..] = names else {

@@ -2,6 +2,8 @@
 ghost use Rattle.std.specs.Prelude.{◌≡◌, IfErr, IfOk, MatchOption, None, Some};
 ghost use Rattle.psg_cache.specs.Notes.{IsNoteOf};
 ghost use Rattle.psg_session.specs.Applied.{HasApplied, HasStopped, IsRefusal};
+ghost use Rattle.psg_grammar.specs.Legal.{IsCompletable};
+ghost use Rattle.psg_session.specs.Extents.{IsExtentOf};
 ghost use Rattle.psg_session.specs.Formed.{HasText};
 ghost use Rattle.psg_session.specs.Lines.{HasAnswered, HasBroken};
 ghost use Rattle.psg_session.specs.PlainState.{start, Opened};
@@ -10,6 +12,7 @@ ghost use Rattle.psg_session.specs.Views.{reply_of, IsLanguage};
 
 use crate::editor::Editor;
 use crate::kept::reach;
+use crate::measuring::{Extent, extent_of};
 use crate::refusal::Refusal;
 use crate::replies::Reply;
 use psg_cache::Note;
@@ -149,6 +152,22 @@ impl Session {
         match &self.parts.editor.opened {
             Some(held) => Some(&held.note),
             None => None,
+        }
+    }
+
+    /// Gives the extent of the opened fragment: how large it is, and its mark; `None` where nothing is opened. It prints the
+    /// whole text, and fails where memory runs out.
+    pub fn extent(&self, alloc: Global) -> Result<Option<Extent>, AllocError>
+        ensures { IfOk result (λ extent. MatchOption extent (self.now.editor.opened ≡ None)
+            (λ e. (old : Opened) × ((state_of self.now.editor).opened ≡ Some old)
+            × IsExtentOf self.now.language.definition (IsCompletable self.now.language.definition) old.tree e)) }
+    {
+        match &self.parts.editor.opened {
+            Some(held) => {
+                let extent = extent_of(alloc, &self.parts.language, &held.note)?;
+                Ok(Some(extent))
+            }
+            None => Ok(None),
         }
     }
 

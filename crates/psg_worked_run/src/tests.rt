@@ -2,6 +2,7 @@
 ghost use Rattle.std.specs.Prelude.{◌≡◌, ◌<◌};
 
 mod failures;
+mod generated;
 mod kept;
 mod limits;
 mod sessions;

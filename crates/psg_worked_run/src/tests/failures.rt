@@ -69,6 +69,13 @@ const ROWS: &[Row<'static>] = &[
         Status::ReadFault,
         "",
     ),
+    (
+        &["gen", "1"],
+        (CONSTS, SUM),
+        (&[1], &[1]),
+        Status::WriteFault,
+        "",
+    ),
 ];
 
 const OTHER_WORDS: &[&[&str]] = &[
@@ -78,6 +85,14 @@ const OTHER_WORDS: &[&[&str]] = &[
     &["edit", "lang", "script", "script"],
     &["Edit", "lang", "script"],
     &["check"],
+    &["gen"],
+    &["gen", "0"],
+    &["gen", "01"],
+    &["gen", "+1"],
+    &["gen", "1001"],
+    &["gen", "4294967297"],
+    &["gen", "one"],
+    &["gen", "1", "1"],
     &["check", "lang", "script"],
     &["edit", "check"],
     &["--help"],

@@ -5,6 +5,7 @@ use psg_langs::MINI;
 use psg_run::Status;
 use psg_world::{MemFiles, MemSink};
 use std::alloc::{AllocError, Global};
+use std::process::Abort;
 use std::test::Fail;
 
 /// A script that writes a file and reads it.
@@ -84,6 +85,19 @@ fn play(
     Ok(Played { status, files, out })
 }
 
+/// The run ended with this status and output, and the file `out.psg` has these bytes.
+fn ends_with_files(
+    rt: &impl Abort,
+    run: &Played,
+    status: Status,
+    output: &str,
+    left: Option<&[u8]>,
+) {
+    assert!(rt; run.status == status, "{output}");
+    assert!(rt; run.out.written() == output.as_bytes(), "{output}");
+    assert!(rt; run.files.held("out.psg") == left, "{output}");
+}
+
 #[test]
 fn each_call_of_the_files_fails(rt: HostRuntime) -> Result<(), Fail> {
     for (calls, (fourth, fifth), left) in ROWS {
@@ -101,9 +115,20 @@ fn each_call_of_the_files_fails(rt: HostRuntime) -> Result<(), Fail> {
             };
             wanted.push_str(own)?;
         }
-        assert!(rt; run.status == Status::Done, "{wanted}");
-        assert!(rt; run.out.written() == wanted.as_bytes(), "{wanted}");
-        assert!(rt; run.files.held("out.psg") == *left, "{wanted}");
+        ends_with_files(&rt, &run, Status::Done, &wanted, *left);
+    }
+    Ok(())
+}
+
+#[test]
+fn each_read_before_the_commands_fails(rt: HostRuntime) -> Result<(), Fail> {
+    for calls in [&[1][..], &[2][..], &[1, 2][..]] {
+        let failing = Failing {
+            reads: calls,
+            puts: &[],
+        };
+        let run = play(rt.alloc(), (MINI, SCRIPT.as_bytes()), b"", failing)?;
+        ends_with_files(&rt, &run, Status::ReadFault, "", None);
     }
     Ok(())
 }
@@ -118,10 +143,18 @@ fn each_put_of_a_script_with_files_fails(rt: HostRuntime) -> Result<(), Fail> {
             puts: &puts,
         };
         let run = play(rt.alloc(), (MINI, SCRIPT.as_bytes()), b"", failing)?;
-        assert!(rt; run.status == Status::WriteFault, "{wanted}");
-        assert!(rt; run.out.written() == wanted.as_bytes(), "{wanted}");
+        // the fourth command is answered after its file is written
+        let left = if place < 3 { None } else { Some(OUT) };
+        ends_with_files(&rt, &run, Status::WriteFault, &wanted, left);
         wanted.push_str(reply)?;
     }
+    // there is no tenth put
+    let failing = Failing {
+        reads: &[],
+        puts: &[10],
+    };
+    let run = play(rt.alloc(), (MINI, SCRIPT.as_bytes()), b"", failing)?;
+    ends_with_files(&rt, &run, Status::Done, &wanted, Some(OUT));
     Ok(())
 }
 
@@ -160,12 +193,7 @@ fn long_list(alloc: Global, count: usize) -> Result<Vec<u8>, AllocError> {
 }
 
 /// What `fetch` replies where the file has these bytes.
-fn fetched(
-    rt: &impl std::process::Abort,
-    alloc: Global,
-    kept: &[u8],
-    reply: &str,
-) -> Result<(), AllocError> {
+fn fetched(rt: &impl Abort, alloc: Global, kept: &[u8], reply: &str) -> Result<(), AllocError> {
     let run = play(alloc, (MINI, b"fetch kept\n"), kept, NONE)?;
     assert!(rt; run.status == Status::Done, "{reply}");
     assert!(rt; run.out.written() == reply.as_bytes(), "{reply}");

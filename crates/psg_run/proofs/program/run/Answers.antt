@@ -1,7 +1,7 @@
 use Rattle.std.proofs.Common.{◌≡◌, [], ◌∷◌}
 use Rattle.std.specs.Prelude.{codes}
 use Rattle.psg_run.specs.Worlds.{coming, seen, texts_of}
-use Rattle.psg_run.proofs.WordForms.{of_check, of_edit, of_live}
+use Rattle.psg_run.proofs.WordForms.{of_check, of_edit, of_gen, of_live}
 use Rattle.psg_run.proofs.program.run.Goals as goal
 
 pub returns-in-Some-Check : goal.returns-in-Some-Check
@@ -36,4 +36,20 @@ returns-in-Some-Live g c =
           (seen (g.F.Files.holds c.args.files.now) (g.F.Files.faults c.args.files.now) (g.O.Sink.written c.args.out.now) (g.O.Sink.faults c.args.out.now) c.args.steps.now)
           (seen (g.F.Files.holds c.live.new.files) (g.F.Files.faults c.live.new.files) (g.O.Sink.written c.live.new.out) (g.O.Sink.faults c.live.new.out) c.live.new.steps)
           c.live.result wanted c.live.ensures;
+    }
+
+pub generate-requires-clause-low : goal.generate-requires-clause-low
+generate-requires-clause-low g c = (rw c.in-Some-Gen.field-0-is at c.in-Some-Gen.ensures).1
+
+pub generate-requires-clause-high : goal.generate-requires-clause-high
+generate-requires-clause-high g c = (rw c.in-Some-Gen.field-0-is at c.in-Some-Gen.ensures).2
+
+pub returns-in-Some-Gen : goal.returns-in-Some-Gen
+returns-in-Some-Gen g c =
+    record {
+      run = of_gen (texts_of c.args.words.now) c.in-Some-Gen.number
+          (coming (g.I.Input.lines c.args.input.now) (g.I.Input.given c.args.input.now) (g.I.Input.missed c.args.input.now))
+          (seen (g.F.Files.holds c.args.files.now) (g.F.Files.faults c.args.files.now) (g.O.Sink.written c.args.out.now) (g.O.Sink.faults c.args.out.now) c.args.steps.now)
+          (seen (g.F.Files.holds c.generate.new.files) (g.F.Files.faults c.generate.new.files) (g.O.Sink.written c.generate.new.out) (g.O.Sink.faults c.generate.new.out) c.generate.new.steps)
+          c.generate.result (rw c.in-Some-Gen.field-0-is at c.in-Some-Gen.ensures) c.generate.ensures;
     }

@@ -3,7 +3,7 @@ use Rattle.psg_session.specs.Outcomes.{IsJudged, IsMade, IsPlan}
 use Rattle.psg_session.specs.Edits.{edited}
 use Rattle.psg_session.specs.Sessions.{state_of}
 use Rattle.psg_cache.specs.Annotated.{tree_in}
-use Rattle.psg_session.proofs.Carrying.{changed_here, may_here, refused_here, refused_plan, ticks_here}
+use Rattle.psg_session.proofs.Carrying.{changed_here, may_here, refused_here, refused_plan, small_here, ticks_here}
 use Rattle.psg_session.proofs.EditLaws.{opened_version}
 use Rattle.psg_session.proofs.Ticking.{quiet}
 use Rattle.psg_session.proofs.editor.carry_out.Goals as goal
@@ -44,8 +44,10 @@ returns-in-Err-clause-outcome g c = λ command plan.
     let f = edited c.in-Makes.made.edit (tree_in c.in-Some.held.note) in
     refused_here def c.args.editor.now command c.in-Makes.made
     (subst (IsPlan def c.args.editor.now command) c.in-Makes.is plan) c.in-Some.held c.in-Some.is
-    c.in-Err.refusal (subst (IsJudged def c.in-Makes.made.trial f) c.in-Err.is (c.in_ok-note.ensures def f
-    c.note_after-noted.ensures.noted))
+    c.in-Err.refusal (subst (IsJudged def c.in-Makes.made.trial f) c.in-Err.is (c.in_ok-note.ensures.judged def f
+    c.note_after-noted.ensures.noted
+    (small_here def c.args.editor.now command c.in-Makes.made
+    (subst (IsPlan def c.args.editor.now command) c.in-Makes.is plan) c.in-Some.held c.in-Some.is c.requires.editor)))
 
 pub returns-in-Err-clause-ticks : goal.returns-in-Err-clause-ticks
 returns-in-Err-clause-ticks g c = λ command plan.
@@ -71,8 +73,11 @@ returns-clause-outcome g c = λ command plan.
     let f = edited c.in-Makes.made.edit (tree_in c.in-Some.held.note) in
     changed_here def c.args.editor.now command c.in-Makes.made
     (subst (IsPlan def c.args.editor.now command) c.in-Makes.is plan) c.in-Some.held c.in-Some.is c.requires.editor
-    c.in-Ok.note (subst (IsJudged def c.in-Makes.made.trial f) c.in-Ok.is (c.in_ok-note.ensures def f
-    c.note_after-noted.ensures.noted)) c.in_ok-mark.mark c.in_ok-mark.ensures
+    c.in-Ok.note (subst (IsJudged def c.in-Makes.made.trial f) c.in-Ok.is (c.in_ok-note.ensures.judged def f
+    c.note_after-noted.ensures.noted
+    (small_here def c.args.editor.now command c.in-Makes.made
+    (subst (IsPlan def c.args.editor.now command) c.in-Makes.is plan) c.in-Some.held c.in-Some.is c.requires.editor)))
+    c.in_ok-mark.mark c.in_ok-mark.ensures
 
 pub returns-clause-ticks : goal.returns-clause-ticks
 returns-clause-ticks g c = λ command plan.

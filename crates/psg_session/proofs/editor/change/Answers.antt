@@ -1,12 +1,11 @@
 use Rattle.psg_session.specs.Outcomes.{IsChanging, IsPlan}
 use Rattle.psg_session.proofs.LeafLaws.{none_in, some_in}
-use Rattle.psg_session.proofs.Unbuilt.{unbuilt_refused}
 use Rattle.psg_session.proofs.editor.change.Goals as goal
 
 pub returns-in_default-clause-outcome : goal.returns-in_default-clause-outcome
 returns-in_default-clause-outcome g c =
-    unbuilt_refused c.args.language.now.definition c.args.editor.now c.args.command.now c.requires.other
-    (none_in (IsChanging c.args.command.now → ⊥) c.in_ok-plan.field-0 c.in_default.is c.in_ok-plan.ensures.none)
+    absurd (none_in (IsChanging c.args.command.now → ⊥) c.in_ok-plan.field-0 c.in_default.is c.in_ok-plan.ensures.none
+    c.requires.changing)
 
 pub carry_out-requires-clause-plan : goal.carry_out-requires-clause-plan
 carry_out-requires-clause-plan g c = (

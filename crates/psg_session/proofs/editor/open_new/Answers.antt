@@ -4,8 +4,10 @@ use Rattle.psg_cache.proofs.ShapedTrees.{blank_shaped}
 use Rattle.psg_session.specs.declared.judging.Trial.TheVariants.{Opens}
 use Rattle.psg_session.specs.Outcomes.{IsJudged}
 use Rattle.psg_session.specs.Sessions.{state_of}
+use Rattle.psg_session.specs.Shrinking.{IsSmallFor}
 use Rattle.psg_session.proofs.Carrying.{new_declaring, new_opened, new_refused, new_unknown}
 use Rattle.psg_session.proofs.Opening.{has_kind, one_kind}
+use Rattle.psg_session.proofs.Smaller.{blank_small}
 use Rattle.psg_session.proofs.Ticking.{new_counted}
 use Rattle.psg_session.proofs.editor.open_new.Goals as goal
 
@@ -47,7 +49,8 @@ returns-in-Err-clause-outcome g c =
     (λ declares. true≢false (sym (c.is_declaring.ensures.1 declares) ∙ c.if-is_declaring.false)) c.in-Err.refusal
     (subst (λ f. IsJudged def Opens f (Err c.in-Err.refusal)) c.in_ok-tree.ensures
     (subst (IsJudged def Opens c.in_ok-tree.tree) c.in-Err.is
-    (c.in_ok-note.ensures def c.in_ok-tree.tree c.note_of-noted.ensures.noted)))
+    (c.in_ok-note.ensures.judged def c.in_ok-tree.tree c.note_of-noted.ensures.noted
+    (subst (IsSmallFor def Opens) (sym c.in_ok-tree.ensures) (blank_small def c.in-Some.kind)))))
 
 pub returns-in-Err-clause-ticks : goal.returns-in-Err-clause-ticks
 returns-in-Err-clause-ticks g c =
@@ -75,7 +78,8 @@ returns-clause-outcome g c =
     (blank_shaped def kind (has_kind def kind c.as_str.result.now c.in-Some.ensures.found)) c.in-Ok.note
     (subst (λ f. IsJudged def Opens f (Ok c.in-Ok.note)) c.in_ok-tree.ensures
     (subst (IsJudged def Opens c.in_ok-tree.tree) c.in-Ok.is
-    (c.in_ok-note.ensures def c.in_ok-tree.tree c.note_of-noted.ensures.noted)))
+    (c.in_ok-note.ensures.judged def c.in_ok-tree.tree c.note_of-noted.ensures.noted
+    (subst (IsSmallFor def Opens) (sym c.in_ok-tree.ensures) (blank_small def c.in-Some.kind)))))
     c.in_ok-cursor.cursor c.in_ok-cursor.ensures c.in_ok-mark.mark c.in_ok-mark.ensures
 
 pub returns-clause-ticks : goal.returns-clause-ticks

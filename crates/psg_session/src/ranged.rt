@@ -1,0 +1,165 @@
+//! Bytes of the printed text, replaced by typed ones.
+ghost use Rattle.std.specs.Prelude.{◌≡◌, ◌≤◌, ◌+◌, ℕ, [], IfOk, Option};
+ghost use Rattle.psg_cache.specs.Annotated.{tree_in};
+ghost use Rattle.psg_grammar.specs.Paths.{Path as PlainPath};
+ghost use Rattle.psg_grammar.specs.Printable.{IsPrintable};
+ghost use Rattle.psg_grammar.specs.Sizes.{depth_of};
+ghost use Rattle.psg_grammar.specs.WellFormed.{WellFormed};
+ghost use Rattle.psg_grammar.specs.declared.limits.TheConstants.{MOST_DEPTH};
+ghost use Rattle.psg_regions.specs.Regions.{IsReading};
+ghost use Rattle.psg_script.specs.declared.command.Command.TheVariants as commands;
+ghost use Rattle.psg_session.specs.declared.edits.Edit.TheVariants as edits;
+ghost use Rattle.psg_session.specs.declared.judging.Trial.TheVariants.{Types};
+ghost use Rattle.psg_session.specs.Formed.{IsFormedState};
+ghost use Rattle.psg_session.specs.Outcomes.{made_of, IsOutcome, IsPlan, MaySpend};
+ghost use Rattle.psg_session.specs.PlainState.{not_asked};
+ghost use Rattle.psg_session.specs.RangeAnswers.{IsRangeAnswer, IsRangeRefusal};
+ghost use Rattle.psg_session.specs.Sessions.{plain, state_of, IsEditor};
+ghost use Rattle.psg_session.specs.Ticks.{HasTicked};
+ghost use Rattle.psg_session.specs.Views.{IsLanguage};
+ghost use Rattle.psg_textedit.specs.Typing.{typing_of};
+
+use crate::changes::{Made, Plan};
+use crate::editor::{Editor, OpenedTree, Outcome, carry_out};
+use crate::edits::Edit;
+use crate::judging::Trial;
+use crate::refusal::Refusal;
+use psg_specimen::Language;
+use psg_terms::{Steps, Txt};
+use psg_textedit::{Change, Reader, TextFault, Typed, type_over};
+use psg_tree::Path;
+use psg_unparse::unparse;
+use std::alloc::{AllocError, Global};
+use std::sync::ledger::Ledger;
+
+/// Gives the refusal of bytes that are not replaced for this fault.
+fn refusal_of(fault: TextFault) -> Result<Refusal, AllocError>
+    ensures { IfOk result (IsRangeRefusal fault) }
+{
+    match fault {
+        TextFault::NoPlace => Ok(Refusal::NoRange),
+        TextFault::NoTokens => Ok(Refusal::NoTokens),
+        TextFault::NoTree => Ok(Refusal::NoTree),
+        TextFault::Deep => Ok(Refusal::TooDeep),
+        TextFault::Memory => Err(AllocError),
+    }
+}
+
+/// Reads the whole new text of the opened fragment, by the nodes around the bytes that are replaced. It prints the whole
+/// text and lexes the new one, and takes a step of the counter for each token of the nodes that it reads again.
+fn read_change<L: Ledger>(
+    alloc: Global,
+    language: &Language,
+    held: &OpenedTree,
+    typed: &Typed<'_>,
+    steps: &mut Steps<L>,
+) -> Result<Change, TextFault>
+    requires language { IsLanguage language.now }
+    requires formed { WellFormed language.now.definition (tree_in held.now.note) held.now.kind }
+    requires printable { IsPrintable (tree_in held.now.note) }
+    requires shallow { depth_of (tree_in held.now.note) ≤ MOST_DEPTH }
+    ensures answer { IsRangeAnswer language.now.definition (typing_of typed.now) (plain held.now) result }
+    ensures ticks { (found : Option PlainPath) (n : ℕ)
+        → IsReading language.now.definition (tree_in held.now.note) (typing_of typed.now) found n
+        → steps.new ≤ steps.old + n }
+{
+    // that the new bytes are UTF-8 is known of all texts
+    let _new = typed.new.as_bytes();
+    let definition = &language.definition;
+    let tree = held.note.tree();
+    let printed = unparse(alloc, definition, tree)?;
+    let reader = Reader {
+        definition,
+        lexis: &language.lexis,
+        table: &language.table,
+    };
+    let change = type_over(alloc, &reader, tree, held.kind, &printed, typed, steps)?;
+    Ok(change)
+}
+
+/// Plans the tree of the change in place of its node; the cursor goes to the top.
+fn put_change(alloc: Global, change: Change) -> Result<Made, AllocError>
+    ensures { IfOk result (λ made. made ≡ made_of Types (edits.Put change.path change.tree) []) }
+{
+    let cursor = Path::of(alloc, &[])?;
+    let edit = Edit::Put {
+        at: change.path,
+        new: change.tree,
+    };
+    let trial = Trial::Types;
+    Ok(Made {
+        trial,
+        edit,
+        cursor,
+    })
+}
+
+/// Plans replaced bytes: the tree of the node that is read again, in its place.
+fn range<L: Ledger>(
+    alloc: Global,
+    language: &Language,
+    editor: &Editor,
+    start: u32,
+    end: u32,
+    text: &Txt,
+    steps: &mut Steps<L>,
+) -> Result<Plan, AllocError>
+    requires language { IsLanguage language.now }
+    requires editor { IsEditor language.now.definition editor.now }
+    requires formed { IsFormedState language.now.definition (state_of editor.now) }
+    ensures plan { IfOk result (IsPlan language.now.definition editor.now (commands.Range start end text.now)) }
+    ensures ticks { HasTicked language.now.definition (state_of editor.now) (commands.Range start end text.now)
+        steps.old steps.new }
+    ensures spends { IfOk result (MaySpend language.now.definition editor.now (commands.Range start end text.now)
+        steps.old steps.new) }
+{
+    let Some(held) = &editor.opened else {
+        return Ok(Plan::RefusedBy(Refusal::NothingOpened));
+    };
+    let typed = Typed {
+        start: start as usize,
+        end: end as usize,
+        new: text.as_str(),
+    };
+    let read = read_change(alloc, language, held, &typed, steps);
+    match read {
+        Ok(change) => {
+            let made = put_change(alloc, change)?;
+            Ok(Plan::Makes(made))
+        }
+        Err(fault) => {
+            let refusal = refusal_of(fault)?;
+            Ok(Plan::RefusedBy(refusal))
+        }
+    }
+}
+
+/// Replaces the bytes of the printed text from `start` on and before `end`. The new tree is the only one that the whole new
+/// text is read as, of the opened kind; it is taken also where it is wrong, so long as it is within the limits. The cursor
+/// goes to the top.
+///
+/// It is refused with `NoRange` where the text has no such bytes, with `NoTokens` and `NoTree` where the whole new text has no
+/// tokens or no tree, and with `TooDeep` where one has them that is too deep, or whose brackets nest too deep. It prints the
+/// whole text, takes a step for each token of the nodes around the bytes that are read again, evaluates the new nodes and
+/// those above them, and fails where memory runs out.
+pub(crate) fn replace_bytes<L: Ledger>(
+    alloc: Global,
+    language: &Language,
+    editor: &Editor,
+    start: u32,
+    end: u32,
+    text: &Txt,
+    steps: &mut Steps<L>,
+) -> Result<Outcome, AllocError>
+    requires language { IsLanguage language.now }
+    requires editor { IsEditor language.now.definition editor.now }
+    requires formed { IsFormedState language.now.definition (state_of editor.now) }
+    ensures outcome { IfOk result (IsOutcome language.now.definition editor.now not_asked
+        (commands.Range start end text.now)) }
+    ensures ticks { HasTicked language.now.definition (state_of editor.now) (commands.Range start end text.now)
+        steps.old steps.new }
+{
+    let plan = range(alloc, language, editor, start, end, text, steps)?;
+    let outcome = carry_out(alloc, language, editor, plan, steps)?;
+    Ok(outcome)
+}
