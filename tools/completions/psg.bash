@@ -2,7 +2,7 @@
 _psg() {
     local word=${COMP_WORDS[COMP_CWORD]} first=${COMP_WORDS[1]}
     if [ "$COMP_CWORD" -eq 1 ]; then
-        mapfile -t COMPREPLY < <(compgen -W "check edit live codes commands --help --version --build --explain" -- "$word")
+        mapfile -t COMPREPLY < <(compgen -W "check edit live gen codes commands --help --version --build --explain" -- "$word")
         return
     fi
     case $first in
