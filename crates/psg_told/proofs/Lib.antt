@@ -1,0 +1,13 @@
+pub mod Heads
+pub mod Lexed
+pub mod Walked
+pub mod Selection
+pub mod Parts
+pub mod OwnChoices
+pub mod StepsMade
+pub mod Spaces
+pub mod TreesTold
+pub mod ObservedTold
+pub mod SlotItems
+pub mod AllTold
+pub mod ShownTold
