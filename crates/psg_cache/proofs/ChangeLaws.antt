@@ -24,8 +24,7 @@ use Rattle.psg_cache.specs.Changes.{change_of, remade_ticks, IsAdded, IsKept, Is
 use Rattle.psg_cache.specs.Noted.{IsNoted, IsNotedAs}
 use Rattle.psg_cache.specs.Edits.{MayInsert, MayRemove, MayReplace}
 use Rattle.psg_cache.specs.Notes.{IsFormed, IsNoteOf}
-use Rattle.psg_cache.specs.Shaped.{IsShaped}
-use Rattle.psg_cache.proofs.ShapedTrees.{changed_shaped, inserted_shaped, kind_once, removed_shaped, shape_is_kind}
+use Rattle.psg_cache.proofs.FormedTrees.{changed_formed, inserted_formed, kind_once, removed_formed, formed_is_kind}
 use Rattle.psg_cache.specs.Walks.{AreNotesOf, IsStepFault}
 use Rattle.psg_cache.proofs.Carrying.{names-put, top-put}
 use Rattle.psg_cache.proofs.ClimbLaws.{change-put}
@@ -34,6 +33,7 @@ use Rattle.psg_cache.proofs.NoteParts.{noted_parts}
 use Rattle.psg_cache.proofs.CulpritLaws.{real_children}
 use Rattle.psg_cache.proofs.RealTrees.{IsReal, IsSpine, real}
 use Rattle.psg_grammar.specs.Kinds.{IsOfKind}
+use Rattle.psg_grammar.specs.WellFormed.{WellFormed}
 use Rattle.psg_cache.proofs.SpliceLaws.{children_changed, children_inserted, children_removed, fewer_ticks, kept_behind, list_changed, list_inserted, list_removed, list_self, long_enough, notes_spliced, notes_take, spine_once, spliced_same, taken_front, ticks_changed, ticks_inserted, ticks_removed}
 use Rattle.psg_cache.proofs.WalkLaws.{child_fault, formed_children, notes_clean}
 
@@ -507,22 +507,22 @@ module _ (def : Definition) where
       → MayInsert def (tree_in n) path place new → IsInserted (tree_in n) path place new made
       → IsPlace def n path (edits.Add place new) made
   place_add n path place new made note may is =
-      let (kind, shaped) = note.formed in
+      let (kind, formed) = note.formed in
       let same : is.list ≡ may.node = same_some is.list may.node (sym is.is_there ∙ may.there) in
-      let whole = changed_shaped def (inserted place new) (tree_in n) kind path may.node shaped may.there
+      let whole = changed_formed def (inserted place new) (tree_in n) kind path may.node formed may.there
       (λ K h.
       let one : K ≡ kinds.List may.number =
-      kind_once def may.node K (kinds.List may.number) (shape_is_kind def may.node K h) may.of_kind in
-      subst (IsShaped def (inserted place new may.node)) (sym one)
-      (inserted_shaped def place new may.node may.number may.list (subst (IsShaped def may.node) one h) may.found
-      may.shaped)) in
+      kind_once def may.node K (kinds.List may.number) (formed_is_kind def may.node K h) may.of_kind in
+      subst (WellFormed def (inserted place new may.node)) (sym one)
+      (inserted_formed def place new may.node may.number may.list (subst (WellFormed def may.node) one h) may.found
+      may.formed)) in
       record {
         noted = note.noted;
         formed_old = note.formed;
-        formed = (kind, subst (λ x. IsShaped def x kind) (sym is.made_is) whole);
+        formed = (kind, subst (λ x. WellFormed def x kind) (sym is.made_is) whole);
         node = may.node;
         there = may.there;
-        takes = (subst IsList same is.is_list, may.within, (kinds.Phylum may.list.element, may.shaped));
+        takes = (subst IsList same is.is_list, may.within, (kinds.Phylum may.list.element, may.formed));
         changed = is.made_is;
       }
 
@@ -530,13 +530,13 @@ module _ (def : Definition) where
       → MayRemove def (tree_in n) path place → IsRemoved (tree_in n) path place made
       → IsPlace def n path (edits.Take place) made
   place_take n path place made note may is =
-      let (kind, shaped) = note.formed in
-      let whole = changed_shaped def (removed place) (tree_in n) kind path may.node shaped may.there
-      (λ K h. removed_shaped def place may.node K h) in
+      let (kind, formed) = note.formed in
+      let whole = changed_formed def (removed place) (tree_in n) kind path may.node formed may.there
+      (λ K h. removed_formed def place may.node K h) in
       record {
         noted = note.noted;
         formed_old = note.formed;
-        formed = (kind, subst (λ x. IsShaped def x kind) (sym is.made_is) whole);
+        formed = (kind, subst (λ x. WellFormed def x kind) (sym is.made_is) whole);
         node = may.node;
         there = may.there;
         takes = (may.list, may.within);

@@ -7,9 +7,8 @@ use Rattle.psg_grammar.specs.declared.types.Item.{Item}
 use Rattle.psg_grammar.specs.declared.types.Item.TheVariants as items
 use Rattle.psg_grammar.specs.declared.types.Definition.{Definition}
 use Rattle.psg_grammar.specs.Fragments.{Fragment, hole, ending, cell, operator, with_child, with_name, with_number, with_text, anything, observed, children_of}
-use Rattle.psg_grammar.specs.WellFormed.{IsPlain}
+use Rattle.psg_grammar.specs.WellFormed.{Fits, IsPlain}
 use Rattle.psg_tree.specs.Shapes.{height}
-use Rattle.psg_cache.specs.Shaped.{HasShape}
 use Rattle.psg_cache.specs.Notes.{IsFormed}
 use Rattle.psg_cache.proofs.Each.{each_at, each_push}
 
@@ -27,7 +26,7 @@ lower anything n h = tt
 lower (observed g) n h = lower g n h
 
 module _ (def : Definition) where
-  pub formed_below : (f : Fragment) (more : List Item) (kind : Kind) → HasShape def f more kind → IsPlain f
+  pub formed_below : (f : Fragment) (more : List Item) (kind : Kind) → Fits def f more kind → IsPlain f
       → AllByRecursion (IsFormed def) (children_of f)
   formed_below (hole p) more kind h plain = tt
   formed_below (ending l u) more kind h plain = tt

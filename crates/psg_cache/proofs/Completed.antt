@@ -13,7 +13,8 @@ use Rattle.psg_cache.proofs.MarkLaws.{marked}
 use Rattle.psg_cache.proofs.NoteOpen.{noted_open}
 
 pub noted_completable : (def : Definition) → IsSound def → (f : Fragment) (n : Annotated) → IsNoteOf def f n → TellsCompletable def f n
-noted_completable def sound f n note rows kind formed =
+noted_completable def sound f n note rows =
+    let (kind, formed) = note.formed in
     let open_is = noted_open def f n note in
     let same = open_or_completable def sound rows f kind formed in
     record {

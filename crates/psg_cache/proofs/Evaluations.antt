@@ -10,7 +10,7 @@ use Rattle.psg_grammar.specs.declared.types.Operator.{Operator}
 use Rattle.psg_grammar.specs.declared.types.Definition.{Definition}
 use Rattle.psg_grammar.specs.Fragments.{Fragment, hole, ending, cell, operator, with_child, with_name, with_number, with_text, anything, observed, children_of, top_operator}
 use Rattle.psg_grammar.specs.Lookups.{part_items}
-use Rattle.psg_grammar.specs.WellFormed.{IsPlain}
+use Rattle.psg_grammar.specs.WellFormed.{Fits, IsPlain}
 use Rattle.psg_tree.specs.declared.tree.Part.{Part}
 use Rattle.psg_tree.specs.declared.tree.Part.TheVariants.{Sub, Name as Named, Number, Text}
 use Rattle.psg_tree.specs.Shapes.{with_part, with_parts}
@@ -18,7 +18,6 @@ use Rattle.psg_eval.specs.declared.summary.Known.{Known}
 use Rattle.psg_eval.specs.Trees.{HasParts, IsNode, own_names}
 use Rattle.psg_grammar.specs.Kinds.{IsOfKind}
 use Rattle.psg_eval.specs.Summaries.{AllSummaries, IsSummary, IsSummaryOf, slot_kinds, are_names, TakesAt}
-use Rattle.psg_cache.specs.Shaped.{HasShape}
 use Rattle.psg_cache.specs.Walks.{names_in}
 use Rattle.psg_cache.proofs.Each.{same_some}
 use Rattle.psg_cache.proofs.RealTrees.{IsSpine}
@@ -63,7 +62,7 @@ spine_parts f [] s = s
 spine_parts f (p ∷ ps) s = spine_parts (with_part f p) ps (spine_part f p s)
 
 module _ (def : Definition) where
-  pub kind_fits : (f : Fragment) (more : List Item) (kind : Kind) → HasShape def f more kind → IsPlain f
+  pub kind_fits : (f : Fragment) (more : List Item) (kind : Kind) → Fits def f more kind → IsPlain f
       → IsOfKind def f kind
   kind_fits (hole p) more kind h plain = h.1
   kind_fits (ending l u) more kind h plain = h.1
@@ -91,11 +90,11 @@ module _ (def : Definition) where
   one_kind (observed f) j k h i = one_kind f j k h i
 
   -- the kind of a summary is the one by which the tree is formed
-  pub kind_known : (f : Fragment) (kind : Kind) (s : Known) → HasShape def f [] kind → IsPlain f → IsSummaryOf def f s
+  pub kind_known : (f : Fragment) (kind : Kind) (s : Known) → Fits def f [] kind → IsPlain f → IsSummaryOf def f s
       → s.kind ≡ kind
   kind_known f kind s h plain summary = one_kind f s.kind kind summary.kind (kind_fits f [] kind h plain)
 
-  has_parts : (f : Fragment) (more : List Item) (kind : Kind) → HasShape def f more kind → IsPlain f → IsSpine f
+  has_parts : (f : Fragment) (more : List Item) (kind : Kind) → Fits def f more kind → IsPlain f → IsSpine f
       → HasParts def f more
   has_parts (operator o) more kind (op, found, e, k) plain s = (op, found, e)
   has_parts (with_child f t) more kind (k, hf, ht) plain s =
@@ -175,9 +174,9 @@ module _ (def : Definition) where
   AreOfKinds [] [] = Unit {0}
   AreOfKinds [] (k ∷ ks) = ⊥
   AreOfKinds (c ∷ cs) [] = ⊥
-  AreOfKinds (c ∷ cs) (k ∷ ks) = HasShape def c [] k × IsPlain c × AreOfKinds cs ks
+  AreOfKinds (c ∷ cs) (k ∷ ks) = Fits def c [] k × IsPlain c × AreOfKinds cs ks
 
-  kinds-push : (cs : List Fragment) (ks : List Kind) (c : Fragment) (k : Kind) → AreOfKinds cs ks → HasShape def c [] k
+  kinds-push : (cs : List Fragment) (ks : List Kind) (c : Fragment) (k : Kind) → AreOfKinds cs ks → Fits def c [] k
       → IsPlain c → AreOfKinds (cs ++ c ∷ []) (ks ++ k ∷ [])
   kinds-push [] [] c k h f p = (f, p, tt)
   kinds-push [] (j ∷ ks) c k h f p = absurd h
@@ -207,7 +206,7 @@ module _ (def : Definition) where
     slots : slot_kinds def done ≡ child_kinds
     names : length (are_names def done) ≡ length (own_names f)
 
-  has_items : (f : Fragment) (more : List Item) (kind : Kind) → HasShape def f more kind → IsPlain f → IsSpine f
+  has_items : (f : Fragment) (more : List Item) (kind : Kind) → Fits def f more kind → IsPlain f → IsSpine f
       → HasItems f more
   has_items (operator o) more kind (op, found, e, k) plain s =
       record {
@@ -309,7 +308,7 @@ module _ (def : Definition) where
 
   -- an operator takes the names and children of its node
   pub takes_at : (o : ℕ) (ps : List Part) (f : Fragment) (kind : Kind) → with_parts (operator o) ps ≡ f
-      → HasShape def f [] kind → IsPlain f → (summaries : List Known) → AllSummaries def (children_of f) summaries
+      → Fits def f [] kind → IsPlain f → (summaries : List Known) → AllSummaries def (children_of f) summaries
       → AllByRecursion (IsSummary def) summaries → TakesAt def o (names_in ps) summaries
   takes_at o ps f kind made fits plain summaries are usual =
       let spine : IsSpine f = subst IsSpine made (spine_parts (operator o) ps tt) in
@@ -331,7 +330,7 @@ module _ (def : Definition) where
       )
 
   pub is_node : (o : ℕ) (ps : List Part) (f : Fragment) (kind : Kind) → with_parts (operator o) ps ≡ f
-      → HasShape def f [] kind → IsPlain f → IsNode def o (names_in ps) f
+      → Fits def f [] kind → IsPlain f → IsNode def o (names_in ps) f
   is_node o ps f kind made fits plain = record {
     top = ap top_operator (sym made) ∙ top_parts (operator o) ps;
     parts = has_parts f [] kind fits plain (subst IsSpine made (spine_parts (operator o) ps tt));

@@ -10,6 +10,7 @@ use Rattle.psg_grammar.specs.Same.{same_tree}
 use Rattle.psg_grammar.specs.Steps.{steps_of}
 use Rattle.psg_grammar.specs.Work.{climb_of}
 use Rattle.psg_grammar.proofs.SameLaws.{same-refl}
+use Rattle.psg_grammar.specs.WellFormed.{WellFormed}
 use Rattle.psg_cache.specs.declared.editing.Edit.TheVariants as edits
 use Rattle.psg_cache.specs.declared.note.NoteFault.{NoteFault}
 use Rattle.psg_cache.specs.Annotated.{Annotated, tree_in, note_at}
@@ -19,7 +20,6 @@ use Rattle.psg_cache.specs.Edits.{MayReplace}
 use Rattle.psg_cache.specs.Noted.{IsNoted, IsNotedAs}
 use Rattle.psg_cache.specs.Notes.{IsFormed, IsNoteOf}
 use Rattle.psg_cache.specs.Renoting.{IsRenoted}
-use Rattle.psg_cache.specs.Shaped.{IsShaped}
 use Rattle.psg_cache.specs.Walks.{IsStepFault}
 use Rattle.psg_tree.specs.Faults.{IsReplaced}
 use Rattle.psg_cache.proofs.ChangeLaws.{first_step, got_behind, new_fault}
@@ -30,7 +30,7 @@ use Rattle.psg_cache.proofs.Each.{each_got, same_some}
 use Rattle.psg_cache.proofs.NoteParts.{noted_at}
 use Rattle.psg_cache.proofs.PairLaws.{same_equal, same_false, true_or_false}
 use Rattle.psg_cache.proofs.RealTrees.{IsReal, real}
-use Rattle.psg_cache.proofs.ShapedTrees.{replaced_shaped}
+use Rattle.psg_cache.proofs.FormedTrees.{replaced_formed}
 use Rattle.psg_cache.proofs.SpliceLaws.{children_changed}
 use Rattle.psg_cache.proofs.WalkLaws.{formed_children}
 
@@ -162,12 +162,12 @@ module _ (def : Definition) where
   pub exchange_asked : (n : Annotated) (path : Path) (new made : Fragment) → IsNoteOf def (tree_in n) n
       → MayReplace def (tree_in n) path new → IsReplaced (tree_in n) path new made → IsExchange def n path new made
   exchange_asked n path new made note may is =
-      let (kind, shaped) = note.formed in
-      let whole = replaced_shaped def (tree_in n) kind path may.node new may.kind shaped may.there may.of_kind may.shaped in
+      let (kind, formed) = note.formed in
+      let whole = replaced_formed def (tree_in n) kind path may.node new may.kind formed may.there may.of_kind may.formed in
       record {
         whole = note;
-        formed = (kind, subst (λ x. IsShaped def x kind) (sym is.1) whole);
-        formed_new = (may.kind, may.shaped);
+        formed = (kind, subst (λ x. WellFormed def x kind) (sym is.1) whole);
+        formed_new = (may.kind, may.formed);
         node = may.node;
         there = may.there;
         changed = is.1;

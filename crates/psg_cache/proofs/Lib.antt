@@ -24,7 +24,6 @@ pub mod Carrying
 pub mod DiffLaws
 pub mod WalkLaws
 pub mod FormedTrees
-pub mod ShapedTrees
 pub mod SpliceLaws
 pub mod RemakeLaws
 pub mod ChangeLaws

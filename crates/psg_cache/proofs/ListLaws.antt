@@ -9,13 +9,13 @@ use Rattle.psg_grammar.specs.declared.types.Definition.{Definition}
 use Rattle.psg_grammar.specs.Fragments.{Fragment, ending, cell}
 use Rattle.psg_grammar.specs.Paths.{Path}
 use Rattle.psg_grammar.specs.Steps.{own_steps, list_steps}
+use Rattle.psg_grammar.specs.WellFormed.{Fits, WellFormed}
 use Rattle.psg_tree.specs.Shapes.{list_of}
 use Rattle.psg_eval.specs.declared.summary.Known.{Known}
 use Rattle.psg_eval.specs.declared.summary.EvalFault.{EvalFault}
 use Rattle.psg_eval.specs.Summaries.{AllSummaries, Answers, IsSummary, IsSummaryOf, StaysWithin}
 use Rattle.psg_cache.specs.declared.note.NoteFault.{NoteFault}
 use Rattle.psg_cache.specs.Renoting.{AreOfCells, IsCellsFault, TakesCells}
-use Rattle.psg_cache.specs.Shaped.{HasShape, IsShaped}
 use Rattle.psg_cache.specs.Walks.{AreListed, IsAnswerFault, IsStepFault, IsListFault, IsListTopped, TakesElements, top_steps}
 use Rattle.psg_cache.proofs.CellLaws.{cells_end, listed_front, usual_front}
 use Rattle.psg_cache.proofs.Each.{same_some}
@@ -106,17 +106,17 @@ module _ (def : Definition) where
 
   -- ---- what a list takes
 
-  known_list : (l : ℕ) (es : List Fragment) (u : Bool) (kind : Kind) → IsShaped def (list_of l es u) kind
+  known_list : (l : ℕ) (es : List Fragment) (u : Bool) (kind : Kind) → WellFormed def (list_of l es u) kind
       → (own : ListKind) × (slice_get def.lists l ≡ Some own)
   known_list l [] u kind w = (w.0.2.0, w.0.2.1)
   known_list l (x ∷ es) u kind w = let (nil, same, k, at, fe, fr, un) = w.0 in (k, at)
 
   -- a list's elements are trees of its element phylum
   abbrev AreElements : ℕ → List Fragment → Type 0
-  AreElements p es = AllByRecursion (λ e. IsShaped def e (kinds.Phylum p)) es
+  AreElements p es = AllByRecursion (λ e. WellFormed def e (kinds.Phylum p)) es
 
   list_parts : (l : ℕ) (own : ListKind) (es : List Fragment) (u : Bool) (kind : Kind) → slice_get def.lists l ≡ Some own
-      → IsShaped def (list_of l es u) kind → (u ≡ true → own.unfinished ≡ true) × AreElements own.element es
+      → WellFormed def (list_of l es u) kind → (u ≡ true → own.unfinished ≡ true) × AreElements own.element es
   list_parts l own [] u kind e w =
       let same : w.0.2.0 ≡ own = same_some w.0.2.0 own (sym w.0.2.1 ∙ e) in
       (λ t. ap (λ (x : ListKind). x.unfinished) (sym same) ∙ w.0.2.2 t, tt)
@@ -124,7 +124,7 @@ module _ (def : Definition) where
       let (nil, same, k, at, fe, fr, un) = w.0 in
       let (may_end, rest) = list_parts l own es u (kinds.List l) e (fr, w.1.1) in
       let it : k ≡ own = same_some k own (sym at ∙ e) in
-      (may_end, ((subst (λ (y : ListKind). HasShape def x [] (kinds.Phylum y.element)) it fe, w.1.0), rest))
+      (may_end, ((subst (λ (y : ListKind). Fits def x [] (kinds.Phylum y.element)) it fe, w.1.0), rest))
 
   element_kinds : (p : ℕ) (es : List Fragment) (elements : List Known) → AreElements p es
       → AllSummaries def es elements → AllByRecursion (λ (s : Known). s.kind ≡ kinds.Phylum p) elements
@@ -135,7 +135,7 @@ module _ (def : Definition) where
       (kind_known def x (kinds.Phylum p) y h.0.0 h.0.1 s.0, element_kinds p xs ys h.1 s.1)
 
   pub list_takes : (l : ℕ) (es : List Fragment) (u : Bool) (kind : Kind) (elements : List Known)
-      → IsShaped def (list_of l es u) kind → AllSummaries def es elements
+      → WellFormed def (list_of l es u) kind → AllSummaries def es elements
       → AllByRecursion (IsSummary def) elements → TakesElements def l u elements
   list_takes l es u kind elements w are usual =
       let (own, found) = known_list l es u kind w in

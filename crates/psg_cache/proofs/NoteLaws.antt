@@ -8,11 +8,10 @@ use Rattle.psg_grammar.specs.declared.types.Definition.{Definition}
 use Rattle.psg_grammar.specs.Fragments.{Fragment, hole, ending, cell, operator, with_child, with_name, with_number, with_text, anything, observed, children_of, top_operator}
 use Rattle.psg_grammar.specs.Paths.{Path, IsList}
 use Rattle.psg_grammar.specs.Steps.{own_steps, list_steps, steps_of}
-use Rattle.psg_grammar.specs.WellFormed.{IsPlain}
+use Rattle.psg_grammar.specs.WellFormed.{Fits, IsPlain}
 use Rattle.psg_eval.specs.declared.summary.Known.{Known}
 use Rattle.psg_eval.specs.Trees.{HasParts, IsNode, own_names}
 use Rattle.psg_eval.specs.Summaries.{AllSummaries, IsSummaryOf}
-use Rattle.psg_cache.specs.Shaped.{HasShape}
 use Rattle.psg_cache.specs.Notes.{IsFormed}
 use Rattle.psg_cache.specs.Walks.{each_steps, top_steps, IsClean}
 use Rattle.psg_cache.proofs.RealTrees.{IsReal, IsSpine, real}
@@ -36,7 +35,7 @@ spine_top anything s = absurd s
 spine_top (observed f) s = absurd s
 
 module _ (def : Definition) where
-  parts_of : (f : Fragment) (more : List Item) (kind : Kind) → HasShape def f more kind → IsPlain f → IsSpine f → HasParts def f more
+  parts_of : (f : Fragment) (more : List Item) (kind : Kind) → Fits def f more kind → IsPlain f → IsSpine f → HasParts def f more
   parts_of (operator o) more kind (op, found, e, k) plain s = (op, found, e)
   parts_of (with_child f t) more kind (k, hf, ht) plain s =
       (k, parts_of f (items.Slot k ∷ more) kind hf plain.0 s)

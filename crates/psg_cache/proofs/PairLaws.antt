@@ -17,10 +17,10 @@ use Rattle.psg_grammar.specs.Lookups.{part_items}
 use Rattle.psg_grammar.specs.Paths.{IsList}
 use Rattle.psg_grammar.specs.Same.{same_tree}
 use Rattle.psg_grammar.specs.Work.{work_of, works_of}
+use Rattle.psg_grammar.specs.WellFormed.{Fits}
 use Rattle.psg_cache.specs.Alike.{diff_top, hole_number, is_paired}
 use Rattle.psg_cache.specs.Diff.{agree, diff_below, diff_cells, diff_of, last_differing, list_number, place_before, same_some}
 use Rattle.psg_cache.specs.Notes.{IsFormed}
-use Rattle.psg_cache.specs.Shaped.{HasShape}
 use Rattle.psg_cache.proofs.Counting.{together}
 use Rattle.psg_cache.proofs.DiffLaws.{diff-same}
 use Rattle.psg_cache.proofs.Each.{same_some as some_once}
@@ -282,7 +282,7 @@ module _ (def : Definition) where
         ∙ ap (λ x. x ++ item_sorts more) (sym sorts);
   }
 
-  sorted : (f : Fragment) (more : List Item) (kind : Kind) → HasShape def f more kind → IsSpine f → IsSorted f more
+  sorted : (f : Fragment) (more : List Item) (kind : Kind) → Fits def f more kind → IsSpine f → IsSorted f more
   sorted (operator o) more kind (op, found, e, k) s =
       record { number = o; op = op; top = refl; found = found; sorts = ap item_sorts (sym e) }
   sorted (with_child f t) more kind (k, hf, ht) s =
@@ -302,7 +302,7 @@ module _ (def : Definition) where
   sorted anything more kind h s = absurd s
   sorted (observed f) more kind h s = absurd s
 
-  same_sorts : (f g : Fragment) (i j : Kind) → HasShape def f [] i → HasShape def g [] j → IsSpine f → IsSpine g
+  same_sorts : (f g : Fragment) (i j : Kind) → Fits def f [] i → Fits def g [] j → IsSpine f → IsSpine g
       → (o : ℕ) → top_operator f ≡ Some o → top_operator g ≡ Some o → sorts_of f ≡ sorts_of g
   same_sorts f g i j hf hg sf sg o tf tg =
       let a = sorted f [] i hf sf in

@@ -7,8 +7,7 @@ use Rattle.psg_grammar.specs.declared.types.Item.TheVariants as items
 use Rattle.psg_grammar.specs.declared.types.Definition.{Definition}
 use Rattle.psg_grammar.specs.Fragments.{Fragment, hole, ending, cell, operator, with_child, with_name, with_number, with_text, anything, observed}
 use Rattle.psg_grammar.specs.Paths.{IsList}
-use Rattle.psg_grammar.specs.WellFormed.{IsPlain}
-use Rattle.psg_cache.specs.Shaped.{HasShape}
+use Rattle.psg_grammar.specs.WellFormed.{Fits, IsPlain}
 use Rattle.psg_cache.specs.Notes.{IsFormed}
 use Rattle.psg_cache.proofs.Each.{not_nil}
 
@@ -43,7 +42,7 @@ no_both p l e = cc
 
 module _ (def : Definition) where
   -- what parts still follow is an operator
-  spine : (f : Fragment) (i : Item) (more : List Item) (kind : Kind) → HasShape def f (i ∷ more) kind → IsSpine f
+  spine : (f : Fragment) (i : Item) (more : List Item) (kind : Kind) → Fits def f (i ∷ more) kind → IsSpine f
   spine (hole p) i more kind h = absurd (not_nil i more h.0)
   spine (ending l u) i more kind h = absurd (not_nil i more h.0)
   spine (cell l e r) i more kind h = absurd (not_nil i more h.0)
@@ -57,7 +56,7 @@ module _ (def : Definition) where
   spine (observed f) i more kind h = absurd (not_nil i more h.0)
 
   -- an operator is of a phylum
-  phylum : (f : Fragment) (more : List Item) (kind : Kind) → IsSpine f → HasShape def f more kind
+  phylum : (f : Fragment) (more : List Item) (kind : Kind) → IsSpine f → Fits def f more kind
       → (p : _) × (kind ≡ kinds.Phylum p)
   phylum (operator o) more kind s (op, found, e, k) = (op.phylum, k)
   phylum (with_child f t) more kind s (k, hf, ht) = phylum f (items.Slot k ∷ more) kind s hf
@@ -71,10 +70,10 @@ module _ (def : Definition) where
   phylum anything more kind s h = absurd s
   phylum (observed f) more kind s h = absurd s
 
-  no_spine : (f : Fragment) (l : _) → IsSpine f → HasShape def f [] (kinds.List l) → ⊥
+  no_spine : (f : Fragment) (l : _) → IsSpine f → Fits def f [] (kinds.List l) → ⊥
   no_spine f l s h = let (p, e) = phylum f [] (kinds.List l) s h in no_both p l e
 
-  listed : (f : Fragment) (l : _) → IsReal f → IsPlain f → HasShape def f [] (kinds.List l) → IsList f
+  listed : (f : Fragment) (l : _) → IsReal f → IsPlain f → Fits def f [] (kinds.List l) → IsList f
   listed (hole p) l real plain h = absurd (no_both p l h.1)
   listed (ending k u) l real plain h = tt
   listed (cell k e r) l real plain h = tt
@@ -86,7 +85,7 @@ module _ (def : Definition) where
   listed anything l real plain h = absurd h
   listed (observed f) l real plain h = absurd plain
 
-  pub real_tree : (f : Fragment) (more : List Item) (kind : Kind) → HasShape def f more kind → IsPlain f → IsReal f
+  pub real_tree : (f : Fragment) (more : List Item) (kind : Kind) → Fits def f more kind → IsPlain f → IsReal f
   real_tree (hole p) more kind h plain = tt
   real_tree (ending l u) more kind h plain = tt
   real_tree (cell l e r) more kind (a, b, k, found, fe, fr, z) plain =

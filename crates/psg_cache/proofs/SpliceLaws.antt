@@ -11,6 +11,7 @@ use Rattle.psg_grammar.specs.Fragments.{Fragment, hole, ending, cell, operator, 
 use Rattle.psg_grammar.specs.Paths.{change_child, inserted, removed, IsList}
 use Rattle.psg_cache.proofs.RealTrees.{IsReal, IsSpine}
 use Rattle.psg_grammar.specs.Work.{leaving}
+use Rattle.psg_grammar.specs.WellFormed.{Fits}
 use Rattle.psg_tree.specs.declared.tree.Part.{Part}
 use Rattle.psg_tree.specs.declared.tree.Part.TheVariants.{Sub, Name as Named, Number, Text}
 use Rattle.psg_tree.specs.declared.tree.Shape.{Shape}
@@ -20,7 +21,6 @@ use Rattle.psg_tree.proofs.Children.{children-list}
 use Rattle.psg_cache.specs.Annotated.{Annotated, tree_in, whole_in}
 use Rattle.psg_cache.specs.Changes.{remade_ticks}
 use Rattle.psg_cache.specs.Noted.{IsNoted}
-use Rattle.psg_cache.specs.Shaped.{HasShape}
 use Rattle.psg_cache.specs.Walks.{AreNotesOf}
 use Rattle.psg_cache.proofs.Each.{each_append}
 
@@ -275,16 +275,16 @@ same_number : (l m : ℕ) → kinds.List l ≡ kinds.List m → l ≡ m
 same_number l m e = cc
 
 module _ (def : Definition) where
-  kind_of_list : (l m : ℕ) (ds : List Fragment) (u : Bool) → HasShape def (list_of m ds u) [] (kinds.List l) → l ≡ m
+  kind_of_list : (l m : ℕ) (ds : List Fragment) (u : Bool) → Fits def (list_of m ds u) [] (kinds.List l) → l ≡ m
   kind_of_list l m [] u h = same_number l m h.1
   kind_of_list l m (d ∷ ds) u h = same_number l m h.1
 
-  pub list_removed : (k : ℕ) (f : Fragment) (kind : Kind) → HasShape def f [] kind → IsReal f → IsList f → (l : ℕ)
+  pub list_removed : (k : ℕ) (f : Fragment) (kind : Kind) → Fits def f [] kind → IsReal f → IsList f → (l : ℕ)
       (es : List Fragment) (u : Bool) → k < length (children_of f) → removed k f ≡ list_of l es u
       → (ds : List Fragment) × (f ≡ list_of l ds u)
   list_removed zero (cell m e r) kind h real list l es u small same =
       let (a, b, own, at, fe, shape, z) = h in
-      let one : m ≡ l = kind_of_list m l es u (subst (λ x. HasShape def x [] (kinds.List m)) same shape) in
+      let one : m ≡ l = kind_of_list m l es u (subst (λ x. Fits def x [] (kinds.List m)) same shape) in
       (e ∷ es, longer_list m l e r es u one same)
   list_removed (suc k) (cell m e r) kind h real list l es u small same =
       let (a, b, own, at, fe, shape, z) = h in

@@ -8,6 +8,7 @@ use Rattle.psg_grammar.specs.declared.types.Definition.{Definition}
 use Rattle.psg_grammar.specs.Fragments.{Fragment, hole, ending, cell, operator, with_child, with_name, with_number, with_text, anything, observed, children_of, top_operator}
 use Rattle.psg_grammar.specs.Paths.{Path}
 use Rattle.psg_grammar.specs.Steps.{own_steps}
+use Rattle.psg_grammar.specs.WellFormed.{WellFormed}
 use Rattle.psg_tree.specs.declared.tree.Part.{Part}
 use Rattle.psg_tree.specs.declared.tree.Shape.{Shape}
 use Rattle.psg_tree.specs.declared.tree.Shape.TheVariants.{Op, List as ListOf, Hole}
@@ -19,7 +20,6 @@ use Rattle.psg_eval.specs.Trees.{IsNode, own_names}
 use Rattle.psg_eval.specs.Summaries.{AllSummaries, Answers, AreSummariesOf, IsSummary, TakesAt}
 use Rattle.psg_cache.specs.declared.note.NoteFault.{NoteFault}
 use Rattle.psg_cache.specs.Noted.{AreOfSuffixes, IsAnswered, IsOfNodes}
-use Rattle.psg_cache.specs.Shaped.{IsShaped}
 use Rattle.psg_cache.specs.Notes.{IsFormed}
 use Rattle.psg_cache.specs.Walks.{IsAnswerFault, IsListFault, IsListTopped, IsStepFault, IsTop, names_in, TakesElements, top_steps}
 use Rattle.psg_cache.proofs.RealTrees.{IsReal, IsSpine}
@@ -196,7 +196,7 @@ module _ (def : Definition) where
       let list = list_there s l es u f e there in
       let children = elements_there s l es u f e there in
       let (kind, w) = formed in
-      list_takes def l es u kind below (subst (λ x. IsShaped def x kind) (sym list) w)
+      list_takes def l es u kind below (subst (λ x. WellFormed def x kind) (sym list) w)
       (subst (λ x. AllSummaries def x below) children are) usual
 
   as_many : (cs : List Fragment) (below : List Known) → AllSummaries def cs below → length cs ≡ length below

@@ -9,8 +9,8 @@ use Rattle.psg_grammar.specs.Paths.{Path, node_at, IsList}
 use Rattle.psg_grammar.specs.Kinds.{IsOfKind}
 use Rattle.psg_eval.specs.declared.summary.Known.{Known}
 use Rattle.psg_eval.specs.Summaries.{IsSummary, IsSummaryOf}
-use Rattle.psg_cache.specs.Shaped.{IsShaped}
 use Rattle.psg_grammar.specs.Marks.{IsMark}
+use Rattle.psg_grammar.specs.WellFormed.{WellFormed}
 use Rattle.psg_cache.specs.Notes.{IsNoteOf, mark_by}
 use Rattle.psg_cache.specs.Annotated.{Annotated}
 
@@ -21,7 +21,7 @@ module _ (def : Definition) (f : Fragment) (path : Path) where
     pub there : node_at f path ≡ Some node
     pub kind : Kind
     pub of_kind : IsOfKind def node kind
-    pub shaped : IsShaped def new kind
+    pub formed : WellFormed def new kind
 
   -- the path leads to a list that takes the new tree before the place
   pub record MayInsert (place : ℕ) (new : Fragment) : Type 0 where
@@ -31,7 +31,7 @@ module _ (def : Definition) (f : Fragment) (path : Path) where
     pub of_kind : IsOfKind def node (kinds.List number)
     pub list : ListKind
     pub found : slice_get def.lists number ≡ Some list
-    pub shaped : IsShaped def new (kinds.Phylum list.element)
+    pub formed : WellFormed def new (kinds.Phylum list.element)
     pub within : place ≤ length (children_of node)
 
   -- the path leads to a list with an element at the place

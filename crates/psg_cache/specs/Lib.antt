@@ -1,4 +1,3 @@
-pub mod Shaped
 pub mod Annotated
 pub mod Noting
 pub mod NoteFalls

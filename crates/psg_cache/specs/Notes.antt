@@ -8,16 +8,16 @@ use Rattle.psg_grammar.specs.Marks.{Mark, good, wrong}
 use Rattle.psg_grammar.specs.Paths.{Path}
 use Rattle.psg_grammar.specs.Sizes.{IsBig, IsDeep}
 use Rattle.psg_grammar.specs.Steps.{IsFirstWide, IsHeavy, IsWide}
+use Rattle.psg_grammar.specs.WellFormed.{WellFormed}
 pub use Rattle.psg_eval.specs.SpaceTables.{AreDeclaringSpaces}
 use Rattle.psg_cache.specs.Annotated.{Annotated, tree_in, whole_in}
 use Rattle.psg_cache.specs.Noted.{IsNoted}
-use Rattle.psg_cache.specs.Shaped.{IsShaped}
 use Rattle.psg_cache.specs.declared.note.NoteFault.{NoteFault}
 use Rattle.psg_cache.specs.declared.note.NoteFault.TheVariants as faults
 
--- a tree of some kind
+-- a well-formed tree of some kind
 abbrev pub IsFormed : Definition → Fragment → Type 0
-IsFormed def f = (kind : Kind) × IsShaped def f kind
+IsFormed def f = (kind : Kind) × WellFormed def f kind
 
 -- a tree that goes wrong has a node at which it does
 abbrev pub mark_by : List Path → Mark

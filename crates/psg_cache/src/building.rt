@@ -24,9 +24,7 @@ use std::sync::ledger::Ledger;
 /// `steps` counts the evaluations, and where there is no note, those that were made. `declaring` has the spaces in which
 /// each phylum declares, as psg_grammar's `declaring` gives them.
 ///
-/// The tree is of some kind by its parts, as a well-formed one, but a placeholder may stand for any phylum, also for one
-/// that declares names, as there are where a definition is not yet accepted: it is valued by its hole rows and declares
-/// nothing.
+/// The tree is well-formed: no placeholder of it is of a phylum that declares names.
 ///
 /// The faults are tested in their order: `Deep`, `Big`, then `Wide` with the first step whose relation passes the
 /// limit, then `Heavy`. `Memory` comes when memory runs out, at any time. The functions call each other as deep as the

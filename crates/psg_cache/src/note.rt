@@ -1,5 +1,5 @@
 //! What is known of a tree.
-ghost use Rattle.std.specs.Prelude.{◌≡◌, ◌↔◌, ◌≤◌, ◌∷◌, [], drop, length, option_copied, slice_get, Some, IfOk, IfSome, IfNone, IsTrue};
+ghost use Rattle.std.specs.Prelude.{◌≡◌, ◌↔◌, ◌≤◌, ◌∷◌, [], drop, length, option_copied, slice_get, None, Some, IfOk, IfSome, IfNone, IsTrue};
 ghost use Rattle.psg_cache.specs.Annotated.{Annotated, tree_in, whole_in, rests_in, weight_in, below_in, note_at};
 ghost use Rattle.psg_cache.specs.Blames.{culprits_in};
 ghost use Rattle.psg_cache.specs.Edits.{AreCulpritsIn, IsSummaryAt, IsNoSummaryAt};
@@ -140,6 +140,18 @@ impl Note {
         ensures culprits { IsTrue result ↔ (culprits_in self.now ≡ []) }
     {
         !self.root().rel().is_empty()
+    }
+
+    /// Counts the owners of the note of the node at the path: one for each note of a larger tree that shares it, and one
+    /// for each of its own that a caller has. It returns 0 where the path leads to no node. It walks along the path. What
+    /// is shared is in no clause: this call serves tests.
+    pub fn owners(&self, path: &Path) -> usize
+        ensures none { note_at self.now path.now ≡ None → result ≡ 0 }
+    {
+        match at(self, path) {
+            Some(note) => Rc::strong_count(&note.shared),
+            None => 0,
+        }
     }
 
     /// One more owner of the same note.

@@ -5,10 +5,10 @@ ghost use Rattle.psg_cache.specs.Notes.{IsFormed, IsNoteOf};
 
 use super::languages::{accepted, tree};
 use psg_cache::{Note, NoteFault, build};
-use psg_grammar::{Definition, Kind, declaring, kind_named};
+use psg_grammar::{Definition, declaring};
 use psg_langs::MINI;
 use psg_terms::Steps;
-use psg_tree::{Path, Shape, Tree};
+use psg_tree::{Path, Tree};
 use std::alloc::{AllocError, Global};
 use std::marker::Brand;
 use std::process::Abort;
@@ -84,18 +84,6 @@ fn notes(rt: &impl Abort, alloc: Global, kind: &str, rows: &[(&str, &str)]) -> R
     Ok(())
 }
 
-/// The placeholder of the phylum.
-fn placeholder(alloc: Global, definition: &Definition, name: &str) -> Result<Tree, AllocError>
-    requires { IsSound definition.now }
-    ensures { IfOk result (IsFormed definition.now) }
-{
-    let Some(Kind::Phylum(phylum)) = kind_named(definition, name) else {
-        return Err(AllocError);
-    };
-    let tree = Tree::new(alloc, Shape::Hole { phylum })?;
-    Ok(tree)
-}
-
 #[test]
 fn expressions(rt: HostRuntime) -> Result<(), Fail> {
     let rows = [
@@ -134,16 +122,4 @@ fn blocks(rt: HostRuntime) -> Result<(), Fail> {
         ),
     ];
     notes(&rt, rt.alloc(), "Stat", &rows)
-}
-
-/// No text has a placeholder where names are declared, but a tree may.
-#[test]
-fn placeholders_that_would_declare(rt: HostRuntime) -> Result<(), Fail> {
-    let definition = accepted(rt.alloc(), MINI)?;
-    for name in ["Decl", "Param", "Exp"] {
-        let tree = placeholder(rt.alloc(), &definition, name)?;
-        let said = told_of(rt.alloc(), &definition, &tree)?;
-        assert_eq!(rt; said.as_str(), "good", "{name}");
-    }
-    Ok(())
 }

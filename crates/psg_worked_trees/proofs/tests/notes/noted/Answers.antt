@@ -1,6 +1,5 @@
-use Rattle.psg_cache.proofs.FormedTrees.{formed_of_well}
 use Rattle.psg_worked_trees.proofs.tests.notes.noted.Goals as goal
 
 pub counted-requires-clause-formed : goal.counted-requires-clause-formed
 counted-requires-clause-formed c =
-    formed_of_well c.args.definition.now c.args.tree.now c.args.kind (c.well_formed-formed.ensures.0 c.if-not-formed.false)
+    (c.args.kind, c.well_formed-formed.ensures.0 c.if-not-formed.false)
