@@ -11,7 +11,7 @@ use Rattle.psg_lexis.specs.Tokens.{IsFixedWord}
 pub use Rattle.psg_eval.specs.SpaceTables.{AreDeclaringSpaces}
 use Rattle.psg_parse.specs.Tables.{IsParseTable}
 use Rattle.psg_specimen.specs.Refusal.{IsAccepted}
-use Rattle.psg_specimen.specs.declared.language.Language.{Language}
+use Rattle.psg_specimen.specs.declared.language.LanguageParts.{LanguageParts}
 use Rattle.psg_specimen.specs.declared.language.Made.{Made}
 
 -- a phylum that declares names; a placeholder of it would not say which
@@ -26,7 +26,7 @@ pub record IsMadeOf (def : Definition) (m : Made) : Type 0 where
   pub table : IsParseTable def m.table
 
 -- a sound and accepted definition, each of whose fixed words is one token, with what is made of it
-pub record IsLanguage (l : Language) : Type 0 where
+pub record IsLanguage (l : LanguageParts) : Type 0 where
   pub sound : IsSound l.definition
   pub declaring : AreDeclaringSpaces l.definition l.declaring.items
   pub words : l.lexis ≡ fixed_words l.definition

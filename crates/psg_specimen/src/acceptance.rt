@@ -8,14 +8,13 @@ ghost use Rattle.psg_grammar.specs.Sound.{IsSound};
 ghost use Rattle.psg_grammar.specs.WellFormed.{fixed_words};
 ghost use Rattle.psg_lexis.specs.Tokens.{IsFixedWord};
 ghost use Rattle.psg_specimen.specs.Conditions.{IsMet};
-ghost use Rattle.psg_specimen.specs.Languages.{IsLanguage};
 ghost use Rattle.psg_specimen.specs.Refusal.{IsAccepted, Refuses};
 
 use crate::accepting::{
     check_beginning, check_coverage, check_elements, check_places, check_specimens,
 };
 use crate::fault::{AcceptFault, Refused};
-use crate::language::{Language, Made};
+use crate::language::{Language, LanguageParts, Made};
 use crate::laws::promises;
 use psg_grammar::Definition;
 use std::alloc::Global;
@@ -42,7 +41,7 @@ fn check(alloc: Global, definition: &Definition) -> Result<(), AcceptFault>
 pub fn accept(alloc: Global, definition: Definition) -> Result<Language, Refused>
     requires sound { IsSound definition }
     requires words { AllByRecursion IsFixedWord (fixed_words definition) }
-    ensures language { IfOk result (λ l. l.definition ≡ definition) }
+    ensures language { IfOk result (λ l. l ≡ definition) }
     ensures accepted { OnOk result (IsAccepted definition) }
     // a value is one of a hole row exactly where a complete legal tree has it
     ensures values { OnOk result (RowOrTree definition) }
@@ -50,7 +49,6 @@ pub fn accept(alloc: Global, definition: Definition) -> Result<Language, Refused
     ensures completions { OnOk result (OpenOrCompletable definition) }
     // no list of tokens has two trees
     ensures trees { OnOk result (HasOnlyTrees definition) }
-    ensures kept { IfOk result IsLanguage }
     ensures back { IfErr result (λ r. r.definition ≡ definition) }
     ensures refusal { IfErr result (λ r. Refuses definition r.fault) }
 {
@@ -59,12 +57,12 @@ pub fn accept(alloc: Global, definition: Definition) -> Result<Language, Refused
     }
     promises(&definition);
     match Made::of(alloc, &definition) {
-        Ok(made) => Ok(Language {
+        Ok(made) => Ok(Language::of(LanguageParts {
             definition,
             declaring: made.declaring,
             lexis: made.lexis,
             table: made.table,
-        }),
+        })),
         Err(_) => Err(Refused {
             definition,
             fault: AcceptFault::Memory,

@@ -1,24 +1,50 @@
 //! An accepted definition with what an editor makes of it once.
 ghost use Rattle.std.specs.Prelude.{◌≡◌, ◌++◌, ◌↔◌, IfOk, IsTrue, OnOk};
+ghost use Rattle.std.specs.List.{AllByRecursion};
 ghost use Rattle.psg_grammar.specs.Sound.{IsSound};
 ghost use Rattle.psg_grammar.specs.WellFormed.{fixed_words as fixed_words_of, separators, words_in};
 ghost use Rattle.psg_grammar.specs.Kinds.{HasKind};
+ghost use Rattle.psg_lexis.specs.Tokens.{IsFixedWord};
+ghost use Rattle.psg_parse.specs.Tables.{IsParseTable};
 ghost use Rattle.psg_specimen.specs.Languages.{IsDeclaringPhylum, IsLanguage, IsMadeOf};
+ghost use Rattle.psg_specimen.specs.Refusal.{IsAccepted};
 
 use psg_grammar::{Definition, Item, Kind, ListKind, declaring};
 use psg_lexis::Lexis;
 use psg_parse::ParseTable;
 use psg_terms::Txt;
 use std::alloc::{AllocError, Global};
+use std::marker::Model;
 
-/// An accepted definition, for each phylum the spaces in which it declares, its fixed words, and what the
-/// parser looks up of it.
+/// A definition with what is made of it once: for each phylum the spaces in which it declares, its fixed words, and what
+/// the parser looks up of it.
 #[derive(Drop)]
-pub struct Language {
+pub struct LanguageParts {
     pub definition: Definition,
     pub declaring: Vec<Vec<u32>>,
     pub lexis: Lexis,
     pub table: ParseTable,
+}
+
+/// The language of an accepted definition. Contracts see it as the definition. `accept` alone makes one, so that what it
+/// keeps belongs to the definition.
+#[derive(Drop)]
+pub struct Language {
+    parts: LanguageParts,
+}
+
+impl Model for Language {
+    ghost use Rattle.psg_grammar.specs.declared.types.Definition.{Definition as PlainDefinition};
+    ghost use Rattle.psg_grammar.specs.contracts.types.Definition as definition_row;
+    ghost use Rattle.psg_specimen.specs.Languages.{IsLanguage};
+
+    ghost Value = { PlainDefinition };
+
+    ghost coded = { definition_row.the_row.coded };
+
+    ghost view = { λ l. l.parts.definition };
+
+    ghost invariant = { λ l. IsLanguage l.parts };
 }
 
 /// What is made of a definition once: for each phylum the spaces in which it declares, the fixed words, and what the
@@ -50,6 +76,56 @@ impl Made {
 }
 
 impl Language {
+    /// Makes the language of what is known of an accepted definition. It takes no memory.
+    pub(crate) fn of(parts: LanguageParts) -> Language
+        requires { IsLanguage parts }
+        ensures { result ≡ parts.definition }
+    {
+        Language { parts }
+    }
+
+    /// Gives the definition. It is sound and accepted, and each of its fixed words is one token.
+    pub fn definition(&self) -> &Definition
+        ensures same { result.now ≡ self.now }
+        ensures sound { IsSound self.now }
+        ensures accepted { IsAccepted self.now }
+        ensures tokens { AllByRecursion IsFixedWord (fixed_words_of self.now) }
+    {
+        &self.parts.definition
+    }
+
+    /// Gives the tokens' table: the definition's fixed words.
+    pub fn lexis(&self) -> &Lexis
+        ensures { result.now ≡ fixed_words_of self.now }
+    {
+        &self.parts.lexis
+    }
+
+    /// Gives what the parser looks up of the definition.
+    pub fn table(&self) -> &ParseTable
+        ensures { IsParseTable self.now result.now }
+    {
+        &self.parts.table
+    }
+
+    /// Gives what is kept of the language. The parts are those of the definition.
+    pub fn parts(&self) -> &LanguageParts
+        ensures definition { result.now.definition ≡ self.now }
+        ensures parts { IsLanguage result.now }
+    {
+        &self.parts
+    }
+
+    /// Tells whether the kind, which is one of the definition, is a phylum that declares names. It looks it up.
+    pub fn is_declaring(&self, kind: Kind) -> bool
+        requires { HasKind self.now kind }
+        ensures { IsTrue result ↔ IsDeclaringPhylum self.now kind }
+    {
+        self.parts.is_declaring(kind)
+    }
+}
+
+impl LanguageParts {
     /// Whether the kind is a phylum that declares names.
     pub fn is_declaring(&self, kind: Kind) -> bool
         requires language { IsLanguage self.now }

@@ -39,5 +39,5 @@ mod unshown;
 
 pub use acceptance::accept;
 pub use fault::{AcceptFault, Refused, Site};
-pub use language::Language;
+pub use language::{Language, LanguageParts};
 pub use text::accept_text;

@@ -3,7 +3,7 @@ use Rattle.psg_grammar.specs.Kinds.{HasKind}
 use Rattle.psg_specimen.specs.Languages.{AreDeclaringSpaces}
 use Rattle.psg_specimen.specs.Languages.{IsDeclaringPhylum}
 use Rattle.psg_specimen.proofs.DeclaringPhyla.{phylum_declares}
-use Rattle.psg_specimen.proofs.language.Language.is_declaring.Goals as goal
+use Rattle.psg_specimen.proofs.language.LanguageParts.is_declaring.Goals as goal
 
 pub returns-in-Phylum : goal.returns-in-Phylum
 returns-in-Phylum c =
