@@ -8,7 +8,6 @@ use Rattle.psg_grammar.specs.Legal.{IsCompletable}
 use Rattle.psg_script.specs.declared.command.Command.{Command}
 use Rattle.psg_script.specs.Forms.{Spells}
 use Rattle.psg_script.specs.Script.{script_lines as made_lines}
-use Rattle.psg_specimen.specs.declared.language.Language.{Language}
 use Rattle.psg_session.specs.Exchanges.{Asked, Outside, IsCutOff, MayGet}
 use Rattle.psg_session.specs.Kept.{Asks}
 use Rattle.psg_session.specs.Lines.{at_command, at_line, HasAnswered, HasBroken}
@@ -324,27 +323,27 @@ pub nothing_spent : (def : Definition) (lines : List (List ℕ)) (count : ℕ)
 nothing_spent def lines count =
     let same : count ≤ count + 0 = omega arith in record { spent = 0; spends = rests; counted = same }
 
--- ---- of another language that is the same, and of the same lines
+-- ---- of another definition that is the same, and of the same lines
 
-module _ (l m : Language) (same : l ≡ m) (lines : List (List ℕ)) where
+module _ (l m : Definition) (same : l ≡ m) (lines : List (List ℕ)) where
   pub counted_spent : (others : List (List ℕ)) → lines ≡ others → (end : State) (from to operators : ℕ)
-      → HasCounted l.definition lines end from to operators
-      → HasSpent m.definition (IsCompletable m.definition) start others [] not_asked from to
+      → HasCounted l lines end from to operators
+      → HasSpent m (IsCompletable m) start others [] not_asked from to
   counted_spent others are end from to operators h =
-      subst (λ (x : Language). HasSpent x.definition (IsCompletable x.definition) start others [] not_asked from to) same
-      (subst (λ ls. HasSpent l.definition (IsCompletable l.definition) start ls [] not_asked from to) are h.gone.spent)
+      subst (λ (x : Definition). HasSpent x (IsCompletable x) start others [] not_asked from to) same
+      (subst (λ ls. HasSpent l (IsCompletable l) start ls [] not_asked from to) are h.gone.spent)
 
   pub generated_so : (number : ℕ) → lines ≡ made_lines number → (end : State) (from to operators : ℕ)
-      → HasCounted l.definition lines end from to operators
-      → (k : Language) → k ≡ l → (five : List (List ℕ))
-      → FiveLines k.definition (IsCompletable k.definition) end.opened operators five
-      → Generated m.definition number from to five
+      → HasCounted l lines end from to operators
+      → (k : Definition) → k ≡ l → (five : List (List ℕ))
+      → FiveLines k (IsCompletable k) end.opened operators five
+      → Generated m number from to five
   generated_so number are end from to operators h k is five told =
-      subst (λ (x : Language). Generated x.definition number from to five) same
+      subst (λ (x : Definition). Generated x number from to five) same
       (record {
         end = end;
         last = h.last;
-        gone = subst (λ ls. HasGone l.definition ls end h.last from to) are h.gone;
-        five = subst (λ (x : Language). FiveLines x.definition (IsCompletable x.definition) end.opened (operators_in h.last) five)
-            is (subst (λ n. FiveLines k.definition (IsCompletable k.definition) end.opened n five) h.counted told);
+        gone = subst (λ ls. HasGone l ls end h.last from to) are h.gone;
+        five = subst (λ (x : Definition). FiveLines x (IsCompletable x) end.opened (operators_in h.last) five)
+            is (subst (λ n. FiveLines k (IsCompletable k) end.opened n five) h.counted told);
       })

@@ -10,6 +10,7 @@ pub mod Completing
 pub mod WordForms
 pub mod OneOutputLines
 pub mod OneOutput
+pub mod OutputsThere
 pub mod OneRun
 pub mod CaseOutput
 pub mod CaseFiles

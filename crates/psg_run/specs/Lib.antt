@@ -3,6 +3,7 @@ pub mod Output
 pub mod Live
 pub mod Played
 pub mod OneOutput
+pub mod SomeOutput
 pub mod Worlds
 pub mod Causes
 pub mod Spends

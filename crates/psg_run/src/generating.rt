@@ -13,7 +13,6 @@ ghost use Rattle.psg_session.specs.PlainState.{not_asked, start};
 ghost use Rattle.psg_session.specs.Replies.{feed_all};
 ghost use Rattle.psg_session.specs.Sessions.{state_of};
 ghost use Rattle.psg_session.specs.Views.{mark_of, reply_of};
-ghost use Rattle.psg_specimen.specs.Languages.{IsLanguage};
 
 use crate::lines::{cut_line, without_return};
 use crate::source::{language_of, write_status};
@@ -61,9 +60,9 @@ fn count_after<F: Files, L: Ledger>(
     steps: &mut Steps<L>,
 ) -> Result<usize, AllocError>
     requires quiet { AsksNothing line.now }
-    ensures ok { IfOk result (GoesOn session.old.language.definition (state_of session.old.editor) line.now
+    ensures ok { IfOk result (GoesOn session.old.language (state_of session.old.editor) line.now
         (state_of session.new.editor) steps.old steps.new) }
-    ensures err { IfErr result (λ _. BreaksOff session.old.language.definition (state_of session.old.editor) line.now
+    ensures err { IfErr result (λ _. BreaksOff session.old.language (state_of session.old.editor) line.now
         steps.old steps.new) }
     ensures language { session.new.language ≡ session.old.language }
     ensures holds { F.holds files.new ≡ F.holds files.old }
@@ -85,9 +84,9 @@ fn count_piece<F: Files, L: Ledger>(
     steps: &mut Steps<L>,
 ) -> Result<usize, AllocError>
     requires quiet { AllByRecursion AsksNothing (kept_lines (piece.now ∷ [])) }
-    ensures ok { IfOk result (GoesOver session.old.language.definition (state_of session.old.editor)
+    ensures ok { IfOk result (GoesOver session.old.language (state_of session.old.editor)
         (kept_lines (piece.now ∷ [])) before (state_of session.new.editor) steps.old steps.new) }
-    ensures err { IfErr result (λ _. BreaksWithin session.old.language.definition (state_of session.old.editor)
+    ensures err { IfErr result (λ _. BreaksWithin session.old.language (state_of session.old.editor)
         (kept_lines (piece.now ∷ [])) steps.old steps.new) }
     ensures language { session.new.language ≡ session.old.language }
     ensures holds { F.holds files.new ≡ F.holds files.old }
@@ -111,9 +110,9 @@ fn play_all<F: Files, L: Ledger>(
 ) -> Result<usize, AllocError>
     requires start { state_of session.old.editor ≡ start }
     requires quiet { AllByRecursion AsksNothing (script_lines script.now) }
-    ensures ok { IfOk result (HasCounted session.old.language.definition (script_lines script.now)
+    ensures ok { IfOk result (HasCounted session.old.language (script_lines script.now)
         (state_of session.new.editor) steps.old steps.new) }
-    ensures err { IfErr result (λ _. SpentFromStart session.old.language.definition (script_lines script.now) [] not_asked
+    ensures err { IfErr result (λ _. SpentFromStart session.old.language (script_lines script.now) [] not_asked
         steps.old steps.new) }
     ensures language { session.new.language ≡ session.old.language }
     ensures holds { F.holds files.new ≡ F.holds files.old }
@@ -176,7 +175,7 @@ fn extent_lines(
 /// Writes the five lines of the session, in which the last reply had so many operators.
 fn summary(alloc: Global, session: &Session, operators: usize) -> Result<String, AllocError>
     ensures { IfOk result (λ text. (lines : List (List ℕ))
-        × FiveLines session.now.language.definition (IsCompletable session.now.language.definition)
+        × FiveLines session.now.language (IsCompletable session.now.language)
         (state_of session.now.editor).opened operators lines × (string_bytes text ≡ feed_all lines)) }
 {
     let found = session.extent(alloc)?;
@@ -192,12 +191,11 @@ fn played<F: Files, L: Ledger>(
     files: &mut F,
     steps: &mut Steps<L>,
 ) -> Result<String, AllocError>
-    requires language { IsLanguage language }
     requires low { 1 ≤ number }
     requires high { number ≤ 1000 }
     ensures ok { IfOk result (λ text. (lines : List (List ℕ))
-        × Generated language.definition number steps.old steps.new lines × (string_bytes text ≡ feed_all lines)) }
-    ensures err { IfErr result (λ _. SpentFromStart language.definition (made_lines number) [] not_asked
+        × Generated language number steps.old steps.new lines × (string_bytes text ≡ feed_all lines)) }
+    ensures err { IfErr result (λ _. SpentFromStart language (made_lines number) [] not_asked
         steps.old steps.new) }
     ensures holds { F.holds files.new ≡ F.holds files.old }
     ensures entries { F.faults files.new ≡ F.faults files.old }

@@ -8,7 +8,6 @@ ghost use Rattle.psg_run.specs.Promise.{Talks, SpentFromStart};
 ghost use Rattle.psg_run.specs.Worlds.{coming, seen};
 ghost use Rattle.psg_session.specs.PlainState.{start};
 ghost use Rattle.psg_session.specs.Sessions.{state_of};
-ghost use Rattle.psg_specimen.specs.Languages.{IsLanguage};
 
 use crate::limits::MOST_LINE_BYTES;
 use crate::lines::without_return;
@@ -43,12 +42,12 @@ fn play_piece<F: Files, O: Sink, L: Ledger>(
     out: &mut O,
     steps: &mut Steps<L>,
 ) -> Result<(), WriteStop>
-    ensures ok { OnOk result (PlaysPiece session.old.language.definition (state_of session.old.editor) piece.now
+    ensures ok { OnOk result (PlaysPiece session.old.language (state_of session.old.editor) piece.now
         (state_of session.new.editor)
         (record { held = F.holds files.old; entries = F.faults files.old })
         (record { held = F.holds files.new; entries = F.faults files.new })
         (O.written out.old) (O.written out.new) steps.old steps.new) }
-    ensures err { IfErr result (PlaysPieceFront session.old.language.definition (state_of session.old.editor) piece.now
+    ensures err { IfErr result (PlaysPieceFront session.old.language (state_of session.old.editor) piece.now
         (record { held = F.holds files.old; entries = F.faults files.old })
         (record { held = F.holds files.new; entries = F.faults files.new })
         (O.written out.old) (O.written out.new) steps.old steps.new) }
@@ -76,7 +75,7 @@ fn converse<F: Files, I: Input, O: Sink, L: Ledger>(
     steps: &mut Steps<L>,
 ) -> Status
     requires start { state_of session.old.editor ≡ start }
-    ensures { Talks RepliesToAll SpentFromStart session.old.language.definition
+    ensures { Talks RepliesToAll SpentFromStart session.old.language
         (coming (I.lines input.old) (I.given input.old) (I.missed input.old))
         (coming (I.lines input.new) (I.given input.new) (I.missed input.new))
         (seen (F.holds files.old) (F.faults files.old) (O.written out.old) (O.faults out.old) steps.old)
@@ -106,8 +105,7 @@ pub fn talk<F: Files, I: Input, O: Sink, L: Ledger>(
     out: &mut O,
     steps: &mut Steps<L>,
 ) -> Status
-    requires language { IsLanguage language }
-    ensures { Talks RepliesToAll SpentFromStart language.definition
+    ensures { Talks RepliesToAll SpentFromStart language
         (coming (I.lines input.old) (I.given input.old) (I.missed input.old))
         (coming (I.lines input.new) (I.given input.new) (I.missed input.new))
         (seen (F.holds files.old) (F.faults files.old) (O.written out.old) (O.faults out.old) steps.old)

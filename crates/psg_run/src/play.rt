@@ -4,7 +4,6 @@ ghost use Rattle.psg_world.specs.Sinks.{HasRisen};
 ghost use Rattle.psg_run.specs.Output.{script_lines};
 ghost use Rattle.psg_run.specs.Played.{PrintsAll, PrintsFront, PlaysLine, PlaysLineFront};
 ghost use Rattle.psg_session.specs.Sessions.{state_of};
-ghost use Rattle.psg_specimen.specs.Languages.{IsLanguage};
 
 use crate::lines::{cut_line, without_return};
 use psg_session::{Session, reply_lines};
@@ -23,12 +22,12 @@ pub fn play_line<F: Files, O: Sink, L: Ledger>(
     out: &mut O,
     steps: &mut Steps<L>,
 ) -> Result<(), WriteStop>
-    ensures ok { OnOk result (PlaysLine session.old.language.definition (state_of session.old.editor) line.now
+    ensures ok { OnOk result (PlaysLine session.old.language (state_of session.old.editor) line.now
         (state_of session.new.editor)
         (record { held = F.holds files.old; entries = F.faults files.old })
         (record { held = F.holds files.new; entries = F.faults files.new })
         (O.written out.old) (O.written out.new) steps.old steps.new) }
-    ensures err { IfErr result (PlaysLineFront session.old.language.definition (state_of session.old.editor) line.now
+    ensures err { IfErr result (PlaysLineFront session.old.language (state_of session.old.editor) line.now
         (record { held = F.holds files.old; entries = F.faults files.old })
         (record { held = F.holds files.new; entries = F.faults files.new })
         (O.written out.old) (O.written out.new) steps.old steps.new) }
@@ -52,12 +51,11 @@ pub fn play<F: Files, O: Sink, L: Ledger>(
     out: &mut O,
     steps: &mut Steps<L>,
 ) -> Result<(), WriteStop>
-    requires language { IsLanguage language }
-    ensures ok { OnOk result (PrintsAll language.definition (script_lines script.now)
+    ensures ok { OnOk result (PrintsAll language (script_lines script.now)
         (record { held = F.holds files.old; entries = F.faults files.old })
         (record { held = F.holds files.new; entries = F.faults files.new })
         (O.written out.old) (O.written out.new) steps.old steps.new) }
-    ensures err { IfErr result (PrintsFront language.definition (script_lines script.now)
+    ensures err { IfErr result (PrintsFront language (script_lines script.now)
         (record { held = F.holds files.old; entries = F.faults files.old })
         (record { held = F.holds files.new; entries = F.faults files.new })
         (O.written out.old) (O.written out.new) steps.old steps.new) }

@@ -1,6 +1,5 @@
 //! The whole program.
 ghost use Rattle.std.specs.Prelude.{ℕ, ◌≡◌, map, string_bytes, IfOk, IfErr};
-ghost use Rattle.psg_specimen.specs.Languages.{IsLanguage};
 ghost use Rattle.psg_run.specs.Causes.{in_file};
 ghost use Rattle.psg_run.specs.Output.{RepliesToAll};
 ghost use Rattle.psg_run.specs.Promise.{IsRun, Checks, Edits, Lives, Plays, SpentFromStart};
@@ -28,8 +27,7 @@ fn play_file<F: Files, O: Sink, L: Ledger>(
     out: &mut O,
     steps: &mut Steps<L>,
 ) -> Status
-    requires language { IsLanguage language }
-    ensures { Plays RepliesToAll SpentFromStart language.definition script.now
+    ensures { Plays RepliesToAll SpentFromStart language script.now
         (seen (F.holds files.old) (F.faults files.old) (O.written out.old) (O.faults out.old) steps.old)
         (seen (F.holds files.new) (F.faults files.new) (O.written out.new) (O.faults out.new) steps.new) result }
 {

@@ -1,6 +1,5 @@
 //! The file of a definition, and the lines that are said of it.
 ghost use Rattle.std.specs.Prelude.{ℕ, ◌≡◌, ◌<◌, ◌^◌, List, IfOk, IfErr, length, string_bytes};
-ghost use Rattle.psg_specimen.specs.Languages.{IsLanguage};
 ghost use Rattle.psg_specimen.specs.Refusal.{Refuses};
 ghost use Rattle.psg_defread.specs.Reading.{IsReadAs, Spells};
 ghost use Rattle.psg_defread.specs.Refusals.{IsReadFault};
@@ -85,8 +84,7 @@ fn end_refused<O: Sink>(alloc: Global, refused: &Refused, out: &mut O) -> Status
 /// why it is refused goes to `out`, and the status says how that ended.
 pub fn language_of<O: Sink>(alloc: Global, text: &[u8], out: &mut O) -> Result<Language, Status>
     requires { length text.now < 2 ^ 32 }
-    ensures ok { IfOk result (λ l. IsAccepted text.now l.definition) }
-    ensures language { IfOk result IsLanguage }
+    ensures ok { IfOk result (λ l. IsAccepted text.now l) }
     ensures quiet { IfOk result (λ _. out.new ≡ out.old) }
     ensures err { IfErr result (EndsRefused text.now (O.written out.old) (O.written out.new) (O.faults out.old)
         (O.faults out.new)) }
@@ -110,8 +108,7 @@ pub fn read_language<F: Files, O: Sink>(
     files: &mut F,
     out: &mut O,
 ) -> Result<Language, Status>
-    ensures ok { IfOk result (λ l. HasDefinition (F.holds files.old) (in_file file.now) l.definition) }
-    ensures language { IfOk result IsLanguage }
+    ensures ok { IfOk result (λ l. HasDefinition (F.holds files.old) (in_file file.now) l) }
     ensures holds { IfOk result (λ _. F.holds files.new ≡ F.holds files.old) }
     ensures entries { IfOk result (λ _. F.faults files.new ≡ F.faults files.old) }
     ensures quiet { IfOk result (λ _. out.new ≡ out.old) }

@@ -17,9 +17,7 @@ use Rattle.psg_session.specs.declared.replies.Reply.{Reply}
 use Rattle.psg_session.specs.Applied.{HasApplied, HasStopped, IsRefusal}
 use Rattle.psg_session.specs.Exchanges.{Outside}
 use Rattle.psg_grammar.specs.Sound.{IsSound}
-use Rattle.psg_specimen.specs.Languages.{IsLanguage}
 use Rattle.psg_specimen.specs.Refusal.{IsAccepted}
-use Rattle.psg_specimen.specs.declared.language.Language.{Language}
 use Rattle.psg_session.specs.Formed.{HasText, IsFormedState}
 use Rattle.psg_session.specs.Good.{IsGoodIn}
 use Rattle.psg_session.proofs.ByCompletions.{accepted_forms, accepted_steps}
@@ -77,53 +75,51 @@ refusal_stays outcome reply told h = go outcome (subst (λ (r : Reply). IsRefusa
 
 -- the note of what is opened is a note of its tree
 pub note_here : (p : Parts) → IsSession p → (held : OpenedTree) → p.editor.opened ≡ Some held
-    → (old : Opened) × ((state_of p.editor).opened ≡ Some old) × IsNoteOf p.language.definition old.tree held.note
+    → (old : Opened) × ((state_of p.editor).opened ≡ Some old) × IsNoteOf p.language old.tree held.note
 note_here p session held opened = (
   plain held,
   ap opened_of opened,
-  (opened_version p.language.definition p.editor held session.editor opened).noted,
+  (opened_version p.language p.editor held session.editor opened).noted,
 )
 
 pub note_in : (p q : Parts) → p ≡ q → IsSession p → (held : OpenedTree) → p.editor.opened ≡ Some held
-    → (old : Opened) × ((state_of q.editor).opened ≡ Some old) × IsNoteOf q.language.definition old.tree held.note
+    → (old : Opened) × ((state_of q.editor).opened ≡ Some old) × IsNoteOf q.language old.tree held.note
 note_in p q same session held opened =
     subst (λ (x : Parts). (old : Opened) × ((state_of x.editor).opened ≡ Some old)
-    × IsNoteOf x.language.definition old.tree held.note) same (note_here p session held opened)
+    × IsNoteOf x.language old.tree held.note) same (note_here p session held opened)
 
 -- what was applied to the parts that the session keeps
-pub applied_in : (p q : Parts) → p ≡ q → IsSession p → (command : Command) → HasText command
+pub applied_in : (p q : Parts) → p ≡ q → IsSession p → IsSound p.language → IsAccepted p.language → (command : Command) → HasText command
     → (before after_it : Outside) (from to : ℕ)
-    → (outcome : Outcome) → HasReached p.language.definition p.editor command before after_it from to outcome
+    → (outcome : Outcome) → HasReached p.language p.editor command before after_it from to outcome
     → (new : Editor) → state_of new ≡ after p.editor outcome → (reply : Reply) → reply ≡ reply_in outcome
-    → HasApplied q.language.definition (state_of q.editor) (state_of new) command before after_it from to (reply_of reply)
-applied_in p q same session command text before after_it from to outcome is new state reply told =
-    subst (λ (x : Parts). HasApplied x.language.definition (state_of x.editor) (state_of new) command before after_it
+    → HasApplied q.language (state_of q.editor) (state_of new) command before after_it from to (reply_of reply)
+applied_in p q same session sound accepted command text before after_it from to outcome is new state reply told =
+    subst (λ (x : Parts). HasApplied x.language (state_of x.editor) (state_of new) command before after_it
     from to (reply_of reply)) same
-    (applied p.language.definition p.editor command before after_it from to outcome is session.language.sound
-    session.language.accepted session.formed text new state reply told)
+    (applied p.language p.editor command before after_it from to outcome is sound
+    accepted session.formed text new state reply told)
 
 -- The session after an outcome was settled.
-pub session_after : (p : Parts) → IsSession p → (command : Command) → HasText command
+pub session_after : (p : Parts) → IsSession p → IsSound p.language → IsAccepted p.language → (command : Command) → HasText command
     → (before after_it : Outside) (from to : ℕ)
-    → (outcome : Outcome) → HasReached p.language.definition p.editor command before after_it from to outcome
-    → (new : Editor) → IsEditor p.language.definition new → state_of new ≡ after p.editor outcome → (reply : Reply)
+    → (outcome : Outcome) → HasReached p.language p.editor command before after_it from to outcome
+    → (new : Editor) → IsEditor p.language new → state_of new ≡ after p.editor outcome → (reply : Reply)
     → reply ≡ reply_in outcome → IsSession (record { language = p.language; editor = new })
-session_after p session command text before after_it from to outcome is new editor state reply told = record {
-  language = session.language;
+session_after p session sound accepted command text before after_it from to outcome is new editor state reply told = record {
   editor = editor;
-  formed = stays_formed p.language.definition p.editor command before after_it from to outcome is session.language.sound
-      session.language.accepted session.formed text new state reply told;
+  formed = stays_formed p.language p.editor command before after_it from to outcome is sound
+      accepted session.formed text new state reply told;
 }
 
 -- a session in which nothing is opened
-pub begun : (language : Language) → IsLanguage language → (e : Editor) → IsEditor language.definition e
+pub begun : (language : Definition) → (e : Editor) → IsEditor language e
     → state_of e ≡ start → IsSession (record { language = language; editor = e })
-begun language is e editor state = record {
-  language = is;
+begun language e editor state = record {
   editor = editor;
-  formed = subst (IsFormedState language.definition) (sym state) nothing;
+  formed = subst (IsFormedState language) (sym state) nothing;
 } where
-  nothing : IsFormedState language.definition start
+  nothing : IsFormedState language start
   nothing = record {
     opened = λ old e. absurd (none-some old e);
     cursor = λ old e. absurd (none-some old e);
@@ -134,12 +130,12 @@ begun language is e editor state = record {
   }
 
 pub stopped_in : {X : Type 0} (p q : Parts) → p ≡ q → (command : Command) (before after_it : Outside) (from to : ℕ)
-    → HasStopped p.language.definition (state_of p.editor) command before after_it from to
+    → HasStopped p.language (state_of p.editor) command before after_it from to
     → (r : Result X AllocError)
-    → IfErr r (λ _. HasStopped q.language.definition (state_of q.editor) command before after_it from to)
+    → IfErr r (λ _. HasStopped q.language (state_of q.editor) command before after_it from to)
 stopped_in p q same command before after_it from to is (Ok x) = tt
 stopped_in p q same command before after_it from to is (Err e) =
-    subst (λ (x : Parts). HasStopped x.language.definition (state_of x.editor) command before after_it from to) same is
+    subst (λ (x : Parts). HasStopped x.language (state_of x.editor) command before after_it from to) same is
 
 -- ---- lines
 

@@ -1,5 +1,5 @@
 -- Which step the plain editor takes at a question, from what was found of the opened fragment.
-use Rattle.std.proofs.Common.{◌≡◌, inl, inr, ℕ, ◌+◌, ◌≤◌, List, [], ◌∷◌, Some, None, refl, sym, ◌∙◌, ap, subst, arith}
+use Rattle.std.proofs.Common.{◌≡◌, inl, inr, ℕ, ◌+◌, ◌≤◌, List, [], ◌∷◌, map, Some, None, refl, sym, ◌∙◌, ap, subst, arith}
 use Rattle.psg_terms.specs.Terms.{Term}
 use Rattle.psg_terms.specs.Signature.{AreTerms}
 use Rattle.psg_terms.specs.Relations.{IsIn}
@@ -16,14 +16,14 @@ use Rattle.psg_eval.specs.declared.summary.Known.{Known}
 use Rattle.psg_session.proofs.Verdicts.{root_is}
 use Rattle.std.proofs.lemmas.Option.{none-some}
 use Rattle.psg_grammar.specs.Paths.{node_at}
-use Rattle.psg_cache.proofs.ShapedTrees.{node_shaped}
+use Rattle.psg_cache.proofs.FormedTrees.{node_formed as formed_below}
 use Rattle.psg_script.specs.declared.command.Where.{Where}
 use Rattle.psg_script.specs.declared.command.Command.{Command}
 use Rattle.psg_script.specs.declared.command.Command.TheVariants.{Own, Free}
 use Rattle.psg_session.specs.declared.editor.Editor.{Editor}
 use Rattle.psg_session.specs.declared.editor.OpenedTree.{OpenedTree}
 use Rattle.psg_session.specs.declared.finding.Found.{Found}
-use Rattle.psg_session.specs.Answers.{names_line, rows_lines}
+use Rattle.psg_session.specs.Answers.{key_text, names_line, rows_lines}
 use Rattle.psg_session.specs.Good.{IsGoodIn}
 use Rattle.psg_session.specs.declared.editor.Outcome.TheVariants.{Stays}
 use Rattle.psg_session.specs.declared.refusal.Refusal.{Refusal}
@@ -57,8 +57,8 @@ row_terms def f rows (sorts, rel) row h = (sorts, (rel.shapes row h).sorted)
 module _ (def : Definition) (e : Editor) where
   pub node_formed : IsEditor def e → (place : Where) (f : Found) → IsFound e place f → IsFormed def f.node.now
   node_formed editor place f found =
-      node_shaped def (tree_in f.held.now.note) f.held.now.kind f.path.now f.node.now
-      (opened_version def e f.held.now editor found.held).shaped found.node
+      formed_below def (tree_in f.held.now.note) f.held.now.kind f.path.now f.node.now
+      (opened_version def e f.held.now editor found.held).formed found.node
 
   module _ (none : e.opened ≡ None) where
     pub free_unopened : Answers def e Free (refused NothingOpened)
@@ -66,7 +66,7 @@ module _ (def : Definition) (e : Editor) where
 
   module _ (held : OpenedTree) (opened : e.opened ≡ Some held) where
     pub free_opened : IsEditor def e → (line : List ℕ)
-        → line ≡ names_line (names_without (whole_in held.note).header.names) → Answers def e Free (answered (line ∷ []))
+        → line ≡ names_line (names_without def (whole_in held.note).header.names) → Answers def e Free (answered (line ∷ []))
     free_opened editor line written =
         let told = written ∙ ap names_line (free_are def (tree_in held.note) (whole_in held.note).header
         (root_is def (tree_in held.note) held.note (opened_version def e held editor opened).noted).header) in
@@ -78,13 +78,13 @@ module _ (def : Definition) (e : Editor) where
     own_not_found r missing = refuses (nowhere def e place r missing)
 
     pub own_found : (f : Found) → IsFound e place f → (known : Known) → IsSummaryOf def f.node.now known
-        → (lines : List (List ℕ)) → lines ≡ rows_lines def.signature (keys known.header.names) known.rel
+        → (lines : List (List ℕ)) → lines ≡ rows_lines def.signature (map (key_text def) (keys known.header.names)) known.rel
         → Answers def e (Own place) (answered lines)
     own_found f found known is lines written =
         let rows = known.rel in
-        let told : lines ≡ rows_lines def.signature (names_of def f.node.now) rows =
-        written ∙ ap (λ ks. rows_lines def.signature ks rows) is.header.keys_are in
-        let step : Answers def e (Own place) (answered (rows_lines def.signature (names_of def f.node.now) rows)) =
+        let told : lines ≡ rows_lines def.signature (map (key_text def) (names_of def f.node.now)) rows =
+        written ∙ ap (λ ks. rows_lines def.signature (map (key_text def) ks) rows) is.header.keys_are in
+        let step : Answers def e (Own place) (answered (rows_lines def.signature (map (key_text def) (names_of def f.node.now)) rows)) =
         owns (plain f.held.now) f.node.now rows
         (is_opened def e place f found, (is_there def e place f found, tt))
         (opened_is def e place f found) (node_is def e place f found) is.rows in

@@ -9,17 +9,18 @@ use Rattle.psg_grammar.specs.Open.{IsOpen}
 use Rattle.psg_grammar.specs.Sound.{IsSound}
 use Rattle.psg_grammar.specs.WellFormed.{WellFormed}
 use Rattle.psg_completions.specs.Completions.{MarkedByCompletions, OpenOrCompletable}
-use Rattle.psg_specimen.specs.Conditions.{IsQuietSlot}
+use Rattle.psg_menu.specs.Menus.{HasQuietSlots}
 use Rattle.psg_completions.proofs.Law.{open_or_completable}
 use Rattle.psg_completions.proofs.MarkLaws.{marked_by_completions}
 use Rattle.psg_specimen.specs.Refusal.{IsAccepted}
-use Rattle.psg_specimen.proofs.TrueRows.{quiet_slots, true_rows}
+use Rattle.psg_specimen.proofs.TrueRows.{true_rows}
+use Rattle.psg_session.proofs.NewTrees.{quiet_slots}
 use Rattle.psg_session.specs.Good.{IsGoodIn}
 use Rattle.psg_session.specs.Laws.{KeepsForm, StepsByCompletions}
 use Rattle.psg_session.proofs.FormedSteps.{keeps_form}
 use Rattle.psg_session.proofs.SameSteps.{same_step}
 
-module _ (def : Definition) (sound : IsSound def) (slots : (o k : ℕ) → IsQuietSlot def o k)
+module _ (def : Definition) (sound : IsSound def) (slots : HasQuietSlots def)
     (trees : OpenOrCompletable def) (marked : MarkedByCompletions def) where
   pub steps_by_completions : StepsByCompletions def
   steps_by_completions s t answer command reply text formed = (
@@ -33,10 +34,10 @@ module _ (def : Definition) (sound : IsSound def) (slots : (o k : ℕ) → IsQui
 -- ---- of an accepted definition
 
 pub accepted_forms : (def : Definition) → IsSound def → IsAccepted def → KeepsForm def (IsGoodIn def)
-accepted_forms def sound accepted = keeps_form def (IsGoodIn def) sound (quiet_slots def accepted.met)
+accepted_forms def sound accepted = keeps_form def (IsGoodIn def) sound (quiet_slots def accepted)
 
 pub accepted_steps : (def : Definition) → IsSound def → IsAccepted def → StepsByCompletions def
 accepted_steps def sound accepted =
     let rows = true_rows def accepted.met in
-    steps_by_completions def sound (quiet_slots def accepted.met) (open_or_completable def sound rows)
+    steps_by_completions def sound (quiet_slots def accepted) (open_or_completable def sound rows)
     (marked_by_completions def sound rows)

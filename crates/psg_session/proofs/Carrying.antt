@@ -7,9 +7,9 @@ use Rattle.psg_grammar.specs.Fragments.{Fragment}
 use Rattle.psg_grammar.specs.Insertion.{blank}
 use Rattle.psg_grammar.specs.Marks.{IsMark}
 use Rattle.psg_grammar.specs.Paths.{Path}
+use Rattle.psg_grammar.specs.WellFormed.{WellFormed}
 use Rattle.psg_cache.specs.Blames.{culprits_in}
 use Rattle.psg_cache.specs.Notes.{IsNoteOf, mark_by}
-use Rattle.psg_cache.specs.Shaped.{IsShaped}
 use Rattle.psg_cache.specs.Annotated.{Annotated, tree_in}
 use Rattle.psg_script.specs.declared.command.Command.{Command}
 use Rattle.psg_script.specs.declared.command.Command.TheVariants.{New}
@@ -36,7 +36,7 @@ use Rattle.psg_session.specs.Sessions.{IsEditor, IsVersion, opened_of, plain, st
 use Rattle.psg_session.specs.Shrinking.{IsSmallFor}
 use Rattle.psg_session.specs.Ticks.{HasTicked}
 use Rattle.psg_session.specs.Views.{mark_of}
-use Rattle.psg_session.proofs.EditLaws.{edited_shaped, opened_version}
+use Rattle.psg_session.proofs.EditLaws.{edited_formed, opened_version}
 use Rattle.psg_session.proofs.Smaller.{small_by}
 use Rattle.psg_session.proofs.StepLaws.{opened_plain, some_once}
 use Rattle.psg_session.proofs.Verdicts.{mark_is}
@@ -95,9 +95,9 @@ module _ (def : Definition) (e : Editor) (command : Command) (m : Made) (made : 
 
   new_version : IsEditor def e → (note : Annotated) → IsNoteOf def tree note → IsVersion def made.held.kind note
   new_version editor note noted = record {
-    shaped = subst (λ f. IsShaped def f made.held.kind) (sym noted.tree)
-        (edited_shaped def m.edit (tree_in made.held.note) made.held.kind
-        (opened_version def e made.held editor made.opened).shaped made.may);
+    formed = subst (λ f. WellFormed def f made.held.kind) (sym noted.tree)
+        (edited_formed def m.edit (tree_in made.held.note) made.held.kind
+        (opened_version def e made.held editor made.opened).formed made.may);
     noted = subst (λ f. IsNoteOf def f note) (sym noted.tree) noted;
   }
 
@@ -221,11 +221,11 @@ module _ (def : Definition) (e : Editor) (name : Name) where
         fit = tt;
       }
 
-      pub new_opened : IsShaped def (blank def kind) kind → (note : Annotated)
+      pub new_opened : WellFormed def (blank def kind) kind → (note : Annotated)
           → IsJudged def Opens (blank def kind) (Ok note)
           → (cursor : Path) → cursor ≡ [] → (mark : Mark) → mark_of mark ≡ mark_by (culprits_in note)
           → IsOutcome def e not_asked (New name) (OpensTree (record { kind = kind; note = note }) cursor mark)
-      new_opened shaped note (noted, passes) cursor top mark told =
+      new_opened formed note (noted, passes) cursor top mark told =
           let marks : IsMark def (blank def kind) (mark_of mark) =
           subst (IsMark def (blank def kind)) (sym told) (mark_is def _ note noted) in
           let taken = passes_again def (λ P. P (blank def kind)) (OfResult def (state_of e) (New name)) lifts lowers
@@ -239,7 +239,7 @@ module _ (def : Definition) (e : Editor) (name : Name) where
                 (subst (λ (f : Fragment). Steps def (IsGoodIn def) (state_of e) not_asked (New name)
                 (with_tree e.saved kind f []) (marked (mark_of mark))) (sym noted.tree) step);
             fit = record {
-              shaped = subst (λ f. IsShaped def f kind) (sym noted.tree) shaped;
+              formed = subst (λ f. WellFormed def f kind) (sym noted.tree) formed;
               noted = subst (λ f. IsNoteOf def f note) (sym noted.tree) noted;
             };
           }

@@ -3,7 +3,6 @@ use Rattle.std.proofs.Common.{arith, ◌≡◌, inl, inr, true, false, Some, ref
 use Rattle.psg_grammar.specs.declared.types.Definition.{Definition}
 use Rattle.psg_grammar.specs.Fragments.{Fragment}
 use Rattle.psg_grammar.specs.Paths.{change_at, ended, replaced}
-use Rattle.psg_cache.specs.Shaped.{IsShaped}
 use Rattle.psg_script.specs.declared.command.Where.{Where}
 use Rattle.psg_script.specs.declared.command.Command.TheVariants.{Close}
 use Rattle.psg_session.specs.declared.changes.Plan.TheVariants.{RefusedBy}
@@ -18,12 +17,13 @@ use Rattle.psg_session.specs.PlainStep.{Gives, by_change, by_close, Makes, end_o
 use Rattle.psg_session.specs.Outcomes.{IsFound, IsMade, IsNotFound, IsPlan, made_of}
 use Rattle.psg_session.specs.Ticks.{above}
 use Rattle.psg_grammar.specs.Work.{work_of, climb_of}
+use Rattle.psg_grammar.specs.WellFormed.{WellFormed}
 use Rattle.psg_session.proofs.Ticking.{ended_work}
 use Rattle.psg_session.specs.Sessions.{IsEditor, plain, state_of}
 use Rattle.psg_cache.specs.Annotated.{tree_in}
 use Rattle.psg_session.proofs.Smaller.{ended_smaller}
 use Rattle.psg_session.proofs.StepLaws.{at_node, has_node, is_opened, is_there, nowhere, opened_is, path_is, same_old}
-use Rattle.psg_session.proofs.ChangeLaws.{finished_shaped, may_put, put_is, cost_here}
+use Rattle.psg_session.proofs.ChangeLaws.{finished_formed, may_put, put_is, cost_here}
 
 abbrev IsNotUnfinished : Opened → Fragment → Type 0
 IsNotUnfinished old node = end_of node ≡ Some true → ⊥
@@ -63,7 +63,7 @@ module _ (def : Definition) (e : Editor) (place : Where) where
           held = f.held.now;
           opened = found.held;
           may = may_put def e place f editor found new
-              (λ K shaped. subst (λ t. IsShaped def t K) (sym is) (finished_shaped def f.node.now K shaped));
+              (λ K formed. subst (λ t. WellFormed def t K) (sym is) (finished_formed def f.node.now K formed));
           makes = it;
           only = λ other given. closed_once other given ∙ result;
           refused = λ r h. inr (

@@ -6,8 +6,8 @@ use Rattle.psg_grammar.specs.declared.types.Kind.{Kind}
 use Rattle.psg_grammar.specs.declared.types.Definition.{Definition}
 use Rattle.psg_grammar.specs.Fragments.{Fragment}
 use Rattle.psg_grammar.specs.Paths.{replaced}
-use Rattle.psg_cache.specs.Shaped.{IsShaped}
-use Rattle.psg_cache.proofs.ShapedTrees.{blank_shaped, kind_once}
+use Rattle.psg_cache.proofs.FormedTrees.{kind_once}
+use Rattle.psg_session.proofs.NewTrees.{blank_formed}
 use Rattle.psg_script.specs.declared.command.Where.{Where}
 use Rattle.psg_script.specs.declared.command.Command.TheVariants.{Cut}
 use Rattle.psg_session.specs.declared.changes.Plan.TheVariants.{RefusedBy}
@@ -22,6 +22,7 @@ use Rattle.psg_session.specs.PlainStep.{AtNode, Gives, by_change, by_cut, IsDecl
 use Rattle.psg_session.specs.Outcomes.{IsFound, IsMade, IsNotFound, IsPlan, made_of}
 use Rattle.psg_session.specs.Ticks.{above}
 use Rattle.psg_grammar.specs.Work.{work_of, climb_of}
+use Rattle.psg_grammar.specs.WellFormed.{WellFormed}
 use Rattle.psg_session.proofs.Ticking.{blank_work}
 use Rattle.psg_session.specs.Sessions.{IsEditor, plain, state_of}
 use Rattle.psg_cache.specs.Annotated.{tree_in}
@@ -38,11 +39,11 @@ module _ (def : Definition) (e : Editor) (place : Where) where
   Declares old node = (kind : Kind) × IsOfKind def node kind × IsDeclaringPhylum def kind
 
   -- the tree stays of the node's kind
-  cut_keeps : (node : Fragment) (kind : Kind) → IsOfKind def node kind → HasKind def kind → (new : Fragment)
-      → new ≡ blank def kind → (K : Kind) → IsShaped def node K → IsShaped def new K
-  cut_keeps node kind is there new fresh K shaped =
-      subst (λ t. IsShaped def t K) (sym fresh)
-      (subst (IsShaped def (blank def kind)) (sym (kind_is def node K kind shaped is)) (blank_shaped def kind there))
+  cut_keeps : (node : Fragment) (kind : Kind) → IsOfKind def node kind → HasKind def kind
+      → (IsDeclaringPhylum def kind → ⊥) → (new : Fragment) → new ≡ blank def kind → (K : Kind) → WellFormed def node K → WellFormed def new K
+  cut_keeps node kind is there never new fresh K formed =
+      subst (λ t. WellFormed def t K) (sym fresh)
+      (subst (WellFormed def (blank def kind)) (sym (kind_is def node K kind formed is)) (blank_formed def kind there never))
 
   module _ (f : Found) (found : IsFound e place f) (kind : Kind) (is : IsOfKind def f.node.now kind) where
     -- a placeholder would not say which names it declares
@@ -86,7 +87,7 @@ module _ (def : Definition) (e : Editor) (place : Where) where
           held = f.held.now;
           opened = found.held;
           may = may_put def e place f editor found new
-              (λ K shaped. cut_keeps f.node.now kind is there new fresh K shaped);
+              (λ K formed. cut_keeps f.node.now kind is there never new fresh K formed);
           makes = it;
           only = λ other given. cut_once other given ∙ result;
           refused = λ r h. inr (

@@ -25,7 +25,8 @@ use Rattle.psg_grammar.specs.Work.{work_of, climb_of}
 use Rattle.psg_session.specs.Sessions.{plain, state_of}
 use Rattle.psg_cache.specs.Annotated.{tree_in}
 use Rattle.psg_session.proofs.StepLaws.{at_node, has_node, is_opened, is_there, nowhere, opened_is, path_is, same_old}
-use Rattle.psg_session.proofs.ChangeLaws.{answer_shaped, gives_none, is_other, not_other, one_list_kind, one_operator, cost_here}
+use Rattle.psg_session.proofs.ChangeLaws.{answer_formed, gives_none, is_other, not_other, one_list_kind, one_operator, cost_here}
+use Rattle.psg_menu.specs.Menus.{HasQuietSlots}
 use Rattle.psg_session.specs.Leaves.{GivesLeaves}
 use Rattle.psg_session.proofs.LeafReads.{one_list}
 
@@ -141,9 +142,9 @@ module _ (def : Definition) (e : Editor) (place : Where) (k : ℕ) (name : Name)
               not_other def e place f found sound (Some k) list.kind.now.element wanted only_wanted name args o named of
 
           -- the operator is a new element
-          pub insert_made : (fresh : Fragment) → fresh ≡ fresh_operator def o leaves
+          pub insert_made : HasQuietSlots def → (fresh : Fragment) → fresh ≡ fresh_operator def o leaves
               → IsMade def e (Insert place k name args) (made_of Grows (Add f.path.now k fresh) (f.path.now ++ k ∷ []))
-          insert_made fresh is_fresh =
+          insert_made slots fresh is_fresh =
               let (l, of_list, at) = listed.kind in
               let here = path_is def e place f found in
               let result : with_operator def (tree_in f.held.now.note) (named_path place e.cursor) (Some k) o leaves
@@ -166,7 +167,7 @@ module _ (def : Definition) (e : Editor) (place : Where) (k : ℕ) (name : Name)
                   of_kind = of_list;
                   list = list.kind.now;
                   found = at;
-                  shaped = answer_shaped def sound list.kind.now.element name args fresh
+                  formed = answer_formed def sound slots list.kind.now.element name args fresh
                       (o, leaves, named, of, gives, is_fresh);
                   within = let same = listed.elements in omega (arith, same, within);
                 };

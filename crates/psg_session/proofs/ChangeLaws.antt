@@ -15,12 +15,14 @@ use Rattle.psg_grammar.specs.Kinds.{HasKind, IsOfKind}
 use Rattle.psg_grammar.specs.Sound.{IsSound}
 use Rattle.psg_grammar.proofs.NamePlaces.{only_op}
 use Rattle.psg_grammar.proofs.SoundParts.{phylum_in}
-use Rattle.psg_cache.specs.Shaped.{HasShape, IsShaped}
 use Rattle.psg_script.specs.declared.command.Where.{Where}
+use Rattle.psg_library.proofs.Written.{kind_there as kind_fits_there}
+use Rattle.psg_menu.specs.Menus.{HasQuietSlots}
+use Rattle.psg_menu.proofs.FormedTrials.{fresh_formed}
 use Rattle.psg_session.specs.Leaves.{GivesLeaves}
 use Rattle.psg_grammar.specs.Paths.{change_at, ended, IsList, node_at, Path, replaced}
 use Rattle.psg_tree.proofs.Walks.{change_at-agree}
-use Rattle.psg_cache.proofs.ShapedTrees.{ended_shaped, fresh_shaped, kind_once, node_shaped, shape_is_kind}
+use Rattle.psg_cache.proofs.FormedTrees.{ended_formed, formed_is_kind, kind_once, node_formed}
 use Rattle.psg_session.specs.declared.edits.Edit.TheVariants.{Put}
 use Rattle.psg_session.specs.declared.editor.Editor.{Editor}
 use Rattle.psg_session.specs.declared.finding.Found.{Found}
@@ -29,6 +31,7 @@ use Rattle.psg_session.specs.Outcomes.{IsFound, IsFreshAnswer}
 use Rattle.psg_session.specs.PlainState.{Opened, named_path}
 use Rattle.psg_session.specs.PlainStep.{GivesNone, IsListOf, IsOfPhylum, IsOperator, IsOther, IsWanted, end_of}
 use Rattle.psg_grammar.specs.Work.{climb_of}
+use Rattle.psg_grammar.specs.WellFormed.{Fits, WellFormed}
 use Rattle.psg_session.specs.Sessions.{IsEditor, state_of}
 use Rattle.psg_cache.specs.Annotated.{tree_in}
 use Rattle.psg_session.proofs.EditLaws.{opened_version}
@@ -56,33 +59,14 @@ module _ (def : Definition) where
       some_once a b (slice_get def.lists m) (subst (λ x. slice_get def.lists x ≡ Some a) same at) also
 
   -- a tree of a kind that is a list is one of that list
-  pub kind_is : (node : Fragment) (K kind : Kind) → IsShaped def node K → IsOfKind def node kind → K ≡ kind
-  kind_is node K kind shaped h = kind_once def node K kind (shape_is_kind def node K shaped) h
-
-  pub has_shape_kind : IsSound def → (f : Fragment) (more : List Item) (kind : Kind) → HasShape def f more kind
-      → HasKind def kind
-  has_shape_kind sound (hole p) more kind (none, is, small) = subst (HasKind def) (sym is) small
-  has_shape_kind sound (ending l u) more kind (none, is, (k, found, may)) =
-      subst (HasKind def) (sym is) (slice_get_within def.lists l k found)
-  has_shape_kind sound (cell l e r) more kind (none, is, k, found, fe, fr, z) =
-      subst (HasKind def) (sym is) (slice_get_within def.lists l k found)
-  has_shape_kind sound (operator o) more kind (op, found, all, is) =
-      subst (HasKind def) (sym is) (phylum_in def sound o op found)
-  has_shape_kind sound (with_child f t) more kind (k, ff, ft) = has_shape_kind sound f (items.Slot k ∷ more) kind ff
-  has_shape_kind sound (with_name f n) more kind (inl (s, h), name) =
-      has_shape_kind sound f (items.Refers s ∷ more) kind h
-  has_shape_kind sound (with_name f n) more kind (inr (s, h), name) =
-      has_shape_kind sound f (items.Declares s ∷ more) kind h
-  has_shape_kind sound (with_number f n) more kind (h, small) = has_shape_kind sound f (items.Number ∷ more) kind h
-  has_shape_kind sound (with_text f t) more kind (h, text) = has_shape_kind sound f (items.Text ∷ more) kind h
-  has_shape_kind sound anything more kind h = absurd h
-  has_shape_kind sound (observed f) more kind (none, h) = has_shape_kind sound f [] kind h
+  pub kind_is : (node : Fragment) (K kind : Kind) → WellFormed def node K → IsOfKind def node kind → K ≡ kind
+  kind_is node K kind formed h = kind_once def node K kind (formed_is_kind def node K formed) h
 
   -- the kind of a node is there
-  pub kind_there : IsSound def → (node : Fragment) (kind : Kind) → ((K : Kind) × IsShaped def node K)
+  pub kind_there : IsSound def → (node : Fragment) (kind : Kind) → ((K : Kind) × WellFormed def node K)
       → IsOfKind def node kind → HasKind def kind
-  kind_there sound node kind (K, shaped) h =
-      subst (HasKind def) (kind_is node K kind shaped h) (has_shape_kind sound node [] K shaped.0)
+  kind_there sound node kind (K, formed) h =
+      subst (HasKind def) (kind_is node K kind formed h) (kind_fits_there def sound node [] K formed.0)
 
   -- only a list has an end
   pub end_is_list : (f : Fragment) (u : Bool) → end_of f ≡ Some u → IsList f
@@ -98,21 +82,21 @@ module _ (def : Definition) where
   end_is_list (observed f) u e = absurd (none-some u e)
 
   -- a tree that is finished stays of its kind
-  pub finished_shaped : (f : Fragment) (kind : Kind) → IsShaped def f kind → IsShaped def (ended false f) kind
-  finished_shaped (ending l u) kind ((none, is, (k, found, may)), plain_is) =
+  pub finished_formed : (f : Fragment) (kind : Kind) → WellFormed def f kind → WellFormed def (ended false f) kind
+  finished_formed (ending l u) kind ((none, is, (k, found, may)), plain_is) =
       ((none, is, (k, found, λ e. absurd (true≢false (sym e)))), tt)
-  finished_shaped (cell l x r) kind ((none, is, k, found, fx, fr, z), plain_is) =
-      let here : IsShaped def (cell l x r) (kinds.List l) = ((none, refl, k, found, fx, fr, z), plain_is) in
-      subst (IsShaped def (ended false (cell l x r))) (sym is)
-      (ended_shaped def false (cell l x r) l k here found (λ e. absurd (true≢false (sym e))))
-  finished_shaped (hole p) kind h = h
-  finished_shaped (operator o) kind h = h
-  finished_shaped (with_child f t) kind h = h
-  finished_shaped (with_name f n) kind h = h
-  finished_shaped (with_number f n) kind h = h
-  finished_shaped (with_text f t) kind h = h
-  finished_shaped anything kind h = h
-  finished_shaped (observed f) kind h = h
+  finished_formed (cell l x r) kind ((none, is, k, found, fx, fr, z), plain_is) =
+      let here : WellFormed def (cell l x r) (kinds.List l) = ((none, refl, k, found, fx, fr, z), plain_is) in
+      subst (WellFormed def (ended false (cell l x r))) (sym is)
+      (ended_formed def false (cell l x r) l k here found (λ e. absurd (true≢false (sym e))))
+  finished_formed (hole p) kind h = h
+  finished_formed (operator o) kind h = h
+  finished_formed (with_child f t) kind h = h
+  finished_formed (with_name f n) kind h = h
+  finished_formed (with_number f n) kind h = h
+  finished_formed (with_text f t) kind h = h
+  finished_formed anything kind h = h
+  finished_formed (observed f) kind h = h
 
   -- ---- operators by their names
 
@@ -120,31 +104,31 @@ module _ (def : Definition) where
   one_operator sound a b name h g = only_op def sound.operator_names a b name h g
 
   -- a new operator of the phylum
-  pub answer_shaped : IsSound def → (p : ℕ) (name : Name) (args : List ℕ) (fresh : Fragment)
-      → IsFreshAnswer def p name args (Ok fresh) → IsShaped def fresh (kinds.Phylum p)
-  answer_shaped sound p name args fresh (o, leaves, named, (op, found, same), gives, is) =
-      subst (λ q. IsShaped def fresh (kinds.Phylum q)) same
-      (subst (λ t. IsShaped def t (kinds.Phylum op.phylum)) (sym is)
-      (fresh_shaped def sound o op leaves found gives.3))
+  pub answer_formed : IsSound def → HasQuietSlots def → (p : ℕ) (name : Name) (args : List ℕ) (fresh : Fragment)
+      → IsFreshAnswer def p name args (Ok fresh) → WellFormed def fresh (kinds.Phylum p)
+  answer_formed sound slots p name args fresh (o, leaves, named, (op, found, same), gives, is) =
+      subst (λ q. WellFormed def fresh (kinds.Phylum q)) same
+      (subst (λ t. WellFormed def t (kinds.Phylum op.phylum)) (sym is)
+      (fresh_formed def sound slots o op leaves found gives.3))
 
 -- ---- the found node
 
 module _ (def : Definition) (e : Editor) (place : Where) (f : Found) (editor : IsEditor def e)
     (found : IsFound e place f) where
-  pub found_shaped : (K : Kind) × IsShaped def f.node.now K
-  found_shaped =
-      node_shaped def (tree_in f.held.now.note) f.held.now.kind f.path.now f.node.now
-      (opened_version def e f.held.now editor found.held).shaped found.node
+  pub found_formed : (K : Kind) × WellFormed def f.node.now K
+  found_formed =
+      node_formed def (tree_in f.held.now.note) f.held.now.kind f.path.now f.node.now
+      (opened_version def e f.held.now editor found.held).formed found.node
 
   -- a tree of the node's kind may be put in its place
-  pub may_put : (new : Fragment) → ((K : Kind) → IsShaped def f.node.now K → IsShaped def new K)
+  pub may_put : (new : Fragment) → ((K : Kind) → WellFormed def f.node.now K → WellFormed def new K)
       → MayEdit def (tree_in f.held.now.note) (Put f.path.now new)
-  may_put new keeps = let (K, shaped) = found_shaped in record {
+  may_put new keeps = let (K, formed) = found_formed in record {
     node = f.node.now;
     there = found.node;
     kind = K;
-    of_kind = shape_is_kind def f.node.now K shaped;
-    shaped = keeps K shaped;
+    of_kind = formed_is_kind def f.node.now K formed;
+    formed = keeps K formed;
   }
 
 -- what a change at the found node costs, said by the place

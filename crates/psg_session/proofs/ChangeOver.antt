@@ -7,9 +7,8 @@ use Rattle.psg_grammar.specs.Fragments.{Fragment}
 use Rattle.psg_grammar.specs.Paths.{replaced}
 use Rattle.psg_grammar.specs.Sizes.{depth_of, IsBig, IsDeep}
 use Rattle.psg_grammar.specs.Work.{work_of, climb_of}
+use Rattle.psg_grammar.specs.WellFormed.{WellFormed}
 use Rattle.psg_cache.specs.Annotated.{tree_in}
-use Rattle.psg_cache.specs.Shaped.{IsShaped}
-use Rattle.psg_cache.proofs.FormedTrees.{shaped_of_formed}
 use Rattle.psg_class.specs.Class.{IsClass}
 use Rattle.psg_class.specs.Texts.{HasNoTokens, ReadsAs, TextTokens}
 use Rattle.psg_lexis.specs.declared.token.Spanned.{Spanned}
@@ -168,10 +167,10 @@ module _ (def : Definition) (e : Editor) (place : Where) (text : List ℕ) where
             let high : 400 < deep.nesting = deep.deep in
             omega (arith, same, low, high)
 
-        keeps : (K : Kind) → IsShaped def f.node.now K → IsShaped def new K
-        keeps K shaped =
-            subst (IsShaped def new) (sym (kind_is def f.node.now K kind shaped is))
-            (shaped_of_formed def new kind tree.formed)
+        keeps : (K : Kind) → WellFormed def f.node.now K → WellFormed def new K
+        keeps K formed =
+            subst (WellFormed def new) (sym (kind_is def f.node.now K kind formed is))
+            tree.formed
 
         refuses_typed : (r : Refusal)
             → Refuses (tree_tests def Types (OfResult def (state_of e) (Over place text))) r

@@ -10,9 +10,9 @@ use Rattle.psg_grammar.specs.Fragments.{Fragment, hole, children_of}
 use Rattle.psg_grammar.specs.Kinds.{IsOfKind}
 use Rattle.psg_grammar.specs.Paths.{change_at, inserted, IsList, replaced}
 use Rattle.psg_grammar.specs.Work.{work_of, climb_of}
+use Rattle.psg_grammar.specs.WellFormed.{WellFormed}
 use Rattle.psg_cache.specs.Annotated.{tree_in}
-use Rattle.psg_cache.specs.Shaped.{IsShaped}
-use Rattle.psg_cache.proofs.ShapedTrees.{kind_once}
+use Rattle.psg_cache.proofs.FormedTrees.{kind_once}
 use Rattle.psg_script.specs.declared.command.Where.{Where}
 use Rattle.psg_script.specs.declared.command.Command.TheVariants.{Paste}
 use Rattle.psg_session.specs.declared.changes.Listed.{Listed}
@@ -157,8 +157,8 @@ module _ (def : Definition) (e : Editor) (place : Where) (name : Name) (x : Sour
         let f = x.found in
         let found = source.found in
         let result = put_is e def place f found (λ old. x.saved.now.tree) new is in
-        let shaped : IsShaped def new x.saved.now.kind =
-        subst (λ t. IsShaped def t x.saved.now.kind) (sym is) (kept_at def e.saved name x.saved.now source.saved editor.saved) in
+        let formed : WellFormed def new x.saved.now.kind =
+        subst (λ t. WellFormed def t x.saved.now.kind) (sym is) (kept_at def e.saved name x.saved.now source.saved editor.saved) in
         let tree : Fragment = replaced f.path.now new (tree_in f.held.now.note) in
         let it : Makes def (state_of e) (Paste place None name) tree f.path.now =
         subst (λ q. Makes def (state_of e) (Paste place None name)
@@ -169,7 +169,7 @@ module _ (def : Definition) (e : Editor) (place : Where) (name : Name) (x : Sour
           held = f.held.now;
           opened = found.held;
           may = may_put def e place f editor found new
-              (λ K node. subst (IsShaped def new) (sym (kind_is def f.node.now K x.saved.now.kind node takes)) shaped);
+              (λ K node. subst (WellFormed def new) (sym (kind_is def f.node.now K x.saved.now.kind node takes)) formed);
           makes = it;
           only = λ other given. pasted_once other given ∙ result;
           refused = λ r h. inr (
@@ -293,8 +293,8 @@ module _ (def : Definition) (e : Editor) (place : Where) (name : Name) (x : Sour
                 of_kind = of_list;
                 list = list.kind.now;
                 found = at;
-                shaped = subst (IsShaped def new) same_kind
-                    (subst (λ t. IsShaped def t x.saved.now.kind) (sym is)
+                formed = subst (WellFormed def new) same_kind
+                    (subst (λ t. WellFormed def t x.saved.now.kind) (sym is)
                     (kept_at def e.saved name x.saved.now source.saved editor.saved));
                 within = let same = listed.elements in omega (arith, same, within);
               };

@@ -10,7 +10,6 @@ use Rattle.psg_grammar.specs.Sizes.{depth_of, IsDeep}
 use Rattle.psg_grammar.specs.WellFormed.{WellFormed}
 use Rattle.psg_cache.specs.Annotated.{tree_in}
 use Rattle.psg_cache.specs.Diff.{diff_of}
-use Rattle.psg_cache.proofs.FormedTrees.{shaped_of_formed}
 use Rattle.psg_class.specs.Class.{IsClass}
 use Rattle.psg_class.specs.Texts.{HasNoTokens, HasNoTree}
 use Rattle.psg_reads_back.specs.Layout.{text_of}
@@ -254,7 +253,7 @@ module _ (def : Definition) (e : Editor) (start end : ℕ) (text : List ℕ) whe
           there = h.fits.there;
           kind = h.fits.kind;
           of_kind = h.fits.of_kind;
-          shaped = shaped_of_formed def change.tree h.fits.kind h.fits.formed;
+          formed = h.fits.formed;
         };
         makes = makes_whole;
         only = range_once;

@@ -7,7 +7,6 @@ use Rattle.psg_grammar.specs.declared.types.Definition.{Definition}
 use Rattle.psg_grammar.specs.Fragments.{Fragment, hole}
 use Rattle.psg_grammar.specs.Paths.{replaced}
 use Rattle.psg_grammar.specs.Sound.{IsSound}
-use Rattle.psg_cache.specs.Shaped.{IsShaped}
 use Rattle.psg_script.specs.declared.command.Where.{Where}
 use Rattle.psg_script.specs.declared.command.Command.TheVariants.{Refine}
 use Rattle.psg_session.specs.declared.changes.Plan.TheVariants.{RefusedBy}
@@ -22,10 +21,12 @@ use Rattle.psg_session.specs.PlainStep.{AtNode, Gives, by_change, by_refine, IsO
 use Rattle.psg_session.specs.Outcomes.{IsFound, IsFreshAnswer, IsMade, IsNotFound, IsPlan, made_of}
 use Rattle.psg_session.specs.Ticks.{above, OfFresh}
 use Rattle.psg_grammar.specs.Work.{work_of, climb_of}
+use Rattle.psg_grammar.specs.WellFormed.{WellFormed}
 use Rattle.psg_session.specs.Sessions.{IsEditor, plain, state_of}
 use Rattle.psg_cache.specs.Annotated.{tree_in}
 use Rattle.psg_session.proofs.StepLaws.{at_node, has_node, is_opened, is_there, nowhere, opened_is, path_is, same_old}
-use Rattle.psg_session.proofs.ChangeLaws.{answer_shaped, gives_none, is_other, may_put, not_other, one_operator, put_is, cost_here}
+use Rattle.psg_session.proofs.ChangeLaws.{answer_formed, gives_none, is_other, may_put, not_other, one_operator, put_is, cost_here}
+use Rattle.psg_menu.specs.Menus.{HasQuietSlots}
 use Rattle.psg_session.specs.Leaves.{GivesLeaves}
 use Rattle.psg_session.proofs.LeafReads.{one_list}
 
@@ -38,11 +39,11 @@ module _ (def : Definition) (e : Editor) (place : Where) (name : Name) (args : L
   refine_nowhere r none = nowhere def e place r none
 
   -- the tree stays of the node's kind
-  refine_keeps : IsSound def → (node : Fragment) (p : ℕ) → node ≡ hole p → (fresh : Fragment)
-      → IsFreshAnswer def p name args (Ok fresh) → (K : Kind) → IsShaped def node K → IsShaped def fresh K
-  refine_keeps sound node p is fresh answer K shaped =
-      let it : IsShaped def (hole p) K = subst (λ x. IsShaped def x K) is shaped in
-      subst (IsShaped def fresh) (sym it.0.1) (answer_shaped def sound p name args fresh answer)
+  refine_keeps : IsSound def → HasQuietSlots def → (node : Fragment) (p : ℕ) → node ≡ hole p → (fresh : Fragment)
+      → IsFreshAnswer def p name args (Ok fresh) → (K : Kind) → WellFormed def node K → WellFormed def fresh K
+  refine_keeps sound slots node p is fresh answer K formed =
+      let it : WellFormed def (hole p) K = subst (λ x. WellFormed def x K) is formed in
+      subst (WellFormed def fresh) (sym it.0.1) (answer_formed def sound slots p name args fresh answer)
 
   module _ (f : Found) (found : IsFound e place f) where
     -- the node is no placeholder
@@ -121,9 +122,9 @@ module _ (def : Definition) (e : Editor) (place : Where) (name : Name) (args : L
         no_other = not_other def e place f found sound None p is only_wanted name args o named of
 
         -- the operator is in place of the placeholder
-        pub refine_made : IsEditor def e → (fresh : Fragment) → fresh ≡ fresh_operator def o leaves
+        pub refine_made : HasQuietSlots def → IsEditor def e → (fresh : Fragment) → fresh ≡ fresh_operator def o leaves
             → IsMade def e (Refine place name args) (made_of Grows (Put f.path.now fresh) f.path.now)
-        refine_made editor fresh is_fresh =
+        refine_made slots editor fresh is_fresh =
             let result = put_is e def place f found (λ old. fresh_operator def o leaves) fresh is_fresh in
             let tree : Fragment = replaced f.path.now fresh (tree_in f.held.now.note) in
             let it : Makes def (state_of e) (Refine place name args) tree f.path.now =
@@ -135,7 +136,7 @@ module _ (def : Definition) (e : Editor) (place : Where) (name : Name) (args : L
               held = f.held.now;
               opened = found.held;
               may = may_put def e place f editor found fresh
-                  (refine_keeps sound f.node.now p is fresh (o, leaves, named, of, gives, is_fresh));
+                  (refine_keeps sound slots f.node.now p is fresh (o, leaves, named, of, gives, is_fresh));
               makes = it;
               only = λ other given. refined_once other given ∙ result;
               refused = λ r h. inr (

@@ -6,8 +6,7 @@ use Rattle.psg_grammar.specs.declared.types.Kind.{Kind}
 use Rattle.psg_grammar.specs.declared.types.Definition.{Definition}
 use Rattle.psg_grammar.specs.Fragments.{Fragment}
 use Rattle.psg_grammar.specs.Paths.{change_at, ended, IsList, replaced}
-use Rattle.psg_cache.specs.Shaped.{IsShaped}
-use Rattle.psg_cache.proofs.ShapedTrees.{ended_shaped}
+use Rattle.psg_cache.proofs.FormedTrees.{ended_formed}
 use Rattle.psg_script.specs.declared.command.Where.{Where}
 use Rattle.psg_script.specs.declared.command.Command.TheVariants.{Reopen}
 use Rattle.psg_session.specs.declared.changes.Listed.{Listed}
@@ -23,6 +22,7 @@ use Rattle.psg_session.specs.PlainStep.{Gives, by_change, by_reopen, Makes, MayR
 use Rattle.psg_session.specs.Outcomes.{IsFound, IsListed, IsMade, IsNotFound, IsPlan, made_of}
 use Rattle.psg_session.specs.Ticks.{above}
 use Rattle.psg_grammar.specs.Work.{work_of, climb_of}
+use Rattle.psg_grammar.specs.WellFormed.{WellFormed}
 use Rattle.psg_session.proofs.Ticking.{ended_work}
 use Rattle.psg_session.specs.Sessions.{IsEditor, plain, state_of}
 use Rattle.psg_cache.specs.Annotated.{tree_in}
@@ -31,12 +31,12 @@ use Rattle.psg_session.proofs.StepLaws.{at_node, has_node, is_opened, is_there, 
 use Rattle.psg_session.proofs.ChangeLaws.{end_is_list, kind_is, may_put, one_list_kind, put_is, cost_here}
 
 -- a list that may be unfinished stays of its kind
-pub reopen_keeps : (def : Definition) (node : Fragment) → MayReopen def node → (K : Kind) → IsShaped def node K
-    → IsShaped def (ended true node) K
-reopen_keeps def node (own, (l, of, at), may, ends) K shaped =
-    let is : K ≡ kinds.List l = kind_is def node K (kinds.List l) shaped of in
-    subst (IsShaped def (ended true node)) (sym is)
-    (ended_shaped def true node l own (subst (IsShaped def node) is shaped) at (λ e. may))
+pub reopen_keeps : (def : Definition) (node : Fragment) → MayReopen def node → (K : Kind) → WellFormed def node K
+    → WellFormed def (ended true node) K
+reopen_keeps def node (own, (l, of, at), may, ends) K formed =
+    let is : K ≡ kinds.List l = kind_is def node K (kinds.List l) formed of in
+    subst (WellFormed def (ended true node)) (sym is)
+    (ended_formed def true node l own (subst (WellFormed def node) is formed) at (λ e. may))
 
 module _ (def : Definition) (e : Editor) (place : Where) where
   -- nothing is opened, or there is no node
@@ -76,7 +76,7 @@ module _ (def : Definition) (e : Editor) (place : Where) where
           held = f.held.now;
           opened = found.held;
           may = may_put def e place f editor found new
-              (λ K shaped. subst (λ t. IsShaped def t K) (sym is) (reopen_keeps def f.node.now may K shaped));
+              (λ K formed. subst (λ t. WellFormed def t K) (sym is) (reopen_keeps def f.node.now may K formed));
           makes = it;
           only = λ other given. reopened_once other given ∙ result;
           refused = λ r h. inr (

@@ -18,15 +18,14 @@ use Rattle.psg_grammar.specs.Insertion.{Leaf, blank, fresh_operator, with_operat
 use Rattle.psg_grammar.specs.Kinds.{HasKind, IsOfKind}
 use Rattle.psg_grammar.specs.Paths.{Path, node_at, change_at, replaced, inserted, removed, ended, IsList}
 use Rattle.psg_grammar.specs.Sound.{IsSound}
-use Rattle.psg_grammar.specs.WellFormed.{fixed_words, IsPlain, WellFormed}
+use Rattle.psg_grammar.specs.WellFormed.{Fits, IsPlain, WellFormed, fixed_words}
 use Rattle.psg_grammar.proofs.PathLaws.{change-below}
 use Rattle.psg_class.specs.Texts.{ReadsAs, tokens_of}
 use Rattle.psg_class.proofs.FormedLaws.{yields_are_trees}
-use Rattle.psg_cache.specs.Shaped.{HasShape, IsShaped}
-use Rattle.psg_cache.proofs.FormedTrees.{shaped_of_formed}
-use Rattle.psg_cache.proofs.ShapedTrees.{blank_shaped, changed_shaped, ended_shaped, fresh_shaped, inserted_shaped, kind_once, node_shaped, removed_shaped, shape_is_kind}
+use Rattle.psg_cache.proofs.FormedTrees.{changed_formed, ended_formed, formed_is_kind, inserted_formed, kind_once, node_formed, removed_formed}
 use Rattle.psg_script.specs.declared.command.Where.{Where}
-use Rattle.psg_specimen.specs.Conditions.{IsQuiet, IsQuietSlot}
+use Rattle.psg_menu.specs.Menus.{HasQuietSlots}
+use Rattle.psg_menu.proofs.FormedTrials.{fresh_formed}
 use Rattle.psg_library.specs.declared.fragment.SavedFragment.{SavedFragment as Saved}
 use Rattle.psg_session.specs.Formed.{IsFormedSaved, IsFormedState}
 use Rattle.psg_session.specs.Leaves.{GivesLeaves}
@@ -34,8 +33,8 @@ use Rattle.psg_session.specs.PlainState.{State, Opened, named_path}
 use Rattle.psg_session.specs.PlainStep.{AtNode, HasNoRoom, IsDeclaringPhylum, IsListOf, IsNoNode, IsOfPhylum, IsOperator, IsOther, IsOtherSaved, IsWanted, MayReopen, MayTake, end_of}
 use Rattle.psg_session.specs.Shelf.{saved_at}
 use Rattle.psg_session.specs.Typed.{ReadsFor}
-use Rattle.psg_session.proofs.ChangeLaws.{end_is_list, finished_shaped, kind_is, kind_there, one_list_kind, one_operator}
-use Rattle.psg_session.proofs.QuietHoles.{HasQuietHoles, blank_quiet, changed_quiet, ended_quiet, formed_by, fresh_quiet, inserted_quiet, quiet_of_formed, quiet_phylum, removed_quiet}
+use Rattle.psg_session.proofs.ChangeLaws.{end_is_list, finished_formed, kind_is, kind_there, one_list_kind, one_operator}
+use Rattle.psg_session.proofs.NewTrees.{blank_formed}
 use Rattle.psg_session.proofs.StepLaws.{some_once}
 use Rattle.psg_session.proofs.TokenValues.{text_values}
 
@@ -102,27 +101,27 @@ found_has name P (y ∷ ys) x all e = elim (cases_Bool (bytes_eq y.name name)) [
 
 module _ (def : Definition) where
   -- a tree of a list kind is a list
-  shape_list : (f : Fragment) (more : List Item) (l : ℕ) → HasShape def f more (kinds.List l) → IsPlain f
+  fits_list : (f : Fragment) (more : List Item) (l : ℕ) → Fits def f more (kinds.List l) → IsPlain f
       → (more ≡ []) × IsList f
-  shape_list (ending m u) more l (none, is, rest) plain = (none, tt)
-  shape_list (cell m e r) more l (none, is, k, found, fe, fr, z) plain = (none, tt)
-  shape_list (hole p) more l (none, is, small) plain = absurd (cc)
-  shape_list (operator o) more l (op, found, all, is) plain = absurd (cc)
-  shape_list (with_child f t) more l (k, hf, ht) plain =
-      let (empty, is) = shape_list f (items.Slot k ∷ more) l hf plain.0 in absurd (cc)
-  shape_list (with_name f n) more l (inl (s, h), name) plain =
-      let (empty, is) = shape_list f (items.Refers s ∷ more) l h plain in absurd (cc)
-  shape_list (with_name f n) more l (inr (s, h), name) plain =
-      let (empty, is) = shape_list f (items.Declares s ∷ more) l h plain in absurd (cc)
-  shape_list (with_number f n) more l (h, small) plain =
-      let (empty, is) = shape_list f (items.Number ∷ more) l h plain in absurd (cc)
-  shape_list (with_text f t) more l (h, text) plain =
-      let (empty, is) = shape_list f (items.Text ∷ more) l h plain in absurd (cc)
-  shape_list anything more l h plain = absurd h
-  shape_list (observed f) more l h plain = absurd plain
+  fits_list (ending m u) more l (none, is, rest) plain = (none, tt)
+  fits_list (cell m e r) more l (none, is, k, found, fe, fr, z) plain = (none, tt)
+  fits_list (hole p) more l (none, is, small, quiet) plain = absurd (cc)
+  fits_list (operator o) more l (op, found, all, is) plain = absurd (cc)
+  fits_list (with_child f t) more l (k, hf, ht) plain =
+      let (empty, is) = fits_list f (items.Slot k ∷ more) l hf plain.0 in absurd (cc)
+  fits_list (with_name f n) more l (inl (s, h), name) plain =
+      let (empty, is) = fits_list f (items.Refers s ∷ more) l h plain in absurd (cc)
+  fits_list (with_name f n) more l (inr (s, h), name) plain =
+      let (empty, is) = fits_list f (items.Declares s ∷ more) l h plain in absurd (cc)
+  fits_list (with_number f n) more l (h, small) plain =
+      let (empty, is) = fits_list f (items.Number ∷ more) l h plain in absurd (cc)
+  fits_list (with_text f t) more l (h, text) plain =
+      let (empty, is) = fits_list f (items.Text ∷ more) l h plain in absurd (cc)
+  fits_list anything more l h plain = absurd h
+  fits_list (observed f) more l h plain = absurd plain
 
   -- the kind of a list is there
-  list_there : (f : Fragment) (K : Kind) → IsShaped def f K → IsList f
+  list_there : (f : Fragment) (K : Kind) → WellFormed def f K → IsList f
       → (l : ℕ) × (list : ListKind) × (K ≡ kinds.List l) × (slice_get def.lists l ≡ Some list) × IsListOf def f list
   list_there (ending l u) K ((none, is, (list, found, may)), plain) is_list = (l, list, is, found, (l, refl, found))
   list_there (cell l e r) K ((none, is, list, found, fe, fr, z), plain) is_list = (l, list, is, found, (l, refl, found))
@@ -136,29 +135,29 @@ module _ (def : Definition) where
   list_there (observed f) K h is_list = absurd is_list
 
   -- a new element is at its place
-  inserted_there : (k : ℕ) (new f : Fragment) (K : Kind) → IsShaped def f K → IsList f
+  inserted_there : (k : ℕ) (new f : Fragment) (K : Kind) → WellFormed def f K → IsList f
       → (length (children_of f) < k → ⊥) → slice_get (children_of (inserted k new f)) k ≡ Some new
   inserted_there zero new (ending l u) K h is short = refl
   inserted_there zero new (cell l e r) K h is short = refl
   inserted_there (suc k) new (ending l u) K h is short = absurd (short (omega arith))
   inserted_there (suc k) new (cell l e r) K ((none, same, list, found, fe, fr, z), plain) is short =
-      inserted_there k new r (kinds.List l) (fr, plain.1) (shape_list r [] l fr plain.1).1
+      inserted_there k new r (kinds.List l) (fr, plain.1) (fits_list r [] l fr plain.1).1
       (λ h. short (omega (arith, h)))
   inserted_there zero new f K h is short = absurd is
   inserted_there (suc k) new f K h is short = absurd is
 
   -- A list that may be unfinished stays of its kind where it becomes so.
-  reopened_shaped : (f : Fragment) (K : Kind) → IsShaped def f K → MayReopen def f → IsShaped def (ended true f) K
-  reopened_shaped f K shaped (list, (l, of, found), may, end) =
-      let same : K ≡ kinds.List l = kind_is def f K (kinds.List l) shaped of in
-      subst (IsShaped def (ended true f)) (sym same)
-      (ended_shaped def true f l list (subst (IsShaped def f) same shaped) found (λ e. may))
+  reopened_formed : (f : Fragment) (K : Kind) → WellFormed def f K → MayReopen def f → WellFormed def (ended true f) K
+  reopened_formed f K formed (list, (l, of, found), may, end) =
+      let same : K ≡ kinds.List l = kind_is def f K (kinds.List l) formed of in
+      subst (WellFormed def (ended true f)) (sym same)
+      (ended_formed def true f l list (subst (WellFormed def f) same formed) found (λ e. may))
 
-  reopen_or : (f : Fragment) (K : Kind) → IsShaped def f K → MayReopen def f ⊎ (MayReopen def f → ⊥)
-  reopen_or f K shaped = elim (list_or f) [
+  reopen_or : (f : Fragment) (K : Kind) → WellFormed def f K → MayReopen def f ⊎ (MayReopen def f → ⊥)
+  reopen_or f K formed = elim (list_or f) [
     | inr never ↦ inr (λ (list, of, may, end). never (end_is_list def f false end))
     | inl is ↦
-        let (l, list, same, found, of) = list_there f K shaped is in
+        let (l, list, same, found, of) = list_there f K formed is in
         elim (cases_Bool list.unfinished) [
           | inr e ↦
               inr (λ (other, also, may, end). true≢false (sym may ∙ ap (λ (x : ListKind). x.unfinished)
@@ -176,7 +175,7 @@ module _ (def : Definition) where
       go (Some true) = inr (λ e. cc)
       go (Some false) = inl refl
 
-  module _ (sound : IsSound def) (slots : (o k : ℕ) → IsQuietSlot def o k) (s : State) (formed : IsFormedState def s)
+  module _ (sound : IsSound def) (slots : HasQuietSlots def) (s : State) (formed : IsFormedState def s)
       (place : Where) (old : Opened) (opened : s.opened ≡ Some old) where
     abbrev there : Path
     there = named_path place s.cursor
@@ -185,68 +184,62 @@ module _ (def : Definition) where
     abbrev pub IsGiven : Fragment → Path → Type 0
     IsGiven tree path = WellFormed def tree old.kind × (node : Fragment) × (node_at tree path ≡ Some node)
 
-    shaped : IsShaped def old.tree old.kind
-    shaped = shaped_of_formed def old.tree old.kind (formed.opened old opened)
-
-    quiet : HasQuietHoles def old.tree
-    quiet = quiet_of_formed def old.tree old.kind (formed.opened old opened)
+    whole : WellFormed def old.tree old.kind
+    whole = formed.opened old opened
 
     pub node_there : (IsNoNode def s place → ⊥) → (node : Fragment) × (node_at old.tree there ≡ Some node)
     node_there some = some_or (node_at old.tree there) (λ none. some (old, opened, none))
 
     changed_given : (g : Fragment → Fragment) (node : Fragment) → node_at old.tree there ≡ Some node
-        → ((K : Kind) → IsShaped def node K → IsShaped def (g node) K)
-        → ((x : Fragment) → HasQuietHoles def x → HasQuietHoles def (g x)) → IsGiven (change_at g there old.tree) there
-    changed_given g node at keeps stays = (
-      formed_by def (change_at g there old.tree) old.kind
-          (changed_shaped def g old.tree old.kind there node shaped at keeps)
-          (changed_quiet def g stays there old.tree quiet),
+        → ((K : Kind) → WellFormed def node K → WellFormed def (g node) K) → IsGiven (change_at g there old.tree) there
+    changed_given g node at keeps = (
+      changed_formed def g old.tree old.kind there node whole at keeps,
       g node,
       subst (λ p. node_at (change_at g there old.tree) p ≡ Some (g node)) (append-nil there)
           (change-below g there [] old.tree node at),
     )
 
     pub put_given : (new node : Fragment) (K : Kind) → node_at old.tree there ≡ Some node → IsOfKind def node K
-        → IsShaped def new K → HasQuietHoles def new → IsGiven (replaced there new old.tree) there
-    put_given new node K at is fresh stays =
+        → WellFormed def new K → IsGiven (replaced there new old.tree) there
+    put_given new node K at is fresh =
         changed_given (λ x. new) node at
-        (λ J h. subst (IsShaped def new) (kind_once def node K J is (shape_is_kind def node J h)) fresh) (λ x h. stays)
+        (λ J h. subst (WellFormed def new) (kind_once def node K J is (formed_is_kind def node J h)) fresh)
 
     -- a new element of a list
     pub added_given : (k : ℕ) (new node : Fragment) (l : ℕ) (list : ListKind) → node_at old.tree there ≡ Some node
-        → IsShaped def node (kinds.List l) → slice_get def.lists l ≡ Some list → IsList node
-        → (length (children_of node) < k → ⊥) → IsShaped def new (kinds.Phylum list.element) → HasQuietHoles def new
+        → WellFormed def node (kinds.List l) → slice_get def.lists l ≡ Some list → IsList node
+        → (length (children_of node) < k → ⊥) → WellFormed def new (kinds.Phylum list.element)
         → IsGiven (change_at (inserted k new) there old.tree) (there ++ k ∷ [])
-    added_given k new node l list at list_shaped found is short fresh stays =
-        let keeps : (K : Kind) → IsShaped def node K → IsShaped def (inserted k new node) K =
-        λ K h. subst (IsShaped def (inserted k new node)) (kind_once def node (kinds.List l) K
-        (shape_is_kind def node (kinds.List l) list_shaped) (shape_is_kind def node K h))
-        (inserted_shaped def k new node l list list_shaped found fresh) in
-        let (whole, last, at_last) = changed_given (inserted k new) node at keeps (λ x h. inserted_quiet def k new x stays h) in (
-          whole,
+    added_given k new node l list at of_list found is short fresh =
+        let keeps : (K : Kind) → WellFormed def node K → WellFormed def (inserted k new node) K =
+        λ K h. subst (WellFormed def (inserted k new node)) (kind_once def node (kinds.List l) K
+        (formed_is_kind def node (kinds.List l) of_list) (formed_is_kind def node K h))
+        (inserted_formed def k new node l list of_list found fresh) in
+        let (made, last, at_last) = changed_given (inserted k new) node at keeps in (
+          made,
           new,
           change-below (inserted k new) there (k ∷ []) old.tree node at
-              ∙ ap (option_and_then (λ t. node_at t [])) (inserted_there k new node (kinds.List l) list_shaped is short),
+              ∙ ap (option_and_then (λ t. node_at t [])) (inserted_there k new node (kinds.List l) of_list is short),
         )
 
     -- the list at the place, and that the new place is in it
     pub list_at : (k : ℕ) → (IsNoNode def s place → ⊥)
         → (AtNode def s place (λ o node. (IsList node → ⊥) ⊎ (length (children_of node) < k)) → ⊥)
         → (node : Fragment) × (l : ℕ) × (list : ListKind) × (node_at old.tree there ≡ Some node)
-        × IsShaped def node (kinds.List l) × (slice_get def.lists l ≡ Some list) × IsListOf def node list × IsList node
+        × WellFormed def node (kinds.List l) × (slice_get def.lists l ≡ Some list) × IsListOf def node list × IsList node
         × (length (children_of node) < k → ⊥)
     list_at k some room =
         let (node, at) = node_there some in
         elim (list_or node) [
           | inr never ↦ absurd (room (old, opened, node, at, inl never))
           | inl is ↦
-              let (K, node_is) = node_shaped def old.tree old.kind there node shaped at in
+              let (K, node_is) = node_formed def old.tree old.kind there node whole at in
               let (l, list, same, found, of) = list_there node K node_is is in (
                 node,
                 l,
                 list,
                 at,
-                subst (IsShaped def node) same node_is,
+                subst (WellFormed def node) same node_is,
                 found,
                 of,
                 is,
@@ -283,9 +276,9 @@ module _ (def : Definition) where
       fresh = fresh_operator def o leaves
 
       fresh_of : (p : ℕ) (op : Operator) → slice_get def.operators o ≡ Some op → op.phylum ≡ p
-          → IsShaped def fresh (kinds.Phylum p)
+          → WellFormed def fresh (kinds.Phylum p)
       fresh_of p op found same =
-          subst (λ q. IsShaped def fresh (kinds.Phylum q)) same (fresh_shaped def sound o op leaves found gives.3)
+          subst (λ q. WellFormed def fresh (kinds.Phylum q)) same (fresh_formed def sound slots o op leaves found gives.3)
 
       pub refined : (IsNoNode def s place → ⊥) → (AtNode def s place (λ o node. (p : ℕ) → node ≡ hole p → ⊥) → ⊥)
           → (IsOther def s place None name → ⊥) → IsGiven (with_operator def old.tree there None o leaves) there
@@ -298,7 +291,7 @@ module _ (def : Definition) where
                 λ q want. let d : hole q ≡ hole h.0 = sym want ∙ h.1 in cc in
                 let (op, found, is) = of_phylum None name node h.0 at only same o named in
                 put_given fresh node (kinds.Phylum h.0) at (subst (λ x. IsOfKind def x (kinds.Phylum h.0)) (sym h.1) refl)
-                (fresh_of h.0 op found is) (fresh_quiet def slots o op leaves found)
+                (fresh_of h.0 op found is)
           ]
 
       pub put_in : (k : ℕ) → (IsNoNode def s place → ⊥)
@@ -306,12 +299,11 @@ module _ (def : Definition) where
           → (IsOther def s place (Some k) name → ⊥)
           → IsGiven (with_operator def old.tree there (Some k) o leaves) (there ++ k ∷ [])
       put_in k some room same =
-          let (node, l, list, at, list_shaped, listed, of, is, short) = list_at k some room in
+          let (node, l, list, at, of_list, listed, of, is, short) = list_at k some room in
           let only : (q : ℕ) → IsWanted def (Some k) node q → q ≡ list.element =
           λ q (other, also, e). e ∙ ap (λ (x : ListKind). x.element) (one_list_kind def node other list also of) in
           let (op, found, same_phylum) = of_phylum (Some k) name node list.element at only same o named in
-          added_given k fresh node l list at list_shaped listed is short (fresh_of list.element op found same_phylum)
-          (fresh_quiet def slots o op leaves found)
+          added_given k fresh node l list at of_list listed is short (fresh_of list.element op found same_phylum)
 
     -- ---- what is taken away, and how lists end
 
@@ -320,32 +312,28 @@ module _ (def : Definition) where
         → IsGiven (replaced there (blank def kind) old.tree) there
     cut_given node kind at of silent =
         put_given (blank def kind) node kind at of
-        (blank_shaped def kind (kind_there def sound node kind (node_shaped def old.tree old.kind there node shaped at) of))
-        (blank_quiet def kind (still kind (λ loud. silent (old, opened, node, at, (kind, of, loud)))))
-      where
-        still : (K : Kind) → (IsDeclaringPhylum def K → ⊥) → IsQuiet def K
-        still (kinds.Phylum p) never = quiet_phylum def p never
-        still (kinds.List l) never = tt
+        (blank_formed def kind (kind_there def sound node kind (node_formed def old.tree old.kind there node whole at) of)
+        (λ loud. silent (old, opened, node, at, (kind, of, loud))))
 
     pub removed_given : (k : ℕ) → (IsNoNode def s place → ⊥) → IsGiven (change_at (removed k) there old.tree) there
     removed_given k some =
         let (node, at) = node_there some in
-        changed_given (removed k) node at (λ K h. removed_shaped def k node K h) (λ x h. removed_quiet def k x h)
+        changed_given (removed k) node at (λ K h. removed_formed def k node K h)
 
     pub closed_given : (IsNoNode def s place → ⊥) → IsGiven (change_at (ended false) there old.tree) there
     closed_given some =
         let (node, at) = node_there some in
-        changed_given (ended false) node at (λ K h. finished_shaped def node K h) (λ x h. ended_quiet def false x h)
+        changed_given (ended false) node at (λ K h. finished_formed def node K h)
 
     pub reopened_given : (IsNoNode def s place → ⊥) → (AtNode def s place (λ o node. MayReopen def node → ⊥) → ⊥)
         → IsGiven (change_at (ended true) there old.tree) there
     reopened_given some may =
         let (node, at) = node_there some in
-        let (K, node_is) = node_shaped def old.tree old.kind there node shaped at in
+        let (K, node_is) = node_formed def old.tree old.kind there node whole at in
         elim (reopen_or node K node_is) [
           | inr never ↦ absurd (may (old, opened, node, at, never))
           | inl is_open ↦
-              changed_given (ended true) node at (λ J h. reopened_shaped node J h is_open) (λ x h. ended_quiet def true x h)
+              changed_given (ended true) node at (λ J h. reopened_formed node J h is_open)
         ]
 
     -- ---- saved fragments
@@ -358,11 +346,10 @@ module _ (def : Definition) where
           → IsGiven (replaced there x.tree old.tree) there
       pasted some same =
           let (node, at) = node_there some in
-          let (K, node_is) = node_shaped def old.tree old.kind there node shaped at in
+          let (K, node_is) = node_formed def old.tree old.kind there node whole at in
           elim (kind_or K x.kind) [
             | inl e ↦
-                put_given x.tree node x.kind at (subst (IsOfKind def node) e (shape_is_kind def node K node_is))
-                (shaped_of_formed def x.tree x.kind kept) (quiet_of_formed def x.tree x.kind kept)
+                put_given x.tree node x.kind at (subst (IsOfKind def node) e (formed_is_kind def node K node_is)) kept
             | inr e ↦ absurd (same (
               old,
               opened,
@@ -378,12 +365,10 @@ module _ (def : Definition) where
           → (IsOtherSaved def s place (Some k) name → ⊥)
           → IsGiven (change_at (inserted k x.tree) there old.tree) (there ++ k ∷ [])
       pasted_in k some room same =
-          let (node, l, list, at, list_shaped, listed, of, is, short) = list_at k some room in
+          let (node, l, list, at, of_list, listed, of, is, short) = list_at k some room in
           elim (kind_or x.kind (kinds.Phylum list.element)) [
             | inl e ↦
-                added_given k x.tree node l list at list_shaped listed is short
-                (subst (IsShaped def x.tree) e (shaped_of_formed def x.tree x.kind kept))
-                (quiet_of_formed def x.tree x.kind kept)
+                added_given k x.tree node l list at of_list listed is short (subst (WellFormed def x.tree) e kept)
             | inr e ↦ absurd (same (
               old,
               opened,
@@ -401,8 +386,7 @@ module _ (def : Definition) where
         → node_at old.tree there ≡ Some node → ReadsFor def node text new nesting
         → IsGiven (replaced there new old.tree) there
     typed_given text node new nesting utf8 at reads =
-        let whole : WellFormed def new reads.kind =
+        let read : WellFormed def new reads.kind =
         yields_are_trees def reads.kind 0 nesting new (tokens_of reads.reads.tokens)
         (text_values (fixed_words def) text 0 reads.reads.tokens utf8 reads.reads.are) reads.reads.yields in
-        put_given new node reads.kind at reads.of_kind (shaped_of_formed def new reads.kind whole)
-        (quiet_of_formed def new reads.kind whole)
+        put_given new node reads.kind at reads.of_kind read

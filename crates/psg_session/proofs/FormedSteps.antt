@@ -13,12 +13,9 @@ use Rattle.psg_grammar.specs.Kinds.{IsOfKind}
 use Rattle.psg_grammar.specs.Paths.{Path, node_at}
 use Rattle.psg_grammar.specs.Sound.{IsSound}
 use Rattle.psg_grammar.specs.WellFormed.{WellFormed}
-use Rattle.psg_grammar.proofs.PathLaws.{step}
-use Rattle.psg_cache.proofs.Each.{each_got}
-use Rattle.psg_cache.proofs.FormedTrees.{shaped_of_formed}
-use Rattle.psg_cache.proofs.ShapedTrees.{blank_shaped, node_shaped}
+use Rattle.psg_cache.proofs.FormedTrees.{node_formed}
 use Rattle.psg_script.specs.declared.command.Command.{Command}
-use Rattle.psg_specimen.specs.Conditions.{IsQuiet, IsQuietSlot}
+use Rattle.psg_menu.specs.Menus.{HasQuietSlots}
 use Rattle.psg_library.specs.declared.fragment.SavedFragment.{SavedFragment as Saved}
 use Rattle.psg_session.specs.Formed.{HasText, IsFormedSaved, IsFormedState, IsPrintableState}
 use Rattle.psg_session.specs.Laws.{KeepsForm}
@@ -33,49 +30,23 @@ use Rattle.psg_session.proofs.FormedMakes.{IsGiven, refined, put_in, cut_given, 
 use Rattle.psg_session.proofs.Opening.{has_kind}
 use Rattle.psg_session.proofs.PrintableTrees.{node_printable}
 use Rattle.psg_session.proofs.PrintableSteps.{changed_state, fetched_printable, new_printable, read_formed, redone_printable, saved_printable, undone_printable}
-use Rattle.psg_session.proofs.QuietHoles.{HasQuietHoles, blank_quiet, formed_by, quiet_of_formed, quiet_phylum}
+use Rattle.psg_session.proofs.NewTrees.{blank_formed}
 use Rattle.psg_session.proofs.StepLaws.{some_once}
 
 module _ (def : Definition) where
   -- ---- nodes of trees
 
-  quiet_children : (f : Fragment) → HasQuietHoles def f → AllByRecursion (HasQuietHoles def) (children_of f)
-  quiet_children (hole p) h = tt
-  quiet_children (ending l u) h = tt
-  quiet_children (cell l e r) h = (h.0, quiet_children r h.1)
-  quiet_children (operator o) h = tt
-  quiet_children (with_child f t) h = all_end (HasQuietHoles def) (children_of f) t (quiet_children f h.0) h.1
-  quiet_children (with_name f n) h = quiet_children f h
-  quiet_children (with_number f n) h = quiet_children f h
-  quiet_children (with_text f t) h = quiet_children f h
-  quiet_children anything h = tt
-  quiet_children (observed f) h = quiet_children f h
-
-  quiet_at : (path : Path) (f node : Fragment) → node_at f path ≡ Some node → HasQuietHoles def f
-      → HasQuietHoles def node
-  quiet_at [] f node at h = let same : f ≡ node = cc in subst (HasQuietHoles def) same h
-  quiet_at (k ∷ path) f node at h =
-      let (c, child, below) = step (slice_get (children_of f) k) path node at in
-      quiet_at path c node below (each_got (HasQuietHoles def) (children_of f) k c (quiet_children f h) child)
-
   -- a node of a well-formed tree is one
-  pub node_formed : (f : Fragment) (kind : Kind) (path : Path) (node : Fragment) (K : Kind) → WellFormed def f kind
+  pub node_of_kind : (f : Fragment) (kind : Kind) (path : Path) (node : Fragment) (K : Kind) → WellFormed def f kind
       → node_at f path ≡ Some node → IsOfKind def node K → WellFormed def node K
-  node_formed f kind path node K formed at of =
-      let (J, shaped) = node_shaped def f kind path node (shaped_of_formed def f kind formed) at in
-      subst (WellFormed def node) (kind_is def node J K shaped of)
-      (formed_by def node J shaped (quiet_at path f node at (quiet_of_formed def f kind formed)))
+  node_of_kind f kind path node K formed at of =
+      let (J, here) = node_formed def f kind path node formed at in
+      subst (WellFormed def node) (kind_is def node J K here of) here
 
-  -- the new tree of a kind of which there may be a placeholder
-  pub blank_formed : (kind : Kind) (name : Name) → HasName def kind name → (IsDeclaringPhylum def kind → ⊥)
+  -- the new tree of a named kind of which there may be a placeholder
+  pub new_formed : (kind : Kind) (name : Name) → HasName def kind name → (IsDeclaringPhylum def kind → ⊥)
       → WellFormed def (blank def kind) kind
-  blank_formed kind name named silent =
-      formed_by def (blank def kind) kind (blank_shaped def kind (has_kind def kind name named))
-      (blank_quiet def kind (still kind silent))
-    where
-      still : (K : Kind) → (IsDeclaringPhylum def K → ⊥) → IsQuiet def K
-      still (kinds.Phylum p) never = quiet_phylum def p never
-      still (kinds.List l) never = tt
+  new_formed kind name named silent = blank_formed def kind (has_kind def kind name named) silent
 
   -- ---- states
 
@@ -98,7 +69,7 @@ module _ (def : Definition) where
     printable = printable;
   }
 
-  module _ (IsGood : Fragment → Type 0) (sound : IsSound def) (slots : (o k : ℕ) → IsQuietSlot def o k)
+  module _ (IsGood : Fragment → Type 0) (sound : IsSound def) (slots : HasQuietSlots def)
       (s : State) (answer : Answer) (formed : IsFormedState def s) where
     -- what a change gives, by a tree of the kind that is opened
     abbrev pub IsOne : Opened → Fragment → Path → Type 0
@@ -144,7 +115,7 @@ module _ (def : Definition) where
     step_formed text (refuses refused_is) = formed
     step_formed text (opens {name = name} kind mark taken named is_mark) =
         turned s formed (record { kind = kind; tree = blank def kind }) [] [] []
-        (blank_formed kind name named (λ loud. taken.1.0 (kind, named, loud))) (blank def kind) refl tt tt
+        (new_formed kind name named (λ loud. taken.1.0 (kind, named, loud))) (blank def kind) refl tt tt
         (new_printable def s formed.printable kind)
     step_formed text (changes {tree = tree} {path = path} old mark taken opened makes is_mark) =
         let (whole, node, at) = makes_given text taken old opened makes in
@@ -170,7 +141,7 @@ module _ (def : Definition) where
       later = formed.later;
       saved = all_end (IsFormedSaved def) (others name s.saved) (record { name = name; kind = kind; tree = node })
           (all_others (IsFormedSaved def) name s.saved formed.saved)
-          (node_formed old.tree old.kind (named_path place s.cursor) node kind (formed.opened old opened) at of);
+          (node_of_kind old.tree old.kind (named_path place s.cursor) node kind (formed.opened old opened) at of);
       printable = saved_printable s formed.printable (record { name = name; kind = kind; tree = node })
           (node_printable (named_path place s.cursor) old.tree node at (formed.printable.opened old opened));
     }
@@ -210,6 +181,6 @@ module _ (def : Definition) where
     step_formed text (suggests old o names taken opened named menu) = formed
 
 pub keeps_form : (def : Definition) (IsGood : Fragment → Type 0) → IsSound def
-    → ((o k : ℕ) → IsQuietSlot def o k) → KeepsForm def IsGood
+    → HasQuietSlots def → KeepsForm def IsGood
 keeps_form def IsGood sound slots s t answer command reply text formed steps =
     step_formed def IsGood sound slots s answer formed text steps

@@ -14,17 +14,14 @@ use Rattle.psg_grammar.specs.Lookups.{operator_at, items_of}
 use Rattle.psg_grammar.specs.Paths.{Path, node_at}
 use Rattle.psg_grammar.specs.Sound.{IsSound}
 use Rattle.psg_grammar.specs.WellFormed.{WellFormed}
-use Rattle.psg_cache.specs.Shaped.{IsShaped}
-use Rattle.psg_cache.proofs.ShapedTrees.{fresh_shaped}
-use Rattle.psg_menu.specs.Menus.{operators_from, operators_of}
+use Rattle.psg_menu.proofs.FormedTrials.{fresh_formed}
+use Rattle.psg_menu.specs.Menus.{HasQuietSlots, operators_from, operators_of}
 use Rattle.psg_script.specs.declared.command.Where.{Where}
-use Rattle.psg_specimen.specs.Conditions.{IsQuietSlot}
 use Rattle.psg_session.specs.Formed.{IsFormedState}
 use Rattle.psg_session.specs.PlainState.{State, Opened, named_path}
 use Rattle.psg_session.specs.PlainStep.{AtNode, HasNoPlace, IsListOf, IsNoNode, IsOperator, IsOther, IsWanted}
 use Rattle.psg_session.proofs.ChangeLaws.{one_list_kind}
 use Rattle.psg_session.proofs.FormedMakes.{added_given, hole_or, list_at, node_there, of_phylum, put_given}
-use Rattle.psg_session.proofs.QuietHoles.{fresh_quiet}
 use Rattle.psg_session.proofs.StepLaws.{some_once}
 
 -- an operator of the phylum with this number
@@ -59,7 +56,7 @@ operator_in def p o i =
     let same : o ≡ k = omega (arith, e) in
     (op, subst (λ n. slice_get def.operators n ≡ Some op) (sym same) at, is)
 
-module _ (def : Definition) (sound : IsSound def) (slots : (o k : ℕ) → IsQuietSlot def o k) (s : State) (formed : IsFormedState def s)
+module _ (def : Definition) (sound : IsSound def) (slots : HasQuietSlots def) (s : State) (formed : IsFormedState def s)
     (place : Where) (old : Opened) (opened : s.opened ≡ Some old) where
   abbrev there : Path
   there = named_path place s.cursor
@@ -87,7 +84,7 @@ module _ (def : Definition) (sound : IsSound def) (slots : (o k : ℕ) → IsQui
           }
         ]
     wanted_at (Some k) room =
-        let (node, l, list, at, list_shaped, listed, of, is, short) = list_at def sound slots s formed place old opened k some room in
+        let (node, l, list, at, of_list, listed, of, is, short) = list_at def sound slots s formed place old opened k some room in
         record {
           node = node;
           phylum = list.element;
@@ -106,14 +103,13 @@ module _ (def : Definition) (sound : IsSound def) (slots : (o k : ℕ) → IsQui
         → node_at old.tree there ≡ Some node → IsWanted def k node p → (o : ℕ) → HasOperator def.operators p o → (leaves : List Leaf)
         → AreLeaves def (items_of (operator_at def o)) leaves → WellFormed def (with_operator def old.tree there k o leaves) old.kind
     trial_formed None room node p at want o (op, found, is) leaves are =
-        let fresh : IsShaped def (fresh_operator def o leaves) (kinds.Phylum p) =
-        subst (λ q. IsShaped def (fresh_operator def o leaves) (kinds.Phylum q)) is (fresh_shaped def sound o op leaves found are) in
+        let fresh : WellFormed def (fresh_operator def o leaves) (kinds.Phylum p) =
+        subst (λ q. WellFormed def (fresh_operator def o leaves) (kinds.Phylum q)) is (fresh_formed def sound slots o op leaves found are) in
         (put_given def sound slots s formed place old opened (fresh_operator def o leaves) node (kinds.Phylum p) at
-        (subst (λ x. IsOfKind def x (kinds.Phylum p)) (sym want) refl) fresh (fresh_quiet def slots o op leaves found)).0
+        (subst (λ x. IsOfKind def x (kinds.Phylum p)) (sym want) refl) fresh).0
     trial_formed (Some k) room node p at (other, also, e) o (op, found, is) leaves are =
-        let (here, l, list, at_here, list_shaped, listed, of, is_list, short) = list_at def sound slots s formed place old opened k some room in
+        let (here, l, list, at_here, of_list, listed, of, is_list, short) = list_at def sound slots s formed place old opened k some room in
         let one : node ≡ here = some_once node here (node_at old.tree there) at at_here in
         let same : p ≡ list.element = e ∙ ap (λ (x : ListKind). x.element) (one_list_kind def here other list (subst (λ x. IsListOf def x other) one also) of) in
-        (added_given def sound slots s formed place old opened k (fresh_operator def o leaves) here l list at_here list_shaped listed is_list short
-        (subst (λ q. IsShaped def (fresh_operator def o leaves) (kinds.Phylum q)) (is ∙ same) (fresh_shaped def sound o op leaves found are))
-        (fresh_quiet def slots o op leaves found)).0
+        (added_given def sound slots s formed place old opened k (fresh_operator def o leaves) here l list at_here of_list listed is_list short
+        (subst (λ q. WellFormed def (fresh_operator def o leaves) (kinds.Phylum q)) (is ∙ same) (fresh_formed def sound slots o op leaves found are))).0

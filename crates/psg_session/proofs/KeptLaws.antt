@@ -34,7 +34,8 @@ use Rattle.psg_session.specs.PlainState.{Answer, State, got, lost, not_asked, st
 use Rattle.psg_session.specs.PlainStep.{fetches, keeps, refuses, Steps}
 use Rattle.psg_session.specs.Reached.{HasReached, IsFragmentAnswer, IsReaching}
 use Rattle.psg_session.specs.Replies.{Reply, answered}
-use Rattle.psg_session.specs.Sessions.{IsEditor, IsKept as IsOfItsKind, state_of}
+use Rattle.psg_session.specs.Formed.{IsFormedSaved}
+use Rattle.psg_session.specs.Sessions.{IsEditor, state_of}
 use Rattle.psg_session.specs.Shelf.{others, saved_at, saved_with, IsFull}
 use Rattle.psg_session.specs.Ticks.{HasTicked, HasTickedWith, MayTick}
 use Rattle.psg_session.specs.Views.{reply_of}
@@ -259,7 +260,7 @@ module _ (def : Definition) (e : Editor) (bytes : List ℕ) (file : Name) where
         → (saved : List Saved) → saved ≡ saved_with e.saved x
         → (lines : List (List ℕ)) → lines ≡ (codes "fetched " ++ x.name) ∷ []
         → Steps def (IsGoodIn def) (state_of e) (got bytes) (Fetch file) (shelved (state_of e) saved) (answered lines)
-        × AllByRecursion (IsOfItsKind def) saved
+        × AllByRecursion (IsFormedSaved def) saved
     fetch_done room editor saved kept lines told =
         let step : Steps def (IsGoodIn def) (state_of e) (got bytes) (Fetch file) (with_saved (state_of e) x)
         (answered ((codes "fetched " ++ x.name) ∷ [])) =
@@ -275,9 +276,9 @@ module _ (def : Definition) (e : Editor) (bytes : List ℕ) (file : Name) where
               (answered lines)) (sym kept)
               (subst (λ ls. Steps def (IsGoodIn def) (state_of e) (got bytes) (Fetch file)
               (shelved (state_of e) (saved_with e.saved x)) (answered ls)) (sym told) step),
-          subst (AllByRecursion (IsOfItsKind def)) (sym kept)
-              (all_more (IsOfItsKind def) (others x.name e.saved) x
-              (all_others (IsOfItsKind def) x.name e.saved editor.saved) answer.3),
+          subst (AllByRecursion (IsFormedSaved def)) (sym kept)
+              (all_more (IsFormedSaved def) (others x.name e.saved) x
+              (all_others (IsFormedSaved def) x.name e.saved editor.saved) answer.3),
         )
 
 module _ (def : Definition) (e : Editor) (file : Name) (before after : Outside) (from to : ℕ) where

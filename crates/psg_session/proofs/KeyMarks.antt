@@ -4,7 +4,7 @@ use Rattle.psg_terms.specs.Names.{is_among}
 use Rattle.psg_terms.specs.Relations.{IsIn, first, later}
 use Rattle.psg_grammar.specs.declared.types.Definition.{Definition}
 use Rattle.psg_grammar.specs.Fragments.{Fragment}
-use Rattle.psg_grammar.specs.Keys.{Key, name_in}
+use Rattle.psg_grammar.specs.Keys.{Key}
 use Rattle.psg_grammar.specs.Regions.{declared_in}
 use Rattle.psg_scope.specs.declared.header.NameCol.{NameCol}
 use Rattle.psg_scope.specs.declared.header.Header.{Header}
@@ -13,7 +13,7 @@ use Rattle.psg_scope.proofs.KeyLists.{key_refl, and-false, and-true, or-false, l
 use Rattle.psg_scope.proofs.MergeLaws.{undeclared as no_mark}
 use Rattle.psg_scope.proofs.HeaderLaws.{header-rising}
 use Rattle.psg_eval.specs.Summaries.{IsHeaderOf}
-use Rattle.psg_session.specs.Answers.{undeclared, free_names}
+use Rattle.psg_session.specs.Answers.{key_text, undeclared, free_names}
 use Rattle.psg_session.specs.Views.{names_without}
 
 -- a member of a list of columns is above the key that is below all of them
@@ -36,26 +36,26 @@ own_mark (d ∷ cols) c rising (later h) =
     ∙ ap (λ b. b || is_declared cols (key_of c)) (and-false d.declared)
     ∙ own_mark cols c rising.1 h
 
--- each name stands where its key does
-without_marks : (declared : List Key) (cols : List NameCol)
+-- each text stands where its key does
+without_marks : (def : Definition) (declared : List Key) (cols : List NameCol)
     → ((c : NameCol) → IsIn c cols → is_among declared (key_of c) ≡ c.declared)
-    → names_without cols ≡ map name_in (undeclared declared (keys cols))
-without_marks declared [] marks = refl
-without_marks declared (c ∷ cols) marks =
+    → names_without def cols ≡ map (key_text def) (undeclared declared (keys cols))
+without_marks def declared [] marks = refl
+without_marks def declared (c ∷ cols) marks =
     go c.declared (is_among declared (key_of c)) (marks c first)
-    (without_marks declared cols (λ d h. marks d (later h)))
+    (without_marks def declared cols (λ d h. marks d (later h)))
   where
-    go : (a b : Bool) → b ≡ a → names_without cols ≡ map name_in (undeclared declared (keys cols))
-        → cond a (names_without cols) (c.name ∷ names_without cols)
-        ≡ map name_in (cond b (undeclared declared (keys cols)) (key_of c ∷ undeclared declared (keys cols)))
+    go : (a b : Bool) → b ≡ a → names_without def cols ≡ map (key_text def) (undeclared declared (keys cols))
+        → cond a (names_without def cols) (key_text def (key_of c) ∷ names_without def cols)
+        ≡ map (key_text def) (cond b (undeclared declared (keys cols)) (key_of c ∷ undeclared declared (keys cols)))
     go true true same rest = rest
     go true false same rest = absurd (cc)
     go false true same rest = absurd (cc)
-    go false false same rest = ap (λ l. c.name ∷ l) rest
+    go false false same rest = ap (λ l. key_text def (key_of c) ∷ l) rest
 
 pub free_are : (def : Definition) (f : Fragment) (h : Header) → IsHeaderOf def f h
-    → names_without h.names ≡ free_names def f
+    → names_without def h.names ≡ free_names def f
 free_are def f h is =
-    without_marks (declared_in def f) h.names (λ c k. sym (is.declares (key_of c)) ∙ own_mark h.names c
+    without_marks def (declared_in def f) h.names (λ c k. sym (is.declares (key_of c)) ∙ own_mark h.names c
     (header-rising is) k)
-    ∙ ap (λ ks. map name_in (undeclared (declared_in def f) ks)) is.keys_are
+    ∙ ap (λ ks. map (key_text def) (undeclared (declared_in def f) ks)) is.keys_are

@@ -5,7 +5,7 @@ use Rattle.std.proofs.lemmas.Str.{encodes-chars}
 use Rattle.psg_terms.specs.Names.{Name, is_among}
 use Rattle.psg_terms.specs.Words.{IsWord}
 use Rattle.psg_grammar.specs.WellFormed.{IsName}
-use Rattle.psg_specimen.specs.declared.language.Language.{Language}
+use Rattle.psg_specimen.specs.declared.language.LanguageParts.{LanguageParts}
 use Rattle.psg_session.specs.declared.leaves.Leaf.{Leaf}
 use Rattle.psg_session.specs.declared.leaves.Leaf.TheVariants as leaves
 use Rattle.psg_session.specs.Leaves.{HasWord}
@@ -20,7 +20,7 @@ true_not : (b : Bool) → (b ≡ true → ⊥) → not b ≡ true
 true_not true h = absurd (h refl)
 true_not false h = refl
 
-module _ (l : Language) (is : IsLanguage l) where
+module _ (l : LanguageParts) (is : IsLanguage l) where
   -- a word that is not reserved
   free_name : (name : Name) (r : Bool) → IsUtf8 name → IsWord (chars name)
       → (IsTrue r ↔ (IsTrue (is_among l.lexis name) × IsWord (chars name)))

@@ -9,7 +9,7 @@ use Rattle.psg_grammar.specs.WellFormed.{fixed_words}
 use Rattle.psg_lexis.specs.Tokens.{HasTokens}
 use Rattle.psg_lexis.specs.declared.token.Spanned.{Spanned}
 use Rattle.psg_lexis.proofs.Laws.{only_tokens}
-use Rattle.psg_specimen.specs.declared.language.Language.{Language}
+use Rattle.psg_specimen.specs.declared.language.LanguageParts.{LanguageParts}
 use Rattle.psg_session.specs.declared.leaves.Leaf.{Leaf}
 use Rattle.psg_session.specs.Leaves.{given, GivesLeaves}
 use Rattle.psg_session.specs.Views.{plain_leaf, IsLanguage}
@@ -34,7 +34,7 @@ pub one_list : (def : Definition) (o p : ℕ) (args : List ℕ) (xs ys : List Pl
 one_list def o p args xs ys (ts, has, e, are) (us, other, f, also) =
     same_leaves xs ys (sym e ∙ ap (map given) (only_tokens (fixed_words def) (chars args) 0 ts us has other) ∙ f)
 
-module _ (l : Language) (is : IsLanguage l) (o : ℕ) (args : List ℕ) where
+module _ (l : LanguageParts) (is : IsLanguage l) (o : ℕ) (args : List ℕ) where
   -- the text has no tokens
   pub without_tokens : ((ts : List Spanned) → HasTokens l.lexis (chars args) 0 ts → ⊥) → (xs : List PlainLeaf)
       → GivesLeaves l.definition o args xs → ⊥

@@ -20,7 +20,7 @@ pub mod PrintLaws
 pub mod Showing
 pub mod OneStep
 pub mod TokenValues
-pub mod QuietHoles
+pub mod NewTrees
 pub mod FetchedTrees
 pub mod AllOf
 pub mod ShortTokens
@@ -57,4 +57,6 @@ pub mod Measured
 pub mod FormedTrials
 pub mod MenuLaws
 pub mod NameWalks
+pub mod NameOrder
 pub mod Offers
+pub mod NextSteps

@@ -1,21 +1,19 @@
 -- How large the tree of a note is, and its mark by completions.
 use Rattle.std.proofs.Common.{◌≡◌, inl, inr, ℕ, ◌≤◌, length, Some, refl, sym, ap, subst}
 use Rattle.std.proofs.lemmas.Bool.Decides.{leb_tells}
-use Rattle.psg_grammar.specs.declared.types.Kind.{Kind}
 use Rattle.psg_grammar.specs.declared.types.Definition.{Definition}
 use Rattle.psg_grammar.specs.Fragments.{Fragment}
 use Rattle.psg_grammar.specs.Legal.{IsCompletable}
 use Rattle.psg_grammar.specs.Marks.{Mark, IsMarkBy}
 use Rattle.psg_grammar.specs.Sizes.{nodes_of}
 use Rattle.psg_grammar.specs.Steps.{HasWeights}
-use Rattle.psg_grammar.specs.WellFormed.{WellFormed}
 use Rattle.psg_reads_back.specs.Layout.{text_of}
 use Rattle.psg_cache.specs.Annotated.{Annotated, tree_in, weight_in}
 use Rattle.psg_cache.specs.Blames.{culprits_in}
 use Rattle.psg_cache.specs.Notes.{IsNoteOf, mark_by}
 use Rattle.psg_cache.proofs.Completed.{noted_completable}
 use Rattle.psg_cache.proofs.NoteWeights.{noted_weighs}
-use Rattle.psg_specimen.specs.declared.language.Language.{Language}
+use Rattle.psg_specimen.specs.declared.language.LanguageParts.{LanguageParts}
 use Rattle.psg_specimen.specs.Languages.{IsLanguage}
 use Rattle.psg_specimen.proofs.TrueRows.{true_rows}
 use Rattle.psg_session.specs.declared.editor.OpenedTree.{OpenedTree}
@@ -33,12 +31,11 @@ few_nodes def f n noted = elim (leb_tells (nodes_of f) 20000) as (λ _. nodes_of
   | inr many ↦ absurd (noted.within.small (inl many.1))
 ]
 
-module _ (language : Language) (is : IsLanguage language) (n : Annotated)
-    (noted : IsNoteOf language.definition (tree_in n) n) (kind : Kind)
-    (formed : WellFormed language.definition (tree_in n) kind) where
+module _ (language : LanguageParts) (is : IsLanguage language) (n : Annotated)
+    (noted : IsNoteOf language.definition (tree_in n) n) where
   marked_so : IsMarkBy (IsCompletable language.definition) (tree_in n) (mark_by (culprits_in n))
   marked_so =
-      (noted_completable language.definition is.sound (tree_in n) n noted (true_rows language.definition is.accepted.met) kind formed).culprits
+      (noted_completable language.definition is.sound (tree_in n) n noted (true_rows language.definition is.accepted.met)).culprits
 
   pub extent_is : (nodes bytes weight : ℕ) (mark : Mark) → nodes ≡ nodes_of (tree_in n)
       → bytes ≡ length (text_of language.definition (tree_in n)) → weight ≡ weight_in n → mark ≡ mark_by (culprits_in n)
@@ -54,17 +51,14 @@ module _ (language : Language) (is : IsLanguage language) (n : Annotated)
 -- ---- the opened fragment of a session
 
 module _ (p : Parts) (session : IsSession p) (held : OpenedTree) (opened : p.editor.opened ≡ Some held) where
-  pub held_noted : IsNoteOf p.language.definition (tree_in held.note) held.note
-  held_noted = (opened_version p.language.definition p.editor held session.editor opened).noted
-
-  pub held_formed : (kind : Kind) × WellFormed p.language.definition (tree_in held.note) kind
-  held_formed = (held.kind, session.formed.opened (plain held) (ap opened_of opened))
+  pub held_noted : IsNoteOf p.language (tree_in held.note) held.note
+  held_noted = (opened_version p.language p.editor held session.editor opened).noted
 
 pub extent_in : (p q : Parts) → p ≡ q → (held : OpenedTree) → p.editor.opened ≡ Some held → (e : Extent)
-    → IsExtentOf p.language.definition (IsCompletable p.language.definition) (tree_in held.note) e
+    → IsExtentOf p.language (IsCompletable p.language) (tree_in held.note) e
     → (old : Opened) × ((state_of q.editor).opened ≡ Some old)
-    × IsExtentOf q.language.definition (IsCompletable q.language.definition) old.tree e
+    × IsExtentOf q.language (IsCompletable q.language) old.tree e
 extent_in p q same held opened e is =
     subst (λ (x : Parts). (old : Opened) × ((state_of x.editor).opened ≡ Some old)
-    × IsExtentOf x.language.definition (IsCompletable x.language.definition) old.tree e) same
+    × IsExtentOf x.language (IsCompletable x.language) old.tree e) same
     (plain held, ap opened_of opened, is)

@@ -16,8 +16,7 @@ use Rattle.psg_grammar.specs.declared.types.Item.TheVariants as items
 use Rattle.psg_grammar.specs.declared.types.Definition.{Definition}
 use Rattle.psg_grammar.specs.Fragments.{Fragment, hole, ending, cell, operator, with_child, with_name, with_number, with_text, anything, observed}
 use Rattle.psg_grammar.specs.Keys.{placed}
-use Rattle.psg_grammar.specs.WellFormed.{IsName}
-use Rattle.psg_cache.specs.Shaped.{HasShape}
+use Rattle.psg_grammar.specs.WellFormed.{Fits, IsName}
 use Rattle.psg_tree.specs.declared.tree.Part.{Part}
 use Rattle.psg_tree.specs.declared.tree.Part.TheVariants.{Sub, Name as NamePart, Number, Text}
 use Rattle.psg_tree.specs.declared.tree.Shape.{Shape}
@@ -173,7 +172,7 @@ all_used : (used : List Name) (n : Name) (ns : List Name) → AllByRecursion (λ
 all_used used n [] all = tt
 all_used used n (k ∷ ns) all = (inserted_others n k used all.0, all_used used n ns all.1)
 
-used_in_order : (ns : List Name) → AllByRecursion (λ k. is_among (in_byte_order ns) k ≡ true) ns
+pub used_in_order : (ns : List Name) → AllByRecursion (λ k. is_among (in_byte_order ns) k ≡ true) ns
 used_in_order [] = tt
 used_in_order (n ∷ ns) = (inserted_itself n (in_byte_order ns), all_used (in_byte_order ns) n ns (used_in_order ns))
 
@@ -192,17 +191,17 @@ all_placed P Less n m rest more h g all also = (h, (g, all))
 all_placed P Equal n m rest more h g all also = (g, all)
 all_placed P Greater n m rest more h g all also = (g, also)
 
-all_inserted : (P : Name → Type 0) (n : Name) (ms : List Name) → P n → AllByRecursion P ms → AllByRecursion P (insert_name n ms)
+pub all_inserted : (P : Name → Type 0) (n : Name) (ms : List Name) → P n → AllByRecursion P ms → AllByRecursion P (insert_name n ms)
 all_inserted P n [] h all = (h, tt)
 all_inserted P n (m ∷ ms) h all =
     all_placed P (slice_cmp nat_cmp n m) n m ms (insert_name n ms) h all.0 all.1 (all_inserted P n ms h all.1)
 
-all_ordered : (P : Name → Type 0) (ns : List Name) → AllByRecursion P ns → AllByRecursion P (in_byte_order ns)
+pub all_ordered : (P : Name → Type 0) (ns : List Name) → AllByRecursion P ns → AllByRecursion P (in_byte_order ns)
 all_ordered P [] all = tt
 all_ordered P (n ∷ ns) all = all_inserted P n (in_byte_order ns) all.0 (all_ordered P ns all.1)
 
 module _ (def : Definition) where
-  all_names : (f : Fragment) (more : List Item) (kind : Kind) → HasShape def f more kind → AllByRecursion (IsName def) (occurring f)
+  all_names : (f : Fragment) (more : List Item) (kind : Kind) → Fits def f more kind → AllByRecursion (IsName def) (occurring f)
   all_names (hole p) more kind h = tt
   all_names (ending l u) more kind h = tt
   all_names (cell l e r) more kind (none, is, k, found, fe, fr, z) =
@@ -219,5 +218,5 @@ module _ (def : Definition) where
   all_names anything more kind h = absurd h
   all_names (observed f) more kind (none, h) = all_names f [] kind h
 
-  pub candidates_are : (f : Fragment) (kind : Kind) → HasShape def f [] kind → AllByRecursion (IsName def) (in_byte_order (occurring f))
+  pub candidates_are : (f : Fragment) (kind : Kind) → Fits def f [] kind → AllByRecursion (IsName def) (in_byte_order (occurring f))
   candidates_are f kind h = all_ordered (IsName def) (occurring f) (all_names f [] kind h)

@@ -24,11 +24,11 @@ use Rattle.psg_grammar.specs.Paths.{Path, node_at, IsList}
 use Rattle.psg_grammar.specs.Sound.{IsSound}
 use Rattle.psg_grammar.specs.Work.{climb_of}
 use Rattle.psg_grammar.proofs.SoundParts.{elements_in}
+use Rattle.psg_grammar.specs.WellFormed.{WellFormed}
 use Rattle.psg_cache.specs.Annotated.{Annotated, tree_in}
 use Rattle.psg_cache.specs.Edits.{IsNoSummaryAt}
 use Rattle.psg_cache.specs.NoteFrames.{AreElementFramesAt, AreFramesAt, IsNoElementAt}
-use Rattle.psg_cache.specs.Shaped.{IsShaped}
-use Rattle.psg_cache.proofs.ShapedTrees.{node_shaped}
+use Rattle.psg_cache.proofs.FormedTrees.{node_formed}
 use Rattle.psg_eval.specs.declared.frame.Frame.{Frame}
 use Rattle.psg_eval.specs.declared.question.FocusFault.{FocusFault}
 use Rattle.psg_eval.specs.declared.question.FocusFault.TheVariants as questions
@@ -65,14 +65,14 @@ use Rattle.psg_session.proofs.StepLaws.{at_node, has_node, is_opened, is_there, 
 -- ---- the place
 
 module _ (def : Definition) (kind : Kind) (n : Annotated) (version : IsVersion def kind n) (path : Path) (node : Fragment) (at : node_at (tree_in n) path ≡ Some node) where
-  pub site_shaped : (K : Kind) × IsShaped def node K
-  site_shaped = node_shaped def (tree_in n) kind path node version.shaped at
+  pub site_formed : (K : Kind) × WellFormed def node K
+  site_formed = node_formed def (tree_in n) kind path node version.formed at
 
   pub some_frames : IsNoSummaryAt n path → ⊥
   some_frames none = none-some node (sym (none def (tree_in n) version.noted) ∙ at)
 
   hole_known : (p : ℕ) → node ≡ hole p → p < length def.phyla
-  hole_known p is = let (K, shaped) = site_shaped in (subst (λ x. IsShaped def x K) is shaped).0.2
+  hole_known p is = let (K, formed) = site_formed in (subst (λ x. WellFormed def x K) is formed).0.2
 
   pub hole_is_site : (p : ℕ) (around : Vec Frame Global) → node ≡ hole p → AreFramesAt n path around.items
       → IsSite def (tree_in n) path None node (record { phylum = p; around = around })

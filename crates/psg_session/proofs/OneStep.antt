@@ -17,14 +17,14 @@ use Rattle.psg_grammar.proofs.NamePlaces.{only_kind, only_op}
 use Rattle.psg_lexis.proofs.Laws.{only_tokens}
 use Rattle.psg_grammar.specs.Kinds.{kind_name_of, IsOfKind}
 use Rattle.psg_class.specs.Class.{IsClass}
-use Rattle.psg_cache.proofs.ShapedTrees.{kind_once as node_kind_once}
+use Rattle.psg_cache.proofs.FormedTrees.{kind_once as node_kind_once}
 use Rattle.psg_script.specs.declared.command.Command.{Command}
 use Rattle.psg_script.specs.declared.command.Command.TheVariants.{Own, Free, Undo, Redo, Save, Keep, Fetch, Goto, Screen, Relation, Menu, Names}
 use Rattle.psg_reads_back.specs.Layout.{text_of}
 use Rattle.psg_screen.specs.Window.{window_of}
 use Rattle.psg_unparse.specs.Spots.{span_of}
 use Rattle.psg_reads_back.specs.Spots.{Placed}
-use Rattle.psg_session.specs.Answers.{free_names, names_line, rows_lines}
+use Rattle.psg_session.specs.Answers.{key_text, free_names, names_line, rows_lines}
 use Rattle.psg_session.specs.Printing.{goto_line, lines_in, view_of, what_is, IsWrittenAt}
 use Rattle.psg_session.proofs.PrintLaws.{written_once}
 use Rattle.psg_session.specs.Leaves.{given, GivesLeaves}
@@ -198,13 +198,13 @@ module _ (def : Definition) (IsGood : Fragment → Type 0) (s : State) (answer :
         → s.opened ≡ Some old → s.opened ≡ Some old'
         → node_at old.tree path ≡ Some node → node_at old'.tree path ≡ Some node' → IsRelationOf def node rows
         → IsRelationOf def node' rows'
-        → answered (rows_lines def.signature (names_of def node) rows) ≡ answered
-        (rows_lines def.signature (names_of def node') rows')
+        → answered (rows_lines def.signature (map (key_text def) (names_of def node)) rows) ≡ answered
+        (rows_lines def.signature (map (key_text def) (names_of def node')) rows')
     lines_once old old' node node' path rows rows' opened opened' at at' rel rel' =
         let one : node ≡ node' = node_once old old' node node' path opened opened' at at' in
-        ap (λ f. answered (rows_lines def.signature (names_of def f) rows)) one
+        ap (λ f. answered (rows_lines def.signature (map (key_text def) (names_of def f)) rows)) one
         ∙ ap answered (relation_lines def sound node' rows rows' (subst (λ f. IsRelationOf def f rows) one rel) rel'
-        (names_of def node'))
+        (map (key_text def) (names_of def node')))
 
     -- and those of its values in the fragment
     shown_once : (old old' : Opened) (path : Path) (rows rows' : List (List Term))

@@ -13,8 +13,6 @@ use Rattle.psg_grammar.specs.declared.types.Kind.{Kind}
 use Rattle.psg_grammar.specs.declared.types.Kind.TheVariants as kinds
 use Rattle.psg_grammar.specs.Fragments.{Fragment, hole, ending, cell, operator, with_child, with_name, with_number, with_text, anything, observed}
 use Rattle.psg_grammar.specs.Paths.{Path, IsList}
-use Rattle.psg_grammar.specs.WellFormed.{IsPlain}
-use Rattle.psg_cache.specs.Shaped.{HasShape, IsShaped}
 use Rattle.psg_tree.specs.AbstractText.{operator_name}
 use Rattle.psg_tree.specs.declared.tree.Part.{Part}
 use Rattle.psg_tree.specs.declared.tree.Part.TheVariants.{Sub, Name as PartName, Number, Text}
@@ -22,10 +20,8 @@ use Rattle.psg_tree.specs.declared.tree.Shape.{Shape}
 use Rattle.psg_tree.specs.declared.tree.Shape.TheVariants.{Op, List as ListOf, Hole}
 use Rattle.psg_tree.specs.Shapes.{with_part, with_parts, list_of, tree_of}
 use Rattle.psg_reads_back.specs.Spots.{Placed, placed_in}
-use Rattle.psg_unparse.specs.Listing.{IsListing}
 use Rattle.psg_unparse.specs.Spots.{span_of}
 use Rattle.psg_unparse.specs.declared.spans.Span.{Span}
-use Rattle.psg_unparse.proofs.Listed.{IsProper, IsSpine, proper_listing}
 use Rattle.psg_session.specs.Marked.{path_text}
 use Rattle.psg_session.specs.Printing.{goto_line, lines_in, node_words, what_is, HasNoSpan, IsFirstSpan, IsWrittenAt}
 use Rattle.psg_session.specs.Replies.{feed, feed_all}
@@ -115,77 +111,6 @@ module _ (def : Definition) where
 
   pub what_hole : (node : Fragment) (s : Shape) (p : ℕ) → tree_of s ≡ node → s ≡ Hole p → codes "?" ≡ what_is def node
   what_hole node s p e is = ap (what_is def) (sym (ap tree_of is) ∙ e)
-
-  -- ---- a tree of a kind lists each of its nodes once
-
-  spine_shaped : (f : Fragment) (i : Item) (more : List Item) (kind : Kind) → HasShape def f (i ∷ more) kind → IsPlain f
-      → IsSpine f
-  spine_shaped (hole p) i more kind h p' = let e : i ∷ more ≡ [] = h.0 in absurd (cc)
-  spine_shaped (ending l u) i more kind h p' = let e : i ∷ more ≡ [] = h.0 in absurd (cc)
-  spine_shaped (cell l e r) i more kind h p' = let e : i ∷ more ≡ [] = h.0 in absurd (cc)
-  spine_shaped (operator o) i more kind h p' = tt
-  spine_shaped (with_child f t) i more kind h p' = tt
-  spine_shaped (with_name f n) i more kind h p' = tt
-  spine_shaped (with_number f n) i more kind h p' = tt
-  spine_shaped (with_text f t) i more kind h p' = tt
-  spine_shaped anything i more kind h p' = absurd h
-  spine_shaped (observed f) i more kind h p' = absurd p'
-
-  no_list : (f : Fragment) (more : List Item) (l : ℕ) → IsSpine f → HasShape def f more (kinds.List l) → IsPlain f → ⊥
-  no_list (operator o) more l s (op, got, m, e) p = absurd (cc)
-  no_list (with_child f t) more l s (k, h, g) p =
-      no_list f (items.Slot k ∷ more) l (spine_shaped f (items.Slot k) more (kinds.List l) h p.0) h p.0
-  no_list (with_name f n) more l s (inl (z, h), g) p =
-      no_list f (items.Refers z ∷ more) l (spine_shaped f (items.Refers z) more (kinds.List l) h p) h p
-  no_list (with_name f n) more l s (inr (z, h), g) p =
-      no_list f (items.Declares z ∷ more) l (spine_shaped f (items.Declares z) more (kinds.List l) h p) h p
-  no_list (with_number f n) more l s (h, g) p =
-      no_list f (items.Number ∷ more) l (spine_shaped f items.Number more (kinds.List l) h p) h p
-  no_list (with_text f t) more l s (h, g) p =
-      no_list f (items.Text ∷ more) l (spine_shaped f items.Text more (kinds.List l) h p) h p
-  no_list (hole x) more l s h p = s
-  no_list (ending x u) more l s h p = s
-  no_list (cell x e r) more l s h p = s
-  no_list anything more l s h p = s
-  no_list (observed f) more l s h p = s
-
-  list_shaped : (f : Fragment) (l : ℕ) → HasShape def f [] (kinds.List l) → IsPlain f → IsList f
-  list_shaped (hole x) l h p = let e : kinds.List l ≡ kinds.Phylum x = h.1 in absurd (cc)
-  list_shaped (ending x u) l h p = tt
-  list_shaped (cell x e r) l h p = tt
-  list_shaped (operator o) l h p = absurd (no_list (operator o) [] l tt h p)
-  list_shaped (with_child f t) l h p = absurd (no_list (with_child f t) [] l tt h p)
-  list_shaped (with_name f n) l h p = absurd (no_list (with_name f n) [] l tt h p)
-  list_shaped (with_number f n) l h p = absurd (no_list (with_number f n) [] l tt h p)
-  list_shaped (with_text f t) l h p = absurd (no_list (with_text f t) [] l tt h p)
-  list_shaped anything l h p = absurd h
-  list_shaped (observed f) l h p = absurd p
-
-  shaped_proper : (f : Fragment) (more : List Item) (kind : Kind) → HasShape def f more kind → IsPlain f → IsProper f
-  shaped_proper (hole x) more kind h p = tt
-  shaped_proper (ending x u) more kind h p = tt
-  shaped_proper (cell x e r) more kind (m, k, lk, got, he, hr, un) p = (
-    shaped_proper e [] (kinds.Phylum lk.element) he p.0,
-    (shaped_proper r [] (kinds.List x) hr p.1, list_shaped r x hr p.1),
-  )
-  shaped_proper (operator o) more kind h p = tt
-  shaped_proper (with_child f t) more kind (k, h, g) p = (
-    shaped_proper f (items.Slot k ∷ more) kind h p.0,
-    (shaped_proper t [] k g p.1, spine_shaped f (items.Slot k) more kind h p.0),
-  )
-  shaped_proper (with_name f n) more kind (inl (z, h), g) p =
-      (shaped_proper f (items.Refers z ∷ more) kind h p, spine_shaped f (items.Refers z) more kind h p)
-  shaped_proper (with_name f n) more kind (inr (z, h), g) p =
-      (shaped_proper f (items.Declares z ∷ more) kind h p, spine_shaped f (items.Declares z) more kind h p)
-  shaped_proper (with_number f n) more kind (h, g) p =
-      (shaped_proper f (items.Number ∷ more) kind h p, spine_shaped f items.Number more kind h p)
-  shaped_proper (with_text f t) more kind (h, g) p =
-      (shaped_proper f (items.Text ∷ more) kind h p, spine_shaped f items.Text more kind h p)
-  shaped_proper anything more kind h p = absurd h
-  shaped_proper (observed f) more kind h p = absurd p
-
-  pub shaped_listing : (f : Fragment) (kind : Kind) → IsShaped def f kind → IsListing def f
-  shaped_listing f kind h = proper_listing def f (shaped_proper f [] kind h.0 h.1)
 
   -- ---- the first that is listed for a path
 

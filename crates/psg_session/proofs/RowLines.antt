@@ -12,7 +12,6 @@ use Rattle.psg_terms.specs.Text.{symbol_name, term_text, opened, row_text}
 use Rattle.psg_terms.specs.Relations.{IsIn, IsRelation, first, later}
 use Rattle.psg_grammar.specs.declared.types.Definition.{Definition}
 use Rattle.psg_grammar.specs.Fragments.{Fragment}
-use Rattle.psg_grammar.specs.Keys.{Key, name_in}
 use Rattle.psg_grammar.specs.Paths.{Path, observe}
 use Rattle.psg_grammar.specs.Relations.{IsPossible, IsRelationOf, IsSeen, IsShownRelation}
 use Rattle.psg_grammar.specs.Sound.{IsSound, IsOwnName, goes_on_name, is_lower}
@@ -86,16 +85,16 @@ cut (x ∷ a) b (y ∷ c) d h g e =
 
 -- ---- lines by the texts of the terms
 
-abbrev entities_of : List Key → List (List ℕ) → List ℕ
+abbrev entities_of : List (List ℕ) → List (List ℕ) → List ℕ
 entities_of [] texts = []
 entities_of (k ∷ ks) [] = []
-entities_of (k ∷ ks) (t ∷ ts) = 32 ∷ (name_in k ++ (61 ∷ (t ++ entities_of ks ts)))
+entities_of (k ∷ ks) (t ∷ ts) = 32 ∷ (k ++ (61 ∷ (t ++ entities_of ks ts)))
 
-abbrev line_of : List Key → List (List ℕ) → List ℕ
+abbrev line_of : List (List ℕ) → List (List ℕ) → List ℕ
 line_of ks [] = []
 line_of ks (value ∷ entities) = value ++ entities_of ks entities
 
-abbrev lines_of : List Key → List (List (List ℕ)) → List (List ℕ)
+abbrev lines_of : List (List ℕ) → List (List (List ℕ)) → List (List ℕ)
 lines_of ks [] = codes "none" ∷ []
 lines_of ks (row ∷ rows) = line_of ks row ∷ map (line_of ks) rows
 
@@ -103,21 +102,21 @@ module _ (sig : Signature) where
   abbrev texts_of : List Term → List (List ℕ)
   texts_of row = map (term_text sig) row
 
-  entities_are : (ks : List Key) (row : List Term) → entities_text sig ks row ≡ entities_of ks (texts_of row)
+  entities_are : (ks : List (List ℕ)) (row : List Term) → entities_text sig ks row ≡ entities_of ks (texts_of row)
   entities_are [] row = refl
   entities_are (k ∷ ks) [] = refl
-  entities_are (k ∷ ks) (t ∷ row) = ap (λ l. 32 ∷ (name_in k ++ (61 ∷ (term_text sig t ++ l)))) (entities_are ks row)
+  entities_are (k ∷ ks) (t ∷ row) = ap (λ l. 32 ∷ (k ++ (61 ∷ (term_text sig t ++ l)))) (entities_are ks row)
 
-  line_is : (ks : List Key) (row : List Term) → row_line sig ks row ≡ line_of ks (texts_of row)
+  line_is : (ks : List (List ℕ)) (row : List Term) → row_line sig ks row ≡ line_of ks (texts_of row)
   line_is ks [] = refl
   line_is ks (value ∷ row) = ap (λ l. term_text sig value ++ l) (entities_are ks row)
 
-  more_lines : (ks : List Key) (rows : List (List Term))
+  more_lines : (ks : List (List ℕ)) (rows : List (List Term))
       → map (row_line sig ks) rows ≡ map (line_of ks) (map texts_of rows)
   more_lines ks [] = refl
   more_lines ks (row ∷ rows) = ap₂ (λ (x : List ℕ) (l : List (List ℕ)). x ∷ l) (line_is ks row) (more_lines ks rows)
 
-  lines_are : (ks : List Key) (rows : List (List Term)) → rows_lines sig ks rows ≡ lines_of ks (map texts_of rows)
+  lines_are : (ks : List (List ℕ)) (rows : List (List Term)) → rows_lines sig ks rows ≡ lines_of ks (map texts_of rows)
   lines_are ks [] = refl
   lines_are ks (row ∷ rows) = ap₂ (λ (x : List ℕ) (l : List (List ℕ)). x ∷ l) (line_is ks row) (more_lines ks rows)
 
@@ -168,7 +167,7 @@ module _ (def : Definition) (sound : IsSound def) where
   -- the lines of two relations of what is possible
   family_lines : {C : Type 0} (P : C → List Term → Type 0) (ls rs : List ℕ) (rows others : List (List Term)) → IsRelation def.signature ls P rows
       → IsRelation def.signature rs P others
-      → (ks : List Key) → rows_lines def.signature ks rows ≡ rows_lines def.signature ks others
+      → (ks : List (List ℕ)) → rows_lines def.signature ks rows ≡ rows_lines def.signature ks others
   family_lines P ls rs rows others rel other ks =
       let sig : Signature = def.signature in
       let wide = λ (row one : List Term) (h : IsIn row rows) (k : IsIn one others).
@@ -182,11 +181,11 @@ module _ (def : Definition) (sound : IsSound def) where
 
   pub relation_lines : (f : Fragment) (rows others : List (List Term)) → IsRelationOf def f rows
       → IsRelationOf def f others
-      → (ks : List Key) → rows_lines def.signature ks rows ≡ rows_lines def.signature ks others
+      → (ks : List (List ℕ)) → rows_lines def.signature ks rows ≡ rows_lines def.signature ks others
   relation_lines f rows others (ls, rel) (rs, other) ks = family_lines (IsPossible def f) ls rs rows others rel other ks
 
   -- and of two relations of a node's values
   pub shown_lines : (f : Fragment) (path : Path) (rows others : List (List Term)) → IsShownRelation def f path rows
       → IsShownRelation def f path others
-      → (ks : List Key) → rows_lines def.signature ks rows ≡ rows_lines def.signature ks others
+      → (ks : List (List ℕ)) → rows_lines def.signature ks rows ≡ rows_lines def.signature ks others
   shown_lines f path rows others (ls, rel) (rs, other) ks = family_lines (IsSeen def (observe path f)) ls rs rows others rel other ks

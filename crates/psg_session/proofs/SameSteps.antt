@@ -16,7 +16,7 @@ use Rattle.psg_menu.specs.Menus.{in_byte_order}
 use Rattle.psg_script.specs.declared.command.Where.{Where}
 use Rattle.psg_script.specs.declared.command.Command.{Command}
 use Rattle.psg_script.specs.declared.command.Command.TheVariants.{New, Goto, Refine, Insert, Cut, Remove, Close, Reopen, Over, Range, Show, Screen, Relation, Own, Menu, Names, Free, Undo, Redo, Save, Paste, Keep, Fetch}
-use Rattle.psg_specimen.specs.Conditions.{IsQuietSlot}
+use Rattle.psg_menu.specs.Menus.{HasQuietSlots}
 use Rattle.psg_session.specs.declared.refusal.Refusal.{Refusal}
 use Rattle.psg_session.specs.Formed.{HasText, IsFormedState}
 use Rattle.psg_session.specs.PlainState.{State, Opened, Answer, named_path}
@@ -24,7 +24,7 @@ use Rattle.psg_session.specs.PlainStep.{AtNode, HasNoRoom, IsNoNode, IsOther, Is
 use Rattle.psg_session.specs.Refusals.{Tests, done, test, Refuses, Passes}
 use Rattle.psg_session.specs.Replies.{Reply}
 use Rattle.psg_session.proofs.FormedMakes.{refined, put_in, closed_given, pasted, pasted_in}
-use Rattle.psg_session.proofs.FormedSteps.{blank_formed, keeps_form, makes_given}
+use Rattle.psg_session.proofs.FormedSteps.{keeps_form, makes_given, new_formed}
 use Rattle.psg_session.proofs.FormedTrials.{named_phylum, operator_in, trial_formed, wanted_at}
 use Rattle.psg_session.proofs.MenuLaws.{menu_same, naming_same}
 
@@ -57,7 +57,7 @@ same_itself (test r holds rest) = (refl, ((λ h. h), (λ h. h)), λ never. same_
 
 -- ---- steps
 
-module _ (def : Definition) (A B : Fragment → Type 0) (sound : IsSound def) (slots : (o k : ℕ) → IsQuietSlot def o k)
+module _ (def : Definition) (A B : Fragment → Type 0) (sound : IsSound def) (slots : HasQuietSlots def)
     (agree : (f : Fragment) (kind : Kind) → WellFormed def f kind → A f ↔ B f)
     (marks : (f : Fragment) (kind : Kind) → WellFormed def f kind → (mark : Mark) → IsMarkBy A f mark → IsMarkBy B f mark)
     (s : State) (answer : Answer) (formed : IsFormedState def s) where
@@ -238,7 +238,7 @@ module _ (def : Definition) (A B : Fragment → Type 0) (sound : IsSound def) (s
       refuses (same_refuses (tests def A s answer command) (tests def B s answer command) (same_tests command) r is)
   same_step text (opens {name = name} kind mark taken named is_mark) =
       opens kind mark (still_taken (New name) taken) named
-      (marks (blank def kind) kind (blank_formed def kind name named (λ loud. taken.1.0 (kind, named, loud))) mark is_mark)
+      (marks (blank def kind) kind (new_formed def kind name named (λ loud. taken.1.0 (kind, named, loud))) mark is_mark)
   same_step text (changes {command = command} {tree = tree} old mark taken opened makes is_mark) =
       let (whole, node, at) = makes_given def A sound slots s answer formed text taken old opened makes in
       changes old mark (still_taken command taken) opened makes (marks tree old.kind whole mark is_mark)

@@ -14,7 +14,8 @@ use Rattle.psg_session.specs.declared.replies.Mark.{Mark}
 use Rattle.psg_library.specs.declared.fragment.SavedFragment.{SavedFragment as Saved}
 use Rattle.psg_session.specs.Outcomes.{after, changed, shelved, IsFit, IsGoneOn}
 use Rattle.psg_session.specs.PlainState.{Opened, State, most_versions}
-use Rattle.psg_session.specs.Sessions.{AreVersions, IsEditor, IsKept, IsVersion, opened_of, plain, state_of}
+use Rattle.psg_session.specs.Formed.{IsFormedSaved}
+use Rattle.psg_session.specs.Sessions.{AreVersions, IsEditor, IsVersion, opened_of, plain, state_of}
 
 -- the first of a list, of which something is made
 take_map : {X Y : Type 0} (f : X → Y) (n : ℕ) (xs : List X) → map f (take n xs) ≡ take n (map f xs)
@@ -58,7 +59,7 @@ module _ (old new : Editor) (held : OpenedTree) (cursor : Path) (mark : Mark) (o
         (fit, subst (AllByRecursion (IsVersion def held.kind)) (sym earlier) tt);
     later = subst (λ o. AreVersions def o new.history.later) (sym opened)
         (fit, subst (AllByRecursion (IsVersion def held.kind)) (sym later) tt);
-    saved = subst (AllByRecursion (IsKept def)) (sym kept) editor.saved;
+    saved = subst (AllByRecursion (IsFormedSaved def)) (sym kept) editor.saved;
   }
 
 -- ---- the opened fragment goes on
@@ -89,7 +90,7 @@ module _ (old new : Editor) (note : Annotated) (cursor : Path) (mark : Mark) whe
         );
         later = subst (λ o. AreVersions def o new.history.later) (sym opened)
             (is, subst (AllByRecursion (IsVersion def held.kind)) (sym later) tt);
-        saved = subst (AllByRecursion (IsKept def)) (sym kept) editor.saved;
+        saved = subst (AllByRecursion (IsFormedSaved def)) (sym kept) editor.saved;
       }
 
 -- ---- another list of saved fragments
@@ -102,11 +103,11 @@ module _ (old new : Editor) (saved : List Saved) (opened : new.opened ≡ old.op
       saved (ap opened_of opened) there (ap (λ (h : Versions Annotated). map tree_in h.earlier) history)
       (ap (λ (h : Versions Annotated). map tree_in h.later) history) kept
 
-  pub saved_editor : (def : Definition) → IsEditor def old → AllByRecursion (IsKept def) saved → IsEditor def new
+  pub saved_editor : (def : Definition) → IsEditor def old → AllByRecursion (IsFormedSaved def) saved → IsEditor def new
   saved_editor def editor fit = record {
     earlier = subst (λ (h : Versions Annotated). AreVersions def new.opened h.earlier) (sym history)
         (subst (λ o. AreVersions def o old.history.earlier) (sym opened) editor.earlier);
     later = subst (λ (h : Versions Annotated). AreVersions def new.opened h.later) (sym history)
         (subst (λ o. AreVersions def o old.history.later) (sym opened) editor.later);
-    saved = subst (AllByRecursion (IsKept def)) (sym kept) fit;
+    saved = subst (AllByRecursion (IsFormedSaved def)) (sym kept) fit;
   }

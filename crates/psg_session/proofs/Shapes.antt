@@ -15,7 +15,7 @@ use Rattle.psg_tree.specs.declared.tree.Shape.{Shape}
 use Rattle.psg_tree.specs.declared.tree.Shape.TheVariants.{Op, List as ListOf, Hole}
 use Rattle.psg_tree.specs.Shapes.{with_part, with_parts, list_of, tree_of}
 use Rattle.psg_grammar.specs.Kinds.{IsOfKind}
-use Rattle.psg_cache.specs.Shaped.{HasShape, IsShaped}
+use Rattle.psg_grammar.specs.WellFormed.{Fits, WellFormed}
 use Rattle.psg_session.specs.declared.changes.Listed.{Listed}
 use Rattle.psg_session.specs.PlainStep.{end_of}
 use Rattle.psg_session.specs.Outcomes.{IsListed}
@@ -85,17 +85,17 @@ module _ (def : Definition) where
   list_kind l [] u = refl
   list_kind l (x ∷ es) u = refl
 
-  list_there : (l : ℕ) (es : List Fragment) (u : Bool) (kind : Kind) → IsShaped def (list_of l es u) kind
+  list_there : (l : ℕ) (es : List Fragment) (u : Bool) (kind : Kind) → WellFormed def (list_of l es u) kind
       → l < length def.lists
   list_there l [] u kind ((none, is, (k, found, may)), plain) = slice_get_within def.lists l k found
   list_there l (x ∷ es) u kind ((none, is, k, found, fx, fr, z), plain) = slice_get_within def.lists l k found
 
   -- the number of the list is in range
   pub list_in : (node : Fragment) (s : Shape) (l : ℕ) (es : List Fragment) (u : Bool)
-      → ((kind : Kind) × IsShaped def node kind) → tree_of s ≡ node → s ≡ ListOf l es u
+      → ((kind : Kind) × WellFormed def node kind) → tree_of s ≡ node → s ≡ ListOf l es u
       → l < length def.lists
-  list_in node s l es u (kind, shaped) e is =
-      list_there l es u kind (subst (λ x. IsShaped def x kind) (sym e ∙ ap tree_of is) shaped)
+  list_in node s l es u (kind, formed) e is =
+      list_there l es u kind (subst (λ x. WellFormed def x kind) (sym e ∙ ap tree_of is) formed)
 
   pub listed : (node : Fragment) (s : Shape) (l : ℕ) (es : List Fragment) (u : Bool) (x : Listed) → tree_of s ≡ node
       → s ≡ ListOf l es u
@@ -123,7 +123,7 @@ module _ (def : Definition) where
   kind_parts f (p ∷ ps) kind h = kind_parts (with_part f p) ps kind (kind_part f p kind h)
 
   shape_below : (f : Fragment) (ps : List Part) (more : List Item) (kind : Kind)
-      → HasShape def (with_parts f ps) more kind → (rest : List Item) × HasShape def f rest kind
+      → Fits def (with_parts f ps) more kind → (rest : List Item) × Fits def f rest kind
   shape_below f [] more kind h = (more, h)
   shape_below f (Sub t ∷ ps) more kind h = let (rest, (k, ff, ft)) = shape_below (with_child f t) ps more kind h in
       (items.Slot k ∷ rest, ff)
@@ -136,11 +136,11 @@ module _ (def : Definition) where
       (items.Text ∷ rest, ff)
 
   -- the number of the operator is in range
-  pub operator_in : (node : Fragment) (s : Shape) (o : ℕ) (ps : List Part) → ((kind : Kind) × IsShaped def node kind)
+  pub operator_in : (node : Fragment) (s : Shape) (o : ℕ) (ps : List Part) → ((kind : Kind) × WellFormed def node kind)
       → tree_of s ≡ node → s ≡ Op o ps → o < length def.operators
-  operator_in node s o ps (kind, shaped) e is =
-      let here : IsShaped def (with_parts (operator o) ps) kind = subst (λ x. IsShaped def x kind)
-      (sym e ∙ ap tree_of is) shaped in
+  operator_in node s o ps (kind, formed) e is =
+      let here : WellFormed def (with_parts (operator o) ps) kind = subst (λ x. WellFormed def x kind)
+      (sym e ∙ ap tree_of is) formed in
       let (rest, (op, found, all, same)) = shape_below (operator o) ps [] kind here.0 in
       slice_get_within def.operators o op found
 

@@ -7,7 +7,7 @@ use Rattle.psg_terms.specs.Names.{Name}
 use Rattle.psg_grammar.specs.declared.types.Kind.{Kind}
 use Rattle.psg_grammar.specs.declared.types.Definition.{Definition}
 use Rattle.psg_grammar.specs.Kinds.{IsOfKind}
-use Rattle.psg_cache.specs.Shaped.{IsShaped}
+use Rattle.psg_grammar.specs.WellFormed.{WellFormed}
 use Rattle.psg_script.specs.declared.command.Where.{Where}
 use Rattle.psg_script.specs.declared.command.Command.TheVariants.{Save}
 use Rattle.psg_session.specs.declared.editor.Editor.{Editor}
@@ -22,9 +22,10 @@ use Rattle.psg_session.specs.Outcomes.{IsFound, IsNotFound, IsOutcome, shelved}
 use Rattle.psg_session.specs.PlainState.{not_asked, with_saved}
 use Rattle.psg_session.specs.PlainStep.{refuses, saves, Steps}
 use Rattle.psg_session.specs.Replies.{answered}
-use Rattle.psg_session.specs.Sessions.{IsEditor, IsKept, plain, state_of}
+use Rattle.psg_session.specs.Formed.{IsFormedSaved}
+use Rattle.psg_session.specs.Sessions.{IsEditor, plain, state_of}
 use Rattle.psg_session.specs.Shelf.{others, saved_at, saved_with, IsFull}
-use Rattle.psg_session.proofs.ChangeLaws.{found_shaped, kind_is}
+use Rattle.psg_session.proofs.ChangeLaws.{found_formed, kind_is}
 use Rattle.psg_session.proofs.StepLaws.{is_opened, is_there, node_is, nowhere, opened_is}
 
 module _ (P : Saved → Type 0) where
@@ -50,8 +51,8 @@ module _ (P : Saved → Type 0) where
 
 -- the saved fragment of a name is a tree of its kind
 pub kept_at : (def : Definition) (xs : List Saved) (name : Name) (x : Saved) → saved_at xs name ≡ Some x
-    → AllByRecursion (IsKept def) xs → IsShaped def x.tree x.kind
-kept_at def xs name x e h = all_at (IsKept def) xs name x e h
+    → AllByRecursion (IsFormedSaved def) xs → WellFormed def x.tree x.kind
+kept_at def xs name x e h = all_at (IsFormedSaved def) xs name x e h
 
 module _ (def : Definition) (e : Editor) (place : Where) (name : Name) where
   pub save_nowhere : (r : Refusal) → IsNotFound e place r → IsOutcome def e not_asked (Save name place) (Stays (Refused r))
@@ -74,7 +75,7 @@ module _ (def : Definition) (e : Editor) (place : Where) (name : Name) where
         → (saved : List Saved) → saved ≡ saved_with e.saved new
         → (lines : List (List ℕ)) → lines ≡ (codes "saved " ++ name) ∷ []
         → Steps def (IsGoodIn def) (state_of e) not_asked (Save name place) (shelved (state_of e) saved) (answered lines)
-        × AllByRecursion (IsKept def) saved
+        × AllByRecursion (IsFormedSaved def) saved
     save_done room editor kind is new made saved kept lines told =
         let step : Steps def (IsGoodIn def) (state_of e) not_asked (Save name place)
         (with_saved (state_of e) (record { name = name; kind = kind; tree = f.node.now }))
@@ -82,9 +83,9 @@ module _ (def : Definition) (e : Editor) (place : Where) (name : Name) where
         saves (plain f.held.now) f.node.now kind
         (is_opened def e place f found, (is_there def e place f found, (room, tt)))
         (opened_is def e place f found) (node_is def e place f found) is in
-        let (K, shaped) = found_shaped def e place f editor found in
-        let here : IsKept def new = subst (IsKept def) (sym made)
-        (subst (IsShaped def f.node.now) (kind_is def f.node.now K kind shaped is) shaped) in (
+        let (K, formed) = found_formed def e place f editor found in
+        let here : IsFormedSaved def new = subst (IsFormedSaved def) (sym made)
+        (subst (WellFormed def f.node.now) (kind_is def f.node.now K kind formed is) formed) in (
           subst (λ xs. Steps def (IsGoodIn def) (state_of e) not_asked (Save name place) (shelved (state_of e) xs)
               (answered lines)) (sym kept)
               (subst (λ (y : Saved). Steps def (IsGoodIn def) (state_of e) not_asked (Save name place)
@@ -92,7 +93,7 @@ module _ (def : Definition) (e : Editor) (place : Where) (name : Name) where
               (subst (λ ls. Steps def (IsGoodIn def) (state_of e) not_asked (Save name place)
               (shelved (state_of e) (saved_with e.saved (record { name = name; kind = kind; tree = f.node.now })))
               (answered ls)) (sym told) step)),
-          subst (AllByRecursion (IsKept def)) (sym kept)
-              (all_more (IsKept def) (others new.name e.saved) new
-              (all_others (IsKept def) new.name e.saved editor.saved) here),
+          subst (AllByRecursion (IsFormedSaved def)) (sym kept)
+              (all_more (IsFormedSaved def) (others new.name e.saved) new
+              (all_others (IsFormedSaved def) new.name e.saved editor.saved) here),
         )

@@ -36,7 +36,8 @@ use Rattle.psg_session.specs.Replies.{answered, refused, shown}
 use Rattle.psg_session.specs.Sessions.{IsEditor, plain, state_of}
 use Rattle.psg_session.proofs.Asking.{Answers}
 use Rattle.psg_session.proofs.EditLaws.{opened_version}
-use Rattle.psg_session.proofs.PrintLaws.{shaped_listing, written_first, written_some}
+use Rattle.psg_unparse.proofs.Listed.{listing}
+use Rattle.psg_session.proofs.PrintLaws.{written_first, written_some}
 use Rattle.psg_session.proofs.StepLaws.{is_opened, is_opened_by, is_there, not_opened, nowhere, opened_is, opened_plain, some_once}
 use Rattle.psg_session.proofs.Verdicts.{mark_is}
 
@@ -75,8 +76,8 @@ module _ (def : Definition) (e : Editor) where
 
     module _ (editor : IsEditor def e) (f : Found) (found : IsFound e place f) where
       listed : IsListing def (tree_in f.held.now.note)
-      listed = shaped_listing def (tree_in f.held.now.note) f.held.now.kind
-          (opened_version def e f.held.now editor found.held).shaped
+      listed = listing def (tree_in f.held.now.note) f.held.now.kind
+          (opened_version def e f.held.now editor found.held).formed
 
       -- the node that was found has a span
       pub go_some : (printed : Printed) → printed ≡ printed_of def (tree_in f.held.now.note)

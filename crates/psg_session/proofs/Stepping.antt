@@ -20,7 +20,8 @@ use Rattle.psg_session.specs.Outcomes.{after, earlier_in, later_in, HasStepped, 
 use Rattle.psg_session.specs.PlainState.{Opened, State, not_asked, with_version}
 use Rattle.psg_session.specs.PlainStep.{redoes, refuses, Steps, undoes}
 use Rattle.psg_session.specs.Replies.{marked}
-use Rattle.psg_session.specs.Sessions.{AreVersions, IsEditor, IsKept, IsVersion, opened_of, plain, state_of}
+use Rattle.psg_session.specs.Formed.{IsFormedSaved}
+use Rattle.psg_session.specs.Sessions.{AreVersions, IsEditor, IsVersion, opened_of, plain, state_of}
 use Rattle.psg_session.specs.Views.{mark_of}
 use Rattle.psg_session.proofs.Settling.{same_state}
 use Rattle.psg_session.proofs.StepLaws.{is_opened_by, not_opened, opened_plain}
@@ -101,7 +102,7 @@ module _ (old new : Editor) (cursor : Path) (def : Definition) (editor : IsEdito
             old.history.later new.history.later from to before behind;
         later = to_versions def held note new.opened opened old.history.earlier new.history.earlier old.history.later
             new.history.later from to before behind;
-        saved = subst (AllByRecursion (IsKept def)) (sym kept) editor.saved;
+        saved = subst (AllByRecursion (IsFormedSaved def)) (sym kept) editor.saved;
       }
 
   pub forward_editor : HasStepped later_in earlier_in old new cursor → IsEditor def new
@@ -114,7 +115,7 @@ module _ (old new : Editor) (cursor : Path) (def : Definition) (editor : IsEdito
             old.history.earlier new.history.earlier from to behind before;
         later = from_versions def held note new.opened opened old.history.later new.history.later
             old.history.earlier new.history.earlier from to behind before;
-        saved = subst (AllByRecursion (IsKept def)) (sym kept) editor.saved;
+        saved = subst (AllByRecursion (IsFormedSaved def)) (sym kept) editor.saved;
       }
 
 -- ---- what the commands do

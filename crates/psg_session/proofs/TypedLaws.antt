@@ -6,7 +6,7 @@ use Rattle.psg_grammar.specs.Fragments.{Fragment}
 use Rattle.psg_grammar.specs.Kinds.{IsOfKind}
 use Rattle.psg_grammar.specs.Sizes.{IsDeep}
 use Rattle.psg_grammar.specs.WellFormed.{fixed_words, WellFormed}
-use Rattle.psg_cache.proofs.ShapedTrees.{kind_once}
+use Rattle.psg_cache.proofs.FormedTrees.{kind_once}
 use Rattle.psg_class.specs.Class.{IsClass}
 use Rattle.psg_class.specs.Only.{IsOnly}
 use Rattle.psg_class.specs.Texts.{HasNoTokens, HasNoTree, ReadsAs, TextTokens, tokens_of}

@@ -1,27 +1,36 @@
 -- The lines that questions are answered with.
-use Rattle.std.specs.Prelude.{ℕ, cond, List, [], ◌∷◌, ◌++◌, map, codes}
+use Rattle.std.specs.Prelude.{ℕ, ◌==◌, cond, List, [], ◌∷◌, ◌++◌, map, get_or, codes}
 use Rattle.psg_terms.specs.Names.{Name, is_among}
 use Rattle.psg_terms.specs.Signature.{Signature}
 use Rattle.psg_terms.specs.Terms.{Term}
 use Rattle.psg_terms.specs.Text.{term_text}
 use Rattle.psg_grammar.specs.declared.types.Definition.{Definition}
+use Rattle.psg_grammar.specs.declared.types.Space.{Space}
 use Rattle.psg_grammar.specs.Fragments.{Fragment}
-use Rattle.psg_grammar.specs.Keys.{Key, name_in}
+use Rattle.psg_grammar.specs.Keys.{Key, name_in, space_of}
 use Rattle.psg_grammar.specs.Regions.{declared_in, names_of}
 
--- each key's name with the text of its entity, `x=int`, after a space
-abbrev pub entities_text : Signature → List Key → List Term → List ℕ
+-- the name of the space with the number
+abbrev pub space_name : List Space → ℕ → Name
+space_name spaces n = get_or (map (λ (s : Space). s.name) spaces) n []
+
+-- a key as its name, in version 2 behind that of its space: `s:x`
+abbrev pub key_text : Definition → Key → List ℕ
+key_text def k = cond (def.version == 2) (space_name def.spaces (space_of k) ++ (58 ∷ name_in k)) (name_in k)
+
+-- the text of each key with that of its entity, `x=int`, after a space
+abbrev pub entities_text : Signature → List (List ℕ) → List Term → List ℕ
 entities_text sig [] terms = []
 entities_text sig (k ∷ ks) [] = []
-entities_text sig (k ∷ ks) (t ∷ ts) = 32 ∷ (name_in k ++ (61 ∷ (term_text sig t ++ entities_text sig ks ts)))
+entities_text sig (k ∷ ks) (t ∷ ts) = 32 ∷ (k ++ (61 ∷ (term_text sig t ++ entities_text sig ks ts)))
 
--- a row of a relation whose columns are the value and the entities of the keys
-abbrev pub row_line : Signature → List Key → List Term → List ℕ
+-- a row of a relation whose columns are the value and the entities of the keys with these texts
+abbrev pub row_line : Signature → List (List ℕ) → List Term → List ℕ
 row_line sig keys [] = []
 row_line sig keys (value ∷ entities) = term_text sig value ++ entities_text sig keys entities
 
 -- a line for each row, or `none`
-abbrev pub rows_lines : Signature → List Key → List (List Term) → List (List ℕ)
+abbrev pub rows_lines : Signature → List (List ℕ) → List (List Term) → List (List ℕ)
 rows_lines sig keys [] = codes "none" ∷ []
 rows_lines sig keys (row ∷ rows) = row_line sig keys row ∷ map (row_line sig keys) rows
 
@@ -30,9 +39,9 @@ abbrev pub undeclared : List Key → List Key → List Key
 undeclared declared [] = []
 undeclared declared (k ∷ ks) = cond (is_among declared k) (undeclared declared ks) (k ∷ undeclared declared ks)
 
--- The names that a fragment uses and its outermost region does not declare: they may be declared outside.
-abbrev pub free_names : Definition → Fragment → List Name
-free_names def f = map name_in (undeclared (declared_in def f) (names_of def f))
+-- The keys that a fragment uses and its outermost region does not declare: they may be declared outside.
+abbrev pub free_names : Definition → Fragment → List (List ℕ)
+free_names def f = map (key_text def) (undeclared (declared_in def f) (names_of def f))
 
 -- each name after a space
 abbrev pub more_names : List Name → List ℕ

@@ -23,8 +23,10 @@ pub mod Shrinking
 pub mod Outcomes
 pub mod Ticks
 pub mod Applied
+pub mod SomeStep
 pub mod Reached
 pub mod Lines
 pub mod Relating
 pub mod Extents
 pub mod Offering
+pub mod Gathered

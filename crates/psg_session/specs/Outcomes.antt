@@ -43,7 +43,8 @@ use Rattle.psg_session.specs.PlainStep.{Gives, IsRefused, IsTaken, Makes, IsOper
 use Rattle.psg_session.specs.Refusals.{Tests, Refuses, Passes, test}
 use Rattle.psg_session.specs.Shrinking.{IsSizedBy}
 use Rattle.psg_session.specs.Ticks.{MayTick, HasTicked}
-use Rattle.psg_session.specs.Sessions.{IsKept, IsVersion, opened_of, plain, state_of}
+use Rattle.psg_session.specs.Formed.{IsFormedSaved}
+use Rattle.psg_session.specs.Sessions.{IsVersion, opened_of, plain, state_of}
 use Rattle.psg_session.specs.Views.{reply_of}
 
 -- ---- what a command does to the editor
@@ -117,7 +118,7 @@ IsFit def opened (Goes cursor lines) = Unit {0}
 IsFit def opened (OpensTree held cursor mark) = IsVersion def held.kind held.note
 IsFit def opened (Undoes cursor mark) = Unit {0}
 IsFit def opened (Redoes cursor mark) = Unit {0}
-IsFit def opened (Saves saved lines) = AllByRecursion (IsKept def) saved
+IsFit def opened (Saves saved lines) = AllByRecursion (IsFormedSaved def) saved
 IsFit def None (Changes note cursor mark) = ⊥
 IsFit def (Some held) (Changes note cursor mark) = IsVersion def held.kind note
 

@@ -42,7 +42,7 @@ use Rattle.psg_session.specs.Replies.{Reply, refused, answered, marked, shown}
 use Rattle.psg_session.specs.Leaves.{GivesLeaves}
 use Rattle.psg_session.specs.Typed.{HasNoTreeFor, NestsTooDeep, ReadsFor}
 use Rattle.psg_session.specs.Ranged.{NestsTooDeepWith, OfOpened, ReadsWith, replacing, text_with}
-use Rattle.psg_session.specs.Answers.{rows_lines, free_names, names_line}
+use Rattle.psg_session.specs.Answers.{key_text, rows_lines, free_names, names_line}
 use Rattle.psg_session.specs.Printing.{goto_line, lines_in, view_of, what_is, IsWrittenAt}
 
 -- how a list ends, finished or not; no other node has an end
@@ -328,7 +328,7 @@ module _ (def : Definition) (IsGood : Fragment → Type 0) where
         (answered (window_of (text_of def old.tree) (view_of top left rows cols)))
     owns : {place : Where} (old : Opened) (node : Fragment) (rows : List (List Term)) → IsTaken s answer (Own place)
         → s.opened ≡ Some old → node_at old.tree (named_path place s.cursor) ≡ Some node → IsRelationOf def node rows
-        → Steps s answer (Own place) s (answered (rows_lines def.signature (names_of def node) rows))
+        → Steps s answer (Own place) s (answered (rows_lines def.signature (map (key_text def) (names_of def node)) rows))
     relates : {place : Where} (old : Opened) (rows : List (List Term)) → IsTaken s answer (Relation place)
         → s.opened ≡ Some old → IsShownRelation def old.tree (named_path place s.cursor) rows
         → Steps s answer (Relation place) s (answered (rows_lines def.signature [] rows))

@@ -2,7 +2,7 @@
 use Rattle.std.specs.Prelude.{ℕ, ◌≡◌, ◌<◌, ◌≤◌, ◌⊎◌, List, length, Option, Result, Ok, Err}
 use Rattle.psg_grammar.specs.declared.types.Definition.{Definition}
 use Rattle.psg_grammar.specs.Sizes.{IsBig}
-use Rattle.psg_cache.specs.Shaped.{IsShaped}
+use Rattle.psg_grammar.specs.WellFormed.{WellFormed}
 use Rattle.psg_library.specs.declared.fragment.SavedFragment.{SavedFragment as Saved}
 use Rattle.psg_library.specs.Keeping.{IsKept}
 use Rattle.psg_script.specs.declared.command.Command.{Command}
@@ -38,7 +38,7 @@ pub record HasReached (def : Definition) (e : Editor) (command : Command) (befor
 -- The fragment that the bytes keep, which is of its kind and not too large; or why none is taken from them.
 abbrev pub IsFragmentAnswer : Definition → List ℕ → Result Saved Refusal → Type 0
 IsFragmentAnswer def bytes (Ok x) =
-    (length bytes ≤ most_kept_bytes) × IsKept def bytes x × (IsBig x.tree → ⊥) × IsShaped def x.tree x.kind
+    (length bytes ≤ most_kept_bytes) × IsKept def bytes x × (IsBig x.tree → ⊥) × WellFormed def x.tree x.kind
 IsFragmentAnswer def bytes (Err r) =
     ((r ≡ KeptUnreadable) × ((most_kept_bytes < length bytes) ⊎ ((x : Saved) → IsKept def bytes x → ⊥)))
     ⊎ ((r ≡ TooBig) × (length bytes ≤ most_kept_bytes) × (x : Saved) × IsKept def bytes x × IsBig x.tree)

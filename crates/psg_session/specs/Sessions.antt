@@ -4,16 +4,14 @@ use Rattle.std.specs.List.{AllByRecursion}
 use Rattle.psg_grammar.specs.declared.types.Kind.{Kind}
 use Rattle.psg_grammar.specs.declared.types.Definition.{Definition}
 use Rattle.psg_grammar.specs.Fragments.{Fragment}
+use Rattle.psg_grammar.specs.WellFormed.{WellFormed}
 use Rattle.psg_cache.specs.Notes.{IsNoteOf}
-use Rattle.psg_cache.specs.Shaped.{IsShaped}
 use Rattle.psg_cache.specs.Annotated.{Annotated, tree_in}
 use Rattle.psg_session.specs.declared.editor.Editor.{Editor}
 use Rattle.psg_session.specs.declared.editor.OpenedTree.{OpenedTree}
-use Rattle.psg_library.specs.declared.fragment.SavedFragment.{SavedFragment as Saved}
 use Rattle.psg_session.specs.declared.session.Parts.{Parts}
 use Rattle.psg_session.specs.PlainState.{State, Opened}
-use Rattle.psg_session.specs.Formed.{IsFormedState}
-use Rattle.psg_session.specs.Views.{IsLanguage}
+use Rattle.psg_session.specs.Formed.{IsFormedSaved, IsFormedState}
 
 -- the opened fragment as the plain editor sees it
 abbrev pub plain : OpenedTree → Opened
@@ -36,7 +34,7 @@ state_of e = record {
 module _ (def : Definition) where
   -- a note of a tree of the kind
   pub record IsVersion (kind : Kind) (n : Annotated) : Type 0 where
-    pub shaped : IsShaped def (tree_in n) kind
+    pub formed : WellFormed def (tree_in n) kind
     pub noted : IsNoteOf def (tree_in n) n
 
   -- the notes are versions of the opened fragment; where nothing is opened there are none
@@ -44,18 +42,13 @@ module _ (def : Definition) where
   AreVersions None versions = versions ≡ []
   AreVersions (Some held) versions = IsVersion held.kind held.note × AllByRecursion (IsVersion held.kind) versions
 
-  -- a tree of its kind
-  abbrev pub IsKept : Saved → Type 0
-  IsKept x = IsShaped def x.tree x.kind
-
   -- The earlier and the later trees are versions of the opened one. The saved ones are trees of their kinds.
   pub record IsEditor (e : Editor) : Type 0 where
     pub earlier : AreVersions e.opened e.history.earlier
     pub later : AreVersions e.opened e.history.later
-    pub saved : AllByRecursion IsKept e.saved
+    pub saved : AllByRecursion (IsFormedSaved def) e.saved
 
 -- a language, and an editor of its fragments, all of which are well-formed trees
 pub record IsSession (p : Parts) : Type 0 where
-  pub language : IsLanguage p.language
-  pub editor : IsEditor p.language.definition p.editor
-  pub formed : IsFormedState p.language.definition (state_of p.editor)
+  pub editor : IsEditor p.language p.editor
+  pub formed : IsFormedState p.language (state_of p.editor)

@@ -3,7 +3,10 @@ use Rattle.std.specs.Prelude.{cond, List, [], ◌∷◌, map, string_bytes}
 use Rattle.psg_grammar.specs.Insertion.{Leaf as PlainLeaf, a_name, a_number, a_text}
 use Rattle.psg_grammar.specs.Marks.{good, wrong, Mark as PlainMark}
 pub use Rattle.psg_specimen.specs.Languages.{IsLanguage}
+use Rattle.psg_grammar.specs.declared.types.Definition.{Definition}
 use Rattle.psg_scope.specs.declared.header.NameCol.{NameCol}
+use Rattle.psg_scope.specs.Headers.{key_of}
+use Rattle.psg_session.specs.Answers.{key_text}
 use Rattle.psg_terms.specs.Names.{Name as PlainName}
 use Rattle.psg_session.specs.declared.leaves.Leaf.{Leaf}
 use Rattle.psg_session.specs.declared.leaves.Leaf.TheVariants.{Name, Number, Text}
@@ -30,7 +33,7 @@ reply_of (Shown text mark) = shown (lines_in text) (mark_of mark)
 reply_of (Answered lines) = answered (map string_bytes lines.items)
 reply_of (Seen lines) = answered lines.items
 
--- the names of the columns that are not declared
-abbrev pub names_without : List NameCol → List PlainName
-names_without [] = []
-names_without (c ∷ cs) = cond c.declared (names_without cs) (c.name ∷ names_without cs)
+-- the texts of the keys that are not declared
+abbrev pub names_without : Definition → List NameCol → List PlainName
+names_without def [] = []
+names_without def (c ∷ cs) = cond c.declared (names_without def cs) (key_text def (key_of c) ∷ names_without def cs)

@@ -3,7 +3,7 @@ ghost use Rattle.std.specs.Prelude.{◌≡◌, ◌↔◌, ◌++◌, ◌∷◌, [
 ghost use Rattle.psg_grammar.specs.Fragments.{hole};
 ghost use Rattle.psg_grammar.specs.Kinds.{IsOfKind};
 ghost use Rattle.psg_grammar.specs.Paths.{ended, IsList};
-ghost use Rattle.psg_cache.specs.Shaped.{IsShaped};
+ghost use Rattle.psg_cache.specs.Notes.{IsFormed};
 ghost use Rattle.psg_script.specs.declared.command.Command.TheVariants as commands;
 ghost use Rattle.psg_session.specs.declared.edits.Edit.TheVariants as edits;
 ghost use Rattle.psg_session.specs.Outcomes.{made_of, IsFreshAnswer, IsListed, IsPlan};
@@ -21,7 +21,7 @@ use crate::noting::tree_of;
 use crate::refusal::Refusal;
 use psg_grammar::{Definition, Kind, ListKind, op_named};
 use psg_script::Where;
-use psg_specimen::Language;
+use psg_specimen::LanguageParts;
 use psg_terms::Txt;
 use psg_tree::{Path, Shape, Tree, set_unfinished};
 use std::alloc::{AllocError, Global};
@@ -62,7 +62,7 @@ pub struct Listed<'a> {
 
 /// Gives the list that the tree is, if it is one.
 pub fn as_list<'a>(definition: &'a Definition, tree: &Tree) -> Option<Listed<'a>>
-    requires shaped { (kind : Kind) × IsShaped definition.now tree.now kind }
+    requires formed { IsFormed definition.now tree.now }
     ensures some { IfSome result (λ l. IsListed definition.now tree.now l) }
     ensures none { IfNone result (IsList tree.now → ⊥) }
 {
@@ -82,7 +82,7 @@ pub fn as_list<'a>(definition: &'a Definition, tree: &Tree) -> Option<Listed<'a>
 
 /// Tells whether the tree is an unfinished list.
 fn is_unfinished(definition: &Definition, tree: &Tree) -> bool
-    requires shaped { (kind : Kind) × IsShaped definition.now tree.now kind }
+    requires formed { IsFormed definition.now tree.now }
     ensures { IsTrue result ↔ (end_of tree.now ≡ Some true) }
 {
     match as_list(definition, tree) {
@@ -93,7 +93,7 @@ fn is_unfinished(definition: &Definition, tree: &Tree) -> bool
 
 /// Tells whether the tree is a finished list of a kind that may be unfinished.
 fn may_reopen(definition: &Definition, tree: &Tree) -> bool
-    requires shaped { (kind : Kind) × IsShaped definition.now tree.now kind }
+    requires formed { IsFormed definition.now tree.now }
     ensures { IsTrue result ↔ MayReopen definition.now tree.now }
 {
     match as_list(definition, tree) {
@@ -104,7 +104,7 @@ fn may_reopen(definition: &Definition, tree: &Tree) -> bool
 
 /// Gives the kind of a tree.
 pub(crate) fn kind_of(definition: &Definition, tree: &Tree) -> Kind
-    requires shaped { (kind : Kind) × IsShaped definition.now tree.now kind }
+    requires formed { IsFormed definition.now tree.now }
     ensures { IsOfKind definition.now tree.now result }
 {
     match tree.shape() {
@@ -151,7 +151,7 @@ pub(crate) fn put(alloc: Global, trial: Trial, path: &Path, new: Tree) -> Result
 /// Plans a refinement: the operator in place of the placeholder.
 pub fn refine(
     alloc: Global,
-    language: &Language,
+    language: &LanguageParts,
     editor: &Editor,
     place: &Where,
     name: &Txt,
@@ -181,7 +181,7 @@ pub fn refine(
 /// and with `BadArguments` where the arguments are not its names and literals.
 fn fresh_of(
     alloc: Global,
-    language: &Language,
+    language: &LanguageParts,
     phylum: u32,
     name: &Txt,
     arguments: &Txt,
@@ -206,7 +206,7 @@ fn fresh_of(
 /// Plans an insertion: the operator as a new element before the place of the list.
 pub fn insert_element(
     alloc: Global,
-    language: &Language,
+    language: &LanguageParts,
     editor: &Editor,
     place: &Where,
     number: u32,
@@ -262,7 +262,7 @@ pub fn longer(alloc: Global, path: &Path, step: u32) -> Result<Path, AllocError>
 /// Plans a cut: a new tree of the node's kind in its place.
 pub fn cut(
     alloc: Global,
-    language: &Language,
+    language: &LanguageParts,
     editor: &Editor,
     place: &Where,
 ) -> Result<Plan, AllocError>
@@ -286,7 +286,7 @@ pub fn cut(
 /// Plans a removal: the list without the element.
 pub fn remove_element(
     alloc: Global,
-    language: &Language,
+    language: &LanguageParts,
     editor: &Editor,
     place: &Where,
     number: u32,
@@ -319,7 +319,7 @@ pub fn remove_element(
 /// Plans that the list is finished.
 pub fn close(
     alloc: Global,
-    language: &Language,
+    language: &LanguageParts,
     editor: &Editor,
     place: &Where,
 ) -> Result<Plan, AllocError>
@@ -342,7 +342,7 @@ pub fn close(
 /// Plans that the list is unfinished again.
 pub fn reopen(
     alloc: Global,
-    language: &Language,
+    language: &LanguageParts,
     editor: &Editor,
     place: &Where,
 ) -> Result<Plan, AllocError>

@@ -32,7 +32,7 @@ use psg_history::History;
 use psg_library::SavedFragment;
 use psg_screen::View;
 use psg_script::Command;
-use psg_specimen::Language;
+use psg_specimen::LanguageParts;
 use psg_terms::{Seq, Steps, Txt};
 use psg_tree::Path;
 use std::alloc::{AllocError, Global};
@@ -131,7 +131,7 @@ impl Editor {
 #[tactic(auto, using(crate::proofs::Ticking::quiet))]
 fn open_new<L: Ledger>(
     alloc: Global,
-    language: &Language,
+    language: &LanguageParts,
     editor: &Editor,
     name: &Txt,
     steps: &mut Steps<L>,
@@ -160,7 +160,7 @@ fn open_new<L: Ledger>(
 /// Plans what a changing command makes; `None` for another command.
 fn planned(
     alloc: Global,
-    language: &Language,
+    language: &LanguageParts,
     editor: &Editor,
     command: &Command,
 ) -> Result<Option<Plan>, AllocError>
@@ -210,7 +210,7 @@ fn planned(
 /// Does what was planned, where the tree passes the tests of the change. It evaluates what is new and the nodes above it.
 pub(crate) fn carry_out<L: Ledger>(
     alloc: Global,
-    language: &Language,
+    language: &LanguageParts,
     editor: &Editor,
     plan: Plan,
     steps: &mut Steps<L>,
@@ -246,7 +246,7 @@ pub(crate) fn carry_out<L: Ledger>(
 #[tactic(auto, using(crate::proofs::Ticking::quiet))]
 fn change<L: Ledger>(
     alloc: Global,
-    language: &Language,
+    language: &LanguageParts,
     editor: &Editor,
     command: &Command,
     steps: &mut Steps<L>,
@@ -270,7 +270,7 @@ fn change<L: Ledger>(
 #[tactic(auto, using(crate::proofs::Ticking::quiet))]
 pub fn step<L: Ledger>(
     alloc: Global,
-    language: &Language,
+    language: &LanguageParts,
     editor: &Editor,
     command: &Command,
     steps: &mut Steps<L>,

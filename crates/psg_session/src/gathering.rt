@@ -1,41 +1,14 @@
 //! The names that occur in a tree.
-ghost use Rattle.std.specs.Prelude.{◌≡◌, ◌++◌, ◌∷◌, ◌≤◌, false, drop, length, take, IfOk, MatchOption};
+ghost use Rattle.std.specs.Prelude.{◌≡◌, ◌++◌, ◌∷◌, false, cond, reverse, IfOk};
 ghost use Rattle.psg_grammar.specs.Fragments.{operator};
 ghost use Rattle.psg_tree.specs.Shapes.{list_of, with_part, with_parts};
 ghost use Rattle.psg_renaming.specs.Occurring.{occurring};
-ghost use Rattle.psg_menu.specs.Menus.{in_byte_order, insert_name};
+ghost use Rattle.psg_menu.specs.Menus.{in_byte_order};
+ghost use Rattle.psg_session.specs.Gathered.{is_first, IsFalling};
 
 use psg_terms::Txt;
 use psg_tree::{Part, Shape, Tree};
 use std::alloc::{AllocError, Global};
-use std::cmp::Ordering;
-
-/// Gives the place of the name in the order of bytes, or `None` where it is among the names.
-fn place_of(names: &[Txt], name: &str) -> Option<usize>
-    ensures { MatchOption result (insert_name name.now names.now ≡ names.now)
-        (λ i. (i ≤ length names.now) × (insert_name name.now names.now ≡ take i names.now ++ name.now ∷ drop i names.now)) }
-{
-    for (i, known) in names.iter().enumerate() {
-        match name.cmp(known.as_str()) {
-            Ordering::Less => return Some(i),
-            Ordering::Equal => return None,
-            Ordering::Greater => {}
-        }
-    }
-    Some(names.len())
-}
-
-/// Puts the name at its place in the order of bytes, if it is not there.
-fn put_name(names: &mut Vec<Txt>, name: &Txt) -> Result<(), AllocError>
-    ensures { IfOk result (λ _. names.new.items ≡ insert_name name.now names.old.items) }
-{
-    let Some(place) = place_of(names.as_slice(), name.as_str()) else {
-        return Ok(());
-    };
-    let owned = name.share()?;
-    names.insert(place, owned)?;
-    Ok(())
-}
 
 /// Adds the names of an operator's part.
 #[cycle(gather)]
@@ -96,17 +69,50 @@ fn gather(found: &mut Vec<Txt>, tree: &Tree) -> Result<(), AllocError>
     }
 }
 
-/// Gives the names that occur in the tree, in the order of bytes, each once.
+/// Tells whether the name is the last one.
+fn is_last(names: &[Txt], name: &str) -> bool
+    ensures { result ≡ is_first (reverse names.now) name.now }
+{
+    match names.split_last() {
+        Some((last, _)) => last.as_str() == name,
+        None => false,
+    }
+}
+
+/// Puts the name behind the others, unless it is the last one.
+fn push_new(names: &mut Vec<Txt>, name: &Txt) -> Result<(), AllocError>
+    ensures { IfOk result (λ _. reverse names.new.items ≡ cond (is_first (reverse names.old.items) name.now)
+        (reverse names.old.items) (name.now ∷ reverse names.old.items)) }
+{
+    if is_last(names.as_slice(), name.as_str()) {
+        return Ok(());
+    }
+    let owned = name.share()?;
+    names.push(owned)?;
+    Ok(())
+}
+
+/// Gives each of the names once. They are in the order of bytes from the last to the first.
+fn each_once(alloc: Global, falling: &[Txt]) -> Result<Vec<Txt>, AllocError>
+    requires { IsFalling falling.now }
+    ensures { IfOk result (λ names. reverse names.items ≡ in_byte_order (reverse falling.now)) }
+{
+    let mut names = Vec::new(alloc);
+    for name in falling {
+        push_new(&mut names, name)?;
+    }
+    Ok(names)
+}
+
+/// Gives the names that occur in the tree, in the order of bytes, each once. It visits each node, and sorts the names:
+/// for n names it compares some n log n times.
 pub(crate) fn names_in(alloc: Global, tree: &Tree) -> Result<Vec<Txt>, AllocError>
     ensures { IfOk result (λ names. names.items ≡ in_byte_order (occurring tree.now)) }
 {
     let mut found = Vec::new(alloc);
     gather(&mut found, tree)?;
-    found.reverse();
-    let mut names = Vec::new(alloc);
-    let turned = found.as_slice();
-    for name in turned {
-        put_name(&mut names, name)?;
-    }
+    found.sort_by(|a, b| b.as_str().cmp(a.as_str()))?;
+    let mut names = each_once(alloc, found.as_slice())?;
+    names.reverse();
     Ok(names)
 }

@@ -21,7 +21,7 @@ use crate::replies::Reply;
 use crate::saved::{is_full, saved_named, with_saved};
 use psg_library::{KeptFault, SavedFragment, fragment_bytes, read_fragment};
 use psg_script::Command;
-use psg_specimen::Language;
+use psg_specimen::LanguageParts;
 use psg_terms::{Steps, Txt};
 use psg_tree::{Tree, longest_list, nodes};
 use psg_world::{Files, ReadStop, WriteStop};
@@ -54,7 +54,7 @@ fn named_line(alloc: Global, word: &str, name: &str) -> Result<Vec<String>, Allo
 /// fragment and of the write.
 pub fn keep<F: Files>(
     alloc: Global,
-    language: &Language,
+    language: &LanguageParts,
     editor: &Editor,
     name: &Txt,
     file: &Txt,
@@ -130,7 +130,7 @@ fn refusal_of(fault: KeptFault) -> Result<Refusal, AllocError>
 /// the text, and fails where memory runs out.
 fn read_kept<L: Ledger>(
     alloc: Global,
-    language: &Language,
+    language: &LanguageParts,
     bytes: &[u8],
     steps: &mut Steps<L>,
 ) -> Result<Result<SavedFragment, Refusal>, AllocError>
@@ -167,7 +167,7 @@ fn read_kept<L: Ledger>(
 /// room for the name.
 fn take_in<L: Ledger>(
     alloc: Global,
-    language: &Language,
+    language: &LanguageParts,
     editor: &Editor,
     bytes: &[u8],
     steps: &mut Steps<L>,
@@ -198,7 +198,7 @@ fn take_in<L: Ledger>(
 /// a step of the counter for each token of the text, evaluates nothing, and fails where memory runs out.
 pub fn fetch<F: Files, L: Ledger>(
     alloc: Global,
-    language: &Language,
+    language: &LanguageParts,
     editor: &Editor,
     file: &Txt,
     files: &mut F,
@@ -230,7 +230,7 @@ pub fn fetch<F: Files, L: Ledger>(
 /// Finds what a command does to the editor that asks nothing of the files, whatever these hold.
 fn step_alone<L: Ledger>(
     alloc: Global,
-    language: &Language,
+    language: &LanguageParts,
     editor: &Editor,
     command: &Command,
     steps: &mut Steps<L>,
@@ -253,7 +253,7 @@ fn step_alone<L: Ledger>(
 /// runs out.
 pub fn reach<F: Files, L: Ledger>(
     alloc: Global,
-    language: &Language,
+    language: &LanguageParts,
     editor: &Editor,
     command: &Command,
     files: &mut F,

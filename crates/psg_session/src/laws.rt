@@ -7,6 +7,7 @@ ghost use Rattle.psg_grammar.specs.WellFormed.{fixed_words};
 ghost use Rattle.psg_lexis.specs.Tokens.{IsFixedWord};
 ghost use Rattle.psg_session.specs.Good.{IsGoodIn};
 ghost use Rattle.psg_session.specs.Laws.{HasOneStep, KeepsForm, ShownReadsBack, StepsByCompletions};
+ghost use Rattle.psg_session.specs.SomeStep.{HasSomeStep};
 ghost use Rattle.psg_specimen.specs.Refusal.{IsAccepted};
 
 use psg_grammar::Definition;
@@ -41,4 +42,15 @@ pub fn shown_reads_back(definition: &Definition)
     requires words { AllByRecursion IsFixedWord (fixed_words definition.now) }
     requires class { IsClass definition.now }
     ensures { ShownReadsBack definition.now }
+{}
+
+/// States that no command lacks a step: from each state of this form, and with each answer that the files may give to what
+/// the command asks, it is refuted that there is no next state with a reply. With `one_step` there is exactly one, by
+/// excluded middle, which no proof here uses. So what is said of all steps speaks of something. It does nothing at run time.
+pub fn some_step(definition: &Definition)
+    requires sound { IsSound definition.now }
+    requires words { AllByRecursion IsFixedWord (fixed_words definition.now) }
+    requires class { IsClass definition.now }
+    ensures legal { HasSomeStep definition.now (IsCompletable definition.now) }
+    ensures open { HasSomeStep definition.now (IsGoodIn definition.now) }
 {}

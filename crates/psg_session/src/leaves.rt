@@ -9,7 +9,7 @@ ghost use Rattle.psg_session.specs.Views.{plain_leaf, IsLanguage};
 
 use psg_grammar::Item;
 use psg_lexis::{LexFault, Spanned, Token, lex};
-use psg_specimen::Language;
+use psg_specimen::LanguageParts;
 use psg_terms::Txt;
 use std::alloc::{AllocError, Global};
 
@@ -26,7 +26,7 @@ pub enum Leaf {
 /// arguments.
 pub fn read_leaves(
     alloc: Global,
-    language: &Language,
+    language: &LanguageParts,
     op: u32,
     arguments: &str,
 ) -> Result<Option<Vec<Leaf>>, AllocError>
@@ -111,7 +111,7 @@ pub(crate) fn takes_leaf(item: &Item) -> bool
 }
 
 /// Whether the leaf is a name that is no fixed word, where it is a word if it is a name.
-fn is_name_leaf(language: &Language, leaf: &Leaf) -> bool
+fn is_name_leaf(language: &LanguageParts, leaf: &Leaf) -> bool
     requires language { IsLanguage language.now }
     requires word { HasWord (plain_leaf leaf.now) }
     ensures { IsTrue result ↔ IsNameLeaf language.now.definition (plain_leaf leaf.now) }
@@ -149,7 +149,7 @@ fn is_text_leaf(leaf: &Leaf) -> bool
 }
 
 /// Whether the leaf is one for the item.
-fn suits(language: &Language, item: &Item, leaf: &Leaf) -> bool
+fn suits(language: &LanguageParts, item: &Item, leaf: &Leaf) -> bool
     requires language { IsLanguage language.now }
     requires word { HasWord (plain_leaf leaf.now) }
     ensures { IsTrue result ↔ Suits language.now.definition item.now (plain_leaf leaf.now) }
@@ -164,7 +164,7 @@ fn suits(language: &Language, item: &Item, leaf: &Leaf) -> bool
 }
 
 /// The number of the next leaf behind the item, or none where the leaf isn't one for it.
-fn next_leaf(language: &Language, leaves: &[Leaf], at: usize, item: &Item) -> Option<usize>
+fn next_leaf(language: &LanguageParts, leaves: &[Leaf], at: usize, item: &Item) -> Option<usize>
     requires language { IsLanguage language.now }
     requires words { AllByRecursion HasWord (map plain_leaf leaves.now) }
     requires within { at ≤ length leaves.now }
@@ -187,7 +187,7 @@ fn next_leaf(language: &Language, leaves: &[Leaf], at: usize, item: &Item) -> Op
 
 /// Whether the leaves are one for each name position, number and text of the items, in order and of their kinds.
 /// The names among them are words.
-fn are_leaves(language: &Language, items: &[Item], leaves: &[Leaf]) -> bool
+fn are_leaves(language: &LanguageParts, items: &[Item], leaves: &[Leaf]) -> bool
     requires language { IsLanguage language.now }
     requires words { AllByRecursion HasWord (map plain_leaf leaves.now) }
     ensures { IsTrue result ↔ AreLeaves language.now.definition (part_items items.now) (map plain_leaf leaves.now) }

@@ -2,10 +2,8 @@
 ghost use Rattle.std.specs.Prelude.{◌≡◌, ◌≤◌, length, IfOk};
 ghost use Rattle.psg_cache.specs.Annotated.{tree_in};
 ghost use Rattle.psg_cache.specs.Notes.{IsNoteOf};
-ghost use Rattle.psg_grammar.specs.declared.types.Kind.{Kind as PlainKind};
 ghost use Rattle.psg_grammar.specs.Legal.{IsCompletable};
 ghost use Rattle.psg_grammar.specs.Sizes.{nodes_of};
-ghost use Rattle.psg_grammar.specs.WellFormed.{WellFormed};
 ghost use Rattle.psg_session.specs.Extents.{IsExtentOf};
 ghost use Rattle.psg_session.specs.Views.{IsLanguage};
 
@@ -13,7 +11,7 @@ use crate::noting::note_mark;
 use crate::printing::text_of;
 use crate::replies::Mark;
 use psg_cache::Note;
-use psg_specimen::Language;
+use psg_specimen::LanguageParts;
 use psg_terms::Txt;
 use psg_tree::{Tree, nodes};
 use std::alloc::{AllocError, Global};
@@ -46,12 +44,11 @@ fn length_of(text: &Txt) -> usize
 /// Gives the extent of the note's tree. It prints the whole text, and evaluates nothing.
 pub(crate) fn extent_of(
     alloc: Global,
-    language: &Language,
+    language: &LanguageParts,
     note: &Note,
 ) -> Result<Extent, AllocError>
     requires language { IsLanguage language.now }
     requires noted { IsNoteOf language.now.definition (tree_in note.now) note.now }
-    requires formed { (kind : PlainKind) × WellFormed language.now.definition (tree_in note.now) kind }
     ensures { IfOk result (IsExtentOf language.now.definition (IsCompletable language.now.definition) (tree_in note.now)) }
 {
     let tree = note.tree();

@@ -30,7 +30,7 @@ use psg_eval::{FocusFault, Frame};
 use psg_grammar::{Definition, name_positions, op_named};
 use psg_menu::{names, operators};
 use psg_script::Where;
-use psg_specimen::Language;
+use psg_specimen::LanguageParts;
 use psg_terms::{Steps, Txt};
 use std::alloc::{AllocError, Global};
 use std::sync::ledger::Ledger;
@@ -203,7 +203,7 @@ fn suggested(alloc: Global, names: Result<Vec<Txt>, FocusFault>) -> Result<Reply
 #[tactic(auto, using(crate::proofs::Ticking::quiet))]
 pub fn menu<L: Ledger>(
     alloc: Global,
-    language: &Language,
+    language: &LanguageParts,
     editor: &Editor,
     place: &Where,
     number: Option<u32>,
@@ -260,7 +260,7 @@ fn naming(definition: &Definition, phylum: u32, name: &str) -> Result<u32, Refus
 #[tactic(auto, using(crate::proofs::Ticking::quiet))]
 pub fn suggest<L: Ledger>(
     alloc: Global,
-    language: &Language,
+    language: &LanguageParts,
     editor: &Editor,
     place: &Where,
     number: Option<u32>,

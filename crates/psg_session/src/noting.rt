@@ -12,7 +12,7 @@ ghost use Rattle.psg_tree.specs.declared.places.TreeFault.TheVariants.{Memory};
 use crate::edits::Edit;
 use crate::replies::Mark;
 use psg_cache::{Note, NoteFault, build, inserted, removed, replaced};
-use psg_specimen::Language;
+use psg_specimen::LanguageParts;
 use psg_terms::Steps;
 use psg_tree::{Tree, TreeFault};
 use std::alloc::{AllocError, Global};
@@ -21,7 +21,7 @@ use std::sync::ledger::Ledger;
 /// Gives the note of a tree. It evaluates the whole tree, and `steps` counts the evaluations.
 pub fn note_of<L: Ledger>(
     alloc: Global,
-    language: &Language,
+    language: &LanguageParts,
     tree: &Tree,
     steps: &mut Steps<L>,
 ) -> Result<Note, NoteFault>
@@ -38,7 +38,7 @@ pub fn note_of<L: Ledger>(
 /// counts the evaluations.
 pub fn note_after<L: Ledger>(
     alloc: Global,
-    language: &Language,
+    language: &LanguageParts,
     note: &Note,
     edit: &Edit,
     steps: &mut Steps<L>,

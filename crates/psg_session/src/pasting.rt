@@ -1,7 +1,7 @@
 //! Saved fragments put into the opened one.
 ghost use Rattle.std.specs.Prelude.{◌≡◌, ◌↔◌, ℕ, Some, None, IfErr, IfOk, IsTrue};
 ghost use Rattle.psg_grammar.specs.Fragments.{hole};
-ghost use Rattle.psg_cache.specs.Shaped.{IsShaped};
+ghost use Rattle.psg_cache.specs.Notes.{IsFormed};
 ghost use Rattle.psg_script.specs.declared.command.Command.TheVariants as commands;
 ghost use Rattle.psg_session.specs.Outcomes.{IsNoSource, IsPlan, IsSource};
 ghost use Rattle.psg_session.specs.PlainStep.{IsEmptyPlace};
@@ -18,7 +18,7 @@ use crate::saved::saved_named;
 use psg_grammar::{Definition, Kind};
 use psg_library::SavedFragment;
 use psg_script::Where;
-use psg_specimen::Language;
+use psg_specimen::LanguageParts;
 use psg_terms::Txt;
 use psg_tree::Tree;
 use std::alloc::{AllocError, Global};
@@ -50,7 +50,7 @@ fn source_of<'a>(editor: &'a Editor, place: &'a Where, name: &Txt) -> Result<Sou
 
 /// Tells whether the tree is a placeholder or an empty list.
 fn is_empty_place(definition: &Definition, tree: &Tree) -> bool
-    requires shaped { (kind : Kind) × IsShaped definition.now tree.now kind }
+    requires formed { IsFormed definition.now tree.now }
     ensures { IsTrue result ↔ IsEmptyPlace definition.now tree.now }
 {
     match as_list(definition, tree) {
@@ -82,7 +82,7 @@ fn is_kind(kind: Kind, wanted: Kind) -> bool
 /// out.
 pub fn paste(
     alloc: Global,
-    language: &Language,
+    language: &LanguageParts,
     editor: &Editor,
     place: &Where,
     number: Option<u32>,
@@ -107,7 +107,7 @@ pub fn paste(
 /// Plans the saved fragment of the name in place of a placeholder or an empty list.
 fn paste_here(
     alloc: Global,
-    language: &Language,
+    language: &LanguageParts,
     editor: &Editor,
     place: &Where,
     name: &Txt,
@@ -135,7 +135,7 @@ fn paste_here(
 /// Plans the saved fragment of the name as a new element before the place of the list.
 fn paste_element(
     alloc: Global,
-    language: &Language,
+    language: &LanguageParts,
     editor: &Editor,
     place: &Where,
     number: u32,

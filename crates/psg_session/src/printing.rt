@@ -2,10 +2,10 @@
 ghost use Rattle.std.specs.Prelude.{◌≡◌, ◌∷◌, ◌++◌, [], ℕ, decimal, IfOk, MatchOption, string_bytes};
 ghost use Rattle.std.specs.Bool.{Decides};
 ghost use Rattle.psg_terms.specs.Names.{Name};
-ghost use Rattle.psg_cache.specs.Shaped.{IsShaped};
 ghost use Rattle.psg_grammar.specs.declared.types.Kind.{Kind as PlainKind};
 ghost use Rattle.psg_grammar.specs.Kinds.{kind_name_of, IsOfKind};
 ghost use Rattle.psg_grammar.specs.Sound.{IsSound};
+ghost use Rattle.psg_cache.specs.Notes.{IsFormed};
 ghost use Rattle.psg_reads_back.specs.Layout.{text_of};
 ghost use Rattle.psg_tree.specs.AbstractText.{operator_name as operator_name_of};
 ghost use Rattle.psg_script.specs.declared.command.Command.TheVariants as commands;
@@ -25,7 +25,7 @@ use itoa::Buffer;
 use psg_grammar::{Definition, kind_name};
 use psg_screen::{View, window};
 use psg_script::Where;
-use psg_specimen::Language;
+use psg_specimen::LanguageParts;
 use psg_terms::Txt;
 use psg_tree::{Shape, Tree};
 use psg_unparse::{Printed, Span, unparse};
@@ -33,7 +33,7 @@ use std::alloc::{AllocError, Global};
 
 /// Gives the lines of the text of the opened fragment, and its mark. It evaluates nothing, and takes time linear in the
 /// text and in the paths of the nodes.
-pub fn show(alloc: Global, language: &Language, editor: &Editor) -> Result<Outcome, AllocError>
+pub fn show(alloc: Global, language: &LanguageParts, editor: &Editor) -> Result<Outcome, AllocError>
     requires language { IsLanguage language.now }
     requires editor { IsEditor language.now.definition editor.now }
     ensures { IfOk result (IsOutcome language.now.definition editor.now not_asked commands.Show) }
@@ -50,7 +50,7 @@ pub fn show(alloc: Global, language: &Language, editor: &Editor) -> Result<Outco
 /// text.
 pub fn screen(
     alloc: Global,
-    language: &Language,
+    language: &LanguageParts,
     editor: &Editor,
     view: View,
 ) -> Result<Outcome, AllocError>
@@ -71,7 +71,7 @@ pub fn screen(
 /// which it is written. It makes no version and evaluates nothing, and prints the whole text.
 pub fn go(
     alloc: Global,
-    language: &Language,
+    language: &LanguageParts,
     editor: &Editor,
     place: &Where,
 ) -> Result<Outcome, AllocError>
@@ -145,7 +145,7 @@ fn goto_line(
     span: &Span,
 ) -> Result<String, AllocError>
     requires sound { IsSound definition.now }
-    requires shaped { (kind : PlainKind) × IsShaped definition.now node.now kind }
+    requires formed { IsFormed definition.now node.now }
     ensures { IfOk result (λ text. (kind : PlainKind) × (name : Name) × IsOfKind definition.now node.now kind
         × (kind_name_of definition.now kind ≡ Some name)
         × (string_bytes text ≡ goto_line_of name (what_is definition.now node.now) span.now)) }

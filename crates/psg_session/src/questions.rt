@@ -3,9 +3,9 @@ ghost use Rattle.std.specs.Prelude.{◌≡◌, ◌∷◌, ◌++◌, List, map, s
 ghost use Rattle.psg_terms.specs.Relations.{IsIn};
 ghost use Rattle.psg_terms.specs.Signature.{AreTerms};
 ghost use Rattle.psg_terms.specs.Terms.{Term as Plain};
-ghost use Rattle.psg_scope.specs.Headers.{keys};
+ghost use Rattle.psg_scope.specs.Headers.{key_of, keys};
 ghost use Rattle.psg_script.specs.declared.command.Command.TheVariants as commands;
-ghost use Rattle.psg_session.specs.Answers.{entities_text, names_line as names_line_of, row_line as row_line_of, rows_lines as rows_lines_of};
+ghost use Rattle.psg_session.specs.Answers.{entities_text, key_text, space_name, names_line as names_line_of, row_line as row_line_of, rows_lines as rows_lines_of};
 ghost use Rattle.psg_session.specs.Outcomes.{IsOutcome};
 ghost use Rattle.psg_session.specs.PlainState.{not_asked};
 ghost use Rattle.psg_session.specs.Sessions.{IsEditor};
@@ -16,14 +16,15 @@ use crate::finding::find;
 use crate::refusal::Refusal;
 use crate::replies::Reply;
 use psg_eval::Summary;
+use psg_grammar::{Definition, Space};
 use psg_scope::NameCol;
 use psg_script::Where;
-use psg_specimen::Language;
+use psg_specimen::LanguageParts;
 use psg_terms::{Signature, Term, Txt, term_text};
 use std::alloc::{AllocError, Global};
 
-/// The names that the opened fragment uses and its outermost region does not declare.
-pub fn free(alloc: Global, language: &Language, editor: &Editor) -> Result<Outcome, AllocError>
+/// The keys that the opened fragment uses and its outermost region does not declare.
+pub fn free(alloc: Global, language: &LanguageParts, editor: &Editor) -> Result<Outcome, AllocError>
     requires language { IsLanguage language.now }
     requires editor { IsEditor language.now.definition editor.now }
     ensures { IfOk result (IsOutcome language.now.definition editor.now not_asked commands.Free) }
@@ -31,32 +32,73 @@ pub fn free(alloc: Global, language: &Language, editor: &Editor) -> Result<Outco
     let Some(held) = &editor.opened else {
         return Ok(Outcome::Stays(Reply::Refused(Refusal::NothingOpened)));
     };
-    let line = free_line(alloc, held.note.root().header().names.as_slice())?;
+    let line = free_line(
+        alloc,
+        &language.definition,
+        held.note.root().header().names.as_slice(),
+    )?;
     let mut lines = Vec::new(alloc);
     lines.push(line)?;
     Ok(Outcome::Stays(Reply::Answered(lines)))
 }
 
-/// The names of a header that are not declared, with a space between two, or `none`.
-fn free_line(alloc: Global, names: &[NameCol]) -> Result<String, AllocError>
-    ensures { IfOk result (λ text. string_bytes text ≡ names_line_of (names_without names.now)) }
+/// The keys of a header that are not declared, with a space between two, or `none`.
+fn free_line(alloc: Global, def: &Definition, names: &[NameCol]) -> Result<String, AllocError>
+    ensures { IfOk result (λ text. string_bytes text ≡ names_line_of (names_without def.now names.now)) }
 {
-    let free = undeclared(alloc, names)?;
+    let free = undeclared(alloc, def, names)?;
     let line = names_line(alloc, free.as_slice())?;
     Ok(line)
 }
 
-/// The names of the columns that are not declared, each with one more owner.
-fn undeclared(alloc: Global, names: &[NameCol]) -> Result<Vec<Txt>, AllocError>
-    ensures { IfOk result (λ free. free.items ≡ names_without names.now) }
+/// The key of the column as it is printed: its name, in version 2 behind that of its space.
+fn key_label(alloc: Global, def: &Definition, column: &NameCol) -> Result<Txt, AllocError>
+    ensures { IfOk result (λ label. label ≡ key_text def.now (key_of column.now)) }
+{
+    if def.version == 2 {
+        let mut text = String::new(alloc);
+        push_space(&mut text, def.spaces.as_slice(), column.space)?;
+        text.push_str(":")?;
+        text.push_str(column.name.as_str())?;
+        let label = Txt::copy_of(alloc, text.as_str())?;
+        return Ok(label);
+    }
+    let label = column.name.share()?;
+    Ok(label)
+}
+
+/// Writes the name of the space behind the text.
+fn push_space(text: &mut String, spaces: &[Space], space: u32) -> Result<(), AllocError>
+    ensures { IfOk result (λ _. string_bytes text.new ≡ string_bytes text.old ++ space_name spaces.now space) }
+{
+    match spaces.get(space as usize) {
+        Some(own) => text.push_str(own.name.as_str()),
+        None => Ok(()),
+    }
+}
+
+/// The keys of the columns that are not declared.
+fn undeclared(alloc: Global, def: &Definition, names: &[NameCol]) -> Result<Vec<Txt>, AllocError>
+    ensures { IfOk result (λ free. free.items ≡ names_without def.now names.now) }
 {
     let mut free = Vec::new(alloc);
     for column in names {
         if !column.declared {
-            free.push(column.name.share()?)?;
+            free.push(key_label(alloc, def, column)?)?;
         }
     }
     Ok(free)
+}
+
+/// The keys of the columns.
+fn labels(alloc: Global, def: &Definition, names: &[NameCol]) -> Result<Vec<Txt>, AllocError>
+    ensures { IfOk result (λ labels. labels.items ≡ map (key_text def.now) (keys names.now)) }
+{
+    let mut labels = Vec::new(alloc);
+    for column in names {
+        labels.push(key_label(alloc, def, column)?)?;
+    }
+    Ok(labels)
 }
 
 /// The names with a space between two, or `none`.
@@ -75,11 +117,11 @@ pub(crate) fn names_line(alloc: Global, names: &[Txt]) -> Result<String, AllocEr
     Ok(text)
 }
 
-/// The rows of the relation of the node at the place, each on a line: the value, and the entity of each name. It
+/// The rows of the relation of the node at the place, each on a line: the value, and the entity of each key. It
 /// evaluates nothing.
 pub fn own(
     alloc: Global,
-    language: &Language,
+    language: &LanguageParts,
     editor: &Editor,
     place: &Where,
 ) -> Result<Outcome, AllocError>
@@ -95,20 +137,18 @@ pub fn own(
     let Some(summary) = found.held.note.summary(found.path) else {
         return Ok(Outcome::Stays(Reply::Refused(Refusal::NoNode)));
     };
-    let lines = rows_lines(alloc, &language.definition.signature, summary)?;
+    let lines = rows_lines(alloc, &language.definition, summary)?;
     Ok(Outcome::Stays(Reply::Answered(lines)))
 }
 
 /// A line for each row of the summary, or `none`.
-fn rows_lines(
-    alloc: Global,
-    signature: &Signature,
-    summary: &Summary,
-) -> Result<Vec<String>, AllocError>
-    requires { (row : List Plain) → IsIn row summary.now.rel → AreTerms signature.now row }
-    ensures { IfOk result (λ lines. map string_bytes lines.items ≡ rows_lines_of signature.now (keys summary.now.header.names) summary.now.rel) }
+fn rows_lines(alloc: Global, def: &Definition, summary: &Summary) -> Result<Vec<String>, AllocError>
+    requires { (row : List Plain) → IsIn row summary.now.rel → AreTerms def.now.signature row }
+    ensures { IfOk result (λ lines. map string_bytes lines.items ≡ rows_lines_of def.now.signature (map (key_text def.now) (keys summary.now.header.names)) summary.now.rel) }
 {
-    let names = summary.header().names.as_slice();
+    let labels = labels(alloc, def, summary.header().names.as_slice())?;
+    let names = labels.as_slice();
+    let signature = &def.signature;
     let rows = summary.rel().rows();
     let mut lines = Vec::new(alloc);
     if rows.is_empty() {
@@ -123,15 +163,15 @@ fn rows_lines(
     Ok(lines)
 }
 
-/// A row: the value, and behind it each name with its entity.
+/// A row: the value, and behind it each key with its entity.
 fn row_line(
     alloc: Global,
     signature: &Signature,
-    names: &[NameCol],
+    names: &[Txt],
     row: &[Term],
 ) -> Result<String, AllocError>
     requires { AreTerms signature.now row.now }
-    ensures { IfOk result (λ text. string_bytes text ≡ row_line_of signature.now (keys names.now) row.now) }
+    ensures { IfOk result (λ text. string_bytes text ≡ row_line_of signature.now names.now row.now) }
 {
     let [value, entities @ ..] = row else {
         return Ok(String::new(alloc));
@@ -141,30 +181,30 @@ fn row_line(
     Ok(text)
 }
 
-/// Writes each name with its entity behind the text, as far as there are both.
+/// Writes each key with its entity behind the text, as far as there are both.
 fn push_entities(
     alloc: Global,
     text: &mut String,
     signature: &Signature,
-    names: &[NameCol],
+    names: &[Txt],
     entities: &[Term],
 ) -> Result<(), AllocError>
     requires { AreTerms signature.now entities.now }
-    ensures { IfOk result (λ _. string_bytes text.new ≡ string_bytes text.old ++ entities_text signature.now (keys names.now) entities.now) }
+    ensures { IfOk result (λ _. string_bytes text.new ≡ string_bytes text.old ++ entities_text signature.now names.now entities.now) }
 {
     let mut rest = entities;
-    for column in names {
+    for name in names {
         let [entity, more @ ..] = rest else {
             return Ok(());
         };
         let value = term_text(alloc, signature, entity)?;
-        push_entity(text, column.name.as_str(), value.as_str())?;
+        push_entity(text, name.as_str(), value.as_str())?;
         rest = more;
     }
     Ok(())
 }
 
-/// Writes the name with its entity behind the text, as ` x=int`.
+/// Writes the key with its entity behind the text, as ` x=int`.
 fn push_entity(text: &mut String, name: &str, entity: &str) -> Result<(), AllocError>
     ensures { IfOk result (λ _. string_bytes text.new ≡ string_bytes text.old ++ 32 ∷ (name.now ++ (61 ∷ entity.now))) }
 {

@@ -24,7 +24,7 @@ use crate::editor::{Editor, OpenedTree, Outcome, carry_out};
 use crate::edits::Edit;
 use crate::judging::Trial;
 use crate::refusal::Refusal;
-use psg_specimen::Language;
+use psg_specimen::LanguageParts;
 use psg_terms::{Steps, Txt};
 use psg_textedit::{Change, Reader, TextFault, Typed, type_over};
 use psg_tree::Path;
@@ -49,7 +49,7 @@ fn refusal_of(fault: TextFault) -> Result<Refusal, AllocError>
 /// text and lexes the new one, and takes a step of the counter for each token of the nodes that it reads again.
 fn read_change<L: Ledger>(
     alloc: Global,
-    language: &Language,
+    language: &LanguageParts,
     held: &OpenedTree,
     typed: &Typed<'_>,
     steps: &mut Steps<L>,
@@ -97,7 +97,7 @@ fn put_change(alloc: Global, change: Change) -> Result<Made, AllocError>
 /// Plans replaced bytes: the tree of the node that is read again, in its place.
 fn range<L: Ledger>(
     alloc: Global,
-    language: &Language,
+    language: &LanguageParts,
     editor: &Editor,
     start: u32,
     end: u32,
@@ -144,7 +144,7 @@ fn range<L: Ledger>(
 /// those above them, and fails where memory runs out.
 pub(crate) fn replace_bytes<L: Ledger>(
     alloc: Global,
-    language: &Language,
+    language: &LanguageParts,
     editor: &Editor,
     start: u32,
     end: u32,

@@ -20,7 +20,7 @@ use crate::replies::Reply;
 use psg_eval::FocusFault;
 use psg_focus::relation_at;
 use psg_script::Where;
-use psg_specimen::Language;
+use psg_specimen::LanguageParts;
 use psg_terms::{Signature, Steps, Term, term_text};
 use std::alloc::{AllocError, Global};
 use std::sync::ledger::Ledger;
@@ -80,7 +80,7 @@ fn answer(
 #[tactic(auto, using(crate::proofs::Ticking::quiet))]
 pub fn relation<L: Ledger>(
     alloc: Global,
-    language: &Language,
+    language: &LanguageParts,
     editor: &Editor,
     place: &Where,
     steps: &mut Steps<L>,

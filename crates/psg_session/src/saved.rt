@@ -14,7 +14,7 @@ use crate::refusal::Refusal;
 use crate::replies::Reply;
 use psg_library::SavedFragment;
 use psg_script::Where;
-use psg_specimen::Language;
+use psg_specimen::LanguageParts;
 use psg_terms::{Seq, Txt};
 use std::alloc::{AllocError, Global};
 
@@ -113,7 +113,7 @@ fn saved_lines(alloc: Global, name: &Txt) -> Result<Vec<String>, AllocError>
 /// makes one more owner of each saved fragment, and fails where memory runs out.
 pub fn save(
     alloc: Global,
-    language: &Language,
+    language: &LanguageParts,
     editor: &Editor,
     name: &Txt,
     place: &Where,

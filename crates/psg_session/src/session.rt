@@ -1,16 +1,20 @@
 //! A session: an editor with its language.
 ghost use Rattle.std.specs.Prelude.{◌≡◌, IfErr, IfOk, MatchOption, None, Some};
+ghost use Rattle.psg_cache.specs.Annotated.{tree_in};
 ghost use Rattle.psg_cache.specs.Notes.{IsNoteOf};
 ghost use Rattle.psg_session.specs.Applied.{HasApplied, HasStopped, IsRefusal};
 ghost use Rattle.psg_grammar.specs.Legal.{IsCompletable};
+ghost use Rattle.psg_grammar.specs.Sound.{IsSound};
 ghost use Rattle.psg_session.specs.Extents.{IsExtentOf};
-ghost use Rattle.psg_session.specs.Formed.{HasText};
+ghost use Rattle.psg_session.specs.Formed.{HasText, IsFormedState};
 ghost use Rattle.psg_session.specs.Lines.{HasAnswered, HasBroken};
 ghost use Rattle.psg_session.specs.PlainState.{start, Opened};
-ghost use Rattle.psg_session.specs.Sessions.{state_of};
-ghost use Rattle.psg_session.specs.Views.{reply_of, IsLanguage};
+ghost use Rattle.psg_session.specs.Reached.{HasReached};
+ghost use Rattle.psg_session.specs.Sessions.{IsEditor, state_of};
+ghost use Rattle.psg_session.specs.Views.{reply_of};
+ghost use Rattle.psg_specimen.specs.Refusal.{IsAccepted};
 
-use crate::editor::Editor;
+use crate::editor::{Editor, Outcome};
 use crate::kept::reach;
 use crate::measuring::{Extent, extent_of};
 use crate::refusal::Refusal;
@@ -57,7 +61,6 @@ impl Session {
     /// Makes an editor in which nothing is opened. It fails where memory runs out, and takes the memory for the versions
     /// that are kept.
     pub fn new(alloc: Global, language: Language) -> Result<Session, AllocError>
-        requires language { IsLanguage language }
         ensures start { IfOk result (λ s. state_of s.editor ≡ start) }
         ensures language { IfOk result (λ s. s.language ≡ language) }
     {
@@ -84,13 +87,13 @@ impl Session {
         files: &mut F,
         steps: &mut Steps<L>,
     ) -> Result<Reply, AllocError>
-        ensures applied { IfOk result (λ reply. HasApplied self.old.language.definition (state_of self.old.editor)
+        ensures applied { IfOk result (λ reply. HasApplied self.old.language (state_of self.old.editor)
             (state_of self.new.editor) command.now
             (record { held = F.holds files.old; entries = F.faults files.old })
             (record { held = F.holds files.new; entries = F.faults files.new })
             steps.old steps.new (reply_of reply)) }
         ensures refused { IfOk result (λ reply. IsRefusal (reply_of reply) → self.new ≡ self.old) }
-        ensures stopped { IfErr result (λ _. HasStopped self.old.language.definition (state_of self.old.editor) command.now
+        ensures stopped { IfErr result (λ _. HasStopped self.old.language (state_of self.old.editor) command.now
             (record { held = F.holds files.old; entries = F.faults files.old })
             (record { held = F.holds files.new; entries = F.faults files.new })
             steps.old steps.new) }
@@ -98,7 +101,7 @@ impl Session {
         ensures language { self.new.language ≡ self.old.language }
     {
         read_text(command);
-        let outcome = reach(
+        let outcome = reached(
             alloc,
             &self.parts.language,
             &self.parts.editor,
@@ -119,13 +122,13 @@ impl Session {
         files: &mut F,
         steps: &mut Steps<L>,
     ) -> Result<Reply, AllocError>
-        ensures answered { IfOk result (λ reply. HasAnswered self.old.language.definition (state_of self.old.editor)
+        ensures answered { IfOk result (λ reply. HasAnswered self.old.language (state_of self.old.editor)
             (state_of self.new.editor) line.now
             (record { held = F.holds files.old; entries = F.faults files.old })
             (record { held = F.holds files.new; entries = F.faults files.new })
             steps.old steps.new (reply_of reply)) }
         ensures refused { IfOk result (λ reply. IsRefusal (reply_of reply) → self.new ≡ self.old) }
-        ensures broken { IfErr result (λ _. HasBroken self.old.language.definition (state_of self.old.editor) line.now
+        ensures broken { IfErr result (λ _. HasBroken self.old.language (state_of self.old.editor) line.now
             (record { held = F.holds files.old; entries = F.faults files.old })
             (record { held = F.holds files.new; entries = F.faults files.new })
             steps.old steps.new) }
@@ -147,7 +150,7 @@ impl Session {
     /// Gives the note of the opened fragment; `None` where nothing is opened.
     pub fn note(&self) -> Option<&Note>
         ensures { MatchOption result (self.now.editor.opened ≡ None) (λ note. (old : Opened)
-            × ((state_of self.now.editor).opened ≡ Some old) × IsNoteOf self.now.language.definition old.tree note.now) }
+            × ((state_of self.now.editor).opened ≡ Some old) × IsNoteOf self.now.language old.tree note.now) }
     {
         match &self.parts.editor.opened {
             Some(held) => Some(&held.note),
@@ -160,11 +163,11 @@ impl Session {
     pub fn extent(&self, alloc: Global) -> Result<Option<Extent>, AllocError>
         ensures { IfOk result (λ extent. MatchOption extent (self.now.editor.opened ≡ None)
             (λ e. (old : Opened) × ((state_of self.now.editor).opened ≡ Some old)
-            × IsExtentOf self.now.language.definition (IsCompletable self.now.language.definition) old.tree e)) }
+            × IsExtentOf self.now.language (IsCompletable self.now.language) old.tree e)) }
     {
         match &self.parts.editor.opened {
             Some(held) => {
-                let extent = extent_of(alloc, &self.parts.language, &held.note)?;
+                let extent = measured(alloc, &self.parts.language, &held.note)?;
                 Ok(Some(extent))
             }
             None => Ok(None),
@@ -178,13 +181,50 @@ impl Session {
         &self.parts.editor.cursor
     }
 
-    /// Gives the language.
+    /// Gives the language that `new` was given.
     pub fn language(&self) -> &Language
-        ensures language { result.now ≡ self.now.language }
-        ensures is_language { IsLanguage result.now }
+        ensures { result.now ≡ self.now.language }
     {
         &self.parts.language
     }
+}
+
+/// Finds what the command does to an editor of the language. The definition is sound and accepted, as that of each language.
+fn reached<F: Files, L: Ledger>(
+    alloc: Global,
+    language: &Language,
+    editor: &Editor,
+    command: &Command,
+    files: &mut F,
+    steps: &mut Steps<L>,
+) -> Result<Outcome, AllocError>
+    requires editor { IsEditor language.now editor.now }
+    requires formed { IsFormedState language.now (state_of editor.now) }
+    ensures reached { IfOk result (HasReached language.now editor.now command.now
+        (record { held = F.holds files.old; entries = F.faults files.old })
+        (record { held = F.holds files.new; entries = F.faults files.new })
+        steps.old steps.new) }
+    ensures stopped { IfErr result (λ _. HasStopped language.now (state_of editor.now) command.now
+        (record { held = F.holds files.old; entries = F.faults files.old })
+        (record { held = F.holds files.new; entries = F.faults files.new })
+        steps.old steps.new) }
+    ensures sound { IsSound language.now }
+    ensures accepted { IsAccepted language.now }
+{
+    let _definition = language.definition();
+    let parts = language.parts();
+    let outcome = reach(alloc, parts, editor, command, files, steps)?;
+    Ok(outcome)
+}
+
+/// Gives the extent of the note's tree in the language.
+fn measured(alloc: Global, language: &Language, note: &Note) -> Result<Extent, AllocError>
+    requires noted { IsNoteOf language.now (tree_in note.now) note.now }
+    ensures { IfOk result (IsExtentOf language.now (IsCompletable language.now) (tree_in note.now)) }
+{
+    let parts = language.parts();
+    let extent = extent_of(alloc, parts, note)?;
+    Ok(extent)
 }
 
 /// Reads the text that is typed with the command. What it ensures holds of all values of its type, and is known of those that

@@ -19,7 +19,7 @@ use psg_grammar::Kind;
 use psg_lexis::{Spanned, lex};
 use psg_parse::{Goal, ParseFault, parse_with};
 use psg_script::Where;
-use psg_specimen::Language;
+use psg_specimen::LanguageParts;
 use psg_terms::{Steps, Txt};
 use psg_tree::Tree;
 use std::alloc::{AllocError, Global};
@@ -28,7 +28,7 @@ use std::sync::ledger::Ledger;
 /// Reads the tokens of the text; `None` where the text has none because of a fault.
 fn tokens_in(
     alloc: Global,
-    language: &Language,
+    language: &LanguageParts,
     text: &str,
 ) -> Result<Option<Vec<Spanned>>, AllocError>
     requires language { IsLanguage language.now }
@@ -62,7 +62,7 @@ fn refusal_of(fault: ParseFault) -> Result<Refusal, AllocError>
 /// brackets nest too deep. It takes a step of the counter for each token, and work linear in the text.
 fn read_tree<L: Ledger>(
     alloc: Global,
-    language: &Language,
+    language: &LanguageParts,
     kind: Kind,
     text: &str,
     steps: &mut Steps<L>,
@@ -100,7 +100,7 @@ fn read_tree<L: Ledger>(
 /// Plans typed text: the tree that the text is read as, in place of the node.
 fn over<L: Ledger>(
     alloc: Global,
-    language: &Language,
+    language: &LanguageParts,
     editor: &Editor,
     place: &Where,
     text: &Txt,
@@ -132,7 +132,7 @@ fn over<L: Ledger>(
 /// step for each token, evaluates the new tree and the nodes above it, and fails where memory runs out.
 pub(crate) fn type_over<L: Ledger>(
     alloc: Global,
-    language: &Language,
+    language: &LanguageParts,
     editor: &Editor,
     place: &Where,
     text: &Txt,

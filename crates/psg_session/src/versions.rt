@@ -10,7 +10,7 @@ use crate::noting::note_mark;
 use crate::refusal::Refusal;
 use crate::replies::Reply;
 use psg_history::Undone;
-use psg_specimen::Language;
+use psg_specimen::LanguageParts;
 use psg_tree::Path;
 use std::alloc::{AllocError, Global};
 
@@ -53,7 +53,7 @@ impl Editor {
 /// Finds what `undo` does: the nearest earlier version is opened, and the reply is its mark. It is refused with
 /// `NothingOpened` where nothing is opened, and with `NothingEarlier` where there is no earlier version. It evaluates
 /// nothing, and fails where memory runs out.
-pub fn undo(alloc: Global, language: &Language, editor: &Editor) -> Result<Outcome, AllocError>
+pub fn undo(alloc: Global, language: &LanguageParts, editor: &Editor) -> Result<Outcome, AllocError>
     requires editor { IsEditor language.now.definition editor.now }
     ensures { IfOk result (IsOutcome language.now.definition editor.now not_asked commands.Undo) }
 {
@@ -71,7 +71,7 @@ pub fn undo(alloc: Global, language: &Language, editor: &Editor) -> Result<Outco
 /// Finds what `redo` does: the nearest later version is opened, and the reply is its mark. It is refused with
 /// `NothingOpened` where nothing is opened, and with `NothingLater` where there is no later version. It evaluates
 /// nothing, and fails where memory runs out.
-pub fn redo(alloc: Global, language: &Language, editor: &Editor) -> Result<Outcome, AllocError>
+pub fn redo(alloc: Global, language: &LanguageParts, editor: &Editor) -> Result<Outcome, AllocError>
     requires editor { IsEditor language.now.definition editor.now }
     ensures { IfOk result (IsOutcome language.now.definition editor.now not_asked commands.Redo) }
 {

@@ -9,7 +9,7 @@ use Rattle.psg_run.proofs.generating.count_piece.Goals as goal
 
 pub returns-then-is_empty-clause-ok : goal.returns-then-is_empty-clause-ok
 returns-then-is_empty-clause-ok g c =
-    over_none c.args.session.now.language.definition c.args.piece.now (state_of c.args.session.now.editor) c.args.before
+    over_none c.args.session.now.language c.args.piece.now (state_of c.args.session.now.editor) c.args.before
     c.args.steps.now
     (sym c.without_return-line.ensures ∙ empty_is c.without_return-line.result.now (sym c.if-is_empty.ensures))
 
@@ -23,7 +23,7 @@ count_after-requires g c = record {
 
 pub returns-in_err-count-clause-err : goal.returns-in_err-count-clause-err
 returns-in_err-count-clause-err g c =
-    if_err c.from_residual.result (λ _. within_line c.args.session.now.language.definition c.args.piece.now
+    if_err c.from_residual.result (λ _. within_line c.args.session.now.language c.args.piece.now
     (state_of c.args.session.now.editor) c.without_return-line.result.now c.args.steps.now c.count_after.new.steps
     c.without_return-line.ensures
     (λ e. true≢false (sym (ap (λ (l : List ℕ). length l == 0) (c.without_return-line.ensures ∙ e)) ∙ sym c.if-is_empty.ensures))
@@ -31,7 +31,7 @@ returns-in_err-count-clause-err g c =
 
 pub returns-clause-ok : goal.returns-clause-ok
 returns-clause-ok g c =
-    over_line c.args.session.now.language.definition c.args.piece.now (state_of c.args.session.now.editor)
+    over_line c.args.session.now.language c.args.piece.now (state_of c.args.session.now.editor)
     c.without_return-line.result.now (state_of c.count_after.new.session.editor) c.args.before c.args.steps.now
     c.count_after.new.steps c.in_ok-count.count c.without_return-line.ensures
     (λ e. true≢false (sym (ap (λ (l : List ℕ). length l == 0) (c.without_return-line.ensures ∙ e)) ∙ sym c.if-is_empty.ensures))

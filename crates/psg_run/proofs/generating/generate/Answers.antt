@@ -28,7 +28,7 @@ returns-in-Err-played g c =
     (broken_before c.args.number
     (seen (g.F.Files.holds c.args.files.now) (g.F.Files.faults c.args.files.now) (g.O.Sink.written c.language_of.new.out) (g.O.Sink.faults c.language_of.new.out) c.args.steps.now)
     (seen (g.F.Files.holds c.played.new.files) (g.F.Files.faults c.played.new.files) (g.O.Sink.written c.language_of.new.out) (g.O.Sink.faults c.language_of.new.out) c.played.new.steps)
-    c.in-Ok.language.definition c.as_bytes-definition.result.now c.as_bytes-definition.ensures.value c.in-Ok.ensures.ok
+    c.in-Ok.language c.as_bytes-definition.result.now c.as_bytes-definition.ensures.value c.in-Ok.ensures.ok
     c.in-Err-played.ensures.holds c.in-Err-played.ensures.entries refl c.in-Err-played.ensures.err)
 
 pub returns-in-Ok-put_all : goal.returns-in-Ok-put_all
@@ -41,7 +41,7 @@ returns-in-Ok-put_all g c =
     (told_all c.args.number
     (seen (g.F.Files.holds c.args.files.now) (g.F.Files.faults c.args.files.now) (g.O.Sink.written c.language_of.new.out) (g.O.Sink.faults c.language_of.new.out) c.args.steps.now)
     (seen (g.F.Files.holds c.played.new.files) (g.F.Files.faults c.played.new.files) (g.O.Sink.written c.put_all.new.out) (g.O.Sink.faults c.put_all.new.out) c.played.new.steps)
-    c.in-Ok.language.definition c.as_bytes-definition.result.now c.as_bytes-definition.ensures.value c.in-Ok.ensures.ok
+    c.in-Ok.language c.as_bytes-definition.result.now c.as_bytes-definition.ensures.value c.in-Ok.ensures.ok
     c.in-Ok-played.ensures.holds c.in-Ok-played.ensures.entries lines made c.as_bytes.result.now
     (c.as_bytes.ensures.value ∙ is) c.in-Ok-put_all.ensures.all)
 
@@ -55,7 +55,7 @@ returns g c =
     (told_front c.args.number
     (seen (g.F.Files.holds c.args.files.now) (g.F.Files.faults c.args.files.now) (g.O.Sink.written c.language_of.new.out) (g.O.Sink.faults c.language_of.new.out) c.args.steps.now)
     (seen (g.F.Files.holds c.played.new.files) (g.F.Files.faults c.played.new.files) (g.O.Sink.written c.put_all.new.out) (g.O.Sink.faults c.put_all.new.out) c.played.new.steps)
-    c.in-Ok.language.definition c.as_bytes-definition.result.now c.as_bytes-definition.ensures.value c.in-Ok.ensures.ok
+    c.in-Ok.language c.as_bytes-definition.result.now c.as_bytes-definition.ensures.value c.in-Ok.ensures.ok
     c.in-Ok-played.ensures.holds c.in-Ok-played.ensures.entries lines made c.as_bytes.result.now
     (c.as_bytes.ensures.value ∙ is) c.in-Err-put_all.stop c.write_status.result c.write_status.ensures
     c.in-Err-put_all.ensures.front (λ is_failed. c.in-Err-put_all.ensures.failed (ap Err is_failed)))

@@ -3,7 +3,7 @@ use Rattle.psg_grammar.specs.Legal.{IsCompletable}
 use Rattle.psg_session.specs.PlainState.{not_asked}
 use Rattle.psg_session.specs.Sessions.{state_of}
 use Rattle.psg_session.proofs.Options.{empty_is}
-use Rattle.psg_specimen.specs.declared.language.Language.{Language}
+use Rattle.psg_grammar.specs.declared.types.Definition.{Definition}
 use Rattle.psg_run.specs.Output.{script_lines}
 use Rattle.psg_run.specs.Promise.{SpentFromStart}
 use Rattle.psg_run.specs.Quiet.{HasCounted}
@@ -13,7 +13,7 @@ use Rattle.psg_run.proofs.generating.play_all.Goals as goal
 
 pub loop-rest-init : goal.loop-rest-init
 loop-rest-init g c = record {
-  so_far = goes_first c.args.session.now.language.definition c.args.script.now (state_of c.args.session.now.editor)
+  so_far = goes_first c.args.session.now.language c.args.script.now (state_of c.args.session.now.editor)
       c.args.steps.now c.requires.start c.requires.quiet;
   language = refl;
   holds = refl;
@@ -25,7 +25,7 @@ loop-rest-smaller g c = c.cut_line-cut.ensures.shorter
 
 pub count_piece-requires : goal.count_piece-requires
 count_piece-requires g c = record {
-  quiet = piece_quiet c.loop-rest.session.language.definition (script_lines c.args.script.now) c.loop-rest.rest.now
+  quiet = piece_quiet c.loop-rest.session.language (script_lines c.args.script.now) c.loop-rest.rest.now
       c.cut_line-cut.result.rest.now c.cut_line-cut.result.line.now (state_of c.loop-rest.session.editor)
       c.args.steps.now c.loop-rest.steps c.loop-rest.operators c.cut_line-cut.ensures.lines
       c.loop-rest.invariant.so_far;
@@ -34,9 +34,9 @@ count_piece-requires g c = record {
 pub returns-in_err-next-clause-err : goal.returns-in_err-next-clause-err
 returns-in_err-next-clause-err g c =
     if_err c.from_residual.result (λ _.
-    subst (λ (l : Language). SpentFromStart l.definition (script_lines c.args.script.now) [] not_asked c.args.steps.now
+    subst (λ (l : Definition). SpentFromStart l (script_lines c.args.script.now) [] not_asked c.args.steps.now
     c.count_piece.new.steps) c.loop-rest.invariant.language
-    (ends_broken c.loop-rest.session.language.definition (script_lines c.args.script.now) c.loop-rest.rest.now
+    (ends_broken c.loop-rest.session.language (script_lines c.args.script.now) c.loop-rest.rest.now
     c.cut_line-cut.result.rest.now c.cut_line-cut.result.line.now (state_of c.loop-rest.session.editor)
     c.args.steps.now c.loop-rest.steps c.loop-rest.operators c.cut_line-cut.ensures.lines
     c.loop-rest.invariant.so_far c.count_piece.new.steps c.in_err-next.ensures.err))
@@ -52,10 +52,10 @@ returns-in_err-next-clause-entries g c = c.in_err-next.ensures.entries ∙ c.loo
 
 pub loop-rest-preserved : goal.loop-rest-preserved
 loop-rest-preserved g c = record {
-  so_far = subst (λ (l : Language). GoneSoFar l.definition (script_lines c.args.script.now)
+  so_far = subst (λ (l : Definition). GoneSoFar l (script_lines c.args.script.now)
       c.cut_line-cut.result.rest.now (state_of c.count_piece.new.session.editor) c.args.steps.now
       c.count_piece.new.steps c.in_ok-next.next) (sym c.in_ok-next.ensures.language)
-      (goes_next c.loop-rest.session.language.definition (script_lines c.args.script.now) c.loop-rest.rest.now
+      (goes_next c.loop-rest.session.language (script_lines c.args.script.now) c.loop-rest.rest.now
       c.cut_line-cut.result.rest.now c.cut_line-cut.result.line.now (state_of c.loop-rest.session.editor)
       c.args.steps.now c.loop-rest.steps c.loop-rest.operators c.cut_line-cut.ensures.lines
       c.loop-rest.invariant.so_far (state_of c.count_piece.new.session.editor) c.count_piece.new.steps
@@ -67,9 +67,9 @@ loop-rest-preserved g c = record {
 
 pub returns-clause-ok : goal.returns-clause-ok
 returns-clause-ok g c =
-    subst (λ (l : Language). HasCounted l.definition (script_lines c.args.script.now)
+    subst (λ (l : Definition). HasCounted l (script_lines c.args.script.now)
     (state_of c.loop-rest.session.editor) c.args.steps.now c.loop-rest.steps c.loop-rest.operators)
     c.loop-rest.invariant.language
-    (goes_whole c.loop-rest.session.language.definition (script_lines c.args.script.now) c.loop-rest.rest.now
+    (goes_whole c.loop-rest.session.language (script_lines c.args.script.now) c.loop-rest.rest.now
     (state_of c.loop-rest.session.editor) c.args.steps.now c.loop-rest.steps c.loop-rest.operators
     (empty_is c.loop-rest.rest.now (sym c.loop-rest-test.ensures)) c.loop-rest.invariant.so_far)

@@ -6,7 +6,7 @@ use Rattle.psg_run.proofs.generating.play_all.Given as goal
 
 abbrev pub invariant-loop-rest : goal.invariant-loop-rest
 invariant-loop-rest g l = record {
-  so_far : GoneSoFar l.session.language.definition (script_lines l.script) l.rest (state_of l.session.editor)
+  so_far : GoneSoFar l.session.language (script_lines l.script) l.rest (state_of l.session.editor)
       l.initial.steps l.steps l.operators;
   language : l.session.language ≡ l.initial.session.language;
   holds : g.F.Files.holds l.files ≡ g.F.Files.holds l.initial.files;

@@ -6,7 +6,7 @@ use Rattle.psg_run.proofs.live.converse.Given as goal
 
 abbrev pub invariant-loop : goal.invariant-loop
 invariant-loop g l = record {
-  so_far : LiveSoFar l.session.language.definition
+  so_far : LiveSoFar l.session.language
       (coming (g.I.Input.lines l.initial.input) (g.I.Input.given l.initial.input) (g.I.Input.missed l.initial.input))
       (coming (g.I.Input.lines l.input) (g.I.Input.given l.input) (g.I.Input.missed l.input))
       (state_of l.session.editor)

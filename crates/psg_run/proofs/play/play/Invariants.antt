@@ -6,7 +6,7 @@ use Rattle.psg_run.proofs.play.play.Given as goal
 
 abbrev pub invariant-loop-rest : goal.invariant-loop-rest
 invariant-loop-rest g l = record {
-  so_far : SoFar l.session.language.definition (script_lines l.script) l.rest (state_of l.session.editor)
+  so_far : SoFar l.session.language (script_lines l.script) l.rest (state_of l.session.editor)
       (record { held = g.F.Files.holds l.initial.files; entries = g.F.Files.faults l.initial.files })
       (record { held = g.F.Files.holds l.files; entries = g.F.Files.faults l.files })
       (g.O.Sink.written l.initial.out) (g.O.Sink.written l.out) l.initial.steps l.steps;

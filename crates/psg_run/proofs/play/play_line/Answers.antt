@@ -13,14 +13,14 @@ returns-in_err-reply-clause-err g c =
 
 pub returns-in_err-text-clause-err : goal.returns-in_err-text-clause-err
 returns-in_err-text-clause-err g c =
-    if_err c.from_residual-in_err-text.result (plays_nothing c.args.session.now.language.definition
+    if_err c.from_residual-in_err-text.result (plays_nothing c.args.session.now.language
     (state_of c.args.session.now.editor) (state_of c.apply_line.new.self.editor) c.args.line.now _ _ c.args.steps.now
     c.apply_line.new.steps (reply_of c.in_ok-reply.reply) c.in_ok-reply.ensures.answered (g.O.Sink.written c.args.out.now)
     _ refl)
 
 pub returns-in_err-put_all-clause-err : goal.returns-in_err-put_all-clause-err
 returns-in_err-put_all-clause-err g c =
-    if_err c.from_residual-in_err-put_all.result (plays_front c.args.session.now.language.definition
+    if_err c.from_residual-in_err-put_all.result (plays_front c.args.session.now.language
     (state_of c.args.session.now.editor) (state_of c.apply_line.new.self.editor) c.args.line.now _ _ c.args.steps.now
     c.apply_line.new.steps (reply_of c.in_ok-reply.reply) c.in_ok-reply.ensures.answered (g.O.Sink.written c.args.out.now)
     (g.O.Sink.written c.put_all.new.out) c.as_bytes.result.now (c.as_bytes.ensures.value ∙ c.in_ok-text.ensures)
@@ -28,7 +28,7 @@ returns-in_err-put_all-clause-err g c =
 
 pub returns-clause-ok : goal.returns-clause-ok
 returns-clause-ok g c =
-    plays c.args.session.now.language.definition (state_of c.args.session.now.editor)
+    plays c.args.session.now.language (state_of c.args.session.now.editor)
     (state_of c.apply_line.new.self.editor) c.args.line.now _ _ c.args.steps.now c.apply_line.new.steps
     (reply_of c.in_ok-reply.reply) c.in_ok-reply.ensures.answered (g.O.Sink.written c.args.out.now)
     (g.O.Sink.written c.put_all.new.out) c.as_bytes.result.now (c.as_bytes.ensures.value ∙ c.in_ok-text.ensures)

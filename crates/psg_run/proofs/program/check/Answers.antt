@@ -9,7 +9,7 @@ returns-in-Err g c = λ ticks. inl (c.in-Err.ensures.err ticks)
 
 pub returns : goal.returns
 returns g c = λ ticks. inr (
-  c.in_default.field-0.definition,
+  c.in_default.field-0,
   c.in_default.ensures.ok,
   (
     record { held = c.in_default.ensures.holds; entries = c.in_default.ensures.entries; ticks = refl },

@@ -15,6 +15,6 @@ returns g c =
     played_on (g.F.Files.holds c.args.files.now) (g.F.Files.holds c.read_language.new.files) (g.F.Files.faults c.args.files.now)
     (g.F.Files.faults c.read_language.new.files) (g.O.Sink.written c.args.out.now) (g.O.Sink.written c.read_language.new.out)
     (g.O.Sink.faults c.args.out.now) (g.O.Sink.faults c.read_language.new.out) c.args.steps.now new c.args.definition.now
-    c.args.script.now c.in-Ok.language.definition c.play_file.result c.in-Ok.ensures.holds c.in-Ok.ensures.entries
+    c.args.script.now c.in-Ok.language c.play_file.result c.in-Ok.ensures.holds c.in-Ok.ensures.entries
     (ap g.O.Sink.written c.in-Ok.ensures.quiet) (ap g.O.Sink.faults c.in-Ok.ensures.quiet) c.in-Ok.ensures.ok
     c.play_file.ensures

@@ -18,6 +18,6 @@ returns g c =
     talked_on (g.F.Files.holds c.args.files.now) (g.F.Files.holds c.read_language.new.files) (g.F.Files.faults c.args.files.now)
     (g.F.Files.faults c.read_language.new.files) (g.O.Sink.written c.args.out.now) (g.O.Sink.written c.read_language.new.out)
     (g.O.Sink.faults c.args.out.now) (g.O.Sink.faults c.read_language.new.out) c.args.steps.now new input input' c.args.definition.now
-    c.in-Ok.language.definition c.talk.result c.in-Ok.ensures.holds c.in-Ok.ensures.entries
+    c.in-Ok.language c.talk.result c.in-Ok.ensures.holds c.in-Ok.ensures.entries
     (ap g.O.Sink.written c.in-Ok.ensures.quiet) (ap g.O.Sink.faults c.in-Ok.ensures.quiet) c.in-Ok.ensures.ok
     c.talk.ensures

@@ -27,7 +27,7 @@ returns-in-Ok-language_of-clause-ok g c = record {
   bytes = c.in-Ok.bytes.items;
   are = read_short (g.F.Files.holds c.args.files.now) c.args.file.now MOST_DEFINITION_BYTES c.in-Ok.bytes.items c.in-Ok.ensures.front
       (subst (λ l. length l ≤ MOST_DEFINITION_BYTES) c.as_slice-text.ensures.value c.if-text-gt-MOST_DEFINITION_BYTES.false);
-  accepted = subst (λ l. IsAccepted l c.in-Ok-language_of.language.definition) c.as_slice-text.ensures.value c.in-Ok-language_of.ensures.ok;
+  accepted = subst (λ l. IsAccepted l c.in-Ok-language_of.language) c.as_slice-text.ensures.value c.in-Ok-language_of.ensures.ok;
 }
 
 pub returns-clause-err : goal.returns-clause-err

@@ -7,7 +7,7 @@ pub bounds-as_slice-list : goal.bounds-as_slice-list
 bounds-as_slice-list c =
     subst (λ ls. c.in-List.list < length ls) (sym c.as_slice.ensures)
     (list_in c.args.definition.now c.args.tree.now c.shape.result.now c.in-List.list c.in-List.elements
-    c.in-List.unfinished c.requires.shaped c.shape.ensures c.in-List.is)
+    c.in-List.unfinished c.requires.formed c.shape.ensures c.in-List.is)
 
 pub returns-in-List-clause-some : goal.returns-in-List-clause-some
 returns-in-List-clause-some c =
@@ -16,7 +16,7 @@ returns-in-List-clause-some c =
     (read_at c.as_slice.result.now c.args.definition.now.lists c.in-List.list c.index-as_slice-list.result
     c.as_slice.ensures
     (list_in c.args.definition.now c.args.tree.now c.shape.result.now c.in-List.list c.in-List.elements
-    c.in-List.unfinished c.requires.shaped c.shape.ensures c.in-List.is) c.index-as_slice-list.is)
+    c.in-List.unfinished c.requires.formed c.shape.ensures c.in-List.is) c.index-as_slice-list.is)
     (ap length c.as_slice-in-List.ensures) refl
 
 pub returns-in_default : goal.returns-in_default

@@ -1,7 +1,7 @@
 use Rattle.std.proofs.Common.{true, true≢false, sym, subst, ◌∙◌}
 use Rattle.psg_session.specs.Outcomes.{IsMade}
 use Rattle.psg_script.specs.declared.command.Command.TheVariants.{Close}
-use Rattle.psg_session.proofs.ChangeLaws.{end_is_list, found_shaped}
+use Rattle.psg_session.proofs.ChangeLaws.{end_is_list, found_formed}
 use Rattle.psg_session.proofs.ChangeClose.{close_nowhere, close_refused, close_made}
 use Rattle.psg_session.proofs.changes.close.Goals as goal
 
@@ -12,9 +12,9 @@ returns-in-Err c =
 
 pub is_unfinished-requires : goal.is_unfinished-requires
 is_unfinished-requires c =
-    let shaped = found_shaped c.args.language.now.definition c.args.editor.now c.args.place.now c.in-Ok.found
+    let formed = found_formed c.args.language.now.definition c.args.editor.now c.args.place.now c.in-Ok.found
     c.requires.editor c.in-Ok.ensures.ok in
-    record { shaped = shaped }
+    record { formed = formed }
 
 pub returns-then-not-is_unfinished : goal.returns-then-not-is_unfinished
 returns-then-not-is_unfinished c =

@@ -1,7 +1,7 @@
 use Rattle.std.proofs.Common.{sym, subst, true≢false, ◌∙◌}
 use Rattle.psg_script.specs.declared.command.Command.TheVariants.{Cut}
 use Rattle.psg_session.specs.Outcomes.{IsMade}
-use Rattle.psg_session.proofs.ChangeLaws.{found_shaped, kind_there}
+use Rattle.psg_session.proofs.ChangeLaws.{found_formed, kind_there}
 use Rattle.psg_session.proofs.ChangeCut.{cut_nowhere, cut_declares, cut_made}
 use Rattle.psg_session.proofs.changes.cut.Goals as goal
 
@@ -11,15 +11,15 @@ returns-in-Err c =
 
 pub kind_of-kind-requires : goal.kind_of-kind-requires
 kind_of-kind-requires c =
-    let shaped = found_shaped c.args.language.now.definition c.args.editor.now c.args.place.now c.in-Ok.found
+    let formed = found_formed c.args.language.now.definition c.args.editor.now c.args.place.now c.in-Ok.found
     c.requires.editor c.in-Ok.ensures.ok in
-    record { shaped = shaped }
+    record { formed = formed }
 
 pub is_declaring-requires-clause-kind : goal.is_declaring-requires-clause-kind
 is_declaring-requires-clause-kind c =
     kind_there c.args.language.now.definition c.requires.language.sound c.in-Ok.found.node.now
     c.kind_of-kind.result
-    (found_shaped c.args.language.now.definition c.args.editor.now c.args.place.now c.in-Ok.found c.requires.editor
+    (found_formed c.args.language.now.definition c.args.editor.now c.args.place.now c.in-Ok.found c.requires.editor
     c.in-Ok.ensures.ok) c.kind_of-kind.ensures
 
 pub returns-then-is_declaring : goal.returns-then-is_declaring
@@ -31,7 +31,7 @@ pub blank-requires : goal.blank-requires
 blank-requires c =
     kind_there c.args.language.now.definition c.requires.language.sound c.in-Ok.found.node.now
     c.kind_of-kind.result
-    (found_shaped c.args.language.now.definition c.args.editor.now c.args.place.now c.in-Ok.found c.requires.editor
+    (found_formed c.args.language.now.definition c.args.editor.now c.args.place.now c.in-Ok.found c.requires.editor
     c.in-Ok.ensures.ok) c.kind_of-kind.ensures
 
 pub returns : goal.returns
@@ -39,7 +39,7 @@ returns c =
     let def = c.args.language.now.definition in
     let found = c.in-Ok.found in
     let there = kind_there def c.requires.language.sound found.node.now c.kind_of-kind.result
-    (found_shaped def c.args.editor.now c.args.place.now found c.requires.editor c.in-Ok.ensures.ok)
+    (found_formed def c.args.editor.now c.args.place.now found c.requires.editor c.in-Ok.ensures.ok)
     c.kind_of-kind.ensures in
     subst (IsMade def c.args.editor.now (Cut c.args.place.now)) (sym c.in_ok-made.ensures)
     (cut_made def c.args.editor.now c.args.place.now found c.in-Ok.ensures.ok c.kind_of-kind.result

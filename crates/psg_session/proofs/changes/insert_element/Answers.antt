@@ -4,8 +4,9 @@ use Rattle.psg_script.specs.declared.command.Command.TheVariants.{Insert}
 use Rattle.psg_session.specs.declared.edits.Edit.TheVariants.{Add}
 use Rattle.psg_session.specs.declared.judging.Trial.TheVariants.{Grows}
 use Rattle.psg_session.specs.Outcomes.{IsFreshAnswer, IsMade, made_of}
-use Rattle.psg_session.proofs.ChangeLaws.{found_shaped}
+use Rattle.psg_session.proofs.ChangeLaws.{found_formed}
 use Rattle.psg_session.proofs.ChangeInsert.{insert_nowhere, insert_no_list, insert_behind, insert_refused, insert_made}
+use Rattle.psg_session.proofs.NewTrees.{quiet_slots}
 use Rattle.psg_session.proofs.changes.insert_element.Goals as goal
 
 pub returns-in-Err : goal.returns-in-Err
@@ -15,9 +16,9 @@ returns-in-Err c =
 
 pub as_list-requires : goal.as_list-requires
 as_list-requires c =
-    let shaped = found_shaped c.args.language.now.definition c.args.editor.now c.args.place.now c.in-Ok.found
+    let formed = found_formed c.args.language.now.definition c.args.editor.now c.args.place.now c.in-Ok.found
     c.requires.editor c.in-Ok.ensures.ok in
-    record { shaped = shaped }
+    record { formed = formed }
 
 pub returns-in_default : goal.returns-in_default
 returns-in_default c =
@@ -53,4 +54,4 @@ returns c =
     (made_of Grows (Add found.path.now c.args.number c.in-Ok-2.fresh) cursor)) (sym c.in_ok-cursor.ensures)
     (insert_made def c.args.editor.now c.args.place.now c.args.number c.args.name.now c.args.arguments.now found
     c.in-Ok.ensures.ok c.in-Some.list c.in-Some.ensures.some c.requires.language.sound c.if-list-number.false
-    o leaves named of gives c.in-Ok-2.fresh is_fresh))
+    o leaves named of gives (quiet_slots def c.requires.language.accepted) c.in-Ok-2.fresh is_fresh))

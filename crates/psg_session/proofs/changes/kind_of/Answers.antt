@@ -5,13 +5,13 @@ use Rattle.psg_session.proofs.changes.kind_of.Goals as goal
 pub bounds-as_slice-op : goal.bounds-as_slice-op
 bounds-as_slice-op c =
     subst (λ os. c.in-Op.op < length os) (sym c.as_slice.ensures)
-    (operator_in c.args.definition.now c.args.tree.now c.shape.result.now c.in-Op.op _ c.requires.shaped
+    (operator_in c.args.definition.now c.args.tree.now c.shape.result.now c.in-Op.op _ c.requires.formed
     c.shape.ensures c.in-Op.is)
 
 pub bounds-as_slice-op-in-Op : goal.bounds-as_slice-op-in-Op
 bounds-as_slice-op-in-Op c =
     subst (λ os. c.in-Op.op < length os) (sym c.as_slice.ensures)
-    (operator_in c.args.definition.now c.args.tree.now c.shape.result.now c.in-Op.op _ c.requires.shaped
+    (operator_in c.args.definition.now c.args.tree.now c.shape.result.now c.in-Op.op _ c.requires.formed
     c.shape.ensures c.in-Op.is)
 
 pub returns-in-Op : goal.returns-in-Op
@@ -20,7 +20,7 @@ returns-in-Op c =
     (get_or c.as_slice.result.now c.in-Op.op c.index-as_slice-op.result) c.shape.ensures c.in-Op.is
     (read_at c.as_slice.result.now c.args.definition.now.operators c.in-Op.op c.index-as_slice-op.result
     c.as_slice.ensures
-    (operator_in c.args.definition.now c.args.tree.now c.shape.result.now c.in-Op.op _ c.requires.shaped
+    (operator_in c.args.definition.now c.args.tree.now c.shape.result.now c.in-Op.op _ c.requires.formed
     c.shape.ensures c.in-Op.is) c.index-as_slice-op.is
     ∙ ap Some c.index-as_slice-op.is)
 

@@ -2,6 +2,7 @@ use Rattle.std.proofs.Common.{sym, subst}
 use Rattle.psg_script.specs.declared.command.Command.TheVariants.{Refine}
 use Rattle.psg_session.specs.Outcomes.{IsFreshAnswer, IsMade}
 use Rattle.psg_session.proofs.ChangeRefine.{refine_nowhere, refine_no_hole, refine_refused, refine_made}
+use Rattle.psg_session.proofs.NewTrees.{quiet_slots}
 use Rattle.psg_session.proofs.changes.refine.Goals as goal
 
 pub returns-in-Err : goal.returns-in-Err
@@ -33,5 +34,5 @@ returns c =
     subst (IsMade def c.args.editor.now (Refine c.args.place.now c.args.name.now c.args.arguments.now))
     (sym c.in_ok-made.ensures)
     (refine_made def c.args.editor.now c.args.place.now c.args.name.now c.args.arguments.now found c.in-Ok.ensures.ok
-    c.requires.language.sound c.in-Some.phylum c.in-Some.ensures.some o leaves named of gives c.requires.editor
-    c.in-Ok-2.fresh is_fresh)
+    c.requires.language.sound c.in-Some.phylum c.in-Some.ensures.some o leaves named of gives
+    (quiet_slots def c.requires.language.accepted) c.requires.editor c.in-Ok-2.fresh is_fresh)

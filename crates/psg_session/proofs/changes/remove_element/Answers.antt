@@ -4,7 +4,7 @@ use Rattle.psg_script.specs.declared.command.Command.TheVariants.{Remove}
 use Rattle.psg_session.specs.declared.edits.Edit.TheVariants.{Take}
 use Rattle.psg_session.specs.declared.judging.Trial.TheVariants.{Loosens}
 use Rattle.psg_session.specs.Outcomes.{IsMade, made_of}
-use Rattle.psg_session.proofs.ChangeLaws.{found_shaped}
+use Rattle.psg_session.proofs.ChangeLaws.{found_formed}
 use Rattle.psg_session.proofs.ChangeRemove.{remove_nowhere, remove_no_list, remove_behind, remove_made}
 use Rattle.psg_session.proofs.changes.remove_element.Goals as goal
 
@@ -15,9 +15,9 @@ returns-in-Err c =
 
 pub as_list-requires : goal.as_list-requires
 as_list-requires c =
-    let shaped = found_shaped c.args.language.now.definition c.args.editor.now c.args.place.now c.in-Ok.found
+    let formed = found_formed c.args.language.now.definition c.args.editor.now c.args.place.now c.in-Ok.found
     c.requires.editor c.in-Ok.ensures.ok in
-    record { shaped = shaped }
+    record { formed = formed }
 
 pub returns-in_default : goal.returns-in_default
 returns-in_default c =

@@ -1,7 +1,7 @@
 use Rattle.std.proofs.Common.{false, true≢false, sym, subst, ◌∙◌}
 use Rattle.psg_session.specs.Outcomes.{IsMade}
 use Rattle.psg_script.specs.declared.command.Command.TheVariants.{Reopen}
-use Rattle.psg_session.proofs.ChangeLaws.{end_is_list, found_shaped}
+use Rattle.psg_session.proofs.ChangeLaws.{end_is_list, found_formed}
 use Rattle.psg_session.proofs.ChangeReopen.{reopen_nowhere, reopen_refused, reopen_made}
 use Rattle.psg_session.proofs.changes.reopen.Goals as goal
 
@@ -12,9 +12,9 @@ returns-in-Err c =
 
 pub may_reopen-requires : goal.may_reopen-requires
 may_reopen-requires c =
-    let shaped = found_shaped c.args.language.now.definition c.args.editor.now c.args.place.now c.in-Ok.found
+    let formed = found_formed c.args.language.now.definition c.args.editor.now c.args.place.now c.in-Ok.found
     c.requires.editor c.in-Ok.ensures.ok in
-    record { shaped = shaped }
+    record { formed = formed }
 
 pub returns-then-not-may_reopen : goal.returns-then-not-may_reopen
 returns-then-not-may_reopen c =

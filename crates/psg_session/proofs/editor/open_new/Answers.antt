@@ -1,15 +1,15 @@
 use Rattle.std.proofs.Common.{Some, Ok, Err, sym, ap, subst, ◌∙◌, true≢false}
-use Rattle.psg_cache.specs.Shaped.{IsShaped}
-use Rattle.psg_cache.proofs.ShapedTrees.{blank_shaped}
 use Rattle.psg_session.specs.declared.judging.Trial.TheVariants.{Opens}
 use Rattle.psg_session.specs.Outcomes.{IsJudged}
 use Rattle.psg_session.specs.Sessions.{state_of}
 use Rattle.psg_session.specs.Shrinking.{IsSmallFor}
 use Rattle.psg_session.proofs.Carrying.{new_declaring, new_opened, new_refused, new_unknown}
+use Rattle.psg_session.proofs.NewTrees.{blank_formed}
 use Rattle.psg_session.proofs.Opening.{has_kind, one_kind}
 use Rattle.psg_session.proofs.Smaller.{blank_small}
 use Rattle.psg_session.proofs.Ticking.{new_counted}
 use Rattle.psg_session.proofs.editor.open_new.Goals as goal
+use Rattle.psg_grammar.specs.WellFormed.{WellFormed}
 
 pub kind_named-requires : goal.kind_named-requires
 kind_named-requires g c = c.requires.language.sound
@@ -31,8 +31,9 @@ returns-then-is_declaring-clause-outcome g c = new_declaring c.args.language.now
 pub note_of-noted-requires-clause-formed : goal.note_of-noted-requires-clause-formed
 note_of-noted-requires-clause-formed g c = (
   c.in-Some.kind,
-  subst (λ f. IsShaped c.args.language.now.definition f c.in-Some.kind) (sym c.in_ok-tree.ensures)
-      (blank_shaped c.args.language.now.definition c.in-Some.kind (has_kind c.args.language.now.definition c.in-Some.kind c.as_str.result.now c.in-Some.ensures.found)),
+  subst (λ f. WellFormed c.args.language.now.definition f c.in-Some.kind) (sym c.in_ok-tree.ensures)
+      (blank_formed c.args.language.now.definition c.in-Some.kind (has_kind c.args.language.now.definition c.in-Some.kind c.as_str.result.now c.in-Some.ensures.found)
+      (λ declares. true≢false (sym (c.is_declaring.ensures.1 declares) ∙ c.if-is_declaring.false))),
 )
 
 pub returns-in_err-note-clause-ticks : goal.returns-in_err-note-clause-ticks
@@ -75,7 +76,8 @@ returns-clause-outcome g c =
     new_opened def c.args.editor.now c.args.name.now kind named
     (one_kind def c.requires.language.sound kind c.args.name.now named)
     (λ declares. true≢false (sym (c.is_declaring.ensures.1 declares) ∙ c.if-is_declaring.false))
-    (blank_shaped def kind (has_kind def kind c.as_str.result.now c.in-Some.ensures.found)) c.in-Ok.note
+    (blank_formed def kind (has_kind def kind c.as_str.result.now c.in-Some.ensures.found)
+    (λ declares. true≢false (sym (c.is_declaring.ensures.1 declares) ∙ c.if-is_declaring.false))) c.in-Ok.note
     (subst (λ f. IsJudged def Opens f (Ok c.in-Ok.note)) c.in_ok-tree.ensures
     (subst (IsJudged def Opens c.in_ok-tree.tree) c.in-Ok.is
     (c.in_ok-note.ensures.judged def c.in_ok-tree.tree c.note_of-noted.ensures.noted

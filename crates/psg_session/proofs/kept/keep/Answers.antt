@@ -5,10 +5,10 @@ use Rattle.psg_terms.specs.Names.{Name}
 use Rattle.psg_world.specs.Files.{Held, entries_after_write, OthersStand, writing}
 use Rattle.psg_library.specs.declared.fragment.SavedFragment.{SavedFragment as Saved}
 use Rattle.psg_library.specs.Keeping.{bytes_of}
+use Rattle.psg_library.proofs.Written.{kind_there}
 use Rattle.psg_session.specs.declared.kept.TheConstants.{MOST_KEPT_BYTES}
 use Rattle.psg_session.specs.Replies.{answered}
 use Rattle.psg_session.specs.Shelf.{saved_at}
-use Rattle.psg_session.proofs.ChangeLaws.{has_shape_kind}
 use Rattle.psg_session.proofs.KeptLaws.{keep_long, keep_lost, keep_missing, keep_stopped, keep_stored}
 use Rattle.psg_session.proofs.Options.{only_none}
 use Rattle.psg_session.proofs.Shelving.{kept_at}
@@ -26,7 +26,7 @@ fragment_bytes-requires-clause-kind g c =
     let there : saved_at c.args.editor.now.saved c.args.name.now ≡ Some x =
     ap (λ (xs : List Saved). saved_at xs c.args.name.now) (sym c.as_slice.ensures) ∙ sym c.saved_named.ensures
     ∙ ap option_copied c.in-Some.is in
-    has_shape_kind c.args.language.now.definition c.requires.language.sound x.tree [] x.kind
+    kind_there c.args.language.now.definition c.requires.language.sound x.tree [] x.kind
     (kept_at c.args.language.now.definition c.args.editor.now.saved c.args.name.now x there c.requires.editor.saved).0
 
 pub returns-then-shown-gt-MOST_KEPT_BYTES-clause-reached : goal.returns-then-shown-gt-MOST_KEPT_BYTES-clause-reached

@@ -1,5 +1,4 @@
 use Rattle.std.proofs.Common.{inl, inr, sym, ◌∙◌, true≢false}
-use Rattle.psg_cache.proofs.FormedTrees.{shaped_of_formed}
 use Rattle.psg_grammar.specs.WellFormed.{WellFormed}
 use Rattle.psg_library.specs.declared.fragment.SavedFragment.{SavedFragment as Saved}
 use Rattle.psg_library.specs.Keeping.{IsFirstFault, IsKept, OrMemory}
@@ -26,7 +25,6 @@ returns-clause-fragment g c =
       c.if-bytes-gt-MOST_KEPT_BYTES.false,
       ok_at (IsKept def c.args.bytes.now) c.read_fragment-found.result x c.in-Ok.is c.read_fragment-found.ensures.kept,
       (λ big. true≢false (sym (c.is_big.ensures.1 big) ∙ c.if-is_big.false)),
-      shaped_of_formed def x.tree x.kind
-          (ok_at (λ (s : Saved). WellFormed def s.tree s.kind) c.read_fragment-found.result x c.in-Ok.is
-          c.read_fragment-found.ensures.formed),
+      ok_at (λ (s : Saved). WellFormed def s.tree s.kind) c.read_fragment-found.result x c.in-Ok.is
+          c.read_fragment-found.ensures.formed,
     )

@@ -15,8 +15,8 @@ counted-nodes-requires c = rw c.tree-tree.ensures
 
 pub returns : goal.returns
 returns c =
-    extent_is c.args.language.now c.requires.language c.args.note.now c.requires.noted c.requires.formed.0
-    c.requires.formed.1 _ _ _ (mark_of c.in_ok-mark.mark)
+    extent_is c.args.language.now c.requires.language c.args.note.now c.requires.noted
+    _ _ _ (mark_of c.in_ok-mark.mark)
     (c.counted-nodes.ensures ∙ ap nodes_of c.tree-tree.ensures)
     (c.length_of-bytes.ensures ∙ ap length (c.in_ok-text.ensures
     ∙ ap (text_of c.args.language.now.definition) c.tree-tree.ensures))

@@ -1,12 +1,12 @@
 use Rattle.std.proofs.Common.{inl, inr, refl, subst, arith}
-use Rattle.psg_session.proofs.Offers.{element_frames_are, element_is_site, no_element_frames, site_shaped, some_element_frames}
+use Rattle.psg_session.proofs.Offers.{element_frames_are, element_is_site, no_element_frames, site_formed, some_element_frames}
 use Rattle.psg_session.proofs.menus.element_site.Goals as goal
 
 pub as_list-requires : goal.as_list-requires
 as_list-requires c = record {
-  shaped =
+  formed =
       let f = c.args.found in
-      site_shaped c.args.definition.now c.requires.version.0 f.held.now.note c.requires.version.1 f.path.now f.node.now c.requires.node;
+      site_formed c.args.definition.now c.requires.version.0 f.held.now.note c.requires.version.1 f.path.now f.node.now c.requires.node;
 }
 
 pub returns-in_default : goal.returns-in_default

@@ -95,7 +95,7 @@ names-kept-requires-clause-names g c =
     let tree = tree_in f.held.now.note in
     let are = c.as_slice.ensures.value ∙ c.in_ok-candidates.ensures ∙ ap (λ t. in_byte_order (occurring t)) c.tree.ensures in
     subst (AllByRecursion (IsName def)) (sym are)
-    (candidates_are def tree f.held.now.kind (opened_version def e f.held.now c.requires.editor found.held).shaped.0)
+    (candidates_are def tree f.held.now.kind (opened_version def e f.held.now c.requires.editor found.held).formed.0)
 
 pub returns-in_err-reply-clause-ticks : goal.returns-in_err-reply-clause-ticks
 returns-in_err-reply-clause-ticks g c =

@@ -4,7 +4,7 @@ use Rattle.psg_script.specs.declared.command.Command.TheVariants.{Paste}
 use Rattle.psg_session.specs.declared.edits.Edit.TheVariants.{Add}
 use Rattle.psg_session.specs.declared.judging.Trial.TheVariants.{Grows}
 use Rattle.psg_session.specs.Outcomes.{IsMade, made_of}
-use Rattle.psg_session.proofs.ChangeLaws.{found_shaped}
+use Rattle.psg_session.proofs.ChangeLaws.{found_formed}
 use Rattle.psg_session.proofs.ChangePaste.{paste_behind, paste_in_made, paste_no_list, paste_nowhere, paste_other_in}
 use Rattle.psg_session.proofs.pasting.paste_element.Goals as goal
 
@@ -15,9 +15,9 @@ returns-in-Err c =
 
 pub as_list-requires : goal.as_list-requires
 as_list-requires c =
-    let shaped = found_shaped c.args.language.now.definition c.args.editor.now c.args.place.now c.in-Ok.source.found
+    let formed = found_formed c.args.language.now.definition c.args.editor.now c.args.place.now c.in-Ok.source.found
     c.requires.editor c.in-Ok.ensures.ok.found in
-    record { shaped = shaped }
+    record { formed = formed }
 
 pub returns-in_default : goal.returns-in_default
 returns-in_default c =

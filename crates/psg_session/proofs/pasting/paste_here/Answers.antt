@@ -3,7 +3,7 @@ use Rattle.psg_grammar.specs.declared.types.Kind.{Kind}
 use Rattle.psg_grammar.specs.Kinds.{IsOfKind}
 use Rattle.psg_script.specs.declared.command.Command.TheVariants.{Paste}
 use Rattle.psg_session.specs.Outcomes.{IsMade}
-use Rattle.psg_session.proofs.ChangeLaws.{found_shaped}
+use Rattle.psg_session.proofs.ChangeLaws.{found_formed}
 use Rattle.psg_session.proofs.ChangePaste.{paste_made, paste_no_hole, paste_nowhere, paste_other}
 use Rattle.psg_session.proofs.pasting.paste_here.Goals as goal
 
@@ -14,9 +14,9 @@ returns-in-Err c =
 
 pub is_empty_place-requires : goal.is_empty_place-requires
 is_empty_place-requires c =
-    let shaped = found_shaped c.args.language.now.definition c.args.editor.now c.args.place.now c.in-Ok.source.found
+    let formed = found_formed c.args.language.now.definition c.args.editor.now c.args.place.now c.in-Ok.source.found
     c.requires.editor c.in-Ok.ensures.ok.found in
-    record { shaped = shaped }
+    record { formed = formed }
 
 pub returns-then-not-is_empty_place : goal.returns-then-not-is_empty_place
 returns-then-not-is_empty_place c =
@@ -25,9 +25,9 @@ returns-then-not-is_empty_place c =
 
 pub kind_of-kind-requires : goal.kind_of-kind-requires
 kind_of-kind-requires c =
-    let shaped = found_shaped c.args.language.now.definition c.args.editor.now c.args.place.now c.in-Ok.source.found
+    let formed = found_formed c.args.language.now.definition c.args.editor.now c.args.place.now c.in-Ok.source.found
     c.requires.editor c.in-Ok.ensures.ok.found in
-    record { shaped = shaped }
+    record { formed = formed }
 
 pub returns-then-not-is_kind : goal.returns-then-not-is_kind
 returns-then-not-is_kind c =

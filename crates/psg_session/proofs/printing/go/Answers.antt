@@ -3,7 +3,7 @@ use Rattle.psg_script.specs.declared.command.Command.TheVariants.{Goto}
 use Rattle.psg_unparse.specs.Spots.{printed_of}
 use Rattle.psg_session.specs.declared.replies.Reply.TheVariants.{Refused}
 use Rattle.psg_session.proofs.Asking.{stayed}
-use Rattle.psg_session.proofs.ChangeLaws.{found_shaped}
+use Rattle.psg_session.proofs.ChangeLaws.{found_formed}
 use Rattle.psg_session.proofs.Showing.{go_found, go_not_found, go_some}
 use Rattle.psg_session.proofs.printing.go.Goals as goal
 
@@ -27,9 +27,9 @@ returns-in_default c =
 pub goto_line-requires-clause-sound : goal.goto_line-requires-clause-sound
 goto_line-requires-clause-sound c = c.requires.language.sound
 
-pub goto_line-requires-clause-shaped : goal.goto_line-requires-clause-shaped
-goto_line-requires-clause-shaped c =
-    found_shaped c.args.language.now.definition c.args.editor.now c.args.place.now c.in-Ok.found c.requires.editor
+pub goto_line-requires-clause-formed : goal.goto_line-requires-clause-formed
+goto_line-requires-clause-formed c =
+    found_formed c.args.language.now.definition c.args.editor.now c.args.place.now c.in-Ok.found c.requires.editor
     c.in-Ok.ensures.ok
 
 pub returns : goal.returns

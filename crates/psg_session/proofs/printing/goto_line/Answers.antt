@@ -7,7 +7,7 @@ use Rattle.psg_session.proofs.printing.goto_line.Goals as goal
 
 pub kind_name-name-requires : goal.kind_name-name-requires
 kind_name-name-requires c =
-    kind_there c.args.definition.now c.requires.sound c.args.node.now c.kind_of-kind.result c.requires.shaped
+    kind_there c.args.definition.now c.requires.sound c.args.node.now c.kind_of-kind.result c.requires.formed
     c.kind_of-kind.ensures
 
 pub returns : goal.returns

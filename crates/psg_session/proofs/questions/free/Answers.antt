@@ -32,4 +32,4 @@ returns c =
     (sym (ap (map string_bytes) lines))
     (free_opened c.args.language.now.definition c.args.editor.now c.in-Some.held c.in-Some.is c.requires.editor
     (string_bytes line)
-    (c.in_ok-line.ensures ∙ ap (λ (cols : List NameCol). names_line (names_without cols)) columns)))
+    (c.in_ok-line.ensures ∙ ap (λ (cols : List NameCol). names_line (names_without c.args.language.now.definition cols)) columns)))

@@ -1,13 +1,12 @@
 use Rattle.std.proofs.Common.{◌≡◌, ◌++◌, drop}
 use Rattle.std.specs.Prelude.{string_bytes}
 use Rattle.psg_terms.specs.Signature.{AreTerms}
-use Rattle.psg_scope.specs.Headers.{keys}
 use Rattle.psg_session.specs.Answers.{entities_text}
 use Rattle.psg_session.proofs.questions.push_entities.Given as goal
 
-abbrev pub invariant-loop-column : goal.invariant-loop-column
-invariant-loop-column l = record {
+abbrev pub invariant-loop-name : goal.invariant-loop-name
+invariant-loop-name l = record {
   terms : AreTerms l.signature l.rest;
-  written : string_bytes l.text ++ entities_text l.signature (keys (drop l.column-index l.names)) l.rest
-      ≡ string_bytes l.initial.text ++ entities_text l.signature (keys l.names) l.entities;
+  written : string_bytes l.text ++ entities_text l.signature (drop l.name-index l.names) l.rest
+      ≡ string_bytes l.initial.text ++ entities_text l.signature l.names l.entities;
 }

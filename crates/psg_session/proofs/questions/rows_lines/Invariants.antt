@@ -1,9 +1,8 @@
 use Rattle.std.proofs.Common.{◌≡◌, map, take}
 use Rattle.std.specs.Prelude.{string_bytes}
-use Rattle.psg_scope.specs.Headers.{keys}
 use Rattle.psg_session.specs.Answers.{row_line}
 use Rattle.psg_session.proofs.questions.rows_lines.Given as goal
 
 abbrev pub invariant-loop-row : goal.invariant-loop-row
 invariant-loop-row l =
-    map string_bytes l.lines.items ≡ map (row_line l.signature (keys l.names)) (take l.row-index l.rows)
+    map string_bytes l.lines.items ≡ map (row_line l.signature l.names) (take l.row-index l.rows)

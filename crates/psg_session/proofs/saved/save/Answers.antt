@@ -4,7 +4,7 @@ use Rattle.psg_terms.specs.Names.{Name}
 use Rattle.psg_grammar.specs.Fragments.{Fragment}
 use Rattle.psg_library.specs.declared.fragment.SavedFragment.{SavedFragment as Saved}
 use Rattle.psg_session.specs.Shelf.{saved_with, IsFull}
-use Rattle.psg_session.proofs.ChangeLaws.{found_shaped}
+use Rattle.psg_session.proofs.ChangeLaws.{found_formed}
 use Rattle.psg_session.proofs.Shelving.{save_done, save_full, save_nowhere}
 use Rattle.psg_session.proofs.saved.save.Goals as goal
 
@@ -21,9 +21,9 @@ returns-then-is_full c =
 
 pub kind_of-kind-requires : goal.kind_of-kind-requires
 kind_of-kind-requires c =
-    let shaped = found_shaped c.args.language.now.definition c.args.editor.now c.args.place.now c.in-Ok.found
+    let formed = found_formed c.args.language.now.definition c.args.editor.now c.args.place.now c.in-Ok.found
     c.requires.editor c.in-Ok.ensures.ok in
-    record { shaped = shaped }
+    record { formed = formed }
 
 pub returns : goal.returns
 returns c =

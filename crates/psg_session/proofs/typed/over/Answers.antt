@@ -2,7 +2,7 @@ use Rattle.std.proofs.Common.{Err, Ok, refl, sym, subst}
 use Rattle.psg_script.specs.declared.command.Command.TheVariants.{Over}
 use Rattle.psg_session.specs.Outcomes.{IsMade}
 use Rattle.psg_session.specs.Typed.{HasRead, HasTree, IsTextAnswer}
-use Rattle.psg_session.proofs.ChangeLaws.{found_shaped}
+use Rattle.psg_session.proofs.ChangeLaws.{found_formed}
 use Rattle.psg_session.proofs.ChangeOver.{made_spends, over_made, over_nowhere, over_refused, read_ticks, refused_spends, unread_ticks}
 use Rattle.psg_session.proofs.typed.over.Goals as goal
 
@@ -23,9 +23,9 @@ returns-in-Err-clause-spends g c =
 
 pub kind_of-kind-requires : goal.kind_of-kind-requires
 kind_of-kind-requires g c =
-    let shaped = found_shaped c.args.language.now.definition c.args.editor.now c.args.place.now c.in-Ok.found
+    let formed = found_formed c.args.language.now.definition c.args.editor.now c.args.place.now c.in-Ok.found
     c.requires.editor c.in-Ok.ensures.ok in
-    record { shaped = shaped }
+    record { formed = formed }
 
 pub returns-in_err-new-clause-ticks : goal.returns-in_err-new-clause-ticks
 returns-in_err-new-clause-ticks g c =

@@ -1,11 +1,9 @@
-use Rattle.psg_session.proofs.Measured.{extent_in, held_formed, held_noted}
+use Rattle.psg_session.proofs.Measured.{extent_in, held_noted}
 use Rattle.psg_session.proofs.session.Session.extent.Goals as goal
 
-pub extent_of-requires-clause-noted : goal.extent_of-requires-clause-noted
-extent_of-requires-clause-noted c = held_noted c.self.inside.parts c.self.invariant c.in-Some.held c.in-Some.is
-
-pub extent_of-requires-clause-formed : goal.extent_of-requires-clause-formed
-extent_of-requires-clause-formed c = held_formed c.self.inside.parts c.self.invariant c.in-Some.held c.in-Some.is
+pub measured-requires : goal.measured-requires
+measured-requires c =
+    record { noted = held_noted c.self.inside.parts c.self.invariant c.in-Some.held c.in-Some.is }
 
 pub returns-in_ok-extent-in-Some : goal.returns-in_ok-extent-in-Some
 returns-in_ok-extent-in-Some c =
