@@ -83,7 +83,7 @@ fn only_terms(alloc: Global, rows: &[RelRow]) -> Result<Vec<Term>, AllocError>
 ///
 /// It takes one tick, and those of a climb through the frames. `Wide` is returned exactly where the node's relation
 /// with its value once more passes the limit, or a step of a node above it does, with that value as one more column.
-/// `Memory` is returned only where memory runs out. The cost is that of these evaluations.
+/// `Memory` says that memory ran out, which may be at any time. The cost is that of these evaluations.
 pub fn relation_at<L: Ledger>(
     alloc: Global,
     definition: &Definition,

@@ -130,11 +130,13 @@ fn chosen<L: Ledger>(
     Ok(found)
 }
 
-/// Gives the operators of the phylum, in the definition's order, that may stand at the place that the frames stand for: those
-/// with which, under new names and some literals, the fragment has a legal completion. `used` are the names that are not new.
+/// Gives the operators of the phylum, in the definition's order, that may stand at the place that the frames stand
+/// for: those with which, with new names and some literals, the fragment is open. In an accepted language, for a
+/// well-formed fragment, that is where it has a legal completion with new names. `used` are the names that are not new.
 ///
-/// `Wide` is returned only where a relation of the fragment with one of the operators is too large, and always where besides
-/// none of the fragment itself is. An operator takes one tick, one for each of its slots, and those of a climb, or fewer.
+/// `Wide` is returned only where a relation of the fragment with one of the operators is too large, and always where
+/// besides none of the fragment itself is. An operator takes one tick, one for each of its slots, and those of a climb,
+/// or fewer.
 pub fn operators<L: Ledger>(
     alloc: Global,
     definition: &Definition,

@@ -5,7 +5,8 @@
 //! let choice = operators(alloc, &definition, frames.as_slice(), phylum, &used, &mut steps)?;
 //! ```
 //!
-//! An operator is on a menu exactly where some tree with it at the place has a legal completion.
+//! An operator is on a menu exactly where the fragment with it at the place, with new names, is open. In an accepted
+//! language, of whose fragments all are well-formed, that is where it has a legal completion with new names.
 #![tactic(auto)]
 
 mod blanks;

@@ -35,7 +35,8 @@ fn only(alloc: Global, name: &Txt) -> Result<Vec<Txt>, AllocError>
     Ok(names)
 }
 
-/// Those of the candidates with which the operator may stand at the place. `below` has the summaries of new trees for its slots.
+/// Those of the candidates with which the operator may stand at the place. `below` has the summaries of new trees for
+/// its slots.
 fn nameable<L: Ledger>(
     alloc: Global,
     definition: &Definition,
@@ -79,11 +80,13 @@ fn nameable<L: Ledger>(
     Ok(found)
 }
 
-/// Gives those of the candidates, in their order, with which the operator may stand at the place that the frames stand for: those
-/// with which, under some literals, the fragment has a legal completion.
+/// Gives those of the candidates, in their order, with which the operator may stand at the place that the frames stand
+/// for: those with which, with some literals, the fragment is open. In an accepted language, for a well-formed fragment,
+/// that is where it has a legal completion.
 ///
-/// `Wide` is returned only where a relation of the fragment with the operator and one of the candidates is too large, and always
-/// where besides none of the fragment itself is. A candidate takes one tick, one for each slot of the operator, and those of a climb, or fewer.
+/// `Wide` is returned only where a relation of the fragment with the operator and one of the candidates is too large,
+/// and always where besides none of the fragment itself is. A candidate takes one tick, one for each slot of the
+/// operator, and those of a climb, or fewer.
 pub fn names<L: Ledger>(
     alloc: Global,
     definition: &Definition,

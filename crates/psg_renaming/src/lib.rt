@@ -4,7 +4,7 @@
 //! laws::new_names(&definition); // a contract of a call that does nothing
 //! ```
 //!
-//! A name that nothing else in the fragment has is as good as any other such name. So a menu tries each operator once.
+//! A name that nothing else in the fragment has is as good as any other such name.
 #![tactic(auto)]
 
 pub mod laws;

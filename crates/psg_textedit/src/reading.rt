@@ -98,8 +98,8 @@ fn parsed<L: Ledger>(
     }
 }
 
-/// Reads the new region of a node by itself, and tells what it is read as in its place. It takes a step for each token of
-/// the region at most, and none where a token of the whole is across its border.
+/// Reads the new region of a node by itself, and tells what it is read as in its place. It counts a step for each token of
+/// the region at most.
 pub(crate) fn read_region<L: Ledger>(
     alloc: Global,
     reader: &Reader<'_>,
