@@ -6,5 +6,4 @@ mod framing;
 mod limits;
 mod little;
 mod notes;
-mod sharing;
 mod trees;
