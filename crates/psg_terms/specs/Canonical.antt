@@ -13,13 +13,16 @@ variables (variable s n) = (s, n) ∷ []
 variables (symbol c) = []
 variables (apply f a) = variables f ++ variables a
 
+-- the variables of a row from left to right, each as often as it occurs
 abbrev pub variables_of : List Term → List Variable
 variables_of [] = []
 variables_of (t ∷ row) = variables t ++ variables_of row
 
+-- whether sorts and numbers are equal; variables of different sorts differ, also with one number
 abbrev pub same_variable : Variable → Variable → Bool
 same_variable x y = (x.0 == y.0) && (x.1 == y.1)
 
+-- whether the variable is in the list
 abbrev pub is_noted : Variable → List Variable → Bool
 is_noted x [] = false
 is_noted x (y ∷ ys) = same_variable x y || is_noted x ys
@@ -28,6 +31,7 @@ is_noted x (y ∷ ys) = same_variable x y || is_noted x ys
 abbrev pub noted : List Variable → Variable → List Variable
 noted seen x = if is_noted x seen then seen else seen ++ x ∷ []
 
+-- the list with these variables at its end, in order, each that it does not have yet
 abbrev pub noted_all : List Variable → List Variable → List Variable
 noted_all seen [] = seen
 noted_all seen (x ∷ xs) = noted_all (noted seen x) xs
@@ -47,6 +51,7 @@ IsWrittenOut sig (variable s n) = only_constructor sig s ≡ None
 IsWrittenOut sig (symbol c) = Unit {0}
 IsWrittenOut sig (apply f a) = IsWrittenOut sig f × IsWrittenOut sig a
 
+-- no term of the row has a variable of a sort that is one constant
 abbrev pub AreWrittenOut : Signature → List Term → Type 0
 AreWrittenOut sig [] = Unit {0}
 AreWrittenOut sig (t ∷ row) = IsWrittenOut sig t × AreWrittenOut sig row

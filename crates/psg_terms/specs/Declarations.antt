@@ -7,6 +7,7 @@ use Rattle.psg_terms.specs.Instances.{IsGround}
 use Rattle.psg_terms.specs.declared.declare.ConDecl.{ConDecl}
 use Rattle.psg_terms.specs.declared.declare.SortDecl.{SortDecl}
 
+-- the names of the sorts, in order
 abbrev pub sort_names : List SortDecl → List Name
 sort_names [] = []
 sort_names (d ∷ ds) = d.name ∷ sort_names ds
@@ -15,6 +16,7 @@ sort_names (d ∷ ds) = d.name ∷ sort_names ds
 abbrev pub Numbered : Type 0
 Numbered = ℕ × ConDecl
 
+-- these constructors, each with the number of one sort
 abbrev pub with_sort : ℕ → List ConDecl → List Numbered
 with_sort s [] = []
 with_sort s (c ∷ cs) = (s, c) ∷ with_sort s cs
@@ -24,6 +26,7 @@ abbrev pub in_order : ℕ → List SortDecl → List Numbered
 in_order n [] = []
 in_order n (d ∷ ds) = with_sort n d.constructors ++ in_order (n + 1) ds
 
+-- the names of the constructors, in order
 abbrev pub names_in : List Numbered → List Name
 names_in [] = []
 names_in (c ∷ cs) = c.1.name ∷ names_in cs
@@ -33,9 +36,11 @@ abbrev pub arguments_in : List Numbered → List Name
 arguments_in [] = []
 arguments_in (c ∷ cs) = c.1.args ++ arguments_in cs
 
+-- the names of the constructors of all sorts, in order
 abbrev pub constructor_names : List SortDecl → List Name
 constructor_names ds = names_in (in_order 0 ds)
 
+-- the names of all arguments' sorts, in order
 abbrev pub argument_names : List SortDecl → List Name
 argument_names ds = arguments_in (in_order 0 ds)
 
@@ -52,6 +57,7 @@ pub record IsSymbol (sorts : List Name) (c : Numbered) (x : Symbol) : Type 0 whe
   pub arguments : AreNamed sorts c.1.args x.arguments
   pub sort : x.sort ≡ c.0
 
+-- each constructor is as it is written, and there are no others
 abbrev pub AreSpelled : List Name → List Numbered → List Symbol → Type 0
 AreSpelled sorts [] [] = Unit {0}
 AreSpelled sorts [] (x ∷ xs) = ⊥
@@ -64,20 +70,20 @@ pub record IsSpelled (written : List SortDecl) (sig : Signature) : Type 0 where
   pub sorts : sig.sorts ≡ sort_names written
   pub symbols : AreSpelled (sort_names written) (in_order 0 written) sig.symbols
 
--- the name at the place stands before it, and no name before the place does
+-- the name at the place occurs before it, and no name before the place does
 pub record IsFirstRepeat (names : List Name) (place : ℕ) (n : Name) : Type 0 where
   pub at : slice_get names place ≡ Some n
   pub again : is_among (take place names) n ≡ true
   pub before : has_twice (take place names) ≡ false
 
--- The first name that stands twice is a sort's. A sort's name is read before those of its constructors, and sorts and
+-- The first name that occurs twice is a sort's. A sort's name is read before those of its constructors, and sorts and
 -- constructors may share a name.
 pub record RepeatsSort (written : List SortDecl) (n : Name) : Type 0 where
   pub sort : ℕ
   pub repeat : IsFirstRepeat (sort_names written) sort n
   pub before : has_twice (constructor_names (take sort written)) ≡ false
 
--- the first name that stands twice is a constructor's
+-- the first name that occurs twice is a constructor's
 pub record RepeatsConstructor (written : List SortDecl) (n : Name) : Type 0 where
   pub place : ℕ
   pub found : Numbered
@@ -85,11 +91,12 @@ pub record RepeatsConstructor (written : List SortDecl) (n : Name) : Type 0 wher
   pub repeat : IsFirstRepeat (constructor_names written) place n
   pub before : has_twice (take (found.0 + 1) (sort_names written)) ≡ false
 
--- no name stands twice
+-- no name occurs twice
 pub record AreDistinct (written : List SortDecl) : Type 0 where
   pub sorts : has_twice (sort_names written) ≡ false
   pub constructors : has_twice (constructor_names written) ≡ false
 
+-- each of the second names is one of the first
 abbrev pub AllAmong : List Name → List Name → Type 0
 AllAmong names [] = Unit {0}
 AllAmong names (n ∷ ns) = (is_among names n ≡ true) × AllAmong names ns
@@ -102,7 +109,7 @@ pub record IsFirstMissing (sorts names : List Name) (n : Name) : Type 0 where
   pub known : AllAmong sorts front
   pub missing : is_among sorts n ≡ false
 
--- no name stands twice, and the name is the first argument's that is no sort's
+-- no name occurs twice, and the name is the first argument's that is no sort's
 pub record MissesSort (written : List SortDecl) (n : Name) : Type 0 where
   pub distinct : AreDistinct written
   pub first : IsFirstMissing (sort_names written) (argument_names written) n

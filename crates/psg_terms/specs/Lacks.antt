@@ -4,7 +4,7 @@ use Rattle.psg_terms.specs.Declarations.{IsFirstEmpty, IsFirstWide}
 use Rattle.psg_terms.specs.declared.declare.SigFault.{SigFault}
 use Rattle.psg_terms.specs.declared.declare.SigFault.TheVariants.{Repeated, UnknownSort, NoGround, OneWide, Memory}
 
--- the fault is one of terms, or want of memory
+-- the fault is one of terms, or out of memory
 abbrev pub MayLack : Signature → SigFault → Type 0
 MayLack sig (Repeated n) = ⊥
 MayLack sig (UnknownSort n) = ⊥

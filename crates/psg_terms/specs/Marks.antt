@@ -14,7 +14,7 @@ abbrev pub AreBelow : ℕ → List ℕ → Type 0
 AreBelow n [] = Unit {0}
 AreBelow n (s ∷ ss) = (s < n) × AreBelow n ss
 
--- so are those of the constructors' arguments and results
+-- the sorts of the constructors' arguments and results have numbers below n
 abbrev pub AllBelow : ℕ → List Symbol → Type 0
 AllBelow n [] = Unit {0}
 AllBelow n (x ∷ xs) = AreBelow n x.arguments × (x.sort < n) × AllBelow n xs
@@ -27,7 +27,7 @@ AreRight sig marks = (s : ℕ) → slice_get marks s ≡ Some true → IsInhabit
 abbrev pub Keeps : List Bool → Symbol → Type 0
 Keeps marks x = AreMarked marks x.arguments → slice_get marks x.sort ≡ Some true
 
--- each constructor does
+-- each constructor makes a marked sort of marked sorts, so no pass marks more
 abbrev pub AllKeep : List Bool → List Symbol → Type 0
 AllKeep marks [] = Unit {0}
 AllKeep marks (x ∷ xs) = Keeps marks x × AllKeep marks xs
@@ -37,6 +37,7 @@ abbrev pub unmarked : List Bool → ℕ
 unmarked [] = 0
 unmarked (b ∷ bs) = cond b 0 1 + unmarked bs
 
+-- the constructors as numbers
 abbrev pub con_numbers : List ConId → List ℕ
 con_numbers [] = []
 con_numbers (c ∷ cs) = c.0 ∷ con_numbers cs

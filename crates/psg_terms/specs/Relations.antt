@@ -11,7 +11,7 @@ pub data IsIn {X : Type 0} (x : X) : List X → Type 0 where
   first : {xs : List X} → IsIn x (x ∷ xs)
   later : {y : X} {xs : List X} → IsIn x xs → IsIn x (y ∷ xs)
 
--- no member stands twice
+-- no member occurs twice
 abbrev pub IsOnce : {X : Type 0} → List X → Type 0
 IsOnce [] = Unit {0}
 IsOnce (x ∷ xs) = (IsIn x xs → ⊥) × IsOnce xs
@@ -32,12 +32,13 @@ module _ (sig : Signature) (sorts : List ℕ) {C : Type 0} (Possible : C → Lis
     pub greatest : (other : List Term) → IsShape other → IsInstance row other → row ≡ other
 
   -- Each row is a shape, what is possible for a choice is among the instances of one row, no row is an instance of
-  -- another, no row stands twice, and the rows stand in byte order of their texts. So the rows are the maximal shapes, each
-  -- once.
+  -- another, no row occurs twice, and the rows are in byte order of their texts. So the rows are the maximal shapes,
+  -- each once.
   pub record IsRelation (rows : List (List Term)) : Type 0 where
     pub shapes : (row : List Term) → IsIn row rows → IsShape row
     pub covers : (choice : C) (columns : List Term) → Possible choice columns
-        → (row : List Term) × IsIn row rows × ((other : List Term) → Possible choice other → IsGroundInstance sig row other)
+        → (row : List Term) × IsIn row rows
+        × ((other : List Term) → Possible choice other → IsGroundInstance sig row other)
     pub apart : (row other : List Term) → IsIn row rows → IsIn other rows → IsInstance row other → row ≡ other
     pub once : IsOnce rows
     pub order : IsInTextOrder sig rows

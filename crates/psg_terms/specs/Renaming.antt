@@ -7,9 +7,11 @@ use Rattle.psg_terms.specs.Canonical.{Variable, same_variable, is_noted, noted_a
 use Rattle.psg_terms.specs.declared.canonical.Key.{Key}
 use Rattle.psg_terms.specs.declared.sorts.SortId.{SortId}
 
+-- the variable that a key of the program is
 abbrev pub key : Key → Variable
 key k = (k.sort.0, k.number)
 
+-- the variables that the program's keys are, in order
 abbrev pub keys : List Key → List Variable
 keys [] = []
 keys (k ∷ ks) = key k ∷ keys ks
@@ -19,6 +21,7 @@ abbrev pub place : Variable → List Variable → ℕ
 place x [] = 0
 place x (y ∷ ys) = cond (same_variable x y) 0 (place x ys + 1)
 
+-- the list with a variable in front, unless its sort is one constant
 abbrev pub open_first : Option ℕ → Variable → List Variable → List Variable
 open_first None x xs = x ∷ xs
 open_first (Some c) x xs = xs
@@ -28,6 +31,7 @@ abbrev pub opens : Signature → List Variable → List Variable
 opens sig [] = []
 opens sig (x ∷ xs) = open_first (only_constructor sig x.0) x (opens sig xs)
 
+-- the term, or the only constant of its sort
 abbrev pub written : Option ℕ → Term → Term
 written None t = t
 written (Some c) t = symbol c
@@ -35,6 +39,10 @@ written (Some c) t = symbol c
 -- a known variable is numbered by its place, from base + 1; one-constant sorts are written out
 abbrev pub numbering : Signature → ℕ → List Variable → Substitution
 numbering sig base known s n = written (only_constructor sig s) (variable s (base + place (s, n) known + 1))
+
+-- each variable's number is raised by the base
+abbrev pub raised : ℕ → Substitution
+raised base s n = variable s (base + n)
 
 -- The known variables are the old ones and the row's open ones, by first occurrence, and the row is renumbered by them.
 pub record Renumbered (sig : Signature) (base : ℕ) (old new : List Variable) (row copy : List Term) : Type 0 where
@@ -51,8 +59,8 @@ abbrev pub numbered_from : ℕ → List SortId → List Variable
 numbered_from n [] = []
 numbered_from n (s ∷ sorts) = (s.0, n) ∷ numbered_from (n + 1) sorts
 
--- The row's variables that are not among the old ones are numbered from behind them on by first occurrence, and the new ones
--- are all together; one-constant sorts are written out.
+-- The row's variables that are not among the old ones are numbered on after the old ones by first occurrence, and the
+-- new ones are all together; one-constant sorts are written out.
 pub record GoesOn (sig : Signature) (old new : List SortId) (row : List Term) : Type 0 where
   pub known : noted_all (numbered_from 1 old) (variables_of row) ≡ numbered_from 1 new
   pub written : AreWrittenOut sig row

@@ -15,7 +15,8 @@ pub record Signature : Type 0 where
 
 -- the number of a constructor's arguments that are wanted, and what it makes
 abbrev pub HasSymbol : Signature → ℕ → List ℕ → ℕ → Type 0
-HasSymbol sig c arguments sort = (s : Symbol) × (slice_get sig.symbols c ≡ Some s) × (s.arguments ≡ arguments) × (s.sort ≡ sort)
+HasSymbol sig c arguments sort = (s : Symbol) × (slice_get sig.symbols c ≡ Some s) × (s.arguments ≡ arguments)
+    × (s.sort ≡ sort)
 
 -- applied to arguments of these sorts, the term is one of the sort
 abbrev pub Takes : Signature → Term → List ℕ → ℕ → Type 0
@@ -23,6 +24,7 @@ Takes sig (variable s n) arguments sort = (s < length sig.sorts) × (arguments �
 Takes sig (symbol c) arguments sort = HasSymbol sig c arguments sort
 Takes sig (apply f a) arguments sort = (first : ℕ) × Takes sig f (first ∷ arguments) sort × Takes sig a [] first
 
+-- the term is one of the signature, of the sort, with all arguments of its constructors
 abbrev pub HasSort : Signature → Term → ℕ → Type 0
 HasSort sig t sort = Takes sig t [] sort
 
@@ -36,8 +38,10 @@ HaveSorts sig (t ∷ row) (s ∷ sorts) = HasSort sig t s × HaveSorts sig row s
 -- the numbers from n on of the constructors of a sort
 abbrev pub constructors_from : ℕ → ℕ → List Symbol → List ℕ
 constructors_from n sort [] = []
-constructors_from n sort (s ∷ rest) = cond (s.sort == sort) (n ∷ constructors_from (n + 1) sort rest) (constructors_from (n + 1) sort rest)
+constructors_from n sort (s ∷ rest) =
+    cond (s.sort == sort) (n ∷ constructors_from (n + 1) sort rest) (constructors_from (n + 1) sort rest)
 
+-- the numbers of the constructors of a sort, ascending
 abbrev pub constructors_of : Signature → ℕ → List ℕ
 constructors_of sig sort = constructors_from 0 sort sig.symbols
 
@@ -47,6 +51,7 @@ sole [] = None
 sole (c ∷ []) = Some c
 sole (c ∷ d ∷ rest) = None
 
+-- the constructor of a sort that has exactly one
 abbrev pub only_constructor : Signature → ℕ → Option ℕ
 only_constructor sig sort = sole (constructors_of sig sort)
 

@@ -5,6 +5,7 @@ use Rattle.psg_terms.specs.Shapes.{term_of}
 use Rattle.psg_terms.specs.Weight.{symbols_of, depth_of, above_of}
 use Rattle.psg_terms.specs.declared.term.Weighed.{Weighed}
 
+-- the term of a node, without its sizes
 abbrev pub weighed_term : Weighed → Term
 weighed_term w = term_of w.node
 

@@ -4,9 +4,11 @@ use Rattle.std.specs.List.{AllByRecursion}
 use Rattle.unicode_ident.specs.Ident.{is_xid_start, is_xid_continue}
 use Rattle.psg_terms.specs.Names.{Name, is_among}
 
+-- whether a word may begin with the character
 abbrev pub starts_word : ℕ → Bool
 starts_word c = is_xid_start c || (c == 95)
 
+-- whether a word may have the character after its first
 abbrev pub goes_on_word : ℕ → Bool
 goes_on_word c = is_xid_continue c || (c == 95)
 

@@ -1,11 +1,11 @@
--- What stands between the parts of a text.
+-- What is written between the parts of a text.
 use Rattle.std.specs.Prelude.{ℕ, List, [], ◌∷◌, ◌==◌, if◌then◌else◌}
 
 -- before an argument at a place
 abbrev pub before : ℕ → List ℕ
 before n = if n == 0 then (40 ∷ []) else (44 ∷ [])
 
--- behind so many arguments
+-- after that many arguments
 abbrev pub after : ℕ → List ℕ
 after n = if n == 0 then [] else (41 ∷ [])
 

@@ -1,11 +1,13 @@
 //! Rows with new numbers for their variables.
-ghost use Rattle.std.specs.Prelude.{◌≡◌, ◌+◌, ◌<◌, ◌^◌, ◌∷◌, [], length, false, true, IfOk, IfSome, IsOk, IsTrue, MatchOption, List, ℕ};
+ghost use Rattle.std.specs.Prelude.{◌≡◌, ◌+◌, ◌<◌, ◌^◌, ◌∷◌, [], length, false, true, IfOk, IfSome, IsOk, IsTrue};
+ghost use Rattle.std.specs.Prelude.{MatchOption, List, ℕ};
 ghost use Rattle.psg_terms.specs.Terms.{Term as Plain};
 ghost use Rattle.psg_terms.specs.Canonical.{Variable, is_noted, noted, IsCanonical};
 ghost use Rattle.psg_terms.specs.Instances.{HasSameInstances};
 ghost use Rattle.psg_terms.specs.Signature.{HaveSorts, AreTerms};
 ghost use Rattle.psg_terms.specs.Renaming.{keys, place, numbered_from, GoesOn, Renumbered};
 
+use crate::raising::raise_all;
 use crate::sorts::{Signature, SortId};
 use crate::term::{Node, Term};
 use indexmap::IndexSet;
@@ -14,19 +16,22 @@ use std::alloc::{AllocError, Global};
 /// A variable, by its sort and number.
 #[derive(Clone, Copy, Debug, PartialEq, Eq, Hash)]
 pub struct Key {
+    /// The sort of the variable.
     pub sort: SortId,
+    /// The number of the variable. Variables of one row are equal where sort and number are.
     pub number: u32,
 }
 
-/// The place of a variable among known ones.
+/// Returns the place of a variable among known ones.
 pub fn place_of(known: &IndexSet<Key>, sort: SortId, number: u32) -> Option<usize>
     ensures { MatchOption result (is_noted (sort.0, number) (keys known.now.keys) ≡ false)
-        (λ i. (is_noted (sort.0, number) (keys known.now.keys) ≡ true) × (i ≡ place (sort.0, number) (keys known.now.keys))) }
+        (λ i. (is_noted (sort.0, number) (keys known.now.keys) ≡ true)
+        × (i ≡ place (sort.0, number) (keys known.now.keys))) }
 {
     known.get_index_of(&Key { sort, number })
 }
 
-/// The place of a variable among known ones, of which it is one afterwards.
+/// Notes a variable among the known ones, unless it is one of them, and returns its place there.
 pub fn note(known: &mut IndexSet<Key>, sort: SortId, number: u32) -> Result<usize, AllocError>
     ensures noted { IfOk result (λ i. keys known.new.keys ≡ noted (keys known.old.keys) (sort.0, number)) }
     ensures place { IfOk result (λ i. i ≡ place (sort.0, number) (keys known.new.keys)) }
@@ -35,7 +40,7 @@ pub fn note(known: &mut IndexSet<Key>, sort: SortId, number: u32) -> Result<usiz
     Ok(added.0)
 }
 
-/// The term with numbers from base + 1 on for its variables. Where it has none, it is shared.
+/// Returns the term with numbers from base + 1 on for its variables. Where it has none, it is shared.
 #[cycle(renumber)]
 fn renumber(
     alloc: Global,
@@ -44,7 +49,8 @@ fn renumber(
     known: &mut IndexSet<Key>,
     term: &Term,
 ) -> Result<Term, AllocError>
-    ensures { IfOk result (λ t. Renumbered sig.now base (keys known.old.keys) (keys known.new.keys) (term.now ∷ []) (t ∷ [])) }
+    ensures { IfOk result (λ t. Renumbered sig.now base (keys known.old.keys) (keys known.new.keys) (term.now ∷ [])
+        (t ∷ [])) }
 {
     if term.above() == 0 {
         let copy = term.share()?;
@@ -71,7 +77,7 @@ fn renumber(
     }
 }
 
-/// The same of a row.
+/// Renumbers the terms of a row, in order.
 #[cycle(renumber)]
 fn renumber_all(
     alloc: Global,
@@ -90,7 +96,8 @@ fn renumber_all(
     Ok(copies)
 }
 
-/// The number of a place. There are too many variables if it does not fit, and then the answer is want of memory.
+/// Returns the number of a place. Where it does not fit into 32 bits, there are too many variables, and the call
+/// fails as if out of memory.
 pub fn number_of(base: usize, place: usize) -> Result<u32, AllocError>
     ensures number { IfOk result (λ n. n ≡ base + place + 1) }
     ensures fits { base + place + 1 < 2 ^ 32 → IsOk result }
@@ -102,7 +109,7 @@ pub fn number_of(base: usize, place: usize) -> Result<u32, AllocError>
     }
 }
 
-/// Whether the variable goes on a numbering from 1: it is the next one, which is known afterwards, or a known one.
+/// Says whether the variable goes on a numbering from 1: it is the next one, which is known afterwards, or a known one.
 fn goes_on(known: &mut Vec<SortId>, sort: SortId, number: u32) -> Result<bool, AllocError>
     ensures { IfOk result (λ b. IsTrue b
         → noted (numbered_from 1 known.old.items) (sort.0, number) ≡ numbered_from 1 known.new.items) }
@@ -119,8 +126,8 @@ fn goes_on(known: &mut Vec<SortId>, sort: SortId, number: u32) -> Result<bool, A
     Ok(known[place].0 == sort.0)
 }
 
-/// Whether the term's variables go on a numbering from 1 by first occurrence, with one-constant sorts written out. It needs
-/// no table, and passes over what has no variable.
+/// Says whether the term's variables go on a numbering from 1 by first occurrence, with one-constant sorts written out.
+/// It needs no table, and passes over what has no variable.
 #[cycle(recognise)]
 fn is_numbered(sig: &Signature, known: &mut Vec<SortId>, term: &Term) -> Result<bool, AllocError>
     ensures { IfOk result (λ b. IsTrue b → GoesOn sig.now known.old.items known.new.items (term.now ∷ [])) }
@@ -143,7 +150,7 @@ fn is_numbered(sig: &Signature, known: &mut Vec<SortId>, term: &Term) -> Result<
     }
 }
 
-/// The same of a row.
+/// Says whether the variables of a row go on the numbering, term by term.
 #[cycle(recognise)]
 fn are_numbered(sig: &Signature, known: &mut Vec<SortId>, row: &[Term]) -> Result<bool, AllocError>
     ensures { IfOk result (λ b. IsTrue b → GoesOn sig.now known.old.items known.new.items row.now) }
@@ -156,7 +163,7 @@ fn are_numbered(sig: &Signature, known: &mut Vec<SortId>, row: &[Term]) -> Resul
     Ok(true)
 }
 
-/// One more owner of each of the terms.
+/// Returns one more owner of each of the terms.
 fn shared(alloc: Global, row: &[Term]) -> Result<Vec<Term>, AllocError>
     ensures { IfOk result (λ v. v.items ≡ row.now) }
 {
@@ -167,7 +174,7 @@ fn shared(alloc: Global, row: &[Term]) -> Result<Vec<Term>, AllocError>
     Ok(copies)
 }
 
-/// The row as it is, where the walk finds that it is canonical.
+/// Returns the row as it is, where the walk finds that it is canonical.
 fn as_it_is(alloc: Global, sig: &Signature, row: &[Term]) -> Result<Option<Vec<Term>>, AllocError>
     ensures same { IfOk result (λ o. IfSome o (λ r. r.items ≡ row.now)) }
     ensures canonical { IfOk result (λ o. IfSome o (λ _. IsCanonical sig.now row.now)) }
@@ -180,9 +187,46 @@ fn as_it_is(alloc: Global, sig: &Signature, row: &[Term]) -> Result<Option<Vec<T
     Ok(Some(copies))
 }
 
-/// The row with its variables numbered from base + 1 on by first occurrence and one-constant sorts written out, and how
-/// many variables it has.
+/// Returns the row with its variables numbered from base + 1 on by first occurrence and one-constant sorts written out,
+/// and how many variables it has. Of a row that is canonical it only raises the numbers, without a table.
 pub fn renumbered(
+    alloc: Global,
+    sig: &Signature,
+    base: usize,
+    row: &[Term],
+) -> Result<(Vec<Term>, usize), AllocError>
+    ensures { IfOk result (λ r. (known : List Variable) × (r.1 ≡ length known)
+        × Renumbered sig.now base [] known row.now r.0.items) }
+{
+    if let Some(higher) = raised_row(alloc, sig, base, row)? {
+        return Ok(higher);
+    }
+    let made = numbered_anew(alloc, sig, base, row)?;
+    Ok(made)
+}
+
+/// Returns the row with the base added to the numbers of its variables, and how many variables it has, where the row is
+/// canonical.
+fn raised_row(
+    alloc: Global,
+    sig: &Signature,
+    base: usize,
+    row: &[Term],
+) -> Result<Option<(Vec<Term>, usize)>, AllocError>
+    ensures { IfOk result (λ o. IfSome o (λ r. (known : List Variable) × (r.1 ≡ length known)
+        × Renumbered sig.now base [] known row.now r.0.items)) }
+{
+    let mut known = Vec::new(alloc);
+    if !are_numbered(sig, &mut known, row)? {
+        return Ok(None);
+    }
+    let copies = raise_all(alloc, base, row)?;
+    let count = known.len();
+    Ok(Some((copies, count)))
+}
+
+/// Returns the row renumbered by a table of its variables, and how many variables it has.
+fn numbered_anew(
     alloc: Global,
     sig: &Signature,
     base: usize,
@@ -197,9 +241,9 @@ pub fn renumbered(
     Ok((copies, count))
 }
 
-/// The row with its variables numbered from 1 by first occurrence and one-constant sorts written out, in two walks at most. A
-/// row that is canonical is given back as it is: by `only`, where the other row is the row itself. Parts without variables
-/// are shared, so a walk takes one step for each of them.
+/// Returns the row with its variables numbered from 1 by first occurrence and one-constant sorts written out, in two
+/// walks at most. A row that is canonical is given back as it is: by `only`, where the other row is the row itself.
+/// Parts without variables are shared, so a walk takes one step for each of them.
 pub fn canonical(alloc: Global, sig: &Signature, row: &[Term]) -> Result<Vec<Term>, AllocError>
     requires { AreTerms sig.now row.now }
     ensures canonical { IfOk result (λ r. IsCanonical sig.now r.items) }
@@ -214,6 +258,6 @@ pub fn canonical(alloc: Global, sig: &Signature, row: &[Term]) -> Result<Vec<Ter
     if let Some(given) = as_it_is(alloc, sig, row)? {
         return Ok(given);
     }
-    let (copies, _count) = renumbered(alloc, sig, 0, row)?;
+    let (copies, _count) = numbered_anew(alloc, sig, 0, row)?;
     Ok(copies)
 }

@@ -1,7 +1,10 @@
 //! Sorts and constructors as they are written, and what is wrong with them.
-ghost use Rattle.std.specs.Prelude.{◌≡◌, ◌+◌, ◌<◌, ◌≤◌, ◌^◌, ◌++◌, [], length, take, slice_get, IfOk, IfErr, IfSome, IfNone, OnOk, Some, ℕ, List, false};
+ghost use Rattle.std.specs.Prelude.{◌≡◌, ◌+◌, ◌<◌, ◌≤◌, ◌^◌, ◌++◌, [], length, take, slice_get, IfOk, IfErr, IfSome};
+ghost use Rattle.std.specs.Prelude.{IfNone, OnOk, Some, ℕ, List, false};
 ghost use Rattle.psg_terms.specs.Names.{Name, has_twice};
-ghost use Rattle.psg_terms.specs.Declarations.{sort_names, Numbered, in_order, with_sort, names_in, constructor_names, arguments_in, IsFirstRepeat, AreDistinct, AreNamed, AreSpelled, IsSpelled};
+ghost use Rattle.psg_terms.specs.Declarations.{sort_names, Numbered, in_order, with_sort, names_in};
+ghost use Rattle.psg_terms.specs.Declarations.{constructor_names, arguments_in, IsFirstRepeat, AreDistinct, AreNamed};
+ghost use Rattle.psg_terms.specs.Declarations.{AreSpelled, IsSpelled};
 ghost use Rattle.psg_terms.specs.Kept.{numbers_of, symbols_of};
 ghost use Rattle.psg_terms.specs.declared.declare.SortDecl.{SortDecl as Written};
 ghost use Rattle.psg_terms.specs.Numbered.{Knows, places, MayMiss, MayRepeat, MayMisspell};
@@ -15,21 +18,25 @@ use thiserror::Error;
 /// A constructor as it is written: its name, and the names of the sorts of its arguments.
 #[derive(Drop)]
 pub struct ConDecl {
+    /// The name of the constructor.
     pub name: Txt,
+    /// The names of the sorts of its arguments, in order. A constant has none.
     pub args: Seq<Txt>,
 }
 
 /// A sort as it is written: its name, and its constructors in order.
 #[derive(Drop)]
 pub struct SortDecl {
+    /// The name of the sort.
     pub name: Txt,
+    /// The constructors of the sort, in order.
     pub constructors: Seq<ConDecl>,
 }
 
-/// Why written sorts make no signature.
+/// The reason why written sorts make no signature.
 #[derive(Debug, Drop, Error)]
 pub enum SigFault {
-    /// A sort's name or a constructor's name stands twice.
+    /// A sort's name or a constructor's name occurs twice.
     #[error("the name `{0}` stands twice")]
     Repeated(Txt),
     /// An argument's name is no sort's.
@@ -75,7 +82,7 @@ pub(crate) struct Placed<'a> {
     pub(crate) decl: &'a ConDecl,
 }
 
-/// The constructors of all sorts in order.
+/// Returns the constructors of all sorts in order.
 fn in_order<'a>(alloc: Global, sorts: &'a [SortDecl]) -> Result<Vec<Placed<'a>>, AllocError>
     requires { length sorts.now < 2 ^ 32 }
     ensures { IfOk result (λ v. places v.items ≡ in_order 0 sorts.now) }
@@ -91,7 +98,7 @@ fn in_order<'a>(alloc: Global, sorts: &'a [SortDecl]) -> Result<Vec<Placed<'a>>,
     Ok(placed)
 }
 
-/// Puts the constructors of one sort behind the others.
+/// Puts the constructors of one sort after the others.
 fn place_all<'a>(
     placed: &mut Vec<Placed<'a>>,
     sort: SortId,
@@ -105,8 +112,8 @@ fn place_all<'a>(
     Ok(())
 }
 
-/// The number of sorts before the first one whose name stands before it, or of all sorts. Then the map has their
-/// numbers by name.
+/// Returns the number of sorts before the first one whose name occurs before it, or of all sorts. Then the map has
+/// their numbers by name.
 fn repeated_sort<'a>(
     sorts: &'a [SortDecl],
     numbers: &mut HashMap<&'a str, u32>,
@@ -128,7 +135,7 @@ fn repeated_sort<'a>(
     Ok(sorts.len())
 }
 
-/// The place of the first constructor whose name stands before it, among those of the sorts below the limit.
+/// Returns the place of the first constructor whose name occurs before it, among those of the sorts below the limit.
 fn repeated_constructor<'a>(
     placed: &[Placed<'a>],
     seen: &mut HashMap<&'a str, u32>,
@@ -156,7 +163,7 @@ fn repeated_constructor<'a>(
     Ok(None)
 }
 
-/// The sorts that names name.
+/// Returns the sorts that names name.
 fn resolve(
     alloc: Global,
     numbers: &HashMap<&str, u32>,
@@ -176,7 +183,7 @@ fn resolve(
     Ok(found)
 }
 
-/// The constructors with the sorts that they name.
+/// Returns the constructors with the sorts that they name.
 fn resolve_all(
     alloc: Global,
     numbers: &HashMap<&str, u32>,
@@ -202,7 +209,7 @@ fn resolve_all(
     Ok(made)
 }
 
-/// The sorts' names, shared.
+/// Returns the sorts' names, shared.
 fn names_of(alloc: Global, sorts: &[SortDecl]) -> Result<Vec<Txt>, AllocError>
     ensures { IfOk result (λ v. v.items ≡ sort_names sorts.now) }
 {
@@ -214,7 +221,7 @@ fn names_of(alloc: Global, sorts: &[SortDecl]) -> Result<Vec<Txt>, AllocError>
     Ok(names)
 }
 
-/// Finds the first name that stands twice. Without one, the map has the sorts' numbers by name.
+/// Finds the first name that occurs twice. Without one, the map has the sorts' numbers by name.
 fn distinct<'a>(
     alloc: Global,
     sorts: &'a [SortDecl],
@@ -251,7 +258,8 @@ pub(crate) struct Spelling {
 pub(crate) fn spell(alloc: Global, sorts: &[SortDecl]) -> Result<Spelling, SigFault>
     requires { length sorts.now < 2 ^ 32 }
     ensures distinct { IfOk result (λ s. AreDistinct sorts.now) }
-    ensures ok { IfOk result (λ s. IsSpelled sorts.now (record { sorts = s.names.items; symbols = symbols_of s.declared.items })) }
+    ensures ok { IfOk result (λ s.
+        IsSpelled sorts.now (record { sorts = s.names.items; symbols = symbols_of s.declared.items })) }
     ensures err { IfErr result (MayMisspell sorts.now) }
 {
     let placed = in_order(alloc, sorts)?;

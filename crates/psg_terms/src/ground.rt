@@ -1,16 +1,18 @@
 //! Which sorts have terms without variables, and which constructors each sort has.
-ghost use Rattle.std.specs.Prelude.{◌≡◌, ◌+◌, ◌<◌, ◌^◌, ◌↔◌, length, slice_get, IfOk, IsTrue, MatchBool, MatchOption, map, Some, true, false, ℕ};
+ghost use Rattle.std.specs.Prelude.{◌≡◌, ◌+◌, ◌<◌, ◌^◌, ◌↔◌, length, slice_get, IfOk, IsTrue, MatchBool, MatchOption};
+ghost use Rattle.std.specs.Prelude.{map, Some, true, false, ℕ};
 ghost use Rattle.std.specs.Bool.{OnTrue, OnFalse};
 ghost use Rattle.psg_terms.specs.Kept.{number_in, numbers_of, symbol_of, symbols_of};
 ghost use Rattle.psg_terms.specs.Signature.{Signature as Plain, Symbol, sole, constructors_from};
 ghost use Rattle.psg_terms.specs.Declarations.{IsWideAmong};
-ghost use Rattle.psg_terms.specs.Marks.{AreMarked, AreBelow, AllBelow, AreRight, Keeps, AllKeep, unmarked, con_numbers, AreMade};
+ghost use Rattle.psg_terms.specs.Marks.{AreMarked, AreBelow, AllBelow, AreRight, Keeps, AllKeep, unmarked};
+ghost use Rattle.psg_terms.specs.Marks.{con_numbers, AreMade};
 
 use crate::seq::Seq;
 use crate::sorts::{ConId, Declared, SortId};
 use std::alloc::{AllocError, Global};
 
-/// Whether each of the sorts is marked.
+/// Says whether each of the sorts is marked.
 fn all_marked(sorts: &[SortId], marks: &[bool]) -> bool
     requires { AreBelow (length marks.now) (numbers_of sorts.now) }
     ensures { IsTrue result ↔ AreMarked marks.now (numbers_of sorts.now) }
@@ -61,8 +63,8 @@ fn mark_more(declared: &[Declared], marks: &mut [bool]) -> bool
     more
 }
 
-/// The sorts that have terms without variables are marked. There are at most as many rounds as sorts, and each round
-/// reads each argument once.
+/// Marks the sorts that have terms without variables. It takes at most one pass for each sort, and a pass reads each
+/// argument once.
 pub(crate) fn inhabited(
     alloc: Global,
     sorts: usize,
@@ -78,7 +80,7 @@ pub(crate) fn inhabited(
     Ok(marks)
 }
 
-/// The first sort that is not marked.
+/// Returns the first sort that is not marked.
 pub(crate) fn first_unmarked(marks: &[bool]) -> Option<usize>
     ensures { MatchOption result ((s : ℕ) → s < length marks.now → slice_get marks.now s ≡ Some true)
         (λ i. (slice_get marks.now i ≡ Some false) × ((s : ℕ) → s < i → slice_get marks.now s ≡ Some true)) }
@@ -91,7 +93,7 @@ pub(crate) fn first_unmarked(marks: &[bool]) -> Option<usize>
     None
 }
 
-/// The constructors of each sort, in order.
+/// Returns the constructors of each sort, in order.
 pub(crate) fn made_by(
     alloc: Global,
     sorts: usize,
@@ -113,7 +115,7 @@ pub(crate) fn made_by(
     Ok(made)
 }
 
-/// The only constructor, where there is one alone.
+/// Returns the only constructor, where there is one alone.
 pub(crate) fn sole_of(ids: &[ConId]) -> Option<ConId>
     ensures { number_in result ≡ sole (con_numbers ids.now) }
 {
@@ -123,7 +125,7 @@ pub(crate) fn sole_of(ids: &[ConId]) -> Option<ConId>
     }
 }
 
-/// Whether there is only one constructor, and it has arguments.
+/// Says whether there is only one constructor, and it has arguments.
 fn is_wide(ids: &[ConId], declared: &[Declared]) -> bool
     ensures { IsTrue result ↔ IsWideAmong (con_numbers ids.now) (symbols_of declared.now) }
 {
@@ -133,9 +135,10 @@ fn is_wide(ids: &[ConId], declared: &[Declared]) -> bool
     }
 }
 
-/// Whether the constructor is there and has arguments.
+/// Says whether the constructor is there and has arguments.
 fn has_arguments(con: ConId, declared: &[Declared]) -> bool
-    ensures { IsTrue result ↔ ((x : Symbol) × (slice_get (symbols_of declared.now) con.0 ≡ Some x) × (0 < length x.arguments)) }
+    ensures { IsTrue result ↔ ((x : Symbol) × (slice_get (symbols_of declared.now) con.0 ≡ Some x)
+        × (0 < length x.arguments)) }
 {
     match declared.get(con.0 as usize) {
         Some(d) => !d.constructor.args.as_slice().is_empty(),
@@ -143,13 +146,16 @@ fn has_arguments(con: ConId, declared: &[Declared]) -> bool
     }
 }
 
-/// The first sort whose only constructor has arguments.
+/// Returns the first sort whose only constructor has arguments.
 pub(crate) fn first_wide(made: &[Seq<ConId>], declared: &[Declared]) -> Option<usize>
     requires { AreMade 0 made.now (symbols_of declared.now) }
     ensures { MatchOption result
-        ((s : ℕ) → s < length made.now → IsWideAmong (constructors_from 0 s (symbols_of declared.now)) (symbols_of declared.now) → ⊥)
-        (λ i. (i < length made.now) × IsWideAmong (constructors_from 0 i (symbols_of declared.now)) (symbols_of declared.now)
-        × ((s : ℕ) → s < i → IsWideAmong (constructors_from 0 s (symbols_of declared.now)) (symbols_of declared.now) → ⊥)) }
+        ((s : ℕ) → s < length made.now
+        → IsWideAmong (constructors_from 0 s (symbols_of declared.now)) (symbols_of declared.now) → ⊥)
+        (λ i. (i < length made.now) × IsWideAmong (constructors_from 0 i (symbols_of declared.now))
+        (symbols_of declared.now)
+        × ((s : ℕ) → s < i → IsWideAmong (constructors_from 0 s (symbols_of declared.now)) (symbols_of declared.now)
+        → ⊥)) }
 {
     for i in 0..made.len() {
         if is_wide(made[i].as_slice(), declared) {

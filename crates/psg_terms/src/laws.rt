@@ -2,7 +2,8 @@
 ghost use Rattle.std.specs.Prelude.{◌≡◌, ◌↔◌, ◌<◌, ◌^◌, List, ℕ, map};
 ghost use Rattle.psg_terms.specs.Terms.{Term as Plain};
 ghost use Rattle.psg_terms.specs.Signature.{HaveSorts};
-ghost use Rattle.psg_terms.specs.Instances.{Substitution, substitute, IsInstance, IsGrounding, IsGroundInstance, HasSameInstances};
+ghost use Rattle.psg_terms.specs.Instances.{Substitution, substitute, IsInstance, IsGrounding};
+ghost use Rattle.psg_terms.specs.Instances.{IsGroundInstance, HasSameInstances};
 ghost use Rattle.psg_terms.specs.Canonical.{IsCanonical, AreWrittenOut};
 ghost use Rattle.psg_terms.specs.Refusals.{IsRefused};
 ghost use Rattle.psg_terms.specs.declared.declare.SortDecl.{SortDecl};
@@ -22,17 +23,19 @@ pub trait Family {
     ghost possible: { Self → List Plain → Type 0 };
 }
 
-/// Written sorts have one fault at most. So where they have one, `Signature::new` answers with it or with want of memory.
+/// Shows that written sorts have at most one fault. So where they have one, `Signature::new` returns it, or
+/// `Memory`.
 pub fn one_fault()
     ensures { (written : List SortDecl) (f g : SigFault) → IsRefused written f → IsRefused written g → f ≡ g }
 {}
 
-/// An instance of an instance is an instance.
+/// Shows that an instance of an instance is an instance.
 pub fn instances()
     ensures { (a b c : List Plain) → IsInstance a b → IsInstance b c → IsInstance a c }
 {}
 
-/// Canonical rows of the same sorts are equal if they have the same ground instances, or are instances of each other.
+/// Shows that canonical rows of the same sorts are equal if they have the same ground instances, or are instances of
+/// each other.
 pub fn canonical_rows(sig: &Signature)
     ensures same { (a b : List Plain) (sorts : List ℕ) → HaveSorts sig.now a sorts → HaveSorts sig.now b sorts
         → IsCanonical sig.now a → IsCanonical sig.now b → HasSameInstances sig.now a b → a ≡ b }
@@ -42,7 +45,7 @@ pub fn canonical_rows(sig: &Signature)
     sig.sound();
 }
 
-/// The rows of a relation are exactly its maximal shapes.
+/// Shows that the rows of a relation are exactly its maximal shapes.
 pub fn maximal_rows<F: Family>(sig: &Signature)
     ensures { (sorts : List ℕ) (rows : List (List Plain)) → IsRelation sig.now sorts F.possible rows
         → (row : List Plain) → IsIn row rows ↔ IsMaximal sig.now sorts F.possible row }
@@ -50,9 +53,9 @@ pub fn maximal_rows<F: Family>(sig: &Signature)
     sig.sound();
 }
 
-/// A family has at most one relation: two have the same rows, and the same texts in the same order. They are the same list where no
-/// constructor's name has a character that a term's text puts between names, and their weight is below 2^64, so that the
-/// numbers of variables are written whole.
+/// Shows that a family has at most one relation: two have the same rows, and the same texts in the same order. They are
+/// the same list where no constructor's name has a character that a term's text puts between names, and their weight is
+/// below 2^64, so that the numbers of variables are written whole.
 pub fn one_relation<F: Family>(sig: &Signature)
     ensures rows { (ls rs : List ℕ) (rows others : List (List Plain)) → IsRelation sig.now ls F.possible rows
         → IsRelation sig.now rs F.possible others → (row : List Plain) → IsIn row rows → IsIn row others }
@@ -64,7 +67,8 @@ pub fn one_relation<F: Family>(sig: &Signature)
     sig.sound();
 }
 
-/// A row is an instance of a row of a relation exactly where all its ground instances are possible for one choice.
+/// Shows that a row is an instance of a row of a relation exactly where all its ground instances are possible for one
+/// choice.
 pub fn general_rows<F: Family>(sig: &Signature)
     ensures { (sorts : List ℕ) (rows : List (List Plain)) → IsRelation sig.now sorts F.possible rows
         → (row : List Plain) → HaveSorts sig.now row sorts → AreWrittenOut sig.now row
@@ -74,12 +78,13 @@ pub fn general_rows<F: Family>(sig: &Signature)
     sig.sound();
 }
 
-/// Each row of a relation is an instance of one of other rows exactly where what is possible for a choice is among the
-/// ground instances of one of them.
+/// Shows that each row of a relation is an instance of one of other rows exactly where what is possible for a choice is
+/// among the ground instances of one of them.
 pub fn covered_rows<F: Family>(sig: &Signature)
     ensures { (sorts : List ℕ) (rows others : List (List Plain)) → IsRelation sig.now sorts F.possible rows
         → ((other : List Plain) → IsIn other others → HaveSorts sig.now other sorts)
-        → ((general : List Plain) → IsIn general rows → (other : List Plain) × IsIn other others × IsInstance general other)
+        → ((general : List Plain) → IsIn general rows
+        → (other : List Plain) × IsIn other others × IsInstance general other)
         ↔ ((c : F) → ((columns : List Plain) × F.possible c columns) → (other : List Plain) × IsIn other others
         × ((columns : List Plain) → F.possible c columns → IsGroundInstance sig.now other columns)) }
 {

@@ -18,6 +18,7 @@ pub mod declare;
 mod ground;
 pub mod laws;
 pub mod matching;
+mod raising;
 pub mod seq;
 pub mod sorting;
 pub mod sorts;

@@ -13,7 +13,7 @@ use crate::term::{Node, Term};
 use std::alloc::{AllocError, Global};
 use std::collections::HashMap;
 
-/// Whether two terms are equal.
+/// Says whether two terms are equal.
 #[cycle(same)]
 pub fn same(a: &Term, b: &Term) -> bool
     ensures { IsTrue result ↔ (a.now ≡ b.now) }
@@ -36,7 +36,7 @@ pub fn same(a: &Term, b: &Term) -> bool
     }
 }
 
-/// Whether two rows are equal.
+/// Says whether two rows are equal.
 #[cycle(same)]
 pub fn same_all(a: &[Term], b: &[Term]) -> bool
     ensures { IsTrue result ↔ (a.now ≡ b.now) }
@@ -52,7 +52,7 @@ pub fn same_all(a: &[Term], b: &[Term]) -> bool
     true
 }
 
-/// The term of a variable, if the table has it.
+/// Returns the term of a variable, or `None` where the table does not have it.
 pub fn bound(table: &HashMap<Key, Term>, sort: SortId, number: u32) -> Option<&Term>
     ensures { option_copied result ≡ lookup table.now sort.0 number }
 {
@@ -73,12 +73,12 @@ pub fn bind(
     Ok(())
 }
 
-/// How many variables and constructors terms have at most that are compared. A part that is shared is read as often as it
-/// occurs, so without a bound a comparison of small terms with much sharing would not end.
+/// How many variables and constructors terms have at most that are compared. A part that is shared is read as often as
+/// it occurs, so without a bound a comparison of small terms with much sharing would not end.
 const COMPARED: u64 = 0x10_0000;
 
-/// Whether two terms are equal. Two equally large terms of more than 2^20 variables and constructors are not compared, and
-/// the answer is want of memory.
+/// Says whether two terms are equal. Two equally large terms of more than 2^20 variables and constructors are not
+/// compared, and the call fails as if out of memory.
 fn alike(a: &Term, b: &Term) -> Result<bool, AllocError>
     ensures { IfOk result (λ d. IsTrue d ↔ (a.now ≡ b.now)) }
 {
@@ -93,7 +93,7 @@ fn alike(a: &Term, b: &Term) -> Result<bool, AllocError>
     Ok(same(a, b))
 }
 
-/// Whether the table, with more variables bound, makes the special term of the general one.
+/// Says whether the table, with more variables bound, makes the special term of the general one.
 #[cycle(fits)]
 fn fits(table: &mut HashMap<Key, Term>, general: &Term, special: &Term) -> Result<bool, AllocError>
     ensures { IfOk result (λ b. MatchBool b
@@ -130,7 +130,7 @@ fn fits(table: &mut HashMap<Key, Term>, general: &Term, special: &Term) -> Resul
     }
 }
 
-/// The same of rows.
+/// Matches the terms of two rows, place by place. Rows of different lengths do not match.
 #[cycle(fits)]
 fn fit(
     table: &mut HashMap<Key, Term>,
@@ -152,10 +152,10 @@ fn fit(
     Ok(true)
 }
 
-/// Whether one substitution of the general row's variables gives the special row. It reads each place of the general
-/// row once, and of the special one once for each occurrence of a variable that stands for it, but for the first. Where two
-/// terms that a variable is to stand for are equally large and have more than 2^20 variables and constructors, the answer
-/// is want of memory.
+/// Says whether one substitution of the general row's variables gives the special row. It reads each place of the
+/// general row once, and of the special one once for each occurrence of a variable that it replaces, except for the
+/// first. Where two terms that would replace one variable are equally large and have more than 2^20 variables and
+/// constructors, the call fails as if out of memory.
 pub fn is_instance(alloc: Global, special: &[Term], general: &[Term]) -> Result<bool, AllocError>
     ensures instance { IfOk result (λ b. IsTrue b ↔ IsInstance special.now general.now) }
     ensures exact { IfOk result (λ b. (sig : Plain) → IsSound sig → (sorts : List ℕ)

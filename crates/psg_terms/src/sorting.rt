@@ -6,7 +6,7 @@ ghost use Rattle.psg_terms.specs.Kept.{numbers_of};
 use crate::sorts::{Signature, SortId};
 use crate::term::{Node, Term};
 
-/// Whether the term is one of the signature, of this sort. It reads each place of the term at most once.
+/// Says whether the term is one of the signature, of this sort. It reads each place of the term at most once.
 #[cycle(sorting)]
 pub fn has_sort(sig: &Signature, term: &Term, sort: SortId) -> bool
     ensures { IsTrue result ↔ HasSort sig.now term.now sort.0 }
@@ -28,7 +28,7 @@ pub fn has_sort(sig: &Signature, term: &Term, sort: SortId) -> bool
     }
 }
 
-/// Whether the terms are ones of the signature, of these sorts place by place.
+/// Says whether the terms are ones of the signature, of these sorts place by place.
 #[cycle(sorting)]
 pub fn have_sorts(sig: &Signature, row: &[Term], sorts: &[SortId]) -> bool
     ensures { IsTrue result ↔ HaveSorts sig.now row.now (numbers_of sorts.now) }

@@ -26,14 +26,18 @@ pub struct ConId(pub u32);
 /// A constructor with the sorts of its arguments.
 #[derive(Drop)]
 pub struct Constructor {
+    /// The name of the constructor.
     pub name: Txt,
+    /// The sorts of its arguments, in order. A constant has none.
     pub args: Seq<SortId>,
 }
 
 /// A constructor with the sort that it makes.
 #[derive(Drop)]
 pub struct Declared {
+    /// The constructor.
     pub constructor: Constructor,
+    /// The sort that the constructor makes.
     pub sort: SortId,
 }
 
@@ -64,12 +68,12 @@ impl Model for Signature {
 impl Signature {
     ghost use Rattle.psg_terms.specs.Sound.{IsSound};
 
-    /// The signature that is written. It reads each name once, and finds the sorts that have terms without variables
-    /// in at most as many rounds as there are sorts, each of which reads each argument once.
+    /// Makes the signature that is written. It reads each name once, and finds the sorts that have terms without
+    /// variables in at most as many passes as there are sorts, each of which reads each argument once.
     ///
-    /// What is wrong is looked for in the order of the faults, and each over the sorts in order: a name that stands
+    /// What is wrong is looked for in the order of the faults, and each over the sorts in order: a name that occurs
     /// twice, an argument that names no sort, a sort without a term without variables, a sort whose only constructor
-    /// has arguments. `Memory` comes when memory runs out, at any time.
+    /// has arguments. `Memory` is returned when memory runs out, at any time.
     pub fn new(alloc: Global, sorts: Vec<SortDecl>) -> Result<Signature, SigFault>
         requires few_sorts { vec_len sorts < 2 ^ 32 }
         requires few_constructors { length (constructor_names sorts.items) < 2 ^ 32 }
@@ -83,28 +87,28 @@ impl Signature {
         Ok(signature)
     }
 
-    /// Every sort has a ground term, and is one constant or has a choice.
+    /// Shows that every sort has a ground term, and is one constant or has a choice.
     pub fn sound(&self)
         ensures { IsSound self.now }
     {
         let _ = &self.sorts;
     }
 
-    /// How many sorts there are.
+    /// Returns how many sorts there are.
     pub fn sorts(&self) -> u32
         ensures { result ≡ length self.now.sorts }
     {
         self.sorts.as_slice().len() as u32
     }
 
-    /// How many constructors there are.
+    /// Returns how many constructors there are.
     pub fn constructors(&self) -> u32
         ensures { result ≡ length self.now.symbols }
     {
         self.declared.as_slice().len() as u32
     }
 
-    /// The name of a sort.
+    /// Returns the name of a sort.
     pub fn sort_name(&self, sort: SortId) -> &str
         requires { sort.0 < length self.now.sorts }
         ensures { slice_get self.now.sorts sort.0 ≡ Some result.now }
@@ -112,7 +116,7 @@ impl Signature {
         self.sorts.as_slice()[sort.0 as usize].as_str()
     }
 
-    /// The constructors of a sort, in order.
+    /// Returns the constructors of a sort, in order.
     pub fn constructors_of(&self, sort: SortId) -> &[ConId]
         requires { sort.0 < length self.now.sorts }
         ensures { con_numbers result.now ≡ constructors_of self.now sort.0 }
@@ -120,7 +124,7 @@ impl Signature {
         self.made.as_slice()[sort.0 as usize].as_slice()
     }
 
-    /// A constructor, with its name and the sorts of its arguments.
+    /// Returns a constructor, with its name and the sorts of its arguments.
     pub fn constructor(&self, con: ConId) -> &Constructor
         requires { con.0 < length self.now.symbols }
         ensures { (s : ℕ) × (slice_get self.now.symbols con.0
@@ -129,7 +133,7 @@ impl Signature {
         &self.declared.as_slice()[con.0 as usize].constructor
     }
 
-    /// The sort that a constructor makes.
+    /// Returns the sort that a constructor makes.
     pub fn sort_of(&self, con: ConId) -> SortId
         requires { con.0 < length self.now.symbols }
         ensures { (s : Symbol) × (slice_get self.now.symbols con.0 ≡ Some s) × (s.sort ≡ result.0) }
@@ -137,7 +141,7 @@ impl Signature {
         self.declared.as_slice()[con.0 as usize].sort
     }
 
-    /// The constructor of a sort that has one alone.
+    /// Returns the constructor of a sort that has one alone.
     pub fn constant_of(&self, sort: SortId) -> Option<ConId>
         ensures { number_in result ≡ only_constructor self.now sort.0 }
     {
@@ -148,7 +152,7 @@ impl Signature {
     }
 }
 
-/// The signature of these sorts and constructors, if each sort has terms enough.
+/// Returns the signature of these sorts and constructors, if each sort has terms enough.
 fn accept(alloc: Global, spelling: Spelling) -> Result<Signature, SigFault>
     requires few_sorts { length spelling.names.items < 2 ^ 32 }
     requires few_constructors { length spelling.declared.items < 2 ^ 32 }
@@ -156,8 +160,10 @@ fn accept(alloc: Global, spelling: Spelling) -> Result<Signature, SigFault>
     requires constructor_names { has_twice (map (λ (s : Symbol). s.name) (symbols_of spelling.declared.items)) ≡ false }
     requires closed { AreClosed (record { sorts = spelling.names.items; symbols = symbols_of spelling.declared.items })
         (symbols_of spelling.declared.items) }
-    ensures ok { IfOk result (λ s. s ≡ record { sorts = spelling.names.items; symbols = symbols_of spelling.declared.items }) }
-    ensures err { IfErr result (MayLack (record { sorts = spelling.names.items; symbols = symbols_of spelling.declared.items })) }
+    ensures ok { IfOk result (λ s. s
+        ≡ record { sorts = spelling.names.items; symbols = symbols_of spelling.declared.items }) }
+    ensures err { IfErr result (MayLack
+        (record { sorts = spelling.names.items; symbols = symbols_of spelling.declared.items })) }
 {
     let Spelling { names, declared } = spelling;
     let marks = inhabited(alloc, names.len(), declared.as_slice())?;

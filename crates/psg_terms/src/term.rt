@@ -14,12 +14,14 @@ use std::rc::Rc;
 #[cycle(term)]
 #[derive(Drop)]
 pub enum Node {
+    /// A variable, by its sort and its number.
     Var { sort: SortId, number: u32 },
+    /// A constructor, and an argument for each of its sorts. A constant has no arguments.
     Con { con: ConId, args: Seq<Term> },
 }
 
-/// A node with how many variables and constructors its term has and how deep it is, both at most `u64::MAX`, and with one
-/// above the greatest number of its variables.
+/// A node with how many variables and constructors its term has and how deep it is, both at most `u64::MAX`, and with
+/// one above the greatest number of its variables.
 #[cycle(term)]
 #[derive(Drop)]
 struct Weighed {
@@ -60,7 +62,7 @@ impl Model for Term {
 impl Term {
     ghost use Rattle.psg_terms.specs.Shapes.{term_of};
 
-    /// A variable.
+    /// Makes a variable.
     pub fn var(alloc: Global, sort: SortId, number: u32) -> Result<Term, AllocError>
         ensures { IfOk result (λ t. t ≡ variable sort.0 number) }
     {
@@ -75,7 +77,7 @@ impl Term {
         })
     }
 
-    /// A constructor with arguments of its sorts.
+    /// Makes a constructor with arguments of its sorts.
     pub fn con(
         alloc: Global,
         sig: &Signature,
@@ -89,7 +91,7 @@ impl Term {
         Ok(Term::apply(alloc, con, args)?)
     }
 
-    /// A constructor with arguments of any sorts. It reads each argument once.
+    /// Makes a constructor with arguments of any sorts. It reads each argument once.
     pub fn apply(alloc: Global, con: ConId, args: Vec<Term>) -> Result<Term, AllocError>
         ensures { IfOk result (λ t. t ≡ applied (symbol con.0) args.items) }
     {
@@ -110,36 +112,37 @@ impl Term {
         })
     }
 
-    /// The variable, or the constructor with its arguments.
+    /// Returns the variable, or the constructor with its arguments.
     pub fn node(&self) -> &Node
         ensures { term_of result.now ≡ self.now }
     {
         &self.shared.as_ref().node
     }
 
-    /// How many variables and constructors the term has, or `u64::MAX` if there are more. It takes one step.
+    /// Returns how many variables and constructors the term has, or `u64::MAX` if there are more. It takes one step.
     pub fn symbols(&self) -> u64
         ensures { result ≡ min (symbols_of self.now) (2 ^ 64 - 1) }
     {
         self.shared.as_ref().symbols
     }
 
-    /// How many nodes are nested at most, or `u64::MAX` if there are more. A variable and a constant have depth 1. It
-    /// takes one step.
+    /// Returns how many nodes are nested at most, or `u64::MAX` if there are more. A variable and a constant have depth
+    /// 1. It takes one step.
     pub fn depth(&self) -> u64
         ensures { result ≡ min (depth_of self.now) (2 ^ 64 - 1) }
     {
         self.shared.as_ref().depth
     }
 
-    /// One above the greatest number of a variable of the term, and 0 where the term has none. It takes one step.
+    /// Returns one more than the greatest number of a variable of the term, and 0 where the term has none. It takes one
+    /// step.
     pub fn above(&self) -> u64
         ensures { result ≡ above_of self.now }
     {
         self.shared.as_ref().above
     }
 
-    /// The sort of the term, which is one of the signature.
+    /// Returns the sort of the term, which is one of the signature.
     pub fn sort(&self, sig: &Signature) -> SortId
         requires { (s : ℕ) × HasSort sig.now self.now s }
         ensures { HasSort sig.now self.now result.0 }
@@ -150,7 +153,7 @@ impl Term {
         }
     }
 
-    /// One more owner of the term.
+    /// Returns one more owner of the term.
     pub fn share(&self) -> Result<Term, AllocError>
         ensures { IfOk result (λ t. t ≡ self.now) }
     {
@@ -160,7 +163,7 @@ impl Term {
     }
 }
 
-/// How many variables and constructors a constructor with these arguments has.
+/// Returns how many variables and constructors a constructor with these arguments has.
 fn symbols_with(args: &[Term]) -> u64
     ensures { result ≡ min (symbols_of (applied (symbol 0) args.now)) (2 ^ 64 - 1) }
 {
@@ -171,7 +174,7 @@ fn symbols_with(args: &[Term]) -> u64
     symbols
 }
 
-/// How deep a constructor with these arguments is.
+/// Returns how deep a constructor with these arguments is.
 fn depth_with(args: &[Term]) -> u64
     ensures { result ≡ min (depth_of (applied (symbol 0) args.now)) (2 ^ 64 - 1) }
 {
@@ -182,7 +185,7 @@ fn depth_with(args: &[Term]) -> u64
     depth
 }
 
-/// One above the greatest number of a variable of a constructor with these arguments.
+/// Returns one above the greatest number of a variable of a constructor with these arguments.
 fn above_with(args: &[Term]) -> u64
     ensures { result ≡ above_of (applied (symbol 0) args.now) }
 {

@@ -8,7 +8,7 @@ use crate::sorts::Signature;
 use crate::term::{Node, Term};
 use std::alloc::{AllocError, Global};
 
-/// The text of a term, as `?1`, `int` or `cons(int,?2)`. A shared part is written as often as it occurs.
+/// Returns the text of a term, as `?1`, `int` or `cons(int,?2)`. A shared part is written as often as it occurs.
 pub fn term_text(alloc: Global, sig: &Signature, term: &Term) -> Result<String, AllocError>
     requires { (s : ℕ) × HasSort sig.now term.now s }
     ensures { IfOk result (λ t. string_bytes t ≡ term_text sig.now term.now) }
@@ -18,7 +18,7 @@ pub fn term_text(alloc: Global, sig: &Signature, term: &Term) -> Result<String, 
     Ok(text)
 }
 
-/// The texts of a row's terms, joined by one space.
+/// Returns the texts of a row's terms, joined by one space.
 pub fn row_text(alloc: Global, sig: &Signature, row: &[Term]) -> Result<String, AllocError>
     requires { AreTerms sig.now row.now }
     ensures { IfOk result (λ t. string_bytes t ≡ row_text sig.now row.now) }
@@ -31,7 +31,7 @@ pub fn row_text(alloc: Global, sig: &Signature, row: &[Term]) -> Result<String, 
     Ok(text)
 }
 
-/// Puts the text of a term behind what there is.
+/// Puts the text of a term after what there is.
 fn write_term(sig: &Signature, text: &mut String, term: &Term) -> Result<(), AllocError>
     requires { (s : ℕ) × HasSort sig.now term.now s }
     ensures { OnOk result (string_bytes text.new ≡ string_bytes text.old ++ term_text sig.now term.now) }
@@ -62,7 +62,7 @@ fn write_variable(text: &mut String, number: u32) -> Result<(), AllocError>
     Ok(())
 }
 
-/// Writes what stands before an argument: the bracket before the first, a comma before each other one.
+/// Writes what goes before an argument: the bracket before the first, a comma before each other one.
 fn write_before(text: &mut String, place: usize) -> Result<(), AllocError>
     ensures { OnOk result (string_bytes text.new ≡ string_bytes text.old ++ before place) }
 {
@@ -74,7 +74,7 @@ fn write_before(text: &mut String, place: usize) -> Result<(), AllocError>
     Ok(())
 }
 
-/// Writes what stands behind so many arguments: the bracket, or nothing.
+/// Writes what goes after the last of `count` arguments: the bracket, or nothing where there are none.
 fn write_after(text: &mut String, count: usize) -> Result<(), AllocError>
     ensures { OnOk result (string_bytes text.new ≡ string_bytes text.old ++ after count) }
 {
@@ -84,7 +84,7 @@ fn write_after(text: &mut String, count: usize) -> Result<(), AllocError>
     Ok(())
 }
 
-/// Writes what stands before a term of a row: nothing before the first, a space before each other one.
+/// Writes what goes before a term of a row: nothing before the first, a space before each other one.
 fn write_between(text: &mut String, place: usize) -> Result<(), AllocError>
     ensures { OnOk result (string_bytes text.new ≡ string_bytes text.old ++ between place) }
 {

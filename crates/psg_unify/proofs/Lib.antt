@@ -5,5 +5,6 @@ pub mod Comparing
 pub mod Joining
 pub mod WritingSteps
 pub mod Theorem
+pub mod Unbound
 pub mod Remembering
 pub mod Shallow

@@ -19,7 +19,7 @@ variable_of k = variable k.sort.0 k.number
 abbrev pub IsSettled : Lookup → Term → Type 0
 IsSettled table t = (s n : ℕ) → t ≡ variable s n → table s n ≡ None
 
--- another term can stand for the term: it has its values and sorts
+-- another term can replace the term: it has its values and sorts
 pub record StandsFor (table : Lookup) (t u : Term) : Type 0 where
   pub equal : (g : Substitution) → Solves g table → substitute g t ≡ substitute g u
   pub sorted : (sig : Signature) → Solved sig table → (s : ℕ) → HasSort sig t s → HasSort sig u s

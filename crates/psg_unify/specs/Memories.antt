@@ -16,6 +16,7 @@ use Rattle.psg_unify.specs.Solving.{Solves, Resolves, Extended, Apart}
 abbrev pub Keys : Type 0
 Keys = HashSet Key (BuildHasherDefault FoldHasher)
 
+-- whether the set has the variable
 abbrev pub has_key : Keys → Key → Bool
 has_key set k = contains same_key set k
 
@@ -32,9 +33,11 @@ Says table x old new b t = (f : Substitution) → Resolves f table → AreClear 
 abbrev pub Sames : Type 0
 Sames = HashSet Same (BuildHasherDefault FoldHasher)
 
+-- whether the pairs are equal, in this order of the two variables
 abbrev pub same_pair : Same → Same → Bool
 same_pair p q = same_key p.left q.left && same_key p.right q.right
 
+-- whether the set has the pair
 abbrev pub has_pair : Sames → Same → Bool
 has_pair set p = contains same_pair set p
 
@@ -42,12 +45,13 @@ has_pair set p = contains same_pair set p
 abbrev pub Alike : Substitution → (Same → Bool) → Type 0
 Alike g equal = (p : Same) → equal p ≡ true → g p.left.sort.0 p.left.number ≡ g p.right.sort.0 p.right.number
 
--- each substitution that solves the table does
+-- each substitution that solves the table gives the variables of each pair one term
 abbrev pub AreImplied : Lookup → (Same → Bool) → Type 0
 AreImplied table equal = (g : Substitution) → Solves g table → Alike g equal
 
 -- whether something can be made to hold, where the pairs that are remembered are implied
-abbrev pub Gives : Bool → Lookup → Lookup → (Same → Bool) → (Same → Bool) → (Signature → Type 0) → (Substitution → Type 0) → Type 0
+abbrev pub Gives : Bool → Lookup → Lookup → (Same → Bool) → (Same → Bool) → (Signature → Type 0)
+    → (Substitution → Type 0) → Type 0
 Gives d old new s0 s1 Typed Holds = AreImplied old s0
     → MatchBool d (Extended old new Typed Holds × AreImplied new s1) (Apart old Typed Holds)
 
@@ -65,4 +69,5 @@ IsKept equal left right = (p : Same) × (left ≡ Some p.left) × (right ≡ Som
 
 -- at most one pair more
 abbrev pub KeepsAtMost : (Same → Bool) → (Same → Bool) → Option Key → Option Key → Type 0
-KeepsAtMost old new left right = (p : Same) → new p ≡ true → (old p ≡ true) ⊎ ((left ≡ Some p.left) × (right ≡ Some p.right))
+KeepsAtMost old new left right = (p : Same) → new p ≡ true
+    → (old p ≡ true) ⊎ ((left ≡ Some p.left) × (right ≡ Some p.right))

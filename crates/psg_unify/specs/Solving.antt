@@ -43,6 +43,7 @@ Answers d old new Typed Holds = MatchBool d (Extended old new Typed Holds) (Apar
 abbrev pub OfOneSort : Term → Term → Signature → Type 0
 OfOneSort a b sig = (s : ℕ) × HasSort sig a s × HasSort sig b s
 
+-- the substitution makes the two terms equal
 abbrev pub MakesEqual : Term → Term → Substitution → Type 0
 MakesEqual a b g = substitute g a ≡ substitute g b
 
@@ -50,5 +51,6 @@ MakesEqual a b g = substitute g a ≡ substitute g b
 abbrev pub OfSameSorts : List Term → List Term → Signature → Type 0
 OfSameSorts a b sig = (ss : List ℕ) × HaveSorts sig a ss × HaveSorts sig b ss
 
+-- the substitution makes the rows equal, so they have one length
 abbrev pub MakesRowsEqual : List Term → List Term → Substitution → Type 0
 MakesRowsEqual a b g = map (substitute g) a ≡ map (substitute g) b

@@ -16,7 +16,8 @@ Remembers sig f known memory = (s n : ℕ) (t : Term) → memory s n ≡ Some t
     → AreKnown known (opens sig (variables (f s n))) × (t ≡ substitute (numbering sig 0 known) (f s n))
 
 -- the copies are the row, written out and numbered
-abbrev pub Writes : Signature → Lookup → List Variable → List Variable → Lookup → Lookup → List Term → List Term → Type 0
+abbrev pub Writes : Signature → Lookup → List Variable → List Variable → Lookup → Lookup → List Term → List Term
+    → Type 0
 Writes sig table k0 k1 m0 m1 row copies = (f : Substitution) → Resolves f table → Remembers sig f k0 m0
     → Renumbered sig 0 k0 k1 (map (substitute f) row) copies × Remembers sig f k1 m1
 

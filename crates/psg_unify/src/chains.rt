@@ -14,13 +14,13 @@ use std::collections::HashMap;
 pub struct End {
     /// The last bound variable on the way, if the chain begins with one.
     pub last: Option<Key>,
-    /// That variable as a term, or else the term itself. What is bound to it shares what it stands for.
+    /// That variable as a term, or else the term itself. What is bound to it shares what it means.
     pub short: Term,
     /// A constructor with its arguments, or a variable that is not bound.
     pub term: Term,
 }
 
-/// A bound variable with its term, or `None` where the term is no bound variable.
+/// Returns a bound variable with its term, or `None` where the term is no bound variable.
 fn step(table: &HashMap<Key, Term>, term: &Term) -> Result<Option<(Key, Term)>, AllocError>
     ensures { IfOk result (λ o. MatchOption o (IsSettled (lookup table.now) term.now)
         (λ s. (term.now ≡ variable_of s.0) × (lookup table.now s.0.sort.0 s.0.number ≡ Some s.1))) }
@@ -41,8 +41,8 @@ fn step(table: &HashMap<Key, Term>, term: &Term) -> Result<Option<(Key, Term)>, 
     }
 }
 
-/// The end of the chain that begins with the term. It takes a step for each variable on the way. A chain without a
-/// circle has at most as many bound variables as the table.
+/// Returns the end of the chain that begins with the term. It takes a step for each variable on the way. A chain
+/// without a circle has at most as many bound variables as the table.
 pub fn follow(table: &HashMap<Key, Term>, term: &Term) -> Result<End, AllocError>
     ensures { IfOk result (λ e. IsEnd (lookup table.now) term.now e.last e.short e.term) }
 {

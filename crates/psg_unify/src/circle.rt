@@ -10,7 +10,7 @@ use psg_terms::{Node, Term};
 use std::alloc::AllocError;
 use std::collections::{HashMap, HashSet};
 
-/// Whether there is a variable and it is marked.
+/// Says whether there is a variable and it is marked.
 fn is_marked(marked: &HashSet<Key>, last: Option<Key>) -> bool
     ensures { IsTrue result → IsMarked (has_key marked.now) last }
 {
@@ -30,8 +30,8 @@ fn mark(marked: &mut HashSet<Key>, last: Option<Key>) -> Result<(), AllocError>
     Ok(())
 }
 
-/// Whether a variable occurs in a term, with the bound variables written out. The marked variables are those in which
-/// it was not found; they are not searched again.
+/// Says whether a variable occurs in a term, with the bound variables written out. The marked variables are those in
+/// which it was not found; they are not searched again.
 #[cycle(occurs)]
 pub fn occurs(
     depth: u32,
@@ -54,7 +54,7 @@ pub fn occurs(
     Ok(false)
 }
 
-/// The same of a term that is no bound variable.
+/// Says whether the variable occurs in a term that is no bound variable.
 #[cycle(occurs)]
 fn occurs_at(
     depth: u32,

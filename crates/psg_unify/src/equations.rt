@@ -13,17 +13,19 @@ use psg_terms::{Node, Term, matching};
 use std::alloc::{AllocError, Global};
 use std::collections::{HashMap, HashSet};
 
-/// Two variables that are equal.
+/// A pair of variables that are equal.
 #[derive(Clone, Copy, PartialEq, Eq, Hash)]
 pub struct Same {
+    /// The one variable.
     pub left: Key,
+    /// The other variable.
     pub right: Key,
 }
 
 /// The equations that were solved.
 #[derive(Drop)]
 pub struct Solution {
-    /// The terms of the bound variables, as they came: with bound and free variables in them.
+    /// The terms of the bound variables, as they were given: with bound and free variables in them.
     pub table: HashMap<Key, Term>,
     /// How many variables the longest chain has that ends at a variable, where that is not 0.
     heights: HashMap<Key, u32>,
@@ -37,7 +39,7 @@ impl Solution {
     ghost use Rattle.psg_unify.specs.Memories.{has_pair};
     ghost use Rattle.psg_unify.specs.declared.equations.Same.{Same as Pair};
 
-    /// No equations.
+    /// Makes a table with no equations.
     pub fn new(alloc: Global) -> Solution
         ensures table { (s n : ℕ) → lookup result.table s n ≡ None }
         ensures equal { (p : Pair) → has_pair result.equal p ≡ false }
@@ -50,7 +52,7 @@ impl Solution {
     }
 }
 
-/// Whether there are two variables and they are known to be equal.
+/// Says whether there are two variables and they are known to be equal.
 fn are_equal(equal: &HashSet<Same>, left: Option<Key>, right: Option<Key>) -> bool
     ensures { IsTrue result → IsKept (has_pair equal.now) left right }
 {
@@ -74,7 +76,7 @@ fn keep_equal(
     Ok(())
 }
 
-/// How many variables the longest chain has that ends at a variable.
+/// Returns how many variables the longest chain has that ends at a variable.
 fn height_of(heights: &HashMap<Key, u32>, variable: Key) -> u32 {
     match heights.get(&variable) {
         Some(height) => *height,
@@ -115,7 +117,7 @@ fn link(
     Ok(())
 }
 
-/// Binds a free variable to what stands for a constructor's term, unless that makes a circle.
+/// Binds a free variable to a chain that ends in another term, unless that makes a circle. It says whether it did.
 fn bind(
     alloc: Global,
     depth: u32,
@@ -139,7 +141,7 @@ fn bind(
     Ok(true)
 }
 
-/// Whether the table, with more variables bound, makes a free variable equal to the end of a chain.
+/// Says whether the table, with more variables bound, makes a free variable equal to the end of a chain.
 fn meet(
     alloc: Global,
     depth: u32,
@@ -176,7 +178,7 @@ fn meet(
     }
 }
 
-/// Whether the table, with more variables bound, makes two terms equal.
+/// Says whether the table, with more variables bound, makes two terms equal.
 #[cycle(unify)]
 pub fn unify(
     alloc: Global,
@@ -201,7 +203,7 @@ pub fn unify(
     Ok(true)
 }
 
-/// The same of the ends of two chains.
+/// Makes the ends of two chains equal, where that can be.
 #[cycle(unify)]
 fn compare(
     alloc: Global,
@@ -259,7 +261,7 @@ fn compare(
     }
 }
 
-/// The same of rows.
+/// Makes the terms of two rows equal, place by place, where that can be.
 #[cycle(unify)]
 fn unify_all(
     alloc: Global,

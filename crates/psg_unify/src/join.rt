@@ -1,5 +1,6 @@
 //! The join of two rows on pairs of columns.
-ghost use Rattle.std.specs.Prelude.{◌≡◌, ◌<◌, ◌↔◌, List, ℕ, length, IfOk, IfSome, IfNone, IsTrue, MatchOption, map, ◌++◌, [], All, Any};
+ghost use Rattle.std.specs.Prelude.{◌≡◌, ◌<◌, ◌↔◌, List, ℕ, length, IfOk, IfSome, IfNone, OnOk, IsTrue, MatchOption};
+ghost use Rattle.std.specs.Prelude.{map, ◌++◌, [], All, Any};
 ghost use Rattle.psg_terms.specs.Terms.{Term as Plain};
 ghost use Rattle.psg_terms.specs.Signature.{HaveSorts};
 ghost use Rattle.psg_terms.specs.Canonical.{Variable, IsCanonical};
@@ -24,7 +25,7 @@ use std::collections::HashMap;
 /// program from running out of stack.
 const DEPTH: u32 = 10_000;
 
-/// Whether a term of the row has too many constructors nested.
+/// Says whether a term of the row has too many constructors nested.
 fn is_deep(row: &[Term]) -> bool
     ensures { IsTrue result ↔ Any (λ t. 10000 < depth_of t) row.now }
 {
@@ -36,7 +37,7 @@ fn is_deep(row: &[Term]) -> bool
     false
 }
 
-/// Whether the table, with more variables bound, makes the rows agree on the pairs.
+/// Says whether the table, with more variables bound, makes the rows agree on the pairs.
 fn unify_pairs(
     alloc: Global,
     solution: &mut Solution,
@@ -58,8 +59,36 @@ fn unify_pairs(
     Ok(true)
 }
 
-/// The two rows one behind the other, with the bound variables written out and canonical numbers.
-fn written_out(
+/// Puts one more owner of each of the terms after what there is.
+fn push_shared(both: &mut Vec<Term>, row: &[Term]) -> Result<(), AllocError>
+    ensures { OnOk result (both.new.items ≡ both.old.items ++ row.now) }
+{
+    for term in row {
+        both.push(term.share()?)?;
+    }
+    Ok(())
+}
+
+/// Returns the two rows one after the other, with canonical numbers. Where they have these already, it makes no term.
+fn side_by_side(
+    alloc: Global,
+    sig: &Signature,
+    left: &[Term],
+    right: &[Term],
+) -> Result<Vec<Term>, AllocError>
+    ensures { IfOk result (λ row. (known : List Variable)
+        × Renumbered sig.now 0 [] known (left.now ++ right.now) row.items) }
+{
+    let mut both = Vec::with_capacity(alloc, left.len())?;
+    push_shared(&mut both, left)?;
+    push_shared(&mut both, right)?;
+    let (copies, _count) = renumbered(alloc, sig, 0, both.as_slice())?;
+    Ok(copies)
+}
+
+/// Returns the two rows one after the other, with the bound variables written out and canonical numbers, by a table of
+/// what was written.
+fn numbered_out(
     alloc: Global,
     sig: &Signature,
     table: &HashMap<Key, Term>,
@@ -67,7 +96,8 @@ fn written_out(
     right: &[Term],
 ) -> Result<Vec<Term>, AllocError>
     ensures { IfOk result (λ row. (f : Substitution) → Resolves f (lookup table.now)
-        → (known : List Variable) × Renumbered sig.now 0 [] known (map (substitute f) (left.now ++ right.now)) row.items) }
+        → (known : List Variable) × Renumbered sig.now 0 [] known
+        (map (substitute f) (left.now ++ right.now)) row.items) }
 {
     let mut written = Written {
         known: IndexSet::new(alloc),
@@ -79,7 +109,27 @@ fn written_out(
     Ok(row)
 }
 
-/// Both rows solved on the pairs, one behind the other, where they can be made to agree.
+/// Returns the two rows one after the other, with the bound variables written out and canonical numbers.
+fn written_out(
+    alloc: Global,
+    sig: &Signature,
+    table: &HashMap<Key, Term>,
+    left: &[Term],
+    right: &[Term],
+) -> Result<Vec<Term>, AllocError>
+    ensures { IfOk result (λ row. (f : Substitution) → Resolves f (lookup table.now)
+        → (known : List Variable) × Renumbered sig.now 0 [] known
+        (map (substitute f) (left.now ++ right.now)) row.items) }
+{
+    if table.is_empty() {
+        let beside = side_by_side(alloc, sig, left, right)?;
+        return Ok(beside);
+    }
+    let row = numbered_out(alloc, sig, table, left, right)?;
+    Ok(row)
+}
+
+/// Returns both rows solved on the pairs, one after the other, where they can be made to agree.
 fn solved(
     alloc: Global,
     sig: &Signature,
@@ -99,18 +149,18 @@ fn solved(
     Ok(Some(row))
 }
 
-/// The most general row that two rows make where they agree on pairs of columns: the left columns and then the right
-/// ones, canonical. `None` comes exactly where no ground instances of the two rows agree on the pairs. A pair is a column
-/// of the left row and one of the right row, each from 0. The rows' variables are apart, also where they have equal
-/// numbers.
+/// Returns the most general row that two rows make where they agree on pairs of columns: the left columns and then the
+/// right ones, canonical. `None` is returned exactly where no ground instances of the two rows agree on the pairs. A
+/// pair is a column of the left row and one of the right row, each from 0. The rows' variables are apart, also where
+/// they have equal numbers.
 ///
 /// It reads each place of both rows a few times, and looks a variable up in a hash table at each. Two bound variables
 /// are compared once, chains of variables are no longer than the logarithm of their number, and what a bound variable
-/// stands for is written once and then shared. So chains of equations are solved in time near linear in the rows, also
-/// where the row would be exponentially large in print. When a variable is bound to a constructor, what stands there is
-/// searched for it; so many variables that are bound to large terms take the product of both numbers.
+/// is replaced by is written once and then shared. So chains of equations are solved in time near linear in the rows,
+/// also where the row would be exponentially large in print. When a variable is bound to a constructor, its term is
+/// searched for it; where many variables are bound to large terms, that takes the product of both numbers.
 ///
-/// `AllocError` comes when memory runs out, where 32 bits do not count the variables, and where more than 10,000
+/// `AllocError` is returned when memory runs out, where 32 bits do not count the variables, and where more than 10,000
 /// constructors are nested in a row or in what has to be compared. Two rows whose join is at most 10,000 deep do not
 /// meet this bound.
 pub fn join_rows(

@@ -6,8 +6,8 @@
 //! ```
 //!
 //! Both rows get numbers apart. The pairs are solved over a table from variables to terms in which a term is kept as it
-//! came, so nothing is copied until the solved row is written out, and then each bound variable is written once and
-//! shared.
+//! was given, so nothing is copied until the solved row is written out, and then each bound variable is written once
+//! and shared.
 //!
 //! What always holds:
 //! - The table has no circle: some substitution writes all bound variables out.

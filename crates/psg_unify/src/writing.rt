@@ -23,7 +23,7 @@ pub struct Written {
     pub memory: HashMap<Key, Term>,
 }
 
-/// The numbered term of a variable, if there is one and it was written.
+/// Returns the numbered term of a variable, if there is one and it was written.
 fn recalled(memory: &HashMap<Key, Term>, last: Option<Key>) -> Result<Option<Term>, AllocError>
     ensures { IfOk result (λ o. IfSome o (λ t. IsRecalled (lookup memory.now) last t)) }
 {
@@ -55,7 +55,7 @@ fn remember(
     Ok(())
 }
 
-/// The term written out and numbered.
+/// Returns the term written out and numbered.
 #[cycle(write)]
 fn write(
     alloc: Global,
@@ -65,7 +65,8 @@ fn write(
     written: &mut Written,
     term: &Term,
 ) -> Result<Term, AllocError>
-    ensures { IfOk result (λ t. Writes sig.now (lookup table.now) (keys written.old.known.keys) (keys written.new.known.keys)
+    ensures { IfOk result (λ t. Writes sig.now (lookup table.now) (keys written.old.known.keys)
+        (keys written.new.known.keys)
         (lookup written.old.memory) (lookup written.new.memory) (term.now ∷ []) (t ∷ [])) }
 {
     let end = follow(table, term)?;
@@ -77,7 +78,7 @@ fn write(
     Ok(copy)
 }
 
-/// The same of a term that is no bound variable.
+/// Returns a term that is no bound variable, written out and numbered.
 #[cycle(write)]
 fn write_end(
     alloc: Global,
@@ -88,7 +89,8 @@ fn write_end(
     term: &Term,
 ) -> Result<Term, AllocError>
     requires { IsSettled (lookup table.now) term.now }
-    ensures { IfOk result (λ t. Writes sig.now (lookup table.now) (keys written.old.known.keys) (keys written.new.known.keys)
+    ensures { IfOk result (λ t. Writes sig.now (lookup table.now) (keys written.old.known.keys)
+        (keys written.new.known.keys)
         (lookup written.old.memory) (lookup written.new.memory) (term.now ∷ []) (t ∷ [])) }
 {
     match term.node() {
@@ -124,7 +126,7 @@ fn write_end(
     }
 }
 
-/// The same of a row, put behind what there is.
+/// Puts the terms of a row, written out, after what is there.
 #[cycle(write)]
 pub fn write_all(
     alloc: Global,

@@ -1,16 +1,11 @@
-use Rattle.std.proofs.Common.{ap}
+use Rattle.std.proofs.Common.{[], ◌++◌, sym, subst}
 use Rattle.psg_terms.specs.Matching.{lookup}
-use Rattle.psg_terms.specs.Renaming.{keys}
-use Rattle.psg_terms.proofs.Fitting.{lookup-empty}
-use Rattle.psg_unify.proofs.WritingSteps.{both_numbered}
+use Rattle.psg_terms.specs.Renaming.{Renumbered}
+use Rattle.psg_unify.proofs.Unbound.{none_bound, unbound_row}
 use Rattle.psg_unify.proofs.join.written_out.Goals as goal
 
-pub returns : goal.returns
-returns c = λ f r.
-    let h = c.in_ok-write_all.ensures in
-    let k = c.in_ok-write_all-2.ensures in (
-      keys c.write_all-2.new.written.known.keys,
-      both_numbered c.args.sig.now (lookup c.args.table.now) (keys c.new.result.keys) (keys c.write_all.new.written.known.keys) (keys c.write_all-2.new.written.known.keys) (lookup c.new-2.result) (lookup c.write_all.new.written.memory) (lookup c.write_all-2.new.written.memory)
-          c.args.left.now c.args.right.now c.new-row.result.items h.0 k.0 c.write_all.new.copies.items c.write_all-2.new.copies.items
-          (ap keys c.new.ensures.empty) (lookup-empty c.new-2.result c.new-2.ensures.empty) c.new-row.ensures.items h.1 k.1 h.2 k.2 f r,
-    )
+pub returns-then-is_empty : goal.returns-then-is_empty
+returns-then-is_empty c = λ f r.
+    let h = c.in_ok-beside.ensures in
+    let same = unbound_row f (lookup c.args.table.now) (none_bound c.args.table.now (c.is_empty.ensures.0 c.if-is_empty.true)) r (c.args.left.now ++ c.args.right.now) in
+    (h.0, subst (λ ts. Renumbered c.args.sig.now 0 [] h.0 ts c.in_ok-beside.beside.items) (sym same) h.1)
