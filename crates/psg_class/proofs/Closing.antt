@@ -1,8 +1,10 @@
 -- Steps of the closure of a table along links.
-use Rattle.std.proofs.Common.{◌≡◌, ◌≢◌, ◌⊎◌, inl, inr, ℕ, ◌+◌, ◌<◌, ◌≤◌, ◌==◌, ◌||◌, Bool, true, false, List, [], ◌∷◌, length, get_or, Contains, refl, ap, sym, ◌∙◌, subst, arith, eqb-true, eq-eqb, true≢false}
+use Rattle.std.proofs.Common.{◌≡◌, ◌≢◌, ◌⊎◌, inl, inr, ℕ, ◌+◌, ◌<◌, ◌≤◌, ◌==◌, ◌||◌, Bool, true, false, List, [], ◌∷◌, length, get_or, Contains, Option, Some, None, Bor, refl, ap, sym, ◌∙◌, subst, arith, eqb-true, eq-eqb, true≢false}
 use Rattle.std.proofs.lemmas.Bool.{cases_Bool, or_parts}
 use Rattle.std.specs.Prelude.{◌↔◌}
 use Rattle.std.proofs.lemmas.List.{get_or_default}
+use Rattle.std.proofs.lemmas.Option.{none-some}
+use Rattle.std.specs.Slice.{IsGetResult}
 use Rattle.std.specs.Bool.{OnTrue, OnFalse}
 use Rattle.psg_class.specs.Grids.{IsGrid, is_set, IsCell, IsSameSize, Keeps, unset, Follows, Derives, given, along, IsSound, IsStep, AreLinks}
 use Rattle.psg_class.specs.declared.grid.Grid.{Grid}
@@ -85,6 +87,11 @@ followed_more l start now column more changed step done last e c h k =
 
 pub contains_at : {X : Type 0} (xs : List X) (i : ℕ) (d : X) → i < length xs → Contains xs (get_or xs i d)
 contains_at xs i d h = (i, h, get_or_default xs i (get_or xs i d) d h)
+
+-- what a slice gives is among its items
+pub contains_got : {X : Type 0} (xs : List X) (i : ℕ) (r : Option (Bor X)) (x : Bor X) → IsGetResult xs i i r → r ≡ Some x → Contains xs x.now
+contains_got {X} xs i None x h e = absurd (none-some x e)
+contains_got {X} xs i (Some y) x h e = let same : y ≡ x = cc in subst (λ (z : Bor X). Contains xs z.now) same (i, h.3.0, sym h.1)
 
 -- what holds of each item up to the end holds of each that there is
 pub each_of : {X : Type 0} (P : X → Type 0) (xs : List X) (d : X) (n : ℕ) → length xs ≤ n → ((j : ℕ) → j < n → P (get_or xs j d)) → (x : X) → Contains xs x → P x

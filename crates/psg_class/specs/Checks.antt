@@ -1,5 +1,6 @@
 -- What the parts of the check hand on.
-use Rattle.std.specs.Prelude.{ℕ, ◌≡◌, ◌⊎◌, ◌+◌, ◌<◌, Bool, true, List, length, map, Option, Some, None, MatchOption, Vec, slice_get, ◌==◌}
+use Rattle.std.specs.Prelude.{ℕ, ◌≡◌, ◌⊎◌, ◌+◌, ◌<◌, Bool, true, List, length, map, Option}
+use Rattle.std.specs.Prelude.{Some, None, MatchOption, Vec, slice_get, ◌==◌}
 use Rattle.std.specs.declared.alloc.Global.{Global}
 use Rattle.psg_terms.specs.Names.{Name, is_among}
 use Rattle.psg_grammar.specs.declared.types.Kind.{Kind}
@@ -26,6 +27,7 @@ pub record IsRead (def : Definition) (words : List Name) (shapes : List Shape) :
   pub among : (w : Name) → is_among (fixed_words def) w ≡ true → is_among words w ≡ true
   pub shapes_are : shapes ≡ map (shape_of (length def.phyla + 4) words) def.operators
 
+-- the shapes are those of the operators, by some list of words that has all fixed words
 abbrev pub HasShapes : Definition → List Shape → Type 0
 HasShapes def shapes = (words : List Name) × IsRead def words shapes
 
@@ -33,13 +35,15 @@ HasShapes def shapes = (words : List Name) × IsRead def words shapes
 abbrev pub Refuses : Definition → ClassFault → Type 0
 Refuses def f = (f ≡ faults.Memory) ⊎ (IsRefusal def f × IsOf def f)
 
--- the first of so many things that fails, with the number of its first token
+-- the first of as many things as `height` that fails, with the number of its first token
 abbrev pub IsFirstOf : Definition → List Name → (ℕ → Terminal → Type 0) → ℕ → Option (ℕ × ℕ) → Type 0
 IsFirstOf def words Fails height o =
-    MatchOption o (NeverAny Fails) (λ x. (x.0 < height) × IsFirstToken def Fails x.0 (number_text (length def.phyla + 4) words def.phyla x.1))
+    MatchOption o (NeverAny Fails)
+    (λ x. (x.0 < height) × IsFirstToken def Fails x.0 (number_text (length def.phyla + 4) words def.phyla x.1))
 
 -- the numbers that are set are those of the terminals
-pub record IsSetOf (def : Definition) (words : List Name) (width : ℕ) (set : ℕ → Bool) (F : Terminal → Type 0) : Type 0 where
+pub record IsSetOf (def : Definition) (words : List Name) (width : ℕ) (set : ℕ → Bool)
+    (F : Terminal → Type 0) : Type 0 where
   pub sound : (c : ℕ) → c < width → set c ≡ true → (t : Terminal) × (number_of def words t ≡ Some c) × F t
   pub complete : (t : Terminal) → F t → (c : ℕ) × (number_of def words t ≡ Some c) × (c < width) × (set c ≡ true)
 
@@ -47,6 +51,7 @@ abbrev pub number_or : Option ℕ → ℕ
 number_or None = 0
 number_or (Some n) = n
 
+-- the number of the list's separator; 0 where it is none of the words
 abbrev pub separator_number : ℕ → List Name → ListKind → ℕ
 separator_number base words l = number_or (word_number base words l.separator)
 
@@ -55,13 +60,17 @@ pub record AreSets (def : Definition) (words : List Name) (width : ℕ) (s : Set
   pub sizes : AreRows (length def.phyla) (length def.lists) s.rows
   pub table : IsTable s.rows.height width s.grid
   pub separators : s.separators.items ≡ map (separator_number (length def.phyla + 4) words) def.lists
-  pub lists : (l : ℕ) → l < length def.lists → IsSetOf def words width (is_set s.grid (s.rows.phyla + l)) (FirstOfList def l)
-  pub follows : (k : Kind) → IsKind s.rows k → IsSetOf def words width (is_set s.grid (follow_row s.rows k)) (Follow def k)
+  pub lists : (l : ℕ) → l < length def.lists
+      → IsSetOf def words width (is_set s.grid (s.rows.phyla + l)) (FirstOfList def l)
+  pub follows : (k : Kind) → IsKind s.rows k
+      → IsSetOf def words width (is_set s.grid (follow_row s.rows k)) (Follow def k)
 
 -- whether each phylum has placeholders
 pub record AreHoles (def : Definition) (holes : List Bool) : Type 0 where
   pub one_each : length holes ≡ length def.phyla
-  pub exact : (p : ℕ) (b : Bool) → slice_get holes p ≡ Some b → ((b ≡ true) → HasHoles def p) × (HasHoles def p → b ≡ true)
+  pub exact : (p : ℕ) (b : Bool) → slice_get holes p ≡ Some b
+      → ((b ≡ true) → HasHoles def p) × (HasHoles def p → b ≡ true)
 
+-- the list has no element
 abbrev pub has_none : Vec ℕ Global → Bool
 has_none v = length v.items == 0

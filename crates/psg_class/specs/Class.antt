@@ -1,5 +1,6 @@
 -- The grammar class: eight conditions, each by what fails it.
-use Rattle.std.specs.Prelude.{ℕ, ◌≡◌, ◌≢◌, ◌<◌, ◌&&◌, ◌||◌, not, nat_le, length, Bool, true, false, is_some, List, [], ◌∷◌, ◌++◌, Option, Some, None, slice_get}
+use Rattle.std.specs.Prelude.{ℕ, ◌≡◌, ◌≢◌, ◌<◌, ◌&&◌, ◌||◌, not, nat_le, length, Bool, true, false}
+use Rattle.std.specs.Prelude.{is_some, List, [], ◌∷◌, ◌++◌, Option, Some, None, slice_get}
 use Rattle.psg_grammar.specs.declared.types.Kind.TheVariants as kinds
 use Rattle.psg_grammar.specs.declared.types.Level.{Level}
 use Rattle.psg_grammar.specs.declared.types.Level.TheVariants as levels
@@ -16,13 +17,16 @@ use Rattle.psg_class.specs.Follow.{Leads, Led, FirstOfList, Follow}
 
 -- ---- items of one operator, the marks for the layout left out
 
+-- the item is a word, a name, a number or a text
 abbrev pub is_token : Item → Bool
 is_token i = is_some (item_terminal i)
 
+-- the first item is a token item
 abbrev pub token_first : List Item → Bool
 token_first [] = false
 token_first (i ∷ rest) = is_token i
 
+-- the last item is a token item
 abbrev pub token_last : List Item → Bool
 token_last [] = false
 token_last (i ∷ []) = is_token i
@@ -44,6 +48,7 @@ abbrev pub begins_well : ℕ → List Item → Bool
 begins_well p [] = false
 begins_well p (i ∷ rest) = is_token i || (is_slot_of p (Some i) && token_first rest)
 
+-- The items are of the form of the level. Two slots with nothing between them are no infix form.
 abbrev pub has_form : Level → ℕ → List Item → Bool
 has_form levels.Plain p is = token_first is && not (own_last p is)
 has_form (levels.Prefix n) p is = token_first is && own_last p is
@@ -108,24 +113,31 @@ pub record MixedLevel (def : Definition) (p level : ℕ) : Type 0 where
 
 -- two operators of the phylum, or one and the bracket, begin with the same token
 pub data SameFirst (def : Definition) (p : ℕ) : Terminal → Type 0 where
-  two_operators : {terminal : Terminal} (n m : ℕ) → n ≢ m → Leads def p n terminal → Leads def p m terminal → SameFirst def p terminal
-  with_bracket : (phylum : Phylum) → slice_get def.phyla p ≡ Some phylum → phylum.bracketed ≡ true → (n : ℕ) → Leads def p n open_bracket → SameFirst def p open_bracket
+  two_operators : {terminal : Terminal} (n m : ℕ) → n ≢ m → Leads def p n terminal → Leads def p m terminal
+      → SameFirst def p terminal
+  with_bracket : (phylum : Phylum) → slice_get def.phyla p ≡ Some phylum → phylum.bracketed ≡ true → (n : ℕ)
+      → Leads def p n open_bracket → SameFirst def p open_bracket
 
 -- two led operators of the phylum have the same second token
 pub data SameLed (def : Definition) (p : ℕ) : Terminal → Type 0 where
-  two_led : {terminal : Terminal} (n m : ℕ) → n ≢ m → Led def p n terminal → Led def p m terminal → SameLed def p terminal
+  two_led : {terminal : Terminal} (n m : ℕ) → n ≢ m → Led def p n terminal → Led def p m terminal
+      → SameLed def p terminal
 
--- the second token of the led operator n can stand behind a tree of its phylum
+-- the second token of the led operator n can follow a tree of its phylum
 pub data LedFollows (def : Definition) (n : ℕ) : Terminal → Type 0 where
-  led_behind : {terminal : Terminal} (p : ℕ) → Led def p n terminal → Follow def (kinds.Phylum p) terminal → LedFollows def n terminal
+  led_behind : {terminal : Terminal} (p : ℕ) → Led def p n terminal → Follow def (kinds.Phylum p) terminal
+      → LedFollows def n terminal
 
--- what goes on a list can stand behind it: its separator, or what begins it
+-- what goes on a list can also follow the list: its separator, or what begins it
 pub data ListEnd (def : Definition) (l : ℕ) : Terminal → Type 0 where
-  separator_behind : (kind : ListKind) → slice_get def.lists l ≡ Some kind → Follow def (kinds.List l) (fixed kind.separator) → ListEnd def l (fixed kind.separator)
-  first_behind : {terminal : Terminal} → FirstOfList def l terminal → Follow def (kinds.List l) terminal → ListEnd def l terminal
+  separator_behind : (kind : ListKind) → slice_get def.lists l ≡ Some kind
+      → Follow def (kinds.List l) (fixed kind.separator) → ListEnd def l (fixed kind.separator)
+  first_behind : {terminal : Terminal} → FirstOfList def l terminal → Follow def (kinds.List l) terminal
+      → ListEnd def l terminal
 
 -- ---- where nothing fails
 
+-- it fails for no number
 abbrev pub Never : (ℕ → Type 0) → Type 0
 Never Fails = (n : ℕ) → Fails n → ⊥
 
@@ -133,7 +145,7 @@ Never Fails = (n : ℕ) → Fails n → ⊥
 abbrev pub NeverAny : (ℕ → Terminal → Type 0) → Type 0
 NeverAny Fails = (n : ℕ) (terminal : Terminal) → Fails n terminal → ⊥
 
--- The first so many conditions hold, in their order.
+-- The first conditions hold, in their order, as many as the name's number says.
 abbrev pub Holds1 : Definition → Type 0
 Holds1 def = Never (NoFirst def)
 
@@ -155,5 +167,6 @@ Holds6 def = Holds5 def × NeverAny (SameLed def)
 abbrev pub Holds7 : Definition → Type 0
 Holds7 def = Holds6 def × NeverAny (LedFollows def)
 
+-- all eight conditions hold
 abbrev pub IsClass : Definition → Type 0
 IsClass def = Holds7 def × NeverAny (ListEnd def)

@@ -1,4 +1,4 @@
--- What a tree can begin with, and what can stand behind it.
+-- What a tree can begin with, and what can follow it.
 use Rattle.std.specs.Prelude.{ℕ, ◌≡◌, ◌⊎◌, true, false, List, [], ◌∷◌, ◌++◌, Some, slice_get}
 use Rattle.psg_grammar.specs.declared.types.Kind.{Kind}
 use Rattle.psg_grammar.specs.declared.types.Kind.TheVariants as kinds
@@ -39,12 +39,16 @@ HasHoles def p = (s : ℕ) → is_declaring def s (kinds.Phylum p) ≡ false
 
 pub data First (def : Definition) : ℕ → Terminal → Type 0 where
   first_operator : {p : ℕ} {terminal : Terminal} (n : ℕ) → Leads def p n terminal → First def p terminal
-  first_hole : {p : ℕ} (phylum : Phylum) → slice_get def.phyla p ≡ Some phylum → HasHoles def p → First def p (a_hole phylum.name)
-  first_bracket : {p : ℕ} (phylum : Phylum) → slice_get def.phyla p ≡ Some phylum → phylum.bracketed ≡ true → First def p open_bracket
+  first_hole : {p : ℕ} (phylum : Phylum) → slice_get def.phyla p ≡ Some phylum → HasHoles def p
+      → First def p (a_hole phylum.name)
+  first_bracket : {p : ℕ} (phylum : Phylum) → slice_get def.phyla p ≡ Some phylum → phylum.bracketed ≡ true
+      → First def p open_bracket
 
 pub data FirstOfList (def : Definition) : ℕ → Terminal → Type 0 where
-  first_element : {l : ℕ} {terminal : Terminal} (kind : ListKind) → slice_get def.lists l ≡ Some kind → First def kind.element terminal → FirstOfList def l terminal
-  first_more : {l : ℕ} (kind : ListKind) → slice_get def.lists l ≡ Some kind → kind.unfinished ≡ true → FirstOfList def l a_more
+  first_element : {l : ℕ} {terminal : Terminal} (kind : ListKind) → slice_get def.lists l ≡ Some kind
+      → First def kind.element terminal → FirstOfList def l terminal
+  first_more : {l : ℕ} (kind : ListKind) → slice_get def.lists l ≡ Some kind → kind.unfinished ≡ true
+      → FirstOfList def l a_more
 
 -- what can begin a row of items
 abbrev pub BeginsWith : Definition → List Item → Terminal → Type 0
@@ -59,8 +63,8 @@ CanBeEmpty [] = Unit {0}
 CanBeEmpty (items.Slot (kinds.List l) ∷ more) = CanBeEmpty more
 CanBeEmpty (i ∷ more) = ⊥
 
--- A slot of the operator n that is not its first item. Where a class's operator begins with a slot, that one is the first
--- item of a led operator; no other operator begins with one.
+-- A slot of the operator n that is not its first item. Where a class's operator begins with a slot, that one is the
+-- first item of a led operator; no other operator begins with one.
 pub record Inside (def : Definition) (n : ℕ) (kind : Kind) (behind : List Item) : Type 0 where
   pub o : Operator
   pub found : slice_get def.operators n ≡ Some o
@@ -69,11 +73,17 @@ pub record Inside (def : Definition) (n : ℕ) (kind : Kind) (behind : List Item
   pub items : solid o.items ≡ first ∷ (front ++ items.Slot kind ∷ behind)
 
 pub data Follow (def : Definition) : Kind → Terminal → Type 0 where
-  by_rest : {kind : Kind} {terminal : Terminal} (n : ℕ) (behind : List Item) → Inside def n kind behind → BeginsWith def behind terminal → Follow def kind terminal
-  by_end : {kind : Kind} {terminal : Terminal} (n : ℕ) (behind : List Item) (place : Inside def n kind behind) → CanBeEmpty behind → is_own_last place.o kind behind ≡ false
+  by_rest : {kind : Kind} {terminal : Terminal} (n : ℕ) (behind : List Item) → Inside def n kind behind
+      → BeginsWith def behind terminal → Follow def kind terminal
+  by_end : {kind : Kind} {terminal : Terminal} (n : ℕ) (behind : List Item) (place : Inside def n kind behind)
+      → CanBeEmpty behind → is_own_last place.o kind behind ≡ false
       → Follow def (kinds.Phylum place.o.phylum) terminal → Follow def kind terminal
-  by_led : {kind : Kind} {terminal : Terminal} (n : ℕ) (behind : List Item) (place : Inside def n kind behind) → CanBeEmpty behind → is_own_last place.o kind behind ≡ false
+  by_led : {kind : Kind} {terminal : Terminal} (n : ℕ) (behind : List Item) (place : Inside def n kind behind)
+      → CanBeEmpty behind → is_own_last place.o kind behind ≡ false
       → (m : ℕ) → Led def place.o.phylum m terminal → Follow def kind terminal
-  by_separator : {p : ℕ} {terminal : Terminal} (l : ℕ) (kind : ListKind) → slice_get def.lists l ≡ Some kind → kind.element ≡ p → terminal ≡ fixed kind.separator → Follow def (kinds.Phylum p) terminal
-  by_list : {p : ℕ} {terminal : Terminal} (l : ℕ) (kind : ListKind) → slice_get def.lists l ≡ Some kind → kind.element ≡ p → Follow def (kinds.List l) terminal → Follow def (kinds.Phylum p) terminal
-  by_bracket : {p : ℕ} {terminal : Terminal} (phylum : Phylum) → slice_get def.phyla p ≡ Some phylum → phylum.bracketed ≡ true → terminal ≡ close_bracket → Follow def (kinds.Phylum p) terminal
+  by_separator : {p : ℕ} {terminal : Terminal} (l : ℕ) (kind : ListKind) → slice_get def.lists l ≡ Some kind
+      → kind.element ≡ p → terminal ≡ fixed kind.separator → Follow def (kinds.Phylum p) terminal
+  by_list : {p : ℕ} {terminal : Terminal} (l : ℕ) (kind : ListKind) → slice_get def.lists l ≡ Some kind
+      → kind.element ≡ p → Follow def (kinds.List l) terminal → Follow def (kinds.Phylum p) terminal
+  by_bracket : {p : ℕ} {terminal : Terminal} (phylum : Phylum) → slice_get def.phyla p ≡ Some phylum
+      → phylum.bracketed ≡ true → terminal ≡ close_bracket → Follow def (kinds.Phylum p) terminal

@@ -1,5 +1,6 @@
 -- What the parts of an operator say of its form.
-use Rattle.std.specs.Prelude.{ℕ, ◌≡◌, ◌+◌, ◌*◌, ◌-◌, ◌<◌, ◌≤◌, ◌==◌, ◌&&◌, ◌||◌, not, nat_le, max, Bool, true, false, cond, List, length, map, Option, Some, slice_get, MatchOption}
+use Rattle.std.specs.Prelude.{ℕ, ◌≡◌, ◌+◌, ◌*◌, ◌-◌, ◌<◌, ◌≤◌, ◌==◌, ◌&&◌, ◌||◌, not, nat_le, max, Bool, true}
+use Rattle.std.specs.Prelude.{false, cond, List, length, map, Option, Some, slice_get, MatchOption}
 use Rattle.std.specs.List.{AllByRecursion}
 use Rattle.psg_grammar.specs.declared.types.Kind.TheVariants as kinds
 use Rattle.psg_grammar.specs.declared.types.Level.{Level}
@@ -15,10 +16,12 @@ use Rattle.psg_class.specs.declared.shape.Part.{Part}
 use Rattle.psg_class.specs.declared.shape.Part.TheVariants as parts
 use Rattle.psg_class.specs.declared.shape.Shape.{Shape}
 
+-- the part is a token
 abbrev pub is_token : Option Part → Bool
 is_token (Some (parts.Token n)) = true
 is_token _ = false
 
+-- the part is a slot of the phylum p
 abbrev pub is_own : ℕ → Option Part → Bool
 is_own p (Some (parts.Slot (kinds.Phylum q))) = q == p
 is_own p _ = false
@@ -29,6 +32,7 @@ first_part s = slice_get s.parts 0
 abbrev pub last_part : Shape → Option Part
 last_part s = slice_get s.parts (length s.parts - 1)
 
+-- a token first, or a slot of the own phylum and then a token
 abbrev pub starts : Shape → Bool
 starts s = is_token (first_part s) || (is_own s.phylum (first_part s) && is_token (slice_get s.parts 1))
 
@@ -49,6 +53,7 @@ fits_level (levels.InfixLeft n) s = is_infix s
 fits_level (levels.InfixRight n) s = is_infix s
 fits_level (levels.InfixNone n) s = is_infix s
 
+-- the parts are of the form of the shape's level
 abbrev pub fits : Shape → Bool
 fits s = fits_level s.level s
 
@@ -65,9 +70,11 @@ cell_of row column = record { row = row; column = column }
 abbrev pub levels_width : ℕ
 levels_width = 11
 
+-- the phylum and the level of the operator
 abbrev pub bound_cell : Shape → Cell
 bound_cell s = cell_of s.phylum (level_number s.level)
 
+-- the phylum and the level that its own slots in the operator ask for
 abbrev pub asked_cell : Shape → Cell
 asked_cell s = cell_of s.phylum (asks s)
 
@@ -80,13 +87,15 @@ form_code (levels.InfixLeft n) = 5 * n + 2
 form_code (levels.InfixRight n) = 5 * n + 3
 form_code (levels.InfixNone n) = 5 * n + 4
 
+-- one more than the greatest code, since each N is at most 9
 abbrev pub codes_width : ℕ
 codes_width = 50
 
+-- the phylum and the code of the operator's form
 abbrev pub form_cell : Shape → Cell
 form_cell s = cell_of s.phylum (form_code s.level)
 
--- the shapes are of the first so many phyla
+-- the shapes are of the first phyla, as many as `phyla` says
 abbrev pub AreInPhyla : ℕ → List Shape → Type 0
 AreInPhyla phyla shapes = AllByRecursion (λ (s : Shape). s.phylum < phyla) shapes
 
@@ -125,6 +134,7 @@ pub record Mixes (uses : ℕ → ℕ → Bool) (row level : ℕ) : Type 0 where
   pub has_one : uses row (5 * level + one) ≡ true
   pub has_other : uses row (5 * level + other) ≡ true
 
+-- the phylum of the row has two forms at some level
 abbrev pub MixesAny : (ℕ → ℕ → Bool) → ℕ → Type 0
 MixesAny uses row = (level : ℕ) × Mixes uses row level
 
@@ -132,6 +142,7 @@ MixesAny uses row = (level : ℕ) × Mixes uses row level
 abbrev pub IsFirstIf : (ℕ → Type 0) → Option ℕ → Type 0
 IsFirstIf P o = MatchOption o (Never P) (IsFirst P)
 
+-- the first pair for which something holds, by its first number and then its second, if there is one
 abbrev pub IsFirstPair : (ℕ → ℕ → Type 0) → Option (ℕ × ℕ) → Type 0
 IsFirstPair P o = MatchOption o ((p : ℕ) → Never (P p)) (λ r. IsFirst (λ p. (n : ℕ) × P p n) r.0 × IsFirst (P r.0) r.1)
 

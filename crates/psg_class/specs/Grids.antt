@@ -1,15 +1,17 @@
 -- Tables of rows and columns of truth values, and what follows from one along links between rows.
-use Rattle.std.specs.Prelude.{ℕ, ◌≡◌, ◌+◌, ◌*◌, ◌<◌, ◌==◌, ◌&&◌, ◌||◌, Bool, true, false, cond, List, [], ◌∷◌, length, Contains}
+use Rattle.std.specs.Prelude.{ℕ, ◌≡◌, ◌+◌, ◌*◌, ◌<◌, ◌==◌, ◌&&◌, ◌||◌, Bool, true}
+use Rattle.std.specs.Prelude.{false, cond, List, [], ◌∷◌, length, Contains}
 use Rattle.std.specs.List.{list_any, AllByRecursion}
 use Rattle.std.proofs.Common.{get_or}
 use Rattle.psg_class.specs.declared.grid.Grid.{Grid}
 use Rattle.psg_class.specs.declared.grid.Link.{Link}
 use Rattle.psg_class.specs.declared.grid.Cell.{Cell}
 
--- the rows stand one behind the other
+-- the rows are one after the other
 abbrev pub IsGrid : Grid → Type 0
 IsGrid g = length g.cells.items ≡ g.height * g.width
 
+-- whether the cell is set
 abbrev pub is_set : Grid → ℕ → ℕ → Bool
 is_set g row column = get_or g.cells.items (row * g.width + column) false
 
@@ -48,11 +50,13 @@ Follows g l = (column : ℕ) → column < g.width → is_set g l.from column ≡
 -- what follows from a table along links
 pub data Derives (start : Grid) (links : List Link) : ℕ → ℕ → Type 0 where
   given : {row column : ℕ} → is_set start row column ≡ true → Derives start links row column
-  along : {column : ℕ} (l : Link) → Contains links l → Derives start links l.from column → Derives start links l.to column
+  along : {column : ℕ} (l : Link) → Contains links l → Derives start links l.from column
+      → Derives start links l.to column
 
 -- all that is set follows from the start
 abbrev pub IsSound : Grid → List Link → Grid → Type 0
-IsSound start links g = (row column : ℕ) → IsCell g row column → is_set g row column ≡ true → Derives start links row column
+IsSound start links g =
+    (row column : ℕ) → IsCell g row column → is_set g row column ≡ true → Derives start links row column
 
 -- more is set than before, or nothing has changed
 pub record IsStep (links : List Link) (old new : Grid) (more : Bool) : Type 0 where
@@ -76,5 +80,6 @@ abbrev pub twice : ℕ → ℕ → List Cell → Bool
 twice row column [] = false
 twice row column (x ∷ xs) = (is_at row column x && once row column xs) || twice row column xs
 
+-- each cell is one of a table of this size
 abbrev pub AreInside : ℕ → ℕ → List Cell → Type 0
 AreInside height width cells = AllByRecursion (λ x. (x.row < height) × (x.column < width)) cells

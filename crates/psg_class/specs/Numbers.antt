@@ -1,6 +1,7 @@
--- The numbers of terminals: names, numbers, texts, the placeholders of the phyla, `...`, and then the fixed words in the
--- order in which they were met.
-use Rattle.std.specs.Prelude.{ℕ, suc, ◌≡◌, ◌+◌, ◌-◌, ◌==◌, nat_lt, Bool, true, false, cond, List, [], ◌∷◌, length, map, Option, Some, None, option_map, bytes_eq, codes, slice_get}
+-- The numbers of terminals: names, numbers, texts, the placeholders of the phyla, `...`, and then the fixed words in
+-- the order in which they were met.
+use Rattle.std.specs.Prelude.{ℕ, suc, ◌≡◌, ◌+◌, ◌-◌, ◌==◌, nat_lt, Bool, true, false, cond, List, [], ◌∷◌}
+use Rattle.std.specs.Prelude.{length, map, Option, Some, None, option_map, bytes_eq, codes, slice_get}
 use Rattle.std.specs.Cmp.Lexicographic.{slice_cmp}
 use Rattle.std.specs.Ordering.{nat_cmp, is_lt}
 use Rattle.std.specs.HashMap.{get_by_text}
@@ -11,7 +12,7 @@ use Rattle.psg_grammar.specs.WellFormed.{fixed_words}
 use Rattle.psg_class.specs.Terminals.{Terminal, fixed, a_name, a_number, a_text, a_hole, a_more, stray}
 use Rattle.psg_class.specs.declared.vocabulary.Vocabulary.{Vocabulary}
 
--- the first place at which the word stands
+-- the first place at which the word is
 abbrev pub place_in : List Name → Name → Option ℕ
 place_in [] w = None
 place_in (v ∷ vs) w = cond (bytes_eq v w) (Some 0) (option_map (λ k. suc k) (place_in vs w))
@@ -27,6 +28,7 @@ word_number base words w = option_map (λ k. base + k) (place_in words w)
 abbrev pub IsConsistent : Vocabulary → Type 0
 IsConsistent v = (w : Name) → get_by_text v.numbers w ≡ word_number v.base v.words.items w
 
+-- The number of a terminal. A placeholder of no phylum, a word that is not among the words and a stray token have none.
 abbrev pub number_of : Definition → List Name → Terminal → Option ℕ
 number_of def words a_name = Some 0
 number_of def words a_number = Some 1
@@ -60,13 +62,14 @@ pub record IsVocabulary (def : Definition) (v : Vocabulary) : Type 0 where
 abbrev pub word_at : ℕ → List Name → ℕ → Option Name
 word_at base words k = cond (nat_lt k base) None (slice_get words (k - base))
 
+-- two words by their bytes, and a word before what is no word; else as the last argument says
 abbrev pub words_before : Option Name → Option Name → Bool → Bool
 words_before (Some v) (Some w) below = is_lt (slice_cmp nat_cmp v w)
 words_before (Some v) None below = true
 words_before None (Some w) below = false
 words_before None None below = below
 
--- words come first, by their bytes, and then all others by number
+-- words are first, by their bytes, and then all others by number
 abbrev pub is_number_before : ℕ → List Name → ℕ → ℕ → Bool
 is_number_before base words k m = words_before (word_at base words k) (word_at base words m) (nat_lt k m)
 
@@ -77,11 +80,13 @@ hole_text None = codes "..."
 hole_text (Some p) = 63 ∷ p.name
 
 abbrev pub other_text : List Phylum → ℕ → List ℕ
-other_text phyla k = cond (k == 0) (codes "name") (cond (k == 1) (codes "number") (cond (k == 2) (codes "text") (hole_text (slice_get phyla (k - 3)))))
+other_text phyla k = cond (k == 0) (codes "name")
+    (cond (k == 1) (codes "number") (cond (k == 2) (codes "text") (hole_text (slice_get phyla (k - 3)))))
 
 abbrev pub text_or : Option Name → List ℕ → List ℕ
 text_or None other = other
 text_or (Some w) other = w
 
+-- a fixed word as it is, and else `name`, `number`, `text`, a placeholder as `?P`, or `...`
 abbrev pub number_text : ℕ → List Name → List Phylum → ℕ → List ℕ
 number_text base words phyla k = text_or (word_at base words k) (other_text phyla k)

@@ -6,6 +6,7 @@ use Rattle.psg_grammar.specs.declared.types.Item.{Item}
 use Rattle.psg_grammar.specs.declared.types.Operator.{Operator}
 use Rattle.psg_grammar.specs.Levels.{first_level, last_level, is_mark}
 
+-- the items without the marks for the layout
 abbrev pub solid : List Item → List Item
 solid [] = []
 solid (i ∷ rest) = cond (is_mark i) (solid rest) (i ∷ solid rest)
@@ -19,9 +20,10 @@ abbrev pub is_own : Operator → Kind → Bool
 is_own o (kinds.Phylum p) = p == o.phylum
 is_own o (kinds.List l) = false
 
--- the least level of a slot, by whether it is the first item and by the items behind it
+-- the least level of a slot, by whether it is the first item and by the items after it
 abbrev pub slot_level : Operator → Kind → Bool → List Item → ℕ
-slot_level o k first behind = cond (is_own o k) (max (cond first (first_level o.level) 0) (cond (is_empty behind) (last_level o.level) 0)) 0
+slot_level o k first behind =
+    cond (is_own o k) (max (cond first (first_level o.level) 0) (cond (is_empty behind) (last_level o.level) 0)) 0
 
 -- the slot is of the own phylum and at the last place
 abbrev pub is_own_last : Operator → Kind → List Item → Bool

@@ -1,5 +1,6 @@
 -- The first condition that fails, for its first thing and its first token.
-use Rattle.std.specs.Prelude.{ℕ, suc, ◌≡◌, ◌<◌, ◌++◌, nat_lt, Bool, false, cond, List, [], ◌∷◌, length, Option, Some, None, codes, decimal, bytes_eq, string_bytes}
+use Rattle.std.specs.Prelude.{ℕ, suc, ◌≡◌, ◌<◌, ◌++◌, nat_lt, Bool, false, cond, List, [], ◌∷◌, length}
+use Rattle.std.specs.Prelude.{Option, Some, None, codes, decimal, bytes_eq, string_bytes}
 use Rattle.std.specs.Cmp.Lexicographic.{slice_cmp}
 use Rattle.std.specs.Ordering.{nat_cmp, is_lt}
 use Rattle.psg_terms.specs.Names.{Name}
@@ -10,7 +11,8 @@ use Rattle.psg_grammar.specs.Kinds.{kind_name_of, op_name_of}
 use Rattle.psg_class.specs.declared.fault.ClassFault.{ClassFault}
 use Rattle.psg_class.specs.declared.fault.ClassFault.TheVariants as faults
 use Rattle.psg_class.specs.Terminals.{Terminal, fixed, a_name, a_number, a_text, a_hole, a_more, stray}
-use Rattle.psg_class.specs.Class.{NoFirst, BadForm, NoBracket, MixedLevel, SameFirst, SameLed, LedFollows, ListEnd, Holds1, Holds2, Holds3, Holds4, Holds5, Holds6, Holds7}
+use Rattle.psg_class.specs.Class.{NoFirst, BadForm, NoBracket, MixedLevel, SameFirst, SameLed, LedFollows}
+use Rattle.psg_class.specs.Class.{ListEnd, Holds1, Holds2, Holds3, Holds4, Holds5, Holds6, Holds7}
 
 -- ---- the order of tokens: fixed words by their bytes, then names, numbers, texts, placeholders by phylum, `...`
 
@@ -28,6 +30,7 @@ abbrev pub place_of : List Phylum → Name → ℕ
 place_of [] n = 0
 place_of (p ∷ ps) n = cond (bytes_eq p.name n) 0 (suc (place_of ps n))
 
+-- words by their bytes, placeholders by the first phylum of the name, and else by rank
 abbrev pub is_before : Definition → Terminal → Terminal → Bool
 is_before def (fixed v) (fixed w) = is_lt (slice_cmp nat_cmp v w)
 is_before def (a_hole v) (a_hole w) = nat_lt (place_of def.phyla v) (place_of def.phyla w)
@@ -35,12 +38,15 @@ is_before def t u = nat_lt (rank t) (rank u)
 
 -- ---- the first of all that fail
 
+-- it fails for n, and for no lesser number
 abbrev pub IsFirst : (ℕ → Type 0) → ℕ → Type 0
 IsFirst Fails n = Fails n × ((m : ℕ) → m < n → Fails m → ⊥)
 
+-- it fails for t, and for none that is before t
 abbrev pub IsFirstTerminal : Definition → (Terminal → Type 0) → Terminal → Type 0
 IsFirstTerminal def Fails t = Fails t × ((u : Terminal) → Fails u → is_before def u t ≡ false)
 
+-- it fails for some token
 abbrev pub FailsSome : (ℕ → Terminal → Type 0) → ℕ → Type 0
 FailsSome Fails n = (t : Terminal) × Fails n t
 
@@ -56,12 +62,14 @@ terminal_text stray = []
 
 -- the first of the things for which some token fails, with its first token
 abbrev pub IsFirstToken : Definition → (ℕ → Terminal → Type 0) → ℕ → List ℕ → Type 0
-IsFirstToken def Fails n text = IsFirst (FailsSome Fails) n × ((t : Terminal) × IsFirstTerminal def (Fails n) t × (text ≡ terminal_text t))
+IsFirstToken def Fails n text =
+    IsFirst (FailsSome Fails) n × ((t : Terminal) × IsFirstTerminal def (Fails n) t × (text ≡ terminal_text t))
 
+-- the phylum has two forms at some level
 abbrev pub MixesSome : Definition → ℕ → Type 0
 MixesSome def p = (level : ℕ) × MixedLevel def p level
 
--- The fault names the first condition that fails. Want of memory is no refusal.
+-- The fault names the first condition that fails. That memory ran out is no refusal.
 abbrev pub IsRefusal : Definition → ClassFault → Type 0
 IsRefusal def (faults.NoFirst n) = IsFirst (NoFirst def) n
 IsRefusal def (faults.Form n) = Holds1 def × IsFirst (BadForm def) n
@@ -88,12 +96,15 @@ phylum_text def p = name_text (kind_name_of def (kinds.Phylum p))
 abbrev pub list_text : Definition → ℕ → List ℕ
 list_text def l = name_text (kind_name_of def (kinds.List l))
 
+-- `refused`, and then the condition and the name, each after a space
 abbrev pub refused : List ℕ → List ℕ → List ℕ
 refused condition name = codes "refused " ++ condition ++ codes " " ++ name
 
+-- the same text, and then the level or the token after a space
 abbrev pub refused_with : List ℕ → List ℕ → List ℕ → List ℕ
 refused_with condition name last = refused condition name ++ codes " " ++ last
 
+-- the text of each refusal; where memory ran out there is none
 abbrev pub fault_text : Definition → ClassFault → List ℕ
 fault_text def (faults.NoFirst n) = refused (codes "NoFirst") (operator_text def n)
 fault_text def (faults.Form n) = refused (codes "Form") (operator_text def n)

@@ -18,6 +18,7 @@ item_number base words items.Number = Some 1
 item_number base words items.Text = Some 2
 item_number base words _ = None
 
+-- the part that an item is: a slot, or a token by its number; a mark for the layout is none
 abbrev pub part_of : ℕ → List Name → Item → Option Part
 part_of base words (items.Slot k) = Some (parts.Slot k)
 part_of base words i = option_map (λ n. parts.Token n) (item_number base words i)
@@ -30,5 +31,6 @@ abbrev pub parts_of : ℕ → List Name → List Item → List Part
 parts_of base words [] = []
 parts_of base words (i ∷ rest) = listed (part_of base words i) ++ parts_of base words rest
 
+-- the phylum, the level and the parts of an operator
 abbrev pub shape_of : ℕ → List Name → Operator → Shape
 shape_of base words o = record { phylum = o.phylum; level = o.level; parts = parts_of base words o.items }

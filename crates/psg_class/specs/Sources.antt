@@ -1,6 +1,7 @@
--- Rows of sets of terminals: what can begin each kind, what can stand behind it, and the second tokens of led operators.
+-- Rows of sets of terminals: what can begin each kind, what can follow it, and the second tokens of led operators.
 -- And what is in a row at once, and from which other rows its set follows.
-use Rattle.std.specs.Prelude.{ℕ, ◌≡◌, ◌+◌, ◌^◌, ◌<◌, ◌≤◌, ◌⊎◌, ◌↔◌, ◌&&◌, Bool, true, false, List, [], ◌∷◌, length, drop, Option, Some, None, Contains, slice_get}
+use Rattle.std.specs.Prelude.{ℕ, ◌≡◌, ◌+◌, ◌^◌, ◌<◌, ◌≤◌, ◌⊎◌, ◌↔◌, ◌&&◌, Bool, true, false, List}
+use Rattle.std.specs.Prelude.{[], ◌∷◌, length, drop, Option, Some, None, Contains, slice_get}
 use Rattle.psg_grammar.specs.declared.types.Kind.{Kind}
 use Rattle.psg_grammar.specs.declared.types.Kind.TheVariants as kinds
 use Rattle.psg_grammar.specs.declared.types.Phylum.{Phylum}
@@ -15,16 +16,20 @@ use Rattle.psg_class.specs.declared.shape.Shape.{Shape}
 use Rattle.psg_class.specs.declared.sources.Rows.{Rows}
 use Rattle.psg_class.specs.declared.sources.Draft.{Draft}
 
+-- the number of a kind among all: phyla are before lists
 abbrev pub kind_index : ℕ → Kind → ℕ
 kind_index phyla (kinds.Phylum p) = p
 kind_index phyla (kinds.List l) = phyla + l
 
+-- the row of what begins the kind
 abbrev pub first_row : Rows → Kind → ℕ
 first_row rows k = kind_index rows.phyla k
 
+-- the row of what can follow the kind
 abbrev pub follow_row : Rows → Kind → ℕ
 follow_row rows k = rows.kinds + kind_index rows.phyla k
 
+-- the row of the second tokens of the phylum's led operators
 abbrev pub led_row : Rows → ℕ → ℕ
 led_row rows p = rows.kinds + rows.kinds + p
 
@@ -32,7 +37,7 @@ pub record AreRows (phyla lists : ℕ) (rows : Rows) : Type 0 where
   pub phyla_are : rows.phyla ≡ phyla
   pub kinds_are : rows.kinds ≡ phyla + lists
 
--- the rows are one behind the other
+-- the rows are one after the other
 pub record IsRows (rows : Rows) : Type 0 where
   pub phyla_among : rows.phyla ≤ rows.kinds
   pub height_is : rows.height ≡ rows.kinds + rows.kinds + rows.phyla
@@ -42,7 +47,7 @@ abbrev pub is_phylum_kind : Kind → Bool
 is_phylum_kind (kinds.Phylum p) = true
 is_phylum_kind (kinds.List l) = false
 
--- the kind is one of so many
+-- the kind is one of those that have rows
 abbrev pub IsKind : Rows → Kind → Type 0
 IsKind rows (kinds.Phylum p) = p < rows.phyla
 IsKind rows (kinds.List l) = rows.phyla + l < rows.kinds
@@ -56,7 +61,7 @@ TokenIn (parts.Token k ∷ rest) n = n ≡ k
 TokenIn (parts.Slot (kinds.Phylum p) ∷ rest) n = ⊥
 TokenIn (parts.Slot (kinds.List l) ∷ rest) n = TokenIn rest n
 
--- the kind is that of a slot before which only lists stand
+-- the kind is that of a slot before which there are only lists
 abbrev pub SlotIn : List Part → Kind → Type 0
 SlotIn [] k = ⊥
 SlotIn (parts.Token n ∷ rest) k = ⊥
@@ -84,14 +89,14 @@ pub record IsSlot (s : Shape) (place : ℕ) (kind : Kind) : Type 0 where
 abbrev pub behind : Shape → ℕ → List Part
 behind s place = drop (place + 1) s.parts
 
--- what the slot at the place gives at once to the row of what can stand behind its kind
+-- what the slot at the place gives at once to the row of what can follow its kind
 pub record SlotFact (rows : Rows) (s : Shape) (place row column : ℕ) : Type 0 where
   pub kind : Kind
   pub slot : IsSlot s place kind
   pub row_is : row ≡ follow_row rows kind
   pub token : TokenIn (behind s place) column
 
--- what can stand behind the operator's phylum, and what led operators of it go on with
+-- what can follow the operator's phylum, and what led operators of it go on with
 abbrev pub IsOutside : Rows → Shape → ℕ → Type 0
 IsOutside rows s from = (from ≡ follow_row rows (kinds.Phylum s.phylum)) ⊎ (from ≡ led_row rows s.phylum)
 
@@ -103,13 +108,15 @@ pub record SlotLink (rows : Rows) (s : Shape) (place to from : ℕ) : Type 0 whe
   pub kind : Kind
   pub slot : IsSlot s place kind
   pub to_is : to ≡ follow_row rows kind
-  pub source : ((k : Kind) × SlotIn (behind s place) k × (from ≡ first_row rows k)) ⊎ ((can_end (behind s place) ≡ true) × (is_end s place ≡ false) × IsOutside rows s from)
+  pub source : ((k : Kind) × SlotIn (behind s place) k × (from ≡ first_row rows k))
+      ⊎ ((can_end (behind s place) ≡ true) × (is_end s place ≡ false) × IsOutside rows s from)
 
--- the first token, and the second one behind a slot
+-- the first token, and the second one after a slot
 abbrev pub LeadFact : Rows → Shape → ℕ → ℕ → Type 0
 LeadFact rows s row column =
     ((slice_get s.parts 0 ≡ Some (parts.Token column)) × (row ≡ first_row rows (kinds.Phylum s.phylum)))
-    ⊎ (((k : Kind) × (slice_get s.parts 0 ≡ Some (parts.Slot k))) × (slice_get s.parts 1 ≡ Some (parts.Token column)) × (row ≡ led_row rows s.phylum))
+    ⊎ (((k : Kind) × (slice_get s.parts 0 ≡ Some (parts.Slot k))) × (slice_get s.parts 1 ≡ Some (parts.Token column))
+    × (row ≡ led_row rows s.phylum))
 
 abbrev pub NoLink : ℕ → ℕ → Type 0
 NoLink to from = ⊥
@@ -121,9 +128,11 @@ Either F G r c = F r c ⊎ G r c
 abbrev pub Below : (ℕ → ℕ → ℕ → Type 0) → ℕ → ℕ → ℕ → Type 0
 Below F n r c = (j : ℕ) × (j < n) × F j r c
 
+-- the terminals that the shape gives at once
 abbrev pub ShapeFact : Rows → Shape → ℕ → ℕ → Type 0
 ShapeFact rows s = Either (LeadFact rows s) (Below (SlotFact rows s) (length s.parts))
 
+-- the rows from which the shape makes others follow
 abbrev pub ShapeLink : Rows → Shape → ℕ → ℕ → Type 0
 ShapeLink rows s = Below (SlotLink rows s) (length s.parts)
 
@@ -190,21 +199,26 @@ If holds row column r c = (holds ≡ true) × OneCell row column r c
 
 -- a phylum's placeholder, where it has one, and its brackets
 abbrev pub PhylumFact : Rows → ℕ → ℕ → ℕ → Bool → Bool → ℕ → ℕ → Type 0
-PhylumFact rows opening closing p hole bracketed = Either (Either (If hole p (3 + p)) (If bracketed p opening)) (If bracketed (rows.kinds + p) closing)
+PhylumFact rows opening closing p hole bracketed =
+    Either (Either (If hole p (3 + p)) (If bracketed p opening)) (If bracketed (rows.kinds + p) closing)
 
 abbrev pub PhylumFactAt : Rows → ℕ → ℕ → List Phylum → List Bool → ℕ → ℕ → ℕ → Type 0
-PhylumFactAt rows opening closing phyla holes p r c = (k : Phylum) × (hole : Bool) × (slice_get phyla p ≡ Some k) × (slice_get holes p ≡ Some hole) × PhylumFact rows opening closing p hole k.bracketed r c
+PhylumFactAt rows opening closing phyla holes p r c = (k : Phylum) × (hole : Bool) × (slice_get phyla p ≡ Some k)
+    × (slice_get holes p ≡ Some hole) × PhylumFact rows opening closing p hole k.bracketed r c
 
--- `...` in front of an unfinished list, and the separator behind its elements
+-- `...` begins an unfinished list, and the separator can follow its elements
 abbrev pub ListFact : Rows → ℕ → ℕ → Bool → ℕ → ℕ → ℕ → Type 0
-ListFact rows l element unfinished separator = Either (If unfinished (rows.phyla + l) (rows.phyla + 3)) (OneCell (rows.kinds + element) separator)
+ListFact rows l element unfinished separator =
+    Either (If unfinished (rows.phyla + l) (rows.phyla + 3)) (OneCell (rows.kinds + element) separator)
 
--- an element begins the list, and what stands behind the list stands behind its last element
+-- an element begins the list, and what can follow the list can follow its last element
 abbrev pub ListLink : Rows → ℕ → ℕ → ℕ → ℕ → Type 0
-ListLink rows l element = Either (OneCell (rows.phyla + l) element) (OneCell (rows.kinds + element) (rows.kinds + (rows.phyla + l)))
+ListLink rows l element =
+    Either (OneCell (rows.phyla + l) element) (OneCell (rows.kinds + element) (rows.kinds + (rows.phyla + l)))
 
 abbrev pub ListFactAt : Rows → List ListKind → List ℕ → ℕ → ℕ → ℕ → Type 0
-ListFactAt rows lists separators l r c = (k : ListKind) × (separator : ℕ) × (slice_get lists l ≡ Some k) × (slice_get separators l ≡ Some separator) × ListFact rows l k.element k.unfinished separator r c
+ListFactAt rows lists separators l r c = (k : ListKind) × (separator : ℕ) × (slice_get lists l ≡ Some k)
+    × (slice_get separators l ≡ Some separator) × ListFact rows l k.element k.unfinished separator r c
 
 abbrev pub ListLinkAt : Rows → List ListKind → ℕ → ℕ → ℕ → Type 0
 ListLinkAt rows lists l t f = (k : ListKind) × (slice_get lists l ≡ Some k) × ListLink rows l k.element t f
@@ -220,13 +234,17 @@ pub record Parts : Type 0 where
   pub opening : ℕ
   pub closing : ℕ
 
+-- all terminals that are given at once
 abbrev pub AllFacts : Parts → ℕ → ℕ → Type 0
 AllFacts a =
-    Either (Either (Below (AtShape (ShapeFact a.rows) a.shapes) (length a.shapes)) (Below (PhylumFactAt a.rows a.opening a.closing a.phyla a.holes) (length a.phyla)))
+    Either (Either (Below (AtShape (ShapeFact a.rows) a.shapes) (length a.shapes))
+    (Below (PhylumFactAt a.rows a.opening a.closing a.phyla a.holes) (length a.phyla)))
     (Below (ListFactAt a.rows a.lists a.separators) (length a.lists))
 
+-- all links between rows
 abbrev pub AllLinks : Parts → ℕ → ℕ → Type 0
-AllLinks a = Either (Below (AtShape (ShapeLink a.rows) a.shapes) (length a.shapes)) (Below (ListLinkAt a.rows a.lists) (length a.lists))
+AllLinks a = Either (Below (AtShape (ShapeLink a.rows) a.shapes) (length a.shapes))
+    (Below (ListLinkAt a.rows a.lists) (length a.lists))
 
 -- the least sets with these facts and links
 pub data Grown (a : Parts) : ℕ → ℕ → Type 0 where

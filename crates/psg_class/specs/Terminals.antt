@@ -1,5 +1,6 @@
 -- What the grammar sees of a token: its terminal.
-use Rattle.std.specs.Prelude.{ℕ, ◌&&◌, not, Bool, true, false, List, [], ◌∷◌, Option, Some, None, bytes_eq, chars, encode_utf8_all, codes}
+use Rattle.std.specs.Prelude.{ℕ, ◌&&◌, not, Bool, true, false, List, [], ◌∷◌, Option}
+use Rattle.std.specs.Prelude.{Some, None, bytes_eq, chars, encode_utf8_all, codes}
 use Rattle.std.specs.List.{list_all}
 use Rattle.psg_terms.specs.Names.{Name, is_among}
 use Rattle.psg_terms.specs.Words.{starts_word, goes_on_word}
@@ -10,7 +11,9 @@ use Rattle.psg_grammar.specs.declared.types.Item.TheVariants as items
 use Rattle.psg_grammar.specs.declared.types.Definition.{Definition}
 use Rattle.psg_grammar.specs.WellFormed.{fixed_words}
 pub use Rattle.psg_lexis.specs.declared.token.Token.{Token}
-pub use Rattle.psg_lexis.specs.declared.token.Token.TheVariants.{Word as word, Number as numeral, Text as quoted, Solo as solo, Symbol as symbols, Hole as placeholder, More as dots}
+pub use Rattle.psg_lexis.specs.declared.token.Token.TheVariants.{Word as word, Number as numeral, Text as quoted}
+pub use Rattle.psg_lexis.specs.declared.token.Token.TheVariants.{Solo as solo, Symbol as symbols}
+pub use Rattle.psg_lexis.specs.declared.token.Token.TheVariants.{Hole as placeholder, More as dots}
 
 pub data Terminal : Type 0 where
   fixed : (word : Name) → Terminal

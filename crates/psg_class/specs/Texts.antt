@@ -19,9 +19,10 @@ tokens_of ts = map (λ (s : Spanned). s.token) ts
 abbrev pub TextTokens : Definition → List ℕ → List Spanned → Type 0
 TextTokens def text ts = HasTokens (fixed_words def) (chars text) 0 ts
 
--- The text has tokens, and the tree of the kind and level yields them, with brackets nested so deep. A definition of the class
--- and a text fix the tree and the nesting.
-pub record ReadsAs (def : Definition) (kind : Kind) (level : ℕ) (text : List ℕ) (f : Fragment) (nesting : ℕ) : Type 0 where
+-- The text has tokens, and the tree of the kind and level yields them, with brackets nested so deep. A definition of
+-- the class and a text fix the tree and the nesting.
+pub record ReadsAs (def : Definition) (kind : Kind) (level : ℕ) (text : List ℕ) (f : Fragment)
+    (nesting : ℕ) : Type 0 where
   pub tokens : List Spanned
   pub are : TextTokens def text tokens
   pub yields : Yields def f kind level nesting (tokens_of tokens)

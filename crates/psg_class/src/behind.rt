@@ -1,4 +1,4 @@
-//! What can stand behind trees, and the conditions on it.
+//! What can follow trees, and the conditions on it.
 ghost use Rattle.std.specs.Prelude.{◌≡◌, ◌+◌, IfOk, length, map, vec_len};
 ghost use Rattle.psg_grammar.specs.Sound.{IsSound};
 ghost use Rattle.psg_class.specs.Checks.{AreHoles, AreSets, has_none, IsFirstOf, IsRead, separator_number};
@@ -30,7 +30,8 @@ impl Sets {
     ) -> Result<Sets, AllocError>
         requires vocabulary { IsVocabulary definition.now vocabulary.now }
         requires read { IsRead definition.now vocabulary.now.words.items shapes.now }
-        ensures { IfOk result (AreSets definition.now vocabulary.now.words.items (vocabulary.now.base + length vocabulary.now.words.items)) }
+        ensures { IfOk result (AreSets definition.now vocabulary.now.words.items
+            (vocabulary.now.base + length vocabulary.now.words.items)) }
     {
         let phyla = definition.phyla.as_slice();
         let lists = definition.lists.as_slice();
@@ -57,7 +58,7 @@ impl Sets {
     }
 }
 
-/// Whether each phylum has placeholders: it has some where it declares in no space.
+/// Says of each phylum whether it has placeholders: it has some where it declares in no space.
 fn hole_flags(alloc: Global, definition: &Definition) -> Result<Vec<bool>, AllocError>
     requires { IsSound definition.now }
     ensures { IfOk result (λ v. AreHoles definition.now v.items) }
@@ -83,7 +84,8 @@ fn separator_numbers(
     lists: &[ListKind],
 ) -> Result<Vec<usize>, AllocError>
     requires { IsConsistent vocabulary.now }
-    ensures { IfOk result (λ v. v.items ≡ map (separator_number vocabulary.now.base vocabulary.now.words.items) lists.now) }
+    ensures { IfOk result
+        (λ v. v.items ≡ map (separator_number vocabulary.now.base vocabulary.now.words.items) lists.now) }
 {
     let mut numbers = Vec::with_capacity(alloc, lists.len())?;
     for list in lists {
@@ -102,7 +104,7 @@ fn separator_number(vocabulary: &Vocabulary, list: &ListKind) -> usize
     }
 }
 
-/// The first led operator whose second token can stand behind its phylum, with the number of that token.
+/// Returns the first led operator whose second token can follow its phylum, with the number of that token.
 pub(crate) fn led_follows(
     definition: &Definition,
     vocabulary: &Vocabulary,
@@ -111,13 +113,16 @@ pub(crate) fn led_follows(
 ) -> Option<(usize, usize)>
     requires vocabulary { IsVocabulary definition.now vocabulary.now }
     requires read { IsRead definition.now vocabulary.now.words.items shapes.now }
-    requires sets { AreSets definition.now vocabulary.now.words.items (vocabulary.now.base + length vocabulary.now.words.items) sets.now }
-    ensures { IsFirstOf definition.now vocabulary.now.words.items (LedFollows definition.now) (length definition.now.operators) result }
+    requires sets { AreSets definition.now vocabulary.now.words.items
+        (vocabulary.now.base + length vocabulary.now.words.items) sets.now }
+    ensures { IsFirstOf definition.now vocabulary.now.words.items (LedFollows definition.now)
+        (length definition.now.operators) result }
 {
     first_led(shapes, &sets.rows, &sets.grid)
 }
 
-/// The first list behind which its separator can stand, or a terminal that begins it, with the number of the first of these.
+/// Returns the first list that its separator, or a terminal that begins the list, can follow, with the number of the
+/// first such terminal.
 pub(crate) fn list_end(
     definition: &Definition,
     vocabulary: &Vocabulary,
@@ -125,8 +130,10 @@ pub(crate) fn list_end(
 ) -> Option<(usize, usize)>
     requires sound { IsSound definition.now }
     requires vocabulary { IsVocabulary definition.now vocabulary.now }
-    requires sets { AreSets definition.now vocabulary.now.words.items (vocabulary.now.base + length vocabulary.now.words.items) sets.now }
-    ensures { IsFirstOf definition.now vocabulary.now.words.items (ListEnd definition.now) (length definition.now.lists) result }
+    requires sets { AreSets definition.now vocabulary.now.words.items
+        (vocabulary.now.base + length vocabulary.now.words.items) sets.now }
+    ensures { IsFirstOf definition.now vocabulary.now.words.items (ListEnd definition.now)
+        (length definition.now.lists) result }
 {
     first_end(
         vocabulary,

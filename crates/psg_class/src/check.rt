@@ -16,14 +16,14 @@ use crate::vocabulary::{Vocabulary, terminal_text};
 use psg_grammar::Definition;
 use std::alloc::{AllocError, Global};
 
-/// Whether the definition is of the grammar class, in which a list of tokens has at most one tree of a kind. It refuses
-/// with the first of eight conditions that fails, for the first operator, phylum or list for which it fails, and of its
-/// tokens the first one.
+/// Checks that the definition is of the grammar class, in which a list of tokens has at most one tree of a kind. An
+/// error names the first of eight conditions that fails, the first operator, phylum or list for which it fails, and of
+/// its tokens the first one; or it says that memory ran out.
 ///
-/// The terminals are numbered and the sets of them are one table, with a row for what begins each kind, what can stand
-/// behind it, and what its led operators go on with. A round goes over all columns for each pair of rows of which one is
-/// part of the other, and the last round is the first that changes nothing; mostly there are few, and at most as many as
-/// cells.
+/// The terminals are numbered and the sets of them are one table, with a row for what begins each kind, what can follow
+/// it, and what its led operators go on with. Each cell that is set is passed on once, to each row that has all of its
+/// row, and one walk over all columns of all those pairs of rows then finds nothing left. `Memory` is returned also
+/// where a table would have more than 2^30 cells.
 pub fn class_check(alloc: Global, definition: &Definition) -> Result<(), ClassFault>
     requires { IsSound definition.now }
     ensures class { OnOk result (IsClass definition.now) }
@@ -116,7 +116,8 @@ fn same_first(
 ) -> Result<Option<(usize, usize)>, AllocError>
     requires vocabulary { IsVocabulary definition.now vocabulary.now }
     requires read { IsRead definition.now vocabulary.now.words.items shapes.now }
-    ensures { IfOk result (IsFirstOf definition.now vocabulary.now.words.items (SameFirst definition.now) (length definition.now.phyla)) }
+    ensures { IfOk result
+        (IsFirstOf definition.now vocabulary.now.words.items (SameFirst definition.now) (length definition.now.phyla)) }
 {
     let phyla = definition.phyla.as_slice();
     let opening = vocabulary.known("(");
@@ -136,7 +137,8 @@ fn same_led(
 ) -> Result<Option<(usize, usize)>, AllocError>
     requires vocabulary { IsVocabulary definition.now vocabulary.now }
     requires read { IsRead definition.now vocabulary.now.words.items shapes.now }
-    ensures { IfOk result (IsFirstOf definition.now vocabulary.now.words.items (SameLed definition.now) (length definition.now.phyla)) }
+    ensures { IfOk result
+        (IsFirstOf definition.now vocabulary.now.words.items (SameLed definition.now) (length definition.now.phyla)) }
 {
     let phyla = definition.phyla.as_slice();
     let cells = led_cells(alloc, shapes)?;

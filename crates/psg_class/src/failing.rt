@@ -3,7 +3,8 @@ ghost use Rattle.std.specs.Prelude.{◌≡◌, ◌+◌, ◌++◌, ◌<◌, ℕ, 
 ghost use Rattle.psg_class.specs.declared.shape.Shape.{Shape as Formed};
 ghost use Rattle.psg_class.specs.Shapes.{listed};
 ghost use Rattle.psg_class.specs.Sources.{IsRows, IsShapeOf};
-ghost use Rattle.psg_class.specs.Failing.{bracket_cell, bracket_cells, cells_from, ends, first_number, IsFirstFailing, IsFirstLed, IsLeastIf, lead_cell, led_cell, LedBehind};
+ghost use Rattle.psg_class.specs.Failing.{bracket_cell, bracket_cells, cells_from, ends, first_number, IsFirstFailing};
+ghost use Rattle.psg_class.specs.Failing.{IsFirstLed, IsLeastIf, lead_cell, led_cell, LedBehind};
 ghost use Rattle.psg_class.specs.Grids.{is_set, IsGrid, IsTable};
 
 use crate::grid::{Cell, Grid};
@@ -13,10 +14,11 @@ use crate::vocabulary::Vocabulary;
 use psg_grammar::Phylum;
 use std::alloc::{AllocError, Global};
 
-/// The first row in which something is set, and of what is set there the one that is named first.
+/// Returns the first row in which something is set, and of what is set there the one that is named first.
 pub(crate) fn first_failing(vocabulary: &Vocabulary, grid: &Grid) -> Option<(usize, usize)>
     requires { IsGrid grid.now }
-    ensures { IsFirstFailing vocabulary.now.base vocabulary.now.words.items grid.now.height grid.now.width (is_set grid.now) result }
+    ensures { IsFirstFailing vocabulary.now.base vocabulary.now.words.items grid.now.height grid.now.width
+        (is_set grid.now) result }
 {
     for row in 0..grid.height {
         if let Some(column) = least(vocabulary, grid, row) {
@@ -40,7 +42,7 @@ fn least(vocabulary: &Vocabulary, grid: &Grid, row: usize) -> Option<usize>
     best
 }
 
-/// The number that is named first.
+/// Returns the number that is named first.
 fn first_of(vocabulary: &Vocabulary, best: Option<usize>, number: usize) -> usize
     ensures { result ≡ first_number vocabulary.now.base vocabulary.now.words.items best number }
 {
@@ -56,7 +58,8 @@ fn first_of(vocabulary: &Vocabulary, best: Option<usize>, number: usize) -> usiz
     }
 }
 
-/// The phylum and the first token of each operator that begins with one, and the bracket of each bracketed phylum.
+/// Returns the phylum and the first token of each operator that begins with one, and the bracket of each bracketed
+/// phylum.
 pub(crate) fn lead_cells(
     alloc: Global,
     shapes: &[Shape],
@@ -73,7 +76,7 @@ pub(crate) fn lead_cells(
     Ok(cells)
 }
 
-/// The phylum and the second token of each led operator.
+/// Returns the phylum and the second token of each led operator.
 pub(crate) fn led_cells(alloc: Global, shapes: &[Shape]) -> Result<Vec<Cell>, AllocError>
     ensures { IfOk result (λ v. v.items ≡ cells_from led_cell shapes.now) }
 {
@@ -126,7 +129,7 @@ fn lead_of(shape: &Shape) -> Option<Cell>
     }
 }
 
-/// The phylum and the second token of a led operator.
+/// Returns the phylum and the second token of a led operator.
 pub(crate) fn led_of(shape: &Shape) -> Option<Cell>
     ensures { result ≡ led_cell shape.now }
 {
@@ -140,7 +143,7 @@ pub(crate) fn led_of(shape: &Shape) -> Option<Cell>
     }
 }
 
-/// The first led operator whose second token can stand behind its phylum, with the number of that token.
+/// Returns the first led operator whose second token can follow its phylum, with the number of that token.
 pub(crate) fn first_led(shapes: &[Shape], rows: &Rows, sets: &Grid) -> Option<(usize, usize)>
     requires rows { IsRows rows.now }
     requires sets { IsTable rows.now.height sets.now.width sets.now }
@@ -159,7 +162,8 @@ fn led_behind(shape: &Shape, rows: &Rows, sets: &Grid) -> Option<usize>
     requires rows { IsRows rows.now }
     requires sets { IsTable rows.now.height sets.now.width sets.now }
     requires shape { IsShapeOf rows.now sets.now.width shape.now }
-    ensures { MatchOption result ((c : ℕ) → LedBehind rows.now sets.now shape.now c → ⊥) (LedBehind rows.now sets.now shape.now) }
+    ensures { MatchOption result ((c : ℕ) → LedBehind rows.now sets.now shape.now c → ⊥)
+        (LedBehind rows.now sets.now shape.now) }
 {
     match led_of(shape) {
         Some(cell) => {
@@ -172,8 +176,8 @@ fn led_behind(shape: &Shape, rows: &Rows, sets: &Grid) -> Option<usize>
     }
 }
 
-/// The first list behind which its separator can stand, or a terminal that begins it; and of those the one that is named
-/// first.
+/// Returns the first list that its separator, or a terminal that begins the list, can follow, and of these terminals
+/// the one that is named first.
 pub(crate) fn first_end(
     vocabulary: &Vocabulary,
     rows: &Rows,
@@ -183,7 +187,8 @@ pub(crate) fn first_end(
     requires rows { IsRows rows.now }
     requires lists { rows.now.kinds ≡ rows.now.phyla + length separators.now }
     requires sets { IsTable rows.now.height sets.now.width sets.now }
-    ensures { IsFirstFailing vocabulary.now.base vocabulary.now.words.items (length separators.now) sets.now.width (ends rows.now sets.now separators.now) result }
+    ensures { IsFirstFailing vocabulary.now.base vocabulary.now.words.items (length separators.now) sets.now.width
+        (ends rows.now sets.now separators.now) result }
 {
     for list in 0..separators.len() {
         if let Some(column) = least_end(vocabulary, rows, sets, separators, list) {
@@ -204,7 +209,8 @@ fn least_end(
     requires lists { rows.now.kinds ≡ rows.now.phyla + length separators.now }
     requires sets { IsTable rows.now.height sets.now.width sets.now }
     requires list { list < length separators.now }
-    ensures { IsLeastIf vocabulary.now.base vocabulary.now.words.items (ends rows.now sets.now separators.now list) sets.now.width result }
+    ensures { IsLeastIf vocabulary.now.base vocabulary.now.words.items
+        (ends rows.now sets.now separators.now list) sets.now.width result }
 {
     let mut best = None;
     for column in 0..sets.width {

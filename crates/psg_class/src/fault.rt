@@ -1,6 +1,7 @@
 //! Why a definition is not of the grammar class.
 ghost use Rattle.std.specs.Prelude.{◌≡◌, ◌<◌, IfOk, length, string_bytes};
-ghost use Rattle.psg_class.specs.Refusal.{fault_text, IsOf, list_text, operator_text, phylum_text, refused, refused_with};
+ghost use Rattle.psg_class.specs.Refusal.{fault_text, IsOf, list_text, operator_text};
+ghost use Rattle.psg_class.specs.Refusal.{phylum_text, refused, refused_with};
 
 use psg_grammar::Definition;
 use std::alloc::{AllocError, AllocFailed, Global};
@@ -19,7 +20,7 @@ pub enum ClassFault {
     /// A slot of the phylum asks for a level above that of one of its operators, and the phylum has no brackets.
     #[error("phylum {0} needs brackets")]
     NoBracket(u32),
-    /// Two operators of the phylum have this N and different forms.
+    /// Two operators of the phylum have this level and different forms.
     #[error("phylum {0} mixes forms at level {1}")]
     MixedLevel(u32, u8),
     /// Two operators of the phylum, or one and its bracket, begin with the token.
@@ -28,10 +29,10 @@ pub enum ClassFault {
     /// Two operators of the phylum that begin with a slot go on with the token.
     #[error("two operators of phylum {0} go on with `{1}`")]
     SameLed(u32, String),
-    /// The operator begins with a slot and goes on with the token, which can stand behind a tree of its phylum.
+    /// The operator begins with a slot and goes on with the token, which can follow a tree of its phylum.
     #[error("`{1}` of operator {0} can stand behind its phylum")]
     LedFollows(u32, String),
-    /// A list goes on or begins with the token, which can also stand behind it.
+    /// A list goes on or begins with the token, which can also follow it.
     #[error("list {0} goes on or begins with `{1}`, which can also stand behind it")]
     ListEnd(u32, String),
     /// Memory ran out.
@@ -61,8 +62,8 @@ impl<T: Drop> From<AllocFailed<T>> for ClassFault {
     }
 }
 
-/// The text of a refusal, as `refused MixedLevel Exp 3`: the condition, the name of the thing, and the level or the
-/// token.
+/// Returns the text of a refusal, as `refused MixedLevel Exp 3`: the condition, the name of the thing, and the level or
+/// the token. The fault is one of the definition, and not that memory ran out.
 pub fn class_text(
     alloc: Global,
     definition: &Definition,

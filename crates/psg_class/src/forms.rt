@@ -1,8 +1,11 @@
 //! The conditions on operators that need no sets of terminals.
-ghost use Rattle.std.specs.Prelude.{◌≡◌, ◌+◌, ◌*◌, ◌-◌, ◌<◌, ◌≤◌, ◌↔◌, IfOk, IfSome, IfNone, IsTrue, map, slice_get, length, true, ℕ};
+ghost use Rattle.std.specs.Prelude.{◌≡◌, ◌+◌, ◌*◌, ◌-◌, ◌<◌, ◌≤◌, ◌↔◌, IfOk, IfSome};
+ghost use Rattle.std.specs.Prelude.{IfNone, IsTrue, map, slice_get, length, true, ℕ};
 ghost use Rattle.psg_grammar.specs.Levels.{level_number};
 ghost use Rattle.psg_grammar.specs.Sound.{IsLevel};
-ghost use Rattle.psg_class.specs.Forms.{AreInPhyla, asked_cell, asks, bound_cell, cells_by, codes_width, FailsTest, fits, form_cell, form_code, HaveLevels, is_own, is_token, IsBelow, IsFirstIf, IsFirstPair, LacksBracket, levels_width, Mixes, MixesAny, starts};
+ghost use Rattle.psg_class.specs.Forms.{AreInPhyla, asked_cell, asks, bound_cell, cells_by, codes_width, FailsTest};
+ghost use Rattle.psg_class.specs.Forms.{fits, form_cell, form_code, HaveLevels, is_own, is_token, IsBelow, IsFirstIf};
+ghost use Rattle.psg_class.specs.Forms.{IsFirstPair, LacksBracket, levels_width, Mixes, MixesAny, starts};
 ghost use Rattle.psg_class.specs.Grids.{is_set, IsTable};
 ghost use Rattle.psg_class.specs.Refusal.{IsFirst};
 
@@ -16,7 +19,7 @@ const LEVELS: usize = 11;
 /// How many pairs of a form and an N there are, with those of N 0.
 const CODES: usize = 50;
 
-/// The first operator that begins neither with a token nor with an own slot and then a token.
+/// Returns the first operator that begins neither with a token nor with an own slot and then a token.
 pub(crate) fn first_not_starting(shapes: &[Shape]) -> Option<usize>
     ensures { IsFirstIf (FailsTest starts shapes.now) result }
 {
@@ -28,7 +31,7 @@ pub(crate) fn first_not_starting(shapes: &[Shape]) -> Option<usize>
     None
 }
 
-/// The first operator whose parts are not of its form.
+/// Returns the first operator whose parts are not of its form.
 pub(crate) fn first_misfit(shapes: &[Shape]) -> Option<usize>
     ensures { IsFirstIf (FailsTest fits shapes.now) result }
 {
@@ -82,7 +85,7 @@ fn is_own_at(phylum: u32, parts: &[Part], place: usize) -> bool
     }
 }
 
-/// The first phylum without brackets of which a slot asks for a level above that of one of its operators.
+/// Returns the first phylum without brackets of which a slot asks for a level above that of one of its operators.
 pub(crate) fn first_bare(
     alloc: Global,
     phyla: &[Phylum],
@@ -90,7 +93,8 @@ pub(crate) fn first_bare(
 ) -> Result<Option<usize>, AllocError>
     requires inside { AreInPhyla (length phyla.now) shapes.now }
     requires levels { HaveLevels shapes.now }
-    ensures { IfOk result (IsFirstIf (LacksBracket phyla.now (cells_by bound_cell shapes.now) (cells_by asked_cell shapes.now))) }
+    ensures { IfOk result
+        (IsFirstIf (LacksBracket phyla.now (cells_by bound_cell shapes.now) (cells_by asked_cell shapes.now))) }
 {
     let bound = bound_cells(alloc, shapes)?;
     let bound = marked(alloc, phyla.len(), LEVELS, bound.as_slice())?;
@@ -180,7 +184,7 @@ fn bound_level(level: Level) -> u8
     }
 }
 
-/// The greatest of the least levels of the slots.
+/// Returns the greatest of the least levels of the slots.
 fn asked_level(shape: &Shape) -> u8
     requires { IsLevel shape.now.level }
     ensures { result ≡ asks shape.now }
@@ -200,7 +204,7 @@ fn asked_level(shape: &Shape) -> u8
     before.max(behind)
 }
 
-/// The first phylum, and its first N, for which there are two forms.
+/// Returns the first phylum, and its first N, for which there are two forms.
 pub(crate) fn first_mixed(
     alloc: Global,
     phyla: usize,
@@ -217,7 +221,8 @@ pub(crate) fn first_mixed(
 
 fn lowest_mixed(phyla: usize, uses: &Grid) -> Option<(usize, usize)>
     requires { IsTable phyla codes_width uses.now }
-    ensures first { IfSome result (λ r. (r.0 < phyla) × IsFirst (MixesAny (is_set uses.now)) r.0 × IsFirst (Mixes (is_set uses.now) r.0) r.1) }
+    ensures first { IfSome result
+        (λ r. (r.0 < phyla) × IsFirst (MixesAny (is_set uses.now)) r.0 × IsFirst (Mixes (is_set uses.now) r.0) r.1) }
     ensures none { IfNone result ((p : ℕ) → p < phyla → MixesAny (is_set uses.now) p → ⊥) }
 {
     for phylum in 0..phyla {

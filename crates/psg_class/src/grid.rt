@@ -1,12 +1,18 @@
 //! Tables of truth values, and their closure along links between rows.
-ghost use Rattle.std.specs.Prelude.{◌≡◌, ◌||◌, ◌&&◌, ◌≢◌, ◌+◌, ◌*◌, ◌<◌, ◌≤◌, ◌⊎◌, ◌↔◌, IfOk, List, Contains, not, true, false, ℕ};
+ghost use Rattle.std.specs.Prelude.{◌≡◌, ◌||◌, ◌&&◌, ◌≢◌, ◌+◌, ◌*◌, ◌<◌, ◌≤◌, ◌⊎◌, ◌↔◌};
+ghost use Rattle.std.specs.Prelude.{IfOk, List, Contains, not, true, false, ℕ};
 ghost use Rattle.std.specs.Bool.{OnTrue, OnFalse};
-ghost use Rattle.psg_class.specs.Grids.{AreInside, AreLinks, Derives, once, twice, Follows, is_at, IsCell, IsGrid, is_set, IsSameSize, IsStep, IsTable, unset};
+ghost use Rattle.psg_class.specs.Grids.{AreInside, AreLinks, Derives, once, twice, Follows, is_at, IsCell};
+ghost use Rattle.psg_class.specs.Grids.{IsGrid, is_set, IsSameSize, IsStep, IsTable, unset};
 ghost use Rattle.psg_class.specs.declared.grid.Link.{Link as Linked};
 
 use std::alloc::{AllocError, Global};
 
-/// A table, with its rows one behind the other.
+/// The number of cells that a table may have at most, 2^30. A cell takes a byte, and each is read a few times: a table
+/// of this size is filled within seconds. A definition of 1 MB can have phyla for a table ten times as large.
+const MOST_CELLS: usize = 0x4000_0000;
+
+/// A table, with its rows one after the other.
 #[derive(Drop)]
 pub(crate) struct Grid {
     pub(crate) height: usize,
@@ -29,7 +35,7 @@ pub(crate) struct Cell {
 }
 
 impl Grid {
-    /// A table in which nothing is set.
+    /// A table in which nothing is set. It is out of memory where it would have more than 2^30 cells.
     pub(crate) fn new(alloc: Global, height: usize, width: usize) -> Result<Grid, AllocError>
         ensures height { IfOk result (λ g. g.height ≡ height) }
         ensures width { IfOk result (λ g. g.width ≡ width) }
@@ -39,6 +45,9 @@ impl Grid {
         let Some(size) = height.checked_mul(width) else {
             return Err(AllocError);
         };
+        if size > MOST_CELLS {
+            return Err(AllocError);
+        }
         Ok(Grid {
             height,
             width,
@@ -62,7 +71,8 @@ impl Grid {
         ensures size { IsSameSize self.old self.new }
         ensures changed { result ≡ not (is_set self.old row column) }
         ensures this { is_set self.new row column ≡ true }
-        ensures others { (r c : ℕ) → c < self.old.width → (r ≢ row) ⊎ (c ≢ column) → is_set self.new r c ≡ is_set self.old r c }
+        ensures others { (r c : ℕ) → c < self.old.width → (r ≢ row) ⊎ (c ≢ column)
+            → is_set self.new r c ≡ is_set self.old r c }
         ensures fewer { OnTrue result (unset self.new.cells.items + 1 ≡ unset self.old.cells.items) }
         ensures same { OnFalse result (self.new ≡ self.old) }
     {
@@ -84,7 +94,8 @@ pub(crate) fn marked(
 ) -> Result<Grid, AllocError>
     requires { AreInside height width cells.now }
     ensures size { IfOk result (IsTable height width) }
-    ensures exact { IfOk result (λ g. (row column : ℕ) → column < width → is_set g row column ≡ once row column cells.now) }
+    ensures exact { IfOk result (λ g. (row column : ℕ) → column < width
+        → is_set g row column ≡ once row column cells.now) }
 {
     let mut grid = Grid::new(alloc, height, width)?;
     for cell in cells {
@@ -93,7 +104,7 @@ pub(crate) fn marked(
     Ok(grid)
 }
 
-/// The table of the cells that stand at two places of the list.
+/// Returns the table of the cells that are at two places of the list.
 pub(crate) fn repeated(
     alloc: Global,
     height: usize,
@@ -102,7 +113,8 @@ pub(crate) fn repeated(
 ) -> Result<Grid, AllocError>
     requires { AreInside height width cells.now }
     ensures size { IfOk result (IsTable height width) }
-    ensures exact { IfOk result (λ g. (row column : ℕ) → column < width → is_set g row column ≡ twice row column cells.now) }
+    ensures exact { IfOk result (λ g. (row column : ℕ) → column < width
+        → is_set g row column ≡ twice row column cells.now) }
 {
     let mut met = Grid::new(alloc, height, width)?;
     let mut again = Grid::new(alloc, height, width)?;
@@ -122,25 +134,136 @@ fn note(met: &mut Grid, again: &mut Grid, cell: Cell)
     ensures met_size { IsSameSize met.old met.new }
     ensures again_size { IsSameSize again.old again.new }
     ensures met { (r c : ℕ) → c < met.old.width → is_set met.new r c ≡ is_set met.old r c || is_at r c cell }
-    ensures again { (r c : ℕ) → c < met.old.width → is_set again.new r c ≡ is_set again.old r c || (is_set met.old r c && is_at r c cell) }
+    ensures again { (r c : ℕ) → c < met.old.width
+        → is_set again.new r c ≡ is_set again.old r c || (is_set met.old r c && is_at r c cell) }
 {
     if !met.set(cell.row, cell.column) {
         again.set(cell.row, cell.column);
     }
 }
 
-/// Sets what follows along the links, and nothing else. A round goes over all columns of all links, and the last round
-/// is the first that changes nothing; there are at most as many others as cells.
-pub(crate) fn saturate(grid: &mut Grid, links: &[Link])
+/// Sets what follows along the links, and nothing else. First each set cell is passed on once along the links of its
+/// row, which sets all of it. Then walks over all columns of all links go on until one changes nothing. That is the
+/// first walk, and the proof that all is set rests on it alone.
+pub(crate) fn saturate(alloc: Global, grid: &mut Grid, links: &[Link]) -> Result<(), AllocError>
     requires grid { IsGrid grid.old }
     requires links { AreLinks grid.old links.now }
-    ensures size { IsSameSize grid.old grid.new }
-    ensures exact { (row column : ℕ) → IsCell grid.old row column → (is_set grid.new row column ≡ true) ↔ Derives grid.old links.now row column }
+    ensures size { IfOk result (λ _. IsSameSize grid.old grid.new) }
+    ensures exact { IfOk result (λ _. (row column : ℕ) → IsCell grid.old row column
+        → (is_set grid.new row column ≡ true) ↔ Derives grid.old links.now row column) }
 {
+    spread(alloc, grid, links)?;
     while follow_all(grid, links) {}
+    Ok(())
 }
 
-/// One round; whether it set a cell.
+/// The links by the rows that they begin in: the place of the first one of each row, and of the next one after each. A
+/// place that is no link's ends them.
+#[derive(Drop)]
+struct Chains {
+    first: Vec<usize>,
+    next: Vec<usize>,
+}
+
+/// Returns the chains of the links. Takes memory for a number a row and a number a link.
+fn chained(alloc: Global, height: usize, links: &[Link]) -> Result<Chains, AllocError> {
+    let mut first = vec![in alloc; usize::MAX; height]?;
+    let mut next = Vec::with_capacity(alloc, links.len())?;
+    for (place, link) in links.iter().enumerate() {
+        match first.get_mut(link.from) {
+            Some(entry) => {
+                next.push(*entry)?;
+                *entry = place;
+            }
+            None => next.push(usize::MAX)?,
+        }
+    }
+    Ok(Chains { first, next })
+}
+
+/// Returns the cells that are set.
+fn set_cells(alloc: Global, grid: &Grid) -> Result<Vec<Cell>, AllocError>
+    requires { IsGrid grid.now }
+{
+    let mut cells = Vec::new(alloc);
+    for row in 0..grid.height {
+        for column in 0..grid.width {
+            if grid.has(row, column) {
+                cells.push(Cell { row, column })?;
+            }
+        }
+    }
+    Ok(cells)
+}
+
+/// Passes each set cell on along the links, and so each cell that is set by that; whether it set a cell.
+fn spread(alloc: Global, grid: &mut Grid, links: &[Link]) -> Result<bool, AllocError>
+    requires grid { IsGrid grid.old }
+    requires links { AreLinks grid.old links.now }
+    ensures { IfOk result (IsStep links.now grid.old grid.new) }
+{
+    let chains = chained(alloc, grid.height, links)?;
+    let mut cells = set_cells(alloc, grid)?;
+    let mut more = false;
+    for _ in 0..grid.cells.len() {
+        let Some(cell) = cells.pop() else {
+            break;
+        };
+        more = pass_on(grid, links, &chains, cell, &mut cells)? | more;
+    }
+    Ok(more)
+}
+
+/// Passes a cell on along the links that begin in its row, and adds the cells that it sets; whether it set a cell.
+fn pass_on(
+    grid: &mut Grid,
+    links: &[Link],
+    chains: &Chains,
+    cell: Cell,
+    cells: &mut Vec<Cell>,
+) -> Result<bool, AllocError>
+    requires grid { IsGrid grid.old }
+    requires links { AreLinks grid.old links.now }
+    ensures { IfOk result (IsStep links.now grid.old grid.new) }
+{
+    let mut more = false;
+    if cell.column >= grid.width {
+        return Ok(false);
+    }
+    let mut place = chained_first(chains, cell.row);
+    for _ in 0..links.len() {
+        let Some(link) = links.get(place) else {
+            break;
+        };
+        if copy(grid, *link, cell.column) {
+            cells.push(Cell {
+                row: link.to,
+                column: cell.column,
+            })?;
+            more = true;
+        }
+        place = chained_next(chains, place);
+    }
+    Ok(more)
+}
+
+/// Returns the place of the first link that begins in the row.
+fn chained_first(chains: &Chains, row: usize) -> usize {
+    match chains.first.get(row) {
+        Some(place) => *place,
+        None => usize::MAX,
+    }
+}
+
+/// Returns the place of the link after the one at the place.
+fn chained_next(chains: &Chains, place: usize) -> usize {
+    match chains.next.get(place) {
+        Some(behind) => *behind,
+        None => usize::MAX,
+    }
+}
+
+/// Makes one pass; says whether it set a cell.
 fn follow_all(grid: &mut Grid, links: &[Link]) -> bool
     requires grid { IsGrid grid.old }
     requires links { AreLinks grid.old links.now }
@@ -178,7 +301,8 @@ fn copy(grid: &mut Grid, link: Link, column: usize) -> bool
     requires column { column < grid.old.width }
     ensures size { IsSameSize grid.old grid.new }
     ensures step { (links : List Linked) → Contains links link → IsStep links grid.old grid.new result }
-    ensures followed { OnFalse result (is_set grid.old link.from column ≡ true → is_set grid.old link.to column ≡ true) }
+    ensures followed { OnFalse result (is_set grid.old link.from column ≡ true
+        → is_set grid.old link.to column ≡ true) }
 {
     if !grid.has(link.from, column) {
         return false;

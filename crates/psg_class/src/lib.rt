@@ -1,9 +1,9 @@
 //! The grammar class: in a definition of the class no list of tokens is read as two trees of one kind.
 //!
-//! The shortest useful call is `class_check(alloc, &definition)`. Where it refuses, `class_text(alloc, &definition, &fault)`
-//! is the text, as `refused MixedLevel Exp 3`. What a tree's tokens are, with its levels and brackets, stands in
-//! `specs/Yields`; what can begin a tree and stand behind it in `specs/Follow`; the eight conditions in `specs/Class`, and
-//! that a definition which fails none of them has only one tree for each kind, level and list of tokens in `specs/Only`.
+//! The shortest useful call is `class_check(alloc, &definition)`. Where it refuses, `class_text(alloc, &definition,
+//! &fault)` returns the text, as `refused MixedLevel Exp 3`. `specs/Yields` defines the tokens of a tree, with its
+//! levels and brackets; `specs/Follow` what can begin a tree and follow it; `specs/Class` the eight conditions; and
+//! `specs/Only` that a definition which fails none of them has only one tree for each kind, level and list of tokens.
 #![tactic(auto)]
 
 mod behind;

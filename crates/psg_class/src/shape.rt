@@ -23,7 +23,7 @@ pub(crate) struct Shape {
     pub(crate) parts: Seq<Part>,
 }
 
-/// The shapes of the operators. It looks up each of their words once.
+/// Returns the shapes of the operators. It looks up each of their words once.
 pub(crate) fn read_shapes(
     alloc: Global,
     vocabulary: &Vocabulary,

@@ -1,11 +1,16 @@
-//! What begins each kind and what stands behind it: the terminals that are given at once, and the rows from which the
+//! What begins each kind and what can follow it: the terminals that are given at once, and the rows from which the
 //! others follow.
-ghost use Rattle.std.specs.Prelude.{◌≡◌, ◌<◌, ◌&&◌, ◌+◌, ◌≤◌, ◌↔◌, IfOk, IfSome, OnOk, Some, slice_get, length, true, ℕ};
+ghost use Rattle.std.specs.Prelude.{◌≡◌, ◌<◌, ◌&&◌, ◌+◌, ◌≤◌, ◌↔◌, IfOk, IfSome};
+ghost use Rattle.std.specs.Prelude.{OnOk, Some, slice_get, length, true, ℕ};
 ghost use Rattle.psg_class.specs.declared.shape.Part.TheVariants as parts;
 ghost use Rattle.psg_class.specs.Grids.{IsCell, IsTable, is_set};
 ghost use Rattle.psg_grammar.specs.declared.types.ListKind.{ListKind as List};
 ghost use Rattle.psg_class.specs.Forms.{is_own};
-ghost use Rattle.psg_class.specs.Sources.{Adds, AreParts, ArePartsOf, AreRows, BeginFact, BeginLink, Below, can_end, Grown, If, is_phylum_kind, IsDraft, IsKind, IsOnly, IsRows, IsShapeOf, kind_index, LeadFact, ListFact, ListFactAt, ListLink, ListLinkAt, NoLink, none_behind, OneCell, parts_with, PhylumFactAt, ShapeFact, ShapeLink, SlotFact, SlotLink};
+ghost use Rattle.psg_class.specs.Sources.{Adds, AreParts, ArePartsOf, AreRows, BeginFact, BeginLink, Below};
+ghost use Rattle.psg_class.specs.Sources.{can_end, Grown, If, is_phylum_kind, IsDraft, IsKind, IsOnly};
+ghost use Rattle.psg_class.specs.Sources.{IsRows, IsShapeOf, kind_index, LeadFact, ListFact, ListFactAt};
+ghost use Rattle.psg_class.specs.Sources.{ListLink, ListLinkAt, NoLink, none_behind, OneCell, parts_with};
+ghost use Rattle.psg_class.specs.Sources.{PhylumFactAt, ShapeFact, ShapeLink, SlotFact, SlotLink};
 
 use crate::grid::{Cell, Grid, Link, saturate};
 use crate::shape::{Part, Shape};
@@ -13,7 +18,7 @@ use crate::vocabulary::HOLES;
 use psg_grammar::{Kind, ListKind, Phylum};
 use std::alloc::{AllocError, Global};
 
-/// The rows of the sets, as numbers: first what begins each phylum and list, then what can stand behind each, then the
+/// The rows of the sets, as numbers: first what begins each phylum and list, then what can follow each, then the
 /// second tokens of the led operators of each phylum.
 #[derive(Clone, Copy)]
 pub(crate) struct Rows {
@@ -87,8 +92,8 @@ impl Draft {
     }
 }
 
-/// Notes what the operator says of what begins its phylum, and of what stands behind its slots. For each slot it looks at
-/// the parts behind it up to the first that is no list.
+/// Notes what the operator says of what begins its phylum, and of what can follow its slots. For each slot it looks at
+/// the parts after it up to the first that is no list.
 pub(crate) fn note_shape(rows: &Rows, shape: &Shape, draft: &mut Draft) -> Result<(), AllocError>
     requires rows { IsRows rows.now }
     requires draft { IsDraft rows.now.height draft.old.grid.width draft.old }
@@ -111,7 +116,7 @@ fn note_lead(rows: &Rows, shape: &Shape, draft: &mut Draft)
     }
 }
 
-/// The first token as one of those that begin the phylum, or the second one behind a slot as one that goes on with it.
+/// Returns the first token as one that begins the phylum, or the second one after a slot as one that goes on with it.
 fn lead(rows: &Rows, shape: &Shape) -> Option<Cell>
     requires rows { IsRows rows.now }
     requires phylum { shape.now.phylum < rows.now.phyla }
@@ -136,7 +141,8 @@ fn note_slots(rows: &Rows, shape: &Shape, draft: &mut Draft) -> Result<(), Alloc
     requires rows { IsRows rows.now }
     requires draft { IsDraft rows.now.height draft.old.grid.width draft.old }
     requires shape { IsShapeOf rows.now draft.old.grid.width shape.now }
-    ensures { OnOk result (Adds (Below (SlotFact rows.now shape.now) (length shape.now.parts)) (ShapeLink rows.now shape.now) draft.old draft.new) }
+    ensures { OnOk result (Adds (Below (SlotFact rows.now shape.now) (length shape.now.parts))
+        (ShapeLink rows.now shape.now) draft.old draft.new) }
 {
     let count = shape.parts.as_slice().len();
     for place in 0..count {
@@ -150,7 +156,8 @@ fn note_slot(rows: &Rows, shape: &Shape, place: usize, draft: &mut Draft) -> Res
     requires draft { IsDraft rows.now.height draft.old.grid.width draft.old }
     requires shape { IsShapeOf rows.now draft.old.grid.width shape.now }
     requires place { place < length shape.now.parts }
-    ensures { OnOk result (Adds (SlotFact rows.now shape.now place) (SlotLink rows.now shape.now place) draft.old draft.new) }
+    ensures { OnOk result
+        (Adds (SlotFact rows.now shape.now place) (SlotLink rows.now shape.now place) draft.old draft.new) }
 {
     if place == 0 {
         return Ok(());
@@ -173,7 +180,7 @@ fn note_slot(rows: &Rows, shape: &Shape, place: usize, draft: &mut Draft) -> Res
     Ok(())
 }
 
-/// Whether the slot is of the own phylum, with no parts behind it.
+/// Says whether the slot is of the own phylum, with no parts after it.
 fn is_end(phylum: u32, kind: Kind, behind: &[Part]) -> bool
     ensures { result ≡ is_own phylum (Some (parts.Slot kind)) && none_behind behind.now }
 {
@@ -239,10 +246,12 @@ pub(crate) fn sets(
     lists: &[ListKind],
     numbers: Numbers,
 ) -> Result<Grid, AllocError>
-    requires { AreParts width (parts_with rows.now shapes.now phyla.now lists.now numbers.holes.now numbers.separators.now numbers.opening numbers.closing) }
+    requires { AreParts width (parts_with rows.now shapes.now phyla.now lists.now numbers.holes.now
+        numbers.separators.now numbers.opening numbers.closing) }
     ensures table { IfOk result (IsTable rows.now.height width) }
     ensures exact { IfOk result (λ g. (r c : ℕ) → r < rows.now.height → c < width →
-        (is_set g r c ≡ true) ↔ Grown (parts_with rows.now shapes.now phyla.now lists.now numbers.entry.holes.now numbers.entry.separators.now numbers.entry.opening numbers.entry.closing) r c) }
+        (is_set g r c ≡ true) ↔ Grown (parts_with rows.now shapes.now phyla.now lists.now numbers.entry.holes.now
+        numbers.entry.separators.now numbers.entry.opening numbers.entry.closing) r c) }
 {
     let mut draft = Draft {
         grid: Grid::new(alloc, rows.height, width)?,
@@ -254,7 +263,7 @@ pub(crate) fn sets(
     note_phyla(rows, phyla, numbers, &mut draft);
     note_lists(rows, lists, numbers.separators, &mut draft)?;
     let Draft { mut grid, links } = draft;
-    saturate(&mut grid, links.as_slice());
+    saturate(alloc, &mut grid, links.as_slice())?;
     Ok(grid)
 }
 
@@ -266,7 +275,8 @@ fn note_phyla(rows: &Rows, phyla: &[Phylum], numbers: Numbers, draft: &mut Draft
     requires opening { numbers.opening < draft.old.grid.width }
     requires closing { numbers.closing < draft.old.grid.width }
     requires terminals { rows.now.phyla + 4 ≤ draft.old.grid.width }
-    ensures { Adds (Below (PhylumFactAt rows.now numbers.entry.opening numbers.entry.closing phyla.now numbers.entry.holes.now) (length phyla.now)) NoLink draft.old draft.new }
+    ensures { Adds (Below (PhylumFactAt rows.now numbers.entry.opening numbers.entry.closing phyla.now
+        numbers.entry.holes.now) (length phyla.now)) NoLink draft.old draft.new }
 {
     for number in 0..phyla.len() {
         let hole = numbers.holes[number];
@@ -290,7 +300,8 @@ fn note_lists(
     requires separators { length separators.now ≡ length lists.now }
     requires each { (l n : ℕ) → slice_get separators.now l ≡ Some n → n < draft.old.grid.width }
     requires terminals { rows.now.phyla + 4 ≤ draft.old.grid.width }
-    ensures { OnOk result (Adds (Below (ListFactAt rows.now lists.now separators.now) (length lists.now)) (Below (ListLinkAt rows.now lists.now) (length lists.now)) draft.old draft.new) }
+    ensures { OnOk result (Adds (Below (ListFactAt rows.now lists.now separators.now) (length lists.now))
+        (Below (ListLinkAt rows.now lists.now) (length lists.now)) draft.old draft.new) }
 {
     for number in 0..lists.len() {
         note_list(rows, &lists[number], number, separators[number], draft)?;
@@ -311,7 +322,8 @@ fn note_list(
     requires element { list.now.element < rows.now.phyla }
     requires separator { separator < draft.old.grid.width }
     requires terminals { rows.now.phyla + 4 ≤ draft.old.grid.width }
-    ensures { OnOk result (Adds (ListFact rows.now number list.now.element list.now.unfinished separator) (ListLink rows.now number list.now.element) draft.old draft.new) }
+    ensures { OnOk result (Adds (ListFact rows.now number list.now.element list.now.unfinished separator)
+        (ListLink rows.now number list.now.element) draft.old draft.new) }
 {
     let element = list.element as usize;
     let begin = rows.phyla + number;

@@ -2,7 +2,8 @@
 ghost use Rattle.std.specs.Prelude.{◌≡◌, ◌+◌, IfOk, IfSome, OnOk, Some, length, option_copied, string_bytes, true};
 ghost use Rattle.psg_terms.specs.Names.{is_among};
 ghost use Rattle.psg_grammar.specs.WellFormed.{separators, operator_words, words_in};
-ghost use Rattle.psg_class.specs.Numbers.{Grown, HasWords, IsConsistent, is_number_before, IsVocabulary, number_text, other_text, word_at, word_number};
+ghost use Rattle.psg_class.specs.Numbers.{Grown, HasWords, IsConsistent, is_number_before, IsVocabulary};
+ghost use Rattle.psg_class.specs.Numbers.{number_text, other_text, word_at, word_number};
 
 use psg_grammar::{Definition, Item, ListKind, Operator, Phylum};
 use psg_terms::Txt;
@@ -15,11 +16,11 @@ pub(crate) const NAME: usize = 0;
 pub(crate) const NUMBER: usize = 1;
 
 pub(crate) const TEXT: usize = 2;
-/// The number of the placeholder of the first phylum. Behind the last one stands `...`.
+/// The number of the placeholder of the first phylum. The number after that of the last one is the number of `...`.
 pub(crate) const HOLES: usize = 3;
 
-/// The fixed words of a definition, each once, with their numbers. They are behind those of names, numbers, texts, the
-/// placeholders of the phyla, and `...`.
+/// The fixed words of a definition, each once, with their numbers. These follow the numbers of names, numbers, texts,
+/// the placeholders of the phyla, and `...`.
 #[derive(Drop)]
 pub(crate) struct Vocabulary {
     /// The number of the first word.
@@ -29,7 +30,8 @@ pub(crate) struct Vocabulary {
 }
 
 impl Vocabulary {
-    /// The words of all operators, the separators of all lists, and the brackets. It takes a step for each byte of them.
+    /// Collects the words of all operators, the separators of all lists, and the brackets. It takes a step for each
+    /// byte of them.
     pub(crate) fn of(alloc: Global, definition: &Definition) -> Result<Vocabulary, AllocError>
         ensures { IfOk result (IsVocabulary definition.now) }
     {
@@ -103,7 +105,7 @@ impl Vocabulary {
         Ok(())
     }
 
-    /// The number of the word.
+    /// Returns the number of the word.
     pub(crate) fn number(&self, word: &str) -> Option<usize>
         requires { IsConsistent self.now }
         ensures { result ≡ word_number self.now.base self.now.words.items word.now }
@@ -111,7 +113,7 @@ impl Vocabulary {
         self.numbers.get(word).copied()
     }
 
-    /// The number of a word that is there.
+    /// Returns the number of a word that is there.
     pub(crate) fn known(&self, word: &str) -> usize
         requires consistent { IsConsistent self.now }
         requires among { is_among self.now.words.items word.now ≡ true }
@@ -123,7 +125,7 @@ impl Vocabulary {
         }
     }
 
-    /// How many terminals there are, or `None` where they are too many to count.
+    /// Returns how many terminals there are, or `None` where they are too many to count.
     pub(crate) fn width(&self) -> Option<usize>
         ensures { IfSome result (λ n. n ≡ self.now.base + length self.now.words.items) }
     {
@@ -131,7 +133,7 @@ impl Vocabulary {
         self.base.checked_add(words)
     }
 
-    /// Whether the terminal of the one number comes before that of the other in the order in which they are named: fixed
+    /// Says whether the terminal of `number` is before that of `other` in the order in which they are named: fixed
     /// words by their bytes, and then all others by number.
     pub(crate) fn is_before(&self, number: usize, other: usize) -> bool
         ensures { result ≡ is_number_before self.now.base self.now.words.items number other }
@@ -144,7 +146,7 @@ impl Vocabulary {
         }
     }
 
-    /// The word of the number, if it is that of a word.
+    /// Returns the word of the number, or `None` where the number is not that of a word.
     fn word(&self, number: usize) -> Option<&str>
         ensures { option_copied result ≡ word_at self.now.base self.now.words.items number }
     {
@@ -158,14 +160,15 @@ impl Vocabulary {
     }
 }
 
-/// How the terminal of the number is written.
+/// Returns how the terminal of the number is written.
 pub(crate) fn terminal_text(
     alloc: Global,
     vocabulary: &Vocabulary,
     phyla: &[Phylum],
     number: usize,
 ) -> Result<String, AllocError>
-    ensures { IfOk result (λ t. string_bytes t ≡ number_text vocabulary.now.base vocabulary.now.words.items phyla.now number) }
+    ensures { IfOk result
+        (λ t. string_bytes t ≡ number_text vocabulary.now.base vocabulary.now.words.items phyla.now number) }
 {
     match vocabulary.word(number) {
         Some(word) => String::from_str(alloc, word),

@@ -1,10 +1,9 @@
-use Rattle.std.proofs.Common.{refl}
 use Rattle.psg_class.specs.Grids.{given}
 use Rattle.psg_class.proofs.Closing.{closed}
 use Rattle.psg_class.proofs.grid.saturate.Goals as goal
 
 pub loop-init : goal.loop-init
-loop-init c = record { size = record { height = refl; width = refl; grid = c.requires.grid }; keeps = λ r k cell e. e; sound = λ r k cell e. given e }
+loop-init c = record { size = c.in_ok-spread.ensures.size; keeps = c.in_ok-spread.ensures.keeps; sound = c.in_ok-spread.ensures.right c.args.grid.now (λ r k cell e. given e) }
 
 pub returns-clause-exact : goal.returns-clause-exact
 returns-clause-exact c =

@@ -3,9 +3,9 @@ use Rattle.psg_class.proofs.grid.saturate.Given as goal
 
 abbrev pub invariant-loop : goal.invariant-loop
 invariant-loop l = record {
-  size : IsSameSize l.initial.grid l.grid;
-  keeps : Keeps l.initial.grid l.grid;
-  sound : IsSound l.initial.grid l.links l.grid;
+  size : IsSameSize l.fn.grid l.grid;
+  keeps : Keeps l.fn.grid l.grid;
+  sound : IsSound l.fn.grid l.links l.grid;
 }
 
 abbrev pub decreases-loop : goal.decreases-loop

@@ -28,5 +28,5 @@ returns-clause-exact c = λ r k h w.
     let size : IsSameSize none.grid c.note_lists.new.draft.grid = same_size none.grid c.note_phyla.new.draft.grid c.note_lists.new.draft.grid
     (same_size none.grid c.loop-shape.draft.grid c.note_phyla.new.draft.grid c.loop-shape.invariant.size c.note_phyla.ensures.size) c.in_ok-note_lists.ensures.size in
     let shapes : Adds (Below (AtShape (ShapeFact rows) c.args.shapes.now) (length c.args.shapes.now)) (Below (AtShape (ShapeLink rows) c.args.shapes.now) (length c.args.shapes.now)) none c.loop-shape.draft = all_shapes (ShapeFact rows) (ShapeLink rows) c.args.shapes.now c.loop-shape.shape-index none c.loop-shape.draft c.loop-shape-test.false c.loop-shape.invariant in
-    both_ways (subst (λ l. (is_set c.saturate.new.grid r k ≡ true) ↔ Derives c.note_lists.new.draft.grid l r k) c.as_slice.ensures.value (c.saturate.ensures.exact r k (cell_in none.grid c.note_lists.new.draft.grid r k size cell)))
+    both_ways (subst (λ l. (is_set c.saturate.new.grid r k ≡ true) ↔ Derives c.note_lists.new.draft.grid l r k) c.as_slice.ensures.value (c.in_ok-saturate.ensures.exact r k (cell_in none.grid c.note_lists.new.draft.grid r k size cell)))
     (grown a none c.loop-shape.draft c.note_phyla.new.draft c.note_lists.new.draft c.in_ok-new.ensures.empty c.new-2.ensures.items shapes c.note_phyla.ensures c.in_ok-note_lists.ensures r k cell)
