@@ -13,7 +13,7 @@ use Rattle.psg_deflines.specs.declared.lines.LineItem.{LineItem}
 use Rattle.psg_terms.proofs.DeclareLaws.{is_among-append, take-next}
 use Rattle.psg_deflines.specs.declared.lines.Line.{Line}
 use Rattle.psg_deflines.specs.declared.lines.Line.TheVariants as lines
-use Rattle.psg_defcheck.specs.Scopes.{sort_names, constructor_names, kind_names, operator_names, names_of, entity_sort, last_operator, last_hole, OpDecl}
+use Rattle.psg_defcheck.specs.Scopes.{sort_names, constructor_names, kind_names, operator_names, names_of, space_names, last_operator, last_hole, OpDecl}
 use Rattle.psg_defcheck.specs.Tables.{operator_told, name_told}
 use Rattle.psg_defcheck.specs.NameSets.{has, AreNames}
 use Rattle.psg_defcheck.specs.declared.tables.Operator.{Operator}
@@ -42,10 +42,10 @@ operator_names-append [] ys = refl
 operator_names-append (lines.Operator n p s l m ∷ xs) ys = ap (λ q. n ∷ q) (operator_names-append xs ys)
 operator_names-append (_ ∷ xs) ys = operator_names-append xs ys
 
-pub entity-append : (xs ys : List Line) → is_some (entity_sort (xs ++ ys)) ≡ (is_some (entity_sort xs) || is_some (entity_sort ys))
-entity-append [] ys = refl
-entity-append (lines.Entity s ∷ xs) ys = refl
-entity-append (_ ∷ xs) ys = entity-append xs ys
+pub space_names-append : (xs ys : List Line) → space_names (xs ++ ys) ≡ space_names xs ++ space_names ys
+space_names-append [] ys = refl
+space_names-append (lines.Space n s ∷ xs) ys = ap (λ q. n ∷ q) (space_names-append xs ys)
+space_names-append (_ ∷ xs) ys = space_names-append xs ys
 
 pub last_operator-append : (last : Option OpDecl) (xs ys : List Line) → last_operator last (xs ++ ys) ≡ last_operator (last_operator last xs) ys
 last_operator-append last [] ys = refl
@@ -90,7 +90,7 @@ pub record IsBehind (line : Line) (old new : Above) : Type 0 where
   pub constructors : (before : List Name) → AreNames before old.constructors → AreNames (before ++ constructor_names (line ∷ [])) new.constructors
   pub kinds : (before : List Name) → AreNames before old.kinds → AreNames (before ++ kind_names (line ∷ [])) new.kinds
   pub operators : (before : List Name) → AreNames before old.operators → AreNames (before ++ operator_names (line ∷ [])) new.operators
-  pub entity : new.entity ≡ (old.entity || is_some (entity_sort (line ∷ [])))
+  pub spaces : (before : List Name) → AreNames before old.spaces → AreNames (before ++ space_names (line ∷ [])) new.spaces
   pub operator : (last : Option OpDecl) → option_map operator_told old.operator ≡ last → option_map operator_told new.operator ≡ last_operator last (line ∷ [])
   pub hole : (last : Option Name) → option_map name_told old.hole ≡ last → option_map name_told new.hole ≡ last_hole last (line ∷ [])
 
@@ -100,21 +100,13 @@ above-behind above line old new h b = record {
   constructors = subst (λ xs. AreNames xs new.constructors) (sym (constructor_names-append above (line ∷ []))) (b.constructors (constructor_names above) h.constructors);
   kinds = subst (λ xs. AreNames xs new.kinds) (sym (kind_names-append above (line ∷ []))) (b.kinds (kind_names above) h.kinds);
   operators = subst (λ xs. AreNames xs new.operators) (sym (operator_names-append above (line ∷ []))) (b.operators (operator_names above) h.operators);
-  entity = b.entity ∙ ap (λ e. e || is_some (entity_sort (line ∷ []))) h.entity ∙ sym (entity-append above (line ∷ []));
+  spaces = subst (λ xs. AreNames xs new.spaces) (sym (space_names-append above (line ∷ []))) (b.spaces (space_names above) h.spaces);
   operator = b.operator (last_operator None above) h.operator ∙ sym (last_operator-append None above (line ∷ []));
   hole = b.hole (last_hole None above) h.hole ∙ sym (last_hole-append None above (line ∷ []));
 }
 
 pub stay : (s : Names) (before : List Name) → AreNames before s → AreNames (before ++ []) s
 stay s before h = subst (λ xs. AreNames xs s) (sym (append-nil before)) h
-
-or-none : (b : Bool) → b ≡ (b || false)
-or-none true = refl
-or-none false = refl
-
-or-some : (b : Bool) → true ≡ (b || true)
-or-some true = refl
-or-some false = refl
 
 pub behind-sort : (line : Line) (a : Above) (d : SortDecl) (sorts cons : Names) (k : Name) (made : List ConDecl) → line ≡ lines.Sort d → k ≡ d.name → made ≡ d.constructors → ((n : Name) → has sorts n ≡ (bytes_eq k n || has a.sorts n))
     → ((before : List Name) → AreNames before a.constructors → AreNames (before ++ names_of made) cons) → IsBehind line a (record a { sorts = sorts; constructors = cons })
@@ -123,30 +115,30 @@ behind-sort line a d sorts cons k made e ek em s c = subst (λ l. IsBehind l a (
   constructors = λ before h. subst (λ xs. AreNames (before ++ xs) cons) (ap names_of em ∙ sym (append-nil (names_of d.constructors))) (c before h);
   kinds = stay a.kinds;
   operators = stay a.operators;
-  entity = or-none a.entity;
+  spaces = stay a.spaces;
   operator = λ last h. h;
   hole = λ last h. h;
 })
 
-pub behind-entity : (line : Line) (a : Above) (sort : Name) → line ≡ lines.Entity sort → IsBehind line a (record a { entity = true })
-behind-entity line a sort e = subst (λ l. IsBehind l a (record a { entity = true })) (sym e) (record {
+pub behind-space : (line : Line) (a : Above) (name sort : Name) (spaces : Names) (k : Name) → line ≡ lines.Space name sort → k ≡ name → ((n : Name) → has spaces n ≡ (bytes_eq k n || has a.spaces n)) → IsBehind line a (record a { spaces = spaces })
+behind-space line a name sort spaces k e ek step = subst (λ l. IsBehind l a (record a { spaces = spaces })) (sym e) (record {
   sorts = stay a.sorts;
   constructors = stay a.constructors;
   kinds = stay a.kinds;
   operators = stay a.operators;
-  entity = or-some a.entity;
+  spaces = λ before h. names-insert before a.spaces spaces k name h ek step;
   operator = λ last h. h;
   hole = λ last h. h;
 })
 
-pub behind-kind : (line : Line) (a : Above) (name : Name) (kinds : Names) (k : Name) → kind_names (line ∷ []) ≡ name ∷ [] → sort_names (line ∷ []) ≡ [] → constructor_names (line ∷ []) ≡ [] → operator_names (line ∷ []) ≡ [] → entity_sort (line ∷ []) ≡ None
+pub behind-kind : (line : Line) (a : Above) (name : Name) (kinds : Names) (k : Name) → kind_names (line ∷ []) ≡ name ∷ [] → sort_names (line ∷ []) ≡ [] → constructor_names (line ∷ []) ≡ [] → operator_names (line ∷ []) ≡ [] → space_names (line ∷ []) ≡ []
     → ((last : Option OpDecl) → last ≡ last_operator last (line ∷ [])) → ((last : Option Name) → last ≡ last_hole last (line ∷ [])) → k ≡ name → ((n : Name) → has kinds n ≡ (bytes_eq k n || has a.kinds n)) → IsBehind line a (record a { kinds = kinds })
 behind-kind line a name kinds k ek es ec eo ee el eh e step = record {
   sorts = λ before h. subst (λ xs. AreNames (before ++ xs) a.sorts) (sym es) (stay a.sorts before h);
   constructors = λ before h. subst (λ xs. AreNames (before ++ xs) a.constructors) (sym ec) (stay a.constructors before h);
   kinds = λ before h. subst (λ xs. AreNames (before ++ xs) kinds) (sym ek) (names-insert before a.kinds kinds k name h e step);
   operators = λ before h. subst (λ xs. AreNames (before ++ xs) a.operators) (sym eo) (stay a.operators before h);
-  entity = or-none a.entity ∙ ap (λ o. a.entity || is_some o) (sym ee);
+  spaces = λ before h. subst (λ xs. AreNames (before ++ xs) a.spaces) (sym ee) (stay a.spaces before h);
   operator = λ last h. h ∙ el last;
   hole = λ last h. h ∙ eh last;
 }
@@ -166,7 +158,7 @@ behind-operator line a name phylum scope level made operators k o e ek ep em ste
   constructors = stay a.constructors;
   kinds = stay a.kinds;
   operators = λ before h. names-insert before a.operators operators k name h ek step;
-  entity = or-none a.entity;
+  spaces = stay a.spaces;
   operator = λ last h. ap Some (told o.phylum.now phylum o.items.now made ep em);
   hole = λ last h. h;
 })
@@ -180,28 +172,28 @@ behind-hole line a kind term specimen k e ek = subst (λ l. IsBehind l a (record
   constructors = stay a.constructors;
   kinds = stay a.kinds;
   operators = stay a.operators;
-  entity = or-none a.entity;
+  spaces = stay a.spaces;
   operator = λ last h. h;
   hole = λ last h. ap Some ek;
 })
 
-same-row : (line : Line) (a : Above) → kind_names (line ∷ []) ≡ [] → sort_names (line ∷ []) ≡ [] → constructor_names (line ∷ []) ≡ [] → operator_names (line ∷ []) ≡ [] → entity_sort (line ∷ []) ≡ None
+same-row : (line : Line) (a : Above) → kind_names (line ∷ []) ≡ [] → sort_names (line ∷ []) ≡ [] → constructor_names (line ∷ []) ≡ [] → operator_names (line ∷ []) ≡ [] → space_names (line ∷ []) ≡ []
     → ((last : Option OpDecl) → last ≡ last_operator last (line ∷ [])) → ((last : Option Name) → last ≡ last_hole last (line ∷ [])) → IsBehind line a a
 same-row line a ek es ec eo ee el eh = record {
   sorts = λ before h. subst (λ xs. AreNames (before ++ xs) a.sorts) (sym es) (stay a.sorts before h);
   constructors = λ before h. subst (λ xs. AreNames (before ++ xs) a.constructors) (sym ec) (stay a.constructors before h);
   kinds = λ before h. subst (λ xs. AreNames (before ++ xs) a.kinds) (sym ek) (stay a.kinds before h);
   operators = λ before h. subst (λ xs. AreNames (before ++ xs) a.operators) (sym eo) (stay a.operators before h);
-  entity = or-none a.entity ∙ ap (λ o. a.entity || is_some o) (sym ee);
+  spaces = λ before h. subst (λ xs. AreNames (before ++ xs) a.spaces) (sym ee) (stay a.spaces before h);
   operator = λ last h. h ∙ el last;
   hole = λ last h. h ∙ eh last;
 }
 
 -- the other lines declare nothing
-pub behind-other : (line : Line) (a : Above) → ((d : SortDecl) → line ≡ lines.Sort d → ⊥) → ((s : Name) → line ≡ lines.Entity s → ⊥) → ((n s : Name) (b : Bool) → line ≡ lines.Phylum n s b → ⊥) → ((n s x w : Name) (b f : Bool) → line ≡ lines.List n s x w b f → ⊥)
+pub behind-other : (line : Line) (a : Above) → ((d : SortDecl) → line ≡ lines.Sort d → ⊥) → ((n s : Name) → line ≡ lines.Space n s → ⊥) → ((n s : Name) (b : Bool) → line ≡ lines.Phylum n s b → ⊥) → ((n s x w : Name) (b f : Bool) → line ≡ lines.List n s x w b f → ⊥)
     → ((n p : Name) (s : Bool) (l : Level) (m : List LineItem) → line ≡ lines.Operator n p s l m → ⊥) → ((k : Name) (t : WrittenTerm) (w : Option WrittenTree) → line ≡ lines.Hole k t w → ⊥) → IsBehind line a a
 behind-other (lines.Sort d) a s e p l o h = absurd (s d refl)
-behind-other (lines.Entity x) a s e p l o h = absurd (e x refl)
+behind-other (lines.Space n x) a s e p l o h = absurd (e n x refl)
 behind-other (lines.Phylum n x b) a s e p l o h = absurd (p n x b refl)
 behind-other (lines.List n x y w b f) a s e p l o h = absurd (l n x y w b f refl)
 behind-other (lines.Operator n x c v m) a s e p l o h = absurd (o n x c v m refl)
@@ -210,4 +202,4 @@ behind-other (lines.Row t cs) a s e p l o h = same-row (lines.Row t cs) a refl r
 behind-other (lines.Nil k t) a s e p l o h = same-row (lines.Nil k t) a refl refl refl refl refl (λ last. refl) (λ last. refl)
 behind-other (lines.Cell k t x r) a s e p l o h = same-row (lines.Cell k t x r) a refl refl refl refl refl (λ last. refl) (λ last. refl)
 behind-other (lines.Case t w) a s e p l o h = same-row (lines.Case t w) a refl refl refl refl refl (λ last. refl) (λ last. refl)
-behind-other (lines.Declare k x v w) a s e p l o h = same-row (lines.Declare k x v w) a refl refl refl refl refl (λ last. refl) (λ last. refl)
+behind-other (lines.Declare n k x v w) a s e p l o h = same-row (lines.Declare n k x v w) a refl refl refl refl refl (λ last. refl) (λ last. refl)

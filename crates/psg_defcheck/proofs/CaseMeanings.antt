@@ -1,6 +1,6 @@
 -- Worked cases of what is wanted of lines: a language of two constants.
 use Rattle.std.proofs.Common.{◌≡◌, true, false, zero, suc, List, [], ◌∷◌, ◌++◌, get_or, inl, inr, refl, ap, sym, subst, arith}
-use Rattle.std.specs.Prelude.{codes, Some}
+use Rattle.std.specs.Prelude.{codes, Some, None}
 use Rattle.std.specs.List.{Contains}
 use Rattle.std.proofs.lemmas.Bool.{false≢true}
 use Rattle.psg_terms.specs.Names.{Name}
@@ -9,7 +9,7 @@ use Rattle.psg_terms.specs.declared.declare.SortDecl.{SortDecl}
 use Rattle.psg_grammar.specs.declared.types.Level.TheVariants as levels
 use Rattle.psg_deflines.specs.WrittenTerms.{WrittenTerm, variable, named}
 use Rattle.psg_deflines.specs.WrittenTrees.{operator, with_name}
-use Rattle.psg_defcheck.specs.Scopes.{sort_declared}
+use Rattle.psg_defcheck.specs.Scopes.{sort_declared, entity_place}
 use Rattle.psg_defcheck.specs.Meanings.{IsNew, IsKnown, IsCounted, IsSorted, HasEntity, IsChoice, AreInhabited, none, more}
 use Rattle.psg_deflines.specs.declared.lines.LineItem.TheVariants as items
 use Rattle.psg_deflines.specs.declared.lines.Line.{Line}
@@ -72,8 +72,8 @@ hole_known = (refl, tt, refl)
 pub phylum_twice : IsNew (sort_line ∷ phylum_line ∷ []) phylum_line → ⊥
 phylum_twice h = absurd (cc)
 
--- a name position without an entity line
-pub no_entity : HasEntity file (lines.Operator (codes "x") (codes "P") false levels.Plain (items.Refers ∷ [])) → ⊥
+-- a name position without a space
+pub no_entity : HasEntity file (lines.Operator (codes "x") (codes "P") false levels.Plain (items.Refers [] ∷ [])) → ⊥
 no_entity (inl h) = absurd (cc)
 no_entity (inr h) = false≢true h
 
@@ -113,14 +113,14 @@ abbrev list_file : List Line
 list_file =
     lines.Sort (record { name = codes "Bit"; constructors = constant (codes "one") ∷ constant (codes "two") ∷ [] })
     ∷ lines.Sort (record { name = codes "Seq"; constructors = constant (codes "nil") ∷ constant (codes "all") ∷ [] })
-    ∷ lines.Entity (codes "Bit")
+    ∷ lines.Space [] (codes "Bit")
     ∷ lines.Phylum (codes "Item") (codes "Bit") false
     ∷ lines.List (codes "Items") (codes "Seq") (codes "Item") (codes ",") false true
-    ∷ lines.Operator (codes "a") (codes "Item") false levels.Plain (items.Word (codes "a") ∷ items.Declares ∷ [])
+    ∷ lines.Operator (codes "a") (codes "Item") false levels.Plain (items.Word (codes "a") ∷ items.Declares [] ∷ [])
     ∷ []
 
 abbrev declare_line : WrittenTerm → Line
-declare_line value = lines.Declare (codes "Items") (named (codes "one")) value (with_name (operator (codes "a")) (codes "it"))
+declare_line value = lines.Declare [] (codes "Items") (named (codes "one")) value (with_name (operator (codes "a")) (codes "it"))
 
 pub declare_sorted : IsSorted list_file list_file (declare_line (named (codes "one")))
 declare_sorted = (λ n. n, ((refl, refl), (refl, refl), (refl, refl)))
@@ -130,3 +130,22 @@ other_sort e = omega (arith, ap (λ xs. get_or xs 0 0) e)
 
 pub declare_unsorted : IsSorted list_file list_file (declare_line (named (codes "all"))) → ⊥
 declare_unsorted h = other_sort h.1.1.1
+
+-- Two spaces of a file of version 2. A name position of a space has the sort of that space, and an unnamed one that of
+-- the first.
+abbrev two_spaces : List Line
+two_spaces =
+    lines.Sort (record { name = codes "Bit"; constructors = constant (codes "one") ∷ constant (codes "two") ∷ [] })
+    ∷ lines.Sort (record { name = codes "Seq"; constructors = constant (codes "nil") ∷ constant (codes "all") ∷ [] })
+    ∷ lines.Space (codes "val") (codes "Bit")
+    ∷ lines.Space (codes "lab") (codes "Seq")
+    ∷ []
+
+pub first_place : entity_place two_spaces [] ≡ Some (codes "Bit")
+first_place = refl
+
+pub second_place : entity_place two_spaces (codes "lab") ≡ Some (codes "Seq")
+second_place = refl
+
+pub no_place : entity_place two_spaces (codes "typ") ≡ None
+no_place = refl

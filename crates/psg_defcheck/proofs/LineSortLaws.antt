@@ -30,8 +30,8 @@ three P Q R a b d r q e h k =
 column_places-length : (file : List Line) (made : List LineItem) → length (column_places file made) ≡ count_of has_column made
 column_places-length file [] = refl
 column_places-length file (items.Slot k ∷ rest) = omega (arith, column_places-length file rest)
-column_places-length file (items.Refers ∷ rest) = omega (arith, column_places-length file rest)
-column_places-length file (items.Declares ∷ rest) = omega (arith, column_places-length file rest)
+column_places-length file (items.Refers spot ∷ rest) = omega (arith, column_places-length file rest)
+column_places-length file (items.Declares spot ∷ rest) = omega (arith, column_places-length file rest)
 column_places-length file (_ ∷ rest) = column_places-length file rest
 
 pub columns_count : (file : List Line) (o : Option OpDecl) (d : OpDecl) (n : ℕ) (ps : List (Option (Bor (List ℕ)))) → o ≡ Some d → IsColumnCount o n → places_told ps ≡ column_places file d.made → length ps ≡ n
@@ -87,11 +87,12 @@ case_line file above line t w hole p k a b r e is ep ek h =
     (subst (λ x. Narrows (λ s. SortsTerm file s [] (option_and_then (value_place file) hole) t × SortsTree file s [] x w) a b r) ek
     (subst (λ x. Narrows (λ s. SortsTerm file s [] x t × SortsTree file s [] k w) a b r) ep h)))
 
-pub declare_line : (file above : List Line) (line : Line) (list n : Name) (x v : WrittenTerm) (w : WrittenTree) (a b : Sorts) (r : Bool) → line ≡ lines.Declare list x v w → n ≡ list
-    → Narrows (λ s. SortsTerm file s [] (entity_place file) x × SortsTerm file s [] (option_and_then (value_place file) (element_place file n)) v × SortsTree file s [] (element_place file n) w) a b r → Narrows (λ s. SortsLine file s above line) a b r
-declare_line file above line list n x v w a b r e is h =
+pub declare_line : (file above : List Line) (line : Line) (space list m n : Name) (x v : WrittenTerm) (w : WrittenTree) (a b : Sorts) (r : Bool) → line ≡ lines.Declare space list x v w → m ≡ space → n ≡ list
+    → Narrows (λ s. SortsTerm file s [] (entity_place file m) x × SortsTerm file s [] (option_and_then (value_place file) (element_place file n)) v × SortsTree file s [] (element_place file n) w) a b r → Narrows (λ s. SortsLine file s above line) a b r
+declare_line file above line space list m n x v w a b r e is_space is h =
     subst (λ l. Narrows (λ s. SortsLine file s above l) a b r) (sym e)
-    (subst (λ m. Narrows (λ s. SortsTerm file s [] (entity_place file) x × SortsTerm file s [] (option_and_then (value_place file) (element_place file m)) v × SortsTree file s [] (element_place file m) w) a b r) is h)
+    (subst (λ k. Narrows (λ s. SortsTerm file s [] (entity_place file k) x × SortsTerm file s [] (option_and_then (value_place file) (element_place file list)) v × SortsTree file s [] (element_place file list) w) a b r) is_space
+    (subst (λ k. Narrows (λ s. SortsTerm file s [] (entity_place file m) x × SortsTerm file s [] (option_and_then (value_place file) (element_place file k)) v × SortsTree file s [] (element_place file k) w) a b r) is h))
 
 -- the sorts that are left at the end of a line
 pub line_sorted : (file above : List Line) (line : Line) (empty m : Sorts) (b : Bool) → ((n : Name) → found empty n ≡ None) → Narrows (λ s. SortsLine file s above line) empty m b → IsTrue b ↔ IsSorted file above line

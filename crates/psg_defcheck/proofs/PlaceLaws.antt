@@ -10,15 +10,15 @@ use Rattle.psg_defcheck.specs.Meanings as meanings
 pub column_places-append : (file : List Line) (xs ys : List LineItem) → meanings.column_places file (xs ++ ys) ≡ meanings.column_places file xs ++ meanings.column_places file ys
 column_places-append file [] ys = refl
 column_places-append file (items.Slot k ∷ xs) ys = ap (λ q. value_place file k ∷ q) (column_places-append file xs ys)
-column_places-append file (items.Refers ∷ xs) ys = ap (λ q. entity_place file ∷ q) (column_places-append file xs ys)
-column_places-append file (items.Declares ∷ xs) ys = ap (λ q. entity_place file ∷ q) (column_places-append file xs ys)
+column_places-append file (items.Refers spot ∷ xs) ys = ap (λ q. entity_place file spot ∷ q) (column_places-append file xs ys)
+column_places-append file (items.Declares spot ∷ xs) ys = ap (λ q. entity_place file spot ∷ q) (column_places-append file xs ys)
 column_places-append file (_ ∷ xs) ys = column_places-append file xs ys
 
 pub part_places-append : (file : List Line) (xs ys : List LineItem) → meanings.part_places file (xs ++ ys) ≡ meanings.part_places file xs ++ meanings.part_places file ys
 part_places-append file [] ys = refl
 part_places-append file (items.Slot k ∷ xs) ys = ap (λ q. meanings.for_tree (kind_place file k) ∷ q) (part_places-append file xs ys)
-part_places-append file (items.Refers ∷ xs) ys = ap (λ q. meanings.for_name ∷ q) (part_places-append file xs ys)
-part_places-append file (items.Declares ∷ xs) ys = ap (λ q. meanings.for_name ∷ q) (part_places-append file xs ys)
+part_places-append file (items.Refers spot ∷ xs) ys = ap (λ q. meanings.for_name ∷ q) (part_places-append file xs ys)
+part_places-append file (items.Declares spot ∷ xs) ys = ap (λ q. meanings.for_name ∷ q) (part_places-append file xs ys)
 part_places-append file (items.Number ∷ xs) ys = ap (λ q. meanings.for_number ∷ q) (part_places-append file xs ys)
 part_places-append file (items.Text ∷ xs) ys = ap (λ q. meanings.for_text ∷ q) (part_places-append file xs ys)
 part_places-append file (_ ∷ xs) ys = part_places-append file xs ys

@@ -14,8 +14,8 @@ use Rattle.psg_deflines.specs.declared.lines.Line.{Line}
 use Rattle.psg_deflines.specs.declared.lines.Line.TheVariants as lines
 use Rattle.psg_grammar.specs.declared.types.Level.{Level}
 use Rattle.psg_deflines.specs.declared.lines.LineItem.{LineItem}
-use Rattle.psg_defcheck.specs.Scopes.{Constructor, constructor_among, constructor_declared, a_phylum, a_list, kind_declared, OpDecl, operator_declared, sort_declared, sort_names}
-use Rattle.psg_defcheck.specs.Tables.{Table, found, Tells, TellsConstructors, AreTables, sort_told, kind_told, operator_told}
+use Rattle.psg_defcheck.specs.Scopes.{Constructor, constructor_among, constructor_declared, a_phylum, a_list, kind_declared, OpDecl, operator_declared, sort_declared, sort_names, space_declared}
+use Rattle.psg_defcheck.specs.Tables.{Table, found, Tells, TellsConstructors, AreTables, sort_told, kind_told, operator_told, name_told}
 use Rattle.psg_defcheck.specs.declared.tables.DeclaredConstructor.{DeclaredConstructor}
 use Rattle.psg_defcheck.specs.declared.tables.Kind.{Kind}
 use Rattle.psg_defcheck.specs.declared.tables.Kind.TheVariants as kinds
@@ -95,7 +95,20 @@ sort-added file t new cons line d sort k made x h e ek em ex u step =
       constructors = λ n. step (constructor_declared file) h.constructors n ∙ ap (λ s. constructor_among s made n (constructor_declared file n)) ek ∙ ap (λ cs. constructor_among d.name cs n (constructor_declared file n)) em;
       kinds = h.kinds;
       operators = h.operators;
+      spaces = h.spaces;
       entity = h.entity;
+    })
+
+pub space-added : (file : List Line) (t : Tables) (new : Table (Bor (List ℕ))) (line : Line) (name sort k : Name) (s : Bor (List ℕ)) → AreTables file t → line ≡ lines.Space name sort → k ≡ name → s.now ≡ sort → Puts t.spaces new k s
+    → AreTables (line ∷ file) (record t { spaces = new; entity = Some s })
+space-added file t new line name sort k s h e ek es u =
+    subst (λ l. AreTables (l ∷ file) (record t { spaces = new; entity = Some s })) (sym e) (record {
+      sorts = h.sorts;
+      constructors = h.constructors;
+      kinds = h.kinds;
+      operators = h.operators;
+      spaces = tells-named name_told t.spaces new (space_declared file) k name s sort h.spaces ek es u;
+      entity = ap Some es;
     })
 
 pub phylum-added : (file : List Line) (t : Tables) (new : Table Kind) (line : Line) (name sort k : Name) (b : Bool) (s : Bor (List ℕ)) → AreTables file t → line ≡ lines.Phylum name sort b → k ≡ name → s.now ≡ sort → Puts t.kinds new k (kinds.Phylum s)
@@ -106,6 +119,7 @@ phylum-added file t new line name sort k b s h e ek es u =
       constructors = h.constructors;
       kinds = tells-named kind_told t.kinds new (kind_declared file) k name (kinds.Phylum s) (a_phylum sort) h.kinds ek (ap a_phylum es) u;
       operators = h.operators;
+      spaces = h.spaces;
       entity = h.entity;
     })
 
@@ -117,6 +131,7 @@ list-added file t new line name sort elements separator k b f s x h e ek es ex u
       constructors = h.constructors;
       kinds = tells-named kind_told t.kinds new (kind_declared file) k name (kinds.List s x) (a_list sort elements) h.kinds ek (ap (λ n. a_list n x.now) es ∙ ap (a_list sort) ex) u;
       operators = h.operators;
+      spaces = h.spaces;
       entity = h.entity;
     })
 
@@ -128,6 +143,7 @@ operator-added file t new line name phylum k scope level made o h e ek ep em u =
       constructors = h.constructors;
       kinds = h.kinds;
       operators = tells-named operator_told t.operators new (operator_declared file) k name o (record { phylum = phylum; made = made }) h.operators ek (told o.phylum.now phylum o.items.now made ep em) u;
+      spaces = h.spaces;
       entity = h.entity;
     })
   where
@@ -137,7 +153,7 @@ operator-added file t new line name phylum k scope level made o h e ek ep em u =
 pub sort-named : (file : List Line) (n : Name) → is_some (sort_declared file n) ≡ is_among (sort_names file) n
 sort-named [] n = refl
 sort-named (lines.Sort d ∷ rest) n = elim (bytes_eq d.name n) as (λ b. is_some (cond b (Some d) (sort_declared rest n)) ≡ (b || is_among (sort_names rest) n)) [ true ↦ refl | false ↦ sort-named rest n ]
-sort-named (lines.Entity s ∷ rest) n = sort-named rest n
+sort-named (lines.Space m s ∷ rest) n = sort-named rest n
 sort-named (lines.Phylum m s b ∷ rest) n = sort-named rest n
 sort-named (lines.List m s x w b f ∷ rest) n = sort-named rest n
 sort-named (lines.Operator m p s l made ∷ rest) n = sort-named rest n
@@ -146,7 +162,7 @@ sort-named (lines.Nil l t ∷ rest) n = sort-named rest n
 sort-named (lines.Cell l t x r ∷ rest) n = sort-named rest n
 sort-named (lines.Hole k t w ∷ rest) n = sort-named rest n
 sort-named (lines.Case t w ∷ rest) n = sort-named rest n
-sort-named (lines.Declare l e v w ∷ rest) n = sort-named rest n
+sort-named (lines.Declare m l e v w ∷ rest) n = sort-named rest n
 
 some-read : {X Y : Type 0} (read : X → Y) (o : Option X) → is_some (option_map read o) ≡ is_some o
 some-read read None = refl

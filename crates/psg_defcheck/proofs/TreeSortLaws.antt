@@ -120,8 +120,8 @@ counted_parts file t o ps e k = ((counts-parts file 0 (length ps) (operator o) p
 part_places-length : (file : List Line) (made : List LineItem) → length (part_places file made) ≡ count_of has_part made
 part_places-length file [] = refl
 part_places-length file (items.Slot k ∷ rest) = omega (arith, part_places-length file rest)
-part_places-length file (items.Refers ∷ rest) = omega (arith, part_places-length file rest)
-part_places-length file (items.Declares ∷ rest) = omega (arith, part_places-length file rest)
+part_places-length file (items.Refers spot ∷ rest) = omega (arith, part_places-length file rest)
+part_places-length file (items.Declares spot ∷ rest) = omega (arith, part_places-length file rest)
 part_places-length file (items.Number ∷ rest) = omega (arith, part_places-length file rest)
 part_places-length file (items.Text ∷ rest) = omega (arith, part_places-length file rest)
 part_places-length file (_ ∷ rest) = part_places-length file rest

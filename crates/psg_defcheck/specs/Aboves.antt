@@ -1,8 +1,9 @@
 -- What is kept of the lines above a line.
-use Rattle.std.specs.Prelude.{◌≡◌, List, None, is_some}
+use Rattle.std.specs.Prelude.{◌≡◌, List, None}
 use Rattle.std.specs.Option.{option_map}
 use Rattle.psg_deflines.specs.declared.lines.Line.{Line}
-use Rattle.psg_defcheck.specs.Scopes.{sort_names, constructor_names, kind_names, operator_names, entity_sort, last_operator, last_hole}
+use Rattle.psg_defcheck.specs.Scopes.{sort_names, constructor_names, kind_names, operator_names, space_names}
+use Rattle.psg_defcheck.specs.Scopes.{last_operator, last_hole}
 use Rattle.psg_defcheck.specs.Tables.{operator_told, name_told}
 use Rattle.psg_defcheck.specs.NameSets.{AreNames}
 use Rattle.psg_defcheck.specs.declared.above.Above.{Above}
@@ -13,6 +14,6 @@ pub record IsAbove (lines : List Line) (a : Above) : Type 0 where
   pub constructors : AreNames (constructor_names lines) a.constructors
   pub kinds : AreNames (kind_names lines) a.kinds
   pub operators : AreNames (operator_names lines) a.operators
-  pub entity : a.entity ≡ is_some (entity_sort lines)
+  pub spaces : AreNames (space_names lines) a.spaces
   pub operator : option_map operator_told a.operator ≡ last_operator None lines
   pub hole : option_map name_told a.hole ≡ last_hole None lines

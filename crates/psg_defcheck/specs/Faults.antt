@@ -11,8 +11,11 @@ use Rattle.psg_defcheck.specs.Meanings.{IsNew, IsKnown, IsCounted, IsSorted, Has
 
 -- the tests of a line's meaning
 abbrev pub meaning_codes : List DefCode
-meaning_codes = codes.Repeated ∷ codes.Unknown ∷ codes.Count ∷ codes.Sort ∷ codes.NoEntity ∷ codes.NoGround ∷ codes.OneWide ∷ []
+meaning_codes =
+    codes.Repeated ∷ codes.Unknown ∷ codes.Count ∷ codes.Sort ∷ codes.NoEntity ∷ codes.NoGround ∷ codes.OneWide ∷ []
 
+-- The line passes the test of the code. `file` has all lines, `above` those before the line. A code that no test of
+-- meaning has is always passed.
 abbrev pub PassesMeaning : List Line → List Line → Line → DefCode → Type 0
 PassesMeaning file above line codes.Repeated = IsNew above line
 PassesMeaning file above line codes.Unknown = IsKnown file line
@@ -26,9 +29,11 @@ PassesMeaning file above line _ = Unit {0}
 -- each of the lines, with those above it, passes all tests of its meaning
 abbrev pub ArePassed : List Line → List Line → List Line → Type 0
 ArePassed file above [] = Unit {0}
-ArePassed file above (line ∷ rest) = AllByRecursion (PassesMeaning file above line) meaning_codes × ArePassed file (above ++ line ∷ []) rest
+ArePassed file above (line ∷ rest) = AllByRecursion (PassesMeaning file above line) meaning_codes
+    × ArePassed file (above ++ line ∷ []) rest
 
--- The first fault of a line's meaning: the lines before it have none. Entries are counted from line 2, behind the head.
+-- The first fault of a line's meaning: the lines before it have none. Entries are counted from line 2, which follows
+-- the head.
 pub record IsMeaningFault (entries : List Entry) (fault : DefFault) : Type 0 where
   pub front : List Entry
   pub line : Line

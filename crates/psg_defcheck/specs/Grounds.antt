@@ -10,6 +10,7 @@ use Rattle.psg_defcheck.specs.Meanings.{AreInhabited}
 use Rattle.psg_defcheck.specs.NameSets.{has}
 use Rattle.psg_defcheck.specs.declared.names.Names.{Names}
 
+-- each of the sorts is marked
 abbrev pub AreMarked : Names → List Name → Type 0
 AreMarked marks names = AllByRecursion (λ n. IsTrue (has marks n)) names
 
@@ -23,7 +24,8 @@ AreRight file marks = (n : Name) → IsTrue (has marks n) → AreInhabited file 
 
 -- the sort is marked if a term of it can be made of marked ones
 abbrev pub Keeps : List Line → Names → Name → Type 0
-Keeps file marks n = (d : SortDecl) → sort_declared file n ≡ Some d → MakesGround marks d.constructors → IsTrue (has marks n)
+Keeps file marks n =
+    (d : SortDecl) → sort_declared file n ≡ Some d → MakesGround marks d.constructors → IsTrue (has marks n)
 
 -- how many of the sorts are not marked
 abbrev pub waiting : Names → List Name → ℕ

@@ -13,18 +13,22 @@ use Rattle.psg_defcheck.specs.Tables.{Table, found, name_told}
 use Rattle.psg_defcheck.specs.declared.places.PartPlace.{PartPlace}
 use Rattle.psg_defcheck.specs.declared.places.PartPlace.TheVariants as places
 
+-- the place that the program's place is
 abbrev pub place_told : Option (Bor (List ℕ)) → Place
 place_told p = option_map name_told p
 
+-- the places, one by one
 abbrev pub places_told : List (Option (Bor (List ℕ))) → List Place
 places_told ps = map place_told ps
 
+-- the place of a part that the program's place is
 abbrev pub part_place_told : PartPlace → meanings.PartPlace
 part_place_told (places.Tree kind) = meanings.for_tree (place_told kind)
 part_place_told places.Name = meanings.for_name
 part_place_told places.Number = meanings.for_number
 part_place_told places.Text = meanings.for_text
 
+-- the places of parts, one by one
 abbrev pub part_places_told : List PartPlace → List meanings.PartPlace
 part_places_told ps = map part_place_told ps
 
@@ -38,7 +42,7 @@ Narrows Wanted old new true = (sorts : Name → Name) → Agrees new sorts ↔ (
 Narrows Wanted old new false = (sorts : Name → Name) → Agrees old sorts → Wanted sorts → ⊥
 
 module _ (file : List Line) (sorts : Name → Name) where
-  -- the part may stand at the place
+  -- the part may be at the place
   abbrev pub PartStands : meanings.PartPlace → LinePart → Type 0
   PartStands (meanings.for_tree kind) (parts.Tree t) = meanings.SortsTree file sorts [] kind t
   PartStands meanings.for_name (parts.Name n) = Unit {0}
@@ -52,7 +56,8 @@ module _ (file : List Line) (sorts : Name → Name) where
   PartsStand (at ∷ places) [] = ⊥
   PartsStand (at ∷ places) (p ∷ ps) = PartStands at p × PartsStand places ps
 
-  -- the rest of a list may stand at the place
+  -- the rest of a list may be at the place
   abbrev pub EndStands : Place → Option LinePlace → Type 0
   EndStands at None = Unit {0}
-  EndStands at (Some p) = meanings.MayStand at p.kind × meanings.SortsTerm file sorts [] (value_place file p.kind) p.term
+  EndStands at (Some p) = meanings.MayStand at p.kind
+      × meanings.SortsTerm file sorts [] (value_place file p.kind) p.term

@@ -11,15 +11,22 @@ use psg_deflines::Line;
 use psg_terms::ConDecl;
 use std::alloc::{AllocError, Global};
 
-/// The names that lines declare, and to which operator and hole row a row and a case behind them belong.
+/// The names that lines declare, and the operator and the hole row to which a row and a case after them belong.
 #[derive(Drop)]
 pub struct Above<'a> {
+    /// The names of sorts.
     pub sorts: Names<'a>,
+    /// The names of constructors.
     pub constructors: Names<'a>,
+    /// The names of phyla and lists together.
     pub kinds: Names<'a>,
+    /// The names of operators.
     pub operators: Names<'a>,
-    pub entity: bool,
+    /// The names of spaces.
+    pub spaces: Names<'a>,
+    /// The last operator, to which a row belongs.
     pub operator: Option<Operator<'a>>,
+    /// The kind of the last hole row, to which a case belongs.
     pub hole: Option<&'a str>,
 }
 
@@ -28,7 +35,8 @@ fn add_constructors<'a>(
     names: &mut Names<'a>,
     constructors: &'a [ConDecl],
 ) -> Result<(), AllocError>
-    ensures { (before : List Name) → AreNames before names.old → OnOk result (AreNames (before ++ names_of constructors.now) names.new) }
+    ensures { (before : List Name) → AreNames before names.old
+        → OnOk result (AreNames (before ++ names_of constructors.now) names.new) }
 {
     for constructor in constructors {
         names.insert(constructor.name.as_str())?;
@@ -39,7 +47,7 @@ fn add_constructors<'a>(
 impl<'a> Above<'a> {
     ghost use Rattle.psg_defcheck.specs.Aboves.{IsAbove};
 
-    /// Above the first line.
+    /// Makes the names above the first line: there are none.
     pub fn nothing(alloc: Global) -> Above<'a>
         ensures { IsAbove [] result }
     {
@@ -48,23 +56,24 @@ impl<'a> Above<'a> {
             constructors: Names::none(alloc),
             kinds: Names::none(alloc),
             operators: Names::none(alloc),
-            entity: false,
+            spaces: Names::none(alloc),
             operator: None,
             hole: None,
         }
     }
 
-    /// Goes on behind a line.
+    /// Adds what a line declares, as the last line.
     pub fn add(&mut self, line: &'a Line) -> Result<(), AllocError>
-        ensures { (lines : List Plain) → IsAbove lines self.old → OnOk result (IsAbove (lines ++ line.now ∷ []) self.new) }
+        ensures { (lines : List Plain) → IsAbove lines self.old
+            → OnOk result (IsAbove (lines ++ line.now ∷ []) self.new) }
     {
         match line {
             Line::Sort(d) => {
                 self.sorts.insert(d.name.as_str())?;
                 add_constructors(&mut self.constructors, d.constructors.as_slice())?;
             }
-            Line::Entity { .. } => {
-                self.entity = true;
+            Line::Space { name, .. } => {
+                self.spaces.insert(name.as_str())?;
             }
             Line::Phylum { name, .. } => {
                 self.kinds.insert(name.as_str())?;

@@ -57,18 +57,19 @@ fn line_fault<'a>(
     Ok(None)
 }
 
-/// The first line that fails a test of its meaning, with the first test that it fails, or none: a name that was declared
-/// before, a name that no line declares as what may stand there, a wrong number, a wrong sort or kind, a name position or a
-/// declare line without an entity line, a sort without a ground term, and a sort whose only constructor has arguments. The
-/// entries are those of the texts behind the head, so the first one is line 2. Terms and specimens are nested at most 32 deep,
-/// as far as the stack has to go.
+/// Finds the first line that fails a test of its meaning, with the first test that it fails, or none: a name that was
+/// declared before, a name that no line declares as what may be there, a wrong number, a wrong sort or kind, a name
+/// position or a declare line where the file declares no space, a sort without a ground term, and a sort whose only
+/// constructor has arguments. The entries are those of the texts after the head, so the first one is line 2. Terms and
+/// specimens are nested at most 32 deep, as far as the stack has to go.
 ///
-/// It makes its tables in one walk, and tests each line in one walk over it, with a look-up in a table for each name. Which
-/// sorts have ground terms is found once, in rounds over the lines of sorts: as many as sorts wait for each other, plus two.
+/// It makes its tables in one walk, and tests each line in one walk over it, with a look-up in a table for each name.
+/// Which sorts have ground terms is found once, in rounds over the lines of sorts: as many as sorts wait for each
+/// other, plus two.
 pub fn first_fault(alloc: Global, entries: &[Option<Line>]) -> Result<Option<DefFault>, AllocError>
     requires few { length entries.now + 2 < 2 ^ 32 }
     requires entries { (texts : List (List ℕ)) × AreEntries [] texts entries.now }
-    requires plain { AllByRecursion IsPlain (written entries.now) }
+    requires plain { (version : ℕ) × AllByRecursion (IsPlain version) (written entries.now) }
     ensures { IfOk result (IsFirstFault entries.now) }
 {
     let scope = Scope::of(alloc, entries)?;

@@ -50,28 +50,28 @@ fn counts_terms(scope: &Scope, terms: &[LineTerm]) -> bool
     true
 }
 
-/// Whether a tree, a name, a number or a text stands at the item.
+/// Whether a tree, a name, a number or a text is at the item.
 fn has_part(item: &LineItem) -> bool
     ensures { result ≡ meanings.has_part item.now }
 {
     match item {
         LineItem::Slot(_) => true,
-        LineItem::Refers => true,
-        LineItem::Declares => true,
+        LineItem::Refers(_) => true,
+        LineItem::Declares(_) => true,
         LineItem::Number => true,
         LineItem::Text => true,
         _ => false,
     }
 }
 
-/// Whether a column of a row stands for the item.
+/// Whether a row has a column for the item.
 fn has_column(item: &LineItem) -> bool
     ensures { result ≡ meanings.has_column item.now }
 {
     match item {
         LineItem::Slot(_) => true,
-        LineItem::Refers => true,
-        LineItem::Declares => true,
+        LineItem::Refers(_) => true,
+        LineItem::Declares(_) => true,
         _ => false,
     }
 }
@@ -196,10 +196,12 @@ fn counts_behind_by(scope: &Scope, specimen: &Option<LineTree>) -> bool
     }
 }
 
-/// Whether the terms of a row are as many as its operator's columns, and their constructors have the arguments that they take.
+/// Whether the terms of a row are as many as its operator's columns, and their constructors have the arguments that
+/// they take.
 fn counts_row(scope: &Scope, above: &Above, head: &LineTerm, columns: &[LineTerm]) -> bool
     ensures { (lines : List Plain) → IsAbove lines above.now
-        → IsTrue result ↔ (meanings.CountsTerm scope.now 0 head.now × AllByRecursion (meanings.CountsTerm scope.now 0) columns.now
+        → IsTrue result ↔ (meanings.CountsTerm scope.now 0 head.now
+        × AllByRecursion (meanings.CountsTerm scope.now 0) columns.now
         × meanings.IsColumnCount (scopes.last_operator None lines) (length columns.now)) }
 {
     counts_term(scope, head)
@@ -207,9 +209,11 @@ fn counts_row(scope: &Scope, above: &Above, head: &LineTerm, columns: &[LineTerm
         && has_column_count(above, columns.len())
 }
 
-/// Whether the numbers of arguments, parts and columns of the line are those of the declarations, a name's first one.
+/// Says whether the numbers of arguments, parts and columns of the line are those of the declarations, a name's first
+/// one.
 pub fn is_counted(scope: &Scope, above: &Above, line: &Line) -> bool
-    ensures { (lines : List Plain) → IsAbove lines above.now → IsTrue result ↔ meanings.IsCounted scope.now lines line.now }
+    ensures { (lines : List Plain) → IsAbove lines above.now
+        → IsTrue result ↔ meanings.IsCounted scope.now lines line.now }
 {
     match line {
         Line::Row { head, columns } => counts_row(scope, above, head, columns.as_slice()),

@@ -1,5 +1,6 @@
 //! Which sorts have terms without variables.
-ghost use Rattle.std.specs.Prelude.{◌≡◌, ◌↔◌, ◌<◌, ◌||◌, List, IfOk, OnOk, IsTrue, bytes_eq, false, MatchOption, Some, ◌∷◌, []};
+ghost use Rattle.std.specs.Prelude.{◌≡◌, ◌↔◌, ◌<◌, ◌||◌, List, IfOk, OnOk, IsTrue, bytes_eq, false, MatchOption, Some};
+ghost use Rattle.std.specs.Prelude.{◌∷◌, []};
 ghost use Rattle.std.specs.Bool.{OnTrue, OnFalse};
 ghost use Rattle.std.specs.List.{AllByRecursion};
 ghost use Rattle.psg_terms.specs.Names.{Name};
@@ -12,6 +13,7 @@ ghost use Rattle.psg_defcheck.specs.Grounds.{AreMarked, MakesGround, AreRight, K
 
 use crate::names::Names;
 use crate::scope::Scope;
+use crate::waiting::Waiting;
 use psg_deflines::Line;
 use psg_terms::{ConDecl, SortDecl, Txt};
 use std::alloc::{AllocError, Global};
@@ -43,7 +45,9 @@ fn makes_ground(marks: &Names, constructors: &[ConDecl]) -> bool
 /// Marks the sort if a term can be made of marked ones; whether it was not marked before.
 fn mark<'a>(scope: &Scope<'a>, marks: &mut Names<'a>, name: &'a str) -> Result<bool, AllocError>
     ensures right { AreRight scope.now marks.old → OnOk result (AreRight scope.now marks.new) }
-    ensures fewer { IfOk result (λ b. OnTrue b ((has marks.old name.now ≡ false) × ((n : Name) → has marks.new n ≡ (bytes_eq name.now n || has marks.old n)))) }
+    ensures fewer { IfOk result
+        (λ b. OnTrue b ((has marks.old name.now ≡ false)
+        × ((n : Name) → has marks.new n ≡ (bytes_eq name.now n || has marks.old n)))) }
     ensures same { IfOk result (λ b. OnFalse b (marks.new ≡ marks.old)) }
     ensures keeps { IfOk result (λ b. OnFalse b (Keeps scope.now marks.new name.now)) }
 {
@@ -62,7 +66,8 @@ fn mark<'a>(scope: &Scope<'a>, marks: &mut Names<'a>, name: &'a str) -> Result<b
 
 /// The sort whose line the entry is, if it is one.
 fn sort_line(entry: &Option<Line>) -> Option<&SortDecl>
-    ensures { MatchOption result (sort_names (written (entry.now ∷ [])) ≡ []) (λ d. entry.now ≡ Some (Line.Sort d.now)) }
+    ensures { MatchOption result (sort_names (written (entry.now ∷ [])) ≡ [])
+        (λ d. entry.now ≡ Some (Line.Sort d.now)) }
 {
     match entry {
         None => None,
@@ -80,9 +85,12 @@ fn mark_more<'a>(
     entries: &'a [Option<Line>],
 ) -> Result<bool, AllocError>
     ensures right { AreRight scope.now marks.old → OnOk result (AreRight scope.now marks.new) }
-    ensures fewer { IfOk result (λ b. OnTrue b (waiting marks.new (sort_names (written entries.now)) < waiting marks.old (sort_names (written entries.now)))) }
+    ensures fewer { IfOk result
+        (λ b. OnTrue b (waiting marks.new (sort_names (written entries.now))
+        < waiting marks.old (sort_names (written entries.now)))) }
     ensures same { IfOk result (λ b. OnFalse b (marks.new ≡ marks.old)) }
-    ensures keep { IfOk result (λ b. OnFalse b (AllByRecursion (Keeps scope.now marks.new) (sort_names (written entries.now)))) }
+    ensures keep { IfOk result
+        (λ b. OnFalse b (AllByRecursion (Keeps scope.now marks.new) (sort_names (written entries.now)))) }
 {
     let mut more = false;
     for entry in entries {
@@ -94,12 +102,37 @@ fn mark_more<'a>(
     Ok(more)
 }
 
-/// The sorts that have terms without variables. There are at most as many rounds over the lines as sorts.
+/// Marks sorts of which terms can be made, each as soon as all arguments of one of its constructors are marked. It
+/// looks at each argument once.
+fn mark_in_turn<'a>(
+    alloc: Global,
+    scope: &Scope<'a>,
+    marks: &mut Names<'a>,
+    entries: &'a [Option<Line>],
+) -> Result<(), AllocError>
+    ensures right { AreRight scope.now marks.old → OnOk result (AreRight scope.now marks.new) }
+{
+    let mut waiting = Waiting::of(alloc, entries)?;
+    for _ in 0..waiting.constructors() {
+        let Some(name) = waiting.next() else {
+            break;
+        };
+        if mark(scope, marks, name)? {
+            waiting.release(name)?;
+        }
+    }
+    Ok(())
+}
+
+/// Finds the sorts that have terms without variables. They are marked in turn, each when its arguments are. Then it
+/// walks over all lines until a walk marks nothing more; that is the first one, or at most one more than there are
+/// sorts.
 pub fn inhabited<'a>(alloc: Global, scope: &Scope<'a>) -> Result<Names<'a>, AllocError>
     ensures { IfOk result (IsGround scope.now) }
 {
     let entries = scope.entries();
     let mut marks = Names::none(alloc);
+    mark_in_turn(alloc, scope, &mut marks, entries)?;
     let mut more = true;
     while more {
         more = mark_more(scope, &mut marks, entries)?;
@@ -107,7 +140,7 @@ pub fn inhabited<'a>(alloc: Global, scope: &Scope<'a>) -> Result<Names<'a>, Allo
     Ok(marks)
 }
 
-/// Whether the line is no sort's, or that of a sort with a term without variables.
+/// Says whether the line is no sort's, or that of a sort with a term without variables.
 pub fn has_ground(marks: &Names, line: &Line) -> bool
     ensures { (file : List Plain) → IsGround file marks.now → IsTrue result ↔ meanings.HasGround file line.now }
 {

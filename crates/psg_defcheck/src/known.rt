@@ -128,7 +128,8 @@ fn knows_sorts(scope: &Scope, sorts: &[Txt]) -> bool
 
 /// Whether lines declare the sorts of the constructors' arguments.
 fn knows_arguments(scope: &Scope, constructors: &[ConDecl]) -> bool
-    ensures { IsTrue result ↔ AllByRecursion (λ c. AllByRecursion (meanings.KnowsSort scope.now) c.args) constructors.now }
+    ensures { IsTrue result ↔ AllByRecursion
+        (λ c. AllByRecursion (meanings.KnowsSort scope.now) c.args) constructors.now }
 {
     for constructor in constructors {
         if !knows_sorts(scope, constructor.args.as_slice()) {
@@ -138,17 +139,30 @@ fn knows_arguments(scope: &Scope, constructors: &[ConDecl]) -> bool
     true
 }
 
-/// Whether lines declare the kind of an item, if it is a slot.
+/// Whether lines declare the space, if it is named.
+fn knows_space(scope: &Scope, space: &Txt) -> bool
+    ensures { IsTrue result ↔ meanings.KnowsSpace scope.now space.now }
+{
+    let name = space.as_str();
+    if name.is_empty() {
+        return true;
+    }
+    scope.space(name).is_some()
+}
+
+/// Whether lines declare the kind or the space of an item, if it names one.
 fn knows_item(scope: &Scope, item: &LineItem) -> bool
     ensures { IsTrue result ↔ meanings.KnowsItem scope.now item.now }
 {
     match item {
         LineItem::Slot(kind) => scope.is_kind(kind.as_str()),
+        LineItem::Refers(space) => knows_space(scope, space),
+        LineItem::Declares(space) => knows_space(scope, space),
         _ => true,
     }
 }
 
-/// Whether lines declare the kinds of the slots.
+/// Whether lines declare the kinds and spaces of the items.
 fn knows_items(scope: &Scope, items: &[LineItem]) -> bool
     ensures { IsTrue result ↔ AllByRecursion (meanings.KnowsItem scope.now) items.now }
 {
@@ -160,13 +174,13 @@ fn knows_items(scope: &Scope, items: &[LineItem]) -> bool
     true
 }
 
-/// Whether each name of the line is one that a line declares as what may stand there.
+/// Says whether each name of the line is one that a line declares as what may be there.
 pub fn is_known(scope: &Scope, line: &Line) -> bool
     ensures { IsTrue result ↔ meanings.IsKnown scope.now line.now }
 {
     match line {
         Line::Sort(d) => knows_arguments(scope, d.constructors.as_slice()),
-        Line::Entity { sort } => scope.is_sort(sort.as_str()),
+        Line::Space { sort, .. } => scope.is_sort(sort.as_str()),
         Line::Phylum { sort, .. } => scope.is_sort(sort.as_str()),
         Line::List { sort, element, .. } => {
             scope.is_sort(sort.as_str()) && scope.is_phylum(element.as_str())
@@ -200,12 +214,14 @@ pub fn is_known(scope: &Scope, line: &Line) -> bool
         }
         Line::Case { term, specimen } => knows_term(scope, term) && knows_tree(scope, specimen),
         Line::Declare {
+            space,
             list,
             entity,
             value,
             specimen,
         } => {
-            scope.is_list(list.as_str())
+            knows_space(scope, space)
+                && scope.is_list(list.as_str())
                 && knows_term(scope, entity)
                 && knows_term(scope, value)
                 && knows_tree(scope, specimen)

@@ -5,9 +5,9 @@
 //! let fault = first_fault(alloc, entries.as_slice())?;
 //! ```
 //!
-//! Each test is a property of one line among the lines of its file, those above it and all of them, since names may be used
-//! before they are declared. The names are kept in tables, so a file is tested in time linear in its bytes but for the
-//! look-ups.
+//! Each test is a property of one line among the lines of its file, those above it and all of them, since names may be
+//! used before they are declared. The names are kept in tables, so a file is tested in time linear in its bytes except
+//! for the look-ups.
 #![tactic(auto)]
 
 mod above;
@@ -24,5 +24,6 @@ mod sorted;
 mod sorted_lines;
 mod sorted_trees;
 mod tables;
+mod waiting;
 
 pub use checking::first_fault;

@@ -14,7 +14,7 @@ pub struct Names<'a> {
 impl<'a> Names<'a> {
     ghost use Rattle.psg_defcheck.specs.NameSets.{has};
 
-    /// No names.
+    /// Makes a set without names.
     pub fn none(alloc: Global) -> Names<'a>
         ensures { (n : Name) → has result n ≡ false }
     {
@@ -23,7 +23,7 @@ impl<'a> Names<'a> {
         }
     }
 
-    /// Whether the name is one of them.
+    /// Says whether the name is in the set.
     pub fn contains(&self, name: &str) -> bool
         ensures { result ≡ has self.now name.now }
     {

@@ -14,10 +14,11 @@ use psg_deflines::Line;
 use psg_terms::ConDecl;
 use std::alloc::{AllocError, Global};
 
-/// Whether no name of the constructors stands twice or is one of the names.
+/// Whether no name of the constructors is there twice or is one of the names.
 fn are_new(alloc: Global, names: &Names, constructors: &[ConDecl]) -> Result<bool, AllocError>
     ensures { IfOk result (λ b. (before : List Name) → AreNames before names.now
-        → IsTrue b ↔ ((has_twice (names_of constructors.now) ≡ false) × AllByRecursion (λ n. is_among before n ≡ false) (names_of constructors.now))) }
+        → IsTrue b ↔ ((has_twice (names_of constructors.now) ≡ false)
+        × AllByRecursion (λ n. is_among before n ≡ false) (names_of constructors.now))) }
 {
     let mut seen = Names::none(alloc);
     for constructor in constructors {
@@ -33,10 +34,11 @@ fn are_new(alloc: Global, names: &Names, constructors: &[ConDecl]) -> Result<boo
     Ok(true)
 }
 
-/// Whether no name that the line declares was declared before, in the line or above it, and no entity line stands above an
-/// entity line.
+/// Says whether no name that the line declares was declared before, in the line or above it. The space of an entity
+/// line has the empty name.
 pub fn is_new(alloc: Global, above: &Above, line: &Line) -> Result<bool, AllocError>
-    ensures { (lines : List Plain) → IsAbove lines above.now → IfOk result (λ b. IsTrue b ↔ meanings.IsNew lines line.now) }
+    ensures { (lines : List Plain) → IsAbove lines above.now
+        → IfOk result (λ b. IsTrue b ↔ meanings.IsNew lines line.now) }
 {
     match line {
         Line::Sort(d) => {
@@ -46,7 +48,7 @@ pub fn is_new(alloc: Global, above: &Above, line: &Line) -> Result<bool, AllocEr
             let new = are_new(alloc, &above.constructors, d.constructors.as_slice())?;
             Ok(new)
         }
-        Line::Entity { .. } => Ok(!above.entity),
+        Line::Space { name, .. } => Ok(!above.spaces.contains(name.as_str())),
         Line::Phylum { name, .. } => Ok(!above.kinds.contains(name.as_str())),
         Line::List { name, .. } => Ok(!above.kinds.contains(name.as_str())),
         Line::Operator { name, .. } => Ok(!above.operators.contains(name.as_str())),

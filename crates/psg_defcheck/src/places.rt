@@ -12,13 +12,18 @@ use std::alloc::{AllocError, Global};
 /// What a part of an operator has to be: a tree of a kind, where it is known, a name, a number or a text.
 #[derive(Clone, Copy)]
 pub enum PartPlace<'a> {
+    /// A tree of the phylum or list; none where no line declares it.
     Tree(Option<&'a str>),
+    /// A name.
     Name,
+    /// A number.
     Number,
+    /// A text.
     Text,
 }
 
-/// Whether what has the name may stand at the place.
+/// Says whether what has the name may be at the place. Where no line declares the sort or kind of the place, anything
+/// may.
 pub fn may_stand(place: Option<&str>, name: &str) -> bool
     ensures { IsTrue result ↔ meanings.MayStand (place_told place.entry) name.now }
 {
@@ -28,7 +33,7 @@ pub fn may_stand(place: Option<&str>, name: &str) -> bool
     }
 }
 
-/// Whether a list may stand at the place.
+/// Says whether a list may be at the place. Where no line declares the kind of the place, it may.
 pub fn list_may_stand(scope: &Scope, place: Option<&str>) -> bool
     ensures { IsTrue result ↔ meanings.ListMayStand scope.now (place_told place.entry) }
 {
@@ -38,28 +43,28 @@ pub fn list_may_stand(scope: &Scope, place: Option<&str>) -> bool
     }
 }
 
-/// The phylum of the elements of a list at the place.
+/// Returns the phylum of the elements of a list at the place.
 pub fn elements_place<'a>(scope: &Scope<'a>, place: Option<&str>) -> Option<&'a str>
     ensures { place_told result ≡ meanings.elements_place scope.now (place_told place.entry) }
 {
     scope.element_place(place?)
 }
 
-/// The sort of the values of trees at the place.
+/// Returns the sort of the values of trees at the place.
 pub fn values_place<'a>(scope: &Scope<'a>, place: Option<&str>) -> Option<&'a str>
     ensures { place_told result ≡ option_and_then (scopes.value_place scope.now) (place_told place.entry) }
 {
     scope.value_place(place?)
 }
 
-/// The phylum or list that stands at the place, where a line declares it.
+/// Returns the phylum or list that is at the place, where a line declares it.
 pub fn kinds_place<'a>(scope: &Scope<'a>, place: Option<&'a str>) -> Option<&'a str>
     ensures { place_told result ≡ option_and_then (scopes.kind_place scope.now) (place_told place.entry) }
 {
     scope.kind_place(place?)
 }
 
-/// The places of a constructor's arguments.
+/// Returns the places of a constructor's arguments.
 pub fn sort_places<'a>(
     alloc: Global,
     scope: &Scope<'a>,
@@ -81,13 +86,13 @@ fn column_place<'a>(scope: &Scope<'a>, item: &'a LineItem) -> Option<Option<&'a 
 {
     match item {
         LineItem::Slot(kind) => Some(scope.value_place(kind.as_str())),
-        LineItem::Refers => Some(scope.entity_place()),
-        LineItem::Declares => Some(scope.entity_place()),
+        LineItem::Refers(space) => Some(scope.entity_place(space.as_str())),
+        LineItem::Declares(space) => Some(scope.entity_place(space.as_str())),
         _ => None,
     }
 }
 
-/// The places of the columns of an operator's rows.
+/// Returns the places of the columns of an operator's rows.
 pub fn column_places<'a>(
     alloc: Global,
     scope: &Scope<'a>,
@@ -111,15 +116,15 @@ fn part_place<'a>(scope: &Scope<'a>, item: &'a LineItem) -> Option<PartPlace<'a>
 {
     match item {
         LineItem::Slot(kind) => Some(PartPlace::Tree(scope.kind_place(kind.as_str()))),
-        LineItem::Refers => Some(PartPlace::Name),
-        LineItem::Declares => Some(PartPlace::Name),
+        LineItem::Refers(_) => Some(PartPlace::Name),
+        LineItem::Declares(_) => Some(PartPlace::Name),
         LineItem::Number => Some(PartPlace::Number),
         LineItem::Text => Some(PartPlace::Text),
         _ => None,
     }
 }
 
-/// The places of the parts of an operator.
+/// Returns the places of the parts of an operator.
 pub fn part_places<'a>(
     alloc: Global,
     scope: &Scope<'a>,

@@ -1,4 +1,4 @@
-//! Tests that look at one line alone, but for the sort of names.
+//! Tests that look at one line alone, except for the sort of names.
 ghost use Rattle.std.specs.Prelude.{◌≡◌, ◌↔◌, ◌⊎◌, IsTrue, is_some, false};
 ghost use Rattle.std.specs.List.{list_any};
 ghost use Rattle.psg_defcheck.specs.Scopes as scopes;
@@ -8,18 +8,18 @@ use crate::scope::Scope;
 use psg_deflines::{Line, LineItem};
 use psg_terms::ConDecl;
 
-/// Whether a name stands at the item.
+/// Whether a name is at the item.
 fn is_name_item(item: &LineItem) -> bool
     ensures { result ≡ meanings.is_name_item item.now }
 {
     match item {
-        LineItem::Refers => true,
-        LineItem::Declares => true,
+        LineItem::Refers(_) => true,
+        LineItem::Declares(_) => true,
         _ => false,
     }
 }
 
-/// Whether a name stands at one of the items.
+/// Whether a name is at one of the items.
 fn has_name_item(items: &[LineItem]) -> bool
     ensures { result ≡ list_any meanings.is_name_item items.now }
 {
@@ -28,7 +28,8 @@ fn has_name_item(items: &[LineItem]) -> bool
 
 /// Whether names need no sort, or have one.
 fn may_have_names(scope: &Scope, items: &[LineItem]) -> bool
-    ensures { IsTrue result ↔ ((list_any meanings.is_name_item items.now ≡ false) ⊎ IsTrue (is_some (scopes.entity_sort scope.now))) }
+    ensures { IsTrue result ↔
+        ((list_any meanings.is_name_item items.now ≡ false) ⊎ IsTrue (is_some (scopes.entity_sort scope.now))) }
 {
     if has_name_item(items) {
         scope.entity().is_some()
@@ -37,7 +38,7 @@ fn may_have_names(scope: &Scope, items: &[LineItem]) -> bool
     }
 }
 
-/// Whether there is an entity line, if the line has name positions or is a declare row.
+/// Says whether there is a space, if the line has name positions or is a declare row.
 pub fn has_entity(scope: &Scope, line: &Line) -> bool
     ensures { IsTrue result ↔ meanings.HasEntity scope.now line.now }
 {
@@ -58,7 +59,8 @@ fn is_choice(constructors: &[ConDecl]) -> bool
     }
 }
 
-/// Whether the line is no sort's, or that of a sort whose only constructor has no arguments, or that has more of them.
+/// Says whether the line is no sort's, or that of a sort whose only constructor has no arguments, or that has more of
+/// them.
 pub fn has_choice(line: &Line) -> bool
     ensures { IsTrue result ↔ meanings.HasChoice line.now }
 {

@@ -1,4 +1,4 @@
-//! Whether all of a line stands at places of its own sorts and kinds.
+//! Whether all of a line is at places of its own sorts and kinds.
 ghost use Rattle.std.specs.Prelude.{◌≡◌, ◌↔◌, List, IfOk, IsTrue, length, [], option_and_then};
 ghost use Rattle.std.specs.List.{AllByRecursion};
 ghost use Rattle.std.specs.Option.{option_map};
@@ -18,7 +18,7 @@ use psg_deflines::{Line, LineTerm, LineTree};
 use std::alloc::{AllocError, Global};
 use std::collections::HashMap;
 
-/// Whether a row's terms may stand at the places of its operator's value and columns.
+/// Whether a row's terms may be at the places of its operator's value and columns.
 fn sorts_row<'a>(
     alloc: Global,
     scope: &Scope<'a>,
@@ -32,7 +32,9 @@ fn sorts_row<'a>(
     requires known { AllByRecursion (meanings.KnowsTerm scope.now) columns.now }
     requires counted { AllByRecursion (meanings.CountsTerm scope.now 0) columns.now }
     requires count { meanings.IsColumnCount (option_map operator_told above.now.operator) (length columns.now) }
-    ensures { IfOk result (Narrows (λ of. meanings.SortsRow scope.now of (option_map operator_told above.now.operator) head.now columns.now) sorts.old sorts.new) }
+    ensures { IfOk result (Narrows
+        (λ of. meanings.SortsRow scope.now of
+        (option_map operator_told above.now.operator) head.now columns.now) sorts.old sorts.new) }
 {
     let Some(operator) = above.operator else {
         return Ok(true);
@@ -47,7 +49,7 @@ fn sorts_row<'a>(
     Ok(fits)
 }
 
-/// Whether the terms of a cell row may stand at the places of the list, its elements and the list.
+/// Whether the terms of a cell row may be at the places of the list, its elements and the list again.
 fn sorts_cell<'a>(
     alloc: Global,
     scope: &Scope<'a>,
@@ -57,10 +59,14 @@ fn sorts_cell<'a>(
     element: &'a LineTerm,
     rest: &'a LineTerm,
 ) -> Result<bool, AllocError>
-    requires known { meanings.KnowsTerm scope.now term.now × meanings.KnowsTerm scope.now element.now × meanings.KnowsTerm scope.now rest.now }
-    requires counted { meanings.CountsTerm scope.now 0 term.now × meanings.CountsTerm scope.now 0 element.now × meanings.CountsTerm scope.now 0 rest.now }
-    ensures { IfOk result (Narrows (λ of. meanings.SortsTerm scope.now of [] (scopes.value_place scope.now list.now) term.now
-        × meanings.SortsTerm scope.now of [] (option_and_then (scopes.value_place scope.now) (scopes.element_place scope.now list.now)) element.now
+    requires known { meanings.KnowsTerm scope.now term.now × meanings.KnowsTerm scope.now element.now
+        × meanings.KnowsTerm scope.now rest.now }
+    requires counted { meanings.CountsTerm scope.now 0 term.now × meanings.CountsTerm scope.now 0 element.now
+        × meanings.CountsTerm scope.now 0 rest.now }
+    ensures { IfOk result (Narrows
+        (λ of. meanings.SortsTerm scope.now of [] (scopes.value_place scope.now list.now) term.now
+        × meanings.SortsTerm scope.now of []
+        (option_and_then (scopes.value_place scope.now) (scopes.element_place scope.now list.now)) element.now
         × meanings.SortsTerm scope.now of [] (scopes.value_place scope.now list.now) rest.now) sorts.old sorts.new) }
 {
     let own = scope.value_place(list);
@@ -77,7 +83,7 @@ fn sorts_cell<'a>(
     Ok(fits)
 }
 
-/// Whether the term may stand at the place, and the specimen at a place of the kind.
+/// Whether the term may be at the place, and the specimen at a place of the kind.
 fn sorts_by<'a>(
     alloc: Global,
     scope: &Scope<'a>,
@@ -100,7 +106,7 @@ fn sorts_by<'a>(
     Ok(fits)
 }
 
-/// Whether the term of a hole row and its specimen, if it has one, may stand at the places of the kind.
+/// Whether the term of a hole row and its specimen, if it has one, may be at the places of the kind.
 fn sorts_hole<'a>(
     alloc: Global,
     scope: &Scope<'a>,
@@ -111,8 +117,10 @@ fn sorts_hole<'a>(
 ) -> Result<bool, AllocError>
     requires known { meanings.KnowsTerm scope.now term.now × meanings.KnowsBehindBy scope.now specimen.now }
     requires counted { meanings.CountsTerm scope.now 0 term.now × meanings.CountsBehindBy scope.now specimen.now }
-    ensures { IfOk result (Narrows (λ of. meanings.SortsTerm scope.now of [] (scopes.value_place scope.now kind.now) term.now
-        × meanings.SortsBehindBy scope.now of (scopes.kind_place scope.now kind.now) specimen.now) sorts.old sorts.new) }
+    ensures { IfOk result (Narrows
+        (λ of. meanings.SortsTerm scope.now of [] (scopes.value_place scope.now kind.now) term.now
+        × meanings.SortsBehindBy scope.now of
+        (scopes.kind_place scope.now kind.now) specimen.now) sorts.old sorts.new) }
 {
     let values = scope.value_place(kind);
     match specimen {
@@ -128,23 +136,29 @@ fn sorts_hole<'a>(
     }
 }
 
-/// Whether the terms and the specimen of a declare row may stand at the places of names and of the list's elements.
+/// Whether the terms and the specimen of a declare row may be at the places of the space and of the list's elements.
 fn sorts_declare<'a>(
     alloc: Global,
     scope: &Scope<'a>,
     sorts: &mut Sorts<'a>,
+    space: &str,
     list: &'a str,
     entity: &'a LineTerm,
     value: &'a LineTerm,
     specimen: &'a LineTree,
 ) -> Result<bool, AllocError>
-    requires known { meanings.KnowsTerm scope.now entity.now × meanings.KnowsTerm scope.now value.now × meanings.KnowsTree scope.now specimen.now }
-    requires counted { meanings.CountsTerm scope.now 0 entity.now × meanings.CountsTerm scope.now 0 value.now × meanings.CountsTree scope.now 0 specimen.now }
-    ensures { IfOk result (Narrows (λ of. meanings.SortsTerm scope.now of [] (scopes.entity_place scope.now) entity.now
-        × meanings.SortsTerm scope.now of [] (option_and_then (scopes.value_place scope.now) (scopes.element_place scope.now list.now)) value.now
-        × meanings.SortsTree scope.now of [] (scopes.element_place scope.now list.now) specimen.now) sorts.old sorts.new) }
+    requires known { meanings.KnowsTerm scope.now entity.now × meanings.KnowsTerm scope.now value.now
+        × meanings.KnowsTree scope.now specimen.now }
+    requires counted { meanings.CountsTerm scope.now 0 entity.now × meanings.CountsTerm scope.now 0 value.now
+        × meanings.CountsTree scope.now 0 specimen.now }
+    ensures { IfOk result (Narrows
+        (λ of. meanings.SortsTerm scope.now of [] (scopes.entity_place scope.now space.now) entity.now
+        × meanings.SortsTerm scope.now of []
+        (option_and_then (scopes.value_place scope.now) (scopes.element_place scope.now list.now)) value.now
+        × meanings.SortsTree scope.now of []
+        (scopes.element_place scope.now list.now) specimen.now) sorts.old sorts.new) }
 {
-    let names = scope.entity_place();
+    let names = scope.entity_place(space);
     let entity_fits = sorts_term(alloc, scope, sorts, names, entity)?;
     if !entity_fits {
         return Ok(false);
@@ -155,7 +169,7 @@ fn sorts_declare<'a>(
     Ok(fits)
 }
 
-/// Whether all of the line may stand where it stands.
+/// Whether all of the line may be where it is.
 fn sorts_line<'a>(
     alloc: Global,
     scope: &Scope<'a>,
@@ -165,7 +179,8 @@ fn sorts_line<'a>(
 ) -> Result<bool, AllocError>
     requires known { meanings.IsKnown scope.now line.now }
     requires counted { (lines : List Plain) × IsAbove lines above.now × meanings.IsCounted scope.now lines line.now }
-    ensures { (lines : List Plain) → IsAbove lines above.now → IfOk result (Narrows (λ of. meanings.SortsLine scope.now of lines line.now) sorts.old sorts.new) }
+    ensures { (lines : List Plain) → IsAbove lines above.now
+        → IfOk result (Narrows (λ of. meanings.SortsLine scope.now of lines line.now) sorts.old sorts.new) }
 {
     match line {
         Line::Row { head, columns } => {
@@ -201,21 +216,24 @@ fn sorts_line<'a>(
             Ok(fits)
         }
         Line::Declare {
+            space,
             list,
             entity,
             value,
             specimen,
         } => {
+            let space = space.as_str();
             let list = list.as_str();
-            let fits = sorts_declare(alloc, scope, sorts, list, entity, value, specimen)?;
+            let fits = sorts_declare(alloc, scope, sorts, space, list, entity, value, specimen)?;
             Ok(fits)
         }
         _ => Ok(true),
     }
 }
 
-/// Whether each term and specimen of the line stands at a place of its own sort or kind, and each variable at places of one
-/// sort. Where no line declares the sort or kind of a place, anything may stand there. It takes one walk over the line.
+/// Says whether each term and specimen of the line is at a place of its own sort or kind, and each variable at places
+/// of one sort. Where no line declares the sort or kind of a place, anything may be there. It takes one walk over the
+/// line.
 pub fn is_sorted<'a>(
     alloc: Global,
     scope: &Scope<'a>,
@@ -224,7 +242,8 @@ pub fn is_sorted<'a>(
 ) -> Result<bool, AllocError>
     requires known { meanings.IsKnown scope.now line.now }
     requires counted { (lines : List Plain) × IsAbove lines above.now × meanings.IsCounted scope.now lines line.now }
-    ensures { (lines : List Plain) → IsAbove lines above.now → IfOk result (λ b. IsTrue b ↔ meanings.IsSorted scope.now lines line.now) }
+    ensures { (lines : List Plain) → IsAbove lines above.now
+        → IfOk result (λ b. IsTrue b ↔ meanings.IsSorted scope.now lines line.now) }
 {
     let mut sorts = HashMap::new(alloc);
     let fits = sorts_line(alloc, scope, above, &mut sorts, line)?;

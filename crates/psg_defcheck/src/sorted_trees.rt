@@ -1,10 +1,11 @@
-//! Whether the specimens of a line stand at places of their own kinds.
+//! Whether the specimens of a line are at places of their own kinds.
 ghost use Rattle.std.specs.Prelude.{◌≡◌, IfOk, length, []};
 ghost use Rattle.std.specs.List.{AllByRecursion};
 ghost use Rattle.psg_defcheck.specs.Scopes as scopes;
 ghost use Rattle.psg_defcheck.specs.Meanings as meanings;
 ghost use Rattle.psg_defcheck.specs.Parts.{KnowsPart, KnowsEnd, CountsPart, CountsEnd};
-ghost use Rattle.psg_defcheck.specs.Sorting.{EndStands, Narrows, PartStands, PartsStand, part_place_told, part_places_told, place_told};
+ghost use Rattle.psg_defcheck.specs.Sorting.{EndStands, Narrows, PartStands, PartsStand, part_place_told};
+ghost use Rattle.psg_defcheck.specs.Sorting.{part_places_told, place_told};
 
 use crate::places::{PartPlace, elements_place, list_may_stand, may_stand, part_places};
 use crate::scope::Scope;
@@ -12,7 +13,7 @@ use crate::sorted::{Sorts, sorts_term};
 use psg_deflines::{LinePart, LinePlace, LineTree, TreeShape};
 use std::alloc::{AllocError, Global};
 
-/// Whether the hole place may stand at the place.
+/// Whether the hole place may be at the place.
 fn sorts_place<'a>(
     alloc: Global,
     scope: &Scope<'a>,
@@ -23,7 +24,8 @@ fn sorts_place<'a>(
     requires known { meanings.KnowsTerm scope.now own.now.term }
     requires counted { meanings.CountsTerm scope.now 0 own.now.term }
     ensures { IfOk result (Narrows (λ of. meanings.MayStand (place_told place.entry) own.now.kind
-        × meanings.SortsTerm scope.now of [] (scopes.value_place scope.now own.now.kind) own.now.term) sorts.old sorts.new) }
+        × meanings.SortsTerm scope.now of []
+        (scopes.value_place scope.now own.now.kind) own.now.term) sorts.old sorts.new) }
 {
     let kind = own.kind.as_str();
     if !may_stand(place, kind) {
@@ -34,7 +36,7 @@ fn sorts_place<'a>(
     Ok(fits)
 }
 
-/// Whether the rest of a list may stand at the place.
+/// Whether the rest of a list may be at the place.
 fn sorts_end<'a>(
     alloc: Global,
     scope: &Scope<'a>,
@@ -44,7 +46,8 @@ fn sorts_end<'a>(
 ) -> Result<bool, AllocError>
     requires known { KnowsEnd scope.now rest.now }
     requires counted { CountsEnd scope.now rest.now }
-    ensures { IfOk result (Narrows (λ of. EndStands scope.now of (place_told place.entry) rest.now) sorts.old sorts.new) }
+    ensures { IfOk result (Narrows
+        (λ of. EndStands scope.now of (place_told place.entry) rest.now) sorts.old sorts.new) }
 {
     match rest {
         None => Ok(true),
@@ -55,7 +58,7 @@ fn sorts_end<'a>(
     }
 }
 
-/// Whether the part may stand at the place.
+/// Whether the part may be at the place.
 #[cycle(sorts_tree)]
 fn sorts_part<'a>(
     alloc: Global,
@@ -66,7 +69,8 @@ fn sorts_part<'a>(
 ) -> Result<bool, AllocError>
     requires known { KnowsPart scope.now part.now }
     requires counted { CountsPart scope.now part.now }
-    ensures { IfOk result (Narrows (λ of. PartStands scope.now of (part_place_told place.entry) part.now) sorts.old sorts.new) }
+    ensures { IfOk result (Narrows
+        (λ of. PartStands scope.now of (part_place_told place.entry) part.now) sorts.old sorts.new) }
 {
     match part {
         LinePart::Tree(tree) => match place {
@@ -91,7 +95,7 @@ fn sorts_part<'a>(
     }
 }
 
-/// Whether the parts may stand at the places, one by one.
+/// Whether the parts may be at the places, one by one.
 #[cycle(sorts_tree)]
 fn sorts_parts<'a>(
     alloc: Global,
@@ -103,7 +107,8 @@ fn sorts_parts<'a>(
     requires known { AllByRecursion (KnowsPart scope.now) parts.now }
     requires counted { AllByRecursion (CountsPart scope.now) parts.now }
     requires count { length places.now ≡ length parts.now }
-    ensures { IfOk result (Narrows (λ of. PartsStand scope.now of (part_places_told places.now) parts.now) sorts.old sorts.new) }
+    ensures { IfOk result (Narrows
+        (λ of. PartsStand scope.now of (part_places_told places.now) parts.now) sorts.old sorts.new) }
 {
     for i in 0..parts.len() {
         let fits = sorts_part(alloc, scope, sorts, places[i], &parts[i])?;
@@ -114,7 +119,7 @@ fn sorts_parts<'a>(
     Ok(true)
 }
 
-/// Whether each of the specimens may stand at the place.
+/// Whether each of the specimens may be at the place.
 #[cycle(sorts_tree)]
 fn sorts_trees<'a>(
     alloc: Global,
@@ -125,7 +130,9 @@ fn sorts_trees<'a>(
 ) -> Result<bool, AllocError>
     requires known { AllByRecursion (meanings.KnowsTree scope.now) trees.now }
     requires counted { AllByRecursion (meanings.CountsTree scope.now 0) trees.now }
-    ensures { IfOk result (Narrows (λ of. AllByRecursion (meanings.SortsTree scope.now of [] (place_told place.entry)) trees.now) sorts.old sorts.new) }
+    ensures { IfOk result (Narrows
+        (λ of. AllByRecursion
+        (meanings.SortsTree scope.now of [] (place_told place.entry)) trees.now) sorts.old sorts.new) }
 {
     for tree in trees {
         let fits = sorts_tree(alloc, scope, sorts, place, tree)?;
@@ -136,7 +143,7 @@ fn sorts_trees<'a>(
     Ok(true)
 }
 
-/// Whether the specimen may stand at the place.
+/// Says whether the specimen may be at the place.
 #[cycle(sorts_tree)]
 pub fn sorts_tree<'a>(
     alloc: Global,
@@ -147,7 +154,8 @@ pub fn sorts_tree<'a>(
 ) -> Result<bool, AllocError>
     requires known { meanings.KnowsTree scope.now tree.now }
     requires counted { meanings.CountsTree scope.now 0 tree.now }
-    ensures { IfOk result (Narrows (λ of. meanings.SortsTree scope.now of [] (place_told place.entry) tree.now) sorts.old sorts.new) }
+    ensures { IfOk result (Narrows
+        (λ of. meanings.SortsTree scope.now of [] (place_told place.entry) tree.now) sorts.old sorts.new) }
 {
     match &tree.shape {
         TreeShape::Operator { name, parts } => {

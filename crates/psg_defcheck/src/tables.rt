@@ -4,7 +4,8 @@ ghost use Rattle.std.specs.Option.{option_map};
 ghost use Rattle.psg_terms.specs.Names.{Name};
 ghost use Rattle.psg_deflines.specs.Entries.{written};
 ghost use Rattle.psg_deflines.specs.declared.lines.Line.{Line as Plain};
-ghost use Rattle.psg_defcheck.specs.Scopes.{Constructor, constructor_among, constructor_declared, kind_declared, operator_declared, sort_declared};
+ghost use Rattle.psg_defcheck.specs.Scopes.{Constructor, constructor_among, constructor_declared, kind_declared};
+ghost use Rattle.psg_defcheck.specs.Scopes.{operator_declared, sort_declared};
 ghost use Rattle.psg_defcheck.specs.Tables.{TellsConstructors, AreTables, constructor_told, kind_told, operator_told};
 
 use psg_deflines::{Line, LineItem};
@@ -16,31 +17,44 @@ use std::marker::Model;
 /// A constructor with the name of its sort.
 #[derive(Clone, Copy)]
 pub struct DeclaredConstructor<'a> {
+    /// The name of the sort.
     pub sort: &'a str,
+    /// The constructor with the sorts of its arguments.
     pub decl: &'a ConDecl,
 }
 
-/// What the line of a phylum or list tells: the sort of its values, and the phylum of a list's elements.
+/// What the line of a phylum or list says: the sort of its values, and the phylum of a list's elements.
 #[derive(Clone, Copy)]
 pub enum Kind<'a> {
+    /// A phylum with the sort of its values.
     Phylum { sort: &'a str },
+    /// A list with the sort of its values and the phylum of its elements.
     List { sort: &'a str, element: &'a str },
 }
 
-/// What an operator's line tells of its trees.
+/// What an operator's line says of its trees.
 #[derive(Clone, Copy)]
 pub struct Operator<'a> {
+    /// The name of its phylum.
     pub phylum: &'a str,
+    /// Its items, in order.
     pub items: &'a [LineItem],
 }
 
-/// Each declared name with what its first declaration tells.
+/// Each declared name with what its first declaration says.
 #[derive(Drop)]
 pub struct Tables<'a> {
+    /// The sorts by name.
     pub sorts: HashMap<&'a str, &'a SortDecl>,
+    /// The constructors by name.
     pub constructors: HashMap<&'a str, DeclaredConstructor<'a>>,
+    /// The phyla and lists by name.
     pub kinds: HashMap<&'a str, Kind<'a>>,
+    /// The operators by name.
     pub operators: HashMap<&'a str, Operator<'a>>,
+    /// The sorts of the spaces by name.
+    pub spaces: HashMap<&'a str, &'a str>,
+    /// The sort of the first space.
     pub entity: Option<&'a str>,
 }
 
@@ -71,6 +85,7 @@ impl<'a> Tables<'a> {
             constructors: HashMap::new(alloc),
             kinds: HashMap::new(alloc),
             operators: HashMap::new(alloc),
+            spaces: HashMap::new(alloc),
             entity: None,
         }
     }
@@ -85,8 +100,10 @@ impl<'a> Tables<'a> {
                 add_constructors(&mut self.constructors, name, d.constructors.as_slice())?;
                 self.sorts.insert(name, d)?;
             }
-            Line::Entity { sort } => {
-                self.entity = Some(sort.as_str());
+            Line::Space { name, sort } => {
+                let sort = sort.as_str();
+                self.spaces.insert(name.as_str(), sort)?;
+                self.entity = Some(sort);
             }
             Line::Phylum { name, sort, .. } => {
                 let sort = sort.as_str();
@@ -119,7 +136,7 @@ impl<'a> Tables<'a> {
         Ok(())
     }
 
-    /// The tables of the lines among the entries, in one walk from the last one on.
+    /// Makes the tables of the lines among the entries, in one walk from the last one on.
     pub fn of(alloc: Global, entries: &'a [Option<Line>]) -> Result<Tables<'a>, AllocError>
         ensures { IfOk result (AreTables (written entries.now)) }
     {

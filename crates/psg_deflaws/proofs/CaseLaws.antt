@@ -111,11 +111,11 @@ module _ (def : Definition) (sound : IsSoundSignature def.signature) (inside : A
       omega (arith, ap length e, few-hole-rows behind rest hs)
   few-hole-rows (line ∷ behind) all h = omega (arith, few-hole-rows behind all h)
 
-  declare-is : (list : Name) (entity value : WrittenTerm) (tree : WrittenTree) (row : DeclareRow) → HasTreeForm tree
-      → weight tree < 2 ^ 32 → numbers.IsDeclareRow def list entity value tree row → IsDeclareRow def row
-  declare-is list entity value tree row form limit h =
+  declare-is : (named list : Name) (entity value : WrittenTerm) (tree : WrittenTree) (row : DeclareRow) → HasTreeForm tree
+      → weight tree < 2 ^ 32 → numbers.IsDeclareRow def named list entity value tree row → IsDeclareRow def row
+  declare-is named list entity value tree row form limit h =
       let element = kinds.Phylum h.found.element in
-      let space = subst (λ n. HasSpaceSort def n h.entity_sort) (sym h.space) h.space_sort in
+      let space = h.space_sort in
       let entity-within = space-inside def inside row.space h.entity_sort space in
       let value-within = kind-inside def inside element h.value_sort h.elements_sort in
       let there = kind-there def element h.value_sort h.elements_sort in
@@ -135,11 +135,11 @@ module _ (def : Definition) (sound : IsSoundSignature def.signature) (inside : A
   pub declare-rows-sound : (file : List Line) (all : List DeclareRow) → AllByRecursion HasForm file
       → lines_total file < 2 ^ 32 → AreDeclareRows def file all → AllByRecursion (IsDeclareRow def) all
   declare-rows-sound [] all form limit e = subst (AllByRecursion (IsDeclareRow def)) (sym e) tt
-  declare-rows-sound (lines.Declare list entity value tree ∷ behind) all form limit (row, rest, e, h, hs) =
+  declare-rows-sound (lines.Declare named list entity value tree ∷ behind) all form limit (row, rest, e, h, hs) =
       let front = total-append (term_parts entity) (codes ":" ∷ (term_parts value ++ by_parts (Some tree))) in
       let size = total-append (term_parts value) (by_parts (Some tree)) in
       subst (AllByRecursion (IsDeclareRow def)) (sym e) (
-        declare-is list entity value tree row form.0.3 (omega (arith, front, size, by-long tree form.0.3)) h,
+        declare-is named list entity value tree row form.0.4 (omega (arith, front, size, by-long tree form.0.4)) h,
         declare-rows-sound behind rest form.1 (omega arith) hs,
       )
   declare-rows-sound (line ∷ behind) all form limit h = declare-rows-sound behind all form.1 (omega arith) h
@@ -147,6 +147,6 @@ module _ (def : Definition) (sound : IsSoundSignature def.signature) (inside : A
   pub few-declare-rows : (file : List Line) (all : List DeclareRow) → AreDeclareRows def file all
       → length all ≤ length file
   few-declare-rows [] all e = omega (arith, ap length e)
-  few-declare-rows (lines.Declare list entity value tree ∷ behind) all (row, rest, e, h, hs) =
+  few-declare-rows (lines.Declare named list entity value tree ∷ behind) all (row, rest, e, h, hs) =
       omega (arith, ap length e, few-declare-rows behind rest hs)
   few-declare-rows (line ∷ behind) all h = omega (arith, few-declare-rows behind all h)

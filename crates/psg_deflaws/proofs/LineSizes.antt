@@ -61,7 +61,8 @@ entries-formed above (t ∷ texts) (Some line ∷ entries) h =
 -- each line has a word in front
 line-long : (line : Line) → 1 ≤ total (parts_of line)
 line-long (lines.Sort d) = omega arith
-line-long (lines.Entity sort) = omega arith
+line-long (lines.Space [] sort) = omega arith
+line-long (lines.Space (c ∷ cs) sort) = omega arith
 line-long (lines.Phylum name sort bracketed) = omega arith
 line-long (lines.List name sort element separator on_lines unfinished) = omega arith
 line-long (lines.Operator name phylum scope level made) = omega arith
@@ -70,7 +71,7 @@ line-long (lines.Nil list term) = omega arith
 line-long (lines.Cell list term element rest) = omega arith
 line-long (lines.Hole kind term specimen) = omega arith
 line-long (lines.Case term specimen) = omega arith
-line-long (lines.Declare list entity value specimen) = omega arith
+line-long (lines.Declare space list entity value specimen) = omega arith
 
 pub few-lines : (file : List Line) → length file ≤ lines_total file
 few-lines [] = omega arith
@@ -118,8 +119,8 @@ quoted-long w =
 item-long : (i : LineItem) → HasItemForm i → 1 ≤ length (item_part i)
 item-long (items.Word w) h = quoted-long w
 item-long (items.Slot k) h = kind-name-long k h
-item-long items.Refers h = omega arith
-item-long items.Declares h = omega arith
+item-long (items.Refers space) h = omega arith
+item-long (items.Declares space) h = omega arith
 item-long items.Number h = omega arith
 item-long items.Text h = omega arith
 item-long items.Space h = omega arith

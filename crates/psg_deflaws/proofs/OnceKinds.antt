@@ -20,8 +20,8 @@ use Rattle.psg_deflines.specs.declared.lines.LineItem.{LineItem}
 use Rattle.psg_deflines.specs.declared.lines.LineItem.TheVariants as items
 use Rattle.psg_deflines.specs.declared.lines.Line.{Line}
 use Rattle.psg_deflines.specs.declared.lines.Line.TheVariants as lines
-use Rattle.psg_defcheck.specs.Scopes.{kind_names, operator_names}
-use Rattle.psg_defnumber.specs.Numbers.{IsTerm, AreTerms, IsSort, IsKind, IsItem, AreItems, IsOperatorNamed, ArePhyla, AreLists, AreOperators, AreSpaces, IsNumbered}
+use Rattle.psg_defcheck.specs.Scopes.{kind_names, operator_names, space_names, spaces}
+use Rattle.psg_defnumber.specs.Numbers.{IsTerm, AreTerms, IsSort, IsKind, IsItem, AreItems, IsSpaceNamed, IsOperatorNamed, ArePhyla, AreLists, AreOperators, AreSpaces, IsNumbered}
 use Rattle.psg_deflaws.proofs.OnceNames.{same_at, named_place, Together, together-at}
 use Rattle.psg_defnumber.proofs.ListLaws.{map-at}
 use Rattle.psg_terms.proofs.Spelled.{one_place}
@@ -133,7 +133,21 @@ pub record SameForm (f g : Operator) : Type 0 where
   pub phylum : f.phylum ≡ g.phylum
   pub items : f.items ≡ g.items
 
-module _ (file : List Line) (x y : Definition) (hx : IsNumbered file x) (hy : IsNumbered file y) where
+-- ---- spaces by their names
+
+abbrev space_name : Space → Name
+space_name s = s.name
+
+spaces-named : (def : Definition) (ds : List (Name × Name)) (all : List Space) → AreSpaces def ds all → map space_name all ≡ map (λ (d : Name × Name). d.0) ds
+spaces-named def [] all e = ap (map space_name) e
+spaces-named def (d ∷ ds) all (s, rest, e, name, of, h) = ap (map space_name) e ∙ ap₂ (λ z zs. z ∷ zs) name (spaces-named def ds rest h)
+
+space-names : (file : List Line) → map (λ (d : Name × Name). d.0) (spaces file) ≡ space_names file
+space-names [] = refl
+space-names (lines.Space name sort ∷ rest) = ap (λ ns. name ∷ ns) (space-names rest)
+space-names (_ ∷ rest) = space-names rest
+
+module _ {version : ℕ} (file : List Line) (x y : Definition) (hx : IsNumbered version file x) (hy : IsNumbered version file y) where
   signatures : x.signature ≡ y.signature
   signatures = signature-same file x hx y hy
 
@@ -156,16 +170,22 @@ module _ (file : List Line) (x y : Definition) (hx : IsNumbered file x) (hy : Is
   pub phyla-same : x.phyla ≡ y.phyla
   phyla-same = phyla-from file x.phyla y.phyla hx.phyla hy.phyla
 
-  spaces-from : (sorts : List Name) (ss rs : List Space) → AreSpaces x sorts ss → AreSpaces y sorts rs → ss ≡ rs
+  spaces-from : (ds : List (Name × Name)) (ss rs : List Space) → AreSpaces x ds ss → AreSpaces y ds rs → ss ≡ rs
   spaces-from [] ss rs h k = h ∙ sym k
-  spaces-from (n ∷ ns) ss rs (s, rest, e, name, hs, hr) (r, more, f, name', hs', hr') =
+  spaces-from (d ∷ ds) ss rs (s, rest, e, name, hs, hr) (r, more, f, name', hs', hr') =
       let names = name ∙ sym name' in
-      let sorts = sort-same n s.sort r.sort hs hs' in
+      let sorts = sort-same d.1 s.sort r.sort hs hs' in
       let same : s ≡ r = (λ i. record { name = names i; sort = sorts i }) in
-      e ∙ ap₂ (λ z zs. z ∷ zs) same (spaces-from ns rest more hr hr') ∙ sym f
+      e ∙ ap₂ (λ z zs. z ∷ zs) same (spaces-from ds rest more hr hr') ∙ sym f
 
   pub spaces-same : x.spaces ≡ y.spaces
   spaces-same = spaces-from _ x.spaces y.spaces hx.spaces hy.spaces
+
+  space-place : (n : Name) (p q : ℕ) → IsSpaceNamed x n p → IsSpaceNamed y n q → p ≡ q
+  space-place [] p q h k = h ∙ sym k
+  space-place (c ∷ cs) p q (s, at, e) (r, at', f) =
+      named_place space_name (space_names file) hx.spaces_once x.spaces y.spaces
+      (spaces-named x (spaces file) x.spaces hx.spaces ∙ space-names file) (spaces-named y (spaces file) y.spaces hy.spaces ∙ space-names file) (c ∷ cs) p q s r at e at' f
 
   pub phylum-place : (n : Name) (p q : ℕ) → IsKind x n (kinds.Phylum p) → IsKind y n (kinds.Phylum q) → p ≡ q
   phylum-place n p q (k, at, e) (l, at', f) =
@@ -177,13 +197,13 @@ module _ (file : List Line) (x y : Definition) (hx : IsNumbered file x) (hy : Is
       named_place list_name (list_names file) (lists-once file hx.kinds_once) x.lists y.lists
       (lists-named x file file x.lists hx.lists) (lists-named y file file y.lists hy.lists) n p q k l at e at' f
 
-  phylum-among : (d : Definition) (n : Name) (p : ℕ) → IsNumbered file d → IsKind d n (kinds.Phylum p)
+  phylum-among : (d : Definition) (n : Name) (p : ℕ) → IsNumbered version file d → IsKind d n (kinds.Phylum p)
       → is_among (phylum_names file) n ≡ true
   phylum-among d n p h (k, at, e) =
       is_among-at (phylum_names file) p n (ap (λ l. slice_get l p) (sym (phyla-named d file d.phyla h.phyla))
       ∙ map-at phylum_name d.phyla p k at ∙ ap Some e)
 
-  list-among : (d : Definition) (n : Name) (p : ℕ) → IsNumbered file d → IsKind d n (kinds.List p)
+  list-among : (d : Definition) (n : Name) (p : ℕ) → IsNumbered version file d → IsKind d n (kinds.List p)
       → is_among (list_names file) n ≡ true
   list-among d n p h (k, at, e) =
       is_among-at (list_names file) p n (ap (λ l. slice_get l p) (sym
@@ -224,8 +244,8 @@ module _ (file : List Line) (x y : Definition) (hx : IsNumbered file x) (hy : Is
   item-same : (w : LineItem) (i j : Item) → IsItem x w i → IsItem y w j → i ≡ j
   item-same (items.Slot n) i j (k, h, e) (l, g, f) = e ∙ ap made.Slot (kind-same n k l h g) ∙ sym f
   item-same (items.Word w) i j h k = h ∙ sym k
-  item-same items.Refers i j h k = h ∙ sym k
-  item-same items.Declares i j h k = h ∙ sym k
+  item-same (items.Refers n) i j (p, h, e) (q, k, f) = e ∙ ap made.Refers (space-place n p q h k) ∙ sym f
+  item-same (items.Declares n) i j (p, h, e) (q, k, f) = e ∙ ap made.Declares (space-place n p q h k) ∙ sym f
   item-same items.Number i j h k = h ∙ sym k
   item-same items.Text i j h k = h ∙ sym k
   item-same items.Space i j h k = h ∙ sym k
@@ -262,6 +282,7 @@ module _ (file : List Line) (x y : Definition) (hx : IsNumbered file x) (hy : Is
   pub agree : Agree x y
   agree = record {
     kind = kind-same;
+    space = space-place;
     sort = kind_sort-same;
     operator = operator-same;
     element = λ l f g a b. (head-at l f g a b).element;

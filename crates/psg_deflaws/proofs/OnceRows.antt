@@ -153,14 +153,15 @@ module _ (x y : Definition) (agree : Agree x y) (spaces : x.spaces ≡ y.spaces)
   list-number : (n : Name) (l r : ℕ) → kinds.List l ≡ kinds.List r → l ≡ r
   list-number n l r e = cc
 
-  declare_row-same : (list : Name) (entity value : WrittenTerm) (tree : WrittenTree) (p q : DeclareRow)
-      → IsDeclareRow x list entity value tree p → IsDeclareRow y list entity value tree q → p ≡ q
-  declare_row-same list entity value tree p q h k =
+  declare_row-same : (named list : Name) (entity value : WrittenTerm) (tree : WrittenTree) (p q : DeclareRow)
+      → IsDeclareRow x named list entity value tree p → IsDeclareRow y named list entity value tree q → p ≡ q
+  declare_row-same named list entity value tree p q h k =
       let number = list-number list p.list q.list (agree.kind list (kinds.List p.list)
       (kinds.List q.list) h.of_list k.of_list) in
       let element = agree.element q.list h.found k.found (subst
       (λ z. slice_get x.lists z ≡ Some h.found) number h.list_is) k.list_is in
-      let entity_sorts = space-same 0 h.entity_sort k.entity_sort h.space_sort k.space_sort in
+      let spaces-equal = agree.space named p.space q.space h.of_space k.of_space in
+      let entity_sorts = space-same q.space h.entity_sort k.entity_sort (subst (λ z. HasSpaceSort x z h.entity_sort) spaces-equal h.space_sort) k.space_sort in
       let value_sorts = agree.sort (kinds.Phylum k.found.element) h.value_sort k.value_sort (subst
       (λ z. HasKindSort x (kinds.Phylum z) h.value_sort) element h.elements_sort) k.elements_sort in
       let specimens = tree-same x y agree h.names k.names
@@ -177,7 +178,6 @@ module _ (x y : Definition) (agree : Agree x y) (spaces : x.spaces ≡ y.spaces)
       (p.value ∷ terms_of x p.specimen)) (among-noted_all [] (variables_of row)) in
       let later = each-front (IsAmong (first_occurrences row)) (variables p.value) (variables_of
       (terms_of x p.specimen)) known.1 in
-      let spaces-equal = h.space ∙ sym k.space in
       let term = fixes p.term q.term terms known.0 in
       let worth = fixes p.value q.value values later.0 in
       let specimen = specimens.same (first_occurrences row) fixes (known-holes (first_occurrences row)
@@ -187,7 +187,7 @@ module _ (x y : Definition) (agree : Agree x y) (spaces : x.spaces ≡ y.spaces)
   pub declare_rows-same : (behind : List Line) (ps qs : List DeclareRow) → AreDeclareRows x behind ps
       → AreDeclareRows y behind qs → ps ≡ qs
   declare_rows-same [] ps qs h k = h ∙ sym k
-  declare_rows-same (lines.Declare list entity value specimen ∷ behind) ps qs (p, rest, e, h, hr) (q, more, f, k, hs) =
-      e ∙ ap₂ (λ z zs. z ∷ zs) (declare_row-same list entity value specimen p q h k)
+  declare_rows-same (lines.Declare named list entity value specimen ∷ behind) ps qs (p, rest, e, h, hr) (q, more, f, k, hs) =
+      e ∙ ap₂ (λ z zs. z ∷ zs) (declare_row-same named list entity value specimen p q h k)
       (declare_rows-same behind rest more hr hs) ∙ sym f
   declare_rows-same (_ ∷ behind) ps qs h k = declare_rows-same behind ps qs h k

@@ -37,7 +37,7 @@ spelled-names sorts [] (x ∷ xs) h = absurd h
 spelled-names sorts (c ∷ cs) [] h = absurd h
 spelled-names sorts (c ∷ cs) (x ∷ xs) (p, h) = (λ i. p.name i ∷ spelled-names sorts cs xs h i)
 
-module _ (file : List Line) (d : Definition) (h : IsNumbered file d) where
+module _ {version : ℕ} (file : List Line) (d : Definition) (h : IsNumbered version file d) where
   distinct : AreDistinct (sort_decls file)
   distinct = record {
     sorts = ap has_twice (decls-sorts file) ∙ h.sorts_once;
@@ -58,5 +58,5 @@ module _ (file : List Line) (d : Definition) (h : IsNumbered file d) where
       (map-at (λ (s : Symbol). s.name) d.signature.symbols c s at ∙ ap Some name) (map-at (λ
       (s : Symbol). s.name) d.signature.symbols e z at')
 
-  pub signature-same : (e : Definition) → IsNumbered file e → d.signature ≡ e.signature
+  pub signature-same : (e : Definition) → IsNumbered version file e → d.signature ≡ e.signature
   signature-same e k = one_signature (sort_decls file) d.signature e.signature distinct h.signature k.signature

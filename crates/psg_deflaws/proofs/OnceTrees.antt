@@ -22,12 +22,13 @@ use Rattle.psg_grammar.specs.Specimens.{holes_of, holes_of_part, holes_of_row, h
 use Rattle.psg_lexis.specs.Tokens.{value_of}
 use Rattle.psg_deflines.specs.WrittenTerms.{WrittenTerm}
 use Rattle.psg_deflines.specs.WrittenTrees.{WrittenTree, operator, with_tree, with_name, with_number, with_text, list_end, list_rest, element, place}
-use Rattle.psg_defnumber.specs.Numbers.{IsTerm, AreTerms, IsKind, IsOperatorNamed, IsPlace, IsTree, IsPart, AreParts, IsListFrom}
+use Rattle.psg_defnumber.specs.Numbers.{IsTerm, AreTerms, IsKind, IsSpaceNamed, IsOperatorNamed, IsPlace, IsTree, IsPart, AreParts, IsListFrom}
 use Rattle.psg_deflaws.proofs.OnceTerms.{AreAlike, RowsAlike}
 
 -- what two definitions of one file have in common before their rows are known
 pub record Agree (x y : Definition) : Type 0 where
   pub kind : (n : Name) (k l : Kind) → IsKind x n k → IsKind y n l → k ≡ l
+  pub space : (n : Name) (p q : ℕ) → IsSpaceNamed x n p → IsSpaceNamed y n q → p ≡ q
   pub sort : (k : Kind) (s r : ℕ) → HasKindSort x k s → HasKindSort y k r → s ≡ r
   pub operator : (n : Name) (o p : ℕ) (f g : Operator) → IsOperatorNamed x n o f → IsOperatorNamed y n p g
       → (o ≡ p) × (f.items ≡ g.items)

@@ -1,5 +1,5 @@
 -- Two definitions of one file are equal.
-use Rattle.std.proofs.Common.{◌≡◌, List, [], ◌∷◌, ap, ap₂, sym, ◌∙◌, subst}
+use Rattle.std.proofs.Common.{◌≡◌, ℕ, List, [], ◌∷◌, ap, ap₂, sym, ◌∙◌, subst}
 use Rattle.psg_terms.specs.declared.sorts.SortId.{SortId}
 use Rattle.psg_grammar.specs.declared.types.Kind.TheVariants as kinds
 use Rattle.psg_grammar.specs.declared.types.Item.{Item}
@@ -16,7 +16,7 @@ use Rattle.psg_deflaws.proofs.OnceSignature.{signature-same}
 use Rattle.psg_deflaws.proofs.OnceKinds.{sort-same, phyla-same, spaces-same, phylum-place, items-same, agree}
 use Rattle.psg_deflaws.proofs.OnceRows.{columns-same, rows-same, nils-same, cells-same, hole_rows-same, declare_rows-same}
 
-module _ (file : List Line) (x y : Definition) (hx : IsNumbered file x) (hy : IsNumbered file y) where
+module _ {version : ℕ} (file : List Line) (x y : Definition) (hx : IsNumbered version file x) (hy : IsNumbered version file y) where
   lists-from : (behind : List Line) (fs gs : List ListKind) → AreLists x file behind fs
       → AreLists y file behind gs → fs ≡ gs
   lists-from [] fs gs h k = h ∙ sym k
@@ -87,10 +87,10 @@ module _ (file : List Line) (x y : Definition) (hx : IsNumbered file x) (hy : Is
   operators-from (_ ∷ behind) fs gs h k = operators-from behind fs gs h k
 
 pub one-definition : OneNumbering
-one-definition file x y hx hy =
+one-definition version file x y hx hy =
     let common = agree file x y hx hy in
     let spaces = spaces-same file x y hx hy in
-    let versions = hx.version ∙ sym hy.version in
+    let versions = hx.same_version ∙ sym hy.same_version in
     let signatures = signature-same file x hx y hy in
     let phyla = phyla-same file x y hx hy in
     let lists = lists-from file x y hx hy file x.lists y.lists hx.lists hy.lists in

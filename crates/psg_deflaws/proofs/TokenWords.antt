@@ -1,5 +1,5 @@
 -- The fixed words and separators of plain lines.
-use Rattle.std.proofs.Common.{List, [], ◌∷◌, sym, subst}
+use Rattle.std.proofs.Common.{ℕ, List, [], ◌∷◌, sym, subst}
 use Rattle.std.specs.List.{AllByRecursion}
 use Rattle.psg_grammar.specs.declared.types.Item.{Item}
 use Rattle.psg_grammar.specs.declared.types.ListKind.{ListKind}
@@ -19,8 +19,8 @@ module _ (def : Definition) where
   item-fixed : (w : LineItem) (i : Item) → IsFixedItem w → IsItem def w i → IsFixed i
   item-fixed (items.Word w) i h e = subst IsFixed (sym e) h
   item-fixed (items.Slot n) i h (k, is, e) = subst IsFixed (sym e) tt
-  item-fixed items.Refers i h e = subst IsFixed (sym e) tt
-  item-fixed items.Declares i h e = subst IsFixed (sym e) tt
+  item-fixed (items.Refers n) i h (k, is, e) = subst IsFixed (sym e) tt
+  item-fixed (items.Declares n) i h (k, is, e) = subst IsFixed (sym e) tt
   item-fixed items.Number i h e = subst IsFixed (sym e) tt
   item-fixed items.Text i h e = subst IsFixed (sym e) tt
   item-fixed items.Space i h e = subst IsFixed (sym e) tt
@@ -38,31 +38,31 @@ module _ (def : Definition) where
   abbrev HasFixed : Operator → Type 0
   HasFixed o = AllByRecursion IsFixed o.items
 
-  operators-fixed : (file : List Line) (all : List Operator) → AllByRecursion IsPlain file → AreOperators def file all
+  operators-fixed : (version : ℕ) (file : List Line) (all : List Operator) → AllByRecursion (IsPlain version) file → AreOperators def file all
       → AllByRecursion HasFixed all
-  operators-fixed [] all plain e = subst (AllByRecursion HasFixed) (sym e) tt
-  operators-fixed (lines.Operator name phylum scope level parts ∷ behind) all plain (op, rest, e, h, hs) =
+  operators-fixed version [] all plain e = subst (AllByRecursion HasFixed) (sym e) tt
+  operators-fixed version (lines.Operator name phylum scope level parts ∷ behind) all plain (op, rest, e, h, hs) =
       subst (AllByRecursion HasFixed) (sym e) (
         items-fixed parts op.items plain.0.words h.each_item,
-        operators-fixed behind rest plain.1 hs,
+        operators-fixed version behind rest plain.1 hs,
       )
-  operators-fixed (line ∷ behind) all plain h = operators-fixed behind all plain.1 h
+  operators-fixed version (line ∷ behind) all plain h = operators-fixed version behind all plain.1 h
 
   abbrev IsSeparated : ListKind → Type 0
   IsSeparated l = IsFixedWord l.separator
 
-  separators-fixed : (file behind : List Line) (all : List ListKind) → AllByRecursion IsPlain behind
+  separators-fixed : (version : ℕ) (file behind : List Line) (all : List ListKind) → AllByRecursion (IsPlain version) behind
       → AreLists def file behind all → AllByRecursion IsSeparated all
-  separators-fixed file [] all plain e = subst (AllByRecursion IsSeparated) (sym e) tt
-  separators-fixed file (lines.List name sort elements separator ls u ∷ behind) all plain (l, rest, e, h, hs) =
+  separators-fixed version file [] all plain e = subst (AllByRecursion IsSeparated) (sym e) tt
+  separators-fixed version file (lines.List name sort elements separator ls u ∷ behind) all plain (l, rest, e, h, hs) =
       subst (AllByRecursion IsSeparated) (sym e) (
         subst IsFixedWord (sym h.same_separator) plain.0.words,
-        separators-fixed file behind rest plain.1 hs,
+        separators-fixed version file behind rest plain.1 hs,
       )
-  separators-fixed file (line ∷ behind) all plain h = separators-fixed file behind all plain.1 h
+  separators-fixed version file (line ∷ behind) all plain h = separators-fixed version file behind all plain.1 h
 
 pub token-words : WordsAreTokens
-token-words entries def plain numbered = record {
-  words = operators-fixed def (written entries) def.operators plain numbered.operators;
-  separators = separators-fixed def (written entries) (written entries) def.lists plain numbered.lists;
+token-words version entries def plain numbered = record {
+  words = operators-fixed def version (written entries) def.operators plain numbered.operators;
+  separators = separators-fixed def version (written entries) (written entries) def.lists plain numbered.lists;
 }

@@ -1,5 +1,5 @@
 -- What the lines of a file are together is sound.
-use Rattle.std.specs.Prelude.{ℕ, ◌<◌, ◌+◌, ◌^◌, List, [], ◌∷◌, length}
+use Rattle.std.specs.Prelude.{ℕ, true, ◌≡◌, ◌<◌, ◌+◌, ◌^◌, List, [], ◌∷◌, length}
 use Rattle.std.specs.List.{AllByRecursion}
 use Rattle.psg_terms.specs.Sound.{IsSound as IsSoundSignature}
 use Rattle.psg_grammar.specs.declared.types.Item.{Item}
@@ -8,6 +8,7 @@ use Rattle.psg_grammar.specs.declared.types.ListKind.{ListKind}
 use Rattle.psg_grammar.specs.declared.types.Operator.{Operator}
 use Rattle.psg_grammar.specs.declared.types.Definition.{Definition}
 use Rattle.psg_grammar.specs.Sound.{IsSound}
+use Rattle.psg_deflines.specs.Versions.{IsVersion, is_of}
 use Rattle.psg_deflines.specs.Entries.{Entry, written, AreEntries, IsPlain}
 use Rattle.psg_lexis.specs.Tokens.{IsFixedWord}
 use Rattle.psg_defnumber.specs.Numbers.{IsNumbered}
@@ -17,10 +18,14 @@ abbrev pub total : List (List ℕ) → ℕ
 total [] = 0
 total (text ∷ texts) = length text + total texts
 
+-- a definition that the lines of a file of fewer than 2^32 bytes are together is sound
 abbrev pub NumberedIsSound : Type 0
-NumberedIsSound = (texts : List (List ℕ)) (entries : List Entry) (def : Definition) → total texts < 2 ^ 32 → AreEntries [] texts entries
-    → IsNumbered (written entries) def → IsSoundSignature def.signature → IsSound def
+NumberedIsSound = (version : ℕ) (texts : List (List ℕ)) (entries : List Entry) (def : Definition) → IsVersion version
+    → total texts < 2 ^ 32
+    → AreEntries [] texts entries → AllByRecursion (λ line. is_of version line ≡ true) (written entries)
+    → IsNumbered version (written entries) def → IsSoundSignature def.signature → IsSound def
 
+-- the item is no fixed word, or one that is one token
 abbrev pub IsFixed : Item → Type 0
 IsFixed (items.Word w) = IsFixedWord w
 IsFixed _ = Unit {0}
@@ -30,5 +35,7 @@ pub record HasTokenWords (def : Definition) : Type 0 where
   pub words : AllByRecursion (λ (o : Operator). AllByRecursion IsFixed o.items) def.operators
   pub separators : AllByRecursion (λ (l : ListKind). IsFixedWord l.separator) def.lists
 
+-- each fixed word and each separator of such a definition is one token
 abbrev pub WordsAreTokens : Type 0
-WordsAreTokens = (entries : List Entry) (def : Definition) → AllByRecursion IsPlain (written entries) → IsNumbered (written entries) def → HasTokenWords def
+WordsAreTokens = (version : ℕ) (entries : List Entry) (def : Definition)
+    → AllByRecursion (IsPlain version) (written entries) → IsNumbered version (written entries) def → HasTokenWords def

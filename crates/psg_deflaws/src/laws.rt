@@ -2,17 +2,18 @@
 ghost use Rattle.psg_deflaws.specs.Once.{OneNumbering};
 ghost use Rattle.psg_deflaws.specs.Soundness.{NumberedIsSound, WordsAreTokens};
 
-/// Lines are together one definition at most.
+/// States that lines are together one definition at most. It does nothing at run time.
 pub fn one_numbering()
     ensures { OneNumbering }
 {}
 
-/// A definition that the lines of a file of fewer than 2^32 bytes are together is sound.
+/// States that a definition that the lines of a file of fewer than 2^32 bytes are together is sound. It does nothing at
+/// run time.
 pub fn numbered_is_sound()
     ensures { NumberedIsSound }
 {}
 
-/// Each fixed word and each separator of such a definition is one token.
+/// States that each fixed word and each separator of such a definition is one token. It does nothing at run time.
 pub fn words_are_tokens()
     ensures { WordsAreTokens }
 {}

@@ -4,7 +4,8 @@ use Rattle.std.specs.Prelude.{codes, Some, None}
 use Rattle.psg_deflines.specs.WrittenTerms.{WrittenTerm, variable, named, apply, term_depth, IsShallowTerm}
 use Rattle.psg_deflines.specs.WrittenTrees.{operator, with_tree, with_name, list_end, list_rest, element, place, tree_parts, tree_depth}
 use Rattle.psg_deflines.specs.Written.{IsWritten, ends_word}
-use Rattle.psg_deflines.specs.Forms.{SpellsLine, parts_of}
+use Rattle.psg_deflines.specs.Forms.{SpellsLine, parts_of, item_part}
+use Rattle.psg_deflines.specs.declared.lines.LineItem.TheVariants as items
 use Rattle.psg_deflines.specs.Entries.{takes_cases}
 use Rattle.psg_deflines.specs.declared.lines.Line.TheVariants as lines
 
@@ -24,8 +25,8 @@ written-spaced (p ∷ []) = refl
 written-spaced (p ∷ q ∷ rest) = (1, spaced (q ∷ rest), refl, and-false (ends_word p), written-spaced (q ∷ rest))
 
 -- an entity line
-pub entity_line : SpellsLine (codes "entity Ent") (lines.Entity (codes "Ent"))
-entity_line = record { form = refl; written = written-spaced (parts_of (lines.Entity (codes "Ent"))) }
+pub entity_line : SpellsLine (codes "entity Ent") (lines.Space [] (codes "Ent"))
+entity_line = record { form = (tt, refl); written = written-spaced (parts_of (lines.Space [] (codes "Ent"))) }
 
 -- a row of a name in use: the entity of the name has the sort of the node; no space stands beside a bracket
 pub row_line : SpellsLine (codes "row ?T : var(?T)") (lines.Row (variable (codes "T")) (apply (named (codes "var")) (variable (codes "T")) ∷ []))
@@ -65,8 +66,16 @@ pub depth_of_list : tree_depth (element (with_name (operator (codes "a")) (codes
 depth_of_list = refl
 
 -- cases may follow a hole row without a specimen until one with a specimen stands between
-pub case_follows : takes_cases false (lines.Hole (codes "Exp") (variable (codes "T")) None ∷ lines.Entity (codes "Ent") ∷ []) ≡ true
+pub case_follows : takes_cases false (lines.Hole (codes "Exp") (variable (codes "T")) None ∷ lines.Space [] (codes "Ent") ∷ []) ≡ true
 case_follows = refl
 
 pub no_case_follows : takes_cases false (lines.Hole (codes "A") (variable (codes "T")) None ∷ lines.Hole (codes "B") (variable (codes "T")) (Some list_end) ∷ []) ≡ false
 no_case_follows = refl
+
+-- a space of version 2, and a name position in it
+pub space_line : SpellsLine (codes "space lab:Unit") (lines.Space (codes "lab") (codes "Unit"))
+space_line = record { form = (refl, refl); written = (1, codes "lab:Unit", refl, refl, (0, codes ":Unit", refl, refl, (0, codes "Unit", refl, refl, refl))) }
+
+-- a name of a space stands at its word, with no space between
+pub apart_no_item : item_part (items.Refers (codes "lab")) ≡ codes "refers@lab"
+apart_no_item = refl

@@ -4,9 +4,8 @@ use Rattle.std.specs.Prelude.{chars, encode_utf8_all, not, Option, Some, None, o
 use Rattle.std.specs.List.{list_all}
 use Rattle.std.proofs.Math.Seq.{take-append_seam}
 use Rattle.std.proofs.lemmas.Bool.{and_parts, false≢true}
-use Rattle.psg_grammar.specs.Sound.{goes_on_name}
 use Rattle.psg_lexis.specs.Tokens.{quoted}
-use Rattle.psg_deflines.specs.Written.{ends_word, begins_word}
+use Rattle.psg_deflines.specs.Written.{goes_on_word, ends_word, begins_word}
 use Rattle.psg_deflines.specs.WrittenTrees.{quoted_part}
 use Rattle.psg_deflines.specs.Parts.{IsPart, a_word, a_mark, a_sigil, a_quoted, IsApart, IsFirst, HasNoFirst, is_mark, is_sigil}
 use Rattle.psg_deflines.specs.Quotes.{closing, IsQuoteOf, HasNoQuote}
@@ -50,7 +49,7 @@ quote-part : (body part behind : List ℕ) → IsPart part → 34 ∷ body ≡ p
 quote-part body [] behind (a_word w) e = absurd (omega (arith, w.0))
 quote-part body (c ∷ part) behind (a_word w) e =
     let same : c ≡ 34 = cc in
-    absurd (false≢true (subst (λ x. goes_on_name x ≡ true) same (and_parts (goes_on_name c) (list_all goes_on_name part) w.1).0))
+    absurd (false≢true (subst (λ x. goes_on_word x ≡ true) same (and_parts (goes_on_word c) (list_all goes_on_word part) w.1).0))
 quote-part body part behind (a_mark m) e =
     let whole : 34 ∷ body ≡ m.mark ∷ behind = e ∙ ap (λ p. p ++ behind) m.whole in
     let same : m.mark ≡ 34 = cc in

@@ -1,6 +1,7 @@
 -- Lines without terms from their parts.
 use Rattle.std.proofs.Common.{◌≡◌, ℕ, ◌-◌, ◌<◌, ◌≤◌, Bool, true, false, cond, List, [], ◌∷◌, ◌++◌, take, drop, get_or, length, append_assoc, map, codes, refl, ap, sym, ◌∙◌, subst, arith}
 use Rattle.std.specs.List.{AllByRecursion}
+use Rattle.std.proofs.lemmas.Bool.{false≢true}
 use Rattle.psg_terms.specs.Names.{Name}
 use Rattle.psg_terms.specs.declared.declare.ConDecl.{ConDecl}
 use Rattle.psg_grammar.specs.Sound.{IsKindName, IsOwnName, IsLevel}
@@ -18,7 +19,7 @@ use Rattle.psg_deflines.specs.declared.lines.Line.TheVariants as lines
 use Rattle.psg_deflines.proofs.Lists.{rest-whole}
 use Rattle.psg_deflines.proofs.TermFound.{texts-length}
 use Rattle.psg_deflines.proofs.PartReads.{Slices, no-slice, rest_of, first_of, byte_of}
-use Rattle.psg_deflines.proofs.LineInverses.{Is_sort, sort_line, sort-inverse, Is_entity, entity_line, entity-inverse, Is_phylum, phylum_line, phylum-inverse, Is_list, list_line, list-inverse, Is_op, op_line, op-inverse}
+use Rattle.psg_deflines.proofs.LineInverses.{Is_sort, sort_line, sort-inverse, Is_entity, entity_line, entity-inverse, Is_space, space_line, space-inverse, Is_phylum, phylum_line, phylum-inverse, Is_list, list_line, list-inverse, Is_op, op_line, op-inverse}
 
 abbrev at : Slices → ℕ → List ℕ
 at ts n = (get_or ts n no-slice).now
@@ -61,6 +62,69 @@ entity-long ts line h = long line (entity-inverse (texts ts) line h.written)
   where
     long : (line : Line) → Is_entity (texts ts) line → length ts ≡ 1
     long _ (entity_line s e) = omega (arith, ap length e, texts-length ts)
+
+one : (ts : Slices) → length ts ≡ 1 → texts ts ≡ at ts 0 ∷ []
+one [] h = absurd (omega arith)
+one (t ∷ []) h = refl
+one (t ∷ u ∷ ts) h = absurd (omega arith)
+
+pub entity-only : (ts : Slices) (n s : Name) → length ts ≡ 1 → n ≡ [] → (s ≡ at ts 0) × IsKindName (at ts 0) → IsOnly (IsForm (codes "entity" ∷ texts ts)) (lines.Space n s)
+entity-only ts n s long none p = subst (λ m. IsOnly (IsForm (codes "entity" ∷ texts ts)) (lines.Space m s)) (sym none) (record {
+  is = record { form = (tt, subst IsKindName (sym p.0) p.1); written = ap (λ x. codes "entity" ∷ x ∷ []) p.0 ∙ ap (λ ps. codes "entity" ∷ ps) (sym (one ts long)) };
+  only = λ line h. by_line line (entity-inverse (texts ts) line h.written);
+})
+  where
+    by_line : (line : Line) → Is_entity (texts ts) line → line ≡ lines.Space [] s
+    by_line _ (entity_line m e) = ap (lines.Space []) (sym (ap first_of e) ∙ ap first_of (one ts long) ∙ sym p.0)
+
+pub space-long : (ts : Slices) (line : Line) → IsForm (codes "space" ∷ texts ts) line → length ts ≡ 3
+space-long ts line h = long line (space-inverse (texts ts) line h.written)
+  where
+    long : (line : Line) → Is_space (texts ts) line → length ts ≡ 3
+    long _ (space_line c cs s e) = omega (arith, ap length e, texts-length ts)
+
+three-all : (ts : Slices) → length ts ≡ 3 → texts ts ≡ at ts 0 ∷ at ts 1 ∷ at ts 2 ∷ []
+three-all [] h = absurd (omega arith)
+three-all (a ∷ []) h = absurd (omega arith)
+three-all (a ∷ b ∷ []) h = absurd (omega arith)
+three-all (a ∷ b ∷ c ∷ []) h = refl
+three-all (a ∷ b ∷ c ∷ d ∷ ts) h = absurd (omega arith)
+
+-- what a space's line says of the parts
+pub record IsSpaceOf (ts : Slices) (line : Line) : Type 0 where
+  pub name : Name
+  pub sort : Name
+  pub is : line ≡ lines.Space name sort
+  pub forms : IsOwnName name × IsKindName sort
+  pub p0 : at ts 0 ≡ name
+  pub p1 : at ts 1 ≡ codes ":"
+  pub p2 : at ts 2 ≡ sort
+
+pub space-parts : (ts : Slices) (line : Line) → length ts ≡ 3 → IsForm (codes "space" ∷ texts ts) line → IsSpaceOf ts line
+space-parts ts line long h = by_line line (space-inverse (texts ts) line h.written) h.form
+  where
+    by_line : (line : Line) → Is_space (texts ts) line → HasForm line → IsSpaceOf ts line
+    by_line _ (space_line c cs s e) form =
+        let g = sym (three-all ts long) ∙ e in
+        record { name = c ∷ cs; sort = s; is = refl; forms = form; p0 = ap first_of g; p1 = ap (λ xs. first_of (rest_of xs)) g; p2 = ap (λ xs. first_of (rest_of (rest_of xs))) g }
+
+pub space-only : (ts : Slices) (n s : Name) → length ts ≡ 3 → (n ≡ at ts 0) × IsOwnName (at ts 0) → at ts 1 ≡ codes ":" → (s ≡ at ts 2) × IsKindName (at ts 2) → IsOnly (IsForm (codes "space" ∷ texts ts)) (lines.Space n s)
+space-only ts n s long p0 p1 p2 = record {
+  is = is n (subst IsOwnName (sym p0.0) p0.1) p0.0;
+  only = λ line h. (
+      let o = space-parts ts line long h in
+      let a : o.name ≡ n = sym o.p0 ∙ sym p0.0 in
+      let b : o.sort ≡ s = sym o.p2 ∙ sym p2.0 in
+      o.is ∙ ap (λ x. lines.Space x o.sort) a ∙ ap (lines.Space n) b
+      );
+}
+  where
+    is : (m : Name) → IsOwnName m → m ≡ at ts 0 → IsForm (codes "space" ∷ texts ts) (lines.Space m s)
+    is [] own e = absurd (false≢true own)
+    is (c ∷ cs) own e = record {
+      form = (own, subst IsKindName (sym p2.0) p2.1);
+      written = ap (λ x. codes "space" ∷ x) (ap (λ x. x ∷ codes ":" ∷ s ∷ []) e ∙ ap (λ x. at ts 0 ∷ x ∷ s ∷ []) (sym p1) ∙ ap (λ x. at ts 0 ∷ at ts 1 ∷ x ∷ []) p2.0 ∙ sym (three-all ts long));
+    }
 
 pub phylum-long : (ts : Slices) (line : Line) → IsForm (codes "phylum" ∷ texts ts) line → 3 ≤ length ts
 phylum-long ts line h = long line (phylum-inverse (texts ts) line h.written)

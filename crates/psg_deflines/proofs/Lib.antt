@@ -5,10 +5,12 @@ mod EntryLaws
 mod FileLaws
 mod FixedLaws
 mod FormLaws
-mod HeadLaws
+pub mod HeadLaws
 mod ConstructorLaws
 mod ItemLaws
-mod LineInverses
+mod ItemKinds
+mod WordLaws
+pub mod LineInverses
 pub mod Lists
 mod Options
 mod NumberLaws

@@ -16,3 +16,8 @@ ok-from P Q (Err e) f h = tt
 pub err-from : {T E : Type 0} (P Q : E → Type 0) (r : Result T E) → ((e : E) → P e → Q e) → IfErr r P → IfErr r Q
 err-from P Q (Ok x) f h = tt
 err-from P Q (Err e) f h = f e h
+
+-- what follows from there being none
+pub or-none : {X : Type 0} {N M : Type 0} (P : X → Type 0) (o : Option X) → (N → M) → MatchOption o N P → MatchOption o M P
+or-none P None f h = f h
+or-none P (Some x) f h = h

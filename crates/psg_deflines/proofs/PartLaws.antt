@@ -7,19 +7,19 @@ use Rattle.std.proofs.lemmas.List.{length-take}
 use Rattle.std.proofs.lemmas.List.Sums.{prefix_len-le-length}
 use Rattle.std.proofs.lemmas.Str.{encode_ascii}
 use Rattle.std.proofs.lemmas.Bool.{and_cases, and_left, and_parts, cases_Bool, eqb-true, false≢true, or_cases, or_left, or_right}
-use Rattle.psg_grammar.specs.Sound.{goes_on_name, is_upper, is_lower, is_digit}
+use Rattle.psg_grammar.specs.Sound.{is_upper, is_lower, is_digit}
 use Rattle.psg_lexis.specs.Tokens.{quoted}
 use Rattle.psg_deflines.specs.WrittenTerms.{is_plain}
 use Rattle.psg_deflines.specs.WrittenTrees.{quoted_part}
-use Rattle.psg_deflines.specs.Written.{ends_word, begins_word}
+use Rattle.psg_deflines.specs.Written.{goes_on_word, ends_word, begins_word}
 use Rattle.psg_deflines.specs.Parts.{is_mark, is_sigil, goes_behind, IsPart, a_word, a_mark, a_sigil, a_quoted, IsWordPart, IsApart, IsFirst, HasNoFirst}
 use Rattle.psg_deflines.proofs.Lists.{begins_by, prefix_len-run, list_all-run, run-ends, drop-all}
 
 -- a character of a word begins no other part
-sigil-no_word : (c : ℕ) → is_sigil c ≡ true → goes_on_name c ≡ true → ⊥
+sigil-no_word : (c : ℕ) → is_sigil c ≡ true → goes_on_word c ≡ true → ⊥
 sigil-no_word c h k = elim (or_cases (eqb c 63) (eqb c 36) h) [
-  | inl e ↦ false≢true (subst (λ d. goes_on_name d ≡ true) (eqb-true c 63 e) k)
-  | inr e ↦ false≢true (subst (λ d. goes_on_name d ≡ true) (eqb-true c 36 e) k)
+  | inl e ↦ false≢true (subst (λ d. goes_on_word d ≡ true) (eqb-true c 63 e) k)
+  | inr e ↦ false≢true (subst (λ d. goes_on_word d ≡ true) (eqb-true c 36 e) k)
 ]
 
 sigil-no_mark : (c : ℕ) → is_sigil c ≡ true → is_mark c ≡ true → ⊥
@@ -33,13 +33,13 @@ pub quote-begins : (w : List ℕ) → (rest : List ℕ) × (quoted_part w ≡ 34
 quote-begins w = (encode_utf8_all (quoted (chars w) ++ 34 ∷ []), ap (λ xs. xs ++ encode_utf8_all (quoted (chars w) ++ 34 ∷ [])) (encode_ascii 34 (omega arith)))
 
 -- what goes on a name goes on a word
-plain-word : (c : ℕ) → is_plain c ≡ true → goes_on_name c ≡ true
-plain-word c h = or_left (is_upper c || is_lower c || is_digit c) (eqb c 95) h
+plain-word : (c : ℕ) → is_plain c ≡ true → goes_on_word c ≡ true
+plain-word c h = or_left (is_upper c || is_lower c || is_digit c || (eqb c 95)) (eqb c 64) (or_left (is_upper c || is_lower c || is_digit c) (eqb c 95) h)
 
-behind-word : (s c : ℕ) → goes_behind s c ≡ true → goes_on_name c ≡ true
+behind-word : (s c : ℕ) → goes_behind s c ≡ true → goes_on_word c ≡ true
 behind-word s c h = by_sigil (eqb s 63) h
   where
-    by_sigil : (b : Bool) → cond b (is_plain c) (is_lower c || is_digit c) ≡ true → goes_on_name c ≡ true
+    by_sigil : (b : Bool) → cond b (is_plain c) (is_lower c || is_digit c) ≡ true → goes_on_word c ≡ true
     by_sigil true k = plain-word c k
     by_sigil false k = elim (or_cases (is_lower c) (is_digit c) k) [
       | inl e ↦ plain-word c (or_left (is_upper c || is_lower c) (is_digit c) (or_right (is_upper c) (is_lower c) e))
@@ -52,7 +52,7 @@ ends_word-behind s d [] h k = absurd (omega arith)
 ends_word-behind s d (c ∷ []) h k = behind-word s c (and_parts (goes_behind s c) true k).0
 ends_word-behind s d (c ∷ e ∷ run) h k = ends_word-behind s c (e ∷ run) (omega arith) (and_parts (goes_behind s c) (list_all (goes_behind s) (e ∷ run)) k).1
 
-begins-same : (cs : List ℕ) → begins_word cs ≡ begins_by goes_on_name cs
+begins-same : (cs : List ℕ) → begins_word cs ≡ begins_by goes_on_word cs
 begins-same [] = refl
 begins-same (c ∷ cs) = refl
 
@@ -83,7 +83,7 @@ pub named-length : (s : ℕ) (cs part behind : List ℕ) → is_sigil s ≡ true
 named-length s cs [] behind h (a_word w) e apart = absurd (omega (arith, w.0))
 named-length s cs (c ∷ part) behind h (a_word w) e apart =
     let same : s ≡ c = cc in
-    absurd (sigil-no_word s h (subst (λ x. goes_on_name x ≡ true) (sym same) (and_parts (goes_on_name c) (list_all goes_on_name part) w.1).0))
+    absurd (sigil-no_word s h (subst (λ x. goes_on_word x ≡ true) (sym same) (and_parts (goes_on_word c) (list_all goes_on_word part) w.1).0))
 named-length s cs part behind h (a_mark m) e apart =
     let whole : s ∷ cs ≡ m.mark ∷ behind = e ∙ ap (λ p. p ++ behind) m.whole in
     let same : s ≡ m.mark = cc in
@@ -142,7 +142,7 @@ named_not_first s cs h none part behind p e apart =
     none named.inside named.longest named.positive named.ends
 
 -- what stands at a place of a text
-pub begins-drop : (xs : List ℕ) (n : ℕ) → n < length xs → begins_word (drop n xs) ≡ goes_on_name (get_or xs n 0)
+pub begins-drop : (xs : List ℕ) (n : ℕ) → n < length xs → begins_word (drop n xs) ≡ goes_on_word (get_or xs n 0)
 begins-drop [] n h = absurd (omega arith)
 begins-drop (x ∷ xs) zero h = refl
 begins-drop (x ∷ xs) (suc n) h = begins-drop xs n (omega arith)
@@ -180,15 +180,15 @@ any-of P c (x ∷ xs) h k =
       | inr e ↦ any-of P c xs e both.1
     ]
 
-no-mark-word : (c : ℕ) → is_mark c ≡ true → not (goes_on_name c) ≡ true
-no-mark-word c h = any-of (λ d. not (goes_on_name d)) c (codes ":=(),[]|") h refl
+no-mark-word : (c : ℕ) → is_mark c ≡ true → not (goes_on_word c) ≡ true
+no-mark-word c h = any-of (λ d. not (goes_on_word d)) c (codes ":=(),[]|") h refl
 
-mark-no_word : (c : ℕ) → is_mark c ≡ true → goes_on_name c ≡ true → ⊥
+mark-no_word : (c : ℕ) → is_mark c ≡ true → goes_on_word c ≡ true → ⊥
 mark-no_word c h k = false≢true (sym (ap not k) ∙ no-mark-word c h)
 
 -- what a part that begins with the character can be
 pub data Head (c : ℕ) (part : List ℕ) : Type 0 where
-  word_head : goes_on_name c ≡ true → IsWordPart part → Head c part
+  word_head : goes_on_word c ≡ true → IsWordPart part → Head c part
   mark_head : is_mark c ≡ true → length part ≡ 1 → Head c part
   sigil_head : is_sigil c ≡ true → Head c part
   quote_head : c ≡ 34 → Head c part
@@ -197,7 +197,7 @@ pub head-of : (c : ℕ) (cs part behind : List ℕ) → IsPart part → c ∷ cs
 head-of c cs [] behind (a_word w) e = absurd (omega (arith, w.0))
 head-of c cs (d ∷ part) behind (a_word w) e =
     let same : c ≡ d = cc in
-    word_head (subst (λ x. goes_on_name x ≡ true) (sym same) (and_parts (goes_on_name d) (list_all goes_on_name part) w.1).0) w
+    word_head (subst (λ x. goes_on_word x ≡ true) (sym same) (and_parts (goes_on_word d) (list_all goes_on_word part) w.1).0) w
 head-of c cs part behind (a_mark m) e =
     let whole : c ∷ cs ≡ m.mark ∷ behind = e ∙ ap (λ p. p ++ behind) m.whole in
     let same : c ≡ m.mark = cc in
@@ -212,24 +212,24 @@ head-of c cs part behind (a_quoted q) e =
     let same : c ≡ 34 = cc in
     quote_head same
 
-pub ends_word-run : (run : List ℕ) → 0 < length run → list_all goes_on_name run ≡ true → ends_word run ≡ true
+pub ends_word-run : (run : List ℕ) → 0 < length run → list_all goes_on_word run ≡ true → ends_word run ≡ true
 ends_word-run [] h k = absurd (omega arith)
-ends_word-run (c ∷ []) h k = (and_parts (goes_on_name c) true k).0
-ends_word-run (c ∷ d ∷ cs) h k = ends_word-run (d ∷ cs) (omega arith) (and_parts (goes_on_name c) (list_all goes_on_name (d ∷ cs)) k).1
+ends_word-run (c ∷ []) h k = (and_parts (goes_on_word c) true k).0
+ends_word-run (c ∷ d ∷ cs) h k = ends_word-run (d ∷ cs) (omega arith) (and_parts (goes_on_word c) (list_all goes_on_word (d ∷ cs)) k).1
 
-word-length : (c : ℕ) (cs part behind : List ℕ) → goes_on_name c ≡ true → IsPart part → c ∷ cs ≡ part ++ behind → IsApart part behind → length part ≡ prefix_len goes_on_name (c ∷ cs)
+word-length : (c : ℕ) (cs part behind : List ℕ) → goes_on_word c ≡ true → IsPart part → c ∷ cs ≡ part ++ behind → IsApart part behind → length part ≡ prefix_len goes_on_word (c ∷ cs)
 word-length c cs part behind h p e apart = by_head (head-of c cs part behind p e)
   where
-    by_head : Head c part → length part ≡ prefix_len goes_on_name (c ∷ cs)
+    by_head : Head c part → length part ≡ prefix_len goes_on_word (c ∷ cs)
     by_head (mark_head m k) = absurd (mark-no_word c m h)
     by_head (sigil_head s) = absurd (sigil-no_word c s h)
-    by_head (quote_head q) = absurd (false≢true (subst (λ x. goes_on_name x ≡ true) q h))
+    by_head (quote_head q) = absurd (false≢true (subst (λ x. goes_on_word x ≡ true) q h))
     by_head (word_head g w) =
         let stops : begins_word behind ≡ false = elim (and_cases (ends_word part) (begins_word behind) apart) [
           | inl k ↦ absurd (false≢true (sym k ∙ ends_word-run part w.0 w.1))
           | inr k ↦ k
         ] in
-        sym (ap (prefix_len goes_on_name) e ∙ prefix_len-run goes_on_name part behind w.1 (sym (begins-same behind) ∙ stops))
+        sym (ap (prefix_len goes_on_word) e ∙ prefix_len-run goes_on_word part behind w.1 (sym (begins-same behind) ∙ stops))
 
 mark-length : (c : ℕ) (cs part behind : List ℕ) → is_mark c ≡ true → IsPart part → c ∷ cs ≡ part ++ behind → length part ≡ 1
 mark-length c cs part behind h p e = by_head (head-of c cs part behind p e)
@@ -241,16 +241,16 @@ mark-length c cs part behind h p e = by_head (head-of c cs part behind p e)
     by_head (word_head g w) = absurd (mark-no_word c h g)
 
 -- the longest run of the class is a part
-pub word_is_first : (c : ℕ) (cs : List ℕ) (n : ℕ) → goes_on_name c ≡ true → n ≡ prefix_len goes_on_name (c ∷ cs) → IsFirst (c ∷ cs) n
+pub word_is_first : (c : ℕ) (cs : List ℕ) (n : ℕ) → goes_on_word c ≡ true → n ≡ prefix_len goes_on_word (c ∷ cs) → IsFirst (c ∷ cs) n
 word_is_first c cs n h e =
     let xs : List ℕ = c ∷ cs in
-    let more : prefix_len goes_on_name xs ≡ 1 + prefix_len goes_on_name cs = ap (λ b. cond b (1 + prefix_len goes_on_name cs) 0) h in
-    let fits : n ≤ length xs = omega (arith, prefix_len-le-length goes_on_name xs) in
+    let more : prefix_len goes_on_word xs ≡ 1 + prefix_len goes_on_word cs = ap (λ b. cond b (1 + prefix_len goes_on_word cs) 0) h in
+    let fits : n ≤ length xs = omega (arith, prefix_len-le-length goes_on_word xs) in
     let size : length (take n xs) ≡ n = omega (arith, length-take n xs) in
     record {
       fits = fits;
-      part = a_word (omega arith, subst (λ m. list_all goes_on_name (take m xs) ≡ true) (sym e) (list_all-run goes_on_name xs));
-      apart = subst (λ b. (ends_word (take n xs) && b) ≡ false) (sym (begins-same (drop n xs) ∙ ap (λ m. begins_by goes_on_name (drop m xs)) e ∙ run-ends goes_on_name xs)) (and-false (ends_word (take n xs)));
+      part = a_word (omega arith, subst (λ m. list_all goes_on_word (take m xs) ≡ true) (sym e) (list_all-run goes_on_word xs));
+      apart = subst (λ b. (ends_word (take n xs) && b) ≡ false) (sym (begins-same (drop n xs) ∙ ap (λ m. begins_by goes_on_word (drop m xs)) e ∙ run-ends goes_on_word xs)) (and-false (ends_word (take n xs)));
       only = λ part behind p w apart. take-whole xs part behind w ∙ ap (λ m. take m xs) (word-length c cs part behind h p w apart ∙ sym e);
     }
   where
@@ -262,22 +262,22 @@ pub mark_is_first : (c : ℕ) (cs : List ℕ) → is_mark c ≡ true → IsFirst
 mark_is_first c cs h = record {
   fits = omega arith;
   part = a_mark (record { mark = c; whole = refl; is = h });
-  apart = and_left (goes_on_name c) (begins_word cs) (elim (cases_Bool (goes_on_name c)) [ inl g ↦ absurd (mark-no_word c h g) | inr g ↦ g ]);
+  apart = and_left (goes_on_word c) (begins_word cs) (elim (cases_Bool (goes_on_word c)) [ inl g ↦ absurd (mark-no_word c h g) | inr g ↦ g ]);
   only = λ part behind p w apart. take-whole (c ∷ cs) part behind w ∙ ap (λ m. take m (c ∷ cs)) (mark-length c cs part behind h p w);
 }
 
-pub word_first-text : (text : List ℕ) (n : ℕ) → n ≡ prefix_len goes_on_name text → 0 < n → IsFirst text n
+pub word_first-text : (text : List ℕ) (n : ℕ) → n ≡ prefix_len goes_on_word text → 0 < n → IsFirst text n
 word_first-text [] n e positive = absurd (omega arith)
-word_first-text (c ∷ cs) n e positive = elim (cases_Bool (goes_on_name c)) [
+word_first-text (c ∷ cs) n e positive = elim (cases_Bool (goes_on_word c)) [
   | inl g ↦ word_is_first c cs n g e
-  | inr g ↦ absurd (let none : prefix_len goes_on_name (c ∷ cs) ≡ 0 = ap (λ b. cond b (1 + prefix_len goes_on_name cs) 0) g in omega arith)
+  | inr g ↦ absurd (let none : prefix_len goes_on_word (c ∷ cs) ≡ 0 = ap (λ b. cond b (1 + prefix_len goes_on_word cs) 0) g in omega arith)
 ]
 
 pub mark_first-text : (text : List ℕ) → 0 < length text → is_mark (get_or text 0 0) ≡ true → IsFirst text 1
 mark_first-text [] h m = absurd (omega arith)
 mark_first-text (c ∷ cs) h m = mark_is_first c cs m
 
-pub no_word-text : (text : List ℕ) (n : ℕ) → 0 < length text → n ≡ prefix_len goes_on_name text → n ≡ 0 → is_mark (get_or text 0 0) ≡ false → is_sigil (get_or text 0 0) ≡ false → get_or text 0 0 ≢ 34 → HasNoFirst text
+pub no_word-text : (text : List ℕ) (n : ℕ) → 0 < length text → n ≡ prefix_len goes_on_word text → n ≡ 0 → is_mark (get_or text 0 0) ≡ false → is_sigil (get_or text 0 0) ≡ false → get_or text 0 0 ≢ 34 → HasNoFirst text
 no_word-text [] n long e z m s q part behind p w apart = absurd (omega arith)
 no_word-text (c ∷ cs) n long e z m s q part behind p w apart = by_head (head-of c cs part behind p w)
   where
@@ -286,5 +286,5 @@ no_word-text (c ∷ cs) n long e z m s q part behind p w apart = by_head (head-o
     by_head (sigil_head k) = false≢true (sym s ∙ k)
     by_head (quote_head k) = q k
     by_head (word_head g k) =
-        let more : prefix_len goes_on_name (c ∷ cs) ≡ 1 + prefix_len goes_on_name cs = ap (λ b. cond b (1 + prefix_len goes_on_name cs) 0) g in
+        let more : prefix_len goes_on_word (c ∷ cs) ≡ 1 + prefix_len goes_on_word cs = ap (λ b. cond b (1 + prefix_len goes_on_word cs) 0) g in
         omega arith

@@ -7,6 +7,7 @@ use Rattle.std.proofs.lemmas.List.{take-append-drop, length-take, take_all}
 use Rattle.std.proofs.Math.Seq.{take-append_seam}
 use Rattle.std.proofs.lemmas.Bool.Decides.{eqb_tells}
 use Rattle.psg_deflines.specs.Parts.{texts}
+use Rattle.psg_deflines.specs.Versions.{is_of}
 use Rattle.psg_deflines.specs.Entries.{IsSkipped, IsLineBehind, IsEntry, Entry, written, AreEntries, IsPlain, takes_rows, takes_cases}
 use Rattle.psg_deflines.specs.EntryReads.{is_operator, cases_behind, rows_after, cases_after, IsPlainEntry, IsEntryRead, AreEntriesRead}
 use Rattle.psg_deflines.specs.Refusals.{IsFirstOf, PassesForm, form_codes, HasFormFault}
@@ -68,7 +69,7 @@ snoc-split above (u ∷ ts) t (e ∷ es) h =
 rows-more : (above : List Line) (line : Line) → takes_rows (above ++ line ∷ []) ≡ (takes_rows above || is_operator line)
 rows-more [] (lines_of.Operator n k s l ms) = refl
 rows-more [] (lines_of.Sort d) = refl
-rows-more [] (lines_of.Entity s) = refl
+rows-more [] (lines_of.Space spot s) = refl
 rows-more [] (lines_of.Phylum n s b) = refl
 rows-more [] (lines_of.List n s e w l u) = refl
 rows-more [] (lines_of.Row t ts) = refl
@@ -76,10 +77,10 @@ rows-more [] (lines_of.Nil n t) = refl
 rows-more [] (lines_of.Cell n t u v) = refl
 rows-more [] (lines_of.Hole n t w) = refl
 rows-more [] (lines_of.Case t w) = refl
-rows-more [] (lines_of.Declare n t u w) = refl
+rows-more [] (lines_of.Declare spot n t u w) = refl
 rows-more (lines_of.Operator n k s l ms ∷ above) line = refl
 rows-more (lines_of.Sort d ∷ above) line = rows-more above line
-rows-more (lines_of.Entity s ∷ above) line = rows-more above line
+rows-more (lines_of.Space spot s ∷ above) line = rows-more above line
 rows-more (lines_of.Phylum n s b ∷ above) line = rows-more above line
 rows-more (lines_of.List n s e w l u ∷ above) line = rows-more above line
 rows-more (lines_of.Row t ts ∷ above) line = rows-more above line
@@ -87,21 +88,21 @@ rows-more (lines_of.Nil n t ∷ above) line = rows-more above line
 rows-more (lines_of.Cell n t u v ∷ above) line = rows-more above line
 rows-more (lines_of.Hole n t w ∷ above) line = rows-more above line
 rows-more (lines_of.Case t w ∷ above) line = rows-more above line
-rows-more (lines_of.Declare n t u w ∷ above) line = rows-more above line
+rows-more (lines_of.Declare spot n t u w ∷ above) line = rows-more above line
 
 cases-one : (so_far : Bool) (line : Line) → takes_cases so_far (line ∷ []) ≡ cases_behind so_far line
 cases-one so_far (lines_of.Hole n t None) = refl
 cases-one so_far (lines_of.Hole n t (Some w)) = refl
 cases-one so_far (lines_of.Operator n k s l ms) = refl
 cases-one so_far (lines_of.Sort d) = refl
-cases-one so_far (lines_of.Entity s) = refl
+cases-one so_far (lines_of.Space spot s) = refl
 cases-one so_far (lines_of.Phylum n s b) = refl
 cases-one so_far (lines_of.List n s e w l u) = refl
 cases-one so_far (lines_of.Row t ts) = refl
 cases-one so_far (lines_of.Nil n t) = refl
 cases-one so_far (lines_of.Cell n t u v) = refl
 cases-one so_far (lines_of.Case t w) = refl
-cases-one so_far (lines_of.Declare n t u w) = refl
+cases-one so_far (lines_of.Declare spot n t u w) = refl
 
 cases-more : (so_far : Bool) (above : List Line) (line : Line) → takes_cases so_far (above ++ line ∷ []) ≡ cases_behind (takes_cases so_far above) line
 cases-more so_far [] line = cases-one so_far line
@@ -109,14 +110,14 @@ cases-more so_far (lines_of.Hole n t None ∷ above) line = cases-more true abov
 cases-more so_far (lines_of.Hole n t (Some w) ∷ above) line = cases-more false above line
 cases-more so_far (lines_of.Operator n k s l ms ∷ above) line = cases-more so_far above line
 cases-more so_far (lines_of.Sort d ∷ above) line = cases-more so_far above line
-cases-more so_far (lines_of.Entity s ∷ above) line = cases-more so_far above line
+cases-more so_far (lines_of.Space spot s ∷ above) line = cases-more so_far above line
 cases-more so_far (lines_of.Phylum n s b ∷ above) line = cases-more so_far above line
 cases-more so_far (lines_of.List n s e w l u ∷ above) line = cases-more so_far above line
 cases-more so_far (lines_of.Row t ts ∷ above) line = cases-more so_far above line
 cases-more so_far (lines_of.Nil n t ∷ above) line = cases-more so_far above line
 cases-more so_far (lines_of.Cell n t u v ∷ above) line = cases-more so_far above line
 cases-more so_far (lines_of.Case t w ∷ above) line = cases-more so_far above line
-cases-more so_far (lines_of.Declare n t u w ∷ above) line = cases-more so_far above line
+cases-more so_far (lines_of.Declare spot n t u w ∷ above) line = cases-more so_far above line
 
 rows-entry : (es : List Entry) (e : Entry) → takes_rows (written (es ++ e ∷ [])) ≡ rows_after (takes_rows (written es)) e
 rows-entry es None = ap takes_rows (written-append es (None ∷ []) ∙ append-nil (written es))
@@ -126,30 +127,30 @@ cases-entry : (es : List Entry) (e : Entry) → takes_cases false (written (es +
 cases-entry es None = ap (takes_cases false) (written-append es (None ∷ []) ∙ append-nil (written es))
 cases-entry es (Some line) = ap (takes_cases false) (written-append es (Some line ∷ [])) ∙ cases-more false (written es) line
 
-plain-entry : (es : List Entry) (e : Entry) → AllByRecursion IsPlain (written es) → IsPlainEntry e → AllByRecursion IsPlain (written (es ++ e ∷ []))
-plain-entry es None h p = subst (AllByRecursion IsPlain) (sym (written-append es (None ∷ []) ∙ append-nil (written es))) h
-plain-entry es (Some line) h p = subst (AllByRecursion IsPlain) (sym (written-append es (Some line ∷ []))) (all-more IsPlain (written es) line h p)
+plain-entry : (version : ℕ) (es : List Entry) (e : Entry) → AllByRecursion (IsPlain version) (written es) → IsPlainEntry version e → AllByRecursion (IsPlain version) (written (es ++ e ∷ []))
+plain-entry version es None h p = subst (AllByRecursion (IsPlain version)) (sym (written-append es (None ∷ []) ∙ append-nil (written es))) h
+plain-entry version es (Some line) h p = subst (AllByRecursion (IsPlain version)) (sym (written-append es (Some line ∷ []))) (all-more (IsPlain version) (written es) line h p)
 
 -- ---- a text that is read has no fault
 
-passes-all : (above : List Line) (text : List ℕ) (e : Entry) → IsOnly (IsEntry above text) e → IsPlainEntry e → (code : DefCode) → PassesForm above text code
-passes-all above text e o p codes_of.Form = by_entry e o.is
+passes-all : (version : ℕ) (above : List Line) (text : List ℕ) (e : Entry) → IsOnly (IsEntry above text) e → IsPlainEntry version e → (code : DefCode) → PassesForm version above text code
+passes-all version above text e o p codes_of.Form = by_entry e o.is p
   where
-    by_entry : (e : Entry) → IsEntry above text e → IsSkipped text ⊎ ((line : Line) × IsLineBehind above text line)
-    by_entry None h = inl h
-    by_entry (Some line) h = inr (line, h)
-passes-all above text e o p codes_of.Token = λ line h. (let same = o.only (Some line) h in (subst IsPlainEntry (sym same) p).words)
-passes-all above text e o p codes_of.Nested = λ line h. (let same = o.only (Some line) h in (subst IsPlainEntry (sym same) p).shallow)
-passes-all above text e o p codes_of.NotText = tt
-passes-all above text e o p codes_of.Version = tt
-passes-all above text e o p codes_of.Repeated = tt
-passes-all above text e o p codes_of.Unknown = tt
-passes-all above text e o p codes_of.Sort = tt
-passes-all above text e o p codes_of.Count = tt
-passes-all above text e o p codes_of.NoEntity = tt
-passes-all above text e o p codes_of.Later = tt
-passes-all above text e o p codes_of.NoGround = tt
-passes-all above text e o p codes_of.OneWide = tt
+    by_entry : (e : Entry) → IsEntry above text e → IsPlainEntry version e → IsSkipped text ⊎ ((line : Line) × IsLineBehind above text line × (is_of version line ≡ true))
+    by_entry None h k = inl h
+    by_entry (Some line) h k = inr (line, h, k.of_version)
+passes-all version above text e o p codes_of.Token = λ line h. (let same = o.only (Some line) h in (subst (IsPlainEntry version) (sym same) p).words)
+passes-all version above text e o p codes_of.Nested = λ line h. (let same = o.only (Some line) h in (subst (IsPlainEntry version) (sym same) p).shallow)
+passes-all version above text e o p codes_of.NotText = tt
+passes-all version above text e o p codes_of.Version = tt
+passes-all version above text e o p codes_of.Repeated = tt
+passes-all version above text e o p codes_of.Unknown = tt
+passes-all version above text e o p codes_of.Sort = tt
+passes-all version above text e o p codes_of.Count = tt
+passes-all version above text e o p codes_of.NoEntity = tt
+passes-all version above text e o p codes_of.Later = tt
+passes-all version above text e o p codes_of.NoGround = tt
+passes-all version above text e o p codes_of.OneWide = tt
 
 first-none : (Passes : DefCode → Type 0) → ((code : DefCode) → Passes code) → (cs : List DefCode) (code : DefCode) → IsFirstOf Passes cs code → ⊥
 first-none Passes all [] code h = h
@@ -158,16 +159,16 @@ first-none Passes all (c ∷ cs) code (inr h) = first-none Passes all cs code h.
 
 -- ---- the loop
 
-pub record IsReadUpTo (ts : List (List ℕ)) (i : ℕ) (entries : List Entry) (rows cases : Bool) : Type 0 where
+pub record IsReadUpTo (version : ℕ) (ts : List (List ℕ)) (i : ℕ) (entries : List Entry) (rows cases : Bool) : Type 0 where
   pub only : IsOnly (AreEntries [] (take i ts)) entries
-  pub plain : AllByRecursion IsPlain (written entries)
+  pub plain : AllByRecursion (IsPlain version) (written entries)
   pub rows_are : takes_rows (written entries) ≡ rows
   pub cases_are : takes_cases false (written entries) ≡ cases
   pub count : length entries ≡ i
-  pub clean : (fault : DefFault) (h : HasFormFault ts fault) → length h.front < i → ⊥
+  pub clean : (fault : DefFault) (h : HasFormFault version ts fault) → length h.front < i → ⊥
 
-pub read-start : (ts : List (List ℕ)) (entries : List Entry) → entries ≡ [] → IsReadUpTo ts 0 entries false false
-read-start ts entries e = subst (λ es. IsReadUpTo ts 0 es false false) (sym e) (record {
+pub read-start : (version : ℕ) (ts : List (List ℕ)) (entries : List Entry) → entries ≡ [] → IsReadUpTo version ts 0 entries false false
+read-start version ts entries e = subst (λ es. IsReadUpTo version ts 0 es false false) (sym e) (record {
   only = record { is = tt; only = λ z h. nothing z h };
   plain = tt;
   rows_are = refl;
@@ -197,16 +198,16 @@ get-same [] i a b h = absurd (omega arith)
 get-same (t ∷ ts) zero a b h = refl
 get-same (t ∷ ts) (suc i) a b h = get-same ts i a b (omega arith)
 
-pub read-next : (ts : List (List ℕ)) (i : ℕ) (t : List ℕ) (entries new : List Entry) (rows cases : Bool) (e : Entry) → i < length ts → t ≡ get_or ts i t → IsReadUpTo ts i entries rows cases
-    → IsEntryRead (written entries) t (reads.Found e) → new ≡ entries ++ e ∷ [] → IsReadUpTo ts (i + 1) new (rows_after rows e) (cases_after cases e)
-read-next ts i t entries new rows cases e l at h r added =
+pub read-next : (version : ℕ) (ts : List (List ℕ)) (i : ℕ) (t : List ℕ) (entries new : List Entry) (rows cases : Bool) (e : Entry) → i < length ts → t ≡ get_or ts i t → IsReadUpTo version ts i entries rows cases
+    → IsEntryRead version (written entries) t (reads.Found e) → new ≡ entries ++ e ∷ [] → IsReadUpTo version ts (i + 1) new (rows_after rows e) (cases_after cases e)
+read-next version ts i t entries new rows cases e l at h r added =
     let grown : take (i + 1) ts ≡ take i ts ++ t ∷ [] = take-next ts i t l at in
-    subst (λ es. IsReadUpTo ts (i + 1) es (rows_after rows e) (cases_after cases e)) (sym added) (record {
+    subst (λ es. IsReadUpTo version ts (i + 1) es (rows_after rows e) (cases_after cases e)) (sym added) (record {
       only = record {
         is = subst (λ xs. AreEntries [] xs (entries ++ e ∷ [])) (sym grown) (snoc-sound [] (take i ts) t entries e h.only.is r.0.is);
         only = λ whole k. others whole (snoc-split [] (take i ts) t whole (subst (λ xs. AreEntries [] xs whole) grown k));
       };
-      plain = plain-entry entries e h.plain r.1;
+      plain = plain-entry version entries e h.plain r.1;
       rows_are = rows-entry entries e ∙ ap (λ b. rows_after b e) h.rows_are;
       cases_are = cases-entry entries e ∙ ap (λ b. cases_after b e) h.cases_are;
       count = omega (arith, length-append entries (e ∷ []), h.count);
@@ -222,19 +223,19 @@ read-next ts i t entries new rows cases e l at h r added =
     before : (m n : ℕ) → m < n + 1 → (m < n) ⊎ (m ≡ n)
     before m n k = elim (eqb_tells m n) [ inl x ↦ inr x.1 | inr x ↦ inl (omega (arith, x.1)) ]
 
-    by_place : (fault : DefFault) (f : HasFormFault ts fault) → (length f.front < i) ⊎ (length f.front ≡ i) → ⊥
+    by_place : (fault : DefFault) (f : HasFormFault version ts fault) → (length f.front < i) ⊎ (length f.front ≡ i) → ⊥
     by_place fault f (inl m) = h.clean fault f m
     by_place fault f (inr m) =
         let place = front-is ts f.front f.text f.behind f.split in
         let front : f.front ≡ take i ts = place.0 ∙ ap (λ n. take n ts) m in
         let text : f.text ≡ t = place.1 ∙ ap (λ n. get_or ts n f.text) m ∙ get-same ts i f.text t l ∙ sym at in
         let same : f.entries ≡ entries = h.only.only f.entries (subst (λ xs. AreEntries [] xs f.entries) front f.each) in
-        first-none (PassesForm (written entries) t) (passes-all (written entries) t e r.0 r.1) form_codes fault.code
-        (subst (λ x. IsFirstOf (PassesForm (written entries) x) form_codes fault.code) text (subst (λ x. IsFirstOf (PassesForm (written x) f.text) form_codes fault.code) same f.first))
+        first-none (PassesForm version (written entries) t) (passes-all version (written entries) t e r.0 r.1) form_codes fault.code
+        (subst (λ x. IsFirstOf (PassesForm version (written entries) x) form_codes fault.code) text (subst (λ x. IsFirstOf (PassesForm version (written x) f.text) form_codes fault.code) same f.first))
 
-pub read-fault : (ts : List (List ℕ)) (i : ℕ) (t : List ℕ) (entries : List Entry) (rows cases : Bool) (fault : DefFault) → i < length ts → t ≡ get_or ts i t → IsReadUpTo ts i entries rows cases
-    → IsEntryRead (written entries) t (reads.Fault fault.code) → fault.line ≡ length entries + 2 → HasFormFault ts fault
-read-fault ts i t entries rows cases fault l at h r place = record {
+pub read-fault : (version : ℕ) (ts : List (List ℕ)) (i : ℕ) (t : List ℕ) (entries : List Entry) (rows cases : Bool) (fault : DefFault) → i < length ts → t ≡ get_or ts i t → IsReadUpTo version ts i entries rows cases
+    → IsEntryRead version (written entries) t (reads.Fault fault.code) → fault.line ≡ length entries + 2 → HasFormFault version ts fault
+read-fault version ts i t entries rows cases fault l at h r place = record {
   front = take i ts;
   text = t;
   behind = drop (i + 1) ts;
@@ -246,8 +247,8 @@ read-fault ts i t entries rows cases fault l at h r place = record {
   place = omega (arith, place, h.count, length-take i ts);
 }
 
-pub read-all : (ts : List (List ℕ)) (i : ℕ) (entries : List Entry) (rows cases : Bool) → length ts ≤ i → IsReadUpTo ts i entries rows cases → AreEntriesRead ts entries
-read-all ts i entries rows cases l h = record {
+pub read-all : (version : ℕ) (ts : List (List ℕ)) (i : ℕ) (entries : List Entry) (rows cases : Bool) → length ts ≤ i → IsReadUpTo version ts i entries rows cases → AreEntriesRead version ts entries
+read-all version ts i entries rows cases l h = record {
   only = subst (λ xs. IsOnly (AreEntries [] xs) entries) (take_all i ts l) h.only;
   plain = h.plain;
   clean = λ fault f. h.clean fault f (omega (arith, (front-is ts f.front f.text f.behind f.split).2));

@@ -1,5 +1,5 @@
 -- A line that a text spells has the text's parts.
-use Rattle.std.proofs.Common.{◌≡◌, ◌==◌, ◌&&◌, ◌||◌, nat_le, ℕ, ◌+◌, ◌<◌, Bool, true, false, cond, zero, suc, List, [], ◌∷◌, ◌++◌, length, map, codes, refl, sym, subst, arith}
+use Rattle.std.proofs.Common.{◌≡◌, ◌==◌, ◌&&◌, ◌||◌, nat_le, ℕ, ◌+◌, ◌<◌, Bool, true, false, cond, zero, suc, List, [], ◌∷◌, ◌++◌, length, length-append, map, codes, refl, sym, subst, arith}
 use Rattle.std.specs.Prelude.{Option, Some, None}
 use Rattle.std.specs.List.{AllByRecursion, list_all}
 use Rattle.std.proofs.lemmas.Bool.{and_parts, and_from, or_left, or_right, false≢true}
@@ -11,9 +11,9 @@ use Rattle.psg_grammar.specs.declared.types.Level.TheVariants as levels
 use Rattle.psg_deflines.specs.WrittenTerms.{WrittenTerm, variable, named, apply, term_parts, opened, is_variable_name, HasTermForm}
 use Rattle.psg_deflines.specs.WrittenTrees as trees
 use Rattle.psg_deflines.specs.WrittenTrees.{WrittenTree, operator, with_tree, with_name, with_number, with_text, list_end, list_rest, element, place, tree_parts, follow, place_parts, HasTreeForm, quoted_part, IsQuotable, is_digits}
-use Rattle.psg_deflines.specs.Written.{IsWritten}
+use Rattle.psg_deflines.specs.Written.{IsWritten, goes_on_word}
 use Rattle.psg_deflines.specs.Parts.{IsPart, a_word, a_mark, a_sigil, a_quoted, HasParts, HasNoParts, is_mark}
-use Rattle.psg_deflines.specs.Forms.{closed_names, argument_parts, constructor_parts, word_if, level_parts, item_part, terms_parts, columns_parts, by_parts, parts_of, HasConstructorForm, HasItemForm, HasFormBehindBy, HasForm, SpellsLine}
+use Rattle.psg_deflines.specs.Forms.{closed_names, argument_parts, constructor_parts, word_if, level_parts, item_part, terms_parts, columns_parts, by_parts, parts_of, HasConstructorForm, HasItemForm, HasFormBehindBy, HasForm, SpellsLine, IsSpaceName, tag}
 use Rattle.psg_deflines.specs.FormReads.{IsForm}
 use Rattle.psg_deflines.specs.Only.{IsOnly}
 use Rattle.psg_deflines.specs.declared.lines.LineItem.{LineItem}
@@ -29,8 +29,38 @@ join : (ps qs : Parts) → All ps → All qs → All (ps ++ qs)
 join [] qs h k = k
 join (p ∷ ps) qs h k = (h.0, join ps qs h.1 k)
 
-word : (w : List ℕ) → 0 < length w → list_all goes_on_name w ≡ true → IsPart w
+word : (w : List ℕ) → 0 < length w → list_all goes_on_word w ≡ true → IsPart w
 word w h k = a_word (h, k)
+
+-- what goes on a name goes on a word
+pub names-go_on : (w : List ℕ) → list_all goes_on_name w ≡ true → list_all goes_on_word w ≡ true
+names-go_on [] h = refl
+names-go_on (c ∷ cs) h =
+    let both = and_parts (goes_on_name c) (list_all goes_on_name cs) h in
+    and_from (goes_on_word c) (list_all goes_on_word cs) (or_left (goes_on_name c) (c == 64) both.0) (names-go_on cs both.1)
+
+name : (w : List ℕ) → 0 < length w → list_all goes_on_name w ≡ true → IsPart w
+name w h k = word w h (names-go_on w k)
+
+own-go_on : (n : List ℕ) → IsOwnName n → list_all goes_on_name n ≡ true
+own-go_on [] h = absurd (false≢true h)
+own-go_on (c ∷ cs) h =
+    let first = and_parts (is_lower c && list_all goes_on_name cs) (nat_le (length cs) 63) h in
+    let both = and_parts (is_lower c) (list_all goes_on_name cs) first.0 in
+    and_from (goes_on_name c) (list_all goes_on_name cs)
+    (or_left ((is_upper c || is_lower c) || is_digit c) (c == 95) (or_left (is_upper c || is_lower c) (is_digit c) (or_right (is_upper c) (is_lower c) both.0))) both.1
+
+go-on : (v w : List ℕ) → list_all goes_on_word v ≡ true → list_all goes_on_word w ≡ true → list_all goes_on_word (v ++ w) ≡ true
+go-on [] w h k = k
+go-on (c ∷ cs) w h k = let both = and_parts (goes_on_word c) (list_all goes_on_word cs) h in and_from (goes_on_word c) (list_all goes_on_word (cs ++ w)) both.0 (go-on cs w both.1 k)
+
+tag-goes_on : (n : List ℕ) → IsSpaceName n → list_all goes_on_word (tag n) ≡ true
+tag-goes_on [] h = refl
+tag-goes_on (c ∷ cs) h = names-go_on (c ∷ cs) (own-go_on (c ∷ cs) h)
+
+-- a word with the name of a space
+tagged : (w n : List ℕ) → 0 < length w → list_all goes_on_word w ≡ true → IsSpaceName n → IsPart (w ++ tag n)
+tagged w n h k s = word (w ++ tag n) (omega (arith, h, length-append w (tag n))) (go-on w (tag n) k (tag-goes_on n s))
 
 mark : (c : ℕ) → is_mark c ≡ true → IsPart (c ∷ [])
 mark c h = a_mark (record { mark = c; whole = refl; is = h })
@@ -40,18 +70,13 @@ kind_name-part [] h = absurd (false≢true h)
 kind_name-part (c ∷ cs) h =
     let first = and_parts (is_upper c && list_all goes_on_name cs) (nat_le (length cs) 63) h in
     let both = and_parts (is_upper c) (list_all goes_on_name cs) first.0 in
-    word (c ∷ cs) (omega arith)
+    name (c ∷ cs) (omega arith)
     (and_from (goes_on_name c) (list_all goes_on_name cs)
     (or_left ((is_upper c || is_lower c) || is_digit c) (c == 95) (or_left (is_upper c || is_lower c) (is_digit c) (or_left (is_upper c) (is_lower c) both.0))) both.1)
 
 own_name-part : (n : List ℕ) → IsOwnName n → IsPart n
 own_name-part [] h = absurd (false≢true h)
-own_name-part (c ∷ cs) h =
-    let first = and_parts (is_lower c && list_all goes_on_name cs) (nat_le (length cs) 63) h in
-    let both = and_parts (is_lower c) (list_all goes_on_name cs) first.0 in
-    word (c ∷ cs) (omega arith)
-    (and_from (goes_on_name c) (list_all goes_on_name cs)
-    (or_left ((is_upper c || is_lower c) || is_digit c) (c == 95) (or_left (is_upper c || is_lower c) (is_digit c) (or_right (is_upper c) (is_lower c) both.0))) both.1)
+own_name-part (c ∷ cs) h = name (c ∷ cs) (omega arith) (own-go_on (c ∷ cs) h)
 
 digit-goes_on : (c : ℕ) → is_digit c ≡ true → goes_on_name c ≡ true
 digit-goes_on c h = or_left ((is_upper c || is_lower c) || is_digit c) (c == 95) (or_right (is_upper c || is_lower c) (is_digit c) h)
@@ -62,7 +87,7 @@ digits-go_on (c ∷ cs) h = let both = and_parts (is_digit c) (list_all is_digit
 
 digits-part : (d : List ℕ) → is_digits d ≡ true → IsPart d
 digits-part [] h = absurd (false≢true h)
-digits-part (c ∷ cs) h = word (c ∷ cs) (omega arith) (digits-go_on (c ∷ cs) h)
+digits-part (c ∷ cs) h = name (c ∷ cs) (omega arith) (digits-go_on (c ∷ cs) h)
 
 variable-part : (n : List ℕ) → is_variable_name n ≡ true → IsPart (63 ∷ n)
 variable-part [] h = absurd (false≢true h)
@@ -184,8 +209,8 @@ level-all (levels.InfixNone n) h = (word (codes "infix") (omega arith) refl, (bi
 item-all : (i : LineItem) → HasItemForm i → IsPart (item_part i)
 item-all (items.Word w) h = quoted w h
 item-all (items.Slot k) h = kind_name-part k h
-item-all items.Refers h = word (codes "refers") (omega arith) refl
-item-all items.Declares h = word (codes "declares") (omega arith) refl
+item-all (items.Refers n) h = tagged (codes "refers") n (omega arith) refl h
+item-all (items.Declares n) h = tagged (codes "declares") n (omega arith) refl h
 item-all items.Number h = word (codes "number") (omega arith) refl
 item-all items.Text h = word (codes "text") (omega arith) refl
 item-all items.Space h = word (codes "space") (omega arith) refl
@@ -204,7 +229,9 @@ layout-all false v w h k = k
 
 pub line-parts : (line : Line) → HasForm line → All (parts_of line)
 line-parts (lines.Sort d) h = (word (codes "sort") (omega arith) refl, (kind_name-part d.name h.0, (mark 61 refl, cons-all d.constructors h.2)))
-line-parts (lines.Entity sort) h = (word (codes "entity") (omega arith) refl, (kind_name-part sort h, tt))
+line-parts (lines.Space [] sort) h = (word (codes "entity") (omega arith) refl, (kind_name-part sort h.1, tt))
+line-parts (lines.Space (c ∷ cs) sort) h =
+    (word (codes "space") (omega arith) refl, (own_name-part (c ∷ cs) h.0, (mark 58 refl, (kind_name-part sort h.1, tt))))
 line-parts (lines.Phylum n s b) h =
     (word (codes "phylum") (omega arith) refl, (kind_name-part n h.0, (mark 58 refl, (kind_name-part s h.1, word_if-all b (codes "bracketed") (word (codes "bracketed") (omega arith) refl)))))
 line-parts (lines.List n s e w l u) h = (
@@ -251,8 +278,8 @@ line-parts (lines.Cell n t u v) h =
     (word (codes "cell") (omega arith) refl, (kind_name-part n h.0, join (term_parts t) _ (term-all t h.1).whole (mark 58 refl, join (term_parts u) (term_parts v) (term-all u h.2).whole (term-all v h.3).whole)))
 line-parts (lines.Hole n t w) h = (word (codes "hole") (omega arith) refl, (kind_name-part n h.0, join (term_parts t) (by_parts w) (term-all t h.1).whole (by-all w h.2)))
 line-parts (lines.Case t w) h = (word (codes "case") (omega arith) refl, join (term_parts t) (by_parts (Some w)) (term-all t h.0).whole (by-all (Some w) h.1))
-line-parts (lines.Declare n t u w) h =
-    (word (codes "declare") (omega arith) refl, (kind_name-part n h.0, join (term_parts t) _ (term-all t h.1).whole (mark 58 refl, join (term_parts u) (by_parts (Some w)) (term-all u h.2).whole (by-all (Some w) h.3))))
+line-parts (lines.Declare spot n t u w) h =
+    (tagged (codes "declare") spot (omega arith) refl h.0, (kind_name-part n h.1, join (term_parts t) _ (term-all t h.2).whole (mark 58 refl, join (term_parts u) (by_parts (Some w)) (term-all u h.3).whole (by-all (Some w) h.4))))
 
 -- ---- what a text spells
 

@@ -6,7 +6,7 @@ use Rattle.psg_terms.specs.Names.{Name}
 use Rattle.psg_grammar.specs.Sound.{IsKindName}
 use Rattle.psg_deflines.specs.WrittenTerms.{WrittenTerm, term_parts, HasTermForm, IsShallowTerm}
 use Rattle.psg_deflines.specs.WrittenTrees.{WrittenTree}
-use Rattle.psg_deflines.specs.Forms.{terms_parts, columns_parts, by_parts, HasForm, HasFormBehindBy}
+use Rattle.psg_deflines.specs.Forms.{terms_parts, columns_parts, by_parts, tag, IsSpaceName, HasForm, HasFormBehindBy}
 use Rattle.psg_deflines.specs.TermWalks.{Parts, IsKept}
 use Rattle.psg_deflines.specs.FormReads.{IsForm, HasNoForm}
 use Rattle.psg_deflines.specs.TailReads.{AreKept, IsTail, IsTailFound, HasNoTail, IsNamedTail, HasNoNamedTail}
@@ -181,47 +181,47 @@ module _ (n : Name) (ps : Parts) where
 
   -- ---- declare rows
 
-  declare-tail : (line : Line) → IsForm (codes "declare" ∷ n ∷ ps) line → (t u : WrittenTerm) × (w : WrittenTree) × (line ≡ lines.Declare n t u w) × IsTail 1 ps t (u ∷ []) (Some w)
-  declare-tail line h = by_line line (declare-inverse (n ∷ ps) line h.written) h.form
+  declare-tail : (spot : Name) (line : Line) → IsForm ((codes "declare" ++ tag spot) ∷ n ∷ ps) line → (t u : WrittenTerm) × (w : WrittenTree) × (line ≡ lines.Declare spot n t u w) × IsTail 1 ps t (u ∷ []) (Some w)
+  declare-tail spot line h = by_line line (declare-inverse spot (n ∷ ps) line h.written) h.form
     where
-      by_line : (line : Line) → Is_declare (n ∷ ps) line → HasForm line → (t u : WrittenTerm) × (w : WrittenTree) × (line ≡ lines.Declare n t u w) × IsTail 1 ps t (u ∷ []) (Some w)
+      by_line : (line : Line) → Is_declare spot (n ∷ ps) line → HasForm line → (t u : WrittenTerm) × (w : WrittenTree) × (line ≡ lines.Declare spot n t u w) × IsTail 1 ps t (u ∷ []) (Some w)
       by_line _ (declare_line m t u w e) form = (
         t,
         u,
         w,
-        ap (λ x. lines.Declare x t u w) (sym (ap first_of e)),
+        ap (λ x. lines.Declare spot x t u w) (sym (ap first_of e)),
         record {
-          head = form.1;
-          columns = (form.2, tt);
-          specimen = form.3;
+          head = form.2;
+          columns = (form.3, tt);
+          specimen = form.4;
           written = ap rest_of e ∙ ap (λ x. term_parts t ++ (codes ":" ∷ (x ++ by_parts (Some w)))) (sym (append-nil (term_parts u)));
           few = omega arith;
           full = inr (inl refl);
         },
       )
 
-  pub declare-short : (tail : Tail) (h : IsTailFound 1 ps tail) → (length h.columns ≡ 1 → ⊥) → HasNoForm (codes "declare" ∷ n ∷ ps)
-  declare-short tail h other line k = let r = declare-tail line k in other (sym (ap length (h.only r.0 (r.1 ∷ []) (Some r.2) r.4).1))
+  pub declare-short : (spot : Name) (tail : Tail) (h : IsTailFound 1 ps tail) → (length h.columns ≡ 1 → ⊥) → HasNoForm ((codes "declare" ++ tag spot) ∷ n ∷ ps)
+  declare-short spot tail h other line k = let r = declare-tail spot line k in other (sym (ap length (h.only r.0 (r.1 ∷ []) (Some r.2) r.4).1))
 
-  pub declare-ended : (tail : Tail) (h : IsTailFound 1 ps tail) → h.specimen ≡ None → HasNoForm (codes "declare" ∷ n ∷ ps)
-  declare-ended tail h none line k = let r = declare-tail line k in let e : Some r.2 ≡ None = (h.only r.0 (r.1 ∷ []) (Some r.2) r.4).2 ∙ none in cc
+  pub declare-ended : (spot : Name) (tail : Tail) (h : IsTailFound 1 ps tail) → h.specimen ≡ None → HasNoForm ((codes "declare" ++ tag spot) ∷ n ∷ ps)
+  declare-ended spot tail h none line k = let r = declare-tail spot line k in let e : Some r.2 ≡ None = (h.only r.0 (r.1 ∷ []) (Some r.2) r.4).2 ∙ none in cc
 
-  pub declare-only : IsKindName n → (tail : Tail) (h : IsTailFound 1 ps tail) (u : WrittenTerm) (w : WrittenTree) → h.columns ≡ u ∷ [] → h.specimen ≡ Some w → IsOnly (IsForm (codes "declare" ∷ n ∷ ps)) (lines.Declare n h.head u w)
-  declare-only kind tail h u w one some = record {
+  pub declare-only : (spot : Name) → IsSpaceName spot → IsKindName n → (tail : Tail) (h : IsTailFound 1 ps tail) (u : WrittenTerm) (w : WrittenTree) → h.columns ≡ u ∷ [] → h.specimen ≡ Some w → IsOnly (IsForm ((codes "declare" ++ tag spot) ∷ n ∷ ps)) (lines.Declare spot n h.head u w)
+  declare-only spot named kind tail h u w one some = record {
     is = record {
-      form = (kind, h.is.head, (subst (AllByRecursion HasTermForm) one h.is.columns).0, subst HasFormBehindBy some h.is.specimen);
-      written = ap (λ x. codes "declare" ∷ n ∷ x) (
+      form = (named, kind, h.is.head, (subst (AllByRecursion HasTermForm) one h.is.columns).0, subst HasFormBehindBy some h.is.specimen);
+      written = ap (λ x. (codes "declare" ++ tag spot) ∷ n ∷ x) (
           ap (λ x. term_parts h.head ++ (codes ":" ∷ (x ++ by_parts (Some w)))) (sym (append-nil (term_parts u)))
           ∙ ap (λ x. term_parts h.head ++ (columns_parts x ++ by_parts (Some w))) (sym one) ∙ ap (λ x. term_parts h.head ++ (columns_parts h.columns ++ by_parts x)) (sym some) ∙ sym h.is.written
           );
     };
     only = λ line k. (
-        let r = declare-tail line k in
+        let r = declare-tail spot line k in
         let same = h.only r.0 (r.1 ∷ []) (Some r.2) r.4 in
         let columns : r.1 ∷ [] ≡ u ∷ [] = same.1 ∙ one in
         let tree : Some r.2 ≡ Some w = same.2 ∙ some in
         let head : r.0 ≡ h.head = same.0 in
-        let e : lines.Declare n r.0 r.1 r.2 ≡ lines.Declare n h.head u w = cc in
+        let e : lines.Declare spot n r.0 r.1 r.2 ≡ lines.Declare spot n h.head u w = cc in
         r.3 ∙ e
         );
   }
@@ -291,10 +291,10 @@ module _ (ps : Parts) where
       by_line : (line : Line) → Is_hole ps line → HasForm line → ⊥
       by_line _ (hole_line m t w e) form = none m t [] w (tail-in 0 m (term_parts t ++ by_parts w) t [] w e form.0 form.1 tt form.2 refl (omega arith) (inl refl))
 
-  pub declare-none : HasNoNamedTail 1 ps → HasNoForm (codes "declare" ∷ ps)
-  declare-none none line h = by_line line (declare-inverse ps line h.written) h.form
+  pub declare-none : (spot : Name) → HasNoNamedTail 1 ps → HasNoForm ((codes "declare" ++ tag spot) ∷ ps)
+  declare-none spot none line h = by_line line (declare-inverse spot ps line h.written) h.form
     where
-      by_line : (line : Line) → Is_declare ps line → HasForm line → ⊥
+      by_line : (line : Line) → Is_declare spot ps line → HasForm line → ⊥
       by_line _ (declare_line m t u w e) form =
-          none m t (u ∷ []) (Some w) (tail-in 1 m (term_parts t ++ (codes ":" ∷ (term_parts u ++ by_parts (Some w)))) t (u ∷ []) (Some w) e form.0 form.1 (form.2, tt) form.3
+          none m t (u ∷ []) (Some w) (tail-in 1 m (term_parts t ++ (codes ":" ∷ (term_parts u ++ by_parts (Some w)))) t (u ∷ []) (Some w) e form.1 form.2 (form.3, tt) form.4
           (ap (λ x. term_parts t ++ (codes ":" ∷ (x ++ by_parts (Some w)))) (sym (append-nil (term_parts u)))) (omega arith) (inr (inl refl)))

@@ -1,5 +1,5 @@
 -- What a form of a line of terms is read as.
-use Rattle.std.proofs.Common.{◌≡◌, ℕ, ◌≤◌, ◌==◌, ◌&&◌, Bool, true, false, cond, List, [], ◌∷◌, length, codes, inl, inr, refl, ap, sym, ◌∙◌, subst, arith}
+use Rattle.std.proofs.Common.{◌≡◌, ℕ, ◌≤◌, ◌==◌, ◌&&◌, Bool, true, false, cond, List, [], ◌∷◌, ◌++◌, length, codes, inl, inr, refl, ap, sym, ◌∙◌, subst, arith}
 use Rattle.std.specs.Prelude.{Option, Some, None, not, ◌⊎◌}
 use Rattle.std.specs.List.{AllByRecursion}
 use Rattle.std.proofs.lemmas.Bool.{and_cases, and_parts, eqb-true, false≢true, not-false, not-true}
@@ -8,7 +8,7 @@ use Rattle.psg_terms.specs.Names.{Name}
 use Rattle.psg_grammar.specs.Sound.{IsKindName}
 use Rattle.psg_deflines.specs.WrittenTerms.{WrittenTerm, IsShallowTerm}
 use Rattle.psg_deflines.specs.WrittenTrees.{WrittenTree, IsShallowTree}
-use Rattle.psg_deflines.specs.Forms.{IsShallowBehindBy}
+use Rattle.psg_deflines.specs.Forms.{IsShallowBehindBy, IsSpaceName, tag}
 use Rattle.psg_deflines.specs.TermWalks.{Parts}
 use Rattle.psg_deflines.specs.FormReads.{IsForm, HasNoForm}
 use Rattle.psg_deflines.specs.TailReads.{IsBehind, IsTailFound, is_nothing, specimen_of, tree_behind}
@@ -195,9 +195,9 @@ module _ (n : Name) (ps : Parts) (kind : IsKindName n) (tail : Tail) where
   declare-holds : (h : IsTailFound 1 ps tail) → ((tail.count == 1) && not (is_nothing tail.behind)) ≡ true → (length h.columns ≡ 1) × (is_nothing tail.behind ≡ false)
   declare-holds h e = let both = and_parts (tail.count == 1) (not (is_nothing tail.behind)) e in (sym h.count ∙ eqb-true tail.count 1 both.0, not-true (is_nothing tail.behind) both.1)
 
-  pub declare-kept : (h : IsTailFound 1 ps tail) → ((tail.count == 1) && not (is_nothing tail.behind)) ≡ true → (single : Option WrittenTerm) → IsSingle single → (x u : WrittenTerm) (w : WrittenTree) → tail.head ≡ Some x → single ≡ Some u → tree_behind tail.behind ≡ Some w
-      → IsFormRead (codes "declare" ∷ n ∷ ps) (reads.Read (lines.Declare n x u w))
-  declare-kept h e single p x u w f g i = elim (columns-case tail.columns) [
+  pub declare-kept : (spot : Name) → IsSpaceName spot → (h : IsTailFound 1 ps tail) → ((tail.count == 1) && not (is_nothing tail.behind)) ≡ true → (single : Option WrittenTerm) → IsSingle single → (x u : WrittenTerm) (w : WrittenTree) → tail.head ≡ Some x → single ≡ Some u → tree_behind tail.behind ≡ Some w
+      → IsFormRead ((codes "declare" ++ tag spot) ∷ n ∷ ps) (reads.Read (lines.Declare spot n x u w))
+  declare-kept spot named h e single p x u w f g i = elim (columns-case tail.columns) [
     | inl none ↦ absurd (let k : Some u ≡ None = sym g ∙ p.none none in cc)
     | inr found ↦
         let holds = declare-holds h e in
@@ -208,18 +208,18 @@ module _ (n : Name) (ps : Parts) (kind : IsKindName n) (tail : Tail) where
         let at : single ≡ Some one.0 = p.one one.0 (found.1 ∙ ap Some (b.0 ∙ one.1)) in
         let same : Some u ≡ Some one.0 = sym g ∙ at in
         let first : one.0 ≡ u = cc in
-        let line : lines.Declare n h.head one.0 w ≡ lines.Declare n x u w = ap (λ y. lines.Declare n y one.0 w) (sym a.0) ∙ ap (λ y. lines.Declare n x y w) first in
-        (subst (IsOnly (IsForm (codes "declare" ∷ n ∷ ps))) line (declare-only n ps kind tail h one.0 w one.1 t.0), (subst IsShallowTerm (sym a.0) a.1, subst IsShallowTerm first (subst (AllByRecursion IsShallowTerm) one.1 b.1).0, t.1))
+        let line : lines.Declare spot n h.head one.0 w ≡ lines.Declare spot n x u w = ap (λ y. lines.Declare spot n y one.0 w) (sym a.0) ∙ ap (λ y. lines.Declare spot n x y w) first in
+        (subst (IsOnly (IsForm ((codes "declare" ++ tag spot) ∷ n ∷ ps))) line (declare-only n ps spot named kind tail h one.0 w one.1 t.0), (subst IsShallowTerm (sym a.0) a.1, subst IsShallowTerm first (subst (AllByRecursion IsShallowTerm) one.1 b.1).0, t.1))
   ]
 
-  pub declare-deep : (h : IsTailFound 1 ps tail) → ((tail.count == 1) && not (is_nothing tail.behind)) ≡ true → (single : Option WrittenTerm) → IsSingle single → ((tail.head ≡ None) ⊎ (single ≡ None)) ⊎ (tree_behind tail.behind ≡ None)
-      → IsFormRead (codes "declare" ∷ n ∷ ps) reads.TooDeep
-  declare-deep h e single p lost =
+  pub declare-deep : (spot : Name) → IsSpaceName spot → (h : IsTailFound 1 ps tail) → ((tail.count == 1) && not (is_nothing tail.behind)) ≡ true → (single : Option WrittenTerm) → IsSingle single → ((tail.head ≡ None) ⊎ (single ≡ None)) ⊎ (tree_behind tail.behind ≡ None)
+      → IsFormRead ((codes "declare" ++ tag spot) ∷ n ∷ ps) reads.TooDeep
+  declare-deep spot named h e single p lost =
       let holds = declare-holds h e in
       let one = one-term h.columns holds.0 in
       let some = some-tree tail.behind h.specimen h.specimen_kept holds.1 in (
-        lines.Declare n h.head one.0 some.0,
-        declare-only n ps kind tail h one.0 some.0 one.1 some.1,
+        lines.Declare spot n h.head one.0 some.0,
+        declare-only n ps spot named kind tail h one.0 some.0 one.1 some.1,
         tt,
         λ s. elim lost [
           | inl (inl f) ↦ kept-none tail.head h.head f h.head_kept s.0
@@ -238,10 +238,10 @@ module _ (n : Name) (ps : Parts) (kind : IsKindName n) (tail : Tail) where
         ],
       )
 
-  pub declare-other : (h : IsTailFound 1 ps tail) → ((tail.count == 1) && not (is_nothing tail.behind)) ≡ false → HasNoForm (codes "declare" ∷ n ∷ ps)
-  declare-other h e = elim (and_cases (tail.count == 1) (not (is_nothing tail.behind)) e) [
-    | inl f ↦ declare-short n ps tail h (λ k. not-one tail.count (h.count ∙ k) f)
-    | inr f ↦ declare-ended n ps tail h (nothing-none tail.behind h.specimen h.specimen_kept (not-false (is_nothing tail.behind) f))
+  pub declare-other : (spot : Name) → (h : IsTailFound 1 ps tail) → ((tail.count == 1) && not (is_nothing tail.behind)) ≡ false → HasNoForm ((codes "declare" ++ tag spot) ∷ n ∷ ps)
+  declare-other spot h e = elim (and_cases (tail.count == 1) (not (is_nothing tail.behind)) e) [
+    | inl f ↦ declare-short n ps spot tail h (λ k. not-one tail.count (h.count ∙ k) f)
+    | inr f ↦ declare-ended n ps spot tail h (nothing-none tail.behind h.specimen h.specimen_kept (not-false (is_nothing tail.behind) f))
   ]
     where
       not-one : (m : ℕ) → m ≡ 1 → (m == 1) ≡ false → ⊥

@@ -1,6 +1,6 @@
 -- What the open operators and lists of a walk hold after a step.
-use Rattle.std.proofs.Common.{◌≡◌, ℕ, ◌+◌, ◌||◌, nat_le, Bool, true, false, cond, List, [], ◌∷◌, ◌++◌, map, length, length-append, inl, inr, refl, ap, ap₂, sym, ◌∙◌, subst, arith}
-use Rattle.std.specs.Prelude.{Option, Some, None, MatchOption, is_some, not, ◌⊎◌}
+use Rattle.std.proofs.Common.{◌≡◌, ℕ, ◌+◌, ◌||◌, nat_le, Bool, true, false, cond, List, [], ◌∷◌, ◌++◌, map, length, length-append, refl, ap, ap₂, sym, ◌∙◌, subst, arith}
+use Rattle.std.specs.Prelude.{Option, Some, None, MatchOption, is_some, not}
 use Rattle.std.proofs.lemmas.Bool.{false≢true, or_parts}
 use Rattle.psg_deflines.specs.WrittenTerms.{most_nested}
 use Rattle.psg_deflines.specs.WrittenTrees.{WrittenTree, operator}

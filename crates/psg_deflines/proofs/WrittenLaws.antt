@@ -4,8 +4,7 @@ use Rattle.std.specs.List.{prefix_len, list_all}
 use Rattle.std.proofs.Math.Seq.{drop-append_seam}
 use Rattle.std.proofs.lemmas.List.{take-append-drop, append_cancel_left, length-replicate}
 use Rattle.std.proofs.lemmas.Bool.{and_parts, cases_Bool, eqb-true, true≢false}
-use Rattle.psg_grammar.specs.Sound.{goes_on_name}
-use Rattle.psg_deflines.specs.Written.{IsWritten, ends_word}
+use Rattle.psg_deflines.specs.Written.{goes_on_word, IsWritten, ends_word}
 use Rattle.psg_deflines.specs.Parts.{is_mark, is_sigil, IsPart, a_word, a_mark, a_sigil, a_quoted, IsApart, IsFirst, HasNoFirst, HasParts, HasNoParts, IsSplit, texts}
 use Rattle.psg_deflines.proofs.PartLaws.{quote-begins}
 use Rattle.psg_deflines.proofs.Lists.{begins_by, prefix_len-run}
@@ -22,7 +21,7 @@ not-space c h = elim (cases_Bool (is_space c)) [ inl e ↦ absurd (h (eqb-true c
 -- a part does not begin with a space
 part-begins : (part : List ℕ) → IsPart part → (behind : List ℕ) → begins_by is_space (part ++ behind) ≡ false
 part-begins [] (a_word w) behind = absurd (omega (arith, w.0))
-part-begins (c ∷ cs) (a_word w) behind = not-space c (λ e. true≢false (sym (and_parts (goes_on_name c) (list_all goes_on_name cs) w.1).0 ∙ ap goes_on_name e))
+part-begins (c ∷ cs) (a_word w) behind = not-space c (λ e. true≢false (sym (and_parts (goes_on_word c) (list_all goes_on_word cs) w.1).0 ∙ ap goes_on_word e))
 part-begins part (a_mark m) behind = subst (λ p. begins_by is_space (p ++ behind) ≡ false) (sym m.whole) (not-space m.mark (λ e. true≢false (sym m.is ∙ ap is_mark e)))
 part-begins part (a_sigil g) behind = subst (λ p. begins_by is_space (p ++ behind) ≡ false) (sym g.whole) (not-space g.sigil (λ e. true≢false (sym g.is ∙ ap is_sigil e)))
 part-begins part (a_quoted q) behind = subst (λ p. begins_by is_space (p ++ behind) ≡ false) (sym (q.whole ∙ (quote-begins q.contents).1)) refl

@@ -1,7 +1,9 @@
 -- How a fault is printed.
 use Rattle.std.specs.Prelude.{ℕ, List, ◌++◌, codes, decimal}
 use Rattle.psg_deflines.specs.declared.fault.DefCode.{DefCode}
-use Rattle.psg_deflines.specs.declared.fault.DefCode.TheVariants.{NotText, Form, Version, Repeated, Unknown, Sort, Count, Token, NoEntity, Later, Nested, NoGround, OneWide}
+use Rattle.psg_deflines.specs.declared.fault.DefCode.TheVariants.{NotText, Form, Version, Repeated, Unknown, Sort}
+use Rattle.psg_deflines.specs.declared.fault.DefCode.TheVariants.{Count, Token, NoEntity, Later, Nested, NoGround}
+use Rattle.psg_deflines.specs.declared.fault.DefCode.TheVariants.{OneWide}
 use Rattle.psg_deflines.specs.declared.fault.DefFault.{DefFault}
 
 -- codes are counted from 1
@@ -20,5 +22,6 @@ code_number Nested = 11
 code_number NoGround = 12
 code_number OneWide = 13
 
+-- `line L code C`, with the numbers in decimal
 abbrev pub fault_text : DefFault → List ℕ
 fault_text f = codes "line " ++ (decimal f.line ++ (codes " code " ++ decimal (code_number f.code)))

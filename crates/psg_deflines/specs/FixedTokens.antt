@@ -4,13 +4,14 @@ use Rattle.psg_lexis.specs.declared.token.Token.{Token}
 use Rattle.psg_lexis.specs.declared.token.Token.TheVariants as tokens
 use Rattle.psg_lexis.specs.declared.token.Spanned.{Spanned}
 
+-- a token that a fixed word may be: a word, a solo character or a symbol
 abbrev pub IsFixedToken : Token → Type 0
 IsFixedToken (tokens.Word w) = Unit {0}
 IsFixedToken (tokens.Solo c) = Unit {0}
 IsFixedToken (tokens.Symbol w) = Unit {0}
 IsFixedToken _ = ⊥
 
--- one token, on all of so many bytes
+-- one token, which takes all the bytes
 pub record IsOneToken (found : List Spanned) (len : ℕ) : Type 0 where
   pub token : Spanned
   pub only : found ≡ token ∷ []

@@ -8,6 +8,7 @@ pub mod TreeFalls
 pub mod Written
 pub mod Forms
 pub mod FaultText
+pub mod Versions
 pub mod Entries
 pub mod Refusals
 pub mod Reading

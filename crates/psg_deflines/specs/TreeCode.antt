@@ -5,8 +5,10 @@ use Rattle.std.proofs.Common.{inl, inr, ap, ◌∙◌}
 use base.Stored.{coded_unit}
 use Rattle.psg_deflines.specs.WrittenTerms.{WrittenTerm}
 use Rattle.psg_deflines.specs.TermCode.{coded_term}
-use Rattle.psg_deflines.specs.WrittenTrees.{WrittenTree, operator, with_tree, with_name, with_number, with_text, list_end, list_rest, element, place}
+use Rattle.psg_deflines.specs.WrittenTrees.{WrittenTree, operator, with_tree, with_name, with_number, with_text}
+use Rattle.psg_deflines.specs.WrittenTrees.{list_end, list_rest, element, place}
 
+-- a step that builds specimens on a stack
 pub data Step : Type 0 where
   an_operator : (name : List ℕ) → Step
   a_tree : Step
@@ -18,6 +20,7 @@ pub data Step : Type 0 where
   an_element : Step
   a_place : (kind : List ℕ) (term : WrittenTerm) → Step
 
+-- the steps that build the specimen on a stack
 abbrev pub steps : WrittenTree → List Step
 steps (operator o) = an_operator o ∷ []
 steps (with_tree f t) = steps f ++ (steps t ++ a_tree ∷ [])
@@ -29,14 +32,17 @@ steps (list_rest l t) = a_rest l t ∷ []
 steps (element e r) = steps e ++ (steps r ++ an_element ∷ [])
 steps (place k t) = a_place k t ∷ []
 
+-- the second and the first specimen of the stack as one
 abbrev pub on_two : (WrittenTree → WrittenTree → WrittenTree) → List WrittenTree → List WrittenTree
 on_two f (b ∷ a ∷ stack) = f a b ∷ stack
 on_two f stack = stack
 
+-- the first specimen of the stack changed
 abbrev pub on_one : (WrittenTree → WrittenTree) → List WrittenTree → List WrittenTree
 on_one f (a ∷ stack) = f a ∷ stack
 on_one f [] = []
 
+-- what a step does to the stack
 abbrev pub step : Step → List WrittenTree → List WrittenTree
 step (an_operator o) stack = operator o ∷ stack
 step a_tree stack = on_two with_tree stack
@@ -48,10 +54,12 @@ step (a_rest l t) stack = list_rest l t ∷ stack
 step an_element stack = on_two element stack
 step (a_place k t) stack = place k t ∷ stack
 
+-- the stack after the steps
 abbrev pub run : List Step → List WrittenTree → List WrittenTree
 run [] stack = stack
 run (s ∷ rest) stack = run rest (step s stack)
 
+-- the first specimen of the stack
 abbrev pub top : List WrittenTree → WrittenTree
 top [] = list_end
 top (t ∷ ts) = t
@@ -61,8 +69,10 @@ run-append [] ys stack = refl
 run-append (x ∷ xs) ys stack = run-append xs ys (step x stack)
 
 pub run-two : (f g : WrittenTree) (s : Step) (xs ys : List Step) (stack : List WrittenTree)
-    → run xs stack ≡ f ∷ stack → run ys (f ∷ stack) ≡ g ∷ f ∷ stack → run (xs ++ (ys ++ s ∷ [])) stack ≡ step s (g ∷ f ∷ stack)
-run-two f g s xs ys stack p q = run-append xs (ys ++ s ∷ []) stack ∙ ap (run (ys ++ s ∷ [])) p ∙ run-append ys (s ∷ []) (f ∷ stack) ∙ ap (step s) q
+    → run xs stack ≡ f ∷ stack → run ys (f ∷ stack) ≡ g ∷ f ∷ stack
+    → run (xs ++ (ys ++ s ∷ [])) stack ≡ step s (g ∷ f ∷ stack)
+run-two f g s xs ys stack p q =
+    run-append xs (ys ++ s ∷ []) stack ∙ ap (run (ys ++ s ∷ [])) p ∙ run-append ys (s ∷ []) (f ∷ stack) ∙ ap (step s) q
 
 pub run-one : (f : WrittenTree) (s : Step) (xs : List Step) (stack : List WrittenTree)
     → run xs stack ≡ f ∷ stack → run (xs ++ s ∷ []) stack ≡ step s (f ∷ stack)
@@ -70,13 +80,15 @@ run-one f s xs stack p = run-append xs (s ∷ []) stack ∙ ap (step s) p
 
 pub run-steps : (t : WrittenTree) (stack : List WrittenTree) → run (steps t) stack ≡ t ∷ stack
 run-steps (operator o) stack = refl
-run-steps (with_tree f t) stack = run-two f t a_tree (steps f) (steps t) stack (run-steps f stack) (run-steps t (f ∷ stack))
+run-steps (with_tree f t) stack =
+    run-two f t a_tree (steps f) (steps t) stack (run-steps f stack) (run-steps t (f ∷ stack))
 run-steps (with_name f n) stack = run-one f (a_name n) (steps f) stack (run-steps f stack)
 run-steps (with_number f d) stack = run-one f (a_number d) (steps f) stack (run-steps f stack)
 run-steps (with_text f w) stack = run-one f (a_text w) (steps f) stack (run-steps f stack)
 run-steps list_end stack = refl
 run-steps (list_rest l t) stack = refl
-run-steps (element e r) stack = run-two e r an_element (steps e) (steps r) stack (run-steps e stack) (run-steps r (e ∷ stack))
+run-steps (element e r) stack =
+    run-two e r an_element (steps e) (steps r) stack (run-steps e stack) (run-steps r (e ∷ stack))
 run-steps (place k t) stack = refl
 
 pub top-steps : (t : WrittenTree) → top (run (steps t) []) ≡ t
@@ -84,8 +96,10 @@ top-steps t = ap top (run-steps t [])
 
 -- a step as its kind and what it has
 abbrev pub Kept : Type 0
-Kept = ((List ℕ × WrittenTerm) ⊎ (List ℕ × WrittenTerm)) ⊎ ((List ℕ ⊎ List ℕ) ⊎ ((List ℕ ⊎ List ℕ) ⊎ (Unit {0} ⊎ (Unit {0} ⊎ Unit {0}))))
+Kept = ((List ℕ × WrittenTerm) ⊎ (List ℕ × WrittenTerm))
+    ⊎ ((List ℕ ⊎ List ℕ) ⊎ ((List ℕ ⊎ List ℕ) ⊎ (Unit {0} ⊎ (Unit {0} ⊎ Unit {0}))))
 
+-- a step as a value of sums and pairs
 abbrev pub kept : Step → Kept
 kept (a_rest l t) = inl (inl (l, t))
 kept (a_place k t) = inl (inr (k, t))
@@ -97,6 +111,7 @@ kept a_tree = inr (inr (inr (inl tt)))
 kept an_end = inr (inr (inr (inr (inl tt))))
 kept an_element = inr (inr (inr (inr (inr tt))))
 
+-- the step that such a value is
 abbrev pub given_back : Kept → Step
 given_back (inl (inl (l, t))) = a_rest l t
 given_back (inl (inr (k, t))) = a_place k t
@@ -119,8 +134,14 @@ back-kept (a_rest l t) = refl
 back-kept an_element = refl
 back-kept (a_place k t) = refl
 
+-- steps as values of sums and pairs
 abbrev pub coded_step : Coded Step
-coded_step = code_by Kept (coded⊎ (coded⊎ (coded× (coded_list coded_ℕ) coded_term) (coded× (coded_list coded_ℕ) coded_term)) (coded⊎ (coded⊎ (coded_list coded_ℕ) (coded_list coded_ℕ)) (coded⊎ (coded⊎ (coded_list coded_ℕ) (coded_list coded_ℕ)) (coded⊎ coded_unit (coded⊎ coded_unit coded_unit))))) kept given_back back-kept
+coded_step = code_by Kept (coded⊎
+    (coded⊎ (coded× (coded_list coded_ℕ) coded_term) (coded× (coded_list coded_ℕ) coded_term))
+    (coded⊎ (coded⊎ (coded_list coded_ℕ) (coded_list coded_ℕ))
+    (coded⊎ (coded⊎ (coded_list coded_ℕ) (coded_list coded_ℕ))
+    (coded⊎ coded_unit (coded⊎ coded_unit coded_unit))))) kept given_back back-kept
 
+-- specimens as lists of steps, so that contracts can see them as values
 abbrev pub coded_tree : Coded WrittenTree
 coded_tree = code_by (List Step) (coded_list coded_step) steps (λ xs. top (run xs [])) top-steps

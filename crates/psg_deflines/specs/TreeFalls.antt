@@ -10,17 +10,20 @@ use Rattle.psg_deflines.specs.declared.trees.TreeShape.TheVariants.{Operator, Li
 use Rattle.psg_deflines.specs.declared.trees.LineTree.TheDeep.{deep-LinePart, deep-TreeShape}
 use Rattle.psg_deflines.specs.TreeShapes.{tree_height, with_part, with_parts, ending, list_of, tree_of}
 
-pub most_le-list : (end : WrittenTree) (es : List WrittenTree) → most (λ k. tree_height k + 1) es ≤ tree_height (list_of end es)
+pub most_le-list : (end : WrittenTree) (es : List WrittenTree)
+    → most (λ k. tree_height k + 1) es ≤ tree_height (list_of end es)
 most_le-list end [] = omega arith
 most_le-list end (e ∷ es) = omega (arith, most_le-list end es)
 
-pub part_le-height : (f : WrittenTree) (p : LinePart) → max (tree_height f) (deep-LinePart p) ≤ tree_height (with_part f p)
+pub part_le-height : (f : WrittenTree) (p : LinePart)
+    → max (tree_height f) (deep-LinePart p) ≤ tree_height (with_part f p)
 part_le-height f (Tree t) = omega arith
 part_le-height f (Name n) = omega arith
 part_le-height f (Number d) = omega arith
 part_le-height f (Text w) = omega arith
 
-pub parts_le-height : (f : WrittenTree) (ps : List LinePart) → max (tree_height f) (most deep-LinePart ps) ≤ tree_height (with_parts f ps)
+pub parts_le-height : (f : WrittenTree) (ps : List LinePart)
+    → max (tree_height f) (most deep-LinePart ps) ≤ tree_height (with_parts f ps)
 parts_le-height f [] = omega arith
 parts_le-height f (p ∷ ps) = omega (arith, part_le-height f p, parts_le-height (with_part f p) ps)
 

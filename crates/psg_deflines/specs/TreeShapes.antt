@@ -1,6 +1,7 @@
--- What the program's specimens of a line stand for.
+-- What the program's specimens of a line mean.
 use Rattle.std.specs.Prelude.{ℕ, ◌+◌, max, List, [], ◌∷◌, Option, Some, None}
-use Rattle.psg_deflines.specs.WrittenTrees.{WrittenTree, operator, with_tree, with_name, with_number, with_text, list_end, list_rest, element, place}
+use Rattle.psg_deflines.specs.WrittenTrees.{WrittenTree, operator, with_tree, with_name, with_number, with_text}
+use Rattle.psg_deflines.specs.WrittenTrees.{list_end, list_rest, element, place}
 use Rattle.psg_deflines.specs.declared.trees.LinePlace.{LinePlace}
 use Rattle.psg_deflines.specs.declared.trees.LinePart.{LinePart}
 use Rattle.psg_deflines.specs.declared.trees.LinePart.TheVariants.{Tree, Name, Number, Text}
@@ -14,10 +15,12 @@ with_part f (Name n) = with_name f n
 with_part f (Number d) = with_number f d
 with_part f (Text w) = with_text f w
 
+-- the specimen with these parts, one after the other
 abbrev pub with_parts : WrittenTree → List LinePart → WrittenTree
 with_parts f [] = f
 with_parts f (p ∷ rest) = with_parts (with_part f p) rest
 
+-- the end of a list, with the place of further elements if there is one
 abbrev pub ending : Option LinePlace → WrittenTree
 ending None = list_end
 ending (Some p) = list_rest p.kind p.term
@@ -27,6 +30,7 @@ abbrev pub list_of : WrittenTree → List WrittenTree → WrittenTree
 list_of end [] = end
 list_of end (e ∷ rest) = element e (list_of end rest)
 
+-- the specimen that the program's specimen is
 abbrev pub tree_of : TreeShape → WrittenTree
 tree_of (Operator o parts) = with_parts (operator o) parts
 tree_of (ListOf elements rest) = list_of (ending rest) elements

@@ -1,4 +1,4 @@
--- Terms as they stand in a line, with names in place of numbers.
+-- Terms as they are written in a line, with names in place of numbers.
 use Rattle.std.specs.Prelude.{ℕ, ◌≡◌, ◌+◌, ◌≤◌, ◌||◌, Bool, true, false, max, List, [], ◌∷◌, ◌++◌, codes}
 use Rattle.std.specs.List.{list_all}
 use Rattle.psg_terms.specs.Names.{Name}
@@ -15,7 +15,7 @@ abbrev pub applied : WrittenTerm → List WrittenTerm → WrittenTerm
 applied t [] = t
 applied t (a ∷ rest) = applied (apply t a) rest
 
--- a constructor with its arguments in brackets, a comma between two; what stands before the last argument is opened
+-- a constructor with its arguments in brackets, a comma between two; what is before the last argument is opened
 abbrev mutual
   pub term_parts : WrittenTerm → List (List ℕ)
   term_parts (variable n) = (63 ∷ n) ∷ []
@@ -31,11 +31,12 @@ abbrev mutual
 abbrev pub is_plain : ℕ → Bool
 is_plain c = is_upper c || is_lower c || is_digit c
 
+-- one or more letters and digits
 abbrev pub is_variable_name : Name → Bool
 is_variable_name [] = false
 is_variable_name (c ∷ cs) = list_all is_plain (c ∷ cs)
 
--- arguments may stand behind it
+-- arguments may follow it
 abbrev pub is_head : WrittenTerm → Bool
 is_head (variable n) = false
 is_head (named n) = true
@@ -57,5 +58,6 @@ term_depth (apply f a) = max (term_depth f) (term_depth a + 1)
 abbrev pub most_nested : ℕ
 most_nested = 32
 
+-- the term is not nested too deep
 abbrev pub IsShallowTerm : WrittenTerm → Type 0
 IsShallowTerm t = term_depth t ≤ most_nested

@@ -1,13 +1,14 @@
--- Specimens as they stand in a line, with names in place of numbers.
-use Rattle.std.specs.Prelude.{ℕ, ◌≡◌, ◌<◌, ◌^◌, ◌+◌, ◌≤◌, Bool, true, false, max, length, List, [], ◌∷◌, ◌++◌, codes, chars, encode_utf8_all, IsUtf8}
+-- Specimens as they are written in a line, with names in place of numbers.
+use Rattle.std.specs.Prelude.{ℕ, ◌≡◌, ◌<◌, ◌^◌, ◌+◌, ◌≤◌, Bool, true, false, max, length, List, [], ◌∷◌, ◌++◌, codes}
+use Rattle.std.specs.Prelude.{chars, encode_utf8_all, IsUtf8}
 use Rattle.std.specs.List.{AllByRecursion, list_all}
 use Rattle.psg_grammar.specs.Sound.{is_digit, IsKindName, IsOwnName, is_specimen_name}
 use Rattle.psg_lexis.specs.Classes.{All}
 use Rattle.psg_lexis.specs.Tokens.{is_content, quoted, value_of}
 use Rattle.psg_deflines.specs.WrittenTerms.{WrittenTerm, term_parts, HasTermForm, IsShallowTerm, most_nested}
 
--- An operator with its parts from left to right, a list from its first element on, or a hole place. A number part is kept by its
--- digits, a text part by its contents.
+-- An operator with its parts from left to right, a list from its first element on, or a hole place. A number part is
+-- kept by its digits, a text part by its contents.
 pub data WrittenTree : Type 0 where
   operator : (name : List ℕ) → WrittenTree
   with_tree : (front tree : WrittenTree) → WrittenTree
@@ -34,11 +35,12 @@ abbrev pub is_digits : List ℕ → Bool
 is_digits [] = false
 is_digits (c ∷ cs) = list_all is_digit (c ∷ cs)
 
+-- `hole(K,term)`
 abbrev pub place_parts : List ℕ → WrittenTerm → List (List ℕ)
 place_parts kind term = codes "hole" ∷ codes "(" ∷ kind ∷ codes "," ∷ term_parts term ++ codes ")" ∷ []
 
--- Parts in brackets, a comma between two; what stands before the last part is opened. Elements in square brackets; behind them
--- stands the rest, if there is one, after a bar. What stands behind an element is its follow.
+-- Parts in brackets, a comma between two; what is before the last part is opened. Elements are in square brackets;
+-- after them is the rest, if there is one, after a bar. What follows an element is its follow.
 abbrev mutual
   pub tree_parts : WrittenTree → List (List ℕ)
   tree_parts (operator o) = o ∷ []
@@ -73,7 +75,7 @@ abbrev mutual
   follow (element e r) = codes "," ∷ tree_parts e ++ follow r
   follow (place k t) = []
 
--- parts may stand behind it
+-- parts may follow it
 abbrev pub is_front : WrittenTree → Bool
 is_front (operator o) = true
 is_front (with_tree f t) = true
@@ -82,14 +84,14 @@ is_front (with_number f d) = true
 is_front (with_text f w) = true
 is_front _ = false
 
--- it is a list, so an element may stand in front of it
+-- it is a list, so an element may be put in front of it
 abbrev pub is_list : WrittenTree → Bool
 is_list list_end = true
 is_list (list_rest l t) = true
 is_list (element e r) = true
 is_list _ = false
 
--- names, numbers and texts have their forms; parts stand behind operators, elements in front of lists
+-- names, numbers and texts have their forms; parts follow operators, elements are in front of lists
 abbrev pub HasTreeForm : WrittenTree → Type 0
 HasTreeForm (operator o) = IsOwnName o
 HasTreeForm (with_tree f t) = (is_front f ≡ true) × HasTreeForm f × HasTreeForm t
@@ -101,8 +103,8 @@ HasTreeForm (list_rest l t) = IsKindName l × HasTermForm t
 HasTreeForm (element e r) = (is_list r ≡ true) × HasTreeForm e × HasTreeForm r
 HasTreeForm (place k t) = IsKindName k × HasTermForm t
 
--- An operator and a list count one, a hole place too; names, numbers and texts count nothing. The term of a hole place is
--- measured by itself.
+-- An operator and a list count one, a hole place too; names, numbers and texts count nothing. The term of a hole place
+-- is measured by itself.
 abbrev pub tree_depth : WrittenTree → ℕ
 tree_depth (operator o) = 1
 tree_depth (with_tree f t) = max (tree_depth f) (tree_depth t + 1)
@@ -126,6 +128,7 @@ place_terms (list_rest l t) = t ∷ []
 place_terms (element e r) = place_terms e ++ place_terms r
 place_terms (place k t) = t ∷ []
 
+-- neither the specimen nor a term in it is nested too deep
 pub record IsShallowTree (w : WrittenTree) : Type 0 where
   pub tree : tree_depth w ≤ most_nested
   pub terms : AllByRecursion IsShallowTerm (place_terms w)

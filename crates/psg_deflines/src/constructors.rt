@@ -9,7 +9,7 @@ use crate::term_reading::is_opened;
 use psg_terms::{ConDecl, Seq, Txt};
 use std::alloc::{AllocError, Global};
 
-/// Names, and how many parts they take with what stands between and behind them.
+/// Names, and how many parts they take with the commas between and the bracket after them.
 #[derive(Drop)]
 struct NamesRead {
     names: Vec<Txt>,
@@ -78,9 +78,10 @@ fn constructor(alloc: Global, parts: &[&[u8]]) -> Result<Option<ConRead>, AllocE
     }))
 }
 
-/// The constructors that the parts are.
+/// Reads the constructors that the parts are; `None` where they are none.
 pub fn constructors(alloc: Global, parts: &[&[u8]]) -> Result<Option<Vec<ConDecl>>, AllocError>
-    ensures { IfOk result (λ o. MatchOption o (HasNoCons (texts parts.now)) (λ v. IsOnly (AreCons (texts parts.now)) v.items)) }
+    ensures { IfOk result (λ o. MatchOption o (HasNoCons (texts parts.now))
+        (λ v. IsOnly (AreCons (texts parts.now)) v.items)) }
 {
     let mut constructors = Vec::new(alloc);
     let mut taken = 0;

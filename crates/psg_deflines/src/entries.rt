@@ -1,42 +1,59 @@
 //! The texts of a file as lines.
-ghost use Rattle.std.specs.Prelude.{ℕ, cond, Some, MatchBool, ◌≡◌, ◌||◌, ◌∷◌, ◌<◌, ◌+◌, ◌^◌, length, false, List, IfOk, IfErr, IsTrue, ◌↔◌, MatchOption, codes};
-ghost use Rattle.std.specs.List.{AllByRecursion};
+ghost use Rattle.std.specs.Prelude.{ℕ, cond, Some, MatchBool, ◌≡◌, ◌==◌, ◌||◌, ◌∷◌, ◌<◌, ◌+◌, ◌^◌, length, false, List};
+ghost use Rattle.std.specs.Prelude.{IfOk, IfErr, IsTrue, ◌↔◌, MatchOption, codes, ◌&&◌};
+ghost use Rattle.std.specs.List.{AllByRecursion, list_any};
 ghost use Rattle.psg_deflines.specs.Parts.{texts, HasParts};
 ghost use Rattle.psg_deflines.specs.Forms.{HasFixedWords, IsFixedItem, IsShallow};
-ghost use Rattle.psg_deflines.specs.FormReads.{IsForm, HasNoForm, IsNoPlainWord};
+ghost use Rattle.psg_deflines.specs.FormReads.{IsForm, HasNoForm, IsNoPlainWord, IsNoTermWord};
+ghost use Rattle.psg_deflines.specs.Versions.{is_of};
 ghost use Rattle.psg_deflines.specs.LineReads.{IsFormRead};
 ghost use Rattle.psg_deflines.specs.TermWalks.{Parts};
 ghost use Rattle.psg_deflines.specs.Entries.{IsSkipped, HasPlace, takes_rows, takes_cases};
-ghost use Rattle.psg_deflines.specs.EntryReads.{is_operator, cases_behind, rows_after, cases_after, IsEntryRead, AreEntriesRead, IsEntryFault};
+ghost use Rattle.psg_deflines.specs.EntryReads.{is_operator, cases_behind, rows_after, cases_after, IsEntryRead};
+ghost use Rattle.psg_deflines.specs.EntryReads.{AreEntriesRead, IsEntryFault};
 ghost use Rattle.psg_deflines.specs.Only.{IsOnly};
 ghost use Rattle.psg_deflines.specs.declared.lines.Line.{Line as Plain};
 
 use crate::fault::{DefCode, DefFault, ReadFault};
-use crate::forms::{line_entity, line_list, line_operator, line_phylum, line_sort};
+use crate::forms::{line_entity, line_list, line_operator, line_phylum, line_sort, line_space};
 use crate::lines::{Line, LineItem};
 use crate::names::is;
 use crate::parts::parts;
+use crate::spaces::{is_of, space_behind};
 use crate::term_forms::{
     FormRead, line_case, line_cell, line_declare, line_hole, line_nil, line_row,
 };
 use crate::words::is_fixed_word;
 use std::alloc::{AllocError, Global};
 
-/// What stands in a text, or what is wrong with it.
+/// What a text is as a line, or what is wrong with it.
 #[derive(Drop)]
 pub enum EntryRead {
     /// A line, or none for an empty text and a comment.
     Found(Option<Line>),
+    /// What is wrong with the text.
     Fault(DefCode),
 }
 
 /// A line without terms, if it was read.
 fn without_terms(line: Option<Line>) -> FormRead
-    ensures { (ps : Parts) → MatchOption line (HasNoForm ps) (IsOnly (IsForm ps)) → ((l : Plain) → IsForm ps l → IsShallow l) → IsFormRead ps result }
+    ensures { (ps : Parts) → MatchOption line (HasNoForm ps) (IsOnly (IsForm ps))
+        → ((l : Plain) → IsForm ps l → IsShallow l) → IsFormRead ps result }
 {
     match line {
         Some(line) => FormRead::Read(line),
         None => FormRead::Nothing,
+    }
+}
+
+/// The declare row with these parts.
+fn declare_form(alloc: Global, keyword: &[u8], behind: &[&[u8]]) -> Result<FormRead, AllocError>
+    ensures { IfOk result (λ read. IsNoPlainWord keyword.now → IsNoTermWord keyword.now
+        → IsFormRead (keyword.now ∷ texts behind.now) read) }
+{
+    match space_behind(alloc, keyword, "declare")? {
+        Some(space) => line_declare(alloc, space, behind),
+        None => Ok(FormRead::Nothing),
     }
 }
 
@@ -54,10 +71,8 @@ fn term_form(alloc: Global, keyword: &[u8], behind: &[&[u8]]) -> Result<FormRead
         line_hole(alloc, behind)
     } else if is(keyword, "case") {
         line_case(alloc, behind)
-    } else if is(keyword, "declare") {
-        line_declare(alloc, behind)
     } else {
-        Ok(FormRead::Nothing)
+        declare_form(alloc, keyword, behind)
     }
 }
 
@@ -73,6 +88,9 @@ fn form(alloc: Global, parts: &[&[u8]]) -> Result<FormRead, AllocError>
     }
     if is(keyword, "entity") {
         return Ok(without_terms(line_entity(alloc, behind)?));
+    }
+    if is(keyword, "space") {
+        return Ok(without_terms(line_space(alloc, behind)?));
     }
     if is(keyword, "phylum") {
         return Ok(without_terms(line_phylum(alloc, behind)?));
@@ -136,8 +154,8 @@ fn cases_behind(so_far: bool, line: &Line) -> bool
     }
 }
 
-/// Whether the line with these parts may stand behind others: a row behind an operator, a case behind a hole row that has
-/// no specimen.
+/// Whether the line with these parts may follow the lines before it: a row follows an operator, and a case a hole row
+/// that has no specimen.
 fn has_place(parts: &[&[u8]], rows: bool, cases: bool) -> bool
     ensures { (above : List Plain) → takes_rows above ≡ rows → takes_cases false above ≡ cases
         → MatchBool result ((line : Plain) → IsForm (texts parts.now) line → HasPlace above line)
@@ -155,28 +173,99 @@ fn has_place(parts: &[&[u8]], rows: bool, cases: bool) -> bool
     }
 }
 
-/// The line, if its words are tokens.
-fn found(line: Line, fixed: bool) -> EntryRead
-    ensures { result ≡ cond fixed (EntryRead.Found (Some line)) (EntryRead.Fault DefCode.Token) }
+/// Returns what is wrong with a line that is not of the version, or else has a word that is no token.
+fn mistake(right: bool) -> DefCode
+    ensures { result ≡ cond right DefCode.Token DefCode.Form }
 {
-    if fixed {
+    if right { DefCode::Token } else { DefCode::Form }
+}
+
+/// Says whether both hold.
+fn are_both(one: bool, other: bool) -> bool
+    ensures { result ≡ (one && other) }
+{
+    one && other
+}
+
+/// Returns the line, if nothing is wrong with it.
+fn kept(line: Line, good: bool, code: DefCode) -> EntryRead
+    ensures { result ≡ cond good (EntryRead.Found (Some line)) (EntryRead.Fault code) }
+{
+    if good {
         EntryRead::Found(Some(line))
     } else {
-        EntryRead::Fault(DefCode::Token)
+        EntryRead::Fault(code)
     }
 }
 
-/// The line that is read as one, or what is wrong with it: one of its words, or how it is nested.
-fn checked(alloc: Global, read: FormRead) -> Result<EntryRead, AllocError>
-    ensures { IfOk result (λ entry. (above : List Plain) (text : List ℕ) (parts : Parts) → (IsSkipped text → ⊥) → IsOnly (HasParts text) parts
-        → ((line : Plain) → IsForm parts line → HasPlace above line) → IsFormRead parts read → IsEntryRead above text entry) }
+/// The line, if it is of the version of the file and its words are tokens.
+fn found(line: Line, right: bool, fixed: bool) -> EntryRead
+    ensures { result ≡ cond right (cond fixed (EntryRead.Found (Some line)) (EntryRead.Fault DefCode.Token))
+        (EntryRead.Fault DefCode.Form) }
+{
+    let code = mistake(right);
+    let good = are_both(right, fixed);
+    kept(line, good, code)
+}
+
+/// Whether the word names a space.
+fn is_tagged(word: &[u8]) -> bool
+    ensures { result ≡ list_any (λ c. c == 64) word.now }
+{
+    word.iter().any(|c| *c == b'@')
+}
+
+/// Whether a line that begins with this word and is nested too deep is of the version.
+fn deep_is_of(version: u32, word: &[u8]) -> bool
+    ensures { (rest : Parts) (line : Plain) → IsForm (word.now ∷ rest) line → (IsShallow line → ⊥)
+        → result ≡ is_of version line }
+{
+    let bare = is(word, "declare");
+    let tagged = is_tagged(word);
+    if bare {
+        version != 2
+    } else if tagged {
+        version == 2
+    } else {
+        true
+    }
+}
+
+/// What is wrong with a line that is nested too deep.
+fn deep(version: u32, parts: &[&[u8]]) -> DefCode
+    ensures { (line : Plain) → IsForm (texts parts.now) line → (IsShallow line → ⊥)
+        → result ≡ cond (is_of version line) DefCode.Nested DefCode.Form }
+{
+    let Some((keyword, _)) = parts.split_first() else {
+        return DefCode::Nested;
+    };
+    if deep_is_of(version, keyword) {
+        DefCode::Nested
+    } else {
+        DefCode::Form
+    }
+}
+
+/// The line that is read as one from the parts, or what is wrong with it: its version, one of its words, or how it is
+/// nested.
+fn checked(
+    alloc: Global,
+    version: u32,
+    parts: &[&[u8]],
+    read: FormRead,
+) -> Result<EntryRead, AllocError>
+    ensures { IfOk result (λ entry. (above : List Plain) (text : List ℕ) → (IsSkipped text → ⊥)
+        → IsOnly (HasParts text) (texts parts.now)
+        → ((line : Plain) → IsForm (texts parts.now) line → HasPlace above line) → IsFormRead (texts parts.now) read
+        → IsEntryRead version above text entry) }
 {
     match read {
         FormRead::Nothing => Ok(EntryRead::Fault(DefCode::Form)),
-        FormRead::TooDeep => Ok(EntryRead::Fault(DefCode::Nested)),
+        FormRead::TooDeep => Ok(EntryRead::Fault(deep(version, parts))),
         FormRead::Read(line) => {
+            let right = is_of(version, &line);
             let fixed = has_fixed_words(alloc, &line)?;
-            Ok(found(line, fixed))
+            Ok(found(line, right, fixed))
         }
     }
 }
@@ -191,9 +280,17 @@ fn is_skipped(text: &str) -> bool
     }
 }
 
-/// What stands in the text behind lines, where it is known whether a row and whether a case may follow them.
-fn entry(alloc: Global, text: &str, rows: bool, cases: bool) -> Result<EntryRead, AllocError>
-    ensures { IfOk result (λ entry. (above : List Plain) → takes_rows above ≡ rows → takes_cases false above ≡ cases → IsEntryRead above text.now entry) }
+/// Reads a text of a file of the version, where it is known whether a row and whether a case may follow the lines
+/// before.
+fn entry(
+    alloc: Global,
+    version: u32,
+    text: &str,
+    rows: bool,
+    cases: bool,
+) -> Result<EntryRead, AllocError>
+    ensures { IfOk result (λ entry. (above : List Plain) → takes_rows above ≡ rows → takes_cases false above ≡ cases
+        → IsEntryRead version above text.now entry) }
 {
     if is_skipped(text) {
         return Ok(EntryRead::Found(None));
@@ -206,10 +303,10 @@ fn entry(alloc: Global, text: &str, rows: bool, cases: bool) -> Result<EntryRead
         return Ok(EntryRead::Fault(DefCode::Form));
     }
     let read = form(alloc, parts)?;
-    Ok(checked(alloc, read)?)
+    Ok(checked(alloc, version, parts, read)?)
 }
 
-/// Whether a row may follow what stands in a text, where it is known for what stands before.
+/// Whether a row may follow the entry, where it is known for the entries before.
 fn rows_after(rows: bool, entry: &Option<Line>) -> bool
     ensures { result ≡ rows_after rows entry.now }
 {
@@ -229,17 +326,22 @@ fn cases_after(cases: bool, entry: &Option<Line>) -> bool
     }
 }
 
-/// What stands in the texts behind the first one of a file, or their first fault by its line.
-pub fn entries(alloc: Global, written: &[&str]) -> Result<Vec<Option<Line>>, ReadFault>
+/// Reads the texts after the first one of a file of the version, each as its line, or none where it is skipped. A fault
+/// is the first one, with its line, from 2; `Memory` where memory runs out.
+pub fn entries(
+    alloc: Global,
+    version: u32,
+    written: &[&str],
+) -> Result<Vec<Option<Line>>, ReadFault>
     requires { length written.now + 1 < 2 ^ 32 }
-    ensures ok { IfOk result (λ v. AreEntriesRead (texts written.now) v.items) }
-    ensures err { IfErr result (IsEntryFault (texts written.now)) }
+    ensures ok { IfOk result (λ v. AreEntriesRead version (texts written.now) v.items) }
+    ensures err { IfErr result (IsEntryFault version (texts written.now)) }
 {
     let mut entries = Vec::new(alloc);
     let mut rows = false;
     let mut cases = false;
     for text in written {
-        match entry(alloc, text, rows, cases)? {
+        match entry(alloc, version, text, rows, cases)? {
             EntryRead::Found(found) => {
                 rows = rows_after(rows, &found);
                 cases = cases_after(cases, &found);

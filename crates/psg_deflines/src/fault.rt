@@ -12,19 +12,19 @@ pub enum DefCode {
     NotText,
     /// The line has none of the forms.
     Form,
-    /// The first line is not that of version 1.
+    /// The first line is the head of no version.
     Version,
-    /// A name is declared that was declared before, or a second entity sort.
+    /// A name is declared that was declared before, or a second entity sort in version 1.
     Repeated,
-    /// No line declares the name as what may stand there.
+    /// No line declares the name as what may be there: a sort, a constructor, a phylum, a list, an operator or a space.
     Unknown,
-    /// A term, variable, specimen or part stands at a place of another kind.
+    /// A term, variable, specimen or part is at a place of another sort or kind.
     Sort,
     /// A number of arguments, columns or parts is wrong.
     Count,
     /// A quoted word is not one token.
     Token,
-    /// A name position or a declare row stands in a definition without an entity sort.
+    /// A name position or a declare row is in a definition without an entity sort or, in version 2, without a space.
     NoEntity,
     /// A form that is not read yet.
     Later,
@@ -39,11 +39,13 @@ pub enum DefCode {
 /// The first fault of a text, by its line, from 1.
 #[derive(Clone, Copy, Debug, PartialEq, Eq)]
 pub struct DefFault {
+    /// The line, from 1.
     pub line: u32,
+    /// What is wrong with it.
     pub code: DefCode,
 }
 
-/// Why a definition is not read.
+/// The reason why a definition is not read.
 #[derive(Debug, Drop, Error)]
 pub enum ReadFault {
     /// The bytes spell no definition.
@@ -97,7 +99,7 @@ fn code_number(code: DefCode) -> u8
     }
 }
 
-/// The fault as it is printed: `line L code C`, with the numbers in decimal.
+/// Returns the fault as it is printed: `line L code C`, with the numbers in decimal.
 pub fn fault_text(alloc: Global, fault: &DefFault) -> Result<String, AllocError>
     ensures { IfOk result (λ text. string_bytes text ≡ fault_text fault.now) }
 {

@@ -10,12 +10,13 @@ use crate::items::{header, line_items};
 use crate::lines::Line;
 use crate::names::{is, kind_name, own_name};
 use crate::quotes::quoted_text;
-use psg_terms::{Seq, SortDecl};
+use psg_terms::{Seq, SortDecl, Txt};
 use std::alloc::{AllocError, Global};
 
-/// `sort S = con con(S,S) ..`, behind the first part.
+/// Reads `sort S = con con(S,S) ..` from the parts after the first one; `None` where they have another form.
 pub fn line_sort(alloc: Global, parts: &[&[u8]]) -> Result<Option<Line>, AllocError>
-    ensures { IfOk result (λ o. MatchOption o (HasNoForm (codes "sort" ∷ texts parts.now)) (IsOnly (IsForm (codes "sort" ∷ texts parts.now)))) }
+    ensures { IfOk result (λ o. MatchOption o (HasNoForm (codes "sort" ∷ texts parts.now))
+        (IsOnly (IsForm (codes "sort" ∷ texts parts.now)))) }
 {
     let [name, equals, behind @ ..] = parts else {
         return Ok(None);
@@ -33,9 +34,10 @@ pub fn line_sort(alloc: Global, parts: &[&[u8]]) -> Result<Option<Line>, AllocEr
     Ok(Some(Line::Sort(SortDecl { name, constructors })))
 }
 
-/// `entity S`, behind the first part.
+/// Reads `entity S` from the parts after the first one; `None` where they have another form.
 pub fn line_entity(alloc: Global, parts: &[&[u8]]) -> Result<Option<Line>, AllocError>
-    ensures { IfOk result (λ o. MatchOption o (HasNoForm (codes "entity" ∷ texts parts.now)) (IsOnly (IsForm (codes "entity" ∷ texts parts.now)))) }
+    ensures { IfOk result (λ o. MatchOption o (HasNoForm (codes "entity" ∷ texts parts.now))
+        (IsOnly (IsForm (codes "entity" ∷ texts parts.now)))) }
 {
     if parts.len() != 1 {
         return Ok(None);
@@ -43,7 +45,31 @@ pub fn line_entity(alloc: Global, parts: &[&[u8]]) -> Result<Option<Line>, Alloc
     let Some(sort) = kind_name(alloc, parts[0])? else {
         return Ok(None);
     };
-    Ok(Some(Line::Entity { sort }))
+    let name = Txt::copy_of(alloc, "")?;
+    Ok(Some(Line::Space { name, sort }))
+}
+
+/// Reads `space s : S` from the parts after the first one; `None` where they have another form.
+pub fn line_space(alloc: Global, parts: &[&[u8]]) -> Result<Option<Line>, AllocError>
+    ensures { IfOk result (λ o. MatchOption o (HasNoForm (codes "space" ∷ texts parts.now))
+        (IsOnly (IsForm (codes "space" ∷ texts parts.now)))) }
+{
+    if parts.len() != 3 {
+        return Ok(None);
+    }
+    let [name, colon, sort] = parts else {
+        unreachable!()
+    };
+    if !is(colon, ":") {
+        return Ok(None);
+    }
+    let Some(name) = own_name(alloc, name)? else {
+        return Ok(None);
+    };
+    let Some(sort) = kind_name(alloc, sort)? else {
+        return Ok(None);
+    };
+    Ok(Some(Line::Space { name, sort }))
 }
 
 /// Whether nothing is left, or the word alone. There is no answer where something else is left.
@@ -57,9 +83,11 @@ fn is_marked(parts: &[&[u8]], word: &str) -> Option<bool>
     }
 }
 
-/// `phylum P : S` and perhaps `bracketed`, behind the first part.
+/// Reads `phylum P : S` and perhaps `bracketed` from the parts after the first one; `None` where they have another
+/// form.
 pub fn line_phylum(alloc: Global, parts: &[&[u8]]) -> Result<Option<Line>, AllocError>
-    ensures { IfOk result (λ o. MatchOption o (HasNoForm (codes "phylum" ∷ texts parts.now)) (IsOnly (IsForm (codes "phylum" ∷ texts parts.now)))) }
+    ensures { IfOk result (λ o. MatchOption o (HasNoForm (codes "phylum" ∷ texts parts.now))
+        (IsOnly (IsForm (codes "phylum" ∷ texts parts.now)))) }
 {
     let [name, colon, sort, behind @ ..] = parts else {
         return Ok(None);
@@ -85,7 +113,8 @@ pub fn line_phylum(alloc: Global, parts: &[&[u8]]) -> Result<Option<Line>, Alloc
 
 /// Which of two words the part is.
 fn which(part: &[u8], yes: &str, no: &str) -> Option<bool>
-    ensures { MatchOption result ((b : Bool) → part.now ≡ cond b yes.now no.now → ⊥) (λ b. part.now ≡ cond b yes.now no.now) }
+    ensures { MatchOption result ((b : Bool) → part.now ≡ cond b yes.now no.now → ⊥)
+        (λ b. part.now ≡ cond b yes.now no.now) }
 {
     if is(part, yes) {
         Some(true)
@@ -96,9 +125,11 @@ fn which(part: &[u8], yes: &str, no: &str) -> Option<bool>
     }
 }
 
-/// `list L : S of P "sep"`, then `lines` or `inline`, then `unfinished` or `fixed`, behind the first part.
+/// Reads `list L : S of P "sep"`, then `lines` or `inline`, then `unfinished` or `fixed`, from the parts after the
+/// first one; `None` where they have another form.
 pub fn line_list(alloc: Global, parts: &[&[u8]]) -> Result<Option<Line>, AllocError>
-    ensures { IfOk result (λ o. MatchOption o (HasNoForm (codes "list" ∷ texts parts.now)) (IsOnly (IsForm (codes "list" ∷ texts parts.now)))) }
+    ensures { IfOk result (λ o. MatchOption o (HasNoForm (codes "list" ∷ texts parts.now))
+        (IsOnly (IsForm (codes "list" ∷ texts parts.now)))) }
 {
     if parts.len() != 8 {
         return Ok(None);
@@ -137,9 +168,11 @@ pub fn line_list(alloc: Global, parts: &[&[u8]]) -> Result<Option<Line>, AllocEr
     }))
 }
 
-/// `op o : P`, what stands before the items, and the items, behind the first part.
+/// Reads `op o : P`, then what is before the items, and the items, from the parts after the first one; `None` where
+/// they have another form.
 pub fn line_operator(alloc: Global, parts: &[&[u8]]) -> Result<Option<Line>, AllocError>
-    ensures { IfOk result (λ o. MatchOption o (HasNoForm (codes "op" ∷ texts parts.now)) (IsOnly (IsForm (codes "op" ∷ texts parts.now)))) }
+    ensures { IfOk result (λ o. MatchOption o (HasNoForm (codes "op" ∷ texts parts.now))
+        (IsOnly (IsForm (codes "op" ∷ texts parts.now)))) }
 {
     let [name, colon, phylum, behind @ ..] = parts else {
         return Ok(None);

@@ -1,14 +1,20 @@
 //! Operators' items and headers from parts of a line.
-ghost use Rattle.std.specs.Prelude.{ℕ, ◌≡◌, ◌-◌, IfOk, MatchOption, ◌∷◌, [], ◌+◌, ◌≤◌};
+ghost use Rattle.std.specs.Prelude.{ℕ, ◌≡◌, ◌++◌, codes, ◌-◌, IfOk, MatchOption, ◌∷◌, [], ◌+◌, ◌≤◌};
 ghost use Rattle.psg_grammar.specs.Sound.{IsLevel, IsBinding};
 ghost use Rattle.psg_deflines.specs.Parts.{texts};
-ghost use Rattle.psg_deflines.specs.Forms.{level_parts, item_part};
-ghost use Rattle.psg_deflines.specs.FormReads.{IsItemPart, HasNoItem, IsWordItem, HasNoWordItem, AreItemParts, HasNoItems, IsHeaderRead, HasNoHeader, IsLevelRead, HasNoLevelRead, HasNoLevel};
+ghost use Rattle.psg_terms.specs.Names.{Name};
+ghost use Rattle.psg_grammar.specs.Sound.{IsKindName};
+ghost use Rattle.psg_deflines.specs.Quotes.{HasNoQuote};
+ghost use Rattle.psg_deflines.specs.Forms.{level_parts, item_part, IsSpaceName, tag};
+ghost use Rattle.psg_deflines.specs.FormReads.{IsItemPart, HasNoItem, IsWordItem, HasNoWordItem, HasNoNameItem};
+ghost use Rattle.psg_deflines.specs.FormReads.{AreItemParts, HasNoItems, IsHeaderRead, HasNoHeader, IsLevelRead};
+ghost use Rattle.psg_deflines.specs.FormReads.{HasNoLevelRead, HasNoLevel};
 ghost use Rattle.psg_deflines.specs.Only.{IsOnly};
 
 use crate::lines::LineItem;
 use crate::names::{is, kind_name};
 use crate::quotes::quoted_text;
+use crate::spaces::space_behind;
 use psg_grammar::Level;
 use std::alloc::{AllocError, Global};
 
@@ -16,11 +22,7 @@ use std::alloc::{AllocError, Global};
 fn word_item(part: &[u8]) -> Option<LineItem>
     ensures { MatchOption result (HasNoWordItem part.now) (λ x. IsWordItem x × (item_part x ≡ part.now)) }
 {
-    if is(part, "refers") {
-        Some(LineItem::Refers)
-    } else if is(part, "declares") {
-        Some(LineItem::Declares)
-    } else if is(part, "number") {
+    if is(part, "number") {
         Some(LineItem::Number)
     } else if is(part, "text") {
         Some(LineItem::Text)
@@ -39,25 +41,73 @@ fn word_item(part: &[u8]) -> Option<LineItem>
     }
 }
 
+/// The name position that declares, if the part is one.
+fn declares_item(alloc: Global, part: &[u8]) -> Result<Option<LineItem>, AllocError>
+    ensures { IfOk result (λ o. MatchOption o ((n : Name) → IsSpaceName n → part.now ≡ codes "declares" ++ tag n → ⊥)
+        (IsOnly (IsItemPart part.now))) }
+{
+    match space_behind(alloc, part, "declares")? {
+        Some(space) => Ok(Some(LineItem::Declares(space))),
+        None => Ok(None),
+    }
+}
+
+/// The name position that the part is.
+fn name_item(alloc: Global, part: &[u8]) -> Result<Option<LineItem>, AllocError>
+    ensures { IfOk result (λ o. MatchOption o (HasNoNameItem part.now) (IsOnly (IsItemPart part.now))) }
+{
+    match space_behind(alloc, part, "refers")? {
+        Some(space) => Ok(Some(LineItem::Refers(space))),
+        None => declares_item(alloc, part),
+    }
+}
+
+/// The quoted word that the part is.
+fn quoted_item(alloc: Global, part: &[u8]) -> Result<Option<LineItem>, AllocError>
+    ensures { IfOk result (λ o. MatchOption o (HasNoQuote part.now) (IsOnly (IsItemPart part.now))) }
+{
+    match quoted_text(alloc, part)? {
+        Some(word) => Ok(Some(LineItem::Word(word))),
+        None => Ok(None),
+    }
+}
+
+/// The slot or the quoted word that the part is.
+fn slot_item(alloc: Global, part: &[u8]) -> Result<Option<LineItem>, AllocError>
+    ensures { IfOk result (λ o. MatchOption o ((IsKindName part.now → ⊥) × HasNoQuote part.now)
+        (IsOnly (IsItemPart part.now))) }
+{
+    match kind_name(alloc, part)? {
+        Some(name) => Ok(Some(LineItem::Slot(name))),
+        None => quoted_item(alloc, part),
+    }
+}
+
+/// The item that the part is, if it is none with a word of its own.
+fn other_item(alloc: Global, part: &[u8]) -> Result<Option<LineItem>, AllocError>
+    ensures { IfOk result (λ o. MatchOption o (HasNoNameItem part.now × (IsKindName part.now → ⊥) × HasNoQuote part.now)
+        (IsOnly (IsItemPart part.now))) }
+{
+    match name_item(alloc, part)? {
+        Some(item) => Ok(Some(item)),
+        None => slot_item(alloc, part),
+    }
+}
+
 /// An item of an operator.
 fn line_item(alloc: Global, part: &[u8]) -> Result<Option<LineItem>, AllocError>
     ensures { IfOk result (λ o. MatchOption o (HasNoItem part.now) (IsOnly (IsItemPart part.now))) }
 {
-    if let Some(item) = word_item(part) {
-        return Ok(Some(item));
+    match word_item(part) {
+        Some(item) => Ok(Some(item)),
+        None => other_item(alloc, part),
     }
-    if let Some(name) = kind_name(alloc, part)? {
-        return Ok(Some(LineItem::Slot(name)));
-    }
-    let Some(word) = quoted_text(alloc, part)? else {
-        return Ok(None);
-    };
-    Ok(Some(LineItem::Word(word)))
 }
 
-/// The items that the parts are.
+/// Reads an item from each of the parts; `None` where one is no item.
 pub fn line_items(alloc: Global, parts: &[&[u8]]) -> Result<Option<Vec<LineItem>>, AllocError>
-    ensures { IfOk result (λ o. MatchOption o (HasNoItems (texts parts.now)) (λ v. IsOnly (AreItemParts (texts parts.now)) v.items)) }
+    ensures { IfOk result (λ o. MatchOption o (HasNoItems (texts parts.now))
+        (λ v. IsOnly (AreItemParts (texts parts.now)) v.items)) }
 {
     let mut items = Vec::new(alloc);
     for part in parts {
@@ -69,11 +119,14 @@ pub fn line_items(alloc: Global, parts: &[&[u8]]) -> Result<Option<Vec<LineItem>
     Ok(Some(items))
 }
 
-/// What stands between an operator's phylum and its items, and how many parts it takes.
+/// What is between an operator's phylum and its items, the sign `=` included, and how many parts it takes.
 #[derive(Drop)]
 pub struct HeaderRead {
+    /// Whether the word `scope` is there.
     pub scope: bool,
+    /// The form and the level; `Plain` where there is none.
     pub level: Level,
+    /// The number of parts up to the first item.
     pub taken: usize,
 }
 
@@ -90,7 +143,8 @@ fn binding(part: &[u8]) -> Option<u8>
 
 /// The level that two parts are.
 fn level(word: &[u8], digit: &[u8]) -> Option<Level>
-    ensures { MatchOption result (HasNoLevel word.now digit.now) (λ l. IsLevel l × (level_parts l ≡ word.now ∷ digit.now ∷ [])) }
+    ensures { MatchOption result (HasNoLevel word.now digit.now)
+        (λ l. IsLevel l × (level_parts l ≡ word.now ∷ digit.now ∷ [])) }
 {
     let n = binding(digit)?;
     if is(word, "prefix") {
@@ -108,7 +162,7 @@ fn level(word: &[u8], digit: &[u8]) -> Option<Level>
     }
 }
 
-/// The level with which the parts begin and the sign behind it, and how many parts they take.
+/// The level with which the parts begin, and how many parts it takes with the sign `=` after it.
 fn level_and_equals(parts: &[&[u8]]) -> Option<(Level, usize)>
     ensures { MatchOption result (HasNoLevelRead (texts parts.now)) (λ r. IsLevelRead (texts parts.now) r.0 r.1) }
 {
@@ -119,9 +173,10 @@ fn level_and_equals(parts: &[&[u8]]) -> Option<(Level, usize)>
     }
 }
 
-/// What stands between an operator's phylum and its items.
+/// Reads what is between an operator's phylum and its items: perhaps `scope`, perhaps a level, and the sign `=`.
 pub fn header(parts: &[&[u8]]) -> Option<HeaderRead>
-    ensures { MatchOption result (HasNoHeader (texts parts.now)) (λ r. IsHeaderRead (texts parts.now) r.scope r.level r.taken) }
+    ensures { MatchOption result (HasNoHeader (texts parts.now))
+        (λ r. IsHeaderRead (texts parts.now) r.scope r.level r.taken) }
 {
     let (first, rest) = parts.split_first()?;
     if is(first, "scope") {

@@ -1,15 +1,15 @@
 //! The lines of language definitions.
 //!
 //! ```text
-//! let lines = read_lines(alloc, b"psg 1\nsort Type = int bool\nphylum Exp : Type\n")?;
+//! let file = read_lines(alloc, b"psg 1\nsort Type = int bool\nphylum Exp : Type\n")?;
 //! let text = line_text(alloc, &line)?;
 //! ```
 //!
-//! A line is read by its parts: words, marks, names behind `?` or `$`, and quoted texts, with any number of spaces between
-//! them. `SpellsLine` says what a line means in the direction of a writer: it has the parts of the line, in order. So there is
-//! one description of each form, and the reader and the writer are both proved against it.
+//! A line is read by its parts: words, marks, names after `?` or `$`, and quoted texts, with any number of spaces
+//! between them. `SpellsLine` says what a line means in the direction of a writer: it has the parts of the line, in
+//! order. So there is one description of each form, and the reader and the writer are both proved against it.
 //!
-//! What the names of a line stand for is not looked at here.
+//! What the names of a line mean is not looked at here.
 #![tactic(auto)]
 
 mod constructors;
@@ -24,6 +24,7 @@ mod parts;
 mod places;
 mod quotes;
 pub mod reading;
+mod spaces;
 mod tails;
 mod term_forms;
 mod term_reading;
@@ -36,7 +37,7 @@ pub mod writing;
 
 pub use fault::{DefCode, DefFault, ReadFault, fault_text};
 pub use lines::{Line, LineItem};
-pub use reading::read_lines;
+pub use reading::{FileLines, read_lines};
 pub use terms::{LineTerm, TermShape};
 pub use trees::{LinePart, LinePlace, LineTree, TreeShape};
 pub use writing::line_text;

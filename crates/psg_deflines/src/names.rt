@@ -1,20 +1,27 @@
-//! Names and digits that stand in lines.
+//! Names and digits of lines.
 ghost use Rattle.std.specs.Prelude.{◌≡◌, ◌||◌, IsTrue, ◌↔◌, IfOk, MatchOption};
 ghost use Rattle.std.specs.List.{list_all};
 ghost use Rattle.std.specs.Str.{IsAscii};
-ghost use Rattle.psg_grammar.specs.Sound.{goes_on_name, is_name_from, is_upper, is_lower, is_digit, is_specimen_name, IsKindName, IsOwnName};
+ghost use Rattle.psg_grammar.specs.Sound.{goes_on_name, is_name_from, is_upper, is_lower, is_digit, is_specimen_name};
+ghost use Rattle.psg_grammar.specs.Sound.{IsKindName, IsOwnName};
 ghost use Rattle.psg_deflines.specs.WrittenTerms.{is_plain, is_variable_name};
 ghost use Rattle.psg_deflines.specs.WrittenTrees.{is_digits};
 
-use crate::parts::goes_on;
 use psg_terms::Txt;
 use std::alloc::{AllocError, Global};
 
-/// Whether the part is the word.
+/// Says whether the part is the word.
 pub fn is(part: &[u8], word: &str) -> bool
     ensures { IsTrue result ↔ (part.now ≡ word.now) }
 {
     part == word.as_bytes()
+}
+
+/// Whether a name goes on with the character.
+fn goes_on(c: u8) -> bool
+    ensures { result ≡ goes_on_name c }
+{
+    c.is_ascii_alphanumeric() || c == b'_'
 }
 
 /// Whether each character is a letter, a digit or `_`.
@@ -46,7 +53,7 @@ fn all_digits(text: &[u8]) -> bool
     text.iter().all(|c| c.is_ascii_digit())
 }
 
-/// Whether the part is a name of a sort, phylum or list.
+/// Says whether the part is a name of a sort, phylum or list.
 pub fn is_kind_name(part: &[u8]) -> bool
     ensures { result ≡ is_name_from is_upper part.now }
 {
@@ -56,7 +63,7 @@ pub fn is_kind_name(part: &[u8]) -> bool
     }
 }
 
-/// Whether the part is a name of a constructor or operator.
+/// Says whether the part is a name of a constructor or operator.
 pub fn is_own_name(part: &[u8]) -> bool
     ensures { result ≡ is_name_from is_lower part.now }
 {
@@ -66,7 +73,7 @@ pub fn is_own_name(part: &[u8]) -> bool
     }
 }
 
-/// Whether the text is a variable's name, without its mark.
+/// Says whether the text is a variable's name, without its mark.
 pub fn is_variable_name(name: &[u8]) -> bool
     ensures { result ≡ is_variable_name name.now }
 {
@@ -76,7 +83,7 @@ pub fn is_variable_name(name: &[u8]) -> bool
     }
 }
 
-/// Whether the text is a name of a specimen, without its mark.
+/// Says whether the text is a name of a specimen, without its mark.
 pub fn is_specimen_name(name: &[u8]) -> bool
     ensures { result ≡ is_specimen_name name.now }
 {
@@ -86,7 +93,7 @@ pub fn is_specimen_name(name: &[u8]) -> bool
     }
 }
 
-/// Whether the part is a number.
+/// Says whether the part is a number.
 pub fn is_digits(part: &[u8]) -> bool
     ensures { result ≡ is_digits part.now }
 {
@@ -96,7 +103,7 @@ pub fn is_digits(part: &[u8]) -> bool
     }
 }
 
-/// ASCII bytes as a text.
+/// Returns ASCII bytes as a text.
 pub fn ascii(part: &[u8]) -> &str
     requires { IsAscii part.now }
     ensures { result.now ≡ part.now }
@@ -107,7 +114,7 @@ pub fn ascii(part: &[u8]) -> &str
     }
 }
 
-/// The part as a name of a sort, phylum or list, if it is one.
+/// Returns the part as a name of a sort, phylum or list, if it is one.
 pub fn kind_name(alloc: Global, part: &[u8]) -> Result<Option<Txt>, AllocError>
     ensures { IfOk result (λ o. MatchOption o (IsKindName part.now → ⊥) (λ t. (t ≡ part.now) × IsKindName part.now)) }
 {
@@ -118,7 +125,7 @@ pub fn kind_name(alloc: Global, part: &[u8]) -> Result<Option<Txt>, AllocError>
     Ok(Some(name))
 }
 
-/// The part as a name of a constructor or operator, if it is one.
+/// Returns the part as a name of a constructor or operator, if it is one.
 pub fn own_name(alloc: Global, part: &[u8]) -> Result<Option<Txt>, AllocError>
     ensures { IfOk result (λ o. MatchOption o (IsOwnName part.now → ⊥) (λ t. (t ≡ part.now) × IsOwnName part.now)) }
 {

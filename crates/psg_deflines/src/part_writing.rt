@@ -1,4 +1,4 @@
-//! Parts of lines as texts, each behind one space.
+//! Parts of lines as texts, each after one space.
 ghost use Rattle.std.specs.Prelude.{◌≡◌, ◌++◌, ◌∷◌, [], cond, OnOk, string_bytes, encode_utf8_all};
 ghost use Rattle.std.specs.List.{flat_map};
 ghost use Rattle.psg_lexis.specs.Tokens.{escaped, quoted};
@@ -53,7 +53,7 @@ pub fn write_quoted(out: &mut String, contents: &str) -> Result<(), AllocError>
     out.push_str("\"")
 }
 
-/// Writes what stands before an element of the number, from 0: the bracket, or a comma.
+/// Writes what is before the element of the number, from 0: the bracket, or a comma.
 pub fn write_mark(out: &mut String, bracket: &str, number: usize) -> Result<(), AllocError>
     ensures { OnOk result (string_bytes out.new
         ≡ string_bytes out.old ++ behind (mark_at bracket.now number ∷ [])) }
@@ -61,7 +61,7 @@ pub fn write_mark(out: &mut String, bracket: &str, number: usize) -> Result<(), 
     write_word(out, if number == 0 { bracket } else { "," })
 }
 
-/// Writes the bracket behind so many elements, where there are any.
+/// Writes the closing bracket after the elements, where there are any.
 pub fn write_closing(out: &mut String, count: usize) -> Result<(), AllocError>
     ensures { OnOk result (string_bytes out.new ≡ string_bytes out.old ++ behind (closing count)) }
 {
@@ -104,7 +104,7 @@ fn write_place(out: &mut String, place: &LinePlace) -> Result<(), AllocError>
     out.push_str(" )")
 }
 
-/// Writes what stands behind the elements of a list.
+/// Writes what follows the elements of a list.
 fn write_ending(out: &mut String, rest: &Option<LinePlace>) -> Result<(), AllocError>
     ensures { OnOk result (string_bytes out.new ≡ string_bytes out.old ++ behind (ending_parts rest.now)) }
 {

@@ -1,18 +1,19 @@
 //! The parts of a line.
 ghost use Rattle.std.specs.Prelude.{◌≡◌, ◌&&◌, ◌||◌, ◌==◌, IfOk, MatchOption, ◌<◌, length, slice_index, true};
 ghost use Rattle.std.specs.List.{prefix_len};
-ghost use Rattle.psg_grammar.specs.Sound.{goes_on_name};
-ghost use Rattle.psg_deflines.specs.Parts.{is_mark, is_sigil, goes_behind, IsFirst, HasNoFirst, HasParts, HasNoParts, IsSplit, texts};
+ghost use Rattle.psg_deflines.specs.Written.{goes_on_word};
+ghost use Rattle.psg_deflines.specs.Parts.{is_mark, is_sigil, goes_behind, IsFirst, HasNoFirst, HasParts, HasNoParts};
+ghost use Rattle.psg_deflines.specs.Parts.{IsSplit, texts};
 ghost use Rattle.psg_deflines.specs.Only.{IsOnly};
 
 use crate::quotes::{closing, quoted_text};
 use std::alloc::{AllocError, Global};
 
-/// Whether the character is a letter, a digit or `_`.
-pub fn goes_on(c: u8) -> bool
-    ensures { result ≡ goes_on_name c }
+/// Whether the character is a letter, a digit, `_` or `@`.
+fn goes_on(c: u8) -> bool
+    ensures { result ≡ goes_on_word c }
 {
-    c.is_ascii_alphanumeric() || c == b'_'
+    c.is_ascii_alphanumeric() || c == b'_' || c == b'@'
 }
 
 /// Whether the character is a part by itself.
@@ -22,14 +23,14 @@ fn is_mark(c: u8) -> bool
     matches!(c, b':' | b'=' | b'(' | b')' | b',' | b'[' | b']' | b'|')
 }
 
-/// Whether a name stands behind the character.
+/// Whether a name follows the character.
 fn is_sigil(c: u8) -> bool
     ensures { result ≡ is_sigil c }
 {
     c == b'?' || c == b'$'
 }
 
-/// Whether a name behind the sigil goes on with the character.
+/// Whether a name after the sigil goes on with the character.
 fn goes_behind(sigil: u8, c: u8) -> bool
     ensures { result ≡ goes_behind sigil c }
 {
@@ -40,9 +41,9 @@ fn goes_behind(sigil: u8, c: u8) -> bool
     }
 }
 
-/// The length of the longest run of letters, digits and `_` at the beginning of the text.
+/// The length of the longest run of letters, digits, `_` and `@` at the beginning of the text.
 fn word_len(text: &[u8]) -> usize
-    ensures { result ≡ prefix_len goes_on_name text.now }
+    ensures { result ≡ prefix_len goes_on_word text.now }
 {
     text.iter().take_while(|c| goes_on(**c)).count()
 }
@@ -54,14 +55,14 @@ fn spaces_len(text: &[u8]) -> usize
     text.iter().take_while(|c| **c == b' ').count()
 }
 
-/// The length of the longest run of characters of a name behind the sigil.
+/// The length of the longest run of characters of a name after the sigil.
 fn name_len(sigil: u8, text: &[u8]) -> usize
     ensures { result ≡ prefix_len (goes_behind sigil) text.now }
 {
     text.iter().take_while(|c| goes_behind(sigil, **c)).count()
 }
 
-/// The length of the sigil and its name with which the text begins, if a name stands there and nothing goes on with it.
+/// The length of the sigil and its name with which the text begins, if there is a name and nothing goes on with it.
 fn sigil_len(text: &[u8]) -> Option<usize>
     requires long { 0 < length text.now }
     requires sigil { is_sigil (slice_index text.now 0) ≡ true }
@@ -113,8 +114,8 @@ fn first_part(alloc: Global, text: &[u8]) -> Result<Option<usize>, AllocError>
     Ok(if len > 0 { Some(len) } else { None })
 }
 
-/// The first part of the text, and what stands behind the spaces that follow it. There is none where the text begins
-/// with no part, or ends in spaces.
+/// The first part of the text, and what is after the spaces that follow it. There is none where the text begins with no
+/// part, or ends in spaces.
 fn split_part(alloc: Global, text: &[u8]) -> Result<Option<(&[u8], &[u8])>, AllocError>
     requires { 0 < length text.now }
     ensures { IfOk result (λ o. MatchOption o (HasNoParts text.now) (λ r. IsSplit text.now r.0.now r.1.now)) }
@@ -131,7 +132,8 @@ fn split_part(alloc: Global, text: &[u8]) -> Result<Option<(&[u8], &[u8])>, Allo
     Ok(Some((part, rest)))
 }
 
-/// The parts of a line. There are none where a character belongs to no part, and where the line begins or ends with spaces.
+/// Splits a line into its parts. There are none where a character belongs to no part, and where the line begins or ends
+/// with spaces.
 pub fn parts<'a>(alloc: Global, line: &'a [u8]) -> Result<Option<Vec<&'a [u8]>>, AllocError>
     ensures { IfOk result (λ o. MatchOption o (HasNoParts line.now) (λ v. IsOnly (HasParts line.now) (texts v.items))) }
 {

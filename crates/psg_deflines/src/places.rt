@@ -1,9 +1,11 @@
 //! Hole places, and the ends of lists, from parts of a line.
-ghost use Rattle.std.specs.Prelude.{ℕ, ◌≡◌, ◌∷◌, List, IfOk, MatchOption, MatchBool, codes, option_map, length, drop, ◌≤◌};
+ghost use Rattle.std.specs.Prelude.{ℕ, ◌≡◌, ◌∷◌, List, IfOk, MatchOption, MatchBool, codes, option_map, length, drop};
+ghost use Rattle.std.specs.Prelude.{◌≤◌};
 ghost use Rattle.psg_deflines.specs.Parts.{texts};
 ghost use Rattle.psg_deflines.specs.TermWalks.{Parts};
 ghost use Rattle.psg_deflines.specs.TreeWalks.{GoesOn};
-ghost use Rattle.psg_deflines.specs.TreePieces.{HasNoHead, HasNoPlace, IsPlaceFound, HasNoEnd, IsEndFound, CanEnd, place_of};
+ghost use Rattle.psg_deflines.specs.TreePieces.{HasNoHead, HasNoPlace, IsPlaceFound, HasNoEnd, IsEndFound, CanEnd};
+ghost use Rattle.psg_deflines.specs.TreePieces.{place_of};
 
 use crate::names::{is, kind_name};
 use crate::term_reading::{TermRead, line_term};
@@ -15,34 +17,41 @@ use std::alloc::{AllocError, Global};
 /// A hole place, and how many parts it takes. There is no place where its term is nested too deep.
 #[derive(Drop)]
 pub struct PlaceRead {
+    /// The place, if it is kept.
     pub place: Option<LinePlace>,
+    /// The number of parts that it takes.
     pub taken: usize,
 }
 
-/// What stands behind the last element of a list: the place of the other elements, if there is one. The place is not kept
+/// What follows the last element of a list: the place of the other elements, if there is one. The place is not kept
 /// where its term is nested too deep.
 #[derive(Drop)]
 pub struct ListEnd {
+    /// The place of the other elements, if there is one that is kept.
     pub rest: Option<LinePlace>,
+    /// Whether the term of the place is nested too deep.
     pub deep: bool,
 }
 
 /// The end of a list, and how many parts it takes.
 #[derive(Drop)]
 pub struct EndRead {
+    /// The end.
     pub end: ListEnd,
+    /// The number of parts that it takes.
     pub taken: usize,
 }
 
-/// What stands behind the word, if the parts begin with it.
+/// Returns the parts after the word, if they begin with it.
 pub fn behind<'a>(parts: &'a [&'a [u8]], word: &str) -> Option<&'a [&'a [u8]]>
-    ensures { MatchOption result ((rest : Parts) → texts parts.now ≡ word.now ∷ rest → ⊥) (λ r. texts parts.now ≡ word.now ∷ texts r.now) }
+    ensures { MatchOption result ((rest : Parts) → texts parts.now ≡ word.now ∷ rest → ⊥)
+        (λ r. texts parts.now ≡ word.now ∷ texts r.now) }
 {
     let (first, rest) = parts.split_first()?;
     if is(first, word) { Some(rest) } else { None }
 }
 
-/// What stands behind so many parts.
+/// Returns the parts without the first `taken` ones.
 pub fn rest_behind<'a>(parts: &'a [&'a [u8]], taken: usize) -> &'a [&'a [u8]]
     requires { taken ≤ length (texts parts.now) }
     ensures { texts result.now ≡ drop taken (texts parts.now) }
@@ -51,7 +60,7 @@ pub fn rest_behind<'a>(parts: &'a [&'a [u8]], taken: usize) -> &'a [&'a [u8]]
     rest
 }
 
-/// The name of the kind of a hole place, and what stands behind its comma.
+/// The name of the kind of a hole place, and the parts after its comma.
 fn place_head<'a>(parts: &'a [&'a [u8]]) -> Option<(&'a [u8], &'a [&'a [u8]])>
     ensures { MatchOption result (HasNoHead (texts parts.now))
         (λ r. texts parts.now ≡ codes "hole" ∷ codes "(" ∷ r.0.now ∷ codes "," ∷ texts r.1.now) }
@@ -73,7 +82,7 @@ fn kept_place(kind: Txt, term: Option<LineTerm>) -> Option<LinePlace>
     }
 }
 
-/// The hole place with which the parts begin, and how many parts it takes.
+/// Reads the hole place with which the parts begin, and how many parts it takes; `None` where they begin with none.
 pub fn line_place(alloc: Global, parts: &[&[u8]]) -> Result<Option<PlaceRead>, AllocError>
     ensures { IfOk result (λ o. MatchOption o (HasNoPlace (texts parts.now)) (IsPlaceFound (texts parts.now))) }
 {
@@ -97,7 +106,7 @@ pub fn line_place(alloc: Global, parts: &[&[u8]]) -> Result<Option<PlaceRead>, A
     }))
 }
 
-/// Whether the parts begin as the end of a list does.
+/// Says whether the parts begin as the end of a list does.
 pub fn can_end(parts: &[&[u8]]) -> bool
     ensures { MatchBool result (CanEnd (texts parts.now)) (GoesOn (texts parts.now)) }
 {
@@ -107,7 +116,8 @@ pub fn can_end(parts: &[&[u8]]) -> bool
     is(first, "]") || is(first, "|")
 }
 
-/// The end of a list with which the parts begin: a bracket, and before it perhaps the place of the other elements behind a bar.
+/// Reads the end of a list with which the parts begin: a bracket, and before it perhaps the place of the other elements
+/// after a bar; `None` where they begin with none.
 pub fn list_end(alloc: Global, parts: &[&[u8]]) -> Result<Option<EndRead>, AllocError>
     ensures { IfOk result (λ o. MatchOption o (HasNoEnd (texts parts.now)) (IsEndFound (texts parts.now))) }
 {

@@ -8,7 +8,7 @@ use psg_lexis::{LexFault, Lexis, Spanned, Token, lex};
 use psg_terms::Txt;
 use std::alloc::{AllocError, Global};
 
-/// The index of the quote that closes a text, where its opening one stands in front of these bytes.
+/// Returns the index of the quote that closes a text, where the opening one is just before these bytes.
 pub fn closing(text: &[u8]) -> Option<usize>
     ensures { result ≡ closing false text.now }
 {
@@ -22,7 +22,7 @@ pub fn closing(text: &[u8]) -> Option<usize>
     None
 }
 
-/// The contents of the only token, if it is a quoted text on all of so many bytes.
+/// The contents of the only token, if it is a quoted text and takes all the bytes, `len` of them.
 fn text_alone(tokens: &[Spanned], len: usize) -> Option<&Txt>
     ensures { MatchOption result (HasNoTextAlone tokens.now len) (λ t. IsTextAlone tokens.now len t.now) }
 {
@@ -35,7 +35,7 @@ fn text_alone(tokens: &[Spanned], len: usize) -> Option<&Txt>
     }
 }
 
-/// Nothing, unless memory was wanting.
+/// Nothing, unless memory ran out.
 fn no_text(fault: LexFault) -> Result<(), AllocError>
     ensures { OnOk result (fault ≢ LexFault.Memory) }
 {
@@ -46,7 +46,7 @@ fn no_text(fault: LexFault) -> Result<(), AllocError>
     }
 }
 
-/// The contents of a quoted text on the whole part, with its escapes resolved, if the part is one.
+/// Returns the contents of a quoted text on the whole part, with its escapes resolved, if the part is one.
 pub fn quoted_text(alloc: Global, part: &[u8]) -> Result<Option<Txt>, AllocError>
     ensures { IfOk result (λ o. MatchOption o (HasNoQuote part.now) (IsOnly (IsQuoteOf part.now))) }
 {

@@ -1,5 +1,6 @@
 //! The lines of a definition file from its bytes.
-ghost use Rattle.std.specs.Prelude.{◌≡◌, ◌<◌, ◌+◌, ◌^◌, take, length, map, IfOk, IfErr, IsTrue, ◌↔◌, List};
+ghost use Rattle.std.specs.Prelude.{ℕ, ◌≡◌, ◌<◌, ◌+◌, ◌^◌, ◌∷◌, [], take, length, map, IfOk, IfErr, MatchOption, List};
+ghost use Rattle.psg_deflines.specs.Versions.{IsVersion};
 ghost use Rattle.std.specs.Str.Lines.{lines};
 ghost use Rattle.psg_deflines.specs.Entries.{head_parts, Entry, HasHead, behind_head};
 ghost use Rattle.psg_deflines.specs.Parts.{texts};
@@ -22,26 +23,42 @@ fn text_lines<'a>(alloc: Global, text: &'a str) -> Result<Vec<&'a str>, AllocErr
     text.lines().collect(alloc)
 }
 
-/// Whether the parts are those of the first line of version 1.
-fn are_head(parts: &[&[u8]]) -> bool
-    ensures { IsTrue result ↔ (head_parts ≡ texts parts.now) }
+/// The version with the number, if there is one.
+fn version_of(part: &[u8]) -> Option<u32>
+    ensures { MatchOption result ((v : ℕ) → IsVersion v → (48 + v) ∷ [] ≡ part.now → ⊥)
+        (λ v. IsVersion v × ((48 + v) ∷ [] ≡ part.now)) }
 {
-    if parts.len() != 2 {
-        return false;
+    if is(part, "1") {
+        Some(1)
+    } else if is(part, "2") {
+        Some(2)
+    } else {
+        None
     }
-    if !is(parts[0], "psg") {
-        return false;
-    }
-    is(parts[1], "1")
 }
 
-/// Whether the text is the first line of version 1.
-fn is_head(alloc: Global, text: &str) -> Result<bool, AllocError>
-    ensures { IfOk result (λ b. IsTrue b ↔ IsWritten head_parts text.now) }
+/// The version of which the parts are the first line's.
+fn head_of(parts: &[&[u8]]) -> Option<u32>
+    ensures { MatchOption result ((v : ℕ) → IsVersion v → head_parts v ≡ texts parts.now → ⊥)
+        (λ v. IsVersion v × (head_parts v ≡ texts parts.now)) }
+{
+    if parts.len() != 2 {
+        return None;
+    }
+    if !is(parts[0], "psg") {
+        return None;
+    }
+    version_of(parts[1])
+}
+
+/// The version of which the text is the first line.
+fn version(alloc: Global, text: &str) -> Result<Option<u32>, AllocError>
+    ensures { IfOk result (λ o. MatchOption o ((v : ℕ) → IsVersion v → IsWritten (head_parts v) text.now → ⊥)
+        (λ v. IsVersion v × IsWritten (head_parts v) text.now)) }
 {
     match parts(alloc, text.as_bytes())? {
-        Some(parts) => Ok(are_head(parts.as_slice())),
-        None => Ok(false),
+        Some(parts) => Ok(head_of(parts.as_slice())),
+        None => Ok(None),
     }
 }
 
@@ -58,7 +75,7 @@ fn line_feeds(bytes: &[u8]) -> usize
     feeds
 }
 
-/// The fault of bytes that are UTF-8 up to so many and no further.
+/// The fault of bytes of which the longest front that is UTF-8 has `valid` bytes.
 fn not_text(bytes: &[u8], valid: usize) -> DefFault
     requires long { valid < length bytes.now }
     requires few { length bytes.now < 2 ^ 32 }
@@ -73,7 +90,7 @@ fn not_text(bytes: &[u8], valid: usize) -> DefFault
     }
 }
 
-/// The fault of a file that does not begin with the line of version 1.
+/// The fault of a file that does not begin with the line of a version.
 fn no_version() -> ReadFault
     ensures { result ≡ ReadFault.Def (record { line = 1; code = DefCode.Version }) }
 {
@@ -83,30 +100,43 @@ fn no_version() -> ReadFault
     })
 }
 
-/// What stands in a text that is a file, behind its head.
-fn read_text(alloc: Global, text: &str) -> Result<Vec<Option<Line>>, ReadFault>
+/// The lines of a definition file: its version, and an entry for each text after its first one. An entry is the line,
+/// or none for an empty text and for a comment, which begins with `#`.
+#[derive(Drop)]
+pub struct FileLines {
+    /// The version, 1 or 2.
+    pub version: u32,
+    /// The entries of the texts from line 2 on.
+    pub entries: Vec<Option<Line>>,
+}
+
+/// Reads the text of a file.
+fn read_text(alloc: Global, text: &str) -> Result<FileLines, ReadFault>
     requires { length text.now < 2 ^ 32 }
-    ensures ok { IfOk result (λ found. HasHead (lines text.now) × AreEntriesRead (behind_head (lines text.now)) found.items) }
+    ensures ok { IfOk result (λ found. HasHead found.version (lines text.now)
+        × AreEntriesRead found.version (behind_head (lines text.now)) found.entries.items) }
     ensures err { IfErr result (IsTextFault (lines text.now)) }
 {
     let written = text_lines(alloc, text)?;
     let Some((head, rest)) = written.split_first() else {
         return Err(no_version());
     };
-    if !is_head(alloc, head)? {
+    let Some(version) = version(alloc, head)? else {
         return Err(no_version());
-    }
-    entries(alloc, rest)
+    };
+    let entries = entries(alloc, version, rest)?;
+    Ok(FileLines { version, entries })
 }
 
-/// The lines of a definition file, an entry for each text behind its first one: the line, or none for an empty text and for a
-/// comment, which begins with `#`. The first fault comes with its line, from 1: the bytes are tested as UTF-8, then the head,
-/// then each line for its form, its quoted words and its nesting. `Memory` comes when memory runs out, at any time. It takes
-/// time linear in the bytes.
-pub fn read_lines(alloc: Global, bytes: &[u8]) -> Result<Vec<Option<Line>>, ReadFault>
+/// Reads the version and the lines of a definition file; all lines are of that version. A fault is the first one, with
+/// its line, from 1. The bytes are tested as UTF-8, then the head, then each line for its form and version, its quoted
+/// words and its nesting. `Memory` is returned when memory runs out, at any time. It takes time linear in the bytes.
+pub fn read_lines(alloc: Global, bytes: &[u8]) -> Result<FileLines, ReadFault>
     requires { length bytes.now < 2 ^ 32 }
-    ensures ok { IfOk result (λ found. AreLinesOf bytes.now found.items) }
-    ensures only { IfOk result (λ found. (other : List Entry) → HasEntries bytes.now other → other ≡ found.items) }
+    ensures ok { IfOk result (λ found. AreLinesOf bytes.now found.version found.entries.items) }
+    ensures only { IfOk result
+        (λ found. (v : ℕ) (other : List Entry) → HasEntries bytes.now v other → (v ≡ found.version)
+        × (other ≡ found.entries.items)) }
     ensures faultless { IfOk result (λ _. HasNoFormFault bytes.now) }
     ensures err { IfErr result (IsFormFault bytes.now) }
 {

@@ -1,11 +1,14 @@
-//! What stands behind the keyword and the name of a line of terms.
-ghost use Rattle.std.specs.Prelude.{◌≡◌, ◌++◌, ◌∷◌, [], List, IfOk, IsTrue, ◌↔◌, MatchBool, MatchOption, codes, drop, Some};
+//! What follows the keyword and the name of a line of terms.
+ghost use Rattle.std.specs.Prelude.{◌≡◌, ◌++◌, ◌∷◌, [], List, IfOk, IsTrue, ◌↔◌, MatchBool, MatchOption, codes, drop};
+ghost use Rattle.std.specs.Prelude.{Some};
 ghost use Rattle.psg_deflines.specs.Parts.{texts};
 ghost use Rattle.psg_deflines.specs.WrittenTerms.{WrittenTerm};
 ghost use Rattle.psg_deflines.specs.WrittenTrees.{WrittenTree};
 ghost use Rattle.psg_deflines.specs.TreeReads.{IsTreeKept};
 ghost use Rattle.psg_deflines.specs.TermWalks.{IsKept};
-ghost use Rattle.psg_deflines.specs.TailReads.{AreKept, AreTermsFound, HaveNoTerms, IsNotColon, AreColumnsFound, HaveNoColumns, IsBehind, IsBehindFound, HasNothingBehind, IsTailFound, HasNoTail};
+ghost use Rattle.psg_deflines.specs.TailReads.{AreKept, AreTermsFound, HaveNoTerms, IsNotColon, AreColumnsFound};
+ghost use Rattle.psg_deflines.specs.TailReads.{HaveNoColumns, IsBehind, IsBehindFound, HasNothingBehind, IsTailFound};
+ghost use Rattle.psg_deflines.specs.TailReads.{HasNoTail};
 
 use crate::names::is;
 use crate::term_reading::{TermRead, line_term};
@@ -15,29 +18,38 @@ use crate::trees::LineTree;
 use psg_terms::Seq;
 use std::alloc::{AllocError, Global};
 
-/// Terms, how many they are, and how many parts they take. They are not kept where one is nested too deep.
+/// The terms, how many they are, and how many parts they take. They are not kept where one is nested too deep.
 #[derive(Drop)]
 pub struct TermsRead {
+    /// The terms, if they are kept.
     pub terms: Option<Seq<LineTerm>>,
+    /// The number of terms, kept or not.
     pub count: usize,
+    /// The number of parts that they take.
     pub taken: usize,
 }
 
-/// What stands at the end of a line of terms.
+/// What is at the end of a line of terms.
 #[derive(Drop)]
 pub enum Behind {
+    /// No specimen.
     Nothing,
     /// A specimen that is nested too deep.
     TooDeep,
+    /// A specimen.
     Tree(LineTree),
 }
 
-/// A term, the terms behind a colon and what stands at the end. Terms are not kept where one is nested too deep.
+/// A term, the terms after a colon and what is at the end. Terms are not kept where one is nested too deep.
 #[derive(Drop)]
 pub struct Tail {
+    /// The first term, if it is kept.
     pub head: Option<LineTerm>,
+    /// The terms after the colon, if they are kept.
     pub columns: Option<Seq<LineTerm>>,
+    /// The number of the terms after the colon, kept or not.
     pub count: usize,
+    /// What is after the terms.
     pub behind: Behind,
 }
 
@@ -46,7 +58,8 @@ fn with_term(
     kept: Option<Seq<LineTerm>>,
     term: Option<LineTerm>,
 ) -> Result<Option<Seq<LineTerm>>, AllocError>
-    ensures { IfOk result (λ more. (ts : List WrittenTerm) (t : WrittenTerm) → AreKept kept ts → IsKept term t → AreKept more (ts ++ t ∷ [])) }
+    ensures { IfOk result (λ more. (ts : List WrittenTerm) (t : WrittenTerm) → AreKept kept ts → IsKept term t
+        → AreKept more (ts ++ t ∷ [])) }
 {
     let Some(mut terms) = kept else {
         return Ok(None);
@@ -58,9 +71,10 @@ fn with_term(
     Ok(Some(terms))
 }
 
-/// So many terms, or fewer where nothing is left.
+/// Reads at most this number of terms, or fewer where nothing is left.
 fn terms(alloc: Global, parts: &[&[u8]], most: usize) -> Result<Option<TermsRead>, AllocError>
-    ensures { IfOk result (λ o. MatchOption o (HaveNoTerms most (texts parts.now)) (AreTermsFound most (texts parts.now))) }
+    ensures { IfOk result (λ o. MatchOption o (HaveNoTerms most (texts parts.now))
+        (AreTermsFound most (texts parts.now))) }
 {
     let mut terms = Some(Seq::of(Vec::new(alloc)));
     let mut count = 0;
@@ -91,9 +105,10 @@ fn is_colon(parts: &[&[u8]]) -> bool
     is(first, ":")
 }
 
-/// The terms behind a colon, so many or up to the end, or none where no colon stands.
+/// The terms after a colon, at most this number or up to the end, or none where there is no colon.
 fn columns(alloc: Global, parts: &[&[u8]], most: usize) -> Result<Option<TermsRead>, AllocError>
-    ensures { IfOk result (λ o. MatchOption o (HaveNoColumns most (texts parts.now)) (AreColumnsFound most (texts parts.now))) }
+    ensures { IfOk result (λ o. MatchOption o (HaveNoColumns most (texts parts.now))
+        (AreColumnsFound most (texts parts.now))) }
 {
     if !is_colon(parts) {
         let terms = Some(Seq::of(Vec::new(alloc)));
@@ -131,7 +146,7 @@ fn specimen_behind(tree: Option<LineTree>) -> Behind
     }
 }
 
-/// The specimen behind `by` that ends the line, or nothing where nothing is left.
+/// The specimen after `by` that ends the line, or nothing where nothing is left.
 fn line_end(alloc: Global, parts: &[&[u8]]) -> Result<Option<Behind>, AllocError>
     ensures { IfOk result (λ o. MatchOption o (HasNothingBehind (texts parts.now)) (IsBehindFound (texts parts.now))) }
 {
@@ -151,7 +166,8 @@ fn line_end(alloc: Global, parts: &[&[u8]]) -> Result<Option<Behind>, AllocError
     Ok(Some(specimen_behind(tree)))
 }
 
-/// A term, the terms behind a colon, so many or up to the end, and a specimen behind `by`.
+/// Reads a term, the terms after a colon, at most `most` of them or up to the end, and a specimen after `by`; `None`
+/// where the parts have another form.
 pub fn line_tail(alloc: Global, parts: &[&[u8]], most: usize) -> Result<Option<Tail>, AllocError>
     ensures { IfOk result (λ o. MatchOption o (HasNoTail most (texts parts.now)) (IsTailFound most (texts parts.now))) }
 {

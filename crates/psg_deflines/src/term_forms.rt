@@ -1,10 +1,13 @@
 //! The forms of lines of terms.
-ghost use Rattle.std.specs.Prelude.{ℕ, ◌≡◌, ◌∷◌, [], Some, None, cond, ◌⊎◌, ◌≤◌, length, IfOk, MatchOption, codes};
+ghost use Rattle.std.specs.Prelude.{ℕ, ◌≡◌, ◌++◌, ◌∷◌, [], Some, None, cond, ◌⊎◌, ◌≤◌, length, IfOk, MatchOption};
+ghost use Rattle.std.specs.Prelude.{codes};
 ghost use Rattle.psg_deflines.specs.Parts.{texts};
 ghost use Rattle.psg_grammar.specs.Sound.{IsKindName};
 ghost use Rattle.psg_deflines.specs.TermWalks.{Parts};
 ghost use Rattle.psg_deflines.specs.WrittenTerms.{WrittenTerm};
-ghost use Rattle.psg_deflines.specs.TailReads.{is_nothing, specimen_of, tree_behind, IsTailFound, HasNoNamedTail, IsNamedTailFound};
+ghost use Rattle.psg_deflines.specs.TailReads.{is_nothing, specimen_of, tree_behind, IsTailFound, HasNoNamedTail};
+ghost use Rattle.psg_deflines.specs.TailReads.{IsNamedTailFound};
+ghost use Rattle.psg_deflines.specs.Forms.{IsSpaceName, tag};
 ghost use Rattle.psg_deflines.specs.LineReads.{IsFormRead};
 
 use crate::lines::Line;
@@ -22,10 +25,11 @@ pub enum FormRead {
     Nothing,
     /// A term or a specimen is nested too deep.
     TooDeep,
+    /// The line.
     Read(Line),
 }
 
-/// Whether no specimen stands at the end.
+/// Whether there is no specimen at the end.
 fn is_nothing(behind: &Behind) -> bool
     ensures { result ≡ is_nothing behind.now }
 {
@@ -89,13 +93,14 @@ fn only_if(holds: bool, read: FormRead) -> FormRead
     if holds { read } else { FormRead::Nothing }
 }
 
-/// A name of a list or phylum, and what stands behind it.
+/// A name of a list or phylum, and what follows it.
 fn named_tail(
     alloc: Global,
     parts: &[&[u8]],
     most: usize,
 ) -> Result<Option<(Txt, Tail)>, AllocError>
-    ensures { IfOk result (λ o. MatchOption o (HasNoNamedTail most (texts parts.now)) (λ r. IsNamedTailFound most (texts parts.now) r.0 r.1)) }
+    ensures { IfOk result (λ o. MatchOption o (HasNoNamedTail most (texts parts.now))
+        (λ r. IsNamedTailFound most (texts parts.now) r.0 r.1)) }
 {
     let Some((first, rest)) = parts.split_first() else {
         return Ok(None);
@@ -111,7 +116,8 @@ fn named_tail(
 
 /// The row that is such a tail.
 fn row_of(tail: Tail) -> FormRead
-    ensures { (most : ℕ) (ps : Parts) → IsTailFound most ps tail → length ps ≤ most → IsFormRead (codes "row" ∷ ps) result }
+    ensures { (most : ℕ) (ps : Parts) → IsTailFound most ps tail → length ps ≤ most
+        → IsFormRead (codes "row" ∷ ps) result }
 {
     let Tail {
         head,
@@ -215,9 +221,10 @@ fn case_of(tail: Tail) -> FormRead
     only_if(!ended, read)
 }
 
-/// The declare row that is such a tail.
-fn declare_of(list: Txt, tail: Tail) -> FormRead
-    ensures { (ps : Parts) → IsKindName list → IsTailFound 1 ps tail → IsFormRead (codes "declare" ∷ list ∷ ps) result }
+/// The declare row of the space that is such a tail.
+fn declare_of(space: Txt, list: Txt, tail: Tail) -> FormRead
+    ensures { (ps : Parts) → IsSpaceName space → IsKindName list → IsTailFound 1 ps tail
+        → IsFormRead ((codes "declare" ++ tag space) ∷ list ∷ ps) result }
 {
     let Tail {
         head,
@@ -230,6 +237,7 @@ fn declare_of(list: Txt, tail: Tail) -> FormRead
         Some((terms, specimen)) => {
             let (entity, value) = terms;
             FormRead::Read(Line::Declare {
+                space,
                 list,
                 entity,
                 value,
@@ -241,7 +249,7 @@ fn declare_of(list: Txt, tail: Tail) -> FormRead
     only_if((count == 1) & !ended, read)
 }
 
-/// `row term` or `row term : term term ..`, behind the first part.
+/// Reads `row term` or `row term : term term ..` from the parts after the first one.
 pub fn line_row(alloc: Global, parts: &[&[u8]]) -> Result<FormRead, AllocError>
     ensures { IfOk result (IsFormRead (codes "row" ∷ texts parts.now)) }
 {
@@ -251,7 +259,7 @@ pub fn line_row(alloc: Global, parts: &[&[u8]]) -> Result<FormRead, AllocError>
     }
 }
 
-/// `nil L term`, behind the first part.
+/// Reads `nil L term` from the parts after the first one.
 pub fn line_nil(alloc: Global, parts: &[&[u8]]) -> Result<FormRead, AllocError>
     ensures { IfOk result (IsFormRead (codes "nil" ∷ texts parts.now)) }
 {
@@ -261,7 +269,7 @@ pub fn line_nil(alloc: Global, parts: &[&[u8]]) -> Result<FormRead, AllocError>
     }
 }
 
-/// `cell L term : term term`, behind the first part.
+/// Reads `cell L term : term term` from the parts after the first one.
 pub fn line_cell(alloc: Global, parts: &[&[u8]]) -> Result<FormRead, AllocError>
     ensures { IfOk result (IsFormRead (codes "cell" ∷ texts parts.now)) }
 {
@@ -271,7 +279,7 @@ pub fn line_cell(alloc: Global, parts: &[&[u8]]) -> Result<FormRead, AllocError>
     }
 }
 
-/// `hole K term` or `hole K term by specimen`, behind the first part.
+/// Reads `hole K term` or `hole K term by specimen` from the parts after the first one.
 pub fn line_hole(alloc: Global, parts: &[&[u8]]) -> Result<FormRead, AllocError>
     ensures { IfOk result (IsFormRead (codes "hole" ∷ texts parts.now)) }
 {
@@ -281,7 +289,7 @@ pub fn line_hole(alloc: Global, parts: &[&[u8]]) -> Result<FormRead, AllocError>
     }
 }
 
-/// `case term by specimen`, behind the first part.
+/// Reads `case term by specimen` from the parts after the first one.
 pub fn line_case(alloc: Global, parts: &[&[u8]]) -> Result<FormRead, AllocError>
     ensures { IfOk result (IsFormRead (codes "case" ∷ texts parts.now)) }
 {
@@ -291,12 +299,13 @@ pub fn line_case(alloc: Global, parts: &[&[u8]]) -> Result<FormRead, AllocError>
     }
 }
 
-/// `declare L term : term by specimen`, behind the first part.
-pub fn line_declare(alloc: Global, parts: &[&[u8]]) -> Result<FormRead, AllocError>
-    ensures { IfOk result (IsFormRead (codes "declare" ∷ texts parts.now)) }
+/// Reads `declare L term : term by specimen` from the parts after the first one, which names the space.
+pub fn line_declare(alloc: Global, space: Txt, parts: &[&[u8]]) -> Result<FormRead, AllocError>
+    ensures { IfOk result (λ read. IsSpaceName space
+        → IsFormRead ((codes "declare" ++ tag space) ∷ texts parts.now) read) }
 {
     match named_tail(alloc, parts, 1)? {
-        Some((name, tail)) => Ok(declare_of(name, tail)),
+        Some((name, tail)) => Ok(declare_of(space, name, tail)),
         None => Ok(FormRead::Nothing),
     }
 }

@@ -1,8 +1,11 @@
 //! Terms from parts of a line.
-ghost use Rattle.std.specs.Prelude.{◌≡◌, ◌≢◌, ◌<◌, ◌≤◌, ◌∷◌, ◌||◌, nat_le, [], ℕ, true, List, IfOk, OnOk, IsTrue, ◌↔◌, MatchOption, MatchBool, codes, length, false};
+ghost use Rattle.std.specs.Prelude.{◌≡◌, ◌≢◌, ◌<◌, ◌≤◌, ◌∷◌, ◌||◌, nat_le, [], ℕ, true, List, IfOk, OnOk, IsTrue, ◌↔◌};
+ghost use Rattle.std.specs.Prelude.{MatchOption, MatchBool, codes, length, false};
 ghost use Rattle.psg_deflines.specs.Parts.{texts};
 ghost use Rattle.psg_deflines.specs.WrittenTerms.{WrittenTerm, most_nested, is_variable_name, apply};
-ghost use Rattle.psg_deflines.specs.TermWalks.{IsDone, IsFinished, frame_term, IsOpened, IsNotOpened, HasNoTerm, IsTermFound, HasNoStep, IsStepMade, IsWalk, is_deep, IsAdvanced, Stage, AreOpen, expects, has};
+ghost use Rattle.psg_deflines.specs.TermWalks.{IsDone, IsFinished, frame_term, IsOpened, IsNotOpened, HasNoTerm};
+ghost use Rattle.psg_deflines.specs.TermWalks.{IsTermFound, HasNoStep, IsStepMade, IsWalk, is_deep, IsAdvanced, Stage};
+ghost use Rattle.psg_deflines.specs.TermWalks.{AreOpen, expects, has};
 
 use crate::names::{ascii, is, is_own_name, is_variable_name};
 use crate::terms::{LineTerm, TermShape};
@@ -15,18 +18,22 @@ pub const MOST_NESTED: usize = 32;
 /// A constructor whose bracket is open, with its arguments so far.
 #[derive(Drop)]
 pub struct Frame {
+    /// The name of the constructor.
     pub name: Txt,
+    /// The arguments so far.
     pub args: Vec<LineTerm>,
 }
 
-/// The open constructors from the outermost on. Behind a term that is nested too deep arguments are no longer kept.
+/// The open constructors from the outermost on. After a term that is nested too deep arguments are no longer kept.
 #[derive(Drop)]
 pub struct Brackets {
+    /// The open constructors, the outermost first.
     pub frames: Vec<Frame>,
+    /// Whether a term was nested too deep.
     pub deep: bool,
 }
 
-/// Where a walk over the parts of a term stands.
+/// The state of a walk over the parts of a term.
 #[derive(Drop)]
 pub enum Walk {
     /// A term is to begin.
@@ -38,7 +45,9 @@ pub enum Walk {
 /// A term, and how many parts it takes. There is no term where it is nested too deep.
 #[derive(Drop)]
 pub struct TermRead {
+    /// The term, if it is kept.
     pub term: Option<LineTerm>,
+    /// The number of parts that it takes.
     pub taken: usize,
 }
 
@@ -55,7 +64,7 @@ fn variable_name(part: &[u8]) -> Option<&[u8]>
     }
 }
 
-/// Whether the parts begin with an opening bracket.
+/// Says whether the parts begin with an opening bracket.
 pub fn is_opened(parts: &[&[u8]]) -> bool
     ensures { MatchBool result (IsOpened (texts parts.now)) (IsNotOpened (texts parts.now)) }
 {
@@ -111,14 +120,15 @@ fn with_argument(frame: Frame, term: LineTerm, deep: bool) -> Result<Frame, Allo
     Ok(Frame { name, args })
 }
 
-/// Takes what stands behind a term inside a bracket: a comma, or the closing bracket.
+/// Takes what follows a term inside a bracket: a comma, or the closing bracket.
 fn go_on(
     brackets: Brackets,
     term: LineTerm,
     parts: &[&[u8]],
 ) -> Result<Option<(Walk, usize)>, AllocError>
     requires { 0 < length brackets.frames.items }
-    ensures { IfOk result (λ o. (fs : List WrittenTerm) (t : WrittenTerm) → AreOpen brackets fs → (brackets.deep ≡ false → term ≡ t)
+    ensures { IfOk result (λ o. (fs : List WrittenTerm) (t : WrittenTerm) → AreOpen brackets fs
+        → (brackets.deep ≡ false → term ≡ t)
         → MatchOption o (HasNoStep (has fs t) (texts parts.now))
         (λ r. IsStepMade (has fs t) brackets.deep (texts parts.now) r.0 r.1)) }
 {
@@ -175,8 +185,8 @@ fn advance(alloc: Global, walk: Walk, parts: &[&[u8]]) -> Result<Option<(Walk, u
     }
 }
 
-/// The term with which the parts begin, and how many parts it takes. Each part is looked at once, however deep the term is
-/// nested.
+/// Reads the term with which the parts begin, and how many parts it takes; `None` where they begin with none. Each part
+/// is looked at once, however deep the term is nested.
 pub fn line_term(alloc: Global, parts: &[&[u8]]) -> Result<Option<TermRead>, AllocError>
     ensures { IfOk result (λ o. MatchOption o (HasNoTerm (texts parts.now)) (IsTermFound (texts parts.now))) }
 {

@@ -1,4 +1,4 @@
-//! Terms as they stand in a line.
+//! Terms as they are written in a line.
 use psg_terms::{Seq, Txt};
 use std::marker::Model;
 
@@ -16,6 +16,7 @@ pub enum TermShape {
 #[cycle(line_term)]
 #[derive(Drop)]
 pub struct LineTerm {
+    /// What the term is.
     pub shape: TermShape,
 }
 

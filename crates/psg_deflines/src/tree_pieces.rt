@@ -1,5 +1,6 @@
 //! What begins in a specimen, and what ends there.
-ghost use Rattle.std.specs.Prelude.{ℕ, ◌≡◌, ◌∷◌, ◌^◌, ◌<◌, List, IfOk, OnOk, MatchOption, MatchBool, IsTrue, ◌↔◌, codes, true, false, SomeIff, cond, Some, None, option_map};
+ghost use Rattle.std.specs.Prelude.{ℕ, ◌≡◌, ◌∷◌, ◌^◌, ◌<◌, List, IfOk, OnOk, MatchOption, MatchBool, IsTrue, ◌↔◌};
+ghost use Rattle.std.specs.Prelude.{codes, true, false, SomeIff, cond, Some, None, option_map};
 ghost use Rattle.std.specs.List.{list_all};
 ghost use Rattle.psg_grammar.specs.Sound.{is_digit, is_upper, is_name_from, is_specimen_name, IsOwnName};
 ghost use Rattle.psg_lexis.specs.Tokens.{value_of};
@@ -8,7 +9,8 @@ ghost use Rattle.psg_deflines.specs.WrittenTrees.{operator, place, is_digits};
 ghost use Rattle.psg_deflines.specs.TreeShapes.{ending, list_of, with_parts};
 ghost use Rattle.psg_deflines.specs.TreeWalks.{in_operator, in_list, literal_part, IsLiteral, first_of, Begins};
 ghost use Rattle.psg_deflines.specs.TreeStages.{is_operator};
-ghost use Rattle.psg_deflines.specs.TreePieces.{frame_of, ShowsEnd, HasNoLiteral, IsKeptTree, ShowsBegin, HasNoBegin, IsBeginRead, HasNoPlace, HasNoFinish, IsFinishRead};
+ghost use Rattle.psg_deflines.specs.TreePieces.{frame_of, ShowsEnd, HasNoLiteral, IsKeptTree, ShowsBegin, HasNoBegin};
+ghost use Rattle.psg_deflines.specs.TreePieces.{IsBeginRead, HasNoPlace, HasNoFinish, IsFinishRead};
 
 use crate::names::{ascii, is, is_digits, is_kind_name, is_own_name, is_specimen_name};
 use crate::places::{EndRead, ListEnd, PlaceRead, behind, can_end, line_place, list_end};
@@ -20,7 +22,9 @@ use std::alloc::{AllocError, Global};
 /// An operator with its parts so far, or a list with its elements so far.
 #[derive(Drop)]
 pub enum OpenTree {
+    /// An operator whose bracket is open.
     Operator { name: Txt, parts: Vec<LinePart> },
+    /// A list whose square bracket is open.
     List { elements: Vec<LineTree> },
 }
 
@@ -38,23 +42,29 @@ pub enum TreeBegin {
 /// What begins, and how many parts it takes.
 #[derive(Drop)]
 pub struct BeginRead {
+    /// What begins.
     pub begin: TreeBegin,
+    /// The number of parts that it takes.
     pub taken: usize,
 }
 
-/// What stands behind a part or an element.
+/// What follows a part or an element.
 #[derive(Drop)]
 pub enum TreeFinish {
+    /// A comma: another part or element follows.
     Comma,
     /// The bracket that closes an operator.
     Close,
+    /// The end of a list.
     End(ListEnd),
 }
 
-/// What stands behind a part or an element, and how many parts it takes.
+/// What follows a part or an element, and how many parts it takes.
 #[derive(Drop)]
 pub struct FinishRead {
+    /// What follows.
     pub finish: TreeFinish,
+    /// The number of parts that it takes.
     pub taken: usize,
 }
 
@@ -95,7 +105,8 @@ fn specimen_name(part: &[u8]) -> Option<&[u8]>
 
 /// The name, number or text that the part is, if it is one.
 fn literal(alloc: Global, part: &[u8]) -> Result<Option<LinePart>, AllocError>
-    ensures { IfOk result (λ o. MatchOption o (HasNoLiteral part.now) (λ l. IsLiteral l × (part.now ≡ literal_part l))) }
+    ensures { IfOk result (λ o. MatchOption o (HasNoLiteral part.now)
+        (λ l. IsLiteral l × (part.now ≡ literal_part l))) }
 {
     if let Some(name) = specimen_name(part) {
         return Ok(Some(LinePart::Name(Txt::copy_of(alloc, ascii(name))?)));
@@ -138,7 +149,7 @@ fn open_operator(alloc: Global, name: &[u8]) -> Result<OpenTree, AllocError>
     Ok(OpenTree::Operator { name, parts })
 }
 
-/// An operator with the parts.
+/// Makes an operator with the parts.
 pub fn operator_tree(name: Txt, parts: Vec<LinePart>) -> LineTree
     ensures { result ≡ with_parts (operator name) parts.items }
 {
@@ -147,7 +158,7 @@ pub fn operator_tree(name: Txt, parts: Vec<LinePart>) -> LineTree
     LineTree { shape }
 }
 
-/// The name of an operator that is open, and its parts.
+/// Returns the name of an operator that is open, and its parts; `None` for a list.
 pub fn as_operator(frame: OpenTree) -> Option<(Txt, Vec<LinePart>)>
     ensures { MatchOption result (is_operator (frame_of frame) ≡ false)
         (λ r. frame_of frame ≡ in_operator (with_parts (operator r.0) r.1.items)) }
@@ -158,7 +169,7 @@ pub fn as_operator(frame: OpenTree) -> Option<(Txt, Vec<LinePart>)>
     }
 }
 
-/// The elements of a list that is open.
+/// Returns the elements of a list that is open; `None` for an operator.
 pub fn as_list(frame: OpenTree) -> Option<Vec<LineTree>>
     ensures { MatchOption result (is_operator (frame_of frame) ≡ true) (λ es. frame_of frame ≡ in_list es.items) }
 {
@@ -168,7 +179,7 @@ pub fn as_list(frame: OpenTree) -> Option<Vec<LineTree>>
     }
 }
 
-/// A list of the elements, if its rest is kept.
+/// Makes a list of the elements, if its rest is kept.
 pub fn list_tree(elements: Vec<LineTree>, end: ListEnd) -> Option<LineTree>
     ensures { result ≡ cond end.deep None (Some (list_of (ending end.rest) elements.items)) }
 {
@@ -181,9 +192,10 @@ pub fn list_tree(elements: Vec<LineTree>, end: ListEnd) -> Option<LineTree>
     Some(LineTree { shape })
 }
 
-/// What begins behind the bracket of a list.
+/// What begins after the bracket of a list.
 fn begin_list(alloc: Global, parts: &[&[u8]]) -> Result<Option<BeginRead>, AllocError>
-    ensures { IfOk result (λ o. MatchOption o (HasNoBegin (codes "[" ∷ texts parts.now)) (IsBeginRead (codes "[" ∷ texts parts.now))) }
+    ensures { IfOk result (λ o. MatchOption o (HasNoBegin (codes "[" ∷ texts parts.now))
+        (IsBeginRead (codes "[" ∷ texts parts.now))) }
 {
     if !can_end(parts) {
         let elements = Vec::new(alloc);
@@ -244,7 +256,7 @@ fn begin_operator(alloc: Global, parts: &[&[u8]]) -> Result<Option<BeginRead>, A
     Ok(Some(BeginRead { begin, taken: 2 }))
 }
 
-/// What begins, and how many parts it takes.
+/// Reads what begins, and how many parts it takes; `None` where nothing of a specimen begins.
 pub fn begins(alloc: Global, parts: &[&[u8]]) -> Result<Option<BeginRead>, AllocError>
     ensures { IfOk result (λ o. MatchOption o (HasNoBegin (texts parts.now)) (IsBeginRead (texts parts.now))) }
 {
@@ -264,7 +276,7 @@ pub fn begins(alloc: Global, parts: &[&[u8]]) -> Result<Option<BeginRead>, Alloc
     Ok(Some(BeginRead { begin, taken: 1 }))
 }
 
-/// What stands behind a part or an element, and how many parts it takes.
+/// Reads what follows a part or an element, and how many parts it takes; `None` where nothing does that may follow.
 pub fn finishes(alloc: Global, parts: &[&[u8]]) -> Result<Option<FinishRead>, AllocError>
     ensures { IfOk result (λ o. MatchOption o (HasNoFinish (texts parts.now)) (IsFinishRead (texts parts.now))) }
 {

@@ -1,11 +1,14 @@
 //! Specimens from parts of a line.
-ghost use Rattle.std.specs.Prelude.{ℕ, ◌≡◌, ◌∷◌, ◌||◌, nat_le, not, is_some, cond, Bool, List, Option, Some, None, IfOk, IsTrue, ◌↔◌, MatchOption, length, ◌++◌, [], false};
+ghost use Rattle.std.specs.Prelude.{ℕ, ◌≡◌, ◌∷◌, ◌||◌, nat_le, not, is_some, cond, Bool, List, Option, Some, None};
+ghost use Rattle.std.specs.Prelude.{IfOk, IsTrue, ◌↔◌, MatchOption, length, ◌++◌, [], false};
 ghost use Rattle.psg_deflines.specs.Parts.{texts};
 ghost use Rattle.psg_deflines.specs.WrittenTerms.{most_nested};
 ghost use Rattle.psg_deflines.specs.WrittenTrees.{WrittenTree};
-ghost use Rattle.psg_deflines.specs.TreeWalks.{TreeFrame, TreeStage, expects, after, IsLiteral, a_part, a_comma, a_close, an_end, begun, finished, Begin, Finish};
+ghost use Rattle.psg_deflines.specs.TreeWalks.{TreeFrame, TreeStage, expects, after, IsLiteral, a_part, a_comma};
+ghost use Rattle.psg_deflines.specs.TreeWalks.{a_close, an_end, begun, finished, Begin, Finish};
 ghost use Rattle.psg_deflines.specs.TreePieces.{frame_of, ShowsEnd, ShowsBegin, ShowsFinish};
-ghost use Rattle.psg_deflines.specs.TreeStages.{AreTreesOpen, IsTreeWalk, is_deep, IsPlaced, IsMoved, IsFilledBy, IsTreeAdvanced, IsTreeDone, kept_tree};
+ghost use Rattle.psg_deflines.specs.TreeStages.{AreTreesOpen, IsTreeWalk, is_deep, IsPlaced, IsMoved, IsFilledBy};
+ghost use Rattle.psg_deflines.specs.TreeStages.{IsTreeAdvanced, IsTreeDone, kept_tree};
 ghost use Rattle.psg_deflines.specs.TreeReads.{HasNoTree, IsTreeFound};
 
 use crate::places::ListEnd;
@@ -20,18 +23,23 @@ use std::alloc::{AllocError, Global};
 /// A specimen, and how many parts it takes. There is no specimen where it is nested too deep.
 #[derive(Drop)]
 pub struct TreeRead {
+    /// The specimen, if it is kept.
     pub tree: Option<LineTree>,
+    /// The number of parts that it takes.
     pub taken: usize,
 }
 
-/// The open operators and lists from the outermost on. Behind a specimen that is nested too deep nothing more is kept in them.
+/// The open operators and lists from the outermost on. After a specimen that is nested too deep nothing more is kept in
+/// them.
 #[derive(Drop)]
 pub struct OpenTrees {
+    /// The open operators and lists, the outermost first.
     pub frames: Vec<OpenTree>,
+    /// Whether a specimen was nested too deep.
     pub deep: bool,
 }
 
-/// Where a walk over the parts of a specimen stands.
+/// The state of a walk over the parts of a specimen.
 #[derive(Drop)]
 pub enum TreeWalk {
     /// The specimen, a part or an element is to begin.
@@ -122,7 +130,7 @@ fn with_part(trees: OpenTrees, part: LinePart) -> Result<Option<TreeWalk>, Alloc
     Ok(Some(TreeWalk::After(OpenTrees { frames, deep })))
 }
 
-/// Goes on with what begins. A list has no part, and neither has what stands alone.
+/// Goes on with what begins. A list has no part, and neither has a specimen that is inside no operator.
 fn begun(trees: OpenTrees, begin: TreeBegin) -> Result<Option<TreeWalk>, AllocError>
     ensures { IfOk result (λ o. (fs : List TreeFrame) (b : Begin) → AreTreesOpen trees fs → ShowsBegin begin b
         → IsMoved (expects fs) (begun fs b) trees.deep o) }
@@ -140,9 +148,10 @@ fn begun(trees: OpenTrees, begin: TreeBegin) -> Result<Option<TreeWalk>, AllocEr
     }
 }
 
-/// Behind a comma the next part or element is to begin.
+/// After a comma the next part or element is to begin.
 fn behind_comma(trees: OpenTrees) -> Option<TreeWalk>
-    ensures { (fs : List TreeFrame) → AreTreesOpen trees fs → IsMoved (after fs) (finished fs a_comma) trees.deep result }
+    ensures { (fs : List TreeFrame) → AreTreesOpen trees fs
+        → IsMoved (after fs) (finished fs a_comma) trees.deep result }
 {
     if trees.frames.is_empty() {
         None
@@ -153,7 +162,8 @@ fn behind_comma(trees: OpenTrees) -> Option<TreeWalk>
 
 /// The innermost operator ends.
 fn closed(trees: OpenTrees) -> Result<Option<TreeWalk>, AllocError>
-    ensures { IfOk result (λ o. (fs : List TreeFrame) → AreTreesOpen trees fs → IsMoved (after fs) (finished fs a_close) trees.deep o) }
+    ensures { IfOk result (λ o. (fs : List TreeFrame) → AreTreesOpen trees fs
+        → IsMoved (after fs) (finished fs a_close) trees.deep o) }
 {
     let OpenTrees { mut frames, deep } = trees;
     let Some(frame) = frames.pop() else {
@@ -184,7 +194,7 @@ fn ended(trees: OpenTrees, end: ListEnd) -> Result<Option<TreeWalk>, AllocError>
     Ok(Some(walk))
 }
 
-/// Goes on with what stands behind a part or an element.
+/// Goes on with what follows a part or an element.
 fn finished(trees: OpenTrees, finish: TreeFinish) -> Result<Option<TreeWalk>, AllocError>
     ensures { IfOk result (λ o. (fs : List TreeFrame) (e : Finish) → AreTreesOpen trees fs → ShowsFinish finish e
         → IsMoved (after fs) (finished fs e) trees.deep o) }
@@ -202,7 +212,8 @@ fn begin(
     trees: OpenTrees,
     parts: &[&[u8]],
 ) -> Result<Option<(TreeWalk, usize)>, AllocError>
-    ensures { IfOk result (λ o. (fs : List TreeFrame) → AreTreesOpen trees fs → IsTreeAdvanced (expects fs) trees.deep (texts parts.now) o) }
+    ensures { IfOk result (λ o. (fs : List TreeFrame) → AreTreesOpen trees fs
+        → IsTreeAdvanced (expects fs) trees.deep (texts parts.now) o) }
 {
     let Some(read) = begins(alloc, parts)? else {
         return Ok(None);
@@ -214,13 +225,14 @@ fn begin(
     Ok(Some((walk, taken)))
 }
 
-/// Takes what stands behind a part or an element.
+/// Takes what follows a part or an element.
 fn go_on(
     alloc: Global,
     trees: OpenTrees,
     parts: &[&[u8]],
 ) -> Result<Option<(TreeWalk, usize)>, AllocError>
-    ensures { IfOk result (λ o. (fs : List TreeFrame) → AreTreesOpen trees fs → IsTreeAdvanced (after fs) trees.deep (texts parts.now) o) }
+    ensures { IfOk result (λ o. (fs : List TreeFrame) → AreTreesOpen trees fs
+        → IsTreeAdvanced (after fs) trees.deep (texts parts.now) o) }
 {
     let Some(read) = finishes(alloc, parts)? else {
         return Ok(None);
@@ -238,7 +250,8 @@ fn advance(
     walk: TreeWalk,
     parts: &[&[u8]],
 ) -> Result<Option<(TreeWalk, usize)>, AllocError>
-    ensures { IfOk result (λ o. (s : TreeStage) → IsTreeWalk walk s → IsTreeAdvanced s (is_deep walk) (texts parts.now) o) }
+    ensures { IfOk result (λ o. (s : TreeStage) → IsTreeWalk walk s
+        → IsTreeAdvanced s (is_deep walk) (texts parts.now) o) }
 {
     match walk {
         TreeWalk::Expects(trees) => begin(alloc, trees, parts),
@@ -264,8 +277,8 @@ fn kept_tree(walk: TreeWalk) -> Option<LineTree>
     }
 }
 
-/// The specimen with which the parts begin, and how many parts it takes. Each part is looked at once, and behind its brackets,
-/// however deep the specimen is nested.
+/// Reads the specimen with which the parts begin, and how many parts it takes; `None` where they begin with none. Each
+/// part is looked at a fixed number of times, however deep the specimen is nested.
 pub fn line_tree(alloc: Global, parts: &[&[u8]]) -> Result<Option<TreeRead>, AllocError>
     ensures { IfOk result (λ o. MatchOption o (HasNoTree (texts parts.now)) (IsTreeFound (texts parts.now))) }
 {

@@ -1,4 +1,4 @@
-//! Specimens as they stand in a line.
+//! Specimens as they are written in a line.
 use crate::terms::LineTerm;
 use psg_terms::{Seq, Txt};
 use std::marker::Model;
@@ -6,7 +6,9 @@ use std::marker::Model;
 /// A place that takes any tree of the kind with the values of the term.
 #[derive(Drop)]
 pub struct LinePlace {
+    /// The name of the phylum or list.
     pub kind: Txt,
+    /// The values that its trees have.
     pub term: LineTerm,
 }
 
@@ -14,6 +16,7 @@ pub struct LinePlace {
 #[cycle(line_tree)]
 #[derive(Drop)]
 pub enum LinePart {
+    /// A subtree.
     Tree(LineTree),
     /// A name, without its mark.
     Name(Txt),
@@ -27,14 +30,17 @@ pub enum LinePart {
 #[cycle(line_tree)]
 #[derive(Drop)]
 pub enum TreeShape {
+    /// An operator with its parts, in the order of its items.
     Operator {
         name: Txt,
         parts: Seq<LinePart>,
     },
+    /// A list with its elements, and the place of further ones.
     List {
         elements: Seq<LineTree>,
         rest: Option<LinePlace>,
     },
+    /// A hole place.
     Place(LinePlace),
 }
 
@@ -42,6 +48,7 @@ pub enum TreeShape {
 #[cycle(line_tree)]
 #[derive(Drop)]
 pub struct LineTree {
+    /// What the specimen is.
     pub shape: TreeShape,
 }
 

@@ -15,7 +15,7 @@ fn is_fixed_token(token: &Token) -> bool
     matches!(token, Token::Word(_) | Token::Solo(_) | Token::Symbol(_))
 }
 
-/// Whether the tokens are one alone, on all of so many bytes, and of a kind that a fixed word may be.
+/// Whether there is one token, which takes all the bytes, `len` of them, and is of a kind that a fixed word may be.
 fn is_one_token(tokens: &[Spanned], len: usize) -> bool
     ensures { IsTrue result ↔ IsOneToken tokens.now len }
 {
@@ -25,7 +25,7 @@ fn is_one_token(tokens: &[Spanned], len: usize) -> bool
     }
 }
 
-/// No, unless memory was wanting.
+/// No, unless memory ran out.
 fn unless_memory(fault: LexFault) -> Result<bool, AllocError>
     ensures { IfOk result (λ b. (b ≡ false) × (fault ≢ LexFault.Memory)) }
 {
@@ -36,7 +36,8 @@ fn unless_memory(fault: LexFault) -> Result<bool, AllocError>
     }
 }
 
-/// Whether the word is one token of a fragment's text: a word, a character that stands alone, or a run of symbols.
+/// Says whether the word is one token of a fragment's text: a word, a character that is a token by itself, or a run of
+/// symbols.
 pub fn is_fixed_word(alloc: Global, word: &Txt) -> Result<bool, AllocError>
     ensures { IfOk result (λ b. IsTrue b ↔ IsFixedWord word.now) }
 {

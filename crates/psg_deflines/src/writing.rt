@@ -1,7 +1,9 @@
 //! Lines as texts.
 ghost use Rattle.std.specs.Prelude.{◌≡◌, ◌<◌, ◌+◌, ◌++◌, ◌∷◌, [], cond, codes, IfOk, Some, OnOk, map, string_bytes};
 ghost use Rattle.psg_grammar.specs.Sound.{IsLevel};
-ghost use Rattle.psg_deflines.specs.Forms.{HasForm, SpellsLine, argument_parts, by_parts, columns_parts, constructor_parts, item_part, level_parts, parts_of, terms_parts, word_if};
+ghost use Rattle.psg_deflines.specs.Forms.{HasForm, SpellsLine, argument_parts, by_parts, columns_parts};
+ghost use Rattle.psg_deflines.specs.Forms.{constructor_parts, item_part, level_parts, parts_of, tag, terms_parts};
+ghost use Rattle.psg_deflines.specs.Forms.{word_if};
 ghost use Rattle.psg_deflines.specs.LineTexts.{behind, spaced, style_parts};
 ghost use Rattle.psg_deflines.specs.declared.lines.Line.TheVariants as lines;
 
@@ -46,6 +48,27 @@ fn write_constructors(out: &mut String, constructors: &[ConDecl]) -> Result<(), 
     Ok(())
 }
 
+/// Puts the mark and the name of a space after what there is; nothing for the empty name.
+fn push_tag(out: &mut String, space: &Txt) -> Result<(), AllocError>
+    ensures { OnOk result (string_bytes out.new ≡ string_bytes out.old ++ tag space.now) }
+{
+    let name = space.as_str();
+    if name.is_empty() {
+        return Ok(());
+    }
+    out.push_str("@")?;
+    out.push_str(name)
+}
+
+/// Writes a word with the name of a space.
+fn write_tagged(out: &mut String, word: &str, space: &Txt) -> Result<(), AllocError>
+    ensures { OnOk result (string_bytes out.new
+        ≡ string_bytes out.old ++ behind ((word.now ++ tag space.now) ∷ [])) }
+{
+    write_word(out, word)?;
+    push_tag(out, space)
+}
+
 /// Writes an item.
 fn write_item(out: &mut String, item: &LineItem) -> Result<(), AllocError>
     ensures { OnOk result (string_bytes out.new ≡ string_bytes out.old ++ behind (item_part item.now ∷ [])) }
@@ -53,8 +76,8 @@ fn write_item(out: &mut String, item: &LineItem) -> Result<(), AllocError>
     match item {
         LineItem::Word(word) => write_quoted(out, word.as_str()),
         LineItem::Slot(kind) => write_word(out, kind.as_str()),
-        LineItem::Refers => write_word(out, "refers"),
-        LineItem::Declares => write_word(out, "declares"),
+        LineItem::Refers(space) => write_tagged(out, "refers", space),
+        LineItem::Declares(space) => write_tagged(out, "declares", space),
         LineItem::Number => write_word(out, "number"),
         LineItem::Text => write_word(out, "text"),
         LineItem::Space => write_word(out, "space"),
@@ -129,7 +152,7 @@ fn write_terms(out: &mut String, terms: &[LineTerm]) -> Result<(), AllocError>
     Ok(())
 }
 
-/// Writes the terms of a row's columns, behind a colon where there are any.
+/// Writes the terms of a row's columns, after a colon where there are any.
 fn write_columns(out: &mut String, terms: &[LineTerm]) -> Result<(), AllocError>
     ensures { OnOk result (string_bytes out.new ≡ string_bytes out.old ++ behind (columns_parts terms.now)) }
 {
@@ -137,7 +160,7 @@ fn write_columns(out: &mut String, terms: &[LineTerm]) -> Result<(), AllocError>
     write_terms(out, terms)
 }
 
-/// Writes a specimen behind its word.
+/// Writes a specimen after its word.
 fn write_specimen(out: &mut String, specimen: &LineTree) -> Result<(), AllocError>
     ensures { OnOk result (string_bytes out.new
         ≡ string_bytes out.old ++ behind (by_parts (Some specimen.now))) }
@@ -146,7 +169,7 @@ fn write_specimen(out: &mut String, specimen: &LineTree) -> Result<(), AllocErro
     write_tree(out, specimen)
 }
 
-/// Writes a specimen behind its word, if there is one.
+/// Writes a specimen after its word, if there is one.
 fn write_by(out: &mut String, specimen: &Option<LineTree>) -> Result<(), AllocError>
     ensures { OnOk result (string_bytes out.new ≡ string_bytes out.old ++ behind (by_parts specimen.now)) }
 {
@@ -156,7 +179,7 @@ fn write_by(out: &mut String, specimen: &Option<LineTree>) -> Result<(), AllocEr
     }
 }
 
-/// Writes the first part of a line, and the name that stands behind it.
+/// Writes the first part of a line, and the name that follows it.
 fn write_head(out: &mut String, keyword: &str, name: &str) -> Result<(), AllocError>
     ensures { OnOk result (string_bytes out.new
         ≡ string_bytes out.old ++ spaced (keyword.now ∷ name.now ∷ [])) }
@@ -175,6 +198,19 @@ fn write_sort(out: &mut String, sort: &SortDecl) -> Result<(), AllocError>
     write_constructors(out, sort.constructors.as_slice())
 }
 
+/// Writes the line of a space.
+fn write_space(out: &mut String, name: &Txt, sort: &Txt) -> Result<(), AllocError>
+    ensures { OnOk result (string_bytes out.new
+        ≡ string_bytes out.old ++ spaced (parts_of (lines.Space name.now sort.now))) }
+{
+    if name.as_str().is_empty() {
+        return write_head(out, "entity", sort.as_str());
+    }
+    write_head(out, "space", name.as_str())?;
+    write_word(out, ":")?;
+    write_word(out, sort.as_str())
+}
+
 /// Writes the line of a phylum.
 fn write_phylum(out: &mut String, name: &Txt, sort: &Txt, bracketed: bool) -> Result<(), AllocError>
     ensures { OnOk result (string_bytes out.new
@@ -186,14 +222,15 @@ fn write_phylum(out: &mut String, name: &Txt, sort: &Txt, bracketed: bool) -> Re
     write_if(out, bracketed, "bracketed")
 }
 
-/// Writes what a list line has behind its element: the separator, and how it is written.
+/// Writes what a list line has after its element: the separator, and how it is written.
 fn write_style(
     out: &mut String,
     separator: &Txt,
     lines: bool,
     unfinished: bool,
 ) -> Result<(), AllocError>
-    ensures { OnOk result (string_bytes out.new ≡ string_bytes out.old ++ behind (style_parts separator.now lines unfinished)) }
+    ensures { OnOk result (string_bytes out.new
+        ≡ string_bytes out.old ++ behind (style_parts separator.now lines unfinished)) }
 {
     write_quoted(out, separator.as_str())?;
     write_word(out, if lines { "lines" } else { "inline" })?;
@@ -230,7 +267,7 @@ fn write_line(out: &mut String, line: &Line) -> Result<(), AllocError>
 {
     match line {
         Line::Sort(sort) => write_sort(out, sort),
-        Line::Entity { sort } => write_head(out, "entity", sort.as_str()),
+        Line::Space { name, sort } => write_space(out, name, sort),
         Line::Phylum {
             name,
             sort,
@@ -295,12 +332,15 @@ fn write_line(out: &mut String, line: &Line) -> Result<(), AllocError>
             write_specimen(out, specimen)
         }
         Line::Declare {
+            space,
             list,
             entity,
             value,
             specimen,
         } => {
-            write_head(out, "declare", list.as_str())?;
+            out.push_str("declare")?;
+            push_tag(out, space)?;
+            write_word(out, list.as_str())?;
             write_term(out, entity)?;
             write_word(out, ":")?;
             write_term(out, value)?;
@@ -309,8 +349,8 @@ fn write_line(out: &mut String, line: &Line) -> Result<(), AllocError>
     }
 }
 
-/// The text of the line, without a line feed: its parts in order with one space between two of them. A line that was read
-/// is spelled by it, and no other line is.
+/// Returns the text of the line, without a line feed: its parts in order with one space between two of them. A line
+/// that was read is spelled by it, and no other line is.
 pub fn line_text(alloc: Global, line: &Line) -> Result<String, AllocError>
     ensures { IfOk result (λ text. HasForm line.now → SpellsLine (string_bytes text) line.now) }
 {

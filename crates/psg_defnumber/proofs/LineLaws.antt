@@ -24,7 +24,7 @@ use Rattle.psg_deflines.specs.declared.lines.Line.TheVariants as lines
 use Rattle.psg_deflines.specs.declared.lines.LineItem.{LineItem}
 use Rattle.psg_deflines.specs.declared.lines.LineItem.TheVariants as items
 use Rattle.psg_defnumber.specs.Growing.{Lasts}
-use Rattle.psg_defnumber.specs.Numbers.{IsSort, IsKind, IsList, IsOperator, AreItems, AreRows, IsRow, IsItem, IsCase, IsNil, IsHoleRow, HasCases, AreCases, IsDeclareRow}
+use Rattle.psg_defnumber.specs.Numbers.{IsSort, IsKind, IsList, IsOperator, AreItems, AreRows, IsRow, IsItem, IsSpaceNamed, IsCase, IsNil, IsHoleRow, HasCases, AreCases, IsDeclareRow}
 use Rattle.psg_defnumber.specs.Putting.{Read, Puts, ReadsLists, ReadsOperators, ReadsRows, ReadsCases, ReadsHoleRows, ReadsDeclareRows, ReadsItems, IsOperatorEntry, IsHoleEntry}
 use Rattle.psg_defnumber.proofs.PutLaws.{puts-one, puts-none}
 
@@ -159,8 +159,14 @@ hole-split def kind w whole behind row sort e of_kind of_sort term cases = λ fu
 pub slot-item : (def : Definition) (part : LineItem) (n : Name) (kind : kinds.the_data) → part ≡ items.Slot n → Lasts def (λ full. IsKind full n kind) → Lasts def (λ full. IsItem full part (made.Slot kind))
 slot-item def part n kind e is = λ full k. subst (λ x. IsItem full x (made.Slot kind)) (sym e) (kind, is full k, refl)
 
-pub declare-put : (def : Definition) (entry : Entry) (line : Line) (list : Name) (entity value : WrittenTerm) (tree : WrittenTree) (rest : List Entry) (old new : List DeclareRow) (row : DeclareRow) → entry ≡ Some line → line ≡ lines.Declare list entity value tree
-    → new ≡ old ++ row ∷ [] → Lasts def (λ full. IsDeclareRow full list entity value tree row) → Puts def ReadsDeclareRows entry rest old new
-declare-put def entry line list entity value tree rest old new row e d grown is =
-    puts-line def ReadsDeclareRows entry (lines.Declare list entity value tree) rest old new (e ∙ ap Some d)
-    (puts-one def ReadsDeclareRows (Some (lines.Declare list entity value tree)) rest old new row grown (λ full k tail r. (row, tail, refl, is full k, r)))
+pub refers-item : (def : Definition) (part : LineItem) (n : Name) (s : ℕ) → part ≡ items.Refers n → Lasts def (λ full. IsSpaceNamed full n s) → Lasts def (λ full. IsItem full part (made.Refers s))
+refers-item def part n s e is = λ full k. subst (λ x. IsItem full x (made.Refers s)) (sym e) (s, is full k, refl)
+
+pub declares-item : (def : Definition) (part : LineItem) (n : Name) (s : ℕ) → part ≡ items.Declares n → Lasts def (λ full. IsSpaceNamed full n s) → Lasts def (λ full. IsItem full part (made.Declares s))
+declares-item def part n s e is = λ full k. subst (λ x. IsItem full x (made.Declares s)) (sym e) (s, is full k, refl)
+
+pub declare-put : (def : Definition) (entry : Entry) (line : Line) (space list : Name) (entity value : WrittenTerm) (tree : WrittenTree) (rest : List Entry) (old new : List DeclareRow) (row : DeclareRow) → entry ≡ Some line → line ≡ lines.Declare space list entity value tree
+    → new ≡ old ++ row ∷ [] → Lasts def (λ full. IsDeclareRow full space list entity value tree row) → Puts def ReadsDeclareRows entry rest old new
+declare-put def entry line space list entity value tree rest old new row e d grown is =
+    puts-line def ReadsDeclareRows entry (lines.Declare space list entity value tree) rest old new (e ∙ ap Some d)
+    (puts-one def ReadsDeclareRows (Some (lines.Declare space list entity value tree)) rest old new row grown (λ full k tail r. (row, tail, refl, is full k, r)))

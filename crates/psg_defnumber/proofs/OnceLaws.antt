@@ -1,5 +1,5 @@
 -- No name is declared twice.
-use Rattle.std.proofs.Common.{◌≡◌, ℕ, ◌+◌, ◌≤◌, false, List, [], ◌∷◌, ◌++◌, None, length, refl, ap, sym, ◌∙◌, subst, arith, append_assoc, append-nil}
+use Rattle.std.proofs.Common.{◌≡◌, ℕ, ◌+◌, false, List, [], ◌∷◌, ◌++◌, refl, ap, sym, ◌∙◌, subst, append_assoc, append-nil}
 use Rattle.psg_terms.specs.Names.{Name, has_twice}
 use Rattle.psg_terms.specs.Signature.{Signature}
 use Rattle.psg_terms.specs.Sound.{IsSound}
@@ -9,7 +9,7 @@ use Rattle.psg_terms.proofs.DeclareLaws.{has_twice-push, names_in-append}
 use Rattle.psg_terms.proofs.DeclareFaults.{symbol_names}
 use Rattle.psg_deflines.specs.declared.lines.Line.{Line}
 use Rattle.psg_deflines.specs.declared.lines.Line.TheVariants as lines
-use Rattle.psg_defcheck.specs.Scopes.{sort_names, constructor_names, names_of, kind_names, operator_names, entity_sorts, entity_sort}
+use Rattle.psg_defcheck.specs.Scopes.{sort_names, constructor_names, names_of, kind_names, operator_names, space_names}
 use Rattle.psg_defcheck.specs.Meanings.{IsNew}
 use Rattle.psg_defcheck.specs.Faults.{ArePassed}
 use Rattle.psg_defnumber.specs.Numbers.{sort_decls}
@@ -25,10 +25,10 @@ operator_names-append [] ys = refl
 operator_names-append (lines.Operator name phylum scope level parts ∷ xs) ys = ap (λ l. name ∷ l) (operator_names-append xs ys)
 operator_names-append (_ ∷ xs) ys = operator_names-append xs ys
 
-entity_sorts-append : (xs ys : List Line) → entity_sorts (xs ++ ys) ≡ entity_sorts xs ++ entity_sorts ys
-entity_sorts-append [] ys = refl
-entity_sorts-append (lines.Entity sort ∷ xs) ys = ap (λ l. sort ∷ l) (entity_sorts-append xs ys)
-entity_sorts-append (_ ∷ xs) ys = entity_sorts-append xs ys
+space_names-append : (xs ys : List Line) → space_names (xs ++ ys) ≡ space_names xs ++ space_names ys
+space_names-append [] ys = refl
+space_names-append (lines.Space name sort ∷ xs) ys = ap (λ l. name ∷ l) (space_names-append xs ys)
+space_names-append (_ ∷ xs) ys = space_names-append xs ys
 
 -- a property of the lines above that each new line keeps
 kept : (P : List Line → Type 0) → ((above : List Line) (line : Line) → IsNew above line → P above → P (above ++ line ∷ [])) → (file above rest : List Line) → ArePassed file above rest → P above → P (above ++ rest)
@@ -53,17 +53,12 @@ operators-step above line new h = ap has_twice (operator_names-append above (lin
     go (lines.Operator name phylum scope level parts) n = has_twice-push (operator_names above) name h n
     go _ n = add-none (operator_names above) h
 
-no_entity : (xs : List Line) → entity_sort xs ≡ None → entity_sorts xs ≡ []
-no_entity [] e = refl
-no_entity (lines.Entity sort ∷ xs) e = absurd (cc)
-no_entity (_ ∷ xs) e = no_entity xs e
-
-entity-step : (above : List Line) (line : Line) → IsNew above line → length (entity_sorts above) ≤ 1 → length (entity_sorts (above ++ line ∷ [])) ≤ 1
-entity-step above line new h = subst (λ l. length l ≤ 1) (sym (entity_sorts-append above (line ∷ []))) (go line new)
+spaces-step : (above : List Line) (line : Line) → IsNew above line → has_twice (space_names above) ≡ false → has_twice (space_names (above ++ line ∷ [])) ≡ false
+spaces-step above line new h = ap has_twice (space_names-append above (line ∷ [])) ∙ go line new
   where
-    go : (line : Line) → IsNew above line → length (entity_sorts above ++ entity_sorts (line ∷ [])) ≤ 1
-    go (lines.Entity sort) n = subst (λ l. length (l ++ sort ∷ []) ≤ 1) (sym (no_entity above n)) (omega arith)
-    go _ n = subst (λ l. length l ≤ 1) (sym (append-nil (entity_sorts above))) h
+    go : (line : Line) → IsNew above line → has_twice (space_names above ++ space_names (line ∷ [])) ≡ false
+    go (lines.Space name sort) n = has_twice-push (space_names above) name h n
+    go _ n = add-none (space_names above) h
 
 pub kinds-once : (file : List Line) → ArePassed file [] file → has_twice (kind_names file) ≡ false
 kinds-once file passed = kept (λ l. has_twice (kind_names l) ≡ false) kinds-step file [] file passed refl
@@ -71,8 +66,8 @@ kinds-once file passed = kept (λ l. has_twice (kind_names l) ≡ false) kinds-s
 pub operators-once : (file : List Line) → ArePassed file [] file → has_twice (operator_names file) ≡ false
 operators-once file passed = kept (λ l. has_twice (operator_names l) ≡ false) operators-step file [] file passed refl
 
-pub entity-once : (file : List Line) → ArePassed file [] file → length (entity_sorts file) ≤ 1
-entity-once file passed = kept (λ l. length (entity_sorts l) ≤ 1) entity-step file [] file passed (omega arith)
+pub spaces-once : (file : List Line) → ArePassed file [] file → has_twice (space_names file) ≡ false
+spaces-once file passed = kept (λ l. has_twice (space_names l) ≡ false) spaces-step file [] file passed refl
 
 -- sorts and constructors, by the signature
 decls-sorts : (file : List Line) → written.sort_names (sort_decls file) ≡ sort_names file

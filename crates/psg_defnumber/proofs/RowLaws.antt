@@ -12,7 +12,7 @@ use Rattle.psg_grammar.specs.declared.types.Definition.{Definition}
 use Rattle.psg_grammar.specs.Sound.{HasKindSort, HasSpaceSort}
 use Rattle.psg_deflines.specs.WrittenTerms.{WrittenTerm}
 use Rattle.psg_deflines.specs.WrittenTrees.{WrittenTree}
-use Rattle.psg_defnumber.specs.Numbers.{IsTerm, AreTerms, IsTree, IsKind, IsRow, IsNil, IsCase, IsDeclareRow, terms_of}
+use Rattle.psg_defnumber.specs.Numbers.{IsTerm, AreTerms, IsTree, IsKind, IsRow, IsNil, IsCase, IsDeclareRow, IsSpaceNamed, terms_of}
 use Rattle.psg_defnumber.specs.Growing.{Lasts}
 use Rattle.psg_defnumber.specs.Naming.{Known, IsMadeTerm, AreMadeTerms}
 use Rattle.psg_defnumber.specs.Fitting.{IsMade}
@@ -41,16 +41,16 @@ case-made def a b c kind sort w tree one e h k = λ full keeps.
     let line = made-line def c (one.term ∷ terms_of def one.specimen) _ (from-none def a c (one.term ∷ terms_of def one.specimen) _ e both) full keeps in
     record { names = line.0; of_term = line.1.0; of_specimen = line.1.1; naming = line.2 }
 
-pub declare-made : (def : Definition) (a b c d : List Known) (list : Name) (entity value : WrittenTerm) (tree : WrittenTree) (own : ListKind) (entities values : ℕ) (r : DeclareRow) → a ≡ [] → r.space ≡ 0 → Lasts def (λ full. IsKind full list (kinds.List r.list))
-    → slice_get def.lists r.list ≡ Some own → Lasts def (λ full. HasSpaceSort full 0 entities) → Lasts def (λ full. HasKindSort full (kinds.Phylum own.element) values)
+pub declare-made : (def : Definition) (a b c d : List Known) (named list : Name) (entity value : WrittenTerm) (tree : WrittenTree) (own : ListKind) (entities values : ℕ) (r : DeclareRow) → a ≡ [] → Lasts def (λ full. IsSpaceNamed full named r.space) → Lasts def (λ full. IsKind full list (kinds.List r.list))
+    → slice_get def.lists r.list ≡ Some own → Lasts def (λ full. HasSpaceSort full r.space entities) → Lasts def (λ full. HasKindSort full (kinds.Phylum own.element) values)
     → IsMadeTerm def.signature a b entities entity r.term → IsMadeTerm def.signature b c values value r.value
-    → IsMade def c d (terms_of def r.specimen) (λ full names. IsTree full names (kinds.Phylum own.element) r.specimen tree) → Lasts def (λ full. IsDeclareRow full list entity value tree r)
-declare-made def a b c d list entity value tree own entities values r e space of_list at of_space of_values h k m = λ full keeps.
+    → IsMade def c d (terms_of def r.specimen) (λ full names. IsTree full names (kinds.Phylum own.element) r.specimen tree) → Lasts def (λ full. IsDeclareRow full named list entity value tree r)
+declare-made def a b c d named list entity value tree own entities values r e space of_list at of_space of_values h k m = λ full keeps.
     let rest = made-both def b c d (r.value ∷ []) (terms_of def r.specimen) (λ x names. IsTerm x.signature names [] values value r.value) (λ x names. IsTree x names (kinds.Phylum own.element) r.specimen tree) (made-term def b c values value r.value k) m in
     let all = made-both def a b d (r.term ∷ []) (r.value ∷ terms_of def r.specimen) (λ x names. IsTerm x.signature names [] entities entity r.term) _ (made-term def a b entities entity r.term h) rest in
     let line = made-line def d (r.term ∷ r.value ∷ terms_of def r.specimen) _ (from-none def a d (r.term ∷ r.value ∷ terms_of def r.specimen) _ e all) full keeps in
     record {
-      space = space;
+      of_space = space full keeps;
       of_list = of_list full keeps;
       found = own;
       list_is = keeps.lists r.list own at;

@@ -10,4 +10,5 @@ use Rattle.psg_defnumber.specs.Numbers.{AreLists}
 
 -- The lists of these lines had the rows of the first lines of the file, and have those of more of them.
 abbrev pub Fills : Definition → List Line → List Line → List ListKind → List ListKind → Type 0
-Fills def file longer old new = (all : List Line) → has_twice (kind_names all) ≡ false → Lasts def (λ full. AreLists full file all old → AreLists full longer all new)
+Fills def file longer old new = (all : List Line) → has_twice (kind_names all) ≡ false
+    → Lasts def (λ full. AreLists full file all old → AreLists full longer all new)

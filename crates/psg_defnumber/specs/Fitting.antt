@@ -18,11 +18,14 @@ use Rattle.psg_defnumber.specs.Growing.{Lasts}
 use Rattle.psg_defnumber.specs.Naming.{Known, Meets, Named}
 use Rattle.psg_defnumber.specs.Numbers.{IsPlace, IsTree, IsPart}
 
--- The terms are made by variables that are met. It holds with whatever names are met later, in each definition of which this is a part.
-pub record IsMade (def : Definition) (old new : List Known) (row : List Term) (Holds : Definition → List Name → Type 0) : Type 0 where
+-- The terms are made by variables that are met. It holds with whatever names are met later, in each definition of which
+-- this is a part.
+pub record IsMade (def : Definition) (old new : List Known) (row : List Term)
+    (Holds : Definition → List Name → Type 0) : Type 0 where
   pub meets : Meets old new (variables_of row)
   pub is : Named new (λ names. Lasts def (λ full. Holds full names))
 
+-- the terms of hole places
 abbrev pub hole_terms : List SpecimenHole → List Term
 hole_terms holes = map (λ (h : SpecimenHole). h.term) holes
 
@@ -31,12 +34,13 @@ abbrev pub part_terms : List SpecimenPart → List Term
 part_terms [] = []
 part_terms (p ∷ ps) = hole_terms (holes_of_part p) ++ part_terms ps
 
+-- the terms of the hole places of specimens, from left to right
 abbrev pub element_terms : List Specimen → List Term
 element_terms [] = []
 element_terms (s ∷ rest) = hole_terms (holes_of s) ++ element_terms rest
 
 module _ (full : Definition) (names : List Name) where
-  -- the part is that of the item, behind whatever stands in front of it
+  -- the part is that of the item, after whatever is in front of it
   abbrev pub PartFits : Item → SpecimenPart → LinePart → Type 0
   PartFits i p w = (front : WrittenTree) → IsPart full names i p front (with_part front w)
 
@@ -44,13 +48,15 @@ module _ (full : Definition) (names : List Name) where
   PartsFit [] [] ws = ws ≡ []
   PartsFit [] (p ∷ ps) ws = ⊥
   PartsFit (i ∷ rest) [] ws = ⊥
-  PartsFit (i ∷ rest) (p ∷ ps) ws = (w : LinePart) × (more : List LinePart) × (ws ≡ w ∷ more) × PartFits i p w × PartsFit rest ps more
+  PartsFit (i ∷ rest) (p ∷ ps) ws =
+      (w : LinePart) × (more : List LinePart) × (ws ≡ w ∷ more) × PartFits i p w × PartsFit rest ps more
 
   abbrev pub ElementsFit : ℕ → List Specimen → List WrittenTree → Type 0
   ElementsFit element [] ws = ws ≡ []
-  ElementsFit element (s ∷ rest) ws = (w : WrittenTree) × (more : List WrittenTree) × (ws ≡ w ∷ more) × IsTree full names (kinds.Phylum element) s w × ElementsFit element rest more
+  ElementsFit element (s ∷ rest) ws = (w : WrittenTree) × (more : List WrittenTree) × (ws ≡ w ∷ more)
+      × IsTree full names (kinds.Phylum element) s w × ElementsFit element rest more
 
-  -- the rest of a list behind its elements
+  -- the rest of a list after its elements
   abbrev pub RestFits : ℕ → Option SpecimenHole → Option LinePlace → Type 0
   RestFits l None None = Unit {0}
   RestFits l None (Some w) = ⊥

@@ -1,8 +1,8 @@
--- What is said of a definition while it is made, and stays so.
+-- What holds of a definition while it is made, and goes on to hold.
 use Rattle.std.specs.Prelude.{ℕ, ◌≡◌, Some, List, slice_get}
 use Rattle.psg_grammar.specs.declared.types.Definition.{Definition}
 
--- what stands at a place stays there
+-- what is at a place stays there
 abbrev pub Grows : {X : Type 0} → List X → List X → Type 0
 Grows {X} xs ys = (k : ℕ) (x : X) → slice_get xs k ≡ Some x → slice_get ys k ≡ Some x
 

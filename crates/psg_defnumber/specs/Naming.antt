@@ -14,6 +14,7 @@ use Rattle.psg_defnumber.specs.Growing.{Grows}
 abbrev pub Known : Type 0
 Known = Bor (List ℕ) × SortId
 
+-- the names of the variables, in the order of their first places
 abbrev pub names_of : List Known → List Name
 names_of known = map (λ (k : Known). k.0.now) known
 
@@ -40,10 +41,13 @@ pub record IsMet (old new : List Known) (name : Name) (sort n : ℕ) : Type 0 wh
   pub named : slice_get (names_of new) place ≡ Some name
   pub meets : Meets old new ((sort, n) ∷ [])
 
+-- the term is the written one, where its variables are numbered after those that are known
 pub record IsMadeTerm (sig : Signature) (old new : List Known) (sort : ℕ) (w : WrittenTerm) (t : Term) : Type 0 where
   pub meets : Meets old new (variables t)
   pub is : Named new (λ names. IsTerm sig names [] sort w t)
 
-pub record AreMadeTerms (sig : Signature) (old new : List Known) (sorts : List ℕ) (ws : List WrittenTerm) (ts : List Term) : Type 0 where
+-- the terms are the written ones, one by one, where their variables are numbered after those that are known
+pub record AreMadeTerms (sig : Signature) (old new : List Known) (sorts : List ℕ) (ws : List WrittenTerm)
+    (ts : List Term) : Type 0 where
   pub meets : Meets old new (variables_of ts)
   pub are : Named new (λ names. AreTerms sig names sorts ws ts)

@@ -1,10 +1,10 @@
-//! The one place that stands for what the tests of meaning exclude.
+//! The one place for what the tests of meaning exclude.
 ghost use Rattle.std.specs.Prelude.{◌≡◌, IfOk, OnOk, IsTrue, Some};
 
 use std::alloc::AllocError;
 
-/// What a look-up found. Lines that pass the tests of meaning leave no look-up without an answer, so the error comes
-/// for want of memory alone.
+/// Returns what a look-up found. Lines that pass the tests of meaning leave no look-up without an answer, so the error
+/// is returned only where memory runs out.
 pub fn found<T: Drop>(answer: Option<T>) -> Result<T, AllocError>
     ensures { IfOk result (λ x. answer ≡ Some x) }
 {
@@ -14,7 +14,7 @@ pub fn found<T: Drop>(answer: Option<T>) -> Result<T, AllocError>
     }
 }
 
-/// The same of a test, which holds of such lines.
+/// Returns the error where the test fails. It holds of lines that pass the tests of meaning.
 pub fn holds(test: bool) -> Result<(), AllocError>
     ensures { OnOk result (IsTrue test) }
 {

@@ -26,7 +26,7 @@ fn is_hole(entry: &Option<Line>) -> bool
     }
 }
 
-/// Puts the case of a line behind the others, if it declares one.
+/// Puts the case of a line after the others, if it declares one.
 fn put_case(
     alloc: Global,
     def: &Definition,
@@ -72,7 +72,7 @@ fn cases(
     Ok(made)
 }
 
-/// A hole row. Its specimen makes its one case; without one its cases stand behind its line.
+/// A hole row. Its specimen makes its one case; without one its cases follow its line.
 fn hole_row(
     alloc: Global,
     def: &Definition,
@@ -107,7 +107,7 @@ fn hole_row(
     })
 }
 
-/// Puts the hole row of a line behind the others, if it declares one, with the cases behind the line.
+/// Puts the hole row of a line after the others, if it declares one, with the cases that follow the line.
 fn put_hole_row(
     alloc: Global,
     def: &Definition,
@@ -134,7 +134,7 @@ fn put_hole_row(
     Ok(())
 }
 
-/// The hole rows, in order, each with its cases. It reads the cases once.
+/// Makes the hole rows, in order, each with its cases. It reads the cases once.
 pub fn hole_rows(
     alloc: Global,
     def: &Definition,
@@ -150,7 +150,7 @@ pub fn hole_rows(
     Ok(made)
 }
 
-/// Puts the declare row of a line behind the others, if it declares one.
+/// Puts the declare row of a line after the others, if it declares one.
 fn put_declare_row(
     alloc: Global,
     def: &Definition,
@@ -165,6 +165,7 @@ fn put_declare_row(
         return Ok(());
     };
     let Line::Declare {
+        space,
         list,
         entity,
         value,
@@ -173,12 +174,12 @@ fn put_declare_row(
     else {
         return Ok(());
     };
-    let one = declare_row(alloc, def, names, list, entity, value, specimen)?;
+    let one = declare_row(alloc, def, names, space, list, entity, value, specimen)?;
     made.push(one)?;
     Ok(())
 }
 
-/// The declare rows, in order.
+/// Makes the declare rows, in order.
 pub fn declare_rows(
     alloc: Global,
     def: &Definition,

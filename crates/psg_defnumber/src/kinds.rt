@@ -1,7 +1,7 @@
 //! Spaces, phyla and lists from their lines.
 ghost use Rattle.std.specs.Prelude.{List, [], IfOk, OnOk};
 ghost use Rattle.psg_deflines.specs.Entries.{Entry, written};
-ghost use Rattle.psg_defcheck.specs.Scopes.{entity_sorts};
+ghost use Rattle.psg_defcheck.specs.Scopes.{spaces};
 ghost use Rattle.psg_defnumber.specs.Growing.{Lasts};
 ghost use Rattle.psg_defnumber.specs.Numbers.{AreSpaces, ArePhyla, AreLists};
 ghost use Rattle.psg_defnumber.specs.Putting.{Puts, ReadsSpaces, ReadsPhyla, ReadsLists};
@@ -10,12 +10,11 @@ use crate::lookups::{phylum_named, sort_named};
 use crate::names::Names;
 use psg_deflines::Line;
 use psg_grammar::{Definition, ListKind, Phylum, Space};
-use psg_terms::{Seq, Txt};
+use psg_terms::Seq;
 use std::alloc::{AllocError, Global};
 
-/// Puts the space of a line behind the others, if it declares one. It has no name.
+/// Puts the space of a line after the others, if it declares one.
 fn put_space(
-    alloc: Global,
     def: &Definition,
     names: &Names,
     made: &mut Vec<Space>,
@@ -27,32 +26,32 @@ fn put_space(
     let Some(line) = entry else {
         return Ok(());
     };
-    let Line::Entity { sort } = line else {
+    let Line::Space { name, sort } = line else {
         return Ok(());
     };
     let sort = sort_named(def, names, sort)?;
-    let name = Txt::copy_of(alloc, "")?;
+    let name = name.share()?;
     made.push(Space { name, sort })?;
     Ok(())
 }
 
-/// The spaces, in order.
+/// Makes the spaces, in order.
 pub fn spaces(
     alloc: Global,
     def: &Definition,
     names: &Names,
     entries: &[Option<Line>],
 ) -> Result<Vec<Space>, AllocError>
-    ensures { IfOk result (λ v. Lasts def.now (λ full. AreSpaces full (entity_sorts (written entries.now)) v.items)) }
+    ensures { IfOk result (λ v. Lasts def.now (λ full. AreSpaces full (spaces (written entries.now)) v.items)) }
 {
     let mut made = Vec::new(alloc);
     for entry in entries {
-        put_space(alloc, def, names, &mut made, entry)?;
+        put_space(def, names, &mut made, entry)?;
     }
     Ok(made)
 }
 
-/// Puts the phylum of a line behind the others, if it declares one.
+/// Puts the phylum of a line after the others, if it declares one.
 fn put_phylum(
     def: &Definition,
     names: &Names,
@@ -82,7 +81,7 @@ fn put_phylum(
     Ok(())
 }
 
-/// The phyla, in order.
+/// Makes the phyla, in order.
 pub fn phyla(
     alloc: Global,
     def: &Definition,
@@ -98,7 +97,7 @@ pub fn phyla(
     Ok(made)
 }
 
-/// Puts the list of a line behind the others, if it declares one. It has no rows yet.
+/// Puts the list of a line after the others, if it declares one. It has no rows yet.
 fn put_list(
     alloc: Global,
     def: &Definition,
@@ -139,7 +138,7 @@ fn put_list(
     Ok(())
 }
 
-/// The lists without their rows, in order.
+/// Makes the lists without their rows, in order.
 pub fn lists(
     alloc: Global,
     def: &Definition,

@@ -1,12 +1,12 @@
 //! Definitions from their lines: names become the positions of what they name.
 //!
 //! ```text
-//! let definition = numbered(alloc, entries.as_slice())?;
+//! let definition = numbered(alloc, file.version, file.entries.as_slice())?;
 //! ```
 //!
-//! `IsNumbered` says what the lines mean together, in the direction of a writer: each part of the definition has a line that
-//! writes it. Sorts, constructors, phyla, lists and operators are numbered in the order of their lines, variables in the
-//! order in which they first occur in their own line.
+//! `IsNumbered` says what the lines mean together, in the direction of a writer: each part of the definition has a line
+//! that writes it. Sorts, constructors, phyla, lists and operators are numbered in the order of their lines, variables
+//! in the order in which they first occur in their own line.
 #![tactic(auto)]
 
 mod found;

@@ -30,7 +30,7 @@ fn place_of(names: &Names, lists: &[ListKind], name: &Txt) -> Result<usize, Allo
     Ok(place)
 }
 
-/// Puts a nil row into its list, behind the others.
+/// Puts a nil row into its list, after the others.
 fn put_nil(
     alloc: Global,
     def: &Definition,
@@ -74,7 +74,7 @@ fn cell(
     })
 }
 
-/// Puts a cell row into its list, behind the others.
+/// Puts a cell row into its list, after the others.
 fn put_cell(
     alloc: Global,
     def: &Definition,

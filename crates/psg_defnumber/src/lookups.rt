@@ -1,4 +1,4 @@
-//! What names stand for in a definition.
+//! What names mean in a definition.
 ghost use Rattle.std.specs.Prelude.{◌≡◌, IfOk, OnOk, IfSome, Some, List, slice_get};
 ghost use Rattle.psg_terms.specs.Signature.{Symbol};
 ghost use Rattle.psg_terms.specs.Kept.{numbers_of};
@@ -6,7 +6,7 @@ ghost use Rattle.psg_grammar.specs.declared.types.Kind.{Kind as PlainKind};
 ghost use Rattle.psg_grammar.specs.declared.types.Kind.TheVariants as kinds;
 ghost use Rattle.psg_grammar.specs.Sound.{HasKindSort, HasSpaceSort};
 ghost use Rattle.psg_defnumber.specs.Growing.{Lasts};
-ghost use Rattle.psg_defnumber.specs.Numbers.{IsKind, IsOperatorNamed, IsSort};
+ghost use Rattle.psg_defnumber.specs.Numbers.{IsKind, IsOperatorNamed, IsSort, IsSpaceNamed};
 
 use crate::found::{found, holds};
 use crate::names::Names;
@@ -14,7 +14,7 @@ use psg_grammar::{Definition, Kind, ListKind, Operator, Phylum};
 use psg_terms::{ConId, Constructor, Signature, SortId, Txt};
 use std::alloc::AllocError;
 
-/// A position as a number, if it fits.
+/// Returns a position as a number, if it is below 2^32.
 pub fn number(place: usize) -> Result<u32, AllocError>
     ensures { IfOk result (λ n. n ≡ place) }
 {
@@ -22,7 +22,7 @@ pub fn number(place: usize) -> Result<u32, AllocError>
     Ok(place as u32)
 }
 
-/// The kinds are the same.
+/// Returns the error where the kinds differ.
 pub fn same_kind(kind: Kind, other: Kind) -> Result<(), AllocError>
     ensures { OnOk result (kind ≡ other) }
 {
@@ -30,7 +30,7 @@ pub fn same_kind(kind: Kind, other: Kind) -> Result<(), AllocError>
     Ok(())
 }
 
-/// The sort of the name.
+/// Returns the sort of the name.
 pub fn sort_named(def: &Definition, names: &Names, name: &Txt) -> Result<SortId, AllocError>
     ensures { IfOk result (λ s. Lasts def.now (λ full. IsSort full name.now s)) }
 {
@@ -42,7 +42,7 @@ pub fn sort_named(def: &Definition, names: &Names, name: &Txt) -> Result<SortId,
     Ok(SortId(place))
 }
 
-/// The constructor of the name, if it makes terms of the sort, with its number.
+/// Returns the constructor of the name, if it makes terms of the sort, with its number.
 pub fn constructor_named<'d>(
     sig: &'d Signature,
     names: &Names,
@@ -61,7 +61,7 @@ pub fn constructor_named<'d>(
     Ok((con, own))
 }
 
-/// The number of the phylum of the name.
+/// Returns the number of the phylum of the name.
 pub fn phylum_named(def: &Definition, names: &Names, name: &Txt) -> Result<u32, AllocError>
     ensures { IfOk result (λ p. Lasts def.now (λ full. IsKind full name.now (kinds.Phylum p))) }
 {
@@ -71,7 +71,7 @@ pub fn phylum_named(def: &Definition, names: &Names, name: &Txt) -> Result<u32, 
     Ok(number(place)?)
 }
 
-/// The number of the list of the name.
+/// Returns the number of the list of the name.
 pub fn list_named(def: &Definition, names: &Names, name: &Txt) -> Result<u32, AllocError>
     ensures { IfOk result (λ l. Lasts def.now (λ full. IsKind full name.now (kinds.List l))) }
 {
@@ -81,7 +81,7 @@ pub fn list_named(def: &Definition, names: &Names, name: &Txt) -> Result<u32, Al
     Ok(number(place)?)
 }
 
-/// The phylum or list of the name.
+/// Returns the phylum or list of the name.
 pub fn kind_named(def: &Definition, names: &Names, name: &Txt) -> Result<Kind, AllocError>
     ensures { IfOk result (λ k. Lasts def.now (λ full. IsKind full name.now k)) }
 {
@@ -94,7 +94,7 @@ pub fn kind_named(def: &Definition, names: &Names, name: &Txt) -> Result<Kind, A
     }
 }
 
-/// The operator of the name, with its number.
+/// Returns the operator of the name, with its number.
 pub fn operator_named<'d>(
     def: &'d Definition,
     names: &Names,
@@ -109,7 +109,20 @@ pub fn operator_named<'d>(
     Ok((number, own))
 }
 
-/// The sort of the values of a phylum.
+/// Returns the number of the space of the name. Without a name it is the first one.
+pub fn space_named(def: &Definition, names: &Names, name: &Txt) -> Result<u32, AllocError>
+    ensures { IfOk result (λ s. Lasts def.now (λ full. IsSpaceNamed full name.now s)) }
+{
+    if name.as_str().is_empty() {
+        return Ok(0);
+    }
+    let place = found(names.spaces.place(name))?;
+    let own = found(def.spaces.as_slice().get(place))?;
+    holds(own.name.same(name))?;
+    Ok(number(place)?)
+}
+
+/// Returns the sort of the values of a phylum.
 pub fn phylum_sort(def: &Definition, phylum: u32) -> Result<SortId, AllocError>
     ensures { IfOk result (λ s. Lasts def.now (λ full. HasKindSort full (kinds.Phylum phylum) s.0)) }
 {
@@ -117,7 +130,7 @@ pub fn phylum_sort(def: &Definition, phylum: u32) -> Result<SortId, AllocError>
     Ok(own.sort)
 }
 
-/// The list of the number.
+/// Returns the list of the number.
 pub fn list_at(def: &Definition, list: u32) -> Result<&ListKind, AllocError>
     ensures { IfOk result (λ l. slice_get def.now.lists list ≡ Some l.now) }
 {
@@ -125,7 +138,7 @@ pub fn list_at(def: &Definition, list: u32) -> Result<&ListKind, AllocError>
     Ok(own)
 }
 
-/// The sort of the values of a kind.
+/// Returns the sort of the values of a kind.
 pub fn kind_sort(def: &Definition, kind: Kind) -> Result<SortId, AllocError>
     ensures { IfOk result (λ s. Lasts def.now (λ full. HasKindSort full kind s.0)) }
 {
@@ -138,7 +151,7 @@ pub fn kind_sort(def: &Definition, kind: Kind) -> Result<SortId, AllocError>
     }
 }
 
-/// The sort of the entities of a space.
+/// Returns the sort of the entities of a space.
 pub fn space_sort(def: &Definition, space: u32) -> Result<SortId, AllocError>
     ensures { IfOk result (λ s. Lasts def.now (λ full. HasSpaceSort full space s.0)) }
 {

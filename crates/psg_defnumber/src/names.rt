@@ -4,7 +4,7 @@ use psg_terms::{ConDecl, Txt};
 use std::alloc::{AllocError, Global};
 use std::collections::HashMap;
 
-/// Names with their positions. The table proposes a position, and who asks compares the name that stands there.
+/// The names with their positions. The table proposes a position, and who asks compares the name that is there.
 #[derive(Drop)]
 pub struct Table<'a> {
     places: HashMap<&'a str, usize>,
@@ -18,14 +18,14 @@ impl<'a> Table<'a> {
         }
     }
 
-    /// Puts a name behind the others.
+    /// Puts a name after the others.
     fn add(&mut self, name: &'a str) -> Result<(), AllocError> {
         let place = self.places.len();
         self.places.insert(name, place)?;
         Ok(())
     }
 
-    /// The position of a name.
+    /// Returns the position that the table proposes for the name; `None` where no line declares it.
     pub fn place(&self, name: &Txt) -> Option<usize> {
         self.places.get(name.as_str()).copied()
     }
@@ -34,11 +34,18 @@ impl<'a> Table<'a> {
 /// The tables of all lines.
 #[derive(Drop)]
 pub struct Names<'a> {
+    /// The sorts.
     pub sorts: Table<'a>,
+    /// The constructors of all sorts together.
     pub constructors: Table<'a>,
+    /// The phyla.
     pub phyla: Table<'a>,
+    /// The lists.
     pub lists: Table<'a>,
+    /// The operators.
     pub operators: Table<'a>,
+    /// The spaces.
+    pub spaces: Table<'a>,
 }
 
 impl<'a> Names<'a> {
@@ -50,10 +57,11 @@ impl<'a> Names<'a> {
             phyla: Table::none(alloc),
             lists: Table::none(alloc),
             operators: Table::none(alloc),
+            spaces: Table::none(alloc),
         }
     }
 
-    /// Puts the constructors of a sort behind the others.
+    /// Puts the constructors of a sort after the others.
     fn add_constructors(&mut self, decls: &'a [ConDecl]) -> Result<(), AllocError> {
         for decl in decls {
             self.constructors.add(decl.name.as_str())?;
@@ -61,13 +69,14 @@ impl<'a> Names<'a> {
         Ok(())
     }
 
-    /// Puts what a line declares behind the others.
+    /// Puts what a line declares after the others.
     fn add(&mut self, line: &'a Line) -> Result<(), AllocError> {
         match line {
             Line::Sort(decl) => {
                 self.sorts.add(decl.name.as_str())?;
                 self.add_constructors(decl.constructors.as_slice())?;
             }
+            Line::Space { name, .. } => self.spaces.add(name.as_str())?,
             Line::Phylum { name, .. } => self.phyla.add(name.as_str())?,
             Line::List { name, .. } => self.lists.add(name.as_str())?,
             Line::Operator { name, .. } => self.operators.add(name.as_str())?,
@@ -76,7 +85,7 @@ impl<'a> Names<'a> {
         Ok(())
     }
 
-    /// The tables of the lines among the entries, in one walk.
+    /// Makes the tables of the lines among the entries, in one walk.
     pub fn of(alloc: Global, entries: &'a [Option<Line>]) -> Result<Names<'a>, AllocError> {
         let mut names = Names::none(alloc);
         for entry in entries {

@@ -21,9 +21,9 @@ use psg_terms::{Seq, Signature};
 use std::alloc::{AllocError, Global};
 
 /// A definition of the sorts alone.
-fn of_sorts(alloc: Global, signature: Signature) -> Definition
+fn of_sorts(alloc: Global, version: u32, signature: Signature) -> Definition
     ensures { result ≡ record {
-      version = 1;
+      version = version;
       signature = signature;
       spaces = [];
       phyla = [];
@@ -34,7 +34,7 @@ fn of_sorts(alloc: Global, signature: Signature) -> Definition
     } }
 {
     Definition {
-        version: 1,
+        version,
         signature,
         spaces: Seq::of(Vec::new(alloc)),
         phyla: Seq::of(Vec::new(alloc)),
@@ -48,15 +48,16 @@ fn of_sorts(alloc: Global, signature: Signature) -> Definition
 /// All but the rows of holes and of declared names, each part by those that are made before it.
 fn declared(
     alloc: Global,
+    version: u32,
     names: &Names,
     entries: &[Option<Line>],
 ) -> Result<Definition, AllocError>
     requires { has_twice (kind_names (written entries.now)) ≡ false }
-    ensures { IfOk result (IsDeclared (written entries.now)) }
+    ensures { IfOk result (IsDeclared version (written entries.now)) }
 {
     let signature = signature(alloc, entries)?;
     signature.sound();
-    let mut def = of_sorts(alloc, signature);
+    let mut def = of_sorts(alloc, version, signature);
     let spaces = spaces(alloc, &def, names, entries)?;
     def.spaces = Seq::of(spaces);
     let phyla = phyla(alloc, &def, names, entries)?;
@@ -69,19 +70,23 @@ fn declared(
     Ok(def)
 }
 
-/// The definition that the lines among the entries are together. The entries are those of the texts behind the head, and
-/// each line passes the tests of its form and of its meaning. It takes time linear in the lines but for the look-ups of
-/// names, each of which is one look-up in a table that is made once.
-pub fn numbered(alloc: Global, entries: &[Option<Line>]) -> Result<Definition, AllocError>
+/// Gives the definition of the version that the lines among the entries are together. The entries are those of the
+/// texts after the head, and each line passes the tests of its form and of its meaning. It takes time linear in the
+/// lines except for the look-ups of names, each of which is one look-up in a table that is made once.
+pub fn numbered(
+    alloc: Global,
+    version: u32,
+    entries: &[Option<Line>],
+) -> Result<Definition, AllocError>
     requires few { length entries.now + 2 < 2 ^ 32 }
     requires entries { (texts : List (List ℕ)) × AreEntries [] texts entries.now }
-    requires plain { AllByRecursion IsPlain (written entries.now) }
+    requires plain { AllByRecursion (IsPlain version) (written entries.now) }
     requires passed { ArePassed (written entries.now) [] (written entries.now) }
-    ensures numbered { IfOk result (IsNumbered (written entries.now)) }
+    ensures numbered { IfOk result (IsNumbered version (written entries.now)) }
     ensures signature { IfOk result (λ d. IsSound d.signature) }
 {
     let names = Names::of(alloc, entries)?;
-    let mut def = declared(alloc, &names, entries)?;
+    let mut def = declared(alloc, version, &names, entries)?;
     let holes = hole_rows(alloc, &def, &names, entries)?;
     let declares = declare_rows(alloc, &def, &names, entries)?;
     def.hole_rows = Seq::of(holes);

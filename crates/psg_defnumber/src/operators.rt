@@ -8,7 +8,7 @@ ghost use Rattle.psg_defnumber.specs.Growing.{Lasts};
 ghost use Rattle.psg_defnumber.specs.Numbers.{IsItem, AreItems, AreRows, AreOperators};
 ghost use Rattle.psg_defnumber.specs.Putting.{Puts, ReadsColumns, ReadsRows, ReadsOperators, IsOperatorEntry};
 
-use crate::lookups::{kind_named, kind_sort, phylum_named, phylum_sort, space_sort};
+use crate::lookups::{kind_named, kind_sort, phylum_named, phylum_sort, space_named, space_sort};
 use crate::names::Names;
 use crate::rows::row;
 use psg_deflines::{Line, LineItem};
@@ -16,7 +16,7 @@ use psg_grammar::{Definition, Item, Operator, Row};
 use psg_terms::{Seq, SortId};
 use std::alloc::{AllocError, Global};
 
-/// An item of an operator. Names are of the space of all names.
+/// An item of an operator.
 fn item(def: &Definition, names: &Names, part: &LineItem) -> Result<Item, AllocError>
     ensures { IfOk result (λ i. Lasts def.now (λ full. IsItem full part.now i)) }
 {
@@ -29,8 +29,14 @@ fn item(def: &Definition, names: &Names, part: &LineItem) -> Result<Item, AllocE
             let kind = kind_named(def, names, name)?;
             Ok(Item::Slot(kind))
         }
-        LineItem::Refers => Ok(Item::Refers(0)),
-        LineItem::Declares => Ok(Item::Declares(0)),
+        LineItem::Refers(name) => {
+            let space = space_named(def, names, name)?;
+            Ok(Item::Refers(space))
+        }
+        LineItem::Declares(name) => {
+            let space = space_named(def, names, name)?;
+            Ok(Item::Declares(space))
+        }
         LineItem::Number => Ok(Item::Number),
         LineItem::Text => Ok(Item::Text),
         LineItem::Space => Ok(Item::Space),
@@ -58,7 +64,7 @@ fn items(
     Ok(made)
 }
 
-/// Puts the sort of an item's column behind the others, if it has one.
+/// Puts the sort of an item's column after the others, if it has one.
 fn put_column(def: &Definition, sorts: &mut Vec<SortId>, item: &Item) -> Result<(), AllocError>
     ensures { OnOk result ((rest : List PlainItem)
         → Puts def.now ReadsColumns item.now rest sorts.old.items sorts.new.items) }
@@ -107,7 +113,7 @@ fn is_operator(entry: &Option<Line>) -> bool
     }
 }
 
-/// Puts the row of a line behind the others, if it declares one.
+/// Puts the row of a line after the others, if it declares one.
 fn put_row(
     alloc: Global,
     def: &Definition,
@@ -158,7 +164,7 @@ fn rows(
     Ok(made)
 }
 
-/// Puts the operator of a line behind the others, if it declares one, with the rows behind the line.
+/// Puts the operator of a line after the others, if it declares one, with the rows that follow the line.
 fn put_operator(
     alloc: Global,
     def: &Definition,
@@ -199,7 +205,7 @@ fn put_operator(
     Ok(())
 }
 
-/// The operators, in order, each with its rows. It reads the rows once.
+/// Makes the operators, in order, each with its rows. It reads the rows once.
 pub fn operators(
     alloc: Global,
     def: &Definition,

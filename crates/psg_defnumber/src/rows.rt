@@ -5,7 +5,7 @@ ghost use Rattle.psg_grammar.specs.declared.types.Kind.TheVariants as kinds;
 ghost use Rattle.psg_defnumber.specs.Growing.{Lasts};
 ghost use Rattle.psg_defnumber.specs.Numbers.{IsRow, IsNil, IsCase, IsDeclareRow};
 
-use crate::lookups::{list_at, list_named, phylum_sort, space_sort};
+use crate::lookups::{list_at, list_named, phylum_sort, space_named, space_sort};
 use crate::names::Names;
 use crate::specimens::specimen;
 use crate::terms::{term, terms};
@@ -16,7 +16,7 @@ use psg_grammar::{Case, DeclareRow, Definition, Kind, Row};
 use psg_terms::{Seq, SortId, Term, Txt};
 use std::alloc::{AllocError, Global};
 
-/// A row: the term of the sort, and terms of these sorts.
+/// Makes a row: the term of the sort, and terms of these sorts, one by one.
 pub fn row(
     alloc: Global,
     def: &Definition,
@@ -38,7 +38,7 @@ pub fn row(
     })
 }
 
-/// The term of a line that has one alone.
+/// Makes the term of a line that has one alone.
 pub fn lone_term(
     alloc: Global,
     def: &Definition,
@@ -53,7 +53,7 @@ pub fn lone_term(
     Ok(made)
 }
 
-/// A part of a kind's values with a specimen.
+/// Makes a case: a part of a kind's values with a specimen.
 pub fn case(
     alloc: Global,
     def: &Definition,
@@ -74,21 +74,24 @@ pub fn case(
     })
 }
 
-/// A declare row of the list.
+/// Makes a declare row of the space and the list.
 pub fn declare_row(
     alloc: Global,
     def: &Definition,
     names: &Names,
+    space: &Txt,
     list: &Txt,
     entity: &LineTerm,
     value: &LineTerm,
     tree: &LineTree,
 ) -> Result<DeclareRow, AllocError>
-    ensures { IfOk result (λ r. Lasts def.now (λ full. IsDeclareRow full list.now entity.now value.now tree.now r)) }
+    ensures { IfOk result (λ r. Lasts def.now
+        (λ full. IsDeclareRow full space.now list.now entity.now value.now tree.now r)) }
 {
     let list = list_named(def, names, list)?;
     let own = list_at(def, list)?;
-    let entities = space_sort(def, 0)?;
+    let space = space_named(def, names, space)?;
+    let entities = space_sort(def, space)?;
     let values = phylum_sort(def, own.element)?;
     let mut known: Known = IndexMap::new(alloc);
     let entity = term(alloc, &def.signature, names, &mut known, entities, entity)?;
@@ -96,7 +99,7 @@ pub fn declare_row(
     let kind = Kind::Phylum(own.element);
     let shown = specimen(alloc, def, names, &mut known, kind, tree)?;
     Ok(DeclareRow {
-        space: 0,
+        space,
         list,
         term: entity,
         value,

@@ -37,7 +37,7 @@ fn con_decls(alloc: Global, decls: &[ConDecl]) -> Result<Vec<ConDecl>, AllocErro
     Ok(made)
 }
 
-/// Puts the sort of a line behind the others, if it declares one.
+/// Puts the sort of a line after the others, if it declares one.
 fn put_sort(alloc: Global, made: &mut Vec<SortDecl>, entry: &Option<Line>) -> Result<(), AllocError>
     ensures { OnOk result (made.new.items ≡ made.old.items ++ sort_decls (written (entry.now ∷ []))) }
 {
@@ -82,7 +82,8 @@ fn few_constructors(decls: &[SortDecl]) -> Result<(), AllocError>
     Ok(())
 }
 
-/// The sorts and constructors. The tests of meaning leave no fault, so as with look-ups only memory can be wanting.
+/// Makes the signature of the sorts and constructors. The tests of meaning leave no fault, so as with look-ups the
+/// error is returned only where memory runs out.
 pub fn signature(alloc: Global, entries: &[Option<Line>]) -> Result<Signature, AllocError>
     ensures { IfOk result (IsSpelled (sort_decls (written entries.now))) }
 {

@@ -28,7 +28,7 @@ fn with_digit(value: u128, digit: u8) -> Result<u128, AllocError>
     Ok(found(tens.checked_add(u128::from(digit - 48)))?)
 }
 
-/// The number that digits stand for.
+/// The value of digits.
 fn decimal(digits: &str) -> Result<u128, AllocError>
     ensures { IfOk result (λ v. value_of digits.now ≡ v) }
 {
@@ -187,7 +187,7 @@ fn elements<'a>(
     Ok(made)
 }
 
-/// The specimen of the kind.
+/// Makes the specimen of the kind.
 #[cycle(specimen)]
 pub fn specimen<'a>(
     alloc: Global,

@@ -11,7 +11,7 @@ use psg_deflines::{LineTerm, TermShape};
 use psg_terms::{Signature, SortId, Term};
 use std::alloc::{AllocError, Global};
 
-/// The term of the sort. Its variables are numbered behind those that are known.
+/// Makes the term of the sort. Its variables are numbered after those that are known.
 #[cycle(term)]
 pub fn term<'a>(
     alloc: Global,
@@ -51,7 +51,7 @@ pub fn term<'a>(
     }
 }
 
-/// Terms of these sorts, one by one.
+/// Makes terms of these sorts, one by one.
 #[cycle(term)]
 pub fn terms<'a>(
     alloc: Global,

@@ -11,7 +11,7 @@ use std::alloc::AllocError;
 /// The names of a line's variables in the order of their first places, with the sorts of these.
 pub type Known<'a> = IndexMap<&'a str, SortId>;
 
-/// The number of the variable of the name, which stands at a place of the sort.
+/// Returns the number of the variable of the name, which is at a place of the sort.
 pub fn variable<'a>(known: &mut Known<'a>, name: &'a str, sort: SortId) -> Result<u32, AllocError>
     ensures { IfOk result (IsMet known.old.entries known.new.entries name.now sort.0) }
 {

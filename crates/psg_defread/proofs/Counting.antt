@@ -5,7 +5,8 @@ use Rattle.std.specs.Str.Lines.{lines, lines_of_parts, strip_carriage_return}
 use Rattle.std.specs.Prelude.{slice_index, if◌then◌else◌, codes}
 use Rattle.std.proofs.lemmas.List.{length-take}
 use Rattle.psg_deflines.specs.Written.{IsWritten}
-use Rattle.psg_deflines.specs.Entries.{Entry, HasHead, behind_head, AreEntries}
+use Rattle.psg_deflines.specs.Versions.{IsVersion}
+use Rattle.psg_deflines.specs.Entries.{Entry, HasHead, behind_head, head_parts, AreEntries}
 use Rattle.psg_deflines.specs.declared.lines.Line.{Line}
 use Rattle.psg_deflaws.specs.Soundness.{total}
 
@@ -55,19 +56,23 @@ entries_count above [] (e ∷ entries) h = absurd h
 entries_count above (t ∷ texts) [] h = absurd h
 entries_count above (t ∷ texts) (e ∷ entries) h = omega (arith, entries_count _ texts entries h.1)
 
-head_long : (text : List ℕ) → IsWritten (codes "psg" ∷ codes "1" ∷ []) text → 4 ≤ length text
-head_long text (n, rest, e, a, w) =
+head_long : (version : ℕ) (text : List ℕ) → IsVersion version × IsWritten (head_parts version) text → 4 ≤ length text
+head_long version text (is, (n, rest, e, a, w)) =
     omega (arith, ap length e, length-append (codes "psg") (replicate n 32 ++ rest), length-append (replicate n 32) rest, ap length w)
 
 -- there are fewer entries than bytes, and the texts behind the head are no longer than the bytes
-pub few_entries : (bytes : List ℕ) (entries : List Entry) → HasHead (lines bytes) → AreEntries [] (behind_head (lines bytes)) entries
+pub few_entries : (version : ℕ) (bytes : List ℕ) (entries : List Entry) → HasHead version (lines bytes) → AreEntries [] (behind_head (lines bytes)) entries
     → (length entries + 4 ≤ length bytes) × (total (behind_head (lines bytes)) ≤ length bytes)
-few_entries bytes entries head each = go (lines bytes) head each (lines_weight bytes)
+few_entries version bytes entries head each = go (lines bytes) head each (lines_weight bytes)
   where
-    go : (texts : List (List ℕ)) → HasHead texts → AreEntries [] (behind_head texts) entries → weight texts ≤ length bytes + 1
+    go : (texts : List (List ℕ)) → HasHead version texts → AreEntries [] (behind_head texts) entries → weight texts ≤ length bytes + 1
         → (length entries + 4 ≤ length bytes) × (total (behind_head texts) ≤ length bytes)
     go [] h k w = absurd h
     go (t ∷ texts) h k w = (
-      omega (arith, w, head_long t h, entries_count [] texts entries k),
-      omega (arith, w, head_long t h),
+      omega (arith, w, head_long version t h, entries_count [] texts entries k),
+      omega (arith, w, head_long version t h),
     )
+
+pub head_version : (version : ℕ) (texts : List (List ℕ)) → HasHead version texts → IsVersion version
+head_version version [] h = absurd h
+head_version version (t ∷ texts) h = h.0

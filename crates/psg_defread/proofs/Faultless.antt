@@ -1,5 +1,5 @@
 -- A file whose lines pass all tests has no fault.
-use Rattle.std.proofs.Common.{◌≡◌, ◌⊎◌, inl, inr, ℕ, List, [], ◌∷◌, ◌++◌, Option, Some, None, refl, sym, ◌∙◌, ap, subst}
+use Rattle.std.proofs.Common.{◌≡◌, ◌⊎◌, inl, inr, ℕ, true, List, [], ◌∷◌, ◌++◌, Option, Some, None, refl, sym, ◌∙◌, ap, subst}
 use Rattle.std.proofs.Common.{Result, Ok, Err}
 use Rattle.std.specs.Prelude.{IfErr, IsErrAnd}
 use Rattle.std.proofs.lemmas.Result.{err_from_is_err_and}
@@ -7,7 +7,8 @@ use Rattle.std.specs.List.{AllByRecursion}
 use Rattle.std.specs.Str.Lines.{lines}
 use Rattle.std.proofs.lemmas.List.{append_assoc, append-nil}
 use Rattle.psg_grammar.specs.declared.types.Definition.{Definition}
-use Rattle.psg_deflines.specs.Entries.{Entry, written, AreEntries, behind_head}
+use Rattle.psg_deflines.specs.Versions.{is_of}
+use Rattle.psg_deflines.specs.Entries.{Entry, written, AreEntries, behind_head, IsPlain}
 use Rattle.psg_deflines.specs.Reading.{HasEntries, AreLinesOf, HasNoFormFault}
 use Rattle.psg_deflines.specs.Refusals.{IsFirstOf}
 use Rattle.psg_deflines.specs.declared.fault.DefCode.{DefCode}
@@ -18,7 +19,9 @@ use Rattle.psg_deflines.specs.Refusals.{IsFormFault}
 use Rattle.psg_deflines.specs.declared.lines.Line.{Line}
 use Rattle.psg_defcheck.specs.Faults.{meaning_codes, PassesMeaning, ArePassed, IsMeaningFault, IsFirstFault}
 use Rattle.psg_defread.specs.Refusals.{HasMeaningFault, IsReadFault, Refusal, no_form, no_meaning}
-use Rattle.psg_defread.specs.Reading.{IsFaultless}
+use Rattle.psg_defread.specs.Reading.{IsFaultless, Spells}
+use Rattle.psg_defnumber.specs.Numbers.{IsNumbered}
+use Rattle.psg_deflaws.specs.Once.{OneNumbering}
 
 pub written_append : (xs ys : List Entry) → written (xs ++ ys) ≡ written xs ++ written ys
 written_append [] ys = refl
@@ -43,17 +46,22 @@ no_meaning_fault entries fault passed m =
     (subst (ArePassed (written entries) []) (ap written m.split ∙ written_append m.front (Some m.line ∷ m.behind)) passed))
     m.first
 
+-- plain lines are of the version
+pub all_of : (version : ℕ) (lines : List Line) → AllByRecursion (IsPlain version) lines → AllByRecursion (λ line. is_of version line ≡ true) lines
+all_of version [] h = tt
+all_of version (line ∷ lines) h = (h.0.of_version, all_of version lines h.1)
+
 -- the only entries are those that were read
-pub faultless : (bytes : List ℕ) (entries : List Entry) → AreLinesOf bytes entries → ((other : List Entry) → HasEntries bytes other → other ≡ entries)
+pub faultless : (bytes : List ℕ) (version : ℕ) (entries : List Entry) → AreLinesOf bytes version entries → ((v : ℕ) (other : List Entry) → HasEntries bytes v other → (v ≡ version) × (other ≡ entries))
     → HasNoFormFault bytes → IsFirstFault entries None → IsFaultless bytes
-faultless bytes entries read only none passed fault (no_form f) = none fault f
-faultless bytes entries read only none passed fault (no_meaning utf8 head m) =
-    let same : m.entries ≡ entries = only m.entries (record { utf8 = utf8; spelled = record { head = head; each = m.each } }) in
+faultless bytes version entries read only none passed fault (no_form f) = none fault f
+faultless bytes version entries read only none passed fault (no_meaning v utf8 head m) =
+    let same : m.entries ≡ entries = (only v m.entries (record { utf8 = utf8; spelled = record { head = head; each = m.each; of_version = all_of v (written m.entries) m.plain } })).1 in
     no_meaning_fault entries fault passed (subst (λ es. IsMeaningFault es fault) same m.meaning)
 
-pub meaning_refused : (bytes : List ℕ) (entries : List Entry) (fault : DefFault) → AreLinesOf bytes entries → IsMeaningFault entries fault → Refusal bytes fault
-meaning_refused bytes entries fault read meaning =
-    no_meaning read.spelled.utf8 read.spelled.spelled.head (record { entries = entries; each = read.spelled.spelled.each; plain = read.plain; meaning = meaning })
+pub meaning_refused : (bytes : List ℕ) (version : ℕ) (entries : List Entry) (fault : DefFault) → AreLinesOf bytes version entries → IsMeaningFault entries fault → Refusal bytes fault
+meaning_refused bytes version entries fault read meaning =
+    no_meaning version read.spelled.utf8 read.spelled.spelled.head (record { entries = entries; each = read.spelled.spelled.each; plain = read.plain; meaning = meaning })
 
 form_refused : (bytes : List ℕ) (fault : ReadFault) → IsFormFault bytes fault → IsReadFault bytes fault
 form_refused bytes (Def fault) f = no_form f
@@ -62,3 +70,13 @@ form_refused bytes Memory f = f
 -- a fault of the lines, handed on
 pub form_passed : {T : Type 0} (bytes : List ℕ) (r : Result T ReadFault) (fault : ReadFault) → IsErrAnd r (λ e. e ≡ fault) → IsFormFault bytes fault → IfErr r (IsReadFault bytes)
 form_passed bytes r fault h f = let q = err_from_is_err_and r h in rw q.1 (subst (IsReadFault bytes) (sym q.2) (form_refused bytes fault f))
+
+-- what else the bytes spell has the version and the entries that were read, and so is the same definition
+pub one_read : (bytes : List ℕ) (version : ℕ) (entries : List Entry) (def : Definition)
+    → ((v : ℕ) (others : List Entry) → HasEntries bytes v others → (v ≡ version) × (others ≡ entries))
+    → IsNumbered version (written entries) def → OneNumbering → (other : Definition) → Spells bytes other → other ≡ def
+one_read bytes version entries def only numbered once other s =
+    let e = only s.version s.entries (record { utf8 = s.utf8; spelled = s.spelled }) in
+    once version (written entries) other def
+    (subst (λ v. IsNumbered v (written entries) other) e.0
+    (subst (λ es. IsNumbered s.version (written es) other) e.1 s.numbered)) numbered

@@ -7,13 +7,14 @@ use Rattle.psg_defnumber.specs.Numbers.{IsNumbered}
 use Rattle.psg_defread.specs.Refusals.{Refusal}
 use Rattle.psg_deflines.specs.declared.fault.DefFault.{DefFault}
 
--- The bytes are UTF-8; their lines, each less one carriage return in front of its line feed, spell lines of a definition,
--- which are together all of the definition.
+-- The bytes are UTF-8; their lines, each less one carriage return in front of its line feed, spell lines of a
+-- definition, which are together all of the definition.
 pub record Spells (bytes : List ℕ) (def : Definition) : Type 0 where
   pub utf8 : IsUtf8 bytes
+  pub version : ℕ
   pub entries : List Entry
-  pub spelled : AreSpelled (lines bytes) entries
-  pub numbered : IsNumbered (written entries) def
+  pub spelled : AreSpelled version (lines bytes) entries
+  pub numbered : IsNumbered version (written entries) def
 
 -- nothing is refused
 abbrev pub IsFaultless : List ℕ → Type 0

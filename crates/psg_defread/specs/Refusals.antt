@@ -10,18 +10,19 @@ use Rattle.psg_deflines.specs.declared.fault.ReadFault.{ReadFault}
 use Rattle.psg_deflines.specs.declared.fault.ReadFault.TheVariants.{Def, Memory}
 
 -- A fault of a line's meaning, where no text has a fault of form.
-pub record HasMeaningFault (texts : List (List ℕ)) (fault : DefFault) : Type 0 where
+pub record HasMeaningFault (version : ℕ) (texts : List (List ℕ)) (fault : DefFault) : Type 0 where
   pub entries : List Entry
   pub each : AreEntries [] texts entries
-  pub plain : AllByRecursion IsPlain (written entries)
+  pub plain : AllByRecursion (IsPlain version) (written entries)
   pub meaning : IsMeaningFault entries fault
 
 -- The first fault: of the file, of its head and of the form of its lines, and then of their meaning.
 pub data Refusal (bytes : List ℕ) (fault : DefFault) : Type 0 where
   no_form : FormRefusal bytes fault → Refusal bytes fault
-  no_meaning : IsUtf8 bytes → HasHead (lines bytes) → HasMeaningFault (behind_head (lines bytes)) fault → Refusal bytes fault
+  no_meaning : (version : ℕ) → IsUtf8 bytes → HasHead version (lines bytes)
+      → HasMeaningFault version (behind_head (lines bytes)) fault → Refusal bytes fault
 
--- a fault is the first one of the bytes; want of memory may always be
+-- a fault is the first one of the bytes; memory may run out at any time
 abbrev pub IsReadFault : List ℕ → ReadFault → Type 0
 IsReadFault bytes (Def fault) = Refusal bytes fault
 IsReadFault bytes Memory = Unit {0}

@@ -13,9 +13,9 @@ use psg_defnumber::numbered;
 use psg_grammar::Definition;
 use std::alloc::Global;
 
-/// The definition that the bytes spell without a fault, or their first fault: the line, from 1, and what is wrong with it.
-/// The bytes are tested as UTF-8 first, then the head, then the form of each line, then the meaning of each line among all of
-/// them. `Memory` comes when memory runs out, at any time.
+/// Returns the definition that the bytes spell without a fault, or their first fault: the line, from 1, and what is
+/// wrong with it. The bytes are tested as UTF-8 first, then the head, then the form of each line, then the meaning of
+/// each line among all of them. `Memory` is returned when memory runs out, at any time.
 pub fn read_definition(alloc: Global, bytes: &[u8]) -> Result<Definition, ReadFault>
     requires { length bytes.now < 2 ^ 32 }
     ensures ok { IfOk result (λ d. Spells bytes.now d) }
@@ -25,11 +25,12 @@ pub fn read_definition(alloc: Global, bytes: &[u8]) -> Result<Definition, ReadFa
     ensures sound { IfOk result IsSound }
     ensures words { IfOk result HasTokenWords }
 {
-    let entries = read_lines(alloc, bytes)?;
-    if let Some(fault) = first_fault(alloc, entries.as_slice())? {
+    let found = read_lines(alloc, bytes)?;
+    let entries = found.entries.as_slice();
+    if let Some(fault) = first_fault(alloc, entries)? {
         return Err(ReadFault::Def(fault));
     }
-    let definition = numbered(alloc, entries.as_slice())?;
+    let definition = numbered(alloc, found.version, entries)?;
     one_numbering();
     numbered_is_sound();
     words_are_tokens();

@@ -5,7 +5,7 @@ use Rattle.psg_terms.specs.Names.{Name}
 use Rattle.psg_grammar.specs.declared.types.Definition.{Definition}
 use Rattle.psg_deflines.specs.declared.lines.Line.{Line}
 use Rattle.psg_deflaws.proofs.Lists.{all-append}
-use Rattle.psg_deftext.specs.WrittenLines.{lines_of, sort_lines, entity_line, phylum_line, list_line, operator_lines, nil_lines, cell_lines, hole_lines, declare_line}
+use Rattle.psg_deftext.specs.WrittenLines.{lines_of, sort_lines, space_line, phylum_line, list_line, operator_lines, nil_lines, cell_lines, hole_lines, declare_line}
 use Rattle.psg_deftext.proofs.NumberBlocks.{from_entities, from_phyla, from_lists, from_operators, from_nils, from_cells, from_holes, from_declares}
 
 -- ---- one block
@@ -41,7 +41,7 @@ sorts-all P def each n (name ∷ rest) = ((each n name).0, sorts-all P def each 
 
 pub record Blocks (P : Line → Type 0) (def : Definition) : Type 0 where
   pub sorts : AllByRecursion P (sort_lines def 0 def.signature.sorts)
-  pub entities : AllByRecursion P (map (entity_line def) def.spaces)
+  pub entities : AllByRecursion P (map (space_line def) def.spaces)
   pub phyla : AllByRecursion P (map (phylum_line def) def.phyla)
   pub lists : AllByRecursion P (map (list_line def) def.lists)
   pub operators : AllByRecursion P (flat_map (operator_lines def) def.operators)
@@ -58,5 +58,5 @@ all-lines P def b =
     let operators = all-append P (flat_map (operator_lines def) def.operators) (from_nils def) b.operators nils in
     let lists = all-append P (map (list_line def) def.lists) (from_operators def) b.lists operators in
     let phyla = all-append P (map (phylum_line def) def.phyla) (from_lists def) b.phyla lists in
-    let entities = all-append P (map (entity_line def) def.spaces) (from_phyla def) b.entities phyla in
+    let entities = all-append P (map (space_line def) def.spaces) (from_phyla def) b.entities phyla in
     all-append P (sort_lines def 0 def.signature.sorts) (from_entities def) b.sorts entities

@@ -5,7 +5,7 @@ use Rattle.psg_grammar.specs.declared.types.Definition.{Definition}
 use Rattle.psg_deflines.specs.declared.lines.Line.{Line}
 use Rattle.psg_deflines.specs.declared.lines.Line.TheVariants as lines
 use Rattle.psg_deftext.specs.Layout.{rank, IsRanked, HasCasesBehind}
-use Rattle.psg_deftext.specs.WrittenLines.{lines_of, sort_lines, entity_line, phylum_line, list_line, row_line, operator_lines, nil_lines, cell_line, cell_lines, case_line, hole_lines, declare_line, term_written}
+use Rattle.psg_deftext.specs.WrittenLines.{lines_of, sort_lines, space_line, phylum_line, list_line, row_line, operator_lines, nil_lines, cell_line, cell_lines, case_line, hole_lines, declare_line, term_written}
 use Rattle.psg_deftext.proofs.NumberBlocks.{from_entities, from_phyla, from_lists, from_operators, from_nils, from_cells, from_holes, from_declares}
 use Rattle.psg_deftext.proofs.FormBlocks.{all-lines, map-all, flat-all, sorts-all}
 
@@ -74,8 +74,8 @@ module _ (def : Definition) where
 
   entities-ranked : IsRankedFrom 1 (from_entities def)
   entities-ranked =
-      in-front 1 (map (entity_line def) def.spaces) (from_phyla def)
-      (map-all (HasRank 1) (entity_line def) (λ s. refl) def.spaces) phyla-ranked
+      in-front 1 (map (space_line def) def.spaces) (from_phyla def)
+      (map-all (HasRank 1) (space_line def) (λ s. refl) def.spaces) phyla-ranked
 
 -- the ranks do not fall
 pub written_ranked : (def : Definition) → IsRanked 0 (lines_of def)
@@ -89,7 +89,7 @@ written_cases def =
     let P = HasCasesBehind in
     all-lines P def (record {
       sorts = sorts-all P def (λ n name. (tt, tt)) 0 def.signature.sorts;
-      entities = map-all P (entity_line def) (λ s. tt) def.spaces;
+      entities = map-all P (space_line def) (λ s. tt) def.spaces;
       phyla = map-all P (phylum_line def) (λ p. tt) def.phyla;
       lists = map-all P (list_line def) (λ l. tt) def.lists;
       operators = flat-all P (operator_lines def) (λ o. (tt, map-all P (row_line def) (λ r. tt) o.rows)) def.operators;

@@ -1,5 +1,5 @@
 -- The lines that write the rows of a definition keep what is said of the lines of its file.
-use Rattle.std.proofs.Common.{◌≡◌, None, List, [], ◌∷◌, map, ap, sym, ◌∙◌, subst}
+use Rattle.std.proofs.Common.{◌≡◌, ℕ, suc, None, List, [], ◌∷◌, length, map, ap, sym, ◌∙◌, subst, arith}
 use Rattle.std.specs.List.{AllByRecursion}
 use Rattle.psg_terms.specs.Names.{Name}
 use Rattle.psg_terms.specs.Terms.{Term}
@@ -18,8 +18,7 @@ use Rattle.psg_deflines.specs.declared.lines.LineItem.TheVariants as items
 use Rattle.psg_deflines.specs.declared.lines.Line.{Line}
 use Rattle.psg_deflines.specs.declared.lines.Line.TheVariants as lines
 use Rattle.psg_defnumber.specs.Numbers.{IsItem, AreItems}
-use Rattle.psg_deflaws.proofs.Lists.{cons-same}
-use Rattle.psg_deftext.specs.WrittenLines.{lines_of, kind_name, sort_lines, entity_line, phylum_line, list_line, item_written, row_line, operator_lines, nil_lines, cell_line, cell_lines, case_line, hole_lines, declare_line, term_written}
+use Rattle.psg_deftext.specs.WrittenLines.{lines_of, kind_name, space_name, sort_lines, space_line, phylum_line, list_line, item_written, row_line, operator_lines, nil_lines, cell_line, cell_lines, case_line, hole_lines, declare_line, term_written}
 use Rattle.psg_deftext.proofs.NumberAll.{all-mapped}
 use Rattle.psg_deftext.proofs.NumberNames.{name-found}
 use Rattle.psg_deftext.proofs.FormBlocks.{all-lines, mapped, flattened}
@@ -29,39 +28,36 @@ use Rattle.psg_deftext.proofs.FormTrees.{kind-named}
 module _ (def : Definition) where
   -- ---- operators and lists are written by the lines that they come from
 
-  item-same : (w : LineItem) (i : Item) → IsItem def w i → item_written def i ≡ w
-  item-same (items.Word w) i e = ap (item_written def) e
-  item-same (items.Slot n) i (k, is, e) = ap (item_written def) e ∙ ap items.Slot (kind-named def n k is)
-  item-same items.Refers i e = ap (item_written def) e
-  item-same items.Declares i e = ap (item_written def) e
-  item-same items.Number i e = ap (item_written def) e
-  item-same items.Text i e = ap (item_written def) e
-  item-same items.Space i e = ap (item_written def) e
-  item-same items.Tight i e = ap (item_written def) e
-  item-same items.Line i e = ap (item_written def) e
-  item-same items.In i e = ap (item_written def) e
-  item-same items.Out i e = ap (item_written def) e
+  -- what is said of items is said of them as they are written, where it is said of name positions of every space
+  item-keep : (P : LineItem → Type 0) → ((n : ℕ) → P (items.Refers (space_name def n))) → ((n : ℕ) → P (items.Declares (space_name def n))) → (w : LineItem) (i : Item) → P w → IsItem def w i → P (item_written def i)
+  item-keep P r d (items.Word w) i h e = subst P (sym (ap (item_written def) e)) h
+  item-keep P r d (items.Slot n) i h (k, is, e) = subst P (sym (ap (item_written def) e ∙ ap items.Slot (kind-named def n k is))) h
+  item-keep P r d (items.Refers n) i h (s, is, e) = subst P (sym (ap (item_written def) e)) (r s)
+  item-keep P r d (items.Declares n) i h (s, is, e) = subst P (sym (ap (item_written def) e)) (d s)
+  item-keep P r d items.Number i h e = subst P (sym (ap (item_written def) e)) h
+  item-keep P r d items.Text i h e = subst P (sym (ap (item_written def) e)) h
+  item-keep P r d items.Space i h e = subst P (sym (ap (item_written def) e)) h
+  item-keep P r d items.Tight i h e = subst P (sym (ap (item_written def) e)) h
+  item-keep P r d items.Line i h e = subst P (sym (ap (item_written def) e)) h
+  item-keep P r d items.In i h e = subst P (sym (ap (item_written def) e)) h
+  item-keep P r d items.Out i h e = subst P (sym (ap (item_written def) e)) h
 
-  items-same : (ws : List LineItem) (all : List Item) → AreItems def ws all → map (item_written def) all ≡ ws
-  items-same [] all e = ap (map (item_written def)) e
-  items-same (w ∷ ws) all (i, rest, e, h, hs) =
-      ap (map (item_written def)) e
-      ∙ cons-same (item_written def i) w (map (item_written def) rest) ws (item-same w i h) (items-same ws rest hs)
+  pub items-keep : (P : LineItem → Type 0) → ((n : ℕ) → P (items.Refers (space_name def n))) → ((n : ℕ) → P (items.Declares (space_name def n))) → (ws : List LineItem) (all : List Item) → AllByRecursion P ws → AreItems def ws all
+      → AllByRecursion P (map (item_written def) all)
+  items-keep P r d [] all h e = subst (λ is. AllByRecursion P (map (item_written def) is)) (sym e) tt
+  items-keep P r d (w ∷ ws) all h (i, rest, e, is, more) =
+      subst (λ is. AllByRecursion P (map (item_written def) is)) (sym e) (item-keep P r d w i h.0 is, items-keep P r d ws rest h.1 more)
 
-  abbrev operator_line : Operator → Line
+  pub items-long : (ws : List LineItem) (all : List Item) → AreItems def ws all → length (map (item_written def) all) ≡ length ws
+  items-long [] all e = ap (λ (is : List Item). length (map (item_written def) is)) e
+  items-long (w ∷ ws) all (i, rest, e, is, more) =
+      let long : length (map (item_written def) all) ≡ suc (length (map (item_written def) rest)) =
+      ap (λ (xs : List Item). length (map (item_written def) xs)) e in
+      omega (arith, long, items-long ws rest more)
+
+  abbrev pub operator_line : Operator → Line
   operator_line o =
       lines.Operator o.name (kind_name def (kinds.Phylum o.phylum)) o.scope o.level (map (item_written def) o.items)
-
-  operator-line : (P : Line → Type 0) (op : Operator) → OfOperator def P op → P (operator_line op)
-  operator-line P op of =
-      let name = of.is.named in
-      let phylum = kind-named def of.phylum (kinds.Phylum op.phylum) of.is.of_phylum in
-      let scope = of.is.same_scope in
-      let level = of.is.same_level in
-      let parts = items-same of.parts op.items of.is.each_item in
-      let same : operator_line op ≡ lines.Operator of.name of.phylum of.scope of.level of.parts =
-      λ i. lines.Operator (name i) (phylum i) (scope i) (level i) (parts i) in
-      subst P (sym same) of.given
 
   list-line : (P : Line → Type 0) (l : ListKind) → OfList def P l → P (list_line def l)
   list-line P l of =
@@ -79,6 +75,7 @@ module _ (def : Definition) where
   -- ---- rows keep what is said of the lines that they come from
 
   pub record Keeps (P : Line → Type 0) : Type 0 where
+    pub operator : (op : Operator) → OfOperator def P op → P (operator_line op)
     pub row : (row : Row) → OfRow def P row → P (row_line def row)
     pub nil : (list : Name) (t : Term) → OfNil def P list t → P (lines.Nil list (term_written def t))
     pub cell : (list : Name) (row : Row) → OfCell def P list row → P (cell_line def list row)
@@ -90,7 +87,7 @@ module _ (def : Definition) where
   module _ (P : Line → Type 0) (keeps : Keeps P) where
     operator-keeps : (op : Operator) → OfOperator def P op → AllByRecursion P (operator_lines def op)
     operator-keeps op of = (
-      operator-line P op of,
+      keeps.operator op of,
       mapped P (row_line def) op.rows
           (all-mapped (OfRow def P) (λ row. P (row_line def row)) keeps.row op.rows of.rows),
     )
@@ -119,7 +116,7 @@ module _ (def : Definition) where
 
     -- and so all lines, where it is said of the first ones
     pub lines-keep : Origins def P → AllByRecursion P (sort_lines def 0 def.signature.sorts)
-        → AllByRecursion P (map (entity_line def) def.spaces) → AllByRecursion P (map (phylum_line def) def.phyla)
+        → AllByRecursion P (map (space_line def) def.spaces) → AllByRecursion P (map (phylum_line def) def.phyla)
         → AllByRecursion P (lines_of def)
     lines-keep of sorts entities phyla =
         let lists = all-mapped (OfList def P) (λ l. P (list_line def l)) (list-line P) def.lists of.lists in

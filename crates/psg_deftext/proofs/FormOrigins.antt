@@ -94,12 +94,13 @@ module _ (def : Definition) (Given : Line → Type 0) where
     pub cases : AllByRecursion (OfCase row.kind) row.cases
 
   pub record OfDeclareRow (row : DeclareRow) : Type 0 where
+    pub named : Name
     pub list : Name
     pub entity : WrittenTerm
     pub value : WrittenTerm
     pub tree : WrittenTree
-    pub given : Given (lines.Declare list entity value tree)
-    pub is : IsDeclareRow def list entity value tree row
+    pub given : Given (lines.Declare named list entity value tree)
+    pub is : IsDeclareRow def named list entity value tree row
 
   pub record Origins : Type 0 where
     pub operators : AllByRecursion OfOperator def.operators
@@ -259,14 +260,14 @@ module _ (def : Definition) (Given : Line → Type 0) where
   declare-rows-from : (file : List Line) (all : List DeclareRow) → AllByRecursion Given file
       → AreDeclareRows def file all → AllByRecursion OfDeclareRow all
   declare-rows-from [] all g e = subst (AllByRecursion OfDeclareRow) (sym e) tt
-  declare-rows-from (lines.Declare list entity value tree ∷ behind) all g (row, rest, e, h, hs) =
+  declare-rows-from (lines.Declare named list entity value tree ∷ behind) all g (row, rest, e, h, hs) =
       subst (AllByRecursion OfDeclareRow) (sym e) (
-        record { list = list; entity = entity; value = value; tree = tree; given = g.0; is = h },
+        record { named = named; list = list; entity = entity; value = value; tree = tree; given = g.0; is = h },
         declare-rows-from behind rest g.1 hs,
       )
   declare-rows-from (line ∷ behind) all g h = declare-rows-from behind all g.1 h
 
-  pub origins : (file : List Line) → AllByRecursion Given file → IsNumbered file def → Origins
+  pub origins : {version : ℕ} (file : List Line) → AllByRecursion Given file → IsNumbered version file def → Origins
   origins file g h = record {
     operators = operators-from file def.operators g h.operators;
     lists = lists-from file file def.lists g g h.lists;

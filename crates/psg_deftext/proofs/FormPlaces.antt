@@ -16,7 +16,7 @@ use Rattle.psg_deflines.specs.WrittenTrees.{WrittenTree}
 use Rattle.psg_deflines.specs.declared.lines.LineItem.{LineItem}
 use Rattle.psg_deflines.specs.declared.lines.Line.{Line}
 use Rattle.psg_deflines.specs.declared.lines.Line.TheVariants as lines
-use Rattle.psg_deftext.specs.WrittenLines.{lines_of, sort_lines, entity_line, phylum_line, list_line, item_written, row_line, operator_lines, nil_lines, cell_line, cell_lines, case_line, hole_lines, declare_line, kind_name, term_written, tree_written}
+use Rattle.psg_deftext.specs.WrittenLines.{lines_of, sort_lines, space_line, phylum_line, list_line, item_written, row_line, operator_lines, nil_lines, cell_line, cell_lines, case_line, hole_lines, declare_line, kind_name, term_written, tree_written}
 use Rattle.psg_deftext.proofs.NumberBlocks.{from_entities, from_phyla, from_lists, from_operators, from_nils, from_cells, from_holes, from_declares, flat-front}
 use Rattle.psg_deftext.proofs.FormBlocks.{map-all, flat-all, sorts-all}
 
@@ -149,8 +149,8 @@ module _ (def : Definition) where
   lines-placed =
       free-block (sort_lines def 0 def.signature.sorts) (from_entities def)
       (sorts-all IsFree def (λ n name. ((λ above. tt), tt)) 0 def.signature.sorts)
-      (free-block (map (entity_line def) def.spaces) (from_phyla def)
-      (map-all IsFree (entity_line def) (λ s above. tt) def.spaces) phyla-placed)
+      (free-block (map (space_line def) def.spaces) (from_phyla def)
+      (map-all IsFree (space_line def) (λ s above. tt) def.spaces) phyla-placed)
 
 -- a row stands behind an operator, a case behind a hole row whose cases stand on lines of their own
 pub written_places : (def : Definition) (front : List Line) (line : Line) (behind : List Line)

@@ -1,5 +1,5 @@
--- The lines of sorts, entity and phyla of a sound definition have their forms.
-use Rattle.std.proofs.Common.{◌≡◌, ℕ, zero, suc, ◌+◌, ◌<◌, ◌≤◌, ◌==◌, Bool, true, false, cond, List, [], ◌∷◌, length, map, Some, None, slice_get, sym, subst, arith}
+-- The lines of sorts, spaces and phyla of a sound definition have their forms.
+use Rattle.std.proofs.Common.{◌≡◌, ℕ, zero, suc, ◌+◌, ◌<◌, ◌≤◌, ◌==◌, Bool, true, false, cond, List, [], ◌∷◌, length, map, Some, None, slice_get, refl, sym, subst, arith}
 use Rattle.std.specs.List.{AllByRecursion}
 use Rattle.std.proofs.lemmas.Bool.{eq-eqb}
 use Rattle.psg_terms.specs.Names.{Name}
@@ -11,9 +11,10 @@ use Rattle.psg_terms.specs.declared.declare.ConDecl.{ConDecl}
 use Rattle.psg_grammar.specs.declared.types.Space.{Space}
 use Rattle.psg_grammar.specs.declared.types.Definition.{Definition}
 use Rattle.psg_grammar.specs.Sound.{IsSound, IsKindName, IsPhylum}
-use Rattle.psg_deflines.specs.Forms.{HasForm, HasConstructorForm}
-use Rattle.psg_deftext.specs.WrittenLines.{sort_name, constructors_written, sort_lines, entity_line, phylum_line, name_at}
-use Rattle.psg_deftext.proofs.NumberAll.{all-mapped}
+use Rattle.psg_deflines.specs.Forms.{HasForm, HasConstructorForm, IsSpaceName}
+use Rattle.psg_deftext.specs.WrittenLines.{sort_name, constructors_written, sort_lines, space_line, phylum_line, name_at}
+use Rattle.psg_deftext.proofs.NumberAll.{all-mapped, all-joined}
+use Rattle.psg_deftext.proofs.FormSpaces.{spaces-formed}
 use Rattle.psg_deftext.proofs.FormBlocks.{mapped}
 use Rattle.psg_deftext.proofs.FormTerms.{IsNamedSymbol}
 
@@ -93,11 +94,11 @@ module _ (def : Definition) (sound : IsSound def) where
   pub sorts-form : AllByRecursion HasForm (sort_lines def 0 def.signature.sorts)
   sorts-form = sorts-from 0 def.signature.sorts (omega arith) sound.sort_names
 
-  pub entities-form : AllByRecursion HasForm (map (entity_line def) def.spaces)
+  pub entities-form : AllByRecursion HasForm (map (space_line def) def.spaces)
   entities-form =
-      mapped HasForm (entity_line def) def.spaces
-      (all-mapped (λ (s : Space). s.sort.0 < length def.signature.sorts) (λ s. HasForm (entity_line def s))
-      (λ s inside. sort-formed s.sort.0 inside) def.spaces sound.space_sorts)
+      mapped HasForm (space_line def) def.spaces
+      (all-joined (λ (s : Space). IsSpaceName s.name) (λ (s : Space). s.sort.0 < length def.signature.sorts) (λ s. HasForm (space_line def s))
+      (λ s name inside. (name, sort-formed s.sort.0 inside)) def.spaces (spaces-formed def def.version refl sound.spaces) sound.space_sorts)
 
   pub phyla-form : AllByRecursion HasForm (map (phylum_line def) def.phyla)
   phyla-form =

@@ -19,7 +19,7 @@ use Rattle.psg_deflines.specs.declared.lines.Line.TheVariants as lines
 use Rattle.psg_defnumber.specs.Numbers.{AreTerms}
 use Rattle.psg_deflaws.proofs.LineSizes.{lines_total}
 use Rattle.psg_deftext.specs.Layout.{met_in_all, numbers_from, line_terms, HasNumberedVariables}
-use Rattle.psg_deftext.specs.WrittenLines.{lines_of, entity_line, phylum_line, list_line, row_line, operator_lines, nil_lines, cell_line, cell_lines, case_line, hole_lines, declare_line, term_written}
+use Rattle.psg_deftext.specs.WrittenLines.{lines_of, space_line, phylum_line, list_line, row_line, operator_lines, nil_lines, cell_line, cell_lines, case_line, hole_lines, declare_line, term_written}
 use Rattle.psg_deftext.proofs.WasRead.{WasRead}
 use Rattle.psg_deftext.proofs.NumberAll.{all-joined}
 use Rattle.psg_deftext.proofs.NumberRows.{IsSmallRow, IsSmallNil, IsSmallCase, place_terms}
@@ -142,7 +142,7 @@ module _ (def : Definition) where
       small.declare_rows in
       all-lines HasNumberedVariables def (record {
         sorts = sorts-all HasNumberedVariables def (λ n name. ((0, refl), tt)) 0 def.signature.sorts;
-        entities = map-all HasNumberedVariables (entity_line def) (λ s. (0, refl)) def.spaces;
+        entities = map-all HasNumberedVariables (space_line def) (λ s. (0, refl)) def.spaces;
         phyla = map-all HasNumberedVariables (phylum_line def) (λ p. (0, refl)) def.phyla;
         lists = map-all HasNumberedVariables (list_line def) (λ l. (0, refl)) def.lists;
         operators = flattened HasNumberedVariables (operator_lines def) def.operators joined;
@@ -160,8 +160,8 @@ written_variables def h short =
     (small-numbers def h.sound short)
 
 -- where a text that can be kept spells the lines
-pub spelled_variables : (def : Definition) → WasRead def → (bytes : List ℕ)
-    → AreSpelled (texts_of bytes) (map Some (lines_of def)) → length bytes < 2 ^ 63
+pub spelled_variables : (def : Definition) (h : WasRead def) (bytes : List ℕ)
+    → AreSpelled h.version (texts_of bytes) (map Some (lines_of def)) → length bytes < 2 ^ 63
     → AllByRecursion HasNumberedVariables (lines_of def)
 spelled_variables def h bytes spelled short =
-    written_variables def h (written-short bytes (lines_of def) spelled short)
+    written_variables def h (written-short h.version bytes (lines_of def) spelled short)

@@ -7,12 +7,12 @@ use Rattle.std.proofs.lemmas.Bool.Decides.{eqb_tells, nat_tests}
 use Rattle.std.proofs.lemmas.Str.{inside_one}
 use Rattle.std.proofs.lemmas.List.Elements.{recursion_from_All, All-from_get_or}
 use Rattle.unicode_width.specs.Width.{char_width}
-use Rattle.psg_grammar.specs.Sound.{goes_on_name, is_upper, is_lower, is_digit}
+use Rattle.psg_grammar.specs.Sound.{is_upper, is_lower, is_digit}
 use Rattle.psg_lexis.specs.Classes.{All}
 use Rattle.psg_lexis.specs.Tokens.{is_content, escaped, quoted}
 use Rattle.psg_deflines.specs.WrittenTrees.{IsQuotable, quoted_part}
 use Rattle.psg_deflines.specs.WrittenTerms.{is_plain}
-use Rattle.psg_deflines.specs.Written.{IsWritten}
+use Rattle.psg_deflines.specs.Written.{goes_on_word, IsWritten}
 use Rattle.psg_deflines.specs.Parts.{is_mark, is_sigil, goes_behind, IsPart, a_word, a_mark, a_sigil, a_quoted}
 use Rattle.psg_deflines.specs.Forms.{SpellsLine, parts_of}
 use Rattle.psg_deflines.specs.declared.lines.Line.{Line}
@@ -38,13 +38,13 @@ run-clear test clear (c ∷ cs) h =
 
 -- ---- the characters of words, marks and names
 
-name-clear : (c : ℕ) → goes_on_name c ≡ true → IsClear c
-name-clear c h = elim (cases_lt c 32) [
+word-clear : (c : ℕ) → goes_on_word c ≡ true → IsClear c
+word-clear c h = elim (cases_lt c 32) [
   | inl small ↦ absurd (false≢true (sym (below c small) ∙ h))
   | inr large ↦ large
 ]
   where
-    below : (d : ℕ) → d < 32 → goes_on_name d ≡ false
+    below : (d : ℕ) → d < 32 → goes_on_word d ≡ false
     below d small = grind (arith, nat_tests)
 
 behind-clear : (s c : ℕ) → goes_behind s c ≡ true → IsClear c
@@ -135,7 +135,7 @@ text-clear w h =
 -- ---- parts and lines
 
 pub part-clear : (p : List ℕ) → IsPart p → AreClear p
-part-clear p (a_word w) = run-clear goes_on_name name-clear p w.1
+part-clear p (a_word w) = run-clear goes_on_word word-clear p w.1
 part-clear p (a_mark m) = subst AreClear (sym m.whole) (mark-clear m.mark m.is, tt)
 part-clear p (a_sigil s) =
     subst AreClear (sym s.whole) (

@@ -1,5 +1,5 @@
 -- Texts with a line feed behind each, and the lines that they spell.
-use Rattle.std.proofs.Common.{◌≡◌, ◌≢◌, ◌==◌, ℕ, ◌+◌, ◌-◌, ◌<◌, false, if◌then◌else◌, zero, suc, List, [], ◌∷◌, ◌++◌, length, get_or, take, map, inl, inr, refl, ap, ap₂, sym, ◌∙◌, subst, append_assoc, arith}
+use Rattle.std.proofs.Common.{◌≡◌, ◌≢◌, ◌==◌, ℕ, ◌+◌, ◌-◌, ◌<◌, true, false, if◌then◌else◌, zero, suc, List, [], ◌∷◌, ◌++◌, length, get_or, take, map, inl, inr, refl, ap, ap₂, sym, ◌∙◌, subst, append_assoc, arith}
 use Rattle.std.specs.Prelude.{Some, codes, slice_index}
 use Rattle.std.specs.List.{AllByRecursion, slice_split}
 use Rattle.std.specs.List as lists
@@ -8,8 +8,9 @@ use Rattle.std.proofs.lemmas.Bool.Decides.{eqb_tells}
 use Rattle.std.proofs.lemmas.List.Splits.{slice_split_at}
 use Rattle.std.proofs.lemmas.List.Elements.{All-from_recursion, All-weaker}
 use Rattle.psg_deflines.specs.Written.{IsWritten}
-use Rattle.psg_deflines.specs.Forms.{HasForm, SpellsLine, parts_of}
-use Rattle.psg_deflines.specs.Entries.{IsSkipped, HasPlace, AreEntries, AreSpelled, HasHead}
+use Rattle.psg_deflines.specs.Forms.{HasForm, SpellsLine, parts_of, tag}
+use Rattle.psg_deflines.specs.Versions.{IsVersion, is_of}
+use Rattle.psg_deflines.specs.Entries.{IsSkipped, HasPlace, AreEntries, AreSpelled, HasHead, written}
 use Rattle.psg_deflines.specs.declared.lines.Line.{Line}
 use Rattle.psg_deflines.specs.declared.lines.Line.TheVariants as lines
 use Rattle.psg_deftext.proofs.JoinBytes.{IsClear, AreClear, line-clear}
@@ -19,8 +20,9 @@ abbrev pub fed : List (List ℕ) → List ℕ
 fed [] = []
 fed (t ∷ ts) = t ++ 10 ∷ fed ts
 
-abbrev pub head_text : List ℕ
-head_text = codes "psg 1"
+-- the first line of a version, with one space
+abbrev pub head_text : ℕ → List ℕ
+head_text version = codes "psg " ++ (48 + version) ∷ []
 
 fed-snoc : (ts : List (List ℕ)) (t : List ℕ) → fed (ts ++ t ∷ []) ≡ fed ts ++ (t ++ 10 ∷ [])
 fed-snoc [] t = refl
@@ -82,17 +84,20 @@ texts-snoc (l ∷ ls) [] line t h k = absurd h
 texts-snoc (l ∷ ls) (u ∷ ts) line t h k = (h.0, texts-snoc ls ts line t h.1 k)
 
 -- the text is the head and then the texts of the lines
-pub record IsLaid (ls : List Line) (text : List ℕ) : Type 0 where
+pub record IsLaid (version : ℕ) (ls : List Line) (text : List ℕ) : Type 0 where
   pub texts : List (List ℕ)
-  pub whole : text ≡ fed (head_text ∷ texts)
+  pub whole : text ≡ fed (head_text version ∷ texts)
   pub each : AreTexts ls texts
 
-pub laid-next : (ls : List Line) (i : ℕ) (line : Line) (own before after : List ℕ) → i < length ls
+pub laid-start : (version : ℕ) (text : List ℕ) → text ≡ codes "psg " ++ (48 + version) ∷ 10 ∷ [] → IsLaid version [] text
+laid-start version text e = record { texts = []; whole = e; each = tt }
+
+pub laid-next : (version : ℕ) (ls : List Line) (i : ℕ) (line : Line) (own before after : List ℕ) → i < length ls
     → line ≡ get_or ls i line → (HasForm line → SpellsLine own line) → after ≡ before ++ (own ++ 10 ∷ [])
-    → IsLaid (take i ls) before → IsLaid (take (i + 1) ls) after
-laid-next ls i line own before after h e is a b = record {
+    → IsLaid version (take i ls) before → IsLaid version (take (i + 1) ls) after
+laid-next version ls i line own before after h e is a b = record {
   texts = b.texts ++ own ∷ [];
-  whole = a ∙ ap (λ x. x ++ (own ++ 10 ∷ [])) b.whole ∙ sym (fed-snoc (head_text ∷ b.texts) own);
+  whole = a ∙ ap (λ x. x ++ (own ++ 10 ∷ [])) b.whole ∙ sym (fed-snoc (head_text version ∷ b.texts) own);
   each = subst (λ l. AreTexts l (b.texts ++ own ∷ [])) (sym (take-next ls i line h e))
       (texts-snoc (take i ls) b.texts line own b.each is);
 }
@@ -118,8 +123,10 @@ behind_first (p ∷ ps) = ps
 pub not-skipped : (line : Line) (t : List ℕ) → IsWritten (parts_of line) t → IsSkipped t → ⊥
 not-skipped (lines.Sort d) t w h =
     word-first 115 (codes "ort") (behind_first (parts_of (lines.Sort d))) t w (λ e. absurd (omega (arith, e))) h
-not-skipped (lines.Entity s) t w h =
-    word-first 101 (codes "ntity") (behind_first (parts_of (lines.Entity s))) t w (λ e. absurd (omega (arith, e))) h
+not-skipped (lines.Space [] s) t w h =
+    word-first 101 (codes "ntity") (behind_first (parts_of (lines.Space [] s))) t w (λ e. absurd (omega (arith, e))) h
+not-skipped (lines.Space (c ∷ cs) s) t w h =
+    word-first 115 (codes "pace") (behind_first (parts_of (lines.Space (c ∷ cs) s))) t w (λ e. absurd (omega (arith, e))) h
 not-skipped (lines.Phylum n s b) t w h =
     word-first 112 (codes "hylum") (behind_first (parts_of (lines.Phylum n s b))) t w (λ e. absurd (omega (arith, e))) h
 not-skipped (lines.List n s e p l u) t w h =
@@ -138,8 +145,8 @@ not-skipped (lines.Hole n u s) t w h =
     word-first 104 (codes "ole") (behind_first (parts_of (lines.Hole n u s))) t w (λ e. absurd (omega (arith, e))) h
 not-skipped (lines.Case u s) t w h =
     word-first 99 (codes "ase") (behind_first (parts_of (lines.Case u s))) t w (λ e. absurd (omega (arith, e))) h
-not-skipped (lines.Declare n u v s) t w h =
-    word-first 100 (codes "eclare") (behind_first (parts_of (lines.Declare n u v s))) t w
+not-skipped (lines.Declare spot n u v s) t w h =
+    word-first 100 (codes "eclare" ++ tag spot) (behind_first (parts_of (lines.Declare spot n u v s))) t w
     (λ e. absurd (omega (arith, e))) h
 
 -- ---- the lines are spelled
@@ -160,18 +167,25 @@ entries-are whole places above (line ∷ ls) (t ∷ ts) h f e =
       entries-are whole places (above ++ line ∷ []) ls ts h.1 f.1 (e ∙ sym (append_assoc above (line ∷ []) ls)),
     )
 
-head-clear : AreClear head_text
-head-clear = (omega arith, (omega arith, (omega arith, (omega arith, (omega arith, tt)))))
+head-clear : (version : ℕ) → IsVersion version → AreClear (head_text version)
+head-clear version (inl e) = subst (λ v. AreClear (head_text v)) (sym e) (omega arith, (omega arith, (omega arith, (omega arith, (omega arith, tt)))))
+head-clear version (inr e) = subst (λ v. AreClear (head_text v)) (sym e) (omega arith, (omega arith, (omega arith, (omega arith, (omega arith, tt)))))
 
-head-written : HasHead (head_text ∷ [])
-head-written = (1, codes "1", refl, refl, refl)
+head-written : (version : ℕ) → IsVersion version → HasHead version (head_text version ∷ [])
+head-written version (inl e) = subst (λ v. HasHead v (head_text v ∷ [])) (sym e) (inl refl, (1, codes "1", refl, refl, refl))
+head-written version (inr e) = subst (λ v. HasHead v (head_text v ∷ [])) (sym e) (inr refl, (1, codes "2", refl, refl, refl))
 
-pub laid-spelled : (ls : List Line) (text : List ℕ) → HavePlaces ls → AllByRecursion HasForm ls → IsLaid ls text
-    → AreSpelled (texts_of text) (map Some ls)
-laid-spelled ls text places forms laid =
-    let all = texts-again (head_text ∷ laid.texts) (head-clear, texts-clear ls laid.texts laid.each forms) in
-    let e : texts_of text ≡ head_text ∷ laid.texts = ap texts_of laid.whole ∙ all in
-    subst (λ ts. AreSpelled ts (map Some ls)) (sym e) (record {
-      head = head-written;
+pub laid-spelled : (version : ℕ) (ls : List Line) (text : List ℕ) → IsVersion version → AllByRecursion (λ line. is_of version line ≡ true) ls → HavePlaces ls → AllByRecursion HasForm ls → IsLaid version ls text
+    → AreSpelled version (texts_of text) (map Some ls)
+laid-spelled version ls text is right places forms laid =
+    let all = texts-again (head_text version ∷ laid.texts) (head-clear version is, texts-clear ls laid.texts laid.each forms) in
+    let e : texts_of text ≡ head_text version ∷ laid.texts = ap texts_of laid.whole ∙ all in
+    subst (λ ts. AreSpelled version ts (map Some ls)) (sym e) (record {
+      head = head-written version is;
       each = entries-are ls places [] ls laid.texts laid.each forms refl;
+      of_version = subst (AllByRecursion (λ line. is_of version line ≡ true)) (sym (written-some ls)) right;
     })
+  where
+    written-some : (ls : List Line) → written (map Some ls) ≡ ls
+    written-some [] = refl
+    written-some (line ∷ rest) = ap (λ l. line ∷ l) (written-some rest)

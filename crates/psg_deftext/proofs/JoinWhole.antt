@@ -1,6 +1,6 @@
 -- The text of a definition that was read is read as it, and has the layout.
-use Rattle.std.proofs.Common.{ℕ, ◌<◌, ◌^◌, List, length, map, sym, subst}
-use Rattle.std.specs.Prelude.{Some, IsUtf8}
+use Rattle.std.proofs.Common.{ℕ, Some, ◌<◌, ◌^◌, List, length, map, sym, subst}
+use Rattle.std.specs.Prelude.{IsUtf8}
 use Rattle.std.specs.Str.Lines.{lines as texts_of}
 use Rattle.psg_grammar.specs.declared.types.Definition.{Definition}
 use Rattle.psg_grammar.specs.Sound.{IsSound}
@@ -18,26 +18,34 @@ use Rattle.psg_deftext.proofs.FormLayout.{written_ranked, written_cases}
 use Rattle.psg_deftext.proofs.FormPlaces.{written_places}
 use Rattle.psg_deftext.proofs.FormVariables.{written_variables}
 use Rattle.psg_deftext.proofs.FormWritten.{written_forms}
-use Rattle.psg_deftext.proofs.FormPlain.{written_plain}
+use Rattle.psg_deftext.proofs.FormPlain.{written_plain, written_versions}
+use Rattle.psg_defread.proofs.Counting.{head_version}
 use Rattle.psg_deftext.proofs.PassedLines.{written_passed}
 
 was-read : (bytes : List ℕ) (def : Definition) → IsSound def → IsReadAs bytes def → WasRead def
 was-read bytes def sound h = record {
+  version = h.spells.version;
+  is_version = head_version h.spells.version (texts_of bytes) h.spells.spelled.head;
   texts = behind_head (texts_of bytes);
   entries = h.spells.entries;
   each = h.spells.spelled.each;
+  of_version = h.spells.spelled.of_version;
   numbered = h.spells.numbered;
   sound = sound;
-  plain = text-plain spell_once bytes h.spells.utf8 h.faultless h.spells.spelled.head h.spells.entries
-      h.spells.spelled.each;
+  plain = text-plain spell_once h.spells.version bytes h.spells.utf8 h.faultless h.spells.spelled.head h.spells.entries
+      h.spells.spelled.each h.spells.spelled.of_version;
 }
 
-spelled : (text : List ℕ) (def : Definition) → WasRead def → IsLaid (lines_of def) text
-    → AreSpelled (texts_of text) (map Some (lines_of def))
-spelled text def read laid = laid-spelled (lines_of def) text (written_places def) (written_forms def read) laid
+-- the lines are laid as those of the version that was read
+module _ (text : List ℕ) (def : Definition) (read : WasRead def) (laid : IsLaid def.version (lines_of def) text) where
+  laid-as : IsLaid read.version (lines_of def) text
+  laid-as = subst (λ v. IsLaid v (lines_of def) text) read.numbered.same_version laid
+
+  spelled : AreSpelled read.version (texts_of text) (map Some (lines_of def))
+  spelled = laid-spelled read.version (lines_of def) text read.is_version (written_versions def read) (written_places def) (written_forms def read) laid-as
 
 pub read-again : (text : List ℕ) (def : Definition) → IsSound def → IsUtf8 text → length text < 2 ^ 63
-    → IsLaid (lines_of def) text → (bytes : List ℕ) → IsReadAs bytes def → IsReadAs text def
+    → IsLaid def.version (lines_of def) text → (bytes : List ℕ) → IsReadAs bytes def → IsReadAs text def
 read-again text def sound utf8 short laid bytes h =
     let read = was-read bytes def sound h in
     let spells = spelled text def read laid in
@@ -45,22 +53,23 @@ read-again text def sound utf8 short laid bytes h =
     record {
       spells = record {
         utf8 = utf8;
+        version = read.version;
         entries = map Some (lines_of def);
         spelled = spells;
-        numbered = subst (λ ls. IsNumbered ls def) (sym (written-some (lines_of def))) numbered;
+        numbered = subst (λ ls. IsNumbered read.version ls def) (sym (written-some (lines_of def))) numbered;
       };
-      faultless = text-faultless spell_once text (lines_of def) utf8 spells (written_plain def read)
-          (written_passed def read (written-short text (lines_of def) spells short));
+      faultless = text-faultless spell_once read.version text (lines_of def) utf8 spells (written_plain def read)
+          (written_passed def read (written-short read.version text (lines_of def) spells short));
     }
 
-pub layout : (text : List ℕ) (def : Definition) → IsSound def → length text < 2 ^ 63 → IsLaid (lines_of def) text
-    → (bytes : List ℕ) → IsReadAs bytes def → HasLayout text
+pub layout : (text : List ℕ) (def : Definition) → IsSound def → length text < 2 ^ 63 → IsLaid def.version (lines_of def) text
+    → (bytes : List ℕ) → IsReadAs bytes def → HasLayout def.version text
 layout text def sound short laid bytes h =
     let read = was-read bytes def sound h in
     let spells = spelled text def read laid in record {
       written = lines_of def;
-      spelled = spells;
+      spelled = subst (λ v. AreSpelled v (texts_of text) (map Some (lines_of def))) (sym read.numbered.same_version) spells;
       ranked = written_ranked def;
       cases = written_cases def;
-      variables = written_variables def read (written-short text (lines_of def) spells short);
+      variables = written_variables def read (written-short read.version text (lines_of def) spells short);
     }

@@ -10,7 +10,8 @@ pub mod NumberSizes
 pub mod NumberBlocks
 pub mod NumberSorts
 pub mod NumberKinds
-pub mod NumberOperators
+pub mod NumberSpaces
+mod NumberOperators
 pub mod NumberCases
 pub mod NumberLists
 pub mod NumberSmall
@@ -39,7 +40,8 @@ pub mod FormVariables
 pub mod FormDigits
 pub mod FormTerms
 pub mod FormTrees
-pub mod FormSorts
+pub mod FormSpaces
+mod FormSorts
 pub mod FormLines
 pub mod FormWritten
 pub mod FormPlain

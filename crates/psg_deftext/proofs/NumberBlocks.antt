@@ -7,7 +7,7 @@ use Rattle.psg_grammar.specs.declared.types.Definition.{Definition}
 use Rattle.psg_deflines.specs.declared.lines.Line.{Line}
 use Rattle.psg_deflaws.proofs.Lists.{all-append}
 use Rattle.psg_deftext.specs.Layout.{rank}
-use Rattle.psg_deftext.specs.WrittenLines.{lines_of, sort_lines, entity_line, phylum_line, list_line, operator_lines, row_line, nil_lines, cell_lines, cell_line, hole_lines, case_line, declare_line, term_written}
+use Rattle.psg_deftext.specs.WrittenLines.{lines_of, sort_lines, space_line, phylum_line, list_line, operator_lines, row_line, nil_lines, cell_lines, cell_line, hole_lines, case_line, declare_line, term_written}
 use Rattle.psg_deflines.specs.declared.lines.Line.TheVariants as lines
 
 abbrev HasRank : ℕ → Line → Type 0
@@ -51,7 +51,7 @@ abbrev pub from_phyla : Definition → List Line
 from_phyla def = map (phylum_line def) def.phyla ++ from_lists def
 
 abbrev pub from_entities : Definition → List Line
-from_entities def = map (entity_line def) def.spaces ++ from_phyla def
+from_entities def = map (space_line def) def.spaces ++ from_phyla def
 
 -- one thing's lines in front of the others'
 pub flat-front : {X : Type 0} (W : List Line → Type 0) (f : X → List Line) (x : X) (xs : List X) (tail : List Line)
@@ -123,8 +123,8 @@ module _ (Free : ℕ → Type 0) (W : List Line → Type 0)
 
     pub behind-sorts : From 1 → W [] → W (from_entities def)
     behind-sorts free w =
-        past 1 (free 1 (omega arith)) (map (entity_line def) def.spaces) (from_phyla def)
-        (map-ranked 1 (entity_line def) (λ s. refl) def.spaces)
+        past 1 (free 1 (omega arith)) (map (space_line def) def.spaces) (from_phyla def)
+        (map-ranked 1 (space_line def) (λ s. refl) def.spaces)
         (behind-entities (λ r h. free r (omega arith)) w)
 
     -- in front of a block
@@ -135,8 +135,8 @@ module _ (Free : ℕ → Type 0) (W : List Line → Type 0)
 
     pub before-phyla : Below 2 → W (from_phyla def) → W (lines_of def)
     before-phyla free w = before-entities (λ r h. free r (omega arith)) (
-        past 1 (free 1 (omega arith)) (map (entity_line def) def.spaces) (from_phyla def)
-        (map-ranked 1 (entity_line def) (λ s. refl) def.spaces) w
+        past 1 (free 1 (omega arith)) (map (space_line def) def.spaces) (from_phyla def)
+        (map-ranked 1 (space_line def) (λ s. refl) def.spaces) w
         )
 
     pub before-lists : Below 3 → W (from_lists def) → W (lines_of def)

@@ -17,7 +17,7 @@ use Rattle.psg_deflines.specs.declared.lines.Line.{Line}
 use Rattle.psg_deflines.specs.declared.lines.Line.TheVariants as lines
 use Rattle.psg_defnumber.specs.Numbers.{IsKind, IsNil, IsCase, AreCases, HasCases, IsHoleRow, AreHoleRows, IsDeclareRow, AreDeclareRows}
 use Rattle.psg_deftext.specs.Layout.{rank}
-use Rattle.psg_deftext.specs.WrittenLines.{lines_of, kind_name, term_written, tree_written, case_line, hole_lines, declare_line}
+use Rattle.psg_deftext.specs.WrittenLines.{lines_of, kind_name, space_name, term_written, tree_written, case_line, hole_lines, declare_line}
 use Rattle.psg_deftext.proofs.NumberNames.{number_names, numbers-once}
 use Rattle.psg_deftext.proofs.NumberTerms.{term-again}
 use Rattle.psg_deftext.proofs.NumberTrees.{tree-again}
@@ -26,6 +26,7 @@ use Rattle.psg_deftext.proofs.NumberPlaces.{IsFitting, tree-small}
 use Rattle.psg_deftext.proofs.NumberRows.{IsSmallCase, IsSmallNil, place_terms, places-small, nil-again, case-again, case-term-again}
 use Rattle.psg_deftext.proofs.NumberOperators.{kind-renamed}
 use Rattle.psg_deftext.proofs.NumberBlocks.{from_declares, flat-front, behind-holes, before-holes, before-declares}
+use Rattle.psg_deftext.proofs.NumberSpaces.{space-again}
 
 abbrev pub HasSmallCases : Definition → HoleRow → Type 0
 HasSmallCases def row = IsSmallNil row.term × AllByRecursion (IsSmallCase def) row.cases
@@ -172,17 +173,17 @@ module _ (def : Definition) where
 
   abbrev IsDeclareRowAgain : DeclareRow → Type 0
   IsDeclareRowAgain row =
-      IsDeclareRow def (kind_name def (kinds.List row.list)) (term_written def row.term) (term_written def row.value)
+      IsDeclareRow def (space_name def row.space) (kind_name def (kinds.List row.list)) (term_written def row.term) (term_written def row.value)
       (tree_written def row.specimen) row
 
-  declare-again : IsSoundSignature def.signature → (list : Name) (entity value : WrittenTerm) (tree : WrittenTree)
-      (row : DeclareRow) → IsSmallDeclareRow def row → IsDeclareRow def list entity value tree row
+  declare-again : IsSoundSignature def.signature → (named list : Name) (entity value : WrittenTerm) (tree : WrittenTree)
+      (row : DeclareRow) → IsSmallDeclareRow def row → IsDeclareRow def named list entity value tree row
       → IsDeclareRowAgain row
-  declare-again sound list entity value tree row few h =
+  declare-again sound named list entity value tree row few h =
       let small = small-row (row.term ∷ row.value ∷ place_terms row.specimen) few.0 h.naming.first in
       let places = tree-small def row.specimen (places-small (holes_of row.specimen) small.1.1) few.1 in
       record {
-        space = h.space;
+        of_space = space-again def named row.space h.of_space;
         of_list = kind-renamed def list (kinds.List row.list) h.of_list;
         found = h.found;
         list_is = h.list_is;
@@ -201,11 +202,11 @@ module _ (def : Definition) where
   each-declare-row : IsSoundSignature def.signature → (file : List Line) (all : List DeclareRow)
       → AllByRecursion (IsSmallDeclareRow def) all → AreDeclareRows def file all → AllByRecursion IsDeclareRowAgain all
   each-declare-row sound [] all small e = subst (AllByRecursion IsDeclareRowAgain) (sym e) tt
-  each-declare-row sound (lines.Declare list entity value tree ∷ behind) all small (row, rest, e, h, hs) =
+  each-declare-row sound (lines.Declare named list entity value tree ∷ behind) all small (row, rest, e, h, hs) =
       let both : AllByRecursion (IsSmallDeclareRow def) (row ∷ rest) =
       subst (AllByRecursion (IsSmallDeclareRow def)) e small in
       subst (AllByRecursion IsDeclareRowAgain) (sym e) (
-        declare-again sound list entity value tree row both.0 h,
+        declare-again sound named list entity value tree row both.0 h,
         each-declare-row sound behind rest both.1 hs,
       )
   each-declare-row sound (line ∷ behind) all small h = each-declare-row sound behind all small h
@@ -217,7 +218,7 @@ module _ (def : Definition) where
 
   declares-step : (all : List DeclareRow) (line : Line) (rest : List Line) → rank line ≢ 8
       → AreDeclareRows def rest all → AreDeclareRows def (line ∷ rest) all
-  declares-step all (lines.Declare list entity value tree) rest h w = absurd (h refl)
+  declares-step all (lines.Declare named list entity value tree) rest h w = absurd (h refl)
   declares-step all line rest h w = w
 
   pub declare-rows-are : IsSoundSignature def.signature → (file : List Line)

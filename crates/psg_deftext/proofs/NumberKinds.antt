@@ -1,7 +1,6 @@
 -- The spaces, the phyla and the names of kinds in the lines that write a definition.
-use Rattle.std.proofs.Common.{◌≡◌, ◌≢◌, ℕ, ◌≤◌, false, List, [], ◌∷◌, ◌++◌, length, map, Some, refl, ap, sym, ◌∙◌, subst, arith}
+use Rattle.std.proofs.Common.{◌≡◌, ◌≢◌, ℕ, false, List, [], ◌∷◌, ◌++◌, map, Some, refl, ap, sym, ◌∙◌, subst, arith}
 use Rattle.std.specs.List.{AllByRecursion}
-use Rattle.std.proofs.lemmas.List.{length-map}
 use Rattle.psg_terms.specs.Names.{Name, has_twice}
 use Rattle.psg_terms.specs.declared.sorts.SortId.{SortId}
 use Rattle.psg_grammar.specs.declared.types.Phylum.{Phylum}
@@ -12,11 +11,11 @@ use Rattle.psg_grammar.specs.Sound.{IsSound}
 use Rattle.psg_grammar.specs.Sound as sound
 use Rattle.psg_deflines.specs.declared.lines.Line.{Line}
 use Rattle.psg_deflines.specs.declared.lines.Line.TheVariants as lines
-use Rattle.psg_defcheck.specs.Scopes.{kind_names, entity_sorts}
+use Rattle.psg_defcheck.specs.Scopes.{kind_names, spaces, space_names}
 use Rattle.psg_defnumber.specs.Numbers.{IsSort, IsPhylum, ArePhyla, AreSpaces, IsNumbered}
-use Rattle.psg_deflaws.proofs.KindLaws.{space-count}
+use Rattle.psg_deflaws.proofs.KindLaws.{names-declared, names-are}
 use Rattle.psg_deftext.specs.Layout.{rank}
-use Rattle.psg_deftext.specs.WrittenLines.{lines_of, sort_name, entity_line, phylum_line, list_line}
+use Rattle.psg_deftext.specs.WrittenLines.{lines_of, sort_name, space_line, phylum_line, list_line}
 use Rattle.psg_deftext.proofs.NumberNames.{name-found}
 use Rattle.psg_deftext.proofs.NumberBlocks.{from_phyla, from_lists, from_operators, behind-entities, behind-phyla, behind-lists, before-entities, before-phyla}
 
@@ -27,51 +26,55 @@ module _ (def : Definition) where
 
   -- ---- spaces
 
-  abbrev space_sort : Space → Name
-  space_sort s = sort_name def s.sort.0
+  abbrev space_pair : Space → Name × Name
+  space_pair s = (s.name, sort_name def s.sort.0)
 
-  spaces-again : (sorts : List Name) (all : List Space) → AreSpaces def sorts all
-      → AreSpaces def (map space_sort all) all
-  spaces-again [] all e = subst (λ ss. AreSpaces def (map space_sort ss) ss) (sym e) refl
-  spaces-again (sort ∷ sorts) all (s, rest, e, none, of, h) =
-      subst (λ ss. AreSpaces def (map space_sort ss) ss) (sym e) (
+  spaces-again : (ds : List (Name × Name)) (all : List Space) → AreSpaces def ds all
+      → AreSpaces def (map space_pair all) all
+  spaces-again [] all e = subst (λ ss. AreSpaces def (map space_pair ss) ss) (sym e) refl
+  spaces-again (d ∷ ds) all (s, rest, e, name, of, h) =
+      subst (λ ss. AreSpaces def (map space_pair ss) ss) (sym e) (
         s,
         rest,
         refl,
-        none,
-        sort-again sort s.sort of,
-        spaces-again sorts rest h,
+        refl,
+        sort-again d.1 s.sort of,
+        spaces-again ds rest h,
       )
 
-  entities-in : (all : List Space) (tail : List Line) → entity_sorts tail ≡ []
-      → entity_sorts (map (entity_line def) all ++ tail) ≡ map space_sort all
-  entities-in [] tail none = none
-  entities-in (s ∷ rest) tail none = ap (λ l. space_sort s ∷ l) (entities-in rest tail none)
+  spaces-in : (all : List Space) (tail : List Line) → spaces tail ≡ []
+      → spaces (map (space_line def) all ++ tail) ≡ map space_pair all
+  spaces-in [] tail none = none
+  spaces-in (s ∷ rest) tail none = ap (λ l. space_pair s ∷ l) (spaces-in rest tail none)
 
-  entities-step : (names : List Name) (line : Line) (rest : List Line) → rank line ≢ 1 → entity_sorts rest ≡ names
-      → entity_sorts (line ∷ rest) ≡ names
-  entities-step names (lines.Entity sort) rest h e = absurd (h refl)
-  entities-step names line rest h e = e
+  spaces-step : (ds : List (Name × Name)) (line : Line) (rest : List Line) → rank line ≢ 1 → spaces rest ≡ ds
+      → spaces (line ∷ rest) ≡ ds
+  spaces-step ds (lines.Space name sort) rest h e = absurd (h refl)
+  spaces-step ds line rest h e = e
 
-  abbrev IsNoEntity : ℕ → Type 0
-  IsNoEntity r = r ≢ 1
+  abbrev IsNoSpace : ℕ → Type 0
+  IsNoSpace r = r ≢ 1
 
-  entities-are : entity_sorts (lines_of def) ≡ map space_sort def.spaces
-  entities-are =
-      let none = behind-entities IsNoEntity (λ ls. entity_sorts ls ≡ []) (entities-step []) def
+  pairs-are : spaces (lines_of def) ≡ map space_pair def.spaces
+  pairs-are =
+      let none = behind-entities IsNoSpace (λ ls. spaces ls ≡ []) (spaces-step []) def
       (λ r h e. omega (arith, h, e)) refl in
-      before-entities IsNoEntity (λ ls. entity_sorts ls ≡ map space_sort def.spaces)
-      (entities-step (map space_sort def.spaces)) def (λ r h e. omega (arith, h, e))
-      (entities-in def.spaces (from_phyla def) none)
+      before-entities IsNoSpace (λ ls. spaces ls ≡ map space_pair def.spaces)
+      (spaces-step (map space_pair def.spaces)) def (λ r h e. omega (arith, h, e))
+      (spaces-in def.spaces (from_phyla def) none)
 
-  module _ (file : List Line) (numbered : IsNumbered file def) where
-    pub spaces-are : AreSpaces def (entity_sorts (lines_of def)) def.spaces
-    spaces-are = subst (λ sorts. AreSpaces def sorts def.spaces) (sym entities-are)
-        (spaces-again (entity_sorts file) def.spaces numbered.spaces)
+  module _ {version : ℕ} (file : List Line) (numbered : IsNumbered version file def) where
+    pub spaces-are : AreSpaces def (spaces (lines_of def)) def.spaces
+    spaces-are = subst (λ ds. AreSpaces def ds def.spaces) (sym pairs-are)
+        (spaces-again (spaces file) def.spaces numbered.spaces)
 
-    pub entity-once : length (entity_sorts (lines_of def)) ≤ 1
-    entity-once =
-        omega (arith, ap length entities-are, length-map def.spaces space_sort, space-count def file numbered)
+    pub spaces-once : has_twice (space_names (lines_of def)) ≡ false
+    spaces-once =
+        ap has_twice (sym (names-declared (lines_of def)) ∙ ap (map (λ (d : Name × Name). d.0)) pairs-are ∙ map-twice def.spaces ∙ names-are def file numbered) ∙ numbered.spaces_once
+      where
+        map-twice : (ss : List Space) → map (λ (d : Name × Name). d.0) (map space_pair ss) ≡ map (λ (s : Space). s.name) ss
+        map-twice [] = refl
+        map-twice (s ∷ ss) = ap (λ l. s.name ∷ l) (map-twice ss)
 
   -- ---- phyla
 

@@ -24,6 +24,7 @@ use Rattle.psg_deftext.specs.WrittenLines.{lines_of, kind_name, item_written, ro
 use Rattle.psg_deftext.proofs.NumberNames.{name-found}
 use Rattle.psg_deftext.proofs.NumberRows.{IsSmallRow, IsRowAgain, row-again}
 use Rattle.psg_deftext.proofs.NumberBlocks.{from_nils, flat-front, behind-operators, before-operators}
+use Rattle.psg_deftext.proofs.NumberSpaces.{space-again}
 
 abbrev pub HasSmallRows : Operator → Type 0
 HasSmallRows op = AllByRecursion IsSmallRow op.rows
@@ -41,8 +42,8 @@ module _ (def : Definition) where
   item-again : (w : LineItem) (i : Item) → IsItem def w i → IsItem def (item_written def i) i
   item-again (items.Slot n) i (k, is, e) = subst IsItemAgain (sym e) (k, kind-renamed def n k is, refl)
   item-again (items.Word w) i e = subst IsItemAgain (sym e) refl
-  item-again items.Refers i e = subst IsItemAgain (sym e) refl
-  item-again items.Declares i e = subst IsItemAgain (sym e) refl
+  item-again (items.Refers n) i (s, is, e) = subst IsItemAgain (sym e) (s, space-again def n s is, refl)
+  item-again (items.Declares n) i (s, is, e) = subst IsItemAgain (sym e) (s, space-again def n s is, refl)
   item-again items.Number i e = subst IsItemAgain (sym e) refl
   item-again items.Text i e = subst IsItemAgain (sym e) refl
   item-again items.Space i e = subst IsItemAgain (sym e) refl

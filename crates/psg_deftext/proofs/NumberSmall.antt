@@ -24,7 +24,7 @@ use Rattle.psg_deflines.specs.declared.lines.Line.TheVariants as lines
 use Rattle.psg_deflaws.specs.Soundness.{total}
 use Rattle.psg_deflaws.proofs.TreeWeights.{total-append}
 use Rattle.psg_deflaws.proofs.LineSizes.{lines_total}
-use Rattle.psg_deftext.specs.WrittenLines.{lines_of, sort_lines, entity_line, phylum_line, list_line, operator_lines, row_line, nil_lines, cell_line, cell_lines, hole_lines, case_line, declare_line, term_written, tree_written}
+use Rattle.psg_deftext.specs.WrittenLines.{lines_of, sort_lines, space_line, phylum_line, list_line, operator_lines, row_line, nil_lines, cell_line, cell_lines, hole_lines, case_line, declare_line, term_written, tree_written}
 use Rattle.psg_deftext.proofs.NumberAll.{all-mapped, all-joined}
 use Rattle.psg_deftext.proofs.NumberPlaces.{IsFitting}
 use Rattle.psg_deftext.proofs.NumberRows.{IsSmallRow, IsSmallNil, IsSmallCase, place_terms}
@@ -191,7 +191,7 @@ module _ (def : Definition) where
   short-blocks : lines_total (lines_of def) < 2 ^ 63 → AreShort
   short-blocks h =
       let a = lines-append (sort_lines def 0 def.signature.sorts) (from_entities def) in
-      let b = lines-append (map (entity_line def) def.spaces) (from_phyla def) in
+      let b = lines-append (map (space_line def) def.spaces) (from_phyla def) in
       let c = lines-append (map (phylum_line def) def.phyla) (from_lists def) in
       let d = lines-append (map (list_line def) def.lists) (from_operators def) in
       let e = lines-append (flat_map (operator_lines def) def.operators) (from_nils def) in

@@ -1,5 +1,5 @@
 -- A text spells one line.
-use Rattle.std.proofs.Common.{◌≡◌, ℕ, ◌+◌, ◌*◌, ◌<◌, Bool, List, [], ◌∷◌, ◌++◌, length, map, codes, append-nil, refl, ap, ap₂, sym, ◌∙◌, arith}
+use Rattle.std.proofs.Common.{◌≡◌, ℕ, ◌+◌, ◌*◌, ◌<◌, Bool, List, [], ◌∷◌, ◌++◌, length, drop, map, codes, append-nil, refl, ap, ap₂, sym, ◌∙◌, arith}
 use Rattle.std.specs.Prelude.{Option, Some, None}
 use Rattle.std.specs.List.{AllByRecursion}
 use Rattle.psg_terms.specs.Names.{Name}
@@ -13,6 +13,7 @@ use Rattle.psg_deflines.specs.declared.lines.LineItem.{LineItem}
 use Rattle.psg_deflines.specs.declared.lines.Line.{Line}
 use Rattle.psg_deflines.specs.declared.lines.Line.TheVariants as lines
 use Rattle.psg_deflines.proofs.SpellLaws.{line-parts}
+use Rattle.psg_deflines.proofs.LineInverses.{untagged}
 use Rattle.psg_deftext.proofs.OnceTerms.{code, IsClosed, first-closed, term-first, term-once, terms-once}
 use Rattle.psg_deftext.proofs.OnceTrees.{tree-once}
 use Rattle.psg_deftext.proofs.OnceQuotes.{quote-once}
@@ -30,7 +31,8 @@ sign ps = code (first_of ps) * 256 + second (first_of ps)
 
 abbrev form_of : Line → ℕ
 form_of (lines.Sort d) = sign (codes "sort" ∷ [])
-form_of (lines.Entity s) = sign (codes "entity" ∷ [])
+form_of (lines.Space [] s) = sign (codes "entity" ∷ [])
+form_of (lines.Space (c ∷ cs) s) = sign (codes "space" ∷ [])
 form_of (lines.Phylum n s b) = sign (codes "phylum" ∷ [])
 form_of (lines.List n s e w l u) = sign (codes "list" ∷ [])
 form_of (lines.Operator n k s l ms) = sign (codes "op" ∷ [])
@@ -39,11 +41,12 @@ form_of (lines.Nil n t) = sign (codes "nil" ∷ [])
 form_of (lines.Cell n t u v) = sign (codes "cell" ∷ [])
 form_of (lines.Hole n t w) = sign (codes "hole" ∷ [])
 form_of (lines.Case t w) = sign (codes "case" ∷ [])
-form_of (lines.Declare n t u w) = sign (codes "declare" ∷ [])
+form_of (lines.Declare spot n t u w) = sign (codes "declare" ∷ [])
 
 form-sign : (line : Line) → sign (parts_of line) ≡ form_of line
 form-sign (lines.Sort d) = refl
-form-sign (lines.Entity s) = refl
+form-sign (lines.Space [] s) = refl
+form-sign (lines.Space (c ∷ cs) s) = refl
 form-sign (lines.Phylum n s b) = refl
 form-sign (lines.List n s e w l u) = refl
 form-sign (lines.Operator n k s l ms) = refl
@@ -52,7 +55,7 @@ form-sign (lines.Nil n t) = refl
 form-sign (lines.Cell n t u v) = refl
 form-sign (lines.Hole n t w) = refl
 form-sign (lines.Case t w) = refl
-form-sign (lines.Declare n t u w) = refl
+form-sign (lines.Declare spot n t u w) = refl
 
 same-form : (a b : Line) → parts_of a ≡ parts_of b → form_of b ≡ form_of a
 same-form a b e = sym (form-sign b) ∙ sym (ap sign e) ∙ form-sign a
@@ -100,12 +103,20 @@ sort-once d (lines.Sort x) h k f e =
     let name : d.name ≡ x.name = ap (λ l. first_of (rest_of l)) e in
     let cons = constructors-once d.constructors x.constructors h.2 k.2 (ap (λ l. rest_of (rest_of (rest_of l))) e) in
     ap₂ (λ n cs. lines.Sort (record { name = n; constructors = cs })) name cons
+sort-once d (lines.Space [] z) h k f e = absurd (omega (arith, f))
+sort-once d (lines.Space (y ∷ ys) z) h k f e = absurd (omega (arith, f))
 sort-once d _ h k f e = absurd (omega (arith, f))
 
-entity-once : (s : Name) (b : Line) → form_of b ≡ form_of (lines.Entity s) → parts_of (lines.Entity s) ≡ parts_of b
-    → lines.Entity s ≡ b
-entity-once s (lines.Entity x) f e = ap lines.Entity (ap (λ l. first_of (rest_of l)) e)
-entity-once s _ f e = absurd (omega (arith, f))
+space-once : (n s : Name) (b : Line) → form_of b ≡ form_of (lines.Space n s) → parts_of (lines.Space n s) ≡ parts_of b
+    → lines.Space n s ≡ b
+space-once [] s (lines.Space [] x) f e = ap (lines.Space []) (ap (λ l. first_of (rest_of l)) e)
+space-once [] s (lines.Space (d ∷ ds) x) f e = absurd (omega (arith, f))
+space-once (c ∷ cs) s (lines.Space [] x) f e = absurd (omega (arith, f))
+space-once (c ∷ cs) s (lines.Space (d ∷ ds) x) f e =
+    let name : c ∷ cs ≡ d ∷ ds = ap (λ l. first_of (rest_of l)) e in
+    ap₂ lines.Space name (ap (λ l. first_of (rest_of (rest_of (rest_of l)))) e)
+space-once [] s _ f e = absurd (omega (arith, f))
+space-once (c ∷ cs) s _ f e = absurd (omega (arith, f))
 
 phylum-once : (n s : Name) (c : Bool) (b : Line) → form_of b ≡ form_of (lines.Phylum n s c)
     → parts_of (lines.Phylum n s c) ≡ parts_of b → lines.Phylum n s c ≡ b
@@ -114,6 +125,8 @@ phylum-once n s c (lines.Phylum m t d) f e =
     let sort : s ≡ t = ap (λ l. first_of (rest_of (rest_of (rest_of l)))) e in
     let brackets : c ≡ d = word_if-once c d (codes "bracketed") (ap (λ l. rest_of (rest_of (rest_of (rest_of l)))) e) in
     ap₂ (λ x y. lines.Phylum x y c) name sort ∙ ap (λ z. lines.Phylum m t z) brackets
+phylum-once n s c (lines.Space [] z) f e = absurd (omega (arith, f))
+phylum-once n s c (lines.Space (y ∷ ys) z) f e = absurd (omega (arith, f))
 phylum-once n s c _ f e = absurd (omega (arith, f))
 
 -- the fifth part from there on
@@ -139,6 +152,8 @@ list-once n s x w l u (lines.List m t y v k c) h g f e =
     (ap (λ ps. first_of (rest_of (rest_of (rest_of (fifth ps))))) e) in
     ap₂ (λ a b. lines.List a b x w l u) name sort ∙ ap₂ (λ a b. lines.List m t a b l u) elem word
     ∙ ap₂ (λ a b. lines.List m t y v a b) on end
+list-once n s x w l u (lines.Space [] z) h g f e = absurd (omega (arith, f))
+list-once n s x w l u (lines.Space (y ∷ ys) z) h g f e = absurd (omega (arith, f))
 list-once n s x w l u _ h g f e = absurd (omega (arith, f))
 
 header-once : (a c : Bool) (l m : Level) (ms ns : List LineItem) → (0 < length ms) → (0 < length ns)
@@ -163,6 +178,8 @@ operator-once n k s l ms (lines.Operator m j t d ns) h g f e =
     let rest = header-once s t l d ms ns h.3 g.3 h.4 g.4 (ap (λ ps. rest_of (rest_of (rest_of (rest_of ps)))) e) in
     ap₂ (λ a b. lines.Operator a b s l ms) name kind ∙ ap₂ (λ a b. lines.Operator m j a b ms) rest.0 rest.1
     ∙ ap (λ a. lines.Operator m j t d a) rest.2
+operator-once n k s l ms (lines.Space [] z) h g f e = absurd (omega (arith, f))
+operator-once n k s l ms (lines.Space (y ∷ ys) z) h g f e = absurd (omega (arith, f))
 operator-once n k s l ms _ h g f e = absurd (omega (arith, f))
 
 row-once : (t : WrittenTerm) (ts : List WrittenTerm) (b : Line) → HasForm (lines.Row t ts) → HasForm b
@@ -171,12 +188,16 @@ row-once t ts (lines.Row u us) h k f e =
     let both = term-once t u (columns_parts ts) (columns_parts us) h.0 k.0 (columns-closed ts) (columns-closed us)
     (ap rest_of e) in
     ap₂ lines.Row both.0 (columns-once ts us h.1 k.1 both.1)
+row-once t ts (lines.Space [] z) h k f e = absurd (omega (arith, f))
+row-once t ts (lines.Space (y ∷ ys) z) h k f e = absurd (omega (arith, f))
 row-once t ts _ h k f e = absurd (omega (arith, f))
 
 nil-once : (n : Name) (t : WrittenTerm) (b : Line) → HasForm (lines.Nil n t) → HasForm b
     → form_of b ≡ form_of (lines.Nil n t) → parts_of (lines.Nil n t) ≡ parts_of b → lines.Nil n t ≡ b
 nil-once n t (lines.Nil m u) h k f e =
     ap₂ lines.Nil (ap (λ ps. first_of (rest_of ps)) e) (term-alone t u h.1 k.1 (ap (λ ps. rest_of (rest_of ps)) e))
+nil-once n t (lines.Space [] z) h k f e = absurd (omega (arith, f))
+nil-once n t (lines.Space (y ∷ ys) z) h k f e = absurd (omega (arith, f))
 nil-once n t _ h k f e = absurd (omega (arith, f))
 
 cell-once : (n : Name) (t u v : WrittenTerm) (b : Line) → HasForm (lines.Cell n t u v) → HasForm b
@@ -189,6 +210,8 @@ cell-once n t u v (lines.Cell m x y z) h k f e =
     (first-closed _ (term-first z k.3).0) (ap rest_of first.1) in
     ap₂ (λ a b. lines.Cell a b u v) name first.0
     ∙ ap₂ (λ a b. lines.Cell m x a b) next.0 (term-alone v z h.3 k.3 next.1)
+cell-once n t u v (lines.Space [] z) h k f e = absurd (omega (arith, f))
+cell-once n t u v (lines.Space (y ∷ ys) z) h k f e = absurd (omega (arith, f))
 cell-once n t u v _ h k f e = absurd (omega (arith, f))
 
 hole-once : (n : Name) (t : WrittenTerm) (w : Option WrittenTree) (b : Line) → HasForm (lines.Hole n t w) → HasForm b
@@ -196,6 +219,8 @@ hole-once : (n : Name) (t : WrittenTerm) (w : Option WrittenTree) (b : Line) →
 hole-once n t w (lines.Hole m u x) h k f e =
     let both = shown-once t u w x h.1 k.1 h.2 k.2 (ap (λ ps. rest_of (rest_of ps)) e) in
     ap₂ (λ a b. lines.Hole a b w) (ap (λ ps. first_of (rest_of ps)) e) both.0 ∙ ap (lines.Hole m u) both.1
+hole-once n t w (lines.Space [] z) h k f e = absurd (omega (arith, f))
+hole-once n t w (lines.Space (y ∷ ys) z) h k f e = absurd (omega (arith, f))
 hole-once n t w _ h k f e = absurd (omega (arith, f))
 
 some-same : (v w : WrittenTree) → Some v ≡ Some w → v ≡ w
@@ -206,23 +231,29 @@ case-once : (t : WrittenTerm) (w : WrittenTree) (b : Line) → HasForm (lines.Ca
 case-once t w (lines.Case u x) h k f e =
     let both = shown-once t u (Some w) (Some x) h.0 k.0 h.1 k.1 (ap rest_of e) in
     ap₂ lines.Case both.0 (some-same w x both.1)
+case-once t w (lines.Space [] z) h k f e = absurd (omega (arith, f))
+case-once t w (lines.Space (y ∷ ys) z) h k f e = absurd (omega (arith, f))
 case-once t w _ h k f e = absurd (omega (arith, f))
 
-declare-once : (n : Name) (t u : WrittenTerm) (w : WrittenTree) (b : Line) → HasForm (lines.Declare n t u w) → HasForm b
-    → form_of b ≡ form_of (lines.Declare n t u w) → parts_of (lines.Declare n t u w) ≡ parts_of b
-    → lines.Declare n t u w ≡ b
-declare-once n t u w (lines.Declare m x y z) h k f e =
+declare-once : (spot n : Name) (t u : WrittenTerm) (w : WrittenTree) (b : Line) → HasForm (lines.Declare spot n t u w) → HasForm b
+    → form_of b ≡ form_of (lines.Declare spot n t u w) → parts_of (lines.Declare spot n t u w) ≡ parts_of b
+    → lines.Declare spot n t u w ≡ b
+declare-once spot n t u w (lines.Declare own m x y z) h k f e =
+    let space : spot ≡ own = sym (untagged spot) ∙ ap (λ ps. drop 8 (first_of ps)) e ∙ untagged own in
     let name : n ≡ m = ap (λ ps. first_of (rest_of ps)) e in
     let first = term-once t x (codes ":" ∷ (term_parts u ++ by_parts (Some w)))
     (codes ":" ∷ (term_parts y ++ by_parts (Some z)))
-    h.1 k.1 refl refl (ap (λ ps. rest_of (rest_of ps)) e) in
-    let next = shown-once u y (Some w) (Some z) h.2 k.2 h.3 k.3 (ap rest_of first.1) in
-    ap₂ (λ a b. lines.Declare a b u w) name first.0 ∙ ap₂ (λ a b. lines.Declare m x a b) next.0 (some-same w z next.1)
-declare-once n t u w _ h k f e = absurd (omega (arith, f))
+    h.2 k.2 refl refl (ap (λ ps. rest_of (rest_of ps)) e) in
+    let next = shown-once u y (Some w) (Some z) h.3 k.3 h.4 k.4 (ap rest_of first.1) in
+    ap (λ a. lines.Declare a n t u w) space ∙ ap₂ (λ a b. lines.Declare own a b u w) name first.0
+    ∙ ap₂ (λ a b. lines.Declare own m x a b) next.0 (some-same w z next.1)
+declare-once spot n t u w (lines.Space [] z) h k f e = absurd (omega (arith, f))
+declare-once spot n t u w (lines.Space (y ∷ ys) z) h k f e = absurd (omega (arith, f))
+declare-once spot n t u w _ h k f e = absurd (omega (arith, f))
 
 parts-line : (a b : Line) → HasForm a → HasForm b → form_of b ≡ form_of a → parts_of a ≡ parts_of b → a ≡ b
 parts-line (lines.Sort d) b h k f e = sort-once d b h k f e
-parts-line (lines.Entity s) b h k f e = entity-once s b f e
+parts-line (lines.Space n s) b h k f e = space-once n s b f e
 parts-line (lines.Phylum n s c) b h k f e = phylum-once n s c b f e
 parts-line (lines.List n s x w l u) b h k f e = list-once n s x w l u b h k f e
 parts-line (lines.Operator n j s l ms) b h k f e = operator-once n j s l ms b h k f e
@@ -231,7 +262,7 @@ parts-line (lines.Nil n t) b h k f e = nil-once n t b h k f e
 parts-line (lines.Cell n t u v) b h k f e = cell-once n t u v b h k f e
 parts-line (lines.Hole n t w) b h k f e = hole-once n t w b h k f e
 parts-line (lines.Case t w) b h k f e = case-once t w b h k f e
-parts-line (lines.Declare n t u w) b h k f e = declare-once n t u w b h k f e
+parts-line (lines.Declare spot n t u w) b h k f e = declare-once spot n t u w b h k f e
 
 pub spell_once : (t : List ℕ) (a b : Line) → SpellsLine t a → SpellsLine t b → a ≡ b
 spell_once t a b h k =

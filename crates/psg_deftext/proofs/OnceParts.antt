@@ -3,11 +3,11 @@ use Rattle.std.proofs.Common.{◌≡◌, ◌≢◌, ◌==◌, ◌&&◌, ◌||◌
 use Rattle.std.specs.List.{AllByRecursion, list_all, list_any}
 use Rattle.std.proofs.lemmas.Bool.{and_parts, and_cases, or_cases, or_left, or_right, cases_Bool, eqb-true, false≢true}
 use Rattle.std.proofs.lemmas.List.{append_cancel_left}
-use Rattle.psg_grammar.specs.Sound.{goes_on_name, is_upper, is_lower, is_digit}
+use Rattle.psg_grammar.specs.Sound.{is_upper, is_lower, is_digit}
 use Rattle.psg_deflines.specs.WrittenTerms.{is_plain}
 use Rattle.psg_deflines.specs.WrittenTrees.{quoted_part}
 use Rattle.psg_deflines.specs.TermWalks.{Parts}
-use Rattle.psg_deflines.specs.Written.{IsWritten, ends_word, begins_word}
+use Rattle.psg_deflines.specs.Written.{goes_on_word, IsWritten, ends_word, begins_word}
 use Rattle.psg_deflines.specs.Parts.{is_mark, is_sigil, goes_behind, IsPart, a_word, a_mark, a_sigil, a_quoted, IsApart}
 use Rattle.psg_deftext.proofs.OnceTerms.{code}
 use Rattle.psg_deftext.proofs.OnceQuotes.{quoted-whole, quote-once}
@@ -15,7 +15,7 @@ use Rattle.psg_deftext.proofs.OnceQuotes.{quoted-whole, quote-once}
 -- ---- which kind of part begins with a byte
 
 abbrev tag : ℕ → ℕ
-tag c = cond (goes_on_name c) 0 (cond (is_mark c) 1 (cond (is_sigil c) 2 3))
+tag c = cond (goes_on_word c) 0 (cond (is_mark c) 1 (cond (is_sigil c) 2 3))
 
 any-of : (test : ℕ → Bool) (c : ℕ) (ds : List ℕ) → list_any (λ d. c == d) ds ≡ true → list_all test ds ≡ true
     → test c ≡ true
@@ -56,7 +56,7 @@ part-byte (c ∷ cs) (a_word w) = record {
   first = c;
   rest = cs;
   whole = refl;
-  no_space = λ e. false≢true (ap goes_on_name (sym e) ∙ (and_parts (goes_on_name c) (list_all goes_on_name cs) w.1).0);
+  no_space = λ e. false≢true (ap goes_on_word (sym e) ∙ (and_parts (goes_on_word c) (list_all goes_on_word cs) w.1).0);
 }
 part-byte p (a_mark m) = record {
   first = m.mark;
@@ -82,7 +82,7 @@ unfolding kind_of
 part-tag [] (a_word w) = absurd (let k = w.0 in omega (arith, k))
 part-tag (c ∷ cs) (a_word w) =
     ap (λ b. cond b 0 (cond (is_mark c) 1 (cond (is_sigil c) 2 3)))
-    (and_parts (goes_on_name c) (list_all goes_on_name cs) w.1).0
+    (and_parts (goes_on_word c) (list_all goes_on_word cs) w.1).0
 part-tag p (a_mark m) = ap (λ x. tag (code x)) m.whole ∙ mark-tag m.mark m.is
 part-tag p (a_sigil s) = ap (λ x. tag (code x)) s.whole ∙ sigil-tag s.sigil s.is
 part-tag p (a_quoted q) = ap (λ x. tag (code x)) (q.whole ∙ quoted-whole q.contents)
@@ -111,20 +111,20 @@ run-once test (x ∷ p) (y ∷ q) b c h k s t e =
     (run-once test p q b c (and_parts (test x) (list_all test p) h).1 (and_parts (test y) (list_all test q) k).1 s t
     rest)
 
-plain-word : (c : ℕ) → is_plain c ≡ true → goes_on_name c ≡ true
-plain-word c h = or_left (is_upper c || is_lower c || is_digit c) (c == 95) h
+plain-word : (c : ℕ) → is_plain c ≡ true → goes_on_word c ≡ true
+plain-word c h = or_left (is_upper c || is_lower c || is_digit c || (c == 95)) (c == 64) (or_left (is_upper c || is_lower c || is_digit c) (c == 95) h)
 
-behind-word : (s c : ℕ) → goes_behind s c ≡ true → goes_on_name c ≡ true
+behind-word : (s c : ℕ) → goes_behind s c ≡ true → goes_on_word c ≡ true
 behind-word s c h = by_sigil (s == 63) h
   where
-    by_sigil : (b : Bool) → cond b (is_plain c) (is_lower c || is_digit c) ≡ true → goes_on_name c ≡ true
+    by_sigil : (b : Bool) → cond b (is_plain c) (is_lower c || is_digit c) ≡ true → goes_on_word c ≡ true
     by_sigil true k = plain-word c k
     by_sigil false k = elim (or_cases (is_lower c) (is_digit c) k) [
       | inl e ↦ plain-word c (or_left (is_upper c || is_lower c) (is_digit c) (or_right (is_upper c) (is_lower c) e))
       | inr e ↦ plain-word c (or_right (is_upper c || is_lower c) (is_digit c) e)
     ]
 
-words-stop : (b : List ℕ) → begins_word b ≡ false → stops goes_on_name b
+words-stop : (b : List ℕ) → begins_word b ≡ false → stops goes_on_word b
 words-stop [] h = tt
 words-stop (c ∷ cs) h = h
 
@@ -135,11 +135,11 @@ behind-stop s (c ∷ cs) h = elim (cases_Bool (goes_behind s c)) [
   | inr e ↦ e
 ]
 
-ends-run : (run : List ℕ) → 0 < length run → list_all goes_on_name run ≡ true → ends_word run ≡ true
+ends-run : (run : List ℕ) → 0 < length run → list_all goes_on_word run ≡ true → ends_word run ≡ true
 ends-run [] h k = absurd (omega (arith, h))
-ends-run (c ∷ []) h k = (and_parts (goes_on_name c) true k).0
+ends-run (c ∷ []) h k = (and_parts (goes_on_word c) true k).0
 ends-run (c ∷ d ∷ cs) h k = ends-run (d ∷ cs) (omega arith)
-    (and_parts (goes_on_name c) (list_all goes_on_name (d ∷ cs)) k).1
+    (and_parts (goes_on_word c) (list_all goes_on_word (d ∷ cs)) k).1
 
 ends-behind : (s d : ℕ) (run : List ℕ) → 0 < length run → list_all (goes_behind s) run ≡ true
     → ends_word (d ∷ run) ≡ true
@@ -166,7 +166,7 @@ module _ (p q b c : List ℕ) (same : p ++ b ≡ q ++ c) (before : IsApart p b) 
   first-once : IsPart p → IsPart q → p ≡ q
   unfolding kind_of
   first-once (a_word w) (a_word v) =
-      run-once goes_on_name p q b c w.1 v.1 (words-stop b (apart-stops p b (ends-run p w.0 w.1) before))
+      run-once goes_on_word p q b c w.1 v.1 (words-stop b (apart-stops p b (ends-run p w.0 w.1) before))
       (words-stop c (apart-stops q c (ends-run q v.0 v.1) behind)) same
   first-once (a_mark m) (a_mark n) =
       let whole : m.mark ∷ b ≡ n.mark ∷ c = sym (ap (λ x. x ++ b) m.whole) ∙ same ∙ ap (λ x. x ++ c) n.whole in

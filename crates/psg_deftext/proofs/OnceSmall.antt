@@ -1,5 +1,5 @@
 -- Constructors, levels and items are told from their parts.
-use Rattle.std.proofs.Common.{◌≡◌, ◌==◌, ℕ, ◌+◌, ◌-◌, ◌*◌, Bool, true, false, cond, List, [], ◌∷◌, ◌++◌, length, get_or, map, codes, refl, ap, ap₂, sym, ◌∙◌, subst, arith}
+use Rattle.std.proofs.Common.{◌≡◌, ◌==◌, ℕ, ◌+◌, ◌-◌, ◌*◌, Bool, true, false, cond, List, [], ◌∷◌, ◌++◌, length, drop, get_or, map, codes, refl, ap, ap₂, sym, ◌∙◌, subst, arith}
 use Rattle.std.specs.List.{AllByRecursion}
 use Rattle.std.proofs.lemmas.Bool.{false≢true}
 use Rattle.psg_terms.specs.Names.{Name}
@@ -10,6 +10,7 @@ use Rattle.psg_grammar.specs.declared.types.Level.TheVariants as levels
 use Rattle.psg_deflines.specs.WrittenTrees.{quoted_part}
 use Rattle.psg_deflines.specs.Forms.{closed_names, argument_parts, constructor_parts, word_if, level_parts, item_part, HasConstructorForm, HasItemForm}
 use Rattle.psg_deflines.specs.TermWalks.{Parts}
+use Rattle.psg_deflines.proofs.LineInverses.{untagged}
 use Rattle.psg_deflines.specs.declared.lines.LineItem.{LineItem}
 use Rattle.psg_deflines.specs.declared.lines.LineItem.TheVariants as items
 use Rattle.psg_deftext.proofs.OnceTerms.{code, apart, lower-low, own-first, IsClosed}
@@ -151,18 +152,17 @@ word_key w = length w * 256 + code w
 
 abbrev word_item : ℕ → LineItem
 word_item k =
-    cond (k == word_key (codes "refers")) items.Refers
-    (cond (k == word_key (codes "declares")) items.Declares
-    (cond (k == word_key (codes "number")) items.Number
+    cond (k == word_key (codes "number")) items.Number
     (cond (k == word_key (codes "text")) items.Text
     (cond (k == word_key (codes "space")) items.Space
     (cond (k == word_key (codes "tight")) items.Tight
     (cond (k == word_key (codes "line")) items.Line
-    (cond (k == word_key (codes "in")) items.In items.Out)))))))
+    (cond (k == word_key (codes "in")) items.In items.Out)))))
 
 abbrev item_of : List ℕ → LineItem
 item_of p = cond (code p == 34) (items.Word (read_quote p).0)
-    (cond (is_upper (code p)) (items.Slot p) (word_item (word_key p)))
+    (cond (is_upper (code p)) (items.Slot p) (cond (code p == 114) (items.Refers (drop 7 p))
+    (cond (code p == 100) (items.Declares (drop 9 p)) (word_item (word_key p)))))
 
 item-read : (i : LineItem) → HasItemForm i → item_of (item_part i) ≡ i
 item-read (items.Word w) h = quoted w (quoted_part w) _ (quoted-whole w) ∙ ap items.Word (quote-alone w h.utf8)
@@ -177,11 +177,11 @@ item-read (items.Slot k) h = kind k h
         let first = kind-first c cs k in
         let low = upper-low c first in
         ap (λ b. cond b (items.Word (read_quote (c ∷ cs)).0)
-        (cond (is_upper c) (items.Slot (c ∷ cs)) (word_item (word_key (c ∷ cs)))))
+        (cond (is_upper c) (items.Slot (c ∷ cs)) (cond (c == 114) (items.Refers (drop 7 (c ∷ cs))) (cond (c == 100) (items.Declares (drop 9 (c ∷ cs))) (word_item (word_key (c ∷ cs)))))))
         (apart c 34 (λ e. absurd (omega (arith, low, e))))
-        ∙ ap (λ b. cond b (items.Slot (c ∷ cs)) (word_item (word_key (c ∷ cs)))) first
-item-read items.Refers h = refl
-item-read items.Declares h = refl
+        ∙ ap (λ b. cond b (items.Slot (c ∷ cs)) (cond (c == 114) (items.Refers (drop 7 (c ∷ cs))) (cond (c == 100) (items.Declares (drop 9 (c ∷ cs))) (word_item (word_key (c ∷ cs)))))) first
+item-read (items.Refers n) h = ap items.Refers (untagged n)
+item-read (items.Declares n) h = ap items.Declares (untagged n)
 item-read items.Number h = refl
 item-read items.Text h = refl
 item-read items.Space h = refl

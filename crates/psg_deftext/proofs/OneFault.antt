@@ -13,8 +13,8 @@ use Rattle.psg_deflines.specs.declared.lines.Line.{Line}
 use Rattle.psg_defcheck.specs.Faults.{meaning_codes, PassesMeaning, ArePassed, IsMeaningFault}
 use Rattle.psg_defread.specs.Refusals.{HasMeaningFault, Refusal}
 use Rattle.psg_defread.specs.Refusals as refusals
-use Rattle.psg_defread.proofs.Faultless.{passed_at, written_append}
-use Rattle.psg_deftext.proofs.JoinFaults.{SpellOnce, entries-once, all-pass, clean-at, clean}
+use Rattle.psg_defread.proofs.Faultless.{passed_at, written_append, all_of}
+use Rattle.psg_deftext.proofs.JoinFaults.{SpellOnce, heads-same, entries-once, all-pass, clean-at, clean}
 use Rattle.psg_deftext.proofs.OnceLines.{spell_once}
 
 same_fault : (f g : DefFault) → f.line ≡ g.line → f.code ≡ g.code → f ≡ g
@@ -63,36 +63,37 @@ not_bad : (bytes : List ℕ) (n : ℕ) → IsUtf8 bytes → IsFirstBad bytes n �
 not_bad bytes n utf8 bad = bad.longest (length bytes) bad.inside (omega arith) (subst IsUtf8 (sym (take_all (length bytes) bytes (omega arith))) utf8)
 
 -- a text before a faulty one has no fault
-passed_over : (front : List (List ℕ)) (t : List ℕ) (mid whole : List (List ℕ)) (es fs : List Entry) (code : DefCode) → whole ≡ front ++ t ∷ mid
-    → AreEntries [] whole es → AllByRecursion IsPlain (written es) → AreEntries [] front fs → IsFirstOf (PassesForm (written fs) t) form_codes code → ⊥
-passed_over front t mid whole es fs code e all plain each first =
-    all-pass spell_once (PassesForm (written fs) t) form_codes code
-    (clean-at spell_once [] front t mid es fs (subst (λ w. AreEntries [] w es) e all) each plain) first
+passed_over : (version : ℕ) (front : List (List ℕ)) (t : List ℕ) (mid whole : List (List ℕ)) (es fs : List Entry) (code : DefCode) → whole ≡ front ++ t ∷ mid
+    → AreEntries [] whole es → AllByRecursion (IsPlain version) (written es) → AreEntries [] front fs → IsFirstOf (PassesForm version (written fs) t) form_codes code → ⊥
+passed_over version front t mid whole es fs code e all plain each first =
+    all-pass spell_once (PassesForm version (written fs) t) form_codes code
+    (clean-at spell_once version [] front t mid es fs (subst (λ w. AreEntries [] w es) e all) each plain) first
 
-form_once : (texts : List (List ℕ)) (f g : DefFault) → HasFormFault texts f → HasFormFault texts g → f ≡ g
-form_once texts f g h k = by (places h.front k.front h.text k.text h.behind k.behind (sym h.split ∙ k.split)) where
+form_once : (version : ℕ) (texts : List (List ℕ)) (f g : DefFault) → HasFormFault version texts f → HasFormFault version texts g → f ≡ g
+form_once version texts f g h k = by (places h.front k.front h.text k.text h.behind k.behind (sym h.split ∙ k.split)) where
   by : Places h.front k.front h.text k.text → f ≡ g
   by (same_place e d) =
       let each : AreEntries [] h.front k.entries = subst (λ l. AreEntries [] l k.entries) (sym e) k.each in
       let es : h.entries ≡ k.entries = entries-once spell_once [] h.front h.entries k.entries h.each each in
       same_fault f g (h.place ∙ ap (λ l. length l + 2) e ∙ sym k.place)
-      (first_once (PassesForm (written h.entries) h.text) form_codes f.code g.code h.first
-      (subst (λ l. IsFirstOf (PassesForm (written l) h.text) form_codes g.code) (sym es)
-      (subst (λ t. IsFirstOf (PassesForm (written k.entries) t) form_codes g.code) (sym d) k.first)))
-  by (before mid e) = absurd (passed_over h.front h.text mid k.front k.entries h.entries f.code e k.each k.plain h.each h.first)
-  by (after mid e) = absurd (passed_over k.front k.text mid h.front h.entries k.entries g.code e h.each h.plain k.each k.first)
+      (first_once (PassesForm version (written h.entries) h.text) form_codes f.code g.code h.first
+      (subst (λ l. IsFirstOf (PassesForm version (written l) h.text) form_codes g.code) (sym es)
+      (subst (λ t. IsFirstOf (PassesForm version (written k.entries) t) form_codes g.code) (sym d) k.first)))
+  by (before mid e) = absurd (passed_over version h.front h.text mid k.front k.entries h.entries f.code e k.each k.plain h.each h.first)
+  by (after mid e) = absurd (passed_over version k.front k.text mid h.front h.entries k.entries g.code e h.each h.plain k.each k.first)
 
 form_refusal_once : (bytes : List ℕ) (f g : DefFault) → FormRefusal bytes f → FormRefusal bytes g → f ≡ g
 form_refusal_once bytes f g (no_text n h l c) (no_text m k j d) =
     same_fault f g (l ∙ ap (λ i. line_feeds (take i bytes) + 1) (bad_once bytes n m h k) ∙ sym j) (c ∙ sym d)
 form_refusal_once bytes f g (no_text n h l c) (no_head u k j d) = absurd (not_bad bytes n u h)
-form_refusal_once bytes f g (no_text n h l c) (no_form u head k) = absurd (not_bad bytes n u h)
+form_refusal_once bytes f g (no_text n h l c) (no_form w u head k) = absurd (not_bad bytes n u h)
 form_refusal_once bytes f g (no_head u h l c) (no_text m k j d) = absurd (not_bad bytes m u k)
 form_refusal_once bytes f g (no_head u h l c) (no_head v k j d) = same_fault f g (l ∙ sym j) (c ∙ sym d)
-form_refusal_once bytes f g (no_head u h l c) (no_form v head k) = absurd (h head)
-form_refusal_once bytes f g (no_form u head h) (no_text m k j d) = absurd (not_bad bytes m u k)
-form_refusal_once bytes f g (no_form u head h) (no_head v k j d) = absurd (k head)
-form_refusal_once bytes f g (no_form u head h) (no_form v top k) = form_once (behind_head (texts_of bytes)) f g h k
+form_refusal_once bytes f g (no_head u h l c) (no_form w v head k) = absurd (h w head)
+form_refusal_once bytes f g (no_form w u head h) (no_text m k j d) = absurd (not_bad bytes m u k)
+form_refusal_once bytes f g (no_form w u head h) (no_head v k j d) = absurd (k w head)
+form_refusal_once bytes f g (no_form w u head h) (no_form x v top k) =
+    form_once w (behind_head (texts_of bytes)) f g h (subst (λ n. HasFormFault n (behind_head (texts_of bytes)) g) (heads-same x w (texts_of bytes) top head) k)
 
 -- ---- faults of meaning
 
@@ -119,10 +120,10 @@ meaning_once entries f g h k = by (places h.front k.front (Some h.line) (Some k.
 
 pub fault_once : (bytes : List ℕ) (f g : DefFault) → Refusal bytes f → Refusal bytes g → f ≡ g
 fault_once bytes f g (refusals.no_form h) (refusals.no_form k) = form_refusal_once bytes f g h k
-fault_once bytes f g (refusals.no_form h) (refusals.no_meaning utf8 head m) =
-    absurd (clean spell_once bytes m.entries utf8 (record { head = head; each = m.each }) m.plain f h)
-fault_once bytes f g (refusals.no_meaning utf8 head m) (refusals.no_form k) =
-    absurd (clean spell_once bytes m.entries utf8 (record { head = head; each = m.each }) m.plain g k)
-fault_once bytes f g (refusals.no_meaning utf8 head m) (refusals.no_meaning again top n) =
+fault_once bytes f g (refusals.no_form h) (refusals.no_meaning v utf8 head m) =
+    absurd (clean spell_once v bytes m.entries utf8 (record { head = head; each = m.each; of_version = all_of v (written m.entries) m.plain }) m.plain f h)
+fault_once bytes f g (refusals.no_meaning v utf8 head m) (refusals.no_form k) =
+    absurd (clean spell_once v bytes m.entries utf8 (record { head = head; each = m.each; of_version = all_of v (written m.entries) m.plain }) m.plain g k)
+fault_once bytes f g (refusals.no_meaning v utf8 head m) (refusals.no_meaning w again top n) =
     let es : n.entries ≡ m.entries = entries-once spell_once [] (behind_head (texts_of bytes)) n.entries m.entries n.each m.each in
     meaning_once m.entries f g m.meaning (subst (λ l. IsMeaningFault l g) es n.meaning)

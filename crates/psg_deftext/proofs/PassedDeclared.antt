@@ -15,8 +15,8 @@ use Rattle.psg_grammar.specs.declared.types.Definition.{Definition}
 use Rattle.psg_grammar.specs.Sound.{IsSound, IsPhylum, IsListKind, HasKindSort, HasSpaceSort}
 use Rattle.psg_grammar.proofs.SoundParts.{each_at}
 use Rattle.psg_deflines.specs.declared.lines.Line.{Line}
-use Rattle.psg_defcheck.specs.Scopes.{sort_names, sort_declared, Constructor, constructor_declared, KindDecl, a_phylum, a_list, kind_declared, OpDecl, operator_declared, entity_sort, is_kind, is_list, is_phylum, Place, sort_place, kind_place, phylum_place, value_place, element_place, entity_place, sort_told, element_told}
-use Rattle.psg_deftext.specs.WrittenLines.{sort_name, kind_name, item_written, constructors_written}
+use Rattle.psg_defcheck.specs.Scopes.{sort_names, sort_declared, Constructor, constructor_declared, KindDecl, a_phylum, a_list, kind_declared, OpDecl, operator_declared, entity_sort, space_sort, is_kind, is_list, is_phylum, Place, sort_place, kind_place, phylum_place, value_place, element_place, entity_place, sort_told, element_told}
+use Rattle.psg_deftext.specs.WrittenLines.{sort_name, kind_name, space_name, item_written, constructors_written}
 use Rattle.psg_deftext.proofs.NumberNames.{name-found}
 
 module _ (def : Definition) where
@@ -61,7 +61,9 @@ module _ (def : Definition) where
         → kind_declared file k.name ≡ Some (list_told k)
     pub operator_is : (o : ℕ) (op : Operator) → slice_get def.operators o ≡ Some op
         → operator_declared file op.name ≡ Some (operator_written op)
-    pub entity_is : (n s : ℕ) → HasSpaceSort def n s → entity_sort file ≡ Some (sort_name def s)
+    pub space_is : (n s : ℕ) → HasSpaceSort def n s → space_sort file (space_name def n) ≡ Some (sort_name def s)
+    -- where there is a space, there is a first one
+    pub entity_there : (n s : ℕ) → HasSpaceSort def n s → IsTrue (is_some (entity_sort file))
 
   -- ---- sorts of the signature
 
@@ -145,6 +147,6 @@ module _ (def : Definition) where
           ∙ ap (λ b. cond b (Some name) None) (phylum-known l.element s h)
 
       pub entity-placed : (n s : ℕ) → s < length def.signature.sorts → HasSpaceSort def n s
-          → entity_place file ≡ place_of s
+          → entity_place file (space_name def n) ≡ place_of s
       entity-placed n s inside h =
-          ap (option_and_then (sort_place file)) (declares.entity_is n s h) ∙ sort-placed s inside
+          ap (option_and_then (sort_place file)) (declares.space_is n s h) ∙ sort-placed s inside

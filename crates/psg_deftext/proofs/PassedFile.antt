@@ -1,8 +1,8 @@
 -- The lines that write a definition declare each part of it.
-use Rattle.std.proofs.Common.{◌≡◌, ◌≢◌, true, false, cond, ℕ, zero, suc, ◌+◌, ◌≤◌, ◌==◌, Option, Some, None, List, [], ◌∷◌, ◌++◌, length, map, slice_get, refl, ap, sym, ◌∙◌, subst, arith}
+use Rattle.std.proofs.Common.{◌≡◌, ◌≢◌, IsTrue, is_some, inl, inr, true, false, cond, ℕ, zero, suc, ◌+◌, ◌≤◌, ◌==◌, Option, Some, None, List, [], ◌∷◌, ◌++◌, length, map, slice_get, refl, ap, sym, ◌∙◌, subst, arith}
 use Rattle.std.specs.Prelude.{bytes_eq}
 use Rattle.std.specs.List.{flat_map}
-use Rattle.std.proofs.lemmas.Bool.{eq-eqb, ne_eqb, or_parts}
+use Rattle.std.proofs.lemmas.Bool.{false≢true, eq-eqb, ne_eqb, or_parts}
 use Rattle.psg_terms.specs.Names.{Name, is_among, has_twice}
 use Rattle.psg_terms.specs.Signature.{Symbol}
 use Rattle.psg_terms.proofs.DeclareLaws.{bytes_eq-refl, is_among-at, has_twice-front}
@@ -12,13 +12,15 @@ use Rattle.psg_grammar.specs.declared.types.Operator.{Operator}
 use Rattle.psg_grammar.specs.declared.types.Row.{Row}
 use Rattle.psg_grammar.specs.declared.types.Space.{Space}
 use Rattle.psg_grammar.specs.declared.types.Definition.{Definition}
-use Rattle.psg_grammar.specs.Sound.{IsSound, HasSpaceSort}
+use Rattle.psg_grammar.specs.Sound.{IsSound, IsOwnName, HasSpaceSort}
 use Rattle.psg_deflines.specs.declared.lines.Line.{Line}
 use Rattle.psg_deflines.specs.declared.lines.Line.TheVariants as lines
-use Rattle.psg_defcheck.specs.Scopes.{sort_declared, Constructor, constructor_among, constructor_declared, KindDecl, a_phylum, kind_declared, OpDecl, operator_declared, entity_sort}
+use Rattle.psg_grammar.proofs.SoundParts.{each_at}
+use Rattle.psg_deftext.proofs.NumberNames.{name-found}
+use Rattle.psg_defcheck.specs.Scopes.{sort_declared, Constructor, constructor_among, constructor_declared, KindDecl, a_phylum, kind_declared, OpDecl, operator_declared, entity_sort, space_declared, space_sort}
 use Rattle.psg_defnumber.proofs.ListLaws.{map-at}
 use Rattle.psg_deftext.specs.Layout.{rank}
-use Rattle.psg_deftext.specs.WrittenLines.{lines_of, sort_name, sort_lines, entity_line, phylum_line, list_line, row_line, operator_lines}
+use Rattle.psg_deftext.specs.WrittenLines.{lines_of, sort_name, space_name, sort_lines, space_line, phylum_line, list_line, row_line, operator_lines}
 use Rattle.psg_deftext.proofs.NumberBlocks.{from_entities, from_phyla, from_lists, from_operators, from_nils, flat-front, before-entities, before-phyla, before-operators}
 use Rattle.psg_deftext.proofs.NumberSorts.{sort-names-are}
 use Rattle.psg_deftext.proofs.PassedNames.{once-at, once-first, once-rest, once-before, once-back}
@@ -238,10 +240,13 @@ module _ (def : Definition) where
   operators-step n told (lines.Operator name phylum scope level made) rest h e = absurd (h refl)
   operators-step n told line rest h e = e
 
-  -- ---- the entity
+  -- ---- spaces
+
+  abbrev spaces_named : List Space → List Name
+  spaces_named all = map (λ (s : Space). s.name) all
 
   entity-in : (all : List Space) (tail : List Line) (n : ℕ) (k : Space) → length all ≤ 1 → slice_get all n ≡ Some k
-      → entity_sort (map (entity_line def) all ++ tail) ≡ Some (sort_name def k.sort.0)
+      → entity_sort (map (space_line def) all ++ tail) ≡ Some (sort_name def k.sort.0)
   entity-in [] tail n k few e = absurd (let f : None ≡ Some k = e in cc)
   entity-in (x ∷ all) tail zero k few e =
       let same : x ≡ k = let f : Some x ≡ Some k = e in cc in
@@ -249,10 +254,38 @@ module _ (def : Definition) where
   entity-in (x ∷ []) tail (suc n) k few e = absurd (let f : None ≡ Some k = e in cc)
   entity-in (x ∷ y ∷ all) tail (suc n) k few e = absurd (omega (arith, few))
 
+  entity-some : (all : List Space) (tail : List Line) (n : ℕ) (k : Space) → slice_get all n ≡ Some k
+      → IsTrue (is_some (entity_sort (map (space_line def) all ++ tail)))
+  entity-some [] tail n k e = absurd (let f : None ≡ Some k = e in cc)
+  entity-some (x ∷ all) tail n k e = refl
+
+  space-in : (all : List Space) (tail : List Line) (n : ℕ) (k : Space) → has_twice (spaces_named all) ≡ false
+      → slice_get all n ≡ Some k → space_declared (map (space_line def) all ++ tail) k.name ≡ Some (sort_name def k.sort.0)
+  space-in [] tail n k once e = absurd (let f : None ≡ Some k = e in cc)
+  space-in (x ∷ all) tail zero k once e =
+      let same : x ≡ k = let f : Some x ≡ Some k = e in cc in
+      subst (λ (y : Space). space_declared (map (space_line def) (x ∷ all) ++ tail) y.name ≡ Some (sort_name def y.sort.0)) same
+      (ap (λ b. cond b (Some (sort_name def x.sort.0)) (space_declared (map (space_line def) all ++ tail) x.name)) (bytes_eq-refl x.name))
+  space-in (x ∷ all) tail (suc n) k once e =
+      let at = map-at (λ (y : Space). y.name) all n k e in
+      ap (λ b. cond b (Some (sort_name def x.sort.0)) (space_declared (map (space_line def) all ++ tail) k.name))
+      (once-at x.name (spaces_named all) n k.name once at)
+      ∙ space-in all tail n k (once-rest x.name (spaces_named all) once) e
+
   entity-step : (told : Option Name) (line : Line) (rest : List Line) → rank line ≢ 1 → entity_sort rest ≡ told
       → entity_sort (line ∷ rest) ≡ told
-  entity-step told (lines.Entity sort) rest h e = absurd (h refl)
+  entity-step told (lines.Space name sort) rest h e = absurd (h refl)
   entity-step told line rest h e = e
+
+  some-step : (line : Line) (rest : List Line) → rank line ≢ 1 → IsTrue (is_some (entity_sort rest))
+      → IsTrue (is_some (entity_sort (line ∷ rest)))
+  some-step (lines.Space name sort) rest h e = absurd (h refl)
+  some-step line rest h e = e
+
+  space-step : (n : Name) (told : Option Name) (line : Line) (rest : List Line) → rank line ≢ 1 → space_declared rest n ≡ told
+      → space_declared (line ∷ rest) n ≡ told
+  space-step n told (lines.Space name sort) rest h e = absurd (h refl)
+  space-step n told line rest h e = e
 
   -- ---- in all lines
 
@@ -297,6 +330,33 @@ module _ (def : Definition) where
         (λ r h f. omega (arith, h, f))
         (entity-in def.spaces (from_phyla def) n k few at ∙ ap (λ m. Some (sort_name def m)) e)
 
+    entity-there : (n s : ℕ) → HasSpaceSort def n s → IsTrue (is_some (entity_sort (lines_of def)))
+    entity-there n s (k, at, e) =
+        before-entities (λ r. r ≢ 1) (λ ls. IsTrue (is_some (entity_sort ls))) some-step def
+        (λ r h f. omega (arith, h, f)) (entity-some def.spaces (from_phyla def) n k at)
+
+    by_name : (m : Name) → IsOwnName m → (o : Option Name) → space_declared (lines_of def) m ≡ o → space_sort (lines_of def) m ≡ o
+    by_name [] own o e = absurd (false≢true own)
+    by_name (c ∷ cs) own o e = e
+
+    -- In version 1 the only space is the first one, and in version 2 each has its own name.
+    space-declared : (n s : ℕ) → HasSpaceSort def n s
+        → space_sort (lines_of def) (space_name def n) ≡ Some (sort_name def s)
+    space-declared n s (k, at, e) =
+        let told = Some (sort_name def s) in
+        let name = name-found (λ (x : Space). x.name) def.spaces n k at in
+        elim sound.spaces [
+          | inl h ↦
+              let none = name ∙ each_at (λ (x : Space). x.name ≡ []) def.spaces h.2 n k at in
+              subst (λ m. space_sort (lines_of def) m ≡ told) (sym none) (entity-declared h.1 n s (k, at, e))
+          | inr h ↦
+              let found = before-entities (λ r. r ≢ 1) (λ ls. space_declared ls k.name ≡ told) (space-step k.name told) def
+              (λ r j f. omega (arith, j, f))
+              (space-in def.spaces (from_phyla def) n k h.2 at ∙ ap (λ m. Some (sort_name def m)) e) in
+              subst (λ m. space_sort (lines_of def) m ≡ told) (sym name)
+              (by_name k.name (each_at (λ (x : Space). IsOwnName x.name) def.spaces h.1 n k at) told found)
+        ]
+
     sort-declared : (s : ℕ) (n : Name) → slice_get def.signature.sorts s ≡ Some n
         → sort_declared (lines_of def) n ≡ Some (sort_written def s n)
     sort-declared s n at =
@@ -304,8 +364,8 @@ module _ (def : Definition) where
         sorts-in 0 def.signature.sorts (from_entities def) s n sound.signature.sort_names at
         ∙ ap (λ k. Some (sort_written def k n)) place
 
-    pub declares-all : length def.spaces ≤ 1 → Declares def (lines_of def)
-    declares-all few = record {
+    pub declares-all : Declares def (lines_of def)
+    declares-all = record {
       sort_there = λ s n at.
           ap (λ names. is_among names n) (sort-names-are def) ∙ is_among-at def.signature.sorts s n at;
       sort_is = sort-declared;
@@ -313,5 +373,6 @@ module _ (def : Definition) where
       phylum_is = phylum-declared;
       list_is = list-declared;
       operator_is = operator-declared;
-      entity_is = entity-declared few;
+      space_is = space-declared;
+      entity_there = entity-there;
     }

@@ -27,7 +27,7 @@ use Rattle.psg_deftext.proofs.PassedTests.{PassesRest, AreRight, IsRight, IsRigh
 use Rattle.psg_deftext.proofs.PassedDeclared.{Declares, kind-within, kind-known, kind-placed, value-placed, list-known, element-placed, entity-placed}
 use Rattle.psg_deftext.proofs.PassedVariables.{row-sorts}
 use Rattle.psg_deftext.proofs.PassedTerms.{HasNames, term-passes}
-use Rattle.psg_deftext.proofs.PassedItems.{space-within}
+use Rattle.psg_deftext.proofs.PassedItems.{space-within, space-known}
 use Rattle.psg_deftext.proofs.PassedTrees.{HasPlaceNames, tree-passes}
 use Rattle.psg_deftext.proofs.PassedReads.{IsCaseRead, HasCasesRead, IsDeclareRead}
 
@@ -116,7 +116,7 @@ module _ (def : Definition) (sound : IsSound def) (file : List Line) (declares :
       let l = is.found in
       let v = row-sorts def (row.term ∷ row.value ∷ place_terms row.specimen) few.0 is.naming.first in
       let sig = def.signature in
-      let entity_in = space-within def sound file declares 0 is.entity_sort is.space_sort in
+      let entity_in = space-within def sound file declares row.space is.entity_sort is.space_sort in
       let value_in = kind-within def sound (kinds.Phylum l.element) is.value_sort is.elements_sort in
       let entity = term-takes sig sound.signature is.names read.entity [] is.entity_sort row.term entity_in
       is.of_entity in
@@ -133,9 +133,10 @@ module _ (def : Definition) (sound : IsSound def) (file : List Line) (declares :
       ∙ element-placed def sound file declares l told is.value_sort is.elements_sort in
       let values = ap (option_and_then (value_place file)) elements
       ∙ value-placed def sound file declares (kinds.Phylum l.element) is.value_sort is.elements_sort in
-      let entities = entity-placed def sound file declares 0 is.entity_sort entity_in is.space_sort in
+      let entities = entity-placed def sound file declares row.space is.entity_sort entity_in is.space_sort in
       record {
         known = (
+          space-known def sound file declares row.space is.entity_sort is.space_sort,
           subst (λ n. IsTrue (is_list file n)) (sym list) (list-known def sound file declares l told),
           p.known,
           q.known,
@@ -150,7 +151,7 @@ module _ (def : Definition) (sound : IsSound def) (file : List Line) (declares :
             subst (λ at. SortsTree file v.sorts [] at (tree_written def row.specimen)) (sym elements) tree.sorted,
           ),
         );
-        entity = ap is_some (declares.entity_is 0 is.entity_sort is.space_sort);
+        entity = declares.entity_there row.space is.entity_sort is.space_sort;
         ground = tt;
         choice = tt;
       }

@@ -11,9 +11,8 @@ use Rattle.psg_deflines.specs.declared.lines.Line.{Line}
 use Rattle.psg_defcheck.specs.Scopes.{kind_declared}
 use Rattle.psg_defcheck.specs.Faults.{ArePassed}
 use Rattle.psg_defnumber.specs.Numbers.{IsNumbered}
-use Rattle.psg_deflaws.proofs.KindLaws.{space-count}
 use Rattle.psg_deflaws.proofs.LineSizes.{lines_total}
-use Rattle.psg_deftext.specs.WrittenLines.{lines_of, sort_lines, entity_line, phylum_line, list_line, operator_lines, nil_lines, cell_lines, hole_lines, declare_line}
+use Rattle.psg_deftext.specs.WrittenLines.{lines_of, sort_lines, space_line, phylum_line, list_line, operator_lines, nil_lines, cell_lines, hole_lines, declare_line}
 use Rattle.psg_deftext.proofs.WasRead.{WasRead}
 use Rattle.psg_deftext.proofs.NumberSmall.{HasSmallNumbers, small-numbers}
 use Rattle.psg_deftext.proofs.NumberLines.{written_numbered, written-short}
@@ -28,7 +27,7 @@ use Rattle.psg_deftext.proofs.PassedLists.{all-at, lists-nils-right, lists-cells
 use Rattle.psg_deftext.proofs.PassedHoles.{holes-right, declares-right}
 
 module _ (def : Definition) (sound : IsSound def) (small : HasSmallNumbers def) (file : List Line)
-    (numbered : IsNumbered file def) (at : List Line) (declares : Declares def at) where
+    {version : ℕ} (numbered : IsNumbered version file def) (at : List Line) (declares : Declares def at) where
   abbrev IsDeclared : ListKind → Type 0
   IsDeclared l = kind_declared at l.name ≡ Some (list_told def l)
 
@@ -82,9 +81,9 @@ module _ (def : Definition) (sound : IsSound def) (small : HasSmallNumbers def) 
 
   entities-block : (above : List Line) → AreRight at above (from_entities def)
   entities-block above =
-      let entities = right-map at (entity_line def) def.spaces
+      let entities = right-map at (space_line def) def.spaces
       (entities-right def sound at declares def.spaces sound.space_sorts) in
-      right-both at above (map (entity_line def) def.spaces) (from_phyla def) (entities above) phyla-block
+      right-both at above (map (space_line def) def.spaces) (from_phyla def) (entities above) phyla-block
 
   all-lines : (above : List Line) → AreRight at above (lines_of def)
   all-lines above =
@@ -102,13 +101,13 @@ pub written_passed : (def : Definition) → WasRead def → lines_total (lines_o
     → ArePassed (lines_of def) [] (lines_of def)
 written_passed def h short =
     let file = written h.entries in
-    let declares = declares-all def h.sound (space-count def file h.numbered) in
+    let declares = declares-all def h.sound in
     let right = all-lines def h.sound (small-numbers def h.sound short) file h.numbered (lines_of def) declares in
     all-passed (lines_of def) def (written_numbered def h short) [] (lines_of def) refl (right [])
 
 -- where a text that can be kept spells the lines
-pub spelled_passed : (def : Definition) → WasRead def → (bytes : List ℕ)
-    → AreSpelled (texts_of bytes) (map Some (lines_of def)) → length bytes < 2 ^ 63
+pub spelled_passed : (def : Definition) (h : WasRead def) (bytes : List ℕ)
+    → AreSpelled h.version (texts_of bytes) (map Some (lines_of def)) → length bytes < 2 ^ 63
     → ArePassed (lines_of def) [] (lines_of def)
 spelled_passed def h bytes spelled short =
-    written_passed def h (written-short bytes (lines_of def) spelled short)
+    written_passed def h (written-short h.version bytes (lines_of def) spelled short)

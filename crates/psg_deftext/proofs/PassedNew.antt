@@ -1,29 +1,17 @@
 -- Where no name is declared twice, none of a line was declared above it.
-use Rattle.std.proofs.Common.{◌≡◌, false, ◌≤◌, None, List, [], ◌∷◌, ◌++◌, length, refl, ap, sym, ◌∙◌, subst, arith}
+use Rattle.std.proofs.Common.{◌≡◌, ℕ, false, List, ◌∷◌, ◌++◌, refl, ap, sym, ◌∙◌}
 use Rattle.psg_terms.specs.Names.{Name, is_among, has_twice}
 use Rattle.psg_terms.proofs.DeclareLaws.{has_twice-front}
 use Rattle.psg_grammar.specs.declared.types.Definition.{Definition}
 use Rattle.psg_deflines.specs.declared.lines.Line.{Line}
 use Rattle.psg_deflines.specs.declared.lines.Line.TheVariants as lines
-use Rattle.psg_defcheck.specs.Scopes.{sort_names, constructor_names, kind_names, operator_names, names_of, entity_sort, entity_sorts}
+use Rattle.psg_defcheck.specs.Scopes.{sort_names, constructor_names, kind_names, operator_names, names_of, space_names}
 use Rattle.psg_defcheck.specs.Meanings.{IsNew}
-use Rattle.psg_defcheck.proofs.AboveLaws.{sort_names-append, constructor_names-append, kind_names-append, operator_names-append}
+use Rattle.psg_defcheck.proofs.AboveLaws.{sort_names-append, constructor_names-append, kind_names-append, operator_names-append, space_names-append}
 use Rattle.psg_defnumber.specs.Numbers.{IsNumbered}
 use Rattle.psg_deftext.proofs.PassedNames.{once-apart, once-back, each-apart}
 
-some-entity : (above rest : List Line) (sort : Name)
-    → 1 ≤ length (entity_sorts (above ++ lines.Entity sort ∷ rest))
-some-entity [] rest sort = omega arith
-some-entity (lines.Entity s ∷ above) rest sort = omega (arith, some-entity above rest sort)
-some-entity (line ∷ above) rest sort = some-entity above rest sort
-
-no-entity : (above rest : List Line) (sort : Name)
-    → length (entity_sorts (above ++ lines.Entity sort ∷ rest)) ≤ 1 → entity_sort above ≡ None
-no-entity [] rest sort h = refl
-no-entity (lines.Entity s ∷ above) rest sort h = absurd (omega (arith, some-entity above rest sort, h))
-no-entity (line ∷ above) rest sort h = no-entity above rest sort h
-
-module _ (file : List Line) (def : Definition) (numbered : IsNumbered file def) (above rest : List Line) where
+module _ {version : ℕ} (file : List Line) (def : Definition) (numbered : IsNumbered version file def) (above rest : List Line) where
   new-kind : (line : Line) (name : Name) → kind_names (line ∷ rest) ≡ name ∷ kind_names rest
       → file ≡ above ++ line ∷ rest → is_among (kind_names above) name ≡ false
   new-kind line name own e =
@@ -44,8 +32,10 @@ module _ (file : List Line) (def : Definition) (numbered : IsNumbered file def) 
         has_twice-front own (constructor_names rest) behind,
         each-apart (constructor_names above) own (constructor_names rest) once,
       )
-  line-new (lines.Entity sort) e =
-      no-entity above rest sort (subst (λ l. length (entity_sorts l) ≤ 1) e numbered.entity_once)
+  line-new (lines.Space name sort) e =
+      let line = lines.Space name sort in
+      let names = ap space_names e ∙ space_names-append above (line ∷ rest) in
+      once-apart (space_names above) (space_names rest) name (sym (ap has_twice names) ∙ numbered.spaces_once)
   line-new (lines.Phylum name sort bracketed) e = new-kind (lines.Phylum name sort bracketed) name refl e
   line-new (lines.List name sort elements separator on_lines unfinished) e =
       new-kind (lines.List name sort elements separator on_lines unfinished) name refl e

@@ -52,11 +52,12 @@ module _ (def : Definition) where
 
   -- a line of the file is the row
   pub record IsDeclareRead (row : DeclareRow) : Type 0 where
+    pub named : Name
     pub list : Name
     pub entity : WrittenTerm
     pub value : WrittenTerm
     pub tree : WrittenTree
-    pub is : IsDeclareRow def list entity value tree row
+    pub is : IsDeclareRow def named list entity value tree row
 
   rows-read : (head : ℕ) (sorts : List ℕ) (behind : List Line) (rows : List Row) → AreRows def head sorts behind rows
       → AllByRecursion IsRowRead rows
@@ -145,9 +146,9 @@ module _ (def : Definition) where
   pub declare-rows-read : (file : List Line) (all : List DeclareRow) → AreDeclareRows def file all
       → AllByRecursion IsDeclareRead all
   declare-rows-read [] all e = subst (AllByRecursion IsDeclareRead) (sym e) tt
-  declare-rows-read (lines.Declare list entity value tree ∷ behind) all (row, rest, e, h, hs) =
+  declare-rows-read (lines.Declare named list entity value tree ∷ behind) all (row, rest, e, h, hs) =
       subst (AllByRecursion IsDeclareRead) (sym e) (
-        record { list = list; entity = entity; value = value; tree = tree; is = h },
+        record { named = named; list = list; entity = entity; value = value; tree = tree; is = h },
         declare-rows-read behind rest hs,
       )
   declare-rows-read (line ∷ behind) all h = declare-rows-read behind all h

@@ -13,7 +13,7 @@ use Rattle.psg_grammar.specs.Sound.{IsSound, IsPhylum, IsListKind}
 use Rattle.psg_deflines.specs.declared.lines.Line.{Line}
 use Rattle.psg_deflines.specs.declared.lines.Line.TheVariants as lines
 use Rattle.psg_defcheck.specs.Meanings.{KnowsSort, AreInhabited}
-use Rattle.psg_deftext.specs.WrittenLines.{sort_name, constructors_written, sort_lines, entity_line, phylum_line, list_line}
+use Rattle.psg_deftext.specs.WrittenLines.{sort_name, constructors_written, sort_lines, space_line, phylum_line, list_line}
 use Rattle.psg_deftext.proofs.NumberNames.{name-found}
 use Rattle.psg_deftext.proofs.PassedTests.{PassesRest, AreRight, IsRight}
 use Rattle.psg_deftext.proofs.PassedDeclared.{Declares, with_front, sort_written, sort-known, phylum-known}
@@ -75,7 +75,7 @@ module _ (def : Definition) (sound : IsSound def) (file : List Line) (declares :
   HasSpaceWithin s = s.sort.0 < length def.signature.sorts
 
   pub entities-right : (all : List Space) → AllByRecursion HasSpaceWithin all
-      → AllByRecursion (λ s. IsRight file (entity_line def s)) all
+      → AllByRecursion (λ s. IsRight file (space_line def s)) all
   entities-right [] h = tt
   entities-right (s ∷ all) h = (
     λ above. record {

@@ -1,5 +1,5 @@
 -- The tests of the meaning of lines, apart from whether a name is new.
-use Rattle.std.proofs.Common.{◌≡◌, List, [], ◌∷◌, ◌++◌, map, sym, ◌∙◌, append_assoc}
+use Rattle.std.proofs.Common.{ℕ, ◌≡◌, List, [], ◌∷◌, ◌++◌, map, sym, ◌∙◌, append_assoc}
 use Rattle.std.specs.List.{AllByRecursion, flat_map}
 use Rattle.psg_grammar.specs.declared.types.Definition.{Definition}
 use Rattle.psg_deflines.specs.declared.lines.Line.{Line}
@@ -43,7 +43,7 @@ module _ (file : List Line) where
   right-flat f [] h above = tt
   right-flat f (x ∷ xs) h above = right-both above (f x) (flat_map f xs) (h.0 above) (right-flat f xs h.1)
 
-  pub all-passed : (def : Definition) → IsNumbered file def → (above rest : List Line) → file ≡ above ++ rest
+  pub all-passed : {version : ℕ} (def : Definition) → IsNumbered version file def → (above rest : List Line) → file ≡ above ++ rest
       → AreRight above rest → ArePassed file above rest
   all-passed def numbered above [] e h = tt
   all-passed def numbered above (line ∷ rest) e h =

@@ -1,4 +1,4 @@
--- The lines that write a definition. Names stand in place of positions, and a variable's name is its number.
+-- The lines that write a definition. Names are in place of positions, and a variable's name is its number.
 use Rattle.std.specs.Prelude.{ℕ, ◌+◌, ◌==◌, cond, Option, Some, None, List, [], ◌∷◌, ◌++◌, map, get_or, decimal}
 use Rattle.std.specs.List.{flat_map}
 use Rattle.psg_terms.specs.Names.{Name}
@@ -20,16 +20,19 @@ use Rattle.psg_grammar.specs.declared.types.HoleRow.{HoleRow}
 use Rattle.psg_grammar.specs.declared.types.DeclareRow.{DeclareRow}
 use Rattle.psg_grammar.specs.declared.types.SpecimenHole.{SpecimenHole}
 use Rattle.psg_grammar.specs.declared.types.SpecimenPart.{SpecimenPart, Sub, Name as NamePart, Number, Text}
-use Rattle.psg_grammar.specs.declared.types.Specimen.{Specimen, Op', List', Hole, Row_of-Specimen, end_of-Specimen, more_of-Specimen, Row_of-SpecimenPart, end_of-SpecimenPart, more_of-SpecimenPart}
+use Rattle.psg_grammar.specs.declared.types.Specimen.{Specimen, Op', List', Hole, Row_of-Specimen, end_of-Specimen}
+use Rattle.psg_grammar.specs.declared.types.Specimen.{more_of-Specimen, Row_of-SpecimenPart, end_of-SpecimenPart}
+use Rattle.psg_grammar.specs.declared.types.Specimen.{more_of-SpecimenPart}
 use Rattle.psg_grammar.specs.declared.types.Definition.{Definition}
 use Rattle.psg_deflines.specs.WrittenTerms.{WrittenTerm, variable, named, apply}
-use Rattle.psg_deflines.specs.WrittenTrees.{WrittenTree, operator, with_tree, with_name, with_number, with_text, list_end, list_rest, element, place}
+use Rattle.psg_deflines.specs.WrittenTrees.{WrittenTree, operator, with_tree, with_name, with_number, with_text}
+use Rattle.psg_deflines.specs.WrittenTrees.{list_end, list_rest, element, place}
 use Rattle.psg_deflines.specs.declared.lines.LineItem.{LineItem}
 use Rattle.psg_deflines.specs.declared.lines.LineItem.TheVariants as items
 use Rattle.psg_deflines.specs.declared.lines.Line.{Line}
 use Rattle.psg_deflines.specs.declared.lines.Line.TheVariants as lines
 
--- the name of what stands at the position
+-- the name of what is at the position
 abbrev pub name_at : {X : Type 0} → (X → Name) → List X → ℕ → Name
 name_at name xs n = get_or (map name xs) n []
 
@@ -50,6 +53,9 @@ module _ (def : Definition) where
   abbrev pub kind_name : Kind → Name
   kind_name (kinds.Phylum p) = name_at (λ (k : Phylum). k.name) def.phyla p
   kind_name (kinds.List l) = name_at (λ (k : ListKind). k.name) def.lists l
+
+  abbrev pub space_name : ℕ → Name
+  space_name s = name_at (λ (x : Space). x.name) def.spaces s
 
   abbrev pub term_written : Term → WrittenTerm
   term_written (terms.variable s n) = variable (decimal n)
@@ -87,27 +93,30 @@ module _ (def : Definition) where
   abbrev pub constructors_written : ℕ → List Symbol → List ConDecl
   constructors_written sort [] = []
   constructors_written sort (s ∷ rest) =
-      cond (s.sort == sort) (record { name = s.name; args = map sort_name s.arguments } ∷ constructors_written sort rest) (constructors_written sort rest)
+      cond (s.sort == sort) (record { name = s.name; args = map sort_name s.arguments }
+      ∷ constructors_written sort rest) (constructors_written sort rest)
 
   -- the sorts from the number on
   abbrev pub sort_lines : ℕ → List Name → List Line
   sort_lines n [] = []
-  sort_lines n (name ∷ rest) = lines.Sort (record { name = name; constructors = constructors_written n def.signature.symbols }) ∷ sort_lines (n + 1) rest
+  sort_lines n (name ∷ rest) = lines.Sort
+      (record { name = name; constructors = constructors_written n def.signature.symbols }) ∷ sort_lines (n + 1) rest
 
-  abbrev pub entity_line : Space → Line
-  entity_line s = lines.Entity (sort_name s.sort.0)
+  abbrev pub space_line : Space → Line
+  space_line s = lines.Space s.name (sort_name s.sort.0)
 
   abbrev pub phylum_line : Phylum → Line
   phylum_line p = lines.Phylum p.name (sort_name p.sort.0) p.bracketed
 
   abbrev pub list_line : ListKind → Line
-  list_line l = lines.List l.name (sort_name l.sort.0) (kind_name (kinds.Phylum l.element)) l.separator l.lines l.unfinished
+  list_line l =
+      lines.List l.name (sort_name l.sort.0) (kind_name (kinds.Phylum l.element)) l.separator l.lines l.unfinished
 
   abbrev pub item_written : Item → LineItem
   item_written (made.Word w) = items.Word w
   item_written (made.Slot k) = items.Slot (kind_name k)
-  item_written (made.Refers s) = items.Refers
-  item_written (made.Declares s) = items.Declares
+  item_written (made.Refers s) = items.Refers (space_name s)
+  item_written (made.Declares s) = items.Declares (space_name s)
   item_written made.Number = items.Number
   item_written made.Text = items.Text
   item_written made.Space = items.Space
@@ -119,15 +128,17 @@ module _ (def : Definition) where
   abbrev pub row_line : Row → Line
   row_line r = lines.Row (term_written r.head) (map term_written r.columns)
 
-  -- an operator with its rows behind it
+  -- an operator with its rows after it
   abbrev pub operator_lines : Operator → List Line
-  operator_lines o = lines.Operator o.name (kind_name (kinds.Phylum o.phylum)) o.scope o.level (map item_written o.items) ∷ map row_line o.rows
+  operator_lines o = lines.Operator o.name (kind_name (kinds.Phylum o.phylum)) o.scope o.level
+      (map item_written o.items) ∷ map row_line o.rows
 
   abbrev pub nil_lines : ListKind → List Line
   nil_lines l = map (λ t. lines.Nil l.name (term_written t)) l.nil_rows
 
   abbrev pub cell_line : Name → Row → Line
-  cell_line list r = lines.Cell list (term_written r.head) (term_written (term_at r.columns 0)) (term_written (term_at r.columns 1))
+  cell_line list r =
+      lines.Cell list (term_written r.head) (term_written (term_at r.columns 0)) (term_written (term_at r.columns 1))
 
   abbrev pub cell_lines : ListKind → List Line
   cell_lines l = map (cell_line l.name) l.cell_rows
@@ -135,16 +146,19 @@ module _ (def : Definition) where
   abbrev pub case_line : Case → Line
   case_line c = lines.Case (term_written c.term) (tree_written c.specimen)
 
-  -- a hole row with its cases behind it
+  -- a hole row with its cases after it
   abbrev pub hole_lines : HoleRow → List Line
   hole_lines r = lines.Hole (kind_name r.kind) (term_written r.term) None ∷ map case_line r.cases
 
   abbrev pub declare_line : DeclareRow → Line
-  declare_line d = lines.Declare (kind_name (kinds.List d.list)) (term_written d.term) (term_written d.value) (tree_written d.specimen)
+  declare_line d = lines.Declare (space_name d.space) (kind_name (kinds.List d.list)) (term_written d.term)
+      (term_written d.value) (tree_written d.specimen)
 
-  -- Sorts, entity, phyla, lists, operators each with its rows, nil rows, cell rows, hole rows each with its cases, declare rows.
+  -- Sorts, spaces, phyla, lists, operators each with its rows, nil rows, cell rows, hole rows each with its cases,
+  -- declare rows.
   abbrev pub lines_of : List Line
   lines_of =
-      sort_lines 0 def.signature.sorts ++ (map entity_line def.spaces ++ (map phylum_line def.phyla ++ (map list_line def.lists
+      sort_lines 0 def.signature.sorts
+      ++ (map space_line def.spaces ++ (map phylum_line def.phyla ++ (map list_line def.lists
       ++ (flat_map operator_lines def.operators ++ (flat_map nil_lines def.lists ++ (flat_map cell_lines def.lists
       ++ (flat_map hole_lines def.hole_rows ++ map declare_line def.declare_rows)))))))

@@ -1,10 +1,10 @@
-//! The lines of hole rows, each with its cases behind it, and of declare rows.
+//! The lines of hole rows, each with its cases after it, and of declare rows.
 ghost use Rattle.std.specs.Prelude.{◌≡◌, ◌++◌, None, map, IfOk, OnOk};
 ghost use Rattle.std.specs.List.{flat_map};
 ghost use Rattle.psg_deflines.specs.declared.lines.Line.TheVariants as lines;
 ghost use Rattle.psg_deftext.specs.WrittenLines.{case_line, declare_line, hole_lines, kind_name, term_written};
 
-use crate::names::{kind_name, list_name};
+use crate::names::{kind_name, list_name, space_name};
 use crate::specimens::tree_written;
 use crate::terms::term_written;
 use psg_deflines::Line;
@@ -20,7 +20,7 @@ fn case_line(alloc: Global, def: &Definition, case: &Case) -> Result<Line, Alloc
     Ok(Line::Case { term, specimen })
 }
 
-/// Puts the lines of cases behind the others.
+/// Puts the lines of cases after the others.
 fn push_cases(
     alloc: Global,
     def: &Definition,
@@ -38,7 +38,8 @@ fn push_cases(
 
 /// The line of a hole row without its cases.
 fn hole_line(alloc: Global, def: &Definition, row: &HoleRow) -> Result<Line, AllocError>
-    ensures { IfOk result (λ l. l ≡ lines.Hole (kind_name def.now row.now.kind) (term_written def.now row.now.term) None) }
+    ensures { IfOk result (λ l. l
+        ≡ lines.Hole (kind_name def.now row.now.kind) (term_written def.now row.now.term) None) }
 {
     let kind = kind_name(alloc, def, row.kind)?;
     let term = term_written(alloc, def, &row.term)?;
@@ -49,7 +50,7 @@ fn hole_line(alloc: Global, def: &Definition, row: &HoleRow) -> Result<Line, All
     })
 }
 
-/// Puts the line of a hole row and those of its cases behind the others.
+/// Puts the line of a hole row and those of its cases after the others.
 fn push_hole(
     alloc: Global,
     def: &Definition,
@@ -64,7 +65,7 @@ fn push_hole(
     Ok(())
 }
 
-/// Puts the lines of hole rows behind the others.
+/// Puts the lines of hole rows after the others.
 pub fn push_holes(
     alloc: Global,
     def: &Definition,
@@ -83,11 +84,13 @@ pub fn push_holes(
 fn declare_line(alloc: Global, def: &Definition, row: &DeclareRow) -> Result<Line, AllocError>
     ensures { IfOk result (λ l. l ≡ declare_line def.now row.now) }
 {
+    let space = space_name(alloc, def, row.space)?;
     let list = list_name(alloc, def, row.list)?;
     let entity = term_written(alloc, def, &row.term)?;
     let value = term_written(alloc, def, &row.value)?;
     let specimen = tree_written(alloc, def, &row.specimen)?;
     Ok(Line::Declare {
+        space,
         list,
         entity,
         value,
@@ -95,7 +98,7 @@ fn declare_line(alloc: Global, def: &Definition, row: &DeclareRow) -> Result<Lin
     })
 }
 
-/// Puts the lines of declare rows behind the others.
+/// Puts the lines of declare rows after the others.
 pub fn push_declares(
     alloc: Global,
     def: &Definition,

@@ -1,31 +1,32 @@
-//! The lines of the entity sort, of phyla and of lists.
+//! The lines of spaces, of phyla and of lists.
 ghost use Rattle.std.specs.Prelude.{◌≡◌, ◌++◌, map, IfOk, OnOk};
-ghost use Rattle.psg_deftext.specs.WrittenLines.{entity_line, phylum_line, list_line};
+ghost use Rattle.psg_deftext.specs.WrittenLines.{space_line, phylum_line, list_line};
 
 use crate::names::{phylum_name, sort_name};
 use psg_deflines::Line;
 use psg_grammar::{Definition, ListKind, Phylum, Space};
 use std::alloc::{AllocError, Global};
 
-/// The line of the entity sort.
-fn entity_line(alloc: Global, def: &Definition, space: &Space) -> Result<Line, AllocError>
-    ensures { IfOk result (λ l. l ≡ entity_line def.now space.now) }
+/// The line of a space.
+fn space_line(alloc: Global, def: &Definition, space: &Space) -> Result<Line, AllocError>
+    ensures { IfOk result (λ l. l ≡ space_line def.now space.now) }
 {
+    let name = space.name.share()?;
     let sort = sort_name(alloc, def, space.sort)?;
-    Ok(Line::Entity { sort })
+    Ok(Line::Space { name, sort })
 }
 
-/// Puts the lines of spaces behind the others.
+/// Puts the lines of spaces after the others.
 pub fn push_spaces(
     alloc: Global,
     def: &Definition,
     spaces: &[Space],
     out: &mut Vec<Line>,
 ) -> Result<(), AllocError>
-    ensures { OnOk result (out.new.items ≡ out.old.items ++ map (entity_line def.now) spaces.now) }
+    ensures { OnOk result (out.new.items ≡ out.old.items ++ map (space_line def.now) spaces.now) }
 {
     for i in 0..spaces.len() {
-        let line = entity_line(alloc, def, &spaces[i])?;
+        let line = space_line(alloc, def, &spaces[i])?;
         out.push(line)?;
     }
     Ok(())
@@ -45,7 +46,7 @@ fn phylum_line(alloc: Global, def: &Definition, phylum: &Phylum) -> Result<Line,
     })
 }
 
-/// Puts the lines of phyla behind the others.
+/// Puts the lines of phyla after the others.
 pub fn push_phyla(
     alloc: Global,
     def: &Definition,
@@ -79,7 +80,7 @@ fn list_line(alloc: Global, def: &Definition, list: &ListKind) -> Result<Line, A
     })
 }
 
-/// Puts the lines of lists behind the others.
+/// Puts the lines of lists after the others.
 pub fn push_lists(
     alloc: Global,
     def: &Definition,

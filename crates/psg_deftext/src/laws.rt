@@ -3,7 +3,8 @@ ghost use Rattle.std.specs.Prelude.{◌≡◌, List, ℕ};
 ghost use Rattle.psg_deflines.specs.declared.fault.DefFault.{DefFault};
 ghost use Rattle.psg_defread.specs.Refusals.{Refusal};
 
-/// A file is refused with one fault at most. So where it has a fault, the reader answers with it or with out of memory.
+/// States that a file is refused with one fault at most. So where it has a fault, the reader answers with it or with
+/// out of memory. It does nothing at run time.
 pub fn one_fault()
     ensures { (bytes : List ℕ) (f g : DefFault) → Refusal bytes f → Refusal bytes g → f ≡ g }
 {}

@@ -12,8 +12,8 @@ use psg_deflines::Line;
 use psg_grammar::Definition;
 use std::alloc::{AllocError, Global};
 
-/// The lines that write the definition, in the order of the file. It calls itself as deep as terms and specimens are nested,
-/// in a definition that was read 32 times.
+/// Makes the lines that write the definition, in the order of the file. It calls itself as deep as terms and specimens
+/// are nested, which is at most 32 in a definition that was read.
 pub fn definition_lines(alloc: Global, definition: &Definition) -> Result<Vec<Line>, AllocError>
     requires { IsSound definition.now }
     ensures { IfOk result (λ v. v.items ≡ lines_of definition.now) }

@@ -19,7 +19,7 @@ fn nil_line(alloc: Global, def: &Definition, list: &Txt, term: &Term) -> Result<
     Ok(Line::Nil { list, term })
 }
 
-/// Puts the lines of the rows of an empty list behind the others.
+/// Puts the lines of the rows of an empty list after the others.
 fn push_list_nils(
     alloc: Global,
     def: &Definition,
@@ -36,7 +36,7 @@ fn push_list_nils(
     Ok(())
 }
 
-/// Puts the lines of the rows of empty lists behind the others.
+/// Puts the lines of the rows of empty lists after the others.
 pub fn push_nils(
     alloc: Global,
     def: &Definition,
@@ -67,7 +67,7 @@ fn cell_line(alloc: Global, def: &Definition, list: &Txt, row: &Row) -> Result<L
     })
 }
 
-/// Puts the lines of the rows of a list with an element behind the others.
+/// Puts the lines of the rows of a list with an element after the others.
 fn push_list_cells(
     alloc: Global,
     def: &Definition,
@@ -84,7 +84,7 @@ fn push_list_cells(
     Ok(())
 }
 
-/// Puts the lines of the rows of lists with an element behind the others.
+/// Puts the lines of the rows of lists with an element after the others.
 pub fn push_cells(
     alloc: Global,
     def: &Definition,

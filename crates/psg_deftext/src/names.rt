@@ -1,7 +1,8 @@
-//! The names of what stands at a position. A sound definition has no position without a name.
+//! The names of what is at a position. A sound definition has no position without a name.
 ghost use Rattle.std.specs.Prelude.{◌≡◌, [], IfOk};
 ghost use Rattle.psg_grammar.specs.declared.types.Kind.TheVariants as kinds;
 ghost use Rattle.psg_deftext.specs.WrittenLines.{name_at, sort_name, constructor_name, operator_name, kind_name};
+ghost use Rattle.psg_deftext.specs.WrittenLines.{space_name};
 
 use psg_grammar::{Definition, Kind};
 use psg_terms::{ConId, Signature, SortId, Txt};
@@ -25,14 +26,14 @@ fn sort_text(signature: &Signature, sort: SortId) -> &str
     }
 }
 
-/// The name of the sort.
+/// Returns the name of the sort.
 pub fn sort_name(alloc: Global, def: &Definition, sort: SortId) -> Result<Txt, AllocError>
     ensures { IfOk result (λ n. n ≡ sort_name def.now sort.0) }
 {
     Ok(Txt::copy_of(alloc, sort_text(&def.signature, sort))?)
 }
 
-/// The name of the constructor.
+/// Returns the name of the constructor.
 pub fn constructor_name(alloc: Global, def: &Definition, con: ConId) -> Result<Txt, AllocError>
     ensures { IfOk result (λ n. n ≡ constructor_name def.now con.0) }
 {
@@ -42,7 +43,7 @@ pub fn constructor_name(alloc: Global, def: &Definition, con: ConId) -> Result<T
     Ok(def.signature.constructor(con).name.share()?)
 }
 
-/// The name of the operator.
+/// Returns the name of the operator.
 pub fn operator_name(alloc: Global, def: &Definition, op: u32) -> Result<Txt, AllocError>
     ensures { IfOk result (λ n. n ≡ operator_name def.now op) }
 {
@@ -52,7 +53,17 @@ pub fn operator_name(alloc: Global, def: &Definition, op: u32) -> Result<Txt, Al
     }
 }
 
-/// The name of the phylum.
+/// Returns the name of the space.
+pub fn space_name(alloc: Global, def: &Definition, space: u32) -> Result<Txt, AllocError>
+    ensures { IfOk result (λ n. n ≡ space_name def.now space) }
+{
+    match def.spaces.as_slice().get(space as usize) {
+        Some(own) => Ok(own.name.share()?),
+        None => Ok(no_name(alloc)?),
+    }
+}
+
+/// Returns the name of the phylum.
 pub fn phylum_name(alloc: Global, def: &Definition, phylum: u32) -> Result<Txt, AllocError>
     ensures { IfOk result (λ n. n ≡ kind_name def.now (kinds.Phylum phylum)) }
 {
@@ -62,7 +73,7 @@ pub fn phylum_name(alloc: Global, def: &Definition, phylum: u32) -> Result<Txt, 
     }
 }
 
-/// The name of the list.
+/// Returns the name of the list.
 pub fn list_name(alloc: Global, def: &Definition, list: u32) -> Result<Txt, AllocError>
     ensures { IfOk result (λ n. n ≡ kind_name def.now (kinds.List list)) }
 {
@@ -72,7 +83,7 @@ pub fn list_name(alloc: Global, def: &Definition, list: u32) -> Result<Txt, Allo
     }
 }
 
-/// The name of the phylum or list.
+/// Returns the name of the phylum or list.
 pub fn kind_name(alloc: Global, def: &Definition, kind: Kind) -> Result<Txt, AllocError>
     ensures { IfOk result (λ n. n ≡ kind_name def.now kind) }
 {

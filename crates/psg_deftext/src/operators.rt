@@ -1,26 +1,26 @@
-//! The lines of operators, each with its rows behind it.
+//! The lines of operators, each with its rows after it.
 ghost use Rattle.std.specs.Prelude.{◌≡◌, ◌++◌, map, IfOk, OnOk};
 ghost use Rattle.std.specs.List.{flat_map};
 ghost use Rattle.psg_grammar.specs.declared.types.Kind.TheVariants as kinds;
 ghost use Rattle.psg_deflines.specs.declared.lines.Line.TheVariants as lines;
 ghost use Rattle.psg_deftext.specs.WrittenLines.{item_written, kind_name, operator_lines, row_line};
 
-use crate::names::{kind_name, phylum_name};
+use crate::names::{kind_name, phylum_name, space_name};
 use crate::terms::{term_written, terms_written};
 use psg_deflines::{Line, LineItem};
 use psg_grammar::{Definition, Item, Operator, Row};
 use psg_terms::Seq;
 use std::alloc::{AllocError, Global};
 
-/// An item as it is written. Name positions do not say their space.
+/// An item as it is written.
 fn item_written(alloc: Global, def: &Definition, item: &Item) -> Result<LineItem, AllocError>
     ensures { IfOk result (λ w. w ≡ item_written def.now item.now) }
 {
     match item {
         Item::Word(word) => Ok(LineItem::Word(word.share()?)),
         Item::Slot(kind) => Ok(LineItem::Slot(kind_name(alloc, def, *kind)?)),
-        Item::Refers(_) => Ok(LineItem::Refers),
-        Item::Declares(_) => Ok(LineItem::Declares),
+        Item::Refers(space) => Ok(LineItem::Refers(space_name(alloc, def, *space)?)),
+        Item::Declares(space) => Ok(LineItem::Declares(space_name(alloc, def, *space)?)),
         Item::Number => Ok(LineItem::Number),
         Item::Text => Ok(LineItem::Text),
         Item::Space => Ok(LineItem::Space),
@@ -57,7 +57,7 @@ fn row_line(alloc: Global, def: &Definition, row: &Row) -> Result<Line, AllocErr
     Ok(Line::Row { head, columns })
 }
 
-/// Puts the lines of rows behind the others.
+/// Puts the lines of rows after the others.
 fn push_rows(
     alloc: Global,
     def: &Definition,
@@ -92,7 +92,7 @@ fn operator_line(alloc: Global, def: &Definition, operator: &Operator) -> Result
     })
 }
 
-/// Puts the line of an operator and those of its rows behind the others.
+/// Puts the line of an operator and those of its rows after the others.
 fn push_operator(
     alloc: Global,
     def: &Definition,
@@ -107,7 +107,7 @@ fn push_operator(
     Ok(())
 }
 
-/// Puts the lines of operators behind the others.
+/// Puts the lines of operators after the others.
 pub fn push_operators(
     alloc: Global,
     def: &Definition,

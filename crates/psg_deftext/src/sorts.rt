@@ -67,7 +67,7 @@ fn sort_line(alloc: Global, def: &Definition, sort: SortId) -> Result<Line, Allo
     Ok(Line::Sort(SortDecl { name, constructors }))
 }
 
-/// Puts the lines of all sorts behind the others.
+/// Puts the lines of all sorts after the others.
 pub fn push_sorts(alloc: Global, def: &Definition, out: &mut Vec<Line>) -> Result<(), AllocError>
     ensures { OnOk result (out.new.items ≡ out.old.items ++ sort_lines def.now 0 def.now.signature.sorts) }
 {

@@ -25,7 +25,7 @@ fn place_written(
     Ok(LinePlace { kind, term })
 }
 
-/// What a list goes on with behind its elements.
+/// What a list goes on with after its elements.
 fn rest_written(
     alloc: Global,
     def: &Definition,
@@ -70,7 +70,8 @@ fn part_written(
     }
 }
 
-/// The specimen as it is written. It calls itself as deep as the specimen is nested, in a definition that was read 32 times.
+/// Makes the specimen as it is written. It calls itself as deep as the specimen is nested, which is at most 32 in a
+/// definition that was read.
 #[cycle(tree)]
 pub fn tree_written(
     alloc: Global,

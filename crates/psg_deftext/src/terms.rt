@@ -36,7 +36,7 @@ fn applied(
     })
 }
 
-/// The term as it is written. It calls itself as deep as the term is nested.
+/// Makes the term as it is written. It calls itself as deep as the term is nested.
 #[cycle(term)]
 pub fn term_written(alloc: Global, def: &Definition, term: &Term) -> Result<LineTerm, AllocError>
     ensures { IfOk result (λ w. w ≡ term_written def.now term.now) }
@@ -54,7 +54,7 @@ pub fn term_written(alloc: Global, def: &Definition, term: &Term) -> Result<Line
     }
 }
 
-/// Terms as they are written.
+/// Makes the terms as they are written.
 #[cycle(term)]
 pub fn terms_written(
     alloc: Global,
@@ -71,7 +71,7 @@ pub fn terms_written(
     Ok(written)
 }
 
-/// The term of a row's column.
+/// Makes the term of a row's column.
 pub fn column_written(
     alloc: Global,
     def: &Definition,

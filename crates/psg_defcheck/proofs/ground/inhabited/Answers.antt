@@ -1,10 +1,13 @@
+use Rattle.std.proofs.Common.{true}
 use Rattle.psg_deflines.specs.Entries.{written}
 use Rattle.psg_defcheck.specs.Scopes.{sort_names}
 use Rattle.psg_defcheck.proofs.GroundLaws.{fewer-smaller, marking-begin, marking-step, marking-end}
 use Rattle.psg_defcheck.proofs.ground.inhabited.Goals as goal
 
 pub loop-more-init : goal.loop-more-init
-loop-more-init c = marking-begin c.args.scope.now c.none-marks.result c.none-marks.ensures
+loop-more-init c =
+    marking-step c.args.scope.now c.none-marks.result c.mark_in_turn.new.marks c.entries-entries.result.now true true c.entries-entries.ensures (marking-begin c.args.scope.now c.none-marks.result c.none-marks.ensures)
+    c.in_ok-mark_in_turn.ensures.right tt
 
 pub loop-more-preserved : goal.loop-more-preserved
 loop-more-preserved c =

@@ -12,8 +12,8 @@ returns c =
     let kind = element_place file c.args.list.now in
     let of = option_and_then (value_place file) kind in
     let e = c.values_place-values.ensures ∙ ap (option_and_then (value_place file)) c.element_place-phylum.ensures in
-    three (λ s. SortsTerm file s [] (entity_place file) c.args.entity.now) (λ s. SortsTerm file s [] of c.args.value.now) (λ s. SortsTree file s [] kind c.args.specimen.now) c.args.sorts.now c.sorts_term.new.sorts c.sorts_by.new.sorts
+    three (λ s. SortsTerm file s [] (entity_place file c.args.space.now) c.args.entity.now) (λ s. SortsTerm file s [] of c.args.value.now) (λ s. SortsTree file s [] kind c.args.specimen.now) c.args.sorts.now c.sorts_term.new.sorts c.sorts_by.new.sorts
     c.in_ok-entity_fits.entity_fits c.in_ok-fits.fits c.if-not-entity_fits.false
-    (term_at file c.args.entity.now (place_told c.entity_place-names.result) (entity_place file) c.args.sorts.now c.sorts_term.new.sorts c.in_ok-entity_fits.entity_fits c.entity_place-names.ensures c.in_ok-entity_fits.ensures)
+    (term_at file c.args.entity.now (place_told c.entity_place-names.result) (entity_place file c.args.space.now) c.args.sorts.now c.sorts_term.new.sorts c.in_ok-entity_fits.entity_fits c.entity_place-names.ensures c.in_ok-entity_fits.ensures)
     (subst (λ x. Narrows (λ s. SortsTerm file s [] of c.args.value.now × SortsTree file s [] x c.args.specimen.now) c.sorts_term.new.sorts c.sorts_by.new.sorts c.in_ok-fits.fits) c.element_place-phylum.ensures
     (subst (λ x. Narrows (λ s. SortsTerm file s [] x c.args.value.now × SortsTree file s [] (place_told c.element_place-phylum.result) c.args.specimen.now) c.sorts_term.new.sorts c.sorts_by.new.sorts c.in_ok-fits.fits) e c.in_ok-fits.ensures))

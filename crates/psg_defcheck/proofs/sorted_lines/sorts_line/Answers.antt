@@ -32,5 +32,5 @@ returns-in_ok-fits-in-Case c = λ above h.
 
 pub returns-in_ok-fits-in-Declare : goal.returns-in_ok-fits-in-Declare
 returns-in_ok-fits-in-Declare c = λ above h.
-    declare_line c.args.scope.now above c.args.line.now c.in-Declare.list c.as_str-list.result.now c.in-Declare.entity c.in-Declare.value c.in-Declare.specimen c.args.sorts.now c.sorts_declare.new.sorts c.in_ok-fits-in-Declare.fits c.in-Declare.is
-    c.as_str-list.ensures c.in_ok-fits-in-Declare.ensures
+    declare_line c.args.scope.now above c.args.line.now c.in-Declare.space c.in-Declare.list c.as_str-space.result.now c.as_str-list.result.now c.in-Declare.entity c.in-Declare.value c.in-Declare.specimen c.args.sorts.now c.sorts_declare.new.sorts c.in_ok-fits-in-Declare.fits c.in-Declare.is
+    c.as_str-space.ensures c.as_str-list.ensures c.in_ok-fits-in-Declare.ensures

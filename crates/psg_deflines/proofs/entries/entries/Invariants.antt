@@ -3,4 +3,4 @@ use Rattle.psg_deflines.proofs.ReadLaws.{IsReadUpTo}
 use Rattle.psg_deflines.proofs.entries.entries.Given as goal
 
 abbrev pub invariant-loop-text : goal.invariant-loop-text
-invariant-loop-text l = IsReadUpTo (texts l.written) l.text-index l.entries.items l.rows l.cases
+invariant-loop-text l = IsReadUpTo l.version (texts l.written) l.text-index l.entries.items l.rows l.cases

@@ -1,4 +1,4 @@
-use Rattle.std.proofs.Common.{◌≡◌, ◌+◌, take, ap, List, ◌∙◌}
+use Rattle.std.proofs.Common.{◌≡◌, ℕ, ◌+◌, take, ap, List, ◌∙◌}
 use Rattle.psg_deflines.specs.Entries.{Entry}
 use Rattle.psg_deflines.specs.Refusals.{IsFormFault, line_feeds}
 use Rattle.psg_deflines.specs.Reading.{HasEntries, AreLinesOf, HasNoFormFault}
@@ -11,16 +11,16 @@ returns-in-Err-clause-err c = file-bytes c.args.bytes.now _ c.not_text.result c.
 
 pub returns-clause-ok : goal.returns-clause-ok
 returns-clause-ok c =
-    ok-from _ (λ found. AreLinesOf c.args.bytes.now found.items) c.read_text.result (λ found r. file-lines c.args.bytes.now c.in-Ok.text.now c.in-Ok.ensures.cases.0 c.in-Ok.ensures.cases.1 found.items r) c.read_text.ensures.ok
+    ok-from _ (λ found. AreLinesOf c.args.bytes.now found.version found.entries.items) c.read_text.result (λ found r. file-lines c.args.bytes.now c.in-Ok.text.now c.in-Ok.ensures.cases.0 c.in-Ok.ensures.cases.1 found.version found.entries.items r) c.read_text.ensures.ok
 
 pub returns-clause-only : goal.returns-clause-only
 returns-clause-only c =
-    ok-from _ (λ found. (other : List Entry) → HasEntries c.args.bytes.now other → other ≡ found.items) c.read_text.result
-    (λ found r. file-only c.args.bytes.now c.in-Ok.text.now c.in-Ok.ensures.cases.0 c.in-Ok.ensures.cases.1 found.items r) c.read_text.ensures.ok
+    ok-from _ (λ found. (v : ℕ) (other : List Entry) → HasEntries c.args.bytes.now v other → (v ≡ found.version) × (other ≡ found.entries.items)) c.read_text.result
+    (λ found r. file-only c.args.bytes.now c.in-Ok.text.now c.in-Ok.ensures.cases.0 c.in-Ok.ensures.cases.1 found.version found.entries.items r) c.read_text.ensures.ok
 
 pub returns-clause-faultless : goal.returns-clause-faultless
 returns-clause-faultless c =
-    ok-from _ (λ _. HasNoFormFault c.args.bytes.now) c.read_text.result (λ found r. file-faultless c.args.bytes.now c.in-Ok.text.now c.in-Ok.ensures.cases.0 c.in-Ok.ensures.cases.1 found.items r) c.read_text.ensures.ok
+    ok-from _ (λ _. HasNoFormFault c.args.bytes.now) c.read_text.result (λ found r. file-faultless c.args.bytes.now c.in-Ok.text.now c.in-Ok.ensures.cases.0 c.in-Ok.ensures.cases.1 found.version found.entries.items r) c.read_text.ensures.ok
 
 pub returns-clause-err : goal.returns-clause-err
 returns-clause-err c =

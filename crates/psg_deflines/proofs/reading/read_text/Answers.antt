@@ -1,17 +1,15 @@
 use Rattle.std.proofs.Common.{◌≡◌, ℕ, List, ◌∙◌, sym, ap, arith, length}
-use Rattle.std.proofs.lemmas.Bool.{false≢true}
 use Rattle.std.specs.Prelude.{map}
 use Rattle.std.specs.Str.Lines.{lines}
 use Rattle.psg_deflines.proofs.PartReads.{Slices}
 use Rattle.psg_deflines.specs.Parts.{texts}
-use Rattle.psg_deflines.specs.Entries.{HasHead, behind_head}
-use Rattle.psg_deflines.specs.EntryReads.{AreEntriesRead, IsTextFault}
 use Rattle.psg_deflines.proofs.Lists.{nil-length}
-use Rattle.psg_deflines.proofs.Options.{ok-from, err-from}
+use Rattle.psg_deflines.proofs.Options.{when-some, when-none}
 use Rattle.psg_deflines.proofs.TermFound.{texts-length}
 use Rattle.psg_deflines.proofs.CountLaws.{lines-few}
 use Rattle.psg_deflines.proofs.ReadLaws.{map-texts}
-use Rattle.psg_deflines.proofs.FileLaws.{none-head, other-head, text-read, text-fault}
+use Rattle.psg_deflines.proofs.FileLaws.{none-head, other-head, text-read, text-fault, err-passed}
+use Rattle.psg_deflines.proofs.HeadLaws.{IsNoLineHead, IsLineHead}
 use Rattle.psg_deflines.proofs.reading.read_text.Goals as goal
 
 -- the lines of the text as slices
@@ -23,11 +21,11 @@ returns-in_default-clause-err c =
     none-head (lines c.args.text.now) c.no_version.result
     (shown (lines c.args.text.now) c.in_ok-written.written.items c.deref.result.now c.in_ok-written.ensures c.deref.ensures.value ∙ ap texts (nil-length c.deref.result.now c.in_default.ensures.cases)) c.no_version.ensures
 
-pub returns-then-not-branch-clause-err : goal.returns-then-not-branch-clause-err
-returns-then-not-branch-clause-err c =
-    other-head (lines c.args.text.now) (texts c.in-Some.rest.now) c.in-Some.head.now.now c.no_version-then-not-branch.result
+pub returns-in_default-2-clause-err : goal.returns-in_default-2-clause-err
+returns-in_default-2-clause-err c =
+    other-head (lines c.args.text.now) (texts c.in-Some.rest.now) c.in-Some.head.now.now c.no_version-in_default-2.result
     (shown (lines c.args.text.now) c.in_ok-written.written.items c.deref.result.now c.in_ok-written.ensures c.deref.ensures.value ∙ ap texts c.in-Some.ensures.cases.0)
-    (λ w. false≢true (sym c.if-not-branch.true ∙ c.in_ok-is_head.ensures.1 w)) c.no_version-then-not-branch.ensures
+    (when-none (IsNoLineHead c.in-Some.head.now.now) (IsLineHead c.in-Some.head.now.now) c.in_ok-version.field-0 c.in_default-2.is c.in_ok-version.ensures) c.no_version-in_default-2.ensures
 
 pub entries-requires : goal.entries-requires
 entries-requires c =
@@ -37,11 +35,12 @@ entries-requires c =
 pub returns-clause-ok : goal.returns-clause-ok
 returns-clause-ok c =
     let all = shown (lines c.args.text.now) c.in_ok-written.written.items c.deref.result.now c.in_ok-written.ensures c.deref.ensures.value ∙ ap texts c.in-Some.ensures.cases.0 in
-    ok-from _ (λ found. HasHead (lines c.args.text.now) × AreEntriesRead (behind_head (lines c.args.text.now)) found.items) c.entries.result
-    (λ found r. text-read (lines c.args.text.now) (texts c.in-Some.rest.now) c.in-Some.head.now.now found.items all (c.in_ok-is_head.ensures.0 c.if-not-branch.false) r) c.entries.ensures.ok
+    let head = when-some (IsNoLineHead c.in-Some.head.now.now) (IsLineHead c.in-Some.head.now.now) c.in_ok-version.field-0 c.in-Some-2.version c.in-Some-2.is c.in_ok-version.ensures in
+    text-read c.in-Some-2.version (lines c.args.text.now) (texts c.in-Some.rest.now) c.in-Some.head.now.now c.in_ok-entries.entries.items all head c.in_ok-entries.ensures.ok
 
-pub returns-clause-err : goal.returns-clause-err
-returns-clause-err c =
+pub returns-in_err-entries-clause-err : goal.returns-in_err-entries-clause-err
+returns-in_err-entries-clause-err c =
     let all = shown (lines c.args.text.now) c.in_ok-written.written.items c.deref.result.now c.in_ok-written.ensures c.deref.ensures.value ∙ ap texts c.in-Some.ensures.cases.0 in
-    err-from _ (IsTextFault (lines c.args.text.now)) c.entries.result
-    (λ e f. text-fault (lines c.args.text.now) (texts c.in-Some.rest.now) c.in-Some.head.now.now e all (c.in_ok-is_head.ensures.0 c.if-not-branch.false) f) c.entries.ensures.err
+    let head = when-some (IsNoLineHead c.in-Some.head.now.now) (IsLineHead c.in-Some.head.now.now) c.in_ok-version.field-0 c.in-Some-2.version c.in-Some-2.is c.in_ok-version.ensures in
+    err-passed (lines c.args.text.now) _ c.in_err-entries.field-0.0 c.from_residual-in_err-entries.ensures.1
+    (text-fault c.in-Some-2.version (lines c.args.text.now) (texts c.in-Some.rest.now) c.in-Some.head.now.now c.in_err-entries.field-0.0 all head c.in_err-entries.ensures.err)

@@ -1,6 +1,6 @@
 use Rattle.std.proofs.Common.{map, ap, ◌++◌, ◌∙◌}
 use Rattle.std.specs.List.{flat_map}
-use Rattle.psg_deftext.specs.WrittenLines.{sort_lines, entity_line, phylum_line, list_line, operator_lines, nil_lines, cell_lines, hole_lines, declare_line}
+use Rattle.psg_deftext.specs.WrittenLines.{sort_lines, space_line, phylum_line, list_line, operator_lines, nil_lines, cell_lines, hole_lines, declare_line}
 use Rattle.psg_deftext.proofs.WholeLaws.{nine}
 use Rattle.psg_deftext.proofs.lines.definition_lines.Goals as goal
 
@@ -17,7 +17,7 @@ returns c =
     c.push_holes.new.out.items
     c.push_declares.new.out.items
     (sort_lines c.args.definition.now 0 c.args.definition.now.signature.sorts)
-    (map (entity_line c.args.definition.now) c.args.definition.now.spaces)
+    (map (space_line c.args.definition.now) c.args.definition.now.spaces)
     (map (phylum_line c.args.definition.now) c.args.definition.now.phyla)
     (map (list_line c.args.definition.now) c.args.definition.now.lists)
     (flat_map (operator_lines c.args.definition.now) c.args.definition.now.operators)
@@ -28,7 +28,7 @@ returns c =
     c.new-out.ensures.items
     c.in_ok-push_sorts.ensures
     (c.in_ok-push_spaces.ensures ∙ ap
-    (λ xs. c.push_sorts.new.out.items ++ map (entity_line c.args.definition.now) xs) c.as_slice.ensures)
+    (λ xs. c.push_sorts.new.out.items ++ map (space_line c.args.definition.now) xs) c.as_slice.ensures)
     (c.in_ok-push_phyla.ensures ∙ ap
     (λ xs. c.push_spaces.new.out.items ++ map (phylum_line c.args.definition.now) xs) c.as_slice-2.ensures)
     (c.in_ok-push_lists.ensures ∙ ap (λ xs. c.push_phyla.new.out.items ++ map (list_line c.args.definition.now) xs)

@@ -3,4 +3,4 @@ use Rattle.psg_deftext.proofs.JoinTexts.{IsLaid}
 use Rattle.psg_deftext.proofs.writing.definition_text.Given as goal
 
 abbrev pub invariant-loop-i : goal.invariant-loop-i
-invariant-loop-i l = IsLaid (take l.i l.lines) (string_bytes l.text)
+invariant-loop-i l = IsLaid l.definition.version (take l.i l.lines) (string_bytes l.text)

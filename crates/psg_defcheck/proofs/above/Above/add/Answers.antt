@@ -1,4 +1,4 @@
-use Rattle.psg_defcheck.proofs.AboveLaws.{above-behind, behind-sort, behind-entity, behind-phylum, behind-list, behind-operator, behind-hole, behind-other}
+use Rattle.psg_defcheck.proofs.AboveLaws.{above-behind, behind-sort, behind-space, behind-phylum, behind-list, behind-operator, behind-hole, behind-other}
 use Rattle.psg_defcheck.proofs.above.Above.add.Goals as goal
 
 pub returns-in_ok-add_constructors-in-Sort : goal.returns-in_ok-add_constructors-in-Sort
@@ -7,8 +7,10 @@ returns-in_ok-add_constructors-in-Sort c = λ above h.
     (behind-sort c.args.line.now c.args.self.now c.in-Sort.d c.insert.new.self c.add_constructors.new.names c.as_str.result.now c.as_slice.result.now c.in-Sort.is c.as_str.ensures c.as_slice.ensures
     c.in_ok-insert-in-Sort.ensures c.in_ok-add_constructors-in-Sort.ensures)
 
-pub returns-in-Entity : goal.returns-in-Entity
-returns-in-Entity c = λ above h. above-behind above c.args.line.now c.args.self.now _ h (behind-entity c.args.line.now c.args.self.now c.in-Entity.sort c.in-Entity.is)
+pub returns-in_ok-insert-in-Space : goal.returns-in_ok-insert-in-Space
+returns-in_ok-insert-in-Space c = λ above h.
+    above-behind above c.args.line.now c.args.self.now _ h
+    (behind-space c.args.line.now c.args.self.now c.in-Space.name c.in-Space.sort c.insert-in-Space.new.self c.as_str-in-Space.result.now c.in-Space.is c.as_str-in-Space.ensures c.in_ok-insert-in-Space.ensures)
 
 pub returns-in_ok-insert-in-Phylum : goal.returns-in_ok-insert-in-Phylum
 returns-in_ok-insert-in-Phylum c = λ above h.
@@ -34,4 +36,4 @@ returns-in-Hole c = λ above h.
 pub returns-in_default : goal.returns-in_default
 returns-in_default c = λ above h.
     above-behind above c.args.line.now c.args.self.now _ h
-    (behind-other c.args.line.now c.args.self.now c.in_default.not-Sort c.in_default.not-Entity c.in_default.not-Phylum c.in_default.not-List c.in_default.not-Operator c.in_default.not-Hole)
+    (behind-other c.args.line.now c.args.self.now c.in_default.not-Sort c.in_default.not-Space c.in_default.not-Phylum c.in_default.not-List c.in_default.not-Operator c.in_default.not-Hole)

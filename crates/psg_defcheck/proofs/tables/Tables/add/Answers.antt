@@ -1,5 +1,5 @@
 use Rattle.std.proofs.Common.{refl}
-use Rattle.psg_defcheck.proofs.TableLaws.{sort-added, phylum-added, list-added, operator-added}
+use Rattle.psg_defcheck.proofs.TableLaws.{sort-added, space-added, phylum-added, list-added, operator-added}
 use Rattle.psg_defcheck.proofs.tables.Tables.add.Goals as goal
 
 pub returns-in_ok-insert-in-Sort : goal.returns-in_ok-insert-in-Sort
@@ -9,8 +9,8 @@ returns-in_ok-insert-in-Sort c = λ file h.
 
 pub returns-in_ok-insert-in-Phylum : goal.returns-in_ok-insert-in-Phylum
 returns-in_ok-insert-in-Phylum c = λ file h.
-    phylum-added file c.args.self.now c.insert-in-Phylum.new.self c.args.line.now c.in-Phylum.name c.in-Phylum.sort c.as_str-in-Phylum.result.now c.in-Phylum.bracketed c.as_str-sort.result
-    h c.in-Phylum.is c.as_str-in-Phylum.ensures c.as_str-sort.ensures c.in_ok-insert-in-Phylum.ensures.updates
+    phylum-added file c.args.self.now c.insert-in-Phylum.new.self c.args.line.now c.in-Phylum.name c.in-Phylum.sort c.as_str-in-Phylum.result.now c.in-Phylum.bracketed c.as_str-sort-in-Phylum.result
+    h c.in-Phylum.is c.as_str-in-Phylum.ensures c.as_str-sort-in-Phylum.ensures c.in_ok-insert-in-Phylum.ensures.updates
 
 pub returns-in_ok-insert-in-List : goal.returns-in_ok-insert-in-List
 returns-in_ok-insert-in-List c = λ file h.
@@ -21,3 +21,8 @@ pub returns-in_ok-insert-in-Operator : goal.returns-in_ok-insert-in-Operator
 returns-in_ok-insert-in-Operator c = λ file h.
     operator-added file c.args.self.now c.insert-in-Operator.new.self c.args.line.now c.in-Operator.name c.in-Operator.phylum c.as_str-in-Operator.result.now c.in-Operator.scope c.in-Operator.level c.in-Operator.items
     (record { phylum = c.as_str-phylum.result; items = c.as_slice-items.result }) h c.in-Operator.is c.as_str-in-Operator.ensures c.as_str-phylum.ensures c.as_slice-items.ensures c.in_ok-insert-in-Operator.ensures.updates
+
+pub returns-in_ok-insert-in-Space : goal.returns-in_ok-insert-in-Space
+returns-in_ok-insert-in-Space c = λ file h.
+    space-added file c.args.self.now c.insert-in-Space.new.self c.args.line.now c.in-Space.name c.in-Space.sort c.as_str.result.now c.as_str-sort.result
+    h c.in-Space.is c.as_str.ensures c.as_str-sort.ensures c.in_ok-insert-in-Space.ensures.updates
