@@ -44,3 +44,6 @@ pub mod FrameLaws
 pub mod Places
 pub mod PlaceSteps
 pub mod PatternSteps
+pub mod MovedKeys
+pub mod MovedColumns
+pub mod MovedOrder

@@ -2,7 +2,8 @@
 use Rattle.std.specs.Prelude.{ℕ, zero, suc, ◌≡◌, List, [], ◌∷◌, ◌++◌, slice_get}
 use Rattle.psg_terms.specs.Relations.{IsIn}
 use Rattle.psg_grammar.specs.declared.types.Definition.{Definition}
-use Rattle.psg_grammar.specs.Fragments.{Fragment, hole, ending, cell, operator, with_child, with_name, with_number, with_text, anything, observed, children_of}
+use Rattle.psg_grammar.specs.Fragments.{Fragment, hole, ending, cell, operator, with_child, with_name}
+use Rattle.psg_grammar.specs.Fragments.{with_number, with_text, anything, observed, children_of}
 use Rattle.psg_grammar.specs.Paths.{Path}
 use Rattle.psg_grammar.specs.Steps.{Place, own_steps, steps_of_some, PassesAt}
 
@@ -16,7 +17,8 @@ climb_steps_at def path k f = own_steps def path f
 abbrev pub climb_steps : Definition → Path → Path → Fragment → List Place
 climb_steps def above [] f = []
 climb_steps def above (k ∷ path) f =
-    steps_of_some (λ t. climb_steps def (above ++ k ∷ []) path t) (slice_get (children_of f) k) ++ climb_steps_at def above k f
+    steps_of_some (λ t. climb_steps def (above ++ k ∷ []) path t) (slice_get (children_of f) k)
+    ++ climb_steps_at def above k f
 
 module _ (def : Definition) where
   -- none of the steps passes the limit

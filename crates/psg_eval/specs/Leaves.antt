@@ -19,9 +19,11 @@ IsFaultAt rel.Wide n (faults.Wide step) = step ≡ n
 IsFaultAt rel.Memory n (faults.Wide step) = ⊥
 IsFaultAt fault n faults.Memory = Unit {0}
 
--- the summary has this kind and header and the relation of the rows, within the limit; or that relation is the wide one of step 0
+-- the summary has this kind and header and the relation of the rows, within the limit; or that relation is the wide one
+-- of step 0
 abbrev pub IsLeafOf : Signature → Kind → Header → List (List Term) → List ℕ → Result Known EvalFault → Type 0
 IsLeafOf sig kind header rows sorts (Ok s) =
-    (s.kind ≡ kind) × (s.header ≡ header) × (s.seen ≡ 0) × IsRelation sig sorts (IsOfRow sig rows) s.rel × (PassesLimit s.rel → ⊥)
+    (s.kind ≡ kind) × (s.header ≡ header) × (s.seen ≡ 0) × IsRelation sig sorts (IsOfRow sig rows) s.rel
+    × (PassesLimit s.rel → ⊥)
 IsLeafOf sig kind header rows sorts (Err (faults.Wide step)) = (step ≡ 0) × HasWide sig sorts (IsOfRow sig rows)
 IsLeafOf sig kind header rows sorts (Err faults.Memory) = Unit {0}

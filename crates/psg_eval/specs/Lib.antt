@@ -15,3 +15,4 @@ pub mod Reporting
 pub mod Questions
 pub mod Patterns
 pub mod SpaceTables
+pub mod Renamed

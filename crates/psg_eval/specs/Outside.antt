@@ -11,6 +11,8 @@ use Rattle.psg_eval.specs.Glues.{CloseGlue, IsCut}
 
 -- the header of what passes outward, and the rows without the keys that end inside
 pub record IsClosed (def : Definition) (p : Partial) (header : Header) (rows : List (List Term)) : Type 0 where
-  pub region : (names declared : List Key) (unfinished : ℕ → Bool) → IsHeader names declared unfinished p.header → IsHeader (outward unfinished declared names) [] (λ _. false) header
+  pub region : (names declared : List Key) (unfinished : ℕ → Bool) → IsHeader names declared unfinished p.header
+      → IsHeader (outward unfinished declared names) [] (λ _. false) header
   pub sorts : List ℕ
-  pub made : IsRelation def.signature sorts (IsCut def.signature (CloseGlue (keys p.header.names) (keys header.names)) p.rel) rows
+  pub made : IsRelation def.signature sorts
+      (IsCut def.signature (CloseGlue (keys p.header.names) (keys header.names)) p.rel) rows

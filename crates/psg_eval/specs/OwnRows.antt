@@ -47,8 +47,8 @@ name_terms (items.Declares s ∷ rest) [] = []
 name_terms (items.Declares s ∷ rest) (t ∷ terms) = t ∷ name_terms rest terms
 name_terms (_ ∷ rest) terms = name_terms rest terms
 
--- a ground instance of the operator's row r, in which the terms at positions with one key are equal: the head, the terms of the
--- slots, and for each key its entity
+-- a ground instance of the operator's row r, in which the terms at positions with one key are equal: the head, the
+-- terms of the slots, and for each key its entity
 pub record OwnRow (sig : Signature) (op : Operator) (names : List Name) (r : ℕ) (x : List Term) : Type 0 where
   pub row : Row
   pub chosen : slice_get op.rows r ≡ Some row
@@ -56,7 +56,8 @@ pub record OwnRow (sig : Signature) (op : Operator) (names : List Name) (r : ℕ
   pub grounding : IsGrounding sig terms
   pub entity : Key → Term
   pub agree : map entity (keys (positions op.items names)) ≡ name_terms op.items (map (substitute terms) row.columns)
-  pub row_is : x ≡ (substitute terms row.head ∷ slot_terms op.items (map (substitute terms) row.columns)) ++ map entity (in_order (keys (positions op.items names)))
+  pub row_is : x ≡ (substitute terms row.head ∷ slot_terms op.items (map (substitute terms) row.columns))
+      ++ map entity (in_order (keys (positions op.items names)))
 
 -- the head and the columns of a row
 abbrev pub whole_row : Row → List Term
@@ -64,5 +65,6 @@ whole_row row = row.head ∷ row.columns
 
 -- the terms of the definition's hole rows of the kind
 pub record AreHoleRows (def : Definition) (kind : Kind) (rows : List (List Term)) : Type 0 where
-  pub from : (row : List Term) → IsIn row rows → (r : ℕ) × (h : HoleRow) × (slice_get def.hole_rows r ≡ Some h) × (h.kind ≡ kind) × (row ≡ h.term ∷ [])
+  pub from : (row : List Term) → IsIn row rows
+      → (r : ℕ) × (h : HoleRow) × (slice_get def.hole_rows r ≡ Some h) × (h.kind ≡ kind) × (row ≡ h.term ∷ [])
   pub to : (r : ℕ) (h : HoleRow) → slice_get def.hole_rows r ≡ Some h → h.kind ≡ kind → IsIn (h.term ∷ []) rows

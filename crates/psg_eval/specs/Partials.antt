@@ -21,10 +21,11 @@ module _ (def : Definition) where
   -- the sort of each kind
   abbrev pub AreKindSorts : List Kind → List ℕ → Type 0
   AreKindSorts [] sorts = sorts ≡ []
-  AreKindSorts (k ∷ kinds) sorts = (s : ℕ) × (rest : List ℕ) × (sorts ≡ s ∷ rest) × HasKindSort def k s × AreKindSorts kinds rest
+  AreKindSorts (k ∷ kinds) sorts =
+      (s : ℕ) × (rest : List ℕ) × (sorts ≡ s ∷ rest) × HasKindSort def k s × AreKindSorts kinds rest
 
-  -- A node of the kind, where children of these kinds are still wanted: an ordered header, and rows of the sorts of the kind,
-  -- of the seen values, of the wanted values and of the keys.
+  -- A node of the kind, where children of these kinds are still wanted: an ordered header, and rows of the sorts of the
+  -- kind, of the seen values, of the wanted values and of the keys.
   pub record IsPartial (kind : Kind) (kinds : List Kind) (p : Partial) : Type 0 where
     pub header : IsOrdered p.header
     pub sort : ℕ
@@ -46,7 +47,8 @@ module _ (def : Definition) where
         → IsHeader (names ++ others) (declared ++ others_declared) (λ s. unfinished s || others_unfinished s) header
     pub none : header.twice ≡ true → rows ≡ []
     pub made : header.twice ≡ false → (ss : List ℕ)
-        × IsRelation def.signature ss (IsGlued def.signature (NextGlue p.seen (keys p.header.names) (keys child.header.names) (keys header.names)) p.rel child.rel) rows
+        × IsRelation def.signature ss (IsGlued def.signature
+        (NextGlue p.seen (keys p.header.names) (keys child.header.names) (keys header.names)) p.rel child.rel) rows
 
 -- the step's header and rows, which do not pass the limit; or some that do
 abbrev pub MatchStep : (Header → List (List Term) → Type 0) → Result Partial RelFault → Type 0

@@ -33,7 +33,7 @@ module _ (def : Definition) where
   AreChildrenOf (f ∷ fs) [] = ⊥
   AreChildrenOf (f ∷ fs) (c ∷ cs) = IsChildOf f c × AreChildrenOf fs cs
 
-  -- the child may stand where a tree of the kind is wanted
+  -- the child may be where a tree of the kind is wanted
   abbrev pub SuitsKind : Option Known → Kind → Type 0
   SuitsKind (Some s) k = (s.kind ≡ k) × IsSummary def s
   SuitsKind None k = (sort : ℕ) × HasKindSort def k sort
@@ -50,7 +50,8 @@ module _ (def : Definition) where
     pub kinds_fit : SuitKinds children (slot_kinds def op.items)
 
   abbrev pub TakesChildrenAt : ℕ → List Name → List (Option Known) → Type 0
-  TakesChildrenAt o names children = (op : Operator) × (slice_get def.operators o ≡ Some op) × TakesChildren op names children
+  TakesChildrenAt o names children =
+      (op : Operator) × (slice_get def.operators o ≡ Some op) × TakesChildren op names children
 
   -- a cell of the list takes these
   pub record TakesCellOf (l : ℕ) (element rest : Option Known) : Type 0 where
@@ -59,7 +60,8 @@ module _ (def : Definition) where
     pub element_fits : SuitsKind element (kinds.Phylum list.element)
     pub rest_fits : SuitsKind rest (kinds.List l)
 
--- The step's answer for a child. With a pattern it is that of a child; a place keeps header and rows, and passes no limit.
+-- The step's answer for a child. With a pattern it is that of a child; a place keeps header and rows, and passes no
+-- limit.
 abbrev pub MatchPart : Definition → Partial → Option Known → Result Partial RelFault → Type 0
 MatchPart def before (Some s) result = MatchStep (IsAdded def before s) result
 MatchPart def before None (Ok p) = (p.header ≡ before.header) × (p.rel ≡ before.rel)

@@ -1,4 +1,4 @@
--- The rows of a tree whose value stands once more.
+-- The rows of a tree with one more column, which has the value again.
 use Rattle.std.specs.Prelude.{◌≡◌, List, ◌∷◌}
 use Rattle.psg_terms.specs.Terms.{Term}
 

@@ -43,21 +43,23 @@ module _ (def : Definition) where
     pub step : IsStep f n p.header p.rel
     pub light : (k : ℕ) → k ≤ n → PassesAt def f k → ⊥
 
-  -- the node with its first n children; the first of these steps that passes the limit; or want of memory
+  -- the node with its first n children; the first of these steps that passes the limit; or that memory ran out
   abbrev pub MatchMade : Fragment → ℕ → Result Partial EvalFault → Type 0
   MatchMade f n (Ok p) = IsMade f n p
   MatchMade f n (Err (faults.Wide step)) = IsFirstPassing def f step
   MatchMade f n (Err faults.Memory) = Unit {0}
 
-  -- the node as what stands outside sees it; or the first of the steps that passes the limit; or want of memory
+  -- the node as it is seen from outside; or the first of the steps that passes the limit; or that memory ran out
   abbrev pub MatchOuter : Fragment → Kind → Result Partial EvalFault → Type 0
-  MatchOuter f kind (Ok q) = IsSummaryOf def f (record { kind = kind; header = q.header; seen = q.seen; rel = q.rel }) × StaysWithin def f
+  MatchOuter f kind (Ok q) =
+      IsSummaryOf def f (record { kind = kind; header = q.header; seen = q.seen; rel = q.rel }) × StaysWithin def f
   MatchOuter f kind (Err (faults.Wide step)) = IsFirstPassing def f step
   MatchOuter f kind (Err faults.Memory) = Unit {0}
 
-  -- of every node of the operator with so many children, which is as far as this
+  -- of every node of the operator with `count` children, which is as far as this
   abbrev pub MatchWhole : Operator → Partial → ℕ → Result Partial EvalFault → Type 0
-  MatchWhole op whole count result = (f : Fragment) → HasParts def f [] → IsOfKind def f (kinds.Phylum op.phylum) → is_scope def f ≡ op.scope → children_count f ≡ count
+  MatchWhole op whole count result = (f : Fragment) → HasParts def f [] → IsOfKind def f (kinds.Phylum op.phylum)
+      → is_scope def f ≡ op.scope → children_count f ≡ count
       → whole.seen ≡ seen_in f → IsMade f count whole → MatchOuter f (kinds.Phylum op.phylum) result
 
   -- header and rows of a cell of the list without its two children

@@ -1,5 +1,6 @@
 -- What the summary of a tree says, and what is said where there is none.
-use Rattle.std.specs.Prelude.{ℕ, ◌≡◌, ◌<◌, ◌≤◌, ◌&&◌, not, List, [], ◌∷◌, ◌++◌, length, map, Result, Ok, Err, Some, slice_get}
+use Rattle.std.specs.Prelude.{ℕ, ◌≡◌, ◌<◌, ◌≤◌, ◌&&◌, not, List, [], ◌∷◌, ◌++◌}
+use Rattle.std.specs.Prelude.{length, map, Result, Ok, Err, Some, slice_get}
 use Rattle.std.specs.List.{AllByRecursion}
 use Rattle.psg_terms.specs.Names.{Name}
 use Rattle.psg_grammar.specs.declared.types.Kind.{Kind}
@@ -29,7 +30,8 @@ use Rattle.psg_grammar.specs.Kinds.{IsOfKind}
 module _ (def : Definition) where
   -- the keys of the tree's region, or those that pass outward where it is a scope operator
   abbrev pub IsHeaderOf : Fragment → Header → Type 0
-  IsHeaderOf f h = IsHeader (passing (is_scope def f) (λ s. unfinished_inside def s f) (declared_inside def f) (names_inside def f))
+  IsHeaderOf f h =
+      IsHeader (passing (is_scope def f) (λ s. unfinished_inside def s f) (declared_inside def f) (names_inside def f))
       (declared_in def f) (λ s. not (is_scope def f) && unfinished_inside def s f) h
 
   -- the summary is that of the tree
@@ -52,9 +54,11 @@ module _ (def : Definition) where
   -- the sort of each key is that of its space
   abbrev pub AreKeySorts : List NameCol → List ℕ → Type 0
   AreKeySorts [] sorts = sorts ≡ []
-  AreKeySorts (c ∷ cols) sorts = (s : ℕ) × (rest : List ℕ) × (sorts ≡ s ∷ rest) × HasSpaceSort def c.space s × AreKeySorts cols rest
+  AreKeySorts (c ∷ cols) sorts =
+      (s : ℕ) × (rest : List ℕ) × (sorts ≡ s ∷ rest) × HasSpaceSort def c.space s × AreKeySorts cols rest
 
-  -- what every summary is, whatever its tree: an ordered header, and rows of the sorts of the kind, of the seen values and of the spaces
+  -- what every summary is, whatever its tree: an ordered header, and rows of the sorts of the kind, of the seen values
+  -- and of the spaces
   pub record IsSummary (s : Known) : Type 0 where
     pub header : IsOrdered s.header
     pub sort : ℕ
@@ -109,7 +113,7 @@ module _ (def : Definition) where
   abbrev pub StaysWithin : Fragment → Type 0
   StaysWithin f = (k : ℕ) → k ≤ last_step def f → PassesAt def f k → ⊥
 
-  -- the tree's summary, where no step passes the limit; the first step that does; or want of memory
+  -- the tree's summary, where no step passes the limit; the first step that does; or that memory ran out
   abbrev pub Answers : Fragment → Result Known EvalFault → Type 0
   Answers f (Ok s) = IsSummaryOf f s × StaysWithin f
   Answers f (Err (faults.Wide step)) = IsFirstPassing f step

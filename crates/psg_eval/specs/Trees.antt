@@ -6,7 +6,8 @@ use Rattle.psg_grammar.specs.declared.types.Item.{Item}
 use Rattle.psg_grammar.specs.declared.types.Item.TheVariants as items
 use Rattle.psg_grammar.specs.declared.types.Operator.{Operator}
 use Rattle.psg_grammar.specs.declared.types.Definition.{Definition}
-use Rattle.psg_grammar.specs.Fragments.{Fragment, hole, ending, cell, operator, with_child, with_name, with_number, with_text, anything, observed, top_operator}
+use Rattle.psg_grammar.specs.Fragments.{Fragment, hole, ending, cell, operator, with_child, with_name}
+use Rattle.psg_grammar.specs.Fragments.{with_number, with_text, anything, observed, top_operator}
 use Rattle.psg_grammar.specs.Lookups.{part_items}
 
 -- how many values are observed: those of observed nodes and of places with any value
@@ -22,13 +23,14 @@ seen_in (with_text f t) = seen_in f
 seen_in anything = 1
 seen_in (observed f) = 1 + seen_in f
 
--- The operator has the parts of its items, where parts of these items still follow. Any word may be a name. A child may be of any
--- kind, and may be a place with any value.
+-- The operator has the parts of its items, where parts of these items still follow. Any word may be a name. A child may
+-- be of any kind, and may be a place with any value.
 module _ (def : Definition) where
   abbrev pub HasParts : Fragment → List Item → Type 0
   HasParts (operator o) more = (op : Operator) × (slice_get def.operators o ≡ Some op) × (more ≡ part_items op.items)
   HasParts (with_child f t) more = (k : Kind) × HasParts f (items.Slot k ∷ more)
-  HasParts (with_name f n) more = ((s : ℕ) × HasParts f (items.Refers s ∷ more)) ⊎ ((s : ℕ) × HasParts f (items.Declares s ∷ more))
+  HasParts (with_name f n) more =
+      ((s : ℕ) × HasParts f (items.Refers s ∷ more)) ⊎ ((s : ℕ) × HasParts f (items.Declares s ∷ more))
   HasParts (with_number f n) more = HasParts f (items.Number ∷ more)
   HasParts (with_text f t) more = HasParts f (items.Text ∷ more)
   HasParts (hole p) more = ⊥

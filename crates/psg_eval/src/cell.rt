@@ -15,7 +15,7 @@ use psg_grammar::Definition;
 use psg_relation::{Rel, RelFault};
 use std::alloc::Global;
 
-/// A cell of the list without its two children.
+/// Returns a cell of the list without its two children.
 pub(crate) fn cell_start(
     alloc: Global,
     definition: &Definition,
@@ -40,7 +40,7 @@ pub(crate) fn cell_start(
     })
 }
 
-/// The cell with its element and the list behind it.
+/// Returns the cell with its element and the list after it.
 pub(crate) fn cell_parts(
     alloc: Global,
     definition: &Definition,

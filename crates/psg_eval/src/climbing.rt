@@ -9,7 +9,8 @@ ghost use Rattle.psg_grammar.specs.declared.types.Kind.TheVariants.{List as OfLi
 ghost use Rattle.psg_grammar.specs.declared.types.Operator.{Operator};
 ghost use Rattle.psg_eval.specs.ClimbSteps.{climb_steps_at};
 ghost use Rattle.psg_eval.specs.Climbing.{IsClimbed, IsReached};
-ghost use Rattle.psg_eval.specs.Frames.{AllSummariesBut, AreSilentBut, CanClimb, IsElement, IsFrame, IsSilent, StandFor, TakesBefore};
+ghost use Rattle.psg_eval.specs.Frames.{AllSummariesBut, AreSilentBut, CanClimb, IsElement};
+ghost use Rattle.psg_eval.specs.Frames.{IsFrame, IsSilent, StandFor, TakesBefore};
 ghost use Rattle.psg_eval.specs.Frames.{TakesInFrame, put_at, rungs, rungs_in};
 ghost use Rattle.psg_eval.specs.Summaries.{IsSummary, IsSummaryOf, TakesAt, TakesCell};
 ghost use Rattle.psg_eval.specs.Trees.{IsNode};
@@ -22,7 +23,7 @@ use psg_terms::{Steps, Txt};
 use std::alloc::{AllocError, Global};
 use std::sync::ledger::Ledger;
 
-/// The first of the two where it stands here, else the other one.
+/// Returns `own` where `here` holds, else `old`.
 fn chosen<'a>(here: bool, own: &'a Summary, old: &'a Summary) -> &'a Summary
     ensures here { here ≡ true → result.now ≡ own.now }
     ensures other { here ≡ false → result.now ≡ old.now }
@@ -48,7 +49,8 @@ fn with_summary(
     Ok(all)
 }
 
-/// The summary of a list from that of an element: its cell with the rest, and then each cell before it, the last one first.
+/// Returns the summary of a list from that of an element: its cell with the rest, and then each cell before it, the
+/// last one first.
 fn raised_in_list<L: Ledger>(
     alloc: Global,
     definition: &Definition,
@@ -62,7 +64,8 @@ fn raised_in_list<L: Ledger>(
     requires takes { TakesCell definition.now list own.now rest.now }
     requires silent { IsSilent rest.now }
     requires before { AllByRecursion (TakesBefore definition.now own.now.kind) before.now }
-    ensures answer { (u t : Fragment) (path : Path) → IsElement definition.now list before.now rest.now u t → IsSummaryOf definition.now t own.now
+    ensures answer { (u t : Fragment) (path : Path) → IsElement definition.now list before.now rest.now u t
+        → IsSummaryOf definition.now t own.now
         → IsReached definition.now (climb_steps_at definition.now path (length before.now) u) u result }
     ensures summary { IfOk result (IsSummary definition.now) }
     ensures kind { IfOk result (λ s. s.kind ≡ OfList list) }
@@ -81,8 +84,12 @@ fn raised_in_list<L: Ledger>(
     Ok(whole)
 }
 
-/// The summary of an operator's node from that of its child of the number.
-fn raised_operator<L: Ledger>(
+/// Returns the summary of an operator's node from that of its child of the number `hot`. `children` has summaries for
+/// all children, of which that of the child `hot` is not used.
+///
+/// `Wide` names the first step whose relation passes the limit. It takes one tick, or none where memory runs out
+/// before.
+pub fn raised_operator<L: Ledger>(
     alloc: Global,
     definition: &Definition,
     op: u32,
@@ -97,10 +104,12 @@ fn raised_operator<L: Ledger>(
     requires silent { AreSilentBut hot children.now }
     requires takes { TakesAt definition.now op names.now (put_at hot own.now children.now) }
     ensures answer { (u t : Fragment) (path : Path) (k : ℕ) → IsNode definition.now op names.now u → k ≡ hot
-        → slice_get (children_of u) k ≡ Some t → AllSummariesBut definition.now k (children_of u) children.now → IsSummaryOf definition.now t own.now
+        → slice_get (children_of u) k ≡ Some t → AllSummariesBut definition.now k (children_of u) children.now
+        → IsSummaryOf definition.now t own.now
         → IsReached definition.now (climb_steps_at definition.now path k u) u result }
     ensures summary { IfOk result (IsSummary definition.now) }
-    ensures kind { IfOk result (λ s. (o : Operator) → slice_get definition.now.operators op ≡ Some o → s.kind ≡ OfPhylum o.phylum) }
+    ensures kind { IfOk result (λ s. (o : Operator) → slice_get definition.now.operators op ≡ Some o
+        → s.kind ≡ OfPhylum o.phylum) }
     ensures seen { IfOk result (λ s. s.seen ≡ own.now.seen) }
     ensures ticks { IfOk result (λ _. steps.new ≡ steps.old + 1) }
     ensures most { steps.new ≤ steps.old + 1 }
@@ -111,7 +120,7 @@ fn raised_operator<L: Ledger>(
     Ok(node)
 }
 
-/// The summary of the frame's node from that of the tree at its place.
+/// Returns the summary of the frame's node from that of the tree at its place.
 fn raised<L: Ledger>(
     alloc: Global,
     definition: &Definition,
@@ -121,10 +130,12 @@ fn raised<L: Ledger>(
 ) -> Result<Summary, EvalFault>
     requires sound { IsSound definition.now }
     requires takes { (above : PlainKind) × TakesInFrame definition.now frame.now own.now above }
-    ensures answer { (u t : Fragment) (path : Path) (k : ℕ) → IsFrame definition.now frame.now k u t → IsSummaryOf definition.now t own.now
+    ensures answer { (u t : Fragment) (path : Path) (k : ℕ) → IsFrame definition.now frame.now k u t
+        → IsSummaryOf definition.now t own.now
         → IsReached definition.now (climb_steps_at definition.now path k u) u result }
     ensures summary { IfOk result (IsSummary definition.now) }
-    ensures kind { IfOk result (λ s. (above : PlainKind) → TakesInFrame definition.now frame.now own.now above → s.kind ≡ above) }
+    ensures kind { IfOk result (λ s. (above : PlainKind) → TakesInFrame definition.now frame.now own.now above
+        → s.kind ≡ above) }
     ensures seen { IfOk result (λ s. s.seen ≡ own.now.seen) }
     ensures ticks { IfOk result (λ _. steps.new ≡ steps.old + rungs_in frame.now) }
     ensures most { steps.new ≤ steps.old + rungs_in frame.now }
@@ -149,13 +160,13 @@ fn raised<L: Ledger>(
     }
 }
 
-/// Gives the summary of the whole tree from that of the tree at the place that the frames stand for, the innermost frame
-/// first. It serves whichever tree stands there: the one that the frames were made of, one with its value observed, or
-/// another one of the same kind.
+/// Returns the summary of the whole tree from that of the tree at the place that the frames surround, the innermost
+/// frame first. It serves whichever tree is there: the one that the frames were made of, one with its value observed,
+/// or another one of the same kind.
 ///
-/// It takes one tick for an `Op` frame, and for an `Elem` frame one for its element and for each of those before it. `Wide`
-/// has the number of the first step, in this order, whose relation passes the limit. The cost is that of these
-/// evaluations.
+/// It takes one tick for an `Op` frame, and for an `Elem` frame one for its element and for each of those before it.
+/// `Wide` has the number of the first step, in this order, whose relation passes the limit; `Memory` is returned when
+/// memory runs out. The cost is that of these evaluations.
 pub fn climb<L: Ledger>(
     alloc: Global,
     definition: &Definition,
@@ -166,7 +177,8 @@ pub fn climb<L: Ledger>(
     requires sound { IsSound definition.now }
     requires own { IsSummary definition.now own.now }
     requires frames { CanClimb definition.now frames.now own.now.kind }
-    ensures answer { (f t : Fragment) (path : Path) → StandFor definition.now frames.now path f t → IsSummaryOf definition.now t own.now
+    ensures answer { (f t : Fragment) (path : Path) → StandFor definition.now frames.now path f t
+        → IsSummaryOf definition.now t own.now
         → IsClimbed definition.now path f result }
     ensures nothing { IfOk result (λ s. frames.now ≡ [] → s ≡ own.now) }
     ensures summary { IfOk result (IsSummary definition.now) }

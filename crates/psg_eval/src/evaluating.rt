@@ -7,7 +7,8 @@ ghost use Rattle.psg_eval.specs.declared.summary.Known.{Known as Kept};
 ghost use Rattle.psg_grammar.specs.Sound.{IsSound};
 ghost use Rattle.psg_grammar.specs.WellFormed.{IsListEnd};
 ghost use Rattle.psg_eval.specs.Trees.{IsNode};
-ghost use Rattle.psg_eval.specs.Summaries.{Answers, AreSpacesOfList, AreSummariesOf, IsSummary, IsSummaryOf, TakesAt, TakesCell};
+ghost use Rattle.psg_eval.specs.Summaries.{Answers, AreSpacesOfList, AreSummariesOf, IsSummary};
+ghost use Rattle.psg_eval.specs.Summaries.{IsSummaryOf, TakesAt, TakesCell};
 
 use crate::cell::cell_parts;
 use crate::leaves::{closed_end, open_end, placeholder};
@@ -19,9 +20,9 @@ use psg_terms::{Steps, Txt};
 use std::alloc::Global;
 use std::sync::ledger::Ledger;
 
-/// The summary of a placeholder: its values are those of the hole rows of its phylum. It declares nothing.
+/// Returns the summary of a placeholder: its values are those of the hole rows of its phylum. It declares nothing.
 ///
-/// It takes one step of its own, number 0, and `Wide` names it exactly where its relation passes the limit.
+/// It takes one tick. Its only step has the number 0, and `Wide` names it exactly where its relation passes the limit.
 pub fn eval_hole<L: Ledger>(
     alloc: Global,
     definition: &Definition,
@@ -38,10 +39,11 @@ pub fn eval_hole<L: Ledger>(
     placeholder(alloc, definition, phylum)
 }
 
-/// The summary of an operator's node, from its names and the summaries of its children.
+/// Returns the summary of an operator's node, from its names and the summaries of its children.
 ///
-/// Step 0 has the operator's rows and own keys, step k adds the child k - 1, and a scope operator has one step more, in which
-/// the keys that end there are dropped. `Wide` names the first step whose relation passes the limit.
+/// Step 0 has the operator's rows and own keys, step k adds the child k - 1, and a scope operator has one step more, in
+/// which the keys that end there are dropped. `Wide` names the first step whose relation passes the limit. It takes one
+/// tick.
 pub fn eval_op<L: Ledger>(
     alloc: Global,
     definition: &Definition,
@@ -53,9 +55,11 @@ pub fn eval_op<L: Ledger>(
     requires sound { IsSound definition.now }
     requires takes { TakesAt definition.now op names.now children.now }
     // whatever the children are: for every tree whose children have these summaries
-    ensures answer { (f : Fragment) → IsNode definition.now op names.now f → AreSummariesOf definition.now f children.now → Answers definition.now f result }
+    ensures answer { (f : Fragment) → IsNode definition.now op names.now f
+        → AreSummariesOf definition.now f children.now → Answers definition.now f result }
     ensures summary { IfOk result (IsSummary definition.now) }
-    ensures kind { IfOk result (λ s. (o : Operator) → slice_get definition.now.operators op ≡ Some o → s.kind ≡ OfPhylum o.phylum) }
+    ensures kind { IfOk result (λ s. (o : Operator) → slice_get definition.now.operators op ≡ Some o
+        → s.kind ≡ OfPhylum o.phylum) }
     ensures seen { IfOk result (λ s. s.seen ≡ sum_by (λ (c : Kept). c.seen) children.now) }
     ensures ticks { steps.new ≡ steps.old + 1 }
 {
@@ -65,7 +69,8 @@ pub fn eval_op<L: Ledger>(
     Ok(summary)
 }
 
-/// The summary of a list from those of its first element and of the list behind it, in the steps 0 to 2.
+/// Returns the summary of a list from those of its first element and of the list after it, in the steps 0 to 2. `Wide`
+/// names the first step whose relation passes the limit. It takes one tick.
 pub fn eval_cell<L: Ledger>(
     alloc: Global,
     definition: &Definition,
@@ -89,9 +94,10 @@ pub fn eval_cell<L: Ledger>(
     Ok(summary)
 }
 
-/// The summary of a list's end: its values are those of the list's nil rows, or of its hole rows where it is unfinished. An
-/// unfinished end may still declare in the spaces in which the list's elements do. They are handed in, ascending, since they
-/// are found once for a definition (`declaring` tells them of the element phylum).
+/// Returns the summary of a list's end: its values are those of the list's nil rows, or of its hole rows where it is
+/// unfinished. An unfinished end may still declare in the spaces in which the list's elements do. The caller gives
+/// them, ascending, since they are found once for a definition: psg_grammar's `declaring` has them for the element
+/// phylum. It takes one tick.
 pub fn eval_end<L: Ledger>(
     alloc: Global,
     definition: &Definition,

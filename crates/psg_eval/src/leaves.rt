@@ -21,7 +21,7 @@ fn is_kind(one: Kind, other: Kind) -> bool
     one == other
 }
 
-/// A row of one term.
+/// Returns a row of one term.
 fn row_of_one(alloc: Global, term: &Term) -> Result<RelRow, AllocError>
     ensures { IfOk result (λ row. row ≡ term.now ∷ []) }
 {
@@ -30,7 +30,7 @@ fn row_of_one(alloc: Global, term: &Term) -> Result<RelRow, AllocError>
     Ok(RelRow::new(terms))
 }
 
-/// The terms of the hole rows of the kind.
+/// Returns the terms of the hole rows of the kind.
 fn hole_rows(alloc: Global, definition: &Definition, kind: Kind) -> Result<Vec<RelRow>, AllocError>
     ensures { IfOk result (λ rows. AreHoleRows definition.now kind rows.items) }
 {
@@ -43,7 +43,7 @@ fn hole_rows(alloc: Global, definition: &Definition, kind: Kind) -> Result<Vec<R
     Ok(rows)
 }
 
-/// Each term as a row.
+/// Returns each term as a row.
 fn rows_of_terms(alloc: Global, terms: &[Term]) -> Result<Vec<RelRow>, AllocError>
     ensures { IfOk result (λ rows. rows.items ≡ map (λ t. t ∷ []) terms.now) }
 {
@@ -54,7 +54,7 @@ fn rows_of_terms(alloc: Global, terms: &[Term]) -> Result<Vec<RelRow>, AllocErro
     Ok(rows)
 }
 
-/// The head of the row with the columns behind it.
+/// Returns the head of the row with the columns after it.
 fn whole_row(alloc: Global, row: &Row) -> Result<RelRow, AllocError>
     ensures { IfOk result (λ r. r ≡ whole_row row.now) }
 {
@@ -66,7 +66,7 @@ fn whole_row(alloc: Global, row: &Row) -> Result<RelRow, AllocError>
     Ok(RelRow::new(terms))
 }
 
-/// Each row's head with the columns behind it.
+/// Returns each row's head with the columns after it.
 pub(crate) fn whole_rows(alloc: Global, rows: &[Row]) -> Result<Vec<RelRow>, AllocError>
     ensures { IfOk result (λ made. made.items ≡ map whole_row rows.now) }
 {
@@ -77,7 +77,7 @@ pub(crate) fn whole_rows(alloc: Global, rows: &[Row]) -> Result<Vec<RelRow>, All
     Ok(made)
 }
 
-/// The header of a region without keys.
+/// Returns the header of a region without keys.
 pub(crate) fn no_keys(alloc: Global, unfinished: Vec<u32>) -> Header
     ensures { result ≡ record { names = []; unfinished = unfinished.items; twice = false } }
 {
@@ -88,7 +88,7 @@ pub(crate) fn no_keys(alloc: Global, unfinished: Vec<u32>) -> Header
     }
 }
 
-/// The summary of a tree without children, from the rows of its values.
+/// Returns the summary of a tree without children, from the rows of its values.
 fn leaf(
     alloc: Global,
     definition: &Definition,
@@ -97,7 +97,8 @@ fn leaf(
     rows: &[RelRow],
 ) -> Result<Summary, EvalFault>
     requires { (sorts : List ℕ) × AllHaveSorts definition.now.signature rows.now sorts }
-    ensures { (sorts : List ℕ) → AllHaveSorts definition.now.signature rows.now sorts → IsLeafOf definition.now.signature kind header rows.now sorts result }
+    ensures { (sorts : List ℕ) → AllHaveSorts definition.now.signature rows.now sorts
+        → IsLeafOf definition.now.signature kind header rows.now sorts result }
 {
     match Rel::of(alloc, &definition.signature, rows) {
         Ok(rel) => {
@@ -113,7 +114,7 @@ fn leaf(
     }
 }
 
-/// A placeholder of a phylum.
+/// Returns a placeholder of a phylum.
 pub(crate) fn placeholder(
     alloc: Global,
     definition: &Definition,
@@ -130,7 +131,7 @@ pub(crate) fn placeholder(
     leaf(alloc, definition, kind, header, rows.as_slice())
 }
 
-/// The end of an unfinished list.
+/// Returns the end of an unfinished list.
 pub(crate) fn open_end(
     alloc: Global,
     definition: &Definition,
@@ -149,7 +150,7 @@ pub(crate) fn open_end(
     leaf(alloc, definition, kind, header, rows.as_slice())
 }
 
-/// The end of a finished list.
+/// Returns the end of a finished list.
 pub(crate) fn closed_end(
     alloc: Global,
     definition: &Definition,

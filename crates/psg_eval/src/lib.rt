@@ -5,9 +5,10 @@
 //! let sum = eval_op(alloc, &definition, plus, &[], &[left.share()?, left], &mut steps)?;
 //! ```
 //!
-//! A summary has the kind of a tree, its header, and its relation: the most general rows of what its value and the entities
-//! of its keys can be. That of a node is made step by step, from its own rows and one child after the other, so no tree is
-//! needed, and what a step keeps is as small as its most general rows. A frame says the same of what stands around a tree.
+//! A summary has the kind of a tree, its header, and its relation: the most general rows of what its value and the
+//! entities of its keys can be. That of a node is made step by step, from its own rows and one child after the other,
+//! so no tree is needed, and what a step keeps is as small as its most general rows. A frame has summaries of what is
+//! around a tree.
 #![tactic(auto)]
 
 mod cell;
@@ -24,6 +25,7 @@ pub mod pattern;
 pub mod patterning;
 mod placing;
 pub mod question;
+pub mod renaming;
 pub mod reporting;
 pub mod summary;
 

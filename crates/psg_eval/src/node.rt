@@ -19,7 +19,7 @@ use psg_grammar::{Definition, Kind, Operator};
 use psg_terms::Txt;
 use std::alloc::Global;
 
-/// The node with all its children, one after the other. The first of them is added in step 1.
+/// Returns the node with all its children, one after the other. The first of them is added in step 1.
 fn with_children(
     alloc: Global,
     definition: &Definition,
@@ -29,9 +29,11 @@ fn with_children(
     requires sound { IsSound definition.now }
     requires partial { (kind : PlainKind) × IsPartial definition.now kind (kinds_of children.now) first }
     requires summaries { AllByRecursion (IsSummary definition.now) children.now }
-    ensures made { (f : Fragment) → HasParts definition.now f [] → AreSummariesOf definition.now f children.now → IsMade definition.now f 0 first
+    ensures made { (f : Fragment) → HasParts definition.now f [] → AreSummariesOf definition.now f children.now
+        → IsMade definition.now f 0 first
         → MatchMade definition.now f (length children.now) result }
-    ensures partial { IfOk result (λ p. (kind : PlainKind) → IsPartial definition.now kind (kinds_of children.now) first → IsPartial definition.now kind [] p) }
+    ensures partial { IfOk result (λ p. (kind : PlainKind) → IsPartial definition.now kind (kinds_of children.now) first
+        → IsPartial definition.now kind [] p) }
     ensures seen { IfOk result (λ p. p.seen ≡ first.seen + sum_by (λ (s : Kept). s.seen) children.now) }
 {
     let mut partial = first;
@@ -43,7 +45,7 @@ fn with_children(
     Ok(partial)
 }
 
-/// The operator with its own rows and all its children.
+/// Returns the operator with its own rows and all its children.
 fn all_children(
     alloc: Global,
     definition: &Definition,
@@ -54,7 +56,8 @@ fn all_children(
     requires sound { IsSound definition.now }
     requires operator { IsOperator definition.now operator.now }
     requires takes { Takes definition.now operator.now names.now children.now }
-    ensures made { (o : ℕ) (f : Fragment) → slice_get definition.now.operators o ≡ Some operator.now → IsNode definition.now o names.now f
+    ensures made { (o : ℕ) (f : Fragment) → slice_get definition.now.operators o ≡ Some operator.now
+        → IsNode definition.now o names.now f
         → AreSummariesOf definition.now f children.now → MatchMade definition.now f (length children.now) result }
     ensures partial { IfOk result (IsPartial definition.now (OfPhylum operator.now.phylum) []) }
     ensures seen { IfOk result (λ p. p.seen ≡ sum_by (λ (s : Kept). s.seen) children.now) }
@@ -64,7 +67,7 @@ fn all_children(
     Ok(whole)
 }
 
-/// The node as what stands outside sees it: of a scope operator only the keys remain that pass outward.
+/// Returns the node as it is seen from outside: of a scope operator only the keys remain that pass outward.
 pub(crate) fn outer(
     alloc: Global,
     definition: &Definition,
@@ -86,7 +89,7 @@ pub(crate) fn outer(
     Ok(outside)
 }
 
-/// The summary of an operator's node.
+/// Returns the summary of an operator's node.
 pub(crate) fn node(
     alloc: Global,
     definition: &Definition,
@@ -97,7 +100,8 @@ pub(crate) fn node(
     requires sound { IsSound definition.now }
     requires operator { IsOperator definition.now operator.now }
     requires takes { Takes definition.now operator.now names.now children.now }
-    ensures answer { (o : ℕ) (f : Fragment) → slice_get definition.now.operators o ≡ Some operator.now → IsNode definition.now o names.now f
+    ensures answer { (o : ℕ) (f : Fragment) → slice_get definition.now.operators o ≡ Some operator.now
+        → IsNode definition.now o names.now f
         → AreSummariesOf definition.now f children.now → Answers definition.now f result }
     ensures summary { IfOk result (IsSummary definition.now) }
     ensures kind { IfOk result (λ s. s.kind ≡ OfPhylum operator.now.phylum) }

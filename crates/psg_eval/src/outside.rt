@@ -11,7 +11,7 @@ use psg_relation::{RelFault, project};
 use psg_scope::close_region;
 use std::alloc::{AllocError, Global};
 
-/// Puts the columns of keys at the end, from their places; so many other columns stand in front of the keys.
+/// Adds the columns of keys, from their places. The argument `front` is the number of columns before those of the keys.
 fn push_columns(columns: &mut Vec<usize>, front: usize, kept: &[usize]) -> Result<(), AllocError>
     requires { All (λ k. front + k < 2 ^ 64) kept.now }
     ensures { OnOk result (columns.new.items ≡ columns.old.items ++ map (λ k. front + k) kept.now) }
@@ -22,7 +22,7 @@ fn push_columns(columns: &mut Vec<usize>, front: usize, kept: &[usize]) -> Resul
     Ok(())
 }
 
-/// The columns of a whole node's rows: the value, the seen values, and of so many keys those at these places.
+/// Returns the columns of a whole node's rows: the value, the seen values, and of the keys those at these places.
 fn kept_columns(
     alloc: Global,
     seen: u32,
@@ -40,7 +40,7 @@ fn kept_columns(
     Ok(columns)
 }
 
-/// What is known of a scope operator's node outside of it: of the keys inside, those remain that pass outward.
+/// Returns what is known of a scope operator's node outside of it: of the keys inside, those remain that pass outward.
 pub(crate) fn closed(
     alloc: Global,
     definition: &Definition,
@@ -48,7 +48,8 @@ pub(crate) fn closed(
 ) -> Result<Partial, RelFault>
     requires { (kind : PlainKind) × IsPartial definition.now kind [] inside.now }
     ensures step { MatchStep (IsClosed definition.now inside.now) result }
-    ensures partial { IfOk result (λ p. (kind : PlainKind) → IsPartial definition.now kind [] inside.now → IsPartial definition.now kind [] p) }
+    ensures partial { IfOk result (λ p. (kind : PlainKind) → IsPartial definition.now kind [] inside.now
+        → IsPartial definition.now kind [] p) }
     ensures seen { IfOk result (λ p. p.seen ≡ inside.now.seen) }
 {
     let outside = close_region(alloc, &inside.header)?;

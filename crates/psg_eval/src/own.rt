@@ -46,7 +46,8 @@ impl Places {
         name: &Txt,
         declared: bool,
     ) -> Result<(), AllocError>
-        ensures positions { OnOk result (self.new.positions.items ≡ self.old.positions.items ++ record { space = space; name = name.now; declared = declared } ∷ []) }
+        ensures positions { OnOk result (self.new.positions.items ≡ self.old.positions.items
+            ++ record { space = space; name = name.now; declared = declared } ∷ []) }
         ensures names { OnOk result (self.new.names.items ≡ self.old.names.items ++ column ∷ []) }
         ensures slots { self.new.slots.items ≡ self.old.slots.items }
     {
@@ -60,7 +61,7 @@ impl Places {
     }
 }
 
-/// The places of the items' names and slots. The head has column 0.
+/// Returns the places of the items' names and slots. The head has column 0.
 fn item_places(alloc: Global, items: &[Item], names: &[Txt]) -> Result<Places, AllocError>
     requires fits { (definition : Language) × (length (are_names definition items.now) ≡ length names.now) }
     requires few { length items.now < 2 ^ 32 }
@@ -99,12 +100,14 @@ fn item_places(alloc: Global, items: &[Item], names: &[Txt]) -> Result<Places, A
     Ok(found)
 }
 
-/// The keys of positions with these columns. It joins the headers of both halves, as `header_of` does.
+/// Returns the keys of positions with these columns. It joins the headers of both halves, as `header_of` does.
 fn own_keys(alloc: Global, positions: &[NameCol], columns: &[usize]) -> Result<OwnKeys, AllocError>
     requires { length columns.now ≡ length positions.now }
-    ensures header { IfOk result (λ o. IsHeader (keys positions.now) (declared_keys positions.now) (λ _. false) o.header) }
+    ensures header { IfOk result
+        (λ o. IsHeader (keys positions.now) (declared_keys positions.now) (λ _. false) o.header) }
     ensures ordered { IfOk result (λ o. IsOrdered o.header) }
-    ensures columns { IfOk result (λ o. IsOwn (keys positions.now) columns.now (keys o.header.names) o.columns.items o.pairs.items) }
+    ensures columns { IfOk result
+        (λ o. IsOwn (keys positions.now) columns.now (keys o.header.names) o.columns.items o.pairs.items) }
 {
     if positions.len() <= 1 {
         return Ok(OwnKeys {
@@ -132,7 +135,7 @@ fn own_keys(alloc: Global, positions: &[NameCol], columns: &[usize]) -> Result<O
     })
 }
 
-/// The relation of the operator's rows in which positions with one key have one entity.
+/// Returns the relation of the operator's rows in which positions with one key have one entity.
 fn own_rows(
     alloc: Global,
     definition: &Definition,
@@ -142,13 +145,16 @@ fn own_rows(
 ) -> Result<Rel, RelFault>
     requires operator { IsOperator definition.now operator.now }
     requires own { (names : List Name) × AreOwn definition.now operator.now names slots.now own.now }
-    ensures sorted { IfOk result (λ rel. (names : List Name) → AreOwn definition.now operator.now names slots.now own.now
+    ensures sorted { IfOk result (λ rel. (names : List Name)
+        → AreOwn definition.now operator.now names slots.now own.now
         → IsPartial definition.now (Phylum operator.now.phylum) (slot_kinds definition.now operator.now.items)
         (record { header = own.now.header; seen = 0; wanted = length slots.now; rel = rel })) }
     ensures rows { IfOk result (λ rel. (names : List Name) → AreOwn definition.now operator.now names slots.now own.now
-        → (ss : List ℕ) × IsRelation definition.now.signature ss (OwnRow definition.now.signature operator.now names) rel) }
+        → (ss : List ℕ)
+        × IsRelation definition.now.signature ss (OwnRow definition.now.signature operator.now names) rel) }
     ensures within { IfOk result (λ rel. PassesLimit rel → ⊥) }
-    ensures wide { IfErr result (MayBeWide ((names : List Name) → AreOwn definition.now operator.now names slots.now own.now
+    ensures wide { IfErr result
+        (MayBeWide ((names : List Name) → AreOwn definition.now operator.now names slots.now own.now
         → (ss : List ℕ) × HasWide definition.now.signature ss (OwnRow definition.now.signature operator.now names))) }
 {
     let rows = whole_rows(alloc, operator.rows.as_slice())?;
@@ -164,7 +170,7 @@ fn own_rows(
     )
 }
 
-/// The operator with its names and without children. Where it declares a key twice, there are no rows.
+/// Returns the operator with its names and without children. Where it declares a key twice, there are no rows.
 pub(crate) fn first_step(
     alloc: Global,
     definition: &Definition,
@@ -174,7 +180,8 @@ pub(crate) fn first_step(
     requires operator { IsOperator definition.now operator.now }
     requires names { length (are_names definition.now operator.now.items) ≡ length names.now }
     ensures step { MatchStep (IsOwnStep definition.now operator.now names.now) result }
-    ensures partial { IfOk result (IsPartial definition.now (Phylum operator.now.phylum) (slot_kinds definition.now operator.now.items)) }
+    ensures partial { IfOk result
+        (IsPartial definition.now (Phylum operator.now.phylum) (slot_kinds definition.now operator.now.items)) }
     ensures seen { IfOk result (λ p. p.seen ≡ 0) }
 {
     let found = item_places(alloc, operator.items.as_slice(), names)?;

@@ -28,7 +28,8 @@ pub(crate) struct Partial {
     pub(crate) seen: u32,
     /// How many children are still to be added.
     pub(crate) wanted: u32,
-    /// The columns are the value, the seen values, a value for each child to come, and the entities of the keys.
+    /// The columns are the value, the seen values, a value for each child that is still to be added, and the entities
+    /// of the keys.
     pub(crate) rel: Rel,
 }
 
@@ -39,7 +40,7 @@ pub(crate) struct Layout {
     pub(crate) keep: Vec<usize>,
 }
 
-/// How many values are seen on both sides. `AllocError` is returned where 32 bits do not hold the number.
+/// Returns how many values are seen on both sides. `AllocError` is returned where 32 bits do not hold the number.
 fn both_seen(one: u32, two: u32) -> Result<u32, AllocError>
     ensures { IfOk result (λ n. n ≡ one + two) }
 {
@@ -49,7 +50,7 @@ fn both_seen(one: u32, two: u32) -> Result<u32, AllocError>
     }
 }
 
-/// Puts so many numbers from one on at the end.
+/// Adds `count` numbers, from `from` on.
 pub(crate) fn push_run(
     numbers: &mut Vec<usize>,
     from: usize,
@@ -64,7 +65,7 @@ pub(crate) fn push_run(
     Ok(())
 }
 
-/// So many numbers from one on.
+/// Returns `count` numbers, from `from` on.
 pub(crate) fn numbers(alloc: Global, from: usize, count: usize) -> Result<Vec<usize>, AllocError>
     requires { from + count < 2 ^ 64 }
     ensures { IfOk result (λ v. v.items ≡ run from count) }
@@ -74,7 +75,7 @@ pub(crate) fn numbers(alloc: Global, from: usize, count: usize) -> Result<Vec<us
     Ok(made)
 }
 
-/// The columns of the next child's rows, by one walk over the keys.
+/// Returns the columns of the next child's rows, by one walk over the keys.
 fn child_layout(
     alloc: Global,
     before: &Partial,
@@ -84,7 +85,8 @@ fn child_layout(
     requires some { 0 < before.now.wanted }
     requires left { ArePlaces joined.now.header.names joined.now.left (keys before.now.header.names) }
     requires right { ArePlaces joined.now.header.names joined.now.right (keys child.now.header.names) }
-    ensures { IfOk result (λ l. IsLayout before.now.seen before.now.wanted child.now.seen (keys before.now.header.names) (keys child.now.header.names)
+    ensures { IfOk result (λ l. IsLayout before.now.seen before.now.wanted child.now.seen (keys before.now.header.names)
+        (keys child.now.header.names)
         (keys joined.now.header.names) l.pairs.items l.keep.items) }
 {
     let first = 1 + before.seen as usize;
@@ -105,7 +107,7 @@ fn child_layout(
     Ok(Layout { pairs, keep })
 }
 
-/// The rows of a node with one child more.
+/// Returns the rows of a node with one child more.
 fn joined_rows(
     alloc: Global,
     definition: &Definition,
@@ -113,19 +115,24 @@ fn joined_rows(
     child: &Known,
     joined: &Joined,
 ) -> Result<Rel, RelFault>
-    requires partial { (kind : PlainKind) × (kinds : List PlainKind) × IsPartial definition.now kind (child.now.kind ∷ kinds) before.now }
+    requires partial { (kind : PlainKind) × (kinds : List PlainKind)
+        × IsPartial definition.now kind (child.now.kind ∷ kinds) before.now }
     requires child { IsSummary definition.now child.now }
     requires ordered { IsOrdered joined.now.header }
     requires left { ArePlaces joined.now.header.names joined.now.left (keys before.now.header.names) }
     requires right { ArePlaces joined.now.header.names joined.now.right (keys child.now.header.names) }
-    ensures sorted { IfOk result (λ rel. (kind : PlainKind) (kinds : List PlainKind) → IsPartial definition.now kind (child.now.kind ∷ kinds) before.now
+    ensures sorted { IfOk result (λ rel. (kind : PlainKind) (kinds : List PlainKind)
+        → IsPartial definition.now kind (child.now.kind ∷ kinds) before.now
         → (more : ℕ) → more + 1 ≡ before.now.wanted
-        → IsPartial definition.now kind kinds (record { header = joined.now.header; seen = before.now.seen + child.now.seen; wanted = more; rel = rel })) }
+        → IsPartial definition.now kind kinds
+        (record { header = joined.now.header; seen = before.now.seen + child.now.seen; wanted = more; rel = rel })) }
     ensures rows { IfOk result (λ rel. (ss : List ℕ) × IsRelation definition.now.signature ss
-        (IsGlued definition.now.signature (NextGlue before.now.seen (keys before.now.header.names) (keys child.now.header.names) (keys joined.now.header.names)) before.now.rel child.now.rel) rel) }
+        (IsGlued definition.now.signature (NextGlue before.now.seen (keys before.now.header.names)
+        (keys child.now.header.names) (keys joined.now.header.names)) before.now.rel child.now.rel) rel) }
     ensures within { IfOk result (λ rel. PassesLimit rel → ⊥) }
     ensures wide { IfErr result (MayBeWide ((ss : List ℕ) × HasWide definition.now.signature ss
-        (IsGlued definition.now.signature (NextGlue before.now.seen (keys before.now.header.names) (keys child.now.header.names) (keys joined.now.header.names)) before.now.rel child.now.rel))) }
+        (IsGlued definition.now.signature (NextGlue before.now.seen (keys before.now.header.names)
+        (keys child.now.header.names) (keys joined.now.header.names)) before.now.rel child.now.rel))) }
 {
     let layout = child_layout(alloc, before, child, joined)?;
     psg_relation::join(
@@ -138,17 +145,19 @@ fn joined_rows(
     )
 }
 
-/// The node with one child more. Where the region then declares a key twice, there are no rows.
+/// Returns the node with one child more. Where the region then declares a key twice, there are no rows.
 pub(crate) fn with_child(
     alloc: Global,
     definition: &Definition,
     before: &Partial,
     child: &Known,
 ) -> Result<Partial, RelFault>
-    requires partial { (kind : PlainKind) × (kinds : List PlainKind) × IsPartial definition.now kind (child.now.kind ∷ kinds) before.now }
+    requires partial { (kind : PlainKind) × (kinds : List PlainKind)
+        × IsPartial definition.now kind (child.now.kind ∷ kinds) before.now }
     requires child { IsSummary definition.now child.now }
     ensures step { MatchStep (IsAdded definition.now before.now child.now) result }
-    ensures partial { IfOk result (λ p. (kind : PlainKind) (kinds : List PlainKind) → IsPartial definition.now kind (child.now.kind ∷ kinds) before.now
+    ensures partial { IfOk result (λ p. (kind : PlainKind) (kinds : List PlainKind)
+        → IsPartial definition.now kind (child.now.kind ∷ kinds) before.now
         → IsPartial definition.now kind kinds p) }
     ensures seen { IfOk result (λ p. p.seen ≡ before.now.seen + child.now.seen) }
 {
@@ -167,7 +176,7 @@ pub(crate) fn with_child(
     })
 }
 
-/// The step's answer, with its number.
+/// Returns the step's answer, with its number.
 pub(crate) fn numbered(made: Result<Partial, RelFault>, step: usize) -> Result<Partial, EvalFault>
     ensures { IsNumbered made step result }
 {
@@ -177,7 +186,7 @@ pub(crate) fn numbered(made: Result<Partial, RelFault>, step: usize) -> Result<P
     }
 }
 
-/// The summary of a node of this kind, all of whose children are added.
+/// Returns the summary of a node of this kind, all of whose children are added.
 pub(crate) fn summary_of(alloc: Global, kind: Kind, whole: Partial) -> Result<Summary, AllocError>
     ensures { IfOk result (λ s. s ≡ record { kind = kind; header = whole.header; seen = whole.seen; rel = whole.rel }) }
 {
@@ -191,11 +200,12 @@ pub(crate) fn summary_of(alloc: Global, kind: Kind, whole: Partial) -> Result<Su
     Ok(summary)
 }
 
-/// The node with a place as its next child. A place may have any value, so the first wanted value is now the last that is
-/// seen, and the rows are the same.
+/// Returns the node with a place as its next child. A place may have any value, so the first wanted value is now the
+/// last that is seen, and the rows are the same.
 pub(crate) fn with_place(before: Partial) -> Result<Partial, AllocError>
     requires { 0 < before.wanted }
-    ensures { IfOk result (λ p. p ≡ record { header = before.header; seen = before.seen + 1; wanted = before.wanted - 1; rel = before.rel }) }
+    ensures { IfOk result (λ p.
+        p ≡ record { header = before.header; seen = before.seen + 1; wanted = before.wanted - 1; rel = before.rel }) }
 {
     let seen = both_seen(before.seen, 1)?;
     Ok(Partial {

@@ -5,7 +5,8 @@ ghost use Rattle.psg_grammar.specs.Sound.{IsOperator, IsSound};
 ghost use Rattle.psg_grammar.specs.declared.types.Kind.{Kind as PlainKind};
 ghost use Rattle.psg_grammar.specs.declared.types.Kind.TheVariants.{List as OfList, Phylum as OfPhylum};
 ghost use Rattle.psg_eval.specs.Partials.{IsAdded, IsPartial, MatchStep};
-ghost use Rattle.psg_eval.specs.Patterns.{AreChildrenOf, IsChildOf, MatchPart, SuitKinds, SuitsKind, TakesCellOf, TakesChildren, seen_of};
+ghost use Rattle.psg_eval.specs.Patterns.{AreChildrenOf, IsChildOf, MatchPart, SuitKinds};
+ghost use Rattle.psg_eval.specs.Patterns.{SuitsKind, TakesCellOf, TakesChildren, seen_of};
 ghost use Rattle.psg_eval.specs.Stages.{IsMade, MatchMade};
 ghost use Rattle.psg_eval.specs.Summaries.{Answers, IsSummary};
 ghost use Rattle.psg_eval.specs.Trees.{HasParts, IsNode};
@@ -21,7 +22,7 @@ use psg_relation::{Rel, RelFault};
 use psg_terms::Txt;
 use std::alloc::{AllocError, Global};
 
-/// Takes so much from the room. Where less is left, nothing is taken.
+/// Takes `work` from the room. Where less is left, nothing is taken, and the call fails as where memory runs out.
 fn spend(room: &mut u64, work: u64) -> Result<(), AllocError>
     ensures { room.new ≤ room.old }
 {
@@ -32,7 +33,7 @@ fn spend(room: &mut u64, work: u64) -> Result<(), AllocError>
     Ok(())
 }
 
-/// A bound on the work of a join: the weight of each side times the rows of the other.
+/// Returns a bound on the work of a join: the weight of each side times the rows of the other.
 fn join_work(left: &Rel, right: &Rel) -> u64 {
     let lefts = left.weight().saturating_mul(right.rows().len() as u64);
     let rights = right.weight().saturating_mul(left.rows().len() as u64);
@@ -42,14 +43,14 @@ fn join_work(left: &Rel, right: &Rel) -> u64 {
 /// How much a term of the definition's own rows counts, where a comparison of two symbols counts 1.
 const TERM_WORK: u64 = 8;
 
-/// The work of making a relation of so many rows of the definition, with so many terms each.
+/// Returns the work of making a relation of `rows` rows of the definition, with `terms` terms each.
 fn rows_work(rows: usize, terms: usize) -> u64 {
     TERM_WORK
         .saturating_mul(rows as u64)
         .saturating_mul(terms as u64)
 }
 
-/// The node with one child more.
+/// Returns the node with one child more.
 fn with_known(
     alloc: Global,
     definition: &Definition,
@@ -57,10 +58,12 @@ fn with_known(
     child: &Known,
     room: &mut u64,
 ) -> Result<Partial, RelFault>
-    requires partial { (kind : PlainKind) × (kinds : List PlainKind) × IsPartial definition.now kind (child.now.kind ∷ kinds) before.now }
+    requires partial { (kind : PlainKind) × (kinds : List PlainKind)
+        × IsPartial definition.now kind (child.now.kind ∷ kinds) before.now }
     requires child { IsSummary definition.now child.now }
     ensures step { MatchStep (IsAdded definition.now before.now child.now) result }
-    ensures partial { IfOk result (λ p. (kind : PlainKind) (kinds : List PlainKind) → IsPartial definition.now kind (child.now.kind ∷ kinds) before.now
+    ensures partial { IfOk result (λ p. (kind : PlainKind) (kinds : List PlainKind)
+        → IsPartial definition.now kind (child.now.kind ∷ kinds) before.now
         → IsPartial definition.now kind kinds p) }
     ensures seen { IfOk result (λ p. p.seen ≡ before.now.seen + child.now.seen) }
     ensures room { room.new ≤ room.old }
@@ -69,7 +72,7 @@ fn with_known(
     with_child(alloc, definition, before, child)
 }
 
-/// The node with one child more, which may be a place with any value.
+/// Returns the node with one child more, which may be a place with any value.
 fn with_part(
     alloc: Global,
     definition: &Definition,
@@ -77,9 +80,11 @@ fn with_part(
     child: &Option<Pattern>,
     room: &mut u64,
 ) -> Result<Partial, RelFault>
-    requires { (kind : PlainKind) × (k : PlainKind) × (kinds : List PlainKind) × SuitsKind definition.now child.now k × IsPartial definition.now kind (k ∷ kinds) before }
+    requires { (kind : PlainKind) × (k : PlainKind) × (kinds : List PlainKind) × SuitsKind definition.now child.now k
+        × IsPartial definition.now kind (k ∷ kinds) before }
     ensures step { MatchPart definition.now before child.now result }
-    ensures partial { IfOk result (λ p. (kind k : PlainKind) (kinds : List PlainKind) → SuitsKind definition.now child.now k → IsPartial definition.now kind (k ∷ kinds) before
+    ensures partial { IfOk result (λ p. (kind k : PlainKind) (kinds : List PlainKind)
+        → SuitsKind definition.now child.now k → IsPartial definition.now kind (k ∷ kinds) before
         → IsPartial definition.now kind kinds p) }
     ensures seen { IfOk result (λ p. p.seen ≡ before.seen + seen_of child.now) }
     ensures room { room.new ≤ room.old }
@@ -93,7 +98,7 @@ fn with_part(
     }
 }
 
-/// The node with all its children, one after the other. The first of them is added in step 1.
+/// Returns the node with all its children, one after the other. The first of them is added in step 1.
 fn with_parts(
     alloc: Global,
     definition: &Definition,
@@ -102,10 +107,13 @@ fn with_parts(
     room: &mut u64,
 ) -> Result<Partial, EvalFault>
     requires sound { IsSound definition.now }
-    requires partial { (kind : PlainKind) × (kinds : List PlainKind) × SuitKinds definition.now children.now kinds × IsPartial definition.now kind kinds first }
-    ensures made { (f : Fragment) → HasParts definition.now f [] → AreChildrenOf definition.now (children_of f) children.now → IsMade definition.now f 0 first
+    requires partial { (kind : PlainKind) × (kinds : List PlainKind) × SuitKinds definition.now children.now kinds
+        × IsPartial definition.now kind kinds first }
+    ensures made { (f : Fragment) → HasParts definition.now f []
+        → AreChildrenOf definition.now (children_of f) children.now → IsMade definition.now f 0 first
         → MatchMade definition.now f (length children.now) result }
-    ensures partial { IfOk result (λ p. (kind : PlainKind) (kinds : List PlainKind) → SuitKinds definition.now children.now kinds → IsPartial definition.now kind kinds first
+    ensures partial { IfOk result (λ p. (kind : PlainKind) (kinds : List PlainKind)
+        → SuitKinds definition.now children.now kinds → IsPartial definition.now kind kinds first
         → IsPartial definition.now kind [] p) }
     ensures seen { IfOk result (λ p. p.seen ≡ first.seen + sum_by seen_of children.now) }
     ensures room { room.new ≤ room.old }
@@ -121,7 +129,7 @@ fn with_parts(
     Ok(partial)
 }
 
-/// The operator with its own rows and all its children.
+/// Returns the operator with its own rows and all its children.
 fn all_parts(
     alloc: Global,
     definition: &Definition,
@@ -133,8 +141,10 @@ fn all_parts(
     requires sound { IsSound definition.now }
     requires operator { IsOperator definition.now operator.now }
     requires takes { TakesChildren definition.now operator.now names.now children.now }
-    ensures made { (o : ℕ) (f : Fragment) → slice_get definition.now.operators o ≡ Some operator.now → IsNode definition.now o names.now f
-        → AreChildrenOf definition.now (children_of f) children.now → MatchMade definition.now f (length children.now) result }
+    ensures made { (o : ℕ) (f : Fragment) → slice_get definition.now.operators o ≡ Some operator.now
+        → IsNode definition.now o names.now f
+        → AreChildrenOf definition.now (children_of f) children.now
+        → MatchMade definition.now f (length children.now) result }
     ensures partial { IfOk result (IsPartial definition.now (OfPhylum operator.now.phylum) []) }
     ensures seen { IfOk result (λ p. p.seen ≡ sum_by seen_of children.now) }
     ensures room { room.new ≤ room.old }
@@ -147,7 +157,7 @@ fn all_parts(
     Ok(whole)
 }
 
-/// The summary of an operator's node some of whose children may be places.
+/// Returns the summary of an operator's node some of whose children may be places.
 pub(crate) fn node_with(
     alloc: Global,
     definition: &Definition,
@@ -159,7 +169,8 @@ pub(crate) fn node_with(
     requires sound { IsSound definition.now }
     requires operator { IsOperator definition.now operator.now }
     requires takes { TakesChildren definition.now operator.now names.now children.now }
-    ensures answer { (o : ℕ) (f : Fragment) → slice_get definition.now.operators o ≡ Some operator.now → IsNode definition.now o names.now f
+    ensures answer { (o : ℕ) (f : Fragment) → slice_get definition.now.operators o ≡ Some operator.now
+        → IsNode definition.now o names.now f
         → AreChildrenOf definition.now (children_of f) children.now → Answers definition.now f result }
     ensures summary { IfOk result (IsSummary definition.now) }
     ensures kind { IfOk result (λ s. s.kind ≡ OfPhylum operator.now.phylum) }
@@ -173,7 +184,7 @@ pub(crate) fn node_with(
     Ok(summary)
 }
 
-/// The cell with its element and the list behind it, each of which may be a place.
+/// Returns the cell with its element and the list after it, each of which may be a place.
 pub(crate) fn cell_with(
     alloc: Global,
     definition: &Definition,

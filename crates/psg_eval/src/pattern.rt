@@ -9,7 +9,7 @@ use std::marker::Model;
 
 /// The kind, header and relation of a tree with places that may have any value. Only the calls of this crate make one.
 ///
-/// It is no summary, and none can be had of it: only counted calls make summaries.
+/// It is no summary, and no call makes one of it: only calls that count a tick make summaries.
 #[derive(Drop)]
 pub struct Pattern {
     inner: Summary,
@@ -61,7 +61,7 @@ impl Pattern {
         self.inner.rel()
     }
 
-    /// What is kept, as the steps of a node take it.
+    /// Returns what is kept, as the steps of a node take it.
     pub(crate) fn known(&self) -> &Known
         ensures { result.now ≡ self.now }
     {

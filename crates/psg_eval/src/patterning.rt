@@ -17,12 +17,13 @@ use psg_grammar::{Definition, Kind};
 use psg_terms::Txt;
 use std::alloc::Global;
 
-/// Returns the pattern of an operator's node, from its names and its children, of which `None` is a place with any value.
+/// Returns the pattern of an operator's node, from its names and its children, of which `None` is a place with any
+/// value.
 ///
-/// Its steps are those of `eval_op`, and `Wide` names the first whose relation passes the limit. A place adds a value and
-/// makes no step larger. Before each step `room` falls by what the step's work counts: 8 for each term of the operator's
-/// own rows, for a join the weight of each side times the rows of the other, and at the end the weight of the rows. Where
-/// less room is left, the answer is `Memory`.
+/// Its steps are those of `eval_op`, and `Wide` names the first whose relation passes the limit. A place adds a value
+/// and makes no step larger. Before each step `room` falls by what the step's work counts: 8 for each term of the
+/// operator's own rows, for a join the weight of each side times the rows of the other, and at the end the weight of
+/// the rows. Where less room is left, the answer is `Memory`.
 pub fn pattern_op(
     alloc: Global,
     definition: &Definition,
@@ -34,9 +35,11 @@ pub fn pattern_op(
     requires sound { IsSound definition.now }
     requires takes { TakesChildrenAt definition.now op names.now children.now }
     // whatever the children are: for every tree whose children have these patterns, or are places
-    ensures answer { (f : Fragment) → IsNode definition.now op names.now f → AreChildrenOf definition.now (children_of f) children.now → Answers definition.now f result }
+    ensures answer { (f : Fragment) → IsNode definition.now op names.now f
+        → AreChildrenOf definition.now (children_of f) children.now → Answers definition.now f result }
     ensures pattern { IfOk result (IsSummary definition.now) }
-    ensures kind { IfOk result (λ s. (o : Operator) → slice_get definition.now.operators op ≡ Some o → s.kind ≡ OfPhylum o.phylum) }
+    ensures kind { IfOk result (λ s. (o : Operator) → slice_get definition.now.operators op ≡ Some o
+        → s.kind ≡ OfPhylum o.phylum) }
     ensures seen { IfOk result (λ s. s.seen ≡ sum_by seen_of children.now) }
     ensures room { room.new ≤ room.old }
 {
@@ -45,7 +48,8 @@ pub fn pattern_op(
     Ok(Pattern::new(summary))
 }
 
-/// Returns the pattern of a list from its first element and the list behind it, of which `None` is a place with any value.
+/// Returns the pattern of a list from its first element and the list after it, of which `None` is a place with any
+/// value.
 ///
 /// Its steps are those of `eval_cell`, and `room` falls as that of `pattern_op`.
 pub fn pattern_cell(
@@ -58,7 +62,8 @@ pub fn pattern_cell(
 ) -> Result<Pattern, EvalFault>
     requires sound { IsSound definition.now }
     requires takes { TakesCellOf definition.now list element.now rest.now }
-    ensures answer { (e r : Fragment) → IsChildOf definition.now e element.now → IsChildOf definition.now r rest.now → Answers definition.now (cell list e r) result }
+    ensures answer { (e r : Fragment) → IsChildOf definition.now e element.now → IsChildOf definition.now r rest.now
+        → Answers definition.now (cell list e r) result }
     ensures pattern { IfOk result (IsSummary definition.now) }
     ensures kind { IfOk result (λ s. s.kind ≡ OfList list) }
     ensures seen { IfOk result (λ s. s.seen ≡ seen_of element.now + seen_of rest.now) }
@@ -69,8 +74,8 @@ pub fn pattern_cell(
     Ok(Pattern::new(summary))
 }
 
-/// Returns the pattern of the end of a finished list: its values are those of the list's nil rows. It makes their relation
-/// anew at each call and is given no room, so a caller that makes many ends counts them.
+/// Returns the pattern of the end of a finished list: its values are those of the list's nil rows. It makes their
+/// relation again at each call and is given no room, so a caller that makes many ends counts them.
 pub fn pattern_end(alloc: Global, definition: &Definition, list: u32) -> Result<Pattern, EvalFault>
     requires sound { IsSound definition.now }
     requires there { list < length definition.now.lists }

@@ -1,5 +1,6 @@
 //! The columns of keys, where the keys of two lists are made one list.
-ghost use Rattle.std.specs.Prelude.{◌≡◌, ◌+◌, ◌<◌, ◌∷◌, ◌++◌, ◌↔◌, ◌^◌, [], ℕ, List, Some, All, IfOk, IsTrue, OnOk, length, slice_get, slice_index};
+ghost use Rattle.std.specs.Prelude.{◌≡◌, ◌+◌, ◌<◌, ◌∷◌, ◌++◌, ◌↔◌, ◌^◌, [], ℕ, List, Some, All};
+ghost use Rattle.std.specs.Prelude.{IfOk, IsTrue, OnOk, length, slice_get, slice_index};
 ghost use Rattle.psg_grammar.specs.Keys.{Key};
 ghost use Rattle.psg_scope.specs.Headers.{ArePlaces, keys};
 ghost use Rattle.psg_eval.specs.Walks.{GrowsBy, IsWalk, run};
@@ -42,7 +43,8 @@ impl Placed {
     fn add_both(&mut self, left: &[usize], right: &[usize]) -> Result<(), AllocError>
         requires left { self.old.lefts < length left.now }
         requires right { self.old.rights < length right.now }
-        ensures { OnOk result (GrowsBy self.old self.new ((slice_index left.now self.old.lefts, slice_index right.now self.old.rights) ∷ [])
+        ensures { OnOk result (GrowsBy self.old self.new
+            ((slice_index left.now self.old.lefts, slice_index right.now self.old.rights) ∷ [])
             (slice_index left.now self.old.lefts) 1 1) }
     {
         let one = left[self.lefts];
@@ -55,19 +57,19 @@ impl Placed {
     }
 }
 
-/// Whether the next of the places is this one.
+/// Says whether the next of the places is this one.
 fn is_next(places: &[usize], number: usize, place: usize) -> bool
     ensures { IsTrue result ↔ (slice_get places.now number ≡ Some place) }
 {
     number < places.len() && places[number] == place
 }
 
-/// The columns of the joined keys in a left row with a right one behind it, which has so many columns in front, and pairs
-/// of a left and a right column, one for each key that both sides have. The lists tell the columns of both sides' keys in
-/// their own rows. It looks at each key once.
+/// Returns the columns of the joined keys in a left row with a right one after it, and pairs of a left and a right
+/// column, one for each key that both sides have. The left row has `offset` columns, and `left` and `right` are the
+/// columns of both sides' keys in their own rows. It looks at each key once.
 ///
-/// `AllocError` comes when memory runs out. It would also come where a joined key were of neither side, which `join` rules
-/// out.
+/// `AllocError` is returned when memory runs out. It would also be returned where a joined key were of neither side,
+/// which `join` rules out.
 pub(crate) fn key_columns(
     alloc: Global,
     joined: &Joined,
@@ -78,7 +80,8 @@ pub(crate) fn key_columns(
     requires lefts { length left.now ≡ length joined.now.left }
     requires rights { length right.now ≡ length joined.now.right }
     requires room { All (λ b. offset + b < 2 ^ 64) right.now }
-    ensures { IfOk result (λ p. (K L : List Key) → ArePlaces joined.now.header.names joined.now.left K → ArePlaces joined.now.header.names joined.now.right L
+    ensures { IfOk result (λ p. (K L : List Key) → ArePlaces joined.now.header.names joined.now.left K
+        → ArePlaces joined.now.header.names joined.now.right L
         → IsWalk offset left.now right.now K L (keys joined.now.header.names) p.pairs.items p.columns.items) }
 {
     let lefts = joined.left.as_slice();

@@ -8,9 +8,10 @@ use thiserror::Error;
 /// Why a question has no answer.
 #[derive(Clone, Copy, Debug, PartialEq, Eq, Drop, Error)]
 pub enum FocusFault {
-    /// A relation that the answer wants is too large.
+    /// A relation that the answer needs is too large.
     #[error("a relation is too large")]
     Wide,
+    /// Memory ran out.
     #[error("out of memory")]
     Memory,
 }
@@ -37,7 +38,7 @@ impl<T: Drop> From<AllocFailed<T>> for FocusFault {
     }
 }
 
-/// Gives the summary, or the fault without the number of its step.
+/// Returns the summary, or the fault without the number of its step.
 pub fn asked(made: Result<Summary, EvalFault>) -> Result<Summary, FocusFault>
     ensures { IsAsked made result }
 {

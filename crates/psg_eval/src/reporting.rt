@@ -45,7 +45,7 @@ fn header_again(alloc: Global, header: &Header) -> Result<Header, AllocError>
     })
 }
 
-/// The columns of rows with this number of keys, the value twice.
+/// Returns the columns of rows with this number of keys, the value twice.
 fn value_twice(alloc: Global, keys: usize) -> Result<Vec<usize>, AllocError>
     requires { keys + 2 < 2 ^ 64 }
     ensures { IfOk result (λ v. v.items ≡ 0 ∷ run 0 (1 + keys)) }
@@ -56,7 +56,8 @@ fn value_twice(alloc: Global, keys: usize) -> Result<Vec<usize>, AllocError>
     Ok(columns)
 }
 
-/// Gives the summary of the same tree with its value observed: in each row the value has one more column, after itself.
+/// Returns the summary of the same tree with its value observed: in each row the value has one more column, after
+/// itself.
 ///
 /// It takes one tick. `Wide` has step 0 and is returned exactly where these rows pass the limit. The cost is that of a
 /// projection of the rows.

@@ -50,14 +50,14 @@ impl Summary {
         })
     }
 
-    /// The phylum or list of the tree.
+    /// Returns the phylum or list of the tree.
     pub fn kind(&self) -> Kind
         ensures { result ≡ self.now.kind }
     {
         self.shared.as_ref().kind
     }
 
-    /// The keys of its region, or those that pass outward from it where it is a scope operator.
+    /// Returns the keys of its region, or those that pass outward from it where it is a scope operator.
     pub fn header(&self) -> &Header
         ensures { result.now ≡ self.now.header }
     {
@@ -71,23 +71,23 @@ impl Summary {
         self.shared.as_ref().seen
     }
 
-    /// Tells whether a value is seen.
+    /// Says whether a value is seen.
     pub fn report(&self) -> bool
         ensures { IsTrue result ↔ (0 < self.now.seen) }
     {
         self.seen() > 0
     }
 
-    /// The most general rows: the value, the seen values, and the entities of the header's keys.
+    /// Returns the most general rows: the value, the seen values, and the entities of the header's keys.
     pub fn rel(&self) -> &Rel
         ensures { result.now ≡ self.now.rel }
     {
         &self.shared.as_ref().rel
     }
 
-    /// Tells whether the summaries are equal: the same kind, header, relation and number of seen values. It reads them up to
-    /// the first part that differs, in at most as many steps as a header has keys, spaces and bytes of names and a relation
-    /// has variables and constructors.
+    /// Says whether the summaries are equal: the same kind, header, relation and number of seen values. It reads them
+    /// up to the first part that differs, in at most as many steps as a header has keys, spaces and bytes of names and
+    /// a relation has variables and constructors.
     pub fn same(&self, other: &Summary) -> bool
         ensures { IsTrue result ↔ (self.now ≡ other.now) }
     {
@@ -97,14 +97,14 @@ impl Summary {
             && self.rel().same(other.rel())
     }
 
-    /// What is kept, as the steps of a node take it.
+    /// Returns what is kept, as the steps of a node take it.
     pub(crate) fn known(&self) -> &Known
         ensures { result.now ≡ self.now }
     {
         self.shared.as_ref()
     }
 
-    /// One more owner of the same summary.
+    /// Returns one more owner of the same summary. It fails where memory runs out.
     pub fn share(&self) -> Result<Summary, AllocError>
         ensures { IfOk result (λ s. s ≡ self.now) }
     {
@@ -120,6 +120,7 @@ pub enum EvalFault {
     /// The relation of the step is the first that is too large.
     #[error("the relation of step {step} is too large")]
     Wide { step: u32 },
+    /// Memory ran out.
     #[error("out of memory")]
     Memory,
 }
@@ -146,7 +147,7 @@ impl<T: Drop> From<AllocFailed<T>> for EvalFault {
     }
 }
 
-/// The fault of a step's relation. A step that 32 bits do not count is answered by `Memory`.
+/// Returns the fault of a step's relation. It is `Memory` where 32 bits do not hold the number of the step.
 pub(crate) fn at_step(fault: RelFault, step: usize) -> EvalFault
     ensures { IsFaultAt fault step result }
 {

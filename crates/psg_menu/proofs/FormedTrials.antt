@@ -254,7 +254,7 @@ module _ (def : Definition) where
   phylum_found (x ∷ xs) zero h = (x, refl)
   phylum_found (x ∷ xs) (suc n) h = phylum_found xs n (omega (arith, h))
 
-  abbrev empty : ℕ → Known
+  abbrev pub empty : ℕ → Known
   empty p = record { kind = kinds.Phylum p; header = record { names = []; unfinished = []; twice = false }; seen = 0; rel = [] }
 
   -- the children of an operator's node are of the kinds of its slots
@@ -360,7 +360,7 @@ module _ (def : Definition) where
   in_list l (s ∷ before) rest (observed f) h = absurd h
 
   module _ (p : ℕ) (there_is : p < length def.phyla) where
-    empty_usual : IsSummary def (empty p)
+    pub empty_usual : IsSummary def (empty p)
     empty_usual =
         let (k, found) = phylum_found def.phyla p there_is in
         record {

@@ -10,3 +10,13 @@ pub mod WordLaws
 pub mod MenuLaws
 pub mod FormedTrials
 pub mod NameLaws
+pub mod TurnedTrees
+pub mod RenamedTrees
+pub mod SharedWay
+pub mod Ways
+pub mod Looking
+pub mod Raising
+pub mod Moving
+pub mod Levels
+pub mod Climbing
+pub mod StarLaws

@@ -48,7 +48,7 @@ module _ (g : Fragment → Fragment) where
 
 module _ (def : Definition) where
   -- the steps of a climb end with those of the nodes above a node on the path
-  climb_last : (base : Path) (k : ℕ) (above : Path) (f w : Fragment) → node_at f above ≡ Some w
+  pub climb_last : (base : Path) (k : ℕ) (above : Path) (f w : Fragment) → node_at f above ≡ Some w
       → climb_steps def base (above ++ k ∷ []) f ≡ climb_steps_at def (base ++ above) k w ++ climb_steps def base above f
   climb_last base k [] f w e =
       ap (λ x. x ++ climb_steps_at def base k f) (none_of_some (slice_get (children_of f) k))

@@ -1,5 +1,6 @@
 -- What is answered to questions about a place, and how many evaluations an answer may take.
-use Rattle.std.specs.Prelude.{ℕ, ◌≡◌, ◌+◌, ◌*◌, List, length, sum_by, Option, Some, None, Result, Ok, Err, slice_get, Vec}
+use Rattle.std.specs.Prelude.{ℕ, ◌≡◌, ◌+◌, ◌*◌, List, length, sum_by, Option}
+use Rattle.std.specs.Prelude.{Some, None, Result, Ok, Err, slice_get, Vec}
 use Rattle.std.specs.declared.alloc.Global.{Global}
 use Rattle.psg_terms.specs.Names.{Name}
 use Rattle.psg_terms.specs.Relations.{IsIn}
@@ -20,15 +21,16 @@ use Rattle.psg_menu.specs.Menus.{IsChoosable, IsFreshTrial, IsMenu, AreNameable,
 
 module _ (def : Definition) where
   module _ (IsGood : Fragment → Type 0) (f : Fragment) (path : Path) (k : Option ℕ) where
-    -- The operators that may be chosen; where the fragment itself is not too wide, no trial is. Or the answer says that a
-    -- trial is too wide.
+    -- The operators that may be chosen; where the fragment itself is not too wide, no trial is. Or the answer says that
+    -- a trial is too wide.
     abbrev pub IsMenuAnswer : ℕ → Result (Vec ℕ Global) FocusFault → Type 0
     IsMenuAnswer p (Ok ops) =
         IsMenu def f path k IsGood p ops.items × ((IsWide def f → ⊥) → HasWideTrial def f path k p → ⊥)
     IsMenuAnswer p (Err questions.Wide) = HasWideTrial def f path k p
     IsMenuAnswer p (Err questions.Memory) = Unit {0}
 
-    -- the same of the candidates of an operator with one name
+    -- The candidates that may be the name of the operator, which has one; where the fragment itself is not too wide, no
+    -- trial is. Or the answer says that a trial is too wide.
     abbrev pub IsNamesAnswer : ℕ → List Name → Result (Vec Name Global) FocusFault → Type 0
     IsNamesAnswer o candidates (Ok names) =
         AreNameable def f path k IsGood o candidates names.items
@@ -36,12 +38,13 @@ module _ (def : Definition) where
     IsNamesAnswer o candidates (Err questions.Wide) = HasWideNaming def f path k o candidates
     IsNamesAnswer o candidates (Err questions.Memory) = Unit {0}
 
-  -- the same of any operators
+  -- the same questions for a list of operators, of whatever phyla
   module _ (IsGood : Fragment → Type 0) (f : Fragment) (path : Path) (k : Option ℕ) where
     -- a trial of one of the operators is too wide
     abbrev pub HasWideTrialOf : List ℕ → Type 0
     HasWideTrialOf ops =
-        (o : ℕ) × IsIn o ops × (leaves : List Leaf) × IsFreshTrial def f path k o leaves × IsWide def (with_operator def f path k o leaves)
+        (o : ℕ) × IsIn o ops × (leaves : List Leaf) × IsFreshTrial def f path k o leaves
+        × IsWide def (with_operator def f path k o leaves)
 
     abbrev pub IsChosenAnswer : List ℕ → Result (Vec ℕ Global) FocusFault → Type 0
     IsChosenAnswer ops (Ok found) =
@@ -60,7 +63,7 @@ module _ (def : Definition) where
   abbrev pub menu_ticks : List ℕ → List Frame → ℕ
   menu_ticks ops around = sum_by (op_ticks around) ops
 
-  -- of each candidate the same
+  -- of each candidate as much as of an operator
   abbrev pub names_ticks : ℕ → List Name → List Frame → ℕ
   names_ticks o candidates around = length candidates * (1 + slots_of (operator_at def o) + rungs around)
 

@@ -1,3 +1,4 @@
 pub mod Menus
 pub mod Answers
 pub mod Trials
+pub mod Sharing

@@ -1,4 +1,4 @@
--- Which operators and names may stand at a place of a fragment.
+-- Which operators and names may be put at a place of a fragment.
 use Rattle.std.specs.Prelude.{ℕ, ◌≡◌, ◌+◌, ◌==◌, true, false, cond, List, [], ◌∷◌, Option, Some, slice_get}
 use Rattle.std.specs.Cmp.Lexicographic.{slice_cmp}
 use Rattle.std.specs.List.{AllByRecursion}
@@ -43,15 +43,17 @@ abbrev pub IsQuiet : Definition → Kind → Type 0
 IsQuiet def (kinds.Phylum p) = (s : ℕ) → is_declaring def s (kinds.Phylum p) ≡ false
 IsQuiet def (kinds.List l) = Unit {0}
 
--- no slot is for a phylum that declares names, so that a placeholder may stand there
+-- no slot is for a phylum that declares names, so that each slot may have a placeholder
 abbrev pub HasQuietSlots : Definition → Type 0
-HasQuietSlots def = (o : ℕ) (op : Operator) → slice_get def.operators o ≡ Some op → AllByRecursion (IsQuiet def) (slot_kinds def op.items)
+HasQuietSlots def = (o : ℕ) (op : Operator) → slice_get def.operators o ≡ Some op
+    → AllByRecursion (IsQuiet def) (slot_kinds def op.items)
 
 -- all names of the fragment are among these
 abbrev pub AreUsed : List Name → Fragment → Type 0
 AreUsed used f = AllByRecursion (λ n. is_among used n ≡ true) (occurring f)
 
--- The place is that of the node at the path, or, where k is given, that of a new element before the element k of the list.
+-- The place is that of the node at the path, or, where k is given, that of a new element before the element k of the
+-- list.
 module _ (def : Definition) (f : Fragment) (path : Path) (k : Option ℕ) where
   -- the operator may be put there with these leaves, whose names are new
   pub record IsFreshTrial (o : ℕ) (leaves : List Leaf) : Type 0 where

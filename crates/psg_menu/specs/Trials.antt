@@ -1,4 +1,5 @@
--- What is known of an operator that is put to a place: its blanks, its own summary, and what that makes of the fragment.
+-- What is known of an operator that is put to a place: its blanks, its own summary, and what that makes of the
+-- fragment.
 use Rattle.std.specs.Prelude.{ℕ, zero, suc, ◌≡◌, ◌↔◌, Bool, false, List, [], ◌∷◌, Option, Result, Ok, Err, Vec, IsTrue}
 use Rattle.std.specs.List.{AllByRecursion}
 use Rattle.std.specs.declared.alloc.Global.{Global}
@@ -24,7 +25,7 @@ use Rattle.psg_renaming.specs.Occurring.{leaf_names}
 use Rattle.psg_menu.specs.declared.judging.Class.{Class}
 use Rattle.psg_menu.specs.Menus.{AreUsed, IsChoosable, IsFreshTrial}
 
--- so many letters a
+-- a name of that many letters a
 abbrev pub run : ℕ → Name
 run zero = []
 run (suc n) = 97 ∷ run n
@@ -54,12 +55,13 @@ module _ (def : Definition) where
     pub once : has_twice names ≡ false
     pub each : AllByRecursion (λ n. IsName def n × (is_among used n ≡ false)) names
 
-  -- whether every whole tree is open in which a tree with the summary stands at the place of the frames; or a step of a climb
-  -- passes the limit
+  -- whether every whole tree is open in which a tree with the summary is at the place of the frames; or a step of a
+  -- climb passes the limit
   abbrev pub IsJudged : List Frame → Known → Result Bool FocusFault → Type 0
   IsJudged around own (Ok good) = (f t : Fragment) (path : Path) → StandFor def around path f t → IsSummaryOf def t own
       → (IsTrue good ↔ IsOpen def f) × AreWithin def (climb_steps def [] path f)
-  IsJudged around own (Err questions.Wide) = (f t : Fragment) (path : Path) → StandFor def around path f t → IsSummaryOf def t own
+  IsJudged around own (Err questions.Wide) =
+      (f t : Fragment) (path : Path) → StandFor def around path f t → IsSummaryOf def t own
       → (place : Place) × IsIn place (climb_steps def [] path f) × PassesAt def place.part place.step
   IsJudged around own (Err questions.Memory) = Unit {0}
 
@@ -78,15 +80,19 @@ module _ (def : Definition) where
       → (leaves : List Leaf) → AreNamedLeaves o names leaves
       → (IsTrue good ↔ IsOpen def (with_operator def f path k o leaves))
       × ((IsWide def f → ⊥) → IsWide def (with_operator def f path k o leaves) → ⊥)
-  IsTried around o names (Err questions.Wide) = (f : Fragment) (path : Path) (k : Option ℕ) → StandAt def around path k f
+  IsTried around o names (Err questions.Wide) =
+      (f : Fragment) (path : Path) (k : Option ℕ) → StandAt def around path k f
       → (leaves : List Leaf) → AreNamedLeaves o names leaves → IsWide def (with_operator def f path k o leaves)
   IsTried around o names (Err questions.Memory) = Unit {0}
 
   -- whether the operator may be chosen at the place; or a trial of it is too wide
   abbrev pub IsOffered : List Frame → List Name → ℕ → Result Bool FocusFault → Type 0
-  IsOffered around used o (Ok good) = (f : Fragment) (path : Path) (k : Option ℕ) → StandAt def around path k f → AreUsed used f
+  IsOffered around used o (Ok good) =
+      (f : Fragment) (path : Path) (k : Option ℕ) → StandAt def around path k f → AreUsed used f
       → (IsTrue good ↔ IsChoosable def f path k (IsOpen def) o)
-      × ((IsWide def f → ⊥) → (leaves : List Leaf) → IsFreshTrial def f path k o leaves → IsWide def (with_operator def f path k o leaves) → ⊥)
-  IsOffered around used o (Err questions.Wide) = (f : Fragment) (path : Path) (k : Option ℕ) → StandAt def around path k f → AreUsed used f
+      × ((IsWide def f → ⊥) → (leaves : List Leaf) → IsFreshTrial def f path k o leaves
+      → IsWide def (with_operator def f path k o leaves) → ⊥)
+  IsOffered around used o (Err questions.Wide) =
+      (f : Fragment) (path : Path) (k : Option ℕ) → StandAt def around path k f → AreUsed used f
       → (leaves : List Leaf) × IsFreshTrial def f path k o leaves × IsWide def (with_operator def f path k o leaves)
   IsOffered around used o (Err questions.Memory) = Unit {0}

@@ -15,7 +15,7 @@ use psg_terms::Steps;
 use std::alloc::{AllocError, Global};
 use std::sync::ledger::Ledger;
 
-/// The summary of a new list: of its end, which is unfinished where the kind allows it.
+/// Returns the summary of a new list: of its end, which is unfinished where the kind allows it.
 fn new_list<L: Ledger>(
     alloc: Global,
     definition: &Definition,
@@ -26,7 +26,8 @@ fn new_list<L: Ledger>(
     requires sound { IsSound definition.now }
     requires spaces { AreDeclaringSpaces definition.now spaces.now }
     requires list { list < length definition.now.lists }
-    ensures answer { Answers definition.now (ending list (may_be_unfinished (slice_get definition.now.lists list))) result }
+    ensures answer { Answers definition.now
+        (ending list (may_be_unfinished (slice_get definition.now.lists list))) result }
     ensures summary { IfOk result (IsSummary definition.now) }
     ensures ticks { steps.new ≡ steps.old + 1 }
 {
@@ -35,7 +36,7 @@ fn new_list<L: Ledger>(
     eval_end(alloc, definition, own, list, kind.unfinished, steps)
 }
 
-/// The summary of a new tree of the kind: a placeholder, or an empty list.
+/// Returns the summary of a new tree of the kind: a placeholder, or an empty list.
 fn new_tree<L: Ledger>(
     alloc: Global,
     definition: &Definition,
@@ -56,7 +57,7 @@ fn new_tree<L: Ledger>(
     }
 }
 
-/// The kinds of the slots among the items, in order.
+/// Returns the kinds of the slots among the items, in order.
 pub(crate) fn kinds_of_slots(
     alloc: Global,
     definition: &Definition,
@@ -73,7 +74,7 @@ pub(crate) fn kinds_of_slots(
     Ok(kinds)
 }
 
-/// The kind at the place.
+/// Returns the kind at the place.
 fn kind_at(kinds: &[Kind], place: usize) -> Kind
     requires { place < length kinds.now }
     ensures { slice_get kinds.now place ≡ Some result }
@@ -81,7 +82,8 @@ fn kind_at(kinds: &[Kind], place: usize) -> Kind
     kinds[place]
 }
 
-/// The summaries of new trees of the kinds, in order, one tick each. `Wide` is returned where one of these trees is too wide.
+/// Returns the summaries of new trees of the kinds, in order, one tick each. `Wide` is returned where one of these
+/// trees is too wide.
 pub(crate) fn new_trees<L: Ledger>(
     alloc: Global,
     definition: &Definition,

@@ -1,4 +1,4 @@
-//! The operators that may stand at a place.
+//! The operators that may be put at a place.
 ghost use Rattle.std.specs.Prelude.{◌≡◌, ◌+◌, ◌≤◌, ◌<◌, ℕ, Option, Some, length, slice_get, IfOk};
 ghost use Rattle.std.specs.List.{AllByRecursion};
 ghost use Rattle.psg_completions.specs.Conditions.{HasTrueRows};
@@ -57,7 +57,7 @@ struct Menu<'a> {
     longest: usize,
 }
 
-/// Tells whether the operator may be chosen, by one trial of it under new names.
+/// Says whether the operator may be chosen, by one trial of it under new names.
 fn offered<L: Ledger>(
     alloc: Global,
     menu: Menu,
@@ -73,7 +73,8 @@ fn offered<L: Ledger>(
         × CanClimb menu.definition.now menu.frames.now (OfPhylum o.phylum) }
     requires classes { AllByRecursion (IsClass menu.definition.now menu.frames.now) classes.old.items }
     ensures offered { IsOffered menu.entry.definition.now menu.entry.frames.now menu.entry.used.now op result }
-    ensures classes { IfOk result (λ _. AllByRecursion (IsClass menu.entry.definition.now menu.entry.frames.now) classes.new.items) }
+    ensures classes { IfOk result
+        (λ _. AllByRecursion (IsClass menu.entry.definition.now menu.entry.frames.now) classes.new.items) }
     ensures ticks { steps.new ≤ steps.old + op_ticks menu.entry.definition.now menu.entry.frames.now op }
 {
     let definition = menu.definition;
@@ -113,7 +114,8 @@ fn chosen<L: Ledger>(
     requires fixed { AllByRecursion (λ n. length n ≤ menu.longest) (fixed_words menu.definition.now) }
     requires operators { AllByRecursion (λ op. (o : Operator) × (slice_get menu.definition.now.operators op ≡ Some o)
         × CanClimb menu.definition.now menu.frames.now (OfPhylum o.phylum)) ops.now }
-    ensures open { (f : Fragment) (path : Path) (k : Option ℕ) → StandAt menu.entry.definition.now menu.entry.frames.now path k f → AreUsed menu.entry.used.now f
+    ensures open { (f : Fragment) (path : Path) (k : Option ℕ)
+        → StandAt menu.entry.definition.now menu.entry.frames.now path k f → AreUsed menu.entry.used.now f
         → IsChosenAnswer menu.entry.definition.now (IsOpen menu.entry.definition.now) f path k ops.now result }
     ensures ticks { steps.new ≤ steps.old + menu_ticks menu.entry.definition.now ops.now menu.entry.frames.now }
 {
@@ -130,8 +132,8 @@ fn chosen<L: Ledger>(
     Ok(found)
 }
 
-/// Gives the operators of the phylum, in the definition's order, that may stand at the place that the frames stand
-/// for: those with which, with new names and some literals, the fragment is open. In an accepted language, for a
+/// Returns the operators of the phylum, in the definition's order, that may be put at the place that the frames are
+/// around: those with which, with new names and some literals, the fragment is open. In an accepted language, for a
 /// well-formed fragment, that is where it has a legal completion with new names. `used` are the names that are not new.
 ///
 /// `Wide` is returned only where a relation of the fragment with one of the operators is too large, and always where
@@ -148,9 +150,11 @@ pub fn operators<L: Ledger>(
     requires sound { IsSound definition.now }
     requires phylum { phylum < length definition.now.phyla }
     requires frames { CanClimb definition.now frames.now (OfPhylum phylum) }
-    ensures open { (f : Fragment) (path : Path) (k : Option ℕ) → StandAt definition.now frames.now path k f → AreUsed used.now f
+    ensures open { (f : Fragment) (path : Path) (k : Option ℕ) → StandAt definition.now frames.now path k f
+        → AreUsed used.now f
         → IsMenuAnswer definition.now (IsOpen definition.now) f path k phylum result }
-    ensures completable { HasTrueRows definition.now → HasQuietSlots definition.now → (f : Fragment) (path : Path) (k : Option ℕ) (kind : PlainKind)
+    ensures completable { HasTrueRows definition.now → HasQuietSlots definition.now
+        → (f : Fragment) (path : Path) (k : Option ℕ) (kind : PlainKind)
         → WellFormed definition.now f kind → StandAt definition.now frames.now path k f → AreUsed used.now f
         → IsMenuAnswer definition.now (IsCompletable definition.now) f path k phylum result }
     ensures ticks { steps.new ≤ steps.old + menu_ticks definition.now (operators_of definition.now phylum) frames.now }

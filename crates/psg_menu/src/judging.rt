@@ -23,7 +23,7 @@ pub(crate) struct Class {
     pub(crate) good: bool,
 }
 
-/// Tells whether the whole fragment is open where a tree with this summary stands at the place of the frames, by one climb.
+/// Says whether the whole fragment is open where a tree with this summary is at the place of the frames, by one climb.
 fn judged<L: Ledger>(
     alloc: Global,
     definition: &Definition,
@@ -44,7 +44,7 @@ fn judged<L: Ledger>(
     Ok(good)
 }
 
-/// What is known of the summary, if one of the classes has it.
+/// Returns what is known of the summary, if one of the classes has it.
 fn known(classes: &[Class], own: &Summary) -> Option<bool>
     ensures { IfSome result (λ good. (c : Class) × IsIn c classes.now × (c.own ≡ own.now) × (c.good ≡ good)) }
 {
@@ -56,7 +56,7 @@ fn known(classes: &[Class], own: &Summary) -> Option<bool>
     None
 }
 
-/// Tells the same as a climb, which is made once for each summary.
+/// Says the same as `judged`, but makes one climb for each different summary. The classes are those that were judged.
 fn judged_once<L: Ledger>(
     alloc: Global,
     definition: &Definition,
@@ -82,8 +82,8 @@ fn judged_once<L: Ledger>(
     Ok(good)
 }
 
-/// Tells whether the fragment is open with the operator at the place of the frames, under these names. `below` has the summaries
-/// of new trees for its slots.
+/// Says whether the fragment is open with the operator at the place of the frames, under these names. `below` has the
+/// summaries of new trees for its slots.
 pub(crate) fn tried<L: Ledger>(
     alloc: Global,
     definition: &Definition,
@@ -96,7 +96,8 @@ pub(crate) fn tried<L: Ledger>(
 ) -> Result<bool, FocusFault>
     requires sound { IsSound definition.now }
     requires operator { (o : Operator) × (slice_get definition.now.operators op ≡ Some o)
-        × (length (are_names definition.now o.items) ≡ length names.now) × AreBlanks definition.now (slot_kinds definition.now o.items) below.now
+        × (length (are_names definition.now o.items) ≡ length names.now)
+        × AreBlanks definition.now (slot_kinds definition.now o.items) below.now
         × CanClimb definition.now frames.now (OfPhylum o.phylum) }
     requires classes { AllByRecursion (IsClass definition.now frames.now) classes.old.items }
     ensures tried { IsTried definition.now frames.now op names.now result }

@@ -1,4 +1,4 @@
-//! Menus: what may stand at a place of a fragment.
+//! Menus: what may be put at a place of a fragment.
 //!
 //! ```text
 //! let frames = note.frames(alloc, &path)?;
@@ -13,6 +13,7 @@ mod blanks;
 pub mod choosing;
 mod judging;
 pub mod naming;
+mod sharing;
 mod words;
 
 pub use choosing::operators;

@@ -1,5 +1,6 @@
-//! The names with which an operator may stand at a place.
-ghost use Rattle.std.specs.Prelude.{◌≡◌, ◌+◌, ◌*◌, ◌≤◌, ◌<◌, ◌∷◌, [], ℕ, Option, Some, length, slice_get, IfOk};
+//! The names with which an operator may be put at a place.
+ghost use Rattle.std.specs.Prelude.{◌≡◌, ◌↔◌, ◌==◌, ◌+◌, ◌*◌, ◌≤◌, ◌<◌, ◌∷◌, [], ℕ, false};
+ghost use Rattle.std.specs.Prelude.{Option, Some, length, slice_get, IfOk, IsTrue};
 ghost use Rattle.std.specs.List.{AllByRecursion};
 ghost use Rattle.psg_completions.specs.Conditions.{HasTrueRows};
 ghost use Rattle.psg_grammar.specs.declared.types.Kind.{Kind as PlainKind};
@@ -13,30 +14,64 @@ ghost use Rattle.psg_grammar.specs.WellFormed.{IsName, WellFormed};
 ghost use Rattle.psg_eval.specs.Frames.{CanClimb, StandAt, rungs};
 ghost use Rattle.psg_grammar.specs.declared.types.Operator.{Operator};
 ghost use Rattle.psg_eval.specs.Summaries.{are_names, slot_kinds};
+ghost use Rattle.psg_menu.specs.declared.sharing.Entry.{Entry as OneEntry};
+ghost use Rattle.psg_menu.specs.Sharing.{IsWholeAnswer, rises_of};
 ghost use Rattle.psg_menu.specs.Trials.{AreBlanks};
 ghost use Rattle.psg_menu.specs.Answers.{HasOneName, IsNamesAnswer, names_ticks};
 ghost use Rattle.psg_menu.specs.Menus.{HasQuietSlots};
 
 use crate::blanks::{kinds_of_slots, new_trees};
-use crate::judging::tried;
-use psg_eval::{FocusFault, Frame, Summary};
+use crate::sharing::{Entry, Level, climbed_together};
+use crate::words::{longest, new_words};
+use psg_eval::{FocusFault, Frame, Summary, asked, eval_op};
 use psg_grammar::{Definition, declaring};
 use psg_terms::{Steps, Txt};
-use std::alloc::{AllocError, Global};
+use std::alloc::Global;
 use std::sync::ledger::Ledger;
 
-/// The one name.
-fn only(alloc: Global, name: &Txt) -> Result<Vec<Txt>, AllocError>
-    ensures { IfOk result (λ names. names.items ≡ name.now ∷ []) }
+/// Returns the summaries of the whole fragment with each of the candidates at the place, by one climb of a new name,
+/// the proxy for all.
+fn climbed<L: Ledger>(
+    alloc: Global,
+    definition: &Definition,
+    frames: &[Frame],
+    op: u32,
+    candidates: &[Txt],
+    below: &[Summary],
+    steps: &mut Steps<L>,
+) -> Result<Level, FocusFault>
+    requires sound { IsSound definition.now }
+    requires operator { (o : Operator) × (slice_get definition.now.operators op ≡ Some o)
+        × (length (are_names definition.now o.items) ≡ 1)
+        × AreBlanks definition.now (slot_kinds definition.now o.items) below.now
+        × CanClimb definition.now frames.now (OfPhylum o.phylum) }
+    requires names { AllByRecursion (IsName definition.now) candidates.now }
+    requires some { (length candidates.now == 0) ≡ false }
+    ensures level { IsWholeAnswer definition.now op below.now candidates.now (rises_of frames.now) result }
+    ensures ticks { steps.new ≤ steps.old + (1 + length candidates.now * rungs frames.now) }
 {
-    let mut names = Vec::with_capacity(alloc, 1)?;
-    let copy = name.share()?;
-    names.push(copy)?;
-    Ok(names)
+    let bound = longest(definition, candidates);
+    let words = new_words(alloc, definition, candidates, bound, 1)?;
+    let names = words.as_slice();
+    let star = &names[0];
+    let made = eval_op(alloc, definition, op, names, below, steps);
+    let own = asked(made)?;
+    let level = climbed_together(alloc, definition, frames, star, candidates, own, steps)?;
+    Ok(level)
 }
 
-/// Those of the candidates with which the operator may stand at the place. `below` has the summaries of new trees for
-/// its slots.
+/// Says whether the fragment is open with the candidate whose entry is at the place.
+fn is_open(entries: &[Entry], place: usize) -> bool
+    requires place { place < length entries.now }
+    ensures { (e : OneEntry) → slice_get entries.now place ≡ Some e → IsTrue result ↔ ((e.own.rel ≡ []) → ⊥) }
+{
+    let entry = &entries[place];
+    let none = entry.own.rel().is_empty();
+    !none
+}
+
+/// Returns those of the candidates with which the operator may be put at the place. `below` has the summaries of new
+/// trees for its slots.
 fn nameable<L: Ledger>(
     alloc: Global,
     definition: &Definition,
@@ -48,29 +83,24 @@ fn nameable<L: Ledger>(
 ) -> Result<Vec<Txt>, FocusFault>
     requires sound { IsSound definition.now }
     requires operator { (o : Operator) × (slice_get definition.now.operators op ≡ Some o)
-        × (length (are_names definition.now o.items) ≡ 1) × AreBlanks definition.now (slot_kinds definition.now o.items) below.now
+        × (length (are_names definition.now o.items) ≡ 1)
+        × AreBlanks definition.now (slot_kinds definition.now o.items) below.now
         × CanClimb definition.now frames.now (OfPhylum o.phylum) }
     requires names { AllByRecursion (IsName definition.now) candidates.now }
     ensures open { (f : Fragment) (path : Path) (k : Option ℕ) → StandAt definition.now frames.now path k f
         → IsNamesAnswer definition.now (IsOpen definition.now) f path k op candidates.now result }
     ensures ticks { steps.new ≤ steps.old + length candidates.now * (1 + rungs frames.now) }
 {
-    let mut classes = Vec::new(alloc);
     let mut found = Vec::new(alloc);
+    if candidates.is_empty() {
+        return Ok(found);
+    }
+    let level = climbed(alloc, definition, frames, op, candidates, below, steps)?;
+    let entries = level.entries.as_slice();
+    let places = level.places.as_slice();
     for place in 0..candidates.len() {
         let candidate = &candidates[place];
-        let one = only(alloc, candidate)?;
-        let names = one.as_slice();
-        let good = tried(
-            alloc,
-            definition,
-            frames,
-            op,
-            names,
-            below,
-            &mut classes,
-            steps,
-        )?;
+        let good = is_open(entries, places[place]);
         if !good {
             continue;
         }
@@ -80,13 +110,14 @@ fn nameable<L: Ledger>(
     Ok(found)
 }
 
-/// Gives those of the candidates, in their order, with which the operator may stand at the place that the frames stand
-/// for: those with which, with some literals, the fragment is open. In an accepted language, for a well-formed fragment,
-/// that is where it has a legal completion.
+/// Returns those of the candidates, in their order, with which the operator may be put at the place that the frames are
+/// around: those with which, with some literals, the fragment is open. In an accepted language, for a well-formed
+/// fragment, that is where it has a legal completion.
 ///
 /// `Wide` is returned only where a relation of the fragment with the operator and one of the candidates is too large,
-/// and always where besides none of the fragment itself is. A candidate takes one tick, one for each slot of the
-/// operator, and those of a climb, or fewer.
+/// and always where besides none of the fragment itself is. `Memory` is returned when memory runs out. A candidate
+/// takes one tick, one for each slot of the operator, and those of a climb, or fewer: all candidates share one climb,
+/// and those that part from it take one more evaluation of each rung for each summary of their own.
 pub fn names<L: Ledger>(
     alloc: Global,
     definition: &Definition,
@@ -100,7 +131,8 @@ pub fn names<L: Ledger>(
     requires names { AllByRecursion (IsName definition.now) candidates.now }
     ensures open { (f : Fragment) (path : Path) (k : Option ℕ) → StandAt definition.now frames.now path k f
         → IsNamesAnswer definition.now (IsOpen definition.now) f path k op candidates.now result }
-    ensures completable { HasTrueRows definition.now → HasQuietSlots definition.now → (f : Fragment) (path : Path) (k : Option ℕ) (kind : PlainKind)
+    ensures completable { HasTrueRows definition.now → HasQuietSlots definition.now
+        → (f : Fragment) (path : Path) (k : Option ℕ) (kind : PlainKind)
         → WellFormed definition.now f kind → StandAt definition.now frames.now path k f
         → IsNamesAnswer definition.now (IsCompletable definition.now) f path k op candidates.now result }
     ensures ticks { steps.new ≤ steps.old + names_ticks definition.now op candidates.now frames.now }

@@ -8,7 +8,7 @@ use psg_grammar::{Definition, Item, ListKind, Operator};
 use psg_terms::Txt;
 use std::alloc::{AllocError, Global};
 
-/// The length of the text, where it is greater than the number, or the number.
+/// Returns the length of the text, where it is greater than the number, or the number.
 fn longer(length: usize, text: &Txt) -> usize
     ensures old { length ≤ result }
     ensures text { length_of text.now ≤ result }
@@ -17,7 +17,7 @@ fn longer(length: usize, text: &Txt) -> usize
     if own > length { own } else { length }
 }
 
-/// A number that no name is longer than, and that is not less than the one given.
+/// Returns a number that no name is longer than, and that is not less than the one given.
 fn longest_name(least: usize, names: &[Txt]) -> usize
     ensures least { least ≤ result }
     ensures names { AllByRecursion (λ n. length n ≤ result) names.now }
@@ -30,7 +30,7 @@ fn longest_name(least: usize, names: &[Txt]) -> usize
     longest
 }
 
-/// The length of the item's word, where it has a longer one than the number, or the number.
+/// Returns the length of the item's word, where it has one that is longer than the number, or the number.
 fn longer_item(least: usize, item: &Item) -> usize
     ensures least { least ≤ result }
     ensures words { AllByRecursion (λ n. length n ≤ result) (words_in (item.now ∷ [])) }
@@ -44,7 +44,7 @@ fn longer_item(least: usize, item: &Item) -> usize
     }
 }
 
-/// The same for the words among the items.
+/// Returns a number that no word among the items is longer than, and that is not less than the one given.
 fn longest_word(least: usize, items: &[Item]) -> usize
     ensures least { least ≤ result }
     ensures words { AllByRecursion (λ n. length n ≤ result) (words_in items.now) }
@@ -57,7 +57,7 @@ fn longest_word(least: usize, items: &[Item]) -> usize
     longest
 }
 
-/// The same for the words of the operators.
+/// Returns a number that no word of the operators is longer than, and that is not less than the one given.
 fn longest_in_operators(least: usize, operators: &[Operator]) -> usize
     ensures least { least ≤ result }
     ensures words { AllByRecursion (λ n. length n ≤ result) (operator_words operators.now) }
@@ -71,7 +71,7 @@ fn longest_in_operators(least: usize, operators: &[Operator]) -> usize
     longest
 }
 
-/// The same for the separators of the lists.
+/// Returns a number that no separator of the lists is longer than, and that is not less than the one given.
 fn longest_separator(least: usize, lists: &[ListKind]) -> usize
     ensures least { least ≤ result }
     ensures words { AllByRecursion (λ n. length n ≤ result) (separators lists.now) }
@@ -84,7 +84,7 @@ fn longest_separator(least: usize, lists: &[ListKind]) -> usize
     longest
 }
 
-/// A number that none of the names is longer than, nor a fixed word of the definition.
+/// Returns a number that none of the names is longer than, nor a fixed word of the definition.
 pub(crate) fn longest(definition: &Definition, used: &[Txt]) -> usize
     ensures used { AllByRecursion (λ n. length n ≤ result) used.now }
     ensures fixed { AllByRecursion (λ n. length n ≤ result) (fixed_words definition.now) }
@@ -97,7 +97,7 @@ pub(crate) fn longest(definition: &Definition, used: &[Txt]) -> usize
     whole
 }
 
-/// A text of so many letters a.
+/// Returns a text of `count` letters a.
 fn run(alloc: Global, count: usize) -> Result<String, AllocError>
     ensures { IfOk result (λ text. string_bytes text ≡ run_of count) }
 {
@@ -108,8 +108,9 @@ fn run(alloc: Global, count: usize) -> Result<String, AllocError>
     Ok(letters)
 }
 
-/// So many names, all different, that are longer than the number, which none of `used` and no fixed word is longer than: runs of
-/// the letter a, the shortest first. They are always the same for the same numbers. The cost is their length.
+/// Makes `count` names, all different, that are longer than `longest`, which none of `used` and no fixed word is longer
+/// than: runs of the letter a, the shortest first. They are always the same for the same numbers. The cost is their
+/// length.
 pub(crate) fn new_words(
     alloc: Global,
     definition: &Definition,

@@ -80,7 +80,7 @@ module _ (def : Definition) where
       let none : 0 ≡ length (encode_utf8_all (c ∷ cs)) = ap length e in
       absurd (omega (arith, much, none))
 
-  no_word : (n : Name) → IsName def n → bytes_eq n [] ≡ false
+  pub no_word : (n : Name) → IsName def n → bytes_eq n [] ≡ false
   no_word [] (cs, e, w, f) = absurd (nothing cs e w)
   no_word (c ∷ n) w = refl
 

@@ -28,7 +28,7 @@ module _ (f back : Name → Name) (undo : (n : Name) → back (f n) ≡ n) where
 
 -- ---- two names that change places
 
-abbrev swap : Name → Name → Name → Name
+abbrev pub swap : Name → Name → Name → Name
 swap x y n = cond (bytes_eq x n) y (cond (bytes_eq y n) x n)
 
 differs : (x n : Name) → bytes_eq x n ≡ false → bytes_eq n x ≡ false
@@ -36,19 +36,19 @@ differs x n e = both_ways (bytes_eq n x) (bytes_eq x n)
     (λ h. subst (λ k. bytes_eq k n ≡ true) (key_is n x h) (key_refl n))
     (λ h. subst (λ k. bytes_eq k x ≡ true) (key_is x n h) (key_refl x)) ∙ e
 
-swap_first : (x y : Name) → swap x y x ≡ y
+pub swap_first : (x y : Name) → swap x y x ≡ y
 swap_first x y = ap (λ b. cond b y (cond (bytes_eq y x) x x)) (key_refl x)
 
-swap_second : (x y : Name) → swap x y y ≡ x
+pub swap_second : (x y : Name) → swap x y y ≡ x
 swap_second x y = elim (either (bytes_eq x y)) [
   | inl a ↦ ap (λ b. cond b y (cond (bytes_eq y y) x y)) a ∙ sym (key_is x y a)
   | inr a ↦ ap (λ b. cond b y (cond (bytes_eq y y) x y)) a ∙ ap (λ b. cond b x y) (key_refl y)
 ]
 
-swap_other : (x y n : Name) → bytes_eq x n ≡ false → bytes_eq y n ≡ false → swap x y n ≡ n
+pub swap_other : (x y n : Name) → bytes_eq x n ≡ false → bytes_eq y n ≡ false → swap x y n ≡ n
 swap_other x y n a b = ap (λ c. cond c y (cond (bytes_eq y n) x n)) a ∙ ap (λ c. cond c x n) b
 
-swap_back : (x y n : Name) → swap x y (swap x y n) ≡ n
+pub swap_back : (x y n : Name) → swap x y (swap x y n) ≡ n
 swap_back x y n = elim (either (bytes_eq x n)) [
   | inl a ↦ subst (λ k. swap x y (swap x y k) ≡ k) (key_is x n a) (ap (swap x y) (swap_first x y) ∙ swap_second x y)
   | inr a ↦ elim (either (bytes_eq y n)) [
@@ -56,6 +56,10 @@ swap_back x y n = elim (either (bytes_eq x n)) [
     | inr b ↦ ap (swap x y) (swap_other x y n a b) ∙ swap_other x y n a b
   ]
 ]
+
+-- the two names change places
+abbrev pub swapped : Name → Name → Permutation
+swapped x y = record { to = swap x y; back = swap x y; undo = swap_back x y; redo = swap_back x y }
 
 -- ---- one list of names to another
 

@@ -12,7 +12,7 @@ use Rattle.psg_relation.specs.Choices.{pick, picked}
 use Rattle.psg_columns.specs.Fewer.{KeptOnce}
 
 -- where the key stands in the list
-abbrev index_of : List Key → Key → ℕ
+abbrev pub index_of : List Key → Key → ℕ
 index_of [] k = 0
 index_of (m ∷ ms) k = cond (bytes_eq m k) 0 (suc (index_of ms k))
 

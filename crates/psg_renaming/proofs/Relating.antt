@@ -15,12 +15,14 @@ use Rattle.psg_renaming.proofs.Permuting.{Permutation}
 use Rattle.psg_renaming.proofs.Turned.{turned, new_key, old_key, undo_key, twice_new, passing_of, names_new, distinct_new, distinct_old}
 use Rattle.psg_renaming.proofs.Judged.{choice_to, choice_from, to_from, AreOld, old_entities, new_entities, holds_to, holds_from, judged_to, judged_from}
 use Rattle.psg_renaming.proofs.Orders.{once_in_order, same_in_order}
-use Rattle.psg_renaming.proofs.Picking.{AreAmong}
-use Rattle.psg_renaming.proofs.Reordered.{SomePasses, Family, carried, reordered}
+use Rattle.psg_relation.specs.Choices.{IsProjected, picked}
+use Rattle.psg_renaming.proofs.Picking.{AreAmong, places, shifted}
+use Rattle.psg_terms.specs.Relations.{IsRelation}
+use Rattle.psg_renaming.proofs.Reordered.{SomePasses, Family, carried, reordered, taken_rows}
 
 -- ---- how many values are observed
 
-abbrev seen_count : Fragment → ℕ
+abbrev pub seen_count : Fragment → ℕ
 seen_count (hole q) = 0
 seen_count (ending l u) = 0
 seen_count (cell l e r) = seen_count e + seen_count r
@@ -156,6 +158,41 @@ module _ (p : Permutation) (empty : p.to [] ≡ []) where
             wide,
           )
 
+      -- where the keys stay the same, so do the rows
+      pub kept_rows : before_keys ≡ after_keys → (sorts : List ℕ) (rows : List (List Term))
+          → IsRelation def.signature sorts P rows → IsRelation def.signature sorts Q rows
+      kept_rows same sorts rows rel =
+          let one = carried def.signature sorts P (F before_keys) (λ c columns h. (c, same_p c))
+          (λ c columns h. (c, λ x. (same_p c x).1)) rows rel in
+          carried def.signature sorts (F after_keys) Q
+          (λ c columns h. (to c, λ x. ((same_q c x).1, (same_q c x).0)))
+          (λ d columns h. (from d, λ x q. (same_q (from d) x).0 (subst (λ e. Q e x) (sym (round d)) q))) rows
+          (subst (λ ks. IsRelation def.signature sorts (F ks) rows) same one)
+
+      abbrev pub old_columns : List ℕ
+      old_columns = shifted (suc m) (places after_keys before_keys)
+
+      -- the columns of the old keys have the rows of the old tree
+      pub old_rows : (sorts : List ℕ) (rows made : List (List Term)) → IsRelation def.signature sorts Q rows
+          → IsRelation def.signature (picked sorts old_columns) (IsProjected def.signature rows old_columns) made
+          → IsRelation def.signature (picked sorts old_columns) P made
+      old_rows sorts rows made rel projected =
+          let one = carried def.signature sorts Q (F after_keys)
+          (λ d columns h. (
+            from d,
+            λ x. (
+              λ q. (same_q (from d) x).0 (subst (λ e. Q e x) (sym (round d)) q),
+              λ h. subst
+                  (λ e. Q e x) (round d) ((same_q (from d) x).1 h),
+            ),
+          ))
+          (λ c columns h. (to c, λ x. (same_q c x).1)) rows rel in
+          carried def.signature (picked sorts old_columns) (F before_keys) P
+          (λ c columns h. (c, λ x. ((same_p c x).1, (same_p c x).0)))
+          (λ c columns h. (c, λ x. (same_p c x).0)) made
+          (taken_rows def.signature sound.signature (IsCore def J) (suc m) core_count after_keys before_keys up down
+          sorts rows one made projected)
+
   -- ---- the relation inside
 
   module _ (def : Definition) (sound : IsSound def) (fewer : FewerColumns def.signature) (f : Fragment) where
@@ -260,7 +297,7 @@ module _ (p : Permutation) (empty : p.to [] ≡ []) where
         → length seen ≡ seen_count f
     judged_count c g v seen (d, h) = let e = counted def f c h.inner [] v seen [] h.holds in omega (arith, e)
 
-    abbrev passing_keys : Fragment → List Key
+    abbrev pub passing_keys : Fragment → List Key
     passing_keys t =
         passing (is_scope def t) (λ s. unfinished_inside def s t) (declared_inside def t) (names_inside def t)
 
@@ -344,5 +381,26 @@ module _ (p : Permutation) (empty : p.to [] ≡ []) where
     pub whole_from : SomePasses def.signature (IsPossible def (turned p f))
         → SomePasses def.signature (IsPossible def f)
     whole_from = both_from def sound fewer (passing_keys f) IsJudged (seen_count f) judged_count (IsPossible def f)
+        (IsPossible def (turned p f))
+        (choice_to p f) (choice_from p f) (to_from p f) whole_old whole_new
+
+    -- the rows of the tree are those of the tree with other names, where its keys stay the same
+    pub whole_kept : map (new_key p) (in_order (passing_keys f)) ≡ in_order (map (new_key p) (passing_keys f))
+        → (sorts : List ℕ) (rows : List (List Term)) → IsRelation def.signature sorts (IsPossible def f) rows
+        → IsRelation def.signature sorts (IsPossible def (turned p f)) rows
+    whole_kept = kept_rows def sound fewer (passing_keys f) IsJudged (seen_count f) judged_count (IsPossible def f)
+        (IsPossible def (turned p f))
+        (choice_to p f) (choice_from p f) (to_from p f) whole_old whole_new
+
+    abbrev pub whole_columns : List ℕ
+    whole_columns = shifted (suc (seen_count f))
+        (places (in_order (map (new_key p) (passing_keys f))) (map (new_key p) (in_order (passing_keys f))))
+
+    -- the rows of the tree are columns of those of the tree with other names
+    pub whole_taken : (sorts : List ℕ) (rows made : List (List Term))
+        → IsRelation def.signature sorts (IsPossible def (turned p f)) rows
+        → IsRelation def.signature (picked sorts whole_columns) (IsProjected def.signature rows whole_columns) made
+        → IsRelation def.signature (picked sorts whole_columns) (IsPossible def f) made
+    whole_taken = old_rows def sound fewer (passing_keys f) IsJudged (seen_count f) judged_count (IsPossible def f)
         (IsPossible def (turned p f))
         (choice_to p f) (choice_from p f) (to_from p f) whole_old whole_new

@@ -120,6 +120,12 @@ module _ (sig : Signature) (sound : IsSound sig) {C : Type 0} (Core : C → List
           ),
         )
 
+    -- rows that are the projection are the relation with the keys in the other order
+    pub taken_rows : (made : List (List Term)) → IsRelation sig (picked sorts keep) (IsProjected sig rows keep) made
+        → IsRelation sig (picked sorts keep) (Family Core ks) made
+    taken_rows made p =
+        carried sig (picked sorts keep) (IsProjected sig rows keep) (Family Core ks) to_family from_family made p
+
     pub turned : Turned ms ks sorts rows
     turned =
         let (made, projection) = relation_exists sig sound (all_picked rows keep) (picked sorts keep)

@@ -60,7 +60,7 @@ module _ (p : Permutation) where
 
   -- ---- the node itself is the same
 
-  same_top : (f : Fragment) → top_operator (turned f) ≡ top_operator f
+  pub same_top : (f : Fragment) → top_operator (turned f) ≡ top_operator f
   same_top (hole q) = refl
   same_top (ending l u) = refl
   same_top (cell l e r) = refl

@@ -14,7 +14,7 @@ use Rattle.psg_renaming.proofs.Turned.{turned, same_scope}
 use Rattle.psg_renaming.proofs.Relating.{inside_to, inside_from, whole_to, whole_from}
 
 module _ (p : Permutation) where
-  children_turned : (f : Fragment) → children_of (turned p f) ≡ map (turned p) (children_of f)
+  pub children_turned : (f : Fragment) → children_of (turned p f) ≡ map (turned p) (children_of f)
   children_turned (hole q) = refl
   children_turned (ending l u) = refl
   children_turned (cell l e r) = ap (λ cs. turned p e ∷ cs) (children_turned r)
@@ -76,7 +76,7 @@ module _ (p : Permutation) where
       ∙ sym (map-append turned_place (steps_up_to path f n) (record { path = path; part = f; step = suc n } ∷ []))
 
   module _ (def : Definition) where
-    last_turned : (f : Fragment) → last_step def (turned p f) ≡ last_step def f
+    pub last_turned : (f : Fragment) → last_step def (turned p f) ≡ last_step def f
     last_turned f = ap₂ (λ b n. cond b (n + 1) n) (same_scope p def f) (count_turned f)
 
     own_turned : (path : List ℕ) (f : Fragment)
@@ -166,7 +166,7 @@ module _ (p : Permutation) where
   -- ---- what passes
 
   module _ (empty : p.to [] ≡ []) (def : Definition) (sound : IsSound def) (fewer : FewerColumns def.signature) where
-    passes_to : (f : Fragment) (n : ℕ) → PassesAt def f n → PassesAt def (turned p f) n
+    pub passes_to : (f : Fragment) (n : ℕ) → PassesAt def f n → PassesAt def (turned p f) n
     passes_to f n (rows, adding k old within (sorts, rel), wide) =
         let (made, there, passes) = inside_to p empty def sound fewer (first_children n f) (rows, (sorts, rel), wide) in (
           made,
@@ -183,7 +183,7 @@ module _ (p : Permutation) where
           passes,
         )
 
-    passes_from : (f : Fragment) (n : ℕ) → PassesAt def (turned p f) n → PassesAt def f n
+    pub passes_from : (f : Fragment) (n : ℕ) → PassesAt def (turned p f) n → PassesAt def f n
     passes_from f n (rows, adding k old within rel, wide) =
         let (made, there, passes) = inside_from p empty def sound fewer (first_children n f) (
           rows,

@@ -2,11 +2,12 @@
 use Rattle.std.specs.Prelude.{◌≡◌, false, List, [], ◌∷◌, ◌++◌}
 use Rattle.std.specs.List.{AllByRecursion}
 use Rattle.psg_terms.specs.Names.{Name, is_among, has_twice}
-use Rattle.psg_grammar.specs.Fragments.{Fragment, hole, ending, cell, operator, with_child, with_name, with_number, with_text, anything, observed}
+use Rattle.psg_grammar.specs.Fragments.{Fragment, hole, ending, cell, operator, with_child, with_name}
+use Rattle.psg_grammar.specs.Fragments.{with_number, with_text, anything, observed}
 use Rattle.psg_grammar.specs.Insertion.{Leaf, a_name, a_number, a_text}
 
--- The names of all positions of the fragment, each as often as it occurs. Its keys would not do: a name that ends inside a
--- scope is none of them, and still occurs.
+-- The names of all positions of the fragment, each as often as it occurs. Its keys would not do: a name that ends
+-- inside a scope is none of them, and still occurs.
 abbrev pub occurring : Fragment → List Name
 occurring (hole p) = []
 occurring (ending l u) = []

@@ -5,8 +5,8 @@ ghost use Rattle.psg_renaming.specs.NewNames.{OpenForNewNames, WideForNewNames};
 use psg_columns::laws::fewer_columns;
 use psg_grammar::Definition;
 
-/// States that a fragment with an operator put into it is open, or has a relation that is too large, for all new names and
-/// literals of the operator or for none.
+/// States that a fragment with an operator put into it is open, or has a relation that is too large, for all new names
+/// and literals of the operator or for none.
 pub fn new_names(definition: &Definition)
     requires sound { IsSound definition.now }
     ensures open { OpenForNewNames definition.now }
