@@ -178,13 +178,17 @@ module _ (fixed : List Name) where
     pub are : HasTokens fixed (chars bs) at spans
     pub tokens : map (λ (s : Spanned). s.token) spans ≡ ts
 
+  -- a token alone, from the byte on
+  abbrev pub word_span : Token → List ℕ → ℕ → Spanned
+  word_span t w start = record { token = t; start = start; end = start + bytes_of (chars w) }
+
   -- a token in front of what else a row adds
-  word_tokens : (before r : List Piece) (w : List ℕ) (t : Token) (ts : List Token) → IsTextOf w t → RowTokens r ts
-      → (start : ℕ) → Lexed (laid (before ++ token w ∷ []) r) (start + bytes_of (chars w)) ts
-      → Lexed (w ++ laid (before ++ token w ∷ []) r) start (t ∷ ts)
-  word_tokens before r w t ts x y start l =
-      let s : Spanned = record { token = t; start = start; end = start + bytes_of (chars w) } in
-      let all : Begins fixed (chars w) start s =
+  pub word_joined : (before r : List Piece) (w : List ℕ) (t : Token) (ts : List Token) → IsTextOf w t → RowTokens r ts
+      → (start : ℕ) (ss : List Spanned)
+      → HasTokens fixed (chars (laid (before ++ token w ∷ []) r)) (start + bytes_of (chars w)) ss
+      → HasTokens fixed (chars (w ++ laid (before ++ token w ∷ []) r)) start (word_span t w start ∷ ss)
+  word_joined before r w t ts x y start ss are =
+      let all : Begins fixed (chars w) start (word_span t w start) =
       record {
         front = chars w;
         rest = [];
@@ -193,23 +197,28 @@ module _ (fixed : List Name) where
         starts = refl;
         ends = refl;
       } in
-      let one : HasTokens fixed (chars w) start (s ∷ []) =
-      next (chars w) start s [] all (nothing (start + bytes_of (chars w))) in
+      let one : HasTokens fixed (chars w) start (word_span t w start ∷ []) =
+      next (chars w) start (word_span t w start) [] all (nothing (start + bytes_of (chars w))) in
       let apart : IsApart (chars w) (chars (laid (before ++ token w ∷ []) r)) = record {
         apart = λ front behind c d e k h.
             starts_apart (before ++ token w ∷ []) (last_char 0 (chars w)) (last_in-append None before (token w ∷ [])) r
             ts y d behind k
             (subst (λ z. Glue z d) (sym (ap (last_char 0) e ∙ last_char-snoc 0 front c)) h);
       } in
-      let joined : HasTokens fixed (chars w ++ chars (laid (before ++ token w ∷ []) r)) start (s ∷ l.spans) =
-      joined_tokens fixed (chars w) start (s ∷ []) (chars (laid (before ++ token w ∷ []) r)) l.spans apart one l.are
+      let joined : HasTokens fixed (chars w ++ chars (laid (before ++ token w ∷ []) r)) start (word_span t w start ∷ ss) =
+      joined_tokens fixed (chars w) start (word_span t w start ∷ []) (chars (laid (before ++ token w ∷ []) r)) ss apart one are
       in
-      record {
-        spans = s ∷ l.spans;
-        are = subst (λ cs. HasTokens fixed cs start (s ∷ l.spans))
-            (sym (chars-append w (laid (before ++ token w ∷ []) r) x.utf8)) joined;
-        tokens = ap (λ us. t ∷ us) l.tokens;
-      }
+      subst (λ cs. HasTokens fixed cs start (word_span t w start ∷ ss))
+      (sym (chars-append w (laid (before ++ token w ∷ []) r) x.utf8)) joined
+
+  word_tokens : (before r : List Piece) (w : List ℕ) (t : Token) (ts : List Token) → IsTextOf w t → RowTokens r ts
+      → (start : ℕ) → Lexed (laid (before ++ token w ∷ []) r) (start + bytes_of (chars w)) ts
+      → Lexed (w ++ laid (before ++ token w ∷ []) r) start (t ∷ ts)
+  word_tokens before r w t ts x y start l = record {
+    spans = word_span t w start ∷ l.spans;
+    are = word_joined before r w t ts x y start l.spans l.are;
+    tokens = ap (λ us. t ∷ us) l.tokens;
+  }
 
   no_tokens : (at : ℕ) → Lexed [] at []
   no_tokens at =

@@ -1,5 +1,6 @@
 pub mod Rows
 pub mod Lexing
+pub mod Borders
 pub mod Scalars
 pub mod WordTokens
 pub mod NumberTokens

@@ -9,8 +9,8 @@ use Rattle.psg_grammar.specs.WellFormed.{WellFormed}
 use Rattle.psg_reads_back.specs.Layout.{text_of}
 use Rattle.psg_class.specs.Texts.{ReadsAs}
 
--- The text reads back as the tree, with brackets nested less deep than the tree is: each pair stands round a child. So a tree
--- that is at most 200 deep is never refused for its brackets.
+-- The text reads back as the tree, with brackets nested less deep than the tree is: each pair is around a child. So a
+-- tree that is at most 200 deep is never refused for its brackets.
 pub record ReadsBack (def : Definition) (f : Fragment) (kind : Kind) : Type 0 where
   pub nesting : ℕ
   pub reads : ReadsAs def kind 0 (text_of def f) f nesting

@@ -16,8 +16,8 @@ abbrev pub part_of : ℕ → ℕ → List ℕ → List ℕ
 part_of a b text = take (b - a) (drop a text)
 
 module _ (def : Definition) where
-  -- the place of the first byte of a node's first token, and the place after the last byte of its last one; where a node
-  -- has no token, both are the end of the token before it
+  -- the place of the first byte of a node's first token, and the place after the last byte of its last one; where a
+  -- node has no token, both are the end of the token before it
   abbrev pub start_of : Placed → ℕ
   start_of p = length (laid [] p.spot.before) + length (lead p.spot.before (row def p.node))
 

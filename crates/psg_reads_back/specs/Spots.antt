@@ -1,13 +1,14 @@
--- The nodes of a tree with what is written round them.
+-- The nodes of a tree with what is written around them.
 use Rattle.std.specs.Prelude.{ℕ, ◌≡◌, ◌+◌, cond, List, [], ◌∷◌, ◌++◌, length, Some, slice_get, decimal}
 use Rattle.psg_grammar.specs.declared.types.Definition.{Definition}
-use Rattle.psg_grammar.specs.Fragments.{Fragment, hole, ending, cell, operator, with_child, with_name, with_number, with_text, anything, observed, children_of}
+use Rattle.psg_grammar.specs.Fragments.{Fragment, hole, ending, cell, operator, with_child, with_name}
+use Rattle.psg_grammar.specs.Fragments.{with_number, with_text, anything, observed, children_of}
 use Rattle.psg_grammar.specs.Paths.{Path}
 use Rattle.psg_tree.specs.AbstractText.{quoted}
 use Rattle.psg_reads_back.specs.Rows.{Piece, token, row, wanted, is_bracketed, opening, closing, words_behind, between}
 
--- A place in a written tree: the path, the least level of a tree there, which is 0 inside written brackets, the pairs of written
--- brackets round it, and the rows before and behind it.
+-- A place in a written tree: the path, the least level of a tree there, which is 0 inside written brackets, the pairs
+-- of written brackets around it, and the rows before and after it.
 pub record Spot : Type 0 where
   pub path : Path
   pub level : ℕ
@@ -23,7 +24,7 @@ abbrev pub top_spot : Spot
 top_spot = record { path = []; level = 0; around = 0; before = []; behind = [] }
 
 module _ (def : Definition) where
-  -- the spot of the element with the number in a list that stands at the spot
+  -- the spot of the element with the number in a list that is at the spot
   abbrev pub element_spot : Spot → ℕ → ℕ → Fragment → Spot
   element_spot s n l r = record {
     path = s.path ++ n ∷ [];
@@ -36,7 +37,7 @@ module _ (def : Definition) where
   abbrev pub rest_spot : Spot → ℕ → Fragment → Fragment → Spot
   rest_spot s l e r = record s { before = s.before ++ (row def e ++ between def l r) }
 
-  -- the spot of the child t behind the parts of f, and that of these parts
+  -- the spot of the child t after the parts of f, and that of these parts
   abbrev pub child_spot : Spot → Fragment → Fragment → Spot
   child_spot s f t = record {
     path = s.path ++ length (children_of f) ∷ [];
@@ -52,18 +53,22 @@ module _ (def : Definition) where
   abbrev pub leaf_spot : Spot → Fragment → List ℕ → Spot
   leaf_spot s f t = record s { behind = token t ∷ (words_behind def f ++ s.behind) }
 
-  -- All nodes, a node before its children, children in order. placed_below has those below; the first element of a list has the
-  -- number n.
+  -- All nodes, a node before its children, children in order. placed_below has those below; the first element of a list
+  -- has the number n.
   abbrev mutual
     pub placed_from : Spot → Fragment → List Placed
     placed_from s (hole p) = record { spot = s; node = hole p } ∷ []
     placed_from s (ending l u) = record { spot = s; node = ending l u } ∷ []
-    placed_from s (cell l e r) = record { spot = s; node = cell l e r } ∷ (placed_from (element_spot s 0 l r) e ++ placed_below (rest_spot s l e r) 1 r)
+    placed_from s (cell l e r) = record { spot = s; node = cell l e r }
+        ∷ (placed_from (element_spot s 0 l r) e ++ placed_below (rest_spot s l e r) 1 r)
     placed_from s (operator o) = record { spot = s; node = operator o } ∷ []
-    placed_from s (with_child f t) = record { spot = s; node = with_child f t } ∷ (placed_below (front_spot s f t) 0 f ++ placed_from (child_spot s f t) t)
+    placed_from s (with_child f t) = record { spot = s; node = with_child f t }
+        ∷ (placed_below (front_spot s f t) 0 f ++ placed_from (child_spot s f t) t)
     placed_from s (with_name f n) = record { spot = s; node = with_name f n } ∷ placed_below (leaf_spot s f n) 0 f
-    placed_from s (with_number f n) = record { spot = s; node = with_number f n } ∷ placed_below (leaf_spot s f (decimal n)) 0 f
-    placed_from s (with_text f n) = record { spot = s; node = with_text f n } ∷ placed_below (leaf_spot s f (quoted n)) 0 f
+    placed_from s (with_number f n) =
+        record { spot = s; node = with_number f n } ∷ placed_below (leaf_spot s f (decimal n)) 0 f
+    placed_from s (with_text f n) =
+        record { spot = s; node = with_text f n } ∷ placed_below (leaf_spot s f (quoted n)) 0 f
     placed_from s anything = record { spot = s; node = anything } ∷ []
     placed_from s (observed f) = record { spot = s; node = observed f } ∷ placed_below s 0 f
 
@@ -82,6 +87,6 @@ module _ (def : Definition) where
   abbrev pub placed_in : Fragment → List Placed
   placed_in f = placed_from top_spot f
 
-  -- the node at the path with what is round it
+  -- the node at the path with what is around it
   abbrev pub IsPlacedAt : Fragment → Path → Placed → Type 0
   IsPlacedAt f path p = (k : ℕ) × (slice_get (placed_in f) k ≡ Some p) × (p.spot.path ≡ path)

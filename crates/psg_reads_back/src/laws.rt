@@ -20,7 +20,7 @@ pub fn reads_back(_definition: &Definition)
     ensures { (f : Fragment) → ReadsBackIfPrintable _definition.now f }
 {}
 
-/// States the same of each node of such a tree: the bytes on which it is written read as the node, at the level that is
+/// States of each node of such a tree that the bytes on which it is written read as the node, at the level that is
 /// wanted at its place. The call has no cost.
 pub fn nodes_read_back(_definition: &Definition)
     requires sound { IsSound _definition.now }

@@ -15,8 +15,8 @@ use Rattle.psg_regions.specs.Surroundings.{Surrounds}
 use Rattle.psg_regions.specs.Regions.{Typing, Encloses, IsInside, IsClean, IsReading, new_text}
 
 module _ (def : Definition) (f : Fragment) where
-  -- A clean node's own tree in its place is the tree of the whole new text. Brackets nest as deep as those round the node and in it, or
-  -- less deep than the old tree is.
+  -- A clean node's own tree in its place is the tree of the whole new text. Brackets nest as deep as those around the
+  -- node and in it, or less deep than the old tree is.
   pub record IsReplacedIn (e : Typing) (kind : Kind) (path : Path) (p : Placed) (tree : Fragment) (m : ℕ) : Type 0 where
     pub elsewhere : ℕ
     pub shallow : elsewhere < depth_of f
@@ -25,7 +25,8 @@ module _ (def : Definition) (f : Fragment) where
   abbrev pub CleanIsTyped : Type 0
   CleanIsTyped =
       (kind : Kind) → IsPrintable f → WellFormed def f kind → (e : Typing) → IsInside e (text_of def f)
-      → IsUtf8 e.new → (path : Path) (p : Placed) (tree : Fragment) (m : ℕ) → IsPlacedAt def f path p → Encloses e (span_of def p)
+      → IsUtf8 e.new → (path : Path) (p : Placed) (tree : Fragment) (m : ℕ) → IsPlacedAt def f path p
+      → Encloses e (span_of def p)
       → IsClean def f e p tree m → IsReplacedIn e kind path p tree m
 
   -- of a change there is one reading

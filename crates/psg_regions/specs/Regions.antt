@@ -1,5 +1,6 @@
 -- A text in which bytes are replaced, and the nodes that this changes.
-use Rattle.std.specs.Prelude.{ℕ, ◌≡◌, ◌⊎◌, ◌<◌, ◌≤◌, ◌+◌, List, [], ◌∷◌, ◌++◌, length, take, drop, Option, Some, None, slice_get}
+use Rattle.std.specs.Prelude.{ℕ, ◌≡◌, ◌⊎◌, ◌<◌, ◌≤◌, ◌+◌, List, [], ◌∷◌, ◌++◌, length}
+use Rattle.std.specs.Prelude.{take, drop, Option, Some, None, slice_get}
 use Rattle.std.specs.List.{AllByRecursion}
 use Rattle.std.specs.Str.{IsCharBoundary}
 use Rattle.psg_grammar.specs.declared.types.Kind.{Kind}
@@ -40,6 +41,7 @@ pub record IsInside (e : Typing) (text : List ℕ) : Type 0 where
   pub start_whole : IsCharBoundary text e.start
   pub end_whole : IsCharBoundary text e.end
 
+-- the bytes that are replaced are all in the span
 abbrev pub Encloses : Typing → Span → Type 0
 Encloses e s = (s.start ≤ e.start) × (e.end ≤ s.end)
 
@@ -71,9 +73,9 @@ module _ (def : Definition) (f : Fragment) (e : Typing) where
   abbrev pub region_of : Placed → List ℕ
   region_of p = region e (span_of def p) (text_of def f)
 
-  -- The whole new text has tokens, none of which is across a border of the node's new region, and this region by itself reads as a tree
-  -- of the node's kind at the level that is wanted there. It is not enough that the region reads so: after `a` the region `b` has the
-  -- token `b`, and the whole text has `ab`.
+  -- The whole new text has tokens, none of which is across a border of the node's new region, and this region by itself
+  -- reads as a tree of the node's kind at the level that is wanted there. It is not enough that the region reads so:
+  -- after `a` the region `b` has the token `b`, and the whole text has `ab`.
   pub record IsClean (p : Placed) (tree : Fragment) (nesting : ℕ) : Type 0 where
     pub all : List Spanned
     pub whole : TextTokens def new_text all
@@ -90,13 +92,14 @@ module _ (def : Definition) (f : Fragment) (e : Typing) where
   abbrev pub Counts : Placed → ℕ → Type 0
   Counts p n = CountsText def (region_of p) n
 
-  -- Widens path found n: from the node at the path outward, the first clean one is found, if there is one, and the regions up to it have
-  -- n tokens together.
+  -- Widens path found n: from the node at the path outward, the first clean one is found, if there is one, and the
+  -- regions up to it have n tokens together.
   pub data Widens : Path → Option Path → ℕ → Type 0 where
     stops : {path : Path} {n : ℕ} (p : Placed) (tree : Fragment) (nesting : ℕ) → IsPlacedAt def f path p
         → IsClean p tree nesting → Counts p n → Widens path (Some path) n
     gives_up : {n : ℕ} (p : Placed) → IsPlacedAt def f [] p → IsUnclean p → Counts p n → Widens [] None n
-    widens : {path : Path} {found : Option Path} (m n : ℕ) (p : Placed) (parent : Path) (k : ℕ) → path ≡ parent ++ k ∷ []
+    widens : {path : Path} {found : Option Path} (m n : ℕ) (p : Placed) (parent : Path) (k : ℕ)
+        → path ≡ parent ++ k ∷ []
         → IsPlacedAt def f path p → IsUnclean p → Counts p m → Widens parent found n → Widens path found (m + n)
 
   -- how many tokens are read for the change, and the path of the node that is read

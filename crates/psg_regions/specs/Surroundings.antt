@@ -1,7 +1,8 @@
--- The level that is wanted at each node, and the brackets that are written round it, by the way down to it.
+-- The level that is wanted at each node, and the brackets that are written around it, by the way down to it.
 use Rattle.std.specs.Prelude.{ℕ, ◌≡◌, ◌+◌, ◌==◌, Bool, cond, [], ◌∷◌, length, Some, slice_get}
 use Rattle.psg_grammar.specs.declared.types.Definition.{Definition}
-use Rattle.psg_grammar.specs.Fragments.{Fragment, hole, ending, cell, operator, with_child, with_name, with_number, with_text, anything, observed, children_of}
+use Rattle.psg_grammar.specs.Fragments.{Fragment, hole, ending, cell, operator, with_child, with_name}
+use Rattle.psg_grammar.specs.Fragments.{with_number, with_text, anything, observed, children_of}
 use Rattle.psg_grammar.specs.Paths.{Path}
 use Rattle.psg_reads_back.specs.Rows.{wanted, operator_of, is_below_level}
 
@@ -29,8 +30,8 @@ module _ (def : Definition) where
   abbrev pub more_around : Fragment → ℕ → ℕ
   more_around t least = cond (is_in_brackets t least) 1 0
 
-  -- Surrounds f level around path node l a: where the tree is wanted at the level, with so many pairs of brackets round it, the node at the
-  -- path is wanted at the level l, and has so many pairs a.
+  -- Surrounds f level around path node l a: where the tree is wanted at the level and has `around` pairs of brackets
+  -- around it, the node at the path is wanted at the level l, and has a pairs around it.
   pub data Surrounds : Fragment → ℕ → ℕ → Path → Fragment → ℕ → ℕ → Type 0 where
     at_top : {f : Fragment} {level around : ℕ} → Surrounds f level around [] f level around
     in_child : {f node : Fragment} {level around l a : ℕ} {path : Path} (k : ℕ) (t : Fragment)

@@ -1,3 +1,9 @@
+pub mod TokenValues
+pub mod Feeds
+pub mod Whole
+pub mod OldTokens
+pub mod JobTokens
+pub mod Faults
 pub mod Widening
 pub mod Roots
 pub mod Ways

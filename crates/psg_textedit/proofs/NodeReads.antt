@@ -1,5 +1,5 @@
 -- What the new region of a node is read as, and what the node is by that, clean or not.
-use Rattle.std.proofs.Common.{◌≡◌, inl, inr, ℕ, ◌+◌, ◌-◌, ◌≤◌, List, length, Some, None, ap, sym, ◌∙◌, subst, arith}
+use Rattle.std.proofs.Common.{◌≡◌, inl, inr, ℕ, ◌+◌, ◌-◌, ◌≤◌, List, ◌++◌, length, length-append, Some, None, ap, sym, ◌∙◌, subst, arith}
 use Rattle.std.specs.Str.{chars, IsCharBoundary}
 use Rattle.std.specs.Prelude.{Option, IfNone, IfSome}
 use Rattle.std.specs.List.{AllByRecursion}
@@ -34,7 +34,9 @@ use Rattle.psg_textedit.specs.declared.nodes.Job.{Job}
 use Rattle.psg_textedit.specs.declared.reading.Reading.{Reading}
 use Rattle.psg_textedit.specs.declared.reading.Reading.TheVariants.{Clean, Deep, Unclean}
 use Rattle.psg_textedit.specs.Jobs.{IsJob, IsHere, IsPathAnswer, language_of, tree_in, typing_in}
-use Rattle.psg_textedit.specs.Typing.{HasNoSpan, HasRead, IsNodeAnswer, IsParsedAs, IsSpanAt, MayRead}
+use Rattle.psg_textedit.specs.Lines.{lines_with}
+use Rattle.psg_textedit.specs.Typing.{AreApart, HasNoSpan, HasRead, IsNodeAnswer, IsParsedAs, IsSpanAt, MayRead}
+use Rattle.psg_textedit.proofs.JobTokens.{all_tokens, all_are, job_old, job_whole}
 use Rattle.psg_textedit.proofs.Roots.{got_mapped, has_span}
 use Rattle.psg_textedit.proofs.Ways.{way_low}
 use Rattle.psg_textedit.proofs.Widening.{listed, one_place}
@@ -160,9 +162,53 @@ module _ (j : Job) (ok : IsJob j) (path : Path) (here : IsHere j path) where
       let (k, of) = node_kind in
       subst (IsOfKind (language_of j) here.0.node) (sym (is k (subst (λ x. IsOfKind (language_of j) x k) (sym same) of))) of
 
+  -- ---- the node's borders among the new lines
+
+  pub lines_long : length j.lines.behind.now ≤ j.bytes
+  lines_long = omega (
+    arith,
+    ok.bytes,
+    length-append j.lines.before.now ((typing_in j).new ++ j.lines.behind.now),
+    length-append (typing_in j).new j.lines.behind.now,
+  )
+
+  abbrev pub own_start : ℕ
+  own_start = length j.lines.before.now - ((typing_in j).start - (span_of (language_of j) here.0).start)
+
+  abbrev pub own_end : ℕ
+  own_end = length (lines_with (typing_in j) j.lines.before.now j.lines.behind.now)
+      - (length j.lines.behind.now - ((span_of (language_of j) here.0).end - (typing_in j).end))
+
+  abbrev new_end : ℕ
+  new_end = (span_of (language_of j) here.0).start + length (region_of (language_of j) (tree_in j) (typing_in j) here.0)
+
+  apart_to : (goal : Goal) → AreApart (language_of j) goal j.all.now own_start own_end
+      → AreApart (language_of j) goal (all_tokens j ok) (span_of (language_of j) here.0).start new_end
+  apart_to goal h = record {
+    begins = (job_whole j ok).start_to (span_of (language_of j) here.0).start here.2.0
+        ((job_old j ok).start path here.0 here.1) h.begins;
+    ends = (job_whole j ok).end_to (span_of (language_of j) here.0).end new_end here.2.1 lengths.1 lengths.0
+        ((job_old j ok).end path here.0 here.1) h.ends;
+  }
+
+  apart_from : (goal : Goal)
+      → AreApart (language_of j) goal (all_tokens j ok) (span_of (language_of j) here.0).start new_end
+      → AreApart (language_of j) goal j.all.now own_start own_end
+  apart_from goal h = record {
+    begins = (job_whole j ok).start_from (span_of (language_of j) here.0).start here.2.0 h.begins;
+    ends = (job_whole j ok).end_from (span_of (language_of j) here.0).end new_end here.2.1 lengths.1 lengths.0 h.ends;
+  }
+
+  pub whole_answer : (goal : Goal) (text : List ℕ) (r : Reading)
+      → IsNodeAnswer (language_of j) goal j.all.now own_start own_end text r
+      → IsNodeAnswer (language_of j) goal (all_tokens j ok) (span_of (language_of j) here.0).start new_end text r
+  whole_answer goal text (Clean tree) h = (apart_to goal h.0, h.1)
+  whole_answer goal text Deep h = (apart_to goal h.0, h.1)
+  whole_answer goal text Unclean h = λ apart. h (apart_from goal apart)
+
   module _ (goal : Goal) (of : IsOfKind (language_of j) here.0.node goal.kind) (least : goal.least ≡ here.0.spot.level) (around : goal.around ≡ here.0.spot.around) where
     pub path_answer : (r : Reading)
-        → IsNodeAnswer (language_of j) goal j.all.now (span_of (language_of j) here.0).start
+        → IsNodeAnswer (language_of j) goal (all_tokens j ok) (span_of (language_of j) here.0).start
         ((span_of (language_of j) here.0).start + length (region_of (language_of j) (tree_in j) (typing_in j) here.0))
         (region_of (language_of j) (tree_in j) (typing_in j) here.0) r
         → IsPathAnswer j path r
@@ -171,8 +217,8 @@ module _ (j : Job) (ok : IsJob j) (path : Path) (here : IsHere j path) where
       placed = here.1;
       nesting = h.1.nesting;
       clean = record {
-        all = j.all.now;
-        whole = ok.all;
+        all = all_tokens j ok;
+        whole = all_are j ok;
         begins = h.0.begins;
         ends = h.0.ends;
         kind = goal.kind;
@@ -192,8 +238,8 @@ module _ (j : Job) (ok : IsJob j) (path : Path) (here : IsHere j path) where
       tree = h.1.tree;
       nesting = h.1.nesting;
       clean = record {
-        all = j.all.now;
-        whole = ok.all;
+        all = all_tokens j ok;
+        whole = all_are j ok;
         begins = h.0.begins;
         ends = h.0.ends;
         kind = goal.kind;
@@ -207,9 +253,9 @@ module _ (j : Job) (ok : IsJob j) (path : Path) (here : IsHere j path) where
       here.0,
       here.1,
       λ tree d clean.
-          let one : clean.all ≡ j.all.now =
+          let one : clean.all ≡ all_tokens j ok =
           only_tokens (fixed_words (language_of j)) (chars (new_text (language_of j) (tree_in j) (typing_in j))) 0 clean.all
-          j.all.now clean.whole ok.all in
+          (all_tokens j ok) clean.whole (all_are j ok) in
           let same : clean.kind ≡ goal.kind = one_kind (language_of j) here.0.node clean.kind goal.kind clean.of_kind of in
           h (record {
             begins = subst (AllByRecursion (IsBeside (span_of (language_of j) here.0).start)) one clean.begins;
@@ -250,16 +296,6 @@ module _ (j : Job) (ok : IsJob j) (path : Path) (here : IsHere j path) where
     pub ready_behind : span.end ≤ length text
     ready_behind = omega (arith, lengths.1, ap length the_text, ap (λ (x : Span). x.end) the_span)
 
-    pub ready_bytes : (behind : ℕ) → behind ≡ length text - span.end → behind ≤ j.bytes
-    ready_bytes behind e =
-        omega (arith, e, lengths.0, lengths.1, ap length the_text, ap (λ (x : Span). x.end) the_span, ok.bytes)
-
-    pub border_is : (behind end : ℕ) → behind ≡ length text - span.end → end ≡ j.bytes - behind
-        → end ≡ (span_of (language_of j) here.0).start
-        + length (region_of (language_of j) (tree_in j) (typing_in j) here.0)
-    border_is behind end e f =
-        omega (arith, e, f, lengths.0, lengths.1, ap length the_text, ap (λ (x : Span). x.end) the_span, ok.bytes)
-
     pub region_is : (own : List ℕ) → own ≡ region (typing_in j) span text
         → own ≡ region_of (language_of j) (tree_in j) (typing_in j) here.0
     region_is own e = e ∙ ap (λ x. region (typing_in j) x text) the_span
@@ -268,18 +304,24 @@ module _ (j : Job) (ok : IsJob j) (path : Path) (here : IsHere j path) where
     pub node_answer : (goal : Goal) (n : Fragment) (l a : ℕ)
         → Surrounds (language_of j) (tree_in j) 0 0 path n l a
         → ((k : Kind) → IsOfKind (language_of j) n k → goal.kind ≡ k) → goal.least ≡ l → goal.around ≡ a
-        → (behind end : ℕ) → behind ≡ length text - span.end → end ≡ j.bytes - behind
+        → (all : List Spanned) → all ≡ j.all.now
+        → (start : ℕ) → start ≡ length j.lines.before.now - ((typing_in j).start - span.start)
+        → (end : ℕ) → end ≡ j.bytes - (length j.lines.behind.now - (span.end - (typing_in j).end))
         → (own : List ℕ) → own ≡ region (typing_in j) span text → (r : Reading)
-        → IsNodeAnswer (language_of j) goal j.all.now span.start end own r → IsPathAnswer j path r
-    node_answer goal n l a w kind least around behind end e f own o r h =
+        → IsNodeAnswer (language_of j) goal all start end own r → IsPathAnswer j path r
+    node_answer goal n l a w kind least around all is start begins end ends own o r h =
         let same = place_is n l a w in
         path_answer goal (goal_kind n goal.kind same.node kind) (least ∙ same.level) (around ∙ same.around) r
-        (subst (λ bs. IsNodeAnswer (language_of j) goal j.all.now (span_of (language_of j) here.0).start
+        (subst (λ bs. IsNodeAnswer (language_of j) goal (all_tokens j ok) (span_of (language_of j) here.0).start
         ((span_of (language_of j) here.0).start + length (region_of (language_of j) (tree_in j) (typing_in j) here.0)) bs r)
         (region_is own o)
-        (subst (λ b. IsNodeAnswer (language_of j) goal j.all.now (span_of (language_of j) here.0).start b own r)
-        (border_is behind end e f)
-        (subst (λ (x : Span). IsNodeAnswer (language_of j) goal j.all.now x.start end own r) the_span h)))
+        (whole_answer goal own r
+        (subst (λ ts. IsNodeAnswer (language_of j) goal ts own_start own_end own r) is
+        (subst (λ n. IsNodeAnswer (language_of j) goal all n own_end own r)
+        (begins ∙ ap (λ (x : Span). length j.lines.before.now - ((typing_in j).start - x.start)) the_span)
+        (subst (λ n. IsNodeAnswer (language_of j) goal all start n own r)
+        (ends ∙ ap (λ (x : Span). j.bytes - (length j.lines.behind.now - (x.end - (typing_in j).end))) the_span
+        ∙ ap (λ n. n - (length j.lines.behind.now - ((span_of (language_of j) here.0).end - (typing_in j).end))) ok.bytes) h)))))
 
     pub node_counted : (own : List ℕ) → own ≡ region (typing_in j) span text → (from to : ℕ)
         → HasRead (language_of j) own from to → (p : Placed) → IsPlacedAt (language_of j) (tree_in j) path p

@@ -1,22 +1,18 @@
 -- The whole text is that of the first span; which node is read first; and what follows where none is clean.
-use Rattle.std.proofs.Common.{◌≡◌, inl, inr, ℕ, zero, suc, ◌+◌, ◌<◌, ◌≤◌, List, [], ◌∷◌, ◌++◌, length, length-append, take, drop, map, Option, Some, None, slice_get, refl, ap, sym, ◌∙◌, subst, append-nil, arith}
-use Rattle.std.specs.Str.{chars, IsUtf8}
+use Rattle.std.proofs.Common.{◌≡◌, ℕ, zero, suc, ◌+◌, ◌<◌, ◌≤◌, List, [], ◌∷◌, ◌++◌, length, map, Option, Some, None, slice_get, refl, ap, sym, ◌∙◌, subst, append-nil, arith}
+use Rattle.std.specs.Str.{chars}
 use Rattle.std.specs.List.{AllByRecursion}
-use Rattle.std.specs.Prelude.{encode_utf8, encode_utf8_all}
 use Rattle.std.proofs.lemmas.Option.{none-some, slice_get_within}
-use Rattle.std.proofs.lemmas.Str.{encodes-append, length-le-encodes, IsUtf8-append, IsUtf8-drop, IsUtf8-take}
-use Rattle.psg_terms.specs.Names.{Name}
 use Rattle.psg_grammar.specs.declared.types.Kind.{Kind}
 use Rattle.psg_grammar.specs.declared.types.Definition.{Definition}
 use Rattle.psg_grammar.specs.Fragments.{Fragment}
 use Rattle.psg_grammar.specs.Paths.{Path}
 use Rattle.psg_grammar.specs.WellFormed.{WellFormed, fixed_words}
-use Rattle.psg_lexis.specs.Classes.{Chars}
-use Rattle.psg_lexis.specs.Tokens.{bytes_of, HasTokens, nothing, blank, next, IsBeside}
-use Rattle.psg_lexis.specs.declared.token.Spanned.{Spanned}
+use Rattle.psg_lexis.specs.Tokens.{bytes_of, HasTokens, IsBeside}
 use Rattle.psg_reads_back.specs.Layout.{gap_after, last_in, lead, text_of}
 use Rattle.psg_reads_back.specs.Rows.{Piece, token, mark, row}
 use Rattle.psg_reads_back.specs.Spots.{Placed, placed_in, IsPlacedAt, top_spot}
+use Rattle.psg_reads_back.proofs.Borders.{starts_within}
 use Rattle.psg_reads_back.proofs.Rows.{last_in-append}
 use Rattle.psg_unparse.specs.Spots.{printed_of, span_of}
 use Rattle.psg_unparse.specs.declared.spans.Span.{Span}
@@ -25,11 +21,13 @@ use Rattle.psg_regions.specs.Regions.{Typing, Encloses, IsInnermost, IsInside, I
 use Rattle.psg_regions.proofs.Readings.{innermost_once}
 use Rattle.psg_regions.proofs.Fills.{fits_kind}
 use Rattle.psg_regions.proofs.Cuts.{size_of}
-use Rattle.psg_regions.proofs.Typed.{cut_at, new_seam, text_utf8}
+use Rattle.psg_regions.proofs.Typed.{cut_at, new_seam}
 use Rattle.psg_textedit.specs.declared.change.TextFault.TheVariants as faults
 use Rattle.psg_textedit.specs.declared.nodes.Job.{Job}
 use Rattle.psg_textedit.specs.Jobs.{IsJob, IsHere, language_of, tree_in, typing_in}
 use Rattle.psg_textedit.specs.Typing.{HasNoSpan, IsBest, IsTextFault}
+use Rattle.psg_textedit.proofs.Feeds.{beside_end, beside_start, ends_within}
+use Rattle.psg_textedit.proofs.JobTokens.{all_tokens, all_are, new_utf8}
 use Rattle.psg_textedit.proofs.Widening.{not_outside, one_place}
 
 -- ---- the first node
@@ -142,58 +140,12 @@ module _ (def : Definition) (f : Fragment) (e : Typing) (i : IsInside e (text_of
       innermost_once (printed_of def f).spans e q there.span.path first (best_innermost def f e best there) in
       h found n (subst (λ x. Widens def f e x found n) (one ∙ sym is) w)
 
--- ---- tokens are in their text
-
-char_some : (c : ℕ) → 1 ≤ length (encode_utf8 c)
-char_some c = omega (arith, length-le-encodes (c ∷ []), ap length (append-nil (encode_utf8 c)))
-
-weaker : (m n : ℕ) → m ≤ n → (ts : List Spanned) → AllByRecursion (λ (t : Spanned). t.end ≤ m) ts
-    → AllByRecursion (λ (t : Spanned). t.end ≤ n) ts
-weaker m n h [] a = tt
-weaker m n h (t ∷ ts) a = (omega (arith, h, a.0), weaker m n h ts a.1)
-
-module _ (fixed : List Name) where
-  ends_within : (cs : Chars) (at : ℕ) (ts : List Spanned) → HasTokens fixed cs at ts
-      → AllByRecursion (λ (t : Spanned). t.end ≤ at + bytes_of cs) ts
-  ends_within _ _ _ (nothing at) = tt
-  ends_within _ _ _ (blank c cs at ts h k) =
-      let size : bytes_of (c ∷ cs) ≡ length (encode_utf8 c) + bytes_of cs = length-append (encode_utf8 c) (encode_utf8_all cs) in
-      weaker (at + 1 + bytes_of cs) (at + bytes_of (c ∷ cs)) (omega (arith, size, char_some c)) ts
-      (ends_within cs (at + 1) ts k)
-  ends_within _ _ _ (next all at s ts b k) =
-      let size : bytes_of all ≡ bytes_of b.front + bytes_of b.rest =
-      ap bytes_of b.whole ∙ ap length (encodes-append b.front b.rest)
-      ∙ length-append (encode_utf8_all b.front) (encode_utf8_all b.rest) in (
-        omega (arith, size, b.ends),
-        weaker (s.end + bytes_of b.rest) (at + bytes_of all) (omega (arith, size, b.ends)) ts
-            (ends_within b.rest s.end ts k),
-      )
-
-beside_start : (ts : List Spanned) (n : ℕ) → n ≡ 0 → AllByRecursion (IsBeside n) ts
-beside_start [] n e = tt
-beside_start (t ∷ ts) n e = (inr (omega (arith, e)), beside_start ts n e)
-
-beside_end : (n m : ℕ) → m ≤ n → (ts : List Spanned) → AllByRecursion (λ (t : Spanned). t.end ≤ m) ts
-    → AllByRecursion (IsBeside n) ts
-beside_end n m h [] a = tt
-beside_end n m h (t ∷ ts) a = (inl (omega (arith, h, a.0)), beside_end n m h ts a.1)
-
 module _ (j : Job) (ok : IsJob j) where
   pub best_here : (best : ℕ) (limit : ℕ)
       → (b : IsBest (printed_of (language_of j) (tree_in j)).spans (typing_in j) limit best) → IsHere j b.span.path
   best_here best limit b =
       let (p, at, same) = best_placed (language_of j) (tree_in j) (typing_in j) limit best b in
       (p, at, subst (Encloses (typing_in j)) (sym same) b.encloses)
-
-  new_utf8 : IsUtf8 (new_text (language_of j) (tree_in j) (typing_in j))
-  new_utf8 =
-      let text : List ℕ = text_of (language_of j) (tree_in j) in
-      let all : IsUtf8 (text_of (language_of j) (tree_in j)) =
-      text_utf8 (language_of j) ok.reader.sound ok.reader.tokens ok.reader.class (tree_in j) j.kind ok.printable ok.formed in
-      IsUtf8-append (take (typing_in j).start text) ((typing_in j).new ++ drop (typing_in j).end text)
-      (IsUtf8-take text (typing_in j).start all ok.inside.start_whole)
-      (IsUtf8-append (typing_in j).new (drop (typing_in j).end text) ok.new
-      (IsUtf8-drop text (typing_in j).end all ok.inside.end_whole))
 
   -- where the whole is not clean, no tree has its tokens
   pub no_tree : (p : Placed) × IsPlacedAt (language_of j) (tree_in j) [] p
@@ -207,19 +159,21 @@ module _ (j : Job) (ok : IsJob j) where
       top_region (language_of j) (tree_in j) j.kind ok.formed (typing_in j) ok.inside in (
         not_outside (typing_in j) (text_of (language_of j) (tree_in j)) ok.inside,
         record {
-          tokens = j.all.now;
-          are = ok.all;
+          tokens = all_tokens j ok;
+          are = all_are j ok;
           none = λ tree d y. subst (IsUnclean (language_of j) (tree_in j) (typing_in j)) same unclean tree d (record {
-            all = j.all.now;
-            whole = ok.all;
-            begins = beside_start j.all.now (span_of (language_of j) (top_of (language_of j) (tree_in j))).start
-                (top_start (language_of j) (tree_in j));
+            all = all_tokens j ok;
+            whole = all_are j ok;
+            begins = beside_start (span_of (language_of j) (top_of (language_of j) (tree_in j))).start 0
+                (omega (arith, top_start (language_of j) (tree_in j))) (all_tokens j ok)
+                (starts_within (fixed_words (language_of j)) (chars (new_text (language_of j) (tree_in j) (typing_in j))) 0
+                (all_tokens j ok) (all_are j ok));
             ends = at_end region;
             kind = j.kind;
             of_kind = fits_kind (language_of j) (tree_in j) [] j.kind ok.formed.0 ok.formed.1;
             reads = record {
-              tokens = j.all.now;
-              are = subst (λ bs. HasTokens (fixed_words (language_of j)) (chars bs) 0 j.all.now) region ok.all;
+              tokens = all_tokens j ok;
+              are = subst (λ bs. HasTokens (fixed_words (language_of j)) (chars bs) 0 (all_tokens j ok)) region (all_are j ok);
               yields = y;
             };
           });
@@ -229,14 +183,15 @@ module _ (j : Job) (ok : IsJob j) where
       at_end : new_text (language_of j) (tree_in j) (typing_in j)
           ≡ region_of (language_of j) (tree_in j) (typing_in j) (top_of (language_of j) (tree_in j))
           → AllByRecursion (IsBeside ((span_of (language_of j) (top_of (language_of j) (tree_in j))).start
-          + length (region_of (language_of j) (tree_in j) (typing_in j) (top_of (language_of j) (tree_in j))))) j.all.now
+          + length (region_of (language_of j) (tree_in j) (typing_in j) (top_of (language_of j) (tree_in j))))) (all_tokens j ok)
       at_end region =
           beside_end
           ((span_of (language_of j) (top_of (language_of j) (tree_in j))).start
           + length (region_of (language_of j) (tree_in j) (typing_in j) (top_of (language_of j) (tree_in j))))
           (0 + bytes_of (chars (new_text (language_of j) (tree_in j) (typing_in j))))
-          (omega (arith, ap length region, size_of (new_text (language_of j) (tree_in j) (typing_in j)) new_utf8))
-          j.all.now (ends_within (fixed_words (language_of j)) (chars (new_text (language_of j) (tree_in j) (typing_in j))) 0 j.all.now ok.all)
+          (omega (arith, ap length region, size_of (new_text (language_of j) (tree_in j) (typing_in j)) (new_utf8 j ok)))
+          (all_tokens j ok)
+          (ends_within (fixed_words (language_of j)) (chars (new_text (language_of j) (tree_in j) (typing_in j))) 0 (all_tokens j ok) (all_are j ok))
 
   pub no_tree_at : (path : Path) → length path ≡ 0 → (p : Placed) × IsPlacedAt (language_of j) (tree_in j) path p
       × IsUnclean (language_of j) (tree_in j) (typing_in j) p

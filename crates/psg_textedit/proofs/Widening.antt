@@ -29,6 +29,7 @@ use Rattle.psg_textedit.specs.declared.change.TextFault.TheVariants as faults
 use Rattle.psg_textedit.specs.declared.nodes.Job.{Job}
 use Rattle.psg_textedit.specs.Jobs.{IsJob, IsHere, IsCleanAt, IsDeepAt, language_of, tree_in, typing_in}
 use Rattle.psg_textedit.specs.Typing.{HasRead, IsForNode, IsTextFault, MayRead}
+use Rattle.psg_textedit.proofs.JobTokens.{all_tokens, all_are, all_values}
 
 pub not_outside : (e : Typing) (text : List ℕ) → IsInside e text → IsOutside e text → ⊥
 not_outside e text i (inl h) = omega (arith, h, i.ordered)
@@ -179,10 +180,10 @@ module _ (j : Job) (ok : IsJob j) where
       → IsCleanAt j path tree → WellFormed (language_of j) (replaced path tree (tree_in j)) j.kind
   is_formed path tree here c =
       let r = replaced_in path c.p tree c.nesting here c.placed c.clean in
-      let same : r.reads.tokens ≡ j.all.now = one_text r.reads.tokens j.all.now r.reads.are ok.all in
+      let same : r.reads.tokens ≡ all_tokens j ok = one_text r.reads.tokens (all_tokens j ok) r.reads.are (all_are j ok) in
       yields_are_trees (language_of j) j.kind 0 (max r.elsewhere (c.p.spot.around + c.nesting))
       (replaced path tree (tree_in j)) (tokens_of r.reads.tokens)
-      (subst (λ ts. AllByRecursion IsValue (tokens_of ts)) (sym same) ok.values) r.reads.yields
+      (subst (λ ts. AllByRecursion IsValue (tokens_of ts)) (sym same) (all_values j ok)) r.reads.yields
     where
       one_text : (ts us : List Spanned)
           → TextTokens (language_of j) (new_text (language_of j) (tree_in j) (typing_in j)) ts

@@ -9,16 +9,15 @@ use Rattle.psg_grammar.specs.Paths.{Path}
 use Rattle.psg_grammar.specs.Printable.{IsPrintable}
 use Rattle.psg_grammar.specs.Sizes.{depth_of}
 use Rattle.psg_grammar.specs.WellFormed.{WellFormed}
-use Rattle.std.specs.List.{AllByRecursion}
-use Rattle.psg_class.specs.Only.{IsValue}
-use Rattle.psg_class.specs.Texts.{TextTokens, tokens_of}
+use Rattle.psg_class.specs.Texts.{TextTokens}
 use Rattle.psg_reads_back.specs.Layout.{text_of}
 use Rattle.psg_reads_back.specs.Spots.{Placed, IsPlacedAt}
 use Rattle.psg_unparse.specs.Spots.{span_of, printed_of}
-use Rattle.psg_regions.specs.Regions.{Typing, Encloses, IsInside, IsClean, IsUnclean, new_text}
+use Rattle.psg_regions.specs.Regions.{Typing, Encloses, IsInside, IsClean, IsUnclean}
 use Rattle.psg_textedit.specs.declared.nodes.Job.{Job}
 use Rattle.psg_textedit.specs.declared.reading.Reading.{Reading}
 use Rattle.psg_textedit.specs.declared.reading.Reading.TheVariants.{Clean, Deep, Unclean}
+use Rattle.psg_textedit.specs.Lines.{AreLines, lines_with}
 use Rattle.psg_textedit.specs.Typing.{typing_of, definition_of, IsReader}
 
 abbrev pub language_of : Job → Definition
@@ -30,7 +29,7 @@ tree_in j = j.tree.now
 abbrev pub typing_in : Job → Typing
 typing_in j = typing_of j.typed.now
 
--- the tree is what is printed, the bytes are in its text, and the whole new text has tokens
+-- the tree is what is printed, the bytes are in its text, and their lines with the new bytes have these tokens
 pub record IsJob (j : Job) : Type 0 where
   pub reader : IsReader j.reader.now
   pub formed : WellFormed (language_of j) (tree_in j) j.kind
@@ -39,9 +38,9 @@ pub record IsJob (j : Job) : Type 0 where
   pub printed : j.printed.now ≡ printed_of (language_of j) (tree_in j)
   pub inside : IsInside (typing_in j) (text_of (language_of j) (tree_in j))
   pub new : IsUtf8 (typing_in j).new
-  pub bytes : j.bytes ≡ length (new_text (language_of j) (tree_in j) (typing_in j))
-  pub all : TextTokens (language_of j) (new_text (language_of j) (tree_in j) (typing_in j)) j.all.now
-  pub values : AllByRecursion IsValue (tokens_of j.all.now)
+  pub lines : AreLines (typing_in j) (text_of (language_of j) (tree_in j)) j.lines.before.now j.lines.behind.now
+  pub bytes : j.bytes ≡ length (lines_with (typing_in j) j.lines.before.now j.lines.behind.now)
+  pub all : TextTokens (language_of j) (lines_with (typing_in j) j.lines.before.now j.lines.behind.now) j.all.now
 
 -- the node at the path has the bytes
 abbrev pub IsHere : Job → Path → Type 0

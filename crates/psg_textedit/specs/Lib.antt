@@ -1,3 +1,4 @@
 pub mod Typing
 pub mod Places
+pub mod Lines
 pub mod Jobs

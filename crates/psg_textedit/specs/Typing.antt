@@ -70,9 +70,11 @@ pub record IsBest (spans : List Span) (e : Typing) (limit best : ℕ) : Type 0 w
   pub first : (k : ℕ) (other : Span) → k < best → slice_get spans k ≡ Some other → Encloses e other
       → length other.path < length span.path
 
+-- no span is of the path
 abbrev pub HasNoSpan : List Span → Path → Type 0
 HasNoSpan spans path = (k : ℕ) (span : Span) → slice_get spans k ≡ Some span → span.path ≡ path → ⊥
 
+-- the span is listed, and it is of the path
 abbrev pub IsSpanAt : List Span → Path → Span → Type 0
 IsSpanAt spans path span = (k : ℕ) × (slice_get spans k ≡ Some span) × (span.path ≡ path)
 

@@ -9,26 +9,34 @@ use psg_tree::{Path, Tree};
 use std::alloc::{AllocError, AllocFailed};
 use thiserror::Error;
 
-/// What texts of a language are read by: its definition, its fixed words, and what the parser looks up.
+/// What texts of a language are read by. All three are of one definition.
 #[derive(Clone, Copy)]
 pub struct Reader<'a> {
+    /// The definition of the language.
     pub definition: &'a Definition,
+    /// Its fixed words, by which a text is cut into tokens.
     pub lexis: &'a Lexis,
+    /// What the parser looks up of it.
     pub table: &'a ParseTable,
 }
 
-/// The bytes from `start` on and before `end` are replaced by new ones.
+/// A change of a text: the bytes from `start` on and before `end` are replaced by new ones.
 #[derive(Clone, Copy)]
 pub struct Typed<'a> {
+    /// The number of the first byte that is replaced, from 0 on.
     pub start: usize,
+    /// The number of the byte after the last one that is replaced.
     pub end: usize,
+    /// The new bytes.
     pub new: &'a str,
 }
 
 /// A tree for the node at a path.
 #[derive(Drop)]
 pub struct Change {
+    /// The way from the top of the old tree to the node.
     pub path: Path,
+    /// The tree that replaces the node.
     pub tree: Tree,
 }
 

@@ -1,8 +1,9 @@
 //! Typed text: bytes of a printed tree are replaced, and only the node around them is read again.
 //!
-//! `type_over` cuts the whole new text into tokens. It finds the smallest node around the bytes and parses that node's
-//! new tokens alone. Where they are no tree of the node's kind, or do not fit what is around it, it parses those of the
-//! node's parent, up to the whole text. It answers what parsing the whole new text would answer.
+//! No token is on two lines, so `type_over` cuts only the lines of the replaced bytes into tokens. It finds the
+//! smallest node around the bytes and parses that node's new tokens alone. Where they are no tree of the node's kind,
+//! or do not fit what is around it, it parses those of the node's parent, up to the whole text. It answers what parsing
+//! the whole new text would answer.
 #![tactic(auto)]
 
 pub mod change;

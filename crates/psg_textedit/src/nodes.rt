@@ -1,7 +1,7 @@
 //! A node of a printed tree, read again with its bytes replaced.
-ghost use Rattle.std.specs.Prelude.{IfOk};
+ghost use Rattle.std.specs.Prelude.{◌≡◌, ◌-◌, ◌≤◌, length, IfOk};
 ghost use Rattle.psg_reads_back.specs.Spots.{IsPlacedAt, Placed};
-ghost use Rattle.psg_regions.specs.Regions.{region_of};
+ghost use Rattle.psg_regions.specs.Regions.{region_of, Encloses};
 ghost use Rattle.psg_textedit.specs.Typing.{HasRead, MayRead};
 ghost use Rattle.psg_textedit.specs.Jobs.{IsHere, IsJob, IsPathAnswer, language_of, tree_in, typing_in};
 
@@ -9,17 +9,18 @@ use crate::change::{Reader, Typed};
 use crate::places::{kind_of, place_of};
 use crate::reading::{Reading, Region, read_region};
 use crate::spans::span_at;
-use crate::texts::region;
+use crate::texts::{Lines, region};
 use psg_grammar::Kind;
 use psg_lexis::Spanned;
 use psg_parse::Goal;
 use psg_terms::Steps;
 use psg_tree::Tree;
-use psg_unparse::Printed;
+use psg_unparse::{Printed, Span};
 use std::alloc::{AllocError, Global};
 use std::sync::ledger::Ledger;
 
-/// A printed tree of a kind, what is typed into it, and the whole new text: its bytes by their number, and its tokens.
+/// A printed tree of a kind, what is typed into it, and the lines on which that is: with the new bytes they have so
+/// many bytes, and these tokens.
 #[derive(Clone, Copy)]
 pub(crate) struct Job<'a> {
     pub(crate) reader: &'a Reader<'a>,
@@ -27,13 +28,35 @@ pub(crate) struct Job<'a> {
     pub(crate) kind: Kind,
     pub(crate) printed: &'a Printed,
     pub(crate) typed: &'a Typed<'a>,
+    pub(crate) lines: Lines<'a>,
     pub(crate) bytes: usize,
     pub(crate) all: &'a [Spanned],
 }
 
-/// Reads the new region of the node at the path, as a tree of the node's kind at the level that is wanted there. It makes
-/// the region's text, lexes it, looks at the whole new text's tokens once for each border, and takes a step for each token
-/// of the region at most.
+/// Returns the part of the new lines that is the new region of the node of the span. A border before the lines is where
+/// they begin, and one after them is where they end: no token of the text is across it.
+fn region_among<'a>(job: &Job<'a>, span: &Span) -> Region<'a>
+    requires encloses { Encloses (typing_in job.now) span.now }
+    requires bytes { length job.now.lines.behind.now ≤ job.now.bytes }
+    ensures all { result.all.now ≡ job.now.all.now }
+    ensures start { result.start ≡ length job.now.lines.before.now - (job.now.typed.now.start - span.now.start) }
+    ensures end { result.end
+        ≡ job.now.bytes - (length job.now.lines.behind.now - (span.now.end - job.now.typed.now.end)) }
+{
+    let in_front = job.typed.start - span.start;
+    let after = span.end - job.typed.end;
+    let start = job.lines.before.len().saturating_sub(in_front);
+    let left = job.lines.behind.len().saturating_sub(after);
+    Region {
+        all: job.all,
+        start,
+        end: job.bytes - left,
+    }
+}
+
+/// Reads the new region of the node at the path, as a tree of the node's kind at the level that is wanted there. It
+/// makes the region's text, lexes it, looks at the tokens of the new lines once for each border, and takes a step for
+/// each token of the region at most.
 pub(crate) fn read_node<L: Ledger>(
     alloc: Global,
     job: &Job<'_>,
@@ -60,13 +83,7 @@ pub(crate) fn read_node<L: Ledger>(
     };
     let kind = kind_of(job.reader.definition, place.node);
     let text = job.printed.text.as_str();
-    let behind = text.len() - span.end;
-    let end = job.bytes - behind;
-    let region_in = Region {
-        all: job.all,
-        start: span.start,
-        end,
-    };
+    let region_in = region_among(job, span);
     let goal = Goal {
         kind,
         least: place.least,

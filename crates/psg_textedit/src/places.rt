@@ -25,7 +25,7 @@ pub(crate) struct Place<'t> {
     pub(crate) around: u32,
 }
 
-/// Gives the items from the first part on.
+/// Returns the items from the first part on.
 fn from_part(items: &[Item]) -> &[Item]
     ensures { result.now ≡ rows.from_part items.now }
 {
@@ -39,7 +39,7 @@ fn from_part(items: &[Item]) -> &[Item]
     rest
 }
 
-/// Gives the least level of the subtree of the number among an operator's parts; 0 where there is none.
+/// Returns the least level of the subtree of the number among an operator's parts; 0 where there is none.
 fn wanted_among(definition: &Definition, op: u32, parts: &[Part], number: u32) -> u8
     requires sound { IsSound definition.now }
     ensures { result ≡ wanted_among_parts (operator_at definition.now op)
@@ -59,7 +59,7 @@ fn wanted_among(definition: &Definition, op: u32, parts: &[Part], number: u32) -
     0
 }
 
-/// Tells how many subtrees the part is: one or none.
+/// Returns how many subtrees the part is: one or none.
 fn subtrees_in(part: &Part) -> u32
     ensures { result ≡ count_of part.now }
 {
@@ -69,7 +69,7 @@ fn subtrees_in(part: &Part) -> u32
     }
 }
 
-/// Gives the least level of the child of the number; 0 of an element of a list.
+/// Returns the least level of the child of the number; 0 of an element of a list.
 fn wanted_at(definition: &Definition, tree: &Tree, number: u32) -> u8
     requires sound { IsSound definition.now }
     ensures { result ≡ wanted_in definition.now tree.now number }
@@ -81,7 +81,7 @@ fn wanted_at(definition: &Definition, tree: &Tree, number: u32) -> u8
     }
 }
 
-/// Gives the child of the number as a place, where a tree of at least the level is wanted.
+/// Returns the child of the number as a place, where a tree of at least the level is wanted.
 fn placed<'t>(definition: &Definition, node: &'t Tree, wanted: u8, around: u32) -> Place<'t>
     requires few { around ≤ MOST_DEPTH }
     ensures node { result.node.now ≡ node.now }
@@ -102,8 +102,8 @@ fn placed<'t>(definition: &Definition, node: &'t Tree, wanted: u8, around: u32) 
     }
 }
 
-/// Finds the node at the path with what is around it; `None` where the path leads to no node. It walks along the path, and
-/// over the parts of the operators on it.
+/// Finds the node at the path with what is around it; `None` where the path leads to no node. It walks along the path,
+/// and over the parts of the operators on it.
 pub(crate) fn place_of<'t>(
     definition: &Definition,
     tree: &'t Tree,
@@ -130,7 +130,7 @@ pub(crate) fn place_of<'t>(
     Some(place)
 }
 
-/// Gives the kind of a node.
+/// Returns the kind of a node.
 pub(crate) fn kind_of(definition: &Definition, tree: &Tree) -> Kind
     ensures { (kind : PlainKind) → IsOfKind definition.now tree.now kind → result ≡ kind }
 {
@@ -141,7 +141,7 @@ pub(crate) fn kind_of(definition: &Definition, tree: &Tree) -> Kind
     }
 }
 
-/// Gives the phylum of the operator of the number; 0 where the definition has none.
+/// Returns the phylum of the operator of the number; 0 where the definition has none.
 fn phylum_of(definition: &Definition, op: u32) -> u32
     ensures { MatchOption (operator_at definition.now op) (result ≡ 0) (λ o. result ≡ o.phylum) }
 {

@@ -1,23 +1,22 @@
 //! What the new region of a node is read as.
 ghost use Rattle.std.specs.Prelude.{◌≡◌, ◌+◌, ◌≤◌, ◌↔◌, IfNone, IfOk, IfSome, IsTrue, length};
-ghost use Rattle.std.specs.List.{AllByRecursion};
-ghost use Rattle.psg_class.specs.Only.{IsValue};
-ghost use Rattle.psg_class.specs.Texts.{HasNoTokens, TextTokens, tokens_of};
+ghost use Rattle.psg_class.specs.Texts.{HasNoTokens, TextTokens};
 ghost use Rattle.psg_lexis.specs.declared.token.LexFault.{LexFault};
 ghost use Rattle.psg_grammar.specs.declared.limits.TheConstants.{MOST_BRACKETS};
-ghost use Rattle.psg_textedit.specs.Typing.{IsFaultReading, IsNodeAnswer, IsParsedAs, IsReader, HasRead, MayRead, definition_of};
+ghost use Rattle.psg_textedit.specs.Typing.{IsFaultReading, IsNodeAnswer, IsParsedAs, IsReader};
+ghost use Rattle.psg_textedit.specs.Typing.{HasRead, MayRead, definition_of};
 
 use crate::change::Reader;
 use crate::spans::is_apart;
-use psg_lexis::{LexFault, Spanned, Token, lex};
+use psg_lexis::{LexFault, Spanned, lex};
 use psg_parse::{Goal, ParseFault, parse_with};
 use psg_terms::Steps;
 use psg_tree::Tree;
 use std::alloc::{AllocError, Global};
 use std::sync::ledger::Ledger;
 
-/// What the new region of a node is read as: a tree that fits in the place of the node and is within the limits, one that
-/// is past a limit, or none that fits.
+/// What the new region of a node is read as: a tree that fits in the place of the node and is within the limits, one
+/// that is past a limit, or none that fits.
 #[derive(Drop)]
 pub(crate) enum Reading {
     Clean(Tree),
@@ -25,7 +24,7 @@ pub(crate) enum Reading {
     Unclean,
 }
 
-/// The tokens of the whole new text, and the bytes of it that are a node's new region.
+/// The tokens of the new lines, and the bytes of these that are a node's new region.
 #[derive(Clone, Copy)]
 pub(crate) struct Region<'a> {
     pub(crate) all: &'a [Spanned],
@@ -54,7 +53,7 @@ pub(crate) fn tokens_in(
     }
 }
 
-/// Tells whether the fault is want of memory.
+/// Says whether the fault is that memory ran out.
 fn is_memory(fault: LexFault) -> bool
     ensures { IsTrue result ↔ (fault ≡ LexFault.Memory) }
 {
@@ -64,7 +63,7 @@ fn is_memory(fault: LexFault) -> bool
     }
 }
 
-/// Gives what tokens are read as that are not parsed for this fault.
+/// Returns what tokens are read as that are not parsed for this fault.
 fn reading_of(fault: ParseFault) -> Result<Reading, AllocError>
     ensures { IfOk result (IsFaultReading fault) }
 {
@@ -98,8 +97,8 @@ fn parsed<L: Ledger>(
     }
 }
 
-/// Reads the new region of a node by itself, and tells what it is read as in its place. It counts a step for each token of
-/// the region at most.
+/// Reads the new region of a node by itself, and returns what it is read as in its place. It counts a step for each
+/// token of the region at most.
 pub(crate) fn read_region<L: Ledger>(
     alloc: Global,
     reader: &Reader<'_>,
@@ -126,28 +125,4 @@ pub(crate) fn read_region<L: Ledger>(
     }
     let reading = parsed(alloc, reader, goal, tokens.as_slice(), steps)?;
     Ok(reading)
-}
-
-/// Reads the numbers and texts of the tokens. What it ensures holds of all values of their types, and is known of those
-/// that a program reads.
-pub(crate) fn read_values(tokens: &[Spanned])
-    ensures { AllByRecursion IsValue (tokens_of tokens.now) }
-{
-    for spanned in tokens {
-        read_value(&spanned.token);
-    }
-}
-
-fn read_value(token: &Token)
-    ensures { IsValue token.now }
-{
-    match token {
-        Token::Number(value) => {
-            let _value = *value;
-        }
-        Token::Text(text) => {
-            let _text = text.as_str();
-        }
-        _ => {}
-    }
 }

@@ -11,7 +11,7 @@ use crate::change::Typed;
 use psg_lexis::Spanned;
 use psg_unparse::Span;
 
-/// Tells whether the bytes are in the span.
+/// Says whether the bytes are in the span.
 fn encloses(span: &Span, typed: &Typed<'_>) -> bool
     ensures yes { IsTrue result → Encloses (typing_of typed.now) span.now }
     ensures no { result ≡ false → Encloses (typing_of typed.now) span.now → ⊥ }
@@ -19,8 +19,8 @@ fn encloses(span: &Span, typed: &Typed<'_>) -> bool
     span.start <= typed.start && typed.end <= span.end
 }
 
-/// Finds the place of the first of the deepest spans that have the bytes. The first span, which is that of the whole text,
-/// has them. It looks at each span once.
+/// Finds the place of the first of the deepest spans that have the bytes. The first span, which is that of the whole
+/// text, has them. It looks at each span once.
 pub(crate) fn innermost(spans: &[Span], typed: &Typed<'_>) -> usize
     requires some { 0 < length spans.now }
     requires whole { (span : PlainSpan) → slice_get spans.now 0 ≡ Some span → Encloses (typing_of typed.now) span }
@@ -33,7 +33,7 @@ pub(crate) fn innermost(spans: &[Span], typed: &Typed<'_>) -> usize
     best
 }
 
-/// Gives the place of the best span up to the one at the next place, where that before it is known.
+/// Returns the place of the best span up to the one at the next place, where that before it is known.
 fn better(spans: &[Span], typed: &Typed<'_>, best: usize, next: usize) -> usize
     requires best { IsBest spans.now (typing_of typed.now) next best }
     requires within { next < length spans.now }
@@ -64,14 +64,14 @@ pub(crate) fn span_at<'a>(spans: &'a [Span], path: &[u32]) -> Option<&'a Span>
     None
 }
 
-/// Tells whether the steps are the same.
+/// Says whether the steps are the same.
 fn are_same(steps: &[u32], others: &[u32]) -> bool
     ensures { Decides result (steps.now ≡ others.now) }
 {
     steps == others
 }
 
-/// Tells whether the token is not across the border.
+/// Says whether the token is not across the border.
 fn is_beside(token: &Spanned, border: usize) -> bool
     ensures yes { IsTrue result → IsBeside border token.now }
     ensures no { result ≡ false → IsBeside border token.now → ⊥ }
@@ -79,7 +79,7 @@ fn is_beside(token: &Spanned, border: usize) -> bool
     token.end <= border || border <= token.start
 }
 
-/// Tells whether no token is across the border.
+/// Says whether no token is across the border.
 pub(crate) fn is_apart(tokens: &[Spanned], border: usize) -> bool
     ensures yes { IsTrue result → AllByRecursion (IsBeside border) tokens.now }
     ensures no { result ≡ false → AllByRecursion (IsBeside border) tokens.now → ⊥ }

@@ -1,14 +1,24 @@
 //! Texts in which bytes are replaced.
-ghost use Rattle.std.specs.Prelude.{◌≡◌, ◌++◌, false, IfOk, IsTrue, string_bytes};
+ghost use Rattle.std.specs.Prelude.{◌≡◌, ◌++◌, ◌∷◌, ◌⊎◌, [], ℕ, List, false, IfOk, IsTrue, IsUtf8, string_bytes};
 ghost use Rattle.std.specs.Str.{IsCharBoundary};
-ghost use Rattle.psg_regions.specs.Regions.{edited as edited_text, region as region_text, Encloses, IsInside, IsOutside};
+ghost use Rattle.psg_regions.specs.Regions.{edited as edited_text, region as region_text};
+ghost use Rattle.psg_regions.specs.Regions.{Encloses, IsInside, IsOutside};
+ghost use Rattle.psg_textedit.specs.Lines.{lines_with, AreLines, BeginsLine};
 ghost use Rattle.psg_textedit.specs.Typing.{typing_of};
 
 use crate::change::Typed;
 use psg_unparse::Span;
 use std::alloc::{AllocError, Global};
 
-/// Tells whether the bytes are in the text, in order, and cut no character.
+/// The other bytes of the lines on which bytes are replaced: those before the replaced ones, from the line feed before
+/// the first line on, and those after them, up to the line feed that ends the last line.
+#[derive(Clone, Copy)]
+pub(crate) struct Lines<'a> {
+    pub(crate) before: &'a str,
+    pub(crate) behind: &'a str,
+}
+
+/// Says whether the bytes are in the text, in order, and cut no character.
 pub(crate) fn is_inside(text: &str, typed: &Typed<'_>) -> bool
     ensures inside { IsTrue result → IsInside (typing_of typed.now) text.now }
     ensures outside { result ≡ false → IsOutside (typing_of typed.now) text.now }
@@ -33,6 +43,56 @@ fn joined(alloc: Global, before: &str, new: &str, behind: &str) -> Result<String
     text.push_str(new)?;
     text.push_str(behind)?;
     Ok(text)
+}
+
+/// Cuts the text in front of its last line feed; where it has none, the first part is empty.
+fn cut_at_last(text: &str) -> (&str, &str)
+    ensures whole { text.now ≡ result.0.now ++ result.1.now }
+    ensures line { (result.0.now ≡ []) ⊎ ((rest : List ℕ) × (result.1.now ≡ 10 ∷ rest)) }
+    ensures front { IsUtf8 result.0.now }
+    ensures back { IsUtf8 result.1.now }
+{
+    match text.rfind('\n') {
+        Some(place) => text.split_at(place),
+        None => ("", text),
+    }
+}
+
+/// Cuts the text in front of its first line feed; where it has none, the second part is empty.
+fn cut_at_first(text: &str) -> (&str, &str)
+    ensures whole { text.now ≡ result.0.now ++ result.1.now }
+    ensures line { BeginsLine result.1.now }
+    ensures front { IsUtf8 result.0.now }
+{
+    match text.find('\n') {
+        Some(place) => text.split_at(place),
+        None => (text, ""),
+    }
+}
+
+/// Finds the other bytes of the lines on which bytes are replaced. It looks at these lines alone.
+pub(crate) fn lines_of<'a>(text: &'a str, typed: &Typed<'_>) -> Lines<'a>
+    requires inside { IsInside (typing_of typed.now) text.now }
+    ensures { AreLines (typing_of typed.now) text.now result.before.now result.behind.now }
+{
+    let (front, _) = text.split_at(typed.start);
+    let (_, back) = text.split_at(typed.end);
+    let (_, before) = cut_at_last(front);
+    let (behind, _) = cut_at_first(back);
+    Lines { before, behind }
+}
+
+/// Makes the text of the lines with the new bytes.
+pub(crate) fn new_lines(
+    alloc: Global,
+    lines: Lines<'_>,
+    typed: &Typed<'_>,
+) -> Result<String, AllocError>
+    ensures { IfOk result
+        (λ new. string_bytes new ≡ lines_with (typing_of typed.now) lines.entry.before.now lines.entry.behind.now) }
+{
+    let new = joined(alloc, lines.before, typed.new, lines.behind)?;
+    Ok(new)
 }
 
 /// Makes the text with the bytes replaced.

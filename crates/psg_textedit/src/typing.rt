@@ -1,39 +1,43 @@
 //! What is typed into a printed tree.
-ghost use Rattle.std.specs.Prelude.{◌≡◌, ◌+◌, ◌<◌, ◌≤◌, ◌⊎◌, ℕ, IfErr, IfOk, Option, Some, length};
+ghost use Rattle.std.specs.Prelude.{◌≡◌, ◌+◌, ◌<◌, ◌≤◌, ◌⊎◌, ℕ, IfErr, IfOk, List, OnOk, Option, Some, length};
 ghost use Rattle.psg_grammar.specs.Paths.{Path as PlainPath, replaced};
 ghost use Rattle.psg_grammar.specs.Printable.{IsPrintable};
 ghost use Rattle.psg_grammar.specs.Sizes.{depth_of};
 ghost use Rattle.psg_grammar.specs.WellFormed.{WellFormed};
 ghost use Rattle.psg_grammar.specs.declared.limits.TheConstants.{MOST_DEPTH};
 ghost use Rattle.psg_unparse.specs.Spots.{printed_of};
-ghost use Rattle.psg_regions.specs.Regions.{IsReading, IsTyped, Widens};
+ghost use Rattle.psg_class.specs.Texts.{HasNoTokens, TextTokens};
+ghost use Rattle.psg_lexis.specs.declared.token.Spanned.{Spanned};
+ghost use Rattle.psg_regions.specs.Regions.{edited as edited_text, IsInside, IsReading, IsTyped, Widens};
 ghost use Rattle.psg_textedit.specs.Jobs.{IsHere, IsJob, language_of, tree_in, typing_in};
 ghost use Rattle.psg_textedit.specs.Typing.{IsForNode, IsReader, IsTextFault, definition_of, typing_of};
 ghost use Rattle.psg_textedit.specs.declared.change.TextFault.TheVariants.{Deep, Memory, NoTokens};
 
 use crate::change::{Change, Reader, TextFault, Typed};
 use crate::nodes::{Job, read_node};
-use crate::reading::{Reading, read_values, tokens_in};
+use crate::reading::{Reading, tokens_in};
 use crate::spans::innermost;
-use crate::texts::{edited, is_inside};
+use crate::texts::{edited, is_inside, lines_of, new_lines};
 use psg_grammar::{Kind, MOST_DEPTH};
 use psg_terms::Steps;
 use psg_tree::{Path, Tree, depth};
 use psg_unparse::Printed;
-use std::alloc::Global;
+use std::alloc::{AllocError, Global};
 use std::sync::ledger::Ledger;
 
-/// Replaces bytes of a printed tree of the kind, and gives the tree of the new text as a change of one node: the tree that
-/// is put at the path makes the only tree of the whole new text, of the kind and at level 0.
+/// Replaces bytes of a printed tree of the kind, and returns the tree of the new text as a change of one node: the tree
+/// that is put at the path makes the only tree of the whole new text, of the kind and at level 0.
 ///
-/// The smallest node that has the bytes is read again by itself, then the nodes above it, until one is read as a tree of
-/// its kind that fits what is around it: that is the path of the change. The tree of the change is of that node's kind.
+/// The smallest node that has the bytes is read again by itself, then the nodes above it, until one is read as a tree
+/// of its kind that fits what is around it: that is the path of the change. The tree of the change is of that node's
+/// kind.
 ///
-/// It refuses with `NoPlace` where the bytes are not in the text or cut a character, and then by the whole new text: with
-/// `NoTokens` where it has none, with `NoTree` where no tree of the kind has them, and with `Deep` where one has them that
-/// is deeper than 200, or whose brackets nest above 400. `Memory` may be returned at any time.
+/// The error is `NoPlace` where the bytes are not in the text or cut a character. Else it is by the whole new text:
+/// `NoTokens` where it has none, `NoTree` where no tree of the kind has them, and `Deep` where one has them that is
+/// deeper than 200, or whose brackets nest above 400. `Memory` may be returned at any time.
 ///
-/// It lexes the whole new text once, and looks at each span. It takes a step for each token of the nodes that it reads.
+/// It lexes the lines of the replaced bytes, since no token is on two lines, and looks at each span. It takes a step
+/// for each token of the nodes that it reads. Where these lines have no tokens, it lexes the whole new text.
 pub fn type_over<L: Ledger>(
     alloc: Global,
     reader: &Reader<'_>,
@@ -67,19 +71,21 @@ pub fn type_over<L: Ledger>(
     }
     // that the new bytes are UTF-8 is known of all texts
     let _new = typed.new.as_bytes();
-    let whole = edited(alloc, text, typed)?;
-    let new = whole.as_str();
+    let lines = lines_of(text, typed);
+    let made = new_lines(alloc, lines, typed)?;
+    let new = made.as_str();
     let Some(tokens) = tokens_in(alloc, reader, new)? else {
+        find_fault(alloc, reader, text, typed)?;
         return Err(TextFault::NoTokens);
     };
     let all = tokens.as_slice();
-    read_values(all);
     let job = Job {
         reader,
         tree,
         kind,
         printed,
         typed,
+        lines,
         bytes: new.len(),
         all,
     };
@@ -88,6 +94,27 @@ pub fn type_over<L: Ledger>(
     let first = spans[best].path.steps();
     let change = widen(alloc, &job, first, steps)?;
     Ok(change)
+}
+
+/// Finds a fault in the whole new text, which has no tokens. It lexes that text.
+fn find_fault(
+    alloc: Global,
+    reader: &Reader<'_>,
+    text: &str,
+    typed: &Typed<'_>,
+) -> Result<(), AllocError>
+    requires reader { IsReader reader.now }
+    requires inside { IsInside (typing_of typed.now) text.now }
+    requires none { (tokens : List Spanned)
+        → TextTokens (definition_of reader.now) (edited_text (typing_of typed.now) text.now) tokens → ⊥ }
+    ensures { OnOk result (HasNoTokens (definition_of reader.now) (edited_text (typing_of typed.now) text.now)) }
+{
+    let whole = edited(alloc, text, typed)?;
+    let new = whole.as_str();
+    let Some(_tokens) = tokens_in(alloc, reader, new)? else {
+        return Ok(());
+    };
+    unreachable!()
 }
 
 /// Reads the nodes from the one at the path outward, up to the first that is clean.

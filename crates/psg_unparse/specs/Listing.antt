@@ -12,8 +12,10 @@ module _ (def : Definition) (f : Fragment) where
   pub record IsListing : Type 0 where
     pub nodes : (path : Path) (p : Placed) → IsPlacedAt def f path p → node_at f path ≡ Some p.node
     pub all : (path : Path) (t : Fragment) → node_at f path ≡ Some t → (p : Placed) × IsPlacedAt def f path p
-    pub once : (j k : ℕ) (p q : Placed) → slice_get (placed_in def f) j ≡ Some p → slice_get (placed_in def f) k ≡ Some q → p.spot.path ≡ q.spot.path → j ≡ k
+    pub once : (j k : ℕ) (p q : Placed) → slice_get (placed_in def f) j ≡ Some p
+        → slice_get (placed_in def f) k ≡ Some q → p.spot.path ≡ q.spot.path → j ≡ k
 
-  -- the row before a node, its own row and the row behind it are the whole row
+  -- the row before a node, its own row and the row after it are the whole row
   abbrev pub IsCutAtEach : Type 0
-  IsCutAtEach = AllByRecursion (λ (p : Placed). p.spot.before ++ (row def p.node ++ p.spot.behind) ≡ row def f) (placed_in def f)
+  IsCutAtEach =
+      AllByRecursion (λ (p : Placed). p.spot.before ++ (row def p.node ++ p.spot.behind) ≡ row def f) (placed_in def f)

@@ -9,8 +9,8 @@ use Rattle.psg_unparse.specs.declared.spans.Span.{Span}
 use Rattle.psg_unparse.specs.declared.spans.Printed.{Printed}
 
 module _ (def : Definition) where
-  -- From the first byte of its first token to after the last byte of its last one. The span of a node without tokens is empty,
-  -- where the token before it ends. Brackets round the node are not in its span.
+  -- From the first byte of its first token to after the last byte of its last one. The span of a node without tokens is
+  -- empty, where the token before it ends. Brackets around the node are not in its span.
   abbrev pub span_of : Placed → Span
   span_of p = record {
     path = p.spot.path;

@@ -1,15 +1,18 @@
--- The spans of a tree that is written behind a row, and what a step of the printer adds.
-use Rattle.std.specs.Prelude.{ℕ, ◌≡◌, ◌≤◌, ◌+◌, cond, Bool, List, [], ◌∷◌, ◌++◌, length, string_bytes, codes, decimal, Option, Some, None}
+-- The spans of a tree that is written after a row, and what a step of the printer adds.
+use Rattle.std.specs.Prelude.{ℕ, ◌≡◌, ◌≤◌, ◌+◌, cond, Bool, List, [], ◌∷◌, ◌++◌, length}
+use Rattle.std.specs.Prelude.{string_bytes, codes, decimal, Option, Some, None}
 use Rattle.std.specs.Option.{option_or, unwrap_or}
 use Rattle.psg_grammar.specs.declared.types.Operator.{Operator}
 use Rattle.psg_grammar.specs.declared.types.Definition.{Definition}
-use Rattle.psg_grammar.specs.Fragments.{Fragment, hole, ending, cell, operator, with_child, with_name, with_number, with_text, anything, observed, children_of}
+use Rattle.psg_grammar.specs.Fragments.{Fragment, hole, ending, cell, operator, with_child, with_name}
+use Rattle.psg_grammar.specs.Fragments.{with_number, with_text, anything, observed, children_of}
 use Rattle.psg_grammar.specs.Levels.{least_level_of}
 use Rattle.psg_grammar.specs.Paths.{Path}
 use Rattle.psg_tree.specs.declared.tree.Part.{Part}
 use Rattle.psg_tree.specs.declared.tree.Part.TheVariants.{Sub, Name, Number, Text}
 use Rattle.psg_tree.specs.AbstractText.{quoted}
-use Rattle.psg_reads_back.specs.Rows.{Piece, token, row, opening, closing, is_bracketed, is_below_level, operator_of, between}
+use Rattle.psg_reads_back.specs.Rows.{Piece, token, row, opening, closing, is_bracketed}
+use Rattle.psg_reads_back.specs.Rows.{is_below_level, operator_of, between}
 use Rattle.psg_reads_back.specs.Layout.{laid, lead}
 use Rattle.psg_unparse.specs.Writing.{IsWritten, Adds}
 use Rattle.psg_unparse.specs.declared.nodes.Printer.{Printer}
@@ -21,7 +24,7 @@ level_wanted None place = 0
 level_wanted (Some o) place = least_level_of o place
 
 module _ (def : Definition) where
-  -- the span of a tree that is written behind a row
+  -- the span of a tree that is written after a row
   abbrev pub span_at : Path → List Piece → Fragment → Span
   span_at path before f = record {
     path = path;
@@ -66,7 +69,7 @@ module _ (def : Definition) where
   part_spans path wanted (Number x) before = []
   part_spans path wanted (Text t) before = []
 
--- the pieces are added, and the spans that they have behind whatever row was written before
+-- the pieces are added, and the spans that they have after whatever row was written before
 pub record Prints (pieces : List Piece) (listed : List Piece → List Span) (old new : Printer) : Type 0 where
   pub adds : Adds pieces old.writer new.writer
   pub path : new.path.items ≡ old.path.items
@@ -110,4 +113,5 @@ pub record IsClosed (place : ℕ) (outer : Option ℕ) (old new : Printer) : Typ
   pub path : new.path.items ≡ old.path.items
   pub long : length new.spans.items ≡ length old.spans.items
   pub spans : (front back : List Span) (s : Span) → old.spans.items ≡ front ++ s ∷ back → length front ≡ place
-      → new.spans.items ≡ front ++ record { path = s.path; start = unwrap_or old.writer.first s.start; end = length (string_bytes old.writer.out) } ∷ back
+      → new.spans.items ≡ front ++ record
+      { path = s.path; start = unwrap_or old.writer.first s.start; end = length (string_bytes old.writer.out) } ∷ back

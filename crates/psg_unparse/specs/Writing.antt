@@ -1,11 +1,13 @@
 -- What is written of a row, and what a step of the writer adds.
-use Rattle.std.specs.Prelude.{ℕ, ◌≡◌, ◌+◌, ◌*◌, ◌&&◌, not, Bool, false, cond, List, [], ◌∷◌, ◌++◌, length, replicate, Option, Some, None, string_bytes}
+use Rattle.std.specs.Prelude.{ℕ, ◌≡◌, ◌+◌, ◌*◌, ◌&&◌, not, Bool, false, cond, List, [], ◌∷◌}
+use Rattle.std.specs.Prelude.{◌++◌, length, replicate, Option, Some, None, string_bytes}
 use Rattle.std.specs.List.{list_any}
 use Rattle.std.specs.Option.{option_or}
 use Rattle.psg_grammar.specs.declared.types.Item.{Item}
 use Rattle.psg_grammar.specs.declared.types.Item.TheVariants as items
 use Rattle.psg_reads_back.specs.Rows.{Piece, token, mark}
-use Rattle.psg_reads_back.specs.Layout.{is_line, is_tight, is_space, glues, last_in, marks_behind, open_behind, gap, laid}
+use Rattle.psg_reads_back.specs.Layout.{is_line, is_tight, is_space, glues, last_in}
+use Rattle.psg_reads_back.specs.Layout.{marks_behind, open_behind, gap, laid}
 use Rattle.psg_unparse.specs.declared.layout.Writer.{Writer}
 
 -- the writer has written the row
@@ -17,7 +19,7 @@ pub record IsWritten (w : Writer) (row : List Piece) : Type 0 where
   pub tight : w.tight ≡ list_any is_tight (marks_behind [] row)
   pub space : w.space ≡ list_any is_space (marks_behind [] row)
 
--- the byte at which the first token of a row begins, behind the row before it
+-- the byte at which the first token of a row begins, after the row before it
 abbrev pub first_in : List Piece → List Piece → Option ℕ
 first_in before [] = None
 first_in before (token t ∷ rest) = Some (length (laid [] before) + length (gap before t))
@@ -43,6 +45,7 @@ gap_behind w c begins =
     cond w.line (10 ∷ replicate (2 * w.levels) 32)
     (cond (w.tight && not w.space) (cond (glues_with c begins) (32 ∷ []) []) (32 ∷ []))
 
+-- what the writer puts after the first character, where there is one, and before a token that begins with the second
 abbrev pub gap_in : Writer → Option ℕ → Option ℕ → List ℕ
 gap_in w None begins = []
 gap_in w (Some c) begins = gap_behind w c begins

@@ -6,12 +6,14 @@ ghost use Rattle.psg_unparse.specs.Listing.{IsCutAtEach, IsListing};
 
 use psg_grammar::Definition;
 
-/// At each node the row of a tree is the row before the node, its own row and the row behind it.
+/// States that at each node the row of a tree is the row before the node, its own row and the row after it. The call
+/// has no cost.
 pub fn cut_at_nodes(_definition: &Definition)
     ensures { (fragment : Fragment) → IsCutAtEach _definition.now fragment }
 {}
 
-/// In a well-formed tree each path leads to the node that is listed for it, and each node is listed once.
+/// States that in a well-formed tree each path leads to the node that is listed for it, and each node is listed once.
+/// The call has no cost.
 pub fn listed_once(_definition: &Definition)
     ensures { (fragment : Fragment) (kind : Kind) → WellFormed _definition.now fragment kind
         → IsListing _definition.now fragment }

@@ -14,7 +14,7 @@ use psg_tree::write_quoted;
 use std::alloc::{AllocError, Global};
 
 /// The text of a row, and what the gap in front of the next token depends on: the last character of the last token, how
-/// many levels are open, and which marks are behind that token.
+/// many levels are open, and which marks follow that token.
 #[derive(Drop)]
 pub(crate) struct Writer {
     pub(crate) out: String,
@@ -199,8 +199,8 @@ impl Writer {
         Ok(())
     }
 
-    /// Whether two tokens on one line, of which one ends and one begins with these characters, have a space between
-    /// them.
+    /// Says whether two tokens on one line, of which one ends and one begins with these characters, have a space
+    /// between them.
     fn needs_space(&self, last: char, begins: Option<char>) -> bool
         ensures { result ≡ cond (self.now.tight && not self.now.space) (glues_with last begins) true }
     {
@@ -211,7 +211,7 @@ impl Writer {
         }
     }
 
-    /// Keeps the last character of the token that was written. No mark is behind it.
+    /// Keeps the last character of the token that was written. No mark follows it yet.
     fn end(&mut self, last: char)
         ensures { self.new ≡ ended_by last self.old }
     {
@@ -233,7 +233,7 @@ fn write_line(out: &mut String, levels: usize) -> Result<(), AllocError>
     Ok(())
 }
 
-/// Whether a token that begins with the character would run together with one that ends with the other character.
+/// Says whether a token that begins with the character would run together with one that ends with the other character.
 fn runs_together(last: char, begins: Option<char>) -> bool
     ensures { result ≡ glues_with last begins }
 {
@@ -243,7 +243,7 @@ fn runs_together(last: char, begins: Option<char>) -> bool
     }
 }
 
-/// The first character of the text, if there is one.
+/// Returns the first character of the text, if there is one.
 fn first_char(text: &str) -> Option<char>
     ensures { result ≡ slice_get (chars text.now) 0 }
 {
@@ -253,7 +253,7 @@ fn first_char(text: &str) -> Option<char>
     }
 }
 
-/// The last character of the text, or the other one where the text is empty.
+/// Returns the last character of the text, or the other one where the text is empty.
 fn last_char(text: &str, otherwise: char) -> char
     ensures { result ≡ last_char otherwise (chars text.now) }
 {
@@ -263,7 +263,7 @@ fn last_char(text: &str, otherwise: char) -> char
     }
 }
 
-/// The text in front of the last character, and that character.
+/// Returns the text in front of the last character, and that character.
 fn split_last(text: &str) -> Option<(&str, char)>
     ensures none { IfNone result (chars text.now ≡ []) }
     ensures last { IfSome result (λ parts. chars text.now ≡ chars parts.0.now ++ parts.1 ∷ []) }

@@ -23,7 +23,7 @@ use crate::layout::Writer;
 use crate::spans::{Printed, Span};
 use psg_grammar::{Definition, Item, ListKind, least_level, op_level};
 use psg_terms::{Seq, Txt};
-use psg_tree::{Part, Path, Shape, Tree, phylum_name};
+use psg_tree::{Part, Path, Shape, Tree, nodes, phylum_name};
 use std::alloc::{AllocError, Global};
 
 /// What is written so far, with the spans of the nodes that were met and the path to the one that is written.
@@ -65,7 +65,7 @@ impl Printer {
     }
 }
 
-/// Tells whether the item has a part of the tree.
+/// Says whether the item has a part of the tree.
 pub fn is_part(item: &Item) -> bool
     ensures { result ≡ is_part item.now }
 {
@@ -75,7 +75,7 @@ pub fn is_part(item: &Item) -> bool
     )
 }
 
-/// Gives the items of the operator of the number, none where the definition has no such operator.
+/// Returns the items of the operator of the number, none where the definition has no such operator.
 pub fn items_of(definition: &Definition, op: u32) -> &[Item]
     ensures { result.now ≡ items_in (operator_at definition.now op) }
 {
@@ -85,7 +85,7 @@ pub fn items_of(definition: &Definition, op: u32) -> &[Item]
     }
 }
 
-/// Gives the items after the first one.
+/// Returns the items after the first one.
 pub fn behind_first(items: &[Item]) -> &[Item]
     ensures { result.now ≡ rows.behind_first items.now }
 {
@@ -95,7 +95,7 @@ pub fn behind_first(items: &[Item]) -> &[Item]
     }
 }
 
-/// Gives the least level of a tree at the operator's item of the number: 0 where it is no slot.
+/// Returns the least level of a tree at the operator's item of the number: 0 where it is no slot.
 pub fn level_wanted(definition: &Definition, op: u32, place: usize) -> u8
     requires { IsSound definition.now }
     ensures { result ≡ level_wanted (operator_at definition.now op) place }
@@ -109,7 +109,7 @@ pub fn level_wanted(definition: &Definition, op: u32, place: usize) -> u8
     }
 }
 
-/// Tells whether the tree needs brackets where a tree of at least the level is wanted. Placeholders and lists have no
+/// Says whether the tree needs brackets where a tree of at least the level is wanted. Placeholders and lists have no
 /// level.
 pub fn is_below(definition: &Definition, tree: &Tree, wanted: u8) -> bool
     ensures { result ≡ is_below definition.now tree.now wanted }
@@ -121,7 +121,7 @@ pub fn is_below(definition: &Definition, tree: &Tree, wanted: u8) -> bool
     }
 }
 
-/// Whether the operator of the number has a lower level. One that the definition does not have has no level.
+/// Says whether the operator of the number has a lower level. One that the definition does not have has no level.
 fn is_operator_below(definition: &Definition, op: u32, wanted: u8) -> bool
     ensures { result ≡ rows.is_below_level (operator_at definition.now op) wanted }
 {
@@ -147,7 +147,7 @@ fn write_words<'a>(writer: &mut Writer, items: &'a [Item]) -> Result<&'a [Item],
     Ok(rest)
 }
 
-/// Writes an opening bracket if the tree behind it needs brackets.
+/// Writes an opening bracket if the tree after it needs brackets.
 fn open_bracket(writer: &mut Writer, bracketed: bool) -> Result<(), AllocError>
     ensures { OnOk result (Adds (opening bracketed) writer.old writer.new) }
 {
@@ -169,7 +169,7 @@ fn close_bracket(writer: &mut Writer, bracketed: bool) -> Result<(), AllocError>
     Ok(())
 }
 
-/// Writes what is between an element of a list and the elements behind it, where there are some or the list is
+/// Writes what is between an element of a list and the elements after it, where there are some or the list is
 /// unfinished.
 fn write_between(
     writer: &mut Writer,
@@ -188,7 +188,7 @@ fn write_between(
     Ok(())
 }
 
-/// Whether a list without more elements is behind an element.
+/// Says whether a list ends after an element: it has no more elements, and it is finished.
 fn is_ended(behind: &[Tree], unfinished: bool) -> bool
     ensures { result ≡ (length behind.now == 0 && not unfinished) }
 {
@@ -236,7 +236,7 @@ fn write_ending(writer: &mut Writer, unfinished: bool) -> Result<(), AllocError>
     Ok(())
 }
 
-/// The number of the next child behind a part that has this number if it is a child.
+/// Returns the number of the next child after a part that has this number if it is a child.
 fn number_behind(number: u32, part: &Part) -> Result<u32, AllocError>
     ensures { IfOk result (λ next. next ≡ number + count_of part.now) }
 {
@@ -246,7 +246,7 @@ fn number_behind(number: u32, part: &Part) -> Result<u32, AllocError>
     }
 }
 
-/// The number and one. It fails where 32 bits do not count it.
+/// Returns the number and one. It fails where 32 bits do not count it.
 fn number_after(number: u32) -> Result<u32, AllocError>
     ensures { IfOk result (λ next. next ≡ number + 1) }
 {
@@ -429,11 +429,12 @@ fn write_node(
 /// A span has the bytes from the first token of a node to the end of its last one. Brackets around a node are outside
 /// its span. A list without elements has an empty span, where the token in front of it ends.
 ///
-/// In a definition of the grammar class whose fixed words are each one token, the text of a printable tree reads back as
-/// the tree (`back`), and the bytes of each span as the node of its path (`spans`).
+/// In a definition of the grammar class whose fixed words are each one token, the text of a printable tree reads back
+/// as the tree (`back`), and the bytes of each span as the node of its path (`spans`).
 ///
-/// It returns out of memory also where 32 bits do not count the children of a node. It takes time linear in the text
-/// and in the paths of the nodes, and calls itself once for each level of the tree.
+/// It returns out of memory also where 32 bits do not count the children of a node. It takes the memory for the spans
+/// at once, and time linear in the text and in the paths of the nodes, and calls itself once for each level of the
+/// tree.
 pub fn unparse(alloc: Global, definition: &Definition, tree: &Tree) -> Result<Printed, AllocError>
     requires sound { IsSound definition.now }
     ensures printed { IfOk result (λ printed. printed ≡ printed_of definition.now tree.now) }
@@ -444,7 +445,9 @@ pub fn unparse(alloc: Global, definition: &Definition, tree: &Tree) -> Result<Pr
 {
     let writer = Writer::new(alloc);
     let path = Vec::new(alloc);
-    let spans = Vec::new(alloc);
+    // each node has a span
+    let count = nodes(tree) as usize;
+    let spans = Vec::with_capacity(alloc, count)?;
     let mut printer = Printer {
         writer,
         path,

@@ -1,5 +1,5 @@
 use Rattle.std.proofs.Common.{◌∙◌, refl, subst, ap}
-use Rattle.psg_textedit.proofs.NodeReads.{few_around, no_node, no_span, node_answer, node_counted, node_steps, ready_behind, ready_bytes, ready_encloses, ready_end, ready_inside, ready_start}
+use Rattle.psg_textedit.proofs.NodeReads.{few_around, no_node, no_span, lines_long, node_answer, node_counted, node_steps, ready_encloses, ready_end, ready_inside, ready_start}
 use Rattle.psg_unparse.specs.declared.spans.Printed.{Printed}
 use Rattle.psg_textedit.specs.Typing.{HasNoSpan}
 use Rattle.psg_textedit.proofs.nodes.read_node.Goals as goal
@@ -32,15 +32,14 @@ pub place_of-requires-clause-shallow : goal.place_of-requires-clause-shallow
 place_of-requires-clause-shallow g c =
     c.requires.job.shallow
 
-pub overflow_sub-behind : goal.overflow_sub-behind
-overflow_sub-behind g c =
-    ready_behind c.args.job.now c.requires.job c.args.path.now c.requires.here c.as_slice-spans.result.now c.as_slice-spans.ensures
+pub region_among-region_in-requires-clause-encloses : goal.region_among-region_in-requires-clause-encloses
+region_among-region_in-requires-clause-encloses g c =
+    ready_encloses c.args.job.now c.requires.job c.args.path.now c.requires.here c.as_slice-spans.result.now c.as_slice-spans.ensures
     c.as_str-text.result.now c.as_str-text.ensures c.in-Some.span.now c.in-Some.ensures
 
-pub overflow_sub-end : goal.overflow_sub-end
-overflow_sub-end g c =
-    ready_bytes c.args.job.now c.requires.job c.args.path.now c.requires.here c.as_slice-spans.result.now c.as_slice-spans.ensures
-    c.as_str-text.result.now c.as_str-text.ensures c.in-Some.span.now c.in-Some.ensures _ refl
+pub region_among-region_in-requires-clause-bytes : goal.region_among-region_in-requires-clause-bytes
+region_among-region_in-requires-clause-bytes g c =
+    lines_long c.args.job.now c.requires.job c.args.path.now c.requires.here
 
 pub region-requires-clause-inside : goal.region-requires-clause-inside
 region-requires-clause-inside g c =
@@ -82,7 +81,8 @@ returns-clause-answer g c =
     node_answer c.args.job.now c.requires.job c.args.path.now c.requires.here c.as_slice-spans.result.now c.as_slice-spans.ensures
     c.as_str-text.result.now c.as_str-text.ensures c.in-Some.span.now c.in-Some.ensures
     _ c.in-Some-place_of.place.node.now c.in-Some-place_of.place.least c.in-Some-place_of.place.around c.in-Some-place_of.ensures.some
-    c.kind_of-kind.ensures refl refl _ _ refl refl c.as_str-own.result.now (c.as_str-own.ensures.value ∙ c.in_ok-new.ensures)
+    c.kind_of-kind.ensures refl refl _ c.region_among-region_in.ensures.all _ c.region_among-region_in.ensures.start
+    _ c.region_among-region_in.ensures.end c.as_str-own.result.now (c.as_str-own.ensures.value ∙ c.in_ok-new.ensures)
     c.in_ok-reading.reading c.in_ok-reading.ensures.answer
 
 pub returns-clause-counted : goal.returns-clause-counted

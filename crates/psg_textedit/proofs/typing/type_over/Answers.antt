@@ -7,7 +7,10 @@ use Rattle.psg_reads_back.specs.Layout.{text_of}
 use Rattle.psg_unparse.specs.declared.spans.Printed.{Printed}
 use Rattle.psg_unparse.specs.declared.spans.Span.{Span}
 use Rattle.psg_regions.specs.Regions.{edited, IsInside, IsOutside}
+use Rattle.psg_regions.proofs.Typed.{text_utf8}
+use Rattle.psg_textedit.specs.Lines.{AreLines, lines_with}
 use Rattle.psg_textedit.specs.Typing.{definition_of, typing_of}
+use Rattle.psg_textedit.proofs.Faults.{spoilt}
 use Rattle.psg_textedit.proofs.NodeReads.{none_in, some_in}
 use Rattle.psg_textedit.proofs.Roots.{begins_reading, first_encloses, first_path, job_here, reading_ticks, some_spans}
 use Rattle.psg_textedit.proofs.Ways.{got_item}
@@ -18,12 +21,34 @@ pub returns-then-not-is_inside-clause-fault : goal.returns-then-not-is_inside-cl
 returns-then-not-is_inside-clause-fault g c =
     subst (IsOutside (typing_of c.args.typed.now)) (c.as_str-text.ensures ∙ ap (λ (p : Printed). p.text) c.requires.printed) (c.is_inside.ensures.outside c.if-not-is_inside.true)
 
-pub edited-requires : goal.edited-requires
-edited-requires g c =
+pub lines_of-lines-requires : goal.lines_of-lines-requires
+lines_of-lines-requires g c =
     record { inside = c.is_inside.ensures.inside c.if-not-is_inside.false }
 
-pub returns-in_err-whole-clause-fault : goal.returns-in_err-whole-clause-fault
-returns-in_err-whole-clause-fault g c =
+pub find_fault-requires-clause-reader : goal.find_fault-requires-clause-reader
+find_fault-requires-clause-reader g c = c.requires.reader
+
+pub find_fault-requires-clause-inside : goal.find_fault-requires-clause-inside
+find_fault-requires-clause-inside g c = c.is_inside.ensures.inside c.if-not-is_inside.false
+
+pub find_fault-requires-clause-none : goal.find_fault-requires-clause-none
+find_fault-requires-clause-none g c =
+    spoilt (definition_of c.args.reader.now) (typing_of c.args.typed.now) c.as_str-text.result.now
+    (subst IsUtf8 (sym (c.as_str-text.ensures ∙ ap (λ (p : Printed). p.text) c.requires.printed))
+    (text_utf8 (definition_of c.args.reader.now) c.requires.reader.sound c.requires.reader.tokens c.requires.reader.class
+    c.args.tree.now c.args.kind c.requires.printable c.requires.formed))
+    (c.is_inside.ensures.inside c.if-not-is_inside.false)
+    (subst IsUtf8 c.as_bytes-new.ensures.value c.as_bytes-new.ensures.utf8)
+    c.lines_of-lines.result.before.now c.lines_of-lines.result.behind.now c.lines_of-lines.ensures
+    c.as_str-new.result.now (c.as_str-new.ensures.value ∙ c.in_ok-made.ensures)
+    (none_in (HasNoTokens (definition_of c.args.reader.now) c.as_str-new.result.now) c.in_ok-tokens.field-0 c.in_default.is c.in_ok-tokens.ensures.none)
+
+pub returns-in_err-find_fault-clause-fault : goal.returns-in_err-find_fault-clause-fault
+returns-in_err-find_fault-clause-fault g c =
+    let p = err_from_is_err_and c.from_residual-in_err-find_fault.result c.from_residual-in_err-find_fault.ensures.1 in rw (p.1, p.2) tt
+
+pub returns-in_err-made-clause-fault : goal.returns-in_err-made-clause-fault
+returns-in_err-made-clause-fault g c =
     let p = err_from_is_err_and c.from_residual.result c.from_residual.ensures.1 in rw (p.1, p.2) tt
 
 pub returns-in_err-tokens-clause-fault : goal.returns-in_err-tokens-clause-fault
@@ -33,8 +58,8 @@ returns-in_err-tokens-clause-fault g c =
 pub returns-in_default-clause-fault : goal.returns-in_default-clause-fault
 returns-in_default-clause-fault g c = (
   not_outside (typing_of c.args.typed.now) (text_of (definition_of c.args.reader.now) c.args.tree.now) (subst (IsInside (typing_of c.args.typed.now)) (c.as_str-text.ensures ∙ ap (λ (p : Printed). p.text) c.requires.printed) (c.is_inside.ensures.inside c.if-not-is_inside.false)),
-  subst (HasNoTokens (definition_of c.args.reader.now)) (c.as_str-new.ensures.value ∙ c.in_ok-whole.ensures ∙ ap (edited (typing_of c.args.typed.now)) (c.as_str-text.ensures ∙ ap (λ (p : Printed). p.text) c.requires.printed))
-      (none_in (HasNoTokens (definition_of c.args.reader.now) c.as_str-new.result.now) c.in_ok-tokens.field-0 c.in_default.is c.in_ok-tokens.ensures.none),
+  subst (λ text. HasNoTokens (definition_of c.args.reader.now) (edited (typing_of c.args.typed.now) text))
+      (c.as_str-text.ensures ∙ ap (λ (p : Printed). p.text) c.requires.printed) c.in_ok-find_fault.ensures,
 )
 
 pub innermost-best-requires-clause-some : goal.innermost-best-requires-clause-some
@@ -60,12 +85,15 @@ widen-requires-clause-job g c =
       printed = c.requires.printed;
       inside = (subst (IsInside (typing_of c.args.typed.now)) (c.as_str-text.ensures ∙ ap (λ (p : Printed). p.text) c.requires.printed) (c.is_inside.ensures.inside c.if-not-is_inside.false));
       new = subst IsUtf8 c.as_bytes-new.ensures.value c.as_bytes-new.ensures.utf8;
-      bytes = ap length (c.as_str-new.ensures.value ∙ c.in_ok-whole.ensures ∙ ap (edited (typing_of c.args.typed.now)) (c.as_str-text.ensures ∙ ap (λ (p : Printed). p.text) c.requires.printed));
-      all = subst (λ ts. TextTokens (definition_of c.args.reader.now) (edited (typing_of c.args.typed.now) (text_of (definition_of c.args.reader.now) c.args.tree.now)) ts) (sym c.as_slice-all.ensures.value)
-          (subst (λ bs. TextTokens (definition_of c.args.reader.now) bs c.in-Some.tokens.items) (c.as_str-new.ensures.value ∙ c.in_ok-whole.ensures ∙ ap (edited (typing_of c.args.typed.now)) (c.as_str-text.ensures ∙ ap (λ (p : Printed). p.text) c.requires.printed))
+      lines = subst (λ text. AreLines (typing_of c.args.typed.now) text c.lines_of-lines.result.before.now c.lines_of-lines.result.behind.now)
+          (c.as_str-text.ensures ∙ ap (λ (p : Printed). p.text) c.requires.printed) c.lines_of-lines.ensures;
+      bytes = ap length (c.as_str-new.ensures.value ∙ c.in_ok-made.ensures);
+      all = subst (λ ts. TextTokens (definition_of c.args.reader.now)
+          (lines_with (typing_of c.args.typed.now) c.lines_of-lines.result.before.now c.lines_of-lines.result.behind.now) ts)
+          (sym c.as_slice-all.ensures.value)
+          (subst (λ bs. TextTokens (definition_of c.args.reader.now) bs c.in-Some.tokens.items) (c.as_str-new.ensures.value ∙ c.in_ok-made.ensures)
           (some_in (λ (v : Vec Spanned Global). TextTokens (definition_of c.args.reader.now) c.as_str-new.result.now v.items) c.in_ok-tokens.field-0 c.in-Some.tokens c.in-Some.is
           c.in_ok-tokens.ensures.some));
-      values = c.read_values.ensures;
     }
 
 pub widen-requires-clause-here : goal.widen-requires-clause-here
