@@ -6,4 +6,5 @@ mod framing;
 mod limits;
 mod little;
 mod notes;
+mod sharing;
 mod trees;

@@ -20,7 +20,7 @@ hole Item zero
 ";
 
 /// Puts the frame: of an operator its number and the slot, of a list how much the relations of the elements before the
-/// place weigh, and behind a dot that of the rest.
+/// place weigh, and after a dot that of the rest.
 fn put_frame(text: &mut String, frame: &Frame) -> Result<(), AllocError> {
     match frame {
         Frame::Op { op, hot, .. } => write!(text, "; op {op} slot {hot}")?,
@@ -68,15 +68,15 @@ fn frames_of_new_elements(rt: HostRuntime) -> Result<(), Fail> {
         // the rest is the list itself
         ("", 0, "; list 0 . 4"),
         ("", 1, "; list 0 1 . 3"),
-        // behind all elements it is the end
+        // after all elements it is the end
         ("", 3, "; list 0 1 3 1 . 1"),
         ("", 4, "none"),
-        // the outer list goes on behind the element that the path leaves by
+        // the outer list goes on after the element that the path leaves by
         ("1 0", 0, "; list 0 . 3; op 0 slot 0; list 0 1 . 2"),
         ("1 0", 1, "; list 0 1 . 2; op 0 slot 0; list 0 1 . 2"),
         ("1 0", 2, "; list 0 1 1 . 1; op 0 slot 0; list 0 1 . 2"),
         ("1 0", 3, "none"),
-        // an operator and a placeholder are no lists, and nothing is behind the last element
+        // an operator and a placeholder are no lists, and nothing is after the last element
         ("1", 0, "none"),
         ("0", 0, "none"),
         ("3", 0, "none"),

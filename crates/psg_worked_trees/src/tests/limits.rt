@@ -17,7 +17,7 @@ cell Nums int : int int
 hole Num int
 ";
 
-/// Puts the piece so many times, each after the separator.
+/// Puts the piece the given number of times, each after the separator.
 fn put_pieces(
     text: &mut String,
     separator: &str,
@@ -31,7 +31,7 @@ fn put_pieces(
     Ok(())
 }
 
-/// The piece so many times and once more, with commas between.
+/// The piece the given number of times and once more, with commas between.
 fn repeated(alloc: Global, piece: &str, more: usize) -> Result<String, AllocError> {
     let mut text = String::new(alloc);
     text.push_str(piece)?;
@@ -49,7 +49,7 @@ fn answer(alloc: Global, language: &str, words: &str) -> Result<String, AllocErr
     }
 }
 
-/// A list of five lists of placeholders: four of 4,000, and one of so many.
+/// A list of five lists of placeholders: four of 4,000, and one of the given number.
 fn five_lists(alloc: Global, last: usize) -> Result<String, AllocError> {
     let mut words = String::new(alloc);
     words.push_str("[5")?;
@@ -78,8 +78,8 @@ fn the_largest_tree_and_one_node_more(rt: HostRuntime) -> Result<(), Fail> {
     Ok(())
 }
 
-/// A language with an operator `e` whose value is one constructor, an operator `o` whose value has 128 times 128, and an
-/// operator `w` over a part, whose value is one.
+/// A language with an operator `e` whose value is one constructor, an operator `o` whose value has 128 times 128, and
+/// an operator `w` over a part, whose value is one.
 fn boxes(alloc: Global) -> Result<String, AllocError> {
     let bits = repeated(alloc, "Bit", 126)?;
     let fewer_bits = repeated(alloc, "Bit", 125)?;
@@ -109,7 +109,7 @@ hole P y by e
     )
 }
 
-/// A list of 244 large elements, of so many `e`, and of so many `w` over `e`.
+/// A list of 244 large elements, of the given number of `e`, and of the given number of `w` over `e`.
 fn heavy_list(alloc: Global, small: usize, over: usize) -> Result<String, AllocError> {
     let count = 244usize.saturating_add(small).saturating_add(over);
     let mut words = format!(in alloc; "[{count}")?;
@@ -119,8 +119,8 @@ fn heavy_list(alloc: Global, small: usize, over: usize) -> Result<String, AllocE
     Ok(words)
 }
 
-/// The large elements have 3,997,696 constructors together, each other operator has one, and so has each suffix of the list:
-/// one for each element, and one for the end.
+/// The large elements have 3,997,696 constructors together, each other operator has one, and so has each suffix of the
+/// list: one for each element, and one for the end.
 #[test]
 fn the_heaviest_tree_and_one_constructor_more(rt: HostRuntime) -> Result<(), Fail> {
     let language = boxes(rt.alloc())?;

@@ -1,6 +1,8 @@
-//! The small language of blocks, groups and items in two spaces, which no text of a definition spells: it is built part by part.
+//! The small language of blocks, groups and items in two spaces, which no text of a definition spells: it is built part
+//! by part.
 ghost use Rattle.std.specs.Prelude.{◌≡◌, ◌∷◌, [], IfOk};
-ghost use Rattle.psg_grammar.specs.Little.{items_list, little, little_operators, little_phyla, little_spaces, operator_named, phylum_named, space_named, unit_sort, unit_signature};
+ghost use Rattle.psg_grammar.specs.Little.{items_list, little, little_operators, little_phyla, little_spaces};
+ghost use Rattle.psg_grammar.specs.Little.{operator_named, phylum_named, space_named, unit_sort, unit_signature};
 ghost use Rattle.psg_grammar.specs.Sound.{IsSound};
 
 use psg_grammar::{Definition, Item, Kind, Level, ListKind, Operator, Phylum, Space};

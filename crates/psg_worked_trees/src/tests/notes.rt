@@ -31,7 +31,7 @@ cell Nones int : int int
 hole Num int
 ";
 
-/// The list of so many placeholders of the phylum.
+/// The list of the given number of placeholders of the phylum.
 fn placeholders(alloc: Global, list: u32, phylum: u32, count: usize) -> Result<Tree, AllocError> {
     let mut elements = Vec::new(alloc);
     for _number in 0..count {
@@ -80,7 +80,7 @@ pub(super) fn noted(
     counted::<Brand>(alloc, definition, tree, Blank::new(1))
 }
 
-/// The note of the list of so many placeholders of the phylum.
+/// The note of the list of the given number of placeholders of the phylum.
 fn list_note(alloc: Global, list: u32, phylum: u32, count: usize) -> Result<Note, NoteFault> {
     let definition = definition(alloc, LISTS)?;
     let tree = placeholders(alloc, list, phylum, count)?;
