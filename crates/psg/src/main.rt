@@ -72,7 +72,7 @@ fn tell<O: Sink>(alloc: Global, out: &mut O, text: &str) -> Status {
     }
 }
 
-/// Does what the words behind the program's name say.
+/// Does what the words after the program's name say.
 fn answer<F: Files, I: Input, O: Sink, L: Ledger>(
     alloc: Global,
     words: &[String],

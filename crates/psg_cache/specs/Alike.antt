@@ -1,5 +1,6 @@
 -- When two trees are alike besides their children.
-use Rattle.std.specs.Prelude.{ℕ, zero, suc, ◌≡◌, ◌≤◌, ◌||◌, Bool, true, false, cond, List, [], ◌∷◌, drop, length, slice_get, Option, Some, None}
+use Rattle.std.specs.Prelude.{ℕ, zero, suc, ◌≡◌, ◌≤◌, ◌||◌, Bool, true, false, cond, List}
+use Rattle.std.specs.Prelude.{[], ◌∷◌, drop, length, slice_get, Option, Some, None}
 use Rattle.psg_grammar.specs.Fragments.{Fragment, hole, children_of, top_operator}
 use Rattle.psg_grammar.specs.Same.{same_tree}
 use Rattle.psg_tree.specs.Shapes.{list_of}
@@ -17,6 +18,7 @@ IsPartAlike (Number n) (Number m) = n ≡ m
 IsPartAlike (Text t) (Text u) = t ≡ u
 IsPartAlike _ _ = ⊥
 
+-- there are as many parts, and those at the same places are alike
 abbrev pub AreOwnAlike : List Part → List Part → Type 0
 AreOwnAlike [] [] = Unit {0}
 AreOwnAlike (p ∷ ps) (q ∷ qs) = IsPartAlike p q × AreOwnAlike ps qs
@@ -31,13 +33,14 @@ hole_number _ = None
 abbrev pub is_paired : Fragment → Fragment → Bool
 is_paired f g = same_some (top_operator f) (top_operator g) || same_some (list_number f) (list_number g)
 
--- The trees are equal where their children are; lists of one kind with one end, which agree where they are equally long, or one
--- operator with the same names.
+-- The trees are equal where their children are; lists of one kind with one end, which agree where they are equally
+-- long, or one operator with the same names.
 pub record AreAlike (old new : Fragment) : Type 0 where
   pub equal : children_of old ≡ children_of new → old ≡ new
   pub lists : (l : ℕ) (es : List Fragment) (u : Bool) → new ≡ list_of l es u → old ≡ list_of l (children_of old) u
   pub nodes : (o : ℕ) → top_operator new ≡ Some o → (top_operator old ≡ Some o) × (own_names new ≡ own_names old)
-  pub agrees : same_some (list_number old) (list_number new) ≡ true → length (children_of old) ≡ length (children_of new)
+  pub agrees : same_some (list_number old) (list_number new) ≡ true
+      → length (children_of old) ≡ length (children_of new)
       → agree old new ≡ true
 
 -- the trees differ, and do not end alike where they are lists of one kind
@@ -61,7 +64,8 @@ DifferBefore zero cs ds = Unit {0}
 DifferBefore (suc k) cs ds =
     (c : Fragment) × (d : Fragment) × (slice_get cs k ≡ Some c) × (slice_get ds k ≡ Some d) × (c ≡ d → ⊥)
 
--- The children that stand first differ up to this number and no further: those behind it are the old ones, where there are as many.
+-- The first children differ up to this number and no further: the notes after it are the old ones, where there are as
+-- many.
 pub record IsLast (old : Annotated) (new : Fragment) (below : List Annotated) (last : ℕ) : Type 0 where
   pub within : last ≤ length below
   pub behind : length (below_in old) ≡ length below → drop last below ≡ drop last (below_in old)

@@ -7,7 +7,7 @@ use Rattle.psg_eval.specs.declared.summary.Known.{Known}
 use Rattle.psg_eval.specs.Summaries.{IsSummaryOf}
 use Rattle.psg_cache.specs.Annotated.{Annotated, tree_in, whole_in, rests_in, note_at}
 
--- the list behind the first k elements; the first suffix is the list itself
+-- the list after the first k elements; the first suffix is the list itself
 abbrev pub suffix_of : Fragment → ℕ → Option Fragment
 suffix_of (cell l e r) zero = Some (cell l e r)
 suffix_of (cell l e r) (suc k) = suffix_of r k
@@ -18,4 +18,5 @@ pub record HasAllSummaries (def : Definition) (f : Fragment) (n : Annotated) : T
   pub nodes : (path : Path) (node : Fragment) → node_at f path ≡ Some node
       → (m : Annotated) × (note_at n path ≡ Some m) × (tree_in m ≡ node) × IsSummaryOf def node (whole_in m)
   pub suffixes : (path : Path) (m : Annotated) (k : ℕ) (suffix : Fragment) (s : Known) → note_at n path ≡ Some m
-      → suffix_of (tree_in m) k ≡ Some suffix → slice_get (whole_in m ∷ rests_in m) k ≡ Some s → IsSummaryOf def suffix s
+      → suffix_of (tree_in m) k ≡ Some suffix → slice_get (whole_in m ∷ rests_in m) k ≡ Some s
+      → IsSummaryOf def suffix s

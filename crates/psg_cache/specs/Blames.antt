@@ -8,7 +8,8 @@ abbrev pub is_nil : {X : Type 0} → List X → Bool
 is_nil [] = true
 is_nil (x ∷ xs) = false
 
--- Where the relation of a tree has no row, the culprits below it, or the tree itself where there are none; else no node.
+-- Where the relation of a tree has no row, the culprits below it, or the tree itself where there are none; else no
+-- node.
 abbrev pub or_itself : Path → List Path → List Path
 or_itself path [] = path ∷ []
 or_itself path (p ∷ ps) = p ∷ ps

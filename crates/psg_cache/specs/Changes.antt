@@ -17,8 +17,8 @@ change_of (edits.Put new) node = tree_in new
 change_of (edits.Add place new) node = inserted place new node
 change_of (edits.Take place) node = removed place node
 
--- the evaluations of the change itself: of the new element, and of the cells of the list up to the place; a tree that is put there
--- has its note
+-- the evaluations of the change itself: of the new element, and of the cells of the list up to the place; a tree that
+-- is put there has its note
 abbrev pub ticks_of : Edit → ℕ
 ticks_of (edits.Put new) = 0
 ticks_of (edits.Add place new) = work_of new + (place + 1)
@@ -49,8 +49,9 @@ pub record IsExchange (def : Definition) (n : Annotated) (path : Path) (new made
   pub there : node_at (tree_in n) path ≡ Some node
   pub changed : made ≡ replaced path new (tree_in n)
 
--- The tree has the annotated one's last children behind so many of its own, and its first ones up to a number, or others with the
--- same summaries. A list has the same number and end; a node of which all children are such has the same operator and names.
+-- The tree's children from `front` on have the summaries of the annotated one's last children, and its first `same`
+-- ones those of the annotated one's first. A list has the same number and end; a node of which all children are such
+-- has the same operator and names.
 pub record IsKept (def : Definition) (n : Annotated) (same behind front : ℕ) (made : Fragment) (below : List Annotated)
     : Type 0 where
   pub noted : IsNoted def n
@@ -64,7 +65,7 @@ pub record IsKept (def : Definition) (n : Annotated) (same behind front : ℕ) (
   pub nodes : (o : ℕ) → top_operator made ≡ Some o → front ≡ 0
       → (behind ≡ 0) × (top_operator (tree_in n) ≡ Some o) × (own_names made ≡ own_names (tree_in n))
 
--- the evaluations of a tree of which so many first children are new: of a list their cells, else the node
+-- the evaluations of a tree of which the first n children are new: of a list their cells, else the node
 abbrev pub remade_ticks : Fragment → ℕ → ℕ
 remade_ticks (cell l e r) n = n
 remade_ticks (ending l u) n = n

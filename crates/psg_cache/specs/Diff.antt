@@ -1,7 +1,8 @@
 -- How many evaluations a change from one tree to another takes.
 use Rattle.std.specs.Prelude.{ℕ, zero, suc, ◌+◌, ◌==◌, Bool, true, false, cond, length, Option, Some, None}
 use Rattle.std.specs.Bool.{beq}
-use Rattle.psg_grammar.specs.Fragments.{Fragment, ending, cell, with_child, with_name, with_number, with_text, top_operator, children_of}
+use Rattle.psg_grammar.specs.Fragments.{Fragment, ending, cell, with_child, with_name, with_number}
+use Rattle.psg_grammar.specs.Fragments.{with_text, top_operator, children_of}
 use Rattle.psg_grammar.specs.Same.{same_tree}
 use Rattle.psg_grammar.specs.Work.{work_of, works_of}
 
@@ -21,7 +22,8 @@ agree (cell l e r) (cell k d s) = agree r s
 agree (ending l u) (ending k v) = beq u v
 agree _ _ = false
 
--- one more than the last place that differs, where it is n behind the first one; 0 where none does
+-- One more than the last place that differs: n is that number of the places after the first one, and the test says
+-- whether the first ones are the same. It is 0 where no place differs.
 abbrev pub place_before : Bool → ℕ → ℕ
 place_before true zero = 0
 place_before false zero = 1
@@ -32,7 +34,7 @@ abbrev pub last_differing : Fragment → Fragment → ℕ
 last_differing (cell l e r) (cell k d s) = place_before (same_tree e d) (last_differing r s)
 last_differing _ _ = 0
 
--- the cells and the end of the new list that are made anew
+-- the cells and the end of the new list that are made again
 abbrev pub diff_cells : Fragment → Fragment → ℕ
 diff_cells old new = cond (agree old new) (last_differing old new) (length (children_of new) + 1)
 
@@ -44,8 +46,8 @@ diff_with old new below =
     (cond (same_some (list_number old) (list_number new)) (below + diff_cells old new)
     (work_of new)))
 
--- The sum over the children of an operator, or over the elements of two lists at the same places and those of either list without
--- a partner. Parts of an operator stand at the same places, since they are those of its items.
+-- The sum over the children of an operator, or over the elements of two lists at the same places and those of either
+-- list without a partner. Parts of an operator are at the same places, since they are those of its items.
 abbrev pub diff_below : Fragment → Fragment → ℕ
 diff_below (with_child f t) (with_child g u) = diff_below f g + diff_with t u (diff_below t u)
 diff_below (with_name f n) (with_name g m) = diff_below f g
@@ -56,8 +58,8 @@ diff_below (cell l e r) (ending k v) = works_of (cell l e r)
 diff_below (ending l u) (cell k d s) = works_of (cell k d s)
 diff_below _ _ = 0
 
--- Of a change from the one tree to the other: equal trees take nothing, the same operator takes one and what its children take, two
--- lists of a kind take what their elements take and the cells up to the last place that differs, or all where they differ in
--- length or end; any other new tree is made whole.
+-- Of a change from the one tree to the other: equal trees take nothing, the same operator takes one and what its
+-- children take, two lists of a kind take what their elements take and the cells up to the last place that differs, or
+-- all where they differ in length or end; any other new tree is made whole.
 abbrev pub diff_of : Fragment → Fragment → ℕ
 diff_of old new = diff_with old new (diff_below old new)

@@ -17,8 +17,8 @@ use Rattle.psg_cache.specs.Noted.{IsNoted}
 use Rattle.psg_cache.specs.Notes.{IsFormed, IsNoteOf}
 
 module _ (def : Definition) where
-  -- The frames are those of the nodes above the node at the path, any summary of its kind can climb them, and they take the
-  -- evaluations of a climb to the path.
+  -- The frames are those of the nodes above the node at the path, any summary of its kind can climb them, and they take
+  -- the evaluations of a climb to the path.
   pub record AreFramesOf (f : Fragment) (path : Path) (around : List Frame) : Type 0 where
     pub node : Fragment
     pub there : node_at f path ≡ Some node
@@ -47,7 +47,8 @@ module _ (def : Definition) where
   -- the node's frame around its child
   pub record IsFrameAround (n child : Annotated) (k : ℕ) (frame : Frame) : Type 0 where
     pub is : IsFrame def frame k (tree_in n) (tree_in child)
-    pub takes : (kind above : Kind) → IsOfKind def (tree_in child) kind → IsOfKind def (tree_in n) above → TakesAny frame kind above
+    pub takes : (kind above : Kind) → IsOfKind def (tree_in child) kind → IsOfKind def (tree_in n) above
+        → TakesAny frame kind above
     pub cost : rungs_in frame ≡ leaving (tree_in n) k
 
   -- the frame is the node's around a new element before the element k of its list, and takes any summary of an element
@@ -62,7 +63,8 @@ module _ (def : Definition) where
 
 -- for each definition by which the note is one: the frame is that of its node around its child of the number
 abbrev pub IsFrameAt : Annotated → ℕ → Frame → Type 0
-IsFrameAt n k frame = (def : Definition) (child : Annotated) → IsNoted def n → IsFormed def (tree_in n) → slice_get (below_in n) k ≡ Some child
+IsFrameAt n k frame = (def : Definition) (child : Annotated) → IsNoted def n → IsFormed def (tree_in n)
+    → slice_get (below_in n) k ≡ Some child
     → IsFrameAround def n child k frame
 
 -- for each such definition there is no such child
@@ -73,7 +75,7 @@ IsNoFrameAt n k = (def : Definition) → IsNoted def n → IsFormed def (tree_in
 abbrev pub IsFrameBefore : Annotated → ℕ → Frame → Type 0
 IsFrameBefore n k frame = (def : Definition) → IsNoted def n → IsFormed def (tree_in n) → IsElementFrame def n k frame
 
--- for each such definition its node is no list with so many elements
+-- for each such definition its node is no list, or one with fewer than k elements
 abbrev pub IsNoPlaceIn : Annotated → ℕ → Type 0
 IsNoPlaceIn n k = (def : Definition) → IsNoted def n → IsFormed def (tree_in n)
     → IsList (tree_in n) → k ≤ length (children_of (tree_in n)) → ⊥
@@ -84,9 +86,10 @@ AreFramesAt n path around = (def : Definition) (f : Fragment) → IsNoteOf def f
 
 -- for each tree of which this is the note, before the element k of the list at the path
 abbrev pub AreElementFramesAt : Annotated → Path → ℕ → List Frame → Type 0
-AreElementFramesAt n path k around = (def : Definition) (f : Fragment) → IsNoteOf def f n → AreFramesBefore def f path k around
+AreElementFramesAt n path k around =
+    (def : Definition) (f : Fragment) → IsNoteOf def f n → AreFramesBefore def f path k around
 
--- for each such tree no list with so many elements is at the path
+-- for each such tree there is no list at the path, or one with fewer than k elements
 abbrev pub IsNoElementAt : Annotated → Path → ℕ → Type 0
 IsNoElementAt n path k = (def : Definition) (f : Fragment) → IsNoteOf def f n
     → (node : Fragment) → node_at f path ≡ Some node → IsList node → k ≤ length (children_of node) → ⊥

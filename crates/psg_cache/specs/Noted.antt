@@ -14,27 +14,31 @@ abbrev pub summed : {X : Type 0} → (X → ℕ) → List X → ℕ
 summed f [] = 0
 summed f (x ∷ xs) = f x + summed f xs
 
+-- how many variables and constructors the relation of the summary has
 abbrev pub own_weight : Known → ℕ
 own_weight s = weight_of s.rel
 
 module _ (def : Definition) where
   -- the answer for every node of the operator with its names whose children have these summaries, whatever they are
   abbrev pub IsOfNodes : Fragment → List Known → Known → Type 0
-  IsOfNodes f below s = (o : ℕ) (g : Fragment) → top_operator f ≡ Some o → IsNode def o (own_names f) g → AreSummariesOf def g below
+  IsOfNodes f below s =
+      (o : ℕ) (g : Fragment) → top_operator f ≡ Some o → IsNode def o (own_names f) g → AreSummariesOf def g below
       → Answers def g (Ok s)
 
   -- the answer for every cell whose element and rest have these summaries
   abbrev pub IsOfCells : ℕ → Known → Known → Known → Type 0
-  IsOfCells l element rest s = (e r : Fragment) → IsSummaryOf def e element → IsSummaryOf def r rest → Answers def (cell l e r) (Ok s)
+  IsOfCells l element rest s =
+      (e r : Fragment) → IsSummaryOf def e element → IsSummaryOf def r rest → Answers def (cell l e r) (Ok s)
 
   -- the answers for a list and for its suffixes, by those of the elements
   abbrev pub AreOfSuffixes : Fragment → List Known → Known → List Known → Type 0
   AreOfSuffixes (ending l u) [] s [] = Answers def (ending l u) (Ok s)
-  AreOfSuffixes (cell l e r) (element ∷ elements) s (rest ∷ rests) = IsOfCells l element rest s × AreOfSuffixes r elements rest rests
+  AreOfSuffixes (cell l e r) (element ∷ elements) s (rest ∷ rests) =
+      IsOfCells l element rest s × AreOfSuffixes r elements rest rests
   AreOfSuffixes _ _ _ _ = ⊥
 
-  -- The evaluator's own answers at the top of a tree. They speak of the children's summaries and not of the children, so they
-  -- stand for each tree with the same top whose children have the same summaries.
+  -- The evaluator's own answers at the top of a tree. They speak of the children's summaries and not of the children,
+  -- so they hold for each tree with the same top whose children have the same summaries.
   abbrev pub IsAnswered : Fragment → List Known → Known → List Known → Type 0
   IsAnswered (hole p) below s rests = Answers def (hole p) (Ok s) × (rests ≡ [])
   IsAnswered (ending l u) below s rests = AreOfSuffixes (ending l u) below s rests
@@ -42,7 +46,8 @@ module _ (def : Definition) where
   IsAnswered f below s rests = IsOfNodes f below s × (rests ≡ [])
 
   -- the top of a note
-  pub record IsTopped (tree : Fragment) (whole : Known) (rests : List Known) (weight : ℕ) (below : List Annotated) : Type 0 where
+  pub record IsTopped (tree : Fragment) (whole : Known) (rests : List Known) (weight : ℕ)
+      (below : List Annotated) : Type 0 where
     pub children : map tree_in below ≡ children_of tree
     pub answered : IsAnswered tree (map whole_in below) whole rests
     pub usual : AllByRecursion (IsSummary def) (whole ∷ rests)

@@ -47,6 +47,7 @@ module _ (def : Definition) (f : Fragment) where
   abbrev pub IsNoteFault : NoteFault → Type 0
   IsNoteFault faults.Deep = IsDeep f
   IsNoteFault faults.Big = (IsDeep f → ⊥) × IsBig f
-  IsNoteFault (faults.Wide path step) = (IsDeep f → ⊥) × (IsBig f → ⊥) × (part : Fragment) × IsFirstWide def f (record { path = path; part = part; step = step })
+  IsNoteFault (faults.Wide path step) = (IsDeep f → ⊥) × (IsBig f → ⊥) × (part : Fragment)
+      × IsFirstWide def f (record { path = path; part = part; step = step })
   IsNoteFault faults.Heavy = (IsDeep f → ⊥) × (IsBig f → ⊥) × (IsWide def f → ⊥) × IsHeavy def f
   IsNoteFault faults.Memory = Unit {0}

@@ -1,4 +1,4 @@
--- What the program's notes stand for.
+-- What the program's notes represent.
 use Rattle.std.specs.Prelude.{◌+◌, ◌≤◌, max, List, [], ◌∷◌}
 use Rattle.std.proofs.Common.{arith}
 use denote.Param.Weighed.{most}
@@ -9,7 +9,8 @@ abbrev pub annotated_of : Noted → Annotated
 annotated_of n = with_below (topped n.tree n.whole n.rests n.weight) n.below
 
 -- the notes of the children are nested less
-pub most_le-with : (n : Annotated) (cs : List Annotated) → max (nested n) (most (λ k. nested k + 1) cs) ≤ nested (with_below n cs)
+pub most_le-with : (n : Annotated) (cs : List Annotated)
+    → max (nested n) (most (λ k. nested k + 1) cs) ≤ nested (with_below n cs)
 most_le-with n [] = omega arith
 most_le-with n (c ∷ cs) = omega (arith, most_le-with (above n c) cs)
 

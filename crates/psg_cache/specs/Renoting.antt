@@ -14,6 +14,7 @@ use Rattle.psg_cache.specs.declared.note.NoteFault.{NoteFault}
 use Rattle.psg_cache.specs.Annotated.{Annotated}
 use Rattle.psg_cache.specs.Noted.{IsNotedAs, IsOfCells}
 
+-- the first of the summaries, or the other one where there is none
 abbrev pub first_or : Known → List Known → Known
 first_or behind [] = behind
 first_or behind (s ∷ ss) = s
@@ -34,7 +35,7 @@ module _ (def : Definition) where
   IsRenoted old new None = old ≡ new
   IsRenoted old new (Some n) = (old ≡ new → ⊥) × IsNotedAs def new n
 
-  -- the summaries of the suffixes that begin with these elements, in front of the suffix behind them
+  -- the summaries of the suffixes that begin with these elements, before the suffix after them
   abbrev pub AreOfCells : ℕ → List Known → Known → List Known → Type 0
   AreOfCells l [] behind [] = Unit {0}
   AreOfCells l (b ∷ bs) behind (s ∷ ss) = IsOfCells def l b (first_or behind ss) s × AreOfCells l bs behind ss
@@ -43,7 +44,8 @@ module _ (def : Definition) where
   -- what was kept of the same places, for the elements whose summaries did not change
   abbrev pub AreOldCells : ℕ → List Bool → List Known → Known → List Known → Type 0
   AreOldCells l [] [] was [] = Unit {0}
-  AreOldCells l (c ∷ cs) (b ∷ bs) was (s ∷ ss) = (c ≡ false → IsOfCells def l b (first_or was ss) s) × AreOldCells l cs bs was ss
+  AreOldCells l (c ∷ cs) (b ∷ bs) was (s ∷ ss) =
+      (c ≡ false → IsOfCells def l b (first_or was ss) s) × AreOldCells l cs bs was ss
   AreOldCells _ _ _ _ _ = ⊥
 
   -- elements of the list, and a suffix of it
@@ -54,8 +56,10 @@ module _ (def : Definition) where
     pub rest_kind : behind.kind ≡ kinds.List l
     pub usual : AllByRecursion (IsSummary def) (behind ∷ elements)
 
-  -- one of the cells' steps is the first that passes the limit, whatever the elements and the suffix are, where its own are clean
+  -- one of the cells' steps is the first that passes the limit, whatever the elements and the suffix are, where its own
+  -- are clean
   abbrev pub IsCellsFault : Path → ℕ → List Known → Known → NoteFault → Type 0
   IsCellsFault path l elements behind fault =
-      (es : List Fragment) (r : Fragment) → AllSummaries def es elements → IsSummaryOf def r behind → IsClean def (list_steps def path r)
+      (es : List Fragment) (r : Fragment) → AllSummaries def es elements → IsSummaryOf def r behind
+      → IsClean def (list_steps def path r)
       → IsStepFault def (list_steps def path (cells_of l es r)) fault

@@ -5,7 +5,8 @@ use Rattle.psg_terms.specs.Relations.{IsIn}
 use Rattle.psg_grammar.specs.declared.types.Kind.TheVariants as kinds
 use Rattle.psg_grammar.specs.declared.types.ListKind.{ListKind}
 use Rattle.psg_grammar.specs.declared.types.Definition.{Definition}
-use Rattle.psg_grammar.specs.Fragments.{Fragment, hole, ending, cell, operator, with_child, with_name, with_number, with_text, anything, observed}
+use Rattle.psg_grammar.specs.Fragments.{Fragment, hole, ending, cell, operator, with_child, with_name}
+use Rattle.psg_grammar.specs.Fragments.{with_number, with_text, anything, observed}
 use Rattle.psg_grammar.specs.Marks.{Located, nodes_from}
 use Rattle.psg_grammar.specs.Paths.{Path}
 use Rattle.psg_grammar.specs.Sizes.{IsBig, IsDeep}
@@ -51,7 +52,7 @@ abbrev pub IsMadeOf : Fragment → Known → List Known → List Annotated → A
 IsMadeOf f s rests below n =
     n ≡ with_below (topped f s rests (summed weight_in below + summed own_weight (s ∷ rests))) below
 
--- the fault of the step that the answer names, for the part at the path, or want of memory
+-- the fault of the step that the answer names, for the part at the path, or that memory ran out
 abbrev pub IsAnswerFault : Path → Result Known EvalFault → NoteFault → Type 0
 IsAnswerFault path answer fault =
     (fault ≡ faults.Memory) ⊎ ((step : ℕ) × (answer ≡ Err (evals.Wide step)) × (fault ≡ faults.Wide path step))
@@ -96,7 +97,7 @@ module _ (def : Definition) where
   each_steps path n [] = []
   each_steps path n (c ∷ cs) = steps_of def (path ++ n ∷ []) c ++ each_steps path (n + 1) cs
 
-  -- the steps of the tree behind those of its children; of a list those of its end and cells
+  -- the steps of the tree after those of its children; of a list those of its end and cells
   abbrev pub top_steps : Path → Fragment → List Place
   top_steps path (hole p) = own_steps def path (hole p)
   top_steps path (ending l u) = list_steps def path (ending l u)

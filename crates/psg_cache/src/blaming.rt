@@ -9,8 +9,8 @@ use crate::parts::{longer, step_of};
 use psg_tree::Path;
 use std::alloc::{AllocError, Global};
 
-/// Puts the culprits of the tree at the path behind those that were found: none where its relation has a row, else those
-/// of its children in order, or the tree itself where there are none.
+/// Adds the culprits of the tree at the path to those that were found: none where its relation has a row, else those of
+/// its children in order, or the tree itself where there are none.
 #[tactic(auto, using(crate::proofs::MarkLaws::none_at))]
 fn blame(alloc: Global, note: &Note, path: &[u32], found: &mut Vec<Path>) -> Result<(), AllocError>
     ensures { OnOk result (found.new.items
@@ -35,8 +35,8 @@ fn blame(alloc: Global, note: &Note, path: &[u32], found: &mut Vec<Path>) -> Res
 }
 
 impl Note {
-    /// Lists the nodes at which the tree goes wrong by itself, a node before its children, children in order; none where
-    /// the tree is good. It looks below nodes that go wrong alone. An error says that memory ran out.
+    /// Lists the nodes at which the tree goes wrong by itself, a node before its children, children in order; none
+    /// where the tree is good. It looks below nodes that go wrong alone. An error says that memory ran out.
     pub fn culprits(&self, alloc: Global) -> Result<Vec<Path>, AllocError>
         ensures paths { IfOk result (λ paths. paths.items ≡ culprits_in self.now) }
         ensures culprits { IfOk result (λ paths. AreCulpritsIn self.now paths.items) }

@@ -19,16 +19,17 @@ use psg_tree::{Tree, depth, longest_list, nodes};
 use std::alloc::Global;
 use std::sync::ledger::Ledger;
 
-/// Makes the note of a tree. Each node and each list suffix is evaluated once, from the summaries of its children: children
-/// in order, then the node; of a list its elements in order, then its end, then its cells from the last to the first.
-/// `steps` counts the evaluations, and where there is no note, those that were made. `declaring` has the spaces in which
-/// each phylum declares, as psg_grammar's `declaring` gives them.
+/// Makes the note of a tree. Each node and each list suffix is evaluated once, from the summaries of its children:
+/// children in order, then the node; of a list its elements in order, then its end, then its cells from the last to the
+/// first.
+/// `steps` counts the evaluations, and where there is no note, those that were made. `declaring` has the spaces in
+/// which each phylum declares, as psg_grammar's `declaring` gives them.
 ///
 /// The tree is well-formed: no placeholder of it is of a phylum that declares names.
 ///
 /// The faults are tested in their order: `Deep`, `Big`, then `Wide` with the first step whose relation passes the
-/// limit, then `Heavy`. `Memory` comes when memory runs out, at any time. The functions call each other as deep as the
-/// tree is, at most 200.
+/// limit, then `Heavy`. `Memory` is returned when memory runs out, at any time. The functions call each other as deep
+/// as the tree is, at most 200.
 pub fn build<L: Ledger>(
     alloc: Global,
     definition: &Definition,
@@ -82,14 +83,14 @@ pub(crate) fn light(weight: u64) -> Result<(), NoteFault>
     Ok(())
 }
 
-/// Tells whether the tree is too deep. It takes one step.
+/// Says whether the tree is too deep. It takes one step.
 fn is_deep(tree: &Tree) -> bool
     ensures { IsTrue result ↔ IsDeep tree.now }
 {
     depth(tree) > MOST_DEPTH
 }
 
-/// Tells whether a list of the tree has too many elements. It takes one step.
+/// Says whether a list of the tree has too many elements. It takes one step.
 #[tactic(auto, using(crate::proofs::LongLists::long_lists))]
 fn has_long_list(tree: &Tree) -> bool
     ensures { IsTrue result ↔ HasLongList tree.now }
@@ -97,7 +98,7 @@ fn has_long_list(tree: &Tree) -> bool
     longest_list(tree) > MOST_ELEMENTS
 }
 
-/// Tells whether the tree has too many nodes, or a list of it too many elements. It takes one step.
+/// Says whether the tree has too many nodes, or a list of it too many elements. It takes one step.
 fn is_big(tree: &Tree) -> bool
     ensures { IsTrue result ↔ IsBig tree.now }
 {

@@ -1,7 +1,8 @@
 //! Notes of changed trees.
 ghost use Rattle.std.specs.Prelude.{◌≡◌, ◌+◌, ◌^◌, ◌⊎◌, ◌≤◌, ◌<◌, [], drop, length, slice_get, Some, IfErr, IfOk};
 ghost use Rattle.std.specs.Prelude.{Ok as InOk};
-ghost use Rattle.psg_grammar.specs.Paths.{change_at, replaced as replaced_at, inserted as inserted_at, removed as removed_at};
+ghost use Rattle.psg_grammar.specs.Paths.{change_at, replaced as replaced_at, inserted as inserted_at};
+ghost use Rattle.psg_grammar.specs.Paths.{removed as removed_at};
 ghost use Rattle.psg_grammar.specs.Sound.{IsSound};
 ghost use Rattle.psg_grammar.specs.Steps.{steps_of};
 ghost use Rattle.psg_grammar.specs.Work.{climb_of, leaving, work_of};
@@ -39,7 +40,7 @@ pub(crate) enum Edit {
     Take { place: u32 },
 }
 
-/// The note of a list with one more element.
+/// Returns the note of a list with one more element.
 fn added<L: Ledger>(
     alloc: Global,
     language: Language,
@@ -77,7 +78,7 @@ fn added<L: Ledger>(
     Ok(all)
 }
 
-/// The note of a list without an element.
+/// Returns the note of a list without an element.
 fn taken<L: Ledger>(
     alloc: Global,
     language: Language,
@@ -112,8 +113,8 @@ fn taken<L: Ledger>(
     Ok(all)
 }
 
-/// How many first children have other summaries than before where the one at the place is new: none where its summary is
-/// the old one's.
+/// Returns how many first children have other summaries than before where the one at the place is new: none where its
+/// summary is the old one's.
 fn first_changed(old: &Note, new: &Note, place: usize) -> usize
     requires { place < 2 ^ 32 }
     ensures { ((result ≡ 0) × (whole_in new.now ≡ whole_in old.now)) ⊎ (result ≡ place + 1) }
@@ -124,7 +125,7 @@ fn first_changed(old: &Note, new: &Note, place: usize) -> usize
     place + 1
 }
 
-/// The note of a node with another child.
+/// Returns the note of a node with another child.
 fn raised<L: Ledger>(
     alloc: Global,
     language: Language,
@@ -153,7 +154,7 @@ fn raised<L: Ledger>(
     Ok(all)
 }
 
-/// The note of the changed node.
+/// Returns the note of the changed node.
 fn edited<L: Ledger>(
     alloc: Global,
     language: Language,
@@ -180,7 +181,7 @@ fn edited<L: Ledger>(
     }
 }
 
-/// The first step.
+/// Returns the first step.
 fn head(left: &[u32]) -> u32
     requires { 0 < length left.now }
     ensures { slice_get left.now 0 ≡ Some result }
@@ -188,7 +189,7 @@ fn head(left: &[u32]) -> u32
     left[0]
 }
 
-/// The steps behind the first one.
+/// Returns the steps after the first one.
 fn tail(left: &[u32]) -> &[u32]
     requires { 0 < length left.now }
     ensures { result.now ≡ drop 1 left.now }
@@ -196,7 +197,7 @@ fn tail(left: &[u32]) -> &[u32]
     &left[1..]
 }
 
-/// The note of the tree whose node behind the steps is changed: the node, and then those above it.
+/// Makes the note of the tree whose node at the end of the steps is changed: of the node, and then of those above it.
 fn changed<L: Ledger>(
     alloc: Global,
     language: Language,
@@ -237,7 +238,7 @@ fn changed<L: Ledger>(
     Ok(all)
 }
 
-/// The changed tree. Where the place was tested a change has no other fault than want of memory.
+/// Makes the changed tree. Where the place was tested a change has no other fault than that memory runs out.
 fn tree_of(made: Result<Tree, TreeFault>) -> Result<Tree, NoteFault>
     requires { IfErr made (λ fault. fault ≡ NoMemory) }
     ensures ok { IfOk result (λ tree. made ≡ InOk tree) }
@@ -249,7 +250,7 @@ fn tree_of(made: Result<Tree, TreeFault>) -> Result<Tree, NoteFault>
     }
 }
 
-/// The note of the changed tree, whose sizes are tested, and then its weight.
+/// Returns the note of the changed tree, whose sizes are tested, and then its weight.
 fn climbed<L: Ledger>(
     alloc: Global,
     language: Language,
@@ -271,7 +272,7 @@ fn climbed<L: Ledger>(
     Ok(all)
 }
 
-/// The note of the changed tree, whose limits are tested.
+/// Returns the note of the changed tree, whose limits are tested.
 fn finished<L: Ledger>(
     alloc: Global,
     language: Language,
@@ -292,7 +293,8 @@ fn finished<L: Ledger>(
     Ok(all)
 }
 
-/// The note of the tree with the new one in place of the node at the path: the old one where that is equal to the node.
+/// Returns the note of the tree with the new one in place of the node at the path: the old one where that is equal to
+/// the node.
 fn exchanged<L: Ledger>(
     alloc: Global,
     language: Language,
@@ -324,11 +326,11 @@ fn exchanged<L: Ledger>(
 ///
 /// The new tree is compared with the old node, place by place, in one step for each of its nodes and the bytes of its
 /// names and texts: equal subtrees at the same places keep their notes, and where the trees are equal the note is the
-/// old one. The nodes on the path are evaluated anew, of a list on it the cells up to the path's element, up to where a
-/// summary is the old one; all else is shared.
-/// `steps` counts the evaluations, whatever is answered. The faults are tested as by `build`: `Deep`, `Big`, then `Wide`
-/// with the first step of the resulting tree whose relation passes the limit, then `Heavy`. `Memory` comes when memory
-/// runs out, at any time.
+/// old one. The nodes on the path are evaluated again, of a list on it the cells up to the path's element, up to where
+/// a summary is the old one; all else is shared.
+/// `steps` counts the evaluations, whatever is answered. The faults are tested as by `build`: `Deep`, `Big`, then
+/// `Wide` with the first step of the resulting tree whose relation passes the limit, then `Heavy`. `Memory` is returned
+/// when memory runs out, at any time.
 pub fn replaced<L: Ledger>(
     alloc: Global,
     definition: &Definition,
@@ -347,7 +349,8 @@ pub fn replaced<L: Ledger>(
     ensures completions { IfOk result
         (TellsCompletable definition.now (replaced_at path.now new.now (tree_in note.now))) }
     ensures fault { IfErr result (IsNoteFault definition.now (replaced_at path.now new.now (tree_in note.now))) }
-    ensures ticks { steps.new ≤ steps.old + diff_of (tree_in note.now) (replaced_at path.now new.now (tree_in note.now)) }
+    ensures ticks { steps.new ≤ steps.old
+        + diff_of (tree_in note.now) (replaced_at path.now new.now (tree_in note.now)) }
 {
     let changed = replace(alloc, note.tree(), path, new);
     let made = tree_of(changed)?;
@@ -361,11 +364,11 @@ pub fn replaced<L: Ledger>(
 
 /// Makes the note of the tree with one more element before the place of the list at the path.
 ///
-/// The nodes on the path are evaluated anew, of a list on it the cells up to the path's element, up to where a summary
+/// The nodes on the path are evaluated again, of a list on it the cells up to the path's element, up to where a summary
 /// is the old one; all else is shared.
-/// `steps` counts the evaluations, whatever is answered. The faults are tested as by `build`: `Deep`, `Big`, then `Wide`
-/// with the first step of the resulting tree whose relation passes the limit, then `Heavy`. `Memory` comes when memory
-/// runs out, at any time.
+/// `steps` counts the evaluations, whatever is answered. The faults are tested as by `build`: `Deep`, `Big`, then
+/// `Wide` with the first step of the resulting tree whose relation passes the limit, then `Heavy`. `Memory` is returned
+/// when memory runs out, at any time.
 pub fn inserted<L: Ledger>(
     alloc: Global,
     definition: &Definition,
@@ -380,11 +383,14 @@ pub fn inserted<L: Ledger>(
     requires declaring { AreDeclaringSpaces definition.now declaring.now }
     requires note { IsNoteOf definition.now (tree_in note.now) note.now }
     requires place { MayInsert definition.now (tree_in note.now) path.now place new.now }
-    ensures note { IfOk result (IsNoteOf definition.now (change_at (inserted_at place new.now) path.now (tree_in note.now))) }
-    ensures good { IfOk result (TellsOpen definition.now (change_at (inserted_at place new.now) path.now (tree_in note.now))) }
+    ensures note { IfOk result
+        (IsNoteOf definition.now (change_at (inserted_at place new.now) path.now (tree_in note.now))) }
+    ensures good { IfOk result
+        (TellsOpen definition.now (change_at (inserted_at place new.now) path.now (tree_in note.now))) }
     ensures completions { IfOk result
         (TellsCompletable definition.now (change_at (inserted_at place new.now) path.now (tree_in note.now))) }
-    ensures fault { IfErr result (IsNoteFault definition.now (change_at (inserted_at place new.now) path.now (tree_in note.now))) }
+    ensures fault { IfErr result
+        (IsNoteFault definition.now (change_at (inserted_at place new.now) path.now (tree_in note.now))) }
     ensures ticks { steps.new ≤ steps.old + (work_of new.now + (place + 1) + climb_of (tree_in note.now) path.now) }
 {
     let changed = insert(alloc, note.tree(), path, place, new);
@@ -403,11 +409,11 @@ pub fn inserted<L: Ledger>(
 
 /// Makes the note of the tree without the element at the place of the list at the path.
 ///
-/// The nodes on the path are evaluated anew, of a list on it the cells up to the path's element, up to where a summary
+/// The nodes on the path are evaluated again, of a list on it the cells up to the path's element, up to where a summary
 /// is the old one; all else is shared.
-/// `steps` counts the evaluations, whatever is answered. The faults are tested as by `build`: `Deep`, `Big`, then `Wide`
-/// with the first step of the resulting tree whose relation passes the limit, then `Heavy`. `Memory` comes when memory
-/// runs out, at any time.
+/// `steps` counts the evaluations, whatever is answered. The faults are tested as by `build`: `Deep`, `Big`, then
+/// `Wide` with the first step of the resulting tree whose relation passes the limit, then `Heavy`. `Memory` is returned
+/// when memory runs out, at any time.
 pub fn removed<L: Ledger>(
     alloc: Global,
     definition: &Definition,
@@ -425,7 +431,8 @@ pub fn removed<L: Ledger>(
     ensures good { IfOk result (TellsOpen definition.now (change_at (removed_at place) path.now (tree_in note.now))) }
     ensures completions { IfOk result
         (TellsCompletable definition.now (change_at (removed_at place) path.now (tree_in note.now))) }
-    ensures fault { IfErr result (IsNoteFault definition.now (change_at (removed_at place) path.now (tree_in note.now))) }
+    ensures fault { IfErr result
+        (IsNoteFault definition.now (change_at (removed_at place) path.now (tree_in note.now))) }
     ensures ticks { steps.new ≤ steps.old + (place + climb_of (tree_in note.now) path.now) }
 {
     let changed = remove(alloc, note.tree(), path, place);

@@ -17,7 +17,7 @@ use psg_terms::Seq;
 use psg_tree::{Part, Path, Shape};
 use std::alloc::{AllocError, Global};
 
-/// The frame of an operator around its child of the number.
+/// Returns the frame of an operator around its child of the number.
 fn operator_frame(
     alloc: Global,
     op: u32,
@@ -37,7 +37,7 @@ fn operator_frame(
     })
 }
 
-/// The frame of a list around its element of the number; `None` where there is no such element.
+/// Returns the frame of a list around its element of the number; `None` where there is no such element.
 fn list_frame(
     alloc: Global,
     list: u32,
@@ -65,7 +65,7 @@ fn list_frame(
     }))
 }
 
-/// The frame of the node around its child of the number; `None` where there is no such child.
+/// Returns the frame of the node around its child of the number; `None` where there is no such child.
 fn frame_of(alloc: Global, note: &Note, number: u32) -> Result<Option<Frame>, AllocError>
     ensures { IfOk result (λ o. MatchOption o (IsNoFrameAt note.now number) (IsFrameAt note.now number)) }
 {
@@ -90,7 +90,7 @@ fn frame_of(alloc: Global, note: &Note, number: u32) -> Result<Option<Frame>, Al
     }
 }
 
-/// The frame of a list around a new element before the place; `None` where the list has fewer elements.
+/// Returns the frame of a list around a new element before the place; `None` where the list has fewer elements.
 fn gap_frame(alloc: Global, list: u32, note: &Note, place: u32) -> Result<Option<Frame>, AllocError>
     ensures { IfOk result (λ o. MatchOption o
         (place ≤ length (below_in note.now) → place ≤ length (rests_in note.now) → ⊥)
@@ -115,7 +115,7 @@ fn gap_frame(alloc: Global, list: u32, note: &Note, place: u32) -> Result<Option
     }))
 }
 
-/// The frame of the node around a new element before the place; `None` where it is no list, or one with fewer
+/// Returns the frame of the node around a new element before the place; `None` where it is no list, or one with fewer
 /// elements.
 fn frame_before(alloc: Global, note: &Note, place: u32) -> Result<Option<Frame>, AllocError>
     ensures { IfOk result (λ o. MatchOption o (IsNoPlaceIn note.now place) (IsFrameBefore note.now place)) }
@@ -135,9 +135,9 @@ fn frame_before(alloc: Global, note: &Note, place: u32) -> Result<Option<Frame>,
 }
 
 impl Note {
-    /// Gives the frames of the nodes above the node at the path, the innermost first, with the summaries of all that is
-    /// beside the path; `None` where the path leads to no node. They share names and summaries with the note. The cost is
-    /// that of the path: of an operator on it its children, and of a list the elements before the path.
+    /// Returns the frames of the nodes above the node at the path, the innermost first, with the summaries of all that
+    /// is beside the path; `None` where the path leads to no node. They share names and summaries with the note. The
+    /// cost is that of the path: of an operator on it its children, and of a list the elements before the path.
     pub fn frames(&self, alloc: Global, path: &Path) -> Result<Option<Vec<Frame>>, AllocError>
         ensures { IfOk result (λ o. MatchOption o (IsNoSummaryAt self.now path.now)
             (λ v. AreFramesAt self.now path.now v.items)) }
@@ -159,9 +159,9 @@ impl Note {
         Ok(Some(made))
     }
 
-    /// Gives the frames around a new element before the place of the list at the path, the innermost first, as `frames`
-    /// does; `None` where no list with so many elements is there. The place after all elements is the end of the list.
-    /// The cost is that of the path, and of the list the elements before the place.
+    /// Returns the frames around a new element before the place of the list at the path, the innermost first, as
+    /// `frames` does; `None` where there is no list, or one with fewer elements than `place`. The place after all
+    /// elements is the end of the list. The cost is that of the path, and of the list the elements before the place.
     pub fn element_frames(
         &self,
         alloc: Global,

@@ -18,14 +18,14 @@ use psg_tree::Path;
 use std::alloc::{AllocError, Global};
 use std::sync::ledger::Ledger;
 
-/// The summary of a tree, and of a list those of the suffixes behind each element.
+/// The summary of a tree, and of a list those of the suffixes after each element.
 #[derive(Drop)]
 pub(crate) struct Suffixes {
     pub(crate) whole: Summary,
     pub(crate) rests: Seq<Summary>,
 }
 
-/// The summary, or the path beside the step whose relation is too large.
+/// Returns the summary, or the path beside the step whose relation is too large.
 pub(crate) fn answered(
     alloc: Global,
     path: &[u32],
@@ -44,7 +44,7 @@ pub(crate) fn answered(
     }
 }
 
-/// The last summary, or the one behind where there is none.
+/// Returns the last summary, or the second argument where there is none.
 fn latest<'a>(made: &'a [Summary], behind: &'a Summary) -> &'a Summary
     ensures { result.now ≡ first_or behind.now (reverse made.now) }
 {
@@ -64,7 +64,7 @@ fn push_shared(made: &mut Vec<Summary>, summaries: &[Summary]) -> Result<(), All
     Ok(())
 }
 
-/// The old suffix at the place, or the one behind them where there is none.
+/// Returns the summary of the old suffix at the place, or `was`, that of the suffix after them, where there is none.
 fn old_at<'a>(olds: &'a [Summary], was: &'a Summary, place: usize) -> &'a Summary
     ensures { result.now ≡ first_or was.now (drop place olds.now) }
 {
@@ -74,7 +74,7 @@ fn old_at<'a>(olds: &'a [Summary], was: &'a Summary, place: usize) -> &'a Summar
     }
 }
 
-/// Tells whether the cell in front of the place is evaluated: there is one, and the suffix at the place is not the old one.
+/// Says whether the cell before the place is evaluated: there is one, and the suffix at the place is not the old one.
 fn is_due(made: &[Summary], behind: &Summary, olds: &[Summary], was: &Summary, place: usize) -> bool
     ensures more { IsTrue result → 0 < place }
     ensures done { result ≡ false → (place ≤ length olds.now)
@@ -91,9 +91,9 @@ fn is_due(made: &[Summary], behind: &Summary, olds: &[Summary], was: &Summary, p
     !new.same(old)
 }
 
-/// The summaries of the suffixes that begin with these elements, in front of a suffix: of the cells from the last to the
-/// first. `olds` has those of an old list with the same first elements, in front of `was`: from a suffix on that is the
-/// old one, they are shared.
+/// Returns the summaries of the suffixes that begin with these elements, in front of a suffix: of the cells from the
+/// last to the first. `olds` has those of an old list with the same first elements, in front of `was`: from a suffix on
+/// that is the old one, they are shared.
 pub(crate) fn cells<L: Ledger>(
     alloc: Global,
     definition: &Definition,
@@ -133,7 +133,7 @@ pub(crate) fn cells<L: Ledger>(
     Ok(all)
 }
 
-/// Of a list the summaries of the suffixes in front of the one behind so many elements.
+/// Returns, of a list, the summaries of the first suffixes, as many as `number` says.
 pub(crate) fn suffixes_before(
     alloc: Global,
     note: &Note,
@@ -150,7 +150,7 @@ pub(crate) fn suffixes_before(
     Ok(found)
 }
 
-/// The first of the summaries, and those behind it.
+/// Cuts the summaries into the first one and those after it.
 fn split(alloc: Global, all: &[Summary]) -> Result<Suffixes, AllocError>
     ensures { IfOk result (λ s. s.whole ∷ s.rests ≡ all.now) }
 {
@@ -168,7 +168,7 @@ fn split(alloc: Global, all: &[Summary]) -> Result<Suffixes, AllocError>
     }
 }
 
-/// The summaries of all suffixes: the new ones, a kept one, and those behind it.
+/// Joins the summaries of all suffixes: the new ones, a kept one, and those after it.
 pub(crate) fn joined(
     alloc: Global,
     news: Vec<Summary>,
@@ -184,7 +184,7 @@ pub(crate) fn joined(
     Ok(suffixes)
 }
 
-/// The summaries of a list's suffixes from those of its elements: of its end, and then of its cells.
+/// Returns the summaries of a list's suffixes from those of its elements: of its end, and then of its cells.
 pub(crate) fn top_list<L: Ledger>(
     alloc: Global,
     language: Language,

@@ -1,5 +1,6 @@
 //! What is known of a tree.
-ghost use Rattle.std.specs.Prelude.{◌≡◌, ◌↔◌, ◌≤◌, ◌∷◌, [], drop, length, option_copied, slice_get, None, Some, IfOk, IfSome, IfNone, IsTrue};
+ghost use Rattle.std.specs.Prelude.{◌≡◌, ◌↔◌, ◌≤◌, ◌∷◌, [], drop, length, option_copied};
+ghost use Rattle.std.specs.Prelude.{slice_get, None, Some, IfOk, IfSome, IfNone, IsTrue};
 ghost use Rattle.psg_cache.specs.Annotated.{Annotated, tree_in, whole_in, rests_in, weight_in, below_in, note_at};
 ghost use Rattle.psg_cache.specs.Blames.{culprits_in};
 ghost use Rattle.psg_cache.specs.Edits.{AreCulpritsIn, IsSummaryAt, IsNoSummaryAt};
@@ -17,12 +18,13 @@ use thiserror::Error;
 #[cycle(note)]
 #[derive(Drop)]
 pub struct Noted {
+    /// The tree.
     pub tree: Tree,
     /// The summary of the tree; of a list that of its first suffix.
     pub whole: Summary,
     /// The notes of the children or elements.
     pub below: Seq<Note>,
-    /// Of a list the summaries of the suffixes behind each element, the end last.
+    /// Of a list the summaries of the suffixes after each element, the end last; of another tree none.
     pub rests: Seq<Summary>,
     /// How many variables and constructors all relations in the tree have together.
     pub weight: u64,
@@ -62,7 +64,7 @@ impl Note {
         })
     }
 
-    /// The tree.
+    /// Returns the tree.
     #[tactic(auto, using(crate::proofs::Inducting::noted_tree))]
     pub fn tree(&self) -> &Tree
         ensures { result.now ≡ tree_in self.now }
@@ -70,7 +72,7 @@ impl Note {
         &self.shared.as_ref().tree
     }
 
-    /// The summary of the whole tree.
+    /// Returns the summary of the whole tree.
     #[tactic(auto, using(crate::proofs::Inducting::noted_whole))]
     pub fn root(&self) -> &Summary
         ensures { result.now ≡ whole_in self.now }
@@ -78,7 +80,7 @@ impl Note {
         &self.shared.as_ref().whole
     }
 
-    /// The notes of the children or elements.
+    /// Returns the notes of the children or elements.
     #[tactic(auto, using(crate::proofs::Inducting::noted_below))]
     pub(crate) fn below(&self) -> &[Note]
         ensures { result.now ≡ below_in self.now }
@@ -86,7 +88,7 @@ impl Note {
         self.shared.as_ref().below.as_slice()
     }
 
-    /// Of a list the summaries of the suffixes behind each element, the end last; of another tree none.
+    /// Returns, of a list, the summaries of the suffixes after each element, the end last; of another tree none.
     #[tactic(auto, using(crate::proofs::Inducting::noted_rests))]
     pub(crate) fn rests(&self) -> &[Summary]
         ensures { result.now ≡ rests_in self.now }
@@ -94,7 +96,7 @@ impl Note {
         self.shared.as_ref().rests.as_slice()
     }
 
-    /// Of a list the summaries of the suffixes behind the one behind so many elements.
+    /// Returns, of a list, the summaries of all suffixes that are shorter than the one after `number` elements.
     pub(crate) fn rests_behind(&self, number: usize) -> &[Summary]
         requires { number ≤ length (rests_in self.now) }
         ensures { result.now ≡ drop number (rests_in self.now) }
@@ -102,7 +104,7 @@ impl Note {
         &self.rests()[number..]
     }
 
-    /// Of a list the summary of the suffix behind so many elements.
+    /// Returns, of a list, the summary of the suffix after `number` elements.
     pub(crate) fn suffix(&self, number: usize) -> &Summary
         requires { number ≤ length (rests_in self.now) }
         ensures { Some result.now ≡ slice_get (whole_in self.now ∷ rests_in self.now) number }
@@ -114,7 +116,7 @@ impl Note {
         }
     }
 
-    /// How many variables and constructors all relations have together.
+    /// Counts the variables and constructors of all relations together. It takes one step.
     #[tactic(auto, using(crate::proofs::Inducting::noted_weight))]
     pub fn weight(&self) -> u64
         ensures { result ≡ weight_in self.now }
@@ -133,7 +135,7 @@ impl Note {
         }
     }
 
-    /// Whether the tree is good: its relation has a row, and no node goes wrong. It takes one step.
+    /// Says whether the tree is good: its relation has a row, and no node goes wrong. It takes one step.
     #[tactic(auto, using(crate::proofs::NoteCulprits::none_blamed))]
     pub fn is_good(&self) -> bool
         ensures rows { IsTrue result ↔ ((whole_in self.now).rel ≡ [] → ⊥) }
@@ -142,9 +144,9 @@ impl Note {
         !self.root().rel().is_empty()
     }
 
-    /// Counts the owners of the note of the node at the path: one for each note of a larger tree that shares it, and one
-    /// for each of its own that a caller has. It returns 0 where the path leads to no node. It walks along the path. What
-    /// is shared is in no clause: this call serves tests.
+    /// Counts the owners of the note of the node at the path: one for each note of a larger tree that shares it, and
+    /// one for each of its own that a caller has. It returns 0 where the path leads to no node. It walks along the
+    /// path. What is shared is in no clause: this call serves tests.
     pub fn owners(&self, path: &Path) -> usize
         ensures none { note_at self.now path.now ≡ None → result ≡ 0 }
     {
@@ -154,7 +156,7 @@ impl Note {
         }
     }
 
-    /// One more owner of the same note.
+    /// Returns one more owner of the same note. It fails where memory runs out.
     pub fn share(&self) -> Result<Note, AllocError>
         ensures { IfOk result (λ n. n ≡ self.now) }
     {
@@ -164,14 +166,14 @@ impl Note {
     }
 }
 
-/// The note of the child of the number, from 0.
+/// Returns the note of the child of the number, from 0.
 pub(crate) fn child_note(note: &Note, number: u32) -> Option<&Note>
     ensures { option_copied result ≡ slice_get (below_in note.now) number }
 {
     note.below().get(number as usize)
 }
 
-/// The note of the node at the path.
+/// Returns the note of the node at the path.
 pub(crate) fn at<'n>(note: &'n Note, path: &Path) -> Option<&'n Note>
     ensures { option_copied result ≡ note_at note.now path.now }
 {
@@ -185,7 +187,7 @@ pub(crate) fn at<'n>(note: &'n Note, path: &Path) -> Option<&'n Note>
     Some(node)
 }
 
-/// The note of the node at the path, which is there.
+/// Returns the note of the node at the path, which is there.
 pub(crate) fn there<'n>(note: &'n Note, path: &Path) -> &'n Note
     requires { (n : Annotated) × (note_at note.now path.now ≡ Some n) }
     ensures { note_at note.now path.now ≡ Some result.now }
@@ -212,6 +214,7 @@ pub enum NoteFault {
     /// The relations of all nodes and list suffixes have more than 4,000,000 variables and constructors together.
     #[error("the relations of the nodes are too large together")]
     Heavy,
+    /// Memory ran out.
     #[error("out of memory")]
     Memory,
 }

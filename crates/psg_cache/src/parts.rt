@@ -17,7 +17,7 @@ pub(crate) struct Language<'a> {
     pub(crate) declaring: &'a [Vec<u32>],
 }
 
-/// The subtrees among the parts, each with one more owner.
+/// Returns the subtrees among the parts, each with one more owner.
 fn subtrees_of(alloc: Global, parts: &[Part]) -> Result<Vec<Tree>, AllocError>
     ensures { IfOk result (λ found. found.items ≡ subtrees parts.now) }
 {
@@ -30,7 +30,7 @@ fn subtrees_of(alloc: Global, parts: &[Part]) -> Result<Vec<Tree>, AllocError>
     Ok(found)
 }
 
-/// The names among the parts, each with one more owner.
+/// Returns the names among the parts, each with one more owner.
 pub(crate) fn names_of(alloc: Global, parts: &[Part]) -> Result<Vec<Txt>, AllocError>
     ensures { IfOk result (λ found. found.items ≡ names_in parts.now) }
 {
@@ -43,7 +43,7 @@ pub(crate) fn names_of(alloc: Global, parts: &[Part]) -> Result<Vec<Txt>, AllocE
     Ok(found)
 }
 
-/// The trees, each with one more owner.
+/// Returns the trees, each with one more owner.
 fn copies_of(alloc: Global, trees: &[Tree]) -> Result<Vec<Tree>, AllocError>
     ensures { IfOk result (λ found. found.items ≡ trees.now) }
 {
@@ -55,7 +55,7 @@ fn copies_of(alloc: Global, trees: &[Tree]) -> Result<Vec<Tree>, AllocError>
     Ok(found)
 }
 
-/// The children of a node, each with one more owner.
+/// Returns the children of a node, each with one more owner.
 pub(crate) fn children(alloc: Global, tree: &Tree) -> Result<Vec<Tree>, AllocError>
     ensures { IfOk result (λ found. found.items ≡ children_of tree.now) }
 {
@@ -72,7 +72,7 @@ pub(crate) fn children(alloc: Global, tree: &Tree) -> Result<Vec<Tree>, AllocErr
     }
 }
 
-/// The step to the child of the number. A path has no step for a number that 32 bits do not hold.
+/// Returns the step to the child of the number. A path has no step for a number that 32 bits do not hold.
 pub(crate) fn step_of(number: usize) -> Result<u32, AllocError>
     ensures { IfOk result (λ step. step ≡ number) }
 {
@@ -83,7 +83,7 @@ pub(crate) fn step_of(number: usize) -> Result<u32, AllocError>
     }
 }
 
-/// The steps with one more behind them.
+/// Returns the steps with one more after them.
 pub(crate) fn longer(alloc: Global, steps: &[u32], step: u32) -> Result<Vec<u32>, AllocError>
     ensures { IfOk result (λ all. all.items ≡ steps.now ++ step ∷ []) }
 {
@@ -92,7 +92,7 @@ pub(crate) fn longer(alloc: Global, steps: &[u32], step: u32) -> Result<Vec<u32>
     Ok(all)
 }
 
-/// The child of a node by its number, from 0.
+/// Returns the child of a node by its number, from 0.
 pub(crate) fn child_of(tree: &Tree, number: u32) -> &Tree
     requires { number < length (children_of tree.now) }
     ensures { slice_get (children_of tree.now) number ≡ Some result.now }

@@ -1,11 +1,13 @@
 //! The note of a tree of which some children are new.
-ghost use Rattle.std.specs.Prelude.{◌≡◌, ◌+◌, ◌++◌, ◌≤◌, ℕ, [], Some, drop, length, option_to_list, take, IfErr, IfOk, OnOk};
+ghost use Rattle.std.specs.Prelude.{◌≡◌, ◌+◌, ◌++◌, ◌≤◌, ℕ, [], Some, drop, length};
+ghost use Rattle.std.specs.Prelude.{option_to_list, take, IfErr, IfOk, OnOk};
 ghost use Rattle.psg_grammar.specs.Fragments.{children_of, top_operator};
 ghost use Rattle.psg_cache.specs.Annotated.{whole_in};
 ghost use Rattle.psg_cache.specs.Changes.{IsKept, remade_ticks};
 ghost use Rattle.psg_cache.specs.Noted.{IsNotedAs};
 ghost use Rattle.psg_cache.specs.Notes.{IsFormed};
-ghost use Rattle.psg_cache.specs.Walks.{AreNotesOf, IsKnown, IsMadeOf, IsNumbered, IsStepFault, top_evaluations, top_steps};
+ghost use Rattle.psg_cache.specs.Walks.{AreNotesOf, IsKnown, IsMadeOf, IsNumbered};
+ghost use Rattle.psg_cache.specs.Walks.{IsStepFault, top_evaluations, top_steps};
 
 use crate::listing::{cells, joined, suffixes_before};
 use crate::note::{Note, NoteFault};
@@ -26,7 +28,7 @@ fn push_notes(made: &mut Vec<Note>, notes: &[Note]) -> Result<(), AllocError>
     Ok(())
 }
 
-/// The notes in front of the place, the new one, and those from `behind` on.
+/// Joins the notes before the place, the new one, and the old ones from the last argument on.
 pub(crate) fn spliced(
     alloc: Global,
     notes: &[Note],
@@ -47,8 +49,8 @@ pub(crate) fn spliced(
     Ok(made)
 }
 
-/// The note of a list with the summaries of its suffixes from `front` on, which are the old list's from `behind` on:
-/// the cells in front of them are evaluated, up to one that the first `same` elements leave as it was.
+/// Makes the note of a list whose suffixes from `front` on have the summaries of the last ones of the old list. The
+/// cells before them are evaluated, up to one that the first `same` elements leave as it was.
 fn relisted<L: Ledger>(
     alloc: Global,
     language: Language,
@@ -96,7 +98,7 @@ fn relisted<L: Ledger>(
     Ok(note)
 }
 
-/// The note of a node whose children have the summaries that the old one's have: its summary is the old one.
+/// Returns the note of a node whose children have the summaries that the old one's have: its summary is the old one.
 fn unchanged(alloc: Global, old: &Note, below: Vec<Note>, made: &Tree) -> Result<Note, AllocError>
     ensures { IfOk result (IsMadeOf made.now (whole_in old.now) [] below.items) }
 {
@@ -105,8 +107,8 @@ fn unchanged(alloc: Global, old: &Note, below: Vec<Note>, made: &Tree) -> Result
     Ok(note)
 }
 
-/// The note of an operator with these notes of its children: where none of them has another summary than the old one's,
-/// it has the old one's, else it is evaluated.
+/// Returns the note of an operator with these notes of its children: where none of them has another summary than the
+/// old one's, it has the old one's, else it is evaluated.
 fn reoperated<L: Ledger>(
     alloc: Global,
     language: Language,
@@ -136,8 +138,8 @@ fn reoperated<L: Ledger>(
     Ok(note)
 }
 
-/// The note of a tree with these notes of its children: of a list the cells up to `front` are evaluated, and the
-/// suffixes behind them are the old list's from `behind` on; any other node is evaluated. The first `same` children have
+/// Makes the note of a tree with these notes of its children: of a list the cells up to `front` are evaluated, and the
+/// suffixes after them are the last ones of the old list; any other node is evaluated. The first `same` children have
 /// the summaries that the old ones have: a cell that is the old one ends the evaluations, and so do the children of an
 /// operator that all have the old summaries.
 pub(crate) fn remade<L: Ledger>(

@@ -1,5 +1,6 @@
 //! The note of a tree beside the note of an old one, whose notes of equal subtrees it shares.
-ghost use Rattle.std.specs.Prelude.{◌≡◌, ◌↔◌, ◌+◌, ◌++◌, ◌&&◌, ◌||◌, ◌⊎◌, ◌≤◌, List, cond, drop, false, true, length, map, sum_by, take};
+ghost use Rattle.std.specs.Prelude.{◌≡◌, ◌↔◌, ◌+◌, ◌++◌, ◌&&◌, ◌||◌, ◌⊎◌, ◌≤◌, List, cond};
+ghost use Rattle.std.specs.Prelude.{drop, false, true, length, map, sum_by, take};
 ghost use Rattle.std.specs.Prelude.{IfErr, IfOk, IsTrue, OnOk};
 ghost use Rattle.psg_grammar.specs.Fragments.{children_of, hole, operator, top_operator};
 ghost use Rattle.psg_grammar.specs.Steps.{steps_of};
@@ -23,7 +24,7 @@ use psg_tree::{Part, Shape, Tree};
 use std::alloc::{AllocError, Global};
 use std::sync::ledger::Ledger;
 
-/// The operator of the tree, if it has one.
+/// Returns the operator of the tree, if it has one.
 fn operator_in(tree: &Tree) -> Option<u32>
     ensures { result ≡ top_operator tree.now }
 {
@@ -34,7 +35,7 @@ fn operator_in(tree: &Tree) -> Option<u32>
     }
 }
 
-/// The kind of the list that the tree is, if it is one.
+/// Returns the kind of the list that the tree is, if it is one.
 fn list_in(tree: &Tree) -> Option<u32>
     ensures { result ≡ list_number tree.now }
 {
@@ -45,7 +46,7 @@ fn list_in(tree: &Tree) -> Option<u32>
     }
 }
 
-/// The phylum of the placeholder that the tree is, if it is one.
+/// Returns the phylum of the placeholder that the tree is, if it is one.
 fn hole_in(tree: &Tree) -> Option<u32>
     ensures { result ≡ hole_number tree.now }
 {
@@ -56,7 +57,7 @@ fn hole_in(tree: &Tree) -> Option<u32>
     }
 }
 
-/// Tells whether both are the same number.
+/// Says whether both are the same number.
 fn same_number(one: Option<u32>, two: Option<u32>) -> bool
     ensures { result ≡ same_some one two }
 {
@@ -69,14 +70,14 @@ fn same_number(one: Option<u32>, two: Option<u32>) -> bool
     }
 }
 
-/// Tells whether one of both holds.
+/// Says whether one of both holds.
 fn is_either(one: bool, two: bool) -> bool
     ensures { result ≡ (one || two) }
 {
     one || two
 }
 
-/// Tells whether the trees have the same operator, or are lists of the same kind.
+/// Says whether the trees have the same operator, or are lists of the same kind.
 fn are_paired(old: &Tree, new: &Tree) -> bool
     ensures { result ≡ is_paired old.now new.now }
 {
@@ -89,8 +90,8 @@ fn are_paired(old: &Tree, new: &Tree) -> bool
     is_either(operators, lists)
 }
 
-/// The note of a tree that has not the old one's operator and is no list of its kind: nothing where both are the same
-/// placeholder, else that of a walk over the whole tree.
+/// Returns the note of a tree that has not the old one's operator and is no list of its kind: nothing where both are
+/// the same placeholder, else that of a walk over the whole tree.
 fn unpaired<L: Ledger>(
     alloc: Global,
     language: Language,
@@ -118,7 +119,7 @@ fn unpaired<L: Ledger>(
     Ok(Some(note))
 }
 
-/// Tells whether the parts are both subtrees, or equal names, numbers or texts.
+/// Says whether the parts are both subtrees, or equal names, numbers or texts.
 fn part_alike(left: &Part, right: &Part) -> bool
     ensures { IsTrue result ↔ IsPartAlike left.now right.now }
 {
@@ -142,7 +143,7 @@ fn part_alike(left: &Part, right: &Part) -> bool
     }
 }
 
-/// Tells whether the parts are alike besides what their subtrees are.
+/// Says whether the parts are alike besides what their subtrees are.
 fn own_alike(left: &[Part], right: &[Part]) -> bool
     ensures { IsTrue result ↔ AreOwnAlike left.now right.now }
 {
@@ -157,21 +158,21 @@ fn own_alike(left: &[Part], right: &[Part]) -> bool
     true
 }
 
-/// Tells whether the numbers are the same.
+/// Says whether the numbers are the same.
 fn are_same(one: u32, two: u32) -> bool
     ensures { IsTrue result ↔ (one ≡ two) }
 {
     one == two
 }
 
-/// Tells whether both hold or neither does.
+/// Says whether both hold or neither does.
 fn are_equal(one: bool, two: bool) -> bool
     ensures { IsTrue result ↔ (one ≡ two) }
 {
     one == two
 }
 
-/// Tells whether a tree is the placeholder of the phylum.
+/// Says whether a tree is the placeholder of the phylum.
 fn hole_alike(number: u32, new: &Tree) -> bool
     ensures { TellsAlike result (hole number) new.now }
 {
@@ -182,7 +183,7 @@ fn hole_alike(number: u32, new: &Tree) -> bool
     }
 }
 
-/// Tells whether a tree has the operator, with these names, numbers and texts.
+/// Says whether a tree has the operator, with these names, numbers and texts.
 fn operator_alike(number: u32, own: &[Part], new: &Tree) -> bool
     ensures { TellsAlike result (with_parts (operator number) own.now) new.now }
 {
@@ -197,7 +198,7 @@ fn operator_alike(number: u32, own: &[Part], new: &Tree) -> bool
     }
 }
 
-/// Tells whether a tree is a list of the kind that ends so.
+/// Says whether a tree is a list of the kind that ends so.
 fn list_alike(number: u32, own: &[Tree], ends: bool, new: &Tree) -> bool
     ensures { TellsAlike result (list_of number own.now ends) new.now }
 {
@@ -216,7 +217,7 @@ fn list_alike(number: u32, own: &[Tree], ends: bool, new: &Tree) -> bool
     }
 }
 
-/// Tells whether the trees are alike besides their children: placeholders of one phylum, an operator with equal names,
+/// Says whether the trees are alike besides their children: placeholders of one phylum, an operator with equal names,
 /// numbers and texts, or lists of one kind that end alike. It reads the names and texts once.
 fn tops_alike(old: &Tree, new: &Tree) -> bool
     ensures { TellsAlike result old.now new.now }
@@ -232,8 +233,8 @@ fn tops_alike(old: &Tree, new: &Tree) -> bool
     }
 }
 
-/// How many children there are up to the last one whose summary is not the old one's, where those behind the last one
-/// that differs are the old ones.
+/// Returns how many children there are up to the last one whose summary is not the old one's, where the children from
+/// `last` on are the old ones.
 fn settled(olds: &[Note], news: &[Note], last: usize) -> usize
     requires long { length olds.now ≡ length news.now }
     requires within { last ≤ length news.now }
@@ -258,7 +259,7 @@ struct Redone {
     equal: bool,
 }
 
-/// The new note, or one more owner of the old one where there is none.
+/// Returns the new note, or one more owner of the old one where there is none.
 fn kept_or(old: &Note, new: Option<Note>) -> Result<Redone, AllocError>
     ensures { IfOk result (λ r. IsKeptOr old.now new r.note r.equal) }
 {
@@ -271,28 +272,29 @@ fn kept_or(old: &Note, new: Option<Note>) -> Result<Redone, AllocError>
     }
 }
 
-/// Tells whether both hold.
+/// Says whether both hold.
 fn both(one: bool, two: bool) -> bool
     ensures { result ≡ (one && two) }
 {
     one && two
 }
 
-/// Tells whether there are as many notes as others.
+/// Says whether there are as many notes as others.
 fn as_many(olds: &[Note], news: &[Note]) -> bool
     ensures { IsTrue result ↔ (length olds.now ≡ length news.now) }
 {
     olds.len() == news.len()
 }
 
-/// How many children there are up to the last one that differs, with one more that is equal to the old one or not.
+/// Returns how many children there are up to the last one that differs, with one more that is equal to the old one or
+/// not.
 fn reached(last: usize, next: usize, equal: bool) -> usize
     ensures { result ≡ cond equal last next }
 {
     if equal { last } else { next }
 }
 
-/// The lesser number.
+/// Returns the lesser number.
 fn lesser(one: usize, two: usize) -> usize
     ensures within { (result ≤ one) × (result ≤ two) }
     ensures one_of_both { (result ≡ one) ⊎ (result ≡ two) }
@@ -300,7 +302,7 @@ fn lesser(one: usize, two: usize) -> usize
     if one < two { one } else { two }
 }
 
-/// Walks the children of the tree behind so many first ones, whose notes there are.
+/// Walks the children of the tree after the first ones, as many as `first` says, whose notes there are.
 fn walk_others<L: Ledger>(
     alloc: Global,
     language: Language,
@@ -331,9 +333,9 @@ fn walk_others<L: Ledger>(
     Ok(())
 }
 
-/// The note of a tree from those of its children, beside the note of an old one; nothing where the trees are equal. The
-/// children differ up to `last` and no further. Where the tops are alike, only the summaries are made anew that a child
-/// with another summary changes.
+/// Returns the note of a tree from those of its children, beside the note of an old one; nothing where the trees are
+/// equal. The children differ up to `last` and no further. Where the tops are alike, only the summaries are made again
+/// that a child with another summary changes.
 fn rejoined<L: Ledger>(
     alloc: Global,
     language: Language,
@@ -375,8 +377,9 @@ fn rejoined<L: Ledger>(
     Ok(Some(all))
 }
 
-/// The note of the new tree, or nothing where it is equal to that of the old note. Both are read once, place by place:
-/// equal subtrees at the same places share the old notes, and so do summaries that the changes below leave as they were.
+/// Returns the note of the new tree, or nothing where it is equal to that of the old note. Both are read once, place by
+/// place: equal subtrees at the same places share the old notes, and so do summaries that the changes below leave as
+/// they were.
 pub(crate) fn renoted<L: Ledger>(
     alloc: Global,
     language: Language,

@@ -17,7 +17,7 @@ use psg_tree::{Shape, Tree};
 use std::alloc::{AllocError, Global};
 use std::sync::ledger::Ledger;
 
-/// The summary of a tree that is no list.
+/// Returns the summary of a tree that is no list.
 pub(crate) fn alone(alloc: Global, summary: Summary) -> Suffixes
     ensures whole { result.whole ≡ summary }
     ensures rests { result.rests ≡ [] }
@@ -28,7 +28,7 @@ pub(crate) fn alone(alloc: Global, summary: Summary) -> Suffixes
     }
 }
 
-/// The summary of a tree from those of its children or elements; of a list those of all its suffixes.
+/// Returns the summary of a tree from those of its children or elements; of a list those of all its suffixes.
 fn top<L: Ledger>(
     alloc: Global,
     language: Language,
@@ -73,7 +73,7 @@ fn top<L: Ledger>(
     }
 }
 
-/// The summaries of the notes' trees, each with one more owner.
+/// Returns the summaries of the notes' trees, each with one more owner.
 pub(crate) fn wholes_of(alloc: Global, notes: &[Note]) -> Result<Vec<Summary>, AllocError>
     ensures { IfOk result (λ found. found.items ≡ map whole_in notes.now) }
 {
@@ -85,7 +85,7 @@ pub(crate) fn wholes_of(alloc: Global, notes: &[Note]) -> Result<Vec<Summary>, A
     Ok(found)
 }
 
-/// The sum. One that 64 bits do not hold is want of memory.
+/// Adds both. It fails, as where memory runs out, if the sum does not fit in 64 bits.
 fn plus(left: u64, right: u64) -> Result<u64, AllocError>
     ensures { IfOk result (λ sum. sum ≡ left + right) }
 {
@@ -95,7 +95,7 @@ fn plus(left: u64, right: u64) -> Result<u64, AllocError>
     }
 }
 
-/// How much the relations in the notes' trees weigh together.
+/// Returns how much the relations in the notes' trees weigh together.
 fn weight_below(notes: &[Note]) -> Result<u64, AllocError>
     ensures { IfOk result (λ sum. sum ≡ summed weight_in notes.now) }
 {
@@ -106,7 +106,7 @@ fn weight_below(notes: &[Note]) -> Result<u64, AllocError>
     Ok(sum)
 }
 
-/// How much the relations of the summaries weigh together.
+/// Returns how much the relations of the summaries weigh together.
 fn weight_beside(summaries: &[Summary]) -> Result<u64, AllocError>
     ensures { IfOk result (λ sum. sum ≡ summed own_weight summaries.now) }
 {
@@ -117,7 +117,7 @@ fn weight_beside(summaries: &[Summary]) -> Result<u64, AllocError>
     Ok(sum)
 }
 
-/// How much all relations in a tree weigh together, from its summaries and the notes of its children.
+/// Returns how much all relations in a tree weigh together, from its summaries and the notes of its children.
 fn weight_over(suffixes: &Suffixes, below: &[Note]) -> Result<u64, AllocError>
     ensures { IfOk result (λ sum. sum
         ≡ summed weight_in below.now + summed own_weight (suffixes.now.whole ∷ suffixes.now.rests)) }
@@ -129,7 +129,7 @@ fn weight_over(suffixes: &Suffixes, below: &[Note]) -> Result<u64, AllocError>
     Ok(sum)
 }
 
-/// The note of a tree, of its summaries and the notes of its children.
+/// Returns the note of a tree, of its summaries and the notes of its children.
 pub(crate) fn made_of(
     alloc: Global,
     tree: &Tree,
@@ -150,8 +150,8 @@ pub(crate) fn made_of(
     Ok(note)
 }
 
-/// The note of a tree from those of its children or elements: the node is evaluated, and of a list its end and all its
-/// cells.
+/// Returns the note of a tree from those of its children or elements: the node is evaluated, and of a list its end and
+/// all its cells.
 pub(crate) fn topped<L: Ledger>(
     alloc: Global,
     language: Language,

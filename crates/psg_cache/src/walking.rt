@@ -14,7 +14,7 @@ use psg_tree::Tree;
 use std::alloc::Global;
 use std::sync::ledger::Ledger;
 
-/// The note of the tree at the path: its children in order, and then the node.
+/// Returns the note of the tree at the path: its children in order, and then the node.
 pub(crate) fn walk<L: Ledger>(
     alloc: Global,
     language: Language,

@@ -16,6 +16,7 @@ abbrev pub EachCase : Definition → (ℕ → ℕ → HoleRow → Case → Type 
 EachCase def P = (r : ℕ) (row : HoleRow) → slice_get def.hole_rows r ≡ Some row → (c : ℕ) (one : Case)
     → slice_get row.cases c ≡ Some one → P r c row one
 
+-- it holds of each declare row, with its number
 abbrev pub EachDeclare : Definition → (ℕ → DeclareRow → Type 0) → Type 0
 EachDeclare def P = (k : ℕ) (d : DeclareRow) → slice_get def.declare_rows k ≡ Some d → P k d
 

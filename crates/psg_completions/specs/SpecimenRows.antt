@@ -45,7 +45,7 @@ module _ (def : Definition) where
       → ((general : List Term) × IsIn general rows × IsInstance (one.term ∷ place_terms one.specimen) general) ↔
       IsGeneralCase def one
 
-  -- the same of a declare row, with its entity term in front
+  -- A declare row is general exactly where its terms are an instance of a row, here with its entity term in front.
   abbrev pub DeclareByRows : Type 0
   DeclareByRows = (d : DeclareRow) (sorts : List ℕ) (rows : List (List Term))
       → IsRelation def.signature sorts (DeclareTakes d.space d.specimen) rows

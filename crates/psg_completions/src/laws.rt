@@ -15,15 +15,15 @@ ghost use Rattle.psg_completions.specs.Completions.{
 
 use psg_grammar::Definition;
 
-/// A term is a value of a hole row of a kind exactly where some complete legal tree of the kind has it.
+/// Shows that a term is a value of a hole row of a kind exactly where some complete legal tree of the kind has it.
 pub fn values_of_kinds(definition: &Definition)
     requires sound { IsSound definition.now }
     requires rows { HasTrueRows definition.now }
     ensures { RowOrTree definition.now }
 {}
 
-/// A fragment is open, and its relation has a row, exactly where it has a legal completion, with its unfinished lists and its
-/// free names. So its mark and its culprits are those that completions give.
+/// Shows that a fragment is open, and its relation has a row, exactly where it has a legal completion, with its
+/// unfinished lists and its free names. So its mark and its culprits are those that completions give.
 pub fn open_fragments(definition: &Definition)
     requires sound { IsSound definition.now }
     requires rows { HasTrueRows definition.now }
@@ -32,7 +32,8 @@ pub fn open_fragments(definition: &Definition)
     ensures marks { MarkedByCompletions definition.now }
 {}
 
-/// The values that are seen at observed nodes, or at one node of a fragment, are exactly those that it has in legal completions.
+/// Shows that the values that are seen at observed nodes, or at one node of a fragment, are exactly those that it has
+/// in legal completions.
 pub fn seen_values(definition: &Definition)
     requires sound { IsSound definition.now }
     requires rows { HasTrueRows definition.now }
@@ -41,16 +42,17 @@ pub fn seen_values(definition: &Definition)
     ensures relations { ShownByRows definition.now }
 {}
 
-/// A specimen shows all values of its case, or of its declare row, exactly where the row of their terms is an instance of a row
-/// of the specimen's relation, which has a column for each hole place.
+/// Shows that a specimen shows all values of its case, or of its declare row, exactly where the row of their terms is
+/// an instance of a row of the specimen's relation, which has a column for each hole place.
 pub fn general_specimens(definition: &Definition)
     requires { IsSound definition.now }
     ensures cases { CaseByRows definition.now }
     ensures declares { DeclareByRows definition.now }
 {}
 
-/// The most general rows of the values of an operator's row, or of a cell row, over hole rows of the children are instances of
-/// hole rows exactly where each choice of hole rows that has a value has all its values in one hole row.
+/// Shows that the most general rows of the values of an operator's row, or of a cell row, over hole rows of the
+/// children are instances of hole rows exactly where each choice of hole rows that has a value has all its values in
+/// one hole row.
 pub fn covered_values(definition: &Definition)
     requires { IsSound definition.now }
     ensures operators { OperatorsByRows definition.now }

@@ -1,4 +1,4 @@
--- Which rows are covered. A row is a head and behind it a column for each slot whose hole row is still to be chosen.
+-- Which rows are covered. A row is a head and after it a column for each slot whose hole row is still to be chosen.
 use Rattle.std.specs.Prelude.{ℕ, ◌≡◌, List, [], ◌∷◌, slice_get, Some}
 use Rattle.psg_terms.specs.Terms.{Term}
 use Rattle.psg_terms.specs.Signature.{HaveSorts}
@@ -22,7 +22,7 @@ module _ (def : Definition) where
   IsCovered kind ks row = (rs : List ℕ) → (r : ℕ) × ((v : Term) (us : List Term)
       → IsGroundInstance def.signature row (v ∷ us) → KindsHold ks us rs → IsOfHoleRow def kind r v)
 
-  -- the same where the first column is of this hole row
+  -- the row is covered where the first column is of this hole row
   abbrev pub IsCoveredFor : Kind → List Kind → List Term → HoleRow → Type 0
   IsCoveredFor kind ks row h = (rs : List ℕ) → (r : ℕ) × ((v w : Term) (us : List Term)
       → IsGroundInstance def.signature row (v ∷ w ∷ us) → IsGroundInstance def.signature (h.term ∷ []) (w ∷ [])

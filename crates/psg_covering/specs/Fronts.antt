@@ -13,7 +13,7 @@ abbrev pub IsNoted : Kind → ℕ → HoleRow → List ℕ → List ℕ → Type
 IsNoted kind number row old new = ((row.kind ≡ kind) × (new ≡ old ++ number ∷ []))
     ⊎ ((row.kind ≡ kind → ⊥) × (new ≡ old))
 
--- so many numbers from this one on
+-- that many numbers from this one on
 abbrev pub run : ℕ → ℕ → List ℕ
 run from zero = []
 run from (suc count) = from ∷ run (suc from) count

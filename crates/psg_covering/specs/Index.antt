@@ -1,5 +1,6 @@
 -- The hole rows of a definition, found by how their terms begin.
-use Rattle.std.specs.Prelude.{ℕ, ◌≡◌, ◌⊎◌, ◌<◌, ◌≤◌, ◌+◌, ◌*◌, ◌%◌, ◌^◌, List, [], ◌∷◌, ◌++◌, Option, Some, None, length, slice_get, take}
+use Rattle.std.specs.Prelude.{ℕ, ◌≡◌, ◌⊎◌, ◌<◌, ◌≤◌, ◌+◌, ◌*◌, ◌%◌, ◌^◌, List, [], ◌∷◌, ◌++◌, Option, Some, None}
+use Rattle.std.specs.Prelude.{length, slice_get, take}
 use Rattle.psg_terms.specs.Terms.{Term, variable, symbol, apply}
 use Rattle.psg_terms.specs.Instances.{Substitution, substitute}
 use Rattle.psg_terms.specs.Relations.{IsIn}
@@ -12,6 +13,7 @@ use Rattle.psg_covering.specs.Choices.{IsRowOf}
 use Rattle.psg_covering.specs.Fronts.{AreRowsOf}
 use Rattle.psg_covering.specs.declared.index.Index.{Index}
 
+-- the constructor in a list, if there is one
 abbrev pub listed : Option ℕ → List ℕ
 listed None = []
 listed (Some c) = c ∷ []
@@ -32,13 +34,16 @@ Meets t u = (f : Substitution) × (g : Substitution) × (substitute f t ≡ subs
 
 -- ---- a number for a kind and constructors; different ones may have the same number
 
+-- a number for each kind: even for phyla, odd for lists
 abbrev pub kind_key : Kind → ℕ
 kind_key (kinds.Phylum p) = 2 * p
 kind_key (kinds.List l) = 2 * l + 1
 
+-- the key with one more constructor; of constructors far back it keeps nothing
 abbrev pub next_key : ℕ → ℕ → ℕ
 next_key key c = (key % 2 ^ 40) * 2 ^ 20 + c
 
+-- the key with these constructors, in order
 abbrev pub key_of : ℕ → List ℕ → ℕ
 key_of key [] = key
 key_of key (c ∷ cs) = key_of (next_key key c) cs
@@ -68,7 +73,7 @@ pub record IsPut (r : ℕ) (h : HoleRow) (passing ending more after : ℕ → Li
   pub alone : (k s : ℕ) → IsIn s (after k) → IsIn s (ending k) ⊎ (s ≡ r)
 
 module _ (def : Definition) where
-  -- each of the first so many hole rows is found, and there are no others
+  -- each of the first `count` hole rows is found, and no other number is
   pub record AreIndexed (count : ℕ) (passing ending : ℕ → List ℕ) : Type 0 where
     pub passing_rows : (k r : ℕ) → IsIn r (passing k) → r < count
     pub ending_rows : (k r : ℕ) → IsIn r (ending k) → r < count
@@ -77,7 +82,7 @@ module _ (def : Definition) where
   abbrev pub IsIndex : Index → Type 0
   IsIndex index = AreIndexed (length def.hole_rows) (places_at index.passing) (places_at index.ending)
 
-  -- of the places those of the kind were put to the numbers
+  -- the hole rows of the kind among the places were put to the numbers, and those have no hole row of another kind
   pub record Collects (kind : Kind) (places old new : List ℕ) : Type 0 where
     pub rows : AreRowsOf def kind old → AreRowsOf def kind new
     pub kept : (r : ℕ) → IsIn r old → IsIn r new

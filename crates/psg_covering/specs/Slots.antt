@@ -11,7 +11,7 @@ slot_kinds [] = []
 slot_kinds (items.Slot k ∷ rest) = k ∷ slot_kinds rest
 slot_kinds (_ ∷ rest) = slot_kinds rest
 
--- of the columns of an operator's row those of the slots
+-- the columns of the slots among those of an operator's row
 abbrev pub slot_terms : List Item → List Term → List Term
 slot_terms [] terms = []
 slot_terms (items.Slot k ∷ rest) [] = []
@@ -22,15 +22,17 @@ slot_terms (items.Declares s ∷ rest) [] = []
 slot_terms (items.Declares s ∷ rest) (t ∷ terms) = slot_terms rest terms
 slot_terms (_ ∷ rest) terms = slot_terms rest terms
 
+-- the kind of an item that is a slot
 abbrev pub kinds_in : Item → List Kind
 kinds_in (items.Slot k) = k ∷ []
 kinds_in _ = []
 
+-- all terms but the first
 abbrev pub tail_of : List Term → List Term
 tail_of [] = []
 tail_of (t ∷ terms) = terms
 
--- the first column, if there is one, has moved behind the terms
+-- the first column, if there is one, has moved after the terms
 abbrev pub IsMoved : List Term → List Term → List Term → List Term → Type 0
 IsMoved terms [] more left = (more ≡ terms) × (left ≡ [])
 IsMoved terms (t ∷ columns) more left = (more ≡ terms ++ t ∷ []) × (left ≡ columns)

@@ -1,5 +1,6 @@
 //! One slot more: what its hole rows make of the rows of a front.
-ghost use Rattle.std.specs.Prelude.{◌≡◌, ◌≤◌, ◌<◌, ◌-◌, ◌⊎◌, ◌↔◌, ◌∷◌, ℕ, All, List, IfOk, IfSome, IsTrue, MatchOption, OnOk, slice_get};
+ghost use Rattle.std.specs.Prelude.{◌≡◌, ◌≤◌, ◌<◌, ◌-◌, ◌⊎◌, ◌↔◌, ◌∷◌, ℕ, All, List, IfOk, IfSome, IsTrue, MatchOption};
+ghost use Rattle.std.specs.Prelude.{OnOk, slice_get};
 ghost use Rattle.psg_terms.specs.Terms.{Term as Plain};
 ghost use Rattle.psg_terms.specs.Relations.{IsIn};
 ghost use Rattle.psg_grammar.specs.declared.types.Kind.{Kind as PlainKind};
@@ -181,7 +182,7 @@ fn first_of(alloc: Global, rows: &[RelRow]) -> Result<Option<RelRow>, AllocError
     }
 }
 
-/// Answers the numbers of all columns of a row of this width but the one behind the head.
+/// Answers the numbers of all columns of a row of this width but the one after the head.
 fn kept(alloc: Global, width: usize) -> Result<Vec<usize>, AllocError>
     requires { 2 ≤ width }
     ensures columns { IfOk result (λ v. v.items ≡ 0 ∷ run 2 (width - 2)) }
@@ -208,7 +209,8 @@ pub(crate) fn add_row(
     requires index { IsIndex definition.now index.now }
     requires fits { (ks : List PlainKind) × Fits definition.now kind ks row }
     ensures { OnOk result ((ks : List PlainKind) → Fits definition.now kind ks row
-        → Adds definition.now kind ks front.old.rows.items front.new.rows.items (IsCovered definition.now kind ks row)) }
+        → Adds definition.now kind ks front.old.rows.items front.new.rows.items
+        (IsCovered definition.now kind ks row)) }
 {
     room.spend_each(row.symbols(), JOINED)?;
     if has_head_cover(alloc, definition, index, room, kind, row.terms())? {

@@ -82,7 +82,7 @@ fn differs(special: &Term, general: &Term) -> bool
     }
 }
 
-/// The same of the places of two rows.
+/// Says whether the terms at some place of two rows differ, or the rows' lengths do.
 #[cycle(differs)]
 fn any_differs(special: &[Term], general: &[Term]) -> bool
     ensures { IsTrue result → (f : Substitution) → special.now ≡ map (substitute f) general.now → ⊥ }

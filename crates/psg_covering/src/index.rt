@@ -16,18 +16,18 @@ use std::collections::HashMap;
 /// Of how many arguments at most the constructors are looked at.
 const MOST: usize = 2;
 
-/// How many keys are told apart where one more constructor is put to them.
+/// How many keys are distinguished where one more constructor is put to them.
 const KEPT: u64 = 0x100_0000_0000;
 
-/// How many constructors are told apart.
+/// How many constructors are distinguished.
 const WIDTH: u64 = 0x10_0000;
 
 /// What to look up a term takes.
 const LOOK: u64 = 16;
 
-/// The numbers of hole rows by keys. A key is made of a kind and of constructors with which a term begins. A hole row is
-/// found under the key of each number of constructors with which its term begins, and among those that end there under
-/// the key of all of them.
+/// The numbers of hole rows by keys. A key is made of a kind and of constructors with which a term begins. A hole row
+/// is found under the key of each number of constructors with which its term begins, and among those that end there
+/// under the key of all of them.
 #[derive(Drop)]
 pub(crate) struct Index {
     pub(crate) passing: HashMap<u64, Vec<usize>>,
@@ -58,8 +58,9 @@ impl Index {
     }
 }
 
-/// Answers the numbers of hole rows of the kind, among them all whose terms have an instance in common with the term. It
-/// takes 16 steps for each constructor with which the term begins and 16 more, and one for each hole row that it finds.
+/// Answers the numbers of hole rows of the kind, among them all whose terms have an instance in common with the term.
+/// It takes 16 steps for each constructor with which the term begins and 16 more, and one for each hole row that it
+/// finds.
 pub(crate) fn rows_meeting(
     alloc: Global,
     definition: &Definition,

@@ -12,7 +12,7 @@ use psg_grammar::{Definition, Kind};
 use psg_relation::RelRow;
 use std::alloc::{AllocError, Global};
 
-/// Tests whether for each choice of hole rows for the slots, whose columns are behind the head of the row, the values
+/// Tests whether for each choice of hole rows for the slots, whose columns are after the head of the row, the values
 /// of the head are values of one hole row of the kind.
 ///
 /// Where the head is an instance of a hole row, nothing is chosen. Else the choices are made slot by slot, for all rows

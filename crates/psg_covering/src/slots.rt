@@ -27,7 +27,7 @@ fn add_kind(kinds: &mut Vec<Kind>, item: &Item) -> Result<(), AllocError>
     Ok(())
 }
 
-/// Answers the head and behind it the columns of the slots.
+/// Answers the head and after it the columns of the slots.
 pub(crate) fn slot_row(
     alloc: Global,
     items: &[Item],

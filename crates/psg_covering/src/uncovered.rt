@@ -21,8 +21,8 @@ use std::alloc::{AllocError, Global};
 ///
 /// Hole rows are found by the constructors with which their terms begin. For a row whose head is an instance of a hole
 /// row of the phylum, those that begin as its head does are gone over. Otherwise hole rows are chosen slot by slot, of
-/// those that may have a value in common with the column, and each row that is made is looked up so. `AllocError` comes when memory
-/// runs out, and where the search takes more than is left of the room.
+/// those that may have a value in common with the column, and each row that is made is looked up so. `AllocError` is
+/// returned when memory runs out, and where the search takes more than is left of the room.
 pub fn first_uncovered_row(
     alloc: Global,
     definition: &Definition,
@@ -176,7 +176,7 @@ fn is_cell_covered(
     Ok(covered)
 }
 
-/// Answers the head and behind it the columns.
+/// Answers the head and after it the columns.
 fn whole_row(alloc: Global, head: &Term, columns: &[Term]) -> Result<Vec<Term>, AllocError>
     ensures { IfOk result (λ v. v.items ≡ head.now ∷ columns.now) }
 {

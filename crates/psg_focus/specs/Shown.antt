@@ -20,7 +20,8 @@ rows_of terms = map (λ t. t ∷ []) terms
 abbrev pub IsOfSome : Definition → List Term → Term → Type 0
 IsOfSome def terms u = (t : Term) × IsIn t terms × IsGroundInstance def.signature (t ∷ []) (u ∷ [])
 
--- the values at the node as most general terms, where they are not too wide; and they are too wide where the answer says so
+-- the values at the node as most general terms, where they are not too wide; and they are too wide where the answer
+-- says so
 abbrev pub IsShown : Definition → Path → Fragment → Result (Vec Term Global) FocusFault → Type 0
 IsShown def path f (Ok terms) = IsShownRelation def f path (rows_of terms.items) × (IsWideAt def f path → ⊥)
 IsShown def path f (Err questions.Wide) = IsWideAt def f path

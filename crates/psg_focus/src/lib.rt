@@ -5,8 +5,8 @@
 //! let terms = relation_at(alloc, &definition, frames.as_slice(), own, &mut steps)?;
 //! ```
 //!
-//! The values that a node still may have are not those of its own relation: what is around it may rule some out. So the value
-//! is put into one more column, which is carried along to the whole tree.
+//! The values that a node still may have are not those of its own relation: what is around it may rule some out. So the
+//! value is put into one more column, which is carried along to the whole tree.
 #![tactic(auto)]
 
 pub mod relating;

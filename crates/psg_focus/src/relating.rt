@@ -24,7 +24,7 @@ use psg_terms::{Steps, Term};
 use std::alloc::{AllocError, Global};
 use std::sync::ledger::Ledger;
 
-/// The number of the column that a reported value has.
+/// Returns the number of the column that a reported value has.
 fn second(alloc: Global) -> Result<Vec<usize>, AllocError>
     ensures { IfOk result (λ v. v.items ≡ 1 ∷ []) }
 {
@@ -40,7 +40,7 @@ fn within_limit(rel: &Rel)
     let _weight = rel.weight();
 }
 
-/// The relation of the reported value alone. It is within the limit, since it is one column of rows that are.
+/// Returns the relation of the reported value alone. It is within the limit, since it is one column of rows that are.
 fn reported_column(
     alloc: Global,
     definition: &Definition,
@@ -64,7 +64,7 @@ fn reported_column(
     }
 }
 
-/// The terms of rows of one term.
+/// Returns the terms of rows of one term.
 fn only_terms(alloc: Global, rows: &[RelRow]) -> Result<Vec<Term>, AllocError>
     requires { (row : List Plain) → IsIn row rows.now → length row ≡ 1 }
     ensures { IfOk result (λ terms. rows_of terms.items ≡ rows.now) }
@@ -78,7 +78,7 @@ fn only_terms(alloc: Global, rows: &[RelRow]) -> Result<Vec<Term>, AllocError>
     Ok(found)
 }
 
-/// Gives the values that the node still may have where the frames stand for its place in a fragment, as most general
+/// Gives the values that the node still may have where the frames are those of its place in a fragment, as most general
 /// terms in the order of their texts. `own` is the node's summary.
 ///
 /// It takes one tick, and those of a climb through the frames. `Wide` is returned exactly where the node's relation

@@ -1,5 +1,6 @@
 -- Tables of the spaces in which phyla declare.
-use Rattle.std.specs.Prelude.{ℕ, zero, suc, ◌≡◌, ◌≢◌, ◌↔◌, ◌⊎◌, ◌<◌, Bool, true, false, List, [], ◌∷◌, length, Option, Some, None, sum_by, All, Contains, Vec}
+use Rattle.std.specs.Prelude.{ℕ, zero, suc, ◌≡◌, ◌≢◌, ◌↔◌, ◌⊎◌, ◌<◌, Bool, true, false, List, [], ◌∷◌, length, Option}
+use Rattle.std.specs.Prelude.{Some, None, sum_by, All, Contains, Vec}
 use Rattle.std.specs.declared.alloc.Global.{Global}
 use Rattle.std.specs.List.Sorted.{IsStrictlyIncreasing}
 use Rattle.psg_grammar.specs.declared.types.Kind.{Kind}
@@ -22,11 +23,13 @@ pub record AreSpacesOf (def : Definition) (phylum : ℕ) (spaces : List ℕ) : T
 abbrev pub Table : Type 0
 Table = List (Vec ℕ Global)
 
+-- the spaces of a phylum, and none of a phylum that the table does not have
 abbrev pub spaces_at : Table → ℕ → List ℕ
 spaces_at [] p = []
 spaces_at (v ∷ rest) zero = v.items
 spaces_at (v ∷ rest) (suc p) = spaces_at rest p
 
+-- how many spaces all phyla have in the table
 abbrev pub spaces_count : Table → ℕ
 spaces_count table = sum_by (λ (v : Vec ℕ Global). length v.items) table
 
@@ -35,6 +38,7 @@ abbrev pub phylum_spaces : Table → Option ℕ → List ℕ
 phylum_spaces table None = []
 phylum_spaces table (Some p) = spaces_at table p
 
+-- the spaces of a kind: those of a phylum, or of a list's elements
 abbrev pub kind_spaces : Definition → Table → Kind → List ℕ
 kind_spaces def table kind = phylum_spaces table (base_phylum_of def kind)
 
@@ -50,7 +54,7 @@ pub record IsTable (def : Definition) (table : Table) : Type 0 where
   pub increasing : (p : ℕ) → IsStrictlyIncreasing (spaces_at table p)
   pub sound : (p s : ℕ) → Contains (spaces_at table p) s → Declares def s (kinds.Phylum p)
 
--- nothing is lost, and the count tells whether there is more
+-- nothing is lost, and the count says whether there is more
 pub record Grows (old new : Table) (changed : Bool) : Type 0 where
   pub keeps : (p s : ℕ) → Contains (spaces_at old p) s → Contains (spaces_at new p) s
   pub same : changed ≡ false → new ≡ old

@@ -2,12 +2,13 @@
 use Rattle.std.specs.Prelude.{◌≡◌, true, false}
 use Rattle.psg_grammar.specs.declared.types.Kind.TheVariants as kinds
 use Rattle.psg_grammar.specs.declared.types.Definition.{Definition}
-use Rattle.psg_grammar.specs.Fragments.{Fragment, hole, ending, cell, operator, with_child, with_name, with_number, with_text, anything, observed}
+use Rattle.psg_grammar.specs.Fragments.{Fragment, hole, ending, cell, operator, with_child, with_name, with_number}
+use Rattle.psg_grammar.specs.Fragments.{with_text, anything, observed}
 use Rattle.psg_grammar.specs.WellFormed.{WellFormed, IsComplete}
 
--- Fills f t: the complete tree t has the parts of f, with a complete tree of the phylum for each placeholder, and with any
--- further elements where a list of f is unfinished. The end of an unfinished list is filled by any complete list of its
--- kind, which is that list's further elements.
+-- Fills f t: the complete tree t has the parts of f, with a complete tree of the phylum for each placeholder, and with
+-- any further elements where a list of f is unfinished. The end of an unfinished list is filled by any complete list of
+-- its kind, which is that list's further elements.
 module _ (def : Definition) where
   abbrev pub Fills : Fragment → Fragment → Type 0
   Fills (hole p) t = WellFormed def t (kinds.Phylum p) × IsComplete t

@@ -13,6 +13,7 @@ use Rattle.psg_grammar.specs.Lookups.{operator_at, items_of}
 use Rattle.psg_grammar.specs.WellFormed.{IsName}
 use Rattle.psg_grammar.specs.Paths.{Path, change_at, replaced, inserted}
 
+-- whether the list is there and a tree of it may be unfinished
 abbrev pub may_be_unfinished : Option ListKind → Bool
 may_be_unfinished None = false
 may_be_unfinished (Some k) = k.unfinished
@@ -28,6 +29,7 @@ pub data Leaf : Type 0 where
   a_number : (value : ℕ) → Leaf
   a_text : (text : List ℕ) → Leaf
 
+-- the fragment with a name or literal as one more part
 abbrev pub with_leaf : Fragment → Leaf → Fragment
 with_leaf f (a_name n) = with_name f n
 with_leaf f (a_number n) = with_number f n
@@ -40,6 +42,7 @@ filled def f (items.Slot k ∷ rest) leaves = filled def (with_child f (blank de
 filled def f (i ∷ rest) [] = filled def f rest []
 filled def f (i ∷ rest) (leaf ∷ leaves) = filled def (with_leaf f leaf) rest leaves
 
+-- the operator with these names and literals, and a blank in each slot
 abbrev pub fresh_operator : Definition → ℕ → List Leaf → Fragment
 fresh_operator def o leaves = filled def (operator o) (items_of (operator_at def o)) leaves
 

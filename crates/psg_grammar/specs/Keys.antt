@@ -6,18 +6,22 @@ use Rattle.std.specs.declared.cmp.Ordering.{Ordering}
 use Rattle.std.specs.declared.cmp.Ordering.TheVariants.{Less, Equal, Greater}
 use Rattle.psg_terms.specs.Names.{Name, is_among}
 
--- A key is one list, the number of its space in front of the bytes of its name, so what is said of names serves keys too.
+-- A key is one list, the number of its space in front of the bytes of its name, so what is said of names serves keys
+-- too.
 abbrev pub Key : Type 0
 Key = List ℕ
 
+-- the number of the key's space
 abbrev pub space_of : Key → ℕ
 space_of [] = 0
 space_of (s ∷ n) = s
 
+-- the bytes of the key's name
 abbrev pub name_in : Key → Name
 name_in [] = []
 name_in (s ∷ n) = n
 
+-- the first order, and where it says equal the second
 abbrev pub then_by : Ordering → Ordering → Ordering
 then_by Less second = Less
 then_by Equal second = second
@@ -28,6 +32,7 @@ then_by Greater second = Greater
 abbrev pub key_cmp : Key → Key → Ordering
 key_cmp n m = then_by (slice_cmp nat_cmp (name_in n) (name_in m)) (nat_cmp (space_of n) (space_of m))
 
+-- the key n put into an ascending list that begins with m, by their order; where they are equal it is not put again
 abbrev pub placed : Ordering → Key → Key → List Key → List Key → List Key
 placed Less n m rest more = n ∷ m ∷ rest
 placed Equal n m rest more = m ∷ rest
@@ -46,4 +51,6 @@ in_order (n ∷ ns) = insert_key n (in_order ns)
 -- the keys that aren't declared and in whose space the region isn't unfinished
 abbrev pub outward : (ℕ → Bool) → List Key → List Key → List Key
 outward unfinished declared [] = []
-outward unfinished declared (n ∷ ns) = cond (unfinished (space_of n) || is_among declared n) (outward unfinished declared ns) (n ∷ outward unfinished declared ns)
+outward unfinished declared (n ∷ ns) =
+    cond (unfinished (space_of n) || is_among declared n) (outward unfinished declared ns)
+    (n ∷ outward unfinished declared ns)

@@ -10,7 +10,8 @@ use Rattle.psg_grammar.specs.declared.types.Phylum.{Phylum}
 use Rattle.psg_grammar.specs.declared.types.ListKind.{ListKind}
 use Rattle.psg_grammar.specs.declared.types.Operator.{Operator}
 use Rattle.psg_grammar.specs.declared.types.Definition.{Definition}
-use Rattle.psg_grammar.specs.Fragments.{Fragment, hole, ending, cell, operator, with_child, with_name, with_number, with_text, anything, observed}
+use Rattle.psg_grammar.specs.Fragments.{Fragment, hole, ending, cell, operator, with_child, with_name, with_number}
+use Rattle.psg_grammar.specs.Fragments.{with_text, anything, observed}
 
 -- the number of the kind is in range
 abbrev pub HasKind : Definition → Kind → Type 0
@@ -27,14 +28,17 @@ abbrev pub base_phylum_of : Definition → Kind → Option ℕ
 base_phylum_of def (kinds.Phylum p) = Some p
 base_phylum_of def (kinds.List l) = option_map (λ (k : ListKind). k.element) (slice_get def.lists l)
 
+-- the name of the kind, if it is there
 abbrev pub kind_name_of : Definition → Kind → Option Name
 kind_name_of def (kinds.Phylum p) = option_map (λ (k : Phylum). k.name) (slice_get def.phyla p)
 kind_name_of def (kinds.List l) = option_map (λ (k : ListKind). k.name) (slice_get def.lists l)
 
+-- the sort of the values of the kind, if it is there
 abbrev pub kind_sort_of : Definition → Kind → Option SortId
 kind_sort_of def (kinds.Phylum p) = option_map (λ (k : Phylum). k.sort) (slice_get def.phyla p)
 kind_sort_of def (kinds.List l) = option_map (λ (k : ListKind). k.sort) (slice_get def.lists l)
 
+-- the name of the operator, if it is there
 abbrev pub op_name_of : Definition → ℕ → Option Name
 op_name_of def o = option_map (λ (op : Operator). op.name) (slice_get def.operators o)
 

@@ -8,7 +8,8 @@ use Rattle.psg_grammar.specs.declared.types.ListKind.{ListKind}
 use Rattle.psg_grammar.specs.declared.types.Row.{Row}
 use Rattle.psg_grammar.specs.declared.types.HoleRow.{HoleRow}
 use Rattle.psg_grammar.specs.declared.types.Definition.{Definition}
-use Rattle.psg_grammar.specs.Fragments.{Fragment, hole, ending, cell, operator, with_child, with_name, with_number, with_text, anything, observed}
+use Rattle.psg_grammar.specs.Fragments.{Fragment, hole, ending, cell, operator, with_child, with_name, with_number}
+use Rattle.psg_grammar.specs.Fragments.{with_text, anything, observed}
 use Rattle.psg_terms.specs.Names.{is_among}
 use Rattle.psg_grammar.specs.Keys.{Key, space_of}
 use Rattle.psg_grammar.specs.Lookups.{is_scope, key_at}
@@ -28,14 +29,16 @@ Choice (with_text f t) = Choice f
 Choice anything = Unit {0}
 Choice (observed f) = Choice f
 
--- Outside the keys declared inside, the entities are the same in each space in which the region isn't unfinished. In the
--- others a key may still be declared there, so a use of it must not be linked to a declaration further out.
+-- Outside the keys declared inside, the entities are the same in each space in which the region isn't unfinished. In
+-- the others a key may still be declared there, so a use of it must not be linked to a declaration further out.
 abbrev pub AgreeOpen : (ℕ → Bool) → List Key → Entities → Entities → Type 0
-AgreeOpen unfinished declared g inner = (n : Key) → unfinished (space_of n) ≡ false → is_among declared n ≡ false → inner n ≡ g n
+AgreeOpen unfinished declared g inner = (n : Key) → unfinished (space_of n) ≡ false → is_among declared n ≡ false
+    → inner n ≡ g n
 
 module _ (def : Definition) where
   abbrev pub Agrees : Fragment → Entities → Entities → Type 0
-  Agrees t g inner = Within (is_scope def t) (AgreeOpen (λ s. unfinished_inside def s t) (declared_inside def t)) g inner
+  Agrees t g inner = Within (is_scope def t)
+      (AgreeOpen (λ s. unfinished_inside def s t) (declared_inside def t)) g inner
 
   -- the value is one of the chosen hole row, which is of the kind
   pub record IsOfHoleRow (kind : Kind) (r : ℕ) (v : Term) : Type 0 where
@@ -72,8 +75,10 @@ module _ (def : Definition) where
   Holds g (ending l true) c columns v before after = (columns ≡ []) × (before ≡ after) × IsOfHoleRow (kinds.List l) c v
   Holds g (ending l false) c columns v before after = (columns ≡ []) × (before ≡ after) × IsOfNilRow l c v
   Holds g (cell l e rest) c columns v before after =
-      (columns ≡ []) × (first : Term) × (others : Term) × (mid : List Term) × (inner : Entities) × IsOfCellRow l c.0 v first others
-      × AreEntities def inner × Agrees e g inner × Holds inner e c.1 [] first before mid × Holds g rest c.2 [] others mid after
+      (columns ≡ []) × (first : Term) × (others : Term) × (mid : List Term) × (inner : Entities)
+      × IsOfCellRow l c.0 v first others
+      × AreEntities def inner × Agrees e g inner × Holds inner e c.1 [] first before mid
+      × Holds g rest c.2 [] others mid after
   Holds g (operator o) c columns v before after = (before ≡ after) × IsOfOperatorRow o c v columns
   Holds g (with_child f t) c columns v before after =
       (u : Term) × (mid : List Term) × (inner : Entities) × Holds g f c.0 (u ∷ columns) v before mid
@@ -82,7 +87,8 @@ module _ (def : Definition) where
   Holds g (with_number f n) c columns v before after = Holds g f c columns v before after
   Holds g (with_text f t) c columns v before after = Holds g f c columns v before after
   Holds g anything c columns v before after = (columns ≡ []) × (before ≡ v ∷ after)
-  Holds g (observed f) c columns v before after = (mid : List Term) × (before ≡ v ∷ mid) × Holds g f c columns v mid after
+  Holds g (observed f) c columns v before after = (mid : List Term) × (before ≡ v ∷ mid)
+      × Holds g f c columns v mid after
 
   -- the fragment under the entities outside it, by the choice, with the values of the observed nodes
   pub record Judged (g : Entities) (f : Fragment) (c : Choice f) (v : Term) (seen : List Term) : Type 0 where

@@ -1,6 +1,8 @@
 -- Nodes by path, and trees with another node at a path.
-use Rattle.std.specs.Prelude.{ℕ, zero, suc, ◌==◌, Bool, cond, List, [], ◌∷◌, length, Option, Some, slice_get, option_and_then}
-use Rattle.psg_grammar.specs.Fragments.{Fragment, hole, ending, cell, operator, with_child, with_name, with_number, with_text, anything, observed, children_of}
+use Rattle.std.specs.Prelude.{ℕ, zero, suc, ◌==◌, Bool, cond, List, [], ◌∷◌, length, Option, Some}
+use Rattle.std.specs.Prelude.{slice_get, option_and_then}
+use Rattle.psg_grammar.specs.Fragments.{Fragment, hole, ending, cell, operator, with_child, with_name, with_number}
+use Rattle.psg_grammar.specs.Fragments.{with_text, anything, observed, children_of}
 
 -- Each step is the number of a child, from 0: of a slot under an operator, of an element under a list.
 abbrev pub Path : Type 0
@@ -15,7 +17,8 @@ node_at f (k ∷ path) = option_and_then (λ t. node_at t path) (slice_get (chil
 abbrev pub change_child : (Fragment → Fragment) → ℕ → Fragment → Fragment
 change_child g zero (cell l e r) = cell l (g e) r
 change_child g (suc k) (cell l e r) = cell l e (change_child g k r)
-change_child g k (with_child f t) = cond (length (children_of f) == k) (with_child f (g t)) (with_child (change_child g k f) t)
+change_child g k (with_child f t) =
+    cond (length (children_of f) == k) (with_child f (g t)) (with_child (change_child g k f) t)
 change_child g k (with_name f n) = with_name (change_child g k f) n
 change_child g k (with_number f n) = with_number (change_child g k f) n
 change_child g k (with_text f n) = with_text (change_child g k f) n
@@ -42,6 +45,7 @@ replaced path new f = change_at (λ old. new) path f
 abbrev pub observe : Path → Fragment → Fragment
 observe path f = change_at observed path f
 
+-- the node is a list: an end or a cell
 abbrev pub IsList : Fragment → Type 0
 IsList (ending l u) = Unit {0}
 IsList (cell l e r) = Unit {0}

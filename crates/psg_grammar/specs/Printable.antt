@@ -1,13 +1,16 @@
--- Fragments whose text can be read back: no name or text is too long for a token, and each character of a text has a width.
+-- Fragments whose text can be read back: no name or text is too long for a token, and each character of a text has a
+-- width.
 use Rattle.std.specs.Prelude.{ℕ, ◌≡◌, ◌≤◌, ◌⊎◌, false, length, IsSome, chars}
 use Rattle.std.specs.List.{AllByRecursion}
 use Rattle.unicode_width.specs.Width.{char_width}
-use Rattle.psg_grammar.specs.Fragments.{Fragment, hole, ending, cell, operator, with_child, with_name, with_number, with_text, anything, observed}
+use Rattle.psg_grammar.specs.Fragments.{Fragment, hole, ending, cell, operator, with_child, with_name, with_number}
+use Rattle.psg_grammar.specs.Fragments.{with_text, anything, observed}
 
 -- a line feed, which is written as an escape, or a character that takes columns by itself
 abbrev pub IsShown : ℕ → Type 0
 IsShown c = (c ≡ 10) ⊎ IsSome (char_width false c)
 
+-- no node is one that only definitions have: a place with any value, or an observed node
 abbrev pub IsPrintable : Fragment → Type 0
 IsPrintable (hole p) = Unit {0}
 IsPrintable (ending l u) = Unit {0}

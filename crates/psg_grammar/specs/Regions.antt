@@ -2,7 +2,8 @@
 use Rattle.std.specs.Prelude.{ℕ, ◌≡◌, ◌&&◌, ◌||◌, not, Bool, true, false, cond, List, [], ◌∷◌, ◌++◌}
 use Rattle.psg_grammar.specs.declared.types.Kind.TheVariants as kinds
 use Rattle.psg_grammar.specs.declared.types.Definition.{Definition}
-use Rattle.psg_grammar.specs.Fragments.{Fragment, hole, ending, cell, operator, with_child, with_name, with_number, with_text, anything, observed}
+use Rattle.psg_grammar.specs.Fragments.{Fragment, hole, ending, cell, operator, with_child, with_name, with_number}
+use Rattle.psg_grammar.specs.Fragments.{with_text, anything, observed}
 use Rattle.psg_terms.specs.Names.{has_twice}
 use Rattle.psg_grammar.specs.Keys.{Key, outward, in_order}
 use Rattle.psg_grammar.specs.Lookups.{is_scope, next_item, is_declares, key_at}
@@ -15,7 +16,8 @@ declared_inside def (ending l u) = []
 declared_inside def (cell l e r) = cond (is_scope def e) [] (declared_inside def e) ++ declared_inside def r
 declared_inside def (operator o) = []
 declared_inside def (with_child f t) = declared_inside def f ++ cond (is_scope def t) [] (declared_inside def t)
-declared_inside def (with_name f n) = declared_inside def f ++ cond (is_declares (next_item def f)) (key_at def f n ∷ []) []
+declared_inside def (with_name f n) = declared_inside def f
+    ++ cond (is_declares (next_item def f)) (key_at def f n ∷ []) []
 declared_inside def (with_number f n) = declared_inside def f
 declared_inside def (with_text f t) = declared_inside def f
 declared_inside def anything = []
@@ -31,7 +33,8 @@ unfinished_inside def s (hole p) = false
 unfinished_inside def s (ending l u) = u && is_declaring def s (kinds.List l)
 unfinished_inside def s (cell l e r) = (not (is_scope def e) && unfinished_inside def s e) || unfinished_inside def s r
 unfinished_inside def s (operator o) = false
-unfinished_inside def s (with_child f t) = unfinished_inside def s f || (not (is_scope def t) && unfinished_inside def s t)
+unfinished_inside def s (with_child f t) = unfinished_inside def s f
+    || (not (is_scope def t) && unfinished_inside def s t)
 unfinished_inside def s (with_name f n) = unfinished_inside def s f
 unfinished_inside def s (with_number f n) = unfinished_inside def s f
 unfinished_inside def s (with_text f t) = unfinished_inside def s f
@@ -46,9 +49,12 @@ passing scope unfinished declared names = cond scope (outward unfinished declare
 abbrev pub names_inside : Definition → Fragment → List Key
 names_inside def (hole p) = []
 names_inside def (ending l u) = []
-names_inside def (cell l e r) = passing (is_scope def e) (λ s. unfinished_inside def s e) (declared_inside def e) (names_inside def e) ++ names_inside def r
+names_inside def (cell l e r) =
+    passing (is_scope def e) (λ s. unfinished_inside def s e) (declared_inside def e) (names_inside def e)
+    ++ names_inside def r
 names_inside def (operator o) = []
-names_inside def (with_child f t) = names_inside def f ++ passing (is_scope def t) (λ s. unfinished_inside def s t) (declared_inside def t) (names_inside def t)
+names_inside def (with_child f t) = names_inside def f
+    ++ passing (is_scope def t) (λ s. unfinished_inside def s t) (declared_inside def t) (names_inside def t)
 names_inside def (with_name f n) = names_inside def f ++ key_at def f n ∷ []
 names_inside def (with_number f n) = names_inside def f
 names_inside def (with_text f t) = names_inside def f
@@ -57,8 +63,10 @@ names_inside def (observed f) = names_inside def f
 
 -- the keys of a tree, in order
 abbrev pub names_of : Definition → Fragment → List Key
-names_of def f = in_order (passing (is_scope def f) (λ s. unfinished_inside def s f) (declared_inside def f) (names_inside def f))
+names_of def f = in_order (passing (is_scope def f) (λ s. unfinished_inside def s f) (declared_inside def f)
+    (names_inside def f))
 
+-- a scope operator declares no key twice; of another node this says nothing
 abbrev pub AreDistinct : Bool → List Key → Type 0
 AreDistinct scope names = scope ≡ true → has_twice names ≡ false
 
@@ -66,9 +74,11 @@ AreDistinct scope names = scope ≡ true → has_twice names ≡ false
 abbrev pub DistinctBelow : Definition → Fragment → Type 0
 DistinctBelow def (hole p) = Unit {0}
 DistinctBelow def (ending l u) = Unit {0}
-DistinctBelow def (cell l e r) = DistinctBelow def e × AreDistinct (is_scope def e) (declared_inside def e) × DistinctBelow def r
+DistinctBelow def (cell l e r) = DistinctBelow def e × AreDistinct (is_scope def e) (declared_inside def e)
+    × DistinctBelow def r
 DistinctBelow def (operator o) = Unit {0}
-DistinctBelow def (with_child f t) = DistinctBelow def f × DistinctBelow def t × AreDistinct (is_scope def t) (declared_inside def t)
+DistinctBelow def (with_child f t) = DistinctBelow def f × DistinctBelow def t
+    × AreDistinct (is_scope def t) (declared_inside def t)
 DistinctBelow def (with_name f n) = DistinctBelow def f
 DistinctBelow def (with_number f n) = DistinctBelow def f
 DistinctBelow def (with_text f t) = DistinctBelow def f

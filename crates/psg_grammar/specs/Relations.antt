@@ -11,8 +11,8 @@ use Rattle.psg_grammar.specs.Legal.{Entities, AreEntities}
 use Rattle.psg_grammar.specs.Open.{Choice, Holds, Judged}
 
 module _ (def : Definition) where
-  -- The columns, for one choice: the value, the values of the observed nodes, and the entities of the keys. Where a region
-  -- declares a key twice there are none.
+  -- The columns, for one choice: the value, the values of the observed nodes, and the entities of the keys. Where a
+  -- region declares a key twice there are none.
   pub record IsPossible (f : Fragment) (choice : Choice f) (columns : List Term) : Type 0 where
     pub distinct : IsDistinct def f
     pub outside : Entities
@@ -22,7 +22,7 @@ module _ (def : Definition) where
     pub judged : Judged def outside f choice value seen
     pub columns_are : columns ≡ (value ∷ seen) ++ map outside (names_of def f)
 
-  -- the same with the keys inside a scope operator
+  -- the columns are possible for the choice, with columns for the keys inside a scope operator
   pub record IsPossibleInside (f : Fragment) (choice : Choice f) (columns : List Term) : Type 0 where
     pub distinct : IsDistinct def f
     pub inside : Entities

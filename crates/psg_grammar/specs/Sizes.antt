@@ -1,6 +1,7 @@
 -- How many nodes a tree has, how deep it is and how long its lists are.
 use Rattle.std.specs.Prelude.{ℕ, ◌<◌, ◌+◌, ◌⊎◌, max, length}
-use Rattle.psg_grammar.specs.Fragments.{Fragment, hole, ending, cell, operator, with_child, with_name, with_number, with_text, anything, observed, children_of}
+use Rattle.psg_grammar.specs.Fragments.{Fragment, hole, ending, cell, operator, with_child, with_name, with_number}
+use Rattle.psg_grammar.specs.Fragments.{with_text, anything, observed, children_of}
 
 -- Nodes are placeholders, operators and lists. A list is counted at its end.
 abbrev pub nodes_of : Fragment → ℕ
@@ -54,8 +55,10 @@ HasLongList (ending l u) = ⊥
 HasLongList (operator o) = ⊥
 HasLongList anything = ⊥
 
+-- the fragment is past the limit on nodes, or on the elements of a list
 abbrev pub IsBig : Fragment → Type 0
 IsBig f = (20000 < nodes_of f) ⊎ HasLongList f
 
+-- the fragment is past the limit on depth
 abbrev pub IsDeep : Fragment → Type 0
 IsDeep f = 200 < depth_of f

@@ -1,5 +1,7 @@
--- What holds of every definition that a reader gives: numbers in range, names of their forms, and sorts where they belong.
-use Rattle.std.specs.Prelude.{ℕ, ◌≡◌, ◌⊎◌, ◌<◌, ◌≤◌, ◌^◌, ◌&&◌, ◌||◌, ◌==◌, nat_le, Bool, true, false, List, [], ◌∷◌, ◌++◌, length, map, slice_get, Some}
+-- What holds of every definition that a reader gives: numbers in range, names of their forms, and sorts where they
+-- belong.
+use Rattle.std.specs.Prelude.{ℕ, ◌≡◌, ◌⊎◌, ◌<◌, ◌≤◌, ◌^◌, ◌&&◌, ◌||◌, ◌==◌, nat_le, Bool, true, false, List, [], ◌∷◌}
+use Rattle.std.specs.Prelude.{◌++◌, length, map, slice_get, Some}
 use Rattle.std.specs.List.{AllByRecursion, list_all}
 use Rattle.psg_terms.specs.Names.{Name, has_twice}
 use Rattle.psg_terms.specs.Terms.{Term}
@@ -23,27 +25,33 @@ use Rattle.psg_grammar.specs.declared.types.Case.{Case}
 use Rattle.psg_grammar.specs.declared.types.HoleRow.{HoleRow}
 use Rattle.psg_grammar.specs.declared.types.DeclareRow.{DeclareRow}
 use Rattle.psg_grammar.specs.declared.types.Definition.{Definition}
-use Rattle.psg_grammar.specs.Fragments.{Fragment, hole, ending, cell, operator, with_child, with_name, with_number, with_text, anything, observed, children_of}
+use Rattle.psg_grammar.specs.Fragments.{Fragment, hole, ending, cell, operator, with_child, with_name, with_number}
+use Rattle.psg_grammar.specs.Fragments.{with_text, anything, observed, children_of}
 use Rattle.psg_grammar.specs.Lookups.{part_items}
 use Rattle.psg_grammar.specs.Specimens.{tree_of, holes_of, HasOwnRests}
 use Rattle.psg_grammar.specs.Placed.{FitsPlaces}
 
--- Names begin with a letter of their case; then come letters, digits and `_`, all ASCII, at most 64 bytes.
+-- Names begin with a letter of their case; letters, digits and `_` follow, all ASCII, at most 64 bytes.
 abbrev pub between : ℕ → ℕ → ℕ → Bool
 between low high c = nat_le low c && nat_le c high
 
+-- `A` to `Z`
 abbrev pub is_upper : ℕ → Bool
 is_upper c = between 65 90 c
 
+-- `a` to `z`
 abbrev pub is_lower : ℕ → Bool
 is_lower c = between 97 122 c
 
+-- `0` to `9`
 abbrev pub is_digit : ℕ → Bool
 is_digit c = between 48 57 c
 
+-- what a name may have after its first character
 abbrev pub goes_on_name : ℕ → Bool
 goes_on_name c = is_upper c || is_lower c || is_digit c || (c == 95)
 
+-- a name whose first character passes the test, of 1 to 64 bytes
 abbrev pub is_name_from : (ℕ → Bool) → Name → Bool
 is_name_from first [] = false
 is_name_from first (c ∷ cs) = first c && list_all goes_on_name cs && nat_le (length cs) 63
@@ -61,6 +69,7 @@ abbrev pub is_specimen_name : Name → Bool
 is_specimen_name [] = false
 is_specimen_name (c ∷ cs) = list_all (λ d. is_lower d || is_digit d) (c ∷ cs)
 
+-- each name of the fragment is one of a specimen
 abbrev pub HasSpecimenNames : Fragment → Type 0
 HasSpecimenNames (hole p) = Unit {0}
 HasSpecimenNames (ending l u) = Unit {0}
@@ -94,6 +103,7 @@ HasShortLists (observed f) = HasShortLists f
 abbrev pub IsBinding : ℕ → Type 0
 IsBinding n = (1 ≤ n) × (n ≤ 9)
 
+-- the level has a number from 1 to 9, or none
 abbrev pub IsLevel : Level → Type 0
 IsLevel levels.Plain = Unit {0}
 IsLevel (levels.Prefix n) = IsBinding n
@@ -102,6 +112,7 @@ IsLevel (levels.InfixLeft n) = IsBinding n
 IsLevel (levels.InfixRight n) = IsBinding n
 IsLevel (levels.InfixNone n) = IsBinding n
 
+-- the names of phyla and lists, which are in one space
 abbrev pub kind_names : Definition → List Name
 kind_names def = map (λ (p : Phylum). p.name) def.phyla ++ map (λ (l : ListKind). l.name) def.lists
 
@@ -124,9 +135,12 @@ module _ (def : Definition) where
   -- the sorts of the columns of an operator's rows: of the slots and name positions, in order
   abbrev pub AreColumns : List Item → List ℕ → Type 0
   AreColumns [] sorts = sorts ≡ []
-  AreColumns (items.Slot k ∷ rest) sorts = (s : ℕ) × (more : List ℕ) × (sorts ≡ s ∷ more) × HasKindSort k s × AreColumns rest more
-  AreColumns (items.Refers n ∷ rest) sorts = (s : ℕ) × (more : List ℕ) × (sorts ≡ s ∷ more) × HasSpaceSort n s × AreColumns rest more
-  AreColumns (items.Declares n ∷ rest) sorts = (s : ℕ) × (more : List ℕ) × (sorts ≡ s ∷ more) × HasSpaceSort n s × AreColumns rest more
+  AreColumns (items.Slot k ∷ rest) sorts = (s : ℕ) × (more : List ℕ) × (sorts ≡ s ∷ more) × HasKindSort k s
+      × AreColumns rest more
+  AreColumns (items.Refers n ∷ rest) sorts = (s : ℕ) × (more : List ℕ) × (sorts ≡ s ∷ more) × HasSpaceSort n s
+      × AreColumns rest more
+  AreColumns (items.Declares n ∷ rest) sorts = (s : ℕ) × (more : List ℕ) × (sorts ≡ s ∷ more) × HasSpaceSort n s
+      × AreColumns rest more
   AreColumns (_ ∷ rest) sorts = AreColumns rest sorts
 
   -- a term of the sort, with one-constant sorts written out
@@ -206,7 +220,8 @@ module _ (def : Definition) where
 abbrev pub AreSpaceNames : ℕ → List Space → Type 0
 AreSpaceNames version spaces =
     ((version ≡ 1) × (length spaces ≤ 1) × AllByRecursion (λ (s : Space). s.name ≡ []) spaces)
-    ⊎ ((version ≡ 2) × AllByRecursion (λ (s : Space). IsOwnName s.name) spaces × (has_twice (map (λ (s : Space). s.name) spaces) ≡ false))
+    ⊎ ((version ≡ 2) × AllByRecursion (λ (s : Space). IsOwnName s.name) spaces
+    × (has_twice (map (λ (s : Space). s.name) spaces) ≡ false))
 
 pub record IsSound (def : Definition) : Type 0 where
   pub signature : IsSoundSignature def.signature

@@ -1,5 +1,6 @@
 -- Well-formed and complete trees.
-use Rattle.std.specs.Prelude.{ℕ, ◌≡◌, ◌<◌, ◌^◌, ◌⊎◌, Bool, true, false, List, [], ◌∷◌, ◌++◌, length, slice_get, Some, IsUtf8}
+use Rattle.std.specs.Prelude.{ℕ, ◌≡◌, ◌<◌, ◌^◌, ◌⊎◌, Bool, true, false, List, [], ◌∷◌, ◌++◌, length, slice_get}
+use Rattle.std.specs.Prelude.{Some, IsUtf8}
 use Rattle.psg_terms.specs.Names.{Name}
 use Rattle.psg_terms.specs.Words.{IsFreeWord}
 use Rattle.psg_grammar.specs.declared.types.Kind.{Kind}
@@ -9,19 +10,23 @@ use Rattle.psg_grammar.specs.declared.types.Item.TheVariants as items
 use Rattle.psg_grammar.specs.declared.types.Operator.{Operator}
 use Rattle.psg_grammar.specs.declared.types.ListKind.{ListKind}
 use Rattle.psg_grammar.specs.declared.types.Definition.{Definition}
-use Rattle.psg_grammar.specs.Fragments.{Fragment, hole, ending, cell, operator, with_child, with_name, with_number, with_text, anything, observed}
+use Rattle.psg_grammar.specs.Fragments.{Fragment, hole, ending, cell, operator, with_child, with_name, with_number}
+use Rattle.psg_grammar.specs.Fragments.{with_text, anything, observed}
 use Rattle.psg_grammar.specs.Lookups.{part_items}
 use Rattle.psg_grammar.specs.Declaring.{is_declaring}
 
+-- the fixed words among the items, in order
 abbrev pub words_in : List Item → List Name
 words_in [] = []
 words_in (items.Word w ∷ rest) = w ∷ words_in rest
 words_in (_ ∷ rest) = words_in rest
 
+-- the fixed words of all operators, in order
 abbrev pub operator_words : List Operator → List Name
 operator_words [] = []
 operator_words (o ∷ rest) = words_in o.items ++ operator_words rest
 
+-- the separators of all lists, in order
 abbrev pub separators : List ListKind → List Name
 separators [] = []
 separators (l ∷ rest) = l.separator ∷ separators rest
@@ -34,7 +39,7 @@ fixed_words def = operator_words def.operators ++ separators def.lists
 abbrev pub IsName : Definition → Name → Type 0
 IsName def n = IsFreeWord (fixed_words def) n
 
--- an unfinished end stands only where the kind of the list allows it
+-- an unfinished end is only where the kind of the list allows it
 abbrev pub IsListEnd : Definition → ℕ → Bool → Type 0
 IsListEnd def l u = (k : ListKind) × (slice_get def.lists l ≡ Some k) × (u ≡ true → k.unfinished ≡ true)
 
@@ -46,14 +51,18 @@ IsUnobserved _ = Unit {0}
 -- Fits f more kind: the tree is of the kind, where parts of these items still follow.
 module _ (def : Definition) where
   abbrev pub Fits : Fragment → List Item → Kind → Type 0
-  Fits (hole p) more kind = (more ≡ []) × (kind ≡ kinds.Phylum p) × (p < length def.phyla) × ((s : ℕ) → is_declaring def s kind ≡ false)
+  Fits (hole p) more kind = (more ≡ []) × (kind ≡ kinds.Phylum p) × (p < length def.phyla)
+      × ((s : ℕ) → is_declaring def s kind ≡ false)
   Fits (ending l u) more kind = (more ≡ []) × (kind ≡ kinds.List l) × IsListEnd def l u
   Fits (cell l e r) more kind =
       (more ≡ []) × (kind ≡ kinds.List l) × (k : ListKind) × (slice_get def.lists l ≡ Some k)
       × Fits e [] (kinds.Phylum k.element) × Fits r [] (kinds.List l) × IsUnobserved r
-  Fits (operator o) more kind = (op : Operator) × (slice_get def.operators o ≡ Some op) × (more ≡ part_items op.items) × (kind ≡ kinds.Phylum op.phylum)
+  Fits (operator o) more kind = (op : Operator) × (slice_get def.operators o ≡ Some op) × (more ≡ part_items op.items)
+      × (kind ≡ kinds.Phylum op.phylum)
   Fits (with_child f t) more kind = (k : Kind) × Fits f (items.Slot k ∷ more) kind × Fits t [] k
-  Fits (with_name f n) more kind = (((s : ℕ) × Fits f (items.Refers s ∷ more) kind) ⊎ ((s : ℕ) × Fits f (items.Declares s ∷ more) kind)) × IsName def n
+  Fits (with_name f n) more kind =
+      (((s : ℕ) × Fits f (items.Refers s ∷ more) kind) ⊎ ((s : ℕ) × Fits f (items.Declares s ∷ more) kind))
+      × IsName def n
   Fits (with_number f n) more kind = Fits f (items.Number ∷ more) kind × (n < 2 ^ 128)
   Fits (with_text f t) more kind = Fits f (items.Text ∷ more) kind × IsUtf8 t
   Fits anything more kind = ⊥

@@ -1,6 +1,7 @@
 -- How many evaluations a tree takes, and those of the ancestors of a node.
 use Rattle.std.specs.Prelude.{ℕ, ◌+◌, [], ◌∷◌, slice_get, option_map, unwrap_or}
-use Rattle.psg_grammar.specs.Fragments.{Fragment, hole, ending, cell, operator, with_child, with_name, with_number, with_text, anything, observed, children_of}
+use Rattle.psg_grammar.specs.Fragments.{Fragment, hole, ending, cell, operator, with_child, with_name, with_number}
+use Rattle.psg_grammar.specs.Fragments.{with_text, anything, observed, children_of}
 use Rattle.psg_grammar.specs.Paths.{Path}
 
 -- one of each operator and placeholder, and m + 1 of a list of m elements

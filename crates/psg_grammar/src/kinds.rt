@@ -7,7 +7,7 @@ ghost use Rattle.psg_grammar.specs.Sound.{IsSound};
 use crate::types::{Definition, Kind, ListKind, Operator, Phylum};
 use psg_terms::SortId;
 
-/// The phylum or list of the name, or `None` where there is none.
+/// Returns the phylum or list of the name, or `None` where there is none.
 ///
 /// Each call compares the name with those of all phyla and lists up to the one that is found.
 pub fn kind_named(definition: &Definition, name: &str) -> Option<Kind>
@@ -24,7 +24,7 @@ pub fn kind_named(definition: &Definition, name: &str) -> Option<Kind>
     }
 }
 
-/// The number of the operator of the name, or `None` where there is none.
+/// Returns the number of the operator of the name, or `None` where there is none.
 ///
 /// Each call compares the name with those of all operators up to the one that is found.
 pub fn op_named(definition: &Definition, name: &str) -> Option<u32>
@@ -58,7 +58,7 @@ fn operator_place(operators: &[Operator], name: &str) -> Option<usize>
         .position(|operator| operator.name.as_str() == name)
 }
 
-/// The name of a kind of the definition.
+/// Returns the name of a kind of the definition.
 pub fn kind_name(definition: &Definition, kind: Kind) -> &str
     requires { HasKind definition.now kind }
     ensures { kind_name_of definition.now kind ≡ Some result.now }
@@ -69,7 +69,7 @@ pub fn kind_name(definition: &Definition, kind: Kind) -> &str
     }
 }
 
-/// The sort of the values of a kind of the definition.
+/// Returns the sort of the values of a kind of the definition.
 pub fn kind_sort(definition: &Definition, kind: Kind) -> SortId
     requires { HasKind definition.now kind }
     ensures { kind_sort_of definition.now kind ≡ Some result }
@@ -80,7 +80,7 @@ pub fn kind_sort(definition: &Definition, kind: Kind) -> SortId
     }
 }
 
-/// The phylum itself, or that of the list's elements.
+/// Returns the phylum itself, or that of the list's elements.
 pub(crate) fn base_phylum(definition: &Definition, kind: Kind) -> u32
     requires sound { IsSound definition.now }
     requires there { HasKind definition.now kind }

@@ -1,12 +1,13 @@
 //! What an operator's form says of its places.
 ghost use Rattle.std.specs.Prelude.{◌≡◌, count_by, Some};
 ghost use Rattle.std.specs.List.{list_all};
-ghost use Rattle.psg_grammar.specs.Levels.{first_level, is_mark, is_name_position, is_slot, is_slot_of, last_level, level_number, least_level_of, IsSlotAt};
+ghost use Rattle.psg_grammar.specs.Levels.{first_level, is_mark, is_name_position, is_slot, is_slot_of, last_level};
+ghost use Rattle.psg_grammar.specs.Levels.{level_number, least_level_of, IsSlotAt};
 ghost use Rattle.psg_grammar.specs.Sound.{IsLevel};
 
 use crate::types::{Item, Kind, Level, Operator};
 
-/// How many of the operator's items are slots, in one pass over them.
+/// Returns how many of the operator's items are slots, in one pass over them.
 pub fn slots(operator: &Operator) -> usize
     ensures { result ≡ count_by is_slot operator.now.items }
 {
@@ -18,7 +19,7 @@ pub fn slots(operator: &Operator) -> usize
         .count()
 }
 
-/// How many of the operator's items are places for names, in one pass over them.
+/// Returns how many of the operator's items are places for names, in one pass over them.
 pub fn name_positions(operator: &Operator) -> usize
     ensures { result ≡ count_by is_name_position operator.now.items }
 {
@@ -30,7 +31,7 @@ pub fn name_positions(operator: &Operator) -> usize
         .count()
 }
 
-/// The level of the operator: the N of its form, or 10 without a form.
+/// Returns the level of the operator: the N of its form, or 10 without a form.
 pub fn op_level(operator: &Operator) -> u8
     ensures { result ≡ level_number operator.now.level }
 {
@@ -44,10 +45,10 @@ pub fn op_level(operator: &Operator) -> u8
     }
 }
 
-/// The least level that a tree in a slot must have to stand there without brackets.
+/// Returns the least level that a tree in a slot must have to be written there without brackets.
 ///
-/// It is 0, but for a slot of the operator's own phylum at its first or last place, marks for the layout passed over: there the
-/// form says it, and a slot that is both takes the greater one. It takes one pass over the items.
+/// It is 0, except for a slot of the operator's own phylum at its first or last place, marks for the layout passed
+/// over: there the form says it, and a slot that is both takes the greater one. It takes one pass over the items.
 pub fn least_level(operator: &Operator, item: usize) -> u8
     requires slot { IsSlotAt operator.now item }
     requires level { IsLevel operator.now.level }
@@ -90,7 +91,7 @@ fn all_marks(items: &[Item]) -> bool
     })
 }
 
-/// Returns the least level of a first own slot, by the operator's level: 0 where nothing of the phylum is in front.
+/// Returns the least level of a first own slot, by the operator's level: 0 for a form that has no such slot.
 pub fn least_first(level: Level) -> u8
     requires { IsLevel level }
     ensures { result ≡ first_level level }
@@ -102,7 +103,7 @@ pub fn least_first(level: Level) -> u8
     }
 }
 
-/// Returns the least level of a last own slot, by the operator's level: 0 where nothing of the phylum is behind.
+/// Returns the least level of a last own slot, by the operator's level: 0 for a form that has no such slot.
 pub fn least_last(level: Level) -> u8
     requires { IsLevel level }
     ensures { result ≡ last_level level }

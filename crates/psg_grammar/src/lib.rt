@@ -1,13 +1,13 @@
 //! Plain types of a language definition, and what can be asked of one.
 //!
-//! The shortest useful call is `kind_named(&definition, "Exp")`: the number of a phylum or list by its name. The definitions
-//! that other crates' contracts cite stand in `specs/`: fragments and their regions, legal trees, fillings, open judgements,
-//! relations and the steps in which they are made, sizes, paths and insertions.
+//! The shortest useful call is `kind_named(&definition, "Exp")`: the number of a phylum or list by its name. The
+//! definitions that other crates' contracts cite are in `specs/`: fragments and their regions, legal trees, fillings,
+//! open judgements, relations and the steps in which they are made, sizes, paths and insertions.
 //!
-//! Numbers of phyla, lists, operators, spaces and rows are places in the definition, from 0. A definition is sound where all of
-//! them are in range, no name stands twice and each term is of the sort that its place wants; calls that look up by name and
-//! `declaring` have this as their condition. A phylum declares in a space where a declaring position of the space can be
-//! reached from it without passing a scope operator.
+//! Numbers of phyla, lists, operators, spaces and rows are places in the definition, from 0. A definition is sound
+//! where all of them are in range, no name occurs twice and each term is of the sort that its place wants; calls that
+//! look up by name and `declaring` have this as their condition. A phylum declares in a space where a declaring
+//! position of the space can be reached from it without passing a scope operator.
 #![tactic(auto)]
 
 pub mod kinds;

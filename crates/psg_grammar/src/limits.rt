@@ -1,4 +1,5 @@
-//! How large fragments may be. They keep the work of one command, and the depth of calls, within what a small machine has.
+//! How large fragments may be. They keep the work of one command, and the depth of calls, within what a small machine
+//! has.
 
 /// The most nodes of a fragment.
 pub const MOST_NODES: u64 = 20_000;
@@ -12,5 +13,5 @@ pub const MOST_ELEMENTS: u64 = 4_096;
 /// The greatest sum of the weights of the relations of all nodes and list suffixes of a fragment.
 pub const MOST_WEIGHTS: u64 = 4_000_000;
 
-/// How many brackets may stand inside each other in a text.
+/// How many brackets may be inside each other in a text.
 pub const MOST_BRACKETS: u32 = 400;

@@ -1,9 +1,11 @@
 //! In which spaces phyla declare.
-ghost use Rattle.std.specs.Prelude.{◌≡◌, ℕ, ◌<◌, ◌↔◌, true, false, ◌∷◌, [], length, slice_get, vec_len, IfOk, IfSome, Some, Contains};
+ghost use Rattle.std.specs.Prelude.{◌≡◌, ℕ, ◌<◌, ◌↔◌, true, false, ◌∷◌, [], length, slice_get, vec_len, IfOk, IfSome};
+ghost use Rattle.std.specs.Prelude.{Some, Contains};
 ghost use Rattle.std.specs.List.Sorted.{IsStrictlyIncreasing};
 ghost use Rattle.psg_grammar.specs.declared.types.Kind.{Kind};
 ghost use Rattle.psg_grammar.specs.Declaring.{Declares, is_declaring};
-ghost use Rattle.psg_grammar.specs.DeclaringTables.{Adds, AreSpacesOf, HasSpace, IsTable, PassesAll, PassesOperator, spaces_at};
+ghost use Rattle.psg_grammar.specs.DeclaringTables.{Adds, AreSpacesOf, HasSpace, IsTable, PassesAll};
+ghost use Rattle.psg_grammar.specs.DeclaringTables.{PassesOperator, spaces_at};
 ghost use Rattle.psg_grammar.specs.Kinds.{HasSlotKind};
 ghost use Rattle.psg_grammar.specs.Sound.{IsSound};
 
@@ -11,17 +13,19 @@ use crate::kinds::base_phylum;
 use crate::types::{Definition, Item, Operator};
 use std::alloc::{AllocError, Global};
 
-/// For each phylum the spaces in which it declares, ascending: those of the declaring positions that can be reached from it
-/// without passing a scope operator. A list declares where its elements do.
+/// Returns for each phylum the spaces in which it declares, ascending: those of the declaring positions that can be
+/// reached from it without passing a scope operator. A list declares where its elements do.
 ///
-/// All operators are gone over until a pass finds nothing new, so at most once more than the longest way to a position has
-/// phyla. A pass looks up each space of each slot.
+/// All operators are gone over until a pass finds nothing new, so at most once more than the longest way to a position
+/// has phyla. A pass looks up each space of each slot.
 pub fn declaring(alloc: Global, definition: &Definition) -> Result<Vec<Vec<u32>>, AllocError>
     requires { IsSound definition.now }
     ensures one_each { IfOk result (λ found. vec_len found ≡ length definition.now.phyla) }
-    ensures exact { IfOk result (λ found. (p : ℕ) → IfSome (slice_get found.items p) (λ spaces. AreSpacesOf definition.now p spaces.items)) }
+    ensures exact { IfOk result (λ found. (p : ℕ)
+        → IfSome (slice_get found.items p) (λ spaces. AreSpacesOf definition.now p spaces.items)) }
     // the search by which regions are defined finds the same
-    ensures search { (space : ℕ) (kind : Kind) → (is_declaring definition.now space kind ≡ true) ↔ Declares definition.now space kind }
+    ensures search { (space : ℕ) (kind : Kind)
+        → (is_declaring definition.now space kind ≡ true) ↔ Declares definition.now space kind }
 {
     let mut found = no_spaces(alloc, definition.phyla.as_slice().len())?;
     'passes: loop {
@@ -64,7 +68,8 @@ fn pass_operator(
     requires sound { IsSound definition.now }
     requires part { Contains definition.now.operators operator.now }
     requires table { IsTable definition.now found.old.items }
-    ensures { IfOk result (λ changed. PassesOperator definition.now operator.now found.old.items found.new.items changed) }
+    ensures { IfOk result (λ changed.
+        PassesOperator definition.now operator.now found.old.items found.new.items changed) }
 {
     let mut changed = false;
     if operator.scope {
@@ -88,7 +93,8 @@ fn add_item(
     requires kind { HasSlotKind definition.now item.now }
     requires inside { phylum < length definition.now.phyla }
     requires table { IsTable definition.now found.old.items }
-    ensures { IfOk result (λ changed. Adds found.old.items phylum (HasSpace definition.now found.old.items item.now) found.new.items changed) }
+    ensures { IfOk result (λ changed.
+        Adds found.old.items phylum (HasSpace definition.now found.old.items item.now) found.new.items changed) }
 {
     match item {
         Item::Declares(space) => add_space(found, phylum as usize, *space),
@@ -104,7 +110,8 @@ fn add_all(found: &mut Vec<Vec<u32>>, phylum: usize, from: usize) -> Result<bool
     requires inside { phylum < vec_len found.old }
     requires from_inside { from < vec_len found.old }
     requires increasing { (p : ℕ) → IsStrictlyIncreasing (spaces_at found.old.items p) }
-    ensures { IfOk result (λ changed. Adds found.old.items phylum (Contains (spaces_at found.old.items from)) found.new.items changed) }
+    ensures { IfOk result (λ changed.
+        Adds found.old.items phylum (Contains (spaces_at found.old.items from)) found.new.items changed) }
 {
     let mut changed = false;
     if phylum == from {

@@ -13,7 +13,7 @@ module _ {T : Type 0} where
   IfMoved (Moved value) P = P value
   IfMoved (Nothing _) P = Unit {0}
 
-  -- If there was nothing to step to, this holds of the value that is handed back.
+  -- If there was nothing to step to, this holds of the value that is given back.
   abbrev pub IfNothing : Undone T → (T → Type 0) → Type 0
   IfNothing (Moved _) P = Unit {0}
   IfNothing (Nothing value) P = P value

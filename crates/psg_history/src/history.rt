@@ -39,7 +39,8 @@ impl<T> Model for History<T> {
 }
 
 impl<T: Drop> History<T> {
-    /// An empty history. It takes the memory for `VERSIONS` values on each side, and is the only call that takes any.
+    /// Makes an empty history. It takes the memory for `VERSIONS` values on each side, and is the only call that takes
+    /// any.
     pub fn new(alloc: Global) -> Result<History<T>, AllocError>
         ensures earlier { IfOk result (λ h. h.earlier ≡ []) }
         ensures later { IfOk result (λ h. h.later ≡ []) }
@@ -52,7 +53,7 @@ impl<T: Drop> History<T> {
     /// Keeps `left`, the value that was current until now, as the nearest earlier one.
     ///
     /// The oldest earlier value is dropped where `VERSIONS` are kept, and so are all later ones. The time is constant
-    /// but for the drop of these values, of which there are at most `VERSIONS`.
+    /// except for the drop of these values, of which there are at most `VERSIONS`.
     pub fn push(&mut self, left: T)
         ensures earlier { self.new.earlier ≡ take VERSIONS (left ∷ self.old.earlier) }
         ensures later { self.new.later ≡ [] }
@@ -63,7 +64,7 @@ impl<T: Drop> History<T> {
         self.earlier.push_front_reserved(left);
     }
 
-    /// Steps back: the nearest earlier value comes out, and `current` becomes the nearest later one.
+    /// Steps back: the nearest earlier value is returned, and `current` becomes the nearest later one.
     ///
     /// `Nothing` hands `current` back where nothing earlier is kept. The time is constant.
     pub fn undo(&mut self, current: T) -> Undone<T>
@@ -83,7 +84,7 @@ impl<T: Drop> History<T> {
         }
     }
 
-    /// Steps forward: the nearest later value comes out, and `current` becomes the nearest earlier one.
+    /// Steps forward: the nearest later value is returned, and `current` becomes the nearest earlier one.
     ///
     /// `Nothing` hands `current` back where nothing later is kept. The time is constant.
     pub fn redo(&mut self, current: T) -> Undone<T>
@@ -103,7 +104,7 @@ impl<T: Drop> History<T> {
         }
     }
 
-    /// The value that `undo` would give. `None` comes where nothing earlier is kept. The time is constant.
+    /// Returns the value that `undo` would give, or `None` where nothing earlier is kept. The time is constant.
     pub fn nearest_earlier(&self) -> Option<&T>
         ensures value { option_copied result ≡ slice_get self.now.earlier 0 }
         ensures none { IsNone result ↔ (self.now.earlier ≡ []) }
@@ -111,7 +112,7 @@ impl<T: Drop> History<T> {
         self.earlier.front()
     }
 
-    /// The value that `redo` would give. `None` comes where nothing later is kept. The time is constant.
+    /// Returns the value that `redo` would give, or `None` where nothing later is kept. The time is constant.
     pub fn nearest_later(&self) -> Option<&T>
         ensures value { option_copied result ≡ slice_get self.now.later 0 }
         ensures none { IsNone result ↔ (self.now.later ≡ []) }
@@ -128,7 +129,7 @@ impl<T: Drop> History<T> {
         self.later.clear();
     }
 
-    /// How many earlier values are kept.
+    /// Returns how many earlier values are kept.
     pub fn earlier(&self) -> usize
         ensures count { result ≡ length self.now.earlier }
         ensures within { IsWithin VERSIONS self.now }
@@ -136,7 +137,7 @@ impl<T: Drop> History<T> {
         self.earlier.len()
     }
 
-    /// How many later values are kept.
+    /// Returns how many later values are kept.
     pub fn later(&self) -> usize
         ensures count { result ≡ length self.now.later }
         ensures within { IsWithin VERSIONS self.now }

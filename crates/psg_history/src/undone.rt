@@ -5,6 +5,6 @@
 pub enum Undone<T> {
     /// The step was made: this value is now the current one.
     Moved(T),
-    /// Nothing is kept in that direction: the current value is handed back.
+    /// Nothing is kept in that direction: the current value is given back.
     Nothing(T),
 }

@@ -16,7 +16,7 @@ mod plain;
 pub use named::{MINI, TINY};
 pub use plain::{CONSTS, LEVELS};
 
-/// Each text is ASCII, and has fewer than 4,096 bytes.
+/// Shows that each text is ASCII, and has fewer than 4,096 bytes.
 pub fn are_short()
     ensures consts { IsAscii CONSTS.now × (length CONSTS.now < 4096) }
     ensures levels { IsAscii LEVELS.now × (length LEVELS.now < 4096) }

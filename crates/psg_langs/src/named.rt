@@ -1,7 +1,7 @@
 //! Languages with names and lists.
 
-/// Blocks, procedures and expressions with types: declarations in unfinished lists, parameters in finished ones, scopes
-/// of blocks and bodies.
+/// A language of blocks, procedures and expressions with types: declarations in unfinished lists, parameters in
+/// finished ones, scopes of blocks and bodies.
 pub const MINI: &str = "psg 1
 sort Unit = ok
 sort Type = int bool arr(Type)
@@ -92,8 +92,8 @@ declare Decls proc(?Ts) : ok by procdecl($it,hole(Body,?Ts))
 declare Decls typ(?T) : ok by typdecl($it,tname($a))
 ";
 
-/// Items that each add to the value of their list. A list cannot be lengthened without changing its value, so the
-/// language is refused.
+/// A language of items that each add to the value of their list. A list cannot be lengthened without changing its
+/// value, so the language is refused.
 pub const TINY: &str = "psg 1
 sort Bit = one two
 sort Seq = nil cons(Bit,Seq)

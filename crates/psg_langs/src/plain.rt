@@ -1,6 +1,6 @@
 //! Languages without names and lists.
 
-/// Numbers and truth values, sums and comparisons, by words in brackets. Its terms are constants.
+/// A language of numbers and truth values, sums and comparisons, by words in brackets. Its terms are constants.
 pub const CONSTS: &str = "psg 1
 sort Type = int bool
 phylum Exp : Type
@@ -17,8 +17,9 @@ hole Exp int by zero
 hole Exp bool by tru
 ";
 
-/// Numbers and truth values with operators of all five level forms: prefix, postfix, and infix to the left, to the
-/// right and to neither side. It belongs to the grammar class, and each placeholder has a number and a truth value.
+/// A language of numbers and truth values, with operators of all five level forms: prefix, postfix, and infix to the
+/// left, to the right and to neither side. It belongs to the grammar class, and each placeholder has a number and a
+/// truth value.
 pub const LEVELS: &str = "psg 1
 sort Type = int bool
 phylum Exp : Type bracketed

@@ -3,6 +3,7 @@ use Rattle.std.specs.Prelude.{ℕ, ◌≡◌, ◌⊎◌, ◌==◌, ◌||◌, ◌
 use Rattle.std.specs.List.{AllByRecursion, list_any}
 use Rattle.psg_terms.specs.Words.{goes_on_word}
 
+-- characters, by their numbers
 abbrev pub Chars : Type 0
 Chars = List ℕ
 
@@ -10,12 +11,15 @@ Chars = List ℕ
 abbrev pub is_blank : ℕ → Bool
 is_blank c = (c == 32) || (c == 9) || (c == 10) || (c == 13)
 
+-- `0` to `9`; digits of other scripts are none
 abbrev pub is_digit : ℕ → Bool
 is_digit c = nat_le 48 c && nat_le c 57
 
+-- a character that is a token by itself
 abbrev pub is_solo : ℕ → Bool
 is_solo c = list_any (λ d. c == d) (codes "()[]{},;")
 
+-- a character of runs of symbols
 abbrev pub is_symbol : ℕ → Bool
 is_symbol c = list_any (λ d. c == d) (codes "+-*/%<>=!&|^~:.@#$")
 
@@ -23,6 +27,7 @@ is_symbol c = list_any (λ d. c == d) (codes "+-*/%<>=!&|^~:.@#$")
 abbrev pub is_escape : ℕ → Bool
 is_escape c = (c == 34) || (c == 92) || (c == 110)
 
+-- each character passes the test
 abbrev pub All : (ℕ → Bool) → Chars → Type 0
 All test = AllByRecursion (λ c. IsTrue (test c))
 
@@ -31,6 +36,7 @@ abbrev pub begins_by : (ℕ → Bool) → Chars → Bool
 begins_by test [] = false
 begins_by test (c ∷ cs) = test c
 
+-- there is a first character, and it passes the test
 abbrev pub BeginsBy : (ℕ → Bool) → Chars → Type 0
 BeginsBy test cs = begins_by test cs ≡ true
 

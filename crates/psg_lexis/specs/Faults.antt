@@ -1,16 +1,18 @@
 -- The first place at which a text has no token.
-use Rattle.std.specs.Prelude.{ℕ, ◌≡◌, ◌≢◌, ◌⊎◌, ◌<◌, ◌≤◌, ◌+◌, ◌^◌, ◌==◌, ◌||◌, ◌&&◌, not, Bool, false, None, List, [], ◌∷◌, ◌++◌, encode_utf8_all, IsTrue}
+use Rattle.std.specs.Prelude.{ℕ, ◌≡◌, ◌≢◌, ◌⊎◌, ◌<◌, ◌≤◌, ◌+◌, ◌^◌, ◌==◌, ◌||◌, ◌&&◌, not, Bool, false, None, List, []}
+use Rattle.std.specs.Prelude.{◌∷◌, ◌++◌, encode_utf8_all, IsTrue}
 use Rattle.unicode_width.specs.Width.{char_width}
 use Rattle.psg_terms.specs.Names.{Name, is_among}
 use Rattle.psg_terms.specs.Words.{starts_word, goes_on_word, IsWord}
-use Rattle.psg_lexis.specs.Classes.{Chars, is_blank, is_digit, is_solo, is_symbol, is_escape, All, EndsBy, BeginsBy, IsLongest}
+use Rattle.psg_lexis.specs.Classes.{Chars, is_blank, is_digit, is_solo, is_symbol, is_escape, All, EndsBy}
+use Rattle.psg_lexis.specs.Classes.{BeginsBy, IsLongest}
 use Rattle.psg_lexis.specs.Tokens.{bytes_of, dots, value_of, is_content, quoted, Begins}
 use Rattle.psg_lexis.specs.declared.token.Spanned.{Spanned}
 use Rattle.psg_lexis.specs.declared.token.LexFault.{LexFault}
 use Rattle.psg_lexis.specs.declared.token.LexFault.TheVariants as faults
 
--- behind an opening quote its closing one follows on the same line; `escaped` tells that a backslash stands before, so that the
--- character doesn't close
+-- after an opening quote its closing one follows on the same line; `escaped` says that a backslash is before, so
+-- that the character doesn't close
 abbrev pub is_closed : Bool → Chars → Bool
 is_closed escaped [] = false
 is_closed escaped (c ∷ cs) =
@@ -26,14 +28,15 @@ pub record BeginsNone (c : ℕ) : Type 0 where
   pub quote : c ≢ 34
   pub question : c ≢ 63
 
--- a place inside a quoted text that is closed on its line: these are the contents before it, and these characters follow
+-- a place inside a quoted text that is closed on its line: these are the contents before it, and these characters
+-- follow
 pub record IsInside (before : Chars) (follows : Chars) : Type 0 where
   pub contents : All is_content before
   pub closed : IsTrue (is_closed false (quoted before ++ follows))
 
 module _ (fixed : List Name) where
-  -- the characters, the first of which stands at the byte `at`, begin with neither a token nor a blank. The place of a fault inside
-  -- a quoted text is behind the quote and what is written before.
+  -- the characters, the first of which is at the byte `at`, begin with neither a token nor a blank. The place of a
+  -- fault inside a quoted text is after the quote and what is written before.
   pub data IsFault : Chars → ℕ → LexFault → Type 0 where
     no_token : (c : ℕ) (cs : Chars) (at : ℕ) → BeginsNone c → IsFault (c ∷ cs) at (faults.BadChar at)
     no_hole : (cs : Chars) (at : ℕ) → EndsBy starts_word cs → IsFault (63 ∷ cs) at (faults.BadChar at)

@@ -1,5 +1,6 @@
--- What stands at a place inside a quoted text.
-use Rattle.std.specs.Prelude.{ℕ, ◌≡◌, ◌≢◌, ◌⊎◌, ◌+◌, ◌≤◌, false, None, List, [], ◌∷◌, ◌++◌, length, encode_utf8, encode_utf8_all, chars, IsTrue, IsUtf8}
+-- What a quoted text has at a place inside it.
+use Rattle.std.specs.Prelude.{ℕ, ◌≡◌, ◌≢◌, ◌⊎◌, ◌+◌, ◌≤◌, false, None, List, [], ◌∷◌, ◌++◌, length, encode_utf8}
+use Rattle.std.specs.Prelude.{encode_utf8_all, chars, IsTrue, IsUtf8}
 use Rattle.unicode_width.specs.Width.{char_width}
 use Rattle.psg_lexis.specs.Classes.{Chars, is_escape, EndsBy}
 use Rattle.psg_lexis.specs.Tokens.{is_content, escaped}
@@ -24,6 +25,7 @@ pub record HasNoWidth (cs : Chars) : Type 0 where
   pub line_end : first ≢ 10
   pub width : char_width false first ≡ None
 
+-- what the text begins with, and what follows, inside a quoted text
 abbrev pub IsPiece : List ℕ → Piece → Type 0
 IsPiece text (pieces.Content c rest) = IsContent text c rest.now
 IsPiece text pieces.Closing = (cs : Chars) × (chars text ≡ 34 ∷ cs)

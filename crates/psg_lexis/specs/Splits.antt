@@ -11,6 +11,7 @@ pub record IsFirst (text : List ℕ) (c : ℕ) (rest : List ℕ) : Type 0 where
   pub characters : chars text ≡ c ∷ chars rest
   pub utf8 : IsUtf8 rest
 
+-- whether a run of this kind has the character
 abbrev pub takes : Run → ℕ → Bool
 takes runs.Word = goes_on_word
 takes runs.Digits = is_digit

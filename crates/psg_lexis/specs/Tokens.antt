@@ -1,5 +1,6 @@
 -- The tokens of a text, by its characters.
-use Rattle.std.specs.Prelude.{ℕ, ◌≡◌, ◌≢◌, ◌⊎◌, ◌<◌, ◌≤◌, ◌+◌, ◌*◌, ◌-◌, ◌^◌, ◌==◌, ◌||◌, Bool, true, false, cond, is_some, List, [], ◌∷◌, ◌++◌, length, encode_utf8_all, codes, chars, IsTrue, IsUtf8}
+use Rattle.std.specs.Prelude.{ℕ, ◌≡◌, ◌≢◌, ◌⊎◌, ◌<◌, ◌≤◌, ◌+◌, ◌*◌, ◌-◌, ◌^◌, ◌==◌, ◌||◌, Bool, true, false, cond}
+use Rattle.std.specs.Prelude.{is_some, List, [], ◌∷◌, ◌++◌, length, encode_utf8_all, codes, chars, IsTrue, IsUtf8}
 use Rattle.unicode_width.specs.Width.{char_width}
 use Rattle.psg_terms.specs.Names.{Name, is_among}
 use Rattle.psg_terms.specs.Words.{goes_on_word, IsWord}
@@ -16,8 +17,8 @@ bytes_of cs = length (encode_utf8_all cs)
 abbrev pub dots : Chars
 dots = codes "..."
 
--- The bytes are UTF-8, and one token of a fragment's text: a word of at most 255 bytes, a character that stands alone, or a
--- run of symbols other than `...`. Bytes that are not UTF-8 can have the characters of a word too.
+-- The bytes are UTF-8, and one token of a fragment's text: a word of at most 255 bytes, a character that is a token by
+-- itself, or a run of symbols other than `...`. Bytes that are not UTF-8 can have the characters of a word too.
 abbrev pub IsFixedWord : List ℕ → Type 0
 IsFixedWord w =
     IsUtf8 w
@@ -25,12 +26,13 @@ IsFixedWord w =
     ⊎ (((c : ℕ) × (w ≡ c ∷ []) × (is_solo c ≡ true))
     ⊎ (BeginsBy is_symbol (chars w) × All is_symbol (chars w) × (chars w ≢ dots))))
 
--- the number that decimal digits stand for
+-- the number that decimal digits write
 abbrev pub value_of : Chars → ℕ
 value_of [] = 0
 value_of (c ∷ cs) = (c - 48) * 10 ^ length cs + value_of cs
 
--- the contents of a quoted text may have this character: one with a width, or a line feed, which is written as an escape
+-- the contents of a quoted text may have this character: one with a width, or a line feed, which is written as an
+-- escape
 abbrev pub is_content : ℕ → Bool
 is_content c = (c == 10) || is_some (char_width false c)
 
@@ -39,12 +41,13 @@ abbrev pub escaped : ℕ → Chars
 escaped c =
     cond (c == 34) (92 ∷ 34 ∷ []) (cond (c == 92) (92 ∷ 92 ∷ []) (cond (c == 10) (92 ∷ 110 ∷ []) (c ∷ [])))
 
+-- the characters of a quoted text's contents, with their escapes and without the quotes
 abbrev pub quoted : Chars → Chars
 quoted [] = []
 quoted (c ∷ cs) = escaped c ++ quoted cs
 
 module _ (fixed : List Name) where
-  -- the characters are those of the token, and those behind them don't lengthen it
+  -- the characters are those of the token, and those after them don't lengthen it
   pub data IsToken : Chars → Chars → Token → Type 0 where
     word : (cs rest : Chars) → IsWord cs → EndsBy goes_on_word rest → bytes_of cs ≤ 255
         → IsToken cs rest (tokens.Word (encode_utf8_all cs))

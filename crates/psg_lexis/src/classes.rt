@@ -16,7 +16,7 @@ pub(crate) enum Run {
 impl Run {
     ghost use Rattle.psg_lexis.specs.Splits.{takes};
 
-    /// Whether the run goes on with the character.
+    /// Says whether the run goes on with the character.
     pub(crate) fn takes(self, c: char) -> bool
         ensures { result ≡ takes self c }
     {
@@ -28,8 +28,8 @@ impl Run {
     }
 }
 
-/// Whether the characters, written beside each other, would run together into one token: both are word characters, or
-/// both are symbol characters. A word character goes on a word, so a digit is one too.
+/// Says whether the characters, written beside each other, would run together into one token: both are word characters,
+/// or both are symbol characters. A word character goes on a word, so a digit is one too.
 pub fn glues(a: char, b: char) -> bool
     ensures glue { IsTrue result ↔ Glue a b }
 {

@@ -1,5 +1,6 @@
 //! The walk over a text that finds its tokens.
-ghost use Rattle.std.specs.Prelude.{◌≡◌, ◌+◌, ◌^◌, ◌<◌, ◌∷◌, ℕ, List, IfErr, IfOk, IsTrue, MatchResult, SomeIff, chars, length, not};
+ghost use Rattle.std.specs.Prelude.{◌≡◌, ◌+◌, ◌^◌, ◌<◌, ◌∷◌, ℕ, List, IfErr, IfOk, IsTrue, MatchResult, SomeIff, chars};
+ghost use Rattle.std.specs.Prelude.{length, not};
 ghost use Rattle.psg_terms.specs.Words.{starts_word};
 ghost use Rattle.psg_lexis.specs.Classes.{is_blank, is_digit, is_symbol, All, BeginsBy};
 ghost use Rattle.psg_lexis.specs.Splits.{IsFirst};
@@ -19,13 +20,13 @@ use std::alloc::Global;
 /// The most bytes of a word.
 const MOST_WORD: usize = 255;
 
-/// The tokens of the text, each with the bytes that it stands on, or the first fault from the left. The fixed words
+/// Returns the tokens of the text, each with the bytes that it takes, or the first fault from the left. The fixed words
 /// of the lexis are the runs of symbols that are tokens. It takes one step for each byte.
 pub fn lex(alloc: Global, lexis: &Lexis, text: &str) -> Result<Vec<Spanned>, LexFault>
     ensures ok { IfOk result (λ tokens. HasTokens lexis.now (chars text.now) 0 tokens.items) }
     ensures err { IfErr result (OrMemory (HasFault lexis.now (chars text.now) 0)) }
 
-    // No text has two lists of tokens, two faults, or both, so no other answer is possible, want of memory aside.
+    // No text has two lists of tokens, two faults, or both, so no other answer is possible, except out of memory.
     ensures whole { (tokens : List Spanned) → HasTokens lexis.now (chars text.now) 0 tokens
         → MatchResult result (λ found. found.items ≡ tokens) (λ fault. fault ≡ LexFault.Memory) }
     ensures broken { (fault : LexFault) → HasFault lexis.now (chars text.now) 0 fault
@@ -46,7 +47,7 @@ pub fn lex(alloc: Global, lexis: &Lexis, text: &str) -> Result<Vec<Spanned>, Lex
     Ok(tokens)
 }
 
-/// The token at the beginning of the text, which stands at the byte `at` and begins with no blank.
+/// Returns the token at the beginning of the text, which is at the byte `at` and begins with no blank.
 fn first_token(alloc: Global, lexis: &Lexis, text: &str, at: usize) -> Result<Spanned, LexFault>
     requires room { at + length text.now < 2 ^ 64 }
     requires begins { BeginsBy (λ c. not (is_blank c)) (chars text.now) }
@@ -77,7 +78,7 @@ fn first_token(alloc: Global, lexis: &Lexis, text: &str, at: usize) -> Result<Sp
     }
 }
 
-/// The word at the beginning of the text, which begins with the start of one.
+/// Returns the word at the beginning of the text, which begins with the start of one.
 fn word(alloc: Global, text: &str, at: usize) -> Result<Spanned, LexFault>
     requires room { at + length text.now < 2 ^ 64 }
     requires begins { BeginsBy starts_word (chars text.now) }
@@ -95,7 +96,7 @@ fn word(alloc: Global, text: &str, at: usize) -> Result<Spanned, LexFault>
     })
 }
 
-/// The hole whose `?` stands directly before the text, at the byte `at`.
+/// Returns the hole whose `?` is directly before the text, at the byte `at`.
 fn hole(alloc: Global, text: &str, at: usize) -> Result<Spanned, LexFault>
     requires room { at + 1 + length text.now < 2 ^ 64 }
     ensures ok { IfOk result (λ s. (fixed : List (List ℕ)) → Begins fixed (63 ∷ chars text.now) at s) }
@@ -115,7 +116,7 @@ fn hole(alloc: Global, text: &str, at: usize) -> Result<Spanned, LexFault>
     })
 }
 
-/// The number at the beginning of the text, which begins with a digit.
+/// Returns the number at the beginning of the text, which begins with a digit.
 fn number(text: &str, at: usize) -> Result<Spanned, LexFault>
     requires room { at + length text.now < 2 ^ 64 }
     requires begins { BeginsBy is_digit (chars text.now) }
@@ -136,7 +137,7 @@ fn number(text: &str, at: usize) -> Result<Spanned, LexFault>
     }
 }
 
-/// The number that the digits stand for, if it is below 2^128.
+/// Returns the number that the digits write, if it is below 2^128.
 fn decimal(digits: &str) -> Option<u128>
     requires { All is_digit (chars digits.now) }
     ensures { SomeIff result (value_of (chars digits.now) < 2 ^ 128) (value_of (chars digits.now)) }
@@ -151,7 +152,7 @@ fn decimal(digits: &str) -> Option<u128>
     Some(value)
 }
 
-/// The run of symbols at the beginning of the text, which begins with a symbol character.
+/// Returns the run of symbols at the beginning of the text, which begins with a symbol character.
 fn symbol(alloc: Global, lexis: &Lexis, text: &str, at: usize) -> Result<Spanned, LexFault>
     requires room { at + length text.now < 2 ^ 64 }
     requires begins { BeginsBy is_symbol (chars text.now) }

@@ -30,7 +30,7 @@ impl Model for Lexis {
 }
 
 impl Lexis {
-    /// The lexis with these fixed words, of which some may stand twice. It takes one step for each byte of them.
+    /// Makes the lexis with these fixed words, of which some may occur twice. It takes one step for each byte of them.
     pub fn new(alloc: Global, words: &[Txt]) -> Result<Lexis, AllocError>
         ensures words { IfOk result (λ lexis. lexis ≡ words.now) }
     {
@@ -46,14 +46,14 @@ impl Lexis {
         })
     }
 
-    /// Whether the text is one of the fixed words and a word, so that it is no name.
+    /// Says whether the text is one of the fixed words and a word, so that it is no name.
     pub fn reserved(&self, word: &str) -> bool
         ensures exact { IsTrue result ↔ (IsTrue (is_among self.now word.now) × IsWord (chars word.now)) }
     {
         self.has(word) && is_word(word)
     }
 
-    /// Whether the text is one of the fixed words.
+    /// Says whether the text is one of the fixed words.
     pub(crate) fn has(&self, word: &str) -> bool
         ensures value { result ≡ is_among self.now word.now }
     {
@@ -61,7 +61,7 @@ impl Lexis {
     }
 }
 
-/// Whether the text is a word.
+/// Says whether the text is a word.
 fn is_word(text: &str) -> bool
     ensures { IsTrue result ↔ IsWord (chars text.now) }
 {

@@ -2,8 +2,8 @@
 //!
 //! `let lexis = Lexis::new(alloc, &fixed_words)?; let tokens = lex(alloc, &lexis, "a := 1")?;`
 //!
-//! A word, a number and a run of symbols reach as far as their characters do. A token keeps the bytes that it stands
-//! on, from its start up to its end; no two tokens overlap, and between them stand blanks alone. Which runs of symbols
+//! A word, a number and a run of symbols reach as far as their characters do. A token keeps the bytes that it takes,
+//! from its start up to its end; no two tokens overlap, and between them are blanks alone. Which runs of symbols
 //! are tokens the fixed words of the language decide.
 #![tactic(auto)]
 

@@ -14,9 +14,9 @@ use unicode_width::UnicodeWidthChar;
 /// The most bytes of the contents of a quoted text.
 pub(crate) const MOST_CONTENTS: usize = 4096;
 
-/// What stands at a place inside a quoted text.
+/// What a quoted text has at a place inside it.
 enum Piece<'a> {
-    /// A character of the contents, and the text behind it.
+    /// A character of the contents, and the text after it.
     Content(char, &'a str),
     /// The closing quote.
     Closing,
@@ -28,7 +28,7 @@ enum Piece<'a> {
     NoEscape,
 }
 
-/// The quoted text whose opening quote stands directly before this text, at the byte `at`.
+/// Returns the quoted text whose opening quote is directly before this text, at the byte `at`.
 pub(crate) fn literal(alloc: Global, text: &str, at: usize) -> Result<Spanned, LexFault>
     requires room { at + 1 + length text.now < 2 ^ 64 }
     ensures ok { IfOk result (λ s. (fixed : List (List ℕ)) → Begins fixed (34 ∷ chars text.now) at s) }
@@ -63,7 +63,7 @@ pub(crate) fn literal(alloc: Global, text: &str, at: usize) -> Result<Spanned, L
     }
 }
 
-/// What stands at the beginning of the text, inside a quoted text.
+/// Returns what the text begins with, where it is inside a quoted text.
 fn next_piece(text: &str) -> Piece<'_>
     ensures { IsPiece text.now result }
 {
@@ -79,7 +79,7 @@ fn next_piece(text: &str) -> Piece<'_>
     }
 }
 
-/// The piece that begins with a backslash directly before this text.
+/// Returns the piece that begins with a backslash directly before this text.
 fn escape(behind: &str) -> Piece<'_>
     ensures { (text : List ℕ) → IsFirst text 92 behind.now → IsPiece text result }
 {
@@ -91,7 +91,8 @@ fn escape(behind: &str) -> Piece<'_>
     }
 }
 
-/// The fault at a place inside a quoted text that is opened at the byte `at`, or that the text is not closed on its line.
+/// Returns the fault at a place inside a quoted text that is opened at the byte `at`, or that the text is not closed on
+/// its line.
 fn unless_open(text: &str, at: usize, fault: LexFault) -> LexFault
     ensures { result ≡ (if is_closed false (chars text.now) then fault else LexFault.Unended at) }
 {
@@ -102,7 +103,7 @@ fn unless_open(text: &str, at: usize, fault: LexFault) -> LexFault
     }
 }
 
-/// Whether a quoted text that goes on with this text is closed on its line.
+/// Says whether a quoted text that goes on with this text is closed on its line.
 fn is_closed(text: &str) -> bool
     ensures { result ≡ is_closed false (chars text.now) }
 {

@@ -6,7 +6,7 @@ ghost use Rattle.psg_lexis.specs.Splits.{IsFirst, IsRun, takes};
 
 use crate::classes::{Run, goes_on_word, starts_word};
 
-/// The first character of the text, and the text behind it.
+/// Returns the first character of the text, and the text after it.
 pub(crate) fn split_first(text: &str) -> Option<(char, &str)>
     ensures none { IfNone result (chars text.now ≡ []) }
     ensures first { IfSome result (λ parts. IsFirst text.now parts.0 parts.1.now) }
@@ -18,7 +18,7 @@ pub(crate) fn split_first(text: &str) -> Option<(char, &str)>
     }
 }
 
-/// Whether the text begins with the start of a word.
+/// Says whether the text begins with the start of a word.
 pub(crate) fn word_begins(text: &str) -> bool
     ensures { result ≡ begins_by starts_word (chars text.now) }
 {
@@ -28,7 +28,7 @@ pub(crate) fn word_begins(text: &str) -> bool
     }
 }
 
-/// Whether the text begins with a character that goes on a word.
+/// Says whether the text begins with a character that goes on a word.
 pub(crate) fn word_goes_on(text: &str) -> bool
     ensures { result ≡ begins_by goes_on_word (chars text.now) }
 {
@@ -38,7 +38,7 @@ pub(crate) fn word_goes_on(text: &str) -> bool
     }
 }
 
-/// The longest run at the beginning of the text, which may be empty, and the text behind it.
+/// Returns the longest run at the beginning of the text, which may be empty, and the text after it.
 pub(crate) fn split_run(text: &str, run: Run) -> (&str, &str)
     ensures run { IsRun (takes run) text.now result.0.now result.1.now }
 {

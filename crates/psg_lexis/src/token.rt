@@ -9,7 +9,7 @@ use thiserror::Error;
 /// A token of a text.
 #[derive(Drop)]
 pub enum Token {
-    /// A start character or `_`, and the characters that go on a word behind it.
+    /// A start character or `_`, and the characters that go on a word after it.
     Word(Txt),
     /// A run of decimal digits, by its value.
     Number(u128),
@@ -19,28 +19,31 @@ pub enum Token {
     Solo(u8),
     /// A run of symbol characters that is a fixed word.
     Symbol(Txt),
-    /// The word directly behind a `?`.
+    /// The word directly after a `?`.
     Hole(Txt),
     /// The run `...`.
     More,
 }
 
-/// A token and the bytes of the text that it stands on, from `start` up to `end`.
+/// A token and the bytes of the text that it takes, from `start` up to `end`.
 #[derive(Drop)]
 pub struct Spanned {
+    /// The token.
     pub token: Token,
+    /// The byte offset of its first byte.
     pub start: usize,
+    /// The byte offset after its last byte.
     pub end: usize,
 }
 
 /// The first place of a text, as a byte offset, at which it has no token.
 #[derive(Clone, Copy, Debug, PartialEq, Eq, Drop, Error)]
 pub enum LexFault {
-    /// A character that begins no token, a `?` with no word behind it, or a character without a width inside a quoted
+    /// A character that begins no token, a `?` with no word after it, or a character without a width inside a quoted
     /// text.
     #[error("no token begins with the character at byte {0}")]
     BadChar(usize),
-    /// A run of symbols that is no fixed word, a number with a word character directly behind it, or a backslash inside
+    /// A run of symbols that is no fixed word, a number with a word character directly after it, or a backslash inside
     /// a quoted text that begins no escape.
     #[error("the characters from byte {0} on are no token")]
     BadRun(usize),
@@ -48,7 +51,7 @@ pub enum LexFault {
     #[error("the text that is opened at byte {0} is not closed on its line")]
     Unended(usize),
     /// A word above 255 bytes, a number of 2^128 or more, or a quoted text above 4,096 bytes of contents, by its first
-    /// byte. The word of a hole is behind its `?`.
+    /// byte. The word of a hole is after its `?`.
     #[error("the token at byte {0} is too large")]
     TooLarge(usize),
     /// There was no memory for the tokens.

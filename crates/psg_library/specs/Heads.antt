@@ -29,7 +29,7 @@ is_feed b = b == 10
 abbrev pub first_line : List ℕ → List ℕ
 first_line bytes = strip_carriage_return (before_first is_feed bytes)
 
--- what is behind the line feed of the first line; nothing where there is none
+-- what is after the line feed of the first line; nothing where there is none
 abbrev pub text_in : List ℕ → List ℕ
 text_in bytes = after_first is_feed bytes
 

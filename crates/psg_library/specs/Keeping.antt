@@ -19,21 +19,24 @@ use Rattle.psg_library.specs.Heads.{head_of, HasHead, text_in}
 
 -- ---- what is written
 
--- The head line with the name of the kind, a line feed, the printed text, a line feed. A kind that is not there has no name.
+-- The head line with the name of the kind, a line feed, the printed text, a line feed. A kind that is not there has no
+-- name.
 abbrev pub bytes_of : Definition → SavedFragment → List ℕ
 bytes_of def s = head_of s.name (unwrap_or (kind_name_of def s.kind) []) ++ 10 ∷ (text_of def s.tree ++ 10 ∷ [])
 
 -- ---- what is read
 
 module _ (def : Definition) (kind : Kind) (text : List ℕ) where
-  -- The text reads as the tree of the kind, at level 0. The tree is at most 200 deep, and its brackets nest at most 400 deep.
+  -- The text reads as the tree of the kind, at level 0. The tree is at most 200 deep, and its brackets nest at most 400
+  -- deep.
   pub record IsReadAs (f : Fragment) : Type 0 where
     pub nesting : ℕ
     pub reads : ReadsAs def kind 0 text f nesting
     pub depth : depth_of f ≤ 200
     pub brackets : nesting ≤ 400
 
-  -- why the text reads as no such tree: it has no tokens; it has some and no tree has them; one has them and is too deep
+  -- why the text reads as no such tree: it has no tokens; it has some and no tree has them; one has them and is too
+  -- deep
   pub data IsTextFault : KeptFault → Type 0 where
     no_tokens : HasNoTokens def text → IsTextFault faults.NoTokens
     no_tree : HasNoTree def kind text → IsTextFault faults.NoTree
@@ -43,7 +46,8 @@ module _ (def : Definition) (kind : Kind) (text : List ℕ) where
 -- a step for each token of the text, at most; nothing is counted where it has none
 pub data CountsTokens (def : Definition) (text : List ℕ) (before after : ℕ) : Type 0 where
   nothing : after ≡ before → CountsTokens def text before after
-  tokens : (ts : List Spanned) → TextTokens def text ts → after ≤ before + length ts → CountsTokens def text before after
+  tokens : (ts : List Spanned) → TextTokens def text ts → after ≤ before + length ts
+      → CountsTokens def text before after
 
 module _ (def : Definition) (bytes : List ℕ) where
   -- the head has the name, and its other word is the name of the kind
@@ -52,7 +56,7 @@ module _ (def : Definition) (bytes : List ℕ) where
     pub head : HasHead bytes name word
     pub kind_word : kind_name_of def kind ≡ Some word
 
-  -- The bytes keep the fragment: its name and kind are those of the head, and what is behind the head reads as its tree.
+  -- The bytes keep the fragment: its name and kind are those of the head, and what follows the head reads as its tree.
   pub record IsKept (s : SavedFragment) : Type 0 where
     pub begins : BeginsAs s.name s.kind
     pub reads : IsReadAs def s.kind (text_in bytes) s.tree
@@ -65,8 +69,8 @@ module _ (def : Definition) (bytes : List ℕ) where
     unread : (name : List ℕ) (kind : Kind) (fault : KeptFault) → BeginsAs name kind
         → IsTextFault def kind (text_in bytes) fault → IsFirstFault fault
 
-  -- What may be counted while the bytes are read: the tokens of the text behind a head that names a kind. Where there is no
-  -- such head, or the text has no tokens, nothing is counted.
+  -- What may be counted while the bytes are read: the tokens of the text after a head that names a kind. Where there
+  -- is no such head, or the text has no tokens, nothing is counted.
   pub data MayCount (before after : ℕ) : Type 0 where
     uncounted : after ≡ before → MayCount before after
     counted : (name : List ℕ) (kind : Kind) → BeginsAs name kind → CountsTokens def (text_in bytes) before after
@@ -87,4 +91,5 @@ pub record HasOneReading (def : Definition) (bytes : List ℕ) : Type 0 where
 -- What is written of a fragment keeps it, where its name is one, and its tree is printable and at most 200 deep.
 abbrev pub IsKeptIfPrintable : Definition → SavedFragment → Type 0
 IsKeptIfPrintable def s =
-    IsName s.name → IsPrintable s.tree → WellFormed def s.tree s.kind → depth_of s.tree ≤ 200 → IsKept def (bytes_of def s) s
+    IsName s.name → IsPrintable s.tree → WellFormed def s.tree s.kind → depth_of s.tree ≤ 200
+    → IsKept def (bytes_of def s) s

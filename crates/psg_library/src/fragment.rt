@@ -14,13 +14,16 @@ use thiserror::Error;
 /// A tree of a kind, under a name.
 #[derive(Drop)]
 pub struct SavedFragment {
+    /// The name under which the tree is kept.
     pub name: Txt,
+    /// The phylum or list of the tree.
     pub kind: Kind,
+    /// The tree, which may have placeholders.
     pub tree: Tree,
 }
 
 impl SavedFragment {
-    /// Gives one more owner of the same fragment. It fails where memory runs out.
+    /// Returns one more owner of the same fragment. It fails where memory runs out.
     pub fn share(&self) -> Result<SavedFragment, AllocError>
         ensures { IfOk result (λ copy. copy ≡ self.now) }
     {
@@ -40,7 +43,7 @@ pub enum KeptFault {
     /// The language has no phylum and no list of the name in the head.
     #[error("the language has no such phylum or list")]
     Phylum,
-    /// The text behind the head has no tokens.
+    /// The text after the head has no tokens.
     #[error("the text has no tokens")]
     NoTokens,
     /// No tree of the kind has the tokens of the text.

@@ -7,7 +7,7 @@ ghost use Rattle.psg_library.specs.Heads.{IsHead, first_line, is_feed, is_in_wor
 
 use psg_script::is_name;
 
-/// The first line of a text, without its line feed, and what is behind the line feed.
+/// Cuts a text into its first line, without the line feed, and what is after the line feed.
 fn cut_line(text: &str) -> (&str, &str)
     ensures line { result.0.now ≡ before_first is_feed text.now }
     ensures rest { result.1.now ≡ after_first is_feed text.now }
@@ -18,7 +18,7 @@ fn cut_line(text: &str) -> (&str, &str)
     }
 }
 
-/// The line without one carriage return at its end.
+/// Returns the line without one carriage return at its end.
 fn without_return(line: &str) -> &str
     ensures { result.now ≡ strip_carriage_return line.now }
 {
@@ -28,7 +28,7 @@ fn without_return(line: &str) -> &str
     }
 }
 
-/// The first line of a text, without its line feed and one carriage return, and what is behind the line feed.
+/// Returns the first line of a text, without its line feed and one carriage return, and what is after the line feed.
 pub(crate) fn first_line(text: &str) -> (&str, &str)
     ensures line { result.0.now ≡ first_line text.now }
     ensures rest { result.1.now ≡ text_in text.now }
@@ -37,7 +37,7 @@ pub(crate) fn first_line(text: &str) -> (&str, &str)
     (without_return(line), rest)
 }
 
-/// What is in front of the first space of a text, and what is behind the space.
+/// Returns what is before the first space of a text and what is after it, or `None` where there is no space.
 fn cut_word(text: &str) -> Option<(&str, &str)>
     ensures some { IfSome result (λ parts. (text.now ≡ parts.0.now ++ 32 ∷ parts.1.now)
         × AllByRecursion IsInWord parts.0.now) }
@@ -49,7 +49,7 @@ fn cut_word(text: &str) -> Option<(&str, &str)>
     }
 }
 
-/// What is behind the word `2` and a space, or the text itself.
+/// Returns what is after the word `2` and a space, or the text itself.
 fn without_version(text: &str) -> &str
     ensures { (text.now ≡ codes "2 " ++ result.now)
         ⊎ ((text.now ≡ result.now) × ((rest : List ℕ) → text.now ≢ codes "2 " ++ rest)) }
@@ -60,28 +60,28 @@ fn without_version(text: &str) -> &str
     if word == "2" { rest } else { text }
 }
 
-/// Whether no byte is a space.
+/// Says whether no byte is a space.
 fn has_no_space(bytes: &[u8]) -> bool
     ensures { IsTrue result ↔ AllByRecursion (λ b. IsTrue (is_in_word b)) bytes.now }
 {
     bytes.iter().all(|byte| *byte != b' ')
 }
 
-/// Whether the text is one word: it has bytes, and no space.
+/// Says whether the text is one word: it has bytes, and no space.
 fn is_one_word(text: &str) -> bool
     ensures { IsTrue result ↔ IsWord text.now }
 {
     !text.is_empty() && has_no_space(text.as_bytes())
 }
 
-/// Whether the first text is a name and the second is one word.
+/// Says whether the first text is a name and the second is one word.
 fn are_name_and_word(name: &str, word: &str) -> bool
     ensures { IsTrue result ↔ (IsName name.now × IsWord word.now) }
 {
     is_name(name) && is_one_word(word)
 }
 
-/// The name and the other word of a head line, or `None` where the line is none. It walks the line once.
+/// Returns the name and the other word of a head line, or `None` where the line is none. It walks the line once.
 pub(crate) fn read_head(line: &str) -> Option<(&str, &str)>
     ensures some { IfSome result (λ head. IsHead line.now head.0.now head.1.now) }
     ensures none { IfNone result ((name word : List ℕ) → IsHead line.now name word → ⊥) }

@@ -5,9 +5,9 @@
 //! let saved = read_fragment(alloc, &definition, &lexis, &table, bytes.as_slice(), &mut steps)?;
 //! ```
 //!
-//! The bytes are a head line, as `fragment 2 f Exp`, and then the printed text of the tree. Only the head line has a form
-//! of its own: the text behind it is read as any other text of the language, however it is spaced. What is written of a
-//! printable tree reads back as the tree.
+//! The bytes are a head line, as `fragment 2 f Exp`, and then the printed text of the tree. Only the head line has a
+//! form of its own: the text after it is read as any other text of the language, however it is spaced. What is written
+//! of a printable tree reads back as the tree.
 #![tactic(auto)]
 
 pub mod fragment;

@@ -9,7 +9,8 @@ ghost use Rattle.psg_library.specs.declared.fragment.SavedFragment.{SavedFragmen
 ghost use Rattle.psg_library.specs.declared.fragment.KeptFault.{KeptFault as Fault};
 ghost use Rattle.psg_library.specs.declared.fragment.KeptFault.TheVariants as faults;
 ghost use Rattle.psg_library.specs.Heads.{text_in};
-ghost use Rattle.psg_library.specs.Keeping.{BeginsAs, CountsTokens, IsFirstFault, IsKept, IsReadAs, IsTextFault, MayCount, OrMemory};
+ghost use Rattle.psg_library.specs.Keeping.{BeginsAs, CountsTokens, IsFirstFault, IsKept};
+ghost use Rattle.psg_library.specs.Keeping.{IsReadAs, IsTextFault, MayCount, OrMemory};
 
 use crate::fragment::{KeptFault, SavedFragment};
 use crate::head::{first_line, read_head};
@@ -21,7 +22,7 @@ use psg_tree::Tree;
 use std::alloc::Global;
 use std::sync::ledger::Ledger;
 
-/// What the head of a kept fragment says, and the text behind it.
+/// What the head of a kept fragment says, and the text after it.
 #[derive(Clone, Copy)]
 struct Begun<'a> {
     name: &'a str,
@@ -29,13 +30,14 @@ struct Begun<'a> {
     text: &'a str,
 }
 
-/// Reads the fragment that the bytes keep: the name, the kind and the tree. Both forms of the head line are read, with a `2`
-/// and without. The tree is well formed.
+/// Reads the fragment that the bytes keep: the name, the kind and the tree. Both forms of the head line are read, with
+/// a `2` and without. The tree is well formed.
 ///
-/// It refuses with the first of these that is there: `Head` where the bytes are not UTF-8 or their first line is no head,
-/// `Phylum` where the language has no kind of the name in the head, `NoTokens` where the text behind the head has none,
-/// `NoTree` where no tree of the kind has them, `Deep` where one has them that is past a limit. `Memory` may be returned at
-/// any time. It takes a step of the counter for each token that is parsed. Work and memory are linear in the bytes.
+/// An error is the first of these that is there: `Head` where the bytes are not UTF-8 or their first line is no head,
+/// `Phylum` where the language has no kind of the name in the head, `NoTokens` where the text after the head has none,
+/// `NoTree` where no tree of the kind has them, `Deep` where one has them that is past a limit. `Memory` may be
+/// returned at any time. It takes a step of the counter for each token that is parsed. Work and memory are linear in
+/// the bytes.
 pub fn read_fragment<L: Ledger>(
     alloc: Global,
     definition: &Definition,
@@ -52,7 +54,7 @@ pub fn read_fragment<L: Ledger>(
     ensures formed { IfOk result (λ saved. WellFormed definition.now saved.tree saved.kind) }
     ensures kind { IfOk result (λ saved. HasKind definition.now saved.kind) }
     ensures fault { IfErr result (OrMemory (IsFirstFault definition.now bytes.now)) }
-    // no other answer is possible, want of memory aside
+    // no other answer is possible, unless memory runs out
     ensures whole { (saved : Plain) → IsKept definition.now bytes.now saved
         → MatchResult result (λ found. found ≡ saved) (λ fault. fault ≡ faults.Memory) }
     ensures broken { (fault : Fault) → IsFirstFault definition.now bytes.now fault
@@ -71,7 +73,7 @@ pub fn read_fragment<L: Ledger>(
     })
 }
 
-/// The head of the bytes and the text behind it.
+/// Reads the head of the bytes, and returns it with the text after it.
 fn begin<'a>(definition: &Definition, bytes: &'a [u8]) -> Result<Begun<'a>, KeptFault>
     requires { IsSound definition.now }
     ensures head { IfOk result (λ begun. BeginsAs definition.now bytes.now begun.name.now begun.kind) }
@@ -91,7 +93,7 @@ fn begin<'a>(definition: &Definition, bytes: &'a [u8]) -> Result<Begun<'a>, Kept
     Ok(Begun { name, kind, text })
 }
 
-/// The tree of the kind that the text reads as.
+/// Reads the text as a tree of the kind.
 fn read_tree<L: Ledger>(
     alloc: Global,
     definition: &Definition,

@@ -9,10 +9,11 @@ use psg_tree::Tree;
 use psg_unparse::unparse;
 use std::alloc::{AllocError, Global};
 
-/// Writes a tree of the kind under the name: the line `fragment 2 NAME KIND`, a line feed, the printed text, a line feed.
+/// Writes a tree of the kind under the name: the line `fragment 2 NAME KIND`, a line feed, the printed text, a line
+/// feed.
 ///
-/// It returns out of memory also where 32 bits do not count the children of a node. It takes time linear in the text and
-/// in the paths of the nodes, as `unparse` does.
+/// It returns out of memory also where 32 bits do not count the children of a node. It takes time linear in the text
+/// and in the paths of the nodes, as `unparse` does.
 pub fn fragment_bytes(
     alloc: Global,
     definition: &Definition,
@@ -32,7 +33,7 @@ pub fn fragment_bytes(
     Ok(bytes.into_bytes())
 }
 
-/// The head line with the name and the word, and the text on lines of its own.
+/// Returns the head line with the name and the word, and the text on lines of its own.
 fn kept_text(alloc: Global, name: &str, word: &str, text: &str) -> Result<String, AllocError>
     ensures { IfOk result (λ bytes. string_bytes bytes
         ≡ codes "fragment 2 " ++ (name.now ++ 32 ∷ (word.now ++ 10 ∷ (text.now ++ 10 ∷ [])))) }

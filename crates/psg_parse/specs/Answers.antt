@@ -31,6 +31,7 @@ pub record HasDeep (def : Definition) (goal : Goal) (ts : List Spanned) : Type 0
   pub reads : Reads def goal ts tree nesting
   pub deep : IsTooDeep goal tree nesting
 
+-- No tree has the tokens, or one that is too deep has them. Memory may run out at any tokens.
 abbrev pub IsFault : Definition → Goal → List Spanned → ParseFault → Type 0
 IsFault def goal ts faults.NoTree = (f : Fragment) (nesting : ℕ) → Reads def goal ts f nesting → ⊥
 IsFault def goal ts faults.Deep = HasDeep def goal ts

@@ -77,6 +77,7 @@ operators_with minus =
     ∷ prefix_of (codes "neg") 6 (codes "~")
     ∷ factorial ∷ list_of ∷ doing ∷ letting ∷ []
 
+-- A small language of expressions, as an example. It is given the level of `-`, and whether its list may be unfinished.
 abbrev pub expressions : Level → Bool → Definition
 expressions minus unfinished = record {
   version = 1;

@@ -35,7 +35,7 @@ opener_of (Some os) terminal = opener os terminal
 abbrev pub opener_at : List Openers → ℕ → Terminal → Option ℕ
 opener_at table p terminal = opener_of (slice_get table p) terminal
 
--- at the terminal of the item stands the operator, and at each other one what stood there
+-- the terminal of the item has the operator, and each other one what it had before
 abbrev pub Puts : Openers → Item → ℕ → Openers → Type 0
 Puts old item op new =
     (terminal : Terminal)
@@ -49,6 +49,7 @@ Finds Has (Some n) = Has n
 
 -- ---- the place of the item by which an operator is looked up
 
+-- the items after the first one, where that is a slot; else none
 abbrev pub behind_slot : List Item → List Item
 behind_slot [] = []
 behind_slot (items.Slot k ∷ rest) = rest
@@ -62,6 +63,7 @@ abbrev pub first_terminal : List Item → Option Terminal
 first_terminal [] = None
 first_terminal (i ∷ rest) = item_terminal i
 
+-- the terminal of the operator's item at the place, where that is a token item
 abbrev pub terminal_at : Place → Operator → Option Terminal
 terminal_at place o = first_terminal (from_place place o)
 
@@ -72,7 +74,7 @@ pub record Has (def : Definition) (place : Place) (p n : ℕ) (terminal : Termin
   pub phylum : o.phylum ≡ p
   pub begins : terminal_at place o ≡ Some terminal
 
--- Openers of each phylum: at the phylum and the terminal of the item stands the operator, elsewhere what stood there.
+-- Openers of each phylum: the phylum and the terminal of the item have the operator, all others what they had before.
 abbrev pub PutsAt : List Openers → ℕ → Item → ℕ → List Openers → Type 0
 PutsAt old phylum item op new =
     (p : ℕ) (terminal : Terminal)

@@ -1,4 +1,4 @@
--- What the trees that the parser keeps stand for. Past the limits it keeps none, and counts the depth and the nesting
+-- What the trees that the parser keeps represent. Past the limits it keeps none, and counts the depth and the nesting
 -- of brackets no further than one above the limit.
 use Rattle.std.specs.Prelude.{ℕ, ◌≡◌, ◌<◌, ◌⊎◌, ◌+◌, min, max, List, [], ◌∷◌, Option, Some, None}
 use Rattle.psg_grammar.specs.Fragments.{Fragment, operator}
@@ -18,6 +18,7 @@ abbrev pub IsKept : Option Fragment → Fragment → ℕ → Type 0
 IsKept None f nesting = IsPast f nesting
 IsKept (Some t) f nesting = t ≡ f
 
+-- the operator with the parts is the tree, or no parts are kept where it is past a limit
 abbrev pub AreKept : Option (List Part) → ℕ → Fragment → ℕ → Type 0
 AreKept None op f nesting = IsPast f nesting
 AreKept (Some parts) op f nesting = with_parts (operator op) parts ≡ f
@@ -32,15 +33,17 @@ abbrev pub reversed : List Fragment → List Fragment → List Fragment
 reversed before [] = before
 reversed before (e ∷ rest) = reversed (e ∷ before) rest
 
+-- the depth of a list of these elements
 abbrev pub deepest : List Fragment → ℕ
 deepest [] = 1
 deepest (e ∷ before) = max (depth_of e + 1) (deepest before)
 
+-- the elements, or none where the list is past a limit
 abbrev pub ElementsKept : Option (List Fragment) → List Fragment → ℕ → Type 0
 ElementsKept None before nesting = (200 < deepest before) ⊎ (400 < nesting)
 ElementsKept (Some elements) before nesting = reversed [] elements ≡ before
 
--- a finished tree stands for the fragment with the nesting
+-- a finished tree represents the fragment with the nesting
 pub record IsTree (g : Grown) (f : Fragment) (nesting : ℕ) : Type 0 where
   pub depth : g.depth ≡ min (depth_of f) 201
   pub brackets : g.nesting ≡ min nesting 401

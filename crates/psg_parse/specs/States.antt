@@ -1,4 +1,4 @@
--- What is left to do in a state of the parser. The program's frames hold no tree past the limits, so each stands for a
+-- What is left to do in a state of the parser. The program's frames hold no tree past the limits, so each represents a
 -- plain frame, which has one.
 use Rattle.std.specs.Prelude.{ℕ, ◌≡◌, ◌↔◌, false, List, [], ◌∷◌}
 use Rattle.psg_grammar.specs.declared.types.Definition.{Definition}
@@ -28,12 +28,14 @@ pub data Aim : Type 0 where
   running : (task : Task) → Aim
   giving : (f : Fragment) (nesting : ℕ) → Aim
 
+-- the trees, with their nesting, that may be the result from here on
 abbrev pub LeftBy : Definition → Aim → List Plain → List Token → Fragment → ℕ → Type 0
 LeftBy def (running task) st ts F D = Completes def task st ts F D
 LeftBy def (giving f n) st ts F D = Ends def st f n ts F D
 
--- ---- what the program's states stand for
+-- ---- what the program's states represent
 
+-- the frame represents the plain one
 abbrev pub IsFrame : Frame → Plain → Type 0
 IsFrame (frames.Grow p m level) plain = plain ≡ then_grow p m level
 IsFrame (frames.Parts o built more) plain =
@@ -42,7 +44,7 @@ IsFrame frames.Close plain = plain ≡ then_close
 IsFrame (frames.List l listed) plain =
     (before : List Fragment) × (n : ℕ) × AreElements listed before n × (plain ≡ then_list l before n)
 
--- the frames, the last one on top, stand for plain ones on top of these
+-- the frames, the last one on top, represent plain ones on top of these
 abbrev pub IsStackOn : List Plain → List Frame → List Plain → Type 0
 IsStackOn below [] st = st ≡ below
 IsStackOn below (frame ∷ rest) st = (plain : Plain) × IsFrame frame plain × IsStackOn (plain ∷ below) rest st
@@ -50,6 +52,7 @@ IsStackOn below (frame ∷ rest) st = (plain : Plain) × IsFrame frame plain × 
 abbrev pub IsStack : List Frame → List Plain → Type 0
 IsStack stack st = IsStackOn [] stack st
 
+-- the mode represents the aim
 abbrev pub IsMode : Mode → Aim → Type 0
 IsMode (modes.Start p m) aim = aim ≡ running (start p m)
 IsMode (modes.List l) aim = aim ≡ running (list l)
@@ -76,7 +79,7 @@ pub record GoesOn (def : Definition) (Before : Fragment → ℕ → Type 0) (s :
   pub stands : IsState s aim st
   pub same : Same Before (LeftBy def aim st (tokens_of s.rest.now))
 
--- what a step comes to leaves the same results
+-- the result of a step leaves the same trees
 abbrev pub Leads : Definition → (Fragment → ℕ → Type 0) → Step → Type 0
 Leads def Before (steps.Go s) = GoesOn def Before s
 Leads def Before (steps.Done tree) = (f : Fragment) × (n : ℕ) × IsTree tree f n × Same Before (λ F D. (F ≡ f) × (D ≡ n))
@@ -88,6 +91,7 @@ Steps def aim st ts step = Leads def (LeftBy def aim st ts) step
 
 -- ---- the beginning
 
+-- the aim at the beginning. A list has no level.
 abbrev pub aim_of : Kind → ℕ → Aim
 aim_of (kinds.Phylum p) least = running (start p least)
 aim_of (kinds.List l) least = running (list l)

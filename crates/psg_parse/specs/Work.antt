@@ -1,4 +1,4 @@
--- How far the parser has come. A step takes a token, or it leaves less to be done before the next token is taken.
+-- How much the parser has to do. A step takes a token, or it leaves less to be done before the next token is taken.
 use Rattle.std.specs.Prelude.{ℕ, ◌≡◌, ◌<◌, ◌+◌, ◌*◌, ◌⊎◌, List, [], ◌∷◌, length}
 use Rattle.psg_parse.specs.declared.state.Frame.{Frame}
 use Rattle.psg_parse.specs.declared.state.Frame.TheVariants as frames

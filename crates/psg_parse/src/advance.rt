@@ -17,7 +17,7 @@ use crate::tables::ParseTable;
 use psg_grammar::Definition;
 use std::alloc::{AllocError, Global};
 
-/// One step. It looks at two tokens at most, and at the marks for the layout in front of an item.
+/// Makes one step. It looks at two tokens at most, and at the marks for the layout in front of an item.
 fn advance<'a>(
     alloc: Global,
     definition: &'a Definition,

@@ -21,7 +21,7 @@ use psg_grammar::{Definition, op_level};
 use psg_lexis::Spanned;
 use std::alloc::{AllocError, Global};
 
-/// Whether the token is the placeholder of the phylum, and it has one.
+/// Says whether the token is the placeholder of the phylum, and it has one.
 pub(crate) fn opens_hole(
     definition: &Definition,
     lookup: &ParseTable,
@@ -46,7 +46,7 @@ pub(crate) fn opens_hole(
     kind.name.as_str() == name
 }
 
-/// Whether the token opens a bracket of the phylum.
+/// Says whether the token opens a bracket of the phylum.
 pub(crate) fn opens_bracket(definition: &Definition, phylum: u32, seen: Seen) -> bool
     ensures { IsTrue result ↔ OpensBracket definition.now phylum (terminal_seen seen.entry) }
 {
@@ -56,7 +56,7 @@ pub(crate) fn opens_bracket(definition: &Definition, phylum: u32, seen: Seen) ->
     kind.bracketed && is_fixed(seen, "(")
 }
 
-/// The operator of the phylum and the token in the table.
+/// Returns the operator of the phylum and the token in the table.
 pub(crate) fn find_at(table: &[Openers], phylum: u32, seen: Seen) -> Option<u32>
     ensures { result ≡ opener_at table.now phylum (terminal_seen seen.entry) }
 {
@@ -66,7 +66,7 @@ pub(crate) fn find_at(table: &[Openers], phylum: u32, seen: Seen) -> Option<u32>
     }
 }
 
-/// The operator of the phylum that begins with the token.
+/// Returns the operator of the phylum that begins with the token.
 pub(crate) fn leading(
     definition: &Definition,
     lookup: &ParseTable,
@@ -79,7 +79,7 @@ pub(crate) fn leading(
     find_at(lookup.leading.as_slice(), phylum, seen)
 }
 
-/// Whether a tree of the phylum may begin with the token.
+/// Says whether a tree of the phylum may begin with the token.
 pub(crate) fn opens(definition: &Definition, lookup: &ParseTable, phylum: u32, seen: Seen) -> bool
     requires { IsParseTable definition.now lookup.now }
     ensures { IsTrue result ↔ First definition.now phylum (terminal_seen seen.entry) }
@@ -93,7 +93,7 @@ pub(crate) fn opens(definition: &Definition, lookup: &ParseTable, phylum: u32, s
     leading(definition, lookup, phylum, seen).is_some()
 }
 
-/// A tree of a phylum begins.
+/// Begins a tree of a phylum.
 pub(crate) fn start<'a>(
     alloc: Global,
     definition: &'a Definition,

@@ -13,7 +13,7 @@ pub struct Goal {
     pub kind: Kind,
     /// The least level of a tree of a phylum. Lists have no level.
     pub least: u8,
-    /// How many pairs of brackets stand round the tokens already, at most 400.
+    /// How many pairs of brackets are around the tokens already, at most 400.
     pub around: u32,
 }
 

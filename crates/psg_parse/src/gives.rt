@@ -18,7 +18,8 @@ use psg_grammar::Definition;
 use psg_lexis::{Lexis, Spanned};
 use std::alloc::{AllocError, Global};
 
-/// A tree is finished.
+/// Gives a finished tree to what waits for it. Where nothing waits, the tree is the result, or no tree is where tokens
+/// are left.
 pub(crate) fn give<'a>(
     alloc: Global,
     definition: &'a Definition,

@@ -24,7 +24,7 @@ use psg_grammar::{Definition, op_level};
 use psg_lexis::Spanned;
 use std::alloc::{AllocError, Global};
 
-/// The led operator of the phylum that goes on with the token.
+/// Returns the led operator of the phylum that goes on with the token.
 pub(crate) fn led(
     definition: &Definition,
     lookup: &ParseTable,
@@ -37,7 +37,7 @@ pub(crate) fn led(
     find_at(lookup.led.as_slice(), phylum, seen)
 }
 
-/// A tree of a phylum goes on with a led operator, or is finished.
+/// Goes on with a tree of a phylum by a led operator, or finishes it.
 pub(crate) fn grow<'a>(
     alloc: Global,
     definition: &'a Definition,

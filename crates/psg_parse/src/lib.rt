@@ -5,14 +5,15 @@
 //! let tree = parse(alloc, &definition, goal, tokens.as_slice(), &mut steps)?;
 //! ```
 //!
-//! What it looks up of a definition is a `ParseTable`; `parse_with` takes one that was made before, `parse` makes its own.
+//! What it looks up of a definition is a `ParseTable`; `parse_with` takes one that was made before, `parse` makes its
+//! own.
 //!
 //! It goes over the tokens once, from left to right. The operator that begins or goes on with a token is looked up by
-//! the token, and how tightly it binds says whether it is taken. What waits for a tree stands on a stack of the
-//! parser's own.
+//! the token, and how tightly it binds says whether it is taken. What waits for a tree is on a stack of the parser's
+//! own.
 //!
 //! What always holds:
-//! - A stack stands for what is left to be read, and each step leaves the same trees with the same nesting of brackets.
+//! - A stack says what is left to be read, and each step leaves the same trees with the same nesting of brackets.
 //! - A finished tree knows its depth and the nesting of its brackets, counted up to one above the limits. Past a limit
 //!   the tree itself is not kept, so what follows takes constant work for each token, and only the stack grows.
 #![tactic(auto)]

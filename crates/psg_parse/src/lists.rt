@@ -22,7 +22,7 @@ use psg_grammar::Definition;
 use psg_lexis::{Lexis, Spanned, Token};
 use std::alloc::{AllocError, Global};
 
-/// A list is finished.
+/// Finishes a list. The next step gives it to what waits for it.
 pub(crate) fn finish<'a>(
     alloc: Global,
     definition: &'a Definition,
@@ -45,7 +45,7 @@ pub(crate) fn finish<'a>(
     }))
 }
 
-/// A list goes on with an element.
+/// Goes on with an element of a list.
 pub(crate) fn go_on<'a>(
     definition: &'a Definition,
     list: u32,
@@ -71,14 +71,14 @@ pub(crate) fn go_on<'a>(
     }))
 }
 
-/// Whether the token is `...`.
+/// Says whether the token is `...`.
 fn is_more(token: &Token) -> bool
     ensures { IsTrue result ↔ (token.now ≡ dots) }
 {
     matches!(token, Token::More)
 }
 
-/// A list begins.
+/// Begins a list.
 pub(crate) fn list<'a>(
     alloc: Global,
     definition: &'a Definition,
@@ -110,7 +110,7 @@ pub(crate) fn list<'a>(
     finish(alloc, definition, list, none, false, stack, rest)
 }
 
-/// A list goes on behind its last element, or ends.
+/// Goes on with a list after its last element, or ends it.
 pub(crate) fn tail<'a>(
     alloc: Global,
     definition: &'a Definition,

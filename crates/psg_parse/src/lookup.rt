@@ -49,7 +49,7 @@ impl Openers {
         Ok(())
     }
 
-    /// The operator of the terminal.
+    /// Returns the operator of the terminal.
     pub(crate) fn find(&self, seen: Seen) -> Option<u32>
         ensures { result ≡ opener self.now (terminal_seen seen.entry) }
     {
@@ -63,7 +63,7 @@ impl Openers {
     }
 }
 
-/// The items from the first one on that is no mark for the layout.
+/// Returns the items from the first one on that is no mark for the layout.
 pub(crate) fn without_marks<'a>(items: &'a [Item]) -> &'a [Item]
     ensures same { solid result.now ≡ solid items.now }
     ensures short { length result.now ≤ length items.now }

@@ -26,12 +26,13 @@ use psg_tree::Tree;
 use std::alloc::Global;
 use std::sync::ledger::Ledger;
 
-/// Gives the only tree of the goal's kind and level that has these tokens. It is well formed, at most 200 deep, and its
-/// brackets and those around it nest at most 400 deep.
+/// Returns the only tree of the goal's kind and level that has these tokens. It is well formed, at most 200 deep, and
+/// its brackets and those around it nest at most 400 deep.
 ///
-/// It refuses with `NoTree` where no tree has the tokens, and with `Deep` where one has them that is past a limit. It
-/// takes a step of the counter for each token that it reads. Work and memory are linear in the tokens, and deep input
-/// costs no depth of calls: past the limits no tree is kept, and what waits is one small frame for each open place.
+/// The error is `NoTree` where no tree has the tokens, `Deep` where one has them that is past a limit, and `Memory`
+/// where memory runs out. It takes a step of the counter for each token that it reads. Work and memory are linear in
+/// the tokens, and deep input costs no depth of calls: past the limits no tree is kept, and what waits is one small
+/// frame for each open place.
 ///
 /// It makes the table of the definition; where several lists of tokens are parsed, `parse_with` takes one that was made
 /// before.
@@ -57,7 +58,7 @@ pub fn parse<L: Ledger>(
     Ok(tree)
 }
 
-/// Gives the only tree of the goal's kind and level that has these tokens, as `parse` does, with the table of the
+/// Returns the only tree of the goal's kind and level that has these tokens, as `parse` does, with the table of the
 /// definition. Its work does not depend on the size of the definition.
 pub fn parse_with<L: Ledger>(
     alloc: Global,
@@ -92,7 +93,7 @@ pub fn parse_with<L: Ledger>(
     }
 }
 
-/// The state at the beginning of the tokens.
+/// Returns the state at the beginning of the tokens.
 fn begin<'a>(alloc: Global, goal: Goal, tokens: &'a [Spanned]) -> State<'a>
     ensures { IsBegun goal tokens.now result }
 {
@@ -110,7 +111,7 @@ fn begin<'a>(alloc: Global, goal: Goal, tokens: &'a [Spanned]) -> State<'a>
     }
 }
 
-/// Counts so many steps.
+/// Counts a step for each of the tokens.
 fn count<L: Ledger>(steps: &mut Steps<L>, tokens: usize)
     ensures { steps.new ≡ steps.old + tokens }
 {
@@ -119,7 +120,7 @@ fn count<L: Ledger>(steps: &mut Steps<L>, tokens: usize)
     }
 }
 
-/// The tree, if it is within the limits.
+/// Returns the tree, if it is within the limits.
 fn within(goal: Goal, tree: Grown) -> Result<Tree, ParseFault>
     requires { goal.around ≤ MOST_BRACKETS }
     ensures ok { IfOk result (λ t. (f : Fragment) (n : ℕ) → IsTree tree f n → IsWithin goal f n t) }

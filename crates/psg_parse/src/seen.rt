@@ -25,8 +25,8 @@ pub(crate) enum Seen<'a> {
     Stray,
 }
 
-/// What the grammar sees of the token, where the lexis has the fixed words of the definition. It takes a step for each
-/// byte of a word or a run of symbols.
+/// Returns what the grammar sees of the token, where the lexis has the fixed words of the definition. It takes a step
+/// for each byte of a word or a run of symbols.
 pub(crate) fn see<'a>(definition: &Definition, lexis: &Lexis, token: &'a Token) -> Seen<'a>
     requires { lexis.now ≡ fixed_words definition.now }
     ensures { terminal_seen result ≡ terminal_of definition.now token.now }
@@ -81,7 +81,7 @@ fn see_run(text: &str) -> Seen
     Seen::Stray
 }
 
-/// Whether the text is a word.
+/// Says whether the text is a word.
 fn is_word(text: &str) -> bool
     ensures { result ≡ is_word text.now }
 {
@@ -110,7 +110,7 @@ fn goes_on_word(c: char) -> bool
     is_xid_continue(c) | (c == '_')
 }
 
-/// Whether the text is a run of symbols other than `...`.
+/// Says whether the text is a run of symbols other than `...`.
 fn is_run(text: &str) -> bool
     ensures { result ≡ is_run text.now }
 {

@@ -1,6 +1,6 @@
 //! Trees that are read, kept only within the limits of depth and brackets.
 //!
-//! Each of the types stands for a plain fragment and how deep its brackets nest. Past a limit it holds no tree, so the
+//! Each of the types represents a plain fragment and how deep its brackets nest. Past a limit it holds no tree, so the
 //! parser goes on in constant work for each token and with no more memory than its stack takes.
 ghost use Rattle.std.specs.Prelude.{◌≡◌, ◌+◌, ◌∷◌, [], ℕ, List, IfOk, max, min, suc};
 ghost use Rattle.psg_grammar.specs.Fragments.{Fragment, ending, hole, operator, with_child};
@@ -45,7 +45,7 @@ pub(crate) struct Listed {
 }
 
 impl Grown {
-    /// The placeholder of a phylum.
+    /// Returns the placeholder of a phylum.
     pub(crate) fn hole(alloc: Global, phylum: u32) -> Result<Grown, AllocError>
         ensures { IfOk result (λ g. IsTree g (hole phylum) 0) }
     {
@@ -56,7 +56,7 @@ impl Grown {
         })
     }
 
-    /// The same tree in brackets.
+    /// Returns the same tree in brackets.
     pub(crate) fn close(self) -> Grown
         ensures { (f : Fragment) (d : ℕ) → IsTree self f d → IsTree result f (suc d) }
     {
@@ -81,7 +81,7 @@ impl Grown {
 }
 
 impl Built {
-    /// The operator without parts.
+    /// Returns the operator without parts.
     pub(crate) fn new(alloc: Global, op: u32) -> Built
         ensures { IsPartly result (operator op) 0 }
     {
@@ -93,7 +93,7 @@ impl Built {
         }
     }
 
-    /// The tree with one more child.
+    /// Returns the tree with one more child.
     pub(crate) fn with_child(self, child: Grown) -> Result<Built, AllocError>
         ensures { IfOk result (λ b. (f t : Fragment) (d e : ℕ) → IsPartly self f d → IsTree child t e
             → IsPartly b (with_child f t) (max d e)) }
@@ -137,7 +137,7 @@ impl Built {
         })
     }
 
-    /// The tree with the part that the item takes of the token.
+    /// Returns the tree with the part that the item takes of the token.
     pub(crate) fn with_token(self, item: &Item, token: &Token) -> Result<Built, AllocError>
         ensures { IfOk result (λ b. (f : Fragment) (d : ℕ) → IsPartly self f d
             → IsPartly b (taken item.now token.now f) d) }
@@ -174,7 +174,7 @@ impl Built {
         })
     }
 
-    /// The tree, with all its parts.
+    /// Returns the tree, with all its parts.
     pub(crate) fn finish(self, alloc: Global) -> Result<Grown, AllocError>
         ensures { IfOk result (λ g. (f : Fragment) (d : ℕ) → IsPartly self f d → IsTree g f d) }
     {
@@ -200,7 +200,7 @@ impl Built {
 }
 
 impl Listed {
-    /// No element.
+    /// Returns a list without elements.
     pub(crate) fn new(alloc: Global) -> Listed
         ensures { AreElements result [] 0 }
     {
@@ -211,7 +211,7 @@ impl Listed {
         }
     }
 
-    /// One more element.
+    /// Returns the list with one more element.
     pub(crate) fn with_element(self, element: Grown) -> Result<Listed, AllocError>
         ensures { IfOk result (λ l. (before : List Fragment) (e : Fragment) (d n : ℕ) → AreElements self before d
             → IsTree element e n → AreElements l (e ∷ before) (max d n)) }
@@ -251,7 +251,7 @@ impl Listed {
         })
     }
 
-    /// The list of these elements.
+    /// Returns the list of these elements.
     pub(crate) fn finish(
         self,
         alloc: Global,
@@ -288,7 +288,7 @@ impl Listed {
     }
 }
 
-/// The depth of a node above one of this depth.
+/// Returns the depth of a node above one of this depth.
 fn deeper(depth: u32) -> u32
     ensures { result ≡ min (depth + 1) 201 }
 {
@@ -299,7 +299,7 @@ fn deeper(depth: u32) -> u32
     }
 }
 
-/// The part that the item takes of the token, if it takes one.
+/// Returns the part that the item takes of the token, if it takes one.
 fn taken_part(item: &Item, token: &Token) -> Result<Option<Part>, AllocError>
     ensures { IfOk result (λ part. (f : Fragment) → with_some f part ≡ taken item.now token.now f) }
 {

@@ -1,4 +1,4 @@
-//! Where the parser stands.
+//! The state of the parser.
 use crate::standing::{Built, Grown, Listed};
 use psg_grammar::{Item, Operator};
 use psg_lexis::Spanned;
@@ -12,7 +12,7 @@ pub(crate) enum Frame<'a> {
         least: u32,
         level: Option<u32>,
     },
-    /// A child of an operator, behind which these items follow.
+    /// A child of an operator, after which these items follow.
     Parts {
         operator: &'a Operator,
         built: Built,
@@ -20,7 +20,7 @@ pub(crate) enum Frame<'a> {
     },
     /// A bracket is open.
     Close,
-    /// An element of a list, behind these ones.
+    /// An element of a list, after these ones.
     List {
         list: u32,
         listed: Listed,
@@ -61,7 +61,7 @@ pub(crate) struct State<'a> {
     pub(crate) rest: &'a [Spanned],
 }
 
-/// What a step comes to.
+/// The result of a step.
 #[derive(Drop)]
 pub(crate) enum Step<'a> {
     Go(State<'a>),

@@ -23,7 +23,7 @@ use psg_grammar::{Definition, Item, Kind, Level, Operator};
 use psg_lexis::{Lexis, Spanned};
 use std::alloc::{AllocError, Global};
 
-/// Whether the item takes a token that is seen so.
+/// Says whether the item takes a token that is seen so.
 pub(crate) fn takes(item: &Item, seen: Seen) -> bool
     ensures { IsTrue result ↔ (item_terminal item.now ≡ Some (terminal_seen seen.entry)) }
 {
@@ -39,7 +39,7 @@ pub(crate) fn takes(item: &Item, seen: Seen) -> bool
     }
 }
 
-/// Whether the token is the fixed word.
+/// Says whether the token is the fixed word.
 pub(crate) fn is_fixed(seen: Seen, word: &str) -> bool
     ensures { IsTrue result ↔ (terminal_seen seen.entry ≡ fixed word.now) }
 {
@@ -49,7 +49,7 @@ pub(crate) fn is_fixed(seen: Seen, word: &str) -> bool
     }
 }
 
-/// Whether a tree of the level may be the first slot of a led operator of the other one.
+/// Says whether a tree of the level may be the first slot of a led operator of the other one.
 pub(crate) fn reaches(level: Level, shown: Option<u32>) -> bool
     ensures { IsTrue result ↔ Reaches (first_level level) shown }
 {
@@ -63,7 +63,8 @@ pub(crate) fn reaches(level: Level, shown: Option<u32>) -> bool
     }
 }
 
-/// The least level of a slot behind an operator's first item.
+/// Returns the least level of a slot that is not an operator's first item. Its last argument is the items after the
+/// slot.
 pub(crate) fn slot_least(operator: &Operator, phylum: u32, behind: &[Item]) -> u32
     ensures { result ≡ slot_level operator.now (OfPhylum phylum) false (solid behind.now) }
 {
@@ -80,7 +81,7 @@ pub(crate) fn slot_least(operator: &Operator, phylum: u32, behind: &[Item]) -> u
     }
 }
 
-/// The items of an operator that are left.
+/// Reads the next of the items of an operator that are left, or finishes the operator where none is.
 pub(crate) fn parts<'a>(
     alloc: Global,
     definition: &'a Definition,

@@ -14,7 +14,8 @@ use psg_lexis::Lexis;
 use psg_terms::Txt;
 use std::alloc::{AllocError, Global};
 
-/// What the parser looks up of a definition: its fixed words, which phyla have placeholders, and its operators by tokens.
+/// What the parser looks up of a definition: its fixed words, which phyla have placeholders, and its operators by
+/// tokens.
 #[derive(Drop)]
 pub struct ParseTable {
     pub(crate) lexis: Lexis,
@@ -22,7 +23,7 @@ pub struct ParseTable {
     pub(crate) holes: Vec<bool>,
     /// For each phylum the operators that begin with a token.
     pub(crate) leading: Vec<Openers>,
-    /// For each phylum those that begin with a slot, by the token behind it.
+    /// For each phylum those that begin with a slot, by the token after it.
     pub(crate) led: Vec<Openers>,
 }
 
@@ -35,8 +36,8 @@ pub(crate) enum Place {
 }
 
 impl ParseTable {
-    /// Makes the table of the definition. It takes a step for each byte of the fixed words, and one for each item. It fails
-    /// where memory runs out.
+    /// Makes the table of the definition. It takes a step for each byte of the fixed words, and one for each item. It
+    /// fails where memory runs out.
     pub fn of(alloc: Global, definition: &Definition) -> Result<ParseTable, AllocError>
         requires { IsSound definition.now }
         ensures { IfOk result (IsParseTable definition.now) }
@@ -51,7 +52,7 @@ impl ParseTable {
     }
 }
 
-/// The fixed words of the definition, of which some may stand twice.
+/// Collects the fixed words of the definition. Some may be in the list twice.
 fn fixed_words(alloc: Global, definition: &Definition) -> Result<Vec<Txt>, AllocError>
     ensures { IfOk result (λ words. words.items ≡ fixed_words definition.now) }
 {
@@ -83,7 +84,7 @@ fn add_separators(words: &mut Vec<Txt>, lists: &[ListKind]) -> Result<(), AllocE
     Ok(())
 }
 
-/// For each phylum whether it has placeholders: where it declares in no space.
+/// Says of each phylum whether it has placeholders: where it declares in no space.
 fn holes(alloc: Global, definition: &Definition) -> Result<Vec<bool>, AllocError>
     requires { IsSound definition.now }
     ensures count { IfOk result (λ holes. vec_len holes ≡ length definition.now.phyla) }
@@ -98,7 +99,7 @@ fn holes(alloc: Global, definition: &Definition) -> Result<Vec<bool>, AllocError
     Ok(holes)
 }
 
-/// The item of the operator at the place.
+/// Returns the item of the operator at the place.
 fn item_at<'a>(operator: &'a Operator, place: Place) -> Option<&'a Item>
     ensures { MatchOption result (terminal_at place operator.now ≡ None)
         (λ item. terminal_at place operator.now ≡ item_terminal item.now) }
@@ -115,7 +116,7 @@ fn item_at<'a>(operator: &'a Operator, place: Place) -> Option<&'a Item>
     without_marks(behind).first()
 }
 
-/// For each phylum its operators by the token at the place.
+/// Collects for each phylum its operators by the token at the place.
 fn openers(alloc: Global, definition: &Definition, place: Place) -> Result<Vec<Openers>, AllocError>
     requires { IsSound definition.now }
     ensures { IfOk result (λ found. (p : ℕ) (terminal : Terminal)

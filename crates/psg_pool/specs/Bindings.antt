@@ -14,9 +14,10 @@ target_of (b ∷ rest) id = if b.bound.0 == id.0 then Some b.target else target_
 -- Following the bindings from one cell leads to the other, in no step or more.
 pub data Leads (bindings : List Binding) : (from to : CellId) → Type 0 where
   arrived : (id : CellId) → Leads bindings id id
-  followed : (from next to : CellId) → target_of bindings from ≡ Some next → Leads bindings next to → Leads bindings from to
+  followed : (from next to : CellId) → target_of bindings from ≡ Some next → Leads bindings next to
+      → Leads bindings from to
 
--- Following the bindings from the cell comes to a cell that is not bound.
+-- The bindings from the cell lead to a cell that is not bound.
 pub data Ends (bindings : List Binding) : (from : CellId) → Type 0 where
   unbound : (from : CellId) → target_of bindings from ≡ None → Ends bindings from
   bound : (from next : CellId) → target_of bindings from ≡ Some next → Ends bindings next → Ends bindings from
@@ -44,9 +45,9 @@ IsOver cells b = IsPutFree cells b.bound × IsAmong cells b.target
 
 -- What is true of every pool.
 pub record IsSound (kept : Kept) : Type 0 where
-  -- arguments stand before their constructor
+  -- arguments are before their constructor
   pub arguments : (id : CellId) → All (λ a. a.0 < id.0) (arguments_of kept.cells id)
   -- only cells that were put free are bound, and to cells of the pool
   pub over : All (IsOver kept.cells) kept.bindings
-  -- bindings do not lead round in a circle
+  -- bindings do not lead around in a circle
   pub ends : (id : CellId) → Ends kept.bindings id

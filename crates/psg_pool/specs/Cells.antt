@@ -21,5 +21,6 @@ arguments_in None = []
 arguments_in (Some (free _)) = []
 arguments_in (Some (constructor _ arguments)) = arguments
 
+-- the arguments of the cell of this number, and none where it is no constructor cell
 abbrev pub arguments_of : List Put → CellId → List CellId
 arguments_of cells id = arguments_in (slice_get cells id.0)

@@ -29,13 +29,15 @@ abbrev pub bound_at : Content → ℕ → Content
 bound_at (Free sort _) place = Free sort place
 bound_at (Con number count) place = Con number count
 
+-- the cell that a slot is, with its arguments from the buffer
 abbrev pub put_of : List CellId → Slot → Put
 put_of arguments slot = put_in arguments slot.start slot.content
 
+-- the cells that the slots are, in order
 abbrev pub puts : List CellId → List Slot → List Put
 puts arguments slots = map (put_of arguments) slots
 
--- The arguments of the slots lie one behind the other in the buffer, from one place to another.
+-- The arguments of the slots lie one after the other in the buffer, from one place to another.
 abbrev pub IsLaid : ℕ → List Slot → ℕ → Type 0
 IsLaid at [] end = at ≡ end
 IsLaid at (slot ∷ rest) end = (slot.start ≡ at) × IsLaid (at + count_in slot.content) rest end

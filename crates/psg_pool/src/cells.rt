@@ -15,9 +15,11 @@ pub enum Cell {
     Con { con: u32, count: usize },
 }
 
-/// A binding: a cell that was put free, and the cell that it stands for.
+/// A binding: a cell that was put free, and the cell that it is bound to.
 #[derive(Clone, Copy)]
 pub struct Binding {
+    /// The cell that is bound. It was put free.
     pub bound: CellId,
+    /// The cell that it is bound to.
     pub target: CellId,
 }

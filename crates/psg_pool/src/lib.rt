@@ -12,12 +12,13 @@
 //! pool.release(mark);                    // pool.cell(variable) is Free(0) again
 //! ```
 //!
-//! A contract sees a pool as two lists: `cells`, as they were put, and `bindings`, in the order in which they were made.
+//! A contract sees a pool as two lists: `cells`, as they were put, and `bindings`, in the order in which they were
+//! made.
 //!
 //! Invariants:
 //! - A constructor cell never changes and is never bound; its arguments were put before it.
-//! - A free cell is bound at most once, to a cell of the pool, and bindings do not lead round in a circle.
-//! - The arguments of all constructor cells lie one behind the other in one buffer.
+//! - A free cell is bound at most once, to a cell of the pool, and bindings do not lead around in a circle.
+//! - The arguments of all constructor cells lie one after the other in one buffer.
 #![tactic(auto)]
 
 mod cells;

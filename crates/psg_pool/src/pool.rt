@@ -22,7 +22,7 @@ enum Content {
 impl Content {
     ghost use Rattle.psg_pool.specs.Layout.{bound_at};
 
-    /// The content of a free cell that the binding at `place` binds; a constructor stays as it is.
+    /// Returns the content of a free cell that the binding at `place` binds; a constructor stays as it is.
     fn bound_at(self, place: usize) -> Content
         ensures { result ≡ bound_at self place }
     {
@@ -48,7 +48,7 @@ fn end_of(slots: &[Slot], cells: usize, length: usize) -> usize
     slots.get(cells).map_or(length, |slot| slot.start)
 }
 
-/// Cells and bindings, taken in order and released from a mark on.
+/// A pool of cells and bindings, taken in order and released from a mark on.
 ///
 /// A contract sees it as two lists: `cells` as they were put, and `bindings` in the order in which they were made.
 #[derive(Drop)]
@@ -71,7 +71,7 @@ impl Model for Pool {
 }
 
 impl Pool {
-    /// An empty pool. It keeps the allocator for the calls that grow it, and takes no memory itself.
+    /// Makes an empty pool. It keeps the allocator for the calls that grow it, and takes no memory itself.
     pub fn new(alloc: Global) -> Pool
         ensures cells { result.cells ≡ [] }
         ensures bindings { result.bindings ≡ [] }
@@ -84,7 +84,8 @@ impl Pool {
         }
     }
 
-    /// Puts a free cell of the sort at the end and gives its number. `AllocError` comes for want of memory alone.
+    /// Puts a free cell of the sort at the end and gives its number. `AllocError` is returned only where memory runs
+    /// out.
     pub fn put_free(&mut self, sort: u32) -> Result<CellId, AllocError>
         ensures ok { OnOk result (self.new.cells ≡ self.old.cells ++ free sort ∷ []) }
         ensures id { IfOk result (λ id. id.0 ≡ length self.old.cells) }
@@ -100,8 +101,8 @@ impl Pool {
         Ok(id)
     }
 
-    /// Puts a constructor cell over the arguments at the end and gives its number. `AllocError` comes for want of memory
-    /// alone. The time is that of copying the arguments.
+    /// Puts a constructor cell over the arguments at the end and gives its number. `AllocError` is returned only
+    /// where memory runs out. The time is that of copying the arguments.
     pub fn put_con(&mut self, con: u32, args: &[CellId]) -> Result<CellId, AllocError>
         requires { All (IsAmong self.old.cells) args.now }
         ensures ok { OnOk result (self.new.cells ≡ self.old.cells ++ constructor con args.now ∷ []) }
@@ -124,7 +125,7 @@ impl Pool {
         Ok(id)
     }
 
-    /// What the cell holds. The time is constant.
+    /// Returns what the cell holds. The time is constant.
     pub fn cell(&self, id: CellId) -> Cell
         requires { IsAmong self.now.cells id }
         ensures holds { Holds self.now id result }
@@ -139,7 +140,7 @@ impl Pool {
         }
     }
 
-    /// The argument `k`, counted from 0, of the constructor cell. The time is constant.
+    /// Returns the argument `k`, counted from 0, of the constructor cell. The time is constant.
     pub fn arg(&self, id: CellId, k: usize) -> CellId
         requires { k < length (arguments_of self.now.cells id) }
         ensures value { slice_get (arguments_of self.now.cells id) k ≡ Some result }
@@ -149,8 +150,8 @@ impl Pool {
         self.arguments[slot.start + k]
     }
 
-    /// Binds a free cell to a cell from which bindings do not lead back to it. `AllocError` comes for want of memory
-    /// alone. The time is constant.
+    /// Binds a free cell to a cell from which bindings do not lead back to it. `AllocError` is returned only
+    /// where memory runs out. The time is constant.
     pub fn bind(&mut self, free: CellId, to: CellId) -> Result<(), AllocError>
         requires is_free { IsFree self.old free }
         requires among { IsAmong self.old.cells to }
@@ -170,7 +171,7 @@ impl Pool {
         Ok(())
     }
 
-    /// The lengths of both lists, to which the pool can be released as long as no earlier mark is.
+    /// Returns the lengths of both lists, to which the pool can be released as long as no earlier mark is.
     pub fn mark(&self) -> Mark
         ensures cells { result.cells ≡ length self.now.cells }
         ensures bindings { result.bindings ≡ length self.now.bindings }

@@ -17,6 +17,7 @@ AllHaveSorts sig rows sorts = (row : List Term) → IsIn row rows → HaveSorts 
 abbrev pub IsOfRow : Signature → List (List Term) → List Term → List Term → Type 0
 IsOfRow sig rows row columns = IsIn row rows × IsGroundInstance sig row columns
 
+-- the list with an item in front, if there is one
 abbrev pub pick : {X : Type 0} → Option X → List X → List X
 pick None rest = rest
 pick (Some x) rest = x ∷ rest
@@ -28,7 +29,8 @@ picked xs (k ∷ keep) = pick (slice_get xs k) (picked xs keep)
 
 -- these columns of the ground instances of a row of the list
 abbrev pub IsProjected : Signature → List (List Term) → List ℕ → List Term → List Term → Type 0
-IsProjected sig rows keep row columns = IsIn row rows × ((full : List Term) × IsGroundInstance sig row full × (columns ≡ picked full keep))
+IsProjected sig rows keep row columns = IsIn row rows
+    × ((full : List Term) × IsGroundInstance sig row full × (columns ≡ picked full keep))
 
 -- two rows without variables agree on the pairs, and the row has these columns of them
 abbrev pub Agrees : List Columns → List ℕ → List Term → List Term → List Term → Type 0
@@ -43,6 +45,7 @@ MayBeWide P Memory = Unit {0}
 abbrev pub AllWithin : List (List Term) → List ℕ → Type 0
 AllWithin rows keep = (row : List Term) → IsIn row rows → All (λ k. k < length row) keep
 
+-- the columns of these numbers of each row; numbers that a row does not have are left out
 abbrev pub all_picked : List (List Term) → List ℕ → List (List Term)
 all_picked rows keep = map (λ row. picked row keep) rows
 
@@ -53,4 +56,5 @@ HasWide sig sorts possible = (rows : List (List Term)) × IsRelation sig sorts p
 -- a row's own columns agree on the pairs
 abbrev pub IsSelected : Signature → List (List Term) → List Columns → List ℕ → List Term → List Term → Type 0
 IsSelected sig rows pairs keep row columns =
-    IsIn row rows × ((full : List Term) × IsGroundInstance sig row full × AgreeOn pairs full full × (columns ≡ picked full keep))
+    IsIn row rows × ((full : List Term) × IsGroundInstance sig row full × AgreeOn pairs full full
+    × (columns ≡ picked full keep))

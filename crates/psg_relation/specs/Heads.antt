@@ -1,5 +1,6 @@
 -- The places of rows by the heads of a column.
-use Rattle.std.specs.Prelude.{ℕ, ◌≡◌, ◌==◌, ◌<◌, ◌⊎◌, List, [], ◌∷◌, ◌++◌, All, cond, Option, Some, None, slice_get, slice_index_or, Vec}
+use Rattle.std.specs.Prelude.{ℕ, ◌≡◌, ◌==◌, ◌<◌, ◌⊎◌, List, [], ◌∷◌, ◌++◌, All, cond, Option, Some, None, slice_get}
+use Rattle.std.specs.Prelude.{slice_index_or, Vec}
 use Rattle.std.specs.HashMap.{HashMap, get}
 use Rattle.std.specs.declared.hash.FoldHasher.{FoldHasher}
 use Rattle.std.specs.declared.hash.BuildHasherDefault.{BuildHasherDefault}
@@ -16,6 +17,7 @@ head_of (apply f a) = head_of f
 abbrev pub HeadAt : List Term → ℕ → ℕ → Type 0
 HeadAt row column c = (t : Term) × (slice_get row column ≡ Some t) × (head_of t ≡ Some c)
 
+-- the items of a vector that is there
 abbrev pub items_of : {Z : Type 0} → Option (Vec ℕ Z) → List ℕ
 items_of None = []
 items_of (Some v) = v.items
@@ -24,10 +26,11 @@ items_of (Some v) = v.items
 abbrev pub places_at : {Z : Type 0} → HashMap ℕ (Vec ℕ Z) (BuildHasherDefault FoldHasher) → ℕ → List ℕ
 places_at table c = items_of (get (λ (a b : ℕ). a == b) table c)
 
--- One more place stands with the free ones, or behind those of its row's head.
+-- One more place is put with the free ones, or after those of its row's head.
 abbrev pub IsNoted : List Term → ℕ → ℕ → List ℕ → (ℕ → List ℕ) → List ℕ → (ℕ → List ℕ) → Type 0
 IsNoted row column place free at more after = ((more ≡ free ++ place ∷ []) × ((c : ℕ) → after c ≡ at c))
-    ⊎ ((head : ℕ) × HeadAt row column head × (more ≡ free) × ((c : ℕ) → after c ≡ cond (head == c) (at c ++ place ∷ []) (at c)))
+    ⊎ ((head : ℕ) × HeadAt row column head × (more ≡ free)
+    × ((c : ℕ) → after c ≡ cond (head == c) (at c ++ place ∷ []) (at c)))
 
 -- Each of the first rows has its place among the free ones or among those of its head, and there are no others.
 pub record IsIndexed (rows : List (List Term)) (column count : ℕ) (free : List ℕ) (at : ℕ → List ℕ) : Type 0 where

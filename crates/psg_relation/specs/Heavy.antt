@@ -8,6 +8,7 @@ abbrev pub deepest_in : List Term → ℕ
 deepest_in [] = 0
 deepest_in (t ∷ row) = max (depth_of t) (deepest_in row)
 
+-- how deep the deepest term of all rows is, and 0 where there is none
 abbrev pub deepest_of : List (List Term) → ℕ
 deepest_of [] = 0
 deepest_of (row ∷ rows) = max (deepest_in row) (deepest_of rows)

@@ -34,12 +34,15 @@ pub record IsReady (sig : Signature) (row : List Term) : Type 0 where
   pub written : AreWrittenOut sig row
   pub canonical : (IsHeavy row → ⊥) → IsCanonical sig row
 
+-- each of the rows is ready
 abbrev pub AllReady : Signature → List (List Term) → Type 0
 AllReady sig rows = (row : List Term) → IsIn row rows → IsReady sig row
 
 -- the canonical forms of rows
 pub record AreCanonicalOf (sig : Signature) (rows made : List (List Term)) : Type 0 where
-  pub from : (row : List Term) → IsIn row made → (source : List Term) × IsIn source rows × HasSameInstances sig row source
+  pub from : (row : List Term) → IsIn row made
+      → (source : List Term) × IsIn source rows × HasSameInstances sig row source
   pub to : (source : List Term) → IsIn source rows → (row : List Term) × IsIn row made × HasSameInstances sig row source
   pub canonical : (row : List Term) → IsIn row made → IsCanonical sig row
-  pub sorted : (sorts : List ℕ) → ((source : List Term) → IsIn source rows → HaveSorts sig source sorts) → (row : List Term) → IsIn row made → HaveSorts sig row sorts
+  pub sorted : (sorts : List ℕ) → ((source : List Term) → IsIn source rows → HaveSorts sig source sorts)
+      → (row : List Term) → IsIn row made → HaveSorts sig row sorts

@@ -4,7 +4,7 @@ use Rattle.psg_terms.specs.Terms.{Term}
 use Rattle.psg_unify.specs.Pairs.{Pair as Columns}
 use Rattle.psg_relation.specs.Joining.{Two}
 
--- each of so many columns from this one on, with itself
+-- each of that many columns from this one on, with itself
 abbrev pub diagonal : ℕ → ℕ → List Columns
 diagonal from zero = []
 diagonal from (suc count) = (from, from) ∷ diagonal (suc from) count

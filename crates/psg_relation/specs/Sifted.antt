@@ -30,7 +30,7 @@ pub record LeavesOut (row : List Term) (kept rest : List (List Term)) : Type 0 w
   pub order : KeepsOrder kept rest
   pub once : IsOnce kept → IsOnce rest
 
--- one row more: the list, if the row is an instance of a member, and otherwise the row behind those that are not its
+-- one row more: the list, if the row is an instance of a member, and otherwise the row after those that are not its
 -- instances
 abbrev pub IsGrown : List (List Term) → List Term → List (List Term) → Type 0
 IsGrown kept row more = (IsCovered kept row × (more ≡ kept))

@@ -6,6 +6,7 @@ use Rattle.psg_terms.specs.Relations.{IsIn}
 use Rattle.psg_terms.specs.Text.{row_text}
 use Rattle.psg_relation.specs.declared.order.Printed.{Printed}
 
+-- the rows, without their texts
 abbrev pub rows_in : List Printed → List (List Term)
 rows_in printed = map (λ (p : Printed). p.row) printed
 

@@ -12,10 +12,11 @@ use crate::row::RelRow;
 use psg_terms::{Signature, Term};
 use std::alloc::{AllocError, Global};
 
-/// From so many rows on the other side's rows are found by their heads; where there are fewer, to try all is cheaper.
+/// The least number of rows of the other side from which on they are found by their heads. Where there are fewer, to
+/// try all is cheaper.
 const FEW: usize = 4;
 
-/// The rows, and behind them the joins of one row with each of the others.
+/// Returns the rows, and after them the joins of one row with each of the others.
 fn with_joins(
     alloc: Global,
     sig: &Signature,
@@ -35,7 +36,7 @@ fn with_joins(
     Ok(more)
 }
 
-/// The rows, and behind them the joins of one row with those at these places.
+/// Returns the rows, and after them the joins of one row with those at these places.
 fn with_places(
     alloc: Global,
     sig: &Signature,
@@ -59,8 +60,8 @@ fn with_places(
     Ok(more)
 }
 
-/// The rows, and behind them the joins of one row with each of the others that it can meet: where a constructor is at the
-/// head of its first paired column, with those that have this constructor or a variable there.
+/// Returns the rows, and after them the joins of one row with each of the others that it can meet: where a constructor
+/// is at the head of its first paired column, with those that have this constructor or a variable there.
 fn with_meeting(
     alloc: Global,
     sig: &Signature,
@@ -73,7 +74,8 @@ fn with_meeting(
     first: (usize, usize),
 ) -> Result<Vec<RelRow>, AllocError>
     requires pair { slice_get pairs.now 0 ≡ Some first }
-    requires indexed { IsIndexed right.now first.1 (length right.now) heads.now.free.items (places_at heads.now.places) }
+    requires indexed { IsIndexed right.now first.1 (length right.now) heads.now.free.items
+        (places_at heads.now.places) }
     requires meet { (other : List Plain) → IsIn other right.now → MayMeet sig.now one.now other pairs.now keep.now }
     ensures { IfOk result (λ more. IsCrossed sig.now pairs.now keep.now one.now right.now made.items more.items) }
 {
@@ -92,7 +94,7 @@ fn with_meeting(
     }
 }
 
-/// The joins, each row tried with each.
+/// Returns the joins, each row tried with each.
 fn plain_joins(
     alloc: Global,
     sig: &Signature,
@@ -111,7 +113,7 @@ fn plain_joins(
     Ok(made)
 }
 
-/// The joins, each row tried with those that it can meet by the heads of the first pair's columns.
+/// Returns the joins, each row tried with those that it can meet by the heads of the first pair's columns.
 fn indexed_joins(
     alloc: Global,
     sig: &Signature,
@@ -143,9 +145,9 @@ fn indexed_joins(
     Ok(made)
 }
 
-/// The joins of each row of the one side with each row of the other side. Rows whose first paired columns have different
-/// constructors at their heads are not tried, so where few rows have the same one it costs as much as both sides and the
-/// joins have together.
+/// Returns the joins of each row of the one side with each row of the other side. Rows whose first paired columns have
+/// different constructors at their heads are not tried, so where few rows have the same one it costs as much as both
+/// sides and the joins have together.
 pub fn all_joins(
     alloc: Global,
     sig: &Signature,

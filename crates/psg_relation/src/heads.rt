@@ -8,16 +8,19 @@ use psg_terms::{Node, Term};
 use std::alloc::{AllocError, Global};
 use std::collections::HashMap;
 
-/// The places of rows: of those whose column has a constructor at its head, by the number of this constructor, and of all
-/// others. Where two rows have different constructors at the heads of two columns, no instances of them agree there.
+/// The places of rows: of those whose column has a constructor at its head, by the number of this constructor, and of
+/// all others. Where two rows have different constructors at the heads of two columns, no instances of them agree
+/// there.
 #[derive(Drop)]
 pub struct Heads {
+    /// The places of the rows that have no constructor at the head of the column, ascending.
     pub free: Vec<usize>,
+    /// The places of the rows with a constructor at the head of the column, ascending, by the constructor's number.
     pub places: HashMap<u32, Vec<usize>>,
 }
 
 impl Heads {
-    /// The places of no rows.
+    /// Makes an index of no rows.
     pub fn new(alloc: Global) -> Heads
         ensures free { result.free.items ≡ [] }
         ensures places { (c : ℕ) → places_at result.places c ≡ [] }
@@ -28,7 +31,7 @@ impl Heads {
         }
     }
 
-    /// The places of the rows with this head. It takes one step.
+    /// Returns the places of the rows with this head. It takes one step.
     pub fn places_of(&self, head: u32) -> &[usize]
         ensures { result.now ≡ places_at self.now.places head }
     {
@@ -39,7 +42,7 @@ impl Heads {
     }
 }
 
-/// The constructor at the head of a term, or `None` for a variable.
+/// Returns the constructor at the head of a term, or `None` for a variable.
 fn head_of(term: &Term) -> Option<u32>
     ensures { result ≡ head_of term.now }
 {
@@ -49,7 +52,7 @@ fn head_of(term: &Term) -> Option<u32>
     }
 }
 
-/// The constructor at the head of a column, or `None` where a variable stands there or the row has no such column.
+/// Returns the constructor at the head of a column, or `None` where it has a variable or the row has no such column.
 pub fn head_at(row: &[Term], column: usize) -> Option<u32>
     ensures { IfSome result (HeadAt row.now column) }
 {
@@ -70,7 +73,7 @@ fn taken(alloc: Global, places: &mut HashMap<u32, Vec<usize>>, head: u32) -> Vec
     }
 }
 
-/// Puts a place behind those of a head.
+/// Puts a place after those of a head.
 fn add(
     alloc: Global,
     places: &mut HashMap<u32, Vec<usize>>,
@@ -86,7 +89,7 @@ fn add(
     Ok(())
 }
 
-/// Puts the place of a row behind the others of its head.
+/// Puts the place of a row after the others of its head.
 pub fn note_row(
     alloc: Global,
     heads: &mut Heads,
@@ -109,7 +112,7 @@ pub fn note_row(
     }
 }
 
-/// The places of the rows by the heads of a column. It reads one term of each row.
+/// Returns the places of the rows by the heads of a column. It reads one term of each row.
 pub fn heads_of(alloc: Global, rows: &[RelRow], column: usize) -> Result<Heads, AllocError>
     ensures { IfOk result (λ h. IsIndexed rows.now column (length rows.now) h.free.items (places_at h.places)) }
 {

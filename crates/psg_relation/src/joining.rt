@@ -21,7 +21,8 @@ use psg_terms::{Signature, Term};
 use psg_unify::join_rows;
 use std::alloc::{AllocError, Global};
 
-/// The row with canonical numbers, unless it is too large for a relation: then it is left as it is, and not written out.
+/// Returns the row with canonical numbers, unless it is too large for a relation: then it is left as it is, and not
+/// written out.
 fn made_ready(alloc: Global, sig: &Signature, columns: RelRow) -> Result<RelRow, AllocError>
     requires terms { (sorts : List ℕ) × HaveSorts sig.now columns sorts }
     requires written { AreWrittenOut sig.now columns }
@@ -36,7 +37,7 @@ fn made_ready(alloc: Global, sig: &Signature, columns: RelRow) -> Result<RelRow,
     Ok(RelRow::new(form))
 }
 
-/// The kept columns of the join of two rows, where they can be made to agree.
+/// Returns the kept columns of the join of two rows, where they can be made to agree.
 fn joined_row(
     alloc: Global,
     sig: &Signature,
@@ -61,7 +62,7 @@ fn joined_row(
     }
 }
 
-/// The rows, and behind them the join of two rows, where they can be made to agree.
+/// Returns the rows, and after them the join of two rows, where they can be made to agree.
 pub fn with_join(
     alloc: Global,
     sig: &Signature,
@@ -85,18 +86,18 @@ pub fn with_join(
     }
 }
 
-/// The relation of what the rows of both sides make where they agree on the pairs of columns, each a column of the left
-/// row and one of the right row. Of the left columns and the right ones behind them, those of the numbers in `keep` are
-/// kept, in this order.
+/// Returns the relation of what the rows of both sides make where they agree on the pairs of columns, each a column of
+/// the left row and one of the right row. Of the left columns and the right ones after them, those of the numbers in
+/// `keep` are kept, in this order.
 ///
-/// `Wide` comes exactly where this relation has more than 16,384 variables and constructors or a term deeper than 1,000;
-/// a joined row that alone is too large does not count where it is an instance of another one, and is not written out.
-/// `Memory` comes as in `Rel::of`, and where more than 10,000 constructors are nested in what has to be
-/// compared or written.
+/// `Wide` is returned exactly where this relation has more than 16,384 variables and constructors or a term deeper than
+/// 1,000; a joined row that alone is too large does not count where it is an instance of another one, and is not
+/// written out. `Memory` is returned as in `Rel::of`, and where more than 10,000 constructors are nested in what has to
+/// be compared or written.
 ///
-/// It joins each row of the one side with those rows of the other side that have the same constructor at the head of the
-/// first paired column, or a variable there, and then costs as `Rel::of` does. A row with a variable there, and a row
-/// where there are no pairs, is joined with each row of the other side.
+/// It joins each row of the one side with those rows of the other side that have the same constructor at the head of
+/// the first paired column, or a variable there, and then costs as `Rel::of` does. A row with a variable there, and a
+/// row where there are no pairs, is joined with each row of the other side.
 pub fn join(
     alloc: Global,
     sig: &Signature,
@@ -106,16 +107,20 @@ pub fn join(
     keep: &[usize],
 ) -> Result<Rel, RelFault>
     requires { MayJoin sig.now left.now right.now pairs.now keep.now }
-    ensures relation { IfOk result (λ made. (ls rs : List ℕ) → AllHaveSorts sig.now left.now ls → AllHaveSorts sig.now right.now rs
+    ensures relation { IfOk result
+        (λ made. (ls rs : List ℕ) → AllHaveSorts sig.now left.now ls → AllHaveSorts sig.now right.now rs
         → IsRelation sig.now (picked (ls ++ rs) keep.now)
         (IsGlued sig.now (Agrees pairs.now keep.now) left.now right.now) made) }
     ensures within { IfOk result (λ made. PassesLimit made → ⊥) }
-    ensures wide { IfErr result (MayBeWide ((ls rs : List ℕ) → AllHaveSorts sig.now left.now ls → AllHaveSorts sig.now right.now rs
+    ensures wide { IfErr result (MayBeWide
+        ((ls rs : List ℕ) → AllHaveSorts sig.now left.now ls → AllHaveSorts sig.now right.now rs
         → (others : List (List Plain)) → IsRelation sig.now (picked (ls ++ rs) keep.now)
         (IsGlued sig.now (Agrees pairs.now keep.now) left.now right.now) others
         → PassesLimit others)) }
-    ensures some { IfErr result (MayBeWide ((ls rs : List ℕ) → AllHaveSorts sig.now left.now ls → AllHaveSorts sig.now right.now rs
-        → HasWide sig.now (picked (ls ++ rs) keep.now) (IsGlued sig.now (Agrees pairs.now keep.now) left.now right.now))) }
+    ensures some { IfErr result (MayBeWide
+        ((ls rs : List ℕ) → AllHaveSorts sig.now left.now ls → AllHaveSorts sig.now right.now rs
+        → HasWide sig.now (picked (ls ++ rs) keep.now)
+        (IsGlued sig.now (Agrees pairs.now keep.now) left.now right.now))) }
 {
     let made = all_joins(alloc, sig, left.rows(), right.rows(), pairs, keep)?;
     relation_of(alloc, sig, made)

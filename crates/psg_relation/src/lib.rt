@@ -7,11 +7,12 @@
 //! let joined = join(alloc, &sig, &left, &right, &[(0, 1)], &[0])?;
 //! ```
 //!
-//! A row stands for its ground instances. A relation has no row that is an instance of another one, so it is the shortest
-//! list of rows that stands for them all. Its order is that of the rows' texts.
+//! A row describes its ground instances. A relation has no row that is an instance of another one, so it is the
+//! shortest list of rows that describes them all. Its order is that of the rows' texts.
 //!
 //! What always holds:
-//! - The rows of a `Rel` are canonical, none is an instance of another one, and they stand in byte order of their texts.
+//! - The rows of a `Rel` are canonical, none is an instance of another one, and they are in byte order of their
+//!   texts.
 //! - A `Rel` has at most 16,384 variables and constructors, and no term in it is deeper than 1,000.
 #![tactic(auto)]
 

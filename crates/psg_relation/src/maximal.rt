@@ -15,11 +15,13 @@ use std::alloc::{AllocError, Global};
 /// The most general rows so far, and their places by the heads of the first column.
 #[derive(Drop)]
 pub struct Kept {
+    /// The rows. None is an instance of another one.
     pub rows: Vec<RelRow>,
+    /// The places of the rows by the heads of the first column.
     pub heads: Heads,
 }
 
-/// Whether the row is an instance of one of the others.
+/// Says whether the row is an instance of one of the others.
 pub fn is_covered(alloc: Global, kept: &[RelRow], row: &[Term]) -> Result<bool, AllocError>
     ensures { IfOk result (λ b. IsTrue b ↔ IsCovered kept.now row.now) }
 {
@@ -31,7 +33,7 @@ pub fn is_covered(alloc: Global, kept: &[RelRow], row: &[Term]) -> Result<bool, 
     Ok(false)
 }
 
-/// The rows without those that are instances of one row.
+/// Returns the rows without those that are instances of one row.
 fn without_instances(
     alloc: Global,
     kept: Vec<RelRow>,
@@ -48,7 +50,7 @@ fn without_instances(
     Ok(rest)
 }
 
-/// Whether the row is an instance of one of those at these places.
+/// Says whether the row is an instance of one of those at these places.
 fn is_covered_at(
     alloc: Global,
     kept: &[RelRow],
@@ -67,8 +69,8 @@ fn is_covered_at(
     Ok(false)
 }
 
-/// Whether the row is an instance of one of the kept ones. Where a constructor is at the head of its first column, those
-/// that have another one there are not compared.
+/// Says whether the row is an instance of one of the kept ones. Where a constructor is at the head of its first column,
+/// those that have another one there are not compared.
 fn is_held(alloc: Global, kept: &[RelRow], heads: &Heads, row: &[Term]) -> Result<bool, AllocError>
     requires { IsIndexed kept.now 0 (length kept.now) heads.now.free.items (places_at heads.now.places) }
     ensures { IfOk result (λ b. IsTrue b ↔ IsCovered kept.now row.now) }
@@ -90,9 +92,10 @@ fn is_held(alloc: Global, kept: &[RelRow], heads: &Heads, row: &[Term]) -> Resul
     }
 }
 
-/// The rows with one more behind them.
+/// Returns the rows with one more after them.
 fn with_last(alloc: Global, kept: Kept, row: RelRow) -> Result<Kept, AllocError>
-    requires { IsIndexed kept.rows.items 0 (length kept.rows.items) kept.heads.free.items (places_at kept.heads.places) }
+    requires { IsIndexed kept.rows.items 0 (length kept.rows.items) kept.heads.free.items
+        (places_at kept.heads.places) }
     ensures rows { IfOk result (λ more. more.rows.items ≡ kept.rows.items ++ row ∷ []) }
     ensures indexed { IfOk result (λ more.
         IsIndexed more.rows.items 0 (length more.rows.items) more.heads.free.items (places_at more.heads.places)) }
@@ -107,10 +110,11 @@ fn with_last(alloc: Global, kept: Kept, row: RelRow) -> Result<Kept, AllocError>
     Ok(Kept { rows, heads })
 }
 
-/// The rows with one more in place of its instances, unless it is an instance itself. A row without variables has no
-/// instance but itself.
+/// Returns the rows with one more in place of its instances, unless it is an instance itself. A row without variables
+/// has no instance but itself.
 fn with_row(alloc: Global, kept: Kept, row: RelRow) -> Result<Kept, AllocError>
-    requires { IsIndexed kept.rows.items 0 (length kept.rows.items) kept.heads.free.items (places_at kept.heads.places) }
+    requires { IsIndexed kept.rows.items 0 (length kept.rows.items) kept.heads.free.items
+        (places_at kept.heads.places) }
     ensures grown { IfOk result (λ more. IsGrown kept.rows.items row more.rows.items) }
     ensures indexed { IfOk result (λ more.
         IsIndexed more.rows.items 0 (length more.rows.items) more.heads.free.items (places_at more.heads.places)) }
@@ -128,8 +132,8 @@ fn with_row(alloc: Global, kept: Kept, row: RelRow) -> Result<Kept, AllocError>
     Ok(Kept { rows: rest, heads })
 }
 
-/// The most general rows, each once, in their order. A row is compared with those that are kept so far and have its
-/// constructor, or a variable, at the head of the first column; a row with variables is compared with all of them.
+/// Returns the most general rows, each once, in their order. A row is compared with those that are kept so far and have
+/// its constructor, or a variable, at the head of the first column; a row with variables is compared with all of them.
 pub fn maximal(alloc: Global, rows: Vec<RelRow>) -> Result<Vec<RelRow>, AllocError>
     ensures sifted { IfOk result (λ kept. IsSifted rows.items kept.items) }
     ensures order { IfOk result (λ kept. KeepsOrder rows.items kept.items) }
@@ -145,7 +149,7 @@ pub fn maximal(alloc: Global, rows: Vec<RelRow>) -> Result<Vec<RelRow>, AllocErr
     Ok(kept.rows)
 }
 
-/// Whether each row is an instance of one that is kept.
+/// Says whether each row is an instance of one that is kept.
 pub fn are_covered(alloc: Global, kept: &[RelRow], rows: &[RelRow]) -> Result<bool, AllocError>
     ensures { IfOk result (λ b. AreCovered b kept.now rows.now) }
 {

@@ -12,11 +12,13 @@ use std::alloc::{AllocError, Global};
 /// A row with its text.
 #[derive(Drop)]
 pub struct Printed {
+    /// The text of the row.
     pub text: String,
+    /// The row.
     pub row: RelRow,
 }
 
-/// The rows with their texts, each of which is written once.
+/// Returns the rows with their texts, each of which is written once.
 fn with_texts(alloc: Global, sig: &Signature, rows: Vec<RelRow>) -> Result<Vec<Printed>, AllocError>
     requires { (sorts : List ℕ) × AllHaveSorts sig.now rows.items sorts }
     ensures rows { IfOk result (λ p. rows_in p.items ≡ rows.items) }
@@ -30,7 +32,7 @@ fn with_texts(alloc: Global, sig: &Signature, rows: Vec<RelRow>) -> Result<Vec<P
     Ok(printed)
 }
 
-/// The rows without their texts.
+/// Returns the rows without their texts.
 fn without_texts(alloc: Global, printed: Vec<Printed>) -> Result<Vec<RelRow>, AllocError>
     ensures { IfOk result (λ rows. rows.items ≡ rows_in printed.items) }
 {
@@ -41,7 +43,7 @@ fn without_texts(alloc: Global, printed: Vec<Printed>) -> Result<Vec<RelRow>, Al
     Ok(rows)
 }
 
-/// The rows in byte order of their texts, each of which is written once. The rows are moved.
+/// Returns the rows in byte order of their texts, each of which is written once. The rows are moved.
 pub fn in_order(
     alloc: Global,
     sig: &Signature,

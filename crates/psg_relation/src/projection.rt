@@ -3,14 +3,15 @@ ghost use Rattle.std.specs.Prelude.{◌≡◌, ◌<◌, All, IfOk, IfErr, List, 
 ghost use Rattle.psg_terms.specs.Terms.{Term as Plain};
 ghost use Rattle.psg_terms.specs.Relations.{IsRelation};
 ghost use Rattle.psg_terms.specs.Weight.{PassesLimit};
-ghost use Rattle.psg_relation.specs.Choices.{AllHaveSorts, AllWithin, HasWide, IsProjected, MayBeWide, picked, all_picked};
+ghost use Rattle.psg_relation.specs.Choices.{AllHaveSorts, AllWithin, HasWide, IsProjected, MayBeWide};
+ghost use Rattle.psg_relation.specs.Choices.{picked, all_picked};
 
 use crate::relation::{Rel, RelFault};
 use crate::row::RelRow;
 use psg_terms::{Signature, Term};
 use std::alloc::{AllocError, Global};
 
-/// The terms in the columns of these numbers.
+/// Returns the terms in the columns of these numbers.
 pub fn kept_columns(alloc: Global, row: &[Term], keep: &[usize]) -> Result<RelRow, AllocError>
     requires { All (λ k. k < length row.now) keep.now }
     ensures { IfOk result (λ r. r ≡ picked row.now keep.now) }
@@ -23,7 +24,7 @@ pub fn kept_columns(alloc: Global, row: &[Term], keep: &[usize]) -> Result<RelRo
     Ok(RelRow::new(terms))
 }
 
-/// The columns of these numbers of each row.
+/// Returns the columns of these numbers of each row.
 pub fn all_columns(
     alloc: Global,
     rows: &[RelRow],
@@ -40,10 +41,11 @@ pub fn all_columns(
     Ok(made)
 }
 
-/// The relation of some columns of a relation, in the order of their numbers; a column may be kept more than once.
+/// Returns the relation of some columns of a relation, in the order of their numbers; a column may be kept more than
+/// once.
 ///
-/// `Wide` comes exactly where this relation has more than 16,384 variables and constructors, which takes columns that
-/// are kept more than once. `Memory` comes as in `Rel::of`, and the cost is that of `Rel::of`.
+/// `Wide` is returned exactly where this relation has more than 16,384 variables and constructors, which takes columns
+/// that are kept more than once. `Memory` is returned as in `Rel::of`, and the cost is that of `Rel::of`.
 pub fn project(alloc: Global, sig: &Signature, rel: &Rel, keep: &[usize]) -> Result<Rel, RelFault>
     requires sorts { (sorts : List ℕ) × AllHaveSorts sig.now rel.now sorts }
     requires keep { AllWithin rel.now keep.now }
@@ -51,7 +53,8 @@ pub fn project(alloc: Global, sig: &Signature, rel: &Rel, keep: &[usize]) -> Res
         → IsRelation sig.now (picked sorts keep.now) (IsProjected sig.now rel.now keep.now) made) }
     ensures within { IfOk result (λ made. PassesLimit made → ⊥) }
     ensures wide { IfErr result (MayBeWide ((sorts : List ℕ) → AllHaveSorts sig.now rel.now sorts
-        → (others : List (List Plain)) → IsRelation sig.now (picked sorts keep.now) (IsProjected sig.now rel.now keep.now) others
+        → (others : List (List Plain))
+        → IsRelation sig.now (picked sorts keep.now) (IsProjected sig.now rel.now keep.now) others
         → PassesLimit others)) }
     ensures some { IfErr result (MayBeWide ((sorts : List ℕ) → AllHaveSorts sig.now rel.now sorts
         → HasWide sig.now (picked sorts keep.now) (IsProjected sig.now rel.now keep.now))) }

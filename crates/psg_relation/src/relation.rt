@@ -20,11 +20,13 @@ use std::alloc::{AllocError, Global};
 use std::marker::Model;
 use thiserror::Error;
 
-/// Why there is no relation.
+/// The reason why there is no relation.
 #[derive(Clone, Copy, Debug, PartialEq, Eq, Error, Drop)]
 pub enum RelFault {
+    /// The relation has more than 16,384 variables and constructors, or a term deeper than 1,000.
     #[error("the relation is too large")]
     Wide,
+    /// Memory ran out.
     #[error("there is no memory left")]
     Memory,
 }
@@ -40,7 +42,7 @@ impl From<AllocError> for RelFault {
     }
 }
 
-/// Canonical rows of one width, none an instance of another one, in byte order of their texts.
+/// A list of canonical rows of one width, none an instance of another one, in byte order of their texts.
 #[derive(Drop)]
 pub struct Rel {
     kept: Seq<RelRow>,
@@ -69,23 +71,24 @@ impl Rel {
     ghost use Rattle.psg_relation.specs.Heavy.{deepest_of};
     ghost use Rattle.psg_relation.specs.Sealed.{AreSealed};
 
-    /// The relation of the rows: the most general ones of their canonical forms, each once.
+    /// Makes the relation of the rows: the most general ones of their canonical forms, each once.
     ///
-    /// `Wide` comes exactly where this relation has more than 16,384 variables and constructors or a term deeper than
-    /// 1,000; a row that alone is too large does not count where it is an instance of another one. `Memory` comes when
-    /// memory runs out.
+    /// `Wide` is returned exactly where this relation has more than 16,384 variables and constructors or a term deeper
+    /// than 1,000; a row that alone is too large does not count where it is an instance of another one. `Memory` is
+    /// returned when memory runs out.
     ///
     /// It writes each row out once, writes the text of each row that is not too large once to sort by it, and then
-    /// compares each row with those of the most general ones so far that have its constructor, or a variable, at the head
-    /// of the first column; a row with variables is compared with all of them. A row that is alone needs no text and no
-    /// comparison.
+    /// compares each row with those of the most general ones so far that have its constructor, or a variable, at the
+    /// head of the first column; a row with variables is compared with all of them. A row that is alone needs no text
+    /// and no comparison.
     pub fn of(alloc: Global, sig: &Signature, rows: &[RelRow]) -> Result<Rel, RelFault>
         requires { (sorts : List ℕ) × AllHaveSorts sig.now rows.now sorts }
         ensures relation { IfOk result (λ rel. (sorts : List ℕ) → AllHaveSorts sig.now rows.now sorts
             → IsRelation sig.now sorts (IsOfRow sig.now rows.now) rel) }
         ensures within { IfOk result (λ rel. PassesLimit rel → ⊥) }
         ensures wide { IfErr result (MayBeWide ((sorts : List ℕ) → AllHaveSorts sig.now rows.now sorts
-            → (others : List (List Plain)) → IsRelation sig.now sorts (IsOfRow sig.now rows.now) others → PassesLimit others)) }
+            → (others : List (List Plain)) → IsRelation sig.now sorts (IsOfRow sig.now rows.now) others
+            → PassesLimit others)) }
         ensures some { IfErr result (MayBeWide ((sorts : List ℕ) → AllHaveSorts sig.now rows.now sorts
             → HasWide sig.now sorts (IsOfRow sig.now rows.now))) }
     {
@@ -94,7 +97,7 @@ impl Rel {
         relation_of(alloc, sig, made)
     }
 
-    /// The rows, in order.
+    /// Returns the rows, in order.
     pub fn rows(&self) -> &[RelRow]
         ensures rows { result.now ≡ self.now }
         ensures sealed { AreSealed self.now }
@@ -102,7 +105,7 @@ impl Rel {
         self.kept.as_slice()
     }
 
-    /// The relation without rows.
+    /// Returns the relation without rows.
     pub fn empty(alloc: Global, sig: &Signature) -> Rel
         ensures { result ≡ [] }
     {
@@ -114,15 +117,15 @@ impl Rel {
         }
     }
 
-    /// Whether there is no row.
+    /// Says whether there is no row.
     pub fn is_empty(&self) -> bool
         ensures { IsTrue result ↔ (self.now ≡ []) }
     {
         self.kept.as_slice().is_empty()
     }
 
-    /// Tells whether the relations are equal, row by row. It takes one step where they weigh differently, else at most one
-    /// for each variable and constructor, of which a relation has at most 16,384.
+    /// Says whether the relations are equal, row by row. It takes one step where they weigh differently, else at most
+    /// one for each variable and constructor, of which a relation has at most 16,384.
     pub fn same(&self, other: &Rel) -> bool
         ensures { IsTrue result ↔ (self.now ≡ other.now) }
     {
@@ -132,7 +135,7 @@ impl Rel {
         same_rows(self.rows(), other.rows())
     }
 
-    /// How many variables and constructors the rows have together, at most 16,384. It takes one step.
+    /// Returns how many variables and constructors the rows have together, at most 16,384. It takes one step.
     pub fn weight(&self) -> u64
         ensures weight { result ≡ weight_of self.now }
         ensures within { PassesLimit self.now → ⊥ }
@@ -140,7 +143,7 @@ impl Rel {
         self.weight
     }
 
-    /// How deep the deepest term is, at most 1,000, and 0 where there is none. It takes one step.
+    /// Returns how deep the deepest term is, at most 1,000, and 0 where there is none. It takes one step.
     pub fn deepest(&self) -> u64
         ensures { result ≡ deepest_of self.now }
     {
@@ -148,7 +151,7 @@ impl Rel {
     }
 }
 
-/// The canonical forms of rows.
+/// Returns the canonical forms of rows.
 fn canonical_rows(
     alloc: Global,
     sig: &Signature,
@@ -165,7 +168,7 @@ fn canonical_rows(
     Ok(made)
 }
 
-/// The relation of rows of which those that are not too large are canonical.
+/// Returns the relation of rows of which those that are not too large are canonical.
 pub fn relation_of(alloc: Global, sig: &Signature, rows: Vec<RelRow>) -> Result<Rel, RelFault>
     requires sorts { (sorts : List ℕ) × AllHaveSorts sig.now rows.items sorts }
     requires ready { AllReady sig.now rows.items }
@@ -173,7 +176,8 @@ pub fn relation_of(alloc: Global, sig: &Signature, rows: Vec<RelRow>) -> Result<
         → IsRelation sig.now sorts (IsOfRow sig.now rows.items) rel) }
     ensures within { IfOk result (λ rel. PassesLimit rel → ⊥) }
     ensures wide { IfErr result (MayBeWide ((sorts : List ℕ) → AllHaveSorts sig.now rows.items sorts
-        → (others : List (List Plain)) → IsRelation sig.now sorts (IsOfRow sig.now rows.items) others → PassesLimit others)) }
+        → (others : List (List Plain)) → IsRelation sig.now sorts (IsOfRow sig.now rows.items) others
+        → PassesLimit others)) }
     ensures some { IfErr result (MayBeWide ((sorts : List ℕ) → AllHaveSorts sig.now rows.items sorts
         → HasWide sig.now sorts (IsOfRow sig.now rows.items))) }
 {
@@ -184,12 +188,13 @@ pub fn relation_of(alloc: Global, sig: &Signature, rows: Vec<RelRow>) -> Result<
     }
 }
 
-/// The relation of the most general rows, unless they are too large together.
+/// Returns the relation of the most general rows, unless they are too large together.
 fn sealed(sig: &Signature, kept: Vec<RelRow>) -> Result<Rel, RelFault>
     requires sound { IsSound sig.now }
     requires sorted { (sorts : List ℕ) × AllHaveSorts sig.now kept.items sorts }
     requires canonical { (row : List Plain) → IsIn row kept.items → IsCanonical sig.now row }
-    requires apart { (row other : List Plain) → IsIn row kept.items → IsIn other kept.items → IsInstance row other → row ≡ other }
+    requires apart { (row other : List Plain) → IsIn row kept.items → IsIn other kept.items → IsInstance row other
+        → row ≡ other }
     requires once { IsOnce kept.items }
     requires order { IsInTextOrder sig.now kept.items }
     ensures rows { IfOk result (λ rel. rel ≡ kept.items) }

@@ -38,7 +38,7 @@ impl RelRow {
     ghost use Rattle.psg_terms.specs.Weight.{symbols_of};
     ghost use Rattle.psg_relation.specs.Heavy.{deepest_in, highest_in};
 
-    /// The row of these terms. It reads each of them once, in one step.
+    /// Makes the row of these terms. It reads each of them once, in one step.
     pub fn new(terms: Vec<Term>) -> RelRow
         ensures { result ≡ terms.items }
     {
@@ -53,35 +53,37 @@ impl RelRow {
         }
     }
 
-    /// The terms, in order.
+    /// Returns the terms, in order.
     pub fn terms(&self) -> &[Term]
         ensures { result.now ≡ self.now }
     {
         self.kept.as_slice()
     }
 
-    /// How many variables and constructors the terms have, or `u64::MAX` if there are more. It takes one step.
+    /// Returns how many variables and constructors the terms have, or `u64::MAX` if there are more. It takes one step.
     pub fn symbols(&self) -> u64
         ensures { result ≡ min (sum_by symbols_of self.now) (2 ^ 64 - 1) }
     {
         self.symbols
     }
 
-    /// How deep the deepest term is, or `u64::MAX` if it is deeper, and 0 where there is none. It takes one step.
+    /// Returns how deep the deepest term is, or `u64::MAX` if it is deeper, and 0 where there is none. It takes one
+    /// step.
     pub fn depth(&self) -> u64
         ensures { result ≡ min (deepest_in self.now) (2 ^ 64 - 1) }
     {
         self.depth
     }
 
-    /// One above the greatest number of a variable of the terms, and 0 where they have none. It takes one step.
+    /// Returns one more than the greatest number of a variable of the terms, and 0 where they have none. It takes one
+    /// step.
     pub fn above(&self) -> u64
         ensures { result ≡ highest_in self.now }
     {
         self.above
     }
 
-    /// Tells whether the rows are equal. It compares the terms, of which a part that is shared is read as often as it
+    /// Says whether the rows are equal. It compares the terms, of which a part that is shared is read as often as it
     /// occurs.
     pub(crate) fn same(&self, other: &RelRow) -> bool
         ensures { IsTrue result ↔ (self.now ≡ other.now) }
@@ -89,7 +91,7 @@ impl RelRow {
         same_all(self.terms(), other.terms())
     }
 
-    /// One more owner of the row's terms.
+    /// Returns one more owner of the row's terms.
     pub fn share(&self, alloc: Global) -> Result<RelRow, AllocError>
         ensures { IfOk result (λ r. r ≡ self.now) }
     {
@@ -98,7 +100,7 @@ impl RelRow {
     }
 }
 
-/// One more owner of each of the terms.
+/// Returns one more owner of each of the terms.
 fn shared(alloc: Global, terms: &[Term]) -> Result<Vec<Term>, AllocError>
     ensures { IfOk result (λ v. v.items ≡ terms.now) }
 {
@@ -109,7 +111,7 @@ fn shared(alloc: Global, terms: &[Term]) -> Result<Vec<Term>, AllocError>
     Ok(copies)
 }
 
-/// Tells whether the lists have equal rows at the same places.
+/// Says whether the lists have equal rows at the same places.
 pub(crate) fn same_rows(left: &[RelRow], right: &[RelRow]) -> bool
     ensures { IsTrue result ↔ (left.now ≡ right.now) }
 {

@@ -15,7 +15,7 @@ use crate::row::RelRow;
 use psg_terms::Signature;
 use std::alloc::{AllocError, Global};
 
-/// How many columns the rows have, and 0 where there is none.
+/// Returns how many columns the rows have, and 0 where there is none.
 fn width(rows: &[RelRow]) -> usize
     ensures { result ≡ width_of rows.now }
 {
@@ -25,7 +25,7 @@ fn width(rows: &[RelRow]) -> usize
     }
 }
 
-/// Each column with itself, and then the pairs.
+/// Returns each column with itself, and then the pairs.
 fn with_diagonal(
     alloc: Global,
     width: usize,
@@ -41,7 +41,7 @@ fn with_diagonal(
     Ok(all)
 }
 
-/// The joins of each row with itself.
+/// Returns the joins of each row with itself.
 fn self_joins(
     alloc: Global,
     sig: &Signature,
@@ -59,12 +59,12 @@ fn self_joins(
     Ok(made)
 }
 
-/// The relation of what the rows make where their own columns agree on the pairs, each of two columns of a row. The
-/// columns of the numbers in `keep` are kept, in this order.
+/// Returns the relation of what the rows make where their own columns agree on the pairs, each of two columns of a row.
+/// The columns of the numbers in `keep` are kept, in this order.
 ///
-/// `Wide` comes exactly where this relation has more than 16,384 variables and constructors or a term deeper than 1,000.
-/// `Memory` comes as in `join`, and the cost is that of `Rel::of`, with one join of each row with itself where there are
-/// pairs.
+/// `Wide` is returned exactly where this relation has more than 16,384 variables and constructors or a term deeper than
+/// 1,000. `Memory` is returned as in `join`, and the cost is that of `Rel::of`, with one join of each row with itself
+/// where there are pairs.
 pub fn select(
     alloc: Global,
     sig: &Signature,

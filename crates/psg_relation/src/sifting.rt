@@ -17,11 +17,13 @@ use std::alloc::{AllocError, Global};
 /// The rows that a relation can have, and those that are too large for one.
 #[derive(Drop)]
 pub struct Split {
+    /// The rows that a relation can have.
     pub light: Vec<RelRow>,
+    /// The rows that are too large for a relation.
     pub heavy: Vec<RelRow>,
 }
 
-/// The rows, split by their size. None is written out.
+/// Returns the rows, split by their size. None is written out.
 fn by_size(alloc: Global, rows: Vec<RelRow>) -> Result<Split, AllocError>
     ensures { IfOk result (λ s. IsSplit rows.items s.light.items s.heavy.items) }
 {
@@ -37,7 +39,7 @@ fn by_size(alloc: Global, rows: Vec<RelRow>) -> Result<Split, AllocError>
     Ok(Split { light, heavy })
 }
 
-/// Whether the row is the last one of these.
+/// Says whether the row is the last one of these.
 fn repeats(once: &[RelRow], row: &RelRow) -> bool
     ensures { IsTrue result → IsIn row.now once.now }
 {
@@ -49,7 +51,7 @@ fn repeats(once: &[RelRow], row: &RelRow) -> bool
     same_all(once[last].terms(), row.terms())
 }
 
-/// The rows without those that repeat the one before.
+/// Returns the rows without those that repeat the one before.
 fn without_repeats(alloc: Global, rows: Vec<RelRow>) -> Result<Vec<RelRow>, AllocError>
     ensures same { IfOk result (λ r. HasSameRows rows.items r.items) }
     ensures order { IfOk result (λ r. KeepsOrder rows.items r.items) }
@@ -63,7 +65,7 @@ fn without_repeats(alloc: Global, rows: Vec<RelRow>) -> Result<Vec<RelRow>, Allo
     Ok(once)
 }
 
-/// Whether the first row is too large for a relation.
+/// Says whether the first row is too large for a relation.
 fn starts_heavy(rows: &[RelRow]) -> bool
     ensures { IsTrue result ↔ StartsHeavy rows.now }
 {
@@ -73,8 +75,8 @@ fn starts_heavy(rows: &[RelRow]) -> bool
     }
 }
 
-/// One row or none: there is nothing to compare and no order, so no text is written. `None` where the row is too large
-/// for a relation.
+/// Returns the rows where they are one or none: there is nothing to compare and no order, so no text is written. `None`
+/// where the row is too large for a relation.
 fn alone(rows: Vec<RelRow>) -> Option<Vec<RelRow>>
     requires { vec_len rows ≤ 1 }
     ensures rows { MatchOption result (LosesHeavy rows.items) (λ kept. IsLightly rows.items kept.items) }
@@ -86,8 +88,8 @@ fn alone(rows: Vec<RelRow>) -> Option<Vec<RelRow>>
     Some(rows)
 }
 
-/// The most general rows of more than one, in byte order of their texts, or `None` where one of them is too large for a
-/// relation.
+/// Returns the most general rows of more than one, in byte order of their texts, or `None` where one of them is too
+/// large for a relation.
 fn sift_many(
     alloc: Global,
     sig: &Signature,
@@ -108,8 +110,9 @@ fn sift_many(
     }
 }
 
-/// The most general rows, in byte order of their texts, or `None` where one of them is too large for a relation. Rows
-/// that are too large are only compared, and not written out. A row that is alone is given back as it is.
+/// Returns the most general rows, in byte order of their texts, or `None` where one of them is too large for a
+/// relation. Rows that are too large are only compared, and not written out. A row that is alone is given back as it
+/// is.
 pub fn sift(
     alloc: Global,
     sig: &Signature,

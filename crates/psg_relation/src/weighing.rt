@@ -13,7 +13,7 @@ pub const MOST_SYMBOLS: u64 = 16_384;
 /// How deep a term of a relation is at most.
 pub const MOST_DEPTH: u64 = 1_000;
 
-/// How many variables and constructors the row has, or `u64::MAX` if there are more.
+/// Returns how many variables and constructors the row has, or `u64::MAX` if there are more.
 pub fn row_weight(row: &[Term]) -> u64
     ensures { result ≡ min (sum_by symbols_of row.now) (2 ^ 64 - 1) }
 {
@@ -24,7 +24,7 @@ pub fn row_weight(row: &[Term]) -> u64
     weight
 }
 
-/// How deep the deepest term of the row is, or `u64::MAX` if it is deeper, and 0 where the row has none.
+/// Returns how deep the deepest term of the row is, or `u64::MAX` if it is deeper, and 0 where the row has none.
 pub fn row_depth(row: &[Term]) -> u64
     ensures { result ≡ min (deepest_in row.now) (2 ^ 64 - 1) }
 {
@@ -35,7 +35,7 @@ pub fn row_depth(row: &[Term]) -> u64
     depth
 }
 
-/// One above the greatest number of a variable of the row's terms, and 0 where they have none.
+/// Returns one more than the greatest number of a variable of the row's terms, and 0 where they have none.
 pub fn row_above(row: &[Term]) -> u64
     ensures { result ≡ highest_in row.now }
 {
@@ -46,7 +46,7 @@ pub fn row_above(row: &[Term]) -> u64
     above
 }
 
-/// How many variables and constructors the rows have, or `u64::MAX` if there are more.
+/// Returns how many variables and constructors the rows have, or `u64::MAX` if there are more.
 pub fn weight_of(rows: &[RelRow]) -> u64
     ensures { result ≡ min (weight_of rows.now) (2 ^ 64 - 1) }
 {
@@ -57,7 +57,7 @@ pub fn weight_of(rows: &[RelRow]) -> u64
     weight
 }
 
-/// How deep the deepest term of the rows is, or `u64::MAX` if it is deeper, and 0 where there is none.
+/// Returns how deep the deepest term of the rows is, or `u64::MAX` if it is deeper, and 0 where there is none.
 pub fn deepest_of(rows: &[RelRow]) -> u64
     ensures { result ≡ min (deepest_of rows.now) (2 ^ 64 - 1) }
 {
@@ -68,14 +68,14 @@ pub fn deepest_of(rows: &[RelRow]) -> u64
     depth
 }
 
-/// Whether the row alone is too large for a relation. It takes one step.
+/// Says whether the row alone is too large for a relation. It takes one step.
 pub fn is_heavy(row: &RelRow) -> bool
     ensures { IsTrue result ↔ IsHeavy row.now }
 {
     row.symbols() > MOST_SYMBOLS || row.depth() > MOST_DEPTH
 }
 
-/// Whether the row has no variable. It takes one step.
+/// Says whether the row has no variable. It takes one step.
 pub fn is_closed(row: &RelRow) -> bool
     ensures { IsTrue result ↔ AreGround row.now }
 {

@@ -4,6 +4,7 @@ use Rattle.psg_run.specs.declared.status.Status.{Status}
 use Rattle.psg_run.specs.declared.status.Status.TheVariants.{Done, DefinitionRefused, Words, ReadFault, WriteFault}
 use Rattle.psg_run.specs.declared.status.Status.TheVariants.{Memory, TooLong}
 
+-- the exit status of each ending
 abbrev pub code_of : Status → ℕ
 code_of Done = 0
 code_of DefinitionRefused = 1

@@ -8,10 +8,12 @@ use Rattle.psg_run.specs.declared.status.Status.{Status}
 use Rattle.psg_run.specs.declared.status.Status.TheVariants as ends_with
 use Rattle.psg_run.specs.Causes.{IsRefusalLine, PutsLine}
 
+-- how a run ends where a read stopped
 abbrev pub read_status : ReadStop → Status
 read_status read_stops.Failed = ends_with.ReadFault
 read_status read_stops.Memory = ends_with.Memory
 
+-- how a run ends where a write stopped
 abbrev pub write_status : WriteStop → Status
 write_status write_stops.Failed = ends_with.WriteFault
 write_status write_stops.Memory = ends_with.Memory

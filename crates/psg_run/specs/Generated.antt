@@ -1,5 +1,6 @@
 -- What `gen` says of the plain editor after the script that is made for a number: five lines.
-use Rattle.std.specs.Prelude.{ℕ, ◌≡◌, ◌==◌, ◌||◌, Bool, cond, bytes_eq, count_by, List, [], ◌∷◌, ◌++◌, Option, Some, None, codes, decimal}
+use Rattle.std.specs.Prelude.{ℕ, ◌≡◌, ◌==◌, ◌||◌, Bool, cond, bytes_eq, count_by, List, [], ◌∷◌, ◌++◌, Option, Some}
+use Rattle.std.specs.Prelude.{None, codes, decimal}
 use Rattle.psg_grammar.specs.declared.types.Definition.{Definition}
 use Rattle.psg_grammar.specs.Fragments.{Fragment}
 use Rattle.psg_grammar.specs.Legal.{IsCompletable}
@@ -24,8 +25,8 @@ abbrev pub mini : Source
 mini = in_program MINI.now
 
 module _ (def : Definition) (IsGood : Fragment → Type 0) where
-  -- GoesAlong s before lines t last: from the state s, in which the last reply was `before`, the plain editor goes to t by
-  -- the lines, and the last reply is `last` then. A line that spells no command is refused. No line asks the files.
+  -- GoesAlong s before lines t last: from the state s, in which the last reply was `before`, the plain editor goes to t
+  -- by the lines, and the last reply is `last` then. A line that spells no command is refused. No line asks the files.
   pub data GoesAlong : State → Reply → List (List ℕ) → State → Reply → Type 0 where
     ends : {s : State} {last : Reply} → GoesAlong s last [] s last
     no_command : {s t : State} {before last : Reply} {line : List ℕ} {rest : List (List ℕ)}
@@ -50,6 +51,7 @@ abbrev pub operators_in : Reply → ℕ
 operators_in (refused refusal) = 0
 operators_in (answered lines) = names_in (feed_all lines)
 
+-- the five lines of `gen` with these numbers and this mark
 abbrev pub five_lines : ℕ → ℕ → ℕ → ℕ → Mark → List (List ℕ)
 five_lines nodes bytes weight menu mark =
     (codes "nodes " ++ decimal nodes)
@@ -60,15 +62,16 @@ five_lines nodes bytes weight menu mark =
     ∷ []
 
 module _ (def : Definition) (IsGood : Fragment → Type 0) where
-  -- The five lines of a state in which so many operators were in the last reply. Where nothing is opened all numbers are 0,
-  -- and the mark is `ok`.
+  -- The five lines of a state, with this number of operators in the last reply. Where nothing is opened all numbers are
+  -- 0, and the mark is `ok`.
   pub data FiveLines : Option Opened → ℕ → List (List ℕ) → Type 0 where
     of_nothing : {menu : ℕ} → FiveLines None menu (five_lines 0 0 0 0 good)
     of_opened : {old : Opened} {menu : ℕ} (nodes bytes weight : ℕ) (mark : Mark)
         → HasExtent def IsGood old.tree nodes bytes weight mark
         → FiveLines (Some old) menu (five_lines nodes bytes weight menu mark)
 
--- the plain editor is in this state after the lines, from its start, with this last reply; it counted no more than they may
+-- the plain editor is in this state after the lines, from its start, with this last reply; it counted no more than they
+-- may
 pub record HasGone (def : Definition) (lines : List (List ℕ)) (end : State) (last : Reply) (from to : ℕ) : Type 0 where
   pub along : GoesAlong def (IsCompletable def) start (answered []) lines end last
   pub spent : HasSpent def (IsCompletable def) start lines [] not_asked from to

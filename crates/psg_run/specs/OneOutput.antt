@@ -18,7 +18,7 @@ pub record HasOneOutput (def : Definition) (IsGood : Fragment → Type 0) : Type
   -- the output of the first lines is a front of the output of all
   pub front : (s : State) (lines : List (List ℕ)) (n : ℕ) (a b : List ℕ) (t u : State)
       → Prints def IsGood s (take n lines) [] None a t → Prints def IsGood s lines [] None b u → IsFrontOf a b
-  -- the same where the files are asked, with the first of the answers, and where an answer is wanting
+  -- the same where the files are asked, with the first of the answers, and where an answer is lacking
   pub with_answers : (s : State) (lines : List (List ℕ)) (n : ℕ) (exchanges more : List Exchange)
       (unanswered : Option Asked) (a b : List ℕ) (t u : State)
       → Prints def IsGood s (take n lines) exchanges unanswered a t

@@ -15,9 +15,11 @@ use Rattle.psg_session.specs.PlainStep.{Steps}
 use Rattle.psg_session.specs.Replies.{Reply, refused, reply_text}
 use Rattle.psg_run.specs.Told.{Exchange}
 
+-- the byte is a line feed
 abbrev pub is_feed : ℕ → Bool
 is_feed b = b == 10
 
+-- there are no bytes
 abbrev pub is_empty : List ℕ → Bool
 is_empty [] = true
 is_empty (b ∷ bs) = false
@@ -34,7 +36,7 @@ script_lines bytes = kept_lines (slice_split is_feed bytes)
 
 module _ (def : Definition) (IsGood : Fragment → Type 0) where
   -- Prints s lines exchanges unanswered output t: from the state s the lines get these replies, while the files answer
-  -- this; the editor is in the state t then. A line that spells no command is refused. Where an answer is wanting, the
+  -- this; the editor is in the state t then. A line that spells no command is refused. Where an answer is lacking, the
   -- output ends.
   pub data Prints : State → List (List ℕ) → List Exchange → Option Asked → List ℕ → State → Type 0 where
     ends : {s : State} → Prints s [] [] None [] s

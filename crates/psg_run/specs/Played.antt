@@ -21,16 +21,17 @@ use Rattle.psg_run.specs.Spends.{HasSpent}
 use Rattle.psg_run.specs.Told.{Exchange}
 use Rattle.psg_run.specs.Worlds.{IsFrontOf}
 
--- Happened before exchanges after: the files were asked this and answered so, one question after the other, and went from
--- before to after.
+-- Happened before exchanges after: the files were asked this and gave these answers, one question after the other, and
+-- went from before to after.
 pub data Happened : Outside → List Exchange → Outside → Type 0 where
   no_question : {before after : Outside} → after ≡ before → Happened before [] after
   question : {before after : Outside} {rest : List Exchange} (exchange : Exchange) (mid : Outside)
       → IsAnswered before mid (Some exchange.asked) exchange.answer → Happened mid rest after
       → Happened before (exchange ∷ rest) after
 
--- Replies def s line exchanges t reply n: at the line the plain editor goes from s to t with the reply, by its command, with
--- the answer of the files where it asks for one, or by a refusal where it spells none; n evaluations are within its bound
+-- Replies def s line exchanges t reply n: at the line the plain editor goes from s to t with the reply, by its command,
+-- with the answer of the files where it asks for one, or by a refusal where it spells none; n evaluations are within
+-- its bound
 pub data Replies (def : Definition) (s : State) (line : List ℕ) : List Exchange → State → Reply → ℕ → Type 0 where
   to_nothing : ((command : Command) → Spells line command → ⊥) → Replies def s line [] s (refused NoCommand) 0
   to_command : (command : Command) {new : State} {reply : Reply} {n : ℕ} → Spells line command
@@ -58,7 +59,7 @@ pub record PlaysLine (def : Definition) (s : State) (line : List ℕ) (t : State
   pub replied : IsReplied def s line t before after from to
   pub put : written' ≡ append_known written (reply_text replied.reply)
 
--- Memory was wanting within the line, and nothing was put. Or a front of the reply to the line was put.
+-- Memory ran out within the line, and nothing was put. Or a front of the reply to the line was put.
 pub data PlaysLineFront (def : Definition) (s : State) (line : List ℕ) (before after : Outside)
     (written written' : Option (List ℕ)) (from to : ℕ) (stop : WriteStop) : Type 0 where
   within : stop ≡ stops.Memory → written' ≡ written → HasBroken def s line before after from to
@@ -75,7 +76,7 @@ pub data PlaysPiece (def : Definition) (s : State) (piece : List ℕ) (t : State
   is_played : (line : List ℕ) → heard piece ≡ line ∷ [] → PlaysLine def s line t before after written written' from to
       → PlaysPiece def s piece t before after written written' from to
 
--- memory was wanting within a line of the input, or a front of the reply to it was put
+-- memory ran out within a line of the input, or a front of the reply to it was put
 pub record PlaysPieceFront (def : Definition) (s : State) (piece : List ℕ) (before after : Outside)
     (written written' : Option (List ℕ)) (from to : ℕ) (stop : WriteStop) : Type 0 where
   pub line : List ℕ
@@ -93,7 +94,7 @@ pub record PrintsAll (def : Definition) (lines : List (List ℕ)) (before after 
   pub put : written' ≡ append_known written output
   pub spent : HasSpent def (IsCompletable def) start lines exchanges not_asked from to
 
--- A front of the output of the first lines was put. Memory may have been wanting after the last one had asked.
+-- A front of the output of the first lines was put. Memory may have run out after the last one had asked.
 pub record PrintsFront (def : Definition) (lines : List (List ℕ)) (before after : Outside)
     (written written' : Option (List ℕ)) (from to : ℕ) (stop : WriteStop) : Type 0 where
   pub exchanges : List Exchange

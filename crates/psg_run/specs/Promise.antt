@@ -1,4 +1,4 @@
--- The promise of a run of the program. Causes says why a run ends, Worlds what stands outside, Output what the plain
+-- The promise of a run of the program. Causes says why a run ends, Worlds what is outside of it, Output what the plain
 -- editor replies, and Spends how many evaluations that takes.
 use Rattle.std.specs.Prelude.{ℕ, ◌≡◌, ◌⊎◌, ◌≤◌, List, [], ◌∷◌, ◌++◌, length, take, Option, Some, None, codes, decimal}
 use Rattle.psg_terms.specs.Names.{Name}
@@ -28,12 +28,14 @@ pub data Form : Type 0 where
   live : (definition : Name) → Form
   gen : (number : ℕ) → Form
 
+-- the words after the program's name have this form
 abbrev pub IsForm : List Name → Form → Type 0
 IsForm words (check definition) = words ≡ codes "check" ∷ definition ∷ []
 IsForm words (edit definition script) = words ≡ codes "edit" ∷ definition ∷ script ∷ []
 IsForm words (live definition) = words ≡ codes "live" ∷ definition ∷ []
 IsForm words (gen number) = (words ≡ codes "gen" ∷ decimal number ∷ []) × (1 ≤ number) × (number ≤ 1000)
 
+-- the words have none of the forms
 abbrev pub HasNoForm : List Name → Type 0
 HasNoForm words = (form : Form) → IsForm words form → ⊥
 
@@ -56,7 +58,7 @@ abbrev pub BoundOf : Type 1
 BoundOf = Definition → List (List ℕ) → List Exchange → Answer → ℕ → ℕ → Type 0
 
 module _ (Output : OutputOf) (Spent : BoundOf) where
-  -- The lines were played; their commands asked the files this, with so many evaluations.
+  -- The lines were played; their commands asked the files this, and the evaluations are within the bound of the lines.
   pub record ArePlayed (def : Definition) (lines : List (List ℕ)) (old new : World) (exchanges : List Exchange)
       (unanswered : Option Asked) (given : Answer) : Type 0 where
     pub asked : HasAsked exchanges unanswered given old new
@@ -107,7 +109,7 @@ module _ (Output : OutputOf) (Spent : BoundOf) where
         → Plays def script old new status
     no_room_left : status ≡ ends_with.Memory → IsQuiet old new → Plays def script old new status
 
-  -- A run on a definition whose commands come from the input, by each status with its cause. Where a read of the
+  -- A run on a definition whose commands are read from the input, by each status with its cause. Where a read of the
   -- input fails, the replies to all lines that were read before are written.
   pub data Talks (def : Definition) (input input' : Incoming) (old new : World) (status : Status) : Type 0 where
     all_answered : status ≡ ends_with.Done → (lines : List (List ℕ)) → GaveAll input input' lines
@@ -145,8 +147,8 @@ pub record LeavesFiles (old new : World) : Type 0 where
   pub held : new.held ≡ old.held
   pub entries : new.entries ≡ old.entries
 
--- A run that plays the script which is made for the number, by each status with its cause. Nothing is written before the
--- script is played to its end. `spent` says how many evaluations its lines may take.
+-- A run that plays the script which is made for the number, by each status with its cause. Nothing is written before
+-- the script is played to its end. `spent` says how many evaluations its lines may take.
 pub data Generates (def : Definition) (number : ℕ) (old new : World) (status : Status) : Type 0 where
   all_told : status ≡ ends_with.Done → (lines : List (List ℕ)) → Generated def number old.ticks new.ticks lines
       → Wrote old new (feed_all lines) → Generates def number old new status
@@ -163,7 +165,8 @@ pub data Generates (def : Definition) (number : ℕ) (old new : World) (status :
 abbrev pub GeneratesOn : Source → ℕ → World → World → Status → Type 0
 GeneratesOn source number old new status =
     EndsEarly source old new status
-    ⊎ ((def : Definition) × HasDefinition old.held source def × LeavesFiles old new × Generates def number old new status)
+    ⊎ ((def : Definition) × HasDefinition old.held source def × LeavesFiles old new
+    × Generates def number old new status)
 
 -- evaluations along the lines, from the start of the plain editor
 abbrev pub SpentFromStart : Definition → List (List ℕ) → List Exchange → Answer → ℕ → ℕ → Type 0
@@ -221,8 +224,7 @@ WritesWhole (gen number) input old new =
     × (lines : List (List ℕ)) × Generated def number old.ticks new.ticks lines
     × (new.written ≡ old.written ++ feed_all lines)
 
--- A run over files and a sink in memory. Where all goes well outside, the whole output was written, or memory was
--- wanting.
+-- A run over files and a sink in memory. Where all goes well outside, the whole output was written, or memory ran out.
 pub record IsRunInMemory (words : List Name) (input input' : Incoming) (old new : InMemory) (status : Status)
     : Type 0 where
   pub does : Does words input input' (told old) (told new) status

@@ -13,20 +13,21 @@ use Rattle.psg_session.specs.Replies.{Reply}
 use Rattle.psg_session.specs.Ticks.{MayTick, MayTickWith}
 use Rattle.psg_run.specs.Told.{Exchange}
 
--- so many evaluations are within the bound of the line's command, or there were none
+-- the evaluations are within the bound of the line's command, or there were none
 pub data MaySpend (def : Definition) (s : State) (line : List ℕ) : ℕ → Type 0 where
   spends_nothing : MaySpend def s line 0
   spends_command : (command : Command) {n : ℕ} → Spells line command → MayTick def s command n → MaySpend def s line n
 
 module _ (def : Definition) (IsGood : Fragment → Type 0) where
-  -- Spends s lines exchanges given n: a run along the lines from the state s takes n evaluations, each command within its
-  -- bound. It may end behind any line, or within one. Where it ends within a fetch, `given` is what this got, if it got
-  -- anything.
+  -- Spends s lines exchanges given n: a run along the lines from the state s takes n evaluations, each command within
+  -- its bound. It may end after any line, or within one. Where it ends within a fetch, `given` is what this got, if it
+  -- got anything.
   pub data Spends : State → List (List ℕ) → List Exchange → Answer → ℕ → Type 0 where
     rests : {s : State} {lines : List (List ℕ)} → Spends s lines [] not_asked 0
     breaks : {s : State} {line : List ℕ} {rest : List (List ℕ)} {n : ℕ}
         → MaySpend def s line n → Spends s (line ∷ rest) [] not_asked n
-    breaks_reading : {s : State} {line : List ℕ} {rest : List (List ℕ)} (command : Command) (file : Name) (bytes : List ℕ)
+    breaks_reading : {s : State} {line : List ℕ} {rest : List (List ℕ)} (command : Command) (file : Name)
+        (bytes : List ℕ)
         (n : ℕ) → Spells line command → Asks def s command (fetching file) → MayTickWith def s (got bytes) command n
         → Spends s (line ∷ rest) [] (got bytes) n
     no_command : {s : State} {line : List ℕ} {rest : List (List ℕ)} {exchanges : List Exchange} {given : Answer} {n : ℕ}

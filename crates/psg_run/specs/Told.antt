@@ -16,13 +16,16 @@ pub record Known : Type 0 where
   pub held : Held
   pub unknown : List Name
 
+-- the names without this one
 abbrev pub without : Name → List Name → List Name
 without name [] = []
 without name (n ∷ ns) = cond (bytes_eq n name) (without name ns) (n ∷ without name ns)
 
+-- the file has these bytes from now on, and they are known
 abbrev pub sets : Known → Name → List ℕ → Known
 sets k name bytes = record { held = map.insert k.held name bytes; unknown = without name k.unknown }
 
+-- what the file has is not known from now on
 abbrev pub forgets : Known → Name → Known
 forgets k name = record { held = k.held; unknown = name ∷ k.unknown }
 

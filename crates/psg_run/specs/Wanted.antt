@@ -5,11 +5,13 @@ use Rattle.psg_run.specs.declared.words.Form.{Form as Found}
 use Rattle.psg_run.specs.declared.words.Form.TheVariants.{Check, Edit, Live, Gen}
 use Rattle.psg_run.specs.Promise.{Form, check, edit, live, gen, IsForm}
 
+-- the form that the program's form is
 abbrev pub form_told : Found → Form
 form_told (Check definition) = check definition.now
 form_told (Edit definition script) = edit definition.now script.now
 form_told (Live definition) = live definition.now
 form_told (Gen number) = gen number
 
+-- what was found is the form that the words have
 abbrev pub IsWanted : List Name → Found → Type 0
 IsWanted words found = IsForm words (form_told found)

@@ -3,7 +3,8 @@ ghost use Rattle.std.specs.Prelude.{◌≡◌, ◌≤◌, ◌∷◌, [], ℕ, Li
 ghost use Rattle.std.specs.List.{AllByRecursion};
 ghost use Rattle.psg_grammar.specs.Legal.{IsCompletable};
 ghost use Rattle.psg_grammar.specs.Marks.{good};
-ghost use Rattle.psg_run.specs.Generated.{Generated, FiveLines, five_lines as five_lines_of, mini, names_in, operators_in};
+ghost use Rattle.psg_run.specs.Generated.{Generated, FiveLines, five_lines as five_lines_of, mini, names_in};
+ghost use Rattle.psg_run.specs.Generated.{operators_in};
 ghost use Rattle.psg_run.specs.Output.{kept_lines, script_lines};
 ghost use Rattle.psg_run.specs.Promise.{GeneratesOn, SpentFromStart};
 ghost use Rattle.psg_run.specs.Quiet.{AsksNothing, BreaksOff, BreaksWithin, GoesOn, GoesOver, HasCounted};
@@ -73,8 +74,8 @@ fn count_after<F: Files, L: Ledger>(
     Ok(count)
 }
 
-/// Does what the line says that the piece of a script is, and counts the operators in the reply. An empty line does nothing,
-/// and the count is the one before.
+/// Does what the line says that the piece of a script is, and counts the operators in the reply. An empty line does
+/// nothing, and the count is the one before.
 fn count_piece<F: Files, L: Ledger>(
     alloc: Global,
     session: &mut Session,
@@ -149,8 +150,8 @@ fn five_lines(
     Ok(text)
 }
 
-/// Writes the five lines of what was found in a session, in which the last reply had so many operators. Where nothing is
-/// opened all numbers are 0.
+/// Writes the five lines of what was found in a session, with the number of operators in the last reply. Where nothing
+/// is opened all numbers are 0.
 fn extent_lines(
     alloc: Global,
     found: Option<Extent>,
@@ -172,7 +173,7 @@ fn extent_lines(
     }
 }
 
-/// Writes the five lines of the session, in which the last reply had so many operators.
+/// Writes the five lines of the session, with the number of operators in the last reply.
 fn summary(alloc: Global, session: &Session, operators: usize) -> Result<String, AllocError>
     ensures { IfOk result (λ text. (lines : List (List ℕ))
         × FiveLines session.now.language (IsCompletable session.now.language)
@@ -208,8 +209,9 @@ fn played<F: Files, L: Ledger>(
     Ok(text)
 }
 
-/// Plays the script that is made for the number on the language MINI. Then it writes five lines: how many nodes the opened
-/// program has, how many bytes its text, how much weight its relations, how many operators the last menu, and its mark.
+/// Plays the script that is made for the number on the language MINI. Then it writes five lines: how many nodes the
+/// opened program has, how many bytes its text, how much weight its relations, how many operators the last menu, and
+/// its mark.
 pub fn generate<F: Files, O: Sink, L: Ledger>(
     alloc: Global,
     number: u32,

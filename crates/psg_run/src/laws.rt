@@ -11,16 +11,16 @@ ghost use Rattle.psg_specimen.specs.Refusal.{IsAccepted};
 
 use psg_grammar::Definition;
 
-/// States that the plain editor gives each script one output, where no text is read as two trees. It does nothing at run
-/// time.
+/// States that the plain editor gives each script one output, where no text is read as two trees. It does nothing at
+/// run time.
 pub fn one_output(definition: &Definition)
     requires sound { IsSound definition.now }
     requires class { IsClass definition.now }
     ensures { HasOneOutput definition.now (IsCompletable definition.now) }
 {}
 
-/// Two runs of a script on the definition, with status 0 and over the same files, write the same. It does nothing at
-/// run time.
+/// States that two runs of a script on the definition, with status 0 and over the same files, write the same. It does
+/// nothing at run time.
 pub fn one_run(definition: &Definition)
     requires sound { IsSound definition.now }
     requires class { IsClass definition.now }
@@ -28,8 +28,8 @@ pub fn one_run(definition: &Definition)
 {}
 
 /// States that no script lacks a whole output, over files that hold anything and do not fail: that there is none is
-/// refuted. With `one_output` there is exactly one, by excluded middle. So what is said of the output of a run speaks of
-/// something. It does nothing at run time.
+/// refuted. With `one_output` there is exactly one, by excluded middle. So what is said of the output of a run speaks
+/// of something. It does nothing at run time.
 pub fn some_output(definition: &Definition)
     requires sound { IsSound definition.now }
     requires words { AllByRecursion IsFixedWord (fixed_words definition.now) }

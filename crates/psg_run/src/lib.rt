@@ -1,8 +1,8 @@
 //! A run of the program: from words, files, an input and a sink to a status.
 //!
 //! `run(alloc, &words, &mut files, &mut input, &mut out, &mut steps)` does what the words say. For `check DEF` it says
-//! whether a file has a definition. For `edit DEF SCRIPT` it writes the replies of the plain editor, which is defined in
-//! psg_session's specs and knows nothing but trees. For `live DEF` it writes them to the lines of the input.
+//! whether a file has a definition. For `edit DEF SCRIPT` it writes the replies of the plain editor, which is defined
+//! in psg_session's specs and knows nothing but trees. For `live DEF` it writes them to the lines of the input.
 #![tactic(auto)]
 
 mod generating;

@@ -4,14 +4,16 @@ ghost use Rattle.std.specs.List.{slice_split};
 ghost use Rattle.std.specs.Str.Lines.{strip_carriage_return};
 ghost use Rattle.psg_run.specs.Output.{is_feed, kept_lines};
 
-/// A line with what stands behind its line feed.
+/// A line, and what is after its line feed.
 #[derive(Drop)]
 pub struct Cut<'a> {
+    /// The first line, without its line feed.
     pub line: &'a [u8],
+    /// The bytes after the line feed; none where there is no line feed.
     pub rest: &'a [u8],
 }
 
-/// Where the first line feed stands.
+/// Returns the place of the first line feed, if there is one.
 fn first_feed(bytes: &[u8]) -> Option<usize>
     ensures { result ≡ position is_feed bytes.now }
 {
@@ -37,7 +39,7 @@ pub fn cut_line(bytes: &[u8]) -> Cut<'_>
     }
 }
 
-/// The line less one carriage return at its end.
+/// Returns the line less one carriage return at its end.
 pub fn without_return(line: &[u8]) -> &[u8]
     ensures { result.now ≡ strip_carriage_return line.now }
 {

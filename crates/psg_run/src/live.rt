@@ -1,4 +1,4 @@
-//! A session whose commands come line by line.
+//! A session whose commands are read line by line.
 ghost use Rattle.std.specs.Prelude.{◌≡◌, ◌≤◌, [], ◌∷◌, OnOk, IfErr, IsErrOf, MatchOption};
 ghost use Rattle.psg_world.specs.Sinks.{HasRisen};
 ghost use Rattle.psg_run.specs.Live.{heard as heard_of};
@@ -65,7 +65,7 @@ fn play_piece<F: Files, O: Sink, L: Ledger>(
 }
 
 /// Puts the reply to each line of the input before the next one is read, up to the end of the input. After 2^64 - 1
-/// lines it ends as where memory is wanting.
+/// lines it ends as where memory runs out.
 fn converse<F: Files, I: Input, O: Sink, L: Ledger>(
     alloc: Global,
     session: &mut Session,
@@ -96,7 +96,8 @@ fn converse<F: Files, I: Input, O: Sink, L: Ledger>(
     Status::Memory
 }
 
-/// Plays the lines of the input on a new session.
+/// Plays the lines of the input on a new session, and returns how that ended. Each reply is put before the next line is
+/// read.
 pub fn talk<F: Files, I: Input, O: Sink, L: Ledger>(
     alloc: Global,
     language: Language,

@@ -13,7 +13,8 @@ use psg_world::{Files, Sink, WriteStop, put_all};
 use std::alloc::Global;
 use std::sync::ledger::Ledger;
 
-/// Puts the reply to a line.
+/// Plays a line on the session, and puts the reply. It fails with `Failed` where the write fails, and with `Memory`
+/// where memory runs out; a front of the reply may be put then.
 pub fn play_line<F: Files, O: Sink, L: Ledger>(
     alloc: Global,
     session: &mut Session,
@@ -41,8 +42,8 @@ pub fn play_line<F: Files, O: Sink, L: Ledger>(
     Ok(())
 }
 
-/// Puts the replies to the lines of the script, those of each line before the next one is looked at. It takes the time
-/// of the script and of its commands.
+/// Puts the replies to the lines of the script, those of each line before the next one is looked at. It fails as
+/// `play_line` does, and takes the time of the script and of its commands.
 pub fn play<F: Files, O: Sink, L: Ledger>(
     alloc: Global,
     language: Language,

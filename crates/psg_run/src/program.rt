@@ -79,7 +79,7 @@ fn edit<F: Files, O: Sink, L: Ledger>(
 }
 
 /// Plays the lines of the input on the definition. The order of tests is: the definition is read, its length, whether
-/// it is one, whether it is accepted, then the lines as they come.
+/// it is one, whether it is accepted, then the lines as they are read.
 fn live<F: Files, I: Input, O: Sink, L: Ledger>(
     alloc: Global,
     definition: &str,
@@ -101,12 +101,12 @@ fn live<F: Files, I: Input, O: Sink, L: Ledger>(
     talk(alloc, language, files, input, out, steps)
 }
 
-/// Does what the words say, and answers how that ended. `check DEF` says in one line whether the file DEF has a
-/// definition that is accepted. `edit DEF SCRIPT` plays each line of the file SCRIPT, a command, on an editor of the
-/// definition; the replies go to `out`. `live DEF` plays the lines of the input so, and puts the reply to each before it
-/// reads the next one. `gen N` plays a script that is made for the number N, from 1 to 1,000, on the language MINI, and
-/// writes five lines of the program then. `steps` counts evaluations of nodes and list suffixes: a command evaluates what is new and what
-/// is above it.
+/// Does what the words say, and returns how that ended; `Status` says when each ending is returned. `check DEF` says in
+/// one line whether the file DEF has a definition that is accepted. `edit DEF SCRIPT` plays each line of the file
+/// SCRIPT, a command, on an editor of the definition; the replies go to `out`. `live DEF` plays the lines of the input
+/// likewise, and puts the reply to each before it reads the next one. `gen N` plays a script that is made for the
+/// number N, from 1 to 1,000, on the language MINI, and writes five lines of the program then. `steps` counts
+/// evaluations of nodes and list suffixes: a command evaluates what is new and what is above it.
 pub fn run<F: Files, I: Input, O: Sink, L: Ledger>(
     alloc: Global,
     words: &[String],

@@ -16,7 +16,7 @@ use psg_specimen::{AcceptFault, Language, Refused, accept, accept_text};
 use psg_world::{Files, ReadStop, Sink, WriteStop, put_all};
 use std::alloc::Global;
 
-/// The status at a read that stopped.
+/// Returns the status of a run at a read that stopped: a read fault, or out of memory.
 pub fn read_status(stop: ReadStop) -> Status
     ensures { result ≡ read_status_of stop }
 {
@@ -26,7 +26,7 @@ pub fn read_status(stop: ReadStop) -> Status
     }
 }
 
-/// The status at a write that stopped.
+/// Returns the status of a run at a write that stopped: a write fault, or out of memory.
 pub fn write_status(stop: WriteStop) -> Status
     ensures { result ≡ write_status_of stop }
 {
@@ -100,8 +100,8 @@ pub fn language_of<O: Sink>(alloc: Global, text: &[u8], out: &mut O) -> Result<L
 }
 
 /// Reads the definition of the file, and gives its language. The order of tests is that the file is read, its length,
-/// whether its bytes are a definition, and whether it is accepted. Where it is not, the status says how the run ends, and
-/// the line of the first fault goes to `out`.
+/// whether its bytes are a definition, and whether it is accepted. Where it is not, the status says how the run ends,
+/// and the line of the first fault goes to `out`.
 pub fn read_language<F: Files, O: Sink>(
     alloc: Global,
     file: &str,

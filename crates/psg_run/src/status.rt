@@ -24,7 +24,7 @@ pub enum Status {
 }
 
 impl Status {
-    /// The exit status of the process.
+    /// Returns the exit status of the process, from 0 to 6.
     pub fn code(self) -> u8
         ensures { result ≡ code_of self }
     {

@@ -69,7 +69,7 @@ fn of_three<'a>(form: &str, definition: &'a str, script: &'a str) -> Option<Form
     }
 }
 
-/// What the words ask for, or none where they have no form.
+/// Returns what the words after the program's name ask for, or none where they have no form.
 pub fn form_of(words: &[String]) -> Option<Form<'_>>
     ensures { MatchOption result (HasNoForm (texts_of words.now)) (IsWanted (texts_of words.now)) }
 {

@@ -16,12 +16,13 @@ by_order Less less equal greater = less
 by_order Equal less equal greater = equal
 by_order Greater less equal greater = greater
 
--- x and what comes behind it made one with a list
+-- x and what follows it made one with a list
 abbrev pub merge_with : NameCol → (List NameCol → List NameCol) → List NameCol → List NameCol
 merge_with x behind [] = x ∷ behind []
 merge_with x behind (y ∷ ys) =
     by_order (key_cmp (key_of x) (key_of y)) (x ∷ behind (y ∷ ys)) (both x y ∷ behind ys) (y ∷ merge_with x behind ys)
 
+-- two ascending lists made one: a key of both is there once, and declared where one of them declares it
 abbrev pub merge : List NameCol → List NameCol → List NameCol
 merge [] ys = ys
 merge (x ∷ xs) ys = merge_with x (merge xs) ys
@@ -30,19 +31,24 @@ merge (x ∷ xs) ys = merge_with x (merge xs) ys
 abbrev pub clash_with : NameCol → (List NameCol → Bool) → List NameCol → Bool
 clash_with x behind [] = false
 clash_with x behind (y ∷ ys) =
-    by_order (key_cmp (key_of x) (key_of y)) (behind (y ∷ ys)) ((x.declared && y.declared) || behind ys) (clash_with x behind ys)
+    by_order (key_cmp (key_of x) (key_of y)) (behind (y ∷ ys)) ((x.declared && y.declared) || behind ys)
+    (clash_with x behind ys)
 
+-- whether both lists declare one key; a key that one of them only uses is no clash
 abbrev pub clashes : List NameCol → List NameCol → Bool
 clashes [] ys = false
 clashes (x ∷ xs) ys = clash_with x (clashes xs) ys
 
--- the key that comes next, and what both lists are behind it
+-- the next key, and what both lists are after it
 abbrev pub IsNext : List NameCol → List NameCol → First → Type 0
-IsNext xs ys (Left x rest) = (xs ≡ x.now ∷ rest.now) × (merge xs ys ≡ x.now ∷ merge rest.now ys) × (clashes xs ys ≡ clashes rest.now ys)
-IsNext xs ys (Right y rest) = (ys ≡ y.now ∷ rest.now) × (merge xs ys ≡ y.now ∷ merge xs rest.now) × (clashes xs ys ≡ clashes xs rest.now)
+IsNext xs ys (Left x rest) = (xs ≡ x.now ∷ rest.now) × (merge xs ys ≡ x.now ∷ merge rest.now ys)
+    × (clashes xs ys ≡ clashes rest.now ys)
+IsNext xs ys (Right y rest) = (ys ≡ y.now ∷ rest.now) × (merge xs ys ≡ y.now ∷ merge xs rest.now)
+    × (clashes xs ys ≡ clashes xs rest.now)
 IsNext xs ys (Both x lefts y rights) =
     (xs ≡ x.now ∷ lefts.now) × (ys ≡ y.now ∷ rights.now) × (merge xs ys ≡ both x.now y.now ∷ merge lefts.now rights.now)
-    × (clashes xs ys ≡ ((x.now.declared && y.now.declared) || clashes lefts.now rights.now)) × (key_of x.now ≡ key_of y.now)
+    × (clashes xs ys ≡ ((x.now.declared && y.now.declared) || clashes lefts.now rights.now))
+    × (key_of x.now ≡ key_of y.now)
 IsNext xs ys End = (xs ≡ []) × (ys ≡ [])
 
 -- one more key, and its place for each list that has it
@@ -58,7 +64,7 @@ pub record IsPlacedSoFar (cols : List NameCol) (places : List ℕ) (whole rest :
   pub at : ArePlaces cols places done
   pub split : done ++ keys rest ≡ keys whole
 
--- two lists were made one, but for their rests
+-- two lists were made one, except for their rests
 pub record IsUpTo (left right a b : List NameCol) (all : Merging) : Type 0 where
   pub names : all.names.items ++ merge a b ≡ merge left right
   pub clash : (all.clashes || clashes a b) ≡ clashes left right

@@ -10,21 +10,23 @@ use std::alloc::{AllocError, Global};
 /// What passes outward from a region.
 #[derive(Drop)]
 pub struct Closed {
+    /// The header of the scope operator, as its surroundings see it.
     pub header: Header,
     /// For each key that passes outward its place in the header of the region.
     pub kept: Seq<usize>,
 }
 
-/// The header of a scope operator from that of its inside region: the keys that the region neither declares nor may still
-/// declare. It declares none of them, and leaves no space unfinished. It takes a number of steps that is that of the keys
-/// times the logarithm of the number of unfinished spaces.
+/// Makes the header of a scope operator from that of its inside region: the keys that the region neither declares nor
+/// may still declare. It declares none of them, and leaves no space unfinished. It takes a number of steps that is that
+/// of the keys times the logarithm of the number of unfinished spaces.
 pub fn close_region(alloc: Global, header: &Header) -> Result<Closed, AllocError>
     requires { IsOrdered header.now }
     ensures outward { IfOk result (λ c. PassesOutward header.now c.header) }
     ensures ordered { IfOk result (λ c. IsOrdered c.header) }
     // the header of a scope operator, whatever its inside region is
     ensures region { IfOk result (λ c. (names declared : List Key) (unfinished : ℕ → Bool)
-        → IsHeader names declared unfinished header.now → IsHeader (outward unfinished declared names) [] (λ _. false) c.header) }
+        → IsHeader names declared unfinished header.now
+        → IsHeader (outward unfinished declared names) [] (λ _. false) c.header) }
     ensures kept { IfOk result (λ c. ArePlaces header.now.names c.kept (keys c.header.names)) }
 {
     let mut names = Vec::new(alloc);
@@ -48,7 +50,7 @@ pub fn close_region(alloc: Global, header: &Header) -> Result<Closed, AllocError
     })
 }
 
-/// Whether the key passes outward.
+/// Says whether the key passes outward.
 fn passes(key: &NameCol, unfinished: &[u32]) -> bool
     requires { AreAscending unfinished.now }
     ensures { result ≡ not (has_space unfinished.now key.now.space || key.now.declared) }
@@ -56,7 +58,7 @@ fn passes(key: &NameCol, unfinished: &[u32]) -> bool
     !is_among(unfinished, key.space) && !key.declared
 }
 
-/// Whether the space is among the ascending ones.
+/// Says whether the space is among the ascending ones.
 fn is_among(spaces: &[u32], space: u32) -> bool
     requires { AreAscending spaces.now }
     ensures { result ≡ has_space spaces.now space }

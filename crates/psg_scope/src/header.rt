@@ -10,8 +10,11 @@ use std::cmp::Ordering;
 /// A key of a region: a name in a space, and whether the region declares it.
 #[derive(Drop)]
 pub struct NameCol {
+    /// The number of the space.
     pub space: u32,
+    /// The name.
     pub name: Txt,
+    /// Whether the region declares the name in the space.
     pub declared: bool,
 }
 
@@ -27,14 +30,14 @@ impl NameCol {
         }
     }
 
-    /// Tells whether the keys are equal and declared alike.
+    /// Says whether the keys are equal and declared alike.
     fn same(&self, other: &NameCol) -> bool
         ensures { IsTrue result ↔ (self.now ≡ other.now) }
     {
         self.space == other.space && self.declared == other.declared && self.name.same(&other.name)
     }
 
-    /// The key once more, with one more owner of its name.
+    /// Returns the key once more, with one more owner of its name.
     pub(crate) fn share(&self, declared: bool) -> Result<NameCol, AllocError>
         ensures { IfOk result (λ c. c ≡ record self.now { declared = declared }) }
     {
@@ -46,7 +49,7 @@ impl NameCol {
     }
 }
 
-/// Tells whether the lists have equal keys, declared alike, at the same places.
+/// Says whether the lists have equal keys, declared alike, at the same places.
 fn same_names(left: &[NameCol], right: &[NameCol]) -> bool
     ensures { IsTrue result ↔ (left.now ≡ right.now) }
 {
@@ -61,7 +64,7 @@ fn same_names(left: &[NameCol], right: &[NameCol]) -> bool
     true
 }
 
-/// Tells whether the lists have the same spaces at the same places.
+/// Says whether the lists have the same spaces at the same places.
 fn same_spaces(left: &[u32], right: &[u32]) -> bool
     ensures { IsTrue result ↔ (left.now ≡ right.now) }
 {
@@ -88,7 +91,7 @@ pub struct Header {
 }
 
 impl Header {
-    /// The header of a region without keys.
+    /// Returns the header of a region without keys.
     pub(crate) fn empty(alloc: Global) -> Header
         ensures { result ≡ record { names = []; unfinished = []; twice = false } }
     {
@@ -99,7 +102,7 @@ impl Header {
         }
     }
 
-    /// The header of one position.
+    /// Returns the header of one position.
     pub(crate) fn of_one(alloc: Global, position: &NameCol) -> Result<Header, AllocError>
         ensures { IfOk result (λ h. h ≡ record { names = position.now ∷ []; unfinished = []; twice = false }) }
     {
@@ -112,9 +115,9 @@ impl Header {
         })
     }
 
-    /// Tells whether the headers are equal: the same keys, declared alike, the same unfinished spaces, and whether a key is
-    /// declared twice. It reads each list up to the first place that differs, in at most as many steps as the headers have
-    /// keys, spaces and bytes of names.
+    /// Says whether the headers are equal: the same keys, declared alike, the same unfinished spaces, and whether a
+    /// key is declared twice. It reads each list up to the first place that differs, in at most as many steps as the
+    /// headers have keys, spaces and bytes of names.
     pub fn same(&self, other: &Header) -> bool
         ensures { IsTrue result ↔ (self.now ≡ other.now) }
     {

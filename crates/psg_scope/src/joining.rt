@@ -12,6 +12,7 @@ use std::alloc::{AllocError, Global};
 /// The header of two parts of one region.
 #[derive(Drop)]
 pub struct Joined {
+    /// The header of the whole.
     pub header: Header,
     /// For each key of the left header its place in the joined one.
     pub left: Seq<usize>,
@@ -19,18 +20,20 @@ pub struct Joined {
     pub right: Seq<usize>,
 }
 
-/// The header of a region that has the positions of two: its keys are those of both, in order and each once, and a key that
-/// one of them declares is declared. It declares a key twice where one of them does or both declare one key. It copies
-/// each key once, and shares the names.
+/// Makes the header of a region that has the positions of two: its keys are those of both, in order and each once, and
+/// a key that one of them declares is declared. It declares a key twice where one of them does or both declare one key.
+/// It copies each key once, and shares the names.
 pub fn join(alloc: Global, left: &Header, right: &Header) -> Result<Joined, AllocError>
     requires left { IsOrdered left.now }
     requires right { IsOrdered right.now }
     ensures union { IfOk result (λ j. IsUnion left.now right.now j.header) }
     ensures ordered { IfOk result (λ j. IsOrdered j.header) }
     // the header of two parts of a region, whatever the region is
-    ensures region { IfOk result (λ j. (names others declared others_declared : List Key) (unfinished others_unfinished : ℕ → Bool)
+    ensures region { IfOk result (λ j.
+        (names others declared others_declared : List Key) (unfinished others_unfinished : ℕ → Bool)
         → IsHeader names declared unfinished left.now → IsHeader others others_declared others_unfinished right.now
-        → IsHeader (names ++ others) (declared ++ others_declared) (λ s. unfinished s || others_unfinished s) j.header) }
+        → IsHeader (names ++ others) (declared ++ others_declared)
+        (λ s. unfinished s || others_unfinished s) j.header) }
     ensures left { IfOk result (λ j. ArePlaces j.header.names j.left (keys left.now.names)) }
     ensures right { IfOk result (λ j. ArePlaces j.header.names j.right (keys right.now.names)) }
 {
@@ -51,8 +54,8 @@ pub fn join(alloc: Global, left: &Header, right: &Header) -> Result<Joined, Allo
     })
 }
 
-/// The header of an operator's own positions. It joins the headers of both halves, so it takes a number of steps that is
-/// that of the positions times its logarithm.
+/// Makes the header of an operator's own positions. It joins the headers of both halves, so it takes a number of steps
+/// that is that of the positions times its logarithm.
 pub fn header_of(alloc: Global, positions: &[NameCol]) -> Result<Header, AllocError>
     ensures header { IfOk result (IsHeader (keys positions.now) (declared_keys positions.now) (λ _. false)) }
     ensures ordered { IfOk result IsOrdered }

@@ -1,4 +1,4 @@
-//! Headers: the keys of a region, and how those of its parts come together.
+//! Headers: the keys of a region, and how those of its parts are joined.
 //!
 //! ```text
 //! // a use of `x` beside a declaration of `x`: one key, declared; nothing passes outward
@@ -7,8 +7,8 @@
 //! ```
 //!
 //! A header says of a region, without its tree, what a tree around it has to know: its keys in order, which of them are
-//! declared, in which spaces more may still be declared, and whether a key is declared twice. A header is made from those
-//! of the parts, by one walk over both.
+//! declared, in which spaces more may still be declared, and whether a key is declared twice. A header is made from
+//! those of the parts, by one walk over both.
 #![tactic(auto)]
 
 mod closing;

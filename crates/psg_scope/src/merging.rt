@@ -11,7 +11,7 @@ use crate::header::NameCol;
 use std::alloc::{AllocError, Global};
 use std::cmp::Ordering;
 
-/// The keys of two lists, and where those of each list stand among them.
+/// The keys of two lists, and the places of those of each list among them.
 #[derive(Drop)]
 pub(crate) struct Merging {
     pub(crate) names: Vec<NameCol>,
@@ -21,7 +21,7 @@ pub(crate) struct Merging {
     pub(crate) clashes: bool,
 }
 
-/// The key that comes next, and what stands behind it.
+/// The next key of two lists, and what follows it.
 pub(crate) enum First<'a> {
     Left(&'a NameCol, &'a [NameCol]),
     Right(&'a NameCol, &'a [NameCol]),
@@ -29,7 +29,7 @@ pub(crate) enum First<'a> {
     End,
 }
 
-/// Which of the first keys of two lists comes next.
+/// Which of the first keys of two lists is the next one: the lesser, or both where they are equal.
 fn next<'a>(left: &'a [NameCol], right: &'a [NameCol]) -> First<'a>
     ensures { IsNext left.now right.now result }
 {
@@ -68,8 +68,8 @@ fn below(cols: &[NameCol], key: &NameCol) -> usize
     low
 }
 
-/// Counts the first keys of a long list that are below the first key of a short one. Of a list that is less than eight times
-/// as long as the other it counts none: there the walk key by key looks at no more keys than a search does.
+/// Counts the first keys of a long list that are below the first key of a short one. Of a list that is less than eight
+/// times as long as the other it counts none: there the walk key by key looks at no more keys than a search does.
 fn before(long: &[NameCol], short: &[NameCol]) -> usize
     requires { AreRising (keys long.now) }
     ensures within { result ≤ length long.now }
@@ -84,7 +84,7 @@ fn before(long: &[NameCol], short: &[NameCol]) -> usize
     }
 }
 
-/// What two lists are behind the keys that were taken of them.
+/// What two lists are after the keys that were taken of them.
 #[derive(Clone, Copy)]
 struct Rests<'a> {
     left: &'a [NameCol],
@@ -150,7 +150,8 @@ impl Merging {
     }
 
     fn add_both(&mut self, one: &NameCol, two: &NameCol) -> Result<(), AllocError>
-        ensures { OnOk result (GrowsBy self.old self.new (both one.now two.now) (length self.old.names.items ∷ []) (length self.old.names.items ∷ [])) }
+        ensures { OnOk result (GrowsBy self.old self.new (both one.now two.now) (length self.old.names.items ∷ [])
+            (length self.old.names.items ∷ [])) }
     {
         let place = self.names.len();
         self.names
@@ -174,8 +175,9 @@ fn are_declared(one: &NameCol, two: &NameCol) -> bool
     one.declared && two.declared
 }
 
-/// The keys of two lists in order, each once. It copies each key once. Of a list that is at least eight times as long as the
-/// other it looks at as many keys as it takes to find the place of each key of the other by binary search.
+/// Returns the keys of two lists in order, each once. It copies each key once. Of a list that is at least eight times
+/// as long as the other it looks at as many keys as it takes to find the place of each key of the other by binary
+/// search.
 pub(crate) fn merged(
     alloc: Global,
     left: &[NameCol],

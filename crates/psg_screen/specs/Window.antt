@@ -1,6 +1,7 @@
 -- What a window shows of a text. The line is a list of characters, each with the column at which it begins: the sum of
 -- the widths of those before it. Lines and columns are counted from 0.
-use Rattle.std.specs.Prelude.{ℕ, ◌+◌, ◌-◌, min, max, Bool, false, ◌&&◌, ◌==◌, nat_le, List, [], ◌∷◌, ◌++◌, map, replicate, sum_by, unwrap_or, slice_index_or, chars, encode_utf8_all, if◌then◌else◌}
+use Rattle.std.specs.Prelude.{ℕ, ◌+◌, ◌-◌, min, max, Bool, false, ◌&&◌, ◌==◌, nat_le, List, [], ◌∷◌, ◌++◌, map}
+use Rattle.std.specs.Prelude.{replicate, sum_by, unwrap_or, slice_index_or, chars, encode_utf8_all, if◌then◌else◌}
 use Rattle.std.specs.List.{slice_split, range_with_len}
 use Rattle.unicode_width.specs.Width.{char_width}
 use Rattle.psg_screen.specs.declared.View.{View}
@@ -9,7 +10,7 @@ use Rattle.psg_screen.specs.declared.View.{View}
 abbrev pub width_of : ℕ → ℕ
 width_of c = unwrap_or (char_width false c) 0
 
--- the column at which the character behind these begins
+-- the column at which the character after these begins
 abbrev pub column_after : List ℕ → ℕ
 column_after before = sum_by width_of before
 
@@ -34,9 +35,10 @@ ends_written view (c ∷ before) = is_written view (column_after before) (width_
 -- what is shown for a character that begins at this column
 unfoldable pub shown_for : View → ℕ → ℕ → Bool → List ℕ
 shown_for view column c follows =
-    if is_written view column (width_of c) follows then c ∷ [] else replicate (columns_inside view column (width_of c)) 32
+    if is_written view column (width_of c) follows then c ∷ [] else replicate
+    (columns_inside view column (width_of c)) 32
 
--- what is shown for the characters of a line behind some of it, of which the nearest is the first of the list
+-- what is shown for the characters of a line after some of it, of which the nearest is the first of the list
 abbrev pub shown_behind : View → List ℕ → List ℕ → List ℕ
 shown_behind view before [] = []
 shown_behind view before (c ∷ line) =

@@ -2,7 +2,8 @@
 //!
 //! `window(alloc, "変数 + 1", View { top: 0, left: 1, rows: 1, cols: 4 })?` is one line: a space, `数` and a space.
 //!
-//! A window never has half a character, keeps the columns of what it shows, and has exactly the lines that were asked for.
+//! A window never has half a character, keeps the columns of what it shows, and has exactly the lines that were asked
+//! for.
 #![tactic(auto)]
 
 ghost use Rattle.std.specs.Prelude.{◌≡◌, ◌++◌, ◌-◌, [], IfOk, max, replicate, vec_len};
@@ -27,13 +28,14 @@ pub struct View {
     pub cols: u32,
 }
 
-/// The window of the text, as `rows` lines. A line ends at a line feed; past the text's last line the lines are empty.
+/// Returns the window of the text, as `rows` lines. A line ends at a line feed; past the text's last line the lines are
+/// empty.
 ///
 /// A character takes the columns that it has in a terminal by itself, and none if it is a control character. One that
 /// the window has in part is shown as a space for each of its columns there. One that takes no column is shown where
 /// the one before it is, and at the beginning of a line where `left` is 0. No line is filled up with spaces.
 ///
-/// Fails only for want of memory. Reads the text once, up to the window's last line, and those lines that it shows once
+/// Fails only when out of memory. Reads the text once, up to the window's last line, and those lines that it shows once
 /// more.
 pub fn window(alloc: Global, text: &str, view: View) -> Result<Vec<Txt>, AllocError>
     ensures lines { IfOk result (λ lines. lines.items ≡ window_of text.now view) }
@@ -47,7 +49,7 @@ pub fn window(alloc: Global, text: &str, view: View) -> Result<Vec<Txt>, AllocEr
     with_empty_lines(alloc, lines, rows)
 }
 
-/// The lines, and empty ones behind them up to `rows`.
+/// Returns the lines, and empty ones after them up to `rows`.
 fn with_empty_lines(alloc: Global, mut lines: Vec<Txt>, rows: usize) -> Result<Vec<Txt>, AllocError>
     ensures lines { IfOk result (λ filled. filled.items ≡ lines.items ++ replicate (rows - vec_len lines) []) }
     ensures len { IfOk result (λ filled. vec_len filled ≡ max (vec_len lines) rows) }

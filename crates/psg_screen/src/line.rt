@@ -7,7 +7,7 @@ use psg_terms::Txt;
 use std::alloc::{AllocError, Global};
 use unicode_width::UnicodeWidthChar;
 
-/// What the window shows of the line.
+/// Returns what the window shows of the line.
 pub fn shown_line(alloc: Global, line: &str, view: View) -> Result<Txt, AllocError>
     ensures { IfOk result (λ shown. shown ≡ shown_line view line.now) }
 {
@@ -35,7 +35,8 @@ fn push_shown(
 ) -> Result<bool, AllocError>
     requires { column < 2 ^ 34 }
     ensures written { IfOk result (λ written. written ≡ is_written view column (width_of c) follows) }
-    ensures text { OnOk result (string_bytes shown.new ≡ string_bytes shown.old ++ encode_utf8_all (shown_for view column c follows)) }
+    ensures text { OnOk result (string_bytes shown.new
+        ≡ string_bytes shown.old ++ encode_utf8_all (shown_for view column c follows)) }
 {
     let width = width(c);
     if is_written(view, column, width, follows) {
@@ -46,7 +47,7 @@ fn push_shown(
     Ok(false)
 }
 
-/// The columns that the character takes by itself.
+/// Returns the columns that the character takes by itself.
 fn width(c: char) -> u64
     ensures value { result ≡ width_of c }
     ensures bound { result ≤ 3 }
@@ -57,7 +58,7 @@ fn width(c: char) -> u64
     }
 }
 
-/// Whether a character of this width, which begins at this column, is written.
+/// Says whether a character of this width, which begins at this column, is written.
 #[tactic(auto, unfolding(crate::specs::Window::is_written))]
 fn is_written(view: View, column: u64, width: u64, follows: bool) -> bool
     requires start { column < 2 ^ 34 }
@@ -71,7 +72,7 @@ fn is_written(view: View, column: u64, width: u64, follows: bool) -> bool
     left <= column && column + width <= left + u64::from(view.cols)
 }
 
-/// How many of its columns the window has.
+/// Returns how many of its columns the window has.
 #[tactic(auto, unfolding(crate::specs::Window::columns_inside))]
 fn columns_inside(view: View, column: u64, width: u64) -> u64
     requires start { column < 2 ^ 34 }

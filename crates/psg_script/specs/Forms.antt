@@ -1,11 +1,14 @@
 -- Which line spells which command: the words of the command, with spaces between them.
-use Rattle.std.specs.Prelude.{ℕ, suc, ◌<◌, ◌≤◌, ◌^◌, ◌≡◌, ◌≢◌, ◌||◌, ◌==◌, Bool, IsTrue, List, [], ◌∷◌, ◌++◌, length, replicate, Option, Some, None, codes, decimal, IsUtf8}
+use Rattle.std.specs.Prelude.{ℕ, suc, ◌<◌, ◌≤◌, ◌^◌, ◌≡◌, ◌≢◌, ◌||◌, ◌==◌, Bool, IsTrue, List, [], ◌∷◌, ◌++◌, length}
+use Rattle.std.specs.Prelude.{replicate, Option, Some, None, codes, decimal, IsUtf8}
 use Rattle.std.specs.List.{AllByRecursion}
 use Rattle.std.specs.Char.{is_ascii_alphabetic, is_ascii_alphanumeric}
 use Rattle.psg_script.specs.declared.command.Where.{Where}
 use Rattle.psg_script.specs.declared.command.Where.TheVariants.{Cursor, At}
 use Rattle.psg_script.specs.declared.command.Command.{Command}
-use Rattle.psg_script.specs.declared.command.Command.TheVariants.{New, Goto, Refine, Insert, Cut, Remove, Close, Reopen, Over, Range, Show, Screen, Relation, Own, Menu, Names, Free, Undo, Redo, Save, Paste, Keep, Fetch}
+use Rattle.psg_script.specs.declared.command.Command.TheVariants.{New, Goto, Refine, Insert, Cut, Remove, Close, Reopen}
+use Rattle.psg_script.specs.declared.command.Command.TheVariants.{Over, Range, Show, Screen, Relation, Own, Menu, Names}
+use Rattle.psg_script.specs.declared.command.Command.TheVariants.{Free, Undo, Redo, Save, Paste, Keep, Fetch}
 use Rattle.psg_script.specs.declared.command.CommandFault.{CommandFault}
 use Rattle.psg_script.specs.declared.command.CommandFault.TheVariants as faults
 
@@ -50,7 +53,7 @@ abbrev pub IsPlace : Where → Type 0
 IsPlace Cursor = Unit {0}
 IsPlace (At path) = AllByRecursion IsNumber path
 
--- a text that may stand at the end of a line, behind the spaces that set it off: it begins with no space
+-- a text that may be at the end of a line, after the spaces that set it off: it begins with no space
 abbrev pub IsTail : Text → Type 0
 IsTail [] = Unit {0}
 IsTail (b ∷ bs) = b ≢ 32
@@ -68,7 +71,8 @@ IsCommand (Reopen place) = IsPlace place
 IsCommand (Over place text) = IsPlace place × IsTail text
 IsCommand (Range start end text) = IsNumber start × IsNumber end × IsTail text
 IsCommand Show = Unit {0}
-IsCommand (Screen top left rows cols) = IsNumber top × IsNumber left × (1 ≤ rows) × (rows ≤ 200) × (1 ≤ cols) × (cols ≤ 400)
+IsCommand (Screen top left rows cols) = IsNumber top × IsNumber left × (1 ≤ rows) × (rows ≤ 200) × (1 ≤ cols)
+    × (cols ≤ 400)
 IsCommand (Relation place) = IsPlace place
 IsCommand (Own place) = IsPlace place
 IsCommand (Menu place k) = IsPlace place × IsNumberIfAny k
@@ -99,7 +103,7 @@ abbrev pub number_words : Option ℕ → List Text
 number_words None = []
 number_words (Some k) = decimal k ∷ []
 
--- the words of a command, but for the text at its end
+-- the words of a command, except for the text at its end
 abbrev pub words_of : Command → List Text
 words_of (New phylum) = codes "new" ∷ phylum ∷ []
 words_of (Goto place) = codes "goto" ∷ place_text place ∷ []
@@ -153,17 +157,20 @@ tail_of (Fetch file) = None
 
 -- Lines.
 
+-- that many spaces
 abbrev pub spaces : ℕ → Text
 spaces n = replicate n 32
 
--- What stands behind a word, where these words follow it and then this text. One or more spaces stand before a word, and
--- before a text that has bytes. Behind the last word without a text, and before an empty text, any spaces may stand.
+-- What follows a word, where these words follow it and then this text. One or more spaces are before a word,
+-- and before a text that has bytes. After the last word without a text, and before an empty text, there may be any
+-- number of spaces.
 abbrev pub Follow : List Text → Option Text → Text → Type 0
 Follow [] None behind = (n : ℕ) × (behind ≡ spaces n)
 Follow [] (Some text) behind = (n : ℕ) × (behind ≡ spaces n ++ text) × (n ≡ 0 → text ≡ [])
-Follow (w ∷ ws) tail behind = (n : ℕ) × (after : Text) × (behind ≡ spaces (suc n) ++ (w ++ after)) × Follow ws tail after
+Follow (w ∷ ws) tail behind = (n : ℕ) × (after : Text) × (behind ≡ spaces (suc n) ++ (w ++ after))
+    × Follow ws tail after
 
--- the line is these words and then this text; no space stands before the first word
+-- the line is these words and then this text; no space is before the first word
 abbrev pub IsLineOf : List Text → Option Text → Text → Type 0
 IsLineOf [] tail line = ⊥
 IsLineOf (w ∷ ws) tail line = (after : Text) × (line ≡ w ++ after) × Follow ws tail after

@@ -14,6 +14,7 @@ found_words (Three a b c) = Some (a.now ∷ b.now ∷ c.now ∷ [])
 found_words (Four a b c d) = Some (a.now ∷ b.now ∷ c.now ∷ d.now ∷ [])
 found_words More = None
 
--- these words stand there, or none up to four do
+-- the rest of the line is these words, or it is no list of up to four words
 abbrev pub AreWords : Text → Words → Type 0
-AreWords behind found = MatchOption (found_words found) ((ws : List Text) → length ws ≤ 4 → IsClosed ws behind → ⊥) (λ ws. IsClosed ws behind)
+AreWords behind found = MatchOption (found_words found) ((ws : List Text) → length ws ≤ 4 → IsClosed ws behind → ⊥)
+    (λ ws. IsClosed ws behind)

@@ -4,8 +4,11 @@ use Rattle.psg_script.specs.Forms.{Text, words_of}
 use Rattle.psg_script.specs.declared.command.Command.{Command}
 use Rattle.psg_script.specs.declared.command.Command.TheVariants as commands
 use Rattle.psg_script.specs.declared.keyword.Keyword.{Keyword}
-use Rattle.psg_script.specs.declared.keyword.Keyword.TheVariants.{New, Goto, Refine, Insert, Cut, Remove, Close, Reopen, Over, Range, Show, Screen, Relation, Own, Menu, Names, Free, Undo, Redo, Save, Paste, Keep, Fetch}
+use Rattle.psg_script.specs.declared.keyword.Keyword.TheVariants.{New, Goto, Refine, Insert, Cut, Remove, Close, Reopen}
+use Rattle.psg_script.specs.declared.keyword.Keyword.TheVariants.{Over, Range, Show, Screen, Relation, Own, Menu, Names}
+use Rattle.psg_script.specs.declared.keyword.Keyword.TheVariants.{Free, Undo, Redo, Save, Paste, Keep, Fetch}
 
+-- the word that a keyword is written as
 abbrev pub keyword_text : Keyword → Text
 keyword_text New = codes "new"
 keyword_text Goto = codes "goto"
@@ -31,6 +34,7 @@ keyword_text Paste = codes "paste"
 keyword_text Keep = codes "keep"
 keyword_text Fetch = codes "fetch"
 
+-- the first word of a command
 abbrev pub keyword_of : Command → Keyword
 keyword_of (commands.New phylum) = New
 keyword_of (commands.Goto place) = Goto
@@ -56,10 +60,11 @@ keyword_of (commands.Paste place k name) = Paste
 keyword_of (commands.Keep name file) = Keep
 keyword_of (commands.Fetch file) = Fetch
 
+-- all words but the first
 abbrev pub behind_first : List Text → List Text
 behind_first [] = []
 behind_first (w ∷ ws) = ws
 
--- the words behind the first one
+-- the words after the first one
 abbrev pub fields_of : Command → List Text
 fields_of c = behind_first (words_of c)

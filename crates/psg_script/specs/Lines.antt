@@ -2,7 +2,7 @@
 use Rattle.std.specs.Prelude.{List, [], ◌∷◌, ◌++◌, Option, Some, None}
 use Rattle.psg_script.specs.Forms.{Text}
 
--- the line with these words behind it, and a space before each
+-- the line with these words after it, and a space before each
 abbrev pub with_words : Text → List Text → Text
 with_words line [] = line
 with_words line (w ∷ ws) = with_words (line ++ 32 ∷ w) ws

@@ -8,6 +8,7 @@ use Rattle.psg_script.specs.declared.command.Where.{Where}
 abbrev pub Reads : {A T : Type 0} → (A → T → Type 0) → T → Option A → Type 0
 Reads {A} IsWritten text read = MatchOption read ((x : A) → IsWritten x text → ⊥) (λ x. IsWritten x text)
 
+-- the word is the decimal of the number, without zeros in front, and the number is one that commands have
 abbrev pub IsNumeral : ℕ → Text → Type 0
 IsNumeral n word = IsNumber n × (word ≡ decimal n)
 
@@ -15,12 +16,15 @@ IsNumeral n word = IsNumber n × (word ≡ decimal n)
 abbrev pub IsNumeralUpTo : ℕ → ℕ → Text → Type 0
 IsNumeralUpTo most n word = IsNumeral n word × (1 ≤ n) × (n ≤ most)
 
+-- the word is a name, and is this one
 abbrev pub IsNameWord : Text → Text → Type 0
 IsNameWord name word = IsName name × (word ≡ name)
 
+-- the word may name a file, and is this one
 abbrev pub IsFileWord : Text → Text → Type 0
 IsFileWord file word = IsFile file × (word ≡ file)
 
+-- the word is the one of the node
 abbrev pub IsPlaceWord : Where → Text → Type 0
 IsPlaceWord place word = IsPlace place × (word ≡ place_text place)
 

@@ -1,4 +1,4 @@
--- The script that builds a program of so many variables, each of which is declared and assigned.
+-- The script that builds a program of that many variables, each of which is declared and assigned.
 use Rattle.std.specs.Prelude.{ℕ, zero, suc, List, [], ◌∷◌, ◌++◌, codes, decimal}
 use Rattle.std.specs.List.{flat_map}
 use Rattle.psg_script.specs.Forms.{Text}
@@ -21,6 +21,7 @@ assign_lines i =
     ∷ (codes "refine /1/0/0/1 num " ++ decimal i)
     ∷ []
 
+-- the lines: a block, its declarations, and its assignments
 abbrev pub script_lines : ℕ → List Text
 script_lines n =
     (codes "new Stat" ∷ codes "refine / block" ∷ [])
@@ -29,7 +30,7 @@ script_lines n =
     ∷ (flat_map assign_lines (numbers_down n)
     ++ (codes "insert /1 0 while" ∷ codes "menu /1/0/0" ∷ []))))
 
--- the lines, each with a line feed behind it
+-- the lines, each with a line feed after it
 abbrev pub with_feeds : List Text → Text
 with_feeds [] = []
 with_feeds (line ∷ lines) = line ++ 10 ∷ with_feeds lines

@@ -3,7 +3,7 @@ use Rattle.std.specs.Prelude.{ℕ, suc, ◌≡◌, List, [], ◌∷◌, ◌++◌
 use Rattle.std.specs.List.{AllByRecursion}
 use Rattle.psg_script.specs.Forms.{Text, IsWord, IsTail, Follow, spaces}
 
--- what may stand behind a word: nothing, or a text that begins with a space
+-- what may follow a word: nothing, or a text that begins with a space
 abbrev pub IsBehind : Text → Type 0
 IsBehind [] = Unit {0}
 IsBehind (b ∷ bs) = b ≡ 32
@@ -12,7 +12,7 @@ IsBehind (b ∷ bs) = b ≡ 32
 abbrev pub IsNext : Text → Text → Text → Type 0
 IsNext behind w after = ((n : ℕ) × (behind ≡ spaces (suc n) ++ (w ++ after))) × IsWord w × IsBehind after
 
--- words, and nothing but spaces behind them
+-- words, and nothing but spaces after them
 abbrev pub IsClosed : List Text → Text → Type 0
 IsClosed ws behind = AllByRecursion IsWord ws × Follow ws None behind
 

@@ -3,14 +3,16 @@ ghost use Rattle.std.specs.Prelude.{◌≡◌, ◌↔◌, IfOk, IsTrue};
 ghost use Rattle.std.specs.Option.{option_map};
 ghost use Rattle.psg_script.specs.Forms.{IsName, IsWord, goes_on_name};
 ghost use Rattle.std.specs.List.{AllByRecursion};
-ghost use Rattle.psg_script.specs.Reading.{Reads, IsNumeral, IsNumeralUpTo, IsPlaceWord, IsNameWord, IsFileWord, IsStepsText, IsPlacedName};
+ghost use Rattle.psg_script.specs.Reading.{Reads, IsNumeral, IsNumeralUpTo, IsPlaceWord, IsNameWord, IsFileWord};
+ghost use Rattle.psg_script.specs.Reading.{IsStepsText, IsPlacedName};
 
 use crate::command::Where;
 use psg_terms::Txt;
 use psg_tree::Path;
 use std::alloc::{AllocError, Global};
 
-/// The number that a word is the decimal of: digits, with no zero before others, below 2^32.
+/// Returns the number that a word is the decimal of: digits, with no zero before others, below 2^32. `None` for any
+/// other word.
 pub fn read_number(word: &str) -> Option<u32>
     ensures { Reads IsNumeral word.now result }
 {
@@ -23,8 +25,8 @@ pub fn read_number(word: &str) -> Option<u32>
     word.parse().ok()
 }
 
-/// Gives the number from 1 to `most` that the word is the decimal of; `None` where it is the decimal of no such number. A
-/// decimal has no sign, and no zero before other digits.
+/// Gives the number from 1 to `most` that the word is the decimal of; `None` where it is the decimal of no such number.
+/// A decimal has no sign, and no zero before other digits.
 pub fn read_up_to(most: u32, word: &str) -> Option<u32>
     ensures { Reads (IsNumeralUpTo most) word.now result }
 {
@@ -36,7 +38,7 @@ pub fn read_up_to(most: u32, word: &str) -> Option<u32>
     }
 }
 
-/// Whether all bytes are letters, digits and `_` of ASCII.
+/// Says whether all bytes are letters, digits and `_` of ASCII.
 fn goes_on_as_name(bytes: &[u8]) -> bool
     ensures { IsTrue result ↔ AllByRecursion (λ b. IsTrue (goes_on_name b)) bytes.now }
 {
@@ -45,7 +47,7 @@ fn goes_on_as_name(bytes: &[u8]) -> bool
         .all(|b| b.is_ascii_alphanumeric() || *b == b'_')
 }
 
-/// Whether a word is a name: a letter, and then at most 63 letters, digits and `_`, all of ASCII.
+/// Says whether a word is a name: a letter, and then at most 63 letters, digits and `_`, all of ASCII.
 pub fn is_name(word: &str) -> bool
     ensures { IsTrue result ↔ IsName word.now }
 {
@@ -55,7 +57,7 @@ pub fn is_name(word: &str) -> bool
     first.is_ascii_alphabetic() && rest.len() < 64 && goes_on_as_name(rest)
 }
 
-/// The name that a word is.
+/// Returns the name that a word is, or `None` where it is none.
 pub fn read_name(alloc: Global, word: &str) -> Result<Option<Txt>, AllocError>
     ensures { IfOk result (Reads IsNameWord word.now) }
 {
@@ -66,7 +68,7 @@ pub fn read_name(alloc: Global, word: &str) -> Result<Option<Txt>, AllocError>
     }
 }
 
-/// The file that a word names: any word of at most 255 bytes.
+/// Returns the file that a word names: any word of at most 255 bytes. `None` for a longer one.
 pub fn read_file(alloc: Global, word: &str) -> Result<Option<Txt>, AllocError>
     requires { IsWord word.now }
     ensures { IfOk result (Reads IsFileWord word.now) }
@@ -78,7 +80,7 @@ pub fn read_file(alloc: Global, word: &str) -> Result<Option<Txt>, AllocError>
     }
 }
 
-/// The steps that a text is written as behind a first `/`: numbers with `/` between them, one or more.
+/// Returns the steps that a text is written as after a first `/`: numbers with `/` between them, one or more.
 fn read_steps(alloc: Global, text: &str) -> Result<Option<Vec<u32>>, AllocError>
     ensures { IfOk result (λ read. Reads IsStepsText text.now (option_map (λ steps. steps.items) read)) }
 {
@@ -98,7 +100,8 @@ fn read_steps(alloc: Global, text: &str) -> Result<Option<Vec<u32>>, AllocError>
     Ok(Some(steps))
 }
 
-/// The node that a word names: `.` the one of the cursor, `/` the top, else the one at the steps behind each `/`.
+/// Returns the node that a word names: `.` the one of the cursor, `/` the top, else the one at the steps after each
+/// `/`. `None` for any other word.
 pub fn read_place(alloc: Global, word: &str) -> Result<Option<Where>, AllocError>
     ensures { IfOk result (Reads IsPlaceWord word.now) }
 {
@@ -117,7 +120,7 @@ pub fn read_place(alloc: Global, word: &str) -> Result<Option<Where>, AllocError
     }
 }
 
-/// The place and the name that two words are.
+/// Returns the place and the name that two words are, or `None` where one of them is none.
 pub fn read_placed_name(
     alloc: Global,
     place: &str,

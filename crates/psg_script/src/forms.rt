@@ -1,4 +1,5 @@
-//! One function for each form of a line, over what stands behind the line's first word. `None` says that it has not the form.
+//! One function for each form of a line, over what follows the line's first word. `None` says that it has not the
+//! form.
 ghost use Rattle.std.specs.Prelude.{IfOk};
 ghost use Rattle.psg_script.specs.Words.{IsBehind};
 ghost use Rattle.psg_script.specs.Reading.{Reads};
@@ -11,7 +12,7 @@ use crate::words::{Words, is_end, one_and_text, three_and_text, two_and_text, wo
 use psg_terms::Txt;
 use std::alloc::{AllocError, Global};
 
-/// A place, and nothing else.
+/// Returns a place, and nothing else.
 fn place_alone(alloc: Global, behind: &str) -> Result<Option<Where>, AllocError>
     requires { IsBehind behind.now }
     ensures { IfOk result (Reads IsPlaceAlone behind.now) }
@@ -22,7 +23,7 @@ fn place_alone(alloc: Global, behind: &str) -> Result<Option<Where>, AllocError>
     }
 }
 
-/// `new PHYLUM`
+/// Reads `new PHYLUM`.
 pub fn form_new(alloc: Global, behind: &str) -> Result<Option<Command>, AllocError>
     requires { IsBehind behind.now }
     ensures { IfOk result (Reads (IsForm Keyword.New) behind.now) }
@@ -36,7 +37,7 @@ pub fn form_new(alloc: Global, behind: &str) -> Result<Option<Command>, AllocErr
     Ok(Some(Command::New { phylum }))
 }
 
-/// `goto PATH`
+/// Reads `goto PATH`.
 pub fn form_goto(alloc: Global, behind: &str) -> Result<Option<Command>, AllocError>
     requires { IsBehind behind.now }
     ensures { IfOk result (Reads (IsForm Keyword.Goto) behind.now) }
@@ -47,7 +48,7 @@ pub fn form_goto(alloc: Global, behind: &str) -> Result<Option<Command>, AllocEr
     Ok(Some(Command::Goto { at }))
 }
 
-/// `cut PATH`
+/// Reads `cut PATH`.
 pub fn form_cut(alloc: Global, behind: &str) -> Result<Option<Command>, AllocError>
     requires { IsBehind behind.now }
     ensures { IfOk result (Reads (IsForm Keyword.Cut) behind.now) }
@@ -58,7 +59,7 @@ pub fn form_cut(alloc: Global, behind: &str) -> Result<Option<Command>, AllocErr
     Ok(Some(Command::Cut { at }))
 }
 
-/// `close PATH`
+/// Reads `close PATH`.
 pub fn form_close(alloc: Global, behind: &str) -> Result<Option<Command>, AllocError>
     requires { IsBehind behind.now }
     ensures { IfOk result (Reads (IsForm Keyword.Close) behind.now) }
@@ -69,7 +70,7 @@ pub fn form_close(alloc: Global, behind: &str) -> Result<Option<Command>, AllocE
     Ok(Some(Command::Close { at }))
 }
 
-/// `reopen PATH`
+/// Reads `reopen PATH`.
 pub fn form_reopen(alloc: Global, behind: &str) -> Result<Option<Command>, AllocError>
     requires { IsBehind behind.now }
     ensures { IfOk result (Reads (IsForm Keyword.Reopen) behind.now) }
@@ -80,7 +81,7 @@ pub fn form_reopen(alloc: Global, behind: &str) -> Result<Option<Command>, Alloc
     Ok(Some(Command::Reopen { at }))
 }
 
-/// `relation PATH`
+/// Reads `relation PATH`.
 pub fn form_relation(alloc: Global, behind: &str) -> Result<Option<Command>, AllocError>
     requires { IsBehind behind.now }
     ensures { IfOk result (Reads (IsForm Keyword.Relation) behind.now) }
@@ -91,7 +92,7 @@ pub fn form_relation(alloc: Global, behind: &str) -> Result<Option<Command>, All
     Ok(Some(Command::Relation { at }))
 }
 
-/// `own PATH`
+/// Reads `own PATH`.
 pub fn form_own(alloc: Global, behind: &str) -> Result<Option<Command>, AllocError>
     requires { IsBehind behind.now }
     ensures { IfOk result (Reads (IsForm Keyword.Own) behind.now) }
@@ -102,7 +103,7 @@ pub fn form_own(alloc: Global, behind: &str) -> Result<Option<Command>, AllocErr
     Ok(Some(Command::Own { at }))
 }
 
-/// `refine PATH OP ARGS`
+/// Reads `refine PATH OP ARGS`.
 pub fn form_refine(alloc: Global, behind: &str) -> Result<Option<Command>, AllocError>
     requires { IsBehind behind.now }
     ensures { IfOk result (Reads (IsForm Keyword.Refine) behind.now) }
@@ -117,7 +118,7 @@ pub fn form_refine(alloc: Global, behind: &str) -> Result<Option<Command>, Alloc
     Ok(Some(Command::Refine { at, op, args }))
 }
 
-/// `insert PATH K OP ARGS`
+/// Reads `insert PATH K OP ARGS`.
 pub fn form_insert(alloc: Global, behind: &str) -> Result<Option<Command>, AllocError>
     requires { IsBehind behind.now }
     ensures { IfOk result (Reads (IsForm Keyword.Insert) behind.now) }
@@ -140,7 +141,7 @@ pub fn form_insert(alloc: Global, behind: &str) -> Result<Option<Command>, Alloc
     }))
 }
 
-/// `remove PATH K`
+/// Reads `remove PATH K`.
 pub fn form_remove(alloc: Global, behind: &str) -> Result<Option<Command>, AllocError>
     requires { IsBehind behind.now }
     ensures { IfOk result (Reads (IsForm Keyword.Remove) behind.now) }
@@ -157,7 +158,7 @@ pub fn form_remove(alloc: Global, behind: &str) -> Result<Option<Command>, Alloc
     Ok(Some(Command::Remove { at, place }))
 }
 
-/// `over PATH TEXT`
+/// Reads `over PATH TEXT`.
 pub fn form_over(alloc: Global, behind: &str) -> Result<Option<Command>, AllocError>
     requires { IsBehind behind.now }
     ensures { IfOk result (Reads (IsForm Keyword.Over) behind.now) }
@@ -172,7 +173,7 @@ pub fn form_over(alloc: Global, behind: &str) -> Result<Option<Command>, AllocEr
     Ok(Some(Command::Over { at, text }))
 }
 
-/// `range START END TEXT`
+/// Reads `range START END TEXT`.
 pub fn form_range(alloc: Global, behind: &str) -> Result<Option<Command>, AllocError>
     requires { IsBehind behind.now }
     ensures { IfOk result (Reads (IsForm Keyword.Range) behind.now) }
@@ -190,7 +191,7 @@ pub fn form_range(alloc: Global, behind: &str) -> Result<Option<Command>, AllocE
     Ok(Some(Command::Range { start, end, text }))
 }
 
-/// `screen TOP LEFT ROWS COLS`
+/// Reads `screen TOP LEFT ROWS COLS`.
 pub fn form_screen(behind: &str) -> Option<Command>
     requires { IsBehind behind.now }
     ensures { Reads (IsForm Keyword.Screen) behind.now result }
@@ -210,7 +211,7 @@ pub fn form_screen(behind: &str) -> Option<Command>
     })
 }
 
-/// `menu PATH` or `menu PATH K`
+/// Reads `menu PATH` or `menu PATH K`.
 pub fn form_menu(alloc: Global, behind: &str) -> Result<Option<Command>, AllocError>
     requires { IsBehind behind.now }
     ensures { IfOk result (Reads (IsForm Keyword.Menu) behind.now) }
@@ -271,7 +272,7 @@ pub fn form_names(alloc: Global, behind: &str) -> Result<Option<Command>, AllocE
     }
 }
 
-/// `paste PATH NAME` or `paste PATH K NAME`
+/// Reads `paste PATH NAME` or `paste PATH K NAME`.
 pub fn form_paste(alloc: Global, behind: &str) -> Result<Option<Command>, AllocError>
     requires { IsBehind behind.now }
     ensures { IfOk result (Reads (IsForm Keyword.Paste) behind.now) }
@@ -304,7 +305,7 @@ pub fn form_paste(alloc: Global, behind: &str) -> Result<Option<Command>, AllocE
     }
 }
 
-/// `save NAME PATH`
+/// Reads `save NAME PATH`.
 pub fn form_save(alloc: Global, behind: &str) -> Result<Option<Command>, AllocError>
     requires { IsBehind behind.now }
     ensures { IfOk result (Reads (IsForm Keyword.Save) behind.now) }
@@ -318,7 +319,7 @@ pub fn form_save(alloc: Global, behind: &str) -> Result<Option<Command>, AllocEr
     Ok(Some(Command::Save { name, at }))
 }
 
-/// `keep NAME FILE`
+/// Reads `keep NAME FILE`.
 pub fn form_keep(alloc: Global, behind: &str) -> Result<Option<Command>, AllocError>
     requires { IsBehind behind.now }
     ensures { IfOk result (Reads (IsForm Keyword.Keep) behind.now) }
@@ -335,7 +336,7 @@ pub fn form_keep(alloc: Global, behind: &str) -> Result<Option<Command>, AllocEr
     Ok(Some(Command::Keep { name, file }))
 }
 
-/// `fetch FILE`
+/// Reads `fetch FILE`.
 pub fn form_fetch(alloc: Global, behind: &str) -> Result<Option<Command>, AllocError>
     requires { IsBehind behind.now }
     ensures { IfOk result (Reads (IsForm Keyword.Fetch) behind.now) }
@@ -349,7 +350,7 @@ pub fn form_fetch(alloc: Global, behind: &str) -> Result<Option<Command>, AllocE
     Ok(Some(Command::Fetch { file }))
 }
 
-/// `show`
+/// Reads `show`.
 pub fn form_show(behind: &str) -> Option<Command>
     requires { IsBehind behind.now }
     ensures { Reads (IsForm Keyword.Show) behind.now result }
@@ -361,7 +362,7 @@ pub fn form_show(behind: &str) -> Option<Command>
     }
 }
 
-/// `free`
+/// Reads `free`.
 pub fn form_free(behind: &str) -> Option<Command>
     requires { IsBehind behind.now }
     ensures { Reads (IsForm Keyword.Free) behind.now result }
@@ -373,7 +374,7 @@ pub fn form_free(behind: &str) -> Option<Command>
     }
 }
 
-/// `undo`
+/// Reads `undo`.
 pub fn form_undo(behind: &str) -> Option<Command>
     requires { IsBehind behind.now }
     ensures { Reads (IsForm Keyword.Undo) behind.now result }
@@ -385,7 +386,7 @@ pub fn form_undo(behind: &str) -> Option<Command>
     }
 }
 
-/// `redo`
+/// Reads `redo`.
 pub fn form_redo(behind: &str) -> Option<Command>
     requires { IsBehind behind.now }
     ensures { Reads (IsForm Keyword.Redo) behind.now result }

@@ -7,28 +7,51 @@ use crate::command::Command;
 /// The first word of a command's line, one for each command.
 #[derive(Clone, Copy, Debug, PartialEq, Eq)]
 pub enum Keyword {
+    /// The word `new`.
     New,
+    /// The word `goto`.
     Goto,
+    /// The word `refine`.
     Refine,
+    /// The word `insert`.
     Insert,
+    /// The word `cut`.
     Cut,
+    /// The word `remove`.
     Remove,
+    /// The word `close`.
     Close,
+    /// The word `reopen`.
     Reopen,
+    /// The word `over`.
     Over,
+    /// The word `range`.
     Range,
+    /// The word `show`.
     Show,
+    /// The word `screen`.
     Screen,
+    /// The word `relation`.
     Relation,
+    /// The word `own`.
     Own,
+    /// The word `menu`.
     Menu,
+    /// The word `names`.
     Names,
+    /// The word `free`.
     Free,
+    /// The word `undo`.
     Undo,
+    /// The word `redo`.
     Redo,
+    /// The word `save`.
     Save,
+    /// The word `paste`.
     Paste,
+    /// The word `keep`.
     Keep,
+    /// The word `fetch`.
     Fetch,
 }
 
@@ -36,7 +59,7 @@ impl Keyword {
     ghost use Rattle.psg_script.specs.Keywords.{keyword_text};
     ghost use Rattle.psg_script.specs.declared.keyword.Keyword.{Keyword};
 
-    /// The keyword that is written as this word.
+    /// Returns the keyword that is written as this word, or `None` where there is none.
     pub fn of(word: &str) -> Option<Keyword>
         ensures some { IfSome result (λ k. word.now ≡ keyword_text k) }
         ensures none { IfNone result ((k : Keyword) → word.now ≡ keyword_text k → ⊥) }
@@ -69,7 +92,7 @@ impl Keyword {
         })
     }
 
-    /// The word that the keyword is written as.
+    /// Returns the word that the keyword is written as.
     pub fn text(self) -> &'static str
         ensures { result.now ≡ keyword_text self }
     {
@@ -101,7 +124,7 @@ impl Keyword {
     }
 }
 
-/// The keyword of a command.
+/// Returns the keyword of a command.
 pub fn keyword_of(command: &Command) -> Keyword
     ensures { result ≡ keyword_of command.now }
 {

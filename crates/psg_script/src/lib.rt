@@ -1,10 +1,10 @@
 //! The lines of a script.
 //!
-//! `read_command(alloc, b"goto /0/1")` gives the command of a line, `command_text` one line of a command, and `make_script` a
-//! large script.
+//! `read_command(alloc, b"goto /0/1")` gives the command of a line, `command_text` one line of a command, and
+//! `make_script` a large script.
 //!
 //! A line is the words of its command with one or more spaces between them, and in four forms the rest of the line is a
-//! text of its own. No space stands before the first word. A line spells at most one command.
+//! text of its own. No space is before the first word. A line spells at most one command.
 #![tactic(auto)]
 
 pub mod command;

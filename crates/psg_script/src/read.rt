@@ -16,7 +16,7 @@ use crate::keyword::Keyword;
 use crate::words::split_word;
 use std::alloc::{AllocError, Global};
 
-/// The command of a line that begins with a keyword, by what stands behind the keyword.
+/// Returns the command of a line that begins with a keyword, by what follows the keyword.
 fn read_form(alloc: Global, keyword: Keyword, behind: &str) -> Result<Option<Command>, AllocError>
     requires { IsBehind behind.now }
     ensures { IfOk result (Reads (IsForm keyword) behind.now) }
@@ -48,9 +48,9 @@ fn read_form(alloc: Global, keyword: Keyword, behind: &str) -> Result<Option<Com
     }
 }
 
-/// Reads a line of a script, without its line feed. `NotText` where the line isn't UTF-8, `Form` where it is and has none of
-/// the forms of a command, `Memory` where there is no room for the command. It walks the line once for the test of UTF-8 and
-/// at most three times for its words.
+/// Reads a line of a script, without its line feed. `NotText` where the line isn't UTF-8, `Form` where it is and has
+/// none of the forms of a command, `Memory` where there is no room for the command. It walks the line once for the test
+/// of UTF-8 and at most three times for its words.
 pub fn read_command(alloc: Global, line: &[u8]) -> Result<Command, CommandFault>
     ensures ok { IfOk result (λ c. Spells line.now c) }
     ensures only { IfOk result (λ c. (other : Command) → Spells line.now other → other ≡ c) }

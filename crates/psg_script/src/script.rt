@@ -8,7 +8,8 @@ use std::fmt::Write;
 
 /// Writes the lines that declare the variables below a number, the greatest first.
 fn push_declarations(script: &mut String, n: u32) -> Result<(), AllocError>
-    ensures { OnOk result (string_bytes script.new ≡ string_bytes script.old ++ with_feeds (flat_map declare_lines (numbers_down n))) }
+    ensures { OnOk result (string_bytes script.new
+        ≡ string_bytes script.old ++ with_feeds (flat_map declare_lines (numbers_down n))) }
 {
     for i in (0..n).rev() {
         write!(script, "insert /0 0 vardecl v{i}\nrefine /0/0/0 tint\n")?;
@@ -18,7 +19,8 @@ fn push_declarations(script: &mut String, n: u32) -> Result<(), AllocError>
 
 /// Writes the lines that assign to the variables below a number, the greatest first.
 fn push_assignments(script: &mut String, n: u32) -> Result<(), AllocError>
-    ensures { OnOk result (string_bytes script.new ≡ string_bytes script.old ++ with_feeds (flat_map assign_lines (numbers_down n))) }
+    ensures { OnOk result (string_bytes script.new
+        ≡ string_bytes script.old ++ with_feeds (flat_map assign_lines (numbers_down n))) }
 {
     for i in (0..n).rev() {
         write!(
@@ -29,9 +31,9 @@ fn push_assignments(script: &mut String, n: u32) -> Result<(), AllocError>
     Ok(())
 }
 
-/// A script of 6n + 6 lines for `n` variables, from 1 to 1,000, each line with a line feed. It makes a block, declares the
-/// variables `v0`, `v1` and so on as `int`, closes the declarations, assigns to each variable the sum of itself and its number,
-/// puts a loop before the assignments, and asks for the menu at its condition.
+/// Makes a script of 6n + 6 lines for `n` variables, from 1 to 1,000, each line with a line feed. It makes a block,
+/// declares the variables `v0`, `v1` and so on as `int`, closes the declarations, assigns to each variable the sum of
+/// itself and its number, puts a loop before the assignments, and asks for the menu at its condition.
 pub fn make_script(alloc: Global, n: u32) -> Result<Vec<u8>, AllocError>
     requires low { 1 ≤ n }
     requires high { n ≤ 1000 }

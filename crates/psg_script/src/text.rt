@@ -9,7 +9,7 @@ use crate::keyword::keyword_of;
 use std::alloc::{AllocError, Global};
 use std::fmt::Write;
 
-/// Puts a space and a word behind a line.
+/// Puts a space and a word at the end of a line.
 fn push_word(line: &mut String, word: &str) -> Result<(), AllocError>
     ensures { OnOk result (string_bytes line.new ≡ string_bytes line.old ++ 32 ∷ word.now) }
 {
@@ -17,14 +17,14 @@ fn push_word(line: &mut String, word: &str) -> Result<(), AllocError>
     line.push_str(word)
 }
 
-/// Puts a space and a number behind a line.
+/// Puts a space and a number at the end of a line.
 fn push_number(line: &mut String, number: u32) -> Result<(), AllocError>
     ensures { OnOk result (string_bytes line.new ≡ string_bytes line.old ++ 32 ∷ decimal number) }
 {
     write!(line, " {number}")
 }
 
-/// Puts a `/` and a number for each step behind a line.
+/// Puts a `/` and a number for each step at the end of a line.
 fn push_steps(line: &mut String, steps: &[u32]) -> Result<(), AllocError>
     ensures { OnOk result (string_bytes line.new ≡ string_bytes line.old ++ steps_text steps.now) }
 {
@@ -34,7 +34,7 @@ fn push_steps(line: &mut String, steps: &[u32]) -> Result<(), AllocError>
     Ok(())
 }
 
-/// Puts a space and the word of a place behind a line.
+/// Puts a space and the word of a place at the end of a line.
 fn push_place(line: &mut String, place: &Where) -> Result<(), AllocError>
     ensures { OnOk result (string_bytes line.new ≡ string_bytes line.old ++ 32 ∷ place_text place.now) }
 {
@@ -51,7 +51,7 @@ fn push_place(line: &mut String, place: &Where) -> Result<(), AllocError>
     }
 }
 
-/// Puts a space and a number behind a line, where there is one.
+/// Puts a space and a number at the end of a line, where there is one.
 fn push_number_if_any(line: &mut String, number: Option<u32>) -> Result<(), AllocError>
     ensures { OnOk result (string_bytes line.new ≡ with_words (string_bytes line.old) (number_words number)) }
 {
@@ -72,9 +72,10 @@ fn push_tail(line: &mut String, text: &str) -> Result<(), AllocError>
     }
 }
 
-/// Puts the words of a command behind its first one, and then its text, where it has one.
+/// Puts the words of a command after its first one, and then its text, where it has one.
 fn push_parts(line: &mut String, command: &Command) -> Result<(), AllocError>
-    ensures { OnOk result (string_bytes line.new ≡ with_tail (with_words (string_bytes line.old) (fields_of command.now)) (tail_of command.now)) }
+    ensures { OnOk result (string_bytes line.new
+        ≡ with_tail (with_words (string_bytes line.old) (fields_of command.now)) (tail_of command.now)) }
 {
     match command {
         Command::Show | Command::Free | Command::Undo | Command::Redo => Ok(()),
@@ -151,8 +152,8 @@ fn push_parts(line: &mut String, command: &Command) -> Result<(), AllocError>
     }
 }
 
-/// The line of a command, with no more spaces than it needs: one before each word but the first, and one before the text at
-/// its end where that has bytes. `read_command` gives the command back.
+/// Returns the line of a command, with no more spaces than it needs: one before each word but the first, and one before
+/// the text at its end where that has bytes. `read_command` gives the command back.
 pub fn command_text(alloc: Global, command: &Command) -> Result<String, AllocError>
     requires { IsCommand command.now }
     ensures { IfOk result (λ line. Spells (string_bytes line) command.now) }

@@ -1,11 +1,11 @@
-//! The words of a line, and what stands behind them.
+//! The words of a line, and what follows them.
 ghost use Rattle.std.specs.Prelude.{◌≡◌, ◌++◌, ℕ, List, [], ◌∷◌, length, None, IfNone, IfSome, IsTrue, ◌↔◌};
 ghost use Rattle.std.specs.List.{AllByRecursion};
 ghost use Rattle.psg_script.specs.Forms.{Text, IsInWord, IsTail, Follow, spaces};
 ghost use Rattle.psg_script.specs.Words.{IsBehind, IsNext, IsOpen};
 ghost use Rattle.psg_script.specs.Found.{AreWords};
 
-/// The text behind the spaces that it begins with.
+/// Returns the text after the spaces that it begins with.
 pub fn skip_spaces(mut text: &str) -> &str
     ensures spaces { (n : ℕ) × (text.now ≡ spaces n ++ result.now) }
     ensures rest { IsTail result.now }
@@ -16,7 +16,7 @@ pub fn skip_spaces(mut text: &str) -> &str
     text
 }
 
-/// The word that a text begins with, which is empty where it begins with a space, and what stands behind the word.
+/// Returns the word that a text begins with, which is empty where it begins with a space, and what follows the word.
 pub fn split_word(text: &str) -> (&str, &str)
     ensures parts { text.now ≡ result.0.now ++ result.1.now }
     ensures word { AllByRecursion IsInWord result.0.now }
@@ -28,7 +28,7 @@ pub fn split_word(text: &str) -> (&str, &str)
     }
 }
 
-/// The next word and what stands behind it, of a text that stands behind a word. `None` where only spaces are left.
+/// Returns the next word and what follows it, of a text that follows a word. `None` where only spaces are left.
 pub fn next_word(behind: &str) -> Option<(&str, &str)>
     requires { IsBehind behind.now }
     ensures some { IfSome result (λ parts. IsNext behind.now parts.0.now parts.1.now) }
@@ -41,26 +41,31 @@ pub fn next_word(behind: &str) -> Option<(&str, &str)>
     Some(split_word(text))
 }
 
-/// Whether only spaces are left behind a word.
+/// Says whether only spaces are left after a word.
 pub fn is_end(behind: &str) -> bool
     ensures { IsTrue result ↔ Follow [] None behind.now }
 {
     skip_spaces(behind).is_empty()
 }
 
-/// The words behind a word, in a line that has nothing else.
+/// The words after a word, in a line that has nothing else.
 #[derive(Clone, Copy)]
 pub enum Words<'a> {
+    /// No word.
     Nothing,
+    /// One word.
     One(&'a str),
+    /// Two words, in order.
     Two(&'a str, &'a str),
+    /// Three words, in order.
     Three(&'a str, &'a str, &'a str),
+    /// Four words, in order.
     Four(&'a str, &'a str, &'a str, &'a str),
     /// Five or more, which no command has.
     More,
 }
 
-/// The words that stand behind a word.
+/// Returns the words that follow a word.
 pub fn words_behind(behind: &str) -> Words<'_>
     requires { IsBehind behind.now }
     ensures { AreWords behind.now result }
@@ -84,7 +89,7 @@ pub fn words_behind(behind: &str) -> Words<'_>
     }
 }
 
-/// A word, and the text at the end of the line behind it.
+/// Returns a word, and the text at the end of the line after it.
 pub fn one_and_text(behind: &str) -> Option<(&str, &str)>
     requires { IsBehind behind.now }
     ensures some { IfSome result (λ found. IsOpen (found.0.now ∷ []) found.1.now behind.now) }
@@ -94,7 +99,7 @@ pub fn one_and_text(behind: &str) -> Option<(&str, &str)>
     Some((first, skip_spaces(behind)))
 }
 
-/// Two words, and the text at the end of the line behind them.
+/// Returns two words, and the text at the end of the line after them.
 pub fn two_and_text(behind: &str) -> Option<(&str, &str, &str)>
     requires { IsBehind behind.now }
     ensures some { IfSome result (λ found. IsOpen (found.0.now ∷ found.1.now ∷ []) found.2.now behind.now) }
@@ -105,10 +110,11 @@ pub fn two_and_text(behind: &str) -> Option<(&str, &str, &str)>
     Some((first, second, text))
 }
 
-/// Three words, and the text at the end of the line behind them.
+/// Returns three words, and the text at the end of the line after them.
 pub fn three_and_text(behind: &str) -> Option<(&str, &str, &str, &str)>
     requires { IsBehind behind.now }
-    ensures some { IfSome result (λ found. IsOpen (found.0.now ∷ found.1.now ∷ found.2.now ∷ []) found.3.now behind.now) }
+    ensures some { IfSome result (λ found.
+        IsOpen (found.0.now ∷ found.1.now ∷ found.2.now ∷ []) found.3.now behind.now) }
     ensures none { IfNone result ((ws : List Text) (text : Text) → length ws ≡ 3 → IsOpen ws text behind.now → ⊥) }
 {
     let (first, behind) = next_word(behind)?;

@@ -13,7 +13,7 @@ use Rattle.psg_class.proofs.FormedLaws.{yields_are_trees}
 use Rattle.psg_library.specs.declared.fragment.SavedFragment.{SavedFragment}
 use Rattle.psg_library.specs.Heads.{is_feed, text_in}
 use Rattle.psg_library.specs.Keeping.{IsKept}
-use Rattle.psg_session.proofs.TokenValues.{text_values}
+use Rattle.psg_textedit.proofs.TokenValues.{text_values}
 
 feed_is : (b : ℕ) → is_feed b ≡ true → b ≡ 10
 feed_is b e = elim (eqb_tells b 10) [ inl y ↦ y.1 | inr n ↦ absurd (true≢false (sym e ∙ n.0)) ]

@@ -36,7 +36,7 @@ use Rattle.psg_session.specs.Typed.{ReadsFor}
 use Rattle.psg_session.proofs.ChangeLaws.{end_is_list, finished_formed, kind_is, kind_there, one_list_kind, one_operator}
 use Rattle.psg_session.proofs.NewTrees.{blank_formed}
 use Rattle.psg_session.proofs.StepLaws.{some_once}
-use Rattle.psg_session.proofs.TokenValues.{text_values}
+use Rattle.psg_textedit.proofs.TokenValues.{text_values}
 
 -- ---- one or the other
 

@@ -19,7 +19,6 @@ pub mod Asking
 pub mod PrintLaws
 pub mod Showing
 pub mod OneStep
-pub mod TokenValues
 pub mod NewTrees
 pub mod FetchedTrees
 pub mod AllOf

@@ -25,7 +25,7 @@ use Rattle.psg_session.proofs.FetchedTrees.{rest_utf8}
 use Rattle.psg_session.proofs.FormedMakes.{found_has}
 use Rattle.psg_session.proofs.PrintableTrees.{blank_printable, changed_printable, ended_printable, fresh_printable, inserted_printable, removed_printable, replaced_printable}
 use Rattle.psg_session.proofs.PrintableYields.{reads_printable}
-use Rattle.psg_session.proofs.TokenValues.{text_values}
+use Rattle.psg_textedit.proofs.TokenValues.{text_values}
 
 abbrev HasPrintable : Saved → Type 0
 HasPrintable x = IsPrintable x.tree

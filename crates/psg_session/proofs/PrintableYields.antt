@@ -13,7 +13,7 @@ use Rattle.psg_class.specs.Terminals.{Token, dots}
 use Rattle.psg_class.specs.Texts.{ReadsAs, tokens_of}
 use Rattle.psg_class.specs.Yields.{TreeYields, of_hole, of_operator, in_brackets, PartsYield, no_items, of_word, of_refers, of_declares, of_number, of_text, of_slot, of_list_slot, ListYields, no_elements, only_more, elements, SomeYield, last_element, and_more, and_elements, Yields}
 use Rattle.psg_session.proofs.ShortTokens.{IsShowable, all_showable, short_tokens}
-use Rattle.psg_session.proofs.TokenValues.{text_values}
+use Rattle.psg_textedit.proofs.TokenValues.{text_values}
 
 abbrev AreShowable : List Token → Type 0
 AreShowable ts = AllByRecursion IsShowable ts

@@ -14,7 +14,7 @@ use Rattle.psg_grammar.specs.Regions.{declared_in, names_of}
 abbrev pub space_name : List Space → ℕ → Name
 space_name spaces n = get_or (map (λ (s : Space). s.name) spaces) n []
 
--- a key as its name, in version 2 behind that of its space: `s:x`
+-- a key as its name, in version 2 after the name of its space and a colon: `s:x`
 abbrev pub key_text : Definition → Key → List ℕ
 key_text def k = cond (def.version == 2) (space_name def.spaces (space_of k) ++ (58 ∷ name_in k)) (name_in k)
 

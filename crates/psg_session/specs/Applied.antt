@@ -15,12 +15,13 @@ abbrev pub IsAskedBy : Definition → State → Command → Option Asked → Typ
 IsAskedBy def s command (Some asked) = Asks def s command asked
 IsAskedBy def s command None = (asked : Asked) → Asks def s command asked → ⊥
 
+-- the reply is a refusal
 abbrev pub IsRefusal : Reply → Type 0
 IsRefusal (refused refusal) = Unit {0}
 IsRefusal (answered lines) = ⊥
 
--- The plain editor goes from s to t at the command with the reply, by what the files answered; so many evaluations were
--- counted.
+-- The plain editor goes from s to t at the command with the reply, by what the files answered. The counter goes from
+-- `from` to `to`, within the bound of the command.
 pub record HasApplied (def : Definition) (s t : State) (command : Command) (before after : Outside) (from to : ℕ)
     (reply : Reply) : Type 0 where
   pub asked : Option Asked
@@ -30,7 +31,7 @@ pub record HasApplied (def : Definition) (s t : State) (command : Command) (befo
   pub steps : Steps def (IsCompletable def) s answer command t reply
   pub ticked : HasTickedWith def s answer command from to
 
--- Memory was wanting, perhaps after the command had asked.
+-- Memory ran out, perhaps after the command had asked.
 pub record HasStopped (def : Definition) (s : State) (command : Command) (before after : Outside) (from to : ℕ)
     : Type 0 where
   pub asked : Option Asked

@@ -15,8 +15,8 @@ edited (Put at new) f = replaced at new f
 edited (Add at place new) f = change_at (inserted place new) at f
 edited (Take at place) f = change_at (removed place) at f
 
--- how many evaluations the change may take: those by which the new tree differs from the old one, or those of a new element and of
--- the nodes and list suffixes above it
+-- how many evaluations the change may take: those by which the new tree differs from the old one, or those of a new
+-- element and of the nodes and list suffixes above it
 abbrev pub cost_of : Edit → Fragment → ℕ
 cost_of (Put at new) f = diff_of f (replaced at new f)
 cost_of (Add at place new) f = work_of new + (place + 1) + climb_of f at

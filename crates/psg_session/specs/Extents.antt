@@ -10,8 +10,8 @@ use Rattle.psg_session.specs.declared.measuring.Extent.{Extent}
 use Rattle.psg_session.specs.Views.{mark_of}
 
 module _ (def : Definition) (IsGood : Fragment → Type 0) where
-  -- The tree has so many nodes, its printed text so many bytes, and the relations of its nodes and list suffixes so much
-  -- weight together. It has the mark.
+  -- The tree has this number of nodes and its printed text this number of bytes. The relations of its nodes and list
+  -- suffixes have this weight together. The tree has the mark.
   pub record HasExtent (f : Fragment) (nodes bytes weight : ℕ) (mark : Mark) : Type 0 where
     pub nodes_are : nodes ≡ nodes_of f
     pub bytes_are : bytes ≡ length (text_of def f)

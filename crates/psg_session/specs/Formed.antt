@@ -24,8 +24,8 @@ module _ (def : Definition) where
   abbrev pub IsFormedSaved : Saved → Type 0
   IsFormedSaved x = WellFormed def x.tree x.kind
 
-  -- The opened fragment, its earlier and its later trees are of its kind, the saved ones of theirs, all are printable, and
-  -- the cursor leads to a node.
+  -- The opened fragment, its earlier and its later trees are of its kind, the saved ones of theirs, all are printable,
+  -- and the cursor leads to a node.
   pub record IsFormedState (s : State) : Type 0 where
     pub opened : (old : Opened) → s.opened ≡ Some old → WellFormed def old.tree old.kind
     pub cursor : (old : Opened) → s.opened ≡ Some old → (node : Fragment) × (node_at old.tree s.cursor ≡ Some node)

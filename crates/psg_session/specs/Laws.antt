@@ -30,4 +30,5 @@ StepsByCompletions def = (s t : State) (answer : Answer) (command : Command) (re
 
 -- The printed text of the opened fragment of such a state reads back as its tree.
 abbrev pub ShownReadsBack : Definition → Type 0
-ShownReadsBack def = (s : State) (old : Opened) → IsFormedState def s → s.opened ≡ Some old → ReadsBack def old.tree old.kind
+ShownReadsBack def =
+    (s : State) (old : Opened) → IsFormedState def s → s.opened ≡ Some old → ReadsBack def old.tree old.kind

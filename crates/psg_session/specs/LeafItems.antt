@@ -1,5 +1,6 @@
 -- Which leaves an operator's items take, item by item.
-use Rattle.std.specs.Prelude.{ℕ, ◌↔◌, ◌<◌, ◌≤◌, ◌^◌, Bool, true, false, List, ◌∷◌, length, drop, map, Option, None, Some, IsUtf8}
+use Rattle.std.specs.Prelude.{ℕ, ◌↔◌, ◌<◌, ◌≤◌, ◌^◌, Bool, true, false, List, ◌∷◌, length, drop, map, Option, None}
+use Rattle.std.specs.Prelude.{Some, IsUtf8}
 use Rattle.psg_grammar.specs.declared.types.Item.{Item}
 use Rattle.psg_grammar.specs.declared.types.Item.TheVariants as items
 use Rattle.psg_grammar.specs.declared.types.Definition.{Definition}
@@ -17,10 +18,12 @@ has_leaf items.Number = true
 has_leaf items.Text = true
 has_leaf _ = false
 
+-- a number below 2^128
 abbrev pub IsNumberLeaf : PlainLeaf → Type 0
 IsNumberLeaf (a_number n) = n < 2 ^ 128
 IsNumberLeaf _ = ⊥
 
+-- a text of UTF-8
 abbrev pub IsTextLeaf : PlainLeaf → Type 0
 IsTextLeaf (a_text t) = IsUtf8 t
 IsTextLeaf _ = ⊥

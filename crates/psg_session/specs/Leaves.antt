@@ -17,6 +17,7 @@ leaf_of (tokens.Number n) = Some (a_number n)
 leaf_of (tokens.Text t) = Some (a_text t)
 leaf_of _ = None
 
+-- the leaf that a token gives, if it is one
 abbrev pub given : Spanned → Option PlainLeaf
 given s = leaf_of s.token
 
@@ -26,8 +27,8 @@ HasWord (a_name n) = IsWord (chars n)
 HasWord (a_number n) = Unit {0}
 HasWord (a_text t) = Unit {0}
 
--- The text has tokens, each of which is a leaf, and these are one for each name position, number and text of the operator, in
--- order and of their kinds.
+-- The text has tokens, each of which is a leaf, and these are one for each name position, number and text of the
+-- operator, in order and of their kinds.
 abbrev pub GivesLeaves : Definition → ℕ → List ℕ → List PlainLeaf → Type 0
 GivesLeaves def o args leaves =
     (found : List Spanned) × HasTokens (fixed_words def) (chars args) 0 found × (map given found ≡ map Some leaves)

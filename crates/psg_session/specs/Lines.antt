@@ -17,7 +17,7 @@ pub data HasAnswered (def : Definition) (s t : State) (line : List ℕ) (before 
   to_command : (command : Command) → Spells line command → HasApplied def s t command before after from to reply
       → HasAnswered def s t line before after from to reply
 
--- Memory was wanting, before the line was read or at its command.
+-- Memory ran out, before the line was read or at its command.
 pub data HasBroken (def : Definition) (s : State) (line : List ℕ) (before after : Outside) (from to : ℕ)
     : Type 0 where
   at_line : after ≡ before → to ≡ from → HasBroken def s line before after from to

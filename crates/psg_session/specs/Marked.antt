@@ -14,6 +14,7 @@ abbrev pub paths_text : List Path → List ℕ
 paths_text [] = []
 paths_text (p ∷ ps) = 32 ∷ (path_text p ++ paths_text ps)
 
+-- the mark as it is written: `ok`, or `wrong` and the culprits' paths, each after a space
 abbrev pub mark_text : Mark → List ℕ
 mark_text good = codes "ok"
 mark_text (wrong culprits) = codes "wrong" ++ paths_text culprits

@@ -1,5 +1,6 @@
 -- What is found and replied where operators and names are tried at a place.
-use Rattle.std.specs.Prelude.{ℕ, ◌≡◌, ◌<◌, ◌+◌, ◌⊎◌, List, [], ◌∷◌, length, map, Option, Some, None, Result, Ok, Err, Vec}
+use Rattle.std.specs.Prelude.{ℕ, ◌≡◌, ◌<◌, ◌+◌, ◌⊎◌, List, [], ◌∷◌, length, map, Option, Some, None, Result, Ok, Err}
+use Rattle.std.specs.Prelude.{Vec}
 use Rattle.std.specs.declared.alloc.Global.{Global}
 use Rattle.psg_terms.specs.Names.{Name}
 use Rattle.psg_grammar.specs.declared.types.Kind.TheVariants as kinds
@@ -27,8 +28,8 @@ climb_before f path None = climb_of f path
 climb_before f path (Some k) = (k + 1) + climb_of f path
 
 module _ (def : Definition) where
-  -- An operator may be tried at the node: the phylum is that of the placeholder or of the list's elements, and the frames
-  -- are those around the place.
+  -- An operator may be tried at the node: the phylum is that of the placeholder or of the list's elements, and the
+  -- frames are those around the place.
   pub record IsSite (f : Fragment) (path : Path) (k : Option ℕ) (node : Fragment) (site : Site) : Type 0 where
     pub room : HasNoPlace def k node → ⊥
     pub wanted : IsWanted def k node site.phylum
@@ -48,7 +49,8 @@ module _ (def : Definition) where
   -- the names of the operators on a line, or the refusal of a trial that is too wide
   abbrev pub IsOffered : Result (Vec ℕ Global) FocusFault → Reply → Type 0
   IsOffered (Ok ops) reply =
-      (names : List Name) × (map (op_name_of def) ops.items ≡ map Some names) × (reply_of reply ≡ answered (names_line names ∷ []))
+      (names : List Name) × (map (op_name_of def) ops.items ≡ map Some names)
+      × (reply_of reply ≡ answered (names_line names ∷ []))
   IsOffered (Err questions.Wide) reply = reply_of reply ≡ refused TooWide
   IsOffered (Err questions.Memory) reply = ⊥
 

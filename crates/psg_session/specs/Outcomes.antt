@@ -1,5 +1,6 @@
 -- What the parts of a step answer.
-use Rattle.std.specs.Prelude.{ℕ, ◌≡◌, ◌⊎◌, ◌+◌, ◌≤◌, List, [], ◌∷◌, ◌++◌, length, map, Some, None, Option, Result, Ok, Err, take}
+use Rattle.std.specs.Prelude.{ℕ, ◌≡◌, ◌⊎◌, ◌+◌, ◌≤◌, List, [], ◌∷◌, ◌++◌, length, map, Some, None, Option, Result, Ok}
+use Rattle.std.specs.Prelude.{Err, take}
 use Rattle.std.specs.List.{AllByRecursion}
 use Rattle.psg_terms.specs.Names.{Name}
 use Rattle.psg_grammar.specs.declared.types.Definition.{Definition}
@@ -19,7 +20,8 @@ use Rattle.psg_script.specs.declared.command.Where.{Where}
 use Rattle.psg_session.specs.declared.editor.OpenedTree.{OpenedTree}
 use Rattle.psg_session.specs.declared.editor.Editor.{Editor}
 use Rattle.psg_session.specs.declared.editor.Outcome.{Outcome}
-use Rattle.psg_session.specs.declared.editor.Outcome.TheVariants.{Stays, Opens as OpensTree, Changes, Undoes, Redoes, Saves, Goes}
+use Rattle.psg_session.specs.declared.editor.Outcome.TheVariants.{Stays, Opens as OpensTree, Changes, Undoes, Redoes}
+use Rattle.psg_session.specs.declared.editor.Outcome.TheVariants.{Saves, Goes}
 use Rattle.psg_session.specs.declared.finding.Found.{Found}
 use Rattle.psg_session.specs.declared.pasting.Source.{Source}
 use Rattle.psg_session.specs.Shelf.{saved_at}
@@ -30,7 +32,9 @@ use Rattle.psg_session.specs.declared.changes.Made.{Made}
 use Rattle.psg_session.specs.declared.changes.Plan.{Plan}
 use Rattle.psg_session.specs.declared.changes.Plan.TheVariants.{RefusedBy, Makes as Plans}
 use Rattle.psg_session.specs.declared.refusal.Refusal.{Refusal}
-use Rattle.psg_session.specs.declared.refusal.Refusal.TheVariants.{NoFragment, NoNode, NothingOpened, TooBig, TooDeep, TooHeavy, TooWide, Unknown, OtherPhylum, BadArguments}
+use Rattle.psg_session.specs.declared.refusal.Refusal.TheVariants.{NoFragment, NoNode, NothingOpened, TooBig, TooDeep}
+use Rattle.psg_session.specs.declared.refusal.Refusal.TheVariants.{TooHeavy, TooWide, Unknown, OtherPhylum}
+use Rattle.psg_session.specs.declared.refusal.Refusal.TheVariants.{BadArguments}
 use Rattle.psg_session.specs.declared.replies.Reply.{Reply}
 use Rattle.psg_session.specs.declared.replies.Reply.TheVariants.{Answered, Marked}
 use Rattle.psg_session.specs.declared.edits.Edit.{Edit}
@@ -39,7 +43,8 @@ use Rattle.psg_session.specs.Edits.{MayEdit, cost_of, edited}
 use Rattle.psg_session.specs.Good.{IsGoodIn}
 use Rattle.psg_session.specs.PlainState.{Answer, Opened, State, not_asked, named_path, with_change, with_cursor}
 use Rattle.psg_session.specs.Leaves.{GivesLeaves}
-use Rattle.psg_session.specs.PlainStep.{Gives, IsRefused, IsTaken, Makes, IsOperator, IsOfPhylum, IsListOf, OfResult, Steps, end_of, opening, growing, closing, loosening}
+use Rattle.psg_session.specs.PlainStep.{Gives, IsRefused, IsTaken, Makes, IsOperator, IsOfPhylum, IsListOf, OfResult}
+use Rattle.psg_session.specs.PlainStep.{Steps, end_of, opening, growing, closing, loosening}
 use Rattle.psg_session.specs.Refusals.{Tests, Refuses, Passes, test}
 use Rattle.psg_session.specs.Shrinking.{IsSizedBy}
 use Rattle.psg_session.specs.Ticks.{MayTick, HasTicked}
@@ -66,6 +71,7 @@ undone s (Some old) (tree ∷ rest) cursor = record {
   saved = s.saved;
 }
 
+-- The state in which the nearest later tree is opened; where there is none it stays.
 abbrev pub redone : State → Option Opened → List Fragment → Path → State
 redone s None later cursor = s
 redone s (Some old) [] cursor = s
@@ -92,6 +98,7 @@ after e (Undoes cursor mark) = undone (state_of e) (opened_of e.opened) (map tre
 after e (Redoes cursor mark) = redone (state_of e) (opened_of e.opened) (map tree_in e.history.later) cursor
 after e (Saves saved lines) = shelved (state_of e) saved
 
+-- the reply that the outcome gives
 abbrev pub reply_in : Outcome → Reply
 reply_in (Stays reply) = reply
 reply_in (Goes cursor lines) = Answered lines
@@ -123,7 +130,8 @@ IsFit def None (Changes note cursor mark) = ⊥
 IsFit def (Some held) (Changes note cursor mark) = IsVersion def held.kind note
 
 -- the plain editor takes this step, with this answer of the files
-pub record IsOutcome (def : Definition) (e : Editor) (answer : Answer) (command : Command) (outcome : Outcome) : Type 0 where
+pub record IsOutcome (def : Definition) (e : Editor) (answer : Answer) (command : Command)
+    (outcome : Outcome) : Type 0 where
   pub steps : Steps def (IsGoodIn def) (state_of e) answer command (after e outcome) (reply_of (reply_in outcome))
   pub fit : IsFit def e.opened outcome
 
@@ -137,8 +145,8 @@ IsGoneOn old new note cursor =
     × (new.saved ≡ old.saved))
 
 -- The editor stepped to another version. `from` is what a history keeps on the side to which it steps: the nearest note
--- there is now opened. `to` is what it keeps on the other side: the note that was opened is now the nearest one there. The
--- cursor is at the path. Where there is nothing to step to, the editor stays.
+-- there is now opened. `to` is what it keeps on the other side: the note that was opened is now the nearest one there.
+-- The cursor is at the path. Where there is nothing to step to, the editor stays.
 abbrev pub HasStepped : (from to : Versions Annotated → List Annotated) → Editor → Editor → Path → Type 0
 HasStepped from to old new cursor =
     (((old.opened ≡ None) ⊎ (from old.history ≡ [])) × (new ≡ old))
@@ -146,9 +154,11 @@ HasStepped from to old new cursor =
     × (from old.history ≡ note ∷ from new.history) × (to new.history ≡ held.note ∷ to old.history)
     × (new.opened ≡ Some (record { kind = held.kind; note = note })) × (new.cursor ≡ cursor) × (new.saved ≡ old.saved))
 
+-- the earlier versions, the nearest first
 abbrev pub earlier_in : Versions Annotated → List Annotated
 earlier_in h = h.earlier
 
+-- the later versions, the nearest first
 abbrev pub later_in : Versions Annotated → List Annotated
 later_in h = h.later
 
@@ -219,6 +229,7 @@ MustBeGood Loosens = ⊥
 
 -- ---- plans
 
+-- the plan of these three
 abbrev pub made_of : Trial → Edit → Path → Made
 made_of trial edit cursor = record { trial = trial; edit = edit; cursor = cursor }
 
@@ -254,7 +265,7 @@ abbrev pub MaySpend : Definition → Editor → Command → ℕ → ℕ → Plan
 MaySpend def e command from so_far plan =
     (to : ℕ) → Spends e plan so_far to → HasTicked def (state_of e) command from to
 
--- the list with what is told of it: its kind, how many elements it has, and whether it is unfinished
+-- the list with what a change needs of it: its kind, how many elements it has, and whether it is unfinished
 pub record IsListed (def : Definition) (node : Fragment) (l : Listed) : Type 0 where
   pub kind : IsListOf def node l.kind.now
   pub elements : l.elements ≡ length (children_of node)

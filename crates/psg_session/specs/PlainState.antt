@@ -13,8 +13,8 @@ pub record Opened : Type 0 where
   pub kind : Kind
   pub tree : Fragment
 
--- Text, relations, marks and menus are made anew at each command, so none of them is here. The nearest earlier tree and
--- the nearest later one stand first.
+-- Text, relations, marks and menus are made again at each command, so none of them is here. The nearest earlier tree
+-- and the nearest later one are first in their lists.
 pub record State : Type 0 where
   pub opened : Option Opened
   pub cursor : Path
@@ -22,6 +22,7 @@ pub record State : Type 0 where
   pub later : List Fragment
   pub saved : List Saved
 
+-- nothing is opened, and nothing is saved
 abbrev pub start : State
 start = record { opened = None; cursor = []; earlier = []; later = []; saved = [] }
 
@@ -39,7 +40,13 @@ named_path (At path) cursor = path
 
 -- a new tree is opened; versions of another one are of no use to it
 abbrev pub with_new : State → Kind → Fragment → State
-with_new s kind tree = record { opened = Some (record { kind = kind; tree = tree }); cursor = []; earlier = []; later = []; saved = s.saved }
+with_new s kind tree = record {
+  opened = Some (record { kind = kind; tree = tree });
+  cursor = [];
+  earlier = [];
+  later = [];
+  saved = s.saved;
+}
 
 -- the cursor alone is set
 abbrev pub with_cursor : State → Path → State
@@ -51,7 +58,7 @@ with_cursor s path = record {
   saved = s.saved;
 }
 
--- so many earlier and so many later trees are kept
+-- at most this number of earlier and of later trees is kept
 abbrev pub most_versions : ℕ
 most_versions = 32
 

@@ -1,5 +1,7 @@
--- What the plain editor does at a command: the first of the command's tests that holds refuses it, otherwise it is done.
-use Rattle.std.specs.Prelude.{ℕ, ◌≡◌, ◌<◌, ◌≤◌, ◌⊎◌, Bool, true, false, List, [], ◌∷◌, ◌++◌, length, map, codes, Option, Some, None, slice_get}
+-- What the plain editor does at a command: the first of the command's tests that holds refuses it, otherwise it is
+-- done.
+use Rattle.std.specs.Prelude.{ℕ, ◌≡◌, ◌<◌, ◌≤◌, ◌⊎◌, Bool, true, false, List, [], ◌∷◌, ◌++◌, length, map, codes, Option}
+use Rattle.std.specs.Prelude.{Some, None, slice_get}
 use Rattle.psg_terms.specs.Names.{Name}
 use Rattle.psg_terms.specs.Terms.{Term}
 use Rattle.psg_grammar.specs.declared.types.Kind.{Kind}
@@ -29,14 +31,21 @@ use Rattle.psg_menu.specs.Menus.{in_byte_order, IsMenu, IsNameMenu, HasWideTrial
 use Rattle.psg_menu.specs.Answers.{HasOneName}
 use Rattle.psg_script.specs.declared.command.Where.{Where}
 use Rattle.psg_script.specs.declared.command.Command.{Command}
-use Rattle.psg_script.specs.declared.command.Command.TheVariants.{New, Goto, Refine, Insert, Cut, Remove, Close, Reopen, Over, Range, Show, Screen, Relation, Own, Menu, Names, Free, Undo, Redo, Save, Paste, Keep, Fetch}
+use Rattle.psg_script.specs.declared.command.Command.TheVariants.{New, Goto, Refine, Insert, Cut, Remove, Close, Reopen}
+use Rattle.psg_script.specs.declared.command.Command.TheVariants.{Over, Range, Show, Screen, Relation, Own, Menu, Names}
+use Rattle.psg_script.specs.declared.command.Command.TheVariants.{Free, Undo, Redo, Save, Paste, Keep, Fetch}
 use Rattle.psg_session.specs.Exchanges.{most_kept_bytes}
 use Rattle.psg_session.specs.Kept.{IsUnreadable, OfBytes, OfFetched}
-use Rattle.psg_session.specs.PlainState.{State, Opened, Answer, stored, got, lost, named_path, with_new, with_change, with_version, with_saved, with_cursor}
+use Rattle.psg_session.specs.PlainState.{State, Opened, Answer, stored, got, lost, named_path, with_new, with_change}
+use Rattle.psg_session.specs.PlainState.{with_version, with_saved, with_cursor}
 use Rattle.psg_library.specs.declared.fragment.SavedFragment.{SavedFragment as Saved}
 use Rattle.psg_session.specs.Shelf.{saved_at, IsFull}
 use Rattle.psg_session.specs.declared.refusal.Refusal.{Refusal}
-use Rattle.psg_session.specs.declared.refusal.Refusal.TheVariants.{NoNode, NotHole, Unknown, OtherPhylum, BadArguments, NoPlace, TooBig, TooDeep, TooWide, TooHeavy, Inadmissible, NoTokens, NoTree, NothingEarlier, NothingLater, NoFragment, ShelfFault, KeptUnreadable, NoRange, NoPlaceholder, NothingOpened, ShelfFull}
+use Rattle.psg_session.specs.declared.refusal.Refusal.TheVariants.{NoNode, NotHole, Unknown, OtherPhylum, BadArguments}
+use Rattle.psg_session.specs.declared.refusal.Refusal.TheVariants.{NoPlace, TooBig, TooDeep, TooWide, TooHeavy}
+use Rattle.psg_session.specs.declared.refusal.Refusal.TheVariants.{Inadmissible, NoTokens, NoTree, NothingEarlier}
+use Rattle.psg_session.specs.declared.refusal.Refusal.TheVariants.{NothingLater, NoFragment, ShelfFault, KeptUnreadable}
+use Rattle.psg_session.specs.declared.refusal.Refusal.TheVariants.{NoRange, NoPlaceholder, NothingOpened, ShelfFull}
 use Rattle.psg_session.specs.Refusals.{Tests, done, test, Refuses, Passes, place_test}
 use Rattle.psg_session.specs.Replies.{Reply, refused, answered, marked, shown}
 use Rattle.psg_session.specs.Leaves.{GivesLeaves}
@@ -66,8 +75,8 @@ module _ (def : Definition) where
   abbrev pub IsListOf : Fragment → ListKind → Type 0
   IsListOf node list = (l : ℕ) × IsOfKind def node (kinds.List l) × (slice_get def.lists l ≡ Some list)
 
-  -- The phylum that an operator at the node must have: that of the placeholder, or, for a new element, that of the list's
-  -- elements.
+  -- The phylum that an operator at the node must have: that of the placeholder, or, for a new element, that of the
+  -- list's elements.
   abbrev pub IsWanted : Option ℕ → Fragment → ℕ → Type 0
   IsWanted None node p = node ≡ hole p
   IsWanted (Some k) node p = (list : ListKind) × IsListOf node list × (p ≡ list.element)
@@ -90,15 +99,16 @@ module _ (def : Definition) where
   HasNoPlace None node = (p : ℕ) → node ≡ hole p → ⊥
   HasNoPlace (Some k) node = (IsList node → ⊥) ⊎ (length (children_of node) < k)
 
-  -- The kind that a saved fragment must have at the node: the node's own, or, for a new element, the phylum of the list's
-  -- elements.
+  -- The kind that a saved fragment must have at the node: the node's own, or, for a new element, the phylum of the
+  -- list's elements.
   abbrev pub MayTake : Option ℕ → Fragment → Kind → Type 0
   MayTake None node kind = IsOfKind def node kind
   MayTake (Some k) node kind = (list : ListKind) × IsListOf node list × (kind ≡ kinds.Phylum list.element)
 
   -- the opened fragment, if there is one, has the property with the node at the place
   abbrev pub AtNode : State → Where → (Opened → Fragment → Type 0) → Type 0
-  AtNode s place P = (old : Opened) × (s.opened ≡ Some old) × (node : Fragment) × (node_at old.tree (named_path place s.cursor) ≡ Some node) × P old node
+  AtNode s place P = (old : Opened) × (s.opened ≡ Some old) × (node : Fragment)
+      × (node_at old.tree (named_path place s.cursor) ≡ Some node) × P old node
 
   -- the place leads to no node of the opened fragment
   abbrev pub IsNoNode : State → Where → Type 0
@@ -106,7 +116,8 @@ module _ (def : Definition) where
 
   -- the operator of the name is not of the phylum that is wanted at the place
   abbrev pub IsOther : State → Where → Option ℕ → Name → Type 0
-  IsOther s place k name = AtNode s place (λ old node. (p : ℕ) (o : ℕ) → IsWanted k node p → IsOperator o name → IsOfPhylum o p → ⊥)
+  IsOther s place k name =
+      AtNode s place (λ old node. (p : ℕ) (o : ℕ) → IsWanted k node p → IsOperator o name → IsOfPhylum o p → ⊥)
 
   -- the saved fragment of the name is of another kind than the place
   abbrev pub IsOtherSaved : State → Where → Option ℕ → Name → Type 0
@@ -120,7 +131,8 @@ module _ (def : Definition) where
   -- where an operator of the wanted phylum is tried at the place, the tree of a trial is too wide
   abbrev pub IsMenuTooWide : State → Where → Option ℕ → Type 0
   IsMenuTooWide s place k =
-      AtNode s place (λ old node. (p : ℕ) × IsWanted k node p × HasWideTrial def old.tree (named_path place s.cursor) k p)
+      AtNode s place (λ old node. (p : ℕ) × IsWanted k node p
+      × HasWideTrial def old.tree (named_path place s.cursor) k p)
 
   -- where the operator is tried there with a name that occurs in the fragment, it is
   abbrev pub IsNamesTooWide : State → Where → Option ℕ → Name → Type 0
@@ -131,28 +143,43 @@ module _ (def : Definition) where
   abbrev pub GivesNone : Name → List ℕ → Type 0
   GivesNone name args = (o : ℕ) (leaves : List Leaf) → IsOperator o name → GivesLeaves def o args leaves → ⊥
 
-  -- Makes s command tree path: what a change of the opened fragment gives before it is tested, and where the cursor stands
-  -- then. Undo, redo and fetch have no case here, since a case is a new version.
+  -- Makes s command tree path: what a change of the opened fragment gives before it is tested, and the path of the
+  -- cursor then. Undo, redo and fetch have no case here, since a case is a new version.
   pub data Makes (s : State) : Command → Fragment → Path → Type 0 where
-    by_refine : {place : Where} {name : Name} {args : List ℕ} (old : Opened) (o : ℕ) (leaves : List Leaf) → s.opened ≡ Some old → IsOperator o name → GivesLeaves def o args leaves
-        → Makes s (Refine place name args) (with_operator def old.tree (named_path place s.cursor) None o leaves) (named_path place s.cursor)
-    by_insert : {place : Where} {k : ℕ} {name : Name} {args : List ℕ} (old : Opened) (o : ℕ) (leaves : List Leaf) → s.opened ≡ Some old → IsOperator o name → GivesLeaves def o args leaves
-        → Makes s (Insert place k name args) (with_operator def old.tree (named_path place s.cursor) (Some k) o leaves) (named_path place s.cursor ++ k ∷ [])
-    by_cut : {place : Where} (old : Opened) (node : Fragment) (kind : Kind) → s.opened ≡ Some old → node_at old.tree (named_path place s.cursor) ≡ Some node → IsOfKind def node kind
-        → Makes s (Cut place) (replaced (named_path place s.cursor) (blank def kind) old.tree) (named_path place s.cursor)
+    by_refine : {place : Where} {name : Name} {args : List ℕ} (old : Opened) (o : ℕ) (leaves : List Leaf)
+        → s.opened ≡ Some old → IsOperator o name → GivesLeaves def o args leaves
+        → Makes s (Refine place name args) (with_operator def old.tree (named_path place s.cursor) None o leaves)
+        (named_path place s.cursor)
+    by_insert : {place : Where} {k : ℕ} {name : Name} {args : List ℕ} (old : Opened) (o : ℕ) (leaves : List Leaf)
+        → s.opened ≡ Some old → IsOperator o name → GivesLeaves def o args leaves
+        → Makes s (Insert place k name args) (with_operator def old.tree (named_path place s.cursor) (Some k) o leaves)
+        (named_path place s.cursor ++ k ∷ [])
+    by_cut : {place : Where} (old : Opened) (node : Fragment) (kind : Kind) → s.opened ≡ Some old
+        → node_at old.tree (named_path place s.cursor) ≡ Some node → IsOfKind def node kind
+        → Makes s (Cut place) (replaced (named_path place s.cursor) (blank def kind) old.tree)
+        (named_path place s.cursor)
     by_remove : {place : Where} {k : ℕ} (old : Opened) → s.opened ≡ Some old
-        → Makes s (Remove place k) (change_at (removed k) (named_path place s.cursor) old.tree) (named_path place s.cursor)
+        → Makes s (Remove place k) (change_at (removed k) (named_path place s.cursor) old.tree)
+        (named_path place s.cursor)
     by_close : {place : Where} (old : Opened) → s.opened ≡ Some old
-        → Makes s (Close place) (change_at (ended false) (named_path place s.cursor) old.tree) (named_path place s.cursor)
+        → Makes s (Close place) (change_at (ended false) (named_path place s.cursor) old.tree)
+        (named_path place s.cursor)
     by_reopen : {place : Where} (old : Opened) → s.opened ≡ Some old
-        → Makes s (Reopen place) (change_at (ended true) (named_path place s.cursor) old.tree) (named_path place s.cursor)
-    by_paste : {place : Where} {name : Name} (old : Opened) (x : Saved) → s.opened ≡ Some old → saved_at s.saved name ≡ Some x
-        → Makes s (Paste place None name) (replaced (named_path place s.cursor) x.tree old.tree) (named_path place s.cursor)
-    by_paste_in : {place : Where} {k : ℕ} {name : Name} (old : Opened) (x : Saved) → s.opened ≡ Some old → saved_at s.saved name ≡ Some x
-        → Makes s (Paste place (Some k) name) (change_at (inserted k x.tree) (named_path place s.cursor) old.tree) (named_path place s.cursor ++ k ∷ [])
-    by_over : {place : Where} {text : List ℕ} (old : Opened) (node new : Fragment) (nesting : ℕ) → s.opened ≡ Some old → node_at old.tree (named_path place s.cursor) ≡ Some node → ReadsFor def node text new nesting
+        → Makes s (Reopen place) (change_at (ended true) (named_path place s.cursor) old.tree)
+        (named_path place s.cursor)
+    by_paste : {place : Where} {name : Name} (old : Opened) (x : Saved) → s.opened ≡ Some old
+        → saved_at s.saved name ≡ Some x
+        → Makes s (Paste place None name) (replaced (named_path place s.cursor) x.tree old.tree)
+        (named_path place s.cursor)
+    by_paste_in : {place : Where} {k : ℕ} {name : Name} (old : Opened) (x : Saved) → s.opened ≡ Some old
+        → saved_at s.saved name ≡ Some x
+        → Makes s (Paste place (Some k) name) (change_at (inserted k x.tree) (named_path place s.cursor) old.tree)
+        (named_path place s.cursor ++ k ∷ [])
+    by_over : {place : Where} {text : List ℕ} (old : Opened) (node new : Fragment) (nesting : ℕ) → s.opened ≡ Some old
+        → node_at old.tree (named_path place s.cursor) ≡ Some node → ReadsFor def node text new nesting
         → Makes s (Over place text) (replaced (named_path place s.cursor) new old.tree) (named_path place s.cursor)
-    by_range : {start end : ℕ} {text : List ℕ} (old : Opened) (tree : Fragment) (nesting : ℕ) → s.opened ≡ Some old → ReadsWith def (replacing start end text) old tree nesting
+    by_range : {start end : ℕ} {text : List ℕ} (old : Opened) (tree : Fragment) (nesting : ℕ) → s.opened ≡ Some old
+        → ReadsWith def (replacing start end text) old tree nesting
         → Makes s (Range start end text) tree []
 
   -- what a command gives before it is tested: what a change makes, or the new tree of a kind
@@ -186,7 +213,8 @@ module _ (def : Definition) (IsGood : Fragment → Type 0) where
   abbrev pub growing : ((Fragment → Type 0) → Type 0) → Tests
   growing Of = test TooDeep (Of IsDeep) (test TooBig (Of IsBig) (closing Of))
 
-  -- Where text is typed, which may be any program. Its brackets may nest too deep while its tree, which has none, does not.
+  -- Where text is typed, which may be any program. Its brackets may nest too deep while its tree, which has none, does
+  -- not.
   abbrev pub typing : Type 0 → ((Fragment → Type 0) → Type 0) → Tests
   typing Nested Of = test TooDeep (Nested ⊎ Of IsDeep) (test TooBig (Of IsBig) (loosening Of))
 
@@ -216,7 +244,8 @@ module _ (def : Definition) (IsGood : Fragment → Type 0) where
       (growing (OfResult def s (Insert place k name args)))))))
   tests s answer (Cut place) =
       at_place s place
-      (test NoPlaceholder (AtNode def s place (λ old node. (kind : Kind) × IsOfKind def node kind × IsDeclaringPhylum def kind))
+      (test NoPlaceholder (AtNode def s place
+      (λ old node. (kind : Kind) × IsOfKind def node kind × IsDeclaringPhylum def kind))
       (loosening (OfResult def s (Cut place))))
   tests s answer (Remove place k) =
       at_place s place
@@ -247,7 +276,8 @@ module _ (def : Definition) (IsGood : Fragment → Type 0) where
       (typing (OfOpened s (NestsTooDeepWith def (replacing start end text))) (OfResult def s (Range start end text))))))
   tests s answer (Screen top left rows cols) = test NothingOpened (s.opened ≡ None) done
   tests s answer (Relation place) =
-      at_place s place (test TooWide (AtNode def s place (λ old node. IsWideAt def old.tree (named_path place s.cursor))) done)
+      at_place s place (test TooWide
+      (AtNode def s place (λ old node. IsWideAt def old.tree (named_path place s.cursor))) done)
   tests s answer (Menu place k) =
       at_place s place
       (test (place_test k) (AtNode def s place (λ old node. HasNoPlace def k node))
@@ -328,7 +358,8 @@ module _ (def : Definition) (IsGood : Fragment → Type 0) where
         (answered (window_of (text_of def old.tree) (view_of top left rows cols)))
     owns : {place : Where} (old : Opened) (node : Fragment) (rows : List (List Term)) → IsTaken s answer (Own place)
         → s.opened ≡ Some old → node_at old.tree (named_path place s.cursor) ≡ Some node → IsRelationOf def node rows
-        → Steps s answer (Own place) s (answered (rows_lines def.signature (map (key_text def) (names_of def node)) rows))
+        → Steps s answer (Own place) s
+        (answered (rows_lines def.signature (map (key_text def) (names_of def node)) rows))
     relates : {place : Where} (old : Opened) (rows : List (List Term)) → IsTaken s answer (Relation place)
         → s.opened ≡ Some old → IsShownRelation def old.tree (named_path place s.cursor) rows
         → Steps s answer (Relation place) s (answered (rows_lines def.signature [] rows))

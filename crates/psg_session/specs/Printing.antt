@@ -1,9 +1,10 @@
--- What is said of the printed text.
+-- What replies say of the printed text.
 use Rattle.std.specs.Prelude.{ℕ, ◌≡◌, ◌<◌, ◌==◌, List, [], ◌∷◌, ◌++◌, Some, slice_get, codes, decimal}
 use Rattle.std.specs.List.{slice_split}
 use Rattle.psg_terms.specs.Names.{Name}
 use Rattle.psg_grammar.specs.declared.types.Definition.{Definition}
-use Rattle.psg_grammar.specs.Fragments.{Fragment, hole, ending, cell, operator, with_child, with_name, with_number, with_text, anything, observed}
+use Rattle.psg_grammar.specs.Fragments.{Fragment, hole, ending, cell, operator, with_child, with_name, with_number}
+use Rattle.psg_grammar.specs.Fragments.{with_text, anything, observed}
 use Rattle.psg_grammar.specs.Paths.{Path}
 use Rattle.psg_tree.specs.AbstractText.{operator_name}
 use Rattle.psg_reads_back.specs.Spots.{Placed, placed_in}
@@ -15,6 +16,7 @@ use Rattle.psg_session.specs.Marked.{path_text}
 abbrev pub lines_in : List ℕ → List (List ℕ)
 lines_in text = slice_split (λ b. b == 10) text
 
+-- the view of these four numbers
 abbrev pub view_of : ℕ → ℕ → ℕ → ℕ → View
 view_of top left rows cols = record { top = top; left = left; rows = rows; cols = cols }
 
@@ -32,8 +34,8 @@ module _ (def : Definition) where
   what_is anything = []
   what_is (observed f) = what_is f
 
-  -- The node that is listed for the path, with what is written round it. A tree of a kind lists each of its nodes once; of any
-  -- other tree it is the first one.
+  -- The node that is listed for the path, with what is written around it. A tree of a kind lists each of its nodes
+  -- once; of any other tree it is the first one.
   abbrev pub IsWrittenAt : Fragment → Path → Placed → Type 0
   IsWrittenAt f path p =
       (k : ℕ) × (slice_get (placed_in def f) k ≡ Some p) × (p.spot.path ≡ path)

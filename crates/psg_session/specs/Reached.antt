@@ -24,8 +24,8 @@ IsReaching (Keep name file) = Unit {0}
 IsReaching (Fetch file) = Unit {0}
 IsReaching _ = ⊥
 
--- The command asked the files this, or nothing, and they answered so. By this answer the plain editor takes the step of the
--- outcome; so many evaluations were counted.
+-- The command asked the files this, or nothing, and they gave this answer. By this answer the plain editor takes the
+-- step of the outcome. The counter goes from `from` to `to`, within the bound of the command.
 pub record HasReached (def : Definition) (e : Editor) (command : Command) (before after : Outside) (from to : ℕ)
     (outcome : Outcome) : Type 0 where
   pub asked : Option Asked

@@ -1,8 +1,14 @@
 -- The refusals with their numbers, and what a list of tests says.
 use Rattle.std.specs.Prelude.{ℕ, ◌≡◌, ◌⊎◌, Option, Some, None}
 use Rattle.psg_session.specs.declared.refusal.Refusal.{Refusal}
-use Rattle.psg_session.specs.declared.refusal.Refusal.TheVariants.{NoCommand, NoNode, NotHole, Unknown, OtherPhylum, BadArguments, NoPlace, TooBig, TooDeep, TooWide, TooHeavy, Inadmissible, NoTokens, NoTree, NothingEarlier, NothingLater, NoFragment, ShelfFault, KeptUnreadable, NoRange, NoPlaceholder, NothingOpened, ShelfFull}
+use Rattle.psg_session.specs.declared.refusal.Refusal.TheVariants.{NoCommand, NoNode, NotHole, Unknown, OtherPhylum}
+use Rattle.psg_session.specs.declared.refusal.Refusal.TheVariants.{BadArguments, NoPlace, TooBig, TooDeep, TooWide}
+use Rattle.psg_session.specs.declared.refusal.Refusal.TheVariants.{TooHeavy, Inadmissible, NoTokens, NoTree}
+use Rattle.psg_session.specs.declared.refusal.Refusal.TheVariants.{NothingEarlier, NothingLater, NoFragment, ShelfFault}
+use Rattle.psg_session.specs.declared.refusal.Refusal.TheVariants.{KeptUnreadable, NoRange, NoPlaceholder}
+use Rattle.psg_session.specs.declared.refusal.Refusal.TheVariants.{NothingOpened, ShelfFull}
 
+-- the number that a reply says
 abbrev pub number_of : Refusal → ℕ
 number_of NoCommand = 1
 number_of NoNode = 2

@@ -18,6 +18,7 @@ marked mark = answered (mark_text mark ∷ [])
 abbrev pub shown : List (List ℕ) → Mark → Reply
 shown lines mark = answered (lines ++ mark_text mark ∷ [])
 
+-- the lines of a reply; a refusal is one line
 abbrev pub reply_lines : Reply → List (List ℕ)
 reply_lines (refused refusal) = (codes "refused " ++ decimal (number_of refusal)) ∷ []
 reply_lines (answered lines) = lines
@@ -26,9 +27,11 @@ reply_lines (answered lines) = lines
 abbrev pub feed : List ℕ → List ℕ
 feed line = line ++ 10 ∷ []
 
+-- each line with its line feed
 abbrev pub feed_all : List (List ℕ) → List ℕ
 feed_all [] = []
 feed_all (line ∷ lines) = feed line ++ feed_all lines
 
+-- the bytes that are written for a reply
 abbrev pub reply_text : Reply → List ℕ
 reply_text reply = feed_all (reply_lines reply)

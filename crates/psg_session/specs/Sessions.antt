@@ -17,6 +17,7 @@ use Rattle.psg_session.specs.Formed.{IsFormedSaved, IsFormedState}
 abbrev pub plain : OpenedTree → Opened
 plain held = record { kind = held.kind; tree = tree_in held.note }
 
+-- the opened fragment without what is known of it
 abbrev pub opened_of : Option OpenedTree → Option Opened
 opened_of None = None
 opened_of (Some held) = Some (plain held)

@@ -3,7 +3,7 @@ use Rattle.std.specs.Prelude.{ℕ, ◌≡◌, ◌≤◌, cond, List, [], ◌∷�
 use Rattle.psg_terms.specs.Names.{Name}
 use Rattle.psg_library.specs.declared.fragment.SavedFragment.{SavedFragment as Saved}
 
--- so many fragments are saved at most
+-- the largest number of fragments that are saved
 abbrev pub most_saved : ℕ
 most_saved = 64
 

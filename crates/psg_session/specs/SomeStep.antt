@@ -22,8 +22,8 @@ module _ (def : Definition) (IsGood : Fragment → Type 0) where
     pub reply : Reply
     pub steps : Steps def IsGood s answer command next reply
 
-  -- From a state whose trees are of their kinds and printable there is a step at each command, with each answer that the
-  -- files may give to what it asks.
+  -- From a state whose trees are of their kinds and printable there is a step at each command, with each answer that
+  -- the files may give to what it asks.
   abbrev pub HasSomeStep : Type 0
   HasSomeStep = (s : State) (command : Command) (before after : Outside) (asked : Option Asked) (answer : Answer)
       → HasText command → IsFormedState def s → IsAskedBy def s command asked → IsAnswered before after asked answer

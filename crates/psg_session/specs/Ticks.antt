@@ -1,5 +1,5 @@
--- How many evaluations a command may take, where it makes a tree: those by which it differs from the old one, or those of a new
--- element and of the nodes and list suffixes above it. Typed text counts one for each of its tokens too, and
+-- How many evaluations a command may take, where it makes a tree: those by which it differs from the old one, or those
+-- of a new element and of the nodes and list suffixes above it. Typed text counts one for each of its tokens too, and
 -- replaced bytes one for each token of the nodes that are read again.
 use Rattle.std.specs.Prelude.{ℕ, ◌≡◌, ◌≤◌, ◌⊎◌, ◌+◌, List, Option, Some, None, length, ◌*◌, sum_by}
 use Rattle.psg_terms.specs.Names.{Name}
@@ -18,7 +18,9 @@ use Rattle.psg_lexis.specs.declared.token.Spanned.{Spanned}
 use Rattle.psg_regions.specs.Regions.{IsReading}
 use Rattle.psg_script.specs.declared.command.Where.{Where}
 use Rattle.psg_script.specs.declared.command.Command.{Command}
-use Rattle.psg_script.specs.declared.command.Command.TheVariants.{New, Goto, Refine, Insert, Cut, Remove, Close, Reopen, Over, Range, Show, Screen, Relation, Own, Menu, Names, Free, Undo, Redo, Save, Paste, Keep, Fetch}
+use Rattle.psg_script.specs.declared.command.Command.TheVariants.{New, Goto, Refine, Insert, Cut, Remove, Close, Reopen}
+use Rattle.psg_script.specs.declared.command.Command.TheVariants.{Over, Range, Show, Screen, Relation, Own, Menu, Names}
+use Rattle.psg_script.specs.declared.command.Command.TheVariants.{Free, Undo, Redo, Save, Paste, Keep, Fetch}
 use Rattle.psg_session.specs.Leaves.{GivesLeaves}
 use Rattle.psg_session.specs.Kept.{MayRead}
 use Rattle.psg_session.specs.PlainState.{Answer, State, Opened, named_path}
@@ -32,7 +34,7 @@ module _ (def : Definition) (s : State) where
   abbrev pub above : Opened → Where → ℕ
   above old place = climb_of old.tree (named_path place s.cursor)
 
-  -- none, or the command makes a tree, and no more than is said of the old one and of this
+  -- none, or the command makes a tree, and the number is within what `Within` says of the old tree and of this
   abbrev pub OfMade : Command → (Opened → Fragment → ℕ → Type 0) → ℕ → Type 0
   OfMade command Within n =
       (n ≡ 0)
@@ -43,12 +45,13 @@ module _ (def : Definition) (s : State) where
   abbrev pub OfDiff : Command → ℕ → Type 0
   OfDiff command n = OfMade command (λ old tree m. m ≤ diff_of old.tree tree) n
 
-  -- what is said of the operator with its names and literals
+  -- the operator with its names and literals has the property
   abbrev pub OfFresh : Name → List ℕ → (Fragment → Type 0) → Type 0
   OfFresh name args P =
-      (o : ℕ) × (leaves : List Leaf) × IsOperator def o name × GivesLeaves def o args leaves × P (fresh_operator def o leaves)
+      (o : ℕ) × (leaves : List Leaf) × IsOperator def o name × GivesLeaves def o args leaves
+      × P (fresh_operator def o leaves)
 
-  -- what is said of the saved fragment of the name
+  -- the saved fragment of the name has the property
   abbrev pub OfSaved : Name → (Fragment → Type 0) → Type 0
   OfSaved name P = (x : Saved) × (saved_at s.saved name ≡ Some x) × P x.tree
 
@@ -60,8 +63,8 @@ module _ (def : Definition) (s : State) where
       ⊎ ((tree : Fragment) × (path : Path) × Makes def s (Over place text) tree path
       × (n ≤ length ts + diff_of old.tree tree)))
 
-  -- Whatever the reading of the change is: no more than the tokens that it reads; or than these and what the tree that is made
-  -- differs by from the old one. There is at most one reading.
+  -- Whatever the reading of the change is: no more than the tokens that it reads; or than these and what the tree that
+  -- is made differs by from the old one. There is at most one reading.
   abbrev pub OfRanged : ℕ → ℕ → List ℕ → Opened → ℕ → Type 0
   OfRanged start end text old n =
       (found : Option Path) (read : ℕ) → IsReading def old.tree (replacing start end text) found read
@@ -78,11 +81,11 @@ module _ (def : Definition) (s : State) where
   abbrev pub menu_work : ℕ → ℕ → ℕ
   menu_work p climb = sum_by (λ o. 1 + slots_of def (operator_at def o) + climb) (operators_of def p)
 
-  -- the same of each candidate
+  -- for each candidate name: one, the slots of the operator, and a climb
   abbrev pub names_work : ℕ → List Name → ℕ → ℕ
   names_work o candidates climb = length candidates * (1 + slots_of def (operator_at def o) + climb)
 
-  -- so many evaluations are within the command's bound
+  -- n evaluations are within the command's bound
   abbrev pub MayTick : Command → ℕ → Type 0
   MayTick (New name) n = n ≤ 1
   MayTick (Refine place name args) n = OfDiff (Refine place name args) n
@@ -102,7 +105,8 @@ module _ (def : Definition) (s : State) where
   MayTick (Screen top left rows cols) n = n ≡ 0
   MayTick (Relation place) n = (n ≡ 0) ⊎ AtNode def s place (λ old node. n ≤ 1 + above old place)
   MayTick (Menu place k) n =
-      (n ≡ 0) ⊎ AtNode def s place (λ old node. (p : ℕ) × IsWanted def k node p × (n ≤ menu_work p (above_trial old place k)))
+      (n ≡ 0) ⊎ AtNode def s place
+      (λ old node. (p : ℕ) × IsWanted def k node p × (n ≤ menu_work p (above_trial old place k)))
   MayTick (Names place k name) n =
       (n ≡ 0)
       ⊎ AtNode def s place (λ old node. (o : ℕ) × IsOperator def o name
@@ -123,8 +127,8 @@ module _ (def : Definition) (s : State) where
     pub counted : to ≤ from + taken
     pub within : MayTick command taken
 
-  -- So many evaluations and tokens are within the bound of the command, with the tokens that are counted while the answer of
-  -- the files is read.
+  -- n is within the bound of the command: its evaluations and tokens, with the tokens that are counted while the answer
+  -- of the files is read.
   pub record MayTickWith (answer : Answer) (command : Command) (n : ℕ) : Type 0 where
     pub taken : ℕ
     pub read : ℕ

@@ -26,7 +26,8 @@ IsParseRefusal parse_faults.Memory r = ⊥
 module _ (def : Definition) where
   -- ---- a text in place of a node
 
-  -- The text is read as this tree of the node's kind, with brackets nested so deep. An operator of any level may be on top.
+  -- The text is read as this tree of the node's kind, with brackets nested so deep. An operator of any level may be on
+  -- top.
   pub record ReadsFor (node : Fragment) (text : List ℕ) (new : Fragment) (nesting : ℕ) : Type 0 where
     pub kind : Kind
     pub of_kind : IsOfKind def node kind

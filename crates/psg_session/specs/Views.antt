@@ -17,15 +17,18 @@ use Rattle.psg_session.specs.declared.replies.Reply.TheVariants.{Refused, Marked
 use Rattle.psg_session.specs.Printing.{lines_in}
 use Rattle.psg_session.specs.Replies.{refused, answered, marked, shown, Reply as PlainReply}
 
+-- the leaf that the program's leaf is
 abbrev pub plain_leaf : Leaf → PlainLeaf
 plain_leaf (Name n) = a_name n
 plain_leaf (Number n) = a_number n
 plain_leaf (Text t) = a_text t
 
+-- the mark that the program's mark is
 abbrev pub mark_of : Mark → PlainMark
 mark_of Good = good
 mark_of (Wrong culprits) = wrong culprits.items
 
+-- The reply that the program's reply is. A shown text is compared by its lines.
 abbrev pub reply_of : Reply → PlainReply
 reply_of (Refused refusal) = refused refusal
 reply_of (Marked mark) = marked (mark_of mark)

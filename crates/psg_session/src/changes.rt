@@ -29,15 +29,20 @@ use std::alloc::{AllocError, Global};
 /// What a command makes of the opened fragment, and the path of the cursor then.
 #[derive(Drop)]
 pub struct Made {
+    /// The tests that the new tree must pass.
     pub trial: Trial,
+    /// The change of the opened tree.
     pub edit: Edit,
+    /// The path of the cursor after the change.
     pub cursor: Path,
 }
 
 /// What a command makes, or its refusal.
 #[derive(Drop)]
 pub enum Plan {
+    /// The command is refused before any tree is made.
     RefusedBy(Refusal),
+    /// The command makes this, whose tree is still to be tested.
     Makes(Made),
 }
 
@@ -55,8 +60,11 @@ pub fn hole_phylum(tree: &Tree) -> Option<u32>
 /// A list's kind with its number of elements, and whether it is unfinished.
 #[derive(Clone, Copy)]
 pub struct Listed<'a> {
+    /// The kind of the list in the definition.
     pub kind: &'a ListKind,
+    /// The number of elements. The end of an unfinished list does not count.
     pub elements: usize,
+    /// Whether the list itself is unfinished; `kind` says whether it may be.
     pub unfinished: bool,
 }
 
@@ -80,7 +88,7 @@ pub fn as_list<'a>(definition: &'a Definition, tree: &Tree) -> Option<Listed<'a>
     }
 }
 
-/// Tells whether the tree is an unfinished list.
+/// Says whether the tree is an unfinished list.
 fn is_unfinished(definition: &Definition, tree: &Tree) -> bool
     requires formed { IsFormed definition.now tree.now }
     ensures { IsTrue result ↔ (end_of tree.now ≡ Some true) }
@@ -91,7 +99,7 @@ fn is_unfinished(definition: &Definition, tree: &Tree) -> bool
     }
 }
 
-/// Tells whether the tree is a finished list of a kind that may be unfinished.
+/// Says whether the tree is a finished list of a kind that may be unfinished.
 fn may_reopen(definition: &Definition, tree: &Tree) -> bool
     requires formed { IsFormed definition.now tree.now }
     ensures { IsTrue result ↔ MayReopen definition.now tree.now }
@@ -159,7 +167,8 @@ pub fn refine(
 ) -> Result<Plan, AllocError>
     requires language { IsLanguage language.now }
     requires editor { IsEditor language.now.definition editor.now }
-    ensures { IfOk result (IsPlan language.now.definition editor.now (commands.Refine place.now name.now arguments.now)) }
+    ensures { IfOk result (IsPlan language.now.definition editor.now
+        (commands.Refine place.now name.now arguments.now)) }
 {
     let found = match find(editor, place) {
         Ok(found) => found,
@@ -176,9 +185,9 @@ pub fn refine(
     Ok(Plan::Makes(made))
 }
 
-/// Makes the operator of the name with the names and literals of the arguments, which is to be where one of the phylum is
-/// wanted. It is refused with `Unknown` where no operator has the name, with `OtherPhylum` where it is of another phylum,
-/// and with `BadArguments` where the arguments are not its names and literals.
+/// Makes the operator of the name with the names and literals of the arguments, which is to be where one of the phylum
+/// is wanted. It is refused with `Unknown` where no operator has the name, with `OtherPhylum` where it is of another
+/// phylum, and with `BadArguments` where the arguments are not its names and literals.
 fn fresh_of(
     alloc: Global,
     language: &LanguageParts,
@@ -215,7 +224,8 @@ pub fn insert_element(
 ) -> Result<Plan, AllocError>
     requires language { IsLanguage language.now }
     requires editor { IsEditor language.now.definition editor.now }
-    ensures { IfOk result (IsPlan language.now.definition editor.now (commands.Insert place.now number name.now arguments.now)) }
+    ensures { IfOk result (IsPlan language.now.definition editor.now
+        (commands.Insert place.now number name.now arguments.now)) }
 {
     let found = match find(editor, place) {
         Ok(found) => found,

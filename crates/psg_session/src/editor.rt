@@ -2,7 +2,8 @@
 ghost use Rattle.std.specs.Prelude.{◌≡◌, IfOk, IfSome, IfNone};
 ghost use Rattle.psg_grammar.specs.declared.types.Definition.{Definition as PlainDefinition};
 ghost use Rattle.psg_session.specs.Formed.{IsFormedState};
-ghost use Rattle.psg_session.specs.Outcomes.{after, reply_in, IsChanging, IsFit, IsGoneOn, IsOutcome, IsPlan, IsStay, Spends};
+ghost use Rattle.psg_session.specs.Outcomes.{after, reply_in, IsChanging, IsFit, IsGoneOn, IsOutcome, IsPlan, IsStay};
+ghost use Rattle.psg_session.specs.Outcomes.{Spends};
 ghost use Rattle.psg_session.specs.PlainState.{not_asked};
 ghost use Rattle.psg_session.specs.Reached.{IsReaching};
 ghost use Rattle.psg_session.specs.Sessions.{state_of, IsEditor};
@@ -41,16 +42,22 @@ use std::sync::ledger::Ledger;
 /// The opened fragment: its kind, and its tree with what is known of it.
 #[derive(Drop)]
 pub struct OpenedTree {
+    /// The kind of the whole tree: a phylum or a list.
     pub kind: Kind,
+    /// The tree with the summaries of its nodes.
     pub note: Note,
 }
 
 /// An editor of a definition's fragments.
 #[derive(Drop)]
 pub struct Editor {
+    /// The opened fragment; none before the first `new`.
     pub opened: Option<OpenedTree>,
+    /// The path of the cursor, which leads to a node of the opened fragment.
     pub cursor: Path,
+    /// The earlier and later versions of the opened fragment.
     pub history: History<Note>,
+    /// The saved fragments, the oldest first, each name once.
     pub saved: Seq<SavedFragment>,
 }
 
@@ -138,7 +145,8 @@ fn open_new<L: Ledger>(
 ) -> Result<Outcome, AllocError>
     requires language { IsLanguage language.now }
     ensures outcome { IfOk result (IsOutcome language.now.definition editor.now not_asked (commands.New name.now)) }
-    ensures ticks { HasTicked language.now.definition (state_of editor.now) (commands.New name.now) steps.old steps.new }
+    ensures ticks { HasTicked language.now.definition (state_of editor.now)
+        (commands.New name.now) steps.old steps.new }
 {
     let Some(kind) = kind_named(&language.definition, name.as_str()) else {
         return Ok(Outcome::Stays(Reply::Refused(Refusal::Unknown)));
@@ -207,7 +215,8 @@ fn planned(
     }
 }
 
-/// Does what was planned, where the tree passes the tests of the change. It evaluates what is new and the nodes above it.
+/// Does what was planned, where the tree passes the tests of the change. It evaluates what is new and the nodes above
+/// it.
 pub(crate) fn carry_out<L: Ledger>(
     alloc: Global,
     language: &LanguageParts,

@@ -11,8 +11,11 @@ use psg_tree::{Path, Tree, at};
 /// The opened fragment, the path of the place, and the node there.
 #[derive(Clone, Copy)]
 pub struct Found<'a> {
+    /// The opened fragment.
     pub held: &'a OpenedTree,
+    /// The path from its root to the node.
     pub path: &'a Path,
+    /// The node at the path.
     pub node: &'a Tree,
 }
 

@@ -69,7 +69,7 @@ fn gather(found: &mut Vec<Txt>, tree: &Tree) -> Result<(), AllocError>
     }
 }
 
-/// Tells whether the name is the last one.
+/// Says whether the name is the last one.
 fn is_last(names: &[Txt], name: &str) -> bool
     ensures { result ≡ is_first (reverse names.now) name.now }
 {
@@ -79,7 +79,7 @@ fn is_last(names: &[Txt], name: &str) -> bool
     }
 }
 
-/// Puts the name behind the others, unless it is the last one.
+/// Puts the name after the others, unless it is the last one already.
 fn push_new(names: &mut Vec<Txt>, name: &Txt) -> Result<(), AllocError>
     ensures { IfOk result (λ _. reverse names.new.items ≡ cond (is_first (reverse names.old.items) name.now)
         (reverse names.old.items) (name.now ∷ reverse names.old.items)) }

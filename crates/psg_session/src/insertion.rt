@@ -5,7 +5,8 @@ ghost use Rattle.psg_grammar.specs.Fragments.{Fragment};
 ghost use Rattle.psg_grammar.specs.Kinds.{HasKind, HasSlotKind};
 ghost use Rattle.psg_grammar.specs.Lookups.{part_items};
 ghost use Rattle.psg_grammar.specs.Sound.{IsSound};
-ghost use Rattle.psg_grammar.specs.Insertion.{blank as blank_of, filled, fresh_operator as fresh_of, may_be_unfinished as may_be, with_leaf};
+ghost use Rattle.psg_grammar.specs.Insertion.{blank as blank_of, filled, fresh_operator as fresh_of};
+ghost use Rattle.psg_grammar.specs.Insertion.{may_be_unfinished as may_be, with_leaf};
 ghost use Rattle.psg_tree.specs.Shapes.{with_part, with_parts};
 ghost use Rattle.psg_session.specs.Views.{plain_leaf};
 
@@ -23,7 +24,8 @@ fn may_be_unfinished(definition: &Definition, list: u32) -> bool
     definition.lists.as_slice()[list as usize].unfinished
 }
 
-/// The new tree of a kind: a placeholder, or an empty list, unfinished where the kind allows it.
+/// Makes the new tree of a kind: a placeholder, or an empty list, unfinished where the kind allows it. It fails only
+/// where memory runs out.
 pub fn blank(alloc: Global, definition: &Definition, kind: Kind) -> Result<Tree, AllocError>
     requires { HasKind definition.now kind }
     ensures { IfOk result (λ tree. tree ≡ blank_of definition.now kind) }
@@ -58,7 +60,7 @@ fn part_of(leaf: &Leaf) -> Result<Part, AllocError>
     }
 }
 
-/// Puts the item's part behind the others, and gives the number of the next leaf. A part that takes a leaf is left out
+/// Adds the item's part after the others, and returns the number of the next leaf. A part that takes a leaf is left out
 /// where there is none.
 fn push_part(
     alloc: Global,
@@ -92,7 +94,8 @@ fn push_part(
     }
 }
 
-/// An operator with a new tree in each of its slots, and the leaves in order at its other parts.
+/// Makes an operator with a new tree in each of its slots, and the leaves in order at its other parts. It fails only
+/// where memory runs out.
 pub fn fresh_operator(
     alloc: Global,
     definition: &Definition,

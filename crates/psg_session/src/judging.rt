@@ -40,7 +40,7 @@ fn refusal_of(fault: &NoteFault) -> Result<Refusal, AllocError>
     }
 }
 
-/// Tells whether the change must leave a good fragment, and the note's tree is not good.
+/// Says whether the change must leave a good fragment, and the note's tree is not good.
 fn is_inadmissible(trial: Trial, note: &Note) -> bool
     ensures { IsTrue result ↔ (MustBeGood trial × (culprits_in note.now ≡ [] → ⊥)) }
 {
@@ -53,9 +53,9 @@ fn is_inadmissible(trial: Trial, note: &Note) -> bool
     }
 }
 
-/// Gives the note, where its tree passes the tests of the change; otherwise the refusal of the first test that it fails.
-/// A limit that is not tested there is one that the tree cannot pass, since the change adds nothing. The call fails only
-/// where memory ran out for the note.
+/// Gives the note, where its tree passes the tests of the change; otherwise the refusal of the first test that it
+/// fails. A limit that is not tested there is one that the tree cannot pass, since the change adds nothing. The call
+/// fails only where memory ran out for the note.
 pub fn judged(
     trial: Trial,
     noted: Result<Note, NoteFault>,

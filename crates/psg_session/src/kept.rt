@@ -48,10 +48,10 @@ fn named_line(alloc: Global, word: &str, name: &str) -> Result<Vec<String>, Allo
     Ok(lines)
 }
 
-/// Finds what `keep` does: the saved fragment of the name is written to the file. It is refused with `NoFragment` where no
-/// saved fragment has the name, with `TooBig` where its bytes are more than a file may have, and with `ShelfFault` where the
-/// file is not written. It fails where memory runs out; of the file nothing is known then. Its time is that of printing the
-/// fragment and of the write.
+/// Finds what `keep` does: the saved fragment of the name is written to the file. It is refused with `NoFragment` where
+/// no saved fragment has the name, with `TooBig` where its bytes are more than a file may have, and with `ShelfFault`
+/// where the file is not written. It fails where memory runs out; of the file nothing is known then. Its time is that
+/// of printing the fragment and of the write.
 pub fn keep<F: Files>(
     alloc: Global,
     language: &LanguageParts,
@@ -93,7 +93,7 @@ pub fn keep<F: Files>(
     }
 }
 
-/// Tells whether a list of the tree has too many elements. It takes one step.
+/// Says whether a list of the tree has too many elements. It takes one step.
 #[tactic(auto, using(psg_cache::proofs::LongLists::long_lists))]
 fn has_long_list(tree: &Tree) -> bool
     ensures { IsTrue result ↔ HasLongList tree.now }
@@ -101,7 +101,7 @@ fn has_long_list(tree: &Tree) -> bool
     longest_list(tree) > MOST_ELEMENTS
 }
 
-/// Tells whether the tree has too many nodes, or a list of it too many elements. It takes one step.
+/// Says whether the tree has too many nodes, or a list of it too many elements. It takes one step.
 fn is_big(tree: &Tree) -> bool
     ensures { IsTrue result ↔ IsBig tree.now }
 {
@@ -125,9 +125,9 @@ fn refusal_of(fault: KeptFault) -> Result<Refusal, AllocError>
     }
 }
 
-/// Reads the fragment that the bytes of a file keep. It is refused with `KeptUnreadable` where they are too many or keep
-/// none, and with `TooBig` where its tree has too many nodes or elements. It takes a step of the counter for each token of
-/// the text, and fails where memory runs out.
+/// Reads the fragment that the bytes of a file keep. It is refused with `KeptUnreadable` where they are too many or
+/// keep none, and with `TooBig` where its tree has too many nodes or elements. It takes a step of the counter for each
+/// token of the text, and fails where memory runs out.
 fn read_kept<L: Ledger>(
     alloc: Global,
     language: &LanguageParts,
@@ -163,8 +163,8 @@ fn read_kept<L: Ledger>(
     Ok(Ok(saved))
 }
 
-/// Finds what a fetch does that got these bytes. It is refused as `read_kept` says, and with `ShelfFull` where there is no
-/// room for the name.
+/// Finds what a fetch does that got these bytes. It is refused as `read_kept` says, and with `ShelfFull` where there is
+/// no room for the name.
 fn take_in<L: Ledger>(
     alloc: Global,
     language: &LanguageParts,
@@ -192,10 +192,10 @@ fn take_in<L: Ledger>(
     Ok(Outcome::Saves(kept, lines))
 }
 
-/// Finds what `fetch` does: the fragment that the file keeps is saved under its name. It is refused with `ShelfFault` where
-/// the file is not read, with `KeptUnreadable` where its bytes are too many or keep no fragment of the language, with
-/// `TooBig` where the tree has too many nodes or elements, and with `ShelfFull` where there is no room for the name. It takes
-/// a step of the counter for each token of the text, evaluates nothing, and fails where memory runs out.
+/// Finds what `fetch` does: the fragment that the file keeps is saved under its name. It is refused with `ShelfFault`
+/// where the file is not read, with `KeptUnreadable` where its bytes are too many or keep no fragment of the language,
+/// with `TooBig` where the tree has too many nodes or elements, and with `ShelfFull` where there is no room for the
+/// name. It takes a step of the counter for each token of the text, evaluates nothing, and fails where memory runs out.
 pub fn fetch<F: Files, L: Ledger>(
     alloc: Global,
     language: &LanguageParts,
@@ -248,9 +248,9 @@ fn step_alone<L: Ledger>(
     Ok(outcome)
 }
 
-/// Finds what a command does to the editor. A `keep` writes its file and a `fetch` reads it; no other command asks anything
-/// of the files. `steps` counts evaluations, and the tokens of typed text and of a fetched fragment. It fails where memory
-/// runs out.
+/// Finds what a command does to the editor. A `keep` writes its file and a `fetch` reads it; no other command asks
+/// anything of the files. `steps` counts evaluations, and the tokens of typed text and of a fetched fragment. It fails
+/// where memory runs out.
 pub fn reach<F: Files, L: Ledger>(
     alloc: Global,
     language: &LanguageParts,

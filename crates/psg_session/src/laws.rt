@@ -19,8 +19,8 @@ pub fn one_step(definition: &Definition)
     ensures { HasOneStep definition.now (IsCompletable definition.now) }
 {}
 
-/// States that a command leads from a state whose trees are printable and of their kinds, and whose cursor is at a node, to
-/// such a state. So all states that an editor comes to are of this form. It does nothing at run time.
+/// States that a command leads from a state whose trees are printable and of their kinds, and whose cursor is at a
+/// node, to such a state. So all states that an editor reaches are of this form. It does nothing at run time.
 pub fn forms_are_kept(definition: &Definition)
     requires sound { IsSound definition.now }
     requires accepted { IsAccepted definition.now }
@@ -35,8 +35,8 @@ pub fn steps_by_completions(definition: &Definition)
     ensures { StepsByCompletions definition.now }
 {}
 
-/// States that in each state of this form the printed text of the opened fragment reads back as its tree: what `show` writes
-/// is the same fragment again. It does nothing at run time.
+/// States that in each state of this form the printed text of the opened fragment reads back as its tree: what `show`
+/// writes is the same fragment again. It does nothing at run time.
 pub fn shown_reads_back(definition: &Definition)
     requires sound { IsSound definition.now }
     requires words { AllByRecursion IsFixedWord (fixed_words definition.now) }
@@ -44,9 +44,10 @@ pub fn shown_reads_back(definition: &Definition)
     ensures { ShownReadsBack definition.now }
 {}
 
-/// States that no command lacks a step: from each state of this form, and with each answer that the files may give to what
-/// the command asks, it is refuted that there is no next state with a reply. With `one_step` there is exactly one, by
-/// excluded middle, which no proof here uses. So what is said of all steps speaks of something. It does nothing at run time.
+/// States that no command lacks a step: from each state of this form, and with each answer that the files may give to
+/// what the command asks, it is refuted that there is no next state with a reply. With `one_step` there is exactly one,
+/// by excluded middle, which no proof here uses. So what is said of all steps speaks of something. It does nothing at
+/// run time.
 pub fn some_step(definition: &Definition)
     requires sound { IsSound definition.now }
     requires words { AllByRecursion IsFixedWord (fixed_words definition.now) }

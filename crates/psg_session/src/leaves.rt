@@ -16,13 +16,16 @@ use std::alloc::{AllocError, Global};
 /// A name, number or text.
 #[derive(Drop)]
 pub enum Leaf {
+    /// A word that is to be a name.
     Name(Txt),
+    /// The value of a number.
     Number(u128),
+    /// The contents of a text, without quotes and with its escapes resolved.
     Text(Txt),
 }
 
-/// The names and literals that the arguments give to the operator, one for each of its name positions, numbers and
-/// texts; `None` where the arguments have no tokens or their tokens are no such list. It takes the time of the
+/// Reads the names and literals that the arguments give to the operator, one for each of its name positions, numbers
+/// and texts; `None` where the arguments have no tokens or their tokens are no such list. It takes the time of the
 /// arguments.
 pub fn read_leaves(
     alloc: Global,
@@ -163,7 +166,7 @@ fn suits(language: &LanguageParts, item: &Item, leaf: &Leaf) -> bool
     }
 }
 
-/// The number of the next leaf behind the item, or none where the leaf isn't one for it.
+/// Returns the number of the next leaf after the item, or none where the leaf is not one for it.
 fn next_leaf(language: &LanguageParts, leaves: &[Leaf], at: usize, item: &Item) -> Option<usize>
     requires language { IsLanguage language.now }
     requires words { AllByRecursion HasWord (map plain_leaf leaves.now) }

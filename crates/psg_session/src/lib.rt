@@ -5,11 +5,12 @@
 //! let reply = session.apply(alloc, &command, &mut files, &mut steps)?;
 //! ```
 //!
-//! What it does at a command is what the plain editor does, which is defined in this crate's specs and knows nothing but
-//! trees: the first of the command's tests that holds refuses it, otherwise it is done.
+//! What it does at a command is what the plain editor does, which is defined in this crate's specs and knows nothing
+//! but trees: the first of the command's tests that holds refuses it, otherwise it is done.
 //!
-//! A command that reaches the files asks them at its end (`kept`). Each other one is first planned (`changes`, `typed`, `ranged`), its tree is noted and judged (`noting`, `judging`), and what it does is an
-//! outcome that has all memory; one place (`Editor::settle`) then changes the editor and cannot fail.
+//! A command that reaches the files asks them at its end (`kept`). Each other one is first planned (`changes`, `typed`,
+//! `ranged`), its tree is noted and judged (`noting`, `judging`), and what it does is an outcome that has all memory;
+//! one place (`Editor::settle`) then changes the editor and cannot fail.
 #![tactic(auto)]
 
 pub mod changes;

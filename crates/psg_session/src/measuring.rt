@@ -16,13 +16,17 @@ use psg_terms::Txt;
 use psg_tree::{Tree, nodes};
 use std::alloc::{AllocError, Global};
 
-/// How large a fragment is: its nodes, the bytes of its printed text, and the weight of the relations of its nodes and list
-/// suffixes together. It has the mark too.
+/// The size of a fragment: its nodes, the bytes of its printed text, and the weight of the relations of its nodes and
+/// list suffixes together. It has the mark too.
 #[derive(Drop)]
 pub struct Extent {
+    /// The number of nodes.
     pub nodes: u64,
+    /// The number of bytes of the printed text.
     pub bytes: usize,
+    /// The weight of the relations of all nodes and list suffixes together.
     pub weight: u64,
+    /// The mark of the fragment.
     pub mark: Mark,
 }
 
@@ -49,7 +53,8 @@ pub(crate) fn extent_of(
 ) -> Result<Extent, AllocError>
     requires language { IsLanguage language.now }
     requires noted { IsNoteOf language.now.definition (tree_in note.now) note.now }
-    ensures { IfOk result (IsExtentOf language.now.definition (IsCompletable language.now.definition) (tree_in note.now)) }
+    ensures { IfOk result (IsExtentOf language.now.definition (IsCompletable language.now.definition)
+        (tree_in note.now)) }
 {
     let tree = note.tree();
     let text = text_of(alloc, &language.definition, tree)?;

@@ -1,4 +1,4 @@
-//! The operators and the names that may stand at a place of the opened fragment.
+//! The operators and the names that may be put at a place of the opened fragment.
 ghost use Rattle.std.specs.Prelude.{◌≡◌, ◌<◌, ◌∷◌, [], ℕ, Some, None, length, map, IfOk, MatchOption};
 ghost use Rattle.psg_terms.specs.Relations.{IsIn};
 ghost use Rattle.psg_grammar.specs.declared.types.Kind.{Kind};
@@ -38,7 +38,9 @@ use std::sync::ledger::Ledger;
 /// Where an operator is tried: the phylum that is wanted, and the frames around the place.
 #[derive(Drop)]
 pub struct Site {
+    /// The number of the phylum that an operator there must have.
     pub phylum: u32,
+    /// The frames from the place up to the root, the innermost first.
     pub around: Vec<Frame>,
 }
 
@@ -57,14 +59,14 @@ fn hole_site(
         return Ok(None);
     };
     let framed = found.held.note.frames(alloc, found.path)?;
-    // the note has frames around each node, so this does not come
+    // the note has frames around each node, so this is never reached
     let Some(around) = framed else {
         return Ok(None);
     };
     Ok(Some(Site { phylum, around }))
 }
 
-/// Gives the site before the element of the number of the list that the node is, if it is one with so many elements.
+/// Gives the site before the element of this number, where the node is a list with at least that many elements.
 fn element_site(
     alloc: Global,
     definition: &Definition,
@@ -75,7 +77,8 @@ fn element_site(
     requires version { (kind : Kind) × IsVersion definition.now kind found.held.now.note }
     requires node { node_at (tree_in found.held.now.note) found.path.now ≡ Some found.node.now }
     ensures { IfOk result (λ o. MatchOption o (HasNoPlace definition.now (Some number) found.entry.node.now)
-        (IsSite definition.now (tree_in found.entry.held.now.note) found.entry.path.now (Some number) found.entry.node.now)) }
+        (IsSite definition.now (tree_in found.entry.held.now.note) found.entry.path.now
+        (Some number) found.entry.node.now)) }
 {
     let Some(list) = as_list(definition, found.node) else {
         return Ok(None);
@@ -84,7 +87,7 @@ fn element_site(
         return Ok(None);
     }
     let framed = found.held.note.element_frames(alloc, found.path, number)?;
-    // the note has frames around each place of a list, so this does not come
+    // the note has frames around each place of a list, so this is never reached
     let Some(around) = framed else {
         return Ok(None);
     };
@@ -92,8 +95,8 @@ fn element_site(
     Ok(Some(Site { phylum, around }))
 }
 
-/// Gives the site of a placeholder, or, where a number is given, that before the element of a list; `None` where the node
-/// is none or has no such place.
+/// Gives the site of a placeholder, or, where a number is given, that before the element of a list; `None` where the
+/// node is none or has no such place.
 fn site_of(
     alloc: Global,
     definition: &Definition,
@@ -198,8 +201,8 @@ fn suggested(alloc: Global, names: Result<Vec<Txt>, FocusFault>) -> Result<Reply
     }
 }
 
-/// Answers which operators may stand at the place, in the definition's order: those with which, under new names and some
-/// literals, the fragment has a legal completion. Each is tried by the nodes above the place, or fewer.
+/// Answers which operators may be put at the place, in the definition's order: those with which, under new names and
+/// some literals, the fragment has a legal completion. Each is tried by the nodes above the place, or fewer.
 #[tactic(auto, using(crate::proofs::Ticking::quiet))]
 pub fn menu<L: Ledger>(
     alloc: Global,
@@ -211,8 +214,10 @@ pub fn menu<L: Ledger>(
 ) -> Result<Outcome, AllocError>
     requires language { IsLanguage language.now }
     requires editor { IsEditor language.now.definition editor.now }
-    ensures outcome { IfOk result (IsOutcome language.now.definition editor.now not_asked (commands.Menu place.now number)) }
-    ensures ticks { HasTicked language.now.definition (state_of editor.now) (commands.Menu place.now number) steps.old steps.new }
+    ensures outcome { IfOk result
+        (IsOutcome language.now.definition editor.now not_asked (commands.Menu place.now number)) }
+    ensures ticks { HasTicked language.now.definition (state_of editor.now)
+        (commands.Menu place.now number) steps.old steps.new }
 {
     let found = match find(editor, place) {
         Ok(found) => found,
@@ -255,8 +260,9 @@ fn naming(definition: &Definition, phylum: u32, name: &str) -> Result<u32, Refus
     Ok(op)
 }
 
-/// Answers with which names of the fragment the operator may stand at the place, in the order of bytes: those with which,
-/// under some literals, the fragment has a legal completion. Each is tried by the nodes above the place, or fewer.
+/// Answers with which names of the fragment the operator may be put at the place, in the order of bytes: those with
+/// which, under some literals, the fragment has a legal completion. Each is tried by the nodes above the place, or
+/// fewer.
 #[tactic(auto, using(crate::proofs::Ticking::quiet))]
 pub fn suggest<L: Ledger>(
     alloc: Global,
@@ -269,8 +275,10 @@ pub fn suggest<L: Ledger>(
 ) -> Result<Outcome, AllocError>
     requires language { IsLanguage language.now }
     requires editor { IsEditor language.now.definition editor.now }
-    ensures outcome { IfOk result (IsOutcome language.now.definition editor.now not_asked (commands.Names place.now number name.now)) }
-    ensures ticks { HasTicked language.now.definition (state_of editor.now) (commands.Names place.now number name.now) steps.old steps.new }
+    ensures outcome { IfOk result
+        (IsOutcome language.now.definition editor.now not_asked (commands.Names place.now number name.now)) }
+    ensures ticks { HasTicked language.now.definition (state_of editor.now)
+        (commands.Names place.now number name.now) steps.old steps.new }
 {
     let found = match find(editor, place) {
         Ok(found) => found,

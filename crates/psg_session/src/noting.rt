@@ -60,7 +60,7 @@ pub fn note_after<L: Ledger>(
     }
 }
 
-/// Gives the tree that was made. Its place was looked at before, so only memory can have been wanting.
+/// Gives the tree that was made. Its place was looked at before, so it fails only where memory ran out.
 pub fn tree_of(made: Result<Tree, TreeFault>) -> Result<Tree, AllocError>
     requires { (fault : TreeFault) → made ≡ Err fault → fault ≡ Memory }
     ensures { IfOk result (λ tree. made ≡ Ok tree) }

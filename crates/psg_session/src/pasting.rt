@@ -26,7 +26,9 @@ use std::alloc::{AllocError, Global};
 /// A saved fragment, and the node to which it is pasted.
 #[derive(Clone, Copy)]
 pub struct Source<'a> {
+    /// The saved fragment.
     pub saved: &'a SavedFragment,
+    /// The node at which it is pasted.
     pub found: Found<'a>,
 }
 
@@ -48,7 +50,7 @@ fn source_of<'a>(editor: &'a Editor, place: &'a Where, name: &Txt) -> Result<Sou
     }
 }
 
-/// Tells whether the tree is a placeholder or an empty list.
+/// Says whether the tree is a placeholder or an empty list.
 fn is_empty_place(definition: &Definition, tree: &Tree) -> bool
     requires formed { IsFormed definition.now tree.now }
     ensures { IsTrue result ↔ IsEmptyPlace definition.now tree.now }
@@ -59,7 +61,7 @@ fn is_empty_place(definition: &Definition, tree: &Tree) -> bool
     }
 }
 
-/// Tells whether the tree is a placeholder.
+/// Says whether the tree is a placeholder.
 fn is_hole(tree: &Tree) -> bool
     ensures { IsTrue result ↔ ((p : ℕ) × (tree.now ≡ hole p)) }
 {
@@ -69,7 +71,7 @@ fn is_hole(tree: &Tree) -> bool
     }
 }
 
-/// Tells whether the two kinds are the same.
+/// Says whether the two kinds are the same.
 fn is_kind(kind: Kind, wanted: Kind) -> bool
     ensures { IsTrue result ↔ (kind ≡ wanted) }
 {
@@ -143,7 +145,8 @@ fn paste_element(
 ) -> Result<Plan, AllocError>
     requires language { IsLanguage language.now }
     requires editor { IsEditor language.now.definition editor.now }
-    ensures { IfOk result (IsPlan language.now.definition editor.now (commands.Paste place.now (Some number) name.now)) }
+    ensures { IfOk result (IsPlan language.now.definition editor.now
+        (commands.Paste place.now (Some number) name.now)) }
 {
     let source = match source_of(editor, place, name) {
         Ok(source) => source,

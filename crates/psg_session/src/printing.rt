@@ -84,7 +84,7 @@ pub fn go(
         Err(refusal) => return Ok(Outcome::Stays(Reply::Refused(refusal))),
     };
     let printed = unparse(alloc, &language.definition, found.held.note.tree())?;
-    // each node has a span, so this refusal does not come
+    // each node has a span, so this refusal is never reached
     let Some(span) = span_at(printed.spans.as_slice(), found.path.steps()) else {
         return Ok(Outcome::Stays(Reply::Refused(Refusal::NoNode)));
     };
@@ -159,9 +159,10 @@ fn goto_line(
     Ok(text)
 }
 
-/// Writes the kind, what the node is and its bytes behind the text, each after a space.
+/// Writes the kind, what the node is and its bytes after the text, each after a space.
 fn push_words(text: &mut String, kind: &str, what: &str, span: &Span) -> Result<(), AllocError>
-    ensures { IfOk result (λ _. string_bytes text.new ≡ string_bytes text.old ++ node_words kind.now what.now span.now) }
+    ensures { IfOk result (λ _. string_bytes text.new
+        ≡ string_bytes text.old ++ node_words kind.now what.now span.now) }
 {
     push_word(text, kind)?;
     push_word(text, what)?;
@@ -170,7 +171,7 @@ fn push_words(text: &mut String, kind: &str, what: &str, span: &Span) -> Result<
     Ok(())
 }
 
-/// Writes the word behind the text, after a space.
+/// Writes the word after the text, after a space.
 fn push_word(text: &mut String, word: &str) -> Result<(), AllocError>
     ensures { IfOk result (λ _. string_bytes text.new ≡ string_bytes text.old ++ 32 ∷ word.now) }
 {
@@ -179,7 +180,7 @@ fn push_word(text: &mut String, word: &str) -> Result<(), AllocError>
     Ok(())
 }
 
-/// Writes the number behind the text, after a space.
+/// Writes the number after the text, after a space.
 fn push_number(text: &mut String, number: usize) -> Result<(), AllocError>
     ensures { IfOk result (λ _. string_bytes text.new ≡ string_bytes text.old ++ 32 ∷ decimal number) }
 {

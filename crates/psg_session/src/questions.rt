@@ -5,7 +5,8 @@ ghost use Rattle.psg_terms.specs.Signature.{AreTerms};
 ghost use Rattle.psg_terms.specs.Terms.{Term as Plain};
 ghost use Rattle.psg_scope.specs.Headers.{key_of, keys};
 ghost use Rattle.psg_script.specs.declared.command.Command.TheVariants as commands;
-ghost use Rattle.psg_session.specs.Answers.{entities_text, key_text, space_name, names_line as names_line_of, row_line as row_line_of, rows_lines as rows_lines_of};
+ghost use Rattle.psg_session.specs.Answers.{entities_text, key_text, space_name, names_line as names_line_of};
+ghost use Rattle.psg_session.specs.Answers.{row_line as row_line_of, rows_lines as rows_lines_of};
 ghost use Rattle.psg_session.specs.Outcomes.{IsOutcome};
 ghost use Rattle.psg_session.specs.PlainState.{not_asked};
 ghost use Rattle.psg_session.specs.Sessions.{IsEditor};
@@ -23,7 +24,7 @@ use psg_specimen::LanguageParts;
 use psg_terms::{Signature, Term, Txt, term_text};
 use std::alloc::{AllocError, Global};
 
-/// The keys that the opened fragment uses and its outermost region does not declare.
+/// Answers with the keys that the opened fragment uses and its outermost region does not declare. It evaluates nothing.
 pub fn free(alloc: Global, language: &LanguageParts, editor: &Editor) -> Result<Outcome, AllocError>
     requires language { IsLanguage language.now }
     requires editor { IsEditor language.now.definition editor.now }
@@ -51,7 +52,7 @@ fn free_line(alloc: Global, def: &Definition, names: &[NameCol]) -> Result<Strin
     Ok(line)
 }
 
-/// The key of the column as it is printed: its name, in version 2 behind that of its space.
+/// Returns the key of the column as it is printed: its name, and in version 2 before it the name of its space.
 fn key_label(alloc: Global, def: &Definition, column: &NameCol) -> Result<Txt, AllocError>
     ensures { IfOk result (λ label. label ≡ key_text def.now (key_of column.now)) }
 {
@@ -67,7 +68,7 @@ fn key_label(alloc: Global, def: &Definition, column: &NameCol) -> Result<Txt, A
     Ok(label)
 }
 
-/// Writes the name of the space behind the text.
+/// Writes the name of the space after the text.
 fn push_space(text: &mut String, spaces: &[Space], space: u32) -> Result<(), AllocError>
     ensures { IfOk result (λ _. string_bytes text.new ≡ string_bytes text.old ++ space_name spaces.now space) }
 {
@@ -117,8 +118,8 @@ pub(crate) fn names_line(alloc: Global, names: &[Txt]) -> Result<String, AllocEr
     Ok(text)
 }
 
-/// The rows of the relation of the node at the place, each on a line: the value, and the entity of each key. It
-/// evaluates nothing.
+/// Answers with the rows of the relation of the node at the place, each on a line: the value, and the entity of each
+/// key. It evaluates nothing.
 pub fn own(
     alloc: Global,
     language: &LanguageParts,
@@ -133,7 +134,7 @@ pub fn own(
         Ok(found) => found,
         Err(refusal) => return Ok(Outcome::Stays(Reply::Refused(refusal))),
     };
-    // the note has a summary of each node, so this refusal does not come
+    // the note has a summary of each node, so this refusal is never reached
     let Some(summary) = found.held.note.summary(found.path) else {
         return Ok(Outcome::Stays(Reply::Refused(Refusal::NoNode)));
     };
@@ -144,7 +145,8 @@ pub fn own(
 /// A line for each row of the summary, or `none`.
 fn rows_lines(alloc: Global, def: &Definition, summary: &Summary) -> Result<Vec<String>, AllocError>
     requires { (row : List Plain) → IsIn row summary.now.rel → AreTerms def.now.signature row }
-    ensures { IfOk result (λ lines. map string_bytes lines.items ≡ rows_lines_of def.now.signature (map (key_text def.now) (keys summary.now.header.names)) summary.now.rel) }
+    ensures { IfOk result (λ lines. map string_bytes lines.items
+        ≡ rows_lines_of def.now.signature (map (key_text def.now) (keys summary.now.header.names)) summary.now.rel) }
 {
     let labels = labels(alloc, def, summary.header().names.as_slice())?;
     let names = labels.as_slice();
@@ -163,7 +165,7 @@ fn rows_lines(alloc: Global, def: &Definition, summary: &Summary) -> Result<Vec<
     Ok(lines)
 }
 
-/// A row: the value, and behind it each key with its entity.
+/// Returns a row: the value, and after it each key with its entity.
 fn row_line(
     alloc: Global,
     signature: &Signature,
@@ -181,7 +183,7 @@ fn row_line(
     Ok(text)
 }
 
-/// Writes each key with its entity behind the text, as far as there are both.
+/// Writes each key with its entity after the text, as long as there are both.
 fn push_entities(
     alloc: Global,
     text: &mut String,
@@ -190,7 +192,8 @@ fn push_entities(
     entities: &[Term],
 ) -> Result<(), AllocError>
     requires { AreTerms signature.now entities.now }
-    ensures { IfOk result (λ _. string_bytes text.new ≡ string_bytes text.old ++ entities_text signature.now names.now entities.now) }
+    ensures { IfOk result (λ _. string_bytes text.new
+        ≡ string_bytes text.old ++ entities_text signature.now names.now entities.now) }
 {
     let mut rest = entities;
     for name in names {
@@ -204,7 +207,7 @@ fn push_entities(
     Ok(())
 }
 
-/// Writes the key with its entity behind the text, as ` x=int`.
+/// Writes the key with its entity after the text, as ` x=int`.
 fn push_entity(text: &mut String, name: &str, entity: &str) -> Result<(), AllocError>
     ensures { IfOk result (λ _. string_bytes text.new ≡ string_bytes text.old ++ 32 ∷ (name.now ++ (61 ∷ entity.now))) }
 {

@@ -45,8 +45,9 @@ fn refusal_of(fault: TextFault) -> Result<Refusal, AllocError>
     }
 }
 
-/// Reads the whole new text of the opened fragment, by the nodes around the bytes that are replaced. It prints the whole
-/// text and lexes the new one, and takes a step of the counter for each token of the nodes that it reads again.
+/// Reads the whole new text of the opened fragment, by the nodes around the bytes that are replaced. It prints the
+/// whole text, lexes the lines of these bytes, and takes a step of the counter for each token of the nodes that it
+/// reads again.
 fn read_change<L: Ledger>(
     alloc: Global,
     language: &LanguageParts,
@@ -134,14 +135,14 @@ fn range<L: Ledger>(
     }
 }
 
-/// Replaces the bytes of the printed text from `start` on and before `end`. The new tree is the only one that the whole new
-/// text is read as, of the opened kind; it is taken also where it is wrong, so long as it is within the limits. The cursor
-/// goes to the top.
+/// Replaces the bytes of the printed text from `start` on and before `end`. The new tree is the only one that the whole
+/// new text is read as, of the opened kind; it is taken also where it is wrong, so long as it is within the limits. The
+/// cursor goes to the top.
 ///
-/// It is refused with `NoRange` where the text has no such bytes, with `NoTokens` and `NoTree` where the whole new text has no
-/// tokens or no tree, and with `TooDeep` where one has them that is too deep, or whose brackets nest too deep. It prints the
-/// whole text, takes a step for each token of the nodes around the bytes that are read again, evaluates the new nodes and
-/// those above them, and fails where memory runs out.
+/// It is refused with `NoRange` where the text has no such bytes, with `NoTokens` and `NoTree` where the whole new text
+/// has no tokens or no tree, and with `TooDeep` where one has them that is too deep, or whose brackets nest too deep.
+/// It prints the whole text, takes a step for each token of the nodes around the bytes that are read again, evaluates
+/// the new nodes and those above them, and fails where memory runs out.
 pub(crate) fn replace_bytes<L: Ledger>(
     alloc: Global,
     language: &LanguageParts,

@@ -2,7 +2,7 @@
 ghost use Rattle.std.specs.Prelude.{◌≡◌};
 ghost use Rattle.psg_session.specs.Refusals.{number_of};
 
-/// Why a command or a line is refused.
+/// The reason why a command or a line is refused.
 #[derive(Clone, Copy, Debug, PartialEq, Eq)]
 pub enum Refusal {
     /// The line is none of a command that the editor has.
@@ -54,7 +54,7 @@ pub enum Refusal {
 }
 
 impl Refusal {
-    /// Gives the number that stands in the reply.
+    /// Returns the number that the reply has.
     pub fn number(self) -> u8
         ensures { result ≡ number_of self }
     {

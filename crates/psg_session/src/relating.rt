@@ -75,8 +75,8 @@ fn answer(
     }
 }
 
-/// The values that the node at the place may have in the completions of the fragment, each on a line. It evaluates the nodes
-/// above it once more.
+/// Answers with the values that the node at the place may have in the completions of the fragment, each on a line. It
+/// evaluates the nodes above it once more.
 #[tactic(auto, using(crate::proofs::Ticking::quiet))]
 pub fn relation<L: Ledger>(
     alloc: Global,
@@ -87,15 +87,17 @@ pub fn relation<L: Ledger>(
 ) -> Result<Outcome, AllocError>
     requires language { IsLanguage language.now }
     requires editor { IsEditor language.now.definition editor.now }
-    ensures outcome { IfOk result (IsOutcome language.now.definition editor.now not_asked (commands.Relation place.now)) }
-    ensures ticks { HasTicked language.now.definition (state_of editor.now) (commands.Relation place.now) steps.old steps.new }
+    ensures outcome { IfOk result
+        (IsOutcome language.now.definition editor.now not_asked (commands.Relation place.now)) }
+    ensures ticks { HasTicked language.now.definition (state_of editor.now)
+        (commands.Relation place.now) steps.old steps.new }
 {
     let found = match find(editor, place) {
         Ok(found) => found,
         Err(refusal) => return Ok(Outcome::Stays(Reply::Refused(refusal))),
     };
     let note = &found.held.note;
-    // the note has a summary of each node and frames around it, so these refusals do not come
+    // the note has a summary of each node and frames around it, so these refusals are never reached
     let Some(summary) = note.summary(found.path) else {
         return Ok(Outcome::Stays(Reply::Refused(Refusal::NoNode)));
     };

@@ -12,10 +12,13 @@ use psg_terms::Txt;
 use psg_tree::Path;
 use std::alloc::{AllocError, Global};
 
-/// Whether the fragment is open, and otherwise the paths of its culprits, a node before its children, children in order.
+/// Whether the fragment is open, and otherwise the paths of its culprits, a node before its children, children in
+/// order.
 #[derive(Drop)]
 pub enum Mark {
+    /// The fragment has a legal completion.
     Good,
+    /// It has none; the paths lead to its culprits.
     Wrong(Vec<Path>),
 }
 
@@ -34,7 +37,7 @@ pub enum Reply {
     Seen(Vec<Txt>),
 }
 
-/// Writes the path behind the text.
+/// Writes the path after the text.
 pub(crate) fn push_path(text: &mut String, path: &Path) -> Result<(), AllocError>
     ensures { IfOk result (λ _. string_bytes text.new ≡ string_bytes text.old ++ path_text path.now) }
 {
@@ -47,7 +50,7 @@ pub(crate) fn push_path(text: &mut String, path: &Path) -> Result<(), AllocError
     Ok(())
 }
 
-/// Writes each step behind a slash.
+/// Writes each step after a slash.
 fn push_steps(text: &mut String, steps: &[u32]) -> Result<(), AllocError>
     ensures { IfOk result (λ _. string_bytes text.new ≡ string_bytes text.old ++ steps_text steps.now) }
 {
@@ -59,7 +62,7 @@ fn push_steps(text: &mut String, steps: &[u32]) -> Result<(), AllocError>
     Ok(())
 }
 
-/// Writes each path behind a space.
+/// Writes each path after a space.
 fn push_paths(text: &mut String, paths: &[Path]) -> Result<(), AllocError>
     ensures { IfOk result (λ _. string_bytes text.new ≡ string_bytes text.old ++ paths_text paths.now) }
 {
@@ -70,7 +73,7 @@ fn push_paths(text: &mut String, paths: &[Path]) -> Result<(), AllocError>
     Ok(())
 }
 
-/// Writes the mark behind the text.
+/// Writes the mark after the text.
 fn push_mark(text: &mut String, mark: &Mark) -> Result<(), AllocError>
     ensures { IfOk result (λ _. string_bytes text.new ≡ string_bytes text.old ++ mark_text (mark_of mark.now)) }
 {
@@ -87,7 +90,7 @@ fn push_mark(text: &mut String, mark: &Mark) -> Result<(), AllocError>
     }
 }
 
-/// The lines of a reply, each with its line feed.
+/// Writes the lines of a reply, each with its line feed.
 pub fn reply_lines(alloc: Global, reply: &Reply) -> Result<String, AllocError>
     ensures { IfOk result (λ text. string_bytes text ≡ reply_text (reply_of reply.now)) }
 {
@@ -116,9 +119,10 @@ pub fn reply_lines(alloc: Global, reply: &Reply) -> Result<String, AllocError>
     Ok(text)
 }
 
-/// Writes each line with its line feed behind the text.
+/// Writes each line with its line feed after the text.
 fn push_lines(text: &mut String, lines: &[String]) -> Result<(), AllocError>
-    ensures { IfOk result (λ _. string_bytes text.new ≡ string_bytes text.old ++ feed_all (map string_bytes lines.now)) }
+    ensures { IfOk result (λ _. string_bytes text.new
+        ≡ string_bytes text.old ++ feed_all (map string_bytes lines.now)) }
 {
     for line in lines {
         text.push_str(line.as_str())?;
@@ -127,7 +131,7 @@ fn push_lines(text: &mut String, lines: &[String]) -> Result<(), AllocError>
     Ok(())
 }
 
-/// Writes each line of a window with its line feed behind the text.
+/// Writes each line of a window with its line feed after the text.
 fn push_seen(text: &mut String, lines: &[Txt]) -> Result<(), AllocError>
     ensures { IfOk result (λ _. string_bytes text.new ≡ string_bytes text.old ++ feed_all lines.now) }
 {
@@ -138,7 +142,7 @@ fn push_seen(text: &mut String, lines: &[Txt]) -> Result<(), AllocError>
     Ok(())
 }
 
-/// Writes the shown text, which has a line or more, and then the mark behind the text, each line with its line feed.
+/// Writes the shown text, which has a line or more, and then the mark after the text, each line with its line feed.
 fn push_shown(text: &mut String, shown: &str, mark: &Mark) -> Result<(), AllocError>
     ensures { IfOk result (λ _. string_bytes text.new
         ≡ string_bytes text.old ++ feed_all (lines_in shown.now ++ mark_text (mark_of mark.now) ∷ [])) }
@@ -149,7 +153,7 @@ fn push_shown(text: &mut String, shown: &str, mark: &Mark) -> Result<(), AllocEr
     Ok(())
 }
 
-/// Writes the line with its line feed behind the text.
+/// Writes the line with its line feed after the text.
 fn push_line(text: &mut String, line: &str) -> Result<(), AllocError>
     ensures { IfOk result (λ _. string_bytes text.new ≡ string_bytes text.old ++ feed line.now) }
 {

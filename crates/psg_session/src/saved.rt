@@ -1,5 +1,6 @@
 //! Saved fragments.
-ghost use Rattle.std.specs.Prelude.{◌≡◌, ◌↔◌, ◌≤◌, ◌++◌, ◌∷◌, [], None, IfOk, IsTrue, bytes_eq, codes, length, map, option_copied, string_bytes};
+ghost use Rattle.std.specs.Prelude.{◌≡◌, ◌↔◌, ◌≤◌, ◌++◌, ◌∷◌, [], None, IfOk, IsTrue, bytes_eq, codes, length, map};
+ghost use Rattle.std.specs.Prelude.{option_copied, string_bytes};
 ghost use Rattle.psg_script.specs.declared.command.Command.TheVariants as commands;
 ghost use Rattle.psg_session.specs.Outcomes.{IsOutcome};
 ghost use Rattle.psg_session.specs.PlainState.{not_asked};
@@ -21,7 +22,7 @@ use std::alloc::{AllocError, Global};
 /// How many fragments are saved at most.
 pub const MOST_SAVED: usize = 64;
 
-/// Tells whether the fragment has the name.
+/// Says whether the fragment has the name.
 fn has_name(saved: &SavedFragment, name: &Txt) -> bool
     ensures { result ≡ bytes_eq saved.now.name name.now }
 {
@@ -70,7 +71,7 @@ pub(crate) fn with_saved(
     Ok(Seq::of(kept))
 }
 
-/// Tells whether no saved fragment has the name.
+/// Says whether no saved fragment has the name.
 fn is_new(saved: &[SavedFragment], name: &Txt) -> bool
     ensures { IsTrue result ↔ (saved_at saved.now name.now ≡ None) }
 {
@@ -80,14 +81,14 @@ fn is_new(saved: &[SavedFragment], name: &Txt) -> bool
     }
 }
 
-/// Tells whether as many fragments are saved as may be.
+/// Says whether as many fragments are saved as is allowed.
 fn has_most(saved: &[SavedFragment]) -> bool
     ensures { IsTrue result ↔ (most_saved ≤ length saved.now) }
 {
     MOST_SAVED <= saved.len()
 }
 
-/// Tells whether there is no room for a fragment of the name.
+/// Says whether no fragment of this new name can be saved, since as many as allowed are.
 pub(crate) fn is_full(saved: &[SavedFragment], name: &Txt) -> bool
     ensures { IsTrue result ↔ IsFull saved.now name.now }
 {

@@ -33,7 +33,9 @@ use std::sync::ledger::Ledger;
 /// What a session keeps.
 #[derive(Drop)]
 pub struct Parts {
+    /// The language, which never changes.
     pub language: Language,
+    /// The editor of its fragments.
     pub editor: Editor,
 }
 
@@ -58,8 +60,8 @@ impl Model for Session {
 }
 
 impl Session {
-    /// Makes an editor in which nothing is opened. It fails where memory runs out, and takes the memory for the versions
-    /// that are kept.
+    /// Makes an editor in which nothing is opened. It fails where memory runs out, and takes the memory for the
+    /// versions that are kept.
     pub fn new(alloc: Global, language: Language) -> Result<Session, AllocError>
         ensures start { IfOk result (λ s. state_of s.editor ≡ start) }
         ensures language { IfOk result (λ s. s.language ≡ language) }
@@ -77,9 +79,9 @@ impl Session {
         })
     }
 
-    /// Does what the command says, and gives the reply. After a refusal, and where memory runs out, the session is as it
-    /// was. A change evaluates what is new and the nodes above it, and `steps` counts the evaluations, and the tokens of
-    /// typed text and of a fetched fragment. Where memory runs out in a `keep`, nothing is known of its file.
+    /// Does what the command says, and gives the reply. After a refusal, and where memory runs out, the session is as
+    /// it was. A change evaluates what is new and the nodes above it, and `steps` counts the evaluations, and the
+    /// tokens of typed text and of a fetched fragment. Where memory runs out in a `keep`, nothing is known of its file.
     pub fn apply<F: Files, L: Ledger>(
         &mut self,
         alloc: Global,
@@ -158,8 +160,8 @@ impl Session {
         }
     }
 
-    /// Gives the extent of the opened fragment: how large it is, and its mark; `None` where nothing is opened. It prints the
-    /// whole text, and fails where memory runs out.
+    /// Gives the extent of the opened fragment: how large it is, and its mark; `None` where nothing is opened. It
+    /// prints the whole text, and fails where memory runs out.
     pub fn extent(&self, alloc: Global) -> Result<Option<Extent>, AllocError>
         ensures { IfOk result (λ extent. MatchOption extent (self.now.editor.opened ≡ None)
             (λ e. (old : Opened) × ((state_of self.now.editor).opened ≡ Some old)
@@ -189,7 +191,8 @@ impl Session {
     }
 }
 
-/// Finds what the command does to an editor of the language. The definition is sound and accepted, as that of each language.
+/// Finds what the command does to an editor of the language. The definition is sound and accepted, as that of each
+/// language.
 fn reached<F: Files, L: Ledger>(
     alloc: Global,
     language: &Language,
@@ -227,8 +230,8 @@ fn measured(alloc: Global, language: &Language, note: &Note) -> Result<Extent, A
     Ok(extent)
 }
 
-/// Reads the text that is typed with the command. What it ensures holds of all values of its type, and is known of those that
-/// a program reads.
+/// Reads the text that is typed with the command. What it ensures holds of all values of its type, and is known of
+/// those that a program reads.
 fn read_text(command: &Command)
     ensures { HasText command.now }
 {

@@ -128,8 +128,8 @@ fn over<L: Ledger>(
 }
 
 /// Puts the tree that the text is read as in place of the node, to which the cursor goes. The text is read as a tree of
-/// the node's kind, at level 0. The tree is taken also where it is wrong, so long as it is within the limits. It takes a
-/// step for each token, evaluates the new tree and the nodes above it, and fails where memory runs out.
+/// the node's kind, at level 0. The tree is taken also where it is wrong, so long as it is within the limits. It takes
+/// a step for each token, evaluates the new tree and the nodes above it, and fails where memory runs out.
 pub(crate) fn type_over<L: Ledger>(
     alloc: Global,
     language: &LanguageParts,

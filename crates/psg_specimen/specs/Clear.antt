@@ -25,5 +25,6 @@ pub record IsClearBy (sig : Signature) (sort : ℕ) (row : Row) (value : Term) :
   pub rest_is : IsRest sig sort element rest
   pub is : IsInstance (value ∷ []) (element ∷ [])
 
+-- the condition on the value of a declare row, where its list is there
 abbrev pub IsClearDeclare : Definition → DeclareRow → Type 0
 IsClearDeclare def d = (list : ListKind) → slice_get def.lists d.list ≡ Some list → IsClear def list d.value

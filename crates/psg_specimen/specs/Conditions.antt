@@ -1,5 +1,5 @@
--- The conditions of acceptance after the grammar class, in the order in which they are tested, each by what holds. So an
--- accepted definition comes with the rows that cover and the choices that show.
+-- The conditions of acceptance after the grammar class, in the order in which they are tested, each by what holds. So
+-- an accepted definition has the rows that cover and the choices that show.
 use Rattle.std.specs.Prelude.{ℕ, ◌≡◌, true, false, List, [], ◌∷◌, slice_get, Some}
 use Rattle.std.specs.List.{AllByRecursion}
 use Rattle.psg_terms.specs.Terms.{Term}
@@ -23,6 +23,7 @@ use Rattle.psg_completions.specs.Elements.{IsDeclarable, IsClearRow}
 use Rattle.psg_completions.specs.Conditions.{EachCase, EachDeclare}
 use Rattle.psg_specimen.specs.Declares.{IsDeclaration}
 
+-- the item is a place for a name, used or declared
 abbrev pub IsNamePosition : Item → Type 0
 IsNamePosition (items.Refers s) = Unit {0}
 IsNamePosition (items.Declares s) = Unit {0}
@@ -48,13 +49,15 @@ module _ (def : Definition) where
   IsQuiet (kinds.List l) = Unit {0}
 
   abbrev pub IsQuietSlot : ℕ → ℕ → Type 0
-  IsQuietSlot o k = (op : Operator) → slice_get def.operators o ≡ Some op → (kind : Kind) → slice_get (slot_kinds op.items) k ≡ Some kind → IsQuiet kind
+  IsQuietSlot o k = (op : Operator) → slice_get def.operators o ≡ Some op → (kind : Kind)
+      → slice_get (slot_kinds op.items) k ≡ Some kind → IsQuiet kind
 
   abbrev pub HasRow : Kind → Type 0
-  HasRow kind = HasKind def kind → (r : ℕ) × (row : HoleRow) × (slice_get def.hole_rows r ≡ Some row) × (row.kind ≡ kind)
+  HasRow kind = HasKind def kind
+      → (r : ℕ) × (row : HoleRow) × (slice_get def.hole_rows r ≡ Some row) × (row.kind ≡ kind)
 
-  -- No step of the specimen is too large. Its hole places are further columns of each step, and a specimen that is a hole
-  -- place alone has no step.
+  -- No step of the specimen is too large. Its hole places are further columns of each step, and a specimen that is a
+  -- hole place alone has no step.
   abbrev pub IsNarrow : Specimen → Type 0
   IsNarrow specimen = IsWide def (tree_of specimen) → ⊥
 
@@ -62,7 +65,7 @@ module _ (def : Definition) where
   abbrev pub EachBounded : (Specimen → Term → Type 0) → Type 0
   EachBounded P = EachCase def (λ r c row one. P one.specimen one.term) × EachDeclare def (λ k d. P d.specimen d.term)
 
-  -- ---- the first so many conditions hold
+  -- ---- the conditions up to one hold: of Met3, the first three
 
   abbrev pub Met1 : Type 0
   Met1 = (o : ℕ) → IsBareScope o

@@ -3,12 +3,14 @@ use Rattle.std.specs.Prelude.{ℕ, ◌≡◌, codes, slice_get, Some}
 use Rattle.psg_grammar.specs.declared.types.Specimen.{Specimen, Op', List', Hole}
 use Rattle.psg_grammar.specs.declared.types.DeclareRow.{DeclareRow}
 use Rattle.psg_grammar.specs.declared.types.Definition.{Definition}
-use Rattle.psg_grammar.specs.Fragments.{Fragment, hole, ending, cell, operator, with_child, with_name, with_number, with_text, anything, observed}
+use Rattle.psg_grammar.specs.Fragments.{Fragment, hole, ending, cell, operator, with_child, with_name, with_number}
+use Rattle.psg_grammar.specs.Fragments.{with_text, anything, observed}
 use Rattle.psg_grammar.specs.Keys.{space_of}
 use Rattle.psg_grammar.specs.Lookups.{key_at}
 use Rattle.psg_grammar.specs.Specimens.{tree_of}
 use Rattle.psg_completions.specs.Elements.{DeclaresOnce}
 
+-- the specimen is an operator, no list and no hole place
 abbrev pub IsOperator : Specimen → Type 0
 IsOperator (Op' o shape parts) = Unit {0}
 IsOperator (List' l shape elements rest) = ⊥

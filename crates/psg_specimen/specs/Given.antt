@@ -17,15 +17,19 @@ use Rattle.psg_completions.specs.Elements.{HasDeclareRow}
 use Rattle.psg_specimen.specs.declared.declarable.Given.{Given}
 use Rattle.psg_specimen.specs.declared.declarable.Place.{Place}
 
+-- the constructor in a space of a list
 abbrev pub given_by : ℕ → ℕ → ℕ → Given
 given_by l s c = record { place = record { list = l; space = s }; con = c }
 
+-- whether list and space are equal
 abbrev pub same_place : Place → Place → Bool
 same_place a b = (a.list == b.list) && (a.space == b.space)
 
+-- whether list, space and constructor are equal
 abbrev pub same_given : Given → Given → Bool
 same_given a b = same_place a.place b.place && (a.con == b.con)
 
+-- whether the set has it
 abbrev pub has_given : HashSet Given (BuildHasherDefault FoldHasher) → Given → Bool
 has_given set k = contains same_given set k
 
@@ -35,9 +39,11 @@ pub record IsGivenBy (sig : Signature) (row : DeclareRow) (k : Given) : Type 0 w
   pub of_space : row.space ≡ k.place.space
   pub over : IsOver sig k.con row.term
 
+-- some declare row gives it
 abbrev pub IsGiven : Signature → List DeclareRow → Given → Type 0
 IsGiven sig rows k = (r : ℕ) × (row : DeclareRow) × (slice_get rows r ≡ Some row) × IsGivenBy sig row k
 
+-- the constructor is given in the space of the list
 abbrev pub HasCon : (Given → Bool) → ℕ → ℕ → ConId → Type 0
 HasCon has l s c = has (given_by l s c.0) ≡ true
 
@@ -56,7 +62,7 @@ abbrev pub IsDeclarableIn : Definition → ℕ → ℕ → ℕ → Type 0
 IsDeclarableIn def l s c = (space : Space) → slice_get def.spaces s ≡ Some space
     → IsIn c (constructors_of def.signature space.sort.0) → HasDeclareRow def l s c
 
--- that of a list of the number, if it is of the unfinished kind and declares in the space
+-- the list of this number has such a declare row, if a tree of it may be unfinished and it declares in the space
 abbrev pub IsDeclarableOf : Definition → ℕ → ListKind → ℕ → ℕ → Type 0
 IsDeclarableOf def l list s c = list.unfinished ≡ true → is_declaring def s (kinds.List l) ≡ true
     → IsDeclarableIn def l s c

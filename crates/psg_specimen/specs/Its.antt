@@ -1,15 +1,18 @@
 -- The names `it` of a specimen.
-use Rattle.std.specs.Prelude.{ℕ, ◌+◌, ◌==◌, ◌&&◌, not, Bool, true, false, cond, List, [], ◌∷◌, ◌++◌, Option, Some, None, slice_get, bytes_eq, codes}
+use Rattle.std.specs.Prelude.{ℕ, ◌+◌, ◌==◌, ◌&&◌, not, Bool, true, false, cond, List, [], ◌∷◌, ◌++◌, Option, Some, None}
+use Rattle.std.specs.Prelude.{slice_get, bytes_eq, codes}
 use Rattle.psg_grammar.specs.declared.types.Item.{Item}
 use Rattle.psg_grammar.specs.declared.types.Item.TheVariants as items
 use Rattle.psg_grammar.specs.declared.types.Specimen.{Specimen}
 use Rattle.psg_grammar.specs.declared.types.SpecimenPart.{SpecimenPart, Sub, Name, Number, Text}
 use Rattle.psg_grammar.specs.declared.types.Definition.{Definition}
-use Rattle.psg_grammar.specs.Fragments.{Fragment, hole, ending, cell, operator, with_child, with_name, with_number, with_text, anything, observed}
+use Rattle.psg_grammar.specs.Fragments.{Fragment, hole, ending, cell, operator, with_child, with_name, with_number}
+use Rattle.psg_grammar.specs.Fragments.{with_text, anything, observed}
 use Rattle.psg_grammar.specs.Lookups.{is_part, is_scope, next_item}
 use Rattle.psg_grammar.specs.Specimens.{tree_of}
 use Rattle.psg_specimen.specs.declared.its.Spot.{Spot}
 
+-- a name `it` in a space, declared or used
 abbrev pub spot_by : ℕ → Bool → Spot
 spot_by s b = record { space = s; declares = b }
 
@@ -19,6 +22,7 @@ spot_of (items.Refers s) = spot_by s false
 spot_of (items.Declares s) = spot_by s true
 spot_of _ = spot_by 0 false
 
+-- the spot of an item; where there is none, any spot that declares nothing
 abbrev pub spot_or : Option Item → Spot
 spot_or None = spot_by 0 false
 spot_or (Some i) = spot_of i
@@ -28,17 +32,21 @@ abbrev pub spots_of : List Item → List Spot
 spots_of [] = []
 spots_of (i ∷ rest) = spot_of i ∷ spots_of rest
 
+-- the spot of an item that has a part in a tree
 abbrev pub item_spot : Item → List Spot
 item_spot i = cond (is_part i) (spot_of i ∷ []) []
 
+-- the spots of all such items, in order
 abbrev pub part_spots : List Item → List Spot
 part_spots [] = []
 part_spots (i ∷ rest) = item_spot i ++ part_spots rest
 
+-- a spot that is there, or any spot that declares nothing
 abbrev pub there_or : Option Spot → Spot
 there_or None = spot_by 0 false
 there_or (Some x) = x
 
+-- the spot of this number
 abbrev pub spot_in : List Spot → ℕ → Spot
 spot_in xs k = there_or (slice_get xs k)
 
@@ -69,7 +77,7 @@ module _ (def : Definition) where
   its_of_part inside x (Number n) = []
   its_of_part inside x (Text t) = []
 
-  -- those of the parts of an operator with these spots, from the number on
+  -- the names `it` of the parts of an operator with these spots, from the number on
   abbrev pub its_of_parts : Bool → List Spot → ℕ → List SpecimenPart → List Spot
   its_of_parts inside spots k [] = []
   its_of_parts inside spots k (p ∷ rest) = its_of_part inside (spot_in spots k) p
@@ -79,6 +87,7 @@ module _ (def : Definition) where
   its_of_elements inside [] = []
   its_of_elements inside (s ∷ rest) = its_in inside (tree_of s) ++ its_of_elements inside rest
 
+-- whether the spot declares in the space
 abbrev pub declares_there : ℕ → Spot → Bool
 declares_there s x = x.declares && (x.space == s)
 

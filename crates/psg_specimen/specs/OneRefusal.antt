@@ -11,7 +11,8 @@ use Rattle.psg_specimen.specs.declared.fault.AcceptFault.TheVariants as faults
 abbrev pub IsSameClass : ClassFault → ClassFault → Type 0
 IsSameClass (classes.SameFirst p text) (classes.SameFirst q other) = (p ≡ q) × (string_bytes text ≡ string_bytes other)
 IsSameClass (classes.SameLed p text) (classes.SameLed q other) = (p ≡ q) × (string_bytes text ≡ string_bytes other)
-IsSameClass (classes.LedFollows n text) (classes.LedFollows m other) = (n ≡ m) × (string_bytes text ≡ string_bytes other)
+IsSameClass (classes.LedFollows n text) (classes.LedFollows m other) = (n ≡ m)
+    × (string_bytes text ≡ string_bytes other)
 IsSameClass (classes.ListEnd l text) (classes.ListEnd k other) = (l ≡ k) × (string_bytes text ≡ string_bytes other)
 IsSameClass f g = f ≡ g
 
@@ -20,8 +21,10 @@ abbrev pub AreSame : AcceptFault → AcceptFault → Type 0
 AreSame (faults.Class f) (faults.Class g) = IsSameClass f g
 AreSame f g = f ≡ g
 
+-- two refusals of the definition are the same
 abbrev pub HasOneRefusal : Definition → Type 0
 HasOneRefusal def = (f g : AcceptFault) → IsRefusal def f → IsRefusal def g → AreSame f g
 
+-- the definition is refused for nothing
 abbrev pub HasNoRefusal : Definition → Type 0
 HasNoRefusal def = (f : AcceptFault) → IsRefusal def f → ⊥

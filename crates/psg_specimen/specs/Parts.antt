@@ -17,6 +17,7 @@ abbrev pub part_places : List SpecimenPart → List SpecimenHole
 part_places [] = []
 part_places (p ∷ rest) = holes_of_part p ++ part_places rest
 
+-- the hole places of all elements, in order
 abbrev pub element_places : List Specimen → List SpecimenHole
 element_places [] = []
 element_places (s ∷ rest) = holes_of s ++ element_places rest

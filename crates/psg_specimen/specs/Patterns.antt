@@ -51,7 +51,7 @@ module _ (def : Definition) where
   abbrev pub AreLight : List Place → Type 0
   AreLight steps = (place : Place) → IsIn place steps → PassesAt def place.part place.step → ⊥
 
-  -- one of them does
+  -- one of the steps passes the limit
   abbrev pub HasWide : List Place → Type 0
   HasWide steps = (place : Place) × IsIn place steps × PassesAt def place.part place.step
 
@@ -61,20 +61,21 @@ module _ (def : Definition) where
   abbrev pub IsWideTree : Fragment → Type 0
   IsWideTree f = (path : Path) → HasWide (steps_of def path f)
 
-  -- the same of the children of an operator
+  -- the steps of the children of an operator are within the limit, or one passes it
   abbrev pub IsLightBelow : Fragment → Type 0
   IsLightBelow f = (path : Path) → AreLight (steps_below def path 0 f)
 
   abbrev pub IsWideBelow : Fragment → Type 0
   IsWideBelow f = (path : Path) → HasWide (steps_below def path 0 f)
 
-  -- the same of the end of a list, or of a list: of its elements, and of its cells
+  -- the steps of a list are within the limit: those of its elements, and those of its cells
   pub record IsLightList (f : Fragment) : Type 0 where
     pub elements : (path : Path) (n : ℕ) → AreLight (steps_below def path n f)
     pub cells : (path : Path) → AreLight (list_steps def path f)
 
   abbrev pub IsWideList : Fragment → Type 0
-  IsWideList f = ((path : Path) (n : ℕ) → HasWide (steps_below def path n f)) ⊎ ((path : Path) → HasWide (list_steps def path f))
+  IsWideList f = ((path : Path) (n : ℕ) → HasWide (steps_below def path n f))
+      ⊎ ((path : Path) → HasWide (list_steps def path f))
 
   -- ---- patterns: what is known of a tree by its steps, or that it is a place alone
 
@@ -89,7 +90,7 @@ module _ (def : Definition) where
     pub usual : IsUsual c
     pub light : IsLight f
 
-  -- the tree's pattern; or some step of the tree passes the limit; or want of memory
+  -- the tree's pattern; or some step of the tree passes the limit; or out of memory
   abbrev pub IsPatternFor : Fragment → Result (Option Known) EvalFault → Type 0
   IsPatternFor f (Ok c) = IsPatternOf f c
   IsPatternFor f (Err (faults.Wide step)) = IsWideTree f
@@ -111,7 +112,7 @@ module _ (def : Definition) where
   AddsPart (Number n) before after = after ≡ before
   AddsPart (Text t) before after = after ≡ before
 
-  -- some step of the part passes the limit; or want of memory
+  -- some step of the part passes the limit; or out of memory
   abbrev pub IsPartFault : SpecimenPart → EvalFault → Type 0
   IsPartFault (Sub s) (faults.Wide step) = IsWideTree (tree_of s)
   IsPartFault (Name n) (faults.Wide step) = ⊥
@@ -133,9 +134,10 @@ module _ (def : Definition) where
 
   -- the child may be an element of the list, which is there
   abbrev pub SuitsElement : ℕ → Option Known → Type 0
-  SuitsElement l c = (list : ListKind) × (slice_get def.lists l ≡ Some list) × SuitsKind def c (kinds.Phylum list.element)
+  SuitsElement l c = (list : ListKind) × (slice_get def.lists l ≡ Some list)
+      × SuitsKind def c (kinds.Phylum list.element)
 
-  -- the child may be what stands behind an element of the list
+  -- the child may be what follows an element of the list
   abbrev pub SuitsRest : ℕ → Option Known → Type 0
   SuitsRest l (Some s) = (s.kind ≡ kinds.List l) × IsSummary def s
   SuitsRest l None = Unit {0}

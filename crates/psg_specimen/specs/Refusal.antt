@@ -15,7 +15,8 @@ use Rattle.psg_completions.specs.Places.{IsSmallerPlace, IsOpenPlace}
 use Rattle.psg_completions.specs.General.{IsGeneralCase, IsGeneralDeclare}
 use Rattle.psg_completions.specs.Elements.{IsDeclarable, IsClearRow}
 use Rattle.psg_specimen.specs.Declares.{IsDeclaration}
-use Rattle.psg_specimen.specs.Conditions.{IsBareScope, IsQuietSlot, HasRow, IsNarrow, Met1, Met2, Met3, Met4, Met5, Met6, Met7, Met8, Met9, Met10, Met11, Met12, Met13, IsMet}
+use Rattle.psg_specimen.specs.Conditions.{IsBareScope, IsQuietSlot, HasRow, IsNarrow, Met1, Met2, Met3, Met4, Met5}
+use Rattle.psg_specimen.specs.Conditions.{Met6, Met7, Met8, Met9, Met10, Met11, Met12, Met13, IsMet}
 use Rattle.psg_specimen.specs.declared.fault.Site.{Site}
 use Rattle.psg_specimen.specs.declared.fault.Site.TheVariants as sites
 use Rattle.psg_specimen.specs.declared.fault.AcceptFault.{AcceptFault}
@@ -23,34 +24,40 @@ use Rattle.psg_specimen.specs.declared.fault.AcceptFault.TheVariants as faults
 
 -- ---- the first thing of which something fails: it fails there, and holds of all things before
 
+-- it fails for the number, and holds of all lesser ones
 abbrev pub IsFirst : (ℕ → Type 0) → ℕ → Type 0
 IsFirst Holds n = (Holds n → ⊥) × ((m : ℕ) → m < n → Holds m)
 
+-- the pair m, j is before the pair n, k: by the first number, then by the second
 abbrev pub IsBefore : ℕ → ℕ → ℕ → ℕ → Type 0
 IsBefore m j n k = (m < n) ⊎ ((m ≡ n) × (j < k))
 
+-- it fails for the pair, and holds of all before it
 abbrev pub IsFirstOfTwo : (ℕ → ℕ → Type 0) → ℕ → ℕ → Type 0
 IsFirstOfTwo Holds n k = (Holds n k → ⊥) × ((m j : ℕ) → IsBefore m j n k → Holds m j)
 
--- cases of hole rows come before declare rows
+-- cases of hole rows are before declare rows
 abbrev pub IsSiteBefore : Site → Site → Type 0
 IsSiteBefore (sites.Hole r c) (sites.Hole s d) = IsBefore r c s d
 IsSiteBefore (sites.Hole r c) (sites.Declare k) = Unit {0}
 IsSiteBefore (sites.Declare k) (sites.Declare l) = k < l
 IsSiteBefore (sites.Declare k) (sites.Hole r c) = ⊥
 
+-- it fails for the site, and holds of all before it
 abbrev pub IsFirstSite : (Site → Type 0) → Site → Type 0
 IsFirstSite Holds s = (Holds s → ⊥) × ((t : Site) → IsSiteBefore t s → Holds t)
 
+-- it fails for the place of the site, and holds of all places of sites before it and of its own lesser places
 abbrev pub IsFirstPlace : (Site → ℕ → Type 0) → Site → ℕ → Type 0
-IsFirstPlace Holds s h = (Holds s h → ⊥) × ((t : Site) (k : ℕ) → IsSiteBefore t s → Holds t k) × ((k : ℕ) → k < h → Holds s k)
+IsFirstPlace Holds s h = (Holds s h → ⊥) × ((t : Site) (k : ℕ) → IsSiteBefore t s → Holds t k)
+    × ((k : ℕ) → k < h → Holds s k)
 
--- phyla are before lists
+-- it fails for the kind, and holds of all before it; phyla are before lists
 abbrev pub IsFirstKind : (Kind → Type 0) → Kind → Type 0
 IsFirstKind Holds (kinds.Phylum p) = IsFirst (λ n. Holds (kinds.Phylum n)) p
 IsFirstKind Holds (kinds.List l) = ((p : ℕ) → Holds (kinds.Phylum p)) × IsFirst (λ n. Holds (kinds.List n)) l
 
--- by list, then by space, then by constructor
+-- it fails for the three, and holds of all before them: by list, then by space, then by constructor
 abbrev pub IsFirstOfThree : (ℕ → ℕ → ℕ → Type 0) → ℕ → ℕ → ℕ → Type 0
 IsFirstOfThree Holds l s c = (Holds l s c → ⊥) × ((m t d : ℕ) → (m < l) ⊎ ((m ≡ l) × IsBefore t d s c) → Holds m t d)
 
@@ -58,7 +65,8 @@ module _ (def : Definition) where
   -- ---- what is said of a case of a hole row or of a declare row
 
   abbrev pub CaseAt : ℕ → ℕ → (Case → Type 0) → Type 0
-  CaseAt r c P = (row : HoleRow) → slice_get def.hole_rows r ≡ Some row → (one : Case) → slice_get row.cases c ≡ Some one → P one
+  CaseAt r c P = (row : HoleRow) → slice_get def.hole_rows r ≡ Some row → (one : Case)
+      → slice_get row.cases c ≡ Some one → P one
 
   abbrev pub DeclareAt : ℕ → (DeclareRow → Type 0) → Type 0
   DeclareAt k P = (d : DeclareRow) → slice_get def.declare_rows k ≡ Some d → P d
@@ -90,7 +98,7 @@ module _ (def : Definition) where
   abbrev pub After : Type 0 → Type 0 → Type 0
   After Earlier This = IsClass def × Earlier × This
 
-  -- The fault names the first condition that fails. Want of memory is no refusal.
+  -- The fault names the first condition that fails. Out of memory is no refusal.
   abbrev pub IsRefusal : AcceptFault → Type 0
   IsRefusal (faults.Class f) = IsClassRefusal def f
   IsRefusal (faults.Scope o) = IsClass def × IsFirst (IsBareScope def) o
@@ -124,7 +132,8 @@ module _ (def : Definition) where
   IsOf (faults.Large s) = Unit {0}
   IsOf (faults.Weak s) = Unit {0}
   IsOf (faults.NotIt k) = Unit {0}
-  IsOf (faults.NoDeclare l s c) = (l < length def.lists) × (s < length def.spaces) × (c.0 < length def.signature.symbols)
+  IsOf (faults.NoDeclare l s c) = (l < length def.lists) × (s < length def.spaces)
+      × (c.0 < length def.signature.symbols)
   IsOf (faults.NotClear k) = Unit {0}
   IsOf faults.Memory = ⊥
 

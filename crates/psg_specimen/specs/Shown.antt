@@ -62,12 +62,14 @@ module _ (def : Definition) where
   abbrev pub IsSomeCase : Case → Type 0
   IsSomeCase one = (kind : Kind) × (sort : ℕ) × HasKindSort def kind sort × IsCase def kind sort one
 
-  -- No step passes the limit in the specimens that are gone over, and the first of them that does not show its values is noted.
+  -- No step passes the limit in the specimens that are gone over, and the first of them that does not show its values
+  -- is noted.
   pub record IsUpTo (end weak : Option Site) : Type 0 where
     pub narrow : (t : Site) → IsGone end t → IsNarrowAt def t
-    pub general : MatchOption weak ((t : Site) → IsGone end t → IsGeneralAt def t) (λ s. IsFirstSite (IsGeneralAt def) s)
+    pub general : MatchOption weak ((t : Site) → IsGone end t → IsGeneralAt def t)
+        (λ s. IsFirstSite (IsGeneralAt def) s)
 
-  -- the walk comes so far, or ends at the first specimen that is too large
+  -- the walk gets this far, or ends at the first specimen that is too large
   abbrev pub IsWalk : Option Site → Walk → Type 0
   IsWalk end (walks.Large s) = IsFirstSite (IsNarrowAt def) s
   IsWalk end (walks.Weak weak) = IsUpTo end weak

@@ -1,5 +1,6 @@
 -- What walks over a definition keep in hand.
-use Rattle.std.specs.Prelude.{ℕ, ◌≡◌, ◌↔◌, ◌==◌, ◌&&◌, Bool, true, false, List, [], ◌∷◌, length, slice_get, Some, Vec, Contains}
+use Rattle.std.specs.Prelude.{ℕ, ◌≡◌, ◌↔◌, ◌==◌, ◌&&◌, Bool, true, false, List, [], ◌∷◌, length, slice_get, Some}
+use Rattle.std.specs.Prelude.{Vec, Contains}
 use Rattle.std.specs.Bool.{beq}
 use Rattle.std.specs.HashSet.{HashSet, contains}
 use Rattle.std.specs.declared.hash.FoldHasher.{FoldHasher}
@@ -25,7 +26,8 @@ slots_of _ = []
 -- for each phylum the spaces in which it declares
 pub record AreTables (def : Definition) (found : List (Vec ℕ Global)) : Type 0 where
   pub one_each : length found ≡ length def.phyla
-  pub exact : (p : ℕ) (spaces : Vec ℕ Global) → slice_get found p ≡ Some spaces → (s : ℕ) → Contains spaces.items s ↔ (is_declaring def s (kinds.Phylum p) ≡ true)
+  pub exact : (p : ℕ) (spaces : Vec ℕ Global) → slice_get found p ≡ Some spaces → (s : ℕ)
+      → Contains spaces.items s ↔ (is_declaring def s (kinds.Phylum p) ≡ true)
 
 -- the spaces in which a list declares, ascending
 pub record AreSpaces (def : Definition) (list : ℕ) (spaces : List ℕ) : Type 0 where
@@ -38,19 +40,24 @@ AreKinds def slots = AllByRecursion (HasKind def) slots
 
 -- ---- marks of kinds
 
+-- a set of marks
 abbrev pub Marks : Type 0
 Marks = HashSet Mark (BuildHasherDefault FoldHasher)
 
+-- whether the marks are equal
 abbrev pub same_mark : Mark → Mark → Bool
 same_mark a b = beq a.is_list b.is_list && (a.number == b.number)
 
+-- whether the set has the mark
 abbrev pub has_mark : Marks → Mark → Bool
 has_mark set k = contains same_mark set k
 
+-- the mark of a kind
 abbrev pub mark_of : Kind → Mark
 mark_of (kinds.Phylum p) = record { is_list = false; number = p }
 mark_of (kinds.List l) = record { is_list = true; number = l }
 
+-- the set has the mark of the list or phylum of this number
 abbrev pub IsMarked : Marks → Bool → ℕ → Type 0
 IsMarked set list n = has_mark set (record { is_list = list; number = n }) ≡ true
 

@@ -21,10 +21,12 @@ words (w ∷ ws) = 32 ∷ (w ++ words ws)
 abbrev pub line : List (List ℕ) → List ℕ
 line ws = codes "refused" ++ words ws
 
+-- the words that say which case or declare row
 abbrev pub site_words : Site → List (List ℕ)
 site_words (sites.Hole r c) = codes "hole" ∷ decimal r ∷ codes "case" ∷ decimal c ∷ []
 site_words (sites.Declare k) = codes "declare" ∷ decimal k ∷ []
 
+-- the words that say which hole place
 abbrev pub place_words : Site → ℕ → List (List ℕ)
 place_words s h = site_words s ++ codes "place" ∷ decimal h ∷ []
 
@@ -40,7 +42,8 @@ module _ (def : Definition) where
 
   -- the space is written in version 2, where spaces have names
   abbrev pub space_words : ℕ → List (List ℕ)
-  space_words s = cond (def.version == 1) [] (name_text (option_map (λ (x : Space). x.name) (slice_get def.spaces s)) ∷ [])
+  space_words s = cond (def.version == 1) []
+      (name_text (option_map (λ (x : Space). x.name) (slice_get def.spaces s)) ∷ [])
 
   abbrev pub row_words : List ℕ → List ℕ → ℕ → List (List ℕ)
   row_words name row k = codes "Uncovered" ∷ name ∷ row ∷ decimal k ∷ []
@@ -58,7 +61,8 @@ module _ (def : Definition) where
   refusal_words (faults.Large s) = codes "Large" ∷ site_words s
   refusal_words (faults.Weak s) = codes "Weak" ∷ site_words s
   refusal_words (faults.NotIt k) = codes "NotIt" ∷ site_words (sites.Declare k)
-  refusal_words (faults.NoDeclare l s c) = codes "NoDeclare" ∷ kind_word (kinds.List l) ∷ (space_words s ++ con_word c.0 ∷ [])
+  refusal_words (faults.NoDeclare l s c) =
+      codes "NoDeclare" ∷ kind_word (kinds.List l) ∷ (space_words s ++ con_word c.0 ∷ [])
   refusal_words (faults.NotClear k) = codes "NotClear" ∷ site_words (sites.Declare k)
   refusal_words (faults.Class f) = []
   refusal_words faults.Memory = []

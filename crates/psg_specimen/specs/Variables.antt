@@ -10,9 +10,11 @@ use Rattle.psg_terms.specs.Signature.{Signature, only_constructor}
 use Rattle.psg_terms.specs.Matching.{same_key}
 use Rattle.psg_terms.specs.declared.canonical.Key.{Key}
 
+-- a set of variables
 abbrev pub Keys : Type 0
 Keys = HashSet Key (BuildHasherDefault FoldHasher)
 
+-- whether the set has the variable
 abbrev pub has_key : Keys → Key → Bool
 has_key set k = contains same_key set k
 

@@ -14,6 +14,7 @@ use Rattle.psg_specimen.specs.declared.fault.Site.{Site}
 use Rattle.psg_specimen.specs.declared.places.Wanted.{Wanted}
 use Rattle.psg_specimen.specs.declared.places.Wanted.TheVariants as wanted
 
+-- a hole place of the kind with the term
 abbrev pub as_place : Kind → Term → SpecimenHole
 as_place kind term = record { kind = kind; term = term }
 

@@ -34,10 +34,10 @@ fn check(alloc: Global, definition: &Definition) -> Result<(), AcceptFault>
     Ok(())
 }
 
-/// Accepts a definition, or says which condition fails first, and for which first thing, and gives the definition back. The
-/// conditions are those of the grammar class and then those that make hole rows and declare rows true of trees. What an editor
-/// of the language needs is made here, once. It fails with want of memory where memory runs out, or where the work of a
-/// condition passes a stated bound; natural definitions come nowhere near it.
+/// Accepts a definition, or says which condition fails first, and for which first thing, and gives the definition back.
+/// The conditions are those of the grammar class and then those that make hole rows and declare rows true of trees.
+/// What an editor of the language needs is made here, once. `Memory` is returned where memory runs out, or
+/// where the work of a condition passes a stated bound; natural definitions are far below it.
 pub fn accept(alloc: Global, definition: Definition) -> Result<Language, Refused>
     requires sound { IsSound definition }
     requires words { AllByRecursion IsFixedWord (fixed_words definition) }

@@ -142,7 +142,7 @@ pub(crate) fn check_forms(alloc: Global, definition: &Definition) -> Result<(), 
     Ok(())
 }
 
-/// Tests that hole rows have the values of rows of operators. Past the bound on work it ends in want of memory.
+/// Tests that hole rows have the values of rows of operators. Past the bound on work it fails as if out of memory.
 pub(crate) fn check_rows(
     alloc: Global,
     definition: &Definition,
@@ -160,7 +160,7 @@ pub(crate) fn check_rows(
     Ok(())
 }
 
-/// Tests that hole rows have the values of cell rows. Past the bound on work it ends in want of memory.
+/// Tests that hole rows have the values of cell rows. Past the bound on work it fails as if out of memory.
 pub(crate) fn check_cells(
     alloc: Global,
     definition: &Definition,
@@ -206,7 +206,7 @@ pub(crate) fn check_cases(alloc: Global, definition: &Definition) -> Result<(), 
     Ok(())
 }
 
-/// Tests that the hole places of specimens are smaller than what they stand in.
+/// Tests that the hole places of specimens are smaller than what they are in.
 pub(crate) fn check_smaller(alloc: Global, definition: &Definition) -> Result<(), AcceptFault>
     requires sound { IsSound definition.now }
     requires class { IsClass definition.now }

@@ -18,7 +18,8 @@ use psg_terms::{ConId, Node, Signature, SortId, Term};
 use std::alloc::{AllocError, Global};
 use std::collections::HashSet;
 
-/// The first hole row whose cases are neither one with its term, nor one for each constructor of its variable's sort.
+/// Returns the first hole row whose cases are neither one with its term, nor one for each constructor of its variable's
+/// sort.
 pub(crate) fn first_uncased(
     alloc: Global,
     definition: &Definition,
@@ -52,7 +53,7 @@ fn has_cases(alloc: Global, sig: &Signature, row: &HoleRow) -> Result<bool, Allo
     }
 }
 
-/// Whether there is one case alone, with the term.
+/// Says whether there is one case alone, with the term.
 fn is_whole(cases: &[Case], term: &Term) -> bool
     ensures { IsTrue result ↔ IsWhole cases.now term.now }
 {
@@ -82,7 +83,7 @@ fn cases_for(
     Ok(true)
 }
 
-/// Whether the term is the constructor over different variables. It reads each argument once.
+/// Says whether the term is the constructor over different variables. It reads each argument once.
 pub(crate) fn is_over(
     alloc: Global,
     sig: &Signature,
@@ -133,7 +134,7 @@ fn no_keys(alloc: Global) -> HashSet<Key>
     HashSet::new(alloc)
 }
 
-/// Whether an argument is the constant of its sort, or a variable that was not met.
+/// Says whether an argument is the constant of its sort, or a variable that was not met.
 fn is_different(
     sig: &Signature,
     met: &mut HashSet<Key>,

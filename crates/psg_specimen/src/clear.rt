@@ -107,7 +107,7 @@ fn is_rest(sig: &Signature, sort: SortId, element: &Term, rest: &Term) -> bool
     }
 }
 
-/// Whether the variable does not occur in the term. It calls itself as deep as the term is nested.
+/// Says whether the variable does not occur in the term. It calls itself as deep as the term is nested.
 #[cycle(absent)]
 fn is_absent(sort: SortId, number: u32, term: &Term) -> bool
     ensures { IsTrue result ↔ IsAbsent sort.0 number term.now }

@@ -15,7 +15,7 @@ use std::alloc::{AllocError, Global};
 
 /// Answers the first list with a nil row that has values of no hole row of the list, and the number of the nil row.
 ///
-/// A nil row stands alone, so its values are those of a hole row exactly where its term is an instance of that row's
+/// A nil row has no columns, so its values are those of a hole row exactly where its term is an instance of that row's
 /// term. For each nil row the hole rows are gone over in order, up to one that serves.
 pub(crate) fn first_uncovered_nil(
     alloc: Global,

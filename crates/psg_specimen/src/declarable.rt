@@ -3,7 +3,8 @@ ghost use Rattle.std.specs.Prelude.{◌≡◌, ◌↔◌, ◌<◌, ◌⊎◌, �
 ghost use Rattle.std.specs.declared.alloc.Global.{Global as PlainGlobal};
 ghost use Rattle.psg_grammar.specs.Sound.{IsSound};
 ghost use Rattle.psg_completions.specs.Elements.{IsDeclarable};
-ghost use Rattle.psg_specimen.specs.Given.{given_by, has_given, FindsCon, IsDeclarableIn, IsDeclarableOf, IsGiven, IsGivenBy, AreGiven};
+ghost use Rattle.psg_specimen.specs.Given.{given_by, has_given, FindsCon, IsDeclarableIn, IsDeclarableOf, IsGiven};
+ghost use Rattle.psg_specimen.specs.Given.{IsGivenBy, AreGiven};
 ghost use Rattle.psg_specimen.specs.Tables.{AreSpaces};
 ghost use Rattle.psg_specimen.specs.declared.declarable.Given.{Given as PlainGiven};
 ghost use Rattle.psg_specimen.specs.Walks.{Finds, FindsThree, FindsTwo};

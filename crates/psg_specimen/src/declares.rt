@@ -51,7 +51,7 @@ fn is_operator(specimen: &Specimen) -> bool
     }
 }
 
-/// Whether all names are of the space.
+/// Says whether all names are of the space.
 fn are_of(space: u32, its: &[Spot]) -> bool
     ensures { IsTrue result ↔ AllByRecursion (λ x. x.space ≡ space) its.now }
 {
@@ -63,7 +63,7 @@ fn are_of(space: u32, its: &[Spot]) -> bool
     true
 }
 
-/// How many of the names declare in the space.
+/// Returns how many of the names declare in the space.
 fn declaring(space: u32, its: &[Spot]) -> usize
     ensures { result ≡ count_by (declares_there space) its.now }
 {

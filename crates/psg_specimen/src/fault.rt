@@ -9,7 +9,9 @@ use thiserror::Error;
 /// A case of a hole row, or a declare row, by number.
 #[derive(Clone, Copy, Debug, PartialEq, Eq)]
 pub enum Site {
+    /// A case of a hole row: the number of the row, and that of the case in the row, both from 0.
     Hole { row: u32, case: u32 },
+    /// A declare row, by its number from 0.
     Declare { row: u32 },
 }
 
@@ -67,7 +69,7 @@ pub enum AcceptFault {
     /// The unfinished list, which declares in the space, has no declare row there for the constructor.
     #[error("list {0} has no declare row in space {1} for constructor {con}", con = .2.0)]
     NoDeclare(u32, u32, ConId),
-    /// No cell row of the list lets an element of the declare row's value stand before any list with the list's value.
+    /// No cell row of the list lets an element of the declare row's value be before any list with the list's value.
     #[error("no cell row of the list of declare row {0} leaves its value")]
     NotClear(u32),
     /// Memory ran out.
@@ -78,7 +80,9 @@ pub enum AcceptFault {
 /// A definition that is not accepted, and why.
 #[derive(Drop)]
 pub struct Refused {
+    /// The definition, as it was given.
     pub definition: Definition,
+    /// The first condition that fails.
     pub fault: AcceptFault,
 }
 

@@ -1,6 +1,7 @@
 //! The conditions on operators, slots and kinds: scopes without names, slots that declare nothing, and a hole row for
 //! each kind.
-ghost use Rattle.std.specs.Prelude.{◌≡◌, ◌<◌, ◌++◌, ◌↔◌, ◌^◌, ℕ, length, slice_get, true, IfOk, IfSome, IsTrue, MatchOption, OnOk, Some};
+ghost use Rattle.std.specs.Prelude.{◌≡◌, ◌<◌, ◌++◌, ◌↔◌, ◌^◌, ℕ, length, slice_get, true, IfOk, IfSome, IsTrue};
+ghost use Rattle.std.specs.Prelude.{MatchOption, OnOk, Some};
 ghost use Rattle.psg_grammar.specs.declared.types.Kind.{Kind as PlainKind};
 ghost use Rattle.psg_grammar.specs.declared.types.Operator.{Operator as PlainOperator};
 ghost use Rattle.psg_grammar.specs.Kinds.{HasKind};
@@ -15,7 +16,7 @@ use psg_grammar::{Definition, HoleRow, Item, Kind, Operator, declaring, name_pos
 use std::alloc::{AllocError, Global};
 use std::collections::HashSet;
 
-/// The first scope operator that has a name position.
+/// Returns the first scope operator that has a name position.
 pub(crate) fn first_scope(definition: &Definition) -> Option<usize>
     ensures { Finds (IsBareScope definition.now) result }
 {
@@ -34,7 +35,7 @@ fn is_bare(operator: &Operator) -> bool
     !operator.scope || name_positions(operator) == 0
 }
 
-/// The first operator with a slot of a phylum that declares, and the number of the slot among its slots.
+/// Returns the first operator with a slot of a phylum that declares, and the number of the slot among its slots.
 ///
 /// The table of the spaces in which phyla declare is made once; then each slot is one look-up.
 pub(crate) fn first_declaring(
@@ -55,7 +56,7 @@ pub(crate) fn first_declaring(
     Ok(None)
 }
 
-/// The kinds of the slots, in order.
+/// Returns the kinds of the slots, in order.
 pub(crate) fn slots(alloc: Global, items: &[Item]) -> Result<Vec<Kind>, AllocError>
     ensures { IfOk result (λ v. v.items ≡ slot_kinds items.now) }
 {
@@ -107,7 +108,7 @@ struct Mark {
     number: u32,
 }
 
-/// The first kind without a hole row, phyla before lists.
+/// Returns the first kind without a hole row, phyla before lists.
 ///
 /// One pass over the hole rows marks their kinds.
 pub(crate) fn first_without_row(

@@ -6,7 +6,7 @@ ghost use Rattle.psg_specimen.specs.Parts.{element_places, part_places};
 use psg_grammar::{Specimen, SpecimenHole, SpecimenPart};
 use std::alloc::AllocError;
 
-/// Puts the hole places of a specimen behind the others; their terms are shared. It calls itself as deep as the
+/// Puts the hole places of a specimen after the others; their terms are shared. It calls itself as deep as the
 /// specimen is nested, in a definition that was read 32 times.
 #[cycle(places)]
 pub(crate) fn add_places(

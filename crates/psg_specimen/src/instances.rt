@@ -66,7 +66,7 @@ pub(crate) fn is_made_of(alloc: Global, special: &Term, general: &Term) -> Resul
     Ok(instance)
 }
 
-/// Whether the general term is a constructor's and the special one is not of the same constructor.
+/// Says whether the general term is a constructor's and the special one is not of the same constructor.
 fn begin_apart(special: &Term, general: &Term) -> bool
     ensures { IsTrue result → IsInstance (special.now ∷ []) (general.now ∷ []) → ⊥ }
 {

@@ -15,7 +15,7 @@ pub(crate) struct Spot {
     pub declares: bool,
 }
 
-/// Puts a spot behind the others for each name `it` of the specimen, in order. The spot declares where the name does
+/// Puts a spot after the others for each name `it` of the specimen, in order. The spot declares where the name does
 /// so in the region around the specimen: that is not asked where `inside` is false, nor in a scope operator. The call
 /// calls itself as deep as the specimen is nested, in a definition that was read 32 times.
 #[cycle(its)]
@@ -88,7 +88,7 @@ fn add_name(inside: bool, spot: Spot, name: &Txt, its: &mut Vec<Spot>) -> Result
     Ok(())
 }
 
-/// Whether what the operator has inside is in the region around it, and that is asked.
+/// Says whether what the operator has inside is in the region around it, and that is asked.
 fn is_region(definition: &Definition, inside: bool, op: u32) -> bool
     ensures { result ≡ (inside && not (scopes (operator_at definition.now op))) }
 {
@@ -98,7 +98,7 @@ fn is_region(definition: &Definition, inside: bool, op: u32) -> bool
     }
 }
 
-/// The spots of the operator's parts, in order.
+/// Returns the spots of the operator's parts, in order.
 fn spots(alloc: Global, definition: &Definition, op: u32) -> Result<Vec<Spot>, AllocError>
     ensures { IfOk result (λ v. v.items ≡ spots_of (items_of (operator_at definition.now op))) }
 {
@@ -139,7 +139,7 @@ fn spot_with(space: u32, declares: bool) -> Spot
     Spot { space, declares }
 }
 
-/// The spot of the part with the number.
+/// Returns the spot of the part with the number.
 fn spot_at(spots: &[Spot], place: usize) -> Spot
     ensures { result ≡ spot_in spots.now place }
 {

@@ -16,18 +16,22 @@ use psg_terms::Txt;
 use std::alloc::{AllocError, Global};
 use std::marker::Model;
 
-/// A definition with what is made of it once: for each phylum the spaces in which it declares, its fixed words, and what
-/// the parser looks up of it.
+/// A definition with what is made of it once: for each phylum the spaces in which it declares, its fixed words, and
+/// what the parser looks up of it.
 #[derive(Drop)]
 pub struct LanguageParts {
+    /// The definition.
     pub definition: Definition,
+    /// For each phylum the numbers of the spaces in which it declares, ascending.
     pub declaring: Vec<Vec<u32>>,
+    /// The fixed words.
     pub lexis: Lexis,
+    /// What the parser looks up.
     pub table: ParseTable,
 }
 
-/// The language of an accepted definition. Contracts see it as the definition. `accept` alone makes one, so that what it
-/// keeps belongs to the definition.
+/// The language of an accepted definition. Contracts see it as the definition. `accept` alone makes one, so that what
+/// it keeps belongs to the definition.
 #[derive(Drop)]
 pub struct Language {
     parts: LanguageParts,
@@ -51,8 +55,11 @@ impl Model for Language {
 /// parser looks up.
 #[derive(Drop)]
 pub struct Made {
+    /// For each phylum the numbers of the spaces in which it declares, ascending.
     pub declaring: Vec<Vec<u32>>,
+    /// The fixed words.
     pub lexis: Lexis,
+    /// What the parser looks up.
     pub table: ParseTable,
 }
 
@@ -116,7 +123,7 @@ impl Language {
         &self.parts
     }
 
-    /// Tells whether the kind, which is one of the definition, is a phylum that declares names. It looks it up.
+    /// Says whether the kind, which is one of the definition, is a phylum that declares names. It looks it up.
     pub fn is_declaring(&self, kind: Kind) -> bool
         requires { HasKind self.now kind }
         ensures { IsTrue result ↔ IsDeclaringPhylum self.now kind }
@@ -126,7 +133,7 @@ impl Language {
 }
 
 impl LanguageParts {
-    /// Whether the kind is a phylum that declares names.
+    /// Says whether the kind is a phylum that declares names.
     pub fn is_declaring(&self, kind: Kind) -> bool
         requires language { IsLanguage self.now }
         requires kind { HasKind self.now.definition kind }
@@ -139,7 +146,7 @@ impl LanguageParts {
     }
 }
 
-/// The words of the operators in order, and then the separators of the lists.
+/// Returns the words of the operators in order, and then the separators of the lists.
 fn fixed_words(alloc: Global, definition: &Definition) -> Result<Vec<Txt>, AllocError>
     ensures { IfOk result (λ found. found.items ≡ fixed_words_of definition.now) }
 {
@@ -151,7 +158,7 @@ fn fixed_words(alloc: Global, definition: &Definition) -> Result<Vec<Txt>, Alloc
     Ok(words)
 }
 
-/// Puts the separators of the lists behind the words that are there.
+/// Puts the separators of the lists after the words that are there.
 fn push_separators(words: &mut Vec<Txt>, lists: &[ListKind]) -> Result<(), AllocError>
     ensures { OnOk result (words.new.items ≡ words.old.items ++ separators lists.now) }
 {
@@ -161,7 +168,7 @@ fn push_separators(words: &mut Vec<Txt>, lists: &[ListKind]) -> Result<(), Alloc
     Ok(())
 }
 
-/// Puts the words among the items behind those that are there.
+/// Puts the words among the items after those that are there.
 fn push_words(words: &mut Vec<Txt>, items: &[Item]) -> Result<(), AllocError>
     ensures { OnOk result (words.new.items ≡ words.old.items ++ words_in items.now) }
 {

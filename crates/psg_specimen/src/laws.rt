@@ -12,26 +12,27 @@ use psg_class::laws::one_tree;
 use psg_completions::laws::{open_fragments, values_of_kinds};
 use psg_grammar::Definition;
 
-/// A definition has at most one refusal.
+/// Shows that a definition has at most one refusal.
 pub fn one_refusal(definition: &Definition)
     ensures { HasOneRefusal definition.now }
 {}
 
-/// An accepted definition has no refusal.
+/// Shows that an accepted definition has no refusal.
 pub fn accepted_or_refused(definition: &Definition)
     requires { IsAccepted definition.now }
     ensures { HasNoRefusal definition.now }
 {}
 
-/// The rows of an accepted definition are true of trees, and no slot of its operators is of a phylum that declares.
+/// Shows that the rows of an accepted definition are true of trees, and no slot of its operators is of a phylum that
+/// declares.
 pub fn true_rows(definition: &Definition)
     requires { IsMet definition.now }
     ensures rows { HasTrueRows definition.now }
     ensures slots { (o k : ℕ) → IsQuietSlot definition.now o k }
 {}
 
-/// What is promised of an accepted definition. A term is a value of a hole row of a phylum or list exactly where some
-/// complete legal tree of it has this value; a tree is open exactly where it has a legal completion; and a list of
+/// States what is promised of an accepted definition. A term is a value of a hole row of a phylum or list exactly where
+/// some complete legal tree of it has this value; a tree is open exactly where it has a legal completion; and a list of
 /// tokens has at most one tree.
 pub fn promises(definition: &Definition)
     requires sound { IsSound definition.now }

@@ -1,8 +1,8 @@
 //! Whether a definition is accepted: its hole rows and declare rows say the truth of trees.
 //!
-//! The conditions and their order stand in `specs/Conditions` and `specs/Refusal`, the texts of refusals in
-//! `specs/Texts`. `accept(alloc, definition)` tests them one after the other and gives the language, or the first refusal;
-//! `accept_text(alloc, &refused)` writes its text.
+//! The conditions and their order are in `specs/Conditions` and `specs/Refusal`, the texts of refusals in
+//! `specs/Texts`. `accept(alloc, definition)` tests them one after the other and gives the language, or the first
+//! refusal; `accept_text(alloc, &refused)` writes its text.
 //!
 //! ```text
 //! match accept(alloc, definition) {
@@ -11,9 +11,9 @@
 //! }
 //! ```
 //!
-//! Rows are covered by hole rows as psg_covering says. A specimen is tested by its pattern, which is made step by step as
-//! the summary of a tree is: a hole place is a column of its relation. The work for the coverage of rows and for the
-//! patterns of all specimens has a bound each, beyond which the answer is want of memory.
+//! Rows are covered by hole rows as psg_covering says. A specimen is tested by its pattern, which is made step by step
+//! as the summary of a tree is: a hole place is a column of its relation. The work for the coverage of rows and for the
+//! patterns of all specimens has a bound each, beyond which the call fails as if out of memory.
 #![tactic(auto)]
 
 mod acceptance;

@@ -77,7 +77,7 @@ pub(crate) fn pattern_of(
     }
 }
 
-/// Puts the pattern of a part behind the others where the part is a specimen.
+/// Puts the pattern of a part after the others where the part is a specimen.
 #[cycle(patterns)]
 fn add_part(
     alloc: Global,

@@ -28,7 +28,7 @@ pub(crate) enum Wanted {
 }
 
 /// Answers the first hole place that is not as wanted, with its number in its specimen: cases of hole rows before
-/// declare rows. A place whose number has more than 32 bits ends in want of memory.
+/// declare rows. A place whose number has more than 32 bits fails as if out of memory.
 pub(crate) fn first_place(
     alloc: Global,
     definition: &Definition,
@@ -174,7 +174,7 @@ fn is_wanted(
     }
 }
 
-/// Whether the part is a proper subterm. Only subterms that are as large as the part are compared with it, so each
+/// Says whether the part is a proper subterm. Only subterms that are as large as the part are compared with it, so each
 /// place of the whole is read at most twice.
 #[cycle(part)]
 pub(crate) fn is_part(part: &Term, whole: &Term) -> bool
@@ -186,7 +186,7 @@ pub(crate) fn is_part(part: &Term, whole: &Term) -> bool
     }
 }
 
-/// Whether the part is one of the terms or a proper subterm of one.
+/// Says whether the part is one of the terms or a proper subterm of one.
 #[cycle(part)]
 fn is_in_any(part: &Term, terms: &[Term]) -> bool
     ensures { IsTrue result ↔ IsAmong part.now terms.now }

@@ -23,7 +23,7 @@ pub(crate) fn spend(room: &mut u64, work: u64) -> Result<(), AllocError>
     Ok(())
 }
 
-/// A bound on the work of the pattern of the list's end: the weight of its nil rows, and more for each of them.
+/// Returns a bound on the work of the pattern of the list's end: the weight of its nil rows, and more for each of them.
 pub(crate) fn end_work(definition: &Definition, list: u32) -> u64
     requires { list < length definition.now.lists }
 {
@@ -32,7 +32,7 @@ pub(crate) fn end_work(definition: &Definition, list: u32) -> u64
     weight_of(rows).saturating_add(TERM_WORK)
 }
 
-/// A bound on the work of comparing the terms with columns of each row of the relation.
+/// Returns a bound on the work of comparing the terms with columns of each row of the relation.
 pub(crate) fn shown_work(rel: &Rel, terms: &[Term]) -> u64 {
     let each = (rel.rows().len() as u64).saturating_mul(weight_of(terms));
     rel.weight().saturating_add(each)

@@ -43,8 +43,8 @@ pub(crate) fn shows_case(
     }
 }
 
-/// Tests the same of a declare row, whose entity is that of the key `it` where the specimen has this key in the row's
-/// space.
+/// Says whether a declare row's specimen shows all values of the row, whose entity is that of the key `it` where the
+/// specimen has this key in the row's space.
 pub(crate) fn shows_declare(
     alloc: Global,
     row: &DeclareRow,
@@ -106,7 +106,8 @@ fn shows_values(
     Ok(shown)
 }
 
-/// Tests the same with the row's entity, behind the others, in the column of the key at this place.
+/// Says whether the rows show the terms and, after the others, the row's entity, in the column of the key at this
+/// place.
 fn shows_entity(
     alloc: Global,
     row: &DeclareRow,
@@ -116,7 +117,8 @@ fn shows_entity(
     room: &mut u64,
 ) -> Result<bool, AllocError>
     ensures { IfOk result (λ b. IsTrue b ↔ IsRowShown rel.now
-        (run 0 (length places.now + 1) ++ (length places.now + 1 + place) ∷ []) (value_terms row.now.value places.now ++ row.now.term ∷ [])) }
+        (run 0 (length places.now + 1) ++ (length places.now + 1 + place) ∷ [])
+        (value_terms row.now.value places.now ++ row.now.term ∷ [])) }
 {
     let mut terms = terms_of(alloc, &row.value, places)?;
     let mut keep = columns(alloc, terms.len())?;
@@ -137,7 +139,7 @@ fn sum(one: usize, two: usize) -> Result<usize, AllocError>
     }
 }
 
-/// Whether the first of the places has this term.
+/// Says whether the first of the places has this term.
 fn is_first_term(places: &[SpecimenHole], value: &Term) -> bool
     ensures { IsTrue result ↔ IsFirstTerm value.now places.now }
 {

@@ -4,7 +4,8 @@ ghost use Rattle.psg_grammar.specs.declared.types.Kind.TheVariants as kinds;
 ghost use Rattle.psg_grammar.specs.Kinds.{HasKind};
 ghost use Rattle.psg_specimen.specs.Refusal.{IsOf};
 ghost use Rattle.psg_specimen.specs.declared.fault.AcceptFault.TheVariants as faults;
-ghost use Rattle.psg_specimen.specs.Texts.{con_word, kind_word, line, op_word, place_words, refusal_text, row_words, site_words, space_words};
+ghost use Rattle.psg_specimen.specs.Texts.{con_word, kind_word, line, op_word, place_words, refusal_text, row_words};
+ghost use Rattle.psg_specimen.specs.Texts.{site_words, space_words};
 
 use crate::fault::{AcceptFault, Refused, Site};
 use psg_class::class_text;
@@ -13,7 +14,7 @@ use psg_terms::ConId;
 use std::alloc::{AllocError, Global};
 
 /// Writes the text of a refusal, as `refused Cases hole 9`: the condition, then the names and numbers of the thing
-/// for which it fails. A refusal of the grammar class has its own text. The fault is not want of memory.
+/// for which it fails. A refusal of the grammar class has its own text. The fault is not `Memory`.
 pub fn accept_text(alloc: Global, refused: &Refused) -> Result<String, AllocError>
     requires { IsOf refused.now.definition refused.now.fault }
     ensures { IfOk result (λ t. string_bytes t ≡ refusal_text refused.now.definition refused.now.fault) }

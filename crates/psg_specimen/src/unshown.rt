@@ -35,7 +35,7 @@ pub(crate) enum Walk {
 }
 
 /// Goes over all specimens, cases of hole rows before declare rows, and makes the pattern of each once. Where the work
-/// for the whole definition passes its bound, the answer is want of memory.
+/// for the whole definition passes its bound, the call fails as if out of memory.
 pub(crate) fn first_unshown(alloc: Global, definition: &Definition) -> Result<Walk, AllocError>
     requires { IsSound definition.now }
     ensures { IfOk result (IsWalk definition.now None) }
@@ -77,7 +77,8 @@ fn in_cases(
     room: &mut u64,
 ) -> Result<Walk, AllocError>
     requires sound { IsSound definition.now }
-    requires row { (whole : PlainHole) × (slice_get definition.now.hole_rows row ≡ Some whole) × (whole.cases ≡ cases.now) }
+    requires row { (whole : PlainHole) × (slice_get definition.now.hole_rows row ≡ Some whole)
+        × (whole.cases ≡ cases.now) }
     requires before { IsUpTo definition.now (Some (sites.Hole row 0)) weak }
     ensures { IfOk result (IsWalk definition.now (Some (sites.Hole (row + 1) 0))) }
 {
@@ -145,7 +146,8 @@ fn flaw_of_declare(
 ) -> Result<Option<Flaw>, AllocError>
     requires sound { IsSound definition.now }
     requires row { IsDeclareRow definition.now row.now }
-    ensures { IfOk result (HasFlaw (IsNarrow definition.now row.now.specimen) (IsGeneralDeclare definition.now row.now)) }
+    ensures { IfOk result (HasFlaw (IsNarrow definition.now row.now.specimen)
+        (IsGeneralDeclare definition.now row.now)) }
 {
     match pattern_of(alloc, definition, &row.specimen, room) {
         Ok(pattern) => {
@@ -173,7 +175,7 @@ fn is_large(flaw: Option<Flaw>) -> bool
     }
 }
 
-/// The site that was noted, or else this one where its specimen is weak.
+/// Returns the site that was noted, or else this one where its specimen is weak.
 fn noted_site(weak: Option<Site>, flaw: Option<Flaw>, site: Site) -> Option<Site>
     ensures { result ≡ noted weak flaw site }
 {

@@ -1,15 +1,19 @@
 -- The abstract text of a tree: operators with their parts in brackets, lists in square ones.
-use Rattle.std.specs.Prelude.{ℕ, ◌==◌, Bool, true, false, cond, List, [], ◌∷◌, ◌++◌, Option, None, Some, slice_get, codes, decimal}
+use Rattle.std.specs.Prelude.{ℕ, ◌==◌, Bool, true, false, cond, List, [], ◌∷◌, ◌++◌, Option, None, Some, slice_get}
+use Rattle.std.specs.Prelude.{codes, decimal}
 use Rattle.std.specs.List.{flat_map}
 use Rattle.psg_grammar.specs.declared.types.Phylum.{Phylum}
 use Rattle.psg_grammar.specs.declared.types.Operator.{Operator}
 use Rattle.psg_grammar.specs.declared.types.Definition.{Definition}
-use Rattle.psg_grammar.specs.Fragments.{Fragment, hole, ending, cell, operator, with_child, with_name, with_number, with_text, anything, observed}
+use Rattle.psg_grammar.specs.Fragments.{Fragment, hole, ending, cell, operator, with_child, with_name, with_number}
+use Rattle.psg_grammar.specs.Fragments.{with_text, anything, observed}
 
+-- the name of an operator that is there
 abbrev pub name_of_operator : Option Operator → List ℕ
 name_of_operator None = []
 name_of_operator (Some o) = o.name
 
+-- the name of a phylum that is there
 abbrev pub name_of_phylum : Option Phylum → List ℕ
 name_of_phylum None = []
 name_of_phylum (Some p) = p.name
@@ -18,6 +22,7 @@ name_of_phylum (Some p) = p.name
 abbrev pub operator_name : Definition → ℕ → List ℕ
 operator_name def o = name_of_operator (slice_get def.operators o)
 
+-- the name of the phylum of this number
 abbrev pub phylum_name : Definition → ℕ → List ℕ
 phylum_name def p = name_of_phylum (slice_get def.phyla p)
 
@@ -25,9 +30,11 @@ phylum_name def p = name_of_phylum (slice_get def.phyla p)
 abbrev pub escaped_byte : ℕ → List ℕ
 escaped_byte b = cond (b == 34) (codes "\\\"") (cond (b == 92) (codes "\\\\") (cond (b == 10) (codes "\\n") (b ∷ [])))
 
+-- a text in quotes, with its escapes
 abbrev pub quoted : List ℕ → List ℕ
 quoted t = codes "\"" ++ flat_map escaped_byte t ++ codes "\""
 
+-- whether the fragment is an operator with a part
 abbrev pub has_parts : Fragment → Bool
 has_parts (with_child f t) = true
 has_parts (with_name f n) = true
@@ -36,11 +43,11 @@ has_parts (with_text f t) = true
 has_parts (observed f) = has_parts f
 has_parts _ = false
 
--- what stands before the next part of an operator
+-- what is written before the next part of an operator
 abbrev pub mark : Fragment → List ℕ
 mark f = cond (has_parts f) (codes ",") (codes "(")
 
--- what stands between an element and the rest of its list
+-- what is written between an element and the rest of its list
 abbrev pub comma : Fragment → List ℕ
 comma (cell l e r) = codes ","
 comma (observed f) = comma f
@@ -59,7 +66,8 @@ closed (with_text f t) text = text ++ codes ")"
 closed (observed f) text = closed f text
 closed anything text = text
 
--- Everything but those brackets: an operator's name and its parts so far, a list's elements and `|...` where it is unfinished.
+-- Everything but those brackets: an operator's name and its parts so far, a list's elements and `|...` where it is
+-- unfinished.
 abbrev pub inner : Definition → Fragment → List ℕ
 inner def (hole p) = codes "?" ++ phylum_name def p
 inner def (ending l u) = cond u (codes "|...") []
@@ -72,5 +80,6 @@ inner def (with_text f t) = inner def f ++ (mark f ++ quoted t)
 inner def anything = []
 inner def (observed f) = inner def f
 
+-- the abstract text of a fragment, with the bracket that closes it
 abbrev pub abstract_text : Definition → Fragment → List ℕ
 abstract_text def f = closed f (inner def f)

@@ -10,10 +10,12 @@ use Rattle.psg_grammar.specs.WellFormed.{WellFormed, IsName}
 use Rattle.psg_tree.specs.declared.tree.Part.{Part}
 use Rattle.psg_tree.specs.declared.tree.Part.TheVariants.{Sub, Name as Named, Number, Text}
 
+-- the number may be the part of the item
 abbrev pub NumberFits : ℕ → Item → Type 0
 NumberFits n items.Number = n < 2 ^ 128
 NumberFits n _ = ⊥
 
+-- the text may be the part of the item
 abbrev pub TextFits : List ℕ → Item → Type 0
 TextFits t items.Text = IsUtf8 t
 TextFits t _ = ⊥
@@ -40,7 +42,9 @@ module _ (def : Definition) where
   PartsFit (p ∷ ps) [] = ⊥
   PartsFit (p ∷ ps) (i ∷ is) = PartFits p i × PartsFit ps is
 
-  -- the parts from the number on are those of the item and the rest, just where those from the next number on are those of the rest
+  -- the parts from the number on are those of the item and the rest, just where those from the next number on are those
+  -- of the rest
   abbrev pub IsNextPart : List Part → ℕ → Item → Option ℕ → Type 0
   IsNextPart ps n i None = (rest : List Item) → PartsFit (drop n ps) (part_items (i ∷ rest)) → ⊥
-  IsNextPart ps n i (Some next) = (next ≤ length ps) × ((rest : List Item) → PartsFit (drop n ps) (part_items (i ∷ rest)) ↔ PartsFit (drop next ps) (part_items rest))
+  IsNextPart ps n i (Some next) = (next ≤ length ps)
+      × ((rest : List Item) → PartsFit (drop n ps) (part_items (i ∷ rest)) ↔ PartsFit (drop next ps) (part_items rest))

@@ -13,19 +13,22 @@ use Rattle.psg_tree.specs.declared.reach.Found.{Found, Only, More'}
 use Rattle.psg_tree.specs.declared.reach.Step.{Step}
 use Rattle.psg_tree.specs.declared.reach.Step.TheVariants as next
 
+-- whether the number is in the list
 abbrev pub is_in : ℕ → List ℕ → Bool
 is_in p [] = false
 is_in p (q ∷ qs) = (q == p) || is_in p qs
 
+-- the phyla that are found, the last one first
 abbrev pub found_list : Found → List ℕ
 found_list (Only p) = p ∷ []
 found_list (More' p pointer before) = p ∷ found_list before
 
+-- the phylum of the elements of a list that is there
 abbrev pub element_of : Option ListKind → Option ℕ
 element_of None = None
 element_of (Some l) = Some l.element
 
--- the phylum whose trees stand at places of the kind
+-- the phylum whose trees are at places of the kind
 abbrev pub phylum_of : Definition → Kind → Option ℕ
 phylum_of def (kinds.Phylum p) = Some p
 phylum_of def (kinds.List l) = element_of (slice_get def.lists l)
@@ -34,6 +37,7 @@ phylum_of def (kinds.List l) = element_of (slice_get def.lists l)
 abbrev pub AnyDeclare : Definition → List ℕ → Type 0
 AnyDeclare def found = (s q : ℕ) × (is_in q found ≡ true) × Declares def s (kinds.Phylum q)
 
+-- the phylum declares in some space
 abbrev pub PhylumDeclares : Definition → ℕ → Type 0
 PhylumDeclares def p = (s : ℕ) × Declares def s (kinds.Phylum p)
 
@@ -64,12 +68,15 @@ module _ (def : Definition) (found : List ℕ) where
   -- what the phylum declares the items declare
   abbrev pub IsItemsStep : List Item → Step → Type 0
   IsItemsStep is next.Declares = (s : ℕ) × AnyDeclares def s is
-  IsItemsStep is (next.To p) = (is_in p found ≡ false) × ((s : ℕ) → Declares def s (kinds.Phylum p) → AnyDeclares def s is)
+  IsItemsStep is (next.To p) = (is_in p found ≡ false)
+      × ((s : ℕ) → Declares def s (kinds.Phylum p) → AnyDeclares def s is)
   IsItemsStep is next.Closed = AllByRecursion IsClosedItem is
 
   abbrev pub IsOperatorsStep : List Operator → Step → Type 0
-  IsOperatorsStep os next.Declares = (o : ℕ) × (op : Operator) × (slice_get os o ≡ Some op) × (op.scope ≡ false) × (is_in op.phylum found ≡ true) × (s : ℕ) × AnyDeclares def s op.items
+  IsOperatorsStep os next.Declares = (o : ℕ) × (op : Operator) × (slice_get os o ≡ Some op) × (op.scope ≡ false)
+      × (is_in op.phylum found ≡ true) × (s : ℕ) × AnyDeclares def s op.items
   IsOperatorsStep os (next.To p) =
-      (is_in p found ≡ false) × (o : ℕ) × (op : Operator) × (slice_get os o ≡ Some op) × (op.scope ≡ false) × (is_in op.phylum found ≡ true)
+      (is_in p found ≡ false) × (o : ℕ) × (op : Operator) × (slice_get os o ≡ Some op) × (op.scope ≡ false)
+      × (is_in op.phylum found ≡ true)
       × ((s : ℕ) → Declares def s (kinds.Phylum p) → AnyDeclares def s op.items)
   IsOperatorsStep os next.Closed = AllByRecursion IsClosedOperator os

@@ -1,8 +1,9 @@
--- What a shape of the program stands for.
+-- The fragment that a shape of the program is.
 use Rattle.std.specs.Prelude.{ℕ, zero, suc, cond, Bool, ◌+◌, ◌≤◌, max, List, [], ◌∷◌, Option, slice_get}
 use Rattle.std.proofs.Common.{arith}
 use denote.Param.Weighed.{most}
-use Rattle.psg_grammar.specs.Fragments.{Fragment, hole, ending, cell, operator, with_child, with_name, with_number, with_text, anything, observed}
+use Rattle.psg_grammar.specs.Fragments.{Fragment, hole, ending, cell, operator, with_child, with_name, with_number}
+use Rattle.psg_grammar.specs.Fragments.{with_text, anything, observed}
 use Rattle.psg_tree.specs.declared.tree.Part.{Part}
 use Rattle.psg_tree.specs.declared.tree.Part.TheVariants.{Sub, Name, Number, Text}
 use Rattle.psg_tree.specs.declared.tree.Shape.{Shape}
@@ -15,6 +16,7 @@ with_part f (Name n) = with_name f n
 with_part f (Number n) = with_number f n
 with_part f (Text t) = with_text f t
 
+-- the fragment with these parts, in order
 abbrev pub with_parts : Fragment → List Part → Fragment
 with_parts f [] = f
 with_parts f (p ∷ rest) = with_parts (with_part f p) rest
@@ -24,6 +26,7 @@ abbrev pub list_of : ℕ → List Fragment → Bool → Fragment
 list_of l [] u = ending l u
 list_of l (e ∷ rest) u = cell l e (list_of l rest u)
 
+-- the fragment that the node with its children is
 abbrev pub tree_of : Shape → Fragment
 tree_of (Op o parts) = with_parts (operator o) parts
 tree_of (ListOf l elements u) = list_of l elements u
@@ -54,6 +57,7 @@ subtrees (Name n ∷ rest) = subtrees rest
 subtrees (Number n ∷ rest) = subtrees rest
 subtrees (Text t ∷ rest) = subtrees rest
 
+-- the child of this number among the parts; names and literals do not count
 abbrev pub child_among : List Part → ℕ → Option Fragment
 child_among parts k = slice_get (subtrees parts) k
 

@@ -18,8 +18,10 @@ pub record IsMore (node child whole : Sizes) : Type 0 where
   pub depth_more : whole.depth ≡ max node.depth (min (child.depth + 1) (2 ^ 64 - 1))
   pub longest_more : whole.longest ≡ max node.longest child.longest
 
+-- the fragment of a node, without its sizes
 abbrev pub measured_tree : Measured → Fragment
 measured_tree m = tree_of m.shape
 
+-- the sizes that are kept are those of the tree
 abbrev pub IsMeasured : Measured → Type 0
 IsMeasured m = AreSizesOf (measured_tree m) m.sizes

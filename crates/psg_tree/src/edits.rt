@@ -19,7 +19,7 @@ fn push_shared(made: &mut Vec<Tree>, elements: &[Tree]) -> Result<(), AllocError
     Ok(())
 }
 
-/// The elements with one more before the place.
+/// Returns the elements with one more before the place.
 fn with_more(
     alloc: Global,
     elements: &[Tree],
@@ -38,7 +38,7 @@ fn with_more(
     Ok(made)
 }
 
-/// The elements without the one at the place.
+/// Returns the elements without the one at the place.
 fn with_less(alloc: Global, elements: &[Tree], place: usize) -> Result<Vec<Tree>, AllocError>
     requires { place < length elements.now }
     ensures { IfOk result (λ made. made.items
@@ -50,7 +50,7 @@ fn with_less(alloc: Global, elements: &[Tree], place: usize) -> Result<Vec<Tree>
     Ok(made)
 }
 
-/// The list of the elements.
+/// Returns the list of the elements.
 fn list_tree(
     alloc: Global,
     list: u32,
@@ -69,7 +69,7 @@ fn list_tree(
     )
 }
 
-/// The list with one more element before the place.
+/// Returns the list with one more element before the place.
 fn inserted(alloc: Global, node: &Tree, place: u32, new: &Tree) -> Result<Tree, TreeFault>
     ensures ok { IfOk result (edits.IsLonger node.now place new.now) }
     ensures err { IfErr result (edits.IsLongerFault node.now place) }
@@ -92,7 +92,7 @@ fn inserted(alloc: Global, node: &Tree, place: u32, new: &Tree) -> Result<Tree, 
     }
 }
 
-/// The list without the element at the place.
+/// Returns the list without the element at the place.
 fn removed(alloc: Global, node: &Tree, place: u32) -> Result<Tree, TreeFault>
     ensures ok { IfOk result (edits.IsShorter node.now place) }
     ensures err { IfErr result (edits.IsShorterFault node.now place) }
@@ -115,7 +115,7 @@ fn removed(alloc: Global, node: &Tree, place: u32) -> Result<Tree, TreeFault>
     }
 }
 
-/// The list, unfinished or finished as wanted.
+/// Returns the list, unfinished or finished as wanted.
 fn ended(alloc: Global, node: &Tree, unfinished: bool) -> Result<Tree, TreeFault>
     ensures ok { IfOk result (edits.IsEnded node.now unfinished) }
     ensures err { IfErr result (edits.IsEndedFault node.now) }
@@ -131,9 +131,9 @@ fn ended(alloc: Global, node: &Tree, unfinished: bool) -> Result<Tree, TreeFault
     }
 }
 
-/// The tree with one more element before the place of the list at the path. `NoNode` comes exactly where the path leads to no
-/// node, `NotList` exactly where the node is no list, and `NoPlace` exactly where the place is above the number of
-/// elements. It walks along the path twice, and makes the nodes on it and the list anew.
+/// Returns the tree with one more element before the place of the list at the path. `NoNode` is returned exactly where
+/// the path leads to no node, `NotList` exactly where the node is no list, and `NoPlace` exactly where the place is
+/// above the number of elements. It walks along the path twice, and makes the nodes on it and the list again.
 pub fn insert(
     alloc: Global,
     tree: &Tree,
@@ -153,8 +153,8 @@ pub fn insert(
     }
 }
 
-/// The tree without the element at the place of the list at the path. `NoNode` and `NotList` come as in `insert`, and
-/// `NoPlace` exactly where the place isn't below the number of elements. Its cost is that of `insert`.
+/// Returns the tree without the element at the place of the list at the path. `NoNode` and `NotList` are returned as in
+/// `insert`, and `NoPlace` exactly where the place isn't below the number of elements. Its cost is that of `insert`.
 pub fn remove(alloc: Global, tree: &Tree, path: &Path, place: u32) -> Result<Tree, TreeFault>
     ensures ok { IfOk result (edits.IsRemoved tree.now path.now place) }
     ensures err { IfErr result (edits.IsRemoveFault tree.now path.now place) }
@@ -168,8 +168,8 @@ pub fn remove(alloc: Global, tree: &Tree, path: &Path, place: u32) -> Result<Tre
     }
 }
 
-/// The tree with the list at the path unfinished or finished as wanted. `NoNode` and `NotList` come as in `insert`, and
-/// `NoPlace` never. Its cost is that of `insert`.
+/// Returns the tree with the list at the path unfinished or finished as wanted. `NoNode` and `NotList` are returned as
+/// in `insert`, and `NoPlace` never. Its cost is that of `insert`.
 pub fn set_unfinished(
     alloc: Global,
     tree: &Tree,

@@ -14,7 +14,7 @@ use crate::words::is_name;
 use psg_grammar::{Definition, Item, Kind};
 use psg_terms::Txt;
 
-/// Whether an item has a part of the tree.
+/// Says whether an item has a part of the tree.
 fn has_part(item: &Item) -> bool
     ensures { result ≡ is_part item.now }
 {
@@ -28,7 +28,7 @@ fn has_part(item: &Item) -> bool
     }
 }
 
-/// Whether a name position takes the name.
+/// Says whether a name position takes the name.
 fn name_fits(def: &Definition, name: &Txt, item: &Item) -> bool
     ensures { IsTrue result ↔ forms.NameFits def.now name.now item.now }
 {
@@ -39,7 +39,7 @@ fn name_fits(def: &Definition, name: &Txt, item: &Item) -> bool
     }
 }
 
-/// Whether the item is for a number.
+/// Says whether the item is for a number.
 fn number_fits(value: u128, item: &Item) -> bool
     ensures { IsTrue result ↔ forms.NumberFits value item.now }
 {
@@ -49,7 +49,7 @@ fn number_fits(value: u128, item: &Item) -> bool
     }
 }
 
-/// Whether the item is for a text.
+/// Says whether the item is for a text.
 fn text_fits(contents: &Txt, item: &Item) -> bool
     ensures { IsTrue result ↔ forms.TextFits contents.now item.now }
 {
@@ -60,7 +60,7 @@ fn text_fits(contents: &Txt, item: &Item) -> bool
     }
 }
 
-/// Whether the item is a slot for the tree.
+/// Says whether the item is a slot for the tree.
 #[cycle(fits)]
 fn tree_fits(def: &Definition, tree: &Tree, item: &Item) -> bool
     requires { IsSound def.now }
@@ -72,7 +72,7 @@ fn tree_fits(def: &Definition, tree: &Tree, item: &Item) -> bool
     }
 }
 
-/// Whether the part is one of the item.
+/// Says whether the part is one of the item.
 #[cycle(fits)]
 fn part_fits(def: &Definition, part: &Part, item: &Item) -> bool
     requires { IsSound def.now }
@@ -86,7 +86,7 @@ fn part_fits(def: &Definition, part: &Part, item: &Item) -> bool
     }
 }
 
-/// The number of the next part behind the item, or none where the part isn't one of it.
+/// Returns the number of the next part after the item, or none where the part isn't one of it.
 #[cycle(fits)]
 fn next_part(def: &Definition, parts: &[Part], at: usize, item: &Item) -> Option<usize>
     requires sound { IsSound def.now }
@@ -108,7 +108,7 @@ fn next_part(def: &Definition, parts: &[Part], at: usize, item: &Item) -> Option
     }
 }
 
-/// Whether the parts are those of the items.
+/// Says whether the parts are those of the items.
 #[cycle(fits)]
 fn parts_fit(def: &Definition, parts: &[Part], items: &[Item]) -> bool
     requires { IsSound def.now }
@@ -124,7 +124,7 @@ fn parts_fit(def: &Definition, parts: &[Part], items: &[Item]) -> bool
     at == parts.len()
 }
 
-/// Whether the kind is that of the phylum.
+/// Says whether the kind is that of the phylum.
 fn is_phylum(kind: Kind, phylum: u32) -> bool
     ensures { IsTrue result ↔ (kind ≡ Kind.Phylum phylum) }
 {
@@ -134,7 +134,7 @@ fn is_phylum(kind: Kind, phylum: u32) -> bool
     }
 }
 
-/// Whether the kind is that of the lists.
+/// Says whether the kind is that of the lists.
 fn is_list(kind: Kind, list: u32) -> bool
     ensures { IsTrue result ↔ (kind ≡ Kind.List list) }
 {
@@ -144,7 +144,7 @@ fn is_list(kind: Kind, list: u32) -> bool
     }
 }
 
-/// Whether an operator with these parts is a tree of the kind.
+/// Says whether an operator with these parts is a tree of the kind.
 #[cycle(fits)]
 fn operator_fits(def: &Definition, op: u32, parts: &[Part], kind: Kind) -> bool
     requires { IsSound def.now }
@@ -161,7 +161,7 @@ fn operator_fits(def: &Definition, op: u32, parts: &[Part], kind: Kind) -> bool
     }
 }
 
-/// Whether the elements are trees of the phylum.
+/// Says whether the elements are trees of the phylum.
 #[cycle(fits)]
 fn elements_fit(def: &Definition, elements: &[Tree], phylum: u32) -> bool
     requires { IsSound def.now }
@@ -175,14 +175,14 @@ fn elements_fit(def: &Definition, elements: &[Tree], phylum: u32) -> bool
     true
 }
 
-/// Whether a list may be unfinished where it is.
+/// Says whether a list may be unfinished where it is.
 fn may_end(unfinished: bool, allowed: bool) -> bool
     ensures { IsTrue result ↔ (unfinished ≡ true → allowed ≡ true) }
 {
     !unfinished || allowed
 }
 
-/// Whether a list of these elements is a tree of the kind.
+/// Says whether a list of these elements is a tree of the kind.
 #[cycle(fits)]
 fn list_fits(def: &Definition, list: u32, elements: &[Tree], unfinished: bool, kind: Kind) -> bool
     requires { IsSound def.now }
@@ -202,7 +202,7 @@ fn list_fits(def: &Definition, list: u32, elements: &[Tree], unfinished: bool, k
     }
 }
 
-/// Whether a placeholder is a tree of the kind.
+/// Says whether a placeholder is a tree of the kind.
 fn hole_fits(def: &Definition, phylum: u32, kind: Kind) -> bool
     requires { IsSound def.now }
     ensures { IsTrue result ↔ WellFormed def.now (hole phylum) kind }
@@ -213,9 +213,9 @@ fn hole_fits(def: &Definition, phylum: u32, kind: Kind) -> bool
     !declares(def, phylum)
 }
 
-/// Whether the tree is one of the kind: each operator has the parts of its items, each child is of the kind of its slot or
-/// list, a list is unfinished only where its kind is, no placeholder stands for a list or for a declaring phylum, and each
-/// name is a word that isn't reserved.
+/// Says whether the tree is one of the kind: each operator has the parts of its items, each child is of the kind of its
+/// slot or list, a list is unfinished only where its kind is, no placeholder is one of a list or of a declaring phylum,
+/// and each name is a word that isn't reserved.
 ///
 /// It takes one walk over the tree and no memory. At each name it goes over the words of the definition, and at each
 /// placeholder it searches the phyla that can be reached from its own.

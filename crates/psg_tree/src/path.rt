@@ -5,8 +5,8 @@ use smallvec::SmallVec;
 use std::alloc::{AllocError, Global};
 use std::marker::Model;
 
-/// The way from the top of a tree down to a node. Each step is the number of a child, from 0: of a slot under an operator,
-/// of an element under a list. Up to eight steps take no memory.
+/// The way from the top of a tree down to a node. Each step is the number of a child, from 0: of a slot under an
+/// operator, of an element under a list. Up to eight steps take no memory.
 #[derive(Debug, Drop)]
 pub struct Path {
     kept: SmallVec<u32, 8>,
@@ -21,7 +21,7 @@ impl Model for Path {
 }
 
 impl Path {
-    /// The path of these steps.
+    /// Makes the path of these steps.
     pub fn of(alloc: Global, steps: &[u32]) -> Result<Path, AllocError>
         ensures { IfOk result (λ p. p ≡ steps.now) }
     {
@@ -30,7 +30,7 @@ impl Path {
         })
     }
 
-    /// The steps, from the top down.
+    /// Returns the steps, from the top down.
     pub fn steps(&self) -> &[u32]
         ensures { result.now ≡ self.now }
     {

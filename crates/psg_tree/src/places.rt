@@ -13,15 +13,19 @@ use psg_terms::Seq;
 use std::alloc::{AllocError, AllocFailed, Global};
 use thiserror::Error;
 
-/// Why a tree was not changed.
+/// The reason why a tree was not changed.
 #[derive(Clone, Copy, Debug, PartialEq, Eq, Error, Drop)]
 pub enum TreeFault {
+    /// The path leads to no node.
     #[error("the path leads to no node")]
     NoNode,
+    /// The node at the path is no list.
     #[error("the node is no list")]
     NotList,
+    /// The list at the path has no such place.
     #[error("the list has no such place")]
     NoPlace,
+    /// Memory ran out.
     #[error("there is no memory left")]
     Memory,
 }
@@ -42,7 +46,7 @@ impl From<AllocError> for TreeFault {
     }
 }
 
-/// The subtree of the given number among an operator's parts, from 0.
+/// Returns the subtree of the given number among an operator's parts, from 0.
 fn sub_at(parts: &[Part], number: u32) -> Option<&Tree>
     ensures { option_copied result ≡ child_among parts.now number }
 {
@@ -58,8 +62,8 @@ fn sub_at(parts: &[Part], number: u32) -> Option<&Tree>
     None
 }
 
-/// Returns the child of a node by its number, from 0, and none exactly where the node has fewer children. It walks over the
-/// parts of an operator.
+/// Returns the child of a node by its number, from 0, and none exactly where the node has fewer children. It walks over
+/// the parts of an operator.
 pub fn child_at(tree: &Tree, number: u32) -> Option<&Tree>
     ensures { option_copied result ≡ slice_get (children_of tree.now) number }
 {
@@ -70,8 +74,8 @@ pub fn child_at(tree: &Tree, number: u32) -> Option<&Tree>
     }
 }
 
-/// The node at a path, and none exactly where the path leads to no node. It walks along the path, and over the parts of
-/// the operators on it.
+/// Returns the node at a path, or `None` exactly where the path leads to no node. It walks along the path, and over the
+/// parts of the operators on it.
 pub fn at<'t>(tree: &'t Tree, path: &Path) -> Option<&'t Tree>
     ensures { option_copied result ≡ node_at tree.now path.now }
 {
@@ -85,14 +89,14 @@ pub fn at<'t>(tree: &'t Tree, path: &Path) -> Option<&'t Tree>
     Some(node)
 }
 
-/// The new tree where it is wanted, and else the old one.
+/// Returns the new tree where it is wanted, and else the old one.
 fn chosen<'t>(wanted: bool, new: &'t Tree, old: &'t Tree) -> &'t Tree
     ensures { result.now ≡ cond wanted new.now old.now }
 {
     if wanted { new } else { old }
 }
 
-/// One more owner of what the part has, with the new tree in place of its subtree where that is wanted.
+/// Returns one more owner of what the part has, with the new tree in place of its subtree where that is wanted.
 fn changed_part(wanted: bool, new: &Tree, part: &Part) -> Result<Part, AllocError>
     ensures { IfOk result (λ p. p ≡ chosen_part wanted new.now part.now) }
 {
@@ -104,7 +108,7 @@ fn changed_part(wanted: bool, new: &Tree, part: &Part) -> Result<Part, AllocErro
     }
 }
 
-/// How many subtrees the part is: one or none.
+/// Returns how many subtrees the part is: one or none.
 fn subtrees_in(part: &Part) -> usize
     ensures { result ≡ length (subtrees (part.now ∷ [])) }
 {
@@ -114,7 +118,7 @@ fn subtrees_in(part: &Part) -> usize
     }
 }
 
-/// The parts with another subtree of the given number.
+/// Returns the parts with another subtree of the given number.
 fn with_part(
     alloc: Global,
     parts: &[Part],
@@ -133,7 +137,7 @@ fn with_part(
     Ok(made)
 }
 
-/// The elements with another one at the given number.
+/// Returns the elements with another one at the given number.
 fn with_element(
     alloc: Global,
     elements: &[Tree],
@@ -150,7 +154,7 @@ fn with_element(
     Ok(made)
 }
 
-/// The tree with another child of the given number.
+/// Returns the tree with another child of the given number.
 fn with_child(alloc: Global, tree: &Tree, number: u32, new: &Tree) -> Result<Tree, AllocError>
     ensures { IfOk result (λ t. t ≡ put_child new.now number tree.now) }
 {
@@ -184,7 +188,7 @@ fn with_child(alloc: Global, tree: &Tree, number: u32, new: &Tree) -> Result<Tre
     }
 }
 
-/// The tree with another node behind these steps.
+/// Returns the tree with another node after these steps.
 fn replace_below(alloc: Global, tree: &Tree, steps: &[u32], new: &Tree) -> Result<Tree, TreeFault>
     ensures ok { IfOk result (IsReplaced tree.now steps.now new.now) }
     ensures err { IfErr result (IsReplaceFault tree.now steps.now) }
@@ -202,8 +206,8 @@ fn replace_below(alloc: Global, tree: &Tree, steps: &[u32], new: &Tree) -> Resul
     }
 }
 
-/// The tree with another node at the path, for `NoNode` exactly where the path leads to no node. The nodes on the path are
-/// made anew, and all others shared.
+/// Returns the tree with another node at the path, or `NoNode` exactly where the path leads to no node. The nodes on
+/// the path are made again, and all others shared.
 pub fn replace(alloc: Global, tree: &Tree, path: &Path, new: &Tree) -> Result<Tree, TreeFault>
     ensures ok { IfOk result (IsReplaced tree.now path.now new.now) }
     ensures err { IfErr result (IsReplaceFault tree.now path.now) }

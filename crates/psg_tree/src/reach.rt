@@ -16,7 +16,7 @@ enum Found<'a> {
 }
 
 impl Found<'_> {
-    /// Whether the phylum was found.
+    /// Says whether the phylum was found.
     fn has(&self, phylum: u32) -> bool
         ensures { result ≡ reaching.is_in phylum (reaching.found_list self.now) }
     {
@@ -38,7 +38,7 @@ enum Step {
     Closed,
 }
 
-/// The phylum whose trees stand at places of the kind.
+/// Returns the phylum whose trees are at places of the kind.
 fn phylum_of(def: &Definition, kind: Kind) -> Option<u32>
     ensures { result ≡ reaching.phylum_of def.now kind }
 {
@@ -51,7 +51,7 @@ fn phylum_of(def: &Definition, kind: Kind) -> Option<u32>
     }
 }
 
-/// The step to a place of the kind.
+/// Returns the step to a place of the kind.
 fn kind_step(def: &Definition, kind: Kind, found: &Found) -> Step
     ensures { reaching.IsKindStep def.now (reaching.found_list found.now) kind result }
 {
@@ -67,7 +67,7 @@ fn kind_step(def: &Definition, kind: Kind, found: &Found) -> Step
     }
 }
 
-/// The step that an item makes.
+/// Returns the step that an item makes.
 fn item_step(def: &Definition, item: &Item, found: &Found) -> Step
     ensures { reaching.IsItemStep def.now (reaching.found_list found.now) item.now result }
 {
@@ -78,7 +78,7 @@ fn item_step(def: &Definition, item: &Item, found: &Found) -> Step
     }
 }
 
-/// The first step that one of the items makes.
+/// Returns the first step that one of the items makes.
 fn items_step(def: &Definition, items: &[Item], found: &Found) -> Step
     ensures { reaching.IsItemsStep def.now (reaching.found_list found.now) items.now result }
 {
@@ -91,7 +91,7 @@ fn items_step(def: &Definition, items: &[Item], found: &Found) -> Step
     Step::Closed
 }
 
-/// The first step that an operator of a phylum found makes, scope operators aside.
+/// Returns the first step that an operator of a phylum found makes, scope operators aside.
 fn operators_step(def: &Definition, operators: &[Operator], found: &Found) -> Step
     ensures { reaching.IsOperatorsStep def.now (reaching.found_list found.now) operators.now result }
 {
@@ -106,7 +106,7 @@ fn operators_step(def: &Definition, operators: &[Operator], found: &Found) -> St
     Step::Closed
 }
 
-/// Whether a declaring position can be reached from one of the phyla found.
+/// Says whether a declaring position can be reached from one of the phyla found.
 fn reaches(def: &Definition, found: &Found) -> bool
     ensures { IsTrue result ↔ reaching.AnyDeclare def.now (reaching.found_list found.now) }
 {
@@ -117,8 +117,8 @@ fn reaches(def: &Definition, found: &Found) -> bool
     }
 }
 
-/// Whether a declaring position can be reached from the phylum without passing a scope operator. For each phylum that can be
-/// reached it goes once over all operators, and looks up the phylum of each slot among those found.
+/// Says whether a declaring position can be reached from the phylum without passing a scope operator. For each phylum
+/// that can be reached it goes once over all operators, and looks up the phylum of each slot among those found.
 pub fn declares(def: &Definition, phylum: u32) -> bool
     ensures { IsTrue result ↔ reaching.PhylumDeclares def.now phylum }
 {

@@ -1,4 +1,5 @@
-//! How many nodes a tree has, how deep it is and how long its lists are. A tree keeps these numbers, so no call walks over it.
+//! How many nodes a tree has, how deep it is and how long its lists are. A tree keeps these numbers, so no call walks
+//! over it.
 ghost use Rattle.std.specs.Prelude.{◌≡◌, ℕ, Bool, min};
 ghost use Rattle.psg_grammar.specs.Fragments.{Fragment, operator};
 ghost use Rattle.psg_grammar.specs.Sizes.{nodes_of, depth_of, longest_of};
@@ -50,7 +51,7 @@ impl Sizes {
     }
 }
 
-/// The sizes of an operator with these parts.
+/// Returns the sizes of an operator with these parts.
 fn operator_sizes(parts: &[Part]) -> Sizes
     ensures { (o : ℕ) → AreSizesOf (shapes.with_parts (operator o) parts.now) result }
 {
@@ -61,7 +62,7 @@ fn operator_sizes(parts: &[Part]) -> Sizes
     sizes
 }
 
-/// The sizes of a list of these elements.
+/// Returns the sizes of a list of these elements.
 fn list_sizes(elements: &[Tree]) -> Sizes
     ensures { (l : ℕ) (u : Bool) → AreSizesOf (shapes.list_of l elements.now u) result }
 {
@@ -86,7 +87,7 @@ pub(crate) fn sizes_of(shape: &Shape) -> Sizes
     }
 }
 
-/// Tells how many nodes a tree has: its operators, lists and placeholders. A tree with more than a `u64` holds has
+/// Returns how many nodes a tree has: its operators, lists and placeholders. A tree with more than a `u64` holds has
 /// `u64::MAX`. It takes one step.
 pub fn nodes(tree: &Tree) -> u64
     ensures { result ≡ min (nodes_of tree.now) u64.MAX }
@@ -94,16 +95,16 @@ pub fn nodes(tree: &Tree) -> u64
     tree.sizes().nodes
 }
 
-/// Tells how many nodes are below each other in a tree at most: 1 for a placeholder, an operator without children and a
-/// list without elements. A tree that is deeper than a `u64` holds has `u64::MAX`. It takes one step.
+/// Returns how many nodes are below each other in a tree at most: 1 for a placeholder, an operator without children and
+/// a list without elements. A tree that is deeper than a `u64` holds has `u64::MAX`. It takes one step.
 pub fn depth(tree: &Tree) -> u64
     ensures { result ≡ min (depth_of tree.now) u64.MAX }
 {
     tree.sizes().depth
 }
 
-/// Tells how many elements the longest list of a tree has: 0 where no list of it has an element. A list with more elements
-/// than a `u64` holds has `u64::MAX`. It takes one step.
+/// Returns how many elements the longest list of a tree has: 0 where no list of it has an element. A list with more
+/// elements than a `u64` holds has `u64::MAX`. It takes one step.
 pub fn longest_list(tree: &Tree) -> u64
     ensures { result ≡ min (longest_of tree.now) u64.MAX }
 {

@@ -1,5 +1,6 @@
 //! The abstract text of a tree.
-ghost use Rattle.std.specs.Prelude.{◌≡◌, ◌==◌, ◌++◌, [], cond, codes, decimal, length, IfOk, OnOk, string_bytes, encode_utf8};
+ghost use Rattle.std.specs.Prelude.{◌≡◌, ◌==◌, ◌++◌, [], cond, codes, decimal, length, IfOk, OnOk};
+ghost use Rattle.std.specs.Prelude.{string_bytes, encode_utf8};
 ghost use Rattle.std.specs.List.{flat_map};
 ghost use Rattle.psg_grammar.specs.Fragments.{hole, operator};
 ghost use Rattle.psg_tree.specs.Shapes.{with_parts, list_of};
@@ -12,7 +13,7 @@ use itoa::Buffer;
 use psg_grammar::Definition;
 use std::alloc::{AllocError, Global};
 
-/// The operator's name, empty where the definition has no operator of the number.
+/// Returns the operator's name, empty where the definition has no operator of the number.
 fn operator_name(def: &Definition, op: u32) -> &str
     ensures { result.now ≡ text.operator_name def.now op }
 {
@@ -45,8 +46,8 @@ fn write_escaped(out: &mut String, ch: char) -> Result<(), AllocError>
     }
 }
 
-/// Writes the text in quotes, each quote, backslash and line feed in it as its escape. It returns out of memory, and takes
-/// time linear in the text.
+/// Writes the text in quotes, each quote, backslash and line feed in it as its escape. It fails where memory runs out,
+/// and takes time linear in the text.
 pub fn write_quoted(out: &mut String, contents: &str) -> Result<(), AllocError>
     ensures { OnOk result (string_bytes out.new ≡ string_bytes out.old ++ text.quoted contents.now) }
 {
@@ -65,28 +66,28 @@ fn write_number(out: &mut String, value: u128) -> Result<(), AllocError>
     out.push_str(buffer.format(value))
 }
 
-/// What stands before an operator's part of the number, from 0.
+/// Returns what is written before an operator's part of the number, from 0.
 fn mark_before(number: usize) -> &'static str
     ensures { result.now ≡ cond (number == 0) (codes "(") (codes ",") }
 {
     if number == 0 { "(" } else { "," }
 }
 
-/// What stands behind an operator's parts.
+/// Returns what follows an operator's parts.
 fn bracket_behind(parts: &[Part]) -> &'static str
     ensures { result.now ≡ cond (length parts.now == 0) [] (codes ")") }
 {
     if parts.is_empty() { "" } else { ")" }
 }
 
-/// What stands before a list's element of the number, from 0.
+/// Returns what is written before a list's element of the number, from 0.
 fn comma_before(number: usize) -> &'static str
     ensures { result.now ≡ cond (number == 0) [] (codes ",") }
 {
     if number == 0 { "" } else { "," }
 }
 
-/// What stands behind a list's elements.
+/// Returns what follows a list's elements.
 fn bracket_of(unfinished: bool) -> &'static str
     ensures { result.now ≡ cond unfinished (codes "|...") [] ++ codes "]" }
 {
@@ -169,10 +170,10 @@ fn write_tree(out: &mut String, def: &Definition, tree: &Tree) -> Result<(), All
     }
 }
 
-/// The abstract text of a tree, in one walk over it: `o` or `o(part,part)` for an operator, with subtrees, names, numbers and
-/// texts in quotes as parts; `[e,e]` for a list, with `|...` before its last bracket where it is unfinished; `?P` for a
-/// placeholder. In a text the quote, the backslash and the line feed are escaped as `\"`, `\\` and `\n`. Where the
-/// definition has no operator or phylum of a number, its name is empty.
+/// Returns the abstract text of a tree, in one walk over it: `o` or `o(part,part)` for an operator, with subtrees,
+/// names, numbers and texts in quotes as parts; `[e,e]` for a list, with `|...` before its last bracket where it is
+/// unfinished; `?P` for a placeholder. In a text the quote, the backslash and the line feed are escaped as `\"`, `\\`
+/// and `\n`. Where the definition has no operator or phylum of a number, its name is empty.
 pub fn abstract_text(alloc: Global, def: &Definition, tree: &Tree) -> Result<String, AllocError>
     ensures { IfOk result (λ text. string_bytes text ≡ abstract_text def.now tree.now) }
 {

@@ -11,9 +11,13 @@ use std::rc::Rc;
 #[cycle(tree)]
 #[derive(Drop)]
 pub enum Part {
+    /// A tree in a slot.
     Sub(Tree),
+    /// A name in a name position.
     Name(Txt),
+    /// A number.
     Number(u128),
+    /// A text, without its quotes.
     Text(Txt),
 }
 
@@ -21,15 +25,18 @@ pub enum Part {
 #[cycle(tree)]
 #[derive(Drop)]
 pub enum Shape {
+    /// An operator by its number, with a part for each slot, name and literal, in the order of its items.
     Op {
         op: u32,
         parts: Seq<Part>,
     },
+    /// A list by its number, with its elements in order, and whether it is unfinished.
     List {
         list: u32,
         elements: Seq<Tree>,
         unfinished: bool,
     },
+    /// A placeholder of a phylum, by the phylum's number.
     Hole {
         phylum: u32,
     },
@@ -76,7 +83,8 @@ impl Tree {
     ghost use Rattle.psg_tree.specs.Shapes.{tree_of};
     ghost use Rattle.psg_tree.specs.TreeSizes.{AreSizesOf};
 
-    /// Makes the tree of a node with its children. It reads the sizes of each child once. It fails where memory runs out.
+    /// Makes the tree of a node with its children. It reads the sizes of each child once. It fails where memory runs
+    /// out.
     pub fn new(alloc: Global, shape: Shape) -> Result<Tree, AllocError>
         ensures { IfOk result (λ t. t ≡ tree_of shape) }
     {
@@ -86,7 +94,7 @@ impl Tree {
         })
     }
 
-    /// The node at the top.
+    /// Returns the node at the top.
     pub fn shape(&self) -> &Shape
         ensures { tree_of result.now ≡ self.now }
     {
@@ -100,7 +108,7 @@ impl Tree {
         &self.shared.as_ref().sizes
     }
 
-    /// One more owner of the same tree.
+    /// Returns one more owner of the same tree.
     pub fn share(&self) -> Result<Tree, AllocError>
         ensures { IfOk result (λ t. t ≡ self.now) }
     {

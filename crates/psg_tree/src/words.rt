@@ -8,28 +8,28 @@ ghost use Rattle.psg_tree.specs.WordTests.{is_word_from};
 
 use psg_grammar::{Definition, Item, ListKind, Operator};
 
-/// Whether a word may begin with the character.
+/// Says whether a word may begin with the character.
 fn starts(ch: char) -> bool
     ensures { result ≡ starts_word ch }
 {
     unicode_ident::is_xid_start(ch) | (ch == '_')
 }
 
-/// Whether a word may go on with the character.
+/// Says whether a word may go on with the character.
 fn goes_on(ch: char) -> bool
     ensures { result ≡ goes_on_word ch }
 {
     unicode_ident::is_xid_continue(ch) | (ch == '_')
 }
 
-/// Whether a word may have the character at its beginning, or else behind it.
+/// Says whether a word may have the character at its beginning, or else after it.
 fn fits_word(first: bool, ch: char) -> bool
     ensures { result ≡ cond first (starts_word ch) (goes_on_word ch) }
 {
     if first { starts(ch) } else { goes_on(ch) }
 }
 
-/// Whether the text is a word.
+/// Says whether the text is a word.
 fn is_word(text: &str) -> bool
     ensures { result ≡ is_word_from true (chars text.now) }
 {
@@ -43,7 +43,7 @@ fn is_word(text: &str) -> bool
     !first
 }
 
-/// Whether the text is one of the words among the items.
+/// Says whether the text is one of the words among the items.
 fn is_item_word(items: &[Item], text: &str) -> bool
     ensures { result ≡ is_among (words_in items.now) text.now }
 {
@@ -57,7 +57,7 @@ fn is_item_word(items: &[Item], text: &str) -> bool
     false
 }
 
-/// Whether the text is one of the words of the operators.
+/// Says whether the text is one of the words of the operators.
 fn is_operator_word(operators: &[Operator], text: &str) -> bool
     ensures { result ≡ is_among (operator_words operators.now) text.now }
 {
@@ -69,7 +69,7 @@ fn is_operator_word(operators: &[Operator], text: &str) -> bool
     false
 }
 
-/// Whether the text is one of the separators of the lists.
+/// Says whether the text is one of the separators of the lists.
 fn is_separator(lists: &[ListKind], text: &str) -> bool
     ensures { result ≡ is_among (separators lists.now) text.now }
 {
@@ -81,14 +81,14 @@ fn is_separator(lists: &[ListKind], text: &str) -> bool
     false
 }
 
-/// Whether the text is a word of the operators or a separator.
+/// Says whether the text is a word of the operators or a separator.
 fn is_fixed(def: &Definition, text: &str) -> bool
     ensures { result ≡ is_among (fixed_words def.now) text.now }
 {
     is_operator_word(def.operators.as_slice(), text) || is_separator(def.lists.as_slice(), text)
 }
 
-/// Whether the text is a word that is no fixed one. It goes over all operators and lists.
+/// Says whether the text is a word that is no fixed one. It goes over all operators and lists.
 pub fn is_name(def: &Definition, text: &str) -> bool
     ensures { IsTrue result ↔ IsName def.now text.now }
 {

@@ -1,5 +1,5 @@
 -- The lines are together the definition: names are positions, variables are numbered in their line.
-use Rattle.std.proofs.Common.{[], ◌∷◌, codes, refl, inl, inr, lit≤}
+use Rattle.std.proofs.Common.{[], ◌∷◌, codes, refl, inl, inr}
 use Rattle.psg_terms.specs.Terms.{symbol, variable}
 use Rattle.psg_grammar.specs.declared.types.Kind.TheVariants as kinds
 use Rattle.psg_grammar.specs.Sound.{HasKindSort}
@@ -28,14 +28,14 @@ box_tree : IsTree boxes [] (kinds.Phylum 0) specimen box_of_one
 box_tree = (codes "box", op_box, (refl, refl), refl, (_, (_, (codes "one", op_one, (refl, refl), refl, refl), refl), refl))
 
 -- The lines of the file are the definition.
-pub numbered : IsNumbered (written entries) boxes
+pub numbered : IsNumbered 1 (written entries) boxes
 numbered = record {
   sorts_once = refl;
   constructors_once = refl;
   kinds_once = refl;
   operators_once = refl;
-  entity_once = lit≤ tt;
-  version = refl;
+  spaces_once = refl;
+  same_version = refl;
   signature = record { sorts = refl; symbols = (record { name = refl; arguments = tt; sort = refl }, (record { name = refl; arguments = tt; sort = refl }, tt)) };
   spaces = refl;
   phyla = (exp, [], refl, record { named = refl; of_sort = refl; same_brackets = refl }, refl);

@@ -1,5 +1,5 @@
 -- The text spells its lines: the spaces between the parts, what is skipped, where a row may be.
-use Rattle.std.proofs.Common.{◌≡◌, ◌≤◌, ℕ, true, false, List, [], ◌∷◌, codes, Some, refl, sym, ap, ◌∙◌, subst, true≢false, nat_eq, length, drop, get_or, replicate, zero, suc, ◌&&◌, ◌++◌, lit<, lit≤}
+use Rattle.std.proofs.Common.{◌≡◌, ◌≤◌, ℕ, inl, true, false, List, [], ◌∷◌, codes, Some, refl, sym, ap, ◌∙◌, subst, true≢false, nat_eq, length, drop, get_or, replicate, zero, suc, ◌&&◌, ◌++◌, lit<, lit≤}
 use Rattle.std.specs.Prelude.{IsUtf8, chars, encode_utf8_all}
 use Rattle.std.specs.Str.Lines.{lines as lines_in}
 use Rattle.std.proofs.lemmas.Str.{chars-IsAscii, IsUtf8-from_ascii}
@@ -72,7 +72,7 @@ quoted_more = as_quoted (codes ">") (codes ">") more_chars
 
 -- ---- each text is its line: the number before each rest is that of the spaces
 
-head_written : IsWritten head_parts head_text
+head_written : IsWritten (head_parts 1) head_text
 head_written = (1, _, refl, refl, refl)
 
 sort_spelled : SpellsLine sort_text sort_line
@@ -170,8 +170,12 @@ each_entry = (
 pub file_utf8 : IsUtf8 file
 file_utf8 = IsUtf8-from_ascii file (ascii_by_test file refl)
 
-pub spelled : AreSpelled (lines_in file) entries
-spelled = record { head = head_written; each = each_entry }
+pub spelled : AreSpelled 1 (lines_in file) entries
+spelled = record {
+  head = (inl refl, head_written);
+  each = each_entry;
+  of_version = (refl, (refl, (refl, (refl, (refl, (refl, (refl, (refl, (refl, (refl, tt))))))))));
+}
 
 -- ---- what is no line
 
@@ -197,5 +201,5 @@ no_space_after (n, rest, is, apart, written) =
     true≢false (sym (ends_spaces 119 n) ∙ ap ends_word (sym whole))
 
 -- a file that begins with another line has no head
-no_head : IsWritten head_parts sort_text → ⊥
+no_head : IsWritten (head_parts 1) sort_text → ⊥
 no_head (n, rest, is, apart, written) = true≢false (sym (ap (λ (t : List ℕ). nat_eq (get_or t 0 0) 112) is))

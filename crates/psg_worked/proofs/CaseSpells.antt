@@ -14,7 +14,7 @@ use Rattle.psg_worked.proofs.CaseSpelled.{file_utf8, spelled}
 use Rattle.psg_worked.proofs.CaseNumbered.{numbered}
 
 spells : Spells file boxes
-spells = record { utf8 = file_utf8; entries = entries; spelled = spelled; numbered = numbered }
+spells = record { utf8 = file_utf8; version = 1; entries = entries; spelled = spelled; numbered = numbered }
 
 -- ---- `?rest` as variable 2 and `?x` as variable 1
 
@@ -34,7 +34,7 @@ no_first_two row e h =
     let first : ◌≡◌ {A = ℕ} 2 1 = swapped_numbers.0 in
     absurd (omega arith)
 
-no_swapped : IsNumbered (written entries) swapped → ⊥
+no_swapped : IsNumbered 1 (written entries) swapped → ⊥
 no_swapped h =
     let (l, rest, is, list, after) = h.lists in
     let same : l ≡ swapped_list = cc in

@@ -1,5 +1,6 @@
 -- What named files hold, and which reads and writes of them failed.
-use Rattle.std.specs.Prelude.{ℕ, ◌≡◌, ◌≢◌, ◌+◌, List, [], ◌∷◌, ◌++◌, take, Option, Some, None, Result, Ok, Err, Vec, Bool, true, false, refl, unwrap_or}
+use Rattle.std.specs.Prelude.{ℕ, ◌≡◌, ◌≢◌, ◌+◌, List, [], ◌∷◌, ◌++◌, take, Option, Some, None, Result, Ok, Err, Vec}
+use Rattle.std.specs.Prelude.{Bool, true, false, refl, unwrap_or}
 use Rattle.std.specs.Coded.{Coded, code_by, coded×, coded_bool, coded_list, coded_ℕ}
 use Rattle.std.specs.declared.alloc.Global.{Global}
 use Rattle.std.specs.Cmp.Lexicographic.{slice_cmp}
@@ -14,6 +15,7 @@ use Rattle.psg_world.specs.declared.world.WriteStop.TheVariants as write_stops
 abbrev pub Held : Type 0
 Held = map.FinMap (slice_cmp nat_cmp) (List ℕ)
 
+-- the code of files: that of a map from names to bytes
 abbrev pub held_code : Coded Held
 held_code = map.code (coded_list coded_ℕ) (coded_list coded_ℕ)
 
@@ -27,6 +29,7 @@ abbrev pub entry_parts : Entry → Bool × List ℕ
 entry_parts (reading name) = (false, name)
 entry_parts (writing name) = (true, name)
 
+-- the entry whose parts these are
 abbrev pub entry_of_parts : Bool × List ℕ → Entry
 entry_of_parts (true, name) = writing name
 entry_of_parts (false, name) = reading name
@@ -35,6 +38,7 @@ pub same_entry : (entry : Entry) → entry_of_parts (entry_parts entry) ≡ entr
 same_entry (reading name) = refl
 same_entry (writing name) = refl
 
+-- the code of an entry: that of its parts
 abbrev pub entry_code : Coded Entry
 entry_code = code_by (Bool × List ℕ) (coded× coded_bool (coded_list coded_ℕ)) entry_parts entry_of_parts same_entry
 
@@ -63,7 +67,7 @@ entries_after_write entries name (Err write_stops.Memory) = entries
 abbrev pub AgreesOutside : List ℕ → Held → Held → Type 0
 AgreesOutside name old new = (other : List ℕ) → other ≢ name → map.get new other ≡ map.get old other
 
--- What was told is told, with every name but this one as it was; what was not told isn't told now.
+-- What was known is known, with every name but this one as it was; what was not known isn't known now.
 abbrev pub OthersStand : List ℕ → Option Held → Option Held → Type 0
 OthersStand name None new = new ≡ None
 OthersStand name (Some old) None = ⊥

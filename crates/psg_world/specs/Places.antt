@@ -1,4 +1,4 @@
--- Where the file of a name stands in a list of files.
+-- The place of the file of a name in a list of files.
 use Rattle.std.specs.Prelude.{ℕ, ◌≡◌, ◌<◌, List, length, take, slice_index_or, None, Vec}
 use Rattle.std.specs.declared.alloc.Global.{Global}
 use Rattle.std.specs.declared.string.String.{String}
@@ -12,7 +12,7 @@ use Rattle.psg_world.specs.Memory.{entries_of}
 abbrev pub IsAbsent : List ℕ → List (String Global × Vec ℕ Global) → Type 0
 IsAbsent name files = map.find (slice_cmp nat_cmp) name (entries_of files) ≡ None
 
--- The first file of this name stands at this index.
+-- The first file of this name is at this index.
 pub record IsPlaceOf (name : List ℕ) (files : List (String Global × Vec ℕ Global)) (index : ℕ) : Type 0 where
   pub within : index < length files
   pub same : (other : String Global × Vec ℕ Global) → string_bytes (slice_index_or files index other).0 ≡ name

@@ -11,7 +11,7 @@ enum Access {
     Write,
 }
 
-// A call that failed: a read or a write, and the name that it was given.
+/// A call that failed: a read or a write, and the name that it was given.
 #[derive(Drop)]
 pub struct Fault {
     access: Access,
@@ -30,6 +30,7 @@ impl Model for Fault {
 }
 
 impl Fault {
+    /// Makes the fault of a read of the name. `AllocError` is returned where there is no memory for the name.
     pub fn reading(alloc: Global, name: &str) -> Result<Self, AllocError>
         ensures { IfOk result (λ fault. fault ≡ reading name.now) }
     {
@@ -39,6 +40,7 @@ impl Fault {
         })
     }
 
+    /// Makes the fault of a write of the name. `AllocError` is returned where there is no memory for the name.
     pub fn writing(alloc: Global, name: &str) -> Result<Self, AllocError>
         ensures { IfOk result (λ fault. fault ≡ writing name.now) }
     {
@@ -49,7 +51,7 @@ impl Fault {
     }
 }
 
-// Adds the fault at the end, where room was taken before.
+/// Adds the fault at the end, where room was taken before.
 pub fn keep(faults: &mut Vec<Fault>, fault: Fault)
     requires { vec_len faults.old < vec_capacity faults.old }
     ensures { faults.new.items ≡ faults.old.items ++ fault ∷ [] }

@@ -35,7 +35,7 @@ impl<'a, R: rt::Files> Model for HostFiles<'a, R> {
 }
 
 impl<'a, R: rt::Files> HostFiles<'a, R> {
-    /// The files of the machine that `runtime` stands for. Takes no memory; `alloc` keeps the
+    /// Makes the files of the machine, which `runtime` gives access to. Takes no memory; `alloc` keeps the
     /// entries of the calls that fail.
     pub fn new(alloc: Global, runtime: &'a R) -> Self
         ensures { result ≡ [] }
@@ -134,7 +134,7 @@ impl<'a, R: Print> Model for HostSink<'a, R> {
 }
 
 impl<'a, R: Print> HostSink<'a, R> {
-    /// The standard output of the machine that `runtime` stands for.
+    /// Makes the standard output of the machine, which `runtime` gives access to.
     pub fn new(runtime: &'a R) -> Self
         ensures { result ≡ 0 }
     {

@@ -1,5 +1,5 @@
-//! The outside of a program: named files, an output and an input, as three traits whose contracts say what each call may
-//! do, and their implementations.
+//! The outside of a program: named files, an output and an input, as three traits whose contracts say what each call
+//! may do, and their implementations.
 //!
 //! A program is generic over those that it needs, and its caller picks:
 //!
@@ -14,29 +14,29 @@
 //!
 //! | What it is | Files | Sink |
 //! |---|---|---|
-//! | the machine's; tells no content | `HostFiles` | `HostSink` |
-//! | in memory, with the numbers of the calls that are to fail; tells its content | `MemFiles` | `MemSink` |
-//! | in memory, fails no call; tells its content | `SureFiles` | `SureSink` |
+//! | the machine's; their content is not known | `HostFiles` | `HostSink` |
+//! | in memory, with the numbers of the calls that are to fail; their content is known | `MemFiles` | `MemSink` |
+//! | in memory, fails no call; their content is known | `SureFiles` | `SureSink` |
 //!
 //! | What it is | Input |
 //! |---|---|
-//! | the lines of a reader, as of the machine's standard input; tells them where the reader tells its bytes | `ReaderInput` |
-//! | in memory, with the numbers of the lines that can't be read; tells its lines | `MemInput` |
+//! | the lines of a reader, as of standard input; they are known where the reader's bytes are | `ReaderInput` |
+//! | in memory, with the numbers of the lines that can't be read; they are known | `MemInput` |
 //!
 //! Contracts see files as two values: `holds`, a finite map from the bytes of a name to the bytes of its file, where
-//! that is told, and `faults`, a list of entries. They see a sink as `written`, the bytes taken, where that is told,
-//! and `faults`, a count. They see an input as `lines`, those to come, where that is told, `given`, a count, and
-//! `missed`, which has for each read that failed how many lines were given before it.
+//! that is known, and `faults`, a list of entries. They see a sink as `written`, the bytes taken, where that is known,
+//! and `faults`, a count. They see an input as `lines`, those still to be given, where they are known, `given`, a
+//! count, and `missed`, which has for each read that failed how many lines were given before it.
 //!
 //! What every implementation keeps:
 //!
 //! - A read or a write answers `Failed` exactly where it adds one entry, of its own kind and name, at the end of
 //!   `faults`. So no failed call of one name excuses another.
-//! - A read leaves `holds` as it was, a write all names but its own. What is told once is told from then on.
+//! - A read leaves `holds` as it was, a write all names but its own. What is known once is known from then on.
 //! - A put answers `Failed` only where the count rose in that call, and nothing is then taken. The count never falls;
 //!   at the last value of a `u64` it counts as risen.
-//! - A read of a line answers `Failed` exactly where it adds one entry at the end of `missed`. A line that is too long is
-//!   given in part, and the rest of it is passed over.
+//! - A read of a line answers `Failed` exactly where it adds one entry at the end of `missed`. A line that is too long
+//!   is given in part, and the rest of it is passed over.
 //! - `Memory` says that memory ran out, and nothing else: no entry is added and nothing is taken.
 #![tactic(auto)]
 

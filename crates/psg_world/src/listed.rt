@@ -32,7 +32,7 @@ impl Model for MemInput {
 }
 
 impl MemInput {
-    /// An input that gives these lines. They are numbered from 1, and the end has the number after
+    /// Makes an input that gives these lines. They are numbered from 1, and the end has the number after
     /// the last; `failing` has the numbers of those that can't be read. Takes no memory; `alloc`
     /// keeps the entries of the reads that fail.
     pub fn new(alloc: Global, lines: Vec<Vec<u8>>, failing: Vec<u64>) -> Self

@@ -1,5 +1,6 @@
 // Files and a sink in memory, with calls that are to fail.
-ghost use Rattle.std.specs.Prelude.{◌≡◌, ◌+◌, ◌<◌, ◌≤◌, ◌↔◌, [], ◌++◌, false, if◌then◌else◌, length, vec_len, Some, IsTrue, IfOk, OnOk, OnErr, IsErrOf, is_ok};
+ghost use Rattle.std.specs.Prelude.{◌≡◌, ◌+◌, ◌<◌, ◌≤◌, ◌↔◌, [], ◌++◌, false, if◌then◌else◌, length, vec_len, Some};
+ghost use Rattle.std.specs.Prelude.{IsTrue, IfOk, OnOk, OnErr, IsErrOf, is_ok};
 ghost use Rattle.std.specs.Option.{option_copied};
 ghost use Rattle.std.specs.FinMap as map;
 ghost use Rattle.psg_world.specs.Files.{bytes_of, front_of, entries_after_read, entries_after_write, AgreesOutside};
@@ -13,7 +14,7 @@ use crate::world::{Files, ReadStop, Sink, WriteStop};
 use std::alloc::Global;
 use std::marker::Model;
 
-/// Files in memory, of which some calls are to fail. A name that isn't there can't be read.
+/// A set of files in memory, of which some calls are to fail. A name that isn't there can't be read.
 #[derive(Drop)]
 pub struct MemFiles {
     alloc: Global,
@@ -55,7 +56,7 @@ impl MemFiles {
         }
     }
 
-    /// The bytes of the file `name`, or `None` exactly where it isn't there. Takes no memory, and
+    /// Returns the bytes of the file `name`, or `None` exactly where it isn't there. Takes no memory, and
     /// is no call that is counted. A walk over the files.
     pub fn held(&self, name: &str) -> Option<&[u8]>
         ensures { option_copied result ≡ map.get self.now.held name.now }
@@ -137,7 +138,7 @@ impl Model for MemSink {
 }
 
 impl MemSink {
-    /// An empty sink. Puts are numbered from 1; `failing` has the numbers of those that are to
+    /// Makes an empty sink. Puts are numbered from 1; `failing` has the numbers of those that are to
     /// fail. Takes no memory; `alloc` keeps what the sink takes later.
     pub fn new(alloc: Global, failing: Vec<u64>) -> Self
         ensures written { result.written ≡ [] }
@@ -152,7 +153,7 @@ impl MemSink {
         }
     }
 
-    /// All bytes taken so far. Takes no memory.
+    /// Returns all bytes taken so far. Takes no memory.
     pub fn written(&self) -> &[u8]
         ensures { result.now ≡ self.now.written }
     {

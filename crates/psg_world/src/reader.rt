@@ -8,8 +8,8 @@ use crate::world::ReadStop;
 use std::alloc::Global;
 use std::io::{ErrorKind, Read};
 
-/// The lines of a reader's bytes. Where the bytes are told, the lines are told too; of the machine's
-/// standard input they aren't. No byte behind the line that is given is read.
+/// The lines of a reader's bytes. Where the bytes are known, the lines are known too; of the machine's
+/// standard input they aren't. No byte after the line that is given is read.
 #[derive(Drop)]
 pub struct ReaderInput<S: Read + Drop> {
     source: S,
@@ -17,7 +17,7 @@ pub struct ReaderInput<S: Read + Drop> {
 }
 
 impl<S: Read + Drop> ReaderInput<S> {
-    /// The lines that `source` gives. Takes no memory; `alloc` keeps the entries of the reads that
+    /// Makes the input of the lines that `source` gives. Takes no memory; `alloc` keeps the entries of the reads that
     /// fail.
     pub fn new(alloc: Global, source: S) -> Self
         ensures source { result.source ≡ source }

@@ -9,7 +9,7 @@ ghost use Rattle.psg_world.specs.Places.{IsAbsent, IsPlaceOf};
 use std::alloc::{AllocError, Global};
 use std::marker::Model;
 
-// Names and bytes. Of two files of one name the first one counts.
+/// A set of named files with their bytes. Of two files of one name the first one counts.
 #[derive(Drop)]
 pub struct Store {
     files: Vec<(String, Vec<u8>)>,
@@ -27,13 +27,14 @@ impl Model for Store {
 }
 
 impl Store {
+    /// Makes a store of these files, each a name and its bytes.
     pub fn new(files: Vec<(String, Vec<u8>)>) -> Self
         ensures { result ≡ held_of files.items }
     {
         Self { files }
     }
 
-    // The bytes of a name. A walk over the files.
+    /// Returns the bytes of the file `name`, or `None` where it isn't there. It takes a walk over the files.
     pub fn get(&self, name: &str) -> Option<&[u8]>
         ensures { option_copied result ≡ map.get self.now name.now }
     {
@@ -43,7 +44,8 @@ impl Store {
         }
     }
 
-    // Makes `bytes` the whole of the file `name`. A walk over the files.
+    /// Makes `bytes` the whole of the file `name`. Where memory runs out, no file has changed. It takes a walk over the
+    /// files.
     pub fn set(&mut self, alloc: Global, name: &str, bytes: &[u8]) -> Result<(), AllocError>
         ensures ok { OnOk result (self.new ≡ map.insert self.old name.now bytes.now) }
         ensures others { AgreesOutside name.now self.old self.new }
@@ -71,7 +73,7 @@ fn position(files: &[(String, Vec<u8>)], name: &str) -> Option<usize>
     None
 }
 
-// A copy of the bytes, or of the first `limit + 1` where there are more than `limit`.
+/// Returns a copy of the bytes, or of the first `limit + 1` where there are more than `limit`.
 pub fn copy_front(alloc: Global, bytes: &[u8], limit: usize) -> Result<Vec<u8>, AllocError>
     ensures { IfOk result (λ front. front.items ≡ front_of limit bytes.now) }
 {

@@ -1,5 +1,6 @@
 // Files and a sink in memory that never fail.
-ghost use Rattle.std.specs.Prelude.{◌≡◌, ◌+◌, ◌<◌, ◌≤◌, [], ◌++◌, if◌then◌else◌, length, vec_len, Some, IfOk, OnOk, OnErr, IsOkUnless, is_ok};
+ghost use Rattle.std.specs.Prelude.{◌≡◌, ◌+◌, ◌<◌, ◌≤◌, [], ◌++◌, if◌then◌else◌, length, vec_len, Some, IfOk, OnOk};
+ghost use Rattle.std.specs.Prelude.{OnErr, IsOkUnless, is_ok};
 ghost use Rattle.std.specs.Option.{option_copied};
 ghost use Rattle.std.specs.FinMap as map;
 ghost use Rattle.psg_world.specs.Files.{AgreesOutside, bytes_of, front_of};
@@ -10,7 +11,7 @@ use crate::world::{Files, ReadStop, Sink, WriteStop};
 use std::alloc::Global;
 use std::marker::Model;
 
-/// Files in memory that fail no call: a name that isn't there is read as an empty file.
+/// A set of files in memory that fails no call: a name that isn't there is read as an empty file.
 #[derive(Drop)]
 pub struct SureFiles {
     alloc: Global,
@@ -39,7 +40,7 @@ impl SureFiles {
         }
     }
 
-    /// The bytes of the file `name`, or `None` exactly where it isn't there. Takes no memory. A
+    /// Returns the bytes of the file `name`, or `None` exactly where it isn't there. Takes no memory. A
     /// walk over the files.
     pub fn held(&self, name: &str) -> Option<&[u8]>
         ensures { option_copied result ≡ map.get self.now name.now }
@@ -53,7 +54,7 @@ impl Files for SureFiles {
 
     ghost faults = { λ _. [] };
 
-    /// Reads a name that isn't there as an empty file. The only error is want of memory. A walk
+    /// Reads a name that isn't there as an empty file. The only error is that of running out of memory. A walk
     /// over the files.
     fn read(&mut self, alloc: Global, name: &str, limit: usize) -> Result<Vec<u8>, ReadStop>
         ensures front { IfOk result
@@ -66,7 +67,7 @@ impl Files for SureFiles {
         Ok(copy_front(alloc, bytes, limit)?)
     }
 
-    /// The only error is want of memory, and no file has then changed. A walk over the files.
+    /// The only error is that of running out of memory, and no file has then changed. A walk over the files.
     fn write(&mut self, _alloc: Global, name: &str, bytes: &[u8]) -> Result<(), WriteStop>
         ensures replaces { OnOk result (self.new ≡ map.insert self.old name.now bytes.now) }
         ensures others { AgreesOutside name.now self.old self.new }
@@ -93,7 +94,7 @@ impl Model for SureSink {
 }
 
 impl SureSink {
-    /// An empty sink. Takes no memory; `alloc` keeps what the sink takes later.
+    /// Makes an empty sink. Takes no memory; `alloc` keeps what the sink takes later.
     pub fn new(alloc: Global) -> Self
         ensures { result ≡ [] }
     {
@@ -102,7 +103,7 @@ impl SureSink {
         }
     }
 
-    /// All bytes taken so far. Takes no memory.
+    /// Returns all bytes taken so far. Takes no memory.
     pub fn written(&self) -> &[u8]
         ensures { result.now ≡ self.now }
     {
@@ -115,7 +116,7 @@ impl Sink for SureSink {
 
     ghost faults = { λ _. 0 };
 
-    /// Takes the whole piece. The only error is want of memory. A walk over the piece.
+    /// Takes the whole piece. The only error is that of running out of memory. A walk over the piece.
     fn put(&mut self, _alloc: Global, bytes: &[u8]) -> Result<usize, WriteStop>
         requires { 0 < length bytes.now }
         ensures whole { IfOk result (λ count. count ≡ length bytes.now) }

@@ -4,13 +4,14 @@ ghost use Rattle.std.specs.Option.{option_map};
 ghost use Rattle.std.specs.FinMap as map;
 ghost use Rattle.psg_world.specs.declared.world.ReadStop.TheVariants as read_stops;
 ghost use Rattle.psg_world.specs.declared.world.WriteStop.TheVariants as write_stops;
-ghost use Rattle.psg_world.specs.Files.{Held, Entry, bytes_of, front_of, entries_after_read, entries_after_write, OthersStand};
+ghost use Rattle.psg_world.specs.Files.{Held, Entry, bytes_of, front_of, entries_after_read};
+ghost use Rattle.psg_world.specs.Files.{entries_after_write, OthersStand};
 ghost use Rattle.psg_world.specs.Sinks.{HasRisen, written_after_put};
 
 use std::alloc::{AllocError, AllocFailed, Global};
 use thiserror::Error;
 
-/// Why a read gave no bytes.
+/// The reason why a read gave no bytes.
 #[derive(Clone, Copy, Debug, PartialEq, Eq, Error)]
 pub enum ReadStop {
     /// The file could not be read; the files keep an entry of this call.
@@ -37,7 +38,7 @@ impl<T: Drop> From<AllocFailed<T>> for ReadStop {
     }
 }
 
-/// Why a write or a put was not done.
+/// The reason why a write or a put was not done.
 #[derive(Clone, Copy, Debug, PartialEq, Eq, Error)]
 pub enum WriteStop {
     /// The file or the output refused the bytes; the files keep an entry of this call, the sink counts it.
@@ -64,9 +65,9 @@ impl<T: Drop> From<AllocFailed<T>> for WriteStop {
     }
 }
 
-/// Named files. A name is text; what a call keeps of it are its bytes.
+/// A set of named files. A name is text; what a call keeps of it are its bytes.
 pub trait Files {
-    // the bytes of each file by its name, where that is told
+    // the bytes of each file by its name, where that is known
     ghost holds: { Self → Option Held };
 
     // the calls that failed, the first one first
@@ -84,7 +85,7 @@ pub trait Files {
         ensures entries { faults self.new ≡ entries_after_read (faults self.old) name.now result };
 
     /// Makes `bytes` the whole of the file `name`, which is made where it isn't there. After an
-    /// `Err` nothing is known of this file; the others stand in any case. `Failed` adds an entry
+    /// `Err` nothing is known of this file; the others are unchanged in any case. `Failed` adds an entry
     /// of this write to the faults, `Memory` adds none.
     fn write(&mut self, alloc: Global, name: &str, bytes: &[u8]) -> Result<(), WriteStop>
         ensures replaces { OnOk result (holds self.new
@@ -93,9 +94,9 @@ pub trait Files {
         ensures entries { faults self.new ≡ entries_after_write (faults self.old) name.now result };
 }
 
-/// Output, taken piece by piece.
+/// An output, taken piece by piece.
 pub trait Sink {
-    // all bytes taken, where that is told
+    // all bytes taken, where that is known
     ghost written: { Self → Option (List ℕ) };
 
     // how often a put failed

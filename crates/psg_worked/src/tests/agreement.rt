@@ -20,8 +20,8 @@ use std::alloc::{AllocError, Global};
 use std::process::Abort;
 use std::test::Fail;
 
-/// Trees that are compared: so many of each kind, each from a text with so many choices. All values and entities up to a
-/// depth are compared, where not too many names have their entities inside the tree.
+/// The trees that are compared: a number of each kind, each from a text with a number of choices. All values and
+/// entities up to a depth are compared, where not too many names have their entities inside the tree.
 #[derive(Clone, Copy)]
 struct Trial<'a> {
     language: &'a str,
@@ -211,7 +211,8 @@ fn all_agree<'a>(
     Ok(counts)
 }
 
-/// Compares trees of each kind, and sees that good and wrong ones are among them, and that there was something to compare.
+/// Compares trees of each kind, and sees that good and wrong ones are among them, and that there was something to
+/// compare.
 fn trees_agree(rt: &impl Abort, alloc: Global, trial: Trial) -> Result<(), Fail> {
     let definition = accepted(alloc, trial.language)?;
     let signature = &definition.signature;

@@ -51,8 +51,8 @@ pub(super) struct Region {
     pub(super) unfinished: Vec<u32>,
 }
 
-/// A tree: its sites, children before those above them, the positions of names, and the regions. The first region is the
-/// outermost one.
+/// A tree: its sites, children before those above them, the positions of names, and the regions. The first region is
+/// the outermost one.
 #[derive(Drop)]
 pub(super) struct Flat {
     pub(super) sites: Vec<Site>,
@@ -235,7 +235,7 @@ fn put_operator(
     flat.put_site(rows, columns)
 }
 
-/// Puts the end of a list, and each element with the rest behind it, from the last to the first.
+/// Puts the end of a list, and each element with the rest after it, from the last to the first.
 #[cycle(flat)]
 fn put_list(
     alloc: Global,

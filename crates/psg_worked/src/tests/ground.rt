@@ -90,7 +90,7 @@ struct Variable {
     number: u32,
 }
 
-/// Puts the variables of the term behind the others, each once.
+/// Puts the variables of the term after the others, each once.
 fn put_variables(term: &Term, variables: &mut Vec<Variable>, deep: u32) -> Result<(), AllocError> {
     if deep == 0 {
         return Err(AllocError);

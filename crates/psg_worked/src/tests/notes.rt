@@ -60,7 +60,7 @@ fn told(alloc: Global, note: &Note) -> Result<String, AllocError> {
     Ok(text)
 }
 
-/// What the note of the tree tells.
+/// What the note of the tree says.
 fn told_of(alloc: Global, definition: &Definition, tree: &Tree) -> Result<String, AllocError>
     requires sound { IsSound definition.now }
     requires formed { IsFormed definition.now tree.now }

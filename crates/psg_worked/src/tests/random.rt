@@ -31,8 +31,8 @@ impl Random {
     }
 }
 
-/// For each name the pieces that may stand in its place, in each way. The first way ends. A piece that is no name stands
-/// for itself.
+/// For each name the pieces that may be put in its place, in each way. The first way ends. A piece that is no name is
+/// put as it is.
 pub(super) type Rules<'a> = &'a [(&'a str, &'a [&'a [&'a str]])];
 
 fn ways<'a>(rules: Rules<'a>, piece: &str) -> Option<&'a [&'a [&'a str]]> {
@@ -44,7 +44,8 @@ fn ways<'a>(rules: Rules<'a>, piece: &str) -> Option<&'a [&'a [&'a str]]> {
     None
 }
 
-/// A text that stands for the name. So many names are replaced at random, and then each one by its first way.
+/// A text that the name is replaced by. The given number of names are replaced at random, and then each one by its
+/// first way.
 pub(super) fn text<'a>(
     alloc: Global,
     random: &mut Random,

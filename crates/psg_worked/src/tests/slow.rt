@@ -34,7 +34,7 @@ struct Tried<'a> {
     entities: &'a [Term],
 }
 
-/// Sites are nested less deep, the rests of lists included. Where they are not, the answer is want of memory.
+/// Sites are nested less deep, the rests of lists included. Where they are not, the answer is out of memory.
 const MOST_DEEP: u32 = 64;
 
 fn is_declared(flat: &Flat, region: usize, space: u32, name: &Txt) -> bool {
@@ -204,7 +204,7 @@ impl Judge {
         self.outer_sorts.as_slice()
     }
 
-    /// Whether the header has each name of the outermost region and no other, in order, and tells which are declared,
+    /// Whether the header has each name of the outermost region and no other, in order, and says which are declared,
     /// whether one is declared twice, and where more may be declared.
     pub(super) fn has_header(&self, header: &Header) -> bool {
         let Some(region) = self.flat.regions.first() else {
@@ -233,9 +233,9 @@ impl Judge {
         true
     }
 
-    /// Whether the tree has the value under the entities of the outermost names, with some of the terms for variables of
-    /// rows and some of the inner ones as entities of the other names. It never says so wrongly; it may miss what takes
-    /// deeper terms.
+    /// Whether the tree has the value under the entities of the outermost names, with some of the terms for variables
+    /// of rows and some of the inner ones as entities of the other names. It never says so wrongly; it may miss what
+    /// takes deeper terms.
     pub(super) fn is_possible(
         &self,
         alloc: Global,

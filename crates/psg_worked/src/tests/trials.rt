@@ -1,7 +1,7 @@
 //! Languages of trees at random, and what their texts are made of.
 use super::random::Rules;
 
-/// Operators whose values have variables, several rows, a variable that stands twice, and rows that can only fit by a
+/// Operators whose values have variables, several rows, a variable that is there twice, and rows that can only fit by a
 /// term that contains itself. Each variable of a row is of its head or has one of two terms, so no choice is left out.
 pub(super) const TERMS: &str = "psg 1
 sort Bit = a b
@@ -54,8 +54,8 @@ hole Count int by one
 hole Count list(?T) by each(nil)
 ";
 
-/// Names that are declared in regions of their own, by scope operators with names and by lists that may go on. Each entity
-/// is one of two terms.
+/// Names that are declared in regions of their own, by scope operators with names and by lists that may go on. Each
+/// entity is one of two terms.
 pub(super) const SCOPES: &str = "psg 1
 sort Unit = ok
 sort Type = int bool

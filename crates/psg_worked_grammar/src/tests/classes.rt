@@ -9,7 +9,8 @@ use std::alloc::{AllocError, Global};
 use std::process::Abort;
 use std::test::Fail;
 
-/// Sums that bind to the left at 4, in brackets or without, the level and the word of differences, and what the check says.
+/// Sums that bind to the left at 4, in brackets or without, the level and the word of differences, and what the check
+/// says.
 const SUMS: &[(&str, &str, &str, &str)] = &[
     // differences bind like sums, or at a level of their own
     (" bracketed", "infixl 4", "-", "accepted"),

@@ -28,8 +28,8 @@ pub(super) fn definition(alloc: Global, text: &str) -> Result<Definition, AllocE
     }
 }
 
-/// Expressions with operators of each form, lists of them, and statements that declare. Differences have this level, and
-/// lists are `unfinished` or `fixed`.
+/// Expressions with operators of each form, lists of them, and statements that declare. Differences have this level,
+/// and lists are `unfinished` or `fixed`.
 fn spelled(alloc: Global, minus: &str, ends: &str) -> Result<String, AllocError> {
     Ok(format!(in alloc;
         "psg 1

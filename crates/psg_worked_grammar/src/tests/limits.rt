@@ -10,7 +10,7 @@ use psg_parse::{Goal, ParseFault};
 use std::alloc::{AllocError, Global};
 use std::test::Fail;
 
-/// A text in parts, of which the first and the last are repeated, and how many pairs of brackets are round it already.
+/// A text in parts, of which the first and the last are repeated, and how many pairs of brackets are around it already.
 #[derive(Clone, Copy)]
 struct Nested<'a> {
     around: u32,
@@ -20,7 +20,8 @@ struct Nested<'a> {
     back: &'a str,
 }
 
-/// The brackets round a text, a front so many times, the middle and a back as often, and whether that is read.
+/// The brackets around a text, a front the given number of times, the middle and a back as often, and whether that is
+/// read.
 const ROWS: &[(u32, &str, usize, &str, &str, &str)] = &[
     // brackets nest to 400
     (0, "(", 400, "1", ")", "read"),

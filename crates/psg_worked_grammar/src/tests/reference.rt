@@ -147,7 +147,7 @@ fn agrees(
     Ok(())
 }
 
-/// The list of so many letters that has the digits of the number.
+/// The list of the given number of letters that has the digits of the number.
 fn letters_of(alloc: Global, number: u64, count: usize) -> Result<Vec<u8>, AllocError> {
     let mut letters = Vec::new(alloc);
     let mut left = number;

@@ -29,7 +29,7 @@ fn number(word: &str) -> Result<u32, AllocError> {
     }
 }
 
-/// So many parts from the end of a list, the last one first.
+/// The given number of parts from the end of a list, the last one first.
 fn taken(alloc: Global, stack: &mut Vec<Part>, count: u32) -> Result<Vec<Part>, AllocError> {
     let mut parts = Vec::new(alloc);
     for _ in 0..count {
@@ -50,8 +50,8 @@ fn subtrees(alloc: Global, parts: &[Part]) -> Result<Vec<Tree>, AllocError> {
     Ok(trees)
 }
 
-/// The operator of the number over so many parts, as `0/2`, or the list of a kind and so many elements, as `[1:2` or
-/// `[1:2..`, over what is taken from the end of a list of parts.
+/// The operator of the number over a number of parts, as `0/2`, or the list of a kind and a number of elements, as
+/// `[1:2` or `[1:2..`, over what is taken from the end of a list of parts.
 fn node(alloc: Global, word: &str, stack: &mut Vec<Part>) -> Result<Tree, AllocError> {
     if let Some((op, count)) = word.split_once('/') {
         let op = number(op)?;

@@ -46,7 +46,8 @@ const ROWS: &[Row<'static>] = &[
     (&[5], ("kept f\n", "fetched f\n"), Some(OUT)),
 ];
 
-/// The run's own files, which a command reads too, with a script and its output where call 3 fails and where it does not.
+/// The run's own files, which a command reads too, with a script and its output where call 3 fails and where it does
+/// not.
 const OWN: &[(&str, &str, &str)] = &[
     (
         "fetch lang\nshow\n",
@@ -174,7 +175,7 @@ fn a_failed_read_by_a_command_ends_no_run(rt: HostRuntime) -> Result<(), Fail> {
     Ok(())
 }
 
-/// A kept fragment with so many bytes, most of them blanks.
+/// A kept fragment with the given number of bytes, most of them blanks.
 fn padded(alloc: Global, length: usize) -> Result<Vec<u8>, AllocError> {
     let mut bytes = Vec::from_slice(alloc, b"fragment 2 f Exp\n1")?;
     for _ in bytes.len()..length {
@@ -183,7 +184,7 @@ fn padded(alloc: Global, length: usize) -> Result<Vec<u8>, AllocError> {
     Ok(bytes)
 }
 
-/// A kept list of so many elements.
+/// A kept list of the given number of elements.
 fn long_list(alloc: Global, count: usize) -> Result<Vec<u8>, AllocError> {
     let mut bytes = Vec::from_slice(alloc, b"fragment 2 f Args\n1")?;
     for _ in 1..count {
@@ -226,7 +227,7 @@ hole Exp ok by str(\"\")
 hole Exps ok by []
 ";
 
-/// A script that saves and keeps a list of so many texts of 4,092 letters, and a last one of so many.
+/// A script that saves and keeps a list of a number of texts of 4,092 letters, and a last one of a number of letters.
 fn texts(alloc: Global, count: usize, last: usize) -> Result<Vec<u8>, AllocError> {
     let mut script = Vec::from_slice(alloc, b"new Exps\nover / ")?;
     for _ in 0..count {
@@ -246,8 +247,8 @@ fn texts(alloc: Global, count: usize, last: usize) -> Result<Vec<u8>, AllocError
 
 #[test]
 fn a_kept_fragment_has_a_byte_too_many(rt: HostRuntime) -> Result<(), Fail> {
-    // 18 bytes of the head line, 63 texts of 4,096 bytes with their quotes, comma and space, and the last with its quotes
-    // and a line feed
+    // 18 bytes of the head line, 63 texts of 4,096 bytes with their quotes, comma and space, and the last with its
+    // quotes and a line feed
     for (last, reply) in [(4_075, "kept f\n"), (4_076, "refused 8\n")] {
         let script = texts(rt.alloc(), 63, last)?;
         let run = play(rt.alloc(), (TEXTS, script.as_slice()), b"", NONE)?;

@@ -24,7 +24,7 @@ fn filled(alloc: Global, text: &str, length: usize) -> Result<Vec<u8>, AllocErro
     Ok(bytes)
 }
 
-/// A sum in the left part of a sum, so many times, and what is answered.
+/// A sum in the left part of a sum, the given number of times, and what is answered.
 fn deep(alloc: Global, count: usize, last: &str) -> Result<(String, String), AllocError> {
     let mut script = String::from_str(alloc, "new Exp\n")?;
     let mut output = String::from_str(alloc, "ok\n")?;
@@ -39,7 +39,7 @@ fn deep(alloc: Global, count: usize, last: &str) -> Result<(String, String), All
     Ok((script, output))
 }
 
-/// So many constants, as arguments.
+/// The given number of constants, as arguments.
 fn arguments(text: &mut String, piece: &str, count: usize) -> Result<(), AllocError> {
     for i in 0..count {
         if i > 0 {
@@ -75,8 +75,8 @@ fn boxed(text: &mut String, shorter: usize) -> Result<(), AllocError> {
     Ok(())
 }
 
-/// A language whose one placeholder has two values of 8,192 constructors, or one of them one more. Each operator has one
-/// of the values.
+/// A language whose one placeholder has two values of 8,192 constructors, or one of them one more. Each operator has
+/// one of the values.
 fn boxes(alloc: Global, full: bool) -> Result<String, AllocError> {
     let mut text = String::from_str(alloc, "psg 1\nsort Bit = a b\nsort Line = ")?;
     applied(&mut text, "r", "Bit", 127)?;

@@ -1,4 +1,4 @@
-//! Commands that come line by line: an input that ends, fails, or has a line that is too long.
+//! Commands that are read line by line: an input that ends, fails, or has a line that is too long.
 use super::{Run, ends, files, run_on};
 use psg_langs::CONSTS;
 use psg_run::Status;

@@ -1,6 +1,6 @@
 //! The lines of definition files, written in their only layout.
 use super::repeated;
-use psg_deflines::{Line, ReadFault, fault_text, line_text, read_lines};
+use psg_deflines::{FileLines, Line, ReadFault, fault_text, line_text, read_lines};
 use std::alloc::{AllocError, Global};
 use std::fmt::Write;
 use std::process::Abort;
@@ -12,6 +12,20 @@ const FILES: &[(&str, &str)] = &[
     ("psg 1\r\nentity Ent\r\n", "/entity Ent"),
     ("psg 1\nentity Ent", "/entity Ent"),
     ("psg 1\n\n# a comment\nentity Ent\n", "///entity Ent"),
+    ("psg 2\nspace s:Ent", "/space s : Ent"),
+    ("psg 2\nentity Ent", "line 2 code 2"),
+    ("psg 1\nspace s : Ent", "line 2 code 2"),
+    (
+        "psg 2\nop o:E=refers declares@lab",
+        "/op o : E = refers declares@lab",
+    ),
+    ("psg 2\nop o : E = refers @lab", "line 2 code 2"),
+    ("psg 1\nop o : E = refers@lab", "line 2 code 2"),
+    ("psg 2\ndeclare@s L a:b by c", "/declare@s L a : b by c"),
+    ("psg 2\ndeclare L a : b by c", "line 2 code 2"),
+    ("psg 1\ndeclare@s L a : b by c", "line 2 code 2"),
+    ("psg  2", ""),
+    ("psg 3", "line 1 code 3"),
 ];
 
 /// Sorts, entities, phyla and lists.
@@ -120,8 +134,8 @@ const LITERALS: &[(&str, &str)] = &[
     ),
 ];
 
-/// A second line in parts: a front, an opening so many times, the inside, a closing as often, and an end; and the text of
-/// the line by its length, or the fault.
+/// A second line in parts: a front, an opening the given number of times, the inside, a closing as often, and an end;
+/// and the text of the line by its length, or the fault.
 const DEEP: &[(&str, &str, &str, &str, &str, usize, &str)] = &[
     ("entity E", "a", "", "", "\n", 100_000, "line 2 code 2"),
     // a variable's name may have any length
@@ -167,8 +181,8 @@ const DEEP: &[(&str, &str, &str, &str, &str, usize, &str)] = &[
         50_000,
         "line 2 code 11",
     ),
-    // the term of a hole place is measured by itself: 12 bytes for `hole E ?T by`, 11 for ` hole ( E ,`, 31 times 4 and 2,
-    // 2 for ` x` and 2 for ` )`
+    // the term of a hole place is measured by itself: 12 bytes for `hole E ?T by`, 11 for ` hole ( E ,`, 31 times 4 and
+    // 2, 2 for ` x` and 2 for ` )`
     (
         "hole E ?T by hole(E,",
         "f(",
@@ -208,16 +222,13 @@ const DEEP: &[(&str, &str, &str, &str, &str, usize, &str)] = &[
 ];
 
 /// The texts of the lines, each after a stroke, or the fault. A text above a hundred bytes is shown by its length.
-fn shown(
-    alloc: Global,
-    outcome: Result<Vec<Option<Line>>, ReadFault>,
-) -> Result<String, AllocError> {
+fn shown(alloc: Global, outcome: Result<FileLines, ReadFault>) -> Result<String, AllocError> {
     let mut out = String::new(alloc);
     match outcome {
         Err(ReadFault::Memory) => out.push_str("memory")?,
         Err(ReadFault::Def(fault)) => out.push_str(fault_text(alloc, &fault)?.as_str())?,
-        Ok(entries) => {
-            for entry in &entries {
+        Ok(found) => {
+            for entry in &found.entries {
                 out.push_str("/")?;
                 if let Some(line) = entry {
                     show(alloc, &mut out, line)?;

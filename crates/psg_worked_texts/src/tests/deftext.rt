@@ -52,11 +52,46 @@ case ?1 by [ leaf , hole ( Ex , ?2 ) ]
 declare Es ?1 : ?2 by def ( $it , hole ( Ex , ?2 ) )
 ";
 
+/// A definition of version 2 with two spaces; the name of the first one is left out.
+const SPACES: &str = "psg 2
+declare@lab Is ok:ok by m($it)
+op m:I=\"m\"declares@lab
+row ok:ok
+op r:E=refers
+row ?T:?T
+space val:Ty
+space lab:U
+sort U=ok
+sort Ty=int bool
+list Is:U of I\";\"lines unfinished
+phylum E:Ty
+phylum I:U
+";
+
+/// How it is written.
+const SPACES_WRITTEN: &str = "psg 2
+sort U = ok
+sort Ty = int bool
+space val : Ty
+space lab : U
+phylum E : Ty
+phylum I : U
+list Is : U of I \";\" lines unfinished
+op m : I = \"m\" declares@lab
+row ok : ok
+op r : E = refers@val
+row ?1 : ?1
+declare@lab Is ok : ok by m ( $it )
+";
+
 /// Definitions, and how they are written.
 const DEFINITIONS: &[(&str, &str)] = &[
     (SPELLED, WRITTEN),
     (WRITTEN, WRITTEN),
     ("psg 1", "psg 1\n"),
+    (SPACES, SPACES_WRITTEN),
+    (SPACES_WRITTEN, SPACES_WRITTEN),
+    ("psg 2", "psg 2\n"),
 ];
 
 /// The text of the definition that a text spells.

@@ -118,7 +118,7 @@ const BEYOND_ASCII: &[(&str, &str)] = &[
     ("\u{3000}", "BadChar(0)"),
 ];
 
-/// A unit so many times between a front and an end: the longest tokens, and those that are too long.
+/// A unit the given number of times between a front and an end: the longest tokens, and those that are too long.
 const LIMITS: &[((&str, &str, usize, &str), &str)] = &[
     (
         ("x ", "a", 255, " y"),

@@ -121,7 +121,7 @@ const REFUSED: &[&str] = &[
     "fetch a b",
 ];
 
-/// A front and so many letters `a`, and whether that is a command.
+/// A front and a number of letters `a`, and whether that is a command.
 const LONG: &[(&str, usize, bool)] = &[
     ("new ", 64, true),
     ("new ", 65, false),
@@ -177,7 +177,7 @@ fn is_answered(
     Ok(())
 }
 
-/// Whether the command tells the names at this place of a node that the operator may have.
+/// Whether the command asks for the names at this place of a node that the operator may have.
 fn is_names(command: &Command, number: u32, name: &str) -> bool {
     match command {
         Command::Names { place, op, .. } => *place == Some(number) && op.as_str() == name,

@@ -20,7 +20,7 @@ fn put_twice(text: &mut String, base: usize, count: usize) -> Result<(), AllocEr
     put_each(text, ("?", " "), base, count)
 }
 
-/// Each of so many columns with the same one of the other row, from the last one on.
+/// Pairs each of the given number of columns with the same column of the other row, from the last one on.
 fn each(alloc: Global, count: usize) -> Result<String, AllocError> {
     let mut pairs = String::new(alloc);
     for i in 0..count {
@@ -65,7 +65,7 @@ fn chains(rt: HostRuntime) -> Result<(), Fail> {
     Ok(())
 }
 
-/// The pairs of rows that are variables of the numbers from 1 on, so many.
+/// The pairs of the given number of rows that are variables of the numbers from 1 on.
 #[derive(Clone, Copy)]
 enum Net {
     /// Each column with itself and with the next one.
@@ -108,7 +108,7 @@ fn long_rows(rt: HostRuntime) -> Result<(), Fail> {
     Ok(())
 }
 
-/// The size of a term of so many nested constructors joined with itself.
+/// The size of a term of the given number of nested constructors, joined with itself.
 fn nested_size(alloc: Global, count: usize) -> Result<u64, AllocError> {
     let mut row = String::new(alloc);
     for _ in 0..count {

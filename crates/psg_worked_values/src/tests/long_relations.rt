@@ -1,10 +1,10 @@
-//! Relations and joins at the limit, and of rows that few others stand for.
+//! Relations and joins at the limit, and of rows that few other rows cover.
 use super::relations::{Joining, joined_sizes, joined_text, relation};
 use super::rows::put_each;
 use std::alloc::{AllocError, Global};
 use std::test::Fail;
 
-/// The constant `int` in each of so many columns.
+/// The constant `int` in each of the columns.
 fn wide_row(alloc: Global, width: usize) -> Result<String, AllocError> {
     let mut text = String::new(alloc);
     for _ in 0..width {
@@ -13,7 +13,7 @@ fn wide_row(alloc: Global, width: usize) -> Result<String, AllocError> {
     Ok(text)
 }
 
-/// The relation of one row of so many columns.
+/// The relation of one row of the given number of columns.
 fn width_told(alloc: Global, width: usize) -> Result<String, AllocError> {
     let row = wide_row(alloc, width)?;
     relation(alloc, (row.as_str(), width))
@@ -57,7 +57,7 @@ fn heavy_row_vanishes(rt: HostRuntime) -> Result<(), Fail> {
     Ok(())
 }
 
-/// So many arrays of arrays of `int`, from no array on, and a variable.
+/// The given number of arrays of arrays of `int`, from no array on, and a variable.
 fn arrays(alloc: Global, count: usize) -> Result<String, AllocError> {
     let mut rows = String::new(alloc);
     for depth in 0..count {
@@ -89,7 +89,7 @@ fn put_digits(text: &mut String, number: u32) -> Result<(), AllocError> {
     text.push_str("int")
 }
 
-/// So many rows with `bool` before different terms, and one with `int` before a variable.
+/// The given number of rows with `bool` before different terms, and one with `int` before a variable.
 fn many_rows(alloc: Global, count: u32) -> Result<String, AllocError> {
     let mut rows = String::from_str(alloc, "int ?1")?;
     for number in 0..count {
@@ -135,7 +135,7 @@ fn heavy_join_vanishes(rt: HostRuntime) -> Result<(), Fail> {
     Ok(())
 }
 
-/// The sizes of the join of one constant in so many columns with one in so many other columns.
+/// The sizes of the join of one constant in a number of columns with one in a number of other columns.
 fn wide_sizes(alloc: Global, left: usize, right: usize) -> Result<(usize, u64), AllocError> {
     let lefts = wide_row(alloc, left)?;
     let rights = wide_row(alloc, right)?;
@@ -175,7 +175,7 @@ fn chain(alloc: Global, count: usize) -> Result<String, AllocError> {
     Ok(text)
 }
 
-/// Each variable of a chain of so many equations with the pair of the one before it.
+/// Each variable of a chain of the given number of equations with the pair of the one before it.
 fn chain_pairs(alloc: Global, count: usize) -> Result<String, AllocError> {
     let mut pairs = String::new(alloc);
     for i in 1..count {
@@ -187,7 +187,7 @@ fn chain_pairs(alloc: Global, count: usize) -> Result<String, AllocError> {
     Ok(pairs)
 }
 
-/// The last pair of a chain of so many equations, and of the row beside it.
+/// The last pair of a chain of the given number of equations, and of the row beside it.
 fn chained(alloc: Global, count: usize) -> Result<String, AllocError> {
     let lefts = chain(alloc, count)?;
     let middles = count.saturating_sub(1);

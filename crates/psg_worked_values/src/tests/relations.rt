@@ -22,7 +22,7 @@ fn all_sorted(sig: &Signature, rows: &[RelRow], sorts: &[SortId]) -> bool
     true
 }
 
-/// Whether the columns are among so many.
+/// Whether the columns are below the number.
 fn within(count: usize, keep: &[usize]) -> bool
     ensures { IsTrue result → All (λ k. k < count) keep.now }
 {
@@ -75,7 +75,7 @@ fn checked(
     Rel::of(alloc, sig, rows)
 }
 
-/// The relation of the rows of a text, of so many columns of `Type`.
+/// The relation of the rows of a text, of the given number of columns of `Type`.
 fn one_side(
     alloc: Global,
     sig: &Signature,
@@ -87,7 +87,7 @@ fn one_side(
     Ok(Side { rel, sorts })
 }
 
-/// The texts of the rows of so many columns of `Type`, each with a bar after it.
+/// The texts of the rows of the given number of columns of `Type`, each with a bar after it.
 fn shown(alloc: Global, sig: &Signature, rel: &Rel, width: usize) -> Result<String, AllocError> {
     let sorts = vec![in alloc; TYPE; width]?;
     let mut text = String::new(alloc);

@@ -65,8 +65,8 @@ fn applied(
     Term::apply(alloc, con, args)
 }
 
-/// The row of words with each constructor before its arguments, as `pair int ?1`. The word `?1` is a variable of `Type`,
-/// `!1` one of `Unit` and `*1` one of `Types`.
+/// The row of words with each constructor before its arguments, as `pair int ?1`. The word `?1` is a variable of
+/// `Type`, `!1` one of `Unit` and `*1` one of `Types`.
 pub(super) fn row_of(alloc: Global, text: &str) -> Result<Vec<Term>, AllocError> {
     let mut stack = Vec::new(alloc);
     for word in text.rsplit(' ') {
@@ -150,7 +150,7 @@ pub(super) fn are_of_equal_sort(left: &[SortId], right: &[SortId], pairs: &[(usi
     true
 }
 
-/// Words of a text, of which each is made of a number from the first one on, so many of them.
+/// Words of a text, as many as given, of which each is made of a number from the first one on.
 pub(super) fn put_each(
     text: &mut String,
     (before, after): (&str, &str),

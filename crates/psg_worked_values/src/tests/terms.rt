@@ -89,7 +89,7 @@ fn instances(rt: HostRuntime) -> Result<(), Fail> {
     Ok(())
 }
 
-// The numbers have 68,894 digits together, before each stands a question mark, and between two a space.
+// The numbers have 68,894 digits together, before each is a question mark, and between two a space.
 #[test]
 fn long_row(rt: HostRuntime) -> Result<(), Fail> {
     let mut row = String::new(rt.alloc());
