@@ -266,4 +266,13 @@ pub record AreParts (width : ℕ) (a : Parts) : Type 0 where
 
 abbrev pub parts_with : Rows → List Shape → List Phylum → List ListKind → List Bool → List ℕ → ℕ → ℕ → Parts
 parts_with rows shapes phyla lists holes separators opening closing =
-    record { rows = rows; shapes = shapes; phyla = phyla; lists = lists; holes = holes; separators = separators; opening = opening; closing = closing }
+    record {
+      rows = rows;
+      shapes = shapes;
+      phyla = phyla;
+      lists = lists;
+      holes = holes;
+      separators = separators;
+      opening = opening;
+      closing = closing;
+    }

@@ -48,7 +48,10 @@ module _ (def : Definition) where
   }
 
   abbrev pub front_spot : Spot → Fragment → Fragment → Spot
-  front_spot s f t = record s { behind = opening (is_bracketed def f t) ++ (row def t ++ (closing (is_bracketed def f t) ++ (words_behind def f ++ s.behind))) }
+  front_spot s f t = record s {
+    behind = opening (is_bracketed def f t)
+        ++ (row def t ++ (closing (is_bracketed def f t) ++ (words_behind def f ++ s.behind)));
+  }
 
   abbrev pub leaf_spot : Spot → Fragment → List ℕ → Spot
   leaf_spot s f t = record s { behind = token t ∷ (words_behind def f ++ s.behind) }

@@ -105,7 +105,11 @@ pub record IsOpened (outer : Option ℕ) (old new : Printer) : Type 0 where
   pub writer : new.writer ≡ record old.writer { first = None }
   pub path : new.path.items ≡ old.path.items
   pub spans : new.spans.items
-      ≡ old.spans.items ++ record { path = old.path.items; start = length (string_bytes old.writer.out); end = length (string_bytes old.writer.out) } ∷ []
+      ≡ old.spans.items ++ record {
+        path = old.path.items;
+        start = length (string_bytes old.writer.out);
+        end = length (string_bytes old.writer.out);
+      } ∷ []
 
 -- the node with the span at the place is ended
 pub record IsClosed (place : ℕ) (outer : Option ℕ) (old new : Printer) : Type 0 where
