@@ -47,7 +47,8 @@ fn judges(
 ) -> Result<(), Fail> {
     for (lines, expected) in rows {
         let text = format!(in alloc;
-            "psg 1\nsort S = s\nphylum P : S{brackets}\nphylum Q : S\nphylum R : S\nlist L : S of P \";\" inline {ends}\nlist M : S of R \",\" inline {ends}\n{lines}"
+            "psg 1\nsort S = s\nphylum P : S{brackets}\nphylum Q : S\nphylum R : S\n\
+            list L : S of P \";\" inline {ends}\nlist M : S of R \",\" inline {ends}\n{lines}"
         )?;
         let said = verdict(alloc, text.as_str())?;
         assert!(rt; said.as_str() == *expected, "{lines}");
@@ -107,7 +108,8 @@ fn levels_without_brackets(rt: HostRuntime) -> Result<(), Fail> {
 fn levels_with_brackets(rt: HostRuntime) -> Result<(), Fail> {
     let rows = [
         (
-            "op x : P = \"x\"\nop a : P infixl 4 = P \"+\" P\nop b : P infixr 4 = P \"&\" P\nop c : P infixl 2 = P \"=\" P\nop d : P infix 2 = P \"<\" P\n",
+            "op x : P = \"x\"\nop a : P infixl 4 = P \"+\" P\nop b : P infixr 4 = P \"&\" P\n\
+            op c : P infixl 2 = P \"=\" P\nop d : P infix 2 = P \"<\" P\n",
             "refused MixedLevel P 2",
         ),
         ("op o : P = \"(\" \"y\" \")\"\n", "refused SameFirst P ("),

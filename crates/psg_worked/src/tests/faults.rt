@@ -41,7 +41,8 @@ fn on_one_line_the_first_test_decides(rt: HostRuntime) -> Result<(), Fail> {
         ),
         // a count before the entity sort
         (
-            "psg 1\nsort T = a b\nphylum P : T\nop x : P = \"x\"\nrow a\nlist L : T of P \",\" inline fixed\ndeclare L a : a by x(x)\n",
+            "psg 1\nsort T = a b\nphylum P : T\nop x : P = \"x\"\nrow a\n\
+            list L : T of P \",\" inline fixed\ndeclare L a : a by x(x)\n",
             "line 7 code 7",
         ),
         // a carriage return is dropped in front of a line feed alone

@@ -107,7 +107,8 @@ fn verdict(alloc: Global, text: &str) -> Result<String, AllocError> {
 fn sums_and_differences(rt: HostRuntime) -> Result<(), Fail> {
     for (brackets, level, word, expected) in SUMS {
         let text = format!(in rt.alloc();
-            "psg 1\nsort Unit = ok\nphylum Exp : Unit{brackets}\nop ex : Exp = \"x\"\nop plus : Exp infixl 4 = Exp \"+\" Exp\nop minus : Exp {level} = Exp \"{word}\" Exp\n"
+            "psg 1\nsort Unit = ok\nphylum Exp : Unit{brackets}\nop ex : Exp = \"x\"\n\
+            op plus : Exp infixl 4 = Exp \"+\" Exp\nop minus : Exp {level} = Exp \"{word}\" Exp\n"
         )?;
         let said = verdict(rt.alloc(), text.as_str())?;
         assert_eq!(rt; said.as_str(), *expected, "{text}");

@@ -123,7 +123,8 @@ fn some_fail(rt: HostRuntime) -> Result<(), Fail> {
             [2, 5],
             "read b 10, read b 10, read b 10, read absent 10, write b new, read b 10, write b new, read b 10",
             "",
-            "bee|the file could not be read|bee|the file could not be read|the bytes could not be written|bee|done|new|",
+            "bee|the file could not be read|bee|the file could not be read|\
+            the bytes could not be written|bee|done|new|",
         ),
     ] {
         let answers = answers_of_some(rt.alloc(), failing.as_slice(), script, names)?;
