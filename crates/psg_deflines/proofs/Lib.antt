@@ -37,3 +37,5 @@ mod TreeStageLaws
 mod TreeWalkLaws
 mod WrittenLaws
 mod LineTextLaws
+mod OnceParts
+mod OnceLines

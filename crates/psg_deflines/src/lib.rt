@@ -17,6 +17,7 @@ mod entries;
 pub mod fault;
 mod forms;
 mod items;
+pub mod laws;
 pub mod lines;
 mod names;
 mod part_writing;
