@@ -1,5 +1,6 @@
 -- Laws of what is kept of the lines above a line.
 use Rattle.std.proofs.Common.{◌≡◌, ℕ, ◌+◌, ◌<◌, ◌||◌, Bool, true, false, List, [], ◌∷◌, ◌++◌, take, get_or, length, refl, ap, sym, ◌∙◌, subst, Option, Some, None, is_some, append_assoc, append-nil}
+use Rattle.std.proofs.lemmas.Bool.{or_parts}
 use Rattle.std.specs.Str.{bytes_eq}
 use Rattle.std.specs.Option.{option_map}
 use Rattle.std.specs.Borrow.{Bor}
@@ -10,12 +11,12 @@ use Rattle.psg_grammar.specs.declared.types.Level.{Level}
 use Rattle.psg_deflines.specs.WrittenTerms.{WrittenTerm}
 use Rattle.psg_deflines.specs.WrittenTrees.{WrittenTree}
 use Rattle.psg_deflines.specs.declared.lines.LineItem.{LineItem}
-use Rattle.psg_terms.proofs.DeclareLaws.{is_among-append, take-next}
 use Rattle.psg_deflines.specs.declared.lines.Line.{Line}
 use Rattle.psg_deflines.specs.declared.lines.Line.TheVariants as lines
-use Rattle.psg_defcheck.specs.Scopes.{sort_names, constructor_names, kind_names, operator_names, names_of, space_names, last_operator, last_hole, OpDecl}
+use Rattle.psg_defcheck.specs.Scopes.{sort_names, constructor_names, kind_names, phylum_names, list_names, operator_names, names_of, space_names, last_operator, last_hole, OpDecl}
 use Rattle.psg_defcheck.specs.Tables.{operator_told, name_told}
-use Rattle.psg_defcheck.specs.NameSets.{has, AreNames}
+use Rattle.psg_defcheck.specs.Meanings.{IsNew}
+use Rattle.psg_defcheck.specs.NameSets.{has, listed, AreNames, AreFresh}
 use Rattle.psg_defcheck.specs.declared.tables.Operator.{Operator}
 use Rattle.psg_defcheck.specs.Aboves.{IsAbove}
 use Rattle.psg_defcheck.specs.declared.names.Names.{Names}
@@ -31,11 +32,15 @@ constructor_names-append [] ys = refl
 constructor_names-append (lines.Sort d ∷ xs) ys = ap (λ q. names_of d.constructors ++ q) (constructor_names-append xs ys) ∙ sym (append_assoc (names_of d.constructors) (constructor_names xs) (constructor_names ys))
 constructor_names-append (_ ∷ xs) ys = constructor_names-append xs ys
 
-pub kind_names-append : (xs ys : List Line) → kind_names (xs ++ ys) ≡ kind_names xs ++ kind_names ys
-kind_names-append [] ys = refl
-kind_names-append (lines.Phylum n s b ∷ xs) ys = ap (λ q. n ∷ q) (kind_names-append xs ys)
-kind_names-append (lines.List n s e w b f ∷ xs) ys = ap (λ q. n ∷ q) (kind_names-append xs ys)
-kind_names-append (_ ∷ xs) ys = kind_names-append xs ys
+pub phylum_names-append : (xs ys : List Line) → phylum_names (xs ++ ys) ≡ phylum_names xs ++ phylum_names ys
+phylum_names-append [] ys = refl
+phylum_names-append (lines.Phylum n s b ∷ xs) ys = ap (λ q. n ∷ q) (phylum_names-append xs ys)
+phylum_names-append (_ ∷ xs) ys = phylum_names-append xs ys
+
+pub list_names-append : (xs ys : List Line) → list_names (xs ++ ys) ≡ list_names xs ++ list_names ys
+list_names-append [] ys = refl
+list_names-append (lines.List n s e w b f ∷ xs) ys = ap (λ q. n ∷ q) (list_names-append xs ys)
+list_names-append (_ ∷ xs) ys = list_names-append xs ys
 
 pub operator_names-append : (xs ys : List Line) → operator_names (xs ++ ys) ≡ operator_names xs ++ operator_names ys
 operator_names-append [] ys = refl
@@ -61,103 +66,116 @@ pub names_of-append : (xs ys : List ConDecl) → names_of (xs ++ ys) ≡ names_o
 names_of-append [] ys = refl
 names_of-append (c ∷ xs) ys = ap (λ q. c.name ∷ q) (names_of-append xs ys)
 
-or-swap : (a b : Bool) → (a || b) ≡ (b || (a || false))
-or-swap true true = refl
-or-swap true false = refl
-or-swap false true = refl
-or-swap false false = refl
+or-true : (a : Bool) → true ≡ (a || true)
+or-true true = refl
+or-true false = refl
+
+-- kinds are phyla and lists
+pub kinds-named : (ls : List Line) (n : Name) → is_among (kind_names ls) n ≡ (is_among (phylum_names ls) n || is_among (list_names ls) n)
+kinds-named [] n = refl
+kinds-named (lines.Phylum m s b ∷ rest) n =
+    elim (bytes_eq m n) as (λ t. (t || is_among (kind_names rest) n) ≡ ((t || is_among (phylum_names rest) n) || is_among (list_names rest) n)) [ true ↦ refl | false ↦ kinds-named rest n ]
+kinds-named (lines.List m s e w b f ∷ rest) n =
+    elim (bytes_eq m n) as (λ t. (t || is_among (kind_names rest) n) ≡ (is_among (phylum_names rest) n || (t || is_among (list_names rest) n))) [
+      | true ↦ or-true (is_among (phylum_names rest) n)
+      | false ↦ kinds-named rest n
+    ]
+kinds-named (_ ∷ rest) n = kinds-named rest n
 
 -- one more name
-pub names-insert : (names : List Name) (old new : Names) (k name : Name) → AreNames names old → k ≡ name → ((n : Name) → has new n ≡ (bytes_eq k n || has old n)) → AreNames (names ++ name ∷ []) new
-names-insert names old new k name h e step n =
-    step n ∙ ap (λ b. bytes_eq k n || b) (h n) ∙ ap (λ m. bytes_eq m n || is_among names n) e ∙ or-swap (bytes_eq name n) (is_among names n) ∙ sym (is_among-append names (name ∷ []) n)
-
-pub names-none : (s : Names) → ((n : Name) → has s n ≡ false) → AreNames [] s
-names-none s h n = h n
-
--- names of more constructors
-abbrev pub HasNames : (old now : Names) (front : List ConDecl) → Type 0
-HasNames old now front = (before : List Name) → AreNames before old → AreNames (before ++ names_of front) now
-
-pub constructors-step : (old now new : Names) (cs : List ConDecl) (i : ℕ) (c : ConDecl) (k : Name) → HasNames old now (take i cs) → i < length cs → c ≡ get_or cs i c → k ≡ c.name → ((n : Name) → has new n ≡ (bytes_eq k n || has now n)) → HasNames old new (take (i + 1) cs)
-constructors-step old now new cs i c k h lt at e step before are =
-    subst (λ xs. AreNames xs new) (append_assoc before (names_of (take i cs)) (c.name ∷ []) ∙ ap (λ q. before ++ q) (sym (ap names_of (take-next cs i c lt at) ∙ names_of-append (take i cs) (c ∷ []))))
-    (names-insert (before ++ names_of (take i cs)) now new k c.name (h before are) e step)
+pub names-insert : (names : List Name) (old new : Names) (k name : Name) → AreNames names old → k ≡ name → has old k ≡ false → (has old k ≡ false → listed new ≡ listed old ++ k ∷ []) → AreNames (names ++ name ∷ []) new
+names-insert names old new k name h e fresh last = last fresh ∙ ap (λ l. l ++ k ∷ []) h ∙ ap (λ n. names ++ n ∷ []) e
 
 -- what changes behind a line
 pub record IsBehind (line : Line) (old new : Above) : Type 0 where
-  pub sorts : (before : List Name) → AreNames before old.sorts → AreNames (before ++ sort_names (line ∷ [])) new.sorts
-  pub constructors : (before : List Name) → AreNames before old.constructors → AreNames (before ++ constructor_names (line ∷ [])) new.constructors
-  pub kinds : (before : List Name) → AreNames before old.kinds → AreNames (before ++ kind_names (line ∷ [])) new.kinds
-  pub operators : (before : List Name) → AreNames before old.operators → AreNames (before ++ operator_names (line ∷ [])) new.operators
-  pub spaces : (before : List Name) → AreNames before old.spaces → AreNames (before ++ space_names (line ∷ [])) new.spaces
+  pub sorts : listed new.sorts ≡ listed old.sorts ++ sort_names (line ∷ [])
+  pub constructors : listed new.constructors ≡ listed old.constructors ++ constructor_names (line ∷ [])
+  pub phyla : listed new.phyla ≡ listed old.phyla ++ phylum_names (line ∷ [])
+  pub lists : listed new.lists ≡ listed old.lists ++ list_names (line ∷ [])
+  pub operators : listed new.operators ≡ listed old.operators ++ operator_names (line ∷ [])
+  pub spaces : listed new.spaces ≡ listed old.spaces ++ space_names (line ∷ [])
   pub operator : (last : Option OpDecl) → option_map operator_told old.operator ≡ last → option_map operator_told new.operator ≡ last_operator last (line ∷ [])
   pub hole : (last : Option Name) → option_map name_told old.hole ≡ last → option_map name_told new.hole ≡ last_hole last (line ∷ [])
 
 pub above-behind : (lines : List Line) (line : Line) (old new : Above) → IsAbove lines old → IsBehind line old new → IsAbove (lines ++ line ∷ []) new
 above-behind above line old new h b = record {
-  sorts = subst (λ xs. AreNames xs new.sorts) (sym (sort_names-append above (line ∷ []))) (b.sorts (sort_names above) h.sorts);
-  constructors = subst (λ xs. AreNames xs new.constructors) (sym (constructor_names-append above (line ∷ []))) (b.constructors (constructor_names above) h.constructors);
-  kinds = subst (λ xs. AreNames xs new.kinds) (sym (kind_names-append above (line ∷ []))) (b.kinds (kind_names above) h.kinds);
-  operators = subst (λ xs. AreNames xs new.operators) (sym (operator_names-append above (line ∷ []))) (b.operators (operator_names above) h.operators);
-  spaces = subst (λ xs. AreNames xs new.spaces) (sym (space_names-append above (line ∷ []))) (b.spaces (space_names above) h.spaces);
+  sorts = b.sorts ∙ ap (λ l. l ++ sort_names (line ∷ [])) h.sorts ∙ sym (sort_names-append above (line ∷ []));
+  constructors = b.constructors ∙ ap (λ l. l ++ constructor_names (line ∷ [])) h.constructors ∙ sym (constructor_names-append above (line ∷ []));
+  phyla = b.phyla ∙ ap (λ l. l ++ phylum_names (line ∷ [])) h.phyla ∙ sym (phylum_names-append above (line ∷ []));
+  lists = b.lists ∙ ap (λ l. l ++ list_names (line ∷ [])) h.lists ∙ sym (list_names-append above (line ∷ []));
+  operators = b.operators ∙ ap (λ l. l ++ operator_names (line ∷ [])) h.operators ∙ sym (operator_names-append above (line ∷ []));
+  spaces = b.spaces ∙ ap (λ l. l ++ space_names (line ∷ [])) h.spaces ∙ sym (space_names-append above (line ∷ []));
   operator = b.operator (last_operator None above) h.operator ∙ sym (last_operator-append None above (line ∷ []));
   hole = b.hole (last_hole None above) h.hole ∙ sym (last_hole-append None above (line ∷ []));
 }
 
-pub stay : (s : Names) (before : List Name) → AreNames before s → AreNames (before ++ []) s
-stay s before h = subst (λ xs. AreNames xs s) (sym (append-nil before)) h
+stay : (s : Names) → listed s ≡ listed s ++ []
+stay s = sym (append-nil (listed s))
 
-pub behind-sort : (line : Line) (a : Above) (d : SortDecl) (sorts cons : Names) (k : Name) (made : List ConDecl) → line ≡ lines.Sort d → k ≡ d.name → made ≡ d.constructors → ((n : Name) → has sorts n ≡ (bytes_eq k n || has a.sorts n))
-    → ((before : List Name) → AreNames before a.constructors → AreNames (before ++ names_of made) cons) → IsBehind line a (record a { sorts = sorts; constructors = cons })
-behind-sort line a d sorts cons k made e ek em s c = subst (λ l. IsBehind l a (record a { sorts = sorts; constructors = cons })) (sym e) (record {
-  sorts = λ before h. names-insert before a.sorts sorts k d.name h ek s;
-  constructors = λ before h. subst (λ xs. AreNames (before ++ xs) cons) (ap names_of em ∙ sym (append-nil (names_of d.constructors))) (c before h);
-  kinds = stay a.kinds;
+-- the names take one more
+abbrev pub Puts : Names → Names → Name → Type 0
+Puts old new k = has old k ≡ false → listed new ≡ listed old ++ k ∷ []
+
+put : (names : List Name) (old new : Names) (k name : Name) → AreNames names old → k ≡ name → is_among names name ≡ false → Puts old new k → listed new ≡ listed old ++ name ∷ []
+put names old new k name h e fresh last = last (ap (λ l. is_among l k) h ∙ ap (is_among names) e ∙ fresh) ∙ ap (λ n. listed old ++ n ∷ []) e
+
+pub behind-sort : (above : List Line) (line : Line) (a : Above) (d : SortDecl) (sorts cons : Names) (k : Name) (made : List ConDecl) → IsAbove above a → IsNew above line → line ≡ lines.Sort d → k ≡ d.name → made ≡ d.constructors → Puts a.sorts sorts k
+    → ((before : List Name) → AreNames before a.constructors → AreFresh before made → AreNames (before ++ names_of made) cons) → IsBehind line a (record a { sorts = sorts; constructors = cons })
+behind-sort above line a d sorts cons k made h new e ek em s c = subst (λ l. IsBehind l a (record a { sorts = sorts; constructors = cons })) (sym e) (record {
+  sorts = put (sort_names above) a.sorts sorts k d.name h.sorts ek (subst (IsNew above) e new).0 s;
+  constructors = c (constructor_names above) h.constructors (subst (AreFresh (constructor_names above)) (sym em) ((subst (IsNew above) e new).1, (subst (IsNew above) e new).2))
+      ∙ ap (λ l. l ++ names_of made) (sym h.constructors) ∙ ap (λ l. listed a.constructors ++ l) (ap names_of em ∙ sym (append-nil (names_of d.constructors)));
+  phyla = stay a.phyla;
+  lists = stay a.lists;
   operators = stay a.operators;
   spaces = stay a.spaces;
   operator = λ last h. h;
   hole = λ last h. h;
 })
 
-pub behind-space : (line : Line) (a : Above) (name sort : Name) (spaces : Names) (k : Name) → line ≡ lines.Space name sort → k ≡ name → ((n : Name) → has spaces n ≡ (bytes_eq k n || has a.spaces n)) → IsBehind line a (record a { spaces = spaces })
-behind-space line a name sort spaces k e ek step = subst (λ l. IsBehind l a (record a { spaces = spaces })) (sym e) (record {
+pub behind-space : (above : List Line) (line : Line) (a : Above) (name sort : Name) (spaces : Names) (k : Name) → IsAbove above a → IsNew above line → line ≡ lines.Space name sort → k ≡ name → Puts a.spaces spaces k → IsBehind line a (record a { spaces = spaces })
+behind-space above line a name sort spaces k h new e ek s = subst (λ l. IsBehind l a (record a { spaces = spaces })) (sym e) (record {
   sorts = stay a.sorts;
   constructors = stay a.constructors;
-  kinds = stay a.kinds;
+  phyla = stay a.phyla;
+  lists = stay a.lists;
   operators = stay a.operators;
-  spaces = λ before h. names-insert before a.spaces spaces k name h ek step;
+  spaces = put (space_names above) a.spaces spaces k name h.spaces ek (subst (IsNew above) e new) s;
   operator = λ last h. h;
   hole = λ last h. h;
 })
 
-pub behind-kind : (line : Line) (a : Above) (name : Name) (kinds : Names) (k : Name) → kind_names (line ∷ []) ≡ name ∷ [] → sort_names (line ∷ []) ≡ [] → constructor_names (line ∷ []) ≡ [] → operator_names (line ∷ []) ≡ [] → space_names (line ∷ []) ≡ []
-    → ((last : Option OpDecl) → last ≡ last_operator last (line ∷ [])) → ((last : Option Name) → last ≡ last_hole last (line ∷ [])) → k ≡ name → ((n : Name) → has kinds n ≡ (bytes_eq k n || has a.kinds n)) → IsBehind line a (record a { kinds = kinds })
-behind-kind line a name kinds k ek es ec eo ee el eh e step = record {
-  sorts = λ before h. subst (λ xs. AreNames (before ++ xs) a.sorts) (sym es) (stay a.sorts before h);
-  constructors = λ before h. subst (λ xs. AreNames (before ++ xs) a.constructors) (sym ec) (stay a.constructors before h);
-  kinds = λ before h. subst (λ xs. AreNames (before ++ xs) kinds) (sym ek) (names-insert before a.kinds kinds k name h e step);
-  operators = λ before h. subst (λ xs. AreNames (before ++ xs) a.operators) (sym eo) (stay a.operators before h);
-  spaces = λ before h. subst (λ xs. AreNames (before ++ xs) a.spaces) (sym ee) (stay a.spaces before h);
-  operator = λ last h. h ∙ el last;
-  hole = λ last h. h ∙ eh last;
-}
-
-pub behind-phylum : (line : Line) (a : Above) (name sort : Name) (b : Bool) (kinds : Names) (k : Name) → line ≡ lines.Phylum name sort b → k ≡ name → ((n : Name) → has kinds n ≡ (bytes_eq k n || has a.kinds n)) → IsBehind line a (record a { kinds = kinds })
-behind-phylum line a name sort b kinds k e ek step = subst (λ l. IsBehind l a (record a { kinds = kinds })) (sym e)
-    (behind-kind (lines.Phylum name sort b) a name kinds k refl refl refl refl refl (λ last. refl) (λ last. refl) ek step)
-
-pub behind-list : (line : Line) (a : Above) (name sort elements separator : Name) (b f : Bool) (kinds : Names) (k : Name) → line ≡ lines.List name sort elements separator b f → k ≡ name → ((n : Name) → has kinds n ≡ (bytes_eq k n || has a.kinds n)) → IsBehind line a (record a { kinds = kinds })
-behind-list line a name sort elements separator b f kinds k e ek step = subst (λ l. IsBehind l a (record a { kinds = kinds })) (sym e)
-    (behind-kind (lines.List name sort elements separator b f) a name kinds k refl refl refl refl refl (λ last. refl) (λ last. refl) ek step)
-
-pub behind-operator : (line : Line) (a : Above) (name phylum : Name) (scope : Bool) (level : Level) (made : List LineItem) (operators : Names) (k : Name) (o : Operator) → line ≡ lines.Operator name phylum scope level made → k ≡ name → o.phylum.now ≡ phylum → o.items.now ≡ made
-    → ((n : Name) → has operators n ≡ (bytes_eq k n || has a.operators n)) → IsBehind line a (record a { operators = operators; operator = Some o })
-behind-operator line a name phylum scope level made operators k o e ek ep em step = subst (λ l. IsBehind l a (record a { operators = operators; operator = Some o })) (sym e) (record {
+pub behind-phylum : (above : List Line) (line : Line) (a : Above) (name sort : Name) (b : Bool) (phyla : Names) (k : Name) → IsAbove above a → IsNew above line → line ≡ lines.Phylum name sort b → k ≡ name → Puts a.phyla phyla k → IsBehind line a (record a { phyla = phyla })
+behind-phylum above line a name sort b phyla k h new e ek s = subst (λ l. IsBehind l a (record a { phyla = phyla })) (sym e) (record {
   sorts = stay a.sorts;
   constructors = stay a.constructors;
-  kinds = stay a.kinds;
-  operators = λ before h. names-insert before a.operators operators k name h ek step;
+  phyla = put (phylum_names above) a.phyla phyla k name h.phyla ek (or_parts _ _ (sym (kinds-named above name) ∙ subst (IsNew above) e new)).0 s;
+  lists = stay a.lists;
+  operators = stay a.operators;
+  spaces = stay a.spaces;
+  operator = λ last h. h;
+  hole = λ last h. h;
+})
+
+pub behind-list : (above : List Line) (line : Line) (a : Above) (name sort elements separator : Name) (b f : Bool) (lists : Names) (k : Name) → IsAbove above a → IsNew above line → line ≡ lines.List name sort elements separator b f → k ≡ name → Puts a.lists lists k → IsBehind line a (record a { lists = lists })
+behind-list above line a name sort elements separator b f lists k h new e ek s = subst (λ l. IsBehind l a (record a { lists = lists })) (sym e) (record {
+  sorts = stay a.sorts;
+  constructors = stay a.constructors;
+  phyla = stay a.phyla;
+  lists = put (list_names above) a.lists lists k name h.lists ek (or_parts _ _ (sym (kinds-named above name) ∙ subst (IsNew above) e new)).1 s;
+  operators = stay a.operators;
+  spaces = stay a.spaces;
+  operator = λ last h. h;
+  hole = λ last h. h;
+})
+
+pub behind-operator : (above : List Line) (line : Line) (a : Above) (name phylum : Name) (scope : Bool) (level : Level) (made : List LineItem) (operators : Names) (k : Name) (o : Operator) → IsAbove above a → IsNew above line → line ≡ lines.Operator name phylum scope level made → k ≡ name → o.phylum.now ≡ phylum → o.items.now ≡ made → Puts a.operators operators k → IsBehind line a (record a { operators = operators; operator = Some o })
+behind-operator above line a name phylum scope level made operators k o h new e ek ep em s = subst (λ l. IsBehind l a (record a { operators = operators; operator = Some o })) (sym e) (record {
+  sorts = stay a.sorts;
+  constructors = stay a.constructors;
+  phyla = stay a.phyla;
+  lists = stay a.lists;
+  operators = put (operator_names above) a.operators operators k name h.operators ek (subst (IsNew above) e new) s;
   spaces = stay a.spaces;
   operator = λ last h. ap Some (told o.phylum.now phylum o.items.now made ep em);
   hole = λ last h. h;
@@ -170,22 +188,24 @@ pub behind-hole : (line : Line) (a : Above) (kind : Name) (term : WrittenTerm) (
 behind-hole line a kind term specimen k e ek = subst (λ l. IsBehind l a (record a { hole = Some k })) (sym e) (record {
   sorts = stay a.sorts;
   constructors = stay a.constructors;
-  kinds = stay a.kinds;
+  phyla = stay a.phyla;
+  lists = stay a.lists;
   operators = stay a.operators;
   spaces = stay a.spaces;
   operator = λ last h. h;
   hole = λ last h. ap Some ek;
 })
 
-same-row : (line : Line) (a : Above) → kind_names (line ∷ []) ≡ [] → sort_names (line ∷ []) ≡ [] → constructor_names (line ∷ []) ≡ [] → operator_names (line ∷ []) ≡ [] → space_names (line ∷ []) ≡ []
+same-row : (line : Line) (a : Above) → sort_names (line ∷ []) ≡ [] → constructor_names (line ∷ []) ≡ [] → phylum_names (line ∷ []) ≡ [] → list_names (line ∷ []) ≡ [] → operator_names (line ∷ []) ≡ [] → space_names (line ∷ []) ≡ []
     → ((last : Option OpDecl) → last ≡ last_operator last (line ∷ [])) → ((last : Option Name) → last ≡ last_hole last (line ∷ [])) → IsBehind line a a
-same-row line a ek es ec eo ee el eh = record {
-  sorts = λ before h. subst (λ xs. AreNames (before ++ xs) a.sorts) (sym es) (stay a.sorts before h);
-  constructors = λ before h. subst (λ xs. AreNames (before ++ xs) a.constructors) (sym ec) (stay a.constructors before h);
-  kinds = λ before h. subst (λ xs. AreNames (before ++ xs) a.kinds) (sym ek) (stay a.kinds before h);
-  operators = λ before h. subst (λ xs. AreNames (before ++ xs) a.operators) (sym eo) (stay a.operators before h);
-  spaces = λ before h. subst (λ xs. AreNames (before ++ xs) a.spaces) (sym ee) (stay a.spaces before h);
-  operator = λ last h. h ∙ el last;
+same-row line a es ec ep el eo ee elo eh = record {
+  sorts = stay a.sorts ∙ ap (λ l. listed a.sorts ++ l) (sym es);
+  constructors = stay a.constructors ∙ ap (λ l. listed a.constructors ++ l) (sym ec);
+  phyla = stay a.phyla ∙ ap (λ l. listed a.phyla ++ l) (sym ep);
+  lists = stay a.lists ∙ ap (λ l. listed a.lists ++ l) (sym el);
+  operators = stay a.operators ∙ ap (λ l. listed a.operators ++ l) (sym eo);
+  spaces = stay a.spaces ∙ ap (λ l. listed a.spaces ++ l) (sym ee);
+  operator = λ last h. h ∙ elo last;
   hole = λ last h. h ∙ eh last;
 }
 
@@ -198,8 +218,17 @@ behind-other (lines.Phylum n x b) a s e p l o h = absurd (p n x b refl)
 behind-other (lines.List n x y w b f) a s e p l o h = absurd (l n x y w b f refl)
 behind-other (lines.Operator n x c v m) a s e p l o h = absurd (o n x c v m refl)
 behind-other (lines.Hole k t w) a s e p l o h = absurd (h k t w refl)
-behind-other (lines.Row t cs) a s e p l o h = same-row (lines.Row t cs) a refl refl refl refl refl (λ last. refl) (λ last. refl)
-behind-other (lines.Nil k t) a s e p l o h = same-row (lines.Nil k t) a refl refl refl refl refl (λ last. refl) (λ last. refl)
-behind-other (lines.Cell k t x r) a s e p l o h = same-row (lines.Cell k t x r) a refl refl refl refl refl (λ last. refl) (λ last. refl)
-behind-other (lines.Case t w) a s e p l o h = same-row (lines.Case t w) a refl refl refl refl refl (λ last. refl) (λ last. refl)
-behind-other (lines.Declare n k x v w) a s e p l o h = same-row (lines.Declare n k x v w) a refl refl refl refl refl (λ last. refl) (λ last. refl)
+behind-other (lines.Row t cs) a s e p l o h = same-row (lines.Row t cs) a refl refl refl refl refl refl (λ last. refl) (λ last. refl)
+behind-other (lines.Nil k t) a s e p l o h = same-row (lines.Nil k t) a refl refl refl refl refl refl (λ last. refl) (λ last. refl)
+behind-other (lines.Cell k t x r) a s e p l o h = same-row (lines.Cell k t x r) a refl refl refl refl refl refl (λ last. refl) (λ last. refl)
+behind-other (lines.Case t w) a s e p l o h = same-row (lines.Case t w) a refl refl refl refl refl refl (λ last. refl) (λ last. refl)
+behind-other (lines.Declare n k x v w) a s e p l o h = same-row (lines.Declare n k x v w) a refl refl refl refl refl refl (λ last. refl) (λ last. refl)
+
+-- a kind among the names of phyla and of lists
+pub phylum-told : (above : List Line) (a : Above) (n : Name) (b : Bool) → IsAbove above a → b ≡ true → b ≡ has a.phyla n → true ≡ is_among (kind_names above) n
+phylum-told above a n b h t is =
+    sym (kinds-named above n ∙ ap (λ c. c || is_among (list_names above) n) (ap (λ l. is_among l n) (sym h.phyla) ∙ sym is ∙ t))
+
+pub list-told : (above : List Line) (a : Above) (n : Name) (b d : Bool) → IsAbove above a → b ≡ false → b ≡ has a.phyla n → d ≡ has a.lists n → d ≡ is_among (kind_names above) n
+list-told above a n b d h f is found =
+    found ∙ ap (λ l. is_among l n) h.lists ∙ sym (kinds-named above n ∙ ap (λ c. c || is_among (list_names above) n) (ap (λ l. is_among l n) (sym h.phyla) ∙ sym is ∙ f))

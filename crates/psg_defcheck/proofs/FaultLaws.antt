@@ -7,6 +7,7 @@ use Rattle.psg_deflines.specs.Entries.{Entry, written}
 use Rattle.psg_deflines.specs.declared.fault.DefCode.{DefCode}
 use Rattle.psg_deflines.specs.declared.lines.Line.{Line}
 use Rattle.psg_defcheck.specs.Faults.{meaning_codes, PassesMeaning, ArePassed, IsMeaningFault, IsLineFault}
+use Rattle.psg_defcheck.specs.Meanings.{IsNew}
 use Rattle.psg_defcheck.specs.Aboves.{IsAbove}
 use Rattle.psg_defcheck.specs.declared.above.Above.{Above}
 use Rattle.psg_defcheck.proofs.GroundLaws.{written-append}
@@ -31,11 +32,11 @@ passed-none file entries i e above h lt at is =
     subst (λ ls. HasPassed file ls above) (sym (ap written (take-next entries i e lt at ∙ ap (λ (x : Entry). take i entries ++ x ∷ []) is) ∙ written-append (take i entries) (None ∷ []) ∙ append-nil (written (take i entries)))) h
 
 pub passed-some : (file : List Line) (entries : List Entry) (i : ℕ) (e : Entry) (line : Line) (above after : Above) → HasPassed file (written (take i entries)) above → i < length entries → e ≡ get_or entries i e → e ≡ Some line
-    → ((ls : List Line) → IsAbove ls above → IsLineFault file ls line None) → ((ls : List Line) → IsAbove ls above → IsAbove (ls ++ line ∷ []) after) → HasPassed file (written (take (i + 1) entries)) after
+    → ((ls : List Line) → IsAbove ls above → IsLineFault file ls line None) → ((ls : List Line) → IsAbove ls above → IsNew ls line → IsAbove (ls ++ line ∷ []) after) → HasPassed file (written (take (i + 1) entries)) after
 passed-some file entries i e line above after h lt at is passes step =
     let front = written (take i entries) in
     subst (λ ls. HasPassed file ls after) (sym (ap written (take-next entries i e lt at ∙ ap (λ (x : Entry). take i entries ++ x ∷ []) is) ∙ written-append (take i entries) (Some line ∷ [])))
-    (record { above = step front h.above; passed = passed-push file [] front line h.passed (passes front h.above) })
+    (record { above = step front h.above (passes front h.above).0; passed = passed-push file [] front line h.passed (passes front h.above) })
 
 pub fault-at : (entries : List Entry) (i : ℕ) (e : Entry) (line : Line) (above : Above) (code : DefCode) (place : ℕ) → HasPassed (written entries) (written (take i entries)) above → i < length entries → e ≡ get_or entries i e → e ≡ Some line
     → ((ls : List Line) → IsAbove ls above → IsLineFault (written entries) ls line (Some code)) → place ≡ i + 2 → IsMeaningFault entries (record { line = place; code = code })

@@ -1,4 +1,5 @@
 mod CaseMeanings
+pub mod NameLaws
 pub mod TableLaws
 pub mod TermLaws
 pub mod TreeLaws
@@ -13,3 +14,4 @@ pub mod GroundLaws
 pub mod TreeSortLaws
 pub mod LineSortLaws
 pub mod FaultLaws
+pub mod CheckLaws

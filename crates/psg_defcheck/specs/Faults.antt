@@ -43,11 +43,6 @@ pub record IsMeaningFault (entries : List Entry) (fault : DefFault) : Type 0 whe
   pub first : IsFirstOf (PassesMeaning (written entries) (written front) line) meaning_codes fault.code
   pub place : fault.line ≡ length front + 2
 
--- the first fault of the entries, or none
-abbrev pub IsFirstFault : List Entry → Option DefFault → Type 0
-IsFirstFault entries None = ArePassed (written entries) [] (written entries)
-IsFirstFault entries (Some fault) = IsMeaningFault entries fault
-
 -- the first fault of a line, or none
 abbrev pub IsLineFault : List Line → List Line → Line → Option DefCode → Type 0
 IsLineFault file above line None = AllByRecursion (PassesMeaning file above line) meaning_codes

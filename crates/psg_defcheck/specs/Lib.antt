@@ -1,6 +1,7 @@
 pub mod Scopes
 pub mod Meanings
 pub mod Faults
+pub mod Checks
 pub mod Tables
 pub mod Parts
 pub mod NameSets

@@ -32,6 +32,18 @@ kind_names (lines.Phylum name sort bracketed ∷ rest) = name ∷ kind_names res
 kind_names (lines.List name sort element separator on_lines unfinished ∷ rest) = name ∷ kind_names rest
 kind_names (_ ∷ rest) = kind_names rest
 
+-- the names of phyla alone, in the order of lines
+abbrev pub phylum_names : List Line → List Name
+phylum_names [] = []
+phylum_names (lines.Phylum name sort bracketed ∷ rest) = name ∷ phylum_names rest
+phylum_names (_ ∷ rest) = phylum_names rest
+
+-- the names of lists alone, in the order of lines
+abbrev pub list_names : List Line → List Name
+list_names [] = []
+list_names (lines.List name sort element separator on_lines unfinished ∷ rest) = name ∷ list_names rest
+list_names (_ ∷ rest) = list_names rest
+
 -- the names of operators, in the order of lines
 abbrev pub operator_names : List Line → List Name
 operator_names [] = []

@@ -1,9 +1,10 @@
 //! What the lines above a line declare.
-ghost use Rattle.std.specs.Prelude.{List, OnOk, ◌++◌, ◌∷◌, []};
-ghost use Rattle.psg_terms.specs.Names.{Name};
+ghost use Rattle.std.specs.Prelude.{◌≡◌, List, OnOk, ◌++◌, ◌∷◌, []};
+ghost use Rattle.psg_terms.specs.Names.{Name, is_among};
 ghost use Rattle.psg_deflines.specs.declared.lines.Line.{Line as Plain};
-ghost use Rattle.psg_defcheck.specs.Scopes.{names_of};
-ghost use Rattle.psg_defcheck.specs.NameSets.{AreNames};
+ghost use Rattle.psg_defcheck.specs.Scopes.{kind_names, names_of};
+ghost use Rattle.psg_defcheck.specs.Meanings.{IsNew};
+ghost use Rattle.psg_defcheck.specs.NameSets.{AreFresh, AreNames};
 
 use crate::names::Names;
 use crate::tables::Operator;
@@ -18,8 +19,10 @@ pub struct Above<'a> {
     pub sorts: Names<'a>,
     /// The names of constructors.
     pub constructors: Names<'a>,
-    /// The names of phyla and lists together.
-    pub kinds: Names<'a>,
+    /// The names of phyla.
+    pub phyla: Names<'a>,
+    /// The names of lists.
+    pub lists: Names<'a>,
     /// The names of operators.
     pub operators: Names<'a>,
     /// The names of spaces.
@@ -35,7 +38,7 @@ fn add_constructors<'a>(
     names: &mut Names<'a>,
     constructors: &'a [ConDecl],
 ) -> Result<(), AllocError>
-    ensures { (before : List Name) → AreNames before names.old
+    ensures { (before : List Name) → AreNames before names.old → AreFresh before constructors.now
         → OnOk result (AreNames (before ++ names_of constructors.now) names.new) }
 {
     for constructor in constructors {
@@ -54,7 +57,8 @@ impl<'a> Above<'a> {
         Above {
             sorts: Names::none(alloc),
             constructors: Names::none(alloc),
-            kinds: Names::none(alloc),
+            phyla: Names::none(alloc),
+            lists: Names::none(alloc),
             operators: Names::none(alloc),
             spaces: Names::none(alloc),
             operator: None,
@@ -62,9 +66,19 @@ impl<'a> Above<'a> {
         }
     }
 
-    /// Adds what a line declares, as the last line.
+    /// Says whether the name is a phylum's or a list's.
+    pub fn has_kind(&self, name: &str) -> bool
+        ensures { (lines : List Plain) → IsAbove lines self.now → result ≡ is_among (kind_names lines) name.now }
+    {
+        if self.phyla.contains(name) {
+            return true;
+        }
+        self.lists.contains(name)
+    }
+
+    /// Adds what a line declares, as the last line, where it declares no name again.
     pub fn add(&mut self, line: &'a Line) -> Result<(), AllocError>
-        ensures { (lines : List Plain) → IsAbove lines self.old
+        ensures { (lines : List Plain) → IsAbove lines self.old → IsNew lines line.now
             → OnOk result (IsAbove (lines ++ line.now ∷ []) self.new) }
     {
         match line {
@@ -76,10 +90,10 @@ impl<'a> Above<'a> {
                 self.spaces.insert(name.as_str())?;
             }
             Line::Phylum { name, .. } => {
-                self.kinds.insert(name.as_str())?;
+                self.phyla.insert(name.as_str())?;
             }
             Line::List { name, .. } => {
-                self.kinds.insert(name.as_str())?;
+                self.lists.insert(name.as_str())?;
             }
             Line::Operator {
                 name,

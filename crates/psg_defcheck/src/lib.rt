@@ -1,8 +1,8 @@
 //! What the lines of a definition mean, tested line by line.
 //!
 //! ```text
-//! // the second line of a sort is the first fault
-//! let fault = first_fault(alloc, entries.as_slice())?;
+//! // where the second line of a sort is the first fault, this is that fault
+//! let checked = CheckedLines::of(alloc, entries.as_slice())?;
 //! ```
 //!
 //! Each test is a property of one line among the lines of its file, those above it and all of them, since names may be
@@ -10,12 +10,13 @@
 //! for the look-ups.
 #![tactic(auto)]
 
-mod above;
-pub mod checking;
+pub mod above;
+pub mod checked_lines;
+mod checking;
 mod counted;
 mod ground;
 mod known;
-mod names;
+pub mod names;
 mod new_names;
 mod places;
 mod rest;
@@ -26,4 +27,4 @@ mod sorted_trees;
 mod tables;
 mod waiting;
 
-pub use checking::first_fault;
+pub use checked_lines::CheckedLines;

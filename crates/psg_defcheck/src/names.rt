@@ -1,40 +1,51 @@
-//! Sets of names.
-ghost use Rattle.std.specs.Prelude.{◌≡◌, ◌||◌, IfOk, OnOk, bytes_eq, false, is_some};
+//! Names in order.
+ghost use Rattle.std.specs.Prelude.{◌≡◌, ◌||◌, ◌++◌, ◌∷◌, [], IfOk, IfSome, OnOk, Some, bytes_eq, false, is_some, slice_get};
 ghost use Rattle.psg_terms.specs.Names.{Name};
 
+use indexmap::IndexSet;
 use std::alloc::{AllocError, Global};
-use std::collections::HashMap;
 
-/// A set of names.
+/// Names in the order in which they were put, each once. A name has the position at which it was put.
 #[derive(Drop)]
 pub struct Names<'a> {
-    table: HashMap<&'a str, ()>,
+    set: IndexSet<&'a str>,
 }
 
 impl<'a> Names<'a> {
-    ghost use Rattle.psg_defcheck.specs.NameSets.{has};
+    ghost use Rattle.psg_defcheck.specs.NameSets.{has, listed};
 
-    /// Makes a set without names.
+    /// Makes a list without names.
     pub fn none(alloc: Global) -> Names<'a>
-        ensures { (n : Name) → has result n ≡ false }
+        ensures none { (n : Name) → has result n ≡ false }
+        ensures empty { listed result ≡ [] }
     {
         Names {
-            table: HashMap::new(alloc),
+            set: IndexSet::new(alloc),
         }
     }
 
-    /// Says whether the name is in the set.
+    /// Says whether the name is among them.
     pub fn contains(&self, name: &str) -> bool
         ensures { result ≡ has self.now name.now }
     {
-        self.table.contains_key(name)
+        self.set.contains(name)
     }
 
-    /// Puts a name among them.
-    pub fn insert(&mut self, name: &'a str) -> Result<(), AllocError>
-        ensures { OnOk result ((n : Name) → has self.new n ≡ (bytes_eq name.now n || has self.old n)) }
+    /// Returns the position of the name; `None` where it is not among them. It is one look-up.
+    pub fn place(&self, name: &str) -> Option<usize>
+        ensures there { is_some result ≡ has self.now name.now }
+        ensures place { IfSome result (λ p. slice_get (listed self.now) p ≡ Some name.now) }
     {
-        self.table.insert(name, ())?;
+        self.set.get_index_of(name)
+    }
+
+    /// Puts a name after the others, unless it is among them.
+    pub fn insert(&mut self, name: &'a str) -> Result<(), AllocError>
+        ensures has { OnOk result ((n : Name) → has self.new n ≡ (bytes_eq name.now n || has self.old n)) }
+        ensures last { OnOk result (has self.old name.now ≡ false
+            → listed self.new ≡ listed self.old ++ name.now ∷ []) }
+    {
+        self.set.insert(name)?;
         Ok(())
     }
 }

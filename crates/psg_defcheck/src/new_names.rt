@@ -1,11 +1,9 @@
 //! Whether the names that a line declares are new.
-ghost use Rattle.std.specs.Prelude.{◌≡◌, ◌↔◌, List, IfOk, IsTrue, false};
-ghost use Rattle.std.specs.List.{AllByRecursion};
-ghost use Rattle.psg_terms.specs.Names.{Name, has_twice, is_among};
+ghost use Rattle.std.specs.Prelude.{◌↔◌, List, IfOk, IsTrue};
+ghost use Rattle.psg_terms.specs.Names.{Name};
 ghost use Rattle.psg_deflines.specs.declared.lines.Line.{Line as Plain};
-ghost use Rattle.psg_defcheck.specs.Scopes.{names_of};
 ghost use Rattle.psg_defcheck.specs.Meanings as meanings;
-ghost use Rattle.psg_defcheck.specs.NameSets.{AreNames};
+ghost use Rattle.psg_defcheck.specs.NameSets.{AreFresh, AreNames};
 ghost use Rattle.psg_defcheck.specs.Aboves.{IsAbove};
 
 use crate::above::Above;
@@ -17,8 +15,7 @@ use std::alloc::{AllocError, Global};
 /// Whether no name of the constructors is there twice or is one of the names.
 fn are_new(alloc: Global, names: &Names, constructors: &[ConDecl]) -> Result<bool, AllocError>
     ensures { IfOk result (λ b. (before : List Name) → AreNames before names.now
-        → IsTrue b ↔ ((has_twice (names_of constructors.now) ≡ false)
-        × AllByRecursion (λ n. is_among before n ≡ false) (names_of constructors.now))) }
+        → IsTrue b ↔ AreFresh before constructors.now) }
 {
     let mut seen = Names::none(alloc);
     for constructor in constructors {
@@ -49,8 +46,8 @@ pub fn is_new(alloc: Global, above: &Above, line: &Line) -> Result<bool, AllocEr
             Ok(new)
         }
         Line::Space { name, .. } => Ok(!above.spaces.contains(name.as_str())),
-        Line::Phylum { name, .. } => Ok(!above.kinds.contains(name.as_str())),
-        Line::List { name, .. } => Ok(!above.kinds.contains(name.as_str())),
+        Line::Phylum { name, .. } => Ok(!above.has_kind(name.as_str())),
+        Line::List { name, .. } => Ok(!above.has_kind(name.as_str())),
         Line::Operator { name, .. } => Ok(!above.operators.contains(name.as_str())),
         _ => Ok(true),
     }

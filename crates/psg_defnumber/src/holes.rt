@@ -6,8 +6,8 @@ ghost use Rattle.psg_defnumber.specs.Numbers.{AreCases, IsHoleRow, AreHoleRows, 
 ghost use Rattle.psg_defnumber.specs.Putting.{Puts, ReadsCases, ReadsHoleRows, ReadsDeclareRows, IsHoleEntry};
 
 use crate::lookups::{kind_named, kind_sort};
-use crate::names::Names;
 use crate::rows::{case, declare_row, lone_term};
+use psg_defcheck::CheckedLines;
 use psg_deflines::{Line, LineTerm, LineTree};
 use psg_grammar::{Case, DeclareRow, Definition, HoleRow, Kind};
 use psg_terms::{Seq, SortId, Txt};
@@ -30,7 +30,7 @@ fn is_hole(entry: &Option<Line>) -> bool
 fn put_case(
     alloc: Global,
     def: &Definition,
-    names: &Names,
+    checked: &CheckedLines,
     kind: Kind,
     sort: SortId,
     made: &mut Vec<Case>,
@@ -46,7 +46,7 @@ fn put_case(
     let Line::Case { term, specimen } = line else {
         return Ok(());
     };
-    let one = case(alloc, def, names, kind, sort, term, specimen)?;
+    let one = case(alloc, def, checked, kind, sort, term, specimen)?;
     made.push(one)?;
     Ok(())
 }
@@ -55,7 +55,7 @@ fn put_case(
 fn cases(
     alloc: Global,
     def: &Definition,
-    names: &Names,
+    checked: &CheckedLines,
     kind: Kind,
     sort: SortId,
     behind: &[Option<Line>],
@@ -67,7 +67,7 @@ fn cases(
         if is_hole(entry) {
             return Ok(made);
         }
-        put_case(alloc, def, names, kind, sort, &mut made, entry)?;
+        put_case(alloc, def, checked, kind, sort, &mut made, entry)?;
     }
     Ok(made)
 }
@@ -76,7 +76,7 @@ fn cases(
 fn hole_row(
     alloc: Global,
     def: &Definition,
-    names: &Names,
+    checked: &CheckedLines,
     kind: &Txt,
     term: &LineTerm,
     specimen: &Option<LineTree>,
@@ -85,18 +85,18 @@ fn hole_row(
     ensures { IfOk result (λ r. Lasts def.now (λ full.
         IsHoleRow full kind.now term.now specimen.now (written behind.now) r)) }
 {
-    let kind = kind_named(def, names, kind)?;
+    let kind = kind_named(def, checked, kind)?;
     let sort = kind_sort(def, kind)?;
     let Some(tree) = specimen else {
-        let term = lone_term(alloc, def, names, sort, term)?;
-        let cases = cases(alloc, def, names, kind, sort, behind)?;
+        let term = lone_term(alloc, def, checked, sort, term)?;
+        let cases = cases(alloc, def, checked, kind, sort, behind)?;
         return Ok(HoleRow {
             kind,
             term,
             cases: Seq::of(cases),
         });
     };
-    let one = case(alloc, def, names, kind, sort, term, tree)?;
+    let one = case(alloc, def, checked, kind, sort, term, tree)?;
     let term = one.term.share()?;
     let mut cases = Vec::with_capacity(alloc, 1)?;
     cases.push(one)?;
@@ -111,7 +111,7 @@ fn hole_row(
 fn put_hole_row(
     alloc: Global,
     def: &Definition,
-    names: &Names,
+    checked: &CheckedLines,
     made: &mut Vec<HoleRow>,
     entry: &Option<Line>,
     behind: &[Option<Line>],
@@ -129,7 +129,7 @@ fn put_hole_row(
     else {
         return Ok(());
     };
-    let one = hole_row(alloc, def, names, kind, term, specimen, behind)?;
+    let one = hole_row(alloc, def, checked, kind, term, specimen, behind)?;
     made.push(one)?;
     Ok(())
 }
@@ -138,14 +138,21 @@ fn put_hole_row(
 pub fn hole_rows(
     alloc: Global,
     def: &Definition,
-    names: &Names,
+    checked: &CheckedLines,
     entries: &[Option<Line>],
 ) -> Result<Vec<HoleRow>, AllocError>
     ensures { IfOk result (λ v. Lasts def.now (λ full. AreHoleRows full (written entries.now) v.items)) }
 {
     let mut made = Vec::new(alloc);
     for i in 0..entries.len() {
-        put_hole_row(alloc, def, names, &mut made, &entries[i], &entries[i + 1..])?;
+        put_hole_row(
+            alloc,
+            def,
+            checked,
+            &mut made,
+            &entries[i],
+            &entries[i + 1..],
+        )?;
     }
     Ok(made)
 }
@@ -154,7 +161,7 @@ pub fn hole_rows(
 fn put_declare_row(
     alloc: Global,
     def: &Definition,
-    names: &Names,
+    checked: &CheckedLines,
     made: &mut Vec<DeclareRow>,
     entry: &Option<Line>,
 ) -> Result<(), AllocError>
@@ -174,7 +181,7 @@ fn put_declare_row(
     else {
         return Ok(());
     };
-    let one = declare_row(alloc, def, names, space, list, entity, value, specimen)?;
+    let one = declare_row(alloc, def, checked, space, list, entity, value, specimen)?;
     made.push(one)?;
     Ok(())
 }
@@ -183,14 +190,14 @@ fn put_declare_row(
 pub fn declare_rows(
     alloc: Global,
     def: &Definition,
-    names: &Names,
+    checked: &CheckedLines,
     entries: &[Option<Line>],
 ) -> Result<Vec<DeclareRow>, AllocError>
     ensures { IfOk result (λ v. Lasts def.now (λ full. AreDeclareRows full (written entries.now) v.items)) }
 {
     let mut made = Vec::new(alloc);
     for entry in entries {
-        put_declare_row(alloc, def, names, &mut made, entry)?;
+        put_declare_row(alloc, def, checked, &mut made, entry)?;
     }
     Ok(made)
 }

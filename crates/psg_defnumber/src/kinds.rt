@@ -7,7 +7,7 @@ ghost use Rattle.psg_defnumber.specs.Numbers.{AreSpaces, ArePhyla, AreLists};
 ghost use Rattle.psg_defnumber.specs.Putting.{Puts, ReadsSpaces, ReadsPhyla, ReadsLists};
 
 use crate::lookups::{phylum_named, sort_named};
-use crate::names::Names;
+use psg_defcheck::CheckedLines;
 use psg_deflines::Line;
 use psg_grammar::{Definition, ListKind, Phylum, Space};
 use psg_terms::Seq;
@@ -16,7 +16,7 @@ use std::alloc::{AllocError, Global};
 /// Puts the space of a line after the others, if it declares one.
 fn put_space(
     def: &Definition,
-    names: &Names,
+    checked: &CheckedLines,
     made: &mut Vec<Space>,
     entry: &Option<Line>,
 ) -> Result<(), AllocError>
@@ -29,7 +29,7 @@ fn put_space(
     let Line::Space { name, sort } = line else {
         return Ok(());
     };
-    let sort = sort_named(def, names, sort)?;
+    let sort = sort_named(def, checked, sort)?;
     let name = name.share()?;
     made.push(Space { name, sort })?;
     Ok(())
@@ -39,14 +39,14 @@ fn put_space(
 pub fn spaces(
     alloc: Global,
     def: &Definition,
-    names: &Names,
+    checked: &CheckedLines,
     entries: &[Option<Line>],
 ) -> Result<Vec<Space>, AllocError>
     ensures { IfOk result (λ v. Lasts def.now (λ full. AreSpaces full (spaces (written entries.now)) v.items)) }
 {
     let mut made = Vec::new(alloc);
     for entry in entries {
-        put_space(def, names, &mut made, entry)?;
+        put_space(def, checked, &mut made, entry)?;
     }
     Ok(made)
 }
@@ -54,7 +54,7 @@ pub fn spaces(
 /// Puts the phylum of a line after the others, if it declares one.
 fn put_phylum(
     def: &Definition,
-    names: &Names,
+    checked: &CheckedLines,
     made: &mut Vec<Phylum>,
     entry: &Option<Line>,
 ) -> Result<(), AllocError>
@@ -71,7 +71,7 @@ fn put_phylum(
     else {
         return Ok(());
     };
-    let sort = sort_named(def, names, sort)?;
+    let sort = sort_named(def, checked, sort)?;
     let name = name.share()?;
     made.push(Phylum {
         name,
@@ -85,14 +85,14 @@ fn put_phylum(
 pub fn phyla(
     alloc: Global,
     def: &Definition,
-    names: &Names,
+    checked: &CheckedLines,
     entries: &[Option<Line>],
 ) -> Result<Vec<Phylum>, AllocError>
     ensures { IfOk result (λ v. Lasts def.now (λ full. ArePhyla full (written entries.now) v.items)) }
 {
     let mut made = Vec::new(alloc);
     for entry in entries {
-        put_phylum(def, names, &mut made, entry)?;
+        put_phylum(def, checked, &mut made, entry)?;
     }
     Ok(made)
 }
@@ -101,7 +101,7 @@ pub fn phyla(
 fn put_list(
     alloc: Global,
     def: &Definition,
-    names: &Names,
+    checked: &CheckedLines,
     made: &mut Vec<ListKind>,
     entry: &Option<Line>,
 ) -> Result<(), AllocError>
@@ -121,8 +121,8 @@ fn put_list(
     else {
         return Ok(());
     };
-    let sort = sort_named(def, names, sort)?;
-    let element = phylum_named(def, names, element)?;
+    let sort = sort_named(def, checked, sort)?;
+    let element = phylum_named(def, checked, element)?;
     let name = name.share()?;
     let separator = separator.share()?;
     made.push(ListKind {
@@ -142,14 +142,14 @@ fn put_list(
 pub fn lists(
     alloc: Global,
     def: &Definition,
-    names: &Names,
+    checked: &CheckedLines,
     entries: &[Option<Line>],
 ) -> Result<Vec<ListKind>, AllocError>
     ensures { IfOk result (λ v. Lasts def.now (λ full. AreLists full [] (written entries.now) v.items)) }
 {
     let mut made = Vec::new(alloc);
     for entry in entries {
-        put_list(alloc, def, names, &mut made, entry)?;
+        put_list(alloc, def, checked, &mut made, entry)?;
     }
     Ok(made)
 }

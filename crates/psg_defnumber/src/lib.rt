@@ -1,7 +1,8 @@
 //! Definitions from their lines: names become the positions of what they name.
 //!
 //! ```text
-//! let definition = numbered(alloc, file.version, file.entries.as_slice())?;
+//! let checked = CheckedLines::of(alloc, file.entries.as_slice())?;
+//! let definition = numbered(alloc, file.version, &checked)?;
 //! ```
 //!
 //! `IsNumbered` says what the lines mean together, in the direction of a writer: each part of the definition has a line
@@ -14,7 +15,6 @@ mod holes;
 mod kinds;
 mod list_rows;
 mod lookups;
-mod names;
 pub mod numbering;
 mod operators;
 mod rows;

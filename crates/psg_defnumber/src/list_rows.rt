@@ -10,21 +10,21 @@ ghost use Rattle.psg_defnumber.specs.Filling.{Fills};
 
 use crate::found::{found, holds};
 use crate::lookups::phylum_sort;
-use crate::names::Names;
 use crate::rows::lone_term;
 use crate::terms::term;
 use crate::variables::Known;
 use indexmap::IndexMap;
+use psg_defcheck::CheckedLines;
 use psg_deflines::{Line, LineTerm};
 use psg_grammar::{Definition, ListKind, Row};
 use psg_terms::{Seq, SortId, Txt};
 use std::alloc::{AllocError, Global};
 
 /// The position of the list of the name.
-fn place_of(names: &Names, lists: &[ListKind], name: &Txt) -> Result<usize, AllocError>
+fn place_of(checked: &CheckedLines, lists: &[ListKind], name: &Txt) -> Result<usize, AllocError>
     ensures { IfOk result (λ p. (k : PlainList) × (slice_get lists.now p ≡ Some k) × (k.name ≡ name.now)) }
 {
-    let place = found(names.lists.place(name))?;
+    let place = found(checked.names().lists.place(name.as_str()))?;
     let own = found(lists.get(place))?;
     holds(own.name.same(name))?;
     Ok(place)
@@ -34,7 +34,7 @@ fn place_of(names: &Names, lists: &[ListKind], name: &Txt) -> Result<usize, Allo
 fn put_nil(
     alloc: Global,
     def: &Definition,
-    names: &Names,
+    checked: &CheckedLines,
     lists: &mut Vec<ListKind>,
     list: &Txt,
     term: &LineTerm,
@@ -42,9 +42,9 @@ fn put_nil(
     ensures { OnOk result ((file : List PlainLine)
         → Fills def.now file (file ++ lines.Nil list.now term.now ∷ []) lists.old.items lists.new.items) }
 {
-    let place = place_of(names, lists.as_slice(), list)?;
+    let place = place_of(checked, lists.as_slice(), list)?;
     let own = &mut lists[place];
-    let made = lone_term(alloc, def, names, own.sort, term)?;
+    let made = lone_term(alloc, def, checked, own.sort, term)?;
     own.nil_rows.push(made)?;
     Ok(())
 }
@@ -53,7 +53,7 @@ fn put_nil(
 fn cell(
     alloc: Global,
     def: &Definition,
-    names: &Names,
+    checked: &CheckedLines,
     sort: SortId,
     elements: SortId,
     head: &LineTerm,
@@ -64,9 +64,16 @@ fn cell(
         IsRow full sort.0 (elements.0 ∷ sort.0 ∷ []) head.now (element.now ∷ rest.now ∷ []) r)) }
 {
     let mut known: Known = IndexMap::new(alloc);
-    let head = term(alloc, &def.signature, names, &mut known, sort, head)?;
-    let first = term(alloc, &def.signature, names, &mut known, elements, element)?;
-    let more = term(alloc, &def.signature, names, &mut known, sort, rest)?;
+    let head = term(alloc, &def.signature, checked, &mut known, sort, head)?;
+    let first = term(
+        alloc,
+        &def.signature,
+        checked,
+        &mut known,
+        elements,
+        element,
+    )?;
+    let more = term(alloc, &def.signature, checked, &mut known, sort, rest)?;
     let columns = vec![in alloc; first, more]?;
     Ok(Row {
         head,
@@ -78,7 +85,7 @@ fn cell(
 fn put_cell(
     alloc: Global,
     def: &Definition,
-    names: &Names,
+    checked: &CheckedLines,
     lists: &mut Vec<ListKind>,
     list: &Txt,
     term: &LineTerm,
@@ -89,10 +96,10 @@ fn put_cell(
         → Fills def.now file (file ++ lines.Cell list.now term.now element.now rest.now ∷ [])
         lists.old.items lists.new.items) }
 {
-    let place = place_of(names, lists.as_slice(), list)?;
+    let place = place_of(checked, lists.as_slice(), list)?;
     let own = &mut lists[place];
     let elements = phylum_sort(def, own.element)?;
-    let made = cell(alloc, def, names, own.sort, elements, term, element, rest)?;
+    let made = cell(alloc, def, checked, own.sort, elements, term, element, rest)?;
     own.cell_rows.push(made)?;
     Ok(())
 }
@@ -101,7 +108,7 @@ fn put_cell(
 fn put_list_row(
     alloc: Global,
     def: &Definition,
-    names: &Names,
+    checked: &CheckedLines,
     lists: &mut Vec<ListKind>,
     entry: &Option<Line>,
 ) -> Result<(), AllocError>
@@ -113,7 +120,7 @@ fn put_list_row(
     };
     match line {
         Line::Nil { list, term } => {
-            put_nil(alloc, def, names, lists, list, term)?;
+            put_nil(alloc, def, checked, lists, list, term)?;
             Ok(())
         }
         Line::Cell {
@@ -122,7 +129,7 @@ fn put_list_row(
             element,
             rest,
         } => {
-            put_cell(alloc, def, names, lists, list, term, element, rest)?;
+            put_cell(alloc, def, checked, lists, list, term, element, rest)?;
             Ok(())
         }
         _ => Ok(()),
@@ -133,14 +140,14 @@ fn put_list_row(
 pub fn fill_lists(
     alloc: Global,
     def: &Definition,
-    names: &Names,
+    checked: &CheckedLines,
     lists: &mut Vec<ListKind>,
     entries: &[Option<Line>],
 ) -> Result<(), AllocError>
     ensures { OnOk result (Fills def.now [] (written entries.now) lists.old.items lists.new.items) }
 {
     for entry in entries {
-        put_list_row(alloc, def, names, lists, entry)?;
+        put_list_row(alloc, def, checked, lists, entry)?;
     }
     Ok(())
 }

@@ -9,7 +9,7 @@ ghost use Rattle.psg_defnumber.specs.Growing.{Lasts};
 ghost use Rattle.psg_defnumber.specs.Numbers.{IsKind, IsOperatorNamed, IsSort, IsSpaceNamed};
 
 use crate::found::{found, holds};
-use crate::names::Names;
+use psg_defcheck::CheckedLines;
 use psg_grammar::{Definition, Kind, ListKind, Operator, Phylum};
 use psg_terms::{ConId, Constructor, Signature, SortId, Txt};
 use std::alloc::AllocError;
@@ -31,10 +31,14 @@ pub fn same_kind(kind: Kind, other: Kind) -> Result<(), AllocError>
 }
 
 /// Returns the sort of the name.
-pub fn sort_named(def: &Definition, names: &Names, name: &Txt) -> Result<SortId, AllocError>
+pub fn sort_named(
+    def: &Definition,
+    checked: &CheckedLines,
+    name: &Txt,
+) -> Result<SortId, AllocError>
     ensures { IfOk result (λ s. Lasts def.now (λ full. IsSort full name.now s)) }
 {
-    let place = found(names.sorts.place(name))?;
+    let place = found(checked.names().sorts.place(name.as_str()))?;
     let place = number(place)?;
     holds(place < def.signature.sorts())?;
     let own = def.signature.sort_name(SortId(place));
@@ -45,14 +49,14 @@ pub fn sort_named(def: &Definition, names: &Names, name: &Txt) -> Result<SortId,
 /// Returns the constructor of the name, if it makes terms of the sort, with its number.
 pub fn constructor_named<'d>(
     sig: &'d Signature,
-    names: &Names,
+    checked: &CheckedLines,
     sort: SortId,
     name: &Txt,
 ) -> Result<(ConId, &'d Constructor), AllocError>
     ensures { IfOk result (λ r. (s : Symbol) × (slice_get sig.now.symbols r.0.0 ≡ Some s) × (s.name ≡ name.now)
         × (s.arguments ≡ numbers_of r.1.now.args) × (s.sort ≡ sort.0)) }
 {
-    let place = found(names.constructors.place(name))?;
+    let place = found(checked.names().constructors.place(name.as_str()))?;
     let con = ConId(number(place)?);
     holds(con.0 < sig.constructors())?;
     let own = sig.constructor(con);
@@ -62,34 +66,34 @@ pub fn constructor_named<'d>(
 }
 
 /// Returns the number of the phylum of the name.
-pub fn phylum_named(def: &Definition, names: &Names, name: &Txt) -> Result<u32, AllocError>
+pub fn phylum_named(def: &Definition, checked: &CheckedLines, name: &Txt) -> Result<u32, AllocError>
     ensures { IfOk result (λ p. Lasts def.now (λ full. IsKind full name.now (kinds.Phylum p))) }
 {
-    let place = found(names.phyla.place(name))?;
+    let place = found(checked.names().phyla.place(name.as_str()))?;
     let own = found(def.phyla.as_slice().get(place))?;
     holds(own.name.same(name))?;
     Ok(number(place)?)
 }
 
 /// Returns the number of the list of the name.
-pub fn list_named(def: &Definition, names: &Names, name: &Txt) -> Result<u32, AllocError>
+pub fn list_named(def: &Definition, checked: &CheckedLines, name: &Txt) -> Result<u32, AllocError>
     ensures { IfOk result (λ l. Lasts def.now (λ full. IsKind full name.now (kinds.List l))) }
 {
-    let place = found(names.lists.place(name))?;
+    let place = found(checked.names().lists.place(name.as_str()))?;
     let own = found(def.lists.as_slice().get(place))?;
     holds(own.name.same(name))?;
     Ok(number(place)?)
 }
 
 /// Returns the phylum or list of the name.
-pub fn kind_named(def: &Definition, names: &Names, name: &Txt) -> Result<Kind, AllocError>
+pub fn kind_named(def: &Definition, checked: &CheckedLines, name: &Txt) -> Result<Kind, AllocError>
     ensures { IfOk result (λ k. Lasts def.now (λ full. IsKind full name.now k)) }
 {
-    if names.phyla.place(name).is_some() {
-        let phylum = phylum_named(def, names, name)?;
+    if checked.names().phyla.place(name.as_str()).is_some() {
+        let phylum = phylum_named(def, checked, name)?;
         Ok(Kind::Phylum(phylum))
     } else {
-        let list = list_named(def, names, name)?;
+        let list = list_named(def, checked, name)?;
         Ok(Kind::List(list))
     }
 }
@@ -97,12 +101,12 @@ pub fn kind_named(def: &Definition, names: &Names, name: &Txt) -> Result<Kind, A
 /// Returns the operator of the name, with its number.
 pub fn operator_named<'d>(
     def: &'d Definition,
-    names: &Names,
+    checked: &CheckedLines,
     name: &Txt,
 ) -> Result<(u32, &'d Operator), AllocError>
     ensures { IfOk result (λ r. Lasts def.now (λ full. IsOperatorNamed full name.now r.0 r.1.now)) }
 {
-    let place = found(names.operators.place(name))?;
+    let place = found(checked.names().operators.place(name.as_str()))?;
     let own = found(def.operators.as_slice().get(place))?;
     holds(own.name.same(name))?;
     let number = number(place)?;
@@ -110,13 +114,13 @@ pub fn operator_named<'d>(
 }
 
 /// Returns the number of the space of the name. Without a name it is the first one.
-pub fn space_named(def: &Definition, names: &Names, name: &Txt) -> Result<u32, AllocError>
+pub fn space_named(def: &Definition, checked: &CheckedLines, name: &Txt) -> Result<u32, AllocError>
     ensures { IfOk result (λ s. Lasts def.now (λ full. IsSpaceNamed full name.now s)) }
 {
     if name.as_str().is_empty() {
         return Ok(0);
     }
-    let place = found(names.spaces.place(name))?;
+    let place = found(checked.names().spaces.place(name.as_str()))?;
     let own = found(def.spaces.as_slice().get(place))?;
     holds(own.name.same(name))?;
     Ok(number(place)?)

@@ -9,15 +9,15 @@ ghost use Rattle.psg_defnumber.specs.Numbers.{IsItem, AreItems, AreRows, AreOper
 ghost use Rattle.psg_defnumber.specs.Putting.{Puts, ReadsColumns, ReadsRows, ReadsOperators, IsOperatorEntry};
 
 use crate::lookups::{kind_named, kind_sort, phylum_named, phylum_sort, space_named, space_sort};
-use crate::names::Names;
 use crate::rows::row;
+use psg_defcheck::CheckedLines;
 use psg_deflines::{Line, LineItem};
 use psg_grammar::{Definition, Item, Operator, Row};
 use psg_terms::{Seq, SortId};
 use std::alloc::{AllocError, Global};
 
 /// An item of an operator.
-fn item(def: &Definition, names: &Names, part: &LineItem) -> Result<Item, AllocError>
+fn item(def: &Definition, checked: &CheckedLines, part: &LineItem) -> Result<Item, AllocError>
     ensures { IfOk result (λ i. Lasts def.now (λ full. IsItem full part.now i)) }
 {
     match part {
@@ -26,15 +26,15 @@ fn item(def: &Definition, names: &Names, part: &LineItem) -> Result<Item, AllocE
             Ok(Item::Word(word))
         }
         LineItem::Slot(name) => {
-            let kind = kind_named(def, names, name)?;
+            let kind = kind_named(def, checked, name)?;
             Ok(Item::Slot(kind))
         }
         LineItem::Refers(name) => {
-            let space = space_named(def, names, name)?;
+            let space = space_named(def, checked, name)?;
             Ok(Item::Refers(space))
         }
         LineItem::Declares(name) => {
-            let space = space_named(def, names, name)?;
+            let space = space_named(def, checked, name)?;
             Ok(Item::Declares(space))
         }
         LineItem::Number => Ok(Item::Number),
@@ -51,14 +51,14 @@ fn item(def: &Definition, names: &Names, part: &LineItem) -> Result<Item, AllocE
 fn items(
     alloc: Global,
     def: &Definition,
-    names: &Names,
+    checked: &CheckedLines,
     parts: &[LineItem],
 ) -> Result<Vec<Item>, AllocError>
     ensures { IfOk result (λ v. Lasts def.now (λ full. AreItems full parts.now v.items)) }
 {
     let mut made = Vec::with_capacity(alloc, parts.len())?;
     for part in parts {
-        let one = item(def, names, part)?;
+        let one = item(def, checked, part)?;
         made.push(one)?;
     }
     Ok(made)
@@ -117,7 +117,7 @@ fn is_operator(entry: &Option<Line>) -> bool
 fn put_row(
     alloc: Global,
     def: &Definition,
-    names: &Names,
+    checked: &CheckedLines,
     sort: SortId,
     sorts: &[SortId],
     made: &mut Vec<Row>,
@@ -137,7 +137,7 @@ fn put_row(
     else {
         return Ok(());
     };
-    let one = row(alloc, def, names, sort, sorts, head, written.as_slice())?;
+    let one = row(alloc, def, checked, sort, sorts, head, written.as_slice())?;
     made.push(one)?;
     Ok(())
 }
@@ -146,7 +146,7 @@ fn put_row(
 fn rows(
     alloc: Global,
     def: &Definition,
-    names: &Names,
+    checked: &CheckedLines,
     sort: SortId,
     sorts: &[SortId],
     behind: &[Option<Line>],
@@ -159,7 +159,7 @@ fn rows(
         if is_operator(entry) {
             return Ok(made);
         }
-        put_row(alloc, def, names, sort, sorts, &mut made, entry)?;
+        put_row(alloc, def, checked, sort, sorts, &mut made, entry)?;
     }
     Ok(made)
 }
@@ -168,7 +168,7 @@ fn rows(
 fn put_operator(
     alloc: Global,
     def: &Definition,
-    names: &Names,
+    checked: &CheckedLines,
     made: &mut Vec<Operator>,
     entry: &Option<Line>,
     behind: &[Option<Line>],
@@ -188,11 +188,11 @@ fn put_operator(
     else {
         return Ok(());
     };
-    let phylum = phylum_named(def, names, phylum)?;
+    let phylum = phylum_named(def, checked, phylum)?;
     let sort = phylum_sort(def, phylum)?;
-    let items = items(alloc, def, names, parts.as_slice())?;
+    let items = items(alloc, def, checked, parts.as_slice())?;
     let sorts = columns(alloc, def, items.as_slice())?;
-    let rows = rows(alloc, def, names, sort, sorts.as_slice(), behind)?;
+    let rows = rows(alloc, def, checked, sort, sorts.as_slice(), behind)?;
     let name = name.share()?;
     made.push(Operator {
         name,
@@ -209,14 +209,21 @@ fn put_operator(
 pub fn operators(
     alloc: Global,
     def: &Definition,
-    names: &Names,
+    checked: &CheckedLines,
     entries: &[Option<Line>],
 ) -> Result<Vec<Operator>, AllocError>
     ensures { IfOk result (λ v. Lasts def.now (λ full. AreOperators full (written entries.now) v.items)) }
 {
     let mut made = Vec::new(alloc);
     for i in 0..entries.len() {
-        put_operator(alloc, def, names, &mut made, &entries[i], &entries[i + 1..])?;
+        put_operator(
+            alloc,
+            def,
+            checked,
+            &mut made,
+            &entries[i],
+            &entries[i + 1..],
+        )?;
     }
     Ok(made)
 }

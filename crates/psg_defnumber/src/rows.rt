@@ -6,11 +6,11 @@ ghost use Rattle.psg_defnumber.specs.Growing.{Lasts};
 ghost use Rattle.psg_defnumber.specs.Numbers.{IsRow, IsNil, IsCase, IsDeclareRow};
 
 use crate::lookups::{list_at, list_named, phylum_sort, space_named, space_sort};
-use crate::names::Names;
 use crate::specimens::specimen;
 use crate::terms::{term, terms};
 use crate::variables::Known;
 use indexmap::IndexMap;
+use psg_defcheck::CheckedLines;
 use psg_deflines::{LineTerm, LineTree};
 use psg_grammar::{Case, DeclareRow, Definition, Kind, Row};
 use psg_terms::{Seq, SortId, Term, Txt};
@@ -20,7 +20,7 @@ use std::alloc::{AllocError, Global};
 pub fn row(
     alloc: Global,
     def: &Definition,
-    names: &Names,
+    checked: &CheckedLines,
     sort: SortId,
     sorts: &[SortId],
     head: &LineTerm,
@@ -30,8 +30,8 @@ pub fn row(
         IsRow full sort.0 (numbers_of sorts.now) head.now columns.now r)) }
 {
     let mut known: Known = IndexMap::new(alloc);
-    let head = term(alloc, &def.signature, names, &mut known, sort, head)?;
-    let columns = terms(alloc, &def.signature, names, &mut known, sorts, columns)?;
+    let head = term(alloc, &def.signature, checked, &mut known, sort, head)?;
+    let columns = terms(alloc, &def.signature, checked, &mut known, sorts, columns)?;
     Ok(Row {
         head,
         columns: Seq::of(columns),
@@ -42,14 +42,14 @@ pub fn row(
 pub fn lone_term(
     alloc: Global,
     def: &Definition,
-    names: &Names,
+    checked: &CheckedLines,
     sort: SortId,
     written: &LineTerm,
 ) -> Result<Term, AllocError>
     ensures { IfOk result (λ t. Lasts def.now (λ full. IsNil full sort.0 written.now t)) }
 {
     let mut known: Known = IndexMap::new(alloc);
-    let made = term(alloc, &def.signature, names, &mut known, sort, written)?;
+    let made = term(alloc, &def.signature, checked, &mut known, sort, written)?;
     Ok(made)
 }
 
@@ -57,7 +57,7 @@ pub fn lone_term(
 pub fn case(
     alloc: Global,
     def: &Definition,
-    names: &Names,
+    checked: &CheckedLines,
     kind: Kind,
     sort: SortId,
     written: &LineTerm,
@@ -66,8 +66,8 @@ pub fn case(
     ensures { IfOk result (λ one. Lasts def.now (λ full. IsCase full kind sort.0 written.now tree.now one)) }
 {
     let mut known: Known = IndexMap::new(alloc);
-    let made = term(alloc, &def.signature, names, &mut known, sort, written)?;
-    let shown = specimen(alloc, def, names, &mut known, kind, tree)?;
+    let made = term(alloc, &def.signature, checked, &mut known, sort, written)?;
+    let shown = specimen(alloc, def, checked, &mut known, kind, tree)?;
     Ok(Case {
         term: made,
         specimen: shown,
@@ -78,7 +78,7 @@ pub fn case(
 pub fn declare_row(
     alloc: Global,
     def: &Definition,
-    names: &Names,
+    checked: &CheckedLines,
     space: &Txt,
     list: &Txt,
     entity: &LineTerm,
@@ -88,16 +88,16 @@ pub fn declare_row(
     ensures { IfOk result (λ r. Lasts def.now
         (λ full. IsDeclareRow full space.now list.now entity.now value.now tree.now r)) }
 {
-    let list = list_named(def, names, list)?;
+    let list = list_named(def, checked, list)?;
     let own = list_at(def, list)?;
-    let space = space_named(def, names, space)?;
+    let space = space_named(def, checked, space)?;
     let entities = space_sort(def, space)?;
     let values = phylum_sort(def, own.element)?;
     let mut known: Known = IndexMap::new(alloc);
-    let entity = term(alloc, &def.signature, names, &mut known, entities, entity)?;
-    let value = term(alloc, &def.signature, names, &mut known, values, value)?;
+    let entity = term(alloc, &def.signature, checked, &mut known, entities, entity)?;
+    let value = term(alloc, &def.signature, checked, &mut known, values, value)?;
     let kind = Kind::Phylum(own.element);
-    let shown = specimen(alloc, def, names, &mut known, kind, tree)?;
+    let shown = specimen(alloc, def, checked, &mut known, kind, tree)?;
     Ok(DeclareRow {
         space,
         list,

@@ -11,9 +11,9 @@ ghost use Rattle.psg_defnumber.specs.Fitting.{PartFits, PartsFit, ElementsFit, R
 
 use crate::found::{found, holds};
 use crate::lookups::{kind_named, kind_sort, list_at, operator_named, same_kind};
-use crate::names::Names;
 use crate::terms::term;
 use crate::variables::Known;
+use psg_defcheck::CheckedLines;
 use psg_deflines::{LinePart, LinePlace, LineTree, TreeShape};
 use psg_grammar::{Definition, Item, Kind, Specimen, SpecimenHole, SpecimenPart};
 use psg_terms::Seq;
@@ -43,16 +43,16 @@ fn decimal(digits: &str) -> Result<u128, AllocError>
 fn place<'a>(
     alloc: Global,
     def: &Definition,
-    names: &Names,
+    checked: &CheckedLines,
     known: &mut Known<'a>,
     written: &'a LinePlace,
 ) -> Result<SpecimenHole, AllocError>
     ensures { IfOk result (λ h. IsMade def.now known.old.entries known.new.entries (h.term ∷ [])
         (λ full names. IsPlace full names written.now.kind written.now.term h)) }
 {
-    let kind = kind_named(def, names, &written.kind)?;
+    let kind = kind_named(def, checked, &written.kind)?;
     let sort = kind_sort(def, kind)?;
-    let made = term(alloc, &def.signature, names, known, sort, &written.term)?;
+    let made = term(alloc, &def.signature, checked, known, sort, &written.term)?;
     Ok(SpecimenHole { kind, term: made })
 }
 
@@ -60,7 +60,7 @@ fn place<'a>(
 fn list_rest<'a>(
     alloc: Global,
     def: &Definition,
-    names: &Names,
+    checked: &CheckedLines,
     known: &mut Known<'a>,
     list: u32,
     written: &'a Option<LinePlace>,
@@ -71,7 +71,7 @@ fn list_rest<'a>(
     match written {
         None => Ok(None),
         Some(own) => {
-            let made = place(alloc, def, names, known, own)?;
+            let made = place(alloc, def, checked, known, own)?;
             same_kind(made.kind, Kind::List(list))?;
             Ok(Some(made))
         }
@@ -106,7 +106,7 @@ fn has_part(item: &Item) -> bool
 fn part<'a>(
     alloc: Global,
     def: &Definition,
-    names: &Names,
+    checked: &CheckedLines,
     known: &mut Known<'a>,
     item: &Item,
     written: &'a LinePart,
@@ -119,7 +119,7 @@ fn part<'a>(
             let LinePart::Tree(tree) = written else {
                 return Err(AllocError);
             };
-            let made = specimen(alloc, def, names, known, *kind, tree)?;
+            let made = specimen(alloc, def, checked, known, *kind, tree)?;
             Ok(SpecimenPart::Sub(made))
         }
         Item::Refers(_) | Item::Declares(_) => {
@@ -149,7 +149,7 @@ fn part<'a>(
 fn parts<'a>(
     alloc: Global,
     def: &Definition,
-    names: &Names,
+    checked: &CheckedLines,
     known: &mut Known<'a>,
     items: &[&Item],
     written: &'a [LinePart],
@@ -160,7 +160,7 @@ fn parts<'a>(
     holds(items.len() == written.len())?;
     let mut made = Vec::with_capacity(alloc, written.len())?;
     for i in 0..written.len() {
-        let one = part(alloc, def, names, known, items[i], &written[i])?;
+        let one = part(alloc, def, checked, known, items[i], &written[i])?;
         made.push(one)?;
     }
     Ok(made)
@@ -171,7 +171,7 @@ fn parts<'a>(
 fn elements<'a>(
     alloc: Global,
     def: &Definition,
-    names: &Names,
+    checked: &CheckedLines,
     known: &mut Known<'a>,
     phylum: u32,
     written: &'a [LineTree],
@@ -181,7 +181,7 @@ fn elements<'a>(
 {
     let mut made = Vec::with_capacity(alloc, written.len())?;
     for tree in written {
-        let one = specimen(alloc, def, names, known, Kind::Phylum(phylum), tree)?;
+        let one = specimen(alloc, def, checked, known, Kind::Phylum(phylum), tree)?;
         made.push(one)?;
     }
     Ok(made)
@@ -192,7 +192,7 @@ fn elements<'a>(
 pub fn specimen<'a>(
     alloc: Global,
     def: &Definition,
-    names: &Names,
+    checked: &CheckedLines,
     known: &mut Known<'a>,
     kind: Kind,
     written: &'a LineTree,
@@ -205,13 +205,13 @@ pub fn specimen<'a>(
             name,
             parts: written,
         } => {
-            let (op, own) = operator_named(def, names, name)?;
+            let (op, own) = operator_named(def, checked, name)?;
             same_kind(kind, Kind::Phylum(own.phylum))?;
             let items = items_of(alloc, own.items.as_slice())?;
             let made = parts(
                 alloc,
                 def,
-                names,
+                checked,
                 known,
                 items.as_slice(),
                 written.as_slice(),
@@ -229,8 +229,8 @@ pub fn specimen<'a>(
                 return Err(AllocError);
             };
             let own = list_at(def, list)?;
-            let made = elements(alloc, def, names, known, own.element, written.as_slice())?;
-            let rest = list_rest(alloc, def, names, known, list, rest)?;
+            let made = elements(alloc, def, checked, known, own.element, written.as_slice())?;
+            let rest = list_rest(alloc, def, checked, known, list, rest)?;
             Ok(Specimen::List {
                 list,
                 elements: Seq::of(made),
@@ -238,7 +238,7 @@ pub fn specimen<'a>(
             })
         }
         TreeShape::Place(own) => {
-            let made = place(alloc, def, names, known, own)?;
+            let made = place(alloc, def, checked, known, own)?;
             same_kind(made.kind, kind)?;
             Ok(Specimen::Hole(made))
         }

@@ -5,8 +5,8 @@ ghost use Rattle.psg_defnumber.specs.Naming.{IsMadeTerm, AreMadeTerms};
 
 use crate::found::holds;
 use crate::lookups::constructor_named;
-use crate::names::Names;
 use crate::variables::{Known, variable};
+use psg_defcheck::CheckedLines;
 use psg_deflines::{LineTerm, TermShape};
 use psg_terms::{Signature, SortId, Term};
 use std::alloc::{AllocError, Global};
@@ -16,7 +16,7 @@ use std::alloc::{AllocError, Global};
 pub fn term<'a>(
     alloc: Global,
     sig: &Signature,
-    names: &Names,
+    checked: &CheckedLines,
     known: &mut Known<'a>,
     sort: SortId,
     written: &'a LineTerm,
@@ -36,11 +36,11 @@ pub fn term<'a>(
             }
         },
         TermShape::Named { name, args } => {
-            let (con, own) = constructor_named(sig, names, sort, name)?;
+            let (con, own) = constructor_named(sig, checked, sort, name)?;
             let args = terms(
                 alloc,
                 sig,
-                names,
+                checked,
                 known,
                 own.args.as_slice(),
                 args.as_slice(),
@@ -56,7 +56,7 @@ pub fn term<'a>(
 pub fn terms<'a>(
     alloc: Global,
     sig: &Signature,
-    names: &Names,
+    checked: &CheckedLines,
     known: &mut Known<'a>,
     sorts: &[SortId],
     written: &'a [LineTerm],
@@ -67,7 +67,7 @@ pub fn terms<'a>(
     holds(sorts.len() == written.len())?;
     let mut made = Vec::with_capacity(alloc, written.len())?;
     for i in 0..written.len() {
-        let one = term(alloc, sig, names, known, sorts[i], &written[i])?;
+        let one = term(alloc, sig, checked, known, sorts[i], &written[i])?;
         made.push(one)?;
     }
     Ok(made)

@@ -17,7 +17,8 @@ use Rattle.psg_deflines.specs.declared.fault.ReadFault.{ReadFault}
 use Rattle.psg_deflines.specs.declared.fault.ReadFault.TheVariants.{Def, Memory}
 use Rattle.psg_deflines.specs.Refusals.{IsFormFault}
 use Rattle.psg_deflines.specs.declared.lines.Line.{Line}
-use Rattle.psg_defcheck.specs.Faults.{meaning_codes, PassesMeaning, ArePassed, IsMeaningFault, IsFirstFault}
+use Rattle.psg_defcheck.specs.Faults.{meaning_codes, PassesMeaning, ArePassed, IsMeaningFault}
+use Rattle.psg_defcheck.specs.Checks.{IsCheckFault}
 use Rattle.psg_defread.specs.Refusals.{HasMeaningFault, IsReadFault, Refusal, no_form, no_meaning}
 use Rattle.psg_defread.specs.Reading.{IsFaultless, Spells}
 use Rattle.psg_defnumber.specs.Numbers.{IsNumbered}
@@ -29,7 +30,7 @@ written_append (None ∷ xs) ys = written_append xs ys
 written_append (Some x ∷ xs) ys = ap (λ r. x ∷ r) (written_append xs ys)
 
 -- what passes all tests has no first one that fails
-all_pass : (Passes : DefCode → Type 0) (tests : List DefCode) (code : DefCode) → AllByRecursion Passes tests → IsFirstOf Passes tests code → ⊥
+pub all_pass : (Passes : DefCode → Type 0) (tests : List DefCode) (code : DefCode) → AllByRecursion Passes tests → IsFirstOf Passes tests code → ⊥
 all_pass Passes [] code all first = first
 all_pass Passes (t ∷ tests) code all (inl (fails, is)) = fails all.0
 all_pass Passes (t ∷ tests) code all (inr (passes, first)) = all_pass Passes tests code all.1 first
@@ -53,7 +54,7 @@ all_of version (line ∷ lines) h = (h.0.of_version, all_of version lines h.1)
 
 -- the only entries are those that were read
 pub faultless : (bytes : List ℕ) (version : ℕ) (entries : List Entry) → AreLinesOf bytes version entries → ((v : ℕ) (other : List Entry) → HasEntries bytes v other → (v ≡ version) × (other ≡ entries))
-    → HasNoFormFault bytes → IsFirstFault entries None → IsFaultless bytes
+    → HasNoFormFault bytes → ArePassed (written entries) [] (written entries) → IsFaultless bytes
 faultless bytes version entries read only none passed fault (no_form f) = none fault f
 faultless bytes version entries read only none passed fault (no_meaning v utf8 head m) =
     let same : m.entries ≡ entries = (only v m.entries (record { utf8 = utf8; spelled = record { head = head; each = m.each; of_version = all_of v (written m.entries) m.plain } })).1 in
@@ -80,3 +81,19 @@ one_read bytes version entries def only numbered once other s =
     once version (written entries) other def
     (subst (λ v. IsNumbered v (written entries) other) e.0
     (subst (λ es. IsNumbered s.version (written es) other) e.1 s.numbered)) numbered
+
+-- a fault of the meaning of the lines, handed on
+pub meaning_passed : {T : Type 0} (bytes : List ℕ) (version : ℕ) (entries : List Entry) (r : Result T ReadFault) (fault : ReadFault) → AreLinesOf bytes version entries → IsErrAnd r (λ e. e ≡ fault) → IsCheckFault entries fault → IfErr r (IsReadFault bytes)
+meaning_passed bytes version entries r fault read h f = let q = err_from_is_err_and r h in rw q.1 (subst (IsReadFault bytes) (sym q.2) (refused fault f))
+  where
+    refused : (fault : ReadFault) → IsCheckFault entries fault → IsReadFault bytes fault
+    refused (Def fault) m = meaning_refused bytes version entries fault read m
+    refused Memory m = m
+
+-- memory that ran out, handed on
+pub memory_passed : {T : Type 0} (bytes : List ℕ) (r : Result T ReadFault) → IsErrAnd r (λ e. e ≡ Memory) → IfErr r (IsReadFault bytes)
+memory_passed bytes r h = let q = err_from_is_err_and r h in rw q.1 (subst (IsReadFault bytes) (sym q.2) tt)
+
+-- the lines that were checked are those of the entries that were read
+pub checked_lines : {checked : List Line} {seen entries : List Entry} → checked ≡ written seen → seen ≡ entries → checked ≡ written entries
+checked_lines e f = e ∙ ap written f

@@ -1,2 +1,5 @@
 pub mod Refusals
 pub mod Reading
+pub mod WrittenLines
+pub mod Layout
+pub mod ConstructorAt

@@ -6,7 +6,7 @@ ghost use Rattle.psg_deflaws.specs.Soundness.{HasTokenWords};
 ghost use Rattle.psg_defread.specs.Refusals.{IsReadFault};
 ghost use Rattle.psg_defread.specs.Reading.{Spells, IsFaultless};
 
-use psg_defcheck::first_fault;
+use psg_defcheck::CheckedLines;
 use psg_deflaws::laws::{numbered_is_sound, one_numbering, words_are_tokens};
 use psg_deflines::{ReadFault, read_lines};
 use psg_defnumber::numbered;
@@ -27,10 +27,8 @@ pub fn read_definition(alloc: Global, bytes: &[u8]) -> Result<Definition, ReadFa
 {
     let found = read_lines(alloc, bytes)?;
     let entries = found.entries.as_slice();
-    if let Some(fault) = first_fault(alloc, entries)? {
-        return Err(ReadFault::Def(fault));
-    }
-    let definition = numbered(alloc, found.version, entries)?;
+    let checked = CheckedLines::of(alloc, entries)?;
+    let definition = numbered(alloc, found.version, &checked)?;
     one_numbering();
     numbered_is_sound();
     words_are_tokens();

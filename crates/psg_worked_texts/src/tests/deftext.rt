@@ -1,6 +1,5 @@
 //! Definitions that are written and read back.
-use psg_defread::read_definition;
-use psg_deftext::definition_text;
+use psg_defread::{definition_text, read_definition};
 use psg_langs::{CONSTS, LEVELS, MINI, TINY};
 use std::alloc::{AllocError, Global};
 use std::test::Fail;

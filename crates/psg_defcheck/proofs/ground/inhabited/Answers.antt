@@ -6,7 +6,7 @@ use Rattle.psg_defcheck.proofs.ground.inhabited.Goals as goal
 
 pub loop-more-init : goal.loop-more-init
 loop-more-init c =
-    marking-step c.args.scope.now c.none-marks.result c.mark_in_turn.new.marks c.entries-entries.result.now true true c.entries-entries.ensures (marking-begin c.args.scope.now c.none-marks.result c.none-marks.ensures)
+    marking-step c.args.scope.now c.none-marks.result c.mark_in_turn.new.marks c.entries-entries.result.now true true c.entries-entries.ensures (marking-begin c.args.scope.now c.none-marks.result c.none-marks.ensures.none)
     c.in_ok-mark_in_turn.ensures.right tt
 
 pub loop-more-preserved : goal.loop-more-preserved

@@ -19,4 +19,4 @@ returns-then-contains-2 c = λ before are. (
 pub loop-constructor-preserved : goal.loop-constructor-preserved
 loop-constructor-preserved c =
     new-step c.args.names.now c.loop-constructor.seen c.insert.new.self c.args.constructors.now c.loop-constructor.constructor-index c.constructor-item.result c.as_str-name.result.now c.contains.result c.contains-in-loop-constructor.result
-    c.loop-constructor.invariant c.loop-constructor-test.true c.constructor-item.is c.as_str-name.ensures c.if-contains.false c.contains.ensures c.if-contains-2.false c.contains-in-loop-constructor.ensures c.in_ok-insert.ensures
+    c.loop-constructor.invariant c.loop-constructor-test.true c.constructor-item.is c.as_str-name.ensures c.if-contains.false c.contains.ensures c.if-contains-2.false c.contains-in-loop-constructor.ensures c.in_ok-insert.ensures.last

@@ -1,0 +1,14 @@
+use Rattle.std.proofs.Common.{ap}
+use Rattle.psg_defcheck.specs.Scopes.{sort_names}
+use Rattle.psg_defcheck.proofs.CheckLaws.{is-there, is-placed, few-sort_names}
+use Rattle.psg_defcheck.proofs.checked_lines.CheckedLines.sort.Goals as goal
+
+pub number-requires-clause-there : goal.number-requires-clause-there
+number-requires-clause-there c =
+    is-there c.self.inside.names.sorts _ (sort_names c.args.self.now) c.self.invariant.names.sorts (ap sort_names c.self.view_is) c.args.name.now (c.requires)
+
+pub number-requires-clause-few : goal.number-requires-clause-few
+number-requires-clause-few c = few-sort_names c.self.inside.names.sorts c.self.inside.entries.now c.self.invariant.names.sorts c.self.invariant.few
+
+pub returns : goal.returns
+returns c = is-placed c.self.inside.names.sorts _ (sort_names c.args.self.now) c.self.invariant.names.sorts (ap sort_names c.self.view_is) c.args.name.now c.number.result c.number.ensures

@@ -1,0 +1,16 @@
+use Rattle.std.proofs.Common.{arith}
+use Rattle.psg_defread.specs.WrittenLines.{phylum_line}
+use Rattle.psg_defread.proofs.WriteLaws.{pushed, pushed-all}
+use Rattle.psg_defread.proofs.kinds.push_phyla.Goals as goal
+
+pub loop-i-preserved : goal.loop-i-preserved
+loop-i-preserved c =
+    pushed (phylum_line c.args.def.now) c.args.phyla.now c.loop-i.i c.index-phyla-i.result c.in_ok-line.line
+    c.args.out.now.items
+    c.loop-i.out.items c.push.new.self.items c.loop-i-test.true c.index-phyla-i.is c.in_ok-line.ensures
+    c.in_ok-push.ensures.items c.loop-i.invariant
+
+pub returns : goal.returns
+returns c =
+    pushed-all (phylum_line c.args.def.now) c.args.phyla.now c.loop-i.i c.args.out.now.items c.loop-i.out.items
+    (omega (arith, c.loop-i-test.false)) c.loop-i.invariant

@@ -1,0 +1,20 @@
+use Rattle.std.proofs.Common.{arith, map, ap, ◌++◌, ◌∙◌}
+use Rattle.psg_deflines.specs.declared.lines.Line.TheVariants as lines
+use Rattle.psg_defread.specs.WrittenLines.{term_written}
+use Rattle.psg_defread.proofs.WriteLaws.{pushed, pushed-all}
+use Rattle.psg_defread.proofs.list_rows.push_list_nils.Goals as goal
+
+pub loop-i-preserved : goal.loop-i-preserved
+loop-i-preserved c =
+    pushed (λ t. lines.Nil c.args.list.now.name (term_written c.args.def.now t)) c.as_slice-rows.result.now
+    c.loop-i.i c.index-rows-i.result c.in_ok-line.line c.args.out.now.items
+    c.loop-i.out.items c.push.new.self.items c.loop-i-test.true c.index-rows-i.is c.in_ok-line.ensures
+    c.in_ok-push.ensures.items c.loop-i.invariant
+
+pub returns : goal.returns
+returns c =
+    pushed-all (λ t. lines.Nil c.args.list.now.name (term_written c.args.def.now t)) c.as_slice-rows.result.now
+    c.loop-i.i c.args.out.now.items c.loop-i.out.items
+    (omega (arith, c.loop-i-test.false)) c.loop-i.invariant
+    ∙ ap (λ xs. c.args.out.now.items ++ map (λ t. lines.Nil c.args.list.now.name (term_written c.args.def.now t)) xs)
+    c.as_slice-rows.ensures

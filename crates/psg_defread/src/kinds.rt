@@ -1,0 +1,97 @@
+//! The lines of spaces, of phyla and of lists.
+ghost use Rattle.std.specs.Prelude.{◌≡◌, ◌++◌, map, IfOk, OnOk};
+ghost use Rattle.psg_defread.specs.WrittenLines.{space_line, phylum_line, list_line};
+
+use crate::names::{phylum_name, sort_name};
+use psg_deflines::Line;
+use psg_grammar::{Definition, ListKind, Phylum, Space};
+use std::alloc::{AllocError, Global};
+
+/// The line of a space.
+fn space_line(alloc: Global, def: &Definition, space: &Space) -> Result<Line, AllocError>
+    ensures { IfOk result (λ l. l ≡ space_line def.now space.now) }
+{
+    let name = space.name.share()?;
+    let sort = sort_name(alloc, def, space.sort)?;
+    Ok(Line::Space { name, sort })
+}
+
+/// Puts the lines of spaces after the others.
+pub fn push_spaces(
+    alloc: Global,
+    def: &Definition,
+    spaces: &[Space],
+    out: &mut Vec<Line>,
+) -> Result<(), AllocError>
+    ensures { OnOk result (out.new.items ≡ out.old.items ++ map (space_line def.now) spaces.now) }
+{
+    for i in 0..spaces.len() {
+        let line = space_line(alloc, def, &spaces[i])?;
+        out.push(line)?;
+    }
+    Ok(())
+}
+
+/// The line of a phylum.
+fn phylum_line(alloc: Global, def: &Definition, phylum: &Phylum) -> Result<Line, AllocError>
+    ensures { IfOk result (λ l. l ≡ phylum_line def.now phylum.now) }
+{
+    let name = phylum.name.share()?;
+    let sort = sort_name(alloc, def, phylum.sort)?;
+    let bracketed = phylum.bracketed;
+    Ok(Line::Phylum {
+        name,
+        sort,
+        bracketed,
+    })
+}
+
+/// Puts the lines of phyla after the others.
+pub fn push_phyla(
+    alloc: Global,
+    def: &Definition,
+    phyla: &[Phylum],
+    out: &mut Vec<Line>,
+) -> Result<(), AllocError>
+    ensures { OnOk result (out.new.items ≡ out.old.items ++ map (phylum_line def.now) phyla.now) }
+{
+    for i in 0..phyla.len() {
+        let line = phylum_line(alloc, def, &phyla[i])?;
+        out.push(line)?;
+    }
+    Ok(())
+}
+
+/// The line of a list.
+fn list_line(alloc: Global, def: &Definition, list: &ListKind) -> Result<Line, AllocError>
+    ensures { IfOk result (λ l. l ≡ list_line def.now list.now) }
+{
+    let name = list.name.share()?;
+    let sort = sort_name(alloc, def, list.sort)?;
+    let element = phylum_name(alloc, def, list.element)?;
+    let separator = list.separator.share()?;
+    Ok(Line::List {
+        name,
+        sort,
+        element,
+        separator,
+        lines: list.lines,
+        unfinished: list.unfinished,
+    })
+}
+
+/// Puts the lines of lists after the others.
+pub fn push_lists(
+    alloc: Global,
+    def: &Definition,
+    lists: &[ListKind],
+    out: &mut Vec<Line>,
+) -> Result<(), AllocError>
+    ensures { OnOk result (out.new.items ≡ out.old.items ++ map (list_line def.now) lists.now) }
+{
+    for i in 0..lists.len() {
+        let line = list_line(alloc, def, &lists[i])?;
+        out.push(line)?;
+    }
+    Ok(())
+}

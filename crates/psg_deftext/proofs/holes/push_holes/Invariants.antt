@@ -1,7 +1,0 @@
-use Rattle.std.proofs.Common.{◌≡◌, ◌++◌, take}
-use Rattle.std.specs.List.{flat_map}
-use Rattle.psg_deftext.specs.WrittenLines.{hole_lines}
-use Rattle.psg_deftext.proofs.holes.push_holes.Given as goal
-
-abbrev pub invariant-loop-i : goal.invariant-loop-i
-invariant-loop-i l = l.out.items ≡ l.initial.out.items ++ flat_map (hole_lines l.def) (take l.i l.rows)

@@ -1,6 +1,0 @@
-use Rattle.std.proofs.Common.{◌≡◌, ◌++◌, map, take}
-use Rattle.psg_deftext.specs.WrittenLines.{list_line}
-use Rattle.psg_deftext.proofs.kinds.push_lists.Given as goal
-
-abbrev pub invariant-loop-i : goal.invariant-loop-i
-invariant-loop-i l = l.out.items ≡ l.initial.out.items ++ map (list_line l.def) (take l.i l.lists)

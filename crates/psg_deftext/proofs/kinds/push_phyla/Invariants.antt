@@ -1,6 +1,0 @@
-use Rattle.std.proofs.Common.{◌≡◌, ◌++◌, map, take}
-use Rattle.psg_deftext.specs.WrittenLines.{phylum_line}
-use Rattle.psg_deftext.proofs.kinds.push_phyla.Given as goal
-
-abbrev pub invariant-loop-i : goal.invariant-loop-i
-invariant-loop-i l = l.out.items ≡ l.initial.out.items ++ map (phylum_line l.def) (take l.i l.phyla)

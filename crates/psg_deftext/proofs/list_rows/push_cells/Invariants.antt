@@ -1,7 +1,0 @@
-use Rattle.std.proofs.Common.{◌≡◌, ◌++◌, take}
-use Rattle.std.specs.List.{flat_map}
-use Rattle.psg_deftext.specs.WrittenLines.{cell_lines}
-use Rattle.psg_deftext.proofs.list_rows.push_cells.Given as goal
-
-abbrev pub invariant-loop-i : goal.invariant-loop-i
-invariant-loop-i l = l.out.items ≡ l.initial.out.items ++ flat_map (cell_lines l.def) (take l.i l.lists)

@@ -1,6 +1,0 @@
-use Rattle.std.proofs.Common.{◌≡◌, ◌++◌, map, take}
-use Rattle.psg_deftext.specs.WrittenLines.{cell_line}
-use Rattle.psg_deftext.proofs.list_rows.push_list_cells.Given as goal
-
-abbrev pub invariant-loop-i : goal.invariant-loop-i
-invariant-loop-i l = l.out.items ≡ l.initial.out.items ++ map (cell_line l.def l.list.name) (take l.i l.rows)

@@ -1,6 +1,0 @@
-use Rattle.std.proofs.Common.{◌≡◌, map, take}
-use Rattle.psg_deftext.specs.WrittenLines.{item_written}
-use Rattle.psg_deftext.proofs.operators.items_written.Given as goal
-
-abbrev pub invariant-loop-i : goal.invariant-loop-i
-invariant-loop-i l = l.written.items ≡ map (item_written l.def) (take l.i l.items)

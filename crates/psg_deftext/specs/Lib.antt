@@ -1,3 +1,0 @@
-pub mod WrittenLines
-pub mod Layout
-pub mod ConstructorAt
