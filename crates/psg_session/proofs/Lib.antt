@@ -59,3 +59,4 @@ pub mod NameWalks
 pub mod NameOrder
 pub mod Offers
 pub mod NextSteps
+pub mod Printouts

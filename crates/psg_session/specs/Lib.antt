@@ -25,6 +25,7 @@ pub mod Ticks
 pub mod Applied
 pub mod SomeStep
 pub mod Reached
+pub mod Printouts
 pub mod Lines
 pub mod Relating
 pub mod Extents

@@ -1,12 +1,13 @@
 //! The editor and its steps.
-ghost use Rattle.std.specs.Prelude.{◌≡◌, IfOk, IfSome, IfNone};
+ghost use Rattle.std.specs.Prelude.{◌≡◌, IfOk, IfSome, IfNone, option_copied};
 ghost use Rattle.psg_grammar.specs.declared.types.Definition.{Definition as PlainDefinition};
 ghost use Rattle.psg_session.specs.Formed.{IsFormedState};
 ghost use Rattle.psg_session.specs.Outcomes.{after, reply_in, IsChanging, IsFit, IsGoneOn, IsOutcome, IsPlan, IsStay};
 ghost use Rattle.psg_session.specs.Outcomes.{Spends};
 ghost use Rattle.psg_session.specs.PlainState.{not_asked};
 ghost use Rattle.psg_session.specs.Reached.{IsReaching};
-ghost use Rattle.psg_session.specs.Sessions.{state_of, IsEditor};
+ghost use Rattle.psg_session.specs.Printouts.{IsPrinted, IsPrinting};
+ghost use Rattle.psg_session.specs.Sessions.{opened_of, state_of, IsEditor};
 ghost use Rattle.psg_session.specs.Ticks.{HasTicked};
 ghost use Rattle.psg_session.specs.Views.{IsLanguage};
 ghost use Rattle.psg_script.specs.declared.command.Command.{Command as PlainCommand};
@@ -36,6 +37,7 @@ use psg_script::Command;
 use psg_specimen::LanguageParts;
 use psg_terms::{Seq, Steps, Txt};
 use psg_tree::Path;
+use psg_unparse::Printed;
 use std::alloc::{AllocError, Global};
 use std::sync::ledger::Ledger;
 
@@ -281,6 +283,7 @@ pub fn step<L: Ledger>(
     alloc: Global,
     language: &LanguageParts,
     editor: &Editor,
+    printed: Option<&Printed>,
     command: &Command,
     steps: &mut Steps<L>,
 ) -> Result<Outcome, AllocError>
@@ -288,6 +291,8 @@ pub fn step<L: Ledger>(
     requires editor { IsEditor language.now.definition editor.now }
     requires formed { IsFormedState language.now.definition (state_of editor.now) }
     requires alone { IsReaching command.now → ⊥ }
+    requires printed { IsPrinting command.now
+        → IsPrinted language.now.definition (opened_of editor.now.opened) (option_copied printed) }
     ensures outcome { IfOk result (IsOutcome language.now.definition editor.now not_asked command.now) }
     ensures ticks { HasTicked language.now.definition (state_of editor.now) command.now steps.old steps.new }
 {
@@ -297,7 +302,7 @@ pub fn step<L: Ledger>(
             Ok(outcome)
         }
         Command::Goto { at } => {
-            let outcome = go(alloc, language, editor, at)?;
+            let outcome = go(alloc, language, editor, printed, at)?;
             Ok(outcome)
         }
         Command::Over { at, text } => {
@@ -305,11 +310,13 @@ pub fn step<L: Ledger>(
             Ok(outcome)
         }
         Command::Range { start, end, text } => {
-            let outcome = replace_bytes(alloc, language, editor, *start, *end, text, steps)?;
+            let outcome = replace_bytes(
+                alloc, language, editor, printed, *start, *end, text, steps,
+            )?;
             Ok(outcome)
         }
         Command::Show => {
-            let outcome = show(alloc, language, editor)?;
+            let outcome = show(alloc, language, editor, printed)?;
             Ok(outcome)
         }
         Command::Screen {
@@ -324,7 +331,7 @@ pub fn step<L: Ledger>(
                 rows: *rows,
                 cols: *cols,
             };
-            let outcome = screen(alloc, language, editor, view)?;
+            let outcome = screen(alloc, language, editor, printed, view)?;
             Ok(outcome)
         }
         Command::Own { at } => {

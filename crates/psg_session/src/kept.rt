@@ -1,5 +1,6 @@
 //! Saved fragments in files.
-ghost use Rattle.std.specs.Prelude.{◌≡◌, ◌↔◌, ◌++◌, ◌∷◌, ℕ, [], IfErr, IfOk, IsTrue, map, string_bytes};
+ghost use Rattle.std.specs.Prelude.{◌≡◌, ◌↔◌, ◌++◌, ◌∷◌, ℕ, [], IfErr, IfOk, IsTrue, map, option_copied};
+ghost use Rattle.std.specs.Prelude.{string_bytes};
 ghost use Rattle.psg_terms.specs.Names.{Name};
 ghost use Rattle.psg_grammar.specs.Sizes.{HasLongList, IsBig};
 ghost use Rattle.psg_library.specs.declared.fragment.KeptFault.TheVariants as faults;
@@ -12,7 +13,8 @@ ghost use Rattle.psg_session.specs.PlainState.{got};
 ghost use Rattle.psg_session.specs.Outcomes.{IsOutcome};
 ghost use Rattle.psg_session.specs.Exchanges.{Outside};
 ghost use Rattle.psg_session.specs.Reached.{HasReached, IsFragmentAnswer, IsReaching};
-ghost use Rattle.psg_session.specs.Sessions.{state_of, IsEditor};
+ghost use Rattle.psg_session.specs.Printouts.{IsPrinted, IsPrinting};
+ghost use Rattle.psg_session.specs.Sessions.{opened_of, state_of, IsEditor};
 ghost use Rattle.psg_session.specs.Views.{IsLanguage};
 
 use crate::editor::{Editor, Outcome, step};
@@ -24,6 +26,7 @@ use psg_script::Command;
 use psg_specimen::LanguageParts;
 use psg_terms::{Steps, Txt};
 use psg_tree::{Tree, longest_list, nodes};
+use psg_unparse::Printed;
 use psg_world::{Files, ReadStop, WriteStop};
 use std::alloc::{AllocError, Global};
 use std::sync::ledger::Ledger;
@@ -232,6 +235,7 @@ fn step_alone<L: Ledger>(
     alloc: Global,
     language: &LanguageParts,
     editor: &Editor,
+    printed: Option<&Printed>,
     command: &Command,
     steps: &mut Steps<L>,
 ) -> Result<Outcome, AllocError>
@@ -239,12 +243,14 @@ fn step_alone<L: Ledger>(
     requires editor { IsEditor language.now.definition editor.now }
     requires formed { IsFormedState language.now.definition (state_of editor.now) }
     requires alone { IsReaching command.now → ⊥ }
+    requires printed { IsPrinting command.now
+        → IsPrinted language.now.definition (opened_of editor.now.opened) (option_copied printed) }
     ensures reached { (outside : Outside) → IfOk result (HasReached language.now.definition editor.now command.now
         outside outside steps.old steps.new) }
     ensures stopped { (outside : Outside) → IfErr result (λ _. HasStopped language.now.definition (state_of editor.now)
         command.now outside outside steps.old steps.new) }
 {
-    let outcome = step(alloc, language, editor, command, steps)?;
+    let outcome = step(alloc, language, editor, printed, command, steps)?;
     Ok(outcome)
 }
 
@@ -255,6 +261,7 @@ pub fn reach<F: Files, L: Ledger>(
     alloc: Global,
     language: &LanguageParts,
     editor: &Editor,
+    printed: Option<&Printed>,
     command: &Command,
     files: &mut F,
     steps: &mut Steps<L>,
@@ -262,6 +269,8 @@ pub fn reach<F: Files, L: Ledger>(
     requires language { IsLanguage language.now }
     requires editor { IsEditor language.now.definition editor.now }
     requires formed { IsFormedState language.now.definition (state_of editor.now) }
+    requires printed { IsPrinting command.now
+        → IsPrinted language.now.definition (opened_of editor.now.opened) (option_copied printed) }
     ensures reached { IfOk result (HasReached language.now.definition editor.now command.now
         (record { held = F.holds files.old; entries = F.faults files.old })
         (record { held = F.holds files.new; entries = F.faults files.new })
@@ -281,7 +290,7 @@ pub fn reach<F: Files, L: Ledger>(
             Ok(outcome)
         }
         _ => {
-            let outcome = step_alone(alloc, language, editor, command, steps)?;
+            let outcome = step_alone(alloc, language, editor, printed, command, steps)?;
             Ok(outcome)
         }
     }

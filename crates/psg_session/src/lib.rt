@@ -28,6 +28,7 @@ pub mod menus;
 mod noting;
 pub mod pasting;
 mod printing;
+mod printout;
 mod questions;
 mod ranged;
 pub mod refusal;

@@ -1,5 +1,5 @@
 //! The answers that are read from the printed text of the opened fragment.
-ghost use Rattle.std.specs.Prelude.{◌≡◌, ◌∷◌, ◌++◌, [], ℕ, decimal, IfOk, MatchOption, string_bytes};
+ghost use Rattle.std.specs.Prelude.{◌≡◌, ◌∷◌, ◌++◌, [], ℕ, decimal, IfOk, MatchOption, option_copied, string_bytes};
 ghost use Rattle.std.specs.Bool.{Decides};
 ghost use Rattle.psg_terms.specs.Names.{Name};
 ghost use Rattle.psg_grammar.specs.declared.types.Kind.{Kind as PlainKind};
@@ -12,7 +12,8 @@ ghost use Rattle.psg_script.specs.declared.command.Command.TheVariants as comman
 ghost use Rattle.psg_session.specs.Outcomes.{IsOutcome};
 ghost use Rattle.psg_session.specs.PlainState.{not_asked};
 ghost use Rattle.psg_session.specs.Printing.{goto_line as goto_line_of, node_words, what_is, HasNoSpan, IsFirstSpan};
-ghost use Rattle.psg_session.specs.Sessions.{IsEditor};
+ghost use Rattle.psg_session.specs.Printouts.{IsPrinted};
+ghost use Rattle.psg_session.specs.Sessions.{opened_of, IsEditor};
 ghost use Rattle.psg_session.specs.Views.{IsLanguage};
 
 use crate::changes::{copied, kind_of};
@@ -31,59 +32,75 @@ use psg_tree::{Shape, Tree};
 use psg_unparse::{Printed, Span, unparse};
 use std::alloc::{AllocError, Global};
 
-/// Gives the lines of the text of the opened fragment, and its mark. It evaluates nothing, and takes time linear in the
-/// text and in the paths of the nodes.
-pub fn show(alloc: Global, language: &LanguageParts, editor: &Editor) -> Result<Outcome, AllocError>
+/// Gives the lines of the printed text of the opened fragment, and its mark. It evaluates nothing.
+pub fn show(
+    alloc: Global,
+    language: &LanguageParts,
+    editor: &Editor,
+    printed: Option<&Printed>,
+) -> Result<Outcome, AllocError>
     requires language { IsLanguage language.now }
     requires editor { IsEditor language.now.definition editor.now }
+    requires printed { IsPrinted language.now.definition (opened_of editor.now.opened) (option_copied printed) }
     ensures { IfOk result (IsOutcome language.now.definition editor.now not_asked commands.Show) }
 {
     let Some(held) = &editor.opened else {
         return Ok(Outcome::Stays(Reply::Refused(Refusal::NothingOpened)));
     };
-    let text = text_of(alloc, &language.definition, held.note.tree())?;
+    // what is opened is printed, so this refusal is never reached
+    let Some(printed) = printed else {
+        return Ok(Outcome::Stays(Reply::Refused(Refusal::NothingOpened)));
+    };
+    let text = printed.text.share()?;
     let mark = note_mark(alloc, &held.note)?;
     Ok(Outcome::Stays(Reply::Shown(text, mark)))
 }
 
-/// Gives the lines that a window has of the text of the opened fragment. It evaluates nothing, and prints the whole
-/// text.
+/// Gives the lines that a window has of the printed text of the opened fragment. It evaluates nothing.
 pub fn screen(
     alloc: Global,
     language: &LanguageParts,
     editor: &Editor,
+    printed: Option<&Printed>,
     view: View,
 ) -> Result<Outcome, AllocError>
     requires language { IsLanguage language.now }
     requires editor { IsEditor language.now.definition editor.now }
+    requires printed { IsPrinted language.now.definition (opened_of editor.now.opened) (option_copied printed) }
     ensures { IfOk result (IsOutcome language.now.definition editor.now not_asked
         (commands.Screen view.top view.left view.rows view.cols)) }
 {
-    let Some(held) = &editor.opened else {
+    // the text is there where a fragment is opened
+    let Some(printed) = printed else {
         return Ok(Outcome::Stays(Reply::Refused(Refusal::NothingOpened)));
     };
-    let text = text_of(alloc, &language.definition, held.note.tree())?;
-    let lines = window(alloc, text.as_str(), view)?;
+    let lines = window(alloc, printed.text.as_str(), view)?;
     Ok(Outcome::Stays(Reply::Seen(lines)))
 }
 
 /// Moves the cursor to the node at the place, and says where it is: its path, its kind, what it is, and the bytes on
-/// which it is written. It makes no version and evaluates nothing, and prints the whole text.
+/// which it is written in the printed text. It makes no version and evaluates nothing, and looks at each span up to that
+/// of the node.
 pub fn go(
     alloc: Global,
     language: &LanguageParts,
     editor: &Editor,
+    printed: Option<&Printed>,
     place: &Where,
 ) -> Result<Outcome, AllocError>
     requires language { IsLanguage language.now }
     requires editor { IsEditor language.now.definition editor.now }
+    requires printed { IsPrinted language.now.definition (opened_of editor.now.opened) (option_copied printed) }
     ensures { IfOk result (IsOutcome language.now.definition editor.now not_asked (commands.Goto place.now)) }
 {
     let found = match find(editor, place) {
         Ok(found) => found,
         Err(refusal) => return Ok(Outcome::Stays(Reply::Refused(refusal))),
     };
-    let printed = unparse(alloc, &language.definition, found.held.note.tree())?;
+    // what is opened is printed, so this refusal is never reached
+    let Some(printed) = printed else {
+        return Ok(Outcome::Stays(Reply::Refused(Refusal::NothingOpened)));
+    };
     // each node has a span, so this refusal is never reached
     let Some(span) = span_at(printed.spans.as_slice(), found.path.steps()) else {
         return Ok(Outcome::Stays(Reply::Refused(Refusal::NoNode)));

@@ -1,5 +1,5 @@
 //! Bytes of the printed text, replaced by typed ones.
-ghost use Rattle.std.specs.Prelude.{◌≡◌, ◌≤◌, ◌+◌, ℕ, [], IfOk, Option};
+ghost use Rattle.std.specs.Prelude.{◌≡◌, ◌≤◌, ◌+◌, ℕ, [], IfOk, Option, option_copied};
 ghost use Rattle.psg_cache.specs.Annotated.{tree_in};
 ghost use Rattle.psg_grammar.specs.Paths.{Path as PlainPath};
 ghost use Rattle.psg_grammar.specs.Printable.{IsPrintable};
@@ -13,11 +13,13 @@ ghost use Rattle.psg_session.specs.declared.judging.Trial.TheVariants.{Types};
 ghost use Rattle.psg_session.specs.Formed.{IsFormedState};
 ghost use Rattle.psg_session.specs.Outcomes.{made_of, IsOutcome, IsPlan, MaySpend};
 ghost use Rattle.psg_session.specs.PlainState.{not_asked};
+ghost use Rattle.psg_session.specs.Printouts.{IsPrinted};
 ghost use Rattle.psg_session.specs.RangeAnswers.{IsRangeAnswer, IsRangeRefusal};
-ghost use Rattle.psg_session.specs.Sessions.{plain, state_of, IsEditor};
+ghost use Rattle.psg_session.specs.Sessions.{opened_of, plain, state_of, IsEditor};
 ghost use Rattle.psg_session.specs.Ticks.{HasTicked};
 ghost use Rattle.psg_session.specs.Views.{IsLanguage};
 ghost use Rattle.psg_textedit.specs.Typing.{typing_of};
+ghost use Rattle.psg_unparse.specs.Spots.{printed_of};
 
 use crate::changes::{Made, Plan};
 use crate::editor::{Editor, OpenedTree, Outcome, carry_out};
@@ -28,7 +30,7 @@ use psg_specimen::LanguageParts;
 use psg_terms::{Steps, Txt};
 use psg_textedit::{Change, Reader, TextFault, Typed, type_over};
 use psg_tree::Path;
-use psg_unparse::unparse;
+use psg_unparse::Printed;
 use std::alloc::{AllocError, Global};
 use std::sync::ledger::Ledger;
 
@@ -45,13 +47,13 @@ fn refusal_of(fault: TextFault) -> Result<Refusal, AllocError>
     }
 }
 
-/// Reads the whole new text of the opened fragment, by the nodes around the bytes that are replaced. It prints the
-/// whole text, lexes the lines of these bytes, and takes a step of the counter for each token of the nodes that it
-/// reads again.
+/// Reads the whole new text of the opened fragment, by the nodes around the bytes that are replaced. It lexes the lines
+/// of these bytes, and takes a step of the counter for each token of the nodes that it reads again.
 fn read_change<L: Ledger>(
     alloc: Global,
     language: &LanguageParts,
     held: &OpenedTree,
+    printed: &Printed,
     typed: &Typed<'_>,
     steps: &mut Steps<L>,
 ) -> Result<Change, TextFault>
@@ -59,6 +61,7 @@ fn read_change<L: Ledger>(
     requires formed { WellFormed language.now.definition (tree_in held.now.note) held.now.kind }
     requires printable { IsPrintable (tree_in held.now.note) }
     requires shallow { depth_of (tree_in held.now.note) ≤ MOST_DEPTH }
+    requires printed { printed.now ≡ printed_of language.now.definition (tree_in held.now.note) }
     ensures answer { IsRangeAnswer language.now.definition (typing_of typed.now) (plain held.now) result }
     ensures ticks { (found : Option PlainPath) (n : ℕ)
         → IsReading language.now.definition (tree_in held.now.note) (typing_of typed.now) found n
@@ -68,13 +71,12 @@ fn read_change<L: Ledger>(
     let _new = typed.new.as_bytes();
     let definition = &language.definition;
     let tree = held.note.tree();
-    let printed = unparse(alloc, definition, tree)?;
     let reader = Reader {
         definition,
         lexis: &language.lexis,
         table: &language.table,
     };
-    let change = type_over(alloc, &reader, tree, held.kind, &printed, typed, steps)?;
+    let change = type_over(alloc, &reader, tree, held.kind, printed, typed, steps)?;
     Ok(change)
 }
 
@@ -100,6 +102,7 @@ fn range<L: Ledger>(
     alloc: Global,
     language: &LanguageParts,
     editor: &Editor,
+    printed: Option<&Printed>,
     start: u32,
     end: u32,
     text: &Txt,
@@ -108,6 +111,7 @@ fn range<L: Ledger>(
     requires language { IsLanguage language.now }
     requires editor { IsEditor language.now.definition editor.now }
     requires formed { IsFormedState language.now.definition (state_of editor.now) }
+    requires printed { IsPrinted language.now.definition (opened_of editor.now.opened) (option_copied printed) }
     ensures plan { IfOk result (IsPlan language.now.definition editor.now (commands.Range start end text.now)) }
     ensures ticks { HasTicked language.now.definition (state_of editor.now) (commands.Range start end text.now)
         steps.old steps.new }
@@ -117,12 +121,16 @@ fn range<L: Ledger>(
     let Some(held) = &editor.opened else {
         return Ok(Plan::RefusedBy(Refusal::NothingOpened));
     };
+    // what is opened is printed, so this refusal is never reached
+    let Some(printed) = printed else {
+        return Ok(Plan::RefusedBy(Refusal::NothingOpened));
+    };
     let typed = Typed {
         start: start as usize,
         end: end as usize,
         new: text.as_str(),
     };
-    let read = read_change(alloc, language, held, &typed, steps);
+    let read = read_change(alloc, language, held, printed, &typed, steps);
     match read {
         Ok(change) => {
             let made = put_change(alloc, change)?;
@@ -141,12 +149,13 @@ fn range<L: Ledger>(
 ///
 /// It is refused with `NoRange` where the text has no such bytes, with `NoTokens` and `NoTree` where the whole new text
 /// has no tokens or no tree, and with `TooDeep` where one has them that is too deep, or whose brackets nest too deep.
-/// It prints the whole text, takes a step for each token of the nodes around the bytes that are read again, evaluates
-/// the new nodes and those above them, and fails where memory runs out.
+/// It takes a step for each token of the nodes around the bytes that are read again, evaluates the new nodes and those
+/// above them, and fails where memory runs out.
 pub(crate) fn replace_bytes<L: Ledger>(
     alloc: Global,
     language: &LanguageParts,
     editor: &Editor,
+    printed: Option<&Printed>,
     start: u32,
     end: u32,
     text: &Txt,
@@ -155,12 +164,13 @@ pub(crate) fn replace_bytes<L: Ledger>(
     requires language { IsLanguage language.now }
     requires editor { IsEditor language.now.definition editor.now }
     requires formed { IsFormedState language.now.definition (state_of editor.now) }
+    requires printed { IsPrinted language.now.definition (opened_of editor.now.opened) (option_copied printed) }
     ensures outcome { IfOk result (IsOutcome language.now.definition editor.now not_asked
         (commands.Range start end text.now)) }
     ensures ticks { HasTicked language.now.definition (state_of editor.now) (commands.Range start end text.now)
         steps.old steps.new }
 {
-    let plan = range(alloc, language, editor, start, end, text, steps)?;
+    let plan = range(alloc, language, editor, printed, start, end, text, steps)?;
     let outcome = carry_out(alloc, language, editor, plan, steps)?;
     Ok(outcome)
 }

@@ -10,13 +10,15 @@ ghost use Rattle.psg_session.specs.Formed.{HasText, IsFormedState};
 ghost use Rattle.psg_session.specs.Lines.{HasAnswered, HasBroken};
 ghost use Rattle.psg_session.specs.PlainState.{start, Opened};
 ghost use Rattle.psg_session.specs.Reached.{HasReached};
-ghost use Rattle.psg_session.specs.Sessions.{IsEditor, state_of};
+ghost use Rattle.psg_session.specs.Printouts.{IsKeptText};
+ghost use Rattle.psg_session.specs.Sessions.{IsEditor, opened_of, state_of};
 ghost use Rattle.psg_session.specs.Views.{reply_of};
 ghost use Rattle.psg_specimen.specs.Refusal.{IsAccepted};
 
 use crate::editor::{Editor, Outcome};
 use crate::kept::reach;
 use crate::measuring::{Extent, extent_of};
+use crate::printout::{keep_for, print_for};
 use crate::refusal::Refusal;
 use crate::replies::Reply;
 use psg_cache::Note;
@@ -25,6 +27,7 @@ use psg_script::{Command, CommandFault, read_command};
 use psg_specimen::Language;
 use psg_terms::{Seq, Steps};
 use psg_tree::Path;
+use psg_unparse::Printed;
 use psg_world::Files;
 use std::alloc::{AllocError, Global};
 use std::marker::Model;
@@ -39,16 +42,18 @@ pub struct Parts {
     pub editor: Editor,
 }
 
-/// An editor of a language's fragments.
+/// An editor of a language's fragments. It keeps the printed text of the opened fragment from the first command that is
+/// answered from it until the tree changes.
 #[derive(Drop)]
 pub struct Session {
     parts: Parts,
+    printed: Option<Printed>,
 }
 
 impl Model for Session {
     ghost use Rattle.psg_session.specs.declared.session.Parts.{Parts as Kept};
     ghost use Rattle.psg_session.specs.contracts.session.Parts as kept_row;
-    ghost use Rattle.psg_session.specs.Sessions.{IsSession};
+    ghost use Rattle.psg_session.specs.Printouts.{IsKeeping};
 
     ghost Value = { Kept };
 
@@ -56,7 +61,7 @@ impl Model for Session {
 
     ghost view = { λ s. s.parts };
 
-    ghost invariant = { λ s. IsSession s.parts };
+    ghost invariant = { λ s. IsKeeping s.parts s.printed };
 }
 
 impl Session {
@@ -76,6 +81,7 @@ impl Session {
         };
         Ok(Session {
             parts: Parts { language, editor },
+            printed: None,
         })
     }
 
@@ -107,10 +113,12 @@ impl Session {
             alloc,
             &self.parts.language,
             &self.parts.editor,
+            &mut self.printed,
             command,
             files,
             steps,
         )?;
+        keep_for(&mut self.printed, &outcome);
         let reply = self.parts.editor.settle(outcome);
         Ok(reply)
     }
@@ -191,18 +199,20 @@ impl Session {
     }
 }
 
-/// Finds what the command does to an editor of the language. The definition is sound and accepted, as that of each
-/// language.
+/// Finds what the command does to an editor of the language. A command that is answered from the printed text prints it
+/// where it is not kept. The definition is sound and accepted, as that of each language.
 fn reached<F: Files, L: Ledger>(
     alloc: Global,
     language: &Language,
     editor: &Editor,
+    printed: &mut Option<Printed>,
     command: &Command,
     files: &mut F,
     steps: &mut Steps<L>,
 ) -> Result<Outcome, AllocError>
     requires editor { IsEditor language.now editor.now }
     requires formed { IsFormedState language.now (state_of editor.now) }
+    requires kept { IsKeptText language.now (opened_of editor.now.opened) printed.old }
     ensures reached { IfOk result (HasReached language.now editor.now command.now
         (record { held = F.holds files.old; entries = F.faults files.old })
         (record { held = F.holds files.new; entries = F.faults files.new })
@@ -213,10 +223,20 @@ fn reached<F: Files, L: Ledger>(
         steps.old steps.new) }
     ensures sound { IsSound language.now }
     ensures accepted { IsAccepted language.now }
+    ensures kept { IsKeptText language.now (opened_of editor.now.opened) printed.new }
 {
-    let _definition = language.definition();
+    let definition = language.definition();
+    print_for(alloc, definition, editor, command, printed)?;
     let parts = language.parts();
-    let outcome = reach(alloc, parts, editor, command, files, steps)?;
+    let outcome = reach(
+        alloc,
+        parts,
+        editor,
+        printed.as_ref(),
+        command,
+        files,
+        steps,
+    )?;
     Ok(outcome)
 }
 

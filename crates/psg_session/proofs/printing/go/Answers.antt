@@ -1,9 +1,10 @@
-use Rattle.std.proofs.Common.{ap, ◌∙◌}
+use Rattle.std.proofs.Common.{ap}
+use Rattle.std.specs.Option.{option_copied}
 use Rattle.psg_script.specs.declared.command.Command.TheVariants.{Goto}
-use Rattle.psg_unparse.specs.Spots.{printed_of}
 use Rattle.psg_session.specs.declared.replies.Reply.TheVariants.{Refused}
 use Rattle.psg_session.proofs.Asking.{stayed}
 use Rattle.psg_session.proofs.ChangeLaws.{found_formed}
+use Rattle.psg_session.proofs.Printouts.{is_printed, never_none}
 use Rattle.psg_session.proofs.Showing.{go_found, go_not_found, go_some}
 use Rattle.psg_session.proofs.printing.go.Goals as goal
 
@@ -14,15 +15,19 @@ returns-in-Err c =
     stayed def c.args.editor.now (Goto place) (Refused c.in-Err.refusal)
     (go_not_found def c.args.editor.now place c.in-Err.refusal c.in-Err.ensures.err)
 
-pub unparse-requires : goal.unparse-requires
-unparse-requires c = record { sound = c.requires.language.sound }
-
 pub returns-in_default : goal.returns-in_default
 returns-in_default c =
+    absurd (never_none c.args.language.now.definition c.args.editor.now c.in-Ok.found.held.now c.in-Ok.ensures.ok.held
+    (option_copied c.args.printed) c.requires.printed (ap option_copied c.in_default.is))
+
+pub returns-in_default-span_at : goal.returns-in_default-span_at
+returns-in_default-span_at c =
     let def = c.args.language.now.definition in
+    let is = is_printed def c.args.editor.now c.in-Ok.found.held.now c.in-Ok.ensures.ok.held
+    (option_copied c.args.printed) c.requires.printed c.in-Some.printed.now (ap option_copied c.in-Some.is) in
     absurd (go_some def c.args.editor.now c.args.place.now c.requires.editor c.in-Ok.found c.in-Ok.ensures.ok
-    c.in_ok-printed.printed (c.in_ok-printed.ensures.printed ∙ ap (printed_of def) c.tree.ensures)
-    c.as_slice.result.now c.steps.result.now c.as_slice.ensures c.steps.ensures c.in_default.ensures)
+    c.in-Some.printed.now is c.as_slice.result.now c.steps.result.now c.as_slice.ensures c.steps.ensures
+    c.in_default-span_at.ensures)
 
 pub goto_line-requires-clause-sound : goal.goto_line-requires-clause-sound
 goto_line-requires-clause-sound c = c.requires.language.sound
@@ -35,10 +40,12 @@ goto_line-requires-clause-formed c =
 pub returns : goal.returns
 returns c =
     let def = c.args.language.now.definition in
-    let (k, first) = c.in-Some.ensures in
+    let is = is_printed def c.args.editor.now c.in-Ok.found.held.now c.in-Ok.ensures.ok.held
+    (option_copied c.args.printed) c.requires.printed c.in-Some.printed.now (ap option_copied c.in-Some.is) in
+    let (k, first) = c.in-Some-span_at.ensures in
     let (kind, name, of_kind, named, told) = c.in_ok-line.ensures in
     go_found def c.args.editor.now c.args.place.now c.requires.editor c.in-Ok.found c.in-Ok.ensures.ok
-    c.in_ok-printed.printed (c.in_ok-printed.ensures.printed ∙ ap (printed_of def) c.tree.ensures)
+    c.in-Some.printed.now is
     c.as_slice.result.now c.steps.result.now c.as_slice.ensures c.steps.ensures
-    c.in-Some.span.now k first kind name of_kind named c.in_ok-line.line told c.in_ok-lines.lines c.in_ok-lines.ensures
+    c.in-Some-span_at.span.now k first kind name of_kind named c.in_ok-line.line told c.in_ok-lines.lines c.in_ok-lines.ensures
     c.in_ok-cursor.cursor c.in_ok-cursor.ensures

@@ -1,16 +1,15 @@
 use Rattle.std.proofs.Common.{ap, ◌∙◌}
-use Rattle.psg_reads_back.specs.Layout.{text_of}
+use Rattle.std.specs.Option.{option_copied}
+use Rattle.psg_unparse.specs.declared.spans.Printed.{Printed}
 use Rattle.psg_session.specs.Views.{mark_of}
 use Rattle.psg_session.proofs.Options.{only_none}
 use Rattle.psg_script.specs.declared.command.Command.TheVariants.{Show}
 use Rattle.psg_session.specs.declared.refusal.Refusal.TheVariants.{NothingOpened}
 use Rattle.psg_session.specs.declared.replies.Reply.TheVariants.{Refused, Shown}
 use Rattle.psg_session.proofs.Asking.{stayed}
+use Rattle.psg_session.proofs.Printouts.{is_printed, never_none}
 use Rattle.psg_session.proofs.Showing.{show_unopened, show_opened}
 use Rattle.psg_session.proofs.printing.show.Goals as goal
-
-pub text_of-requires : goal.text_of-requires
-text_of-requires c = record { sound = c.requires.language.sound }
 
 pub returns-in_default : goal.returns-in_default
 returns-in_default c =
@@ -18,9 +17,17 @@ returns-in_default c =
     (show_unopened c.args.language.now.definition c.args.editor.now
     (only_none c.args.editor.now.opened c.in_default.not-Some))
 
+pub returns-in_default-printed : goal.returns-in_default-printed
+returns-in_default-printed c =
+    absurd (never_none c.args.language.now.definition c.args.editor.now c.in-Some.held c.in-Some.is
+    (option_copied c.args.printed) c.requires.printed (ap option_copied c.in_default-printed.is))
+
 pub returns : goal.returns
 returns c =
+    let is = is_printed c.args.language.now.definition c.args.editor.now c.in-Some.held c.in-Some.is
+    (option_copied c.args.printed) c.requires.printed c.in-Some-printed.printed.now
+    (ap option_copied c.in-Some-printed.is) in
     stayed c.args.language.now.definition c.args.editor.now Show (Shown c.in_ok-text.text c.in_ok-mark.mark)
     (show_opened c.args.language.now.definition c.args.editor.now c.in-Some.held c.in-Some.is c.requires.editor
     c.in_ok-text.text (mark_of c.in_ok-mark.mark)
-    (c.in_ok-text.ensures ∙ ap (text_of c.args.language.now.definition) c.tree.ensures) c.in_ok-mark.ensures)
+    (c.in_ok-text.ensures ∙ ap (λ (p : Printed). p.text) is) c.in_ok-mark.ensures)

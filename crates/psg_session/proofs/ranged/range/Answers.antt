@@ -1,4 +1,5 @@
-use Rattle.std.proofs.Common.{◌≤◌, ◌+◌, ℕ, Option, Err, Ok, refl, sym, subst}
+use Rattle.std.proofs.Common.{◌≤◌, ◌+◌, ℕ, Option, Err, Ok, refl, sym, ap, subst}
+use Rattle.std.specs.Option.{option_copied}
 use Rattle.psg_grammar.specs.Paths.{Path}
 use Rattle.psg_cache.specs.Annotated.{tree_in}
 use Rattle.psg_regions.specs.Regions.{IsReading}
@@ -8,6 +9,7 @@ use Rattle.psg_session.specs.RangeAnswers.{HasChange, IsRangeAnswer}
 use Rattle.psg_session.specs.Ranged.{replacing}
 use Rattle.psg_session.specs.Sessions.{plain}
 use Rattle.psg_session.proofs.ChangeRange.{held_formed, held_printable, held_shallow, range_made, range_refused, range_refused_spends, range_spends, range_ticks, range_unopened, range_unread}
+use Rattle.psg_session.proofs.Printouts.{is_printed, never_none}
 use Rattle.psg_session.proofs.Options.{only_none}
 use Rattle.psg_session.proofs.ranged.range.Goals as goal
 
@@ -24,6 +26,26 @@ pub returns-in_default-clause-spends : goal.returns-in_default-clause-spends
 returns-in_default-clause-spends g c =
     range_refused_spends c.args.language.now.definition c.args.editor.now c.args.start c.args.end c.args.text.now _ _ _
     (range_unread c.args.language.now.definition c.args.editor.now c.args.start c.args.end c.args.text.now _ _ refl)
+
+pub returns-in_default-printed-clause-plan : goal.returns-in_default-printed-clause-plan
+returns-in_default-printed-clause-plan g c =
+    absurd (never_none c.args.language.now.definition c.args.editor.now c.in-Some.held c.in-Some.is
+    (option_copied c.args.printed) c.requires.printed (ap option_copied c.in_default-printed.is))
+
+pub returns-in_default-printed-clause-ticks : goal.returns-in_default-printed-clause-ticks
+returns-in_default-printed-clause-ticks g c =
+    range_unread c.args.language.now.definition c.args.editor.now c.args.start c.args.end c.args.text.now _ _ refl
+
+pub returns-in_default-printed-clause-spends : goal.returns-in_default-printed-clause-spends
+returns-in_default-printed-clause-spends g c =
+    range_refused_spends c.args.language.now.definition c.args.editor.now c.args.start c.args.end c.args.text.now _ _ _
+    (range_unread c.args.language.now.definition c.args.editor.now c.args.start c.args.end c.args.text.now _ _ refl)
+
+pub read_change-read-requires-clause-printed : goal.read_change-read-requires-clause-printed
+read_change-read-requires-clause-printed g c =
+    is_printed c.args.language.now.definition c.args.editor.now c.in-Some.held c.in-Some.is
+    (option_copied c.args.printed) c.requires.printed c.in-Some-printed.printed.now
+    (ap option_copied c.in-Some-printed.is)
 
 pub read_change-read-requires-clause-formed : goal.read_change-read-requires-clause-formed
 read_change-read-requires-clause-formed g c =

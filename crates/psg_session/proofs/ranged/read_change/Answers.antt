@@ -1,4 +1,4 @@
-use Rattle.std.proofs.Common.{◌≡◌, ◌≤◌, ◌+◌, ℕ, Option, IsUtf8, sym, subst, arith}
+use Rattle.std.proofs.Common.{◌≡◌, ◌≤◌, ◌+◌, ℕ, Option, IsUtf8, sym, ◌∙◌, ap, subst, arith}
 use Rattle.std.proofs.lemmas.Result.{err_from_is_err_and}
 use Rattle.psg_cache.specs.Annotated.{tree_in}
 use Rattle.psg_grammar.specs.Paths.{Path}
@@ -8,6 +8,7 @@ use Rattle.psg_grammar.specs.WellFormed.{WellFormed}
 use Rattle.psg_grammar.specs.declared.limits.TheConstants.{MOST_DEPTH}
 use Rattle.psg_regions.specs.Regions.{IsReading, IsTyped}
 use Rattle.psg_textedit.specs.Typing.{IsForNode, typing_of}
+use Rattle.psg_unparse.specs.Spots.{printed_of}
 use Rattle.psg_session.specs.Sessions.{plain}
 use Rattle.psg_session.proofs.RangeTexts.{new_utf8, no_change}
 use Rattle.psg_session.proofs.ranged.read_change.Goals as goal
@@ -32,20 +33,13 @@ pub type_over-requires-clause-shallow : goal.type_over-requires-clause-shallow
 type_over-requires-clause-shallow g c =
     subst (λ f. depth_of f ≤ MOST_DEPTH) (sym c.tree-tree.ensures) c.requires.shallow
 
-pub returns-in_err-printed-clause-answer : goal.returns-in_err-printed-clause-answer
-returns-in_err-printed-clause-answer g c =
-    let p = err_from_is_err_and c.from_residual.result c.from_residual.ensures.1 in
-    rw (p.1, p.2) (record {
-      reason = tt;
-      utf8 = new_utf8 c.args.language.now.definition c.requires.language.sound c.requires.language.tokens
-          c.requires.language.accepted.of_class (tree_in c.args.held.now.note) c.args.held.now.kind c.requires.printable
-          c.requires.formed (typing_of c.args.typed.now)
-          (subst IsUtf8 c.as_bytes-new.ensures.value c.as_bytes-new.ensures.utf8);
-    })
+pub type_over-requires-clause-printed : goal.type_over-requires-clause-printed
+type_over-requires-clause-printed g c =
+    c.requires.printed ∙ ap (printed_of c.args.language.now.definition) (sym c.tree-tree.ensures)
 
 pub returns-in_err-change-clause-answer : goal.returns-in_err-change-clause-answer
 returns-in_err-change-clause-answer g c =
-    let p = err_from_is_err_and c.from_residual-in_err-change.result c.from_residual-in_err-change.ensures.1 in
+    let p = err_from_is_err_and c.from_residual.result c.from_residual.ensures.1 in
     rw (p.1, p.2)
     (no_change c.args.language.now.definition (typing_of c.args.typed.now) (plain c.args.held.now) c.tree-tree.result.now _
     c.tree-tree.ensures c.in_err-change.ensures.fault

@@ -3,7 +3,7 @@ use Rattle.psg_session.proofs.session.Session.extent.Goals as goal
 
 pub measured-requires : goal.measured-requires
 measured-requires c =
-    record { noted = held_noted c.self.inside.parts c.self.invariant c.in-Some.held c.in-Some.is }
+    record { noted = held_noted c.self.inside.parts c.self.invariant.session c.in-Some.held c.in-Some.is }
 
 pub returns-in_ok-extent-in-Some : goal.returns-in_ok-extent-in-Some
 returns-in_ok-extent-in-Some c =
