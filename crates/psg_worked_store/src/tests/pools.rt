@@ -49,6 +49,30 @@ fn release_takes_the_cells_after_the_mark(rt: HostRuntime) -> Result<(), Fail> {
     Ok(())
 }
 
+/// A call that is refused memory leaves the pool as it was. `bench/memory` runs it with each request refused in turn.
+#[test]
+fn a_refused_call_leaves_the_pool(rt: HostRuntime) -> Result<(), Fail> {
+    let mut pool = Pool::new(rt.alloc());
+    let Ok(variable) = pool.put_free(4) else {
+        return Ok(());
+    };
+    let Ok(constant) = pool.put_con(7, &[]) else {
+        assert_eq!(rt; pool.cell(variable), Cell::Free(4));
+        return Ok(());
+    };
+    let mark = pool.mark();
+    if pool.bind(variable, constant).is_err() {
+        assert_eq!(rt; pool.cell(variable), Cell::Free(4));
+        assert_eq!(rt; pool.cell(constant), Cell::Con { con: 7, count: 0 });
+        return Ok(());
+    }
+    assert_eq!(rt; pool.cell(variable), Cell::Bound(constant));
+    pool.release(mark);
+    assert_eq!(rt; pool.cell(variable), Cell::Free(4));
+    assert_eq!(rt; pool.cell(constant), Cell::Con { con: 7, count: 0 });
+    Ok(())
+}
+
 const MANY: usize = 100_000;
 
 #[test]
