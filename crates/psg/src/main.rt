@@ -46,14 +46,14 @@ Commands of a script, one a line; a path is / or /0/1, or . for the node that wa
   save NAME PATH        keeps the tree at the path under the name
   paste PATH NAME       the saved tree in place of a placeholder or an empty list; paste PATH K NAME into a list
   keep NAME FILE        writes the saved tree of the name to the file
-  fetch FILE            saves the tree that the file keeps, under the name that stands there
+  fetch FILE            saves the tree that the file keeps, under the name in the file
   show                  the program, and then the mark: ok, or wrong with the paths of what goes wrong
   screen TOP LEFT ROWS COLS   a window of the program's text
   goto PATH             the node is where . is; its kind, its operator and its place in the text
   own PATH              what the node can mean: a line for each value, with its names' entities
   relation PATH         what the node can mean in the completions of the program
-  menu PATH             the operators that may stand at the placeholder; menu PATH K before place K of the list
-  names PATH OP         the names of the program with which the operator may stand there; names PATH K OP in a list
+  menu PATH             the operators that may replace the placeholder; menu PATH K before place K of the list
+  names PATH OP         the names of the program with which the operator may be there; names PATH K OP in a list
   free                  the names that may be declared outside
 
 Exit status: 0 done, 1 the definition is refused, 2 these words have no form, 3 a file or standard input can't be
