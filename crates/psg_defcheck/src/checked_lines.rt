@@ -81,12 +81,12 @@ fn number(names: &Names, name: &str) -> u32
 }
 
 impl<'a> CheckedLines<'a> {
-    /// Tests the meaning of each line among the entries. `Def` has the first line that fails a test, with the first test
-    /// that it fails: a name that was declared before, a name that no line declares as what may be there, a wrong
+    /// Tests the meaning of each line among the entries. `Def` has the first line that fails a test, with the first
+    /// test that it fails: a name that was declared before, a name that no line declares as what may be there, a wrong
     /// number, a wrong sort or kind, a name position or a declare line where the file declares no space, a sort without
     /// a ground term, and a sort whose only constructor has arguments. `Memory` is returned when memory runs out. The
-    /// entries are those of the texts after the head, so the first one is line 2. Terms and specimens are nested at most
-    /// 32 deep, as far as the stack has to go.
+    /// entries are those of the texts after the head, so the first one is line 2. Terms and specimens are nested at
+    /// most 32 deep, as far as the stack has to go.
     ///
     /// It makes its tables in one walk, and tests each line in one walk over it, with a look-up in a table for each
     /// name. Which sorts have ground terms is found once, in rounds over the lines of sorts: as many as sorts wait for

@@ -1,5 +1,6 @@
 //! Names in order.
-ghost use Rattle.std.specs.Prelude.{◌≡◌, ◌||◌, ◌++◌, ◌∷◌, [], IfOk, IfSome, OnOk, Some, bytes_eq, false, is_some, slice_get};
+ghost use Rattle.std.specs.Prelude.{◌≡◌, ◌||◌, ◌++◌, ◌∷◌, [], IfOk, IfSome, OnOk, Some, bytes_eq, false};
+ghost use Rattle.std.specs.Prelude.{is_some, slice_get};
 ghost use Rattle.psg_terms.specs.Names.{Name};
 
 use indexmap::IndexSet;

@@ -70,7 +70,8 @@ fn declared(
 }
 
 /// Gives the definition of the version that the lines are together. Each line passes the tests of its form and of its
-/// meaning. It takes time linear in the lines except for the look-ups of names, each of which is one look-up in a table.
+/// meaning. It takes time linear in the lines except for the look-ups of names, each of which is one look-up in a
+/// table.
 pub fn numbered(
     alloc: Global,
     version: u32,

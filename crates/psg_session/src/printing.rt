@@ -79,8 +79,8 @@ pub fn screen(
 }
 
 /// Moves the cursor to the node at the place, and says where it is: its path, its kind, what it is, and the bytes on
-/// which it is written in the printed text. It makes no version and evaluates nothing, and looks at each span up to that
-/// of the node.
+/// which it is written in the printed text. It makes no version and evaluates nothing, and looks at each span up to
+/// that of the node.
 pub fn go(
     alloc: Global,
     language: &LanguageParts,
