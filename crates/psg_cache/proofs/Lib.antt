@@ -5,7 +5,6 @@ pub mod LongLists
 pub mod CulpritLaws
 pub mod StepLaws
 pub mod WeightLaws
-pub mod SpaceTables
 pub mod Evaluations
 pub mod CellLaws
 pub mod ListLaws

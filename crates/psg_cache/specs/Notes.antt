@@ -9,7 +9,7 @@ use Rattle.psg_grammar.specs.Paths.{Path}
 use Rattle.psg_grammar.specs.Sizes.{IsBig, IsDeep}
 use Rattle.psg_grammar.specs.Steps.{IsFirstWide, IsHeavy, IsWide}
 use Rattle.psg_grammar.specs.WellFormed.{WellFormed}
-pub use Rattle.psg_eval.specs.SpaceTables.{AreDeclaringSpaces}
+pub use Rattle.psg_eval.specs.Starts.{AreTables}
 use Rattle.psg_cache.specs.Annotated.{Annotated, tree_in, whole_in}
 use Rattle.psg_cache.specs.Noted.{IsNoted}
 use Rattle.psg_cache.specs.declared.note.NoteFault.{NoteFault}

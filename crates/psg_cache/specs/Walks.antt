@@ -19,18 +19,18 @@ use Rattle.psg_tree.specs.declared.tree.Part.TheVariants.{Sub, Name as Named, Nu
 use Rattle.psg_eval.specs.declared.summary.Known.{Known}
 use Rattle.psg_eval.specs.declared.summary.EvalFault.{EvalFault}
 use Rattle.psg_eval.specs.declared.summary.EvalFault.TheVariants as evals
+use Rattle.psg_eval.specs.Starts.{AreTables}
 use Rattle.psg_eval.specs.Summaries.{AllSummaries, Answers, IsSummary}
 use Rattle.psg_cache.specs.declared.parts.Language.{Language}
 use Rattle.psg_cache.specs.Annotated.{Annotated, topped, tree_in, weight_in, with_below}
 use Rattle.psg_cache.specs.Noted.{IsAnswered, IsNoted, IsOfCells, own_weight, summed}
-use Rattle.psg_cache.specs.Notes.{AreDeclaringSpaces}
 use Rattle.psg_cache.specs.declared.note.NoteFault.{NoteFault}
 use Rattle.psg_cache.specs.declared.note.NoteFault.TheVariants as faults
 
--- a sound definition, and for each phylum the spaces in which it declares
+-- a sound definition with its tables
 pub record IsKnown (language : Language) : Type 0 where
   pub sound : IsSound language.definition.now
-  pub declaring : AreDeclaringSpaces language.definition.now language.declaring.now
+  pub tables : AreTables language.definition.now language.tables.now
 
 -- the names among the parts, in order
 abbrev pub names_in : List Part → List Name

@@ -6,12 +6,13 @@ ghost use Rattle.psg_grammar.specs.declared.limits.TheConstants.{MOST_WEIGHTS};
 ghost use Rattle.psg_grammar.specs.Work.{work_of};
 ghost use Rattle.psg_cache.specs.declared.note.NoteFault.TheVariants.{Heavy};
 ghost use Rattle.psg_cache.specs.Completed.{TellsCompletable};
-ghost use Rattle.psg_cache.specs.Notes.{AreDeclaringSpaces, IsFormed, IsNoteFault, IsNoteOf, TellsOpen};
+ghost use Rattle.psg_cache.specs.Notes.{AreTables, IsFormed, IsNoteFault, IsNoteOf, TellsOpen};
 ghost use Rattle.psg_cache.specs.Walks.{IsSizeFault, IsSmall};
 
 use crate::note::{Note, NoteFault};
 use crate::parts::Language;
 use crate::walking::walk;
+use psg_eval::Tables;
 use psg_grammar::Definition;
 use psg_grammar::limits::{MOST_DEPTH, MOST_ELEMENTS, MOST_NODES, MOST_WEIGHTS};
 use psg_terms::Steps;
@@ -22,8 +23,8 @@ use std::sync::ledger::Ledger;
 /// Makes the note of a tree. Each node and each list suffix is evaluated once, from the summaries of its children:
 /// children in order, then the node; of a list its elements in order, then its end, then its cells from the last to the
 /// first.
-/// `steps` counts the evaluations, and where there is no note, those that were made. `declaring` has the spaces in
-/// which each phylum declares, as psg_grammar's `declaring` gives them.
+/// `steps` counts the evaluations, and where there is no note, those that were made. `tables` has what
+/// is made of the definition once.
 ///
 /// The tree is well-formed: no placeholder of it is of a phylum that declares names.
 ///
@@ -33,12 +34,12 @@ use std::sync::ledger::Ledger;
 pub fn build<L: Ledger>(
     alloc: Global,
     definition: &Definition,
-    declaring: &[Vec<u32>],
+    tables: &Tables,
     tree: &Tree,
     steps: &mut Steps<L>,
 ) -> Result<Note, NoteFault>
     requires sound { IsSound definition.now }
-    requires declaring { AreDeclaringSpaces definition.now declaring.now }
+    requires tables { AreTables definition.now tables.now }
     requires formed { IsFormed definition.now tree.now }
     ensures note { IfOk result (IsNoteOf definition.now tree.now) }
     ensures good { IfOk result (TellsOpen definition.now tree.now) }
@@ -49,10 +50,7 @@ pub fn build<L: Ledger>(
     ensures fault { IfErr result (IsNoteFault definition.now tree.now) }
 {
     small(tree)?;
-    let language = Language {
-        definition,
-        declaring,
-    };
+    let language = Language { definition, tables };
     let note = walk(alloc, language, tree, &[], steps)?;
     light(note.weight())?;
     Ok(note)

@@ -14,7 +14,7 @@ ghost use Rattle.psg_cache.specs.Completed.{TellsCompletable};
 ghost use Rattle.psg_cache.specs.Diff.{diff_of};
 ghost use Rattle.psg_cache.specs.Edits.{MayReplace, MayInsert, MayRemove};
 ghost use Rattle.psg_cache.specs.Noted.{IsNotedAs};
-ghost use Rattle.psg_cache.specs.Notes.{AreDeclaringSpaces, IsNoteFault, IsNoteOf, TellsOpen};
+ghost use Rattle.psg_cache.specs.Notes.{AreTables, IsNoteFault, IsNoteOf, TellsOpen};
 ghost use Rattle.psg_cache.specs.Walks.{IsKnown, IsSmall, IsStepFault};
 
 use crate::building::{light, small};
@@ -23,6 +23,7 @@ use crate::parts::{Language, child_of, longer};
 use crate::remaking::{remade, spliced};
 use crate::renoting::renoted;
 use crate::walking::walk;
+use psg_eval::Tables;
 use psg_grammar::Definition;
 use psg_terms::Steps;
 use psg_tree::{Path, Tree, TreeFault, insert, remove, replace};
@@ -334,14 +335,14 @@ fn exchanged<L: Ledger>(
 pub fn replaced<L: Ledger>(
     alloc: Global,
     definition: &Definition,
-    declaring: &[Vec<u32>],
+    tables: &Tables,
     note: &Note,
     path: &Path,
     new: &Tree,
     steps: &mut Steps<L>,
 ) -> Result<Note, NoteFault>
     requires sound { IsSound definition.now }
-    requires declaring { AreDeclaringSpaces definition.now declaring.now }
+    requires tables { AreTables definition.now tables.now }
     requires note { IsNoteOf definition.now (tree_in note.now) note.now }
     requires place { MayReplace definition.now (tree_in note.now) path.now new.now }
     ensures note { IfOk result (IsNoteOf definition.now (replaced_at path.now new.now (tree_in note.now))) }
@@ -354,10 +355,7 @@ pub fn replaced<L: Ledger>(
 {
     let changed = replace(alloc, note.tree(), path, new);
     let made = tree_of(changed)?;
-    let language = Language {
-        definition,
-        declaring,
-    };
+    let language = Language { definition, tables };
     let all = exchanged(alloc, language, note, path, new, &made, steps)?;
     Ok(all)
 }
@@ -372,7 +370,7 @@ pub fn replaced<L: Ledger>(
 pub fn inserted<L: Ledger>(
     alloc: Global,
     definition: &Definition,
-    declaring: &[Vec<u32>],
+    tables: &Tables,
     note: &Note,
     path: &Path,
     place: u32,
@@ -380,7 +378,7 @@ pub fn inserted<L: Ledger>(
     steps: &mut Steps<L>,
 ) -> Result<Note, NoteFault>
     requires sound { IsSound definition.now }
-    requires declaring { AreDeclaringSpaces definition.now declaring.now }
+    requires tables { AreTables definition.now tables.now }
     requires note { IsNoteOf definition.now (tree_in note.now) note.now }
     requires place { MayInsert definition.now (tree_in note.now) path.now place new.now }
     ensures note { IfOk result
@@ -395,10 +393,7 @@ pub fn inserted<L: Ledger>(
 {
     let changed = insert(alloc, note.tree(), path, place, new);
     let made = tree_of(changed)?;
-    let language = Language {
-        definition,
-        declaring,
-    };
+    let language = Language { definition, tables };
     let edit = Edit::Add {
         place,
         new: new.share()?,
@@ -417,14 +412,14 @@ pub fn inserted<L: Ledger>(
 pub fn removed<L: Ledger>(
     alloc: Global,
     definition: &Definition,
-    declaring: &[Vec<u32>],
+    tables: &Tables,
     note: &Note,
     path: &Path,
     place: u32,
     steps: &mut Steps<L>,
 ) -> Result<Note, NoteFault>
     requires sound { IsSound definition.now }
-    requires declaring { AreDeclaringSpaces definition.now declaring.now }
+    requires tables { AreTables definition.now tables.now }
     requires note { IsNoteOf definition.now (tree_in note.now) note.now }
     requires place { MayRemove definition.now (tree_in note.now) path.now place }
     ensures note { IfOk result (IsNoteOf definition.now (change_at (removed_at place) path.now (tree_in note.now))) }
@@ -437,10 +432,7 @@ pub fn removed<L: Ledger>(
 {
     let changed = remove(alloc, note.tree(), path, place);
     let made = tree_of(changed)?;
-    let language = Language {
-        definition,
-        declaring,
-    };
+    let language = Language { definition, tables };
     let edit = Edit::Take { place };
     let all = finished(alloc, language, note, path, &edit, &made, steps)?;
     Ok(all)

@@ -1,9 +1,9 @@
 //! Trees with what is known of them.
 //!
 //! ```text
-//! let note = build(alloc, &definition, declaring.as_slice(), &tree, &mut steps)?;
+//! let note = build(alloc, &definition, &tables, &tree, &mut steps)?;
 //! let good = note.is_good();
-//! let changed = replaced(alloc, &definition, declaring.as_slice(), &note, &path, &new, &mut steps)?;
+//! let changed = replaced(alloc, &definition, &tables, &note, &path, &new, &mut steps)?;
 //! let inner = changed.summary(&path);
 //! ```
 //!

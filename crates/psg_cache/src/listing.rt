@@ -2,7 +2,6 @@
 ghost use Rattle.std.specs.Prelude.{◌≡◌, ◌+◌, ◌++◌, ◌∷◌, ◌≤◌, ◌<◌, ◌⊎◌, ℕ, [], false, drop, reverse, length, take};
 ghost use Rattle.std.specs.Prelude.{IfErr, IfOk, IsTrue, OnOk};
 ghost use Rattle.std.specs.List.{AllByRecursion};
-ghost use Rattle.psg_grammar.specs.Sound.{IsSound};
 ghost use Rattle.psg_eval.specs.Summaries.{IsSummary};
 ghost use Rattle.psg_cache.specs.Annotated.{rests_in, whole_in};
 ghost use Rattle.psg_cache.specs.Renoting.{AreOfCells, first_or, IsCellsFault, TakesCells};
@@ -11,8 +10,7 @@ ghost use Rattle.std.specs.Prelude.{Ok as InOk};
 
 use crate::note::{Note, NoteFault};
 use crate::parts::Language;
-use psg_eval::{EvalFault, Summary, eval_cell, eval_end};
-use psg_grammar::Definition;
+use psg_eval::{EvalFault, Summary};
 use psg_terms::{Seq, Steps};
 use psg_tree::Path;
 use std::alloc::{AllocError, Global};
@@ -96,7 +94,7 @@ fn is_due(made: &[Summary], behind: &Summary, olds: &[Summary], was: &Summary, p
 /// that is the old one, they are shared.
 pub(crate) fn cells<L: Ledger>(
     alloc: Global,
-    definition: &Definition,
+    language: Language,
     list: u32,
     elements: &[Summary],
     olds: &[Summary],
@@ -105,23 +103,27 @@ pub(crate) fn cells<L: Ledger>(
     path: &[u32],
     steps: &mut Steps<L>,
 ) -> Result<Vec<Summary>, NoteFault>
-    requires sound { IsSound definition.now }
-    requires takes { TakesCells definition.now list elements.now behind.now }
-    requires olds { (k : ℕ) × AreOfCells definition.now list (take k elements.now) was.now olds.now }
-    requires old_usual { AllByRecursion (IsSummary definition.now) olds.now }
-    ensures ok { IfOk result (λ news. AreOfCells definition.now list elements.now behind.now news.items) }
-    ensures usual { IfOk result (λ news. AllByRecursion (IsSummary definition.now) news.items) }
+    requires language { IsKnown language }
+    requires takes { TakesCells language.definition.now list elements.now behind.now }
+    requires olds { (k : ℕ) × AreOfCells language.definition.now list (take k elements.now) was.now olds.now }
+    requires old_usual { AllByRecursion (IsSummary language.definition.now) olds.now }
+    ensures ok { IfOk result
+        (λ news. AreOfCells language.entry.definition.now list elements.now behind.now news.items) }
+    ensures usual { IfOk result (λ news. AllByRecursion (IsSummary language.entry.definition.now) news.items) }
     ensures ticks { IfOk result (λ _. olds.now ≡ [] → steps.new ≡ steps.old + length elements.now) }
     ensures bounded { steps.new ≤ steps.old + length elements.now }
-    ensures err { IfErr result (IsCellsFault definition.now path.now list elements.now behind.now) }
+    ensures err { IfErr result
+        (IsCellsFault language.entry.definition.now path.now list elements.now behind.now) }
 {
+    let definition = language.definition;
+    let tables = language.tables;
     let mut made = Vec::new(alloc);
     let mut left = elements.len();
     'turn: while is_due(made.as_slice(), behind, olds, was, left) {
         left -= 1;
         let latter = made.as_slice();
         let rest = latest(latter, behind);
-        let answer = eval_cell(alloc, definition, list, &elements[left], rest, steps);
+        let answer = tables.eval_cell(alloc, definition, list, &elements[left], rest, steps);
         let cell = answered(alloc, path, answer)?;
         made.push(cell)?;
     }
@@ -203,14 +205,13 @@ pub(crate) fn top_list<L: Ledger>(
     ensures err { IfErr result (IsListFault language.entry.definition.now path.now list unfinished elements.now) }
 {
     let definition = language.definition;
-    let kind = &definition.lists.as_slice()[list as usize];
-    let spaces = language.declaring[kind.element as usize].as_slice();
-    let ended = eval_end(alloc, definition, spaces, list, unfinished, steps);
+    let tables = language.tables;
+    let ended = tables.eval_end(alloc, definition, list, unfinished, steps);
     let end = answered(alloc, path, ended)?;
     let none = Vec::new(alloc);
     let olds = none.as_slice();
     let news = cells(
-        alloc, definition, list, elements, olds, &end, &end, path, steps,
+        alloc, language, list, elements, olds, &end, &end, path, steps,
     )?;
     let all = joined(alloc, news, &end, olds)?;
     Ok(all)

@@ -4,6 +4,7 @@ ghost use Rattle.psg_grammar.specs.Fragments.{children_of};
 ghost use Rattle.psg_tree.specs.Shapes.{subtrees};
 ghost use Rattle.psg_cache.specs.Walks.{names_in};
 
+use psg_eval::Tables;
 use psg_grammar::Definition;
 use psg_terms::Txt;
 use psg_tree::{Part, Shape, Tree, child_at};
@@ -13,8 +14,8 @@ use std::alloc::{AllocError, Global};
 #[derive(Clone, Copy)]
 pub(crate) struct Language<'a> {
     pub(crate) definition: &'a Definition,
-    /// For each phylum the spaces in which it declares.
-    pub(crate) declaring: &'a [Vec<u32>],
+    /// What is made of the definition once for its evaluations.
+    pub(crate) tables: &'a Tables,
 }
 
 /// Returns the subtrees among the parts, each with one more owner.

@@ -74,7 +74,6 @@ fn relisted<L: Ledger>(
     ensures err { IfErr result
         (IsStepFault language.entry.definition.now (top_steps language.entry.definition.now path.now made.now)) }
 {
-    let definition = language.definition;
     let wholes = wholes_of(alloc, below.as_slice())?;
     let all = wholes.as_slice();
     let kept = old.suffix(behind);
@@ -84,7 +83,7 @@ fn relisted<L: Ledger>(
     let before = olds.as_slice();
     let news = cells(
         alloc,
-        definition,
+        language,
         list,
         &all[..front],
         before,

@@ -11,7 +11,7 @@ ghost use Rattle.psg_cache.specs.Walks.{AreNotesOf, IsKnown, IsMadeOf, IsStepFau
 use crate::listing::{Suffixes, answered, top_list};
 use crate::note::{Note, NoteFault, Noted};
 use crate::parts::{Language, names_of};
-use psg_eval::{Summary, eval_hole, eval_op};
+use psg_eval::Summary;
 use psg_terms::{Seq, Steps};
 use psg_tree::{Shape, Tree};
 use std::alloc::{AllocError, Global};
@@ -48,16 +48,17 @@ fn top<L: Ledger>(
         (IsStepFault language.entry.definition.now (top_steps language.entry.definition.now path.now tree.now)) }
 {
     let definition = language.definition;
+    let tables = language.tables;
     match tree.shape() {
         Shape::Hole { phylum } => {
-            let made = eval_hole(alloc, definition, *phylum, steps);
+            let made = tables.eval_hole(alloc, definition, *phylum, steps);
             let summary = answered(alloc, path, made)?;
             let suffixes = alone(alloc, summary);
             Ok(suffixes)
         }
         Shape::Op { op, parts } => {
             let names = names_of(alloc, parts.as_slice())?;
-            let made = eval_op(alloc, definition, *op, names.as_slice(), below, steps);
+            let made = tables.eval_op(alloc, definition, *op, names.as_slice(), below, steps);
             let summary = answered(alloc, path, made)?;
             let suffixes = alone(alloc, summary);
             Ok(suffixes)

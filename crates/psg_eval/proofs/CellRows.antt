@@ -22,14 +22,15 @@ use Rattle.psg_scope.proofs.HeaderLaws.{ordered-of}
 use Rattle.psg_eval.specs.declared.partial.Partial.{Partial}
 use Rattle.psg_eval.specs.declared.summary.Known.{Known}
 use Rattle.psg_eval.specs.OwnRows.{whole_row}
-use Rattle.psg_eval.specs.Partials.{IsAdded, IsPartial}
+use Rattle.psg_eval.specs.Partials.{IsAdded, IsPartial, MatchStep}
+use Rattle.psg_eval.specs.Starts.{IsCellBegun}
 use Rattle.psg_eval.specs.Stages.{IsCellStart, IsMade, IsNumbered}
 use Rattle.psg_eval.specs.Summaries.{AreKeySorts, IsFirstPassing, IsSummary, IsSummaryOf, StaysWithin, TakesCell}
 use Rattle.psg_eval.proofs.Assembling.{made_first, made_more, wide_first, wide_more}
 use Rattle.psg_eval.proofs.CellSteps.{cell_one, cell_start, cell_two}
 use Rattle.psg_eval.proofs.Cells.{list_no_scope}
 use Rattle.psg_eval.proofs.LeafAnswers.{no_header}
-use Rattle.psg_eval.proofs.Numbers.{numbered_if}
+use Rattle.psg_eval.proofs.Numbers.{numbered_if, numbered_step}
 use Rattle.psg_eval.proofs.Stepping.{open_ok}
 
 pub each_in : {X : Type 0} (P : X → Type 0) (x : X) (xs : List X) → AllByRecursion P xs → IsIn x xs → P x
@@ -95,6 +96,21 @@ module _ (def : Definition) (l : ℕ) (element rest : Known) (t : TakesCell def 
       let part = numbered_if (λ (p : Partial). (kind : ListKind) → slice_get def.lists l ≡ Some kind → IsPartial def (kinds.List l) (kinds.Phylum kind.element ∷ kinds.List l ∷ []) p) made 0 begin e h in
       subst (λ (k : Kind). IsPartial def (kinds.List l) (k ∷ rest.kind ∷ []) begin) (sym t.element_kind)
       (subst (λ (k : Kind). IsPartial def (kinds.List l) (kinds.Phylum t.list.element ∷ k ∷ []) begin) (sym t.rest_kind) (part t.list t.found))
+
+  pub begun_kinds : (begin : Partial) → IsCellBegun def l begin → IsPartial def (kinds.List l) (element.kind ∷ rest.kind ∷ []) begin
+  begun_kinds begin begun =
+      subst (λ (k : Kind). IsPartial def (kinds.List l) (k ∷ rest.kind ∷ []) begin) (sym t.element_kind)
+      (subst (λ (k : Kind). IsPartial def (kinds.List l) (kinds.Phylum t.list.element ∷ k ∷ []) begin) (sym t.rest_kind) (begun.partial t.list t.found))
+
+-- the first step of a cell
+pub cell_begun : (def : Definition) (l : ℕ) (made : Result Partial RelFault) (begin : Partial) → IsNumbered made 0 (Ok begin) → MatchStep (IsCellStart def l) made
+    → IfOk made (λ (p : Partial). (kind : ListKind) → slice_get def.lists l ≡ Some kind → IsPartial def (kinds.List l) (kinds.Phylum kind.element ∷ kinds.List l ∷ []) p)
+    → IfOk made (λ (p : Partial). p.seen ≡ 0) → IsCellBegun def l begin
+cell_begun def l made begin e step part seen = record {
+  step = numbered_step (IsCellStart def l) made 0 begin e step;
+  partial = numbered_if (λ (p : Partial). (kind : ListKind) → slice_get def.lists l ≡ Some kind → IsPartial def (kinds.List l) (kinds.Phylum kind.element ∷ kinds.List l ∷ []) p) made 0 begin e part;
+  seen = numbered_if (λ (p : Partial). p.seen ≡ 0) made 0 begin e seen;
+}
 
 -- a step keeps what is known of the node
 pub next_step : (def : Definition) (kind child : Kind) (others : List Kind) (before : Partial) (made : Result Partial RelFault) (n : ℕ) (after : Partial) → IsNumbered made n (Ok after)

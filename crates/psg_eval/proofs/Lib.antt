@@ -47,3 +47,5 @@ pub mod PatternSteps
 pub mod MovedKeys
 pub mod MovedColumns
 pub mod MovedOrder
+pub mod SpaceReads
+pub mod StartLaws

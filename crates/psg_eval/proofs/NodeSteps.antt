@@ -49,20 +49,20 @@ seen_push xs s =
 
 -- ---- the first children
 
--- what is known of the node with the first i children
-pub record IsGoneUpTo (def : Definition) (children : List Known) (begin now : Partial) (i : ℕ) : Type 0 where
-  pub made : (f : Fragment) → HasParts def f [] → AreSummariesOf def f children → IsMade def f 0 begin → IsMade def f i now
-  pub partial : (kind : Kind) → IsPartial def kind (kinds_of children) begin → IsPartial def kind (kinds_of (drop i children)) now
-  pub seen : now.seen ≡ begin.seen + seen_by (take i children)
+-- what is known of the node with the first i children, by what is known of it with fewer
+pub record IsGoneUpTo (def : Definition) (children : List Known) (from : ℕ) (begin now : Partial) (i : ℕ) : Type 0 where
+  pub made : (f : Fragment) → HasParts def f [] → AreSummariesOf def f children → IsMade def f from begin → IsMade def f i now
+  pub partial : (kind : Kind) → IsPartial def kind (kinds_of (drop from children)) begin → IsPartial def kind (kinds_of (drop i children)) now
+  pub seen : now.seen + seen_by (take from children) ≡ begin.seen + seen_by (take i children)
 
-pub gone_none : (def : Definition) (children : List Known) (begin : Partial) → IsGoneUpTo def children begin begin 0
-gone_none def children begin = record { made = λ f parts all is. is; partial = λ kind part. part; seen = omega arith }
+pub gone_none : (def : Definition) (children : List Known) (from : ℕ) (begin : Partial) → IsGoneUpTo def children from begin begin from
+gone_none def children from begin = record { made = λ f parts all is. is; partial = λ kind part. part; seen = refl }
 
-module _ (def : Definition) (children : List Known) (begin now : Partial) (i : ℕ) (s : Known) (at : slice_get children i ≡ Some s) (gone : IsGoneUpTo def children begin now i) where
-  pub now_partial : (kind : Kind) → IsPartial def kind (kinds_of children) begin → IsPartial def kind (s.kind ∷ kinds_of (drop (i + 1) children)) now
+module _ (def : Definition) (children : List Known) (from : ℕ) (begin now : Partial) (i : ℕ) (s : Known) (at : slice_get children i ≡ Some s) (gone : IsGoneUpTo def children from begin now i) where
+  pub now_partial : (kind : Kind) → IsPartial def kind (kinds_of (drop from children)) begin → IsPartial def kind (s.kind ∷ kinds_of (drop (i + 1) children)) now
   now_partial kind part = subst (λ l. IsPartial def kind (kinds_of l) now) (drop_at children i s at) (gone.partial kind part)
 
-  module _ (sound : IsSound def) (kind : Kind) (part : IsPartial def kind (kinds_of children) begin) (f : Fragment) (parts : HasParts def f []) (all : AreSummariesOf def f children) (is : IsMade def f 0 begin) where
+  module _ (sound : IsSound def) (kind : Kind) (part : IsPartial def kind (kinds_of (drop from children)) begin) (f : Fragment) (parts : HasParts def f []) (all : AreSummariesOf def f children) (is : IsMade def f from begin) where
     abbrev child : Fragment
     child = (child_at def (children_of f) children all i s at).0
 
@@ -90,15 +90,22 @@ module _ (def : Definition) (children : List Known) (begin now : Partial) (i : �
         wide_next def f parts sound.signature i found.0 found.1 kind (kinds_of (drop (i + 1) children)) now s many (now_partial kind part) found.2 (gone.made f parts all is) h rows added passes
 
 -- with one child more
-pub seen_more : (children : List Known) (i : ℕ) (s : Known) (n begin : ℕ) → i < length children → s ≡ get_or children i s → n ≡ begin + seen_by (take i children) + s.seen
-    → n ≡ begin + seen_by (take (i + 1) children)
-seen_more children i s n begin l e h = omega (arith, seen_push (take i children) s, ap seen_by (take-next children i s l e))
+pub seen_more : (children : List Known) (i : ℕ) (s : Known) (n before begin t : ℕ) → i < length children → s ≡ get_or children i s → n ≡ before + s.seen
+    → before + t ≡ begin + seen_by (take i children) → n + t ≡ begin + seen_by (take (i + 1) children)
+seen_more children i s n before begin t l e h g = omega (arith, h, g, seen_push (take i children) s, ap seen_by (take-next children i s l e))
 
-pub seen_all : (children : List Known) (i : ℕ) (n begin : ℕ) → i ≡ length children → n ≡ begin + seen_by (take i children) → n ≡ begin + seen_by children
-seen_all children i n begin e h = h ∙ ap (λ xs. begin + seen_by xs) (take_all i children (omega arith))
+pub seen_all : (children : List Known) (i : ℕ) (n begin t : ℕ) → i ≡ length children → n + t ≡ begin + seen_by (take i children) → n + t ≡ begin + seen_by children
+seen_all children i n begin t e h = h ∙ ap (λ xs. begin + seen_by xs) (take_all i children (omega arith))
 
-pub all_gone : (def : Definition) (children : List Known) (begin now : Partial) (i : ℕ) → i ≡ length children → IsGoneUpTo def children begin now i → (kind : Kind) → IsPartial def kind (kinds_of children) begin → IsPartial def kind [] now
-all_gone def children begin now i e gone kind part = subst (λ l. IsPartial def kind (kinds_of l) now) (drop_end children i (omega arith)) (gone.partial kind part)
+-- of the first child alone
+pub seen_one : (children : List Known) (s : Known) → slice_get children 0 ≡ Some s → seen_by (take 1 children) ≡ s.seen
+seen_one [] s e = absurd (cc)
+seen_one (x ∷ xs) s e =
+    let same : x ≡ s = (let f : Some x ≡ Some s = e in cc) in
+    let one : seen_by (x ∷ []) ≡ x.seen = omega arith in one ∙ ap (λ (k : Known). k.seen) same
+
+pub all_gone : (def : Definition) (children : List Known) (from : ℕ) (begin now : Partial) (i : ℕ) → i ≡ length children → IsGoneUpTo def children from begin now i → (kind : Kind) → IsPartial def kind (kinds_of (drop from children)) begin → IsPartial def kind [] now
+all_gone def children from begin now i e gone kind part = subst (λ l. IsPartial def kind (kinds_of l) now) (drop_end children i (omega arith)) (gone.partial kind part)
 
 -- ---- the operator
 

@@ -16,3 +16,4 @@ pub mod Questions
 pub mod Patterns
 pub mod SpaceTables
 pub mod Renamed
+pub mod Starts

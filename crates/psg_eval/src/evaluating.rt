@@ -6,6 +6,7 @@ ghost use Rattle.psg_grammar.specs.declared.types.Operator.{Operator};
 ghost use Rattle.psg_eval.specs.declared.summary.Known.{Known as Kept};
 ghost use Rattle.psg_grammar.specs.Sound.{IsSound};
 ghost use Rattle.psg_grammar.specs.WellFormed.{IsListEnd};
+ghost use Rattle.psg_eval.specs.Starts.{AreStarts};
 ghost use Rattle.psg_eval.specs.Trees.{IsNode};
 ghost use Rattle.psg_eval.specs.Summaries.{Answers, AreSpacesOfList, AreSummariesOf, IsSummary};
 ghost use Rattle.psg_eval.specs.Summaries.{IsSummaryOf, TakesAt, TakesCell};
@@ -14,6 +15,7 @@ use crate::cell::cell_parts;
 use crate::leaves::{closed_end, open_end, placeholder};
 use crate::node::node;
 use crate::partial::summary_of;
+use crate::starts::{OperatorStart, Starts};
 use crate::summary::{EvalFault, Summary};
 use psg_grammar::{Definition, Kind};
 use psg_terms::{Steps, Txt};
@@ -65,7 +67,14 @@ pub fn eval_op<L: Ledger>(
 {
     steps.tick();
     let operator = &definition.operators.as_slice()[op as usize];
-    let summary = node(alloc, definition, operator, names, children)?;
+    let summary = node(
+        alloc,
+        definition,
+        &OperatorStart::Unknown,
+        operator,
+        names,
+        children,
+    )?;
     Ok(summary)
 }
 
@@ -89,7 +98,7 @@ pub fn eval_cell<L: Ledger>(
     ensures ticks { steps.new ≡ steps.old + 1 }
 {
     steps.tick();
-    let whole = cell_parts(alloc, definition, list, element.known(), rest.known())?;
+    let whole = cell_parts(alloc, definition, list, None, element.known(), rest.known())?;
     let summary = summary_of(alloc, Kind::List(list), whole)?;
     Ok(summary)
 }
@@ -118,5 +127,121 @@ pub fn eval_end<L: Ledger>(
         open_end(alloc, definition, spaces, list)
     } else {
         closed_end(alloc, definition, list)
+    }
+}
+
+/// Returns the summary of a placeholder, which is made where it is not among the starts.
+pub(crate) fn hole_from<L: Ledger>(
+    alloc: Global,
+    definition: &Definition,
+    starts: &Starts,
+    phylum: u32,
+    steps: &mut Steps<L>,
+) -> Result<Summary, EvalFault>
+    requires sound { IsSound definition.now }
+    requires starts { AreStarts definition.now starts.now }
+    requires phylum { phylum < length definition.now.phyla }
+    ensures answer { Answers definition.now (hole phylum) result }
+    ensures summary { IfOk result (IsSummary definition.now) }
+    ensures ticks { steps.new ≡ steps.old + 1 }
+{
+    steps.tick();
+    match starts.hole(phylum) {
+        Some(kept) => {
+            let summary = kept.share()?;
+            Ok(summary)
+        }
+        None => placeholder(alloc, definition, phylum),
+    }
+}
+
+/// Returns the summary of an operator's node. What it begins with is made where it is not among the starts.
+pub(crate) fn op_from<L: Ledger>(
+    alloc: Global,
+    definition: &Definition,
+    starts: &Starts,
+    op: u32,
+    names: &[Txt],
+    children: &[Summary],
+    steps: &mut Steps<L>,
+) -> Result<Summary, EvalFault>
+    requires sound { IsSound definition.now }
+    requires starts { AreStarts definition.now starts.now }
+    requires takes { TakesAt definition.now op names.now children.now }
+    ensures answer { (f : Fragment) → IsNode definition.now op names.now f
+        → AreSummariesOf definition.now f children.now → Answers definition.now f result }
+    ensures summary { IfOk result (IsSummary definition.now) }
+    ensures kind { IfOk result (λ s. (o : Operator) → slice_get definition.now.operators op ≡ Some o
+        → s.kind ≡ OfPhylum o.phylum) }
+    ensures seen { IfOk result (λ s. s.seen ≡ sum_by (λ (c : Kept). c.seen) children.now) }
+    ensures ticks { steps.new ≡ steps.old + 1 }
+{
+    steps.tick();
+    let operator = &definition.operators.as_slice()[op as usize];
+    let start = starts.operator(op);
+    let summary = node(alloc, definition, start, operator, names, children)?;
+    Ok(summary)
+}
+
+/// Returns the summary of a list from those of its first element and of the list after it. The cell without them is
+/// made where it is not among the starts.
+pub(crate) fn cell_from<L: Ledger>(
+    alloc: Global,
+    definition: &Definition,
+    starts: &Starts,
+    list: u32,
+    element: &Summary,
+    rest: &Summary,
+    steps: &mut Steps<L>,
+) -> Result<Summary, EvalFault>
+    requires sound { IsSound definition.now }
+    requires starts { AreStarts definition.now starts.now }
+    requires takes { TakesCell definition.now list element.now rest.now }
+    ensures answer { (e r : Fragment) → IsSummaryOf definition.now e element.now → IsSummaryOf definition.now r rest.now
+        → Answers definition.now (cell list e r) result }
+    ensures summary { IfOk result (IsSummary definition.now) }
+    ensures kind { IfOk result (λ s. s.kind ≡ OfList list) }
+    ensures seen { IfOk result (λ s. s.seen ≡ element.now.seen + rest.now.seen) }
+    ensures ticks { steps.new ≡ steps.old + 1 }
+{
+    steps.tick();
+    let start = starts.cell(list);
+    let whole = cell_parts(
+        alloc,
+        definition,
+        list,
+        start,
+        element.known(),
+        rest.known(),
+    )?;
+    let summary = summary_of(alloc, Kind::List(list), whole)?;
+    Ok(summary)
+}
+
+/// Returns the summary of a list's end, which is made where it is not among the starts.
+pub(crate) fn end_from<L: Ledger>(
+    alloc: Global,
+    definition: &Definition,
+    starts: &Starts,
+    spaces: &[u32],
+    list: u32,
+    unfinished: bool,
+    steps: &mut Steps<L>,
+) -> Result<Summary, EvalFault>
+    requires sound { IsSound definition.now }
+    requires starts { AreStarts definition.now starts.now }
+    requires end { IsListEnd definition.now list unfinished }
+    requires spaces { AreSpacesOfList definition.now list spaces.now }
+    ensures answer { Answers definition.now (ending list unfinished) result }
+    ensures summary { IfOk result (IsSummary definition.now) }
+    ensures ticks { steps.new ≡ steps.old + 1 }
+{
+    match starts.end(list, unfinished) {
+        Some(kept) => {
+            steps.tick();
+            let summary = kept.share()?;
+            Ok(summary)
+        }
+        None => eval_end(alloc, definition, spaces, list, unfinished, steps),
     }
 }

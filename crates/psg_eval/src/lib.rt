@@ -8,7 +8,7 @@
 //! A summary has the kind of a tree, its header, and its relation: the most general rows of what its value and the
 //! entities of its keys can be. That of a node is made step by step, from its own rows and one child after the other,
 //! so no tree is needed, and what a step keeps is as small as its most general rows. A frame has summaries of what is
-//! around a tree.
+//! around a tree. `Tables` has what does not depend on the tree, made once for a definition: its calls answer the same.
 #![tactic(auto)]
 
 mod cell;
@@ -27,7 +27,9 @@ mod placing;
 pub mod question;
 pub mod renaming;
 pub mod reporting;
+mod starts;
 pub mod summary;
+pub mod tables;
 
 pub use climbing::climb;
 pub use evaluating::{eval_cell, eval_end, eval_hole, eval_op};
@@ -37,3 +39,4 @@ pub use patterning::{pattern_cell, pattern_end, pattern_op};
 pub use question::{FocusFault, asked};
 pub use reporting::with_report;
 pub use summary::{EvalFault, Summary};
+pub use tables::Tables;

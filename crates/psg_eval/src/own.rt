@@ -25,7 +25,7 @@ use std::alloc::{AllocError, Global};
 /// The name positions of an operator, with the columns of its rows for them and for its slots.
 #[derive(Drop)]
 pub(crate) struct Places {
-    positions: Vec<NameCol>,
+    pub(crate) positions: Vec<NameCol>,
     names: Vec<usize>,
     slots: Vec<usize>,
 }
@@ -62,7 +62,11 @@ impl Places {
 }
 
 /// Returns the places of the items' names and slots. The head has column 0.
-fn item_places(alloc: Global, items: &[Item], names: &[Txt]) -> Result<Places, AllocError>
+pub(crate) fn item_places(
+    alloc: Global,
+    items: &[Item],
+    names: &[Txt],
+) -> Result<Places, AllocError>
     requires fits { (definition : Language) × (length (are_names definition items.now) ≡ length names.now) }
     requires few { length items.now < 2 ^ 32 }
     ensures positions { IfOk result (λ p. p.positions.items ≡ positions items.now names.now) }

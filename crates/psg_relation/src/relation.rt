@@ -11,7 +11,7 @@ ghost use Rattle.psg_terms.specs.Weight.{PassesLimit};
 ghost use Rattle.psg_relation.specs.Choices.{AllHaveSorts, HasWide, IsOfRow, MayBeWide};
 ghost use Rattle.psg_relation.specs.Sealed.{AllReady, AreCanonicalOf};
 
-use crate::row::{RelRow, same_rows};
+use crate::row::{RelRow, same_rows, shared_rows};
 use crate::sifting::sift;
 use crate::weighing::{MOST_DEPTH, MOST_SYMBOLS, deepest_of, weight_of};
 use psg_terms::canonical::canonical;
@@ -115,6 +115,17 @@ impl Rel {
             weight: 0,
             deepest: 0,
         }
+    }
+
+    /// Returns the same relation once more, with one more owner of each of its terms. It fails where memory runs out.
+    pub fn share(&self, alloc: Global) -> Result<Rel, AllocError>
+        ensures { IfOk result (λ r. r ≡ self.now) }
+    {
+        Ok(Rel {
+            kept: Seq::of(shared_rows(alloc, self.rows())?),
+            weight: self.weight,
+            deepest: self.deepest,
+        })
     }
 
     /// Says whether there is no row.

@@ -111,6 +111,17 @@ fn shared(alloc: Global, terms: &[Term]) -> Result<Vec<Term>, AllocError>
     Ok(copies)
 }
 
+/// Returns the rows once more, with one more owner of each of their terms.
+pub(crate) fn shared_rows(alloc: Global, rows: &[RelRow]) -> Result<Vec<RelRow>, AllocError>
+    ensures { IfOk result (λ v. v.items ≡ rows.now) }
+{
+    let mut copies = Vec::with_capacity(alloc, rows.len())?;
+    for row in rows {
+        copies.push(row.share(alloc)?)?;
+    }
+    Ok(copies)
+}
+
 /// Says whether the lists have equal rows at the same places.
 pub(crate) fn same_rows(left: &[RelRow], right: &[RelRow]) -> bool
     ensures { IsTrue result ↔ (left.now ≡ right.now) }

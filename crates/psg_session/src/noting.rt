@@ -30,8 +30,7 @@ pub fn note_of<L: Ledger>(
     ensures noted { IsNoted language.now.definition tree.now result }
     ensures ticks { steps.new ≤ steps.old + work_of tree.now }
 {
-    let declaring = language.declaring.as_slice();
-    build(alloc, &language.definition, declaring, tree, steps)
+    build(alloc, &language.definition, &language.tables, tree, steps)
 }
 
 /// Gives the note of the note's tree with the change made. It evaluates what is new and the nodes above it, and `steps`
@@ -50,13 +49,13 @@ pub fn note_after<L: Ledger>(
     ensures ticks { steps.new ≤ steps.old + cost_of edit.now (tree_in note.now) }
 {
     let definition = &language.definition;
-    let declaring = language.declaring.as_slice();
+    let tables = &language.tables;
     match edit {
-        Edit::Put { at, new } => replaced(alloc, definition, declaring, note, at, new, steps),
+        Edit::Put { at, new } => replaced(alloc, definition, tables, note, at, new, steps),
         Edit::Add { at, place, new } => {
-            inserted(alloc, definition, declaring, note, at, *place, new, steps)
+            inserted(alloc, definition, tables, note, at, *place, new, steps)
         }
-        Edit::Take { at, place } => removed(alloc, definition, declaring, note, at, *place, steps),
+        Edit::Take { at, place } => removed(alloc, definition, tables, note, at, *place, steps),
     }
 }
 

@@ -9,7 +9,7 @@ use Rattle.psg_grammar.specs.declared.types.Definition.{Definition}
 use Rattle.psg_grammar.specs.DeclaringTables.{AreSpacesOf}
 use Rattle.psg_grammar.specs.Sound.{IsSound}
 use Rattle.psg_grammar.proofs.DeclaringLaws.{search_exact}
-use Rattle.psg_specimen.specs.Languages.{AreDeclaringSpaces}
+use Rattle.psg_eval.specs.SpaceTables.{AreDeclaringSpaces}
 use Rattle.psg_specimen.specs.Languages.{IsDeclaringPhylum}
 
 some_not_none : (n : ℕ) → (suc n == 0) ≡ false

@@ -8,7 +8,7 @@ use Rattle.psg_grammar.specs.Declaring.{is_declaring}
 use Rattle.psg_grammar.specs.Sound.{IsSound}
 use Rattle.psg_grammar.specs.WellFormed.{fixed_words}
 use Rattle.psg_lexis.specs.Tokens.{IsFixedWord}
-pub use Rattle.psg_eval.specs.SpaceTables.{AreDeclaringSpaces}
+pub use Rattle.psg_eval.specs.Starts.{AreTables}
 use Rattle.psg_parse.specs.Tables.{IsParseTable}
 use Rattle.psg_specimen.specs.Refusal.{IsAccepted}
 use Rattle.psg_specimen.specs.declared.language.LanguageParts.{LanguageParts}
@@ -21,14 +21,14 @@ IsDeclaringPhylum def (kinds.List l) = ⊥
 
 -- what is made of the definition once
 pub record IsMadeOf (def : Definition) (m : Made) : Type 0 where
-  pub declaring : AreDeclaringSpaces def m.declaring.items
+  pub tables : AreTables def m.tables
   pub words : m.lexis ≡ fixed_words def
   pub table : IsParseTable def m.table
 
 -- a sound and accepted definition, each of whose fixed words is one token, with what is made of it
 pub record IsLanguage (l : LanguageParts) : Type 0 where
   pub sound : IsSound l.definition
-  pub declaring : AreDeclaringSpaces l.definition l.declaring.items
+  pub tables : AreTables l.definition l.tables
   pub words : l.lexis ≡ fixed_words l.definition
   pub accepted : IsAccepted l.definition
   pub tokens : AllByRecursion IsFixedWord (fixed_words l.definition)

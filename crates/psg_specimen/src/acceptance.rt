@@ -59,7 +59,7 @@ pub fn accept(alloc: Global, definition: Definition) -> Result<Language, Refused
     match Made::of(alloc, &definition) {
         Ok(made) => Ok(Language::of(LanguageParts {
             definition,
-            declaring: made.declaring,
+            tables: made.tables,
             lexis: made.lexis,
             table: made.table,
         })),

@@ -9,21 +9,22 @@ ghost use Rattle.psg_parse.specs.Tables.{IsParseTable};
 ghost use Rattle.psg_specimen.specs.Languages.{IsDeclaringPhylum, IsLanguage, IsMadeOf};
 ghost use Rattle.psg_specimen.specs.Refusal.{IsAccepted};
 
-use psg_grammar::{Definition, Item, Kind, ListKind, declaring};
+use psg_eval::Tables;
+use psg_grammar::{Definition, Item, Kind, ListKind};
 use psg_lexis::Lexis;
 use psg_parse::ParseTable;
 use psg_terms::Txt;
 use std::alloc::{AllocError, Global};
 use std::marker::Model;
 
-/// A definition with what is made of it once: for each phylum the spaces in which it declares, its fixed words, and
-/// what the parser looks up of it.
+/// A definition with what is made of it once: what evaluations look up of it, its fixed words, and what the parser
+/// looks up of it.
 #[derive(Drop)]
 pub struct LanguageParts {
     /// The definition.
     pub definition: Definition,
-    /// For each phylum the numbers of the spaces in which it declares, ascending.
-    pub declaring: Vec<Vec<u32>>,
+    /// What evaluations look up, and for each phylum the spaces in which it declares.
+    pub tables: Tables,
     /// The fixed words.
     pub lexis: Lexis,
     /// What the parser looks up.
@@ -51,12 +52,11 @@ impl Model for Language {
     ghost invariant = { λ l. IsLanguage l.parts };
 }
 
-/// What is made of a definition once: for each phylum the spaces in which it declares, the fixed words, and what the
-/// parser looks up.
+/// What is made of a definition once: what evaluations look up, the fixed words, and what the parser looks up.
 #[derive(Drop)]
 pub struct Made {
-    /// For each phylum the numbers of the spaces in which it declares, ascending.
-    pub declaring: Vec<Vec<u32>>,
+    /// What evaluations look up, and for each phylum the spaces in which it declares.
+    pub tables: Tables,
     /// The fixed words.
     pub lexis: Lexis,
     /// What the parser looks up.
@@ -64,7 +64,7 @@ pub struct Made {
 }
 
 impl Made {
-    /// Walks the definition once for its words and once for the parser's table, and searches it for what declares. It
+    /// Walks the definition once for its words and once for the parser's table, and makes the evaluator's tables. It
     /// fails where memory runs out.
     pub fn of(alloc: Global, definition: &Definition) -> Result<Made, AllocError>
         requires { IsSound definition.now }
@@ -72,10 +72,10 @@ impl Made {
     {
         let words = fixed_words(alloc, definition)?;
         let lexis = Lexis::new(alloc, words.as_slice())?;
-        let declaring = declaring(alloc, definition)?;
+        let tables = Tables::of(alloc, definition)?;
         let table = ParseTable::of(alloc, definition)?;
         Ok(Made {
-            declaring,
+            tables,
             lexis,
             table,
         })
@@ -140,7 +140,7 @@ impl LanguageParts {
         ensures { IsTrue result ↔ IsDeclaringPhylum self.now.definition kind }
     {
         match kind {
-            Kind::Phylum(phylum) => !self.declaring.as_slice()[phylum as usize].is_empty(),
+            Kind::Phylum(phylum) => !self.tables.spaces()[phylum as usize].is_empty(),
             Kind::List(_) => false,
         }
     }

@@ -5,7 +5,8 @@ ghost use Rattle.psg_cache.specs.Notes.{IsFormed, IsNoteOf};
 
 use super::languages::{accepted, tree};
 use psg_cache::{Note, NoteFault, build};
-use psg_grammar::{Definition, declaring};
+use psg_eval::Tables;
+use psg_grammar::Definition;
 use psg_langs::MINI;
 use psg_terms::Steps;
 use psg_tree::{Path, Tree};
@@ -28,9 +29,9 @@ fn counted<L: Ledger>(
     requires some { 0 < L.parts }
     ensures { IfOk result (IsNoteOf definition.now tree.now) }
 {
-    let spaces = declaring(alloc, definition)?;
+    let tables = Tables::of(alloc, definition)?;
     let mut steps = Steps::<L>::of(ledger);
-    build(alloc, definition, spaces.as_slice(), tree, &mut steps)
+    build(alloc, definition, &tables, tree, &mut steps)
 }
 
 /// The note of the tree.

@@ -5,7 +5,8 @@ ghost use Rattle.psg_cache.specs.Notes.{IsFormed};
 
 use super::trees::definition;
 use psg_cache::{Note, NoteFault, build};
-use psg_grammar::{Definition, Kind, declaring};
+use psg_eval::Tables;
+use psg_grammar::{Definition, Kind};
 use psg_terms::{Seq, Steps};
 use psg_tree::{Path, Shape, Tree, nodes, well_formed};
 use std::alloc::{AllocError, Global};
@@ -59,9 +60,9 @@ fn counted<L: Ledger>(
     requires parts { ledger.parts ≡ L.parts }
     requires some { 0 < L.parts }
 {
-    let spaces = declaring(alloc, definition)?;
+    let tables = Tables::of(alloc, definition)?;
     let mut steps = Steps::<L>::of(ledger);
-    build(alloc, definition, spaces.as_slice(), tree, &mut steps)
+    build(alloc, definition, &tables, tree, &mut steps)
 }
 
 /// The note of a tree of the kind.

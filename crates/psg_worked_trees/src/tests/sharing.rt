@@ -6,7 +6,8 @@ ghost use Rattle.psg_cache.specs.Notes.{IsFormed, IsNoteOf};
 
 use super::trees::{definition, path, tree};
 use psg_cache::{Note, NoteFault, build, replaced};
-use psg_grammar::{Definition, Kind, declaring};
+use psg_eval::Tables;
+use psg_grammar::{Definition, Kind};
 use psg_terms::Steps;
 use psg_tree::{Path, Tree, at, well_formed};
 use std::alloc::{AllocError, Global};
@@ -48,9 +49,9 @@ fn noted<L: Ledger>(
     requires some { 0 < L.parts }
     ensures { IfOk result (λ n. IsNoteOf definition.now (tree_in n) n) }
 {
-    let spaces = declaring(alloc, definition)?;
+    let tables = Tables::of(alloc, definition)?;
     let mut steps = Steps::<L>::of(ledger);
-    let note = build(alloc, definition, spaces.as_slice(), tree, &mut steps)?;
+    let note = build(alloc, definition, &tables, tree, &mut steps)?;
     Ok(note)
 }
 
@@ -80,17 +81,9 @@ fn exchanged<L: Ledger>(
     if !formed {
         return Err(NoteFault::Memory);
     }
-    let spaces = declaring(alloc, definition)?;
+    let tables = Tables::of(alloc, definition)?;
     let mut steps = Steps::<L>::of(ledger);
-    replaced(
-        alloc,
-        definition,
-        spaces.as_slice(),
-        note,
-        path,
-        new,
-        &mut steps,
-    )
+    replaced(alloc, definition, &tables, note, path, new, &mut steps)
 }
 
 /// How many owners the notes at some places of a list have: the first, the changed one between its neighbours, and the

@@ -12,14 +12,14 @@ turn-init g c =
       within = omega arith;
       counted = omega arith;
       made =
-          cells_none c.args.definition.now c.args.list elements c.args.behind.now c.new-made.result.items c.new-made.ensures.items;
-      suffixes = suffixes_none c.args.definition.now c.args.list c.new-made.result.items c.new-made.ensures.items;
+          cells_none c.args.language.definition.now c.args.list elements c.args.behind.now c.new-made.result.items c.new-made.ensures.items;
+      suffixes = suffixes_none c.args.language.definition.now c.args.list c.new-made.result.items c.new-made.ensures.items;
     }
 
 pub eval_cell-answer-requires-clause-takes : goal.eval_cell-answer-requires-clause-takes
 eval_cell-answer-requires-clause-takes g c =
     let some = c.is_due.ensures.more c.turn-test.true in
-    cell_takes c.args.definition.now c.args.list c.args.elements.now c.args.behind.now c.requires.takes
+    cell_takes c.args.language.definition.now c.args.list c.args.elements.now c.args.behind.now c.requires.takes
     (c.turn.left - 1) c.index-elements-left.result c.latest-rest.result.now c.turn.made.items
     (omega (arith, some, c.turn.invariant.within))
     c.index-elements-left.is
@@ -29,7 +29,7 @@ eval_cell-answer-requires-clause-takes g c =
 
 pub returns-in_err-cell-clause-err : goal.returns-in_err-cell-clause-err
 returns-in_err-cell-clause-err g c =
-    let def = c.args.definition.now in
+    let def = c.args.language.definition.now in
     let path = c.args.path.now in
     let elements = c.args.elements.now in
     let some = c.is_due.ensures.more c.turn-test.true in
@@ -44,7 +44,7 @@ returns-in_err-cell-clause-err g c =
 
 pub turn-preserved : goal.turn-preserved
 turn-preserved g c =
-    let def = c.args.definition.now in
+    let def = c.args.language.definition.now in
     let list = c.args.list in
     let elements = c.args.elements.now in
     let behind = c.args.behind.now in
@@ -82,7 +82,7 @@ returns-clause-ok g c =
     let slice = c.as_slice.ensures.value in
     let stops : (left ≡ 0) ⊎ (first_or behind (reverse made) ≡ first_or was (drop left olds)) =
     subst (λ m. (left ≡ 0) ⊎ (first_or behind (reverse m) ≡ first_or was (drop left olds))) slice done.1 in
-    kept_cells c.args.definition.now c.args.list c.args.elements.now behind was c.requires.olds.0 left olds made _
+    kept_cells c.args.language.definition.now c.args.list c.args.elements.now behind was c.requires.olds.0 left olds made _
     c.requires.olds.1 done.0 stops
     (c.in_ok-push_shared-2.ensures
     ∙ ap₂ (λ a b. a ++ b) (c.in_ok-push_shared.ensures ∙ ap (λ x. x ++ take left olds) c.in_ok-all.ensures.items)
@@ -91,7 +91,7 @@ returns-clause-ok g c =
 
 pub returns-clause-usual : goal.returns-clause-usual
 returns-clause-usual g c =
-    let def = c.args.definition.now in
+    let def = c.args.language.definition.now in
     let olds = c.args.olds.now in
     let made = c.turn.made.items in
     let left = c.turn.left in

@@ -11,8 +11,8 @@ invariant-turn g l =
     record {
       within : l.left ≤ length l.elements;
       counted : l.steps + l.left ≡ l.fn.steps + length l.elements;
-      made : AreOfCells l.definition l.list (drop l.left l.elements) l.behind (reverse l.made.items);
-      suffixes : AllByRecursion (IsSuffix l.definition l.list) (reverse l.made.items);
+      made : AreOfCells l.language.definition.now l.list (drop l.left l.elements) l.behind (reverse l.made.items);
+      suffixes : AllByRecursion (IsSuffix l.language.definition.now l.list) (reverse l.made.items);
     }
 
 abbrev pub decreases-turn : goal.decreases-turn

@@ -1,24 +1,11 @@
-use Rattle.std.proofs.Common.{◌∙◌, ℕ, [], ap, sym, subst, arith}
+use Rattle.std.proofs.Common.{◌∙◌, [], sym, subst, arith}
 use Rattle.std.specs.List.{AllByRecursion}
 use Rattle.psg_eval.specs.Summaries.{IsSummary}
 use Rattle.psg_cache.specs.Renoting.{AreOfCells}
-use Rattle.std.specs.Prelude.{Vec}
-use Rattle.std.specs.declared.alloc.Global.{Global}
 use Rattle.psg_cache.specs.Walks.{IsListFault}
-use Rattle.psg_cache.proofs.SpaceTables.{list_read, spaces_read}
 use Rattle.psg_cache.proofs.ListLaws.{cells_list_fault, end_fault, end_taken, list_topped}
 use Rattle.psg_cache.proofs.Passing.{passed}
 use Rattle.psg_cache.proofs.listing.top_list.Goals as goal
-
-pub eval_end-ended-requires-clause-spaces : goal.eval_end-ended-requires-clause-spaces
-eval_end-ended-requires-clause-spaces g c =
-    spaces_read c.args.language.definition.now c.requires.language.sound c.args.language.declaring.now
-    c.requires.language.declaring c.args.list c.requires.takes.list c.index-as_slice-list.result
-    c.requires.takes.found
-    (list_read c.args.language.definition.now.lists c.as_slice.result.now c.args.list c.requires.takes.list
-    c.index-as_slice-list.result c.as_slice.ensures c.requires.takes.found c.index-as_slice-list.is)
-    c.index-language-kind.result c.index-language-kind.is c.as_slice-spaces.result.now
-    (c.as_slice-spaces.ensures.value ∙ ap (λ (v : Vec ℕ Global). v.items) (sym c.index-language-kind.is))
 
 pub returns-in_err-end-clause-err : goal.returns-in_err-end-clause-err
 returns-in_err-end-clause-err g c =

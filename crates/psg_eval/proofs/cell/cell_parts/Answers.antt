@@ -1,41 +1,24 @@
-use Rattle.std.proofs.Common.{rules, Err, ◌≡◌, ◌+◌, ◌∷◌, [], ◌∙◌, sym, subst, ap}
+use Rattle.std.proofs.Common.{rules, Err, ◌≡◌, sym, subst, ap}
+use Rattle.std.specs.Prelude.{Option, IfSome, option_copied}
 use Rattle.std.proofs.lemmas.Option.{slice_get_within}
 use Rattle.psg_grammar.specs.Fragments.{cell}
-use Rattle.psg_grammar.specs.declared.types.Kind.TheVariants as kinds
 use Rattle.psg_eval.specs.declared.partial.Partial.{Partial}
-use Rattle.psg_eval.specs.Partials.{IsAdded, IsPartial}
+use Rattle.psg_eval.specs.Starts.{IsCellBegun}
 use Rattle.psg_eval.specs.Stages.{IsCellStart, MatchMade}
-use Rattle.psg_eval.proofs.CellRows.{next_seen, next_step, start_made, start_partial, start_wide, element_made, element_wide, rest_made, rest_wide}
-use Rattle.psg_eval.proofs.Numbers.{numbered_fault, numbered_if, numbered_step}
+use Rattle.psg_eval.proofs.CellRows.{cell_begun, start_wide}
+use Rattle.psg_eval.proofs.Numbers.{numbered_fault}
 use Rattle.psg_eval.proofs.cell.cell_parts.Goals as goal
-use Rattle.psg_eval.proofs.cell.cell_parts.Goals.{In_ok-first, In_ok-begun}
-
-first_silent : (c : In_ok-first) → c.in_ok-first.first.seen ≡ 0
-first_silent c = numbered_if (λ (p : Partial). p.seen ≡ 0) c.cell_start.result 0 c.in_ok-first.first c.in_ok-first.ensures c.cell_start.ensures.seen
-
-first_partial : (c : In_ok-first) → IsPartial c.args.definition.now (kinds.List c.args.list) (c.args.element.now.kind ∷ c.args.rest.now.kind ∷ []) c.in_ok-first.first
-first_partial c =
-    start_partial c.args.definition.now c.args.list c.args.element.now c.args.rest.now c.requires.takes c.cell_start.result c.in_ok-first.first c.in_ok-first.ensures c.cell_start.ensures.partial
-
-begun_partial : (c : In_ok-begun) → IsPartial c.args.definition.now (kinds.List c.args.list) (c.args.rest.now.kind ∷ []) c.in_ok-begun.begun
-begun_partial c =
-    let def = c.args.definition.now in
-    next_step def (kinds.List c.args.list) c.args.element.now.kind (c.args.rest.now.kind ∷ []) c.in_ok-first.first c.with_child.result 1 c.in_ok-begun.begun c.in_ok-begun.ensures c.with_child.ensures.partial
-    (start_partial def c.args.list c.args.element.now c.args.rest.now c.requires.takes c.cell_start.result c.in_ok-first.first c.in_ok-first.ensures c.cell_start.ensures.partial)
-
-begun_seen : (c : In_ok-begun) → c.in_ok-begun.begun.seen ≡ c.args.element.now.seen
-begun_seen c =
-    next_seen c.in_ok-first.first.seen c.args.element.now.seen c.with_child.result 1 c.in_ok-begun.begun c.in_ok-begun.ensures c.with_child.ensures.seen
-    (numbered_if (λ (p : Partial). p.seen ≡ 0) c.cell_start.result 0 c.in_ok-first.first c.in_ok-first.ensures c.cell_start.ensures.seen)
 
 pub cell_start-requires-clause-there : goal.cell_start-requires-clause-there
 cell_start-requires-clause-there c = slice_get_within c.args.definition.now.lists c.args.list c.requires.takes.list c.requires.takes.found
 
-pub with_child-requires-clause-partial : goal.with_child-requires-clause-partial
-with_child-requires-clause-partial c = (kinds.List c.args.list, c.args.rest.now.kind ∷ [], first_partial (goal.at.with_child-requires-clause-partial c).In_ok-first)
+pub with_both-requires-clause-first : goal.with_both-requires-clause-first
+with_both-requires-clause-first c =
+    subst (λ (o : Option Partial). IfSome o (IsCellBegun c.args.definition.now c.args.list)) (ap option_copied c.in-Some.is) c.requires.start
 
-pub with_child-requires-2-clause-partial : goal.with_child-requires-2-clause-partial
-with_child-requires-2-clause-partial c = (kinds.List c.args.list, [], begun_partial (goal.at.with_child-requires-2-clause-partial c).In_ok-begun)
+pub with_both-requires-2-clause-first : goal.with_both-requires-2-clause-first
+with_both-requires-2-clause-first c =
+    cell_begun c.args.definition.now c.args.list c.cell_start.result c.in_ok-first.first c.in_ok-first.ensures c.cell_start.ensures.step c.cell_start.ensures.partial c.cell_start.ensures.seen
 
 pub returns-in_err-first-clause-made : goal.returns-in_err-first-clause-made
 returns-in_err-first-clause-made c = λ e r one two.
@@ -46,61 +29,3 @@ returns-in_err-first-clause-made c = λ e r one two.
     subst (MatchMade def (cell l e r) 2) (sym d)
     (numbered_fault def (cell l e r) 2 (IsCellStart def l) c.cell_start.result 0 fault c.in_err-first.ensures c.cell_start.ensures.step
     (start_wide def c.requires.sound l e r c.args.element.now c.args.rest.now one two))
-
-pub returns-in_err-begun-clause-made : goal.returns-in_err-begun-clause-made
-returns-in_err-begun-clause-made c = λ e r one two.
-    let def = c.args.definition.now in
-    let l = c.args.list in
-    let a = (goal.at.returns-in_err-begun-clause-made c).In_ok-first in
-    let first = c.in_ok-first.first in
-    let fault = c.in_err-begun.field-0.0 in
-    let d : c.from_residual-in_err-begun.result ≡ Err fault = search rules in
-    let start = numbered_step (IsCellStart def l) c.cell_start.result 0 first c.in_ok-first.ensures c.cell_start.ensures.step in
-    let made = start_made def c.requires.sound l e r c.args.element.now c.args.rest.now one two first start.0 start.1 in
-    subst (MatchMade def (cell l e r) 2) (sym d)
-    (numbered_fault def (cell l e r) 2 (IsAdded def first c.args.element.now) c.with_child.result 1 fault c.in_err-begun.ensures c.with_child.ensures.step
-    (element_wide def c.requires.sound l e r c.args.element.now c.args.rest.now one two (kinds.List l) c.args.rest.now.kind first (first_partial a) made))
-
-pub returns-in_err-whole-clause-made : goal.returns-in_err-whole-clause-made
-returns-in_err-whole-clause-made c = λ e r one two.
-    let def = c.args.definition.now in
-    let l = c.args.list in
-    let a = (goal.at.returns-in_err-whole-clause-made c).In_ok-first in
-    let b = (goal.at.returns-in_err-whole-clause-made c).In_ok-begun in
-    let first = c.in_ok-first.first in
-    let begun = c.in_ok-begun.begun in
-    let fault = c.in_err-whole.field-0.0 in
-    let d : c.from_residual-in_err-whole.result ≡ Err fault = search rules in
-    let start = numbered_step (IsCellStart def l) c.cell_start.result 0 first c.in_ok-first.ensures c.cell_start.ensures.step in
-    let made = start_made def c.requires.sound l e r c.args.element.now c.args.rest.now one two first start.0 start.1 in
-    let next = numbered_step (IsAdded def first c.args.element.now) c.with_child.result 1 begun c.in_ok-begun.ensures c.with_child.ensures.step in
-    let more = element_made def c.requires.sound l e r c.args.element.now c.args.rest.now one two (kinds.List l) c.args.rest.now.kind first (first_partial a) made begun next.0 next.1 in
-    subst (MatchMade def (cell l e r) 2) (sym d)
-    (numbered_fault def (cell l e r) 2 (IsAdded def begun c.args.rest.now) c.with_child-2.result 2 fault c.in_err-whole.ensures c.with_child-2.ensures.step
-    (rest_wide def c.requires.sound l e r c.args.element.now c.args.rest.now one two (kinds.List l) c.requires.takes.rest_kind begun (begun_partial b) more))
-
-pub returns-clause-made : goal.returns-clause-made
-returns-clause-made c = λ e r one two.
-    let def = c.args.definition.now in
-    let l = c.args.list in
-    let a = (goal.at.returns-clause-made c).In_ok-first in
-    let b = (goal.at.returns-clause-made c).In_ok-begun in
-    let first = c.in_ok-first.first in
-    let begun = c.in_ok-begun.begun in
-    let whole = c.in_ok-whole.whole in
-    let start = numbered_step (IsCellStart def l) c.cell_start.result 0 first c.in_ok-first.ensures c.cell_start.ensures.step in
-    let made = start_made def c.requires.sound l e r c.args.element.now c.args.rest.now one two first start.0 start.1 in
-    let next = numbered_step (IsAdded def first c.args.element.now) c.with_child.result 1 begun c.in_ok-begun.ensures c.with_child.ensures.step in
-    let more = element_made def c.requires.sound l e r c.args.element.now c.args.rest.now one two (kinds.List l) c.args.rest.now.kind first (first_partial a) made begun next.0 next.1 in
-    let last = numbered_step (IsAdded def begun c.args.rest.now) c.with_child-2.result 2 whole c.in_ok-whole.ensures c.with_child-2.ensures.step in
-    rest_made def c.requires.sound l e r c.args.element.now c.args.rest.now one two (kinds.List l) c.requires.takes.rest_kind begun (begun_partial b) more whole last.0 last.1
-
-pub returns-clause-partial : goal.returns-clause-partial
-returns-clause-partial c =
-    next_step c.args.definition.now (kinds.List c.args.list) c.args.rest.now.kind [] c.in_ok-begun.begun c.with_child-2.result 2 c.in_ok-whole.whole c.in_ok-whole.ensures c.with_child-2.ensures.partial
-    (begun_partial (goal.at.returns-clause-partial c).In_ok-begun)
-
-pub returns-clause-seen : goal.returns-clause-seen
-returns-clause-seen c =
-    numbered_if (λ (p : Partial). p.seen ≡ c.in_ok-begun.begun.seen + c.args.rest.now.seen) c.with_child-2.result 2 c.in_ok-whole.whole c.in_ok-whole.ensures c.with_child-2.ensures.seen
-    ∙ ap (λ n. n + c.args.rest.now.seen) (begun_seen (goal.at.returns-clause-seen c).In_ok-begun)

@@ -1,15 +1,11 @@
-use Rattle.std.proofs.Common.{sym, subst}
-use Rattle.psg_cache.specs.Notes.{AreDeclaringSpaces}
 use Rattle.psg_session.proofs.Verdicts.{noted_by}
 use Rattle.psg_session.proofs.noting.note_of.Goals as goal
 
 pub build-requires-clause-sound : goal.build-requires-clause-sound
 build-requires-clause-sound g c = c.requires.language.sound
 
-pub build-requires-clause-declaring : goal.build-requires-clause-declaring
-build-requires-clause-declaring g c =
-    subst (AreDeclaringSpaces c.args.language.now.definition) (sym c.as_slice-declaring.ensures.value)
-    c.requires.language.declaring
+pub build-requires-clause-tables : goal.build-requires-clause-tables
+build-requires-clause-tables g c = c.requires.language.tables
 
 pub returns-clause-noted : goal.returns-clause-noted
 returns-clause-noted g c =

@@ -1,7 +1,7 @@
 -- The spaces in which a list declares are those of its elements.
-use Rattle.std.proofs.Common.{◌≡◌, inl, inr, ℕ, suc, ◌+◌, ◌<◌, ◌==◌, Bool, true, false, List, [], ◌∷◌, length, get_or, slice_get, Some, refl, sym, ◌∙◌, ap, subst, true≢false, arith}
+use Rattle.std.proofs.Common.{◌≡◌, inl, inr, ℕ, zero, suc, ◌+◌, ◌<◌, ◌==◌, Bool, true, false, List, [], ◌∷◌, length, get_or, slice_get, Some, refl, sym, ◌∙◌, ap, subst, true≢false, arith}
 use Rattle.std.proofs.lemmas.Bool.{or_cases, or_left, or_right}
-use Rattle.std.specs.Prelude.{Vec}
+use Rattle.std.specs.Prelude.{IfSome, Vec}
 use Rattle.std.specs.declared.alloc.Global.{Global}
 use Rattle.std.specs.List.{AllByRecursion}
 use Rattle.std.specs.List.Sorted.{IsStrictlyIncreasing}
@@ -14,11 +14,14 @@ use Rattle.psg_grammar.specs.Sound.{IsSound}
 use Rattle.psg_grammar.proofs.SoundParts.{elements_in}
 use Rattle.std.proofs.lemmas.Option.{get_or_from_slice_get, slice_get_read}
 use Rattle.psg_grammar.specs.Declaring.{Declares, by_list, is_declaring}
+use Rattle.psg_grammar.specs.DeclaringTables.{AreSpacesOf}
 use Rattle.psg_grammar.proofs.DeclaringLaws.{eqb_true, eqb_same, found_declares, declares_found}
 use Rattle.psg_scope.specs.Headers.{has_space, AreAscending}
 use Rattle.psg_eval.specs.Summaries.{AreSpacesOfList}
-use Rattle.psg_cache.specs.Notes.{AreDeclaringSpaces}
-use Rattle.psg_cache.proofs.Each.{same_some}
+use Rattle.psg_eval.specs.SpaceTables.{AreDeclaringSpaces}
+
+same_some : {X : Type 0} (a b : X) → Some a ≡ Some b → a ≡ b
+same_some a b e = cc
 
 tail : (x : ℕ) (xs : List ℕ) → IsStrictlyIncreasing (x ∷ xs) → IsStrictlyIncreasing xs
 tail x xs h k l =
@@ -75,6 +78,10 @@ module _ (def : Definition) where
             ((own.exact s).1 (of_elements s l list found (found_declares def s (kinds.List l) h)))));
       }
 
+-- the table of what phyla declare
+pub table_are : (def : Definition) (table : List (Vec ℕ Global)) → length table ≡ length def.phyla → ((p : ℕ) → IfSome (slice_get table p) (λ spaces. AreSpacesOf def p spaces.items)) → AreDeclaringSpaces def table
+table_are def table many each = record { one_each = many; exact = λ p spaces at. subst (λ o. IfSome o (λ (v : Vec ℕ Global). AreSpacesOf def p v.items)) at (each p) }
+
 -- the list that is read from the definition
 pub list_read : (lists slice : List ListKind) (l : ℕ) (own kind : ListKind) → slice ≡ lists
     → slice_get lists l ≡ Some own → kind ≡ get_or slice l kind → kind ≡ own
@@ -98,3 +105,11 @@ module _ (def : Definition) (sound : IsSound def) (table : List (Vec ℕ Global)
         subst (λ (k : ListKind). slice_get table k.element ≡ Some spaces) same
         (slice_get_read table (length table) kind.element spaces refl (element_below l own kind found same) at) in
         subst (AreSpacesOfList def l) (sym is) (spaces_of_list def sound table are l own found spaces there)
+
+    -- the list at the number, and the end of a new one
+    pub list_there : (l : ℕ) → l < length def.lists → (own : ListKind) × (slice_get def.lists l ≡ Some own)
+    list_there l h = at def.lists l h where
+      at : (xs : List ListKind) (n : ℕ) → n < length xs → (own : ListKind) × (slice_get xs n ≡ Some own)
+      at [] n h = absurd (omega (arith, h))
+      at (x ∷ xs) zero h = (x, refl)
+      at (x ∷ xs) (suc n) h = at xs n (omega (arith, h))
