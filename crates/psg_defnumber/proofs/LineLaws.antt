@@ -7,6 +7,8 @@ use Rattle.psg_grammar.specs.declared.types.Kind.TheVariants as kinds
 use Rattle.psg_grammar.specs.declared.types.Level.{Level}
 use Rattle.psg_grammar.specs.declared.types.Item.{Item}
 use Rattle.psg_grammar.specs.declared.types.Item.TheVariants as made
+use Rattle.psg_grammar.specs.declared.types.Space.{Space}
+use Rattle.psg_grammar.specs.declared.types.Phylum.{Phylum}
 use Rattle.psg_grammar.specs.declared.types.ListKind.{ListKind}
 use Rattle.psg_grammar.specs.declared.types.Operator.{Operator}
 use Rattle.psg_grammar.specs.declared.types.Row.{Row}
@@ -25,12 +27,24 @@ use Rattle.psg_deflines.specs.declared.lines.LineItem.{LineItem}
 use Rattle.psg_deflines.specs.declared.lines.LineItem.TheVariants as items
 use Rattle.psg_defnumber.specs.Growing.{Lasts}
 use Rattle.psg_defnumber.specs.Numbers.{IsSort, IsKind, IsList, IsOperator, AreItems, AreRows, IsRow, IsItem, IsSpaceNamed, IsCase, IsNil, IsHoleRow, HasCases, AreCases, IsDeclareRow}
-use Rattle.psg_defnumber.specs.Putting.{Read, Puts, ReadsLists, ReadsOperators, ReadsRows, ReadsCases, ReadsHoleRows, ReadsDeclareRows, ReadsItems, IsOperatorEntry, IsHoleEntry}
+use Rattle.psg_defnumber.specs.Putting.{Read, Puts, ReadsSpaces, ReadsPhyla, ReadsLists, ReadsOperators, ReadsRows, ReadsCases, ReadsHoleRows, ReadsDeclareRows, ReadsItems, IsOperatorEntry, IsHoleEntry}
 use Rattle.psg_defnumber.proofs.PutLaws.{puts-one, puts-none}
 
 -- an entry's line
 pub puts-line : {Y : Type 0} (def : Definition) (Reads : Read Entry Y) (entry : Entry) (line : Line) (rest : List Entry) (old new : List Y) → entry ≡ Some line → Puts def Reads (Some line) rest old new → Puts def Reads entry rest old new
 puts-line def Reads entry line rest old new e p = subst (λ x. Puts def Reads x rest old new) (sym e) p
+
+pub space-put : (def : Definition) (entry : Entry) (line : Line) (name sort : Name) (rest : List Entry) (old new : List Space) (s : Space) → entry ≡ Some line → line ≡ lines.Space name sort → new ≡ old ++ s ∷ [] → s.name ≡ name → Lasts def (λ full. IsSort full sort s.sort)
+    → Puts def ReadsSpaces entry rest old new
+space-put def entry line name sort rest old new s e d grown named of_sort =
+    puts-line def ReadsSpaces entry (lines.Space name sort) rest old new (e ∙ ap Some d)
+    (puts-one def ReadsSpaces (Some (lines.Space name sort)) rest old new s grown (λ full k tail r. (s, tail, refl, named, of_sort full k, r)))
+
+pub phylum-put : (def : Definition) (entry : Entry) (line : Line) (name sort : Name) (bracketed : Bool) (rest : List Entry) (old new : List Phylum) (p : Phylum) → entry ≡ Some line → line ≡ lines.Phylum name sort bracketed → new ≡ old ++ p ∷ [] → p.name ≡ name
+    → Lasts def (λ full. IsSort full sort p.sort) → p.bracketed ≡ bracketed → Puts def ReadsPhyla entry rest old new
+phylum-put def entry line name sort bracketed rest old new p e d grown named of_sort same =
+    puts-line def ReadsPhyla entry (lines.Phylum name sort bracketed) rest old new (e ∙ ap Some d)
+    (puts-one def ReadsPhyla (Some (lines.Phylum name sort bracketed)) rest old new p grown (λ full k tail r. (p, tail, refl, record { named = named; of_sort = of_sort full k; same_brackets = same }, r)))
 
 pub list-put : (def : Definition) (entry : Entry) (line : Line) (name sort element separator : Name) (on unfinished : Bool) (rest : List Entry) (old new : List ListKind) (l : ListKind)
     → entry ≡ Some line → line ≡ lines.List name sort element separator on unfinished → new ≡ old ++ l ∷ [] → l.name ≡ name → Lasts def (λ full. IsSort full sort l.sort) → Lasts def (λ full. IsKind full element (kinds.Phylum l.element))

@@ -1,5 +1,6 @@
--- Laws of lists that grow.
-use Rattle.std.proofs.Common.{◌≡◌, ℕ, zero, suc, List, [], ◌∷◌, ◌++◌, map, refl, ap, subst, Some, slice_get}
+-- Laws of lists.
+use Rattle.std.proofs.Common.{◌≡◌, ℕ, zero, suc, List, [], ◌∷◌, ◌++◌, map, refl, ap, ap₂, subst, Some, slice_get}
+use Rattle.std.specs.List.{AllByRecursion}
 use Rattle.psg_terms.proofs.DeclareLaws.{slice_get-front}
 use Rattle.psg_defnumber.specs.Growing.{Grows}
 
@@ -26,3 +27,11 @@ pub map-at : {X Y : Type 0} (f : X → Y) (xs : List X) (k : ℕ) (x : X) → sl
 map-at f [] k x e = absurd (cc)
 map-at f (y ∷ xs) zero x e = let same : y ≡ x = cc in ap (λ z. Some (f z)) same
 map-at f (y ∷ xs) (suc k) x e = map-at f xs k x e
+
+pub all-append : {X : Type 0} (P : X → Type 0) (xs ys : List X) → AllByRecursion P xs → AllByRecursion P ys
+    → AllByRecursion P (xs ++ ys)
+all-append P [] ys h k = k
+all-append P (x ∷ xs) ys h k = (h.0, all-append P xs ys h.1 k)
+
+pub cons-same : {X : Type 0} (x y : X) (xs ys : List X) → x ≡ y → xs ≡ ys → x ∷ xs ≡ y ∷ ys
+cons-same {X} x y xs ys e f = ap₂ (λ (z : X) (zs : List X). z ∷ zs) e f

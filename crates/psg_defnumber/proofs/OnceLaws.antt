@@ -70,7 +70,7 @@ pub spaces-once : (file : List Line) → ArePassed file [] file → has_twice (s
 spaces-once file passed = kept (λ l. has_twice (space_names l) ≡ false) spaces-step file [] file passed refl
 
 -- sorts and constructors, by the signature
-decls-sorts : (file : List Line) → written.sort_names (sort_decls file) ≡ sort_names file
+pub decls-sorts : (file : List Line) → written.sort_names (sort_decls file) ≡ sort_names file
 decls-sorts [] = refl
 decls-sorts (lines.Sort d ∷ file) = ap (λ l. d.name ∷ l) (decls-sorts file)
 decls-sorts (_ ∷ file) = decls-sorts file
@@ -79,7 +79,7 @@ names-own : (n : ℕ) (cs : List ConDecl) → written.names_in (written.with_sor
 names-own n [] = refl
 names-own n (c ∷ cs) = ap (λ l. c.name ∷ l) (names-own n cs)
 
-decls-constructors : (n : ℕ) (file : List Line) → written.names_in (written.in_order n (sort_decls file)) ≡ constructor_names file
+pub decls-constructors : (n : ℕ) (file : List Line) → written.names_in (written.in_order n (sort_decls file)) ≡ constructor_names file
 decls-constructors n [] = refl
 decls-constructors n (lines.Sort d ∷ file) =
     names_in-append (written.with_sort n d.constructors) (written.in_order (n + 1) (sort_decls file))

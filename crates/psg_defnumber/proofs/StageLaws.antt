@@ -1,9 +1,10 @@
 -- A definition that is made in stages.
-use Rattle.std.proofs.Common.{ℕ, ◌≡◌, false, List, [], refl, subst}
+use Rattle.std.proofs.Common.{ℕ, ◌≡◌, false, List, [], map, refl, ap, sym, ◌∙◌, subst}
 use Rattle.psg_terms.specs.Names.{has_twice}
 use Rattle.psg_terms.specs.Signature.{Signature}
 use Rattle.psg_terms.specs.Declarations.{IsSpelled}
 use Rattle.psg_terms.specs.Sound.{IsSound}
+use Rattle.psg_terms.proofs.DeclareFaults.{symbol_names}
 use Rattle.psg_grammar.specs.declared.types.Space.{Space}
 use Rattle.psg_grammar.specs.declared.types.Phylum.{Phylum}
 use Rattle.psg_grammar.specs.declared.types.ListKind.{ListKind}
@@ -12,7 +13,7 @@ use Rattle.psg_grammar.specs.declared.types.HoleRow.{HoleRow}
 use Rattle.psg_grammar.specs.declared.types.DeclareRow.{DeclareRow}
 use Rattle.psg_grammar.specs.declared.types.Definition.{Definition}
 use Rattle.psg_deflines.specs.declared.lines.Line.{Line}
-use Rattle.psg_defcheck.specs.Scopes.{kind_names}
+use Rattle.psg_defcheck.specs.Scopes.{sort_names, constructor_names, space_names, phylum_names, list_names, kind_names, operator_names}
 use Rattle.psg_defcheck.specs.Scopes as scopes
 use Rattle.psg_defcheck.specs.Faults.{ArePassed}
 use Rattle.psg_defnumber.specs.Growing.{Keeps, Lasts}
@@ -20,10 +21,16 @@ use Rattle.psg_defnumber.specs.Filling.{Fills}
 use Rattle.psg_defnumber.specs.Stages.{IsDeclared}
 use Rattle.psg_defnumber.specs.Numbers.{sort_decls, AreSpaces, ArePhyla, AreLists, AreOperators, AreHoleRows, AreDeclareRows, IsNumbered}
 use Rattle.psg_defnumber.proofs.ListLaws.{grows-refl, grows-nil, grows-trans}
-use Rattle.psg_defnumber.proofs.OnceLaws.{kinds-once, operators-once, spaces-once, sorts-once, constructors-once}
+use Rattle.psg_defnumber.specs.Declaring.{HasSorts, HasConstructors, HasPhyla, HasKinds, HasNames}
+use Rattle.psg_defnumber.proofs.NamedLaws.{phyla-names, spaces-names, lists-names, operators-names}
+use Rattle.psg_defnumber.proofs.OnceLaws.{decls-sorts, decls-constructors, kinds-once, operators-once, spaces-once, sorts-once, constructors-once}
 
 abbrev pub staged : ℕ → Signature → List Space → List Phylum → List ListKind → List Operator → Definition
 staged version sig spaces phyla lists operators = record { version = version; signature = sig; spaces = spaces; phyla = phyla; lists = lists; operators = operators; hole_rows = []; declare_rows = [] }
+
+-- the definition with these parts
+abbrev pub filled : Definition → List Space → List Phylum → List ListKind → List Operator → Definition
+filled d spaces phyla lists operators = record { version = d.version; signature = d.signature; spaces = spaces; phyla = phyla; lists = lists; operators = operators; hole_rows = d.hole_rows; declare_rows = d.declare_rows }
 
 keeps-then : (a b c : Definition) → Keeps a b → Keeps b c → Keeps a c
 keeps-then a b c h k = record {
@@ -38,25 +45,81 @@ keeps-then a b c h k = record {
 pub lasts-on : (a b : Definition) (P : Definition → Type 0) → Keeps a b → Lasts a P → Lasts b P
 lasts-on a b P h k = λ full keeps. k full (keeps-then a b full h keeps)
 
-pub is-declared : (version : ℕ) (file : List Line) (sig : Signature) (spaces : List Space) (phyla : List Phylum) (bare lists : List ListKind) (operators : List Operator) → has_twice (kind_names file) ≡ false → IsSpelled (sort_decls file) sig → IsSound sig
-    → Lasts (staged version sig [] [] [] []) (λ full. AreSpaces full (scopes.spaces file) spaces)
-    → Lasts (staged version sig spaces [] [] []) (λ full. ArePhyla full file phyla)
-    → Lasts (staged version sig spaces phyla [] []) (λ full. AreLists full [] file bare)
+pub keeps-self : (d : Definition) → Keeps d d
+keeps-self d = record { signature = refl; spaces = grows-refl d.spaces; phyla = grows-refl d.phyla; lists = grows-refl d.lists; operators = grows-refl d.operators }
+
+pub is-declared : (version : ℕ) (file seen : List Line) (sig : Signature) (spaces : List Space) (phyla : List Phylum) (bare lists : List ListKind) (operators : List Operator) → file ≡ seen → ArePassed seen [] seen → IsSpelled (sort_decls file) sig → IsSound sig
+    → ((def : Definition) → HasSorts seen def → Lasts def (λ full. AreSpaces full (scopes.spaces file) spaces))
+    → ((def : Definition) → HasSorts seen def → Lasts def (λ full. ArePhyla full file phyla))
+    → ((def : Definition) → HasSorts seen def → HasPhyla seen def → Lasts def (λ full. AreLists full [] file bare))
     → Fills (staged version sig spaces phyla [] []) [] file bare lists
     → Lasts (staged version sig spaces phyla lists []) (λ full. AreOperators full file operators)
     → IsDeclared version file (staged version sig spaces phyla lists operators)
-is-declared version file sig spaces phyla bare lists operators once spelled sound of_spaces of_phyla of_bare of_lists of_operators = record {
+is-declared version file seen sig spaces phyla bare lists operators e passed spelled sound of_spaces of_phyla of_bare of_lists of_operators = record {
   same_version = refl;
   signature = spelled;
   sound = sound;
-  spaces = lasts-on (staged version sig [] [] [] []) (staged version sig spaces phyla lists operators) (λ full. AreSpaces full (scopes.spaces file) spaces)
-      (record { signature = refl; spaces = grows-nil spaces; phyla = grows-nil phyla; lists = grows-nil lists; operators = grows-nil operators }) of_spaces;
-  phyla = lasts-on (staged version sig spaces [] [] []) (staged version sig spaces phyla lists operators) (λ full. ArePhyla full file phyla)
-      (record { signature = refl; spaces = grows-refl spaces; phyla = grows-nil phyla; lists = grows-nil lists; operators = grows-nil operators }) of_phyla;
-  lists = lasts-on (staged version sig spaces phyla [] []) (staged version sig spaces phyla lists operators) (λ full. AreLists full file file lists)
-      (record { signature = refl; spaces = grows-refl spaces; phyla = grows-refl phyla; lists = grows-nil lists; operators = grows-nil operators }) (λ full k. of_lists file once full k (of_bare full k));
-  operators = lasts-on (staged version sig spaces phyla lists []) (staged version sig spaces phyla lists operators) (λ full. AreOperators full file operators)
+  spaces = of_spaces whole has;
+  phyla = of_phyla whole has;
+  lists = lasts-on (staged version sig spaces phyla [] []) whole (λ full. AreLists full file file lists)
+      (record { signature = refl; spaces = grows-refl spaces; phyla = grows-refl phyla; lists = grows-nil lists; operators = grows-nil operators }) (λ full k. of_lists file once full k (of_bare (staged version sig spaces phyla [] []) has phyla-there full k));
+  operators = lasts-on (staged version sig spaces phyla lists []) whole (λ full. AreOperators full file operators)
       (record { signature = refl; spaces = grows-refl spaces; phyla = grows-refl phyla; lists = grows-refl lists; operators = grows-nil operators }) of_operators;
+}
+  where
+    whole : Definition
+    whole = staged version sig spaces phyla lists operators
+
+    once : has_twice (kind_names file) ≡ false
+    once = subst (λ f. has_twice (kind_names f) ≡ false) (sym e) (kinds-once seen passed)
+
+    has : sig.sorts ≡ sort_names seen
+    has = spelled.sorts ∙ decls-sorts file ∙ ap sort_names e
+
+    phyla-there : map (λ (p : Phylum). p.name) phyla ≡ phylum_names seen
+    phyla-there = phyla-names whole file phyla (of_phyla whole has whole (keeps-self whole)) ∙ ap phylum_names e
+
+-- The lists that are made are those of the lines, at first without rows.
+module _ (version : ℕ) (file seen : List Line) (sig : Signature) (spaces : List Space) (phyla : List Phylum) (bare lists : List ListKind) (e : file ≡ seen) (passed : ArePassed seen [] seen) (spelled : IsSpelled (sort_decls file) sig) where
+  has : sig.sorts ≡ sort_names seen
+  has = spelled.sorts ∙ decls-sorts file ∙ ap sort_names e
+
+  pub constructors-of : HasConstructors seen sig
+  constructors-of = symbol_names (sort_decls file) sig spelled ∙ decls-constructors 0 file ∙ ap constructor_names e
+
+  phyla-there : ((def : Definition) → HasSorts seen def → Lasts def (λ full. ArePhyla full file phyla)) → HasPhyla seen (staged version sig spaces phyla [] [])
+  phyla-there of_phyla = let d = staged version sig spaces phyla [] [] in phyla-names d file phyla (of_phyla d has d (keeps-self d)) ∙ ap phylum_names e
+
+  bare-there : ((def : Definition) → HasSorts seen def → Lasts def (λ full. ArePhyla full file phyla)) → ((def : Definition) → HasSorts seen def → HasPhyla seen def → Lasts def (λ full. AreLists full [] file bare))
+      → AreLists (staged version sig spaces phyla [] []) [] file bare
+  bare-there of_phyla of_bare = let d = staged version sig spaces phyla [] [] in of_bare d has (phyla-there of_phyla) d (keeps-self d)
+
+  pub bare-of : ((def : Definition) → HasSorts seen def → Lasts def (λ full. ArePhyla full file phyla)) → ((def : Definition) → HasSorts seen def → HasPhyla seen def → Lasts def (λ full. AreLists full [] file bare))
+      → AreLists (staged version sig spaces phyla [] []) [] seen bare
+  bare-of of_phyla of_bare = subst (λ f. AreLists (staged version sig spaces phyla [] []) [] f bare) e (bare-there of_phyla of_bare)
+
+  pub kinds-of : ((def : Definition) → HasSorts seen def → Lasts def (λ full. AreSpaces full (scopes.spaces file) spaces)) → ((def : Definition) → HasSorts seen def → Lasts def (λ full. ArePhyla full file phyla))
+      → ((def : Definition) → HasSorts seen def → HasPhyla seen def → Lasts def (λ full. AreLists full [] file bare)) → Fills (staged version sig spaces phyla [] []) [] file bare lists → HasKinds seen (staged version sig spaces phyla lists [])
+  kinds-of of_spaces of_phyla of_bare of_lists =
+      let d = staged version sig spaces phyla [] [] in
+      let once = subst (λ f. has_twice (kind_names f) ≡ false) (sym e) (kinds-once seen passed) in
+      record {
+        constructors = constructors-of;
+        spaces = spaces-names d file spaces (of_spaces d has d (keeps-self d)) ∙ ap space_names e;
+        phyla = phyla-there of_phyla;
+        lists = lists-names d file file lists (of_lists file once d (keeps-self d) (bare-there of_phyla of_bare)) ∙ ap list_names e;
+      }
+
+-- a definition that is declared has the names of the lines
+pub names-of : (version : ℕ) (file seen : List Line) (d : Definition) → file ≡ seen → IsDeclared version file d → HasNames seen d
+names-of version file seen d e h = record {
+  kinds = record {
+    constructors = symbol_names (sort_decls file) d.signature h.signature ∙ decls-constructors 0 file ∙ ap constructor_names e;
+    spaces = spaces-names d file d.spaces (h.spaces d (keeps-self d)) ∙ ap space_names e;
+    phyla = phyla-names d file d.phyla (h.phyla d (keeps-self d)) ∙ ap phylum_names e;
+    lists = lists-names d file file d.lists (h.lists d (keeps-self d)) ∙ ap list_names e;
+  };
+  operators = operators-names d file d.operators (h.operators d (keeps-self d)) ∙ ap operator_names e;
 }
 
 abbrev pub with_holes : Definition → List HoleRow → List DeclareRow → Definition

@@ -1,7 +1,10 @@
 pub mod Numbers
 pub mod Growing
+pub mod Declaring
 pub mod Naming
 pub mod Fitting
 pub mod Putting
 pub mod Filling
 pub mod Stages
+pub mod Once
+pub mod Soundness

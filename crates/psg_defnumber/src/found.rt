@@ -1,10 +1,10 @@
-//! The one place for what the tests of meaning exclude.
+//! The one place for what the tests of meaning exclude, where that is not proved.
 ghost use Rattle.std.specs.Prelude.{◌≡◌, IfOk, OnOk, IsTrue, Some};
 
 use std::alloc::AllocError;
 
-/// Returns what a look-up found. Lines that pass the tests of meaning leave no look-up without an answer, so the error
-/// is returned only where memory runs out.
+/// Returns what is at a position. Lines that pass the tests of meaning leave no position without anything. That is not
+/// proved here, so the error is an answer.
 pub fn found<T: Drop>(answer: Option<T>) -> Result<T, AllocError>
     ensures { IfOk result (λ x. answer ≡ Some x) }
 {
@@ -14,7 +14,7 @@ pub fn found<T: Drop>(answer: Option<T>) -> Result<T, AllocError>
     }
 }
 
-/// Returns the error where the test fails. It holds of lines that pass the tests of meaning.
+/// Returns the error where the test fails. That lines which pass the tests of meaning pass it is not proved here.
 pub fn holds(test: bool) -> Result<(), AllocError>
     ensures { OnOk result (IsTrue test) }
 {

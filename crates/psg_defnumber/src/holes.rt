@@ -1,6 +1,10 @@
 //! Hole rows with their cases, and declare rows.
 ghost use Rattle.std.specs.Prelude.{◌↔◌, List, IfOk, IsTrue, OnOk};
+ghost use Rattle.std.specs.List.{AllByRecursion};
 ghost use Rattle.psg_deflines.specs.Entries.{Entry, written};
+ghost use Rattle.psg_defcheck.specs.Meanings.{IsKnown, KnowsBehindBy, KnowsTerm};
+ghost use Rattle.psg_defcheck.specs.Scopes.{is_kind};
+ghost use Rattle.psg_defnumber.specs.Declaring.{HasNames, IsKnownEntry};
 ghost use Rattle.psg_defnumber.specs.Growing.{Lasts};
 ghost use Rattle.psg_defnumber.specs.Numbers.{AreCases, IsHoleRow, AreHoleRows, AreDeclareRows};
 ghost use Rattle.psg_defnumber.specs.Putting.{Puts, ReadsCases, ReadsHoleRows, ReadsDeclareRows, IsHoleEntry};
@@ -37,6 +41,8 @@ fn put_case(
     entry: &Option<Line>,
 ) -> Result<(), AllocError>
     requires inside { IsHoleEntry entry.now → ⊥ }
+    requires known { IsKnownEntry checked.now entry.now }
+    requires names { HasNames checked.now def.now }
     ensures { OnOk result ((rest : List Entry)
         → Puts def.now (ReadsCases kind sort.0) entry.now rest made.old.items made.new.items) }
 {
@@ -60,6 +66,8 @@ fn cases(
     sort: SortId,
     behind: &[Option<Line>],
 ) -> Result<Vec<Case>, AllocError>
+    requires known { AllByRecursion (IsKnown checked.now) (written behind.now) }
+    requires names { HasNames checked.now def.now }
     ensures { IfOk result (λ v. Lasts def.now (λ full. AreCases full kind sort.0 (written behind.now) v.items)) }
 {
     let mut made = Vec::new(alloc);
@@ -82,10 +90,15 @@ fn hole_row(
     specimen: &Option<LineTree>,
     behind: &[Option<Line>],
 ) -> Result<HoleRow, AllocError>
+    requires kind { IsTrue (is_kind checked.now kind.now) }
+    requires term { KnowsTerm checked.now term.now }
+    requires specimen { KnowsBehindBy checked.now specimen.now }
+    requires behind { AllByRecursion (IsKnown checked.now) (written behind.now) }
+    requires names { HasNames checked.now def.now }
     ensures { IfOk result (λ r. Lasts def.now (λ full.
         IsHoleRow full kind.now term.now specimen.now (written behind.now) r)) }
 {
-    let kind = kind_named(def, checked, kind)?;
+    let kind = kind_named(checked, kind);
     let sort = kind_sort(def, kind)?;
     let Some(tree) = specimen else {
         let term = lone_term(alloc, def, checked, sort, term)?;
@@ -116,6 +129,9 @@ fn put_hole_row(
     entry: &Option<Line>,
     behind: &[Option<Line>],
 ) -> Result<(), AllocError>
+    requires known { IsKnownEntry checked.now entry.now }
+    requires behind { AllByRecursion (IsKnown checked.now) (written behind.now) }
+    requires names { HasNames checked.now def.now }
     ensures { OnOk result (Puts def.now ReadsHoleRows entry.now behind.now made.old.items made.new.items) }
 {
     let Some(line) = entry else {
@@ -141,6 +157,8 @@ pub fn hole_rows(
     checked: &CheckedLines,
     entries: &[Option<Line>],
 ) -> Result<Vec<HoleRow>, AllocError>
+    requires known { AllByRecursion (IsKnown checked.now) (written entries.now) }
+    requires names { HasNames checked.now def.now }
     ensures { IfOk result (λ v. Lasts def.now (λ full. AreHoleRows full (written entries.now) v.items)) }
 {
     let mut made = Vec::new(alloc);
@@ -165,6 +183,8 @@ fn put_declare_row(
     made: &mut Vec<DeclareRow>,
     entry: &Option<Line>,
 ) -> Result<(), AllocError>
+    requires known { IsKnownEntry checked.now entry.now }
+    requires names { HasNames checked.now def.now }
     ensures { OnOk result ((rest : List Entry)
         → Puts def.now ReadsDeclareRows entry.now rest made.old.items made.new.items) }
 {
@@ -193,6 +213,8 @@ pub fn declare_rows(
     checked: &CheckedLines,
     entries: &[Option<Line>],
 ) -> Result<Vec<DeclareRow>, AllocError>
+    requires known { AllByRecursion (IsKnown checked.now) (written entries.now) }
+    requires names { HasNames checked.now def.now }
     ensures { IfOk result (λ v. Lasts def.now (λ full. AreDeclareRows full (written entries.now) v.items)) }
 {
     let mut made = Vec::new(alloc);

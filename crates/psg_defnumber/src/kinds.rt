@@ -1,7 +1,11 @@
 //! Spaces, phyla and lists from their lines.
 ghost use Rattle.std.specs.Prelude.{List, [], IfOk, OnOk};
+ghost use Rattle.std.specs.List.{AllByRecursion};
+ghost use Rattle.psg_grammar.specs.declared.types.Definition.{Definition as Plain};
 ghost use Rattle.psg_deflines.specs.Entries.{Entry, written};
+ghost use Rattle.psg_defcheck.specs.Meanings.{IsKnown};
 ghost use Rattle.psg_defcheck.specs.Scopes.{spaces};
+ghost use Rattle.psg_defnumber.specs.Declaring.{HasPhyla, HasSorts, IsKnownEntry};
 ghost use Rattle.psg_defnumber.specs.Growing.{Lasts};
 ghost use Rattle.psg_defnumber.specs.Numbers.{AreSpaces, ArePhyla, AreLists};
 ghost use Rattle.psg_defnumber.specs.Putting.{Puts, ReadsSpaces, ReadsPhyla, ReadsLists};
@@ -9,19 +13,19 @@ ghost use Rattle.psg_defnumber.specs.Putting.{Puts, ReadsSpaces, ReadsPhyla, Rea
 use crate::lookups::{phylum_named, sort_named};
 use psg_defcheck::CheckedLines;
 use psg_deflines::Line;
-use psg_grammar::{Definition, ListKind, Phylum, Space};
+use psg_grammar::{ListKind, Phylum, Space};
 use psg_terms::Seq;
 use std::alloc::{AllocError, Global};
 
 /// Puts the space of a line after the others, if it declares one.
 fn put_space(
-    def: &Definition,
     checked: &CheckedLines,
     made: &mut Vec<Space>,
     entry: &Option<Line>,
 ) -> Result<(), AllocError>
-    ensures { OnOk result ((rest : List Entry)
-        → Puts def.now ReadsSpaces entry.now rest made.old.items made.new.items) }
+    requires { IsKnownEntry checked.now entry.now }
+    ensures { OnOk result ((def : Plain) (rest : List Entry) → HasSorts checked.now def
+        → Puts def ReadsSpaces entry.now rest made.old.items made.new.items) }
 {
     let Some(line) = entry else {
         return Ok(());
@@ -29,7 +33,7 @@ fn put_space(
     let Line::Space { name, sort } = line else {
         return Ok(());
     };
-    let sort = sort_named(def, checked, sort)?;
+    let sort = sort_named(checked, sort);
     let name = name.share()?;
     made.push(Space { name, sort })?;
     Ok(())
@@ -38,27 +42,29 @@ fn put_space(
 /// Makes the spaces, in order.
 pub fn spaces(
     alloc: Global,
-    def: &Definition,
     checked: &CheckedLines,
     entries: &[Option<Line>],
 ) -> Result<Vec<Space>, AllocError>
-    ensures { IfOk result (λ v. Lasts def.now (λ full. AreSpaces full (spaces (written entries.now)) v.items)) }
+    requires { AllByRecursion (IsKnown checked.now) (written entries.now) }
+    ensures { IfOk result (λ v. (def : Plain) → HasSorts checked.now def
+        → Lasts def (λ full. AreSpaces full (spaces (written entries.now)) v.items)) }
 {
     let mut made = Vec::new(alloc);
     for entry in entries {
-        put_space(def, checked, &mut made, entry)?;
+        put_space(checked, &mut made, entry)?;
     }
     Ok(made)
 }
 
 /// Puts the phylum of a line after the others, if it declares one.
 fn put_phylum(
-    def: &Definition,
     checked: &CheckedLines,
     made: &mut Vec<Phylum>,
     entry: &Option<Line>,
 ) -> Result<(), AllocError>
-    ensures { OnOk result ((rest : List Entry) → Puts def.now ReadsPhyla entry.now rest made.old.items made.new.items) }
+    requires { IsKnownEntry checked.now entry.now }
+    ensures { OnOk result ((def : Plain) (rest : List Entry) → HasSorts checked.now def
+        → Puts def ReadsPhyla entry.now rest made.old.items made.new.items) }
 {
     let Some(line) = entry else {
         return Ok(());
@@ -71,7 +77,7 @@ fn put_phylum(
     else {
         return Ok(());
     };
-    let sort = sort_named(def, checked, sort)?;
+    let sort = sort_named(checked, sort);
     let name = name.share()?;
     made.push(Phylum {
         name,
@@ -84,15 +90,16 @@ fn put_phylum(
 /// Makes the phyla, in order.
 pub fn phyla(
     alloc: Global,
-    def: &Definition,
     checked: &CheckedLines,
     entries: &[Option<Line>],
 ) -> Result<Vec<Phylum>, AllocError>
-    ensures { IfOk result (λ v. Lasts def.now (λ full. ArePhyla full (written entries.now) v.items)) }
+    requires { AllByRecursion (IsKnown checked.now) (written entries.now) }
+    ensures { IfOk result (λ v. (def : Plain) → HasSorts checked.now def
+        → Lasts def (λ full. ArePhyla full (written entries.now) v.items)) }
 {
     let mut made = Vec::new(alloc);
     for entry in entries {
-        put_phylum(def, checked, &mut made, entry)?;
+        put_phylum(checked, &mut made, entry)?;
     }
     Ok(made)
 }
@@ -100,12 +107,13 @@ pub fn phyla(
 /// Puts the list of a line after the others, if it declares one. It has no rows yet.
 fn put_list(
     alloc: Global,
-    def: &Definition,
     checked: &CheckedLines,
     made: &mut Vec<ListKind>,
     entry: &Option<Line>,
 ) -> Result<(), AllocError>
-    ensures { OnOk result ((rest : List Entry) → Puts def.now ReadsLists entry.now rest made.old.items made.new.items) }
+    requires { IsKnownEntry checked.now entry.now }
+    ensures { OnOk result ((def : Plain) (rest : List Entry) → HasSorts checked.now def → HasPhyla checked.now def
+        → Puts def ReadsLists entry.now rest made.old.items made.new.items) }
 {
     let Some(line) = entry else {
         return Ok(());
@@ -121,8 +129,8 @@ fn put_list(
     else {
         return Ok(());
     };
-    let sort = sort_named(def, checked, sort)?;
-    let element = phylum_named(def, checked, element)?;
+    let sort = sort_named(checked, sort);
+    let element = phylum_named(checked, element);
     let name = name.share()?;
     let separator = separator.share()?;
     made.push(ListKind {
@@ -141,15 +149,16 @@ fn put_list(
 /// Makes the lists without their rows, in order.
 pub fn lists(
     alloc: Global,
-    def: &Definition,
     checked: &CheckedLines,
     entries: &[Option<Line>],
 ) -> Result<Vec<ListKind>, AllocError>
-    ensures { IfOk result (λ v. Lasts def.now (λ full. AreLists full [] (written entries.now) v.items)) }
+    requires { AllByRecursion (IsKnown checked.now) (written entries.now) }
+    ensures { IfOk result (λ v. (def : Plain) → HasSorts checked.now def → HasPhyla checked.now def
+        → Lasts def (λ full. AreLists full [] (written entries.now) v.items)) }
 {
     let mut made = Vec::new(alloc);
     for entry in entries {
-        put_list(alloc, def, checked, &mut made, entry)?;
+        put_list(alloc, checked, &mut made, entry)?;
     }
     Ok(made)
 }

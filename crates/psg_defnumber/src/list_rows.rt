@@ -1,15 +1,18 @@
 //! The rows of lists.
-ghost use Rattle.std.specs.Prelude.{◌≡◌, ◌∷◌, ◌++◌, [], List, IfOk, OnOk, Some, slice_get};
-ghost use Rattle.psg_grammar.specs.declared.types.ListKind.{ListKind as PlainList};
+ghost use Rattle.std.specs.Prelude.{◌≡◌, ◌∷◌, ◌++◌, [], false, List, IfOk, IsTrue, OnOk};
+ghost use Rattle.std.specs.List.{AllByRecursion};
+ghost use Rattle.psg_terms.specs.Names.{has_twice};
 ghost use Rattle.psg_deflines.specs.Entries.{written};
 ghost use Rattle.psg_deflines.specs.declared.lines.Line.{Line as PlainLine};
 ghost use Rattle.psg_deflines.specs.declared.lines.Line.TheVariants as lines;
+ghost use Rattle.psg_defcheck.specs.Meanings.{IsKnown, KnowsTerm};
+ghost use Rattle.psg_defcheck.specs.Scopes.{is_list, kind_names};
+ghost use Rattle.psg_defnumber.specs.Declaring.{AreListsOf, HasConstructors, IsKnownEntry};
 ghost use Rattle.psg_defnumber.specs.Growing.{Lasts};
-ghost use Rattle.psg_defnumber.specs.Numbers.{IsRow};
+ghost use Rattle.psg_defnumber.specs.Numbers.{AreLists, IsRow};
 ghost use Rattle.psg_defnumber.specs.Filling.{Fills};
 
-use crate::found::{found, holds};
-use crate::lookups::phylum_sort;
+use crate::lookups::{list_named, phylum_sort};
 use crate::rows::lone_term;
 use crate::terms::term;
 use crate::variables::Known;
@@ -20,16 +23,6 @@ use psg_grammar::{Definition, ListKind, Row};
 use psg_terms::{Seq, SortId, Txt};
 use std::alloc::{AllocError, Global};
 
-/// The position of the list of the name.
-fn place_of(checked: &CheckedLines, lists: &[ListKind], name: &Txt) -> Result<usize, AllocError>
-    ensures { IfOk result (λ p. (k : PlainList) × (slice_get lists.now p ≡ Some k) × (k.name ≡ name.now)) }
-{
-    let place = found(checked.names().lists.place(name.as_str()))?;
-    let own = found(lists.get(place))?;
-    holds(own.name.same(name))?;
-    Ok(place)
-}
-
 /// Puts a nil row into its list, after the others.
 fn put_nil(
     alloc: Global,
@@ -39,11 +32,15 @@ fn put_nil(
     list: &Txt,
     term: &LineTerm,
 ) -> Result<(), AllocError>
+    requires there { IsTrue (is_list checked.now list.now) }
+    requires term { KnowsTerm checked.now term.now }
+    requires lists { AreListsOf checked.now lists.old.items }
+    requires constructors { HasConstructors checked.now def.now.signature }
     ensures { OnOk result ((file : List PlainLine)
         → Fills def.now file (file ++ lines.Nil list.now term.now ∷ []) lists.old.items lists.new.items) }
 {
-    let place = place_of(checked, lists.as_slice(), list)?;
-    let own = &mut lists[place];
+    let place = list_named(checked, list);
+    let own = &mut lists[place as usize];
     let made = lone_term(alloc, def, checked, own.sort, term)?;
     own.nil_rows.push(made)?;
     Ok(())
@@ -60,6 +57,10 @@ fn cell(
     element: &LineTerm,
     rest: &LineTerm,
 ) -> Result<Row, AllocError>
+    requires head { KnowsTerm checked.now head.now }
+    requires element { KnowsTerm checked.now element.now }
+    requires rest { KnowsTerm checked.now rest.now }
+    requires constructors { HasConstructors checked.now def.now.signature }
     ensures { IfOk result (λ r. Lasts def.now (λ full.
         IsRow full sort.0 (elements.0 ∷ sort.0 ∷ []) head.now (element.now ∷ rest.now ∷ []) r)) }
 {
@@ -92,12 +93,18 @@ fn put_cell(
     element: &LineTerm,
     rest: &LineTerm,
 ) -> Result<(), AllocError>
+    requires there { IsTrue (is_list checked.now list.now) }
+    requires term { KnowsTerm checked.now term.now }
+    requires element { KnowsTerm checked.now element.now }
+    requires rest { KnowsTerm checked.now rest.now }
+    requires lists { AreListsOf checked.now lists.old.items }
+    requires constructors { HasConstructors checked.now def.now.signature }
     ensures { OnOk result ((file : List PlainLine)
         → Fills def.now file (file ++ lines.Cell list.now term.now element.now rest.now ∷ [])
         lists.old.items lists.new.items) }
 {
-    let place = place_of(checked, lists.as_slice(), list)?;
-    let own = &mut lists[place];
+    let place = list_named(checked, list);
+    let own = &mut lists[place as usize];
     let elements = phylum_sort(def, own.element)?;
     let made = cell(alloc, def, checked, own.sort, elements, term, element, rest)?;
     own.cell_rows.push(made)?;
@@ -112,6 +119,9 @@ fn put_list_row(
     lists: &mut Vec<ListKind>,
     entry: &Option<Line>,
 ) -> Result<(), AllocError>
+    requires known { IsKnownEntry checked.now entry.now }
+    requires lists { AreListsOf checked.now lists.old.items }
+    requires constructors { HasConstructors checked.now def.now.signature }
     ensures { OnOk result ((file : List PlainLine)
         → Fills def.now file (file ++ written (entry.now ∷ [])) lists.old.items lists.new.items) }
 {
@@ -136,7 +146,7 @@ fn put_list_row(
     }
 }
 
-/// Puts the rows of all lines into their lists, in order.
+/// Puts the rows of all lines into their lists, in order. The lists are those of the checked lines, without rows.
 pub fn fill_lists(
     alloc: Global,
     def: &Definition,
@@ -144,6 +154,10 @@ pub fn fill_lists(
     lists: &mut Vec<ListKind>,
     entries: &[Option<Line>],
 ) -> Result<(), AllocError>
+    requires known { AllByRecursion (IsKnown checked.now) (written entries.now) }
+    requires once { has_twice (kind_names checked.now) ≡ false }
+    requires lists { AreLists def.now [] checked.now lists.old.items }
+    requires constructors { HasConstructors checked.now def.now.signature }
     ensures { OnOk result (Fills def.now [] (written entries.now) lists.old.items lists.new.items) }
 {
     for entry in entries {

@@ -1,26 +1,24 @@
 //! What names mean in a definition.
-ghost use Rattle.std.specs.Prelude.{◌≡◌, IfOk, OnOk, IfSome, Some, List, slice_get};
+ghost use Rattle.std.specs.Prelude.{◌≡◌, ◌<◌, IfOk, IsTrue, OnOk, Some, is_some, length, slice_get};
+ghost use Rattle.psg_terms.specs.Names.{is_among};
 ghost use Rattle.psg_terms.specs.Signature.{Symbol};
 ghost use Rattle.psg_terms.specs.Kept.{numbers_of};
 ghost use Rattle.psg_grammar.specs.declared.types.Kind.{Kind as PlainKind};
 ghost use Rattle.psg_grammar.specs.declared.types.Kind.TheVariants as kinds;
 ghost use Rattle.psg_grammar.specs.Sound.{HasKindSort, HasSpaceSort};
+ghost use Rattle.psg_defcheck.specs.Checks.{IsKindAt};
+ghost use Rattle.psg_defcheck.specs.Meanings.{KnowsSpace};
+ghost use Rattle.psg_defcheck.specs.Scopes.{is_kind, is_list, is_phylum, list_names, operator_declared, phylum_names};
+ghost use Rattle.psg_defcheck.specs.Scopes.{constructor_declared, sort_names};
+ghost use Rattle.psg_defnumber.specs.Declaring.{HasConstructors, HasNames, IsSpaceAt};
 ghost use Rattle.psg_defnumber.specs.Growing.{Lasts};
-ghost use Rattle.psg_defnumber.specs.Numbers.{IsKind, IsOperatorNamed, IsSort, IsSpaceNamed};
+ghost use Rattle.psg_defnumber.specs.Numbers.{IsOperatorNamed};
 
 use crate::found::{found, holds};
 use psg_defcheck::CheckedLines;
 use psg_grammar::{Definition, Kind, ListKind, Operator, Phylum};
 use psg_terms::{ConId, Constructor, Signature, SortId, Txt};
 use std::alloc::AllocError;
-
-/// Returns a position as a number, if it is below 2^32.
-pub fn number(place: usize) -> Result<u32, AllocError>
-    ensures { IfOk result (λ n. n ≡ place) }
-{
-    holds(place < 0x1_0000_0000)?;
-    Ok(place as u32)
-}
 
 /// Returns the error where the kinds differ.
 pub fn same_kind(kind: Kind, other: Kind) -> Result<(), AllocError>
@@ -30,72 +28,71 @@ pub fn same_kind(kind: Kind, other: Kind) -> Result<(), AllocError>
     Ok(())
 }
 
-/// Returns the sort of the name.
-pub fn sort_named(
-    def: &Definition,
-    checked: &CheckedLines,
-    name: &Txt,
-) -> Result<SortId, AllocError>
-    ensures { IfOk result (λ s. Lasts def.now (λ full. IsSort full name.now s)) }
+/// Returns the number of the sort of the name.
+pub fn sort_named(checked: &CheckedLines, name: &Txt) -> SortId
+    requires { IsTrue (is_among (sort_names checked.now) name.now) }
+    ensures { slice_get (sort_names checked.now) result.0 ≡ Some name.now }
 {
-    let place = found(checked.names().sorts.place(name.as_str()))?;
-    let place = number(place)?;
-    holds(place < def.signature.sorts())?;
-    let own = def.signature.sort_name(SortId(place));
-    holds(own == name.as_str())?;
-    Ok(SortId(place))
+    let number = checked.sort(name.as_str());
+    SortId(number)
 }
 
-/// Returns the constructor of the name, if it makes terms of the sort, with its number.
+/// Returns the constructor at the position.
+fn constructor_at(sig: &Signature, place: usize) -> ConId
+    requires { place < length sig.now.symbols }
+    ensures { result.0 ≡ place }
+{
+    if place < sig.constructors() as usize {
+        ConId(place as u32)
+    } else {
+        unreachable!()
+    }
+}
+
+/// Returns the constructor of the name with its number, or the error where it makes terms of another sort.
 pub fn constructor_named<'d>(
     sig: &'d Signature,
     checked: &CheckedLines,
     sort: SortId,
     name: &Txt,
 ) -> Result<(ConId, &'d Constructor), AllocError>
+    requires there { IsTrue (is_some (constructor_declared checked.now name.now)) }
+    requires constructors { HasConstructors checked.now sig.now }
     ensures { IfOk result (λ r. (s : Symbol) × (slice_get sig.now.symbols r.0.0 ≡ Some s) × (s.name ≡ name.now)
         × (s.arguments ≡ numbers_of r.1.now.args) × (s.sort ≡ sort.0)) }
 {
-    let place = found(checked.names().constructors.place(name.as_str()))?;
-    let con = ConId(number(place)?);
-    holds(con.0 < sig.constructors())?;
+    let place = checked.constructor(name.as_str());
+    let con = constructor_at(sig, place);
     let own = sig.constructor(con);
-    holds(own.name.same(name))?;
     holds(sig.sort_of(con) == sort)?;
     Ok((con, own))
 }
 
 /// Returns the number of the phylum of the name.
-pub fn phylum_named(def: &Definition, checked: &CheckedLines, name: &Txt) -> Result<u32, AllocError>
-    ensures { IfOk result (λ p. Lasts def.now (λ full. IsKind full name.now (kinds.Phylum p))) }
+pub fn phylum_named(checked: &CheckedLines, name: &Txt) -> u32
+    requires { IsTrue (is_phylum checked.now name.now) }
+    ensures { slice_get (phylum_names checked.now) result ≡ Some name.now }
 {
-    let place = found(checked.names().phyla.place(name.as_str()))?;
-    let own = found(def.phyla.as_slice().get(place))?;
-    holds(own.name.same(name))?;
-    Ok(number(place)?)
+    let number = checked.phylum(name.as_str());
+    number
 }
 
 /// Returns the number of the list of the name.
-pub fn list_named(def: &Definition, checked: &CheckedLines, name: &Txt) -> Result<u32, AllocError>
-    ensures { IfOk result (λ l. Lasts def.now (λ full. IsKind full name.now (kinds.List l))) }
+pub fn list_named(checked: &CheckedLines, name: &Txt) -> u32
+    requires { IsTrue (is_list checked.now name.now) }
+    ensures { slice_get (list_names checked.now) result ≡ Some name.now }
 {
-    let place = found(checked.names().lists.place(name.as_str()))?;
-    let own = found(def.lists.as_slice().get(place))?;
-    holds(own.name.same(name))?;
-    Ok(number(place)?)
+    let number = checked.list(name.as_str());
+    number
 }
 
 /// Returns the phylum or list of the name.
-pub fn kind_named(def: &Definition, checked: &CheckedLines, name: &Txt) -> Result<Kind, AllocError>
-    ensures { IfOk result (λ k. Lasts def.now (λ full. IsKind full name.now k)) }
+pub fn kind_named(checked: &CheckedLines, name: &Txt) -> Kind
+    requires { IsTrue (is_kind checked.now name.now) }
+    ensures { IsKindAt checked.now name.now result }
 {
-    if checked.names().phyla.place(name.as_str()).is_some() {
-        let phylum = phylum_named(def, checked, name)?;
-        Ok(Kind::Phylum(phylum))
-    } else {
-        let list = list_named(def, checked, name)?;
-        Ok(Kind::List(list))
-    }
+    let kind = checked.kind(name.as_str());
+    kind
 }
 
 /// Returns the operator of the name, with its number.
@@ -103,27 +100,28 @@ pub fn operator_named<'d>(
     def: &'d Definition,
     checked: &CheckedLines,
     name: &Txt,
-) -> Result<(u32, &'d Operator), AllocError>
-    ensures { IfOk result (λ r. Lasts def.now (λ full. IsOperatorNamed full name.now r.0 r.1.now)) }
+) -> (u32, &'d Operator)
+    requires there { IsTrue (is_some (operator_declared checked.now name.now)) }
+    requires names { HasNames checked.now def.now }
+    ensures { Lasts def.now (λ full. IsOperatorNamed full name.now result.0 result.1.now) }
 {
-    let place = found(checked.names().operators.place(name.as_str()))?;
-    let own = found(def.operators.as_slice().get(place))?;
-    holds(own.name.same(name))?;
-    let number = number(place)?;
-    Ok((number, own))
+    let operators = def.operators.as_slice();
+    let number = checked.operator(name.as_str());
+    let own = &operators[number as usize];
+    (number, own)
 }
 
 /// Returns the number of the space of the name. Without a name it is the first one.
-pub fn space_named(def: &Definition, checked: &CheckedLines, name: &Txt) -> Result<u32, AllocError>
-    ensures { IfOk result (λ s. Lasts def.now (λ full. IsSpaceNamed full name.now s)) }
+pub fn space_named(checked: &CheckedLines, name: &Txt) -> u32
+    requires { KnowsSpace checked.now name.now }
+    ensures { IsSpaceAt checked.now name.now result }
 {
-    if name.as_str().is_empty() {
-        return Ok(0);
+    let name = name.as_str();
+    if name.is_empty() {
+        return 0;
     }
-    let place = found(checked.names().spaces.place(name.as_str()))?;
-    let own = found(def.spaces.as_slice().get(place))?;
-    holds(own.name.same(name))?;
-    Ok(number(place)?)
+    let number = checked.space(name);
+    number
 }
 
 /// Returns the sort of the values of a phylum.

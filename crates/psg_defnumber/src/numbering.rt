@@ -1,10 +1,9 @@
 //! The definition that lines are together.
-ghost use Rattle.std.specs.Prelude.{◌≡◌, IfOk, [], false};
+ghost use Rattle.std.specs.Prelude.{◌≡◌, IfOk, []};
 ghost use Rattle.std.specs.List.{AllByRecursion};
-ghost use Rattle.psg_terms.specs.Names.{has_twice};
 ghost use Rattle.psg_terms.specs.Sound.{IsSound};
 ghost use Rattle.psg_deflines.specs.Entries.{IsPlain, written};
-ghost use Rattle.psg_defcheck.specs.Scopes.{kind_names};
+ghost use Rattle.psg_defcheck.specs.Faults.{ArePassed};
 ghost use Rattle.psg_defnumber.specs.Numbers.{IsNumbered};
 ghost use Rattle.psg_defnumber.specs.Stages.{IsDeclared};
 
@@ -51,17 +50,18 @@ fn declared(
     checked: &CheckedLines,
     entries: &[Option<Line>],
 ) -> Result<Definition, AllocError>
-    requires { has_twice (kind_names (written entries.now)) ≡ false }
+    requires lines { written entries.now ≡ checked.now }
+    requires passed { ArePassed checked.now [] checked.now }
     ensures { IfOk result (IsDeclared version (written entries.now)) }
 {
     let signature = signature(alloc, entries)?;
     signature.sound();
     let mut def = of_sorts(alloc, version, signature);
-    let spaces = spaces(alloc, &def, checked, entries)?;
+    let spaces = spaces(alloc, checked, entries)?;
     def.spaces = Seq::of(spaces);
-    let phyla = phyla(alloc, &def, checked, entries)?;
+    let phyla = phyla(alloc, checked, entries)?;
     def.phyla = Seq::of(phyla);
-    let mut lists = lists(alloc, &def, checked, entries)?;
+    let mut lists = lists(alloc, checked, entries)?;
     fill_lists(alloc, &def, checked, &mut lists, entries)?;
     def.lists = Seq::of(lists);
     let operators = operators(alloc, &def, checked, entries)?;

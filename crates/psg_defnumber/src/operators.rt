@@ -1,9 +1,12 @@
 //! Operators with their rows.
 ghost use Rattle.std.specs.Prelude.{◌↔◌, List, IfOk, IsTrue, OnOk};
+ghost use Rattle.std.specs.List.{AllByRecursion};
 ghost use Rattle.psg_terms.specs.Kept.{numbers_of};
 ghost use Rattle.psg_grammar.specs.declared.types.Item.{Item as PlainItem};
 ghost use Rattle.psg_grammar.specs.Sound.{AreColumns};
 ghost use Rattle.psg_deflines.specs.Entries.{Entry, written};
+ghost use Rattle.psg_defcheck.specs.Meanings.{IsKnown, KnowsItem};
+ghost use Rattle.psg_defnumber.specs.Declaring.{HasKinds, IsKnownEntry};
 ghost use Rattle.psg_defnumber.specs.Growing.{Lasts};
 ghost use Rattle.psg_defnumber.specs.Numbers.{IsItem, AreItems, AreRows, AreOperators};
 ghost use Rattle.psg_defnumber.specs.Putting.{Puts, ReadsColumns, ReadsRows, ReadsOperators, IsOperatorEntry};
@@ -18,6 +21,8 @@ use std::alloc::{AllocError, Global};
 
 /// An item of an operator.
 fn item(def: &Definition, checked: &CheckedLines, part: &LineItem) -> Result<Item, AllocError>
+    requires known { KnowsItem checked.now part.now }
+    requires kinds { HasKinds checked.now def.now }
     ensures { IfOk result (λ i. Lasts def.now (λ full. IsItem full part.now i)) }
 {
     match part {
@@ -26,15 +31,15 @@ fn item(def: &Definition, checked: &CheckedLines, part: &LineItem) -> Result<Ite
             Ok(Item::Word(word))
         }
         LineItem::Slot(name) => {
-            let kind = kind_named(def, checked, name)?;
+            let kind = kind_named(checked, name);
             Ok(Item::Slot(kind))
         }
         LineItem::Refers(name) => {
-            let space = space_named(def, checked, name)?;
+            let space = space_named(checked, name);
             Ok(Item::Refers(space))
         }
         LineItem::Declares(name) => {
-            let space = space_named(def, checked, name)?;
+            let space = space_named(checked, name);
             Ok(Item::Declares(space))
         }
         LineItem::Number => Ok(Item::Number),
@@ -54,6 +59,8 @@ fn items(
     checked: &CheckedLines,
     parts: &[LineItem],
 ) -> Result<Vec<Item>, AllocError>
+    requires known { AllByRecursion (KnowsItem checked.now) parts.now }
+    requires kinds { HasKinds checked.now def.now }
     ensures { IfOk result (λ v. Lasts def.now (λ full. AreItems full parts.now v.items)) }
 {
     let mut made = Vec::with_capacity(alloc, parts.len())?;
@@ -124,6 +131,8 @@ fn put_row(
     entry: &Option<Line>,
 ) -> Result<(), AllocError>
     requires inside { IsOperatorEntry entry.now → ⊥ }
+    requires known { IsKnownEntry checked.now entry.now }
+    requires kinds { HasKinds checked.now def.now }
     ensures { OnOk result ((rest : List Entry)
         → Puts def.now (ReadsRows sort.0 (numbers_of sorts.now)) entry.now rest made.old.items made.new.items) }
 {
@@ -151,6 +160,8 @@ fn rows(
     sorts: &[SortId],
     behind: &[Option<Line>],
 ) -> Result<Vec<Row>, AllocError>
+    requires known { AllByRecursion (IsKnown checked.now) (written behind.now) }
+    requires kinds { HasKinds checked.now def.now }
     ensures { IfOk result (λ v. Lasts def.now (λ full.
         AreRows full sort.0 (numbers_of sorts.now) (written behind.now) v.items)) }
 {
@@ -173,6 +184,9 @@ fn put_operator(
     entry: &Option<Line>,
     behind: &[Option<Line>],
 ) -> Result<(), AllocError>
+    requires known { IsKnownEntry checked.now entry.now }
+    requires kinds { HasKinds checked.now def.now }
+    requires behind { AllByRecursion (IsKnown checked.now) (written behind.now) }
     ensures { OnOk result (Puts def.now ReadsOperators entry.now behind.now made.old.items made.new.items) }
 {
     let Some(line) = entry else {
@@ -188,7 +202,7 @@ fn put_operator(
     else {
         return Ok(());
     };
-    let phylum = phylum_named(def, checked, phylum)?;
+    let phylum = phylum_named(checked, phylum);
     let sort = phylum_sort(def, phylum)?;
     let items = items(alloc, def, checked, parts.as_slice())?;
     let sorts = columns(alloc, def, items.as_slice())?;
@@ -212,6 +226,8 @@ pub fn operators(
     checked: &CheckedLines,
     entries: &[Option<Line>],
 ) -> Result<Vec<Operator>, AllocError>
+    requires known { AllByRecursion (IsKnown checked.now) (written entries.now) }
+    requires kinds { HasKinds checked.now def.now }
     ensures { IfOk result (λ v. Lasts def.now (λ full. AreOperators full (written entries.now) v.items)) }
 {
     let mut made = Vec::new(alloc);

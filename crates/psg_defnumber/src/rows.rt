@@ -1,7 +1,11 @@
 //! Rows from their lines.
-ghost use Rattle.std.specs.Prelude.{List, ◌∷◌, [], IfOk};
+ghost use Rattle.std.specs.Prelude.{List, ◌∷◌, [], IfOk, IsTrue};
+ghost use Rattle.std.specs.List.{AllByRecursion};
 ghost use Rattle.psg_terms.specs.Kept.{numbers_of};
 ghost use Rattle.psg_grammar.specs.declared.types.Kind.TheVariants as kinds;
+ghost use Rattle.psg_defcheck.specs.Meanings.{KnowsSpace, KnowsTerm, KnowsTree};
+ghost use Rattle.psg_defcheck.specs.Scopes.{is_list};
+ghost use Rattle.psg_defnumber.specs.Declaring.{HasConstructors, HasNames};
 ghost use Rattle.psg_defnumber.specs.Growing.{Lasts};
 ghost use Rattle.psg_defnumber.specs.Numbers.{IsRow, IsNil, IsCase, IsDeclareRow};
 
@@ -26,6 +30,9 @@ pub fn row(
     head: &LineTerm,
     columns: &[LineTerm],
 ) -> Result<Row, AllocError>
+    requires head { KnowsTerm checked.now head.now }
+    requires columns { AllByRecursion (KnowsTerm checked.now) columns.now }
+    requires constructors { HasConstructors checked.now def.now.signature }
     ensures { IfOk result (λ r. Lasts def.now (λ full.
         IsRow full sort.0 (numbers_of sorts.now) head.now columns.now r)) }
 {
@@ -46,6 +53,8 @@ pub fn lone_term(
     sort: SortId,
     written: &LineTerm,
 ) -> Result<Term, AllocError>
+    requires term { KnowsTerm checked.now written.now }
+    requires constructors { HasConstructors checked.now def.now.signature }
     ensures { IfOk result (λ t. Lasts def.now (λ full. IsNil full sort.0 written.now t)) }
 {
     let mut known: Known = IndexMap::new(alloc);
@@ -63,6 +72,9 @@ pub fn case(
     written: &LineTerm,
     tree: &LineTree,
 ) -> Result<Case, AllocError>
+    requires term { KnowsTerm checked.now written.now }
+    requires tree { KnowsTree checked.now tree.now }
+    requires names { HasNames checked.now def.now }
     ensures { IfOk result (λ one. Lasts def.now (λ full. IsCase full kind sort.0 written.now tree.now one)) }
 {
     let mut known: Known = IndexMap::new(alloc);
@@ -85,12 +97,18 @@ pub fn declare_row(
     value: &LineTerm,
     tree: &LineTree,
 ) -> Result<DeclareRow, AllocError>
+    requires space { KnowsSpace checked.now space.now }
+    requires list { IsTrue (is_list checked.now list.now) }
+    requires entity { KnowsTerm checked.now entity.now }
+    requires value { KnowsTerm checked.now value.now }
+    requires tree { KnowsTree checked.now tree.now }
+    requires names { HasNames checked.now def.now }
     ensures { IfOk result (λ r. Lasts def.now
         (λ full. IsDeclareRow full space.now list.now entity.now value.now tree.now r)) }
 {
-    let list = list_named(def, checked, list)?;
+    let list = list_named(checked, list);
     let own = list_at(def, list)?;
-    let space = space_named(def, checked, space)?;
+    let space = space_named(checked, space);
     let entities = space_sort(def, space)?;
     let values = phylum_sort(def, own.element)?;
     let mut known: Known = IndexMap::new(alloc);

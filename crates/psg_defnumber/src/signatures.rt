@@ -82,8 +82,8 @@ fn few_constructors(decls: &[SortDecl]) -> Result<(), AllocError>
     Ok(())
 }
 
-/// Makes the signature of the sorts and constructors. The tests of meaning leave no fault, so as with look-ups the
-/// error is returned only where memory runs out.
+/// Makes the signature of the sorts and constructors. Lines that pass the tests of meaning leave no fault. That is not
+/// proved here, so a fault has the same answer as memory that runs out.
 pub fn signature(alloc: Global, entries: &[Option<Line>]) -> Result<Signature, AllocError>
     ensures { IfOk result (IsSpelled (sort_decls (written entries.now))) }
 {

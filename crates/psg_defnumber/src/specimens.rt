@@ -1,10 +1,14 @@
 //! Specimens from the specimens of a line.
 ghost use Rattle.std.specs.Prelude.{◌≡◌, ◌+◌, ◌-◌, ◌*◌, ◌∷◌, [], IfOk, map};
 ghost use Rattle.std.specs.Borrow.{Bor};
+ghost use Rattle.std.specs.List.{AllByRecursion};
 ghost use Rattle.psg_lexis.specs.Tokens.{value_of};
 ghost use Rattle.psg_grammar.specs.declared.types.Item.{Item as PlainItem};
 ghost use Rattle.psg_grammar.specs.Lookups.{is_part, part_items};
 ghost use Rattle.psg_grammar.specs.Specimens.{holes_of_part, rest_hole};
+ghost use Rattle.psg_defcheck.specs.Meanings.{KnowsTree};
+ghost use Rattle.psg_defcheck.specs.Parts.{KnowsEnd, KnowsPart, KnowsPlace};
+ghost use Rattle.psg_defnumber.specs.Declaring.{HasNames};
 ghost use Rattle.psg_defnumber.specs.Numbers.{IsPlace, IsTree, terms_of};
 ghost use Rattle.psg_defnumber.specs.Fitting.{IsMade, hole_terms, part_terms, element_terms};
 ghost use Rattle.psg_defnumber.specs.Fitting.{PartFits, PartsFit, ElementsFit, RestFits};
@@ -47,10 +51,12 @@ fn place<'a>(
     known: &mut Known<'a>,
     written: &'a LinePlace,
 ) -> Result<SpecimenHole, AllocError>
+    requires declared { KnowsPlace checked.now written.now }
+    requires names { HasNames checked.now def.now }
     ensures { IfOk result (λ h. IsMade def.now known.old.entries known.new.entries (h.term ∷ [])
         (λ full names. IsPlace full names written.now.kind written.now.term h)) }
 {
-    let kind = kind_named(def, checked, &written.kind)?;
+    let kind = kind_named(checked, &written.kind);
     let sort = kind_sort(def, kind)?;
     let made = term(alloc, &def.signature, checked, known, sort, &written.term)?;
     Ok(SpecimenHole { kind, term: made })
@@ -65,6 +71,8 @@ fn list_rest<'a>(
     list: u32,
     written: &'a Option<LinePlace>,
 ) -> Result<Option<SpecimenHole>, AllocError>
+    requires declared { KnowsEnd checked.now written.now }
+    requires names { HasNames checked.now def.now }
     ensures { IfOk result (λ r. IsMade def.now known.old.entries known.new.entries (hole_terms (rest_hole r))
         (λ full names. RestFits full names list r written.now)) }
 {
@@ -111,6 +119,8 @@ fn part<'a>(
     item: &Item,
     written: &'a LinePart,
 ) -> Result<SpecimenPart, AllocError>
+    requires declared { KnowsPart checked.now written.now }
+    requires names { HasNames checked.now def.now }
     ensures { IfOk result (λ p. IsMade def.now known.old.entries known.new.entries (hole_terms (holes_of_part p))
         (λ full names. PartFits full names item.now p written.now)) }
 {
@@ -154,6 +164,8 @@ fn parts<'a>(
     items: &[&Item],
     written: &'a [LinePart],
 ) -> Result<Vec<SpecimenPart>, AllocError>
+    requires declared { AllByRecursion (KnowsPart checked.now) written.now }
+    requires names { HasNames checked.now def.now }
     ensures { IfOk result (λ v. IsMade def.now known.old.entries known.new.entries (part_terms v.items)
         (λ full names. PartsFit full names (map (λ (b : Bor PlainItem). b.now) items.now) v.items written.now)) }
 {
@@ -176,6 +188,8 @@ fn elements<'a>(
     phylum: u32,
     written: &'a [LineTree],
 ) -> Result<Vec<Specimen>, AllocError>
+    requires declared { AllByRecursion (KnowsTree checked.now) written.now }
+    requires names { HasNames checked.now def.now }
     ensures { IfOk result (λ v. IsMade def.now known.old.entries known.new.entries (element_terms v.items)
         (λ full names. ElementsFit full names phylum v.items written.now)) }
 {
@@ -197,6 +211,8 @@ pub fn specimen<'a>(
     kind: Kind,
     written: &'a LineTree,
 ) -> Result<Specimen, AllocError>
+    requires declared { KnowsTree checked.now written.now }
+    requires names { HasNames checked.now def.now }
     ensures { IfOk result (λ s. IsMade def.now known.old.entries known.new.entries (terms_of def.now s)
         (λ full names. IsTree full names kind s written.now)) }
 {
@@ -205,7 +221,7 @@ pub fn specimen<'a>(
             name,
             parts: written,
         } => {
-            let (op, own) = operator_named(def, checked, name)?;
+            let (op, own) = operator_named(def, checked, name);
             same_kind(kind, Kind::Phylum(own.phylum))?;
             let items = items_of(alloc, own.items.as_slice())?;
             let made = parts(

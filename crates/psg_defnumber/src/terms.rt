@@ -1,6 +1,9 @@
 //! Terms from the terms of a line.
 ghost use Rattle.std.specs.Prelude.{IfOk};
+ghost use Rattle.std.specs.List.{AllByRecursion};
 ghost use Rattle.psg_terms.specs.Kept.{numbers_of};
+ghost use Rattle.psg_defcheck.specs.Meanings.{KnowsTerm};
+ghost use Rattle.psg_defnumber.specs.Declaring.{HasConstructors};
 ghost use Rattle.psg_defnumber.specs.Naming.{IsMadeTerm, AreMadeTerms};
 
 use crate::found::holds;
@@ -21,6 +24,8 @@ pub fn term<'a>(
     sort: SortId,
     written: &'a LineTerm,
 ) -> Result<Term, AllocError>
+    requires declared { KnowsTerm checked.now written.now }
+    requires constructors { HasConstructors checked.now sig.now }
     ensures { IfOk result (IsMadeTerm sig.now known.old.entries known.new.entries sort.0 written.now) }
 {
     match &written.shape {
@@ -61,6 +66,8 @@ pub fn terms<'a>(
     sorts: &[SortId],
     written: &'a [LineTerm],
 ) -> Result<Vec<Term>, AllocError>
+    requires declared { AllByRecursion (KnowsTerm checked.now) written.now }
+    requires constructors { HasConstructors checked.now sig.now }
     ensures { IfOk result (λ v.
         AreMadeTerms sig.now known.old.entries known.new.entries (numbers_of sorts.now) written.now v.items) }
 {

@@ -6,7 +6,7 @@ use Rattle.psg_terms.specs.Names.{Name}
 use Rattle.psg_grammar.specs.declared.types.Definition.{Definition}
 use Rattle.psg_deflines.specs.declared.lines.Line.{Line}
 use Rattle.psg_deflines.specs.declared.lines.Line.TheVariants as lines
-use Rattle.psg_deflaws.proofs.Lists.{all-append}
+use Rattle.psg_defnumber.proofs.ListLaws.{all-append}
 use Rattle.psg_defread.specs.Layout.{rank}
 use Rattle.psg_defread.specs.WrittenLines.{lines_of, sort_lines, space_line, phylum_line, list_line, operator_lines, row_line, nil_lines, cell_lines, cell_line, hole_lines, case_line, declare_line, term_written}
 

@@ -8,7 +8,7 @@ use Rattle.psg_deflines.specs.Written.{IsWritten}
 use Rattle.psg_deflines.specs.Versions.{IsVersion}
 use Rattle.psg_deflines.specs.Entries.{Entry, HasHead, behind_head, head_parts, AreEntries}
 use Rattle.psg_deflines.specs.declared.lines.Line.{Line}
-use Rattle.psg_deflaws.specs.Soundness.{total}
+use Rattle.psg_defnumber.specs.Soundness.{total}
 
 -- the bytes of the parts, and one for each
 abbrev weight : List (List ℕ) → ℕ

@@ -22,7 +22,7 @@ use Rattle.psg_defcheck.specs.Checks.{IsCheckFault}
 use Rattle.psg_defread.specs.Refusals.{HasMeaningFault, IsReadFault, Refusal, no_form, no_meaning}
 use Rattle.psg_defread.specs.Reading.{IsFaultless, Spells}
 use Rattle.psg_defnumber.specs.Numbers.{IsNumbered}
-use Rattle.psg_deflaws.specs.Once.{OneNumbering}
+use Rattle.psg_defnumber.specs.Once.{OneNumbering}
 
 pub written_append : (xs ys : List Entry) → written (xs ++ ys) ≡ written xs ++ written ys
 written_append [] ys = refl

@@ -20,7 +20,7 @@ use Rattle.psg_deflines.specs.declared.lines.Line.TheVariants as lines
 use Rattle.psg_defread.specs.WrittenLines.{lines_of, item_written, row_line, operator_lines, case_line, hole_lines, kind_name, term_written, tree_written}
 use Rattle.psg_defread.specs.Layout.{rank, IsRanked, HasCasesBehind}
 use Rattle.psg_defread.proofs.Blocks.{from_nils, from_declares, flat-front, some-blocks, first-blocks, last-blocks, blocks, joined, map-all, flat-all, HasRank, AreRanked, ranked}
-use Rattle.psg_deflaws.proofs.Lists.{all-append}
+use Rattle.psg_defnumber.proofs.ListLaws.{all-append}
 
 -- each line has its place behind those above it
 abbrev ArePlaced : List Line → List Line → Type 0

@@ -21,7 +21,7 @@ use Rattle.psg_lexis.proofs.Decimals.{decimal-value}
 use Rattle.psg_deflines.specs.WrittenTerms.{WrittenTerm, IsShallowTerm, most_nested}
 use Rattle.psg_deflines.specs.WrittenTrees.{WrittenTree, operator, with_tree, with_name, with_number, with_text, list_end, list_rest, element, place, is_front, is_list, HasTreeForm, tree_depth, place_terms, IsShallowTree}
 use Rattle.psg_defnumber.specs.Numbers.{IsKind, IsPlace, IsTree, IsPart, AreParts, IsListFrom}
-use Rattle.psg_deflaws.proofs.Lists.{all-append}
+use Rattle.psg_defnumber.proofs.ListLaws.{all-append}
 use Rattle.psg_defread.specs.WrittenLines.{term_written, kind_name, operator_name, tree_written, part_written, parts_written, elements_written, end_written}
 use Rattle.psg_defread.proofs.NumberAll.{all-front, all-behind}
 use Rattle.psg_defread.proofs.NumberNames.{name-found}

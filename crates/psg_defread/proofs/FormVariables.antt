@@ -12,7 +12,7 @@ use Rattle.psg_terms.proofs.DeclareLaws.{bytes_eq-refl}
 use Rattle.psg_terms.proofs.RenamingLaws.{noted_all-append}
 use Rattle.psg_terms.proofs.Variables.{cases, same_variable-true}
 use Rattle.psg_grammar.specs.declared.types.Definition.{Definition}
-use Rattle.psg_deflaws.proofs.Lists.{cons-same}
+use Rattle.psg_defnumber.proofs.ListLaws.{cons-same}
 use Rattle.psg_defread.specs.Layout.{met_in, met_in_all, numbers_from, line_terms, HasNumberedVariables}
 use Rattle.psg_defread.specs.WrittenLines.{term_written, lines_of, space_line, phylum_line, list_line, row_line, operator_lines, nil_lines, cell_line, cell_lines, case_line, hole_lines, declare_line}
 use Rattle.psg_defread.proofs.NumberTerms.{HasFewVariables, noted-all-front, numbered-front, noted-short}
@@ -30,7 +30,7 @@ use Rattle.psg_deflines.specs.WrittenTerms.{WrittenTerm}
 use Rattle.psg_deflines.specs.declared.lines.Line.{Line}
 use Rattle.psg_deflines.specs.declared.lines.Line.TheVariants as lines
 use Rattle.psg_defnumber.specs.Numbers.{AreTerms}
-use Rattle.psg_deflaws.proofs.LineSizes.{lines_total}
+use Rattle.psg_defnumber.proofs.LineSizes.{lines_total}
 use Rattle.psg_defread.proofs.WasRead.{WasRead}
 use Rattle.psg_defread.proofs.NumberAll.{all-joined}
 use Rattle.psg_defread.proofs.NumberRows.{IsSmallRow, IsSmallNil, IsSmallCase, place_terms}

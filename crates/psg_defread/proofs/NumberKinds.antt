@@ -13,7 +13,7 @@ use Rattle.psg_deflines.specs.declared.lines.Line.{Line}
 use Rattle.psg_deflines.specs.declared.lines.Line.TheVariants as lines
 use Rattle.psg_defcheck.specs.Scopes.{kind_names, spaces, space_names}
 use Rattle.psg_defnumber.specs.Numbers.{IsSort, IsPhylum, ArePhyla, AreSpaces, IsNumbered}
-use Rattle.psg_deflaws.proofs.KindLaws.{names-declared}
+use Rattle.psg_defnumber.proofs.KindLaws.{names-declared}
 use Rattle.psg_defread.specs.Layout.{rank}
 use Rattle.psg_defread.specs.WrittenLines.{lines_of, sort_name, space_line, phylum_line, list_line}
 use Rattle.psg_defread.proofs.NumberNames.{name-found}

@@ -6,7 +6,7 @@ use Rattle.psg_grammar.specs.Sound.{IsSound}
 use Rattle.psg_deflines.specs.Entries.{written, AreSpelled, behind_head}
 use Rattle.psg_deflines.specs.declared.lines.Line.{Line}
 use Rattle.psg_defnumber.specs.Numbers.{IsNumbered}
-use Rattle.psg_deflaws.proofs.LineSizes.{lines_total, entries-total}
+use Rattle.psg_defnumber.proofs.LineSizes.{lines_total, entries-total}
 use Rattle.psg_defread.proofs.Counting.{few_entries}
 use Rattle.psg_defread.specs.WrittenLines.{lines_of}
 use Rattle.psg_defread.proofs.WasRead.{WasRead}

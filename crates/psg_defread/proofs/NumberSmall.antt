@@ -14,8 +14,8 @@ use Rattle.psg_deflines.specs.WrittenTerms.{WrittenTerm, term_parts}
 use Rattle.psg_deflines.specs.WrittenTerms as written_terms
 use Rattle.psg_deflines.specs.WrittenTrees.{WrittenTree, operator, place_parts, tree_parts, opened, follow, quoted_part}
 use Rattle.psg_deflines.specs.Forms.{terms_parts, parts_of, columns_parts, by_parts}
-use Rattle.psg_deflaws.specs.Soundness.{total}
-use Rattle.psg_deflaws.proofs.TreeWeights.{total-append}
+use Rattle.psg_defnumber.specs.Soundness.{total}
+use Rattle.psg_defnumber.proofs.TreeWeights.{total-append}
 use Rattle.psg_defread.specs.WrittenLines.{term_written, kind_name, operator_name, tree_written, part_written, parts_written, elements_written, end_written, lines_of, sort_lines, space_line, phylum_line, list_line, operator_lines, row_line, nil_lines, cell_line, cell_lines, hole_lines, case_line, declare_line}
 use Rattle.psg_defread.proofs.NumberRows.{place_terms, IsSmallRow, IsSmallNil, IsSmallCase}
 use Rattle.std.specs.List.{AllByRecursion, flat_map}
@@ -29,7 +29,7 @@ use Rattle.psg_grammar.specs.declared.types.DeclareRow.{DeclareRow}
 use Rattle.psg_grammar.specs.Sound.{IsSound, IsRow, IsListKind}
 use Rattle.psg_deflines.specs.declared.lines.Line.{Line}
 use Rattle.psg_deflines.specs.declared.lines.Line.TheVariants as lines
-use Rattle.psg_deflaws.proofs.LineSizes.{lines_total}
+use Rattle.psg_defnumber.proofs.LineSizes.{lines_total}
 use Rattle.psg_defread.proofs.NumberAll.{all-mapped, all-joined}
 use Rattle.psg_defread.proofs.Blocks.{blocks, joined}
 use Rattle.psg_defread.proofs.NumberOperators.{HasSmallRows}

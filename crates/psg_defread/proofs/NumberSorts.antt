@@ -13,7 +13,7 @@ use Rattle.psg_deflines.specs.declared.lines.Line.{Line}
 use Rattle.psg_deflines.specs.declared.lines.Line.TheVariants as lines
 use Rattle.psg_defcheck.specs.Scopes.{sort_names, constructor_names, names_of}
 use Rattle.psg_defnumber.specs.Numbers.{sort_decls}
-use Rattle.psg_deflaws.proofs.Lists.{all-append}
+use Rattle.psg_defnumber.proofs.ListLaws.{all-append}
 use Rattle.psg_defread.specs.Layout.{rank}
 use Rattle.psg_defread.specs.WrittenLines.{lines_of, sort_name, sort_lines, constructors_written}
 use Rattle.psg_defread.proofs.NumberAll.{all-mapped}

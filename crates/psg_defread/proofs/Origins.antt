@@ -21,7 +21,7 @@ use Rattle.psg_deflines.specs.declared.lines.LineItem.{LineItem}
 use Rattle.psg_deflines.specs.declared.lines.Line.{Line}
 use Rattle.psg_deflines.specs.declared.lines.Line.TheVariants as lines
 use Rattle.psg_defnumber.specs.Numbers.{IsKind, IsRow, IsNil, IsCase, IsOperator, IsList, IsDeclareRow, AreRows, AreNils, AreCells, AreCases, HasCases, AreOperators, AreLists, AreHoleRows, AreDeclareRows, IsNumbered, terms_of}
-use Rattle.psg_deflaws.proofs.LineSizes.{entries-formed}
+use Rattle.psg_defnumber.proofs.LineSizes.{entries-formed}
 use Rattle.psg_defread.proofs.WasRead.{WasRead}
 use Rattle.psg_defread.proofs.NumberTerms.{first-numbered}
 

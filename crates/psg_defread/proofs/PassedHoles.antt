@@ -18,7 +18,7 @@ use Rattle.psg_deflines.specs.declared.lines.Line.TheVariants as lines
 use Rattle.psg_defcheck.specs.Scopes.{last_hole, value_place, kind_place, element_place, is_list}
 use Rattle.psg_defcheck.specs.Meanings.{SortsTerm, SortsTree}
 use Rattle.psg_defcheck.proofs.AboveLaws.{last_hole-append}
-use Rattle.psg_deflaws.proofs.TermSorts.{term-takes}
+use Rattle.psg_defnumber.proofs.TermSorts.{term-takes}
 use Rattle.psg_defread.specs.WrittenLines.{kind_name, term_written, tree_written, case_line, hole_lines, declare_line}
 use Rattle.psg_defread.proofs.NumberNames.{name-found}
 use Rattle.psg_defread.proofs.NumberRows.{IsSmallCase, place_terms}

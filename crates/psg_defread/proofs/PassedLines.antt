@@ -9,7 +9,7 @@ use Rattle.psg_deflines.specs.Entries.{written, AreSpelled}
 use Rattle.psg_deflines.specs.declared.lines.Line.{Line}
 use Rattle.psg_defcheck.specs.Scopes.{kind_declared}
 use Rattle.psg_defcheck.specs.Faults.{ArePassed}
-use Rattle.psg_deflaws.proofs.LineSizes.{lines_total}
+use Rattle.psg_defnumber.proofs.LineSizes.{lines_total}
 use Rattle.psg_defread.specs.WrittenLines.{lines_of, space_line, phylum_line, list_line, operator_lines, nil_lines, cell_lines, hole_lines, declare_line}
 use Rattle.psg_defread.proofs.WasRead.{WasRead}
 use Rattle.psg_defread.proofs.NumberSmall.{HasSmallNumbers, small-numbers}

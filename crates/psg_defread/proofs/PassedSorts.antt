@@ -14,7 +14,7 @@ use Rattle.psg_grammar.specs.Sound.{IsSound, IsPhylum, IsListKind}
 use Rattle.psg_deflines.specs.declared.lines.Line.{Line}
 use Rattle.psg_defcheck.specs.Meanings.{AreInhabited, none, more, IsChoice, KnowsSort}
 use Rattle.psg_defcheck.proofs.GroundLaws.{inhabited-more}
-use Rattle.psg_deflaws.proofs.OnceNames.{same_at}
+use Rattle.psg_defnumber.proofs.OnceNames.{same_at}
 use Rattle.psg_defread.specs.WrittenLines.{sort_name, constructors_written, sort_lines, space_line, phylum_line, list_line}
 use Rattle.psg_defread.proofs.NumberTerms.{closed-sort}
 use Rattle.psg_defread.proofs.PassedDeclared.{Declares, constructor_written, of_sort, with_front, sort_written, sort-at, sort-known, phylum-known}

@@ -23,7 +23,7 @@ use Rattle.psg_deflines.specs.declared.lines.Line.{Line}
 use Rattle.psg_defcheck.specs.Scopes.{Place, kind_place, value_place, is_list, operator_declared}
 use Rattle.psg_defcheck.specs.Meanings.{SortsTerm, KnowsTree, CountsTree, IsPartCount, PartPlace, for_tree, for_name, for_number, for_text, elements_place, TakesParts, SortsTree}
 use Rattle.psg_defnumber.specs.Numbers.{IsPlace, IsTree, IsPart, AreParts, IsListFrom}
-use Rattle.psg_deflaws.proofs.TermSorts.{term-takes}
+use Rattle.psg_defnumber.proofs.TermSorts.{term-takes}
 use Rattle.psg_defread.specs.WrittenLines.{term_written, kind_name, operator_name, tree_written, part_written, parts_written, elements_written, end_written, place_written, item_written}
 use Rattle.psg_defread.proofs.NumberAll.{all-front, all-behind}
 use Rattle.psg_defread.proofs.NumberNames.{name-found}

@@ -2,13 +2,13 @@
 ghost use Rattle.std.specs.Prelude.{◌≡◌, ◌<◌, ◌^◌, length, IfOk, IfErr};
 ghost use Rattle.psg_grammar.specs.Sound.{IsSound};
 ghost use Rattle.psg_grammar.specs.declared.types.Definition.{Definition as Plain};
-ghost use Rattle.psg_deflaws.specs.Soundness.{HasTokenWords};
+ghost use Rattle.psg_defnumber.specs.Soundness.{HasTokenWords};
 ghost use Rattle.psg_defread.specs.Refusals.{IsReadFault};
 ghost use Rattle.psg_defread.specs.Reading.{Spells, IsFaultless};
 
 use psg_defcheck::CheckedLines;
-use psg_deflaws::laws::{numbered_is_sound, one_numbering, words_are_tokens};
 use psg_deflines::{ReadFault, read_lines};
+use psg_defnumber::laws::{numbered_is_sound, one_numbering, words_are_tokens};
 use psg_defnumber::numbered;
 use psg_grammar::Definition;
 use std::alloc::Global;

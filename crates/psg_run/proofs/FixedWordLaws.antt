@@ -9,7 +9,7 @@ use Rattle.psg_grammar.specs.declared.types.ListKind.{ListKind}
 use Rattle.psg_grammar.specs.declared.types.Operator.{Operator}
 use Rattle.psg_grammar.specs.WellFormed.{fixed_words, operator_words, separators, words_in}
 use Rattle.psg_lexis.specs.Tokens.{IsFixedWord}
-use Rattle.psg_deflaws.specs.Soundness.{HasTokenWords, IsFixed}
+use Rattle.psg_defnumber.specs.Soundness.{HasTokenWords, IsFixed}
 
 all-append : (xs ys : List Name) → AllByRecursion IsFixedWord xs → AllByRecursion IsFixedWord ys → AllByRecursion IsFixedWord (xs ++ ys)
 all-append [] ys all more = more

@@ -2,7 +2,11 @@ use Rattle.std.proofs.Common.{◌+◌, drop, refl}
 use Rattle.psg_defnumber.specs.Putting.{ReadsCases}
 use Rattle.psg_defnumber.proofs.PutLaws.{reads-next, reads-end, reads-stop}
 use Rattle.psg_defnumber.proofs.LineLaws.{cases-stop}
+use Rattle.psg_defnumber.proofs.NamedLaws.{known-at}
 use Rattle.psg_defnumber.proofs.holes.cases.Goals as goal
+
+pub put_case-requires-clause-known : goal.put_case-requires-clause-known
+put_case-requires-clause-known c = known-at c.args.checked.now c.args.behind.now c.loop-entry.entry-index c.entry-item.result c.requires.known c.loop-entry-test.true c.entry-item.is
 
 pub returns-then-is_hole : goal.returns-then-is_hole
 returns-then-is_hole c =

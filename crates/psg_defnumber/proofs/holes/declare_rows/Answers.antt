@@ -1,7 +1,11 @@
 use Rattle.std.proofs.Common.{◌+◌, drop, refl}
 use Rattle.psg_defnumber.specs.Putting.{ReadsDeclareRows}
 use Rattle.psg_defnumber.proofs.PutLaws.{reads-next, reads-end}
+use Rattle.psg_defnumber.proofs.NamedLaws.{known-at}
 use Rattle.psg_defnumber.proofs.holes.declare_rows.Goals as goal
+
+pub put_declare_row-requires-clause-known : goal.put_declare_row-requires-clause-known
+put_declare_row-requires-clause-known c = known-at c.args.checked.now c.args.entries.now c.loop-entry.entry-index c.entry-item.result c.requires.known c.loop-entry-test.true c.entry-item.is
 
 pub loop-entry-preserved : goal.loop-entry-preserved
 loop-entry-preserved c =

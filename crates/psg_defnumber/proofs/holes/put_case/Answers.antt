@@ -1,5 +1,13 @@
+use Rattle.psg_deflines.specs.declared.lines.Line.TheVariants as lines
 use Rattle.psg_defnumber.proofs.LineLaws.{case-put}
+use Rattle.psg_defnumber.proofs.NamedLaws.{known-line}
 use Rattle.psg_defnumber.proofs.holes.put_case.Goals as goal
+
+pub case-requires-clause-tree : goal.case-requires-clause-tree
+case-requires-clause-tree c = (known-line c.args.checked.now c.args.entry.now c.in-Some.line (lines.Case c.in-Case.term c.in-Case.specimen) c.requires.known c.in-Some.is c.in-Case.is).1
+
+pub case-requires-clause-term : goal.case-requires-clause-term
+case-requires-clause-term c = (known-line c.args.checked.now c.args.entry.now c.in-Some.line (lines.Case c.in-Case.term c.in-Case.specimen) c.requires.known c.in-Some.is c.in-Case.is).0
 
 pub returns : goal.returns
 returns c = λ rest.

@@ -1,5 +1,16 @@
+use Rattle.psg_deflines.specs.declared.lines.Line.TheVariants as lines
 use Rattle.psg_defnumber.proofs.LineLaws.{hole-put}
+use Rattle.psg_defnumber.proofs.NamedLaws.{known-line}
 use Rattle.psg_defnumber.proofs.holes.put_hole_row.Goals as goal
+
+pub hole_row-requires-clause-kind : goal.hole_row-requires-clause-kind
+hole_row-requires-clause-kind c = (known-line c.args.checked.now c.args.entry.now c.in-Some.line (lines.Hole c.in-Hole.kind c.in-Hole.term c.in-Hole.specimen) c.requires.known c.in-Some.is c.in-Hole.is).0
+
+pub hole_row-requires-clause-specimen : goal.hole_row-requires-clause-specimen
+hole_row-requires-clause-specimen c = (known-line c.args.checked.now c.args.entry.now c.in-Some.line (lines.Hole c.in-Hole.kind c.in-Hole.term c.in-Hole.specimen) c.requires.known c.in-Some.is c.in-Hole.is).2
+
+pub hole_row-requires-clause-term : goal.hole_row-requires-clause-term
+hole_row-requires-clause-term c = (known-line c.args.checked.now c.args.entry.now c.in-Some.line (lines.Hole c.in-Hole.kind c.in-Hole.term c.in-Hole.specimen) c.requires.known c.in-Some.is c.in-Hole.is).1
 
 pub returns : goal.returns
 returns c =

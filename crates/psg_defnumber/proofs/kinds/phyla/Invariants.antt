@@ -1,7 +1,9 @@
 use Rattle.std.proofs.Common.{drop}
+use Rattle.psg_grammar.specs.declared.types.Definition.{Definition}
+use Rattle.psg_defnumber.specs.Declaring.{HasSorts}
 use Rattle.psg_defnumber.specs.Putting.{ReadsPhyla}
 use Rattle.psg_defnumber.proofs.PutLaws.{ReadsTo}
 use Rattle.psg_defnumber.proofs.kinds.phyla.Given as goal
 
 abbrev pub invariant-loop-entry : goal.invariant-loop-entry
-invariant-loop-entry l = ReadsTo l.def ReadsPhyla l.entries l.made.items (drop l.entry-index l.entries)
+invariant-loop-entry l = (def : Definition) → HasSorts l.checked def → ReadsTo def ReadsPhyla l.entries l.made.items (drop l.entry-index l.entries)

@@ -1,9 +1,17 @@
-use Rattle.std.proofs.Common.{ap, sym, ◌∙◌, slice_get}
+use Rattle.std.proofs.Common.{arith}
+use Rattle.psg_grammar.specs.declared.types.ListKind.{ListKind}
+use Rattle.psg_defcheck.specs.Scopes.{list_names}
 use Rattle.psg_defnumber.proofs.ListRowLaws.{nil-fills}
+use Rattle.psg_defnumber.proofs.NamedLaws.{named-at, named-below}
 use Rattle.psg_defnumber.proofs.list_rows.put_nil.Goals as goal
+
+pub index_mut-own-requires : goal.index_mut-own-requires
+index_mut-own-requires c =
+    let lt = named-below (λ (k : ListKind). k.name) c.args.lists.now.items (list_names c.args.checked.now) c.list_named-place.result c.args.list.now c.requires.lists c.list_named-place.ensures in
+    let v = c.args.lists.now.ok in omega arith
 
 pub returns : goal.returns
 returns c = λ file.
-    let found = c.in_ok-place.ensures in
-    nil-fills c.args.def.now file c.args.lists.now.items c.in_ok-place.place c.index_mut-own.result.now found.0 c.args.list.now c.args.term.now c.in_ok-made.made c.push.new.self
-    (ap (λ ls. slice_get ls c.in_ok-place.place) (sym c.as_slice.ensures.value) ∙ found.1) found.2 c.index_mut-own.ensures.value c.in_ok-made.ensures c.in_ok-push.ensures.ok
+    let found = named-at (λ (k : ListKind). k.name) c.args.lists.now.items (list_names c.args.checked.now) c.list_named-place.result c.args.list.now c.requires.lists c.list_named-place.ensures in
+    nil-fills c.args.def.now file c.args.lists.now.items c.list_named-place.result c.index_mut-own.result.now found.0 c.args.list.now c.args.term.now c.in_ok-made.made c.push.new.self
+    found.1 found.2 c.index_mut-own.ensures.value c.in_ok-made.ensures c.in_ok-push.ensures.ok

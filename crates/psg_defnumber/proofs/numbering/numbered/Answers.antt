@@ -1,16 +1,23 @@
-use Rattle.std.proofs.Common.{◌≡◌, ◌∙◌, ap, false, subst, sym}
-use Rattle.psg_terms.specs.Names.{has_twice}
+use Rattle.std.proofs.Common.{subst, sym}
 use Rattle.psg_deflines.specs.Entries.{written}
-use Rattle.psg_defcheck.specs.Scopes.{kind_names}
 use Rattle.psg_defnumber.specs.Growing.{Lasts}
 use Rattle.psg_defnumber.specs.Numbers.{AreHoleRows, AreDeclareRows}
 use Rattle.psg_defnumber.specs.Stages.{IsDeclared}
-use Rattle.psg_defnumber.proofs.OnceLaws.{kinds-once}
-use Rattle.psg_defnumber.proofs.StageLaws.{is-numbered}
+use Rattle.psg_defnumber.proofs.StageLaws.{is-numbered, names-of}
+use Rattle.psg_defnumber.proofs.NamedLaws.{lines-known}
 use Rattle.psg_defnumber.proofs.numbering.numbered.Goals as goal
 
-pub declared-requires : goal.declared-requires
-declared-requires c = ap (λ file. has_twice (kind_names file)) c.entries-entries.ensures.lines ∙ kinds-once c.args.checked.now c.entries-entries.ensures.passed
+pub hole_rows-requires-clause-known : goal.hole_rows-requires-clause-known
+hole_rows-requires-clause-known c = lines-known c.args.checked.now c.entries-entries.result.now c.entries-entries.ensures.lines c.entries-entries.ensures.passed
+
+pub hole_rows-requires-clause-names : goal.hole_rows-requires-clause-names
+hole_rows-requires-clause-names c = names-of c.args.version (written c.entries-entries.result.now) c.args.checked.now c.in_ok-def.def c.entries-entries.ensures.lines c.in_ok-def.ensures
+
+pub declare_rows-requires-clause-known : goal.declare_rows-requires-clause-known
+declare_rows-requires-clause-known c = lines-known c.args.checked.now c.entries-entries.result.now c.entries-entries.ensures.lines c.entries-entries.ensures.passed
+
+pub declare_rows-requires-clause-names : goal.declare_rows-requires-clause-names
+declare_rows-requires-clause-names c = names-of c.args.version (written c.entries-entries.result.now) c.args.checked.now c.in_ok-def.def c.entries-entries.ensures.lines c.in_ok-def.ensures
 
 pub returns-clause-numbered : goal.returns-clause-numbered
 returns-clause-numbered c =

@@ -2,7 +2,12 @@ use Rattle.std.proofs.Common.{◌+◌, drop, refl}
 use Rattle.psg_defnumber.specs.Putting.{ReadsItems}
 use Rattle.psg_defnumber.proofs.PutLaws.{reads-next, reads-end}
 use Rattle.psg_defnumber.proofs.LineLaws.{item-put}
+use Rattle.psg_defcheck.specs.Meanings.{KnowsItem}
+use Rattle.psg_defcheck.proofs.SortLaws.{all-at}
 use Rattle.psg_defnumber.proofs.operators.items.Goals as goal
+
+pub item-requires-clause-known : goal.item-requires-clause-known
+item-requires-clause-known c = all-at (KnowsItem c.args.checked.now) c.args.parts.now c.loop-part.part-index c.part-item.result c.requires.known c.loop-part-test.true c.part-item.is
 
 pub loop-part-preserved : goal.loop-part-preserved
 loop-part-preserved c =

@@ -1,8 +1,19 @@
-use Rattle.std.proofs.Common.{◌+◌, refl, subst}
+use Rattle.std.proofs.Common.{◌+◌, refl, subst, sym}
+use Rattle.std.specs.List.{AllByRecursion}
+use Rattle.psg_deflines.specs.Entries.{written}
+use Rattle.psg_defcheck.specs.Meanings.{IsKnown}
 use Rattle.psg_defnumber.specs.Putting.{Puts, ReadsOperators}
 use Rattle.psg_deflines.proofs.Lists.{rest-whole}
 use Rattle.psg_defnumber.proofs.PutLaws.{reads-next, reads-end}
+use Rattle.psg_defnumber.proofs.NamedLaws.{known-at, known-drop}
 use Rattle.psg_defnumber.proofs.operators.operators.Goals as goal
+
+pub put_operator-requires-clause-known : goal.put_operator-requires-clause-known
+put_operator-requires-clause-known c = known-at c.args.checked.now c.args.entries.now c.loop-i.i c.index-entries-i.result c.requires.known c.loop-i-test.true c.index-entries-i.is
+
+pub put_operator-requires-clause-behind : goal.put_operator-requires-clause-behind
+put_operator-requires-clause-behind c =
+    subst (λ l. AllByRecursion (IsKnown c.args.checked.now) (written l)) (sym (rest-whole c.args.entries.now (c.loop-i.i + 1))) (known-drop c.args.checked.now (c.loop-i.i + 1) c.args.entries.now c.requires.known)
 
 pub loop-i-preserved : goal.loop-i-preserved
 loop-i-preserved c =

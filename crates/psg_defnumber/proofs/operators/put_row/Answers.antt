@@ -1,8 +1,22 @@
-use Rattle.std.proofs.Common.{ap, sym, ◌∙◌}
+use Rattle.std.proofs.Common.{ap, subst, sym, ◌∙◌}
+use Rattle.std.specs.List.{AllByRecursion}
 use Rattle.psg_terms.specs.Kept.{numbers_of}
 use Rattle.psg_deflines.specs.declared.lines.Line.TheVariants as lines
+use Rattle.psg_defcheck.specs.Meanings.{KnowsTerm}
 use Rattle.psg_defnumber.proofs.LineLaws.{row-put}
+use Rattle.psg_defnumber.proofs.NamedLaws.{known-line}
 use Rattle.psg_defnumber.proofs.operators.put_row.Goals as goal
+
+pub row-requires-clause-head : goal.row-requires-clause-head
+row-requires-clause-head c = (known-line c.args.checked.now c.args.entry.now c.in-Some.line (lines.Row c.in-Row.head c.in-Row.written) c.requires.known c.in-Some.is c.in-Row.is).0
+
+pub row-requires-clause-columns : goal.row-requires-clause-columns
+row-requires-clause-columns c =
+    subst (AllByRecursion (KnowsTerm c.args.checked.now)) (sym c.as_slice.ensures)
+    (known-line c.args.checked.now c.args.entry.now c.in-Some.line (lines.Row c.in-Row.head c.in-Row.written) c.requires.known c.in-Some.is c.in-Row.is).1
+
+pub row-requires-clause-constructors : goal.row-requires-clause-constructors
+row-requires-clause-constructors c = c.requires.kinds.constructors
 
 pub returns : goal.returns
 returns c = λ rest.

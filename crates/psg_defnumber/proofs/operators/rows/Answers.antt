@@ -3,7 +3,11 @@ use Rattle.psg_terms.specs.Kept.{numbers_of}
 use Rattle.psg_defnumber.specs.Putting.{ReadsRows}
 use Rattle.psg_defnumber.proofs.PutLaws.{reads-next, reads-end, reads-stop}
 use Rattle.psg_defnumber.proofs.LineLaws.{rows-stop}
+use Rattle.psg_defnumber.proofs.NamedLaws.{known-at}
 use Rattle.psg_defnumber.proofs.operators.rows.Goals as goal
+
+pub put_row-requires-clause-known : goal.put_row-requires-clause-known
+put_row-requires-clause-known c = known-at c.args.checked.now c.args.behind.now c.loop-entry.entry-index c.entry-item.result c.requires.known c.loop-entry-test.true c.entry-item.is
 
 pub returns-then-is_operator : goal.returns-then-is_operator
 returns-then-is_operator c =

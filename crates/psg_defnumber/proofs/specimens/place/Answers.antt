@@ -1,7 +1,17 @@
 use Rattle.psg_defnumber.proofs.FitLaws.{place-made}
+use Rattle.psg_defnumber.proofs.NamedLaws.{kind-is}
 use Rattle.psg_defnumber.proofs.specimens.place.Goals as goal
+
+pub kind_named-kind-requires : goal.kind_named-kind-requires
+kind_named-kind-requires c = c.requires.declared.0
+
+pub term-requires-clause-declared : goal.term-requires-clause-declared
+term-requires-clause-declared c = c.requires.declared.1
+
+pub term-requires-clause-constructors : goal.term-requires-clause-constructors
+term-requires-clause-constructors c = c.requires.names.kinds.constructors
 
 pub returns : goal.returns
 returns c =
-    place-made c.args.def.now c.args.known.now.entries c.term.new.known.entries c.args.written.now.kind c.in_ok-kind.kind c.in_ok-sort.sort.0 c.args.written.now.term c.in_ok-made.made
-    c.in_ok-kind.ensures c.in_ok-sort.ensures c.in_ok-made.ensures
+    place-made c.args.def.now c.args.known.now.entries c.term.new.known.entries c.args.written.now.kind c.kind_named-kind.result c.in_ok-sort.sort.0 c.args.written.now.term c.in_ok-made.made
+    (kind-is c.args.checked.now c.kind_named-kind.result c.args.written.now.kind c.kind_named-kind.ensures c.args.def.now c.requires.names.kinds) c.in_ok-sort.ensures c.in_ok-made.ensures
