@@ -1,5 +1,5 @@
 -- Which step the plain editor takes at a question, from what was found of the opened fragment.
-use Rattle.std.proofs.Common.{◌≡◌, inl, inr, ℕ, ◌+◌, ◌≤◌, List, [], ◌∷◌, map, Some, None, refl, sym, ◌∙◌, ap, subst, arith}
+use Rattle.std.proofs.Common.{◌≡◌, inl, ℕ, List, [], ◌∷◌, map, Some, None, refl, sym, ◌∙◌, ap, subst}
 use Rattle.psg_terms.specs.Terms.{Term}
 use Rattle.psg_terms.specs.Signature.{AreTerms}
 use Rattle.psg_terms.specs.Relations.{IsIn}
@@ -10,7 +10,7 @@ use Rattle.psg_grammar.specs.Relations.{IsRelationOf}
 use Rattle.psg_scope.specs.Headers.{keys}
 use Rattle.psg_cache.specs.Annotated.{tree_in, whole_in}
 use Rattle.psg_cache.specs.Edits.{IsSummaryAt, IsNoSummaryAt}
-use Rattle.psg_cache.specs.Notes.{IsFormed, IsNoteOf}
+use Rattle.psg_cache.specs.Notes.{IsFormed}
 use Rattle.psg_eval.specs.Summaries.{IsSummaryOf}
 use Rattle.psg_eval.specs.declared.summary.Known.{Known}
 use Rattle.psg_session.proofs.Verdicts.{root_is}
@@ -30,12 +30,12 @@ use Rattle.psg_session.specs.declared.refusal.Refusal.{Refusal}
 use Rattle.psg_session.specs.declared.refusal.Refusal.TheVariants.{NothingOpened}
 use Rattle.psg_session.specs.declared.replies.Reply.{Reply as Given}
 use Rattle.psg_session.specs.Outcomes.{IsFound, IsNotFound, IsOutcome}
-use Rattle.psg_session.specs.PlainState.{State, not_asked}
+use Rattle.psg_session.specs.PlainState.{not_asked}
 use Rattle.psg_session.specs.PlainStep.{Steps, refuses, owns, frees}
-use Rattle.psg_session.specs.Sessions.{IsEditor, IsVersion, plain, state_of}
+use Rattle.psg_session.specs.Sessions.{IsEditor, plain, state_of}
 use Rattle.psg_session.specs.Views.{names_without, reply_of}
 use Rattle.psg_session.proofs.EditLaws.{opened_version}
-use Rattle.psg_session.proofs.StepLaws.{has_node, is_opened, is_opened_by, is_there, node_is, not_opened, nowhere, opened_is, opened_plain, some_once}
+use Rattle.psg_session.proofs.StepLaws.{is_opened, is_opened_by, is_there, node_is, not_opened, nowhere, opened_is, opened_plain, some_once}
 use Rattle.psg_session.specs.Replies.{Reply, refused, answered}
 use Rattle.psg_session.proofs.KeyMarks.{free_are}
 

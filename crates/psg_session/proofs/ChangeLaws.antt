@@ -1,11 +1,9 @@
 -- What the changes of a found node have in common.
-use Rattle.std.proofs.Common.{◌≡◌, inl, inr, ℕ, ◌<◌, Bool, false, true≢false, List, [], ◌∷◌, length, slice_get, Some, None, Option, Result, Ok, IfOk, option_map, refl, sym, ◌∙◌, subst, ◌≤◌, ◌+◌, ap, arith}
+use Rattle.std.proofs.Common.{◌≡◌, ℕ, ◌<◌, Bool, false, true≢false, List, [], length, slice_get, Some, None, Option, Result, Ok, IfOk, option_map, refl, sym, subst, ◌≤◌, ◌+◌, ap, arith}
 use Rattle.std.proofs.lemmas.Option.{none-some, slice_get_within}
 use Rattle.psg_terms.specs.Names.{Name}
 use Rattle.psg_grammar.specs.declared.types.Kind.{Kind}
 use Rattle.psg_grammar.specs.declared.types.Kind.TheVariants as kinds
-use Rattle.psg_grammar.specs.declared.types.Item.{Item}
-use Rattle.psg_grammar.specs.declared.types.Item.TheVariants as items
 use Rattle.psg_grammar.specs.declared.types.ListKind.{ListKind}
 use Rattle.psg_grammar.specs.declared.types.Operator.{Operator}
 use Rattle.psg_grammar.specs.declared.types.Definition.{Definition}
@@ -14,13 +12,12 @@ use Rattle.psg_grammar.specs.Insertion.{Leaf}
 use Rattle.psg_grammar.specs.Kinds.{HasKind, IsOfKind}
 use Rattle.psg_grammar.specs.Sound.{IsSound}
 use Rattle.psg_grammar.proofs.NamePlaces.{only_op}
-use Rattle.psg_grammar.proofs.SoundParts.{phylum_in}
 use Rattle.psg_script.specs.declared.command.Where.{Where}
 use Rattle.psg_library.proofs.Written.{kind_there as kind_fits_there}
 use Rattle.psg_menu.specs.Menus.{HasQuietSlots}
 use Rattle.psg_menu.proofs.FormedTrials.{fresh_formed}
 use Rattle.psg_session.specs.Leaves.{GivesLeaves}
-use Rattle.psg_grammar.specs.Paths.{change_at, ended, IsList, node_at, Path, replaced}
+use Rattle.psg_grammar.specs.Paths.{change_at, ended, IsList, replaced}
 use Rattle.psg_tree.proofs.Walks.{change_at-agree}
 use Rattle.psg_cache.proofs.FormedTrees.{ended_formed, formed_is_kind, kind_once, node_formed}
 use Rattle.psg_session.specs.declared.edits.Edit.TheVariants.{Put}
@@ -31,7 +28,7 @@ use Rattle.psg_session.specs.Outcomes.{IsFound, IsFreshAnswer}
 use Rattle.psg_session.specs.PlainState.{Opened, named_path}
 use Rattle.psg_session.specs.PlainStep.{GivesNone, IsListOf, IsOfPhylum, IsOperator, IsOther, IsWanted, end_of}
 use Rattle.psg_grammar.specs.Work.{climb_of}
-use Rattle.psg_grammar.specs.WellFormed.{Fits, WellFormed}
+use Rattle.psg_grammar.specs.WellFormed.{WellFormed}
 use Rattle.psg_session.specs.Sessions.{IsEditor, state_of}
 use Rattle.psg_cache.specs.Annotated.{tree_in}
 use Rattle.psg_session.proofs.EditLaws.{opened_version}

@@ -1,21 +1,19 @@
 -- What typed text is answered, before its tree is tested.
-use Rattle.std.proofs.Common.{◌≡◌, ◌⊎◌, inl, inr, ℕ, ◌+◌, ◌<◌, ◌≤◌, List, length, Some, Option, Ok, Err, refl, sym, ◌∙◌, ap, subst, arith}
+use Rattle.std.proofs.Common.{◌≡◌, ◌⊎◌, inl, inr, ℕ, ◌+◌, ◌<◌, ◌≤◌, List, length, Err, refl, sym, ◌∙◌, ap, subst, arith}
 use Rattle.psg_grammar.specs.Kinds.{IsOfKind}
 use Rattle.psg_grammar.specs.declared.types.Kind.{Kind}
 use Rattle.psg_grammar.specs.declared.types.Definition.{Definition}
 use Rattle.psg_grammar.specs.Fragments.{Fragment}
 use Rattle.psg_grammar.specs.Paths.{replaced}
-use Rattle.psg_grammar.specs.Sizes.{depth_of, IsBig, IsDeep}
-use Rattle.psg_grammar.specs.Work.{work_of, climb_of}
+use Rattle.psg_grammar.specs.Sizes.{depth_of, IsDeep}
 use Rattle.psg_grammar.specs.WellFormed.{WellFormed}
 use Rattle.psg_cache.specs.Annotated.{tree_in}
 use Rattle.psg_class.specs.Class.{IsClass}
-use Rattle.psg_class.specs.Texts.{HasNoTokens, ReadsAs, TextTokens}
+use Rattle.psg_class.specs.Texts.{ReadsAs, TextTokens}
 use Rattle.psg_lexis.specs.declared.token.Spanned.{Spanned}
 use Rattle.psg_script.specs.declared.command.Where.{Where}
 use Rattle.psg_script.specs.declared.command.Command.TheVariants.{Over}
 use Rattle.psg_session.specs.declared.changes.Made.{Made}
-use Rattle.psg_session.specs.declared.changes.Plan.{Plan}
 use Rattle.psg_session.specs.declared.changes.Plan.TheVariants.{RefusedBy, Makes as Plans}
 use Rattle.psg_session.specs.declared.edits.Edit.TheVariants.{Put}
 use Rattle.psg_session.specs.declared.editor.Editor.{Editor}
@@ -23,18 +21,17 @@ use Rattle.psg_session.specs.declared.editor.OpenedTree.{OpenedTree}
 use Rattle.psg_session.specs.declared.finding.Found.{Found}
 use Rattle.psg_session.specs.declared.judging.Trial.TheVariants.{Types}
 use Rattle.psg_session.specs.declared.refusal.Refusal.{Refusal}
-use Rattle.psg_session.specs.declared.refusal.Refusal.TheVariants.{NoTokens, NoTree, TooDeep}
 use Rattle.psg_cache.specs.Diff.{diff_of}
 use Rattle.psg_session.specs.Edits.{cost_of}
 use Rattle.psg_session.specs.Good.{IsGoodIn}
-use Rattle.psg_session.specs.Outcomes.{IsFound, IsMade, IsNotFound, IsPlan, made_of, MaySpend, Spends, tree_tests}
+use Rattle.psg_session.specs.Outcomes.{IsFound, IsMade, IsNotFound, IsPlan, made_of, MaySpend, tree_tests}
 use Rattle.psg_session.specs.PlainState.{Opened, named_path, not_asked}
 use Rattle.psg_session.specs.PlainStep.{AtNode, Gives, by_change, by_over, IsRefused, IsTaken, Makes, OfResult}
 use Rattle.psg_session.specs.Refusals.{Passes, Refuses}
 use Rattle.psg_session.specs.Sessions.{IsEditor, plain, state_of}
-use Rattle.psg_session.specs.Ticks.{above, HasTicked, MayTick, OfTyped}
-use Rattle.psg_session.specs.Typed.{HasDeepTree, HasNoTreeFor, HasRead, HasTree, IsTextAnswer, most_brackets, NestsTooDeep, ReadsFor}
-use Rattle.psg_session.proofs.ChangeLaws.{kind_is, may_put, put_is, cost_here}
+use Rattle.psg_session.specs.Ticks.{HasTicked, MayTick, OfTyped}
+use Rattle.psg_session.specs.Typed.{HasDeepTree, HasNoTreeFor, HasRead, HasTree, IsTextAnswer, NestsTooDeep, ReadsFor}
+use Rattle.psg_session.proofs.ChangeLaws.{kind_is, may_put, put_is}
 use Rattle.psg_session.proofs.Depths.{replaced_deep}
 use Rattle.psg_session.proofs.StepLaws.{at_node, has_node, is_opened, is_there, node_is, nowhere, opened_is, path_is, same_old, some_once}
 use Rattle.psg_session.proofs.TypedLaws.{has_tree_for, no_fault, read_once, read_tokens}

@@ -1,5 +1,5 @@
 -- What replaced bytes are answered, before their tree is tested.
-use Rattle.std.proofs.Common.{◌≡◌, ◌⊎◌, inl, inr, ℕ, ◌+◌, ◌-◌, ◌<◌, ◌≤◌, List, [], Option, Some, None, refl, sym, ◌∙◌, ap, subst, arith}
+use Rattle.std.proofs.Common.{◌≡◌, inl, inr, ℕ, ◌+◌, ◌-◌, ◌≤◌, List, [], Option, Some, None, refl, sym, ◌∙◌, subst, arith}
 use Rattle.std.proofs.lemmas.Bool.{cases_lt}
 use Rattle.psg_grammar.specs.declared.types.Definition.{Definition}
 use Rattle.psg_grammar.specs.declared.limits.TheConstants.{MOST_DEPTH}
@@ -36,7 +36,7 @@ use Rattle.psg_session.specs.RangeAnswers.{HasChange, HasNoChange, IsRangeRefusa
 use Rattle.psg_session.specs.Ranged.{NestsTooDeepWith, OfOpened, ReadsWith, replacing, text_with}
 use Rattle.psg_session.specs.Refusals.{Passes, Refuses}
 use Rattle.psg_session.specs.Sessions.{IsEditor, plain, state_of}
-use Rattle.psg_session.specs.Ticks.{HasTicked, MayTick, OfRanged}
+use Rattle.psg_session.specs.Ticks.{HasTicked, OfRanged}
 use Rattle.psg_session.proofs.ChangeOver.{neither, or_nests}
 use Rattle.psg_session.proofs.EditLaws.{opened_version}
 use Rattle.psg_session.proofs.StepLaws.{is_opened_by, not_opened, opened_plain, some_once}

@@ -1,10 +1,9 @@
 -- Changes of a tree leave a tree of its kind.
-use Rattle.std.proofs.Common.{◌≡◌, ℕ, Some, refl, sym, subst}
+use Rattle.std.proofs.Common.{◌≡◌, Some, sym, subst}
 use Rattle.psg_grammar.specs.declared.types.Kind.{Kind}
 use Rattle.psg_grammar.specs.declared.types.Kind.TheVariants as kinds
 use Rattle.psg_grammar.specs.declared.types.Definition.{Definition}
 use Rattle.psg_grammar.specs.Fragments.{Fragment}
-use Rattle.psg_grammar.specs.Kinds.{IsOfKind}
 use Rattle.psg_grammar.specs.Paths.{inserted, removed}
 use Rattle.psg_grammar.specs.WellFormed.{WellFormed}
 use Rattle.psg_cache.proofs.FormedTrees.{changed_formed, inserted_formed, kind_once, removed_formed, replaced_formed, formed_is_kind}

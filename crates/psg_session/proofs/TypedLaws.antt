@@ -1,10 +1,8 @@
 -- A text is read as one tree, or has none.
-use Rattle.std.proofs.Common.{◌≡◌, ◌⊎◌, inl, inr, ℕ, ◌+◌, ◌<◌, ◌≤◌, List, length, chars, Some, None, Option, Result, Ok, Err, IfErr, refl, sym, ◌∙◌, ap, subst, arith}
+use Rattle.std.proofs.Common.{◌≡◌, inl, inr, ℕ, ◌+◌, ◌<◌, ◌≤◌, List, length, chars, Result, Ok, Err, IfErr, sym, subst, arith}
 use Rattle.psg_grammar.specs.declared.types.Kind.{Kind}
 use Rattle.psg_grammar.specs.declared.types.Definition.{Definition}
 use Rattle.psg_grammar.specs.Fragments.{Fragment}
-use Rattle.psg_grammar.specs.Kinds.{IsOfKind}
-use Rattle.psg_grammar.specs.Sizes.{IsDeep}
 use Rattle.psg_grammar.specs.WellFormed.{fixed_words, WellFormed}
 use Rattle.psg_cache.proofs.FormedTrees.{kind_once}
 use Rattle.psg_class.specs.Class.{IsClass}
@@ -23,7 +21,7 @@ use Rattle.psg_parse.specs.declared.fault.Goal.{Goal}
 use Rattle.psg_parse.specs.declared.fault.ParseFault.{ParseFault}
 use Rattle.psg_parse.specs.declared.fault.ParseFault.TheVariants as parse_faults
 use Rattle.psg_session.specs.declared.refusal.Refusal.{Refusal}
-use Rattle.psg_session.specs.Typed.{HasDeepTree, HasNoTreeFor, HasRead, HasTree, IsParseRefusal, IsTextAnswer, ReadsFor}
+use Rattle.psg_session.specs.Typed.{HasNoTreeFor, HasRead, IsParseRefusal, IsTextAnswer, ReadsFor}
 
 -- what is known of the error of a call that went wrong
 pub err_at : {X E : Type 0} (P : E → Type 0) (r : Result X E) (x : E) → r ≡ Err x → IfErr r P → P x

@@ -1,7 +1,6 @@
 -- States whose fragments are trees of their kinds, and can be printed so that they read back.
 use Rattle.std.specs.Prelude.{◌≡◌, Some, IsUtf8}
 use Rattle.std.specs.List.{AllByRecursion}
-use Rattle.psg_grammar.specs.declared.types.Kind.{Kind}
 use Rattle.psg_grammar.specs.declared.types.Definition.{Definition}
 use Rattle.psg_grammar.specs.Fragments.{Fragment}
 use Rattle.psg_grammar.specs.Paths.{node_at}

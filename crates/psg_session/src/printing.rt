@@ -47,9 +47,8 @@ pub fn show(
     let Some(held) = &editor.opened else {
         return Ok(Outcome::Stays(Reply::Refused(Refusal::NothingOpened)));
     };
-    // what is opened is printed, so this refusal is never reached
     let Some(printed) = printed else {
-        return Ok(Outcome::Stays(Reply::Refused(Refusal::NothingOpened)));
+        unreachable!()
     };
     let text = printed.text.share()?;
     let mark = note_mark(alloc, &held.note)?;
@@ -97,13 +96,11 @@ pub fn go(
         Ok(found) => found,
         Err(refusal) => return Ok(Outcome::Stays(Reply::Refused(refusal))),
     };
-    // what is opened is printed, so this refusal is never reached
     let Some(printed) = printed else {
-        return Ok(Outcome::Stays(Reply::Refused(Refusal::NothingOpened)));
+        unreachable!()
     };
-    // each node has a span, so this refusal is never reached
     let Some(span) = span_at(printed.spans.as_slice(), found.path.steps()) else {
-        return Ok(Outcome::Stays(Reply::Refused(Refusal::NoNode)));
+        unreachable!()
     };
     let line = goto_line(alloc, &language.definition, found.node, span)?;
     let lines = only(alloc, line)?;

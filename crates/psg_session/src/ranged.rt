@@ -121,9 +121,8 @@ fn range<L: Ledger>(
     let Some(held) = &editor.opened else {
         return Ok(Plan::RefusedBy(Refusal::NothingOpened));
     };
-    // what is opened is printed, so this refusal is never reached
     let Some(printed) = printed else {
-        return Ok(Plan::RefusedBy(Refusal::NothingOpened));
+        unreachable!()
     };
     let typed = Typed {
         start: start as usize,

@@ -43,7 +43,8 @@ pub struct Parts {
 }
 
 /// An editor of a language's fragments. It keeps the printed text of the opened fragment from the first command that is
-/// answered from it until the tree changes.
+/// answered from it until the tree changes. So the first `show`, `goto`, `screen` or `range` after a change prints the
+/// whole text, in time linear in it.
 #[derive(Drop)]
 pub struct Session {
     parts: Parts,

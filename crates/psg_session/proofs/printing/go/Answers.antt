@@ -15,19 +15,19 @@ returns-in-Err c =
     stayed def c.args.editor.now (Goto place) (Refused c.in-Err.refusal)
     (go_not_found def c.args.editor.now place c.in-Err.refusal c.in-Err.ensures.err)
 
-pub returns-in_default : goal.returns-in_default
-returns-in_default c =
-    absurd (never_none c.args.language.now.definition c.args.editor.now c.in-Ok.found.held.now c.in-Ok.ensures.ok.held
-    (option_copied c.args.printed) c.requires.printed (ap option_copied c.in_default.is))
+pub unreachable-requires : goal.unreachable-requires
+unreachable-requires c =
+    never_none c.args.language.now.definition c.args.editor.now c.in-Ok.found.held.now c.in-Ok.ensures.ok.held
+    (option_copied c.args.printed) c.requires.printed (ap option_copied c.in_default.is)
 
-pub returns-in_default-span_at : goal.returns-in_default-span_at
-returns-in_default-span_at c =
+pub unreachable-requires-in_default-span_at : goal.unreachable-requires-in_default-span_at
+unreachable-requires-in_default-span_at c =
     let def = c.args.language.now.definition in
     let is = is_printed def c.args.editor.now c.in-Ok.found.held.now c.in-Ok.ensures.ok.held
     (option_copied c.args.printed) c.requires.printed c.in-Some.printed.now (ap option_copied c.in-Some.is) in
-    absurd (go_some def c.args.editor.now c.args.place.now c.requires.editor c.in-Ok.found c.in-Ok.ensures.ok
+    go_some def c.args.editor.now c.args.place.now c.requires.editor c.in-Ok.found c.in-Ok.ensures.ok
     c.in-Some.printed.now is c.as_slice.result.now c.steps.result.now c.as_slice.ensures c.steps.ensures
-    c.in_default-span_at.ensures)
+    c.in_default-span_at.ensures
 
 pub goto_line-requires-clause-sound : goal.goto_line-requires-clause-sound
 goto_line-requires-clause-sound c = c.requires.language.sound

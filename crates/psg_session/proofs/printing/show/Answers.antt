@@ -17,10 +17,10 @@ returns-in_default c =
     (show_unopened c.args.language.now.definition c.args.editor.now
     (only_none c.args.editor.now.opened c.in_default.not-Some))
 
-pub returns-in_default-printed : goal.returns-in_default-printed
-returns-in_default-printed c =
-    absurd (never_none c.args.language.now.definition c.args.editor.now c.in-Some.held c.in-Some.is
-    (option_copied c.args.printed) c.requires.printed (ap option_copied c.in_default-printed.is))
+pub unreachable-requires : goal.unreachable-requires
+unreachable-requires c =
+    never_none c.args.language.now.definition c.args.editor.now c.in-Some.held c.in-Some.is
+    (option_copied c.args.printed) c.requires.printed (ap option_copied c.in_default-printed.is)
 
 pub returns : goal.returns
 returns c =

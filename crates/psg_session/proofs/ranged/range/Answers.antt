@@ -27,19 +27,10 @@ returns-in_default-clause-spends g c =
     range_refused_spends c.args.language.now.definition c.args.editor.now c.args.start c.args.end c.args.text.now _ _ _
     (range_unread c.args.language.now.definition c.args.editor.now c.args.start c.args.end c.args.text.now _ _ refl)
 
-pub returns-in_default-printed-clause-plan : goal.returns-in_default-printed-clause-plan
-returns-in_default-printed-clause-plan g c =
-    absurd (never_none c.args.language.now.definition c.args.editor.now c.in-Some.held c.in-Some.is
-    (option_copied c.args.printed) c.requires.printed (ap option_copied c.in_default-printed.is))
-
-pub returns-in_default-printed-clause-ticks : goal.returns-in_default-printed-clause-ticks
-returns-in_default-printed-clause-ticks g c =
-    range_unread c.args.language.now.definition c.args.editor.now c.args.start c.args.end c.args.text.now _ _ refl
-
-pub returns-in_default-printed-clause-spends : goal.returns-in_default-printed-clause-spends
-returns-in_default-printed-clause-spends g c =
-    range_refused_spends c.args.language.now.definition c.args.editor.now c.args.start c.args.end c.args.text.now _ _ _
-    (range_unread c.args.language.now.definition c.args.editor.now c.args.start c.args.end c.args.text.now _ _ refl)
+pub unreachable-requires : goal.unreachable-requires
+unreachable-requires g c =
+    never_none c.args.language.now.definition c.args.editor.now c.in-Some.held c.in-Some.is
+    (option_copied c.args.printed) c.requires.printed (ap option_copied c.in_default-printed.is)
 
 pub read_change-read-requires-clause-printed : goal.read_change-read-requires-clause-printed
 read_change-read-requires-clause-printed g c =
