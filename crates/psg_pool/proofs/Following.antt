@@ -63,3 +63,20 @@ ends_bound bs b all apart _ (unbound id e) = elim (either (b.bound.0 == id.0)) [
 ]
 ends_bound bs b all apart _ (bound id next e rest) =
     bound id next (target_of-append bs (b ∷ []) id next e) (ends_bound bs b all apart next rest)
+
+-- bindings lead one step on from where they lead to
+pub leads_on : (bs : List Binding) (from to next : CellId) → target_of bs to ≡ Some next → Leads bs from to → Leads bs from next
+leads_on bs from _ next e (arrived _) = followed from next next e (arrived next)
+leads_on bs from to next e (followed _ step _ s rest) = followed from step next s (leads_on bs step to next e rest)
+
+-- bindings that come to an end do not lead round
+pub ends_round : (bs : List Binding) (id next : CellId) → Ends bs id → target_of bs id ≡ Some next → Leads bs next id → ⊥
+ends_round bs _ next (unbound id e) t l = let x : Some next ≡ None = sym t ∙ e in cc
+ends_round bs _ next (bound id to e rest) t l =
+    let x : Some to ≡ Some next = sym e ∙ t in
+    let same : to ≡ next = cc in
+    goes_on id next e t l (subst (λ (k : CellId). Leads bs k id) (sym same) l) (λ k s m. ends_round bs to k rest s m) where
+      goes_on : (id next : CellId) → target_of bs id ≡ Some to → target_of bs id ≡ Some next → Leads bs next id → Leads bs to id
+          → ((k : CellId) → target_of bs to ≡ Some k → Leads bs k to → ⊥) → ⊥
+      goes_on id next e t l (arrived _) h = h to e (arrived to)
+      goes_on id next e t l (followed _ k _ s m) h = h k s (leads_on bs k id to e m)

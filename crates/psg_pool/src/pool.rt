@@ -125,6 +125,13 @@ impl Pool {
         Ok(id)
     }
 
+    /// Returns the number of cells. The time is constant.
+    pub fn count(&self) -> usize
+        ensures { result ≡ length self.now.cells }
+    {
+        self.slots.len()
+    }
+
     /// Returns what the cell holds. The time is constant.
     pub fn cell(&self, id: CellId) -> Cell
         requires { IsAmong self.now.cells id }

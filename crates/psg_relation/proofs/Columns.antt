@@ -6,36 +6,10 @@ use Rattle.psg_terms.specs.Terms.{Term}
 use Rattle.psg_terms.specs.Signature.{Signature, HaveSorts}
 use Rattle.psg_terms.specs.Instances.{Substitution, substitute, IsGroundInstance}
 use Rattle.psg_terms.specs.Relations.{IsRelation}
-use Rattle.psg_relation.specs.Choices.{AllHaveSorts, IsOfRow, pick, picked, IsProjected, all_picked}
-use Rattle.psg_terms.proofs.DeclareLaws.{take-next}
+use Rattle.psg_relation.specs.Choices.{AllHaveSorts, IsOfRow, picked, IsProjected, all_picked}
+pub use Rattle.psg_unify.proofs.Picking.{map-picked, picked-sorts, picked_ground, picked-push, picked-more}
 use Rattle.psg_relation.proofs.Members.{in-map, map-in}
 use Rattle.psg_relation.proofs.Relating.{carried}
-
-map-pick : (f : Substitution) (o : Option Term) (rest : List Term) → map (substitute f) (pick o rest) ≡ pick (option_map (substitute f) o) (map (substitute f) rest)
-map-pick f None rest = refl
-map-pick f (Some x) rest = refl
-
-pub map-picked : (f : Substitution) (row : List Term) (keep : List ℕ) → map (substitute f) (picked row keep) ≡ picked (map (substitute f) row) keep
-map-picked f row [] = refl
-map-picked f row (k ∷ keep) = map-pick f (slice_get row k) (picked row keep) ∙ ap₂ pick (sym (slice_get-map (substitute f) row k)) (map-picked f row keep)
-
-pick-sorts : (sig : Signature) (row : List Term) (ss : List ℕ) (k : ℕ) → HaveSorts sig row ss → (rest : List Term) (rs : List ℕ) → HaveSorts sig rest rs → HaveSorts sig (pick (slice_get row k) rest) (pick (slice_get ss k) rs)
-pick-sorts sig [] [] k h rest rs r = r
-pick-sorts sig [] (s ∷ ss) k h rest rs r = absurd h
-pick-sorts sig (t ∷ row) [] k h rest rs r = absurd h
-pick-sorts sig (t ∷ row) (s ∷ ss) zero (a, h) rest rs r = (a, r)
-pick-sorts sig (t ∷ row) (s ∷ ss) (suc k) (a, h) rest rs r = pick-sorts sig row ss k h rest rs r
-
-pub picked-sorts : (sig : Signature) (row : List Term) (ss : List ℕ) (keep : List ℕ) → HaveSorts sig row ss → HaveSorts sig (picked row keep) (picked ss keep)
-picked-sorts sig row ss [] h = tt
-picked-sorts sig row ss (k ∷ keep) h = pick-sorts sig row ss k h (picked row keep) (picked ss keep) (picked-sorts sig row ss keep h)
-
--- the columns of a row have the columns of its ground instances
-pub picked_ground : (sig : Signature) (row : List Term) (keep : List ℕ) (x : List Term) → IsGroundInstance sig (picked row keep) x ↔ ((full : List Term) × IsGroundInstance sig row full × (x ≡ picked full keep))
-picked_ground sig row keep x = (
-  λ (f, g, e). (map (substitute f) row, (f, g, refl), e ∙ map-picked f row keep),
-  λ (full, (f, g, d), e). (f, g, e ∙ ap (λ r. picked r keep) d ∙ sym (map-picked f row keep)),
-)
 
 module _ (sig : Signature) (rows : List (List Term)) (keep : List ℕ) where
   pub all_sorted : (sorts : List ℕ) → AllHaveSorts sig rows sorts → AllHaveSorts sig (all_picked rows keep) (picked sorts keep)
@@ -69,16 +43,3 @@ module _ (sig : Signature) (rows : List (List Term)) (keep : List ℕ) where
   unprojected sorts others = carried sig sorts (IsProjected sig rows keep) (IsOfRow sig (all_picked rows keep))
       (λ d columns q. let (c, both) = back d columns q in (c, λ x. ((both x).1, (both x).0)))
       (λ c columns p. let (d, both) = there c columns p in (d, λ x. ((both x).1, (both x).0))) others
-
-pick-append : {X : Type 0} (o : Option X) (xs ys : List X) → pick o (xs ++ ys) ≡ pick o xs ++ ys
-pick-append None xs ys = refl
-pick-append (Some x) xs ys = refl
-
--- one column more
-pub picked-push : {X : Type 0} (row : List X) (keep : List ℕ) (k : ℕ) (x : X) → slice_get row k ≡ Some x → picked row (keep ++ k ∷ []) ≡ picked row keep ++ x ∷ []
-picked-push row [] k x e = ap (λ o. pick o []) e
-picked-push row (m ∷ keep) k x e = ap (pick (slice_get row m)) (picked-push row keep k x e) ∙ pick-append (slice_get row m) (picked row keep) (x ∷ [])
-
-pub picked-more : {X : Type 0} (row : List X) (keep : List ℕ) (i k : ℕ) (x : X) (now more : List X) → i < length keep → k ≡ get_or keep i k → slice_get row k ≡ Some x → now ≡ picked row (take i keep) → more ≡ now ++ x ∷ [] → more ≡ picked row (take (i + 1) keep)
-picked-more row keep i k x now more l e at d m =
-    m ∙ ap (λ xs. xs ++ x ∷ []) d ∙ sym (picked-push row (take i keep) k x at) ∙ ap (picked row) (sym (take-next keep i k l e))

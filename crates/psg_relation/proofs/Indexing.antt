@@ -31,7 +31,7 @@ pub head-variable : (t : Term) (s n : ℕ) → t ≡ variable s n → None ≡ h
 head-variable t s n e = sym (ap head_of e)
 
 -- a substitution keeps the constructor at the head
-head-substitute : (f : Substitution) (t : Term) (c : ℕ) → head_of t ≡ Some c → head_of (substitute f t) ≡ Some c
+pub head-substitute : (f : Substitution) (t : Term) (c : ℕ) → head_of t ≡ Some c → head_of (substitute f t) ≡ Some c
 head-substitute f (variable s n) c e = absurd (cc)
 head-substitute f (symbol d) c e = e
 head-substitute f (apply g a) c e = head-substitute f g c e

@@ -9,6 +9,11 @@ pub mod Making
 pub mod Columns
 pub mod Meeting
 pub mod Indexing
+pub mod Pairing
+pub mod Filling
+pub mod Unsolved
+pub mod NarrowPlans
+pub mod NarrowJoin
 pub mod Existing
 pub mod Unifying
 pub mod Solving

@@ -19,14 +19,14 @@ use Rattle.psg_relation.proofs.Relating.{carried}
 
 -- ---- pairs
 
-agree-append : (xs ys : List Columns) (l r : List Term) → AgreeOn (xs ++ ys) l r ↔ (AgreeOn xs l r × AgreeOn ys l r)
+pub agree-append : (xs ys : List Columns) (l r : List Term) → AgreeOn (xs ++ ys) l r ↔ (AgreeOn xs l r × AgreeOn ys l r)
 agree-append [] ys l r = (λ h. (tt, h), λ h. h.1)
 agree-append (x ∷ xs) ys l r = (
   λ h. let k = (agree-append xs ys l r).0 h.1 in ((h.0, k.0), k.1),
   λ h. (h.0.0, (agree-append xs ys l r).1 (h.0.1, h.1)),
 )
 
-diagonal-tail : (n k : ℕ) (a b : Term) (l r : List Term) → AgreeOn (diagonal (suc k) n) (a ∷ l) (b ∷ r) → AgreeOn (diagonal k n) l r
+pub diagonal-tail : (n k : ℕ) (a b : Term) (l r : List Term) → AgreeOn (diagonal (suc k) n) (a ∷ l) (b ∷ r) → AgreeOn (diagonal k n) l r
 diagonal-tail zero k a b l r h = tt
 diagonal-tail (suc n) k a b l r h = (h.0, diagonal-tail n (suc k) a b l r h.1)
 
@@ -40,11 +40,11 @@ diagonal_same (a ∷ l) (b ∷ r) e h =
     let x : a ≡ b = cc in
     ap₂ (λ y ys. y ∷ ys) x (diagonal_same l r (omega arith) (diagonal-tail (length l) 0 a b l r h.1))
 
-diagonal_self : (k n : ℕ) (l : List Term) → AgreeOn (diagonal k n) l l
+pub diagonal_self : (k n : ℕ) (l : List Term) → AgreeOn (diagonal k n) l l
 diagonal_self k zero l = tt
 diagonal_self k (suc n) l = (refl, diagonal_self (suc k) n l)
 
-some_within : (ss : List ℕ) (k : ℕ) → k < length ss → (s : ℕ) × (slice_get ss k ≡ Some s)
+pub some_within : (ss : List ℕ) (k : ℕ) → k < length ss → (s : ℕ) × (slice_get ss k ≡ Some s)
 some_within [] k h = absurd (omega arith)
 some_within (s ∷ ss) zero h = (s, refl)
 some_within (s ∷ ss) (suc k) h = some_within ss k (omega arith)
@@ -69,12 +69,12 @@ diagonal-next n = diagonal-push n 0 ∙ (let e : 0 + n ≡ n = omega arith in ap
 
 -- ---- kept columns
 
-get-left : {X : Type 0} (l r : List X) (k : ℕ) → k < length l → slice_get (l ++ r) k ≡ slice_get l k
+pub get-left : {X : Type 0} (l r : List X) (k : ℕ) → k < length l → slice_get (l ++ r) k ≡ slice_get l k
 get-left [] r k h = absurd (omega arith)
 get-left (t ∷ l) r zero h = refl
 get-left (t ∷ l) r (suc k) h = get-left l r k (omega arith)
 
-picked-left : {X : Type 0} (l r : List X) (keep : List ℕ) → All (λ (k : ℕ). k < length l) keep → picked (l ++ r) keep ≡ picked l keep
+pub picked-left : {X : Type 0} (l r : List X) (keep : List ℕ) → All (λ (k : ℕ). k < length l) keep → picked (l ++ r) keep ≡ picked l keep
 picked-left l r [] h = refl
 picked-left l r (k ∷ keep) h =
     ap₂ pick (get-left l r k (All-head (λ (m : ℕ). m < length l) k keep h)) (picked-left l r keep (All-tail (λ (m : ℕ). m < length l) k keep h))

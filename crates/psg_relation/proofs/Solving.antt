@@ -21,7 +21,7 @@ use Rattle.psg_relation.proofs.Existing.{form, relation_exists}
 use Rattle.psg_relation.proofs.Meeting.{join_of, joined_none, joined_one, joined_sorts, joined_relation, may_meet, pairs-in}
 use Rattle.psg_relation.proofs.Unifying.{Equation, Unifies, AreTyped, Unifier, unified, unifies_more}
 
-term_at : (sig : Signature) (row : List Term) (ss : List ℕ) (i s : ℕ) → HaveSorts sig row ss → slice_get ss i ≡ Some s → (t : Term) × (slice_get row i ≡ Some t) × HasSort sig t s
+pub term_at : (sig : Signature) (row : List Term) (ss : List ℕ) (i s : ℕ) → HaveSorts sig row ss → slice_get ss i ≡ Some s → (t : Term) × (slice_get row i ≡ Some t) × HasSort sig t s
 term_at sig [] [] i s h e = absurd (cc)
 term_at sig [] (r ∷ ss) i s h e = absurd h
 term_at sig (x ∷ row) [] i s h e = absurd h
@@ -59,7 +59,7 @@ record IsJoint (sig : Signature) (left right : List Term) (pairs : List Columns)
   exact : (full : List Term) → IsGroundInstance sig row full ↔ IsAgreeing sig left right pairs full
   sorted : (ls rs : List ℕ) → HaveSorts sig left ls → HaveSorts sig right rs → HaveSorts sig row (ls ++ rs)
 
-rows_alike : (x y : Substitution) → ((p q : ℕ) → x p q ≡ substitute x (y p q)) → (ts : List Term) → map (substitute x) ts ≡ map (substitute x) (map (substitute y) ts)
+pub rows_alike : (x y : Substitution) → ((p q : ℕ) → x p q ≡ substitute x (y p q)) → (ts : List Term) → map (substitute x) ts ≡ map (substitute x) (map (substitute y) ts)
 rows_alike x y j [] = refl
 rows_alike x y j (t ∷ ts) = ap₂ (λ z zs. z ∷ zs) (substitute-same x (after x y) t j ∙ substitute-after x y t) (rows_alike x y j ts)
 

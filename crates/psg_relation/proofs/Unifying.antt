@@ -195,7 +195,7 @@ tail_of : List ℕ → List ℕ
 tail_of [] = []
 tail_of (x ∷ xs) = xs
 
-one_type : (sig : Signature) (t : Term) (v w : List ℕ) (r s : ℕ) → Takes sig t v r → Takes sig t w s → (v ≡ w) × (r ≡ s)
+pub one_type : (sig : Signature) (t : Term) (v w : List ℕ) (r s : ℕ) → Takes sig t v r → Takes sig t w s → (v ≡ w) × (r ≡ s)
 unfolding tail_of
 one_type sig (variable p n) v w r s (_, e, d) (_, e', d') = (e ∙ sym e', sym d ∙ d')
 one_type sig (symbol c) v w r s (a, p, q, x) (b, p', q', x') = let e : a ≡ b = cc in (sym q ∙ ap (λ (y : Symbol). y.arguments) e ∙ q', sym x ∙ ap (λ (y : Symbol). y.sort) e ∙ x')

@@ -1,11 +1,12 @@
 -- What is possible for the rows of a list, for their columns, and for the pairs of rows of two lists.
-use Rattle.std.specs.Prelude.{ℕ, ◌≡◌, ◌<◌, ◌++◌, List, [], ◌∷◌, All, map, length, Option, Some, None, slice_get}
+use Rattle.std.specs.Prelude.{ℕ, ◌≡◌, ◌<◌, ◌++◌, List, All, map, length}
 use Rattle.psg_terms.specs.Terms.{Term}
 use Rattle.psg_terms.specs.Signature.{Signature, HaveSorts}
 use Rattle.psg_terms.specs.Instances.{IsGroundInstance}
 use Rattle.psg_terms.specs.Relations.{IsIn, IsRelation}
 use Rattle.psg_terms.specs.Weight.{PassesLimit}
 use Rattle.psg_unify.specs.Pairs.{Pair as Columns, AgreeOn}
+pub use Rattle.psg_unify.specs.Columns.{pick, picked}
 use Rattle.psg_relation.specs.declared.relation.RelFault.{RelFault}
 use Rattle.psg_relation.specs.declared.relation.RelFault.TheVariants.{Wide, Memory}
 
@@ -16,16 +17,6 @@ AllHaveSorts sig rows sorts = (row : List Term) → IsIn row rows → HaveSorts 
 -- the ground instances of a row of the list
 abbrev pub IsOfRow : Signature → List (List Term) → List Term → List Term → Type 0
 IsOfRow sig rows row columns = IsIn row rows × IsGroundInstance sig row columns
-
--- the list with an item in front, if there is one
-abbrev pub pick : {X : Type 0} → Option X → List X → List X
-pick None rest = rest
-pick (Some x) rest = x ∷ rest
-
--- the columns of these numbers, in the order of the numbers
-abbrev pub picked : {X : Type 0} → List X → List ℕ → List X
-picked xs [] = []
-picked xs (k ∷ keep) = pick (slice_get xs k) (picked xs keep)
 
 -- these columns of the ground instances of a row of the list
 abbrev pub IsProjected : Signature → List (List Term) → List ℕ → List Term → List Term → Type 0

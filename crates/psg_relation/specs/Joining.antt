@@ -1,16 +1,13 @@
 -- Rows that two rows make where they agree on pairs of columns.
-use Rattle.std.specs.Prelude.{ℕ, ◌≡◌, ◌+◌, ◌<◌, ◌++◌, ◌⊎◌, All, List, [], ◌∷◌, length}
+use Rattle.std.specs.Prelude.{ℕ, ◌≡◌, ◌+◌, ◌<◌, ◌++◌, ◌⊎◌, All, List, [], ◌∷◌, length, Option, MatchOption}
 use Rattle.psg_terms.specs.Terms.{Term}
 use Rattle.psg_terms.specs.Signature.{Signature, HaveSorts}
 use Rattle.psg_terms.specs.Instances.{IsGroundInstance}
 use Rattle.psg_terms.specs.Relations.{IsIn}
-use Rattle.psg_unify.specs.Pairs.{Pair as Columns, AreOfEqualSort, AreJoinable, IsAgreeing}
+use Rattle.psg_unify.specs.Pairs.{Pair as Columns, AreOfEqualSort, AreJoinable}
+pub use Rattle.psg_unify.specs.Columns.{Joins}
 use Rattle.psg_relation.specs.Choices.{AllHaveSorts, picked}
 use Rattle.psg_relation.specs.Sealed.{IsReady}
-
--- the kept columns of ground instances of both rows that agree
-abbrev pub Joins : Signature → List Columns → List ℕ → List Term → List Term → List Term → Type 0
-Joins sig pairs keep left right x = (full : List Term) × IsAgreeing sig left right pairs full × (x ≡ picked full keep)
 
 -- the row has exactly these
 pub record IsJoinOf (sig : Signature) (pairs : List Columns) (keep : List ℕ) (left right row : List Term) : Type 0 where
@@ -19,6 +16,11 @@ pub record IsJoinOf (sig : Signature) (pairs : List Columns) (keep : List ℕ) (
   pub back : (x : List Term) → Joins sig pairs keep left right x → IsGroundInstance sig row x
   pub sorted : (ls rs : List ℕ) → HaveSorts sig left ls → HaveSorts sig right rs
       → HaveSorts sig row (picked (ls ++ rs) keep)
+
+-- the row is the kept columns of the join of two rows, or there is none
+abbrev pub IsJoint : Signature → List Columns → List ℕ → List Term → List Term → Option (List Term) → Type 0
+IsJoint sig pairs keep left right o = MatchOption o ((x : List Term) → Joins sig pairs keep left right x → ⊥)
+    (λ row. IsJoinOf sig pairs keep left right row)
 
 -- a left and a right row
 abbrev pub Two : Type 0

@@ -7,3 +7,6 @@ pub mod Sealed
 pub mod Heads
 pub mod Joining
 pub mod Selecting
+pub mod Settling
+pub mod Forcing
+pub mod Narrowing

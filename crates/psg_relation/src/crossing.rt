@@ -7,9 +7,10 @@ ghost use Rattle.psg_relation.specs.Heads.{places_at, IsIndexed};
 ghost use Rattle.psg_relation.specs.Joining.{AreJoined, IsCrossed, MayJoin, MayMeet, all_pairs};
 
 use crate::heads::{Heads, head_at, heads_of};
-use crate::joining::with_join;
+use crate::joining::with_join_in;
 use crate::row::RelRow;
 use psg_terms::{Signature, Term};
+use psg_unify::JoinPool;
 use std::alloc::{AllocError, Global};
 
 /// The least number of rows of the other side from which on they are found by their heads. Where there are fewer, to
@@ -20,6 +21,7 @@ const FEW: usize = 4;
 fn with_joins(
     alloc: Global,
     sig: &Signature,
+    pool: &mut JoinPool,
     made: Vec<RelRow>,
     one: &[Term],
     right: &[RelRow],
@@ -31,7 +33,7 @@ fn with_joins(
 {
     let mut more = made;
     for other in right {
-        more = with_join(alloc, sig, more, one, other.terms(), pairs, keep)?;
+        more = with_join_in(alloc, sig, pool, more, one, other.terms(), pairs, keep)?;
     }
     Ok(more)
 }
@@ -40,6 +42,7 @@ fn with_joins(
 fn with_places(
     alloc: Global,
     sig: &Signature,
+    pool: &mut JoinPool,
     made: Vec<RelRow>,
     one: &[Term],
     right: &[RelRow],
@@ -55,7 +58,16 @@ fn with_places(
     let mut more = made;
     for i in 0..places.len() {
         let place = places[i];
-        more = with_join(alloc, sig, more, one, right[place].terms(), pairs, keep)?;
+        more = with_join_in(
+            alloc,
+            sig,
+            pool,
+            more,
+            one,
+            right[place].terms(),
+            pairs,
+            keep,
+        )?;
     }
     Ok(more)
 }
@@ -65,6 +77,7 @@ fn with_places(
 fn with_meeting(
     alloc: Global,
     sig: &Signature,
+    pool: &mut JoinPool,
     made: Vec<RelRow>,
     one: &[Term],
     right: &[RelRow],
@@ -82,13 +95,13 @@ fn with_meeting(
     match head_at(one, first.0) {
         Some(head) => {
             let free = heads.free.as_slice();
-            let more = with_places(alloc, sig, made, one, right, free, pairs, keep)?;
+            let more = with_places(alloc, sig, pool, made, one, right, free, pairs, keep)?;
             let own = heads.places_of(head);
-            let all = with_places(alloc, sig, more, one, right, own, pairs, keep)?;
+            let all = with_places(alloc, sig, pool, more, one, right, own, pairs, keep)?;
             Ok(all)
         }
         None => {
-            let all = with_joins(alloc, sig, made, one, right, pairs, keep)?;
+            let all = with_joins(alloc, sig, pool, made, one, right, pairs, keep)?;
             Ok(all)
         }
     }
@@ -106,9 +119,10 @@ fn plain_joins(
     requires { MayJoin sig.now left.now right.now pairs.now keep.now }
     ensures { IfOk result (λ made. AreJoined sig.now pairs.now keep.now (all_pairs left.now right.now) made.items) }
 {
+    let mut pool = JoinPool::new(alloc);
     let mut made = Vec::new(alloc);
     for one in left {
-        made = with_joins(alloc, sig, made, one.terms(), right, pairs, keep)?;
+        made = with_joins(alloc, sig, &mut pool, made, one.terms(), right, pairs, keep)?;
     }
     Ok(made)
 }
@@ -128,11 +142,13 @@ fn indexed_joins(
     ensures { IfOk result (λ made. AreJoined sig.now pairs.now keep.now (all_pairs left.now right.now) made.items) }
 {
     let heads = heads_of(alloc, right, first.1)?;
+    let mut pool = JoinPool::new(alloc);
     let mut made = Vec::new(alloc);
     for one in left {
         made = with_meeting(
             alloc,
             sig,
+            &mut pool,
             made,
             one.terms(),
             right,

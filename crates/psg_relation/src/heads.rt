@@ -43,7 +43,7 @@ impl Heads {
 }
 
 /// Returns the constructor at the head of a term, or `None` for a variable.
-fn head_of(term: &Term) -> Option<u32>
+pub fn head_of(term: &Term) -> Option<u32>
     ensures { result ≡ head_of term.now }
 {
     match term.node() {

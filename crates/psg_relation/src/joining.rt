@@ -1,46 +1,52 @@
 //! Joins of relations.
-ghost use Rattle.std.specs.Prelude.{◌≡◌, ◌+◌, ◌<◌, ◌++◌, All, IfOk, IfErr, List, ℕ, MatchOption, length};
+ghost use Rattle.std.specs.Prelude.{◌≡◌, ◌+◌, ◌<◌, ◌++◌, All, IfOk, IfErr, List, ℕ, length};
 ghost use Rattle.psg_terms.specs.Terms.{Term as Plain};
-ghost use Rattle.psg_terms.specs.Signature.{HaveSorts};
-ghost use Rattle.psg_terms.specs.Instances.{HasSameInstances};
-ghost use Rattle.psg_terms.specs.Canonical.{AreWrittenOut};
-ghost use Rattle.psg_terms.specs.Relations.{IsIn, IsRelation, IsGlued};
+ghost use Rattle.psg_terms.specs.Relations.{IsRelation, IsGlued};
 ghost use Rattle.psg_terms.specs.Weight.{PassesLimit};
 ghost use Rattle.psg_unify.specs.Pairs.{AreJoinable};
 ghost use Rattle.psg_relation.specs.Choices.{AllHaveSorts, Agrees, HasWide, MayBeWide, picked};
-ghost use Rattle.psg_relation.specs.Sealed.{IsReady};
-ghost use Rattle.psg_relation.specs.Joining.{Joins, IsJoinOf, IsMore, MayJoin};
+ghost use Rattle.psg_relation.specs.Joining.{IsJoint, IsMore, MayJoin};
+ghost use Rattle.psg_relation.specs.Settling.{AreSettled};
 
+use crate::beside::{any_value, beside, is_any_value};
 use crate::crossing::all_joins;
-use crate::projection::kept_columns;
+use crate::forcing::{fill_all, forced_pairs};
+use crate::narrowing::narrowed;
 use crate::relation::{Rel, RelFault, relation_of};
 use crate::row::RelRow;
-use crate::weighing::is_heavy;
-use psg_terms::canonical::canonical;
+use crate::settling::settled_pairs;
+use crate::weighing::{MOST_SYMBOLS, row_weight};
 use psg_terms::{Signature, Term};
-use psg_unify::join_rows;
+use psg_unify::JoinPool;
 use std::alloc::{AllocError, Global};
 
-/// Returns the row with canonical numbers, unless it is too large for a relation: then it is left as it is, and not
-/// written out.
-fn made_ready(alloc: Global, sig: &Signature, columns: RelRow) -> Result<RelRow, AllocError>
-    requires terms { (sorts : List ℕ) × HaveSorts sig.now columns sorts }
-    requires written { AreWrittenOut sig.now columns }
-    ensures ready { IfOk result (λ row. IsReady sig.now row) }
-    ensures same { IfOk result (λ row. HasSameInstances sig.now row columns) }
-    ensures sorted { IfOk result (λ row. (ss : List ℕ) → HaveSorts sig.now columns ss → HaveSorts sig.now row ss) }
-{
-    if is_heavy(&columns) {
-        return Ok(columns);
-    }
-    let form = canonical(alloc, sig, columns.terms())?;
-    Ok(RelRow::new(form))
-}
-
-/// Returns the kept columns of the join of two rows, where they can be made to agree.
-fn joined_row(
+/// Returns the kept columns of two rows that agree on the pairs for all values of their variables, or nothing where
+/// they agree for none.
+fn settled_row(
     alloc: Global,
     sig: &Signature,
+    left: &[Term],
+    right: &[Term],
+    pairs: &[(usize, usize)],
+    keep: &[usize],
+    equal: bool,
+) -> Result<Option<RelRow>, AllocError>
+    requires joinable { AreJoinable sig.now left.now right.now pairs.now }
+    requires settled { AreSettled left.now right.now pairs.now equal }
+    ensures { IfOk result (λ o. IsJoint sig.now pairs.now keep.now left.now right.now o) }
+{
+    if equal {
+        let row = beside(alloc, sig, left, right, pairs, keep)?;
+        return Ok(Some(row));
+    }
+    Ok(None)
+}
+
+/// Returns the kept columns of the join of two rows. What does not show at once is solved.
+fn solved_row(
+    alloc: Global,
+    sig: &Signature,
+    pool: &mut JoinPool,
     left: &[Term],
     right: &[Term],
     pairs: &[(usize, usize)],
@@ -48,17 +54,109 @@ fn joined_row(
 ) -> Result<Option<RelRow>, AllocError>
     requires joinable { AreJoinable sig.now left.now right.now pairs.now }
     requires keep { All (λ k. k < length left.now + length right.now) keep.now }
-    ensures { IfOk result (λ o. MatchOption o
-        ((x : List Plain) → Joins sig.now pairs.now keep.now left.now right.now x → ⊥)
-        (λ row. IsJoinOf sig.now pairs.now keep.now left.now right.now row)) }
+    ensures { IfOk result (λ o. IsJoint sig.now pairs.now keep.now left.now right.now o) }
 {
-    match join_rows(alloc, sig, left, right, pairs)? {
-        Some(joined) => {
-            let columns = kept_columns(alloc, joined.as_slice(), keep)?;
-            let row = made_ready(alloc, sig, columns)?;
-            Ok(Some(row))
+    match settled_pairs(left, right, pairs) {
+        Some(equal) => {
+            let row = settled_row(alloc, sig, left, right, pairs, keep, equal)?;
+            Ok(row)
         }
-        None => Ok(None),
+        None => {
+            let row = narrowed(alloc, sig, pool, left, right, pairs, keep)?;
+            Ok(row)
+        }
+    }
+}
+
+/// Says whether one of the rows has more variables and constructors than a relation can have.
+fn is_large(left: &[Term], right: &[Term]) -> bool {
+    row_weight(left) > MOST_SYMBOLS || row_weight(right) > MOST_SYMBOLS
+}
+
+/// Returns the kept columns of the join of two rows. Variables that are paired with terms without variables are
+/// replaced by these first, unless a row gets too large for a relation by that: such a row would be compared place by
+/// place, and the rows as they are need not be.
+fn forced_row(
+    alloc: Global,
+    sig: &Signature,
+    pool: &mut JoinPool,
+    left: &[Term],
+    right: &[Term],
+    pairs: &[(usize, usize)],
+    keep: &[usize],
+) -> Result<Option<RelRow>, AllocError>
+    requires joinable { AreJoinable sig.now left.now right.now pairs.now }
+    requires keep { All (λ k. k < length left.now + length right.now) keep.now }
+    ensures { IfOk result (λ o. IsJoint sig.now pairs.now keep.now left.now right.now o) }
+{
+    let forced = forced_pairs(alloc, sig, left, right, pairs)?;
+    let lefts = forced.left.as_slice();
+    let rights = forced.right.as_slice();
+    let one = fill_all(alloc, lefts, left)?;
+    let other = fill_all(alloc, rights, right)?;
+    let first = one.as_slice();
+    let second = other.as_slice();
+    if is_large(first, second) {
+        return narrowed(alloc, sig, pool, left, right, pairs, keep);
+    }
+    let row = solved_row(alloc, sig, pool, first, second, pairs, keep)?;
+    Ok(row)
+}
+
+/// Returns the kept columns of the join of two rows, where they can be made to agree. Rows with different constructors
+/// at the heads of a pair, and those whose paired columns have no variables, need nothing to be made but the row.
+fn joined_row(
+    alloc: Global,
+    sig: &Signature,
+    pool: &mut JoinPool,
+    left: &[Term],
+    right: &[Term],
+    pairs: &[(usize, usize)],
+    keep: &[usize],
+) -> Result<Option<RelRow>, AllocError>
+    requires joinable { AreJoinable sig.now left.now right.now pairs.now }
+    requires keep { All (λ k. k < length left.now + length right.now) keep.now }
+    ensures { IfOk result (λ o. IsJoint sig.now pairs.now keep.now left.now right.now o) }
+{
+    if is_any_value(left, right, pairs, keep) {
+        let row = any_value(alloc, sig, left, right, pairs, keep)?;
+        return Ok(Some(row));
+    }
+    match settled_pairs(left, right, pairs) {
+        Some(equal) => {
+            let row = settled_row(alloc, sig, left, right, pairs, keep, equal)?;
+            Ok(row)
+        }
+        None => {
+            let row = forced_row(alloc, sig, pool, left, right, pairs, keep)?;
+            Ok(row)
+        }
+    }
+}
+
+/// Returns the rows, and after them the join of two rows, where they can be made to agree. It solves in the pool what
+/// has to be solved.
+pub fn with_join_in(
+    alloc: Global,
+    sig: &Signature,
+    pool: &mut JoinPool,
+    made: Vec<RelRow>,
+    left: &[Term],
+    right: &[Term],
+    pairs: &[(usize, usize)],
+    keep: &[usize],
+) -> Result<Vec<RelRow>, AllocError>
+    requires joinable { AreJoinable sig.now left.now right.now pairs.now }
+    requires keep { All (λ k. k < length left.now + length right.now) keep.now }
+    ensures { IfOk result (λ more. IsMore sig.now pairs.now keep.now left.now right.now made.items more.items) }
+{
+    match joined_row(alloc, sig, pool, left, right, pairs, keep)? {
+        Some(row) => {
+            let mut more = made;
+            more.push(row)?;
+            Ok(more)
+        }
+        None => Ok(made),
     }
 }
 
@@ -76,14 +174,9 @@ pub fn with_join(
     requires keep { All (λ k. k < length left.now + length right.now) keep.now }
     ensures { IfOk result (λ more. IsMore sig.now pairs.now keep.now left.now right.now made.items more.items) }
 {
-    match joined_row(alloc, sig, left, right, pairs, keep)? {
-        Some(row) => {
-            let mut more = made;
-            more.push(row)?;
-            Ok(more)
-        }
-        None => Ok(made),
-    }
+    let mut pool = JoinPool::new(alloc);
+    let more = with_join_in(alloc, sig, &mut pool, made, left, right, pairs, keep)?;
+    Ok(more)
 }
 
 /// Returns the relation of what the rows of both sides make where they agree on the pairs of columns, each a column of
@@ -91,13 +184,13 @@ pub fn with_join(
 /// `keep` are kept, in this order.
 ///
 /// `Wide` is returned exactly where this relation has more than 16,384 variables and constructors or a term deeper than
-/// 1,000; a joined row that alone is too large does not count where it is an instance of another one, and is not
-/// written out. `Memory` is returned as in `Rel::of`, and where more than 10,000 constructors are nested in what has to
-/// be compared or written.
+/// 1,000; a joined row that alone is too large does not count where it is an instance of another one, and its text is
+/// not written. `Memory` is returned as in `Rel::of`.
 ///
 /// It joins each row of the one side with those rows of the other side that have the same constructor at the head of
-/// the first paired column, or a variable there, and then costs as `Rel::of` does. A row with a variable there, and a
-/// row where there are no pairs, is joined with each row of the other side.
+/// the first paired column, or a variable there. A row with a variable there, and a row where there are no pairs, is
+/// joined with each row of the other side. A join goes over both rows and shares what it makes. After the joins the
+/// cost is that of `Rel::of`.
 pub fn join(
     alloc: Global,
     sig: &Signature,

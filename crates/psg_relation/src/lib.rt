@@ -16,16 +16,20 @@
 //! - A `Rel` has at most 16,384 variables and constructors, and no term in it is deeper than 1,000.
 #![tactic(auto)]
 
+mod beside;
 mod crossing;
+mod forcing;
 mod heads;
 pub mod joining;
 pub mod laws;
 mod maximal;
+mod narrowing;
 mod order;
 pub mod projection;
 pub mod relation;
 pub mod row;
 pub mod selecting;
+mod settling;
 mod sifting;
 mod weighing;
 

@@ -75,7 +75,8 @@ impl Rel {
     ///
     /// `Wide` is returned exactly where this relation has more than 16,384 variables and constructors or a term deeper
     /// than 1,000; a row that alone is too large does not count where it is an instance of another one. `Memory` is
-    /// returned when memory runs out.
+    /// returned when memory runs out, and where a row too large for a relation repeats a variable of another row by two
+    /// equally large terms of more than 2^20 variables and constructors, which are not compared.
     ///
     /// It writes each row out once, writes the text of each row that is not too large once to sort by it, and then
     /// compares each row with those of the most general ones so far that have its constructor, or a variable, at the

@@ -8,11 +8,12 @@ ghost use Rattle.psg_relation.specs.Choices.{AllHaveSorts, AllWithin, HasWide, I
 ghost use Rattle.psg_relation.specs.Joining.{AreJoined, MayMeet};
 ghost use Rattle.psg_relation.specs.Selecting.{diagonal, twins, width_of};
 
-use crate::joining::with_join;
+use crate::joining::with_join_in;
 use crate::projection::all_columns;
 use crate::relation::{Rel, RelFault, relation_of};
 use crate::row::RelRow;
 use psg_terms::Signature;
+use psg_unify::JoinPool;
 use std::alloc::{AllocError, Global};
 
 /// Returns how many columns the rows have, and 0 where there is none.
@@ -26,7 +27,7 @@ fn width(rows: &[RelRow]) -> usize
 }
 
 /// Returns each column with itself, and then the pairs.
-fn with_diagonal(
+pub fn with_diagonal(
     alloc: Global,
     width: usize,
     pairs: &[(usize, usize)],
@@ -52,9 +53,19 @@ fn self_joins(
     requires { (row : List Plain) → IsIn row rows.now → MayMeet sig.now row row pairs.now keep.now }
     ensures { IfOk result (λ made. AreJoined sig.now pairs.now keep.now (twins rows.now) made.items) }
 {
+    let mut pool = JoinPool::new(alloc);
     let mut made = Vec::new(alloc);
     for row in rows {
-        made = with_join(alloc, sig, made, row.terms(), row.terms(), pairs, keep)?;
+        made = with_join_in(
+            alloc,
+            sig,
+            &mut pool,
+            made,
+            row.terms(),
+            row.terms(),
+            pairs,
+            keep,
+        )?;
     }
     Ok(made)
 }

@@ -1,152 +1,205 @@
 //! The join of two rows on pairs of columns.
-ghost use Rattle.std.specs.Prelude.{◌≡◌, ◌<◌, ◌↔◌, List, ℕ, length, IfOk, IfSome, IfNone, OnOk, IsTrue, MatchOption};
-ghost use Rattle.std.specs.Prelude.{map, ◌++◌, [], All, Any};
+ghost use Rattle.std.specs.Prelude.{◌≡◌, ◌<◌, ◌+◌, ◌↔◌, ◌++◌, All, List, ℕ, IfOk, IfSome, IfNone, OnErr, length, map};
 ghost use Rattle.psg_terms.specs.Terms.{Term as Plain};
 ghost use Rattle.psg_terms.specs.Signature.{HaveSorts};
-ghost use Rattle.psg_terms.specs.Canonical.{Variable, IsCanonical};
-ghost use Rattle.psg_terms.specs.Matching.{lookup};
-ghost use Rattle.psg_terms.specs.Renaming.{Renumbered};
-ghost use Rattle.psg_terms.specs.Instances.{IsGroundInstance, Substitution, substitute};
-ghost use Rattle.psg_terms.specs.Weight.{depth_of};
-ghost use Rattle.psg_unify.specs.Agreement.{IsJoinable, MakesAgree, Disjoint, IsFound};
-ghost use Rattle.psg_unify.specs.Memories.{has_pair, Gives};
+ghost use Rattle.psg_terms.specs.Canonical.{IsCanonical};
+ghost use Rattle.psg_terms.specs.Instances.{IsGroundInstance, HasSameInstances};
+ghost use Rattle.psg_pool.specs.Cells.{IsAmong};
+ghost use Rattle.psg_pool.specs.Bindings.{IsSound};
 ghost use Rattle.psg_unify.specs.Pairs.{AreJoinable, IsAgreeing};
-ghost use Rattle.psg_unify.specs.Solving.{Resolves};
+ghost use Rattle.psg_unify.specs.Columns.{picked, Joins};
+ghost use Rattle.psg_unify.specs.Fitting.{Fits};
+ghost use Rattle.psg_unify.specs.Reading.{Reading, IsReading};
+ghost use Rattle.psg_unify.specs.Solved.{IsGrown};
 
-use crate::equations::{Solution, unify};
-use crate::writing::{Written, write_all};
-use indexmap::IndexSet;
-use psg_terms::canonical::{Key, renumbered};
+use crate::reading::read_row;
+use crate::regions::solve_in;
+use psg_pool::{CellId, Pool};
 use psg_terms::{Signature, Term};
 use std::alloc::{AllocError, Global};
-use std::collections::HashMap;
+use std::marker::Model;
 
-/// How many constructors may be nested. The functions that walk terms call themselves once for each, so this keeps the
-/// program from running out of stack.
-const DEPTH: u32 = 10_000;
-
-/// Says whether a term of the row has too many constructors nested.
-fn is_deep(row: &[Term]) -> bool
-    ensures { IsTrue result ↔ Any (λ t. 10000 < depth_of t) row.now }
-{
-    for term in row {
-        if term.depth() > DEPTH as u64 {
-            return true;
-        }
-    }
-    false
-}
-
-/// Says whether the table, with more variables bound, makes the rows agree on the pairs.
-fn unify_pairs(
-    alloc: Global,
-    solution: &mut Solution,
-    left: &[Term],
-    right: &[Term],
-    pairs: &[(usize, usize)],
-) -> Result<bool, AllocError>
-    requires { All (λ p. (p.0 < length left.now) × (p.1 < length right.now)) pairs.now }
-    ensures { IfOk result (λ d. Gives d (lookup solution.old.table) (lookup solution.new.table)
-        (has_pair solution.old.equal) (has_pair solution.new.equal)
-        (IsJoinable left.now right.now pairs.now) (MakesAgree left.now right.now pairs.now)) }
-{
-    for i in 0..pairs.len() {
-        let pair = pairs[i];
-        if !unify(alloc, DEPTH, solution, &left[pair.0], &right[pair.1])? {
-            return Ok(false);
-        }
-    }
-    Ok(true)
-}
-
-/// Puts one more owner of each of the terms after what there is.
-fn push_shared(both: &mut Vec<Term>, row: &[Term]) -> Result<(), AllocError>
-    ensures { OnOk result (both.new.items ≡ both.old.items ++ row.now) }
-{
-    for term in row {
-        both.push(term.share()?)?;
-    }
-    Ok(())
-}
-
-/// Returns the two rows one after the other, with canonical numbers. Where they have these already, it makes no term.
-fn side_by_side(
+/// Returns the join of two rows as `join_rows` makes it, solved in the pool. What was put and bound there stays, so
+/// that the caller, who took a mark before, releases it. After `None` and after `AllocError` the pool is as it was.
+pub fn join_rows_in(
     alloc: Global,
     sig: &Signature,
-    left: &[Term],
-    right: &[Term],
-) -> Result<Vec<Term>, AllocError>
-    ensures { IfOk result (λ row. (known : List Variable)
-        × Renumbered sig.now 0 [] known (left.now ++ right.now) row.items) }
-{
-    let mut both = Vec::with_capacity(alloc, left.len())?;
-    push_shared(&mut both, left)?;
-    push_shared(&mut both, right)?;
-    let (copies, _count) = renumbered(alloc, sig, 0, both.as_slice())?;
-    Ok(copies)
-}
-
-/// Returns the two rows one after the other, with the bound variables written out and canonical numbers, by a table of
-/// what was written.
-fn numbered_out(
-    alloc: Global,
-    sig: &Signature,
-    table: &HashMap<Key, Term>,
-    left: &[Term],
-    right: &[Term],
-) -> Result<Vec<Term>, AllocError>
-    ensures { IfOk result (λ row. (f : Substitution) → Resolves f (lookup table.now)
-        → (known : List Variable) × Renumbered sig.now 0 [] known
-        (map (substitute f) (left.now ++ right.now)) row.items) }
-{
-    let mut written = Written {
-        known: IndexSet::new(alloc),
-        memory: HashMap::new(alloc),
-    };
-    let mut row = Vec::new(alloc);
-    write_all(alloc, DEPTH, sig, table, &mut written, left, &mut row)?;
-    write_all(alloc, DEPTH, sig, table, &mut written, right, &mut row)?;
-    Ok(row)
-}
-
-/// Returns the two rows one after the other, with the bound variables written out and canonical numbers.
-fn written_out(
-    alloc: Global,
-    sig: &Signature,
-    table: &HashMap<Key, Term>,
-    left: &[Term],
-    right: &[Term],
-) -> Result<Vec<Term>, AllocError>
-    ensures { IfOk result (λ row. (f : Substitution) → Resolves f (lookup table.now)
-        → (known : List Variable) × Renumbered sig.now 0 [] known
-        (map (substitute f) (left.now ++ right.now)) row.items) }
-{
-    if table.is_empty() {
-        let beside = side_by_side(alloc, sig, left, right)?;
-        return Ok(beside);
-    }
-    let row = numbered_out(alloc, sig, table, left, right)?;
-    Ok(row)
-}
-
-/// Returns both rows solved on the pairs, one after the other, where they can be made to agree.
-fn solved(
-    alloc: Global,
-    sig: &Signature,
+    pool: &mut Pool,
     left: &[Term],
     right: &[Term],
     pairs: &[(usize, usize)],
 ) -> Result<Option<Vec<Term>>, AllocError>
-    requires { All (λ p. (p.0 < length left.now) × (p.1 < length right.now)) pairs.now }
-    ensures { IfOk result (λ o. MatchOption o (Disjoint left.now right.now pairs.now)
-        (λ row. IsFound sig.now left.now right.now pairs.now row.items)) }
+    requires joinable { AreJoinable sig.now left.now right.now pairs.now }
+    requires fits { Fits sig.now pool.old }
+    ensures canonical { IfOk result (λ o. IfSome o (λ row. IsCanonical sig.now row.items)) }
+    ensures exact { IfOk result (λ o. IfSome o (λ row. (values : List Plain)
+        → IsGroundInstance sig.now row.items values ↔ IsAgreeing sig.now left.now right.now pairs.now values)) }
+    ensures some { IfOk result (λ o. IfSome o (λ row. (values : List Plain)
+        × IsAgreeing sig.now left.now right.now pairs.now values)) }
+    ensures none { IfOk result (λ o. IfNone o ((values : List Plain)
+        → IsAgreeing sig.now left.now right.now pairs.now values → ⊥)) }
+    ensures sorted { IfOk result (λ o. IfSome o (λ row. (ls rs : List ℕ)
+        → HaveSorts sig.now left.now ls → HaveSorts sig.now right.now rs → HaveSorts sig.now row.items (ls ++ rs))) }
+    ensures grown { IfOk result (λ o. IfSome o (λ _. IsGrown pool.old pool.new)) }
+    ensures fits { IfOk result (λ o. IfSome o (λ _. Fits sig.now pool.new)) }
+    ensures back { IfOk result (λ o. IfNone o (pool.new ≡ pool.old)) }
+    ensures err { OnErr result (pool.new ≡ pool.old) }
+    ensures sound { IsSound pool.new }
 {
-    let mut solution = Solution::new(alloc);
-    if !unify_pairs(alloc, &mut solution, left, right, pairs)? {
-        return Ok(None);
+    sig.sound();
+    let mark = pool.mark();
+    let solved = solve_in(alloc, sig, pool, left, right, pairs)?;
+    match solved {
+        Some(cells) => match read_row(alloc, sig, pool, cells.as_slice()) {
+            Ok(row) => Ok(Some(row)),
+            Err(error) => {
+                pool.release(mark);
+                Err(error)
+            }
+        },
+        None => Ok(None),
     }
-    let row = written_out(alloc, sig, &solution.table, left, right)?;
-    Ok(Some(row))
+}
+
+/// Returns the canonical row of some of the cells, in the order of their places.
+fn read_picked(
+    alloc: Global,
+    sig: &Signature,
+    pool: &Pool,
+    cells: &[CellId],
+    keep: &[usize],
+) -> Result<Vec<Term>, AllocError>
+    requires fits { Fits sig.now pool.now }
+    requires among { All (IsAmong pool.now.cells) cells.now }
+    requires keep { All (λ k. k < length cells.now) keep.now }
+    ensures canonical { IfOk result (λ row. IsCanonical sig.now row.items) }
+    ensures same { IfOk result (λ row. (read : Reading) → IsReading pool.now read
+        → HasSameInstances sig.now row.items (picked (map read cells.now) keep.now)) }
+    ensures sorted { IfOk result (λ row. (read : Reading) → IsReading pool.now read
+        → (sorts : List ℕ) → HaveSorts sig.now (map read cells.now) sorts
+        → HaveSorts sig.now row.items (picked sorts keep.now)) }
+{
+    let some = picked_cells(alloc, cells, keep)?;
+    let row = read_row(alloc, sig, pool, some.as_slice())?;
+    Ok(row)
+}
+
+/// Returns the cells at these places.
+fn picked_cells(alloc: Global, cells: &[CellId], keep: &[usize]) -> Result<Vec<CellId>, AllocError>
+    requires { All (λ k. k < length cells.now) keep.now }
+    ensures { IfOk result (λ v. v.items ≡ picked cells.now keep.now) }
+{
+    let mut some = Vec::with_capacity(alloc, keep.len())?;
+    for i in 0..keep.len() {
+        let place = keep[i];
+        some.push(cells[place])?;
+    }
+    Ok(some)
+}
+
+/// Returns the columns of the numbers in `keep`, in this order, of the row that `join_rows` makes: canonical, and with
+/// no other column written out. It is solved in the pool. What was put and bound there stays, so that the caller, who
+/// took a mark before, releases it. After `None` and after `AllocError` the pool is as it was.
+pub fn join_in(
+    alloc: Global,
+    sig: &Signature,
+    pool: &mut Pool,
+    left: &[Term],
+    right: &[Term],
+    pairs: &[(usize, usize)],
+    keep: &[usize],
+) -> Result<Option<Vec<Term>>, AllocError>
+    requires joinable { AreJoinable sig.now left.now right.now pairs.now }
+    requires keep { All (λ k. k < length left.now + length right.now) keep.now }
+    requires fits { Fits sig.now pool.old }
+    ensures canonical { IfOk result (λ o. IfSome o (λ row. IsCanonical sig.now row.items)) }
+    // The row's ground instances are exactly the kept columns of those of both rows that agree.
+    ensures exact { IfOk result (λ o. IfSome o (λ row. (x : List Plain)
+        → IsGroundInstance sig.now row.items x ↔ Joins sig.now pairs.now keep.now left.now right.now x)) }
+    ensures none { IfOk result (λ o. IfNone o ((values : List Plain)
+        → IsAgreeing sig.now left.now right.now pairs.now values → ⊥)) }
+    ensures sorted { IfOk result (λ o. IfSome o (λ row. (ls rs : List ℕ)
+        → HaveSorts sig.now left.now ls → HaveSorts sig.now right.now rs
+        → HaveSorts sig.now row.items (picked (ls ++ rs) keep.now))) }
+    ensures grown { IfOk result (λ o. IfSome o (λ _. IsGrown pool.old pool.new)) }
+    ensures fits { IfOk result (λ o. IfSome o (λ _. Fits sig.now pool.new)) }
+    ensures back { IfOk result (λ o. IfNone o (pool.new ≡ pool.old)) }
+    ensures err { OnErr result (pool.new ≡ pool.old) }
+    ensures sound { IsSound pool.new }
+{
+    sig.sound();
+    let mark = pool.mark();
+    let solved = solve_in(alloc, sig, pool, left, right, pairs)?;
+    match solved {
+        Some(cells) => match read_picked(alloc, sig, pool, cells.as_slice(), keep) {
+            Ok(row) => Ok(Some(row)),
+            Err(error) => {
+                pool.release(mark);
+                Err(error)
+            }
+        },
+        None => Ok(None),
+    }
+}
+
+/// An empty pool in which rows are joined, one pair after the other. It keeps its memory from one to the next.
+#[derive(Drop)]
+pub struct JoinPool {
+    pool: Pool,
+}
+
+impl Model for JoinPool {
+    ghost use Rattle.std.specs.Prelude.{◌≡◌, []};
+    ghost use Rattle.psg_pool.specs.Bindings.{Kept};
+
+    ghost Value = { Kept };
+
+    ghost view = { λ p. p.pool };
+
+    ghost invariant = { λ p. (p.pool.cells ≡ []) × (p.pool.bindings ≡ []) };
+}
+
+impl JoinPool {
+    /// Makes an empty pool. It takes no memory itself.
+    pub fn new(alloc: Global) -> JoinPool {
+        JoinPool {
+            pool: Pool::new(alloc),
+        }
+    }
+
+    /// Returns the columns of the numbers in `keep`, in this order, of the row that `join_rows` makes: canonical, and
+    /// with no other column written out. `None` and errors are returned as there.
+    pub fn join(
+        &mut self,
+        alloc: Global,
+        sig: &Signature,
+        left: &[Term],
+        right: &[Term],
+        pairs: &[(usize, usize)],
+        keep: &[usize],
+    ) -> Result<Option<Vec<Term>>, AllocError>
+        requires joinable { AreJoinable sig.now left.now right.now pairs.now }
+        requires keep { All (λ k. k < length left.now + length right.now) keep.now }
+        ensures canonical { IfOk result (λ o. IfSome o (λ row. IsCanonical sig.now row.items)) }
+        // The row's ground instances are exactly the kept columns of those of both rows that agree.
+        ensures exact { IfOk result (λ o. IfSome o (λ row. (x : List Plain)
+            → IsGroundInstance sig.now row.items x ↔ Joins sig.now pairs.now keep.now left.now right.now x)) }
+        ensures none { IfOk result (λ o. IfNone o ((values : List Plain)
+            → IsAgreeing sig.now left.now right.now pairs.now values → ⊥)) }
+        ensures sorted { IfOk result (λ o. IfSome o (λ row. (ls rs : List ℕ)
+            → HaveSorts sig.now left.now ls → HaveSorts sig.now right.now rs
+            → HaveSorts sig.now row.items (picked (ls ++ rs) keep.now))) }
+    {
+        let mark = self.pool.mark();
+        let joined = join_in(alloc, sig, &mut self.pool, left, right, pairs, keep)?;
+        match joined {
+            Some(row) => {
+                self.pool.release(mark);
+                Ok(Some(row))
+            }
+            None => Ok(None),
+        }
+    }
 }
 
 /// Returns the most general row that two rows make where they agree on pairs of columns: the left columns and then the
@@ -154,15 +207,12 @@ fn solved(
 /// pair is a column of the left row and one of the right row, each from 0. The rows' variables are apart, also where
 /// they have equal numbers.
 ///
-/// It reads each place of both rows a few times, and looks a variable up in a hash table at each. Two bound variables
-/// are compared once, chains of variables are no longer than the logarithm of their number, and what a bound variable
-/// is replaced by is written once and then shared. So chains of equations are solved in time near linear in the rows,
-/// also where the row would be exponentially large in print. When a variable is bound to a constructor, its term is
-/// searched for it; where many variables are bound to large terms, that takes the product of both numbers.
+/// Each place of both rows is put into a pool once. Chains of equations are solved in time near linear in what was put,
+/// also where the row would be exponentially large in print: each cell is written once and then shared. Terms are
+/// walked with stacks on the heap. Only a term that is dropped or compared is walked by calls, as deep as it is nested;
+/// 150,000 nested constructors were tried on a stack of 8 MB, and a join of rows of two relations has at most 32,768.
 ///
-/// `AllocError` is returned when memory runs out, where 32 bits do not count the variables, and where more than 10,000
-/// constructors are nested in a row or in what has to be compared. Two rows whose join is at most 10,000 deep do not
-/// meet this bound.
+/// `AllocError` is returned when memory runs out, and where 32 bits do not count the cells.
 pub fn join_rows(
     alloc: Global,
     sig: &Signature,
@@ -182,12 +232,14 @@ pub fn join_rows(
     ensures sorted { IfOk result (λ o. IfSome o (λ row. (ls rs : List ℕ)
         → HaveSorts sig.now left.now ls → HaveSorts sig.now right.now rs → HaveSorts sig.now row.items (ls ++ rs))) }
 {
-    sig.sound();
-    if is_deep(left) || is_deep(right) {
-        return Err(AllocError);
+    let mut pool = Pool::new(alloc);
+    let mark = pool.mark();
+    let joined = join_rows_in(alloc, sig, &mut pool, left, right, pairs)?;
+    match joined {
+        Some(row) => {
+            pool.release(mark);
+            Ok(Some(row))
+        }
+        None => Ok(None),
     }
-    let first = renumbered(alloc, sig, 0, left)?;
-    let second = renumbered(alloc, sig, first.1, right)?;
-    let row = solved(alloc, sig, &first.0, &second.0, pairs)?;
-    Ok(row)
 }

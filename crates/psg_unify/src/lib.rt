@@ -5,20 +5,27 @@
 //! let joined = join_rows(alloc, &sig, left.as_slice(), right.as_slice(), &[(1, 0)])?;
 //! ```
 //!
-//! Both rows get numbers apart. The pairs are solved over a table from variables to terms in which a term is kept as it
-//! was given, so nothing is copied until the solved row is written out, and then each bound variable is written once
-//! and shared.
+//! Both rows are put into a pool as cells, each variable a free one, and the pairs are equations of cells. Solving
+//! binds free cells and joins classes of equal constructor cells, so nothing is copied; then one walk looks for
+//! circles, and another one writes the row, each cell once.
 //!
 //! What always holds:
-//! - The table has no circle: some substitution writes all bound variables out.
-//! - Each step keeps exactly those solutions for which its equation holds.
-//! - What a search, a comparison or the writing remembers holds for every solution.
+//! - A pool fits the signature: its cells have sorts, and none leads back to itself. So each cell reads as one term.
+//! - Each step of the solver keeps exactly those values of the cells for which its equation holds.
+//! - `solve_in`, `join_rows_in` and `join_in` leave what they put and bound in the pool, and the caller releases it.
+//!   Where there is no join, and after an error, the pool is as it was. All other calls leave it as it was.
 #![tactic(auto)]
 
-mod chains;
-mod circle;
-mod equations;
+mod circles;
+mod classes;
 mod join;
-mod writing;
+mod making;
+mod putting;
+mod reading;
+mod regions;
+mod solving;
+mod walking;
 
-pub use join::join_rows;
+pub use join::{JoinPool, join_in, join_rows, join_rows_in};
+pub use reading::read_row;
+pub use regions::solve_in;

@@ -122,6 +122,6 @@ fn nested_size(alloc: Global, count: usize) -> Result<u64, AllocError> {
 #[test]
 fn deep_terms(rt: HostRuntime) -> Result<(), Fail> {
     assert_eq!(rt; nested_size(rt.alloc(), 9_000)?, 9_001);
-    assert!(rt; nested_size(rt.alloc(), 10_000).is_err());
+    assert_eq!(rt; nested_size(rt.alloc(), 32_768)?, 32_769);
     Ok(())
 }

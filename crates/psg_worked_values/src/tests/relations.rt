@@ -23,7 +23,7 @@ fn all_sorted(sig: &Signature, rows: &[RelRow], sorts: &[SortId]) -> bool
 }
 
 /// Whether the columns are below the number.
-fn within(count: usize, keep: &[usize]) -> bool
+pub(super) fn within(count: usize, keep: &[usize]) -> bool
     ensures { IsTrue result → All (λ k. k < count) keep.now }
 {
     for place in keep {

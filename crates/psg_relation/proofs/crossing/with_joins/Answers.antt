@@ -5,13 +5,13 @@ use Rattle.psg_relation.proofs.Members.{in-at}
 use Rattle.psg_relation.proofs.Meeting.{each_step}
 use Rattle.psg_relation.proofs.crossing.with_joins.Goals as goal
 
-pub with_join-requires-clause-joinable : goal.with_join-requires-clause-joinable
-with_join-requires-clause-joinable c =
+pub with_join_in-requires-clause-joinable : goal.with_join_in-requires-clause-joinable
+with_join_in-requires-clause-joinable c =
     subst (λ r. AreJoinable c.args.sig.now c.args.one.now r c.args.pairs.now) (sym c.terms.ensures)
     (c.requires c.other-item.result (in-at c.other-item.result c.args.right.now c.loop-other.other-index c.loop-other-test.true c.other-item.is)).joinable
 
-pub with_join-requires-clause-keep : goal.with_join-requires-clause-keep
-with_join-requires-clause-keep c =
+pub with_join_in-requires-clause-keep : goal.with_join_in-requires-clause-keep
+with_join_in-requires-clause-keep c =
     subst (λ r. All (λ (k : ℕ). k < length c.args.one.now + length r) c.args.keep.now) (sym c.terms.ensures)
     (c.requires c.other-item.result (in-at c.other-item.result c.args.right.now c.loop-other.other-index c.loop-other-test.true c.other-item.is)).within
 

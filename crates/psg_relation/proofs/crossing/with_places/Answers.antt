@@ -8,16 +8,16 @@ use Rattle.psg_relation.proofs.Indexing.{get-at, one_crossed}
 use Rattle.psg_relation.proofs.Members.{at-any, in-at}
 use Rattle.psg_relation.proofs.crossing.with_places.Goals as goal
 
-pub with_join-requires-clause-joinable : goal.with_join-requires-clause-joinable
-with_join-requires-clause-joinable c =
+pub with_join_in-requires-clause-joinable : goal.with_join_in-requires-clause-joinable
+with_join_in-requires-clause-joinable c =
     let right = c.args.right.now in
     let place : ℕ = slice_index_or c.args.places.now c.loop-i.i 0 in
     let within = All-get_or (λ (k : ℕ). k < length right) c.args.places.now c.loop-i.i 0 c.loop-i-test.true c.requires.within in
     subst (λ r. AreJoinable c.args.sig.now c.args.one.now r c.args.pairs.now) (sym c.terms.ensures)
     (c.requires.meet c.index-right-place.result (in-at c.index-right-place.result right place within c.index-right-place.is)).joinable
 
-pub with_join-requires-clause-keep : goal.with_join-requires-clause-keep
-with_join-requires-clause-keep c =
+pub with_join_in-requires-clause-keep : goal.with_join_in-requires-clause-keep
+with_join_in-requires-clause-keep c =
     let right = c.args.right.now in
     let place : ℕ = slice_index_or c.args.places.now c.loop-i.i 0 in
     let within = All-get_or (λ (k : ℕ). k < length right) c.args.places.now c.loop-i.i 0 c.loop-i-test.true c.requires.within in

@@ -1,6 +1,6 @@
 use Rattle.std.proofs.Common.{◌≡◌, ◌<◌, ◌∷◌, ◌++◌, [], ℕ, length, slice_index_or}
 use Rattle.std.proofs.lemmas.List.Elements.{All-get_or}
-use Rattle.psg_unify.proofs.Joining.{column}
+use Rattle.psg_unify.proofs.Theorem.{column}
 use Rattle.psg_relation.proofs.Members.{at-any}
 use Rattle.psg_relation.proofs.Columns.{picked-more}
 use Rattle.psg_relation.proofs.projection.kept_columns.Goals as goal

@@ -6,16 +6,16 @@ use Rattle.psg_relation.proofs.Members.{in-at}
 use Rattle.psg_relation.proofs.Selected.{twins_step}
 use Rattle.psg_relation.proofs.selecting.self_joins.Goals as goal
 
-pub with_join-requires-clause-joinable : goal.with_join-requires-clause-joinable
-with_join-requires-clause-joinable c =
+pub with_join_in-requires-clause-joinable : goal.with_join_in-requires-clause-joinable
+with_join_in-requires-clause-joinable c =
     let sig = c.args.sig.now in
     let pairs = c.args.pairs.now in
     let row : List Term = c.row-item.result in
     subst (λ r. AreJoinable sig c.terms.result.now r pairs) (sym c.terms-in-loop-row.ensures)
     (subst (λ r. AreJoinable sig r row pairs) (sym c.terms.ensures) (c.requires row (in-at row c.args.rows.now c.loop-row.row-index c.loop-row-test.true c.row-item.is)).joinable)
 
-pub with_join-requires-clause-keep : goal.with_join-requires-clause-keep
-with_join-requires-clause-keep c =
+pub with_join_in-requires-clause-keep : goal.with_join_in-requires-clause-keep
+with_join_in-requires-clause-keep c =
     let keep = c.args.keep.now in
     let row : List Term = c.row-item.result in
     subst (λ r. All (λ (k : ℕ). k < length c.terms.result.now + length r) keep) (sym c.terms-in-loop-row.ensures)

@@ -1,0 +1,326 @@
+-- Joins of two rows of which only some columns are solved.
+use Rattle.std.proofs.Common.{◌≡◌, ℕ, ◌<◌, ◌+◌, ◌≤◌, ◌↔◌, ◌⊎◌, inl, inr, Bool, true, false, cond, List, [], ◌∷◌, ◌++◌, All, map, min, length, get_or, take, zero, suc, refl, ap, ap₂, sym, ◌∙◌, subst, Option, Some, None, slice_get, arith, length-append, append_assoc, append-nil}
+use Rattle.std.specs.Option.{option_map}
+use Rattle.std.proofs.lemmas.List.{map-append, take_all, length-map}
+use Rattle.std.proofs.lemmas.Option.{slice_get-map, slice_get_within}
+use Rattle.psg_terms.specs.Terms.{Term, variable, symbol, apply}
+use Rattle.psg_terms.specs.Signature.{Signature, HasSort, HaveSorts, Takes}
+use Rattle.psg_terms.specs.Sound.{IsSound}
+use Rattle.psg_terms.specs.Weight.{above_of}
+use Rattle.psg_terms.specs.Canonical.{Variable, IsCanonical, IsNumberedFrom, noted_all, variables, variables_of, AreWrittenOut, IsWrittenOut}
+use Rattle.psg_terms.specs.Instances.{Substitution, substitute, IsGrounding, IsGroundInstance}
+use Rattle.psg_terms.proofs.Recognising.{substitute-closed, variables-closed, written-closed}
+use Rattle.psg_terms.proofs.Renumbering.{HaveSorts-substitute}
+use Rattle.psg_terms.proofs.Separate.{grounding}
+use Rattle.psg_terms.proofs.SoundChoices.{choices}
+use Rattle.psg_unify.specs.Pairs.{Pair, AgreeOn, AreOfEqualSort, AreJoinable, IsAgreeing}
+use Rattle.psg_unify.specs.Columns.{pick, picked, Joins}
+use Rattle.psg_unify.proofs.Theorem.{sorts-append}
+use Rattle.psg_relation.specs.Joining.{IsJoinOf}
+use Rattle.psg_relation.specs.Narrowing.{ArePaired, ArePushed, IsMoved, IsShared, Plans, IsPlanned, IsNarrow, open_term, open_at}
+use Rattle.psg_relation.specs.Selecting.{diagonal}
+use Rattle.psg_relation.specs.Settling.{IsSettled}
+use Rattle.psg_relation.specs.declared.narrowing.Narrow.{Narrow}
+use Rattle.psg_relation.proofs.Columns.{map-picked, picked-sorts}
+use Rattle.psg_relation.proofs.Unsolved.{get-right}
+use Rattle.psg_relation.proofs.Meeting.{sorts-many}
+use Rattle.psg_relation.proofs.Pairing.{value_at, same_some, sort_at, equal_at, take_pair, agree_push, agree_split}
+use Rattle.psg_relation.proofs.Selected.{diagonal-tail, get-left}
+use Rattle.psg_relation.proofs.Unifying.{one_type}
+
+-- ---- lists
+
+snoc_same : (xs ys : List Term) (x y : Term) → xs ++ x ∷ [] ≡ ys ++ y ∷ [] → (xs ≡ ys) × (x ≡ y)
+snoc_same [] [] x y e = (refl, cc)
+snoc_same [] (b ∷ []) x y e = absurd (cc)
+snoc_same [] (b ∷ c ∷ ys) x y e = absurd (cc)
+snoc_same (a ∷ []) [] x y e = absurd (cc)
+snoc_same (a ∷ c ∷ xs) [] x y e = absurd (cc)
+snoc_same (a ∷ xs) (b ∷ ys) x y e =
+    let h : a ≡ b = cc in
+    let t : xs ++ x ∷ [] ≡ ys ++ y ∷ [] = cc in
+    let k = snoc_same xs ys x y t in
+    (ap₂ (λ z zs. z ∷ zs) h k.0, k.1)
+
+pub get-before : {X : Type 0} (xs ys : List X) (k : ℕ) (x : X) → slice_get xs k ≡ Some x → slice_get (xs ++ ys) k ≡ Some x
+get-before [] ys k x e = absurd (cc)
+get-before (a ∷ xs) ys zero x e = e
+get-before (a ∷ xs) ys (suc k) x e = get-before xs ys k x e
+
+get-last : {X : Type 0} (xs : List X) (x : X) → slice_get (xs ++ x ∷ []) (length xs) ≡ Some x
+get-last [] x = refl
+get-last (a ∷ xs) x = get-last xs x
+
+-- ---- the pairs that are solved
+
+module _ (sig : Signature) (left right : List Term) where
+  pub paired_none : ArePaired sig left right [] [] []
+  paired_none = record { sorts = []; left_sorted = tt; right_sorted = tt; to = λ f g a. refl; back = λ f g e. tt }
+
+  module _ (pairs : List Pair) (j : AreJoinable sig left right pairs) (i : ℕ) (p d : Pair) (x y : Term) (lt : i < length pairs) (ep : p ≡ get_or pairs i d) (ex : slice_get left p.0 ≡ Some x) (ey : slice_get right p.1 ≡ Some y) (lefts rights : List Term) (h : ArePaired sig left right (take i pairs) lefts rights) where
+    next : take (i + 1) pairs ≡ take i pairs ++ p ∷ []
+    next = take_pair left right pairs i p d x y lt ep ex ey
+
+    columns_same : (f g : Substitution) → (slice_get (map (substitute f) left) p.0 ≡ slice_get (map (substitute g) right) p.1) ↔ (substitute f x ≡ substitute g y)
+    columns_same f g = (
+      λ e. same_some (substitute f x) (substitute g y) (sym (value_at f left p.0 x ex) ∙ e ∙ value_at g right p.1 y ey),
+      λ e. value_at f left p.0 x ex ∙ ap (λ (t : Term). Some t) e ∙ sym (value_at g right p.1 y ey),
+    )
+
+    split : (f g : Substitution) → AgreeOn (take (i + 1) pairs) (map (substitute f) left) (map (substitute g) right) → AgreeOn (take i pairs) (map (substitute f) left) (map (substitute g) right) × (substitute f x ≡ substitute g y)
+    split f g a =
+        let k = agree_split (take i pairs) p (map (substitute f) left) (map (substitute g) right) (subst (λ ps. AgreeOn ps (map (substitute f) left) (map (substitute g) right)) next a) in
+        (k.0, (columns_same f g).0 k.1)
+
+    both : (f g : Substitution) → AgreeOn (take i pairs) (map (substitute f) left) (map (substitute g) right) → substitute f x ≡ substitute g y → AgreeOn (take (i + 1) pairs) (map (substitute f) left) (map (substitute g) right)
+    both f g a e = subst (λ ps. AgreeOn ps (map (substitute f) left) (map (substitute g) right)) (sym next) (agree_push (take i pairs) p (map (substitute f) left) (map (substitute g) right) a ((columns_same f g).1 e))
+
+    pub paired_same : IsSettled x y true → ArePaired sig left right (take (i + 1) pairs) lefts rights
+    paired_same s = record {
+      sorts = h.sorts;
+      left_sorted = h.left_sorted;
+      right_sorted = h.right_sorted;
+      to = λ f g a. h.to f g (split f g a).0;
+      back = λ f g e. both f g (h.back f g e) (s f g);
+    }
+
+    pub paired_more : (more other : List Term) → more ≡ lefts ++ x ∷ [] → other ≡ rights ++ y ∷ [] → ArePaired sig left right (take (i + 1) pairs) more other
+    paired_more more other em eo =
+        let (s, es, er) = equal_at j.left_sorts j.right_sorts pairs i p d lt ep j.equal in
+        subst (λ xs. ArePaired sig left right (take (i + 1) pairs) xs other) (sym em) (subst (ArePaired sig left right (take (i + 1) pairs) (lefts ++ x ∷ [])) (sym eo) (record {
+          sorts = h.sorts ++ s ∷ [];
+          left_sorted = sorts-append sig lefts (x ∷ []) h.sorts (s ∷ []) h.left_sorted (sort_at sig left j.left_sorts p.0 x s j.left_sorted ex es, tt);
+          right_sorted = sorts-append sig rights (y ∷ []) h.sorts (s ∷ []) h.right_sorted (sort_at sig right j.right_sorts p.1 y s j.right_sorted ey er, tt);
+          to = λ f g a.
+              let k = split f g a in
+              map-append (substitute f) lefts (x ∷ []) ∙ ap₂ (λ xs z. xs ++ z ∷ []) (h.to f g k.0) k.1 ∙ sym (map-append (substitute g) rights (y ∷ []));
+          back = λ f g e.
+              let k = snoc_same (map (substitute f) lefts) (map (substitute g) rights) (substitute f x) (substitute g y) (sym (map-append (substitute f) lefts (x ∷ [])) ∙ e ∙ map-append (substitute g) rights (y ∷ [])) in
+              both f g (h.back f g k.0) k.1;
+        }))
+
+pub paired_step : (sig : Signature) (left right : List Term) (pairs : List Pair) (j : AreJoinable sig left right pairs) (i : ℕ) (p d : Pair) (x y : Term) → i < length pairs → p ≡ get_or pairs i d → slice_get left p.0 ≡ Some x → slice_get right p.1 ≡ Some y
+    → (lefts rights more other : List Term) → ArePaired sig left right (take i pairs) lefts rights → ArePushed x y lefts rights more other → ArePaired sig left right (take (i + 1) pairs) more other
+paired_step sig left right pairs j i p d x y lt ep ex ey lefts rights more other h (inl (s, em, eo)) =
+    subst (λ xs. ArePaired sig left right (take (i + 1) pairs) xs other) (sym em) (subst (ArePaired sig left right (take (i + 1) pairs) lefts) (sym eo)
+    (paired_same sig left right pairs j i p d x y lt ep ex ey lefts rights h s))
+paired_step sig left right pairs j i p d x y lt ep ex ey lefts rights more other h (inr (em, eo)) = paired_more sig left right pairs j i p d x y lt ep ex ey lefts rights h more other em eo
+
+pub paired_all : (sig : Signature) (left right : List Term) (pairs : List Pair) (i : ℕ) (lefts rights : List Term) → length pairs ≤ i → ArePaired sig left right (take i pairs) lefts rights → ArePaired sig left right pairs lefts rights
+paired_all sig left right pairs i lefts rights l h = subst (λ ps. ArePaired sig left right ps lefts rights) (take_all i pairs l) h
+
+-- the row without so many of its first columns
+abbrev pub past : ℕ → List Term → List Term
+past zero xs = xs
+past (suc n) [] = []
+past (suc n) (x ∷ xs) = past n xs
+
+past-all : (n : ℕ) (xs : List Term) → n ≡ length xs → past n xs ≡ []
+past-all zero [] e = refl
+past-all zero (x ∷ xs) e = absurd (omega (arith, e))
+past-all (suc n) [] e = refl
+past-all (suc n) (x ∷ xs) e = past-all n xs (omega (arith, e))
+
+past-next : (sig : Signature) (n : ℕ) (xs : List Term) → AreWrittenOut sig xs → n < length xs → (u : Term) × (slice_get xs n ≡ Some u) × (past n xs ≡ u ∷ past (suc n) xs) × IsWrittenOut sig u
+past-next sig n [] w l = absurd (omega (arith, l))
+past-next sig zero (x ∷ xs) w l = (x, refl, refl, w.0)
+past-next sig (suc n) (x ∷ xs) w l = past-next sig n xs w.1 (omega (arith, l))
+
+-- ---- the places of the kept columns
+
+module _ (Moved Shared : ℕ → ℕ → Type 0) where
+  pub plans_shared : (from to : ℕ) (keep places : List ℕ) (k q : ℕ) → Plans Moved Shared from to keep places → Shared k q → Plans Moved Shared from to (keep ++ k ∷ []) (places ++ q ∷ [])
+  plans_shared from to [] [] k q h s = inl (s, h)
+  plans_shared from to [] (b ∷ places) k q h s = absurd h
+  plans_shared from to (a ∷ keep) [] k q h s = absurd h
+  plans_shared from to (a ∷ keep) (b ∷ places) k q (inl (t, h)) s = inl (t, plans_shared from to keep places k q h s)
+  plans_shared from to (a ∷ keep) (b ∷ places) k q (inr (e, m, h)) s = inr (e, m, plans_shared (suc from) to keep places k q h s)
+
+  pub plans_moved : (from to : ℕ) (keep places : List ℕ) (k : ℕ) → Plans Moved Shared from to keep places → Moved k to → Plans Moved Shared from (suc to) (keep ++ k ∷ []) (places ++ to ∷ [])
+  plans_moved from to [] [] k h m = inr (sym h, subst (Moved k) (sym h) m, ap suc h)
+  plans_moved from to [] (b ∷ places) k h m = absurd h
+  plans_moved from to (a ∷ keep) [] k h m = absurd h
+  plans_moved from to (a ∷ keep) (b ∷ places) k (inl (t, h)) m = inl (t, plans_moved from to keep places k h m)
+  plans_moved from to (a ∷ keep) (b ∷ places) k (inr (e, n, h)) m = inr (e, n, plans_moved (suc from) to keep places k h m)
+
+  plans_up : (from to : ℕ) (keep places : List ℕ) → Plans Moved Shared from to keep places → from ≤ to
+  plans_up from to [] [] h = omega (arith, h)
+  plans_up from to [] (b ∷ places) h = absurd h
+  plans_up from to (a ∷ keep) [] h = absurd h
+  plans_up from to (a ∷ keep) (b ∷ places) (inl (t, h)) = plans_up from to keep places h
+  plans_up from to (a ∷ keep) (b ∷ places) (inr (e, n, h)) = let k = plans_up (suc from) to keep places h in omega (arith, k)
+
+  -- the columns at the places are the kept ones
+  pub plans_picked : {X : Type 0} (Z W : List X) → ((k q : ℕ) → Moved k q → slice_get Z q ≡ slice_get W k) → ((k q : ℕ) → Shared k q → slice_get Z q ≡ slice_get W k)
+      → (from to : ℕ) (keep places : List ℕ) → Plans Moved Shared from to keep places → picked Z places ≡ picked W keep
+  plans_picked Z W m s from to [] [] h = refl
+  plans_picked Z W m s from to [] (b ∷ places) h = absurd h
+  plans_picked Z W m s from to (a ∷ keep) [] h = absurd h
+  plans_picked Z W m s from to (a ∷ keep) (b ∷ places) (inl (t, h)) = ap₂ pick (s a b t) (plans_picked Z W m s from to keep places h)
+  plans_picked Z W m s from to (a ∷ keep) (b ∷ places) (inr (e, n, h)) = ap₂ pick (m a b (subst (Moved a) (sym e) n)) (plans_picked Z W m s (suc from) to keep places h)
+
+  -- the solved columns are those of the solved row, in order, and the others have no variables
+  pub plans_written : (sig : Signature) (A both : List Term) → AreWrittenOut sig A → ((k q : ℕ) → Shared k q → (t : Term) × (slice_get (A ++ both) q ≡ Some t) × (above_of t ≡ 0))
+      → (from to : ℕ) (keep places : List ℕ) → to ≡ length A → Plans Moved Shared from to keep places
+      → (variables_of (picked (A ++ both) places) ≡ variables_of (past from A)) × AreWrittenOut sig (picked (A ++ both) places)
+  plans_written sig A both w s from to [] [] l h = (sym (ap variables_of (past-all from A (let e = h in omega (arith, e, l)))), tt)
+  plans_written sig A both w s from to [] (b ∷ places) l h = absurd h
+  plans_written sig A both w s from to (a ∷ keep) [] l h = absurd h
+  plans_written sig A both w s from to (a ∷ keep) (b ∷ places) l (inl (t, h)) =
+      let (u, e, c) = s a b t in
+      let rest = plans_written sig A both w s from to keep places l h in (
+        ap (λ o. variables_of (pick o (picked (A ++ both) places))) e ∙ ap (λ (x : List Variable). x ++ variables_of (picked (A ++ both) places)) (variables-closed u c) ∙ rest.0,
+        subst (λ o. AreWrittenOut sig (pick o (picked (A ++ both) places))) (sym e) (written-closed sig u c, rest.1),
+      )
+  plans_written sig A both w s from to (a ∷ keep) (b ∷ places) l (inr (q, n, h)) =
+      let up = plans_up (suc from) to keep places h in
+      let lt : from < length A = omega (arith, up, l) in
+      let (u, e, d, x) = past-next sig from A w lt in
+      let rest = plans_written sig A both w s (suc from) to keep places l h in
+      let here : slice_get (A ++ both) b ≡ Some u = ap (slice_get (A ++ both)) q ∙ get-before A both from u e in (
+        ap (λ o. variables_of (pick o (picked (A ++ both) places))) here ∙ ap (λ (y : List Variable). variables u ++ y) rest.0 ∙ sym (ap variables_of d),
+        subst (λ o. AreWrittenOut sig (pick o (picked (A ++ both) places))) (sym here) (x, rest.1),
+      )
+
+-- ---- steps of putting the kept columns
+
+moved_more : (left right lefts rights more other : List Term) (width : ℕ) (keep more_keep : List ℕ) (k q : ℕ) → IsMoved left right lefts rights width keep k q → IsMoved left right (lefts ++ more) (rights ++ other) width (keep ++ more_keep) k q
+moved_more left right lefts rights more other width keep more_keep k q (inl (t, j, a, b, c)) = inl (t, j, a, get-before lefts more j t b, get-before keep more_keep q j c)
+moved_more left right lefts rights more other width keep more_keep k q (inr (t, i, j, e, a, b, c)) = inr (t, i, j, e, a, get-before rights other j t b, get-before keep more_keep q (width + j) c)
+
+plans_wider : (M N S : ℕ → ℕ → Type 0) → ((k q : ℕ) → M k q → N k q) → (from to : ℕ) (keep places : List ℕ) → Plans M S from to keep places → Plans N S from to keep places
+plans_wider M N S w from to [] [] h = h
+plans_wider M N S w from to [] (b ∷ places) h = absurd h
+plans_wider M N S w from to (a ∷ keep) [] h = absurd h
+plans_wider M N S w from to (a ∷ keep) (b ∷ places) (inl (t, h)) = inl (t, plans_wider M N S w from to keep places h)
+plans_wider M N S w from to (a ∷ keep) (b ∷ places) (inr (e, n, h)) = inr (e, w a from n, plans_wider M N S w (suc from) to keep places h)
+
+column_typed : (sig : Signature) (row : List Term) (ss : List ℕ) (k : ℕ) (t : Term) → HaveSorts sig row ss → slice_get row k ≡ Some t → (s : ℕ) × HasSort sig t s
+column_typed sig [] ss k t h e = absurd (cc)
+column_typed sig (x ∷ row) [] k t h e = absurd h
+column_typed sig (x ∷ row) (s ∷ ss) zero t h e = (s, subst (λ y. HasSort sig y s) (let d : x ≡ t = cc in d) h.0)
+column_typed sig (x ∷ row) (s ∷ ss) (suc k) t h e = column_typed sig row ss k t h.1 e
+
+pub planned_none : (left right : List Term) (width count : ℕ) (n : Narrow) → n.keep.items ≡ [] → n.places.items ≡ [] → IsPlanned left right n.lefts.items n.rights.items width count [] n
+planned_none left right width count n k p = record {
+  more_left = [];
+  lefts_are = sym (append-nil n.lefts.items);
+  left_typed = λ sig ls h. ([], tt);
+  more_right = [];
+  rights_are = sym (append-nil n.rights.items);
+  right_typed = λ sig rs h. ([], tt);
+  plan = subst (λ xs. Plans (IsMoved left right n.lefts.items n.rights.items width n.keep.items) (IsShared left right count) 0 (length n.keep.items) [] xs) (sym p) (sym (ap (λ (x : List ℕ). length x) k));
+}
+
+module _ (left right lefts rights : List Term) (width count : ℕ) (keep : List ℕ) (k : ℕ) (old new : Narrow) (h : IsPlanned left right lefts rights width count keep old) where
+  abbrev Old : ℕ → ℕ → Type 0
+  Old = IsMoved left right old.lefts.items old.rights.items width old.keep.items
+
+  abbrev New : ℕ → ℕ → Type 0
+  New = IsMoved left right new.lefts.items new.rights.items width new.keep.items
+
+  abbrev Same : ℕ → ℕ → Type 0
+  Same = IsShared left right count
+
+  -- what was moved stays where it is
+  wider : (more other : List Term) (more_keep : List ℕ) → new.lefts.items ≡ old.lefts.items ++ more → new.rights.items ≡ old.rights.items ++ other → new.keep.items ≡ old.keep.items ++ more_keep
+      → (c q : ℕ) → Old c q → New c q
+  wider more other more_keep el er ek c q m =
+      subst (λ x. IsMoved left right x new.rights.items width new.keep.items c q) (sym el)
+      (subst (λ x. IsMoved left right (old.lefts.items ++ more) x width new.keep.items c q) (sym er)
+      (subst (λ x. IsMoved left right (old.lefts.items ++ more) (old.rights.items ++ other) width x c q) (sym ek)
+      (moved_more left right old.lefts.items old.rights.items more other width old.keep.items more_keep c q m)))
+
+  pub planned_shared : (t : Term) (place : ℕ) → slice_get (left ++ right) k ≡ Some t → above_of t ≡ 0 → place ≡ count + k
+      → new.lefts.items ≡ old.lefts.items → new.rights.items ≡ old.rights.items → new.keep.items ≡ old.keep.items → new.places.items ≡ old.places.items ++ place ∷ []
+      → IsPlanned left right lefts rights width count (keep ++ k ∷ []) new
+  planned_shared t place at closed e el er ek ep = record {
+    more_left = h.more_left;
+    lefts_are = el ∙ h.lefts_are;
+    left_typed = h.left_typed;
+    more_right = h.more_right;
+    rights_are = er ∙ h.rights_are;
+    right_typed = h.right_typed;
+    plan =
+        subst (λ ps. Plans New Same 0 (length new.keep.items) (keep ++ k ∷ []) ps) (sym ep)
+        (subst (λ x. Plans New Same 0 (length x) (keep ++ k ∷ []) (old.places.items ++ place ∷ [])) (sym ek)
+        (plans_shared New Same 0 (length old.keep.items) keep old.places.items k place
+        (plans_wider Old New Same (wider [] [] [] (el ∙ sym (append-nil old.lefts.items)) (er ∙ sym (append-nil old.rights.items)) (ek ∙ sym (append-nil old.keep.items))) 0 (length old.keep.items) keep old.places.items h.plan)
+        ((t, at, closed), e)));
+  }
+
+  moved_plan : (place : ℕ) → New k (length old.keep.items) → (more other : List Term) → new.lefts.items ≡ old.lefts.items ++ more → new.rights.items ≡ old.rights.items ++ other
+      → new.keep.items ≡ old.keep.items ++ place ∷ [] → new.places.items ≡ old.places.items ++ length old.keep.items ∷ [] → Plans New Same 0 (length new.keep.items) (keep ++ k ∷ []) new.places.items
+  moved_plan place m more other el er ek ep =
+      let one_more : length new.keep.items ≡ suc (length old.keep.items) = (let a = ap (λ (x : List ℕ). length x) ek in let b = length-append old.keep.items (place ∷ []) in omega (arith, a, b)) in
+      subst (λ ps. Plans New Same 0 (length new.keep.items) (keep ++ k ∷ []) ps) (sym ep)
+      (subst (λ to. Plans New Same 0 to (keep ++ k ∷ []) (old.places.items ++ length old.keep.items ∷ [])) (sym one_more)
+      (plans_moved New Same 0 (length old.keep.items) keep old.places.items k
+      (plans_wider Old New Same (wider more other (place ∷ []) el er ek) 0 (length old.keep.items) keep old.places.items h.plan) m))
+
+  pub planned_left : (t : Term) → slice_get left k ≡ Some t
+      → new.lefts.items ≡ old.lefts.items ++ t ∷ [] → new.rights.items ≡ old.rights.items → new.keep.items ≡ old.keep.items ++ length old.lefts.items ∷ [] → new.places.items ≡ old.places.items ++ length old.keep.items ∷ []
+      → IsPlanned left right lefts rights width count (keep ++ k ∷ []) new
+  planned_left t at el er ek ep = record {
+    more_left = h.more_left ++ t ∷ [];
+    lefts_are = el ∙ ap (λ (x : List Term). x ++ t ∷ []) h.lefts_are ∙ append_assoc lefts h.more_left (t ∷ []);
+    left_typed = λ sig ls hl.
+        let (ss, a) = h.left_typed sig ls hl in
+        let (s, b) = column_typed sig left ls k t hl at in
+        (ss ++ s ∷ [], sorts-append sig h.more_left (t ∷ []) ss (s ∷ []) a (b, tt));
+    more_right = h.more_right;
+    rights_are = er ∙ h.rights_are;
+    right_typed = h.right_typed;
+    plan = moved_plan (length old.lefts.items)
+        (inl (t, length old.lefts.items, at, ap (λ x. slice_get x (length old.lefts.items)) el ∙ get-last old.lefts.items t, ap (λ x. slice_get x (length old.keep.items)) ek ∙ get-last old.keep.items (length old.lefts.items)))
+        (t ∷ []) [] el (er ∙ sym (append-nil old.rights.items)) ek ep;
+  }
+
+  pub planned_right : (t : Term) (i : ℕ) → k ≡ length left + i → slice_get right i ≡ Some t
+      → new.lefts.items ≡ old.lefts.items → new.rights.items ≡ old.rights.items ++ t ∷ [] → new.keep.items ≡ old.keep.items ++ (width + length old.rights.items) ∷ [] → new.places.items ≡ old.places.items ++ length old.keep.items ∷ []
+      → IsPlanned left right lefts rights width count (keep ++ k ∷ []) new
+  planned_right t i e at el er ek ep = record {
+    more_left = h.more_left;
+    lefts_are = el ∙ h.lefts_are;
+    left_typed = h.left_typed;
+    more_right = h.more_right ++ t ∷ [];
+    rights_are = er ∙ ap (λ (x : List Term). x ++ t ∷ []) h.rights_are ∙ append_assoc rights h.more_right (t ∷ []);
+    right_typed = λ sig rs hr.
+        let (ss, a) = h.right_typed sig rs hr in
+        let (s, b) = column_typed sig right rs i t hr at in
+        (ss ++ s ∷ [], sorts-append sig h.more_right (t ∷ []) ss (s ∷ []) a (b, tt));
+    plan = moved_plan (width + length old.rights.items)
+        (inr (t, i, length old.rights.items, e, at, ap (λ x. slice_get x (length old.rights.items)) er ∙ get-last old.rights.items t, ap (λ x. slice_get x (length old.keep.items)) ek ∙ get-last old.keep.items (width + length old.rights.items)))
+        [] (t ∷ []) (el ∙ sym (append-nil old.lefts.items)) er ek ep;
+  }
+
+-- what was put is narrow, where there is as much of it as was counted
+pub narrow_made : (left right : List Term) (pairs : List Pair) (keep : List ℕ) (width count : ℕ) (before after : Narrow)
+    → ((sig : Signature) → AreJoinable sig left right pairs → ArePaired sig left right pairs before.lefts.items before.rights.items) → before.front ≡ length before.lefts.items
+    → before.keep.items ≡ [] → before.places.items ≡ [] → after.front ≡ before.front
+    → ((lefts rights : List Term) → IsPlanned left right lefts rights width count [] before → IsPlanned left right lefts rights width count keep after)
+    → length after.lefts.items ≡ width → length after.keep.items ≡ count → IsNarrow left right pairs keep after
+narrow_made left right pairs keep width count before after paired front no_keep no_places same planned w n = record {
+  lefts = before.lefts.items;
+  rights = before.rights.items;
+  paired = paired;
+  front = same ∙ front;
+  planned =
+      subst (λ x. IsPlanned left right before.lefts.items before.rights.items x (length after.keep.items) keep after) (sym w)
+      (subst (λ x. IsPlanned left right before.lefts.items before.rights.items width x keep after) (sym n)
+      (planned before.lefts.items before.rights.items (planned_none left right width count before no_keep no_places)));
+}
+
+pub min_one : (n : ℕ) → (n ≡ 0 → ⊥) → min n 1 ≡ 1
+min_one zero h = absurd (h refl)
+min_one (suc n) h = omega arith
+
+-- a column counts once at most
+open_most : (o : Option Term) → open_term o ≤ 1
+open_most None = omega arith
+open_most (Some t) = omega arith
+
+pub few_open : (row : List Term) (k own m : ℕ) → own ≡ open_at row k → 1 ≤ m → own ≡ min (open_at row k) m
+few_open row k own m e l =
+    let most = open_most (slice_get row k) in
+    omega (arith, e, l, most)

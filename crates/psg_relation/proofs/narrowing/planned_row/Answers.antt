@@ -1,0 +1,14 @@
+use Rattle.std.proofs.Common.{ℕ, ◌++◌, ◌∙◌, ap, slice_index_or, arith}
+use Rattle.std.proofs.lemmas.List.{take_all}
+use Rattle.psg_relation.specs.Choices.{picked}
+use Rattle.psg_relation.proofs.Members.{at-any}
+use Rattle.psg_relation.proofs.Columns.{picked-more}
+use Rattle.psg_relation.proofs.narrowing.planned_row.Goals as goal
+
+pub loop-i-preserved : goal.loop-i-preserved
+loop-i-preserved c =
+    let places = c.args.places.now in
+    let i = c.loop-i.i in
+    let k : ℕ = slice_index_or places i 0 in
+    picked-more (c.args.solved.now ++ (c.args.left.now ++ c.args.right.now)) places i k c.in_ok-term.term c.loop-i.terms.items c.push.new.self.items c.loop-i-test.true (at-any places i 0 k c.loop-i-test.true)
+    c.in_ok-term.ensures c.loop-i.invariant c.in_ok-push.ensures.items

@@ -1,0 +1,6 @@
+use Rattle.std.proofs.Common.{ℕ, ◌≡◌, Some, slice_get}
+use Rattle.psg_terms.specs.Terms.{Term}
+use Rattle.psg_unify.proofs.reading.empty_places.Given as goal
+
+abbrev pub invariant-loop : goal.invariant-loop
+invariant-loop l = (k : ℕ) (t : Term) → slice_get l.places.items k ≡ Some (Some t) → ⊥
