@@ -1,13 +1,11 @@
 -- The frame of a noted node around one of its children.
-use Rattle.std.proofs.Common.{◌≡◌, ℕ, zero, suc, ◌+◌, ◌<◌, ◌≤◌, Bool, true, false, cond, List, [], ◌∷◌, map, take, length, slice_get, Option, Some, None, refl, sym, ◌∙◌, ap, ap₂, subst, arith}
+use Rattle.std.proofs.Common.{◌≡◌, ℕ, zero, suc, ◌+◌, ◌<◌, ◌≤◌, Bool, List, [], ◌∷◌, map, take, length, slice_get, Option, Some, None, refl, sym, ◌∙◌, ap, subst, arith}
 use Rattle.std.specs.List.{AllByRecursion}
 use Rattle.std.specs.Prelude.{MatchOption}
 use Rattle.std.proofs.lemmas.List.{length-map, length-take-le, take-map}
 use Rattle.std.proofs.lemmas.Option.{none-some, slice_get_within}
-use Rattle.psg_terms.specs.Names.{Name}
 use Rattle.psg_grammar.specs.declared.types.Kind.{Kind}
 use Rattle.psg_grammar.specs.declared.types.Kind.TheVariants as kinds
-use Rattle.psg_grammar.specs.declared.types.Operator.{Operator}
 use Rattle.psg_grammar.specs.declared.types.Definition.{Definition}
 use Rattle.psg_grammar.specs.Fragments.{Fragment, hole, ending, cell, operator, with_child, with_name, with_number, with_text, anything, observed, children_of}
 use Rattle.psg_grammar.specs.Kinds.{IsOfKind}
@@ -22,14 +20,14 @@ use Rattle.psg_tree.proofs.Children.{children-list}
 use Rattle.psg_eval.specs.declared.frame.Frame.{Frame}
 use Rattle.psg_eval.specs.declared.frame.Frame.TheVariants as frames
 use Rattle.psg_eval.specs.declared.summary.Known.{Known}
-use Rattle.psg_eval.specs.Frames.{AllSummariesBut, AreSilentBut, IsElement, IsFrame, IsSilent, TakesBefore, TakesInFrame, put_at, rungs_in}
-use Rattle.psg_eval.specs.Summaries.{AllSummaries, IsSummary, IsSummaryOf, TakesAt, TakesCell}
+use Rattle.psg_eval.specs.Frames.{AllSummariesBut, AreSilentBut, IsElement, IsSilent, TakesBefore, put_at}
+use Rattle.psg_eval.specs.Summaries.{AllSummaries, IsSummary, IsSummaryOf}
 use Rattle.psg_eval.specs.Trees.{seen_in}
 use Rattle.psg_cache.specs.Annotated.{Annotated, tree_in, whole_in, rests_in, below_in}
 use Rattle.psg_cache.specs.Noted.{AreOfSuffixes, IsNoted, IsTopped}
-use Rattle.psg_cache.specs.NoteFrames.{IsFrameAround, IsFrameAt, IsNoFrameAt, TakesAny}
+use Rattle.psg_cache.specs.NoteFrames.{IsFrameAround, IsFrameAt, IsNoFrameAt}
 use Rattle.psg_cache.specs.Notes.{IsFormed}
-use Rattle.psg_cache.specs.Walks.{names_in, TakesElements}
+use Rattle.psg_cache.specs.Walks.{names_in}
 use Rattle.psg_cache.proofs.Each.{each_got, same_some}
 use Rattle.psg_cache.proofs.CulpritLaws.{real_children}
 use Rattle.psg_cache.proofs.Evaluations.{is_node, one_kind, spine_parts, takes_at}

@@ -5,7 +5,7 @@ use Rattle.std.proofs.lemmas.List.{append-nil, reverse-append}
 use Rattle.std.proofs.lemmas.Option.{none-some}
 use Rattle.psg_grammar.specs.declared.types.Kind.{Kind}
 use Rattle.psg_grammar.specs.declared.types.Definition.{Definition}
-use Rattle.psg_grammar.specs.Fragments.{Fragment, children_of}
+use Rattle.psg_grammar.specs.Fragments.{children_of}
 use Rattle.psg_grammar.specs.Kinds.{IsOfKind}
 use Rattle.psg_grammar.specs.Paths.{Path, node_at}
 use Rattle.psg_grammar.specs.Work.{climb_of, leaving}
@@ -15,8 +15,8 @@ use Rattle.psg_eval.proofs.FrameLaws.{frame_child, stands-node}
 use Rattle.psg_cache.specs.Annotated.{Annotated, tree_in, below_in, note_at}
 use Rattle.psg_cache.specs.Edits.{IsNoSummaryAt}
 use Rattle.psg_cache.specs.Noted.{IsNoted}
-use Rattle.psg_cache.specs.NoteFrames.{AreFramesAt, AreFramesOf, IsFrameAround, IsFrameAt, IsNoFrameAt}
-use Rattle.psg_cache.specs.Notes.{IsFormed, IsNoteOf}
+use Rattle.psg_cache.specs.NoteFrames.{AreFramesAt, IsFrameAt, IsNoFrameAt}
+use Rattle.psg_cache.specs.Notes.{IsFormed}
 use Rattle.psg_cache.proofs.AllNoted.{no_summary_at}
 use Rattle.psg_cache.proofs.Evaluations.{kind_fits}
 use Rattle.psg_cache.proofs.NoteParts.{noted_at}

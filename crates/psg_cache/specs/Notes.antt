@@ -1,5 +1,5 @@
 -- What a note says of its tree, and what is said where there is none.
-use Rattle.std.specs.Prelude.{ℕ, ◌≡◌, List, [], ◌∷◌, ◌↔◌}
+use Rattle.std.specs.Prelude.{◌≡◌, List, [], ◌∷◌, ◌↔◌}
 use Rattle.psg_grammar.specs.declared.types.Kind.{Kind}
 use Rattle.psg_grammar.specs.declared.types.Definition.{Definition}
 use Rattle.psg_grammar.specs.Fragments.{Fragment}

@@ -15,7 +15,7 @@ use crate::cell::cell_parts;
 use crate::leaves::{closed_end, open_end, placeholder};
 use crate::node::node;
 use crate::partial::summary_of;
-use crate::starts::{OperatorStart, Starts};
+use crate::starts::Starts;
 use crate::summary::{EvalFault, Summary};
 use psg_grammar::{Definition, Kind};
 use psg_terms::{Steps, Txt};
@@ -65,17 +65,8 @@ pub fn eval_op<L: Ledger>(
     ensures seen { IfOk result (λ s. s.seen ≡ sum_by (λ (c : Kept). c.seen) children.now) }
     ensures ticks { steps.new ≡ steps.old + 1 }
 {
-    steps.tick();
-    let operator = &definition.operators.as_slice()[op as usize];
-    let summary = node(
-        alloc,
-        definition,
-        &OperatorStart::Unknown,
-        operator,
-        names,
-        children,
-    )?;
-    Ok(summary)
+    let starts = Starts::none(alloc);
+    op_from(alloc, definition, &starts, op, names, children, steps)
 }
 
 /// Returns the summary of a list from those of its first element and of the list after it, in the steps 0 to 2. `Wide`
@@ -97,10 +88,8 @@ pub fn eval_cell<L: Ledger>(
     ensures seen { IfOk result (λ s. s.seen ≡ element.now.seen + rest.now.seen) }
     ensures ticks { steps.new ≡ steps.old + 1 }
 {
-    steps.tick();
-    let whole = cell_parts(alloc, definition, list, None, element.known(), rest.known())?;
-    let summary = summary_of(alloc, Kind::List(list), whole)?;
-    Ok(summary)
+    let starts = Starts::none(alloc);
+    cell_from(alloc, definition, &starts, list, element, rest, steps)
 }
 
 /// Returns the summary of a list's end: its values are those of the list's nil rows, or of its hole rows where it is

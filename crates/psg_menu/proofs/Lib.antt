@@ -4,7 +4,6 @@ pub mod TrialPlaces
 pub mod OpenRows
 pub mod NewTrees
 pub mod TrialLaws
-pub mod SpaceReads
 pub mod BlankLaws
 pub mod WordLaws
 pub mod MenuLaws

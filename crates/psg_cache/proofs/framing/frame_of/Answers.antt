@@ -1,4 +1,4 @@
-use Rattle.std.proofs.Common.{◌∙◌, ap, ap₂, map}
+use Rattle.std.proofs.Common.{◌∙◌, ap₂, map}
 use Rattle.psg_eval.specs.declared.frame.Frame.TheVariants as frames
 use Rattle.psg_cache.specs.Annotated.{whole_in}
 use Rattle.psg_cache.specs.Walks.{names_in}

@@ -1,5 +1,5 @@
 use Rattle.psg_menu.proofs.BlankLaws.{new_answer}
-use Rattle.psg_menu.proofs.SpaceReads.{list_read, list_there, spaces_read}
+use Rattle.psg_eval.proofs.SpaceReads.{list_read, list_there, spaces_read}
 use Rattle.psg_menu.proofs.blanks.new_list.Goals as goal
 
 pub eval_end-requires-clause-spaces : goal.eval_end-requires-clause-spaces

@@ -1,6 +1,5 @@
-use Rattle.std.proofs.Common.{rules, ◌≡◌, ◌∙◌, List, [], length, refl, sym, ap, subst}
+use Rattle.std.proofs.Common.{rules, ◌≡◌, List, [], length, sym, ap, subst}
 use Rattle.std.specs.Prelude.{reverse}
-use Rattle.psg_grammar.specs.Paths.{Path}
 use Rattle.psg_eval.specs.declared.frame.Frame.{Frame}
 use Rattle.psg_cache.specs.Annotated.{note_at}
 use Rattle.psg_cache.proofs.NoteFraming.{AreGathered, fixed, found_next, gathered_all, gathered_next, gathered_none, none_at, none_there, when_none, when_some}
