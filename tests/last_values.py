@@ -223,6 +223,29 @@ def shelves():
             ["new Exps", f"over / {kept_texts(last)}", "save f /", "keep f out"], ["ok", "ok", "saved f", reply]
 
 
+def shared(same):
+    """Yields sessions over PAIRS with an operator `same`, whose arguments have one value. `d` doubles a value: d(x) is a pair of
+    twice x, so a value that is doubled n times has 2^n times what the innermost one has, and 2^n - 1 pairs."""
+    def doubled(times, inner):
+        return "d(" * times + inner + ")" * times
+
+    def lopsided(times, inner):
+        return "p(" * times + inner + ",u)" * times
+
+    # 6,143 constructors: 4,095 and 2,047 and the pair
+    inner = f"p({doubled(11, 'u')},{doubled(10, 'u')})"
+    # On the left 6,143 and 13 times 2; on the right 2^13 variables and 2^13 - 1 pairs. The first argument of the outermost pair
+    # is a pair on the left and so is the right one, but its second one is the unit on the left and a pair on the right.
+    yield "arguments that differ, with 50 million constructors in between", same, \
+        ["new Exp", f"over / same({lopsided(13, inner)},{doubled(13, '?Exp')})"], ["ok", "wrong /"]
+    # the variable is the unit: 4,095 constructors on both sides
+    yield "arguments that agree", same, \
+        ["new Exp", f"over / same({doubled(11, 'u')},{doubled(11, '?Exp')})", f"relation /1{'/0' * 11}"], ["ok", "ok", "unit"]
+    # the innermost pair on the right is of two equal variables, and that on the left is of the unit and a pair
+    yield "arguments that differ at the leaves alone", same, \
+        ["new Exp", f"over / same({doubled(10, 'p(u,d(u))')},{doubled(11, '?Exp')})"], ["ok", "wrong /"]
+
+
 def sessions(heavy, pairs):
     yield from typed(heavy, pairs)
     yield from shelves()
