@@ -1,10 +1,8 @@
 -- The columns of rows and of their ground instances.
-use Rattle.std.proofs.Common.{◌≡◌, ℕ, ◌+◌, ◌<◌, ◌↔◌, zero, suc, List, [], ◌∷◌, ◌++◌, map, length, take, get_or, refl, ap, ap₂, sym, ◌∙◌, subst, Option, Some, None, slice_get}
-use Rattle.std.specs.Option.{option_map}
-use Rattle.std.proofs.lemmas.Option.{slice_get-map}
+use Rattle.std.proofs.Common.{ℕ, ◌↔◌, List, sym, subst}
 use Rattle.psg_terms.specs.Terms.{Term}
 use Rattle.psg_terms.specs.Signature.{Signature, HaveSorts}
-use Rattle.psg_terms.specs.Instances.{Substitution, substitute, IsGroundInstance}
+use Rattle.psg_terms.specs.Instances.{IsGroundInstance}
 use Rattle.psg_terms.specs.Relations.{IsRelation}
 use Rattle.psg_relation.specs.Choices.{AllHaveSorts, IsOfRow, picked, IsProjected, all_picked}
 pub use Rattle.psg_unify.proofs.Picking.{map-picked, picked-sorts, picked_ground, picked-push, picked-more}

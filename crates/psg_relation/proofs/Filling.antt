@@ -1,12 +1,12 @@
 -- Rows in which variables are replaced that have to be terms without variables.
-use Rattle.std.proofs.Common.{◌≡◌, ℕ, ◌<◌, ◌+◌, ◌&&◌, ◌==◌, ◌↔◌, Bool, true, false, cond, inl, inr, List, [], ◌∷◌, ◌++◌, All, map, length, get_or, take, drop, zero, suc, refl, ap, ap₂, sym, ◌∙◌, subst, Option, Some, None, slice_get, arith}
+use Rattle.std.proofs.Common.{◌≡◌, ℕ, ◌<◌, ◌+◌, true, false, cond, inl, inr, List, [], ◌∷◌, ◌++◌, All, map, length, get_or, take, drop, zero, suc, refl, ap, ap₂, sym, ◌∙◌, subst, Option, Some, None, slice_get, arith}
 use Rattle.std.proofs.lemmas.List.Elements.{All-push, All-head, All-tail}
 use Rattle.std.proofs.lemmas.Option.{slice_get_read}
-use Rattle.psg_terms.specs.Terms.{Term, variable, symbol, apply, applied}
+use Rattle.psg_terms.specs.Terms.{Term, variable, symbol, applied}
 use Rattle.psg_terms.specs.declared.sorts.SortId.{SortId}
-use Rattle.psg_terms.specs.Signature.{Signature, HasSort, HaveSorts}
+use Rattle.psg_terms.specs.Signature.{Signature, HasSort}
 use Rattle.psg_terms.specs.Weight.{above_of}
-use Rattle.psg_terms.specs.Instances.{Substitution, substitute, IsSorted, IsGroundInstance}
+use Rattle.psg_terms.specs.Instances.{Substitution, substitute, IsSorted}
 use Rattle.psg_terms.specs.Canonical.{Variable, same_variable}
 use Rattle.psg_terms.proofs.Applied.{applied-substitute}
 use Rattle.psg_terms.proofs.DeclareLaws.{take-next}
@@ -17,10 +17,9 @@ use Rattle.psg_terms.proofs.Renumbering.{HaveSorts-substitute}
 use Rattle.psg_terms.proofs.Variables.{cases, same_variable-true}
 use Rattle.psg_unify.specs.Pairs.{Pair, AgreeOn, AreJoinable, IsAgreeing}
 use Rattle.psg_relation.specs.declared.forcing.Forced.{Forced}
-use Rattle.psg_relation.specs.Choices.{picked}
 use Rattle.psg_relation.specs.Forcing.{by_forced, IsForced, IsFit, Forces}
-use Rattle.psg_relation.specs.Joining.{Joins, IsJoinOf, IsJoint}
-use Rattle.psg_relation.proofs.Pairing.{value_at, same_some, pair_equal}
+use Rattle.psg_relation.specs.Joining.{IsJoint}
+use Rattle.psg_relation.proofs.Pairing.{value_at, same_some}
 use Rattle.psg_relation.proofs.Solving.{rows_alike}
 
 first_same : (x y : Term) → ◌≡◌ {A = List Term} (x ∷ []) (y ∷ []) → x ≡ y

@@ -180,7 +180,7 @@ module _ (sig : Signature) (pairs : List Columns) (keep : List ℕ) where
     to = λ p h x j. elim (cover p h) [ inl i ↦ a.to p i x j | inr none ↦ absurd (none x j) ];
   }
 
-  each-both : (p : Two) (one : List Term) (right : List (List Term)) → p.0 ≡ one → IsIn p.1 right → IsIn p (with_each one right)
+  pub each-both : (p : Two) (one : List Term) (right : List (List Term)) → p.0 ≡ one → IsIn p.1 right → IsIn p (with_each one right)
   each-both p one right e i = subst (λ (z : List Term). IsIn (z, p.1) (with_each one right)) (sym e) (in-each one p.1 right i)
 
   -- a row that is joined with those of two lists that it can meet is joined with all

@@ -20,3 +20,4 @@ pub mod Solving
 mod CaseColumns
 pub mod Passing
 pub mod Selected
+pub mod HeldJoins

@@ -116,7 +116,7 @@ pairs-in p (l ∷ left) right h = elim (in-either p (with_each l right) (all_pai
   | inr b ↦ let (i, j) = pairs-in p left right b in (later i, j)
 ]
 
-in-pairs : (one other : List Term) (left right : List (List Term)) → IsIn one left → IsIn other right → IsIn (one, other) (all_pairs left right)
+pub in-pairs : (one other : List Term) (left right : List (List Term)) → IsIn one left → IsIn other right → IsIn (one, other) (all_pairs left right)
 in-pairs one other [] right h i = elim h [ ]
 in-pairs one other (l ∷ left) right first i = in-left (one, other) (with_each one right) (all_pairs left right) (in-each one other right i)
 in-pairs one other (l ∷ left) right (later h) i = in-right (one, other) (with_each l right) (all_pairs left right) (in-pairs one other left right h i)

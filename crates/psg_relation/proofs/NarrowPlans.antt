@@ -1,32 +1,26 @@
 -- Joins of two rows of which only some columns are solved.
-use Rattle.std.proofs.Common.{◌≡◌, ℕ, ◌<◌, ◌+◌, ◌≤◌, ◌↔◌, ◌⊎◌, inl, inr, Bool, true, false, cond, List, [], ◌∷◌, ◌++◌, All, map, min, length, get_or, take, zero, suc, refl, ap, ap₂, sym, ◌∙◌, subst, Option, Some, None, slice_get, arith, length-append, append_assoc, append-nil}
-use Rattle.std.specs.Option.{option_map}
-use Rattle.std.proofs.lemmas.List.{map-append, take_all, length-map}
-use Rattle.std.proofs.lemmas.Option.{slice_get-map, slice_get_within}
-use Rattle.psg_terms.specs.Terms.{Term, variable, symbol, apply}
-use Rattle.psg_terms.specs.Signature.{Signature, HasSort, HaveSorts, Takes}
-use Rattle.psg_terms.specs.Sound.{IsSound}
+use Rattle.std.proofs.Common.{◌≡◌, ℕ, ◌<◌, ◌+◌, ◌≤◌, ◌↔◌, inl, inr, true, List, [], ◌∷◌, ◌++◌, All, map, length, get_or, take, zero, suc, refl, ap, ap₂, sym, ◌∙◌, subst, Some, slice_get, arith, length-append, append_assoc, append-nil}
+use Rattle.std.proofs.lemmas.List.{map-append, take_all, take_more, length-map}
+use Rattle.std.proofs.lemmas.List.Elements.{All-weaker, All-push, All-cons, All-head, All-tail}
+use Rattle.std.proofs.lemmas.Option.{slice_get_within, get_or_from_slice_get}
+use Rattle.psg_terms.specs.Terms.{Term}
+use Rattle.psg_terms.specs.Signature.{Signature, HasSort, HaveSorts}
 use Rattle.psg_terms.specs.Weight.{above_of}
-use Rattle.psg_terms.specs.Canonical.{Variable, IsCanonical, IsNumberedFrom, noted_all, variables, variables_of, AreWrittenOut, IsWrittenOut}
-use Rattle.psg_terms.specs.Instances.{Substitution, substitute, IsGrounding, IsGroundInstance}
-use Rattle.psg_terms.proofs.Recognising.{substitute-closed, variables-closed, written-closed}
-use Rattle.psg_terms.proofs.Renumbering.{HaveSorts-substitute}
-use Rattle.psg_terms.proofs.Separate.{grounding}
-use Rattle.psg_terms.proofs.SoundChoices.{choices}
-use Rattle.psg_unify.specs.Pairs.{Pair, AgreeOn, AreOfEqualSort, AreJoinable, IsAgreeing}
-use Rattle.psg_unify.specs.Columns.{pick, picked, Joins}
+use Rattle.psg_terms.specs.Canonical.{Variable, variables, variables_of, AreWrittenOut, IsWrittenOut}
+use Rattle.psg_terms.specs.Instances.{Substitution, substitute}
+use Rattle.psg_terms.proofs.Recognising.{variables-closed, written-closed}
+use Rattle.psg_unify.specs.Pairs.{Pair, AgreeOn, AreJoinable}
+use Rattle.psg_unify.specs.Columns.{pick, picked}
 use Rattle.psg_unify.proofs.Theorem.{sorts-append}
-use Rattle.psg_relation.specs.Joining.{IsJoinOf}
-use Rattle.psg_relation.specs.Narrowing.{ArePaired, ArePushed, IsMoved, IsShared, Plans, IsPlanned, IsNarrow, open_term, open_at}
-use Rattle.psg_relation.specs.Selecting.{diagonal}
+use Rattle.psg_relation.specs.Narrowing.{ArePaired, ArePushed, IsMoved, IsShared, Plans, IsPlanned, IsNarrow, IsSide, IsPlace, number_of, numbers, spot_of, spots}
 use Rattle.psg_relation.specs.Settling.{IsSettled}
 use Rattle.psg_relation.specs.declared.narrowing.Narrow.{Narrow}
-use Rattle.psg_relation.proofs.Columns.{map-picked, picked-sorts}
-use Rattle.psg_relation.proofs.Unsolved.{get-right}
-use Rattle.psg_relation.proofs.Meeting.{sorts-many}
+use Rattle.psg_relation.specs.declared.narrowing.Side.{Side}
+use Rattle.psg_relation.specs.declared.narrowing.Side.TheVariants.{Left, Right}
+use Rattle.psg_relation.specs.declared.narrowing.Place.{Place}
+use Rattle.psg_relation.specs.declared.narrowing.Place.TheVariants.{Solved, Given}
+use Rattle.psg_relation.proofs.Columns.{picked-push}
 use Rattle.psg_relation.proofs.Pairing.{value_at, same_some, sort_at, equal_at, take_pair, agree_push, agree_split}
-use Rattle.psg_relation.proofs.Selected.{diagonal-tail, get-left}
-use Rattle.psg_relation.proofs.Unifying.{one_type}
 
 -- ---- lists
 
@@ -209,32 +203,49 @@ planned_none left right width count n k p = record {
   more_right = [];
   rights_are = sym (append-nil n.rights.items);
   right_typed = λ sig rs h. ([], tt);
-  plan = subst (λ xs. Plans (IsMoved left right n.lefts.items n.rights.items width n.keep.items) (IsShared left right count) 0 (length n.keep.items) [] xs) (sym p) (sym (ap (λ (x : List ℕ). length x) k));
+  plan = subst (λ xs. Plans (IsMoved left right n.lefts.items n.rights.items width (numbers width n.keep.items)) (IsShared left right count) 0 (length n.keep.items) [] (spots count xs)) (sym p) (sym (ap (λ (x : List Side). length x) k));
+  sides = subst (All (IsSide n.lefts.items n.rights.items)) (sym k) (λ i d l. absurd (omega (arith, l)));
+  within = subst (All (IsPlace (length n.keep.items) (length left + length right))) (sym p) (λ i d l. absurd (omega (arith, l)));
 }
+
+side_more : (lefts rights more other : List Term) (s : Side) → IsSide lefts rights s → IsSide (lefts ++ more) (rights ++ other) s
+side_more lefts rights more other (Left j) h = let e = length-append lefts more in omega (arith, h, e)
+side_more lefts rights more other (Right j) h = let e = length-append rights other in omega (arith, h, e)
+
+place_more : (count more width : ℕ) → count ≤ more → (p : Place) → IsPlace count width p → IsPlace more width p
+place_more count more width l (Solved q) h = omega (arith, h, l)
+place_more count more width l (Given k) h = h
 
 module _ (left right lefts rights : List Term) (width count : ℕ) (keep : List ℕ) (k : ℕ) (old new : Narrow) (h : IsPlanned left right lefts rights width count keep old) where
   abbrev Old : ℕ → ℕ → Type 0
-  Old = IsMoved left right old.lefts.items old.rights.items width old.keep.items
+  Old = IsMoved left right old.lefts.items old.rights.items width (numbers width old.keep.items)
 
   abbrev New : ℕ → ℕ → Type 0
-  New = IsMoved left right new.lefts.items new.rights.items width new.keep.items
+  New = IsMoved left right new.lefts.items new.rights.items width (numbers width new.keep.items)
 
   abbrev Same : ℕ → ℕ → Type 0
   Same = IsShared left right count
 
   -- what was moved stays where it is
-  wider : (more other : List Term) (more_keep : List ℕ) → new.lefts.items ≡ old.lefts.items ++ more → new.rights.items ≡ old.rights.items ++ other → new.keep.items ≡ old.keep.items ++ more_keep
+  wider : (more other : List Term) (more_keep : List Side) → new.lefts.items ≡ old.lefts.items ++ more → new.rights.items ≡ old.rights.items ++ other → new.keep.items ≡ old.keep.items ++ more_keep
       → (c q : ℕ) → Old c q → New c q
   wider more other more_keep el er ek c q m =
-      subst (λ x. IsMoved left right x new.rights.items width new.keep.items c q) (sym el)
-      (subst (λ x. IsMoved left right (old.lefts.items ++ more) x width new.keep.items c q) (sym er)
-      (subst (λ x. IsMoved left right (old.lefts.items ++ more) (old.rights.items ++ other) width x c q) (sym ek)
-      (moved_more left right old.lefts.items old.rights.items more other width old.keep.items more_keep c q m)))
+      subst (λ x. IsMoved left right x new.rights.items width (numbers width new.keep.items) c q) (sym el)
+      (subst (λ x. IsMoved left right (old.lefts.items ++ more) x width (numbers width new.keep.items) c q) (sym er)
+      (subst (λ x. IsMoved left right (old.lefts.items ++ more) (old.rights.items ++ other) width x c q) (sym (ap (numbers width) ek ∙ map-append (number_of width) old.keep.items more_keep))
+      (moved_more left right old.lefts.items old.rights.items more other width (numbers width old.keep.items) (numbers width more_keep) c q m)))
 
-  pub planned_shared : (t : Term) (place : ℕ) → slice_get (left ++ right) k ≡ Some t → above_of t ≡ 0 → place ≡ count + k
-      → new.lefts.items ≡ old.lefts.items → new.rights.items ≡ old.rights.items → new.keep.items ≡ old.keep.items → new.places.items ≡ old.places.items ++ place ∷ []
+  -- the sides stay there
+  sides_more : (more other : List Term) → new.lefts.items ≡ old.lefts.items ++ more → new.rights.items ≡ old.rights.items ++ other → All (IsSide new.lefts.items new.rights.items) old.keep.items
+  sides_more more other el er =
+      subst (λ x. All (IsSide x new.rights.items) old.keep.items) (sym el)
+      (subst (λ x. All (IsSide (old.lefts.items ++ more) x) old.keep.items) (sym er)
+      (All-weaker (IsSide old.lefts.items old.rights.items) (IsSide (old.lefts.items ++ more) (old.rights.items ++ other)) (side_more old.lefts.items old.rights.items more other) old.keep.items h.sides))
+
+  pub planned_shared : (t : Term) → slice_get (left ++ right) k ≡ Some t → above_of t ≡ 0
+      → new.lefts.items ≡ old.lefts.items → new.rights.items ≡ old.rights.items → new.keep.items ≡ old.keep.items → new.places.items ≡ old.places.items ++ Given k ∷ []
       → IsPlanned left right lefts rights width count (keep ++ k ∷ []) new
-  planned_shared t place at closed e el er ek ep = record {
+  planned_shared t at closed el er ek ep = record {
     more_left = h.more_left;
     lefts_are = el ∙ h.lefts_are;
     left_typed = h.left_typed;
@@ -242,24 +253,52 @@ module _ (left right lefts rights : List Term) (width count : ℕ) (keep : List 
     rights_are = er ∙ h.rights_are;
     right_typed = h.right_typed;
     plan =
-        subst (λ ps. Plans New Same 0 (length new.keep.items) (keep ++ k ∷ []) ps) (sym ep)
-        (subst (λ x. Plans New Same 0 (length x) (keep ++ k ∷ []) (old.places.items ++ place ∷ [])) (sym ek)
-        (plans_shared New Same 0 (length old.keep.items) keep old.places.items k place
-        (plans_wider Old New Same (wider [] [] [] (el ∙ sym (append-nil old.lefts.items)) (er ∙ sym (append-nil old.rights.items)) (ek ∙ sym (append-nil old.keep.items))) 0 (length old.keep.items) keep old.places.items h.plan)
-        ((t, at, closed), e)));
+        subst (λ ps. Plans New Same 0 (length new.keep.items) (keep ++ k ∷ []) ps) (sym (ap (spots count) ep ∙ map-append (spot_of count) old.places.items (Given k ∷ [])))
+        (subst (λ (x : List Side). Plans New Same 0 (length x) (keep ++ k ∷ []) (spots count old.places.items ++ (count + k) ∷ [])) (sym ek)
+        (plans_shared New Same 0 (length old.keep.items) keep (spots count old.places.items) k (count + k)
+        (plans_wider Old New Same (wider [] [] [] (el ∙ sym (append-nil old.lefts.items)) (er ∙ sym (append-nil old.rights.items)) (ek ∙ sym (append-nil old.keep.items))) 0 (length old.keep.items) keep (spots count old.places.items) h.plan)
+        ((t, at, closed), refl)));
+    sides = subst (All (IsSide new.lefts.items new.rights.items)) (sym ek) (sides_more [] [] (el ∙ sym (append-nil old.lefts.items)) (er ∙ sym (append-nil old.rights.items)));
+    within = subst (λ (x : List Side). All (IsPlace (length x) (length left + length right)) new.places.items) (sym ek)
+        (subst (All (IsPlace (length old.keep.items) (length left + length right))) (sym ep)
+        (All-push (IsPlace (length old.keep.items) (length left + length right)) old.places.items (Given k) h.within
+        (let l = slice_get_within (left ++ right) k t at in let e = length-append left right in omega (arith, l, e))));
   }
 
-  moved_plan : (place : ℕ) → New k (length old.keep.items) → (more other : List Term) → new.lefts.items ≡ old.lefts.items ++ more → new.rights.items ≡ old.rights.items ++ other
-      → new.keep.items ≡ old.keep.items ++ place ∷ [] → new.places.items ≡ old.places.items ++ length old.keep.items ∷ [] → Plans New Same 0 (length new.keep.items) (keep ++ k ∷ []) new.places.items
-  moved_plan place m more other el er ek ep =
-      let one_more : length new.keep.items ≡ suc (length old.keep.items) = (let a = ap (λ (x : List ℕ). length x) ek in let b = length-append old.keep.items (place ∷ []) in omega (arith, a, b)) in
-      subst (λ ps. Plans New Same 0 (length new.keep.items) (keep ++ k ∷ []) ps) (sym ep)
-      (subst (λ to. Plans New Same 0 to (keep ++ k ∷ []) (old.places.items ++ length old.keep.items ∷ [])) (sym one_more)
-      (plans_moved New Same 0 (length old.keep.items) keep old.places.items k
-      (plans_wider Old New Same (wider more other (place ∷ []) el er ek) 0 (length old.keep.items) keep old.places.items h.plan) m))
+  one_more : (s : Side) → new.keep.items ≡ old.keep.items ++ s ∷ [] → length new.keep.items ≡ suc (length old.keep.items)
+  one_more s ek = (let a = ap (λ (x : List Side). length x) ek in let b = length-append old.keep.items (s ∷ []) in omega (arith, a, b))
+
+  moved_plan : (s : Side) → New k (length old.keep.items) → (more other : List Term) → new.lefts.items ≡ old.lefts.items ++ more → new.rights.items ≡ old.rights.items ++ other
+      → new.keep.items ≡ old.keep.items ++ s ∷ [] → new.places.items ≡ old.places.items ++ Solved (length old.keep.items) ∷ [] → Plans New Same 0 (length new.keep.items) (keep ++ k ∷ []) (spots count new.places.items)
+  moved_plan s m more other el er ek ep =
+      subst (λ ps. Plans New Same 0 (length new.keep.items) (keep ++ k ∷ []) ps) (sym (ap (spots count) ep ∙ map-append (spot_of count) old.places.items (Solved (length old.keep.items) ∷ [])))
+      (subst (λ to. Plans New Same 0 to (keep ++ k ∷ []) (spots count old.places.items ++ length old.keep.items ∷ [])) (sym (one_more s ek))
+      (plans_moved New Same 0 (length old.keep.items) keep (spots count old.places.items) k
+      (plans_wider Old New Same (wider more other (s ∷ []) el er ek) 0 (length old.keep.items) keep (spots count old.places.items) h.plan) m))
+
+  -- the number of the side that was put last
+  last_number : (s : Side) → new.keep.items ≡ old.keep.items ++ s ∷ [] → slice_get (numbers width new.keep.items) (length old.keep.items) ≡ Some (number_of width s)
+  last_number s ek =
+      ap (λ (x : List ℕ). slice_get x (length old.keep.items)) (ap (numbers width) ek ∙ map-append (number_of width) old.keep.items (s ∷ []))
+      ∙ ap (slice_get (numbers width old.keep.items ++ number_of width s ∷ [])) (sym (length-map old.keep.items (number_of width)))
+      ∙ get-last (numbers width old.keep.items) (number_of width s)
+
+  moved_sides : (s : Side) → (more other : List Term) → new.lefts.items ≡ old.lefts.items ++ more → new.rights.items ≡ old.rights.items ++ other → new.keep.items ≡ old.keep.items ++ s ∷ []
+      → IsSide new.lefts.items new.rights.items s → All (IsSide new.lefts.items new.rights.items) new.keep.items
+  moved_sides s more other el er ek own =
+      subst (All (IsSide new.lefts.items new.rights.items)) (sym ek) (All-push (IsSide new.lefts.items new.rights.items) old.keep.items s (sides_more more other el er) own)
+
+  moved_within : (s : Side) → new.keep.items ≡ old.keep.items ++ s ∷ [] → new.places.items ≡ old.places.items ++ Solved (length old.keep.items) ∷ [] → All (IsPlace (length new.keep.items) (length left + length right)) new.places.items
+  moved_within s ek ep =
+      let one = one_more s ek in
+      subst (All (IsPlace (length new.keep.items) (length left + length right))) (sym ep)
+      (All-push (IsPlace (length new.keep.items) (length left + length right)) old.places.items (Solved (length old.keep.items))
+      (All-weaker (IsPlace (length old.keep.items) (length left + length right)) (IsPlace (length new.keep.items) (length left + length right))
+      (place_more (length old.keep.items) (length new.keep.items) (length left + length right) (omega (arith, one))) old.places.items h.within)
+      (omega (arith, one)))
 
   pub planned_left : (t : Term) → slice_get left k ≡ Some t
-      → new.lefts.items ≡ old.lefts.items ++ t ∷ [] → new.rights.items ≡ old.rights.items → new.keep.items ≡ old.keep.items ++ length old.lefts.items ∷ [] → new.places.items ≡ old.places.items ++ length old.keep.items ∷ []
+      → new.lefts.items ≡ old.lefts.items ++ t ∷ [] → new.rights.items ≡ old.rights.items → new.keep.items ≡ old.keep.items ++ Left (length old.lefts.items) ∷ [] → new.places.items ≡ old.places.items ++ Solved (length old.keep.items) ∷ []
       → IsPlanned left right lefts rights width count (keep ++ k ∷ []) new
   planned_left t at el er ek ep = record {
     more_left = h.more_left ++ t ∷ [];
@@ -271,13 +310,16 @@ module _ (left right lefts rights : List Term) (width count : ℕ) (keep : List 
     more_right = h.more_right;
     rights_are = er ∙ h.rights_are;
     right_typed = h.right_typed;
-    plan = moved_plan (length old.lefts.items)
-        (inl (t, length old.lefts.items, at, ap (λ x. slice_get x (length old.lefts.items)) el ∙ get-last old.lefts.items t, ap (λ x. slice_get x (length old.keep.items)) ek ∙ get-last old.keep.items (length old.lefts.items)))
+    plan = moved_plan (Left (length old.lefts.items))
+        (inl (t, length old.lefts.items, at, ap (λ x. slice_get x (length old.lefts.items)) el ∙ get-last old.lefts.items t, last_number (Left (length old.lefts.items)) ek))
         (t ∷ []) [] el (er ∙ sym (append-nil old.rights.items)) ek ep;
+    sides = moved_sides (Left (length old.lefts.items)) (t ∷ []) [] el (er ∙ sym (append-nil old.rights.items)) ek
+        (let a = ap (λ (x : List Term). length x) el in let b = length-append old.lefts.items (t ∷ []) in omega (arith, a, b));
+    within = moved_within (Left (length old.lefts.items)) ek ep;
   }
 
   pub planned_right : (t : Term) (i : ℕ) → k ≡ length left + i → slice_get right i ≡ Some t
-      → new.lefts.items ≡ old.lefts.items → new.rights.items ≡ old.rights.items ++ t ∷ [] → new.keep.items ≡ old.keep.items ++ (width + length old.rights.items) ∷ [] → new.places.items ≡ old.places.items ++ length old.keep.items ∷ []
+      → new.lefts.items ≡ old.lefts.items → new.rights.items ≡ old.rights.items ++ t ∷ [] → new.keep.items ≡ old.keep.items ++ Right (length old.rights.items) ∷ [] → new.places.items ≡ old.places.items ++ Solved (length old.keep.items) ∷ []
       → IsPlanned left right lefts rights width count (keep ++ k ∷ []) new
   planned_right t i e at el er ek ep = record {
     more_left = h.more_left;
@@ -289,38 +331,49 @@ module _ (left right lefts rights : List Term) (width count : ℕ) (keep : List 
         let (ss, a) = h.right_typed sig rs hr in
         let (s, b) = column_typed sig right rs i t hr at in
         (ss ++ s ∷ [], sorts-append sig h.more_right (t ∷ []) ss (s ∷ []) a (b, tt));
-    plan = moved_plan (width + length old.rights.items)
-        (inr (t, i, length old.rights.items, e, at, ap (λ x. slice_get x (length old.rights.items)) er ∙ get-last old.rights.items t, ap (λ x. slice_get x (length old.keep.items)) ek ∙ get-last old.keep.items (width + length old.rights.items)))
+    plan = moved_plan (Right (length old.rights.items))
+        (inr (t, i, length old.rights.items, e, at, ap (λ x. slice_get x (length old.rights.items)) er ∙ get-last old.rights.items t, last_number (Right (length old.rights.items)) ek))
         [] (t ∷ []) (el ∙ sym (append-nil old.lefts.items)) er ek ep;
+    sides = moved_sides (Right (length old.rights.items)) [] (t ∷ []) (el ∙ sym (append-nil old.lefts.items)) er ek
+        (let a = ap (λ (x : List Term). length x) er in let b = length-append old.rights.items (t ∷ []) in omega (arith, a, b));
+    within = moved_within (Right (length old.rights.items)) ek ep;
   }
 
--- what was put is narrow, where there is as much of it as was counted
-pub narrow_made : (left right : List Term) (pairs : List Pair) (keep : List ℕ) (width count : ℕ) (before after : Narrow)
+-- what was put is narrow
+pub narrow_made : (left right : List Term) (pairs : List Pair) (keep : List ℕ) (before after : Narrow)
     → ((sig : Signature) → AreJoinable sig left right pairs → ArePaired sig left right pairs before.lefts.items before.rights.items) → before.front ≡ length before.lefts.items
     → before.keep.items ≡ [] → before.places.items ≡ [] → after.front ≡ before.front
-    → ((lefts rights : List Term) → IsPlanned left right lefts rights width count [] before → IsPlanned left right lefts rights width count keep after)
-    → length after.lefts.items ≡ width → length after.keep.items ≡ count → IsNarrow left right pairs keep after
-narrow_made left right pairs keep width count before after paired front no_keep no_places same planned w n = record {
+    → ((lefts rights : List Term) (width count : ℕ) → IsPlanned left right lefts rights width count [] before → IsPlanned left right lefts rights width count keep after)
+    → IsNarrow left right pairs keep after
+narrow_made left right pairs keep before after paired front no_keep no_places same planned = record {
   lefts = before.lefts.items;
   rights = before.rights.items;
   paired = paired;
   front = same ∙ front;
-  planned =
-      subst (λ x. IsPlanned left right before.lefts.items before.rights.items x (length after.keep.items) keep after) (sym w)
-      (subst (λ x. IsPlanned left right before.lefts.items before.rights.items width x keep after) (sym n)
-      (planned before.lefts.items before.rights.items (planned_none left right width count before no_keep no_places)));
+  planned = planned before.lefts.items before.rights.items (length after.lefts.items) (length after.keep.items)
+      (planned_none left right (length after.lefts.items) (length after.keep.items) before no_keep no_places);
 }
 
-pub min_one : (n : ℕ) → (n ≡ 0 → ⊥) → min n 1 ≡ 1
-min_one zero h = absurd (h refl)
-min_one (suc n) h = omega arith
+-- the columns of the narrow rows are there
+pub sides_within : (lefts rights : List Term) (sides : List Side) → All (IsSide lefts rights) sides → All (λ (k : ℕ). k < length lefts + length rights) (numbers (length lefts) sides)
+sides_within lefts rights [] h = λ k d l. absurd (omega (arith, l))
+sides_within lefts rights (s ∷ sides) h =
+    All-cons (λ (k : ℕ). k < length lefts + length rights) (number_of (length lefts) s) (numbers (length lefts) sides) (one s (All-head (IsSide lefts rights) s sides h))
+    (sides_within lefts rights sides (All-tail (IsSide lefts rights) s sides h)) where
+      one : (s : Side) → IsSide lefts rights s → number_of (length lefts) s < length lefts + length rights
+      one (Left j) l = omega (arith, l)
+      one (Right j) l = omega (arith, l)
 
--- a column counts once at most
-open_most : (o : Option Term) → open_term o ≤ 1
-open_most None = omega arith
-open_most (Some t) = omega arith
+-- one number more, and one place more
+pub more_mapped : {X : Type 0} (f : X → ℕ) (xs : List X) (i : ℕ) (x : X) (old new : List ℕ) (n : ℕ) → slice_get xs i ≡ Some x → n ≡ f x → old ≡ map f (take i xs) → new ≡ old ++ n ∷ [] → new ≡ map f (take (i + 1) xs)
+more_mapped {X = X} f xs i x old new n at is h e =
+    e ∙ ap₂ (λ (ys : List ℕ) (m : ℕ). ys ++ m ∷ []) h is ∙ sym (map-append f (take i xs) (x ∷ [])) ∙ sym (ap (map f) (one_taken xs i at)) where
+      one_taken : (ys : List X) (j : ℕ) → slice_get ys j ≡ Some x → take (j + 1) ys ≡ take j ys ++ x ∷ []
+      one_taken ys j g = take_more ys j x (slice_get_within ys j x g) ∙ ap (λ (y : X). take j ys ++ y ∷ []) (get_or_from_slice_get ys j x x g)
 
-pub few_open : (row : List Term) (k own m : ℕ) → own ≡ open_at row k → 1 ≤ m → own ≡ min (open_at row k) m
-few_open row k own m e l =
-    let most = open_most (slice_get row k) in
-    omega (arith, e, l, most)
+-- one column more
+pub more_picked : {X : Type 0} (f : X → ℕ) (row : List Term) (xs : List X) (i : ℕ) (x : X) (old new : List Term) (t : Term) → slice_get xs i ≡ Some x → slice_get row (f x) ≡ Some t → old ≡ picked row (map f (take i xs)) → new ≡ old ++ t ∷ []
+    → new ≡ picked row (map f (take (i + 1) xs))
+more_picked f row xs i x old new t at is h e =
+    e ∙ ap (λ (ys : List Term). ys ++ t ∷ []) h ∙ sym (picked-push row (map f (take i xs)) (f x) t is)
+    ∙ sym (ap (picked row) (ap (map f) (take_more xs i x (slice_get_within xs i x at) ∙ ap (λ y. take i xs ++ y ∷ []) (get_or_from_slice_get xs i x x at)) ∙ map-append f (take i xs) (x ∷ [])))

@@ -1,15 +1,15 @@
 -- Pairs of columns of two rows, one by one.
-use Rattle.std.proofs.Common.{◌≡◌, ℕ, ◌<◌, ◌+◌, ◌≤◌, Bool, true, false, List, [], ◌∷◌, ◌++◌, map, length, get_or, take, zero, suc, refl, ap, ap₂, sym, ◌∙◌, subst, Option, Some, None, IfSome, slice_get, IsTrue, ◌↔◌, inl, inr, ◌⊎◌, arith}
+use Rattle.std.proofs.Common.{◌≡◌, ℕ, ◌<◌, ◌+◌, ◌≤◌, Bool, true, false, List, [], ◌∷◌, ◌++◌, map, length, get_or, take, zero, suc, refl, ap, sym, ◌∙◌, subst, Option, Some, IfSome, slice_get, IsTrue, ◌↔◌, arith}
 use Rattle.std.specs.Option.{option_map}
 use Rattle.std.proofs.lemmas.Bool.{false≢true}
 use Rattle.std.proofs.lemmas.List.{take_more, take_all}
-use Rattle.std.proofs.lemmas.Option.{slice_get-map, slice_get_read}
+use Rattle.std.proofs.lemmas.Option.{slice_get-map}
 use Rattle.psg_terms.specs.Terms.{Term}
 use Rattle.psg_terms.specs.Signature.{Signature, HasSort, HaveSorts}
 use Rattle.psg_terms.specs.Weight.{above_of}
 use Rattle.psg_terms.specs.Instances.{Substitution, substitute}
 use Rattle.psg_terms.proofs.Recognising.{substitute-closed}
-use Rattle.psg_unify.specs.Pairs.{Pair, AgreeOn, AreOfEqualSort, AreJoinable}
+use Rattle.psg_unify.specs.Pairs.{Pair, AgreeOn, AreOfEqualSort}
 use Rattle.psg_relation.specs.Heads.{head_of}
 use Rattle.psg_relation.specs.Settling.{IsSettled, AreSettled}
 use Rattle.psg_relation.proofs.Indexing.{head-substitute}

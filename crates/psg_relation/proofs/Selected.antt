@@ -125,12 +125,12 @@ twins_step sig pairs keep rows now more i row l e a m =
     subst (λ ps. AreJoined sig pairs keep ps more) (sym (twins-push (take i rows) row) ∙ ap twins (sym (take-next rows i row l e)))
     (joined_one sig pairs keep (twins (take i rows)) now row row more a m)
 
-twins-in : (p : Two) (rows : List (List Term)) → IsIn p (twins rows) → IsIn p.0 rows × (p.0 ≡ p.1)
+pub twins-in : (p : Two) (rows : List (List Term)) → IsIn p (twins rows) → IsIn p.0 rows × (p.0 ≡ p.1)
 twins-in p [] h = elim h [ ]
 twins-in p (row ∷ rows) first = (first, refl)
 twins-in p (row ∷ rows) (later h) = let (i, e) = twins-in p rows h in (later i, e)
 
-in-twins : (row : List Term) (rows : List (List Term)) → IsIn row rows → IsIn (row, row) (twins rows)
+pub in-twins : (row : List Term) (rows : List (List Term)) → IsIn row rows → IsIn (row, row) (twins rows)
 in-twins row [] h = elim h [ ]
 in-twins row (r ∷ rows) first = first
 in-twins row (r ∷ rows) (later h) = later (in-twins row rows h)
@@ -140,18 +140,22 @@ pub width_same : (sig : Signature) (rows : List (List Term)) (ss : List ℕ) →
 width_same sig [] ss all row h = elim h [ ]
 width_same sig (r ∷ rows) ss all row h = sorts-many sig row ss (all row h) ∙ sym (sorts-many sig r ss (all r first))
 
-pub self_joinable : (sig : Signature) (rows : List (List Term)) (ss : List ℕ) (pairs : List Columns) → AllHaveSorts sig rows ss → AreOfEqualSort ss ss pairs
-    → (row : List Term) → IsIn row rows → AreJoinable sig row row (diagonal 0 (width_of rows) ++ pairs)
-self_joinable sig rows ss pairs all equal row h =
+pub self_equal : (sig : Signature) (rows : List (List Term)) (ss : List ℕ) (pairs : List Columns) → AllHaveSorts sig rows ss → AreOfEqualSort ss ss pairs
+    → (row : List Term) → IsIn row rows → AreOfEqualSort ss ss (diagonal 0 (width_of rows) ++ pairs)
+self_equal sig rows ss pairs all equal row h =
     let w = width_same sig rows ss all row h in
     let m = sorts-many sig row ss (all row h) in
-    record {
-      left_sorts = ss;
-      right_sorts = ss;
-      left_sorted = all row h;
-      right_sorted = all row h;
-      equal = sorts-append ss ss (diagonal 0 (width_of rows)) pairs (diagonal_sorts (width_of rows) 0 ss (omega arith)) equal;
-    }
+    sorts-append ss ss (diagonal 0 (width_of rows)) pairs (diagonal_sorts (width_of rows) 0 ss (omega arith)) equal
+
+pub self_joinable : (sig : Signature) (rows : List (List Term)) (ss : List ℕ) (pairs : List Columns) → AllHaveSorts sig rows ss → AreOfEqualSort ss ss pairs
+    → (row : List Term) → IsIn row rows → AreJoinable sig row row (diagonal 0 (width_of rows) ++ pairs)
+self_joinable sig rows ss pairs all equal row h = record {
+  left_sorts = ss;
+  right_sorts = ss;
+  left_sorted = all row h;
+  right_sorted = all row h;
+  equal = self_equal sig rows ss pairs all equal row h;
+}
 
 module _ (sig : Signature) (rows : List (List Term)) (pairs : List Columns) (keep : List ℕ) (ss : List ℕ) (all : AllHaveSorts sig rows ss) (within : AllWithin rows keep)
     (made : List (List Term)) (a : AreJoined sig (diagonal 0 (width_of rows) ++ pairs) keep (twins rows) made) where

@@ -8,7 +8,7 @@ use Rattle.psg_terms.specs.Relations.{IsIn, first, later}
 use Rattle.psg_terms.specs.Signature.{Signature}
 use Rattle.psg_terms.specs.Text.{IsInTextOrder}
 use Rattle.psg_relation.specs.Heavy.{IsHeavy}
-use Rattle.psg_relation.specs.Sifted.{AreCovered, IsSifted, IsSplit, HasSameRows, IsLightly, LosesHeavy, StartsHeavy}
+use Rattle.psg_relation.specs.Sifted.{AreCovered, IsSifted, IsSplit, IsHalved, HasSameRows, IsLightly, LosesHeavy, StartsHeavy}
 use Rattle.psg_relation.proofs.Members.{in-left, in-last, in-split, in-contains, contains-in}
 use Rattle.psg_relation.proofs.Growing.{instance-refl, sifted_none}
 
@@ -85,28 +85,32 @@ module _ (rows light heavy sorted once kept : List (List Term)) (s : IsSplit row
     once = m.once;
   }
 
-  pub all_light : AreCovered true kept heavy → IsLightly rows kept
-  all_light covered = record {
-    sifted = record {
-      among = λ k h. (s.lights k (from_once k (m.among k h))).0;
-      covers = λ x h. elim (s.all x h) [ inl a ↦ m.covers x (to_once x a) | inr b ↦ covered x b ];
-      apart = m.apart;
-      once = m.once;
-    };
-    lights = λ k h. (s.lights k (from_once k (m.among k h))).1;
-  }
+  pub halved : IsHalved rows kept heavy
+  halved = record { light = light; split = s; sifted = sifted_light }
 
-  pub heavy_lost : AreCovered false kept heavy → LosesHeavy rows
-  heavy_lost (row, there, uncovered) = record {
-    light = light;
-    kept = kept;
-    sifted = sifted_light;
-    lights = λ x h. (s.lights x h).0;
-    all = λ x h. elim (s.all x h) [ inl a ↦ inl a | inr b ↦ inr (s.heavies x b).1 ];
-    row = row;
-    there = (s.heavies row there).0;
-    uncovered = uncovered;
-  }
+-- Of rows that were sifted by size those that are too large are instances of kept ones, or one is not.
+pub lightly : (rows kept heavy : List (List Term)) → IsHalved rows kept heavy → AreCovered true kept heavy → IsLightly rows kept
+lightly rows kept heavy h covered = record {
+  sifted = record {
+    among = λ k i. (h.split.lights k (h.sifted.among k i)).0;
+    covers = λ row i. elim (h.split.all row i) [ inl a ↦ h.sifted.covers row a | inr b ↦ covered row b ];
+    apart = h.sifted.apart;
+    once = h.sifted.once;
+  };
+  lights = λ k i. (h.split.lights k (h.sifted.among k i)).1;
+}
+
+pub losing : (rows kept heavy : List (List Term)) → IsHalved rows kept heavy → AreCovered false kept heavy → LosesHeavy rows
+losing rows kept heavy h (row, there, uncovered) = record {
+  light = h.light;
+  kept = kept;
+  sifted = h.sifted;
+  lights = λ x i. (h.split.lights x i).0;
+  all = λ x i. elim (h.split.all x i) [ inl a ↦ inl a | inr b ↦ inr (h.split.heavies x b).1 ];
+  row = row;
+  there = (h.split.heavies row there).0;
+  uncovered = uncovered;
+}
 
 -- one row or none
 only : (x row : List Term) → IsIn x (row ∷ []) → x ≡ row

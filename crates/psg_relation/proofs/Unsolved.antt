@@ -1,17 +1,14 @@
 -- Kept columns of two rows that need not be solved.
-use Rattle.std.proofs.Common.{◌≡◌, ℕ, ◌<◌, ◌+◌, ◌↔◌, ◌⊎◌, inl, inr, Bool, true, false, cond, max, List, [], ◌∷◌, ◌++◌, All, map, length, get_or, take, zero, suc, refl, ap, ap₂, sym, ◌∙◌, subst, Option, Some, None, slice_get, arith, length-append}
+use Rattle.std.proofs.Common.{◌≡◌, ℕ, ◌<◌, ◌+◌, ◌↔◌, ◌⊎◌, inl, inr, true, false, cond, List, [], ◌∷◌, ◌++◌, All, map, length, get_or, suc, refl, ap, ap₂, sym, ◌∙◌, subst, Some, slice_get, arith}
 use Rattle.std.proofs.lemmas.List.{map-append, length-map}
 use Rattle.psg_terms.specs.Terms.{Term, variable}
 use Rattle.psg_terms.specs.Signature.{Signature, HasSort, HaveSorts}
 use Rattle.psg_terms.specs.Sound.{IsSound}
-use Rattle.psg_terms.specs.Weight.{above_of}
-use Rattle.psg_terms.specs.Canonical.{Variable, IsCanonical, same_variable, IsNumberedFrom, noted_all, variables, variables_of, AreWrittenOut}
+use Rattle.psg_terms.specs.Canonical.{Variable, IsCanonical, same_variable, IsNumberedFrom, noted_all, variables_of, AreWrittenOut}
 use Rattle.psg_terms.specs.Instances.{Substitution, substitute, IsGround, IsGrounding, IsGroundInstance, HasSameInstances}
-use Rattle.psg_terms.specs.Renaming.{Renumbered}
 use Rattle.psg_terms.proofs.InstanceLaws.{Takes-substitute, ground-substitute}
 use Rattle.psg_terms.proofs.Recognising.{substitute-closed, variables-closed, written-closed}
-use Rattle.psg_terms.proofs.Renumbering.{HaveSorts-substitute}
-use Rattle.psg_terms.proofs.Separate.{Choices, grounding}
+use Rattle.psg_terms.proofs.Separate.{grounding}
 use Rattle.psg_terms.proofs.SoundChoices.{choices}
 use Rattle.psg_terms.proofs.Variables.{cases, same_variable-true, same_variable-refl}
 use Rattle.psg_unify.specs.Pairs.{Pair, AgreeOn, AreOfEqualSort, AreJoinable, IsAgreeing}
@@ -19,9 +16,8 @@ use Rattle.psg_unify.specs.Columns.{picked, Joins}
 use Rattle.psg_unify.proofs.Theorem.{Setting, left_same, right_same, solution, sorts-append}
 use Rattle.psg_relation.specs.Heavy.{highest_in}
 use Rattle.psg_relation.specs.Joining.{IsJoinOf}
-use Rattle.psg_relation.specs.Sealed.{IsReady}
-use Rattle.psg_relation.specs.Settling.{AreSettled, IsAnyValue}
-use Rattle.psg_relation.proofs.Columns.{picked_ground, picked-sorts, picked-push}
+use Rattle.psg_relation.specs.Settling.{AreSettled}
+use Rattle.psg_relation.proofs.Columns.{picked_ground, picked-sorts}
 use Rattle.psg_relation.proofs.Meeting.{join_of}
 use Rattle.psg_relation.proofs.Selected.{picked-left, get-left}
 use Rattle.psg_relation.proofs.Pairing.{sort_at, value_at}

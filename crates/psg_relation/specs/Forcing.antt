@@ -1,5 +1,5 @@
 -- Variables that have to be terms without variables, since they are paired with them.
-use Rattle.std.specs.Prelude.{◌≡◌, ◌∷◌, ℕ, List, [], cond, All, map}
+use Rattle.std.specs.Prelude.{◌≡◌, ◌∷◌, List, [], cond, All, map}
 use Rattle.psg_terms.specs.Terms.{Term, variable}
 use Rattle.psg_terms.specs.Signature.{Signature, HasSort}
 use Rattle.psg_terms.specs.Weight.{above_of}

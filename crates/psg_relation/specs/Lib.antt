@@ -10,3 +10,4 @@ pub mod Selecting
 pub mod Settling
 pub mod Forcing
 pub mod Narrowing
+pub mod Rejoining

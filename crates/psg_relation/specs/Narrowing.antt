@@ -1,6 +1,6 @@
 -- Rows with those columns alone that have to be solved, and how their join becomes that of the whole rows.
-use Rattle.std.specs.Prelude.{◌≡◌, ◌+◌, ◌++◌, ◌∷◌, ◌⊎◌, ℕ, suc, min, true, List, [], Option}
-use Rattle.std.specs.Prelude.{Some, None, map, length, slice_get}
+use Rattle.std.specs.Prelude.{◌≡◌, ◌<◌, ◌+◌, ◌++◌, ◌∷◌, ◌⊎◌, ℕ, suc, true, List, []}
+use Rattle.std.specs.Prelude.{Some, All, map, length, slice_get}
 use Rattle.psg_terms.specs.Terms.{Term}
 use Rattle.psg_terms.specs.Signature.{Signature, HaveSorts}
 use Rattle.psg_terms.specs.Weight.{above_of}
@@ -8,6 +8,10 @@ use Rattle.psg_terms.specs.Instances.{Substitution, substitute}
 use Rattle.psg_unify.specs.Pairs.{Pair as Columns, AgreeOn, AreJoinable}
 use Rattle.psg_relation.specs.Settling.{IsSettled}
 use Rattle.psg_relation.specs.declared.narrowing.Narrow.{Narrow}
+use Rattle.psg_relation.specs.declared.narrowing.Side.{Side}
+use Rattle.psg_relation.specs.declared.narrowing.Side.TheVariants.{Left, Right}
+use Rattle.psg_relation.specs.declared.narrowing.Place.{Place}
+use Rattle.psg_relation.specs.declared.narrowing.Place.TheVariants.{Solved, Given}
 
 -- Two lists of columns of one length and of equal sorts. The rows agree on the pairs exactly where the one list is the
 -- other.
@@ -39,6 +43,31 @@ abbrev pub IsShared : List Term → List Term → ℕ → ℕ → ℕ → Type 0
 IsShared left right count k place = ((t : Term) × (slice_get (left ++ right) k ≡ Some t) × (above_of t ≡ 0))
     × (place ≡ count + k)
 
+-- the number of a narrow column, where the left row has this number of them and the right ones come after them
+abbrev pub number_of : ℕ → Side → ℕ
+number_of width (Left j) = j
+number_of width (Right j) = width + j
+
+abbrev pub numbers : ℕ → List Side → List ℕ
+numbers width sides = map (number_of width) sides
+
+-- the place where this number of solved columns are in front of the others
+abbrev pub spot_of : ℕ → Place → ℕ
+spot_of count (Solved q) = q
+spot_of count (Given k) = count + k
+
+abbrev pub spots : ℕ → List Place → List ℕ
+spots count places = map (spot_of count) places
+
+-- there is such a column
+abbrev pub IsSide : List Term → List Term → Side → Type 0
+IsSide lefts rights (Left j) = j < length lefts
+IsSide lefts rights (Right j) = j < length rights
+
+abbrev pub IsPlace : ℕ → ℕ → Place → Type 0
+IsPlace count width (Solved q) = q < count
+IsPlace count width (Given k) = k < width
+
 -- Each kept column has its place: a solved one the next one, from the first number to the second, and a shared one
 -- after the solved ones.
 abbrev pub Plans : (ℕ → ℕ → Type 0) → (ℕ → ℕ → Type 0) → ℕ → ℕ → List ℕ → List ℕ → Type 0
@@ -58,8 +87,10 @@ pub record IsPlanned (left right lefts rights : List Term) (width count : ℕ) (
   pub rights_are : n.rights.items ≡ rights ++ more_right
   pub right_typed : (sig : Signature) (rs : List ℕ) → HaveSorts sig right rs
       → (ss : List ℕ) × HaveSorts sig more_right ss
-  pub plan : Plans (IsMoved left right n.lefts.items n.rights.items width n.keep.items) (IsShared left right count)
-      0 (length n.keep.items) keep n.places.items
+  pub plan : Plans (IsMoved left right n.lefts.items n.rights.items width (numbers width n.keep.items))
+      (IsShared left right count) 0 (length n.keep.items) keep (spots count n.places.items)
+  pub sides : All (IsSide n.lefts.items n.rights.items) n.keep.items
+  pub within : All (IsPlace (length n.keep.items) (length left + length right)) n.places.items
 
 -- the narrow rows have those of the pairs in front, and say where each kept column is
 pub record IsNarrow (left right : List Term) (pairs : List Columns) (keep : List ℕ) (n : Narrow) : Type 0 where
@@ -68,12 +99,3 @@ pub record IsNarrow (left right : List Term) (pairs : List Columns) (keep : List
   pub paired : (sig : Signature) → AreJoinable sig left right pairs → ArePaired sig left right pairs lefts rights
   pub front : n.front ≡ length lefts
   pub planned : IsPlanned left right lefts rights (length n.lefts.items) (length n.keep.items) keep n
-
--- 1 for a term with variables, and else 0
-abbrev pub open_term : Option Term → ℕ
-open_term None = 0
-open_term (Some t) = min (above_of t) 1
-
--- 1 where the row has a column of this number that has variables, and else 0
-abbrev pub open_at : List Term → ℕ → ℕ
-open_at row k = open_term (slice_get row k)

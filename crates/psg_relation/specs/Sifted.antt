@@ -48,6 +48,12 @@ pub record IsSplit (rows light heavy : List (List Term)) : Type 0 where
   pub heavies : (row : List Term) → IsIn row heavy → IsIn row rows × IsHeavy row
   pub all : (row : List Term) → IsIn row rows → IsIn row light ⊎ IsIn row heavy
 
+-- Rows that are too large were left aside, and the kept ones are the most general ones of the others.
+pub record IsHalved (rows kept heavy : List (List Term)) : Type 0 where
+  pub light : List (List Term)
+  pub split : IsSplit rows light heavy
+  pub sifted : IsSifted light kept
+
 -- the same members
 pub record HasSameRows (rows others : List (List Term)) : Type 0 where
   pub there : (row : List Term) → IsIn row rows → IsIn row others

@@ -12,7 +12,8 @@ use crate::beside::{any_value, beside, is_any_value};
 use crate::crossing::all_joins;
 use crate::forcing::{fill_all, forced_pairs};
 use crate::narrowing::narrowed;
-use crate::relation::{Rel, RelFault, relation_of};
+use crate::rejoining::{Partners, relation_of_joins};
+use crate::relation::{Rel, RelFault};
 use crate::row::RelRow;
 use crate::settling::settled_pairs;
 use crate::weighing::{MOST_SYMBOLS, row_weight};
@@ -105,7 +106,7 @@ fn forced_row(
 
 /// Returns the kept columns of the join of two rows, where they can be made to agree. Rows with different constructors
 /// at the heads of a pair, and those whose paired columns have no variables, need nothing to be made but the row.
-fn joined_row(
+pub fn joined_row(
     alloc: Global,
     sig: &Signature,
     pool: &mut JoinPool,
@@ -185,12 +186,14 @@ pub fn with_join(
 ///
 /// `Wide` is returned exactly where this relation has more than 16,384 variables and constructors or a term deeper than
 /// 1,000; a joined row that alone is too large does not count where it is an instance of another one, and its text is
-/// not written. `Memory` is returned as in `Rel::of`.
+/// not written. `Memory` is returned when memory runs out.
 ///
 /// It joins each row of the one side with those rows of the other side that have the same constructor at the head of
 /// the first paired column, or a variable there. A row with a variable there, and a row where there are no pairs, is
 /// joined with each row of the other side. A join goes over both rows and shares what it makes. After the joins the
-/// cost is that of `Rel::of`.
+/// cost is that of `Rel::of`. Where a joined row that is too large has two equally large terms of more than 2^20
+/// variables and constructors for one variable of another row, all joins are made once more, and those that are too
+/// large are solved a third time and compared as cells.
 pub fn join(
     alloc: Global,
     sig: &Signature,
@@ -215,6 +218,8 @@ pub fn join(
         → HasWide sig.now (picked (ls ++ rs) keep.now)
         (IsGlued sig.now (Agrees pairs.now keep.now) left.now right.now))) }
 {
-    let made = all_joins(alloc, sig, left.rows(), right.rows(), pairs, keep)?;
-    relation_of(alloc, sig, made)
+    let lefts = left.rows();
+    let rights = right.rows();
+    let made = all_joins(alloc, sig, lefts, rights, pairs, keep)?;
+    relation_of_joins(alloc, sig, made, lefts, rights, Partners::All, pairs, keep)
 }

@@ -26,6 +26,7 @@ mod maximal;
 mod narrowing;
 mod order;
 pub mod projection;
+mod rejoining;
 pub mod relation;
 pub mod row;
 pub mod selecting;

@@ -71,7 +71,12 @@ fn is_covered_at(
 
 /// Says whether the row is an instance of one of the kept ones. Where a constructor is at the head of its first column,
 /// those that have another one there are not compared.
-fn is_held(alloc: Global, kept: &[RelRow], heads: &Heads, row: &[Term]) -> Result<bool, AllocError>
+pub fn is_held(
+    alloc: Global,
+    kept: &[RelRow],
+    heads: &Heads,
+    row: &[Term],
+) -> Result<bool, AllocError>
     requires { IsIndexed kept.now 0 (length kept.now) heads.now.free.items (places_at heads.now.places) }
     ensures { IfOk result (λ b. IsTrue b ↔ IsCovered kept.now row.now) }
 {

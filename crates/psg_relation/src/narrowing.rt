@@ -1,22 +1,40 @@
 //! Joins of two rows, of which only those columns are solved that have variables or are paired with one that has.
 ghost use Rattle.std.specs.Prelude.{◌≡◌, ◌<◌, ◌+◌, ◌++◌, ◌∷◌, [], All, IfOk, OnOk, IsTrue};
-ghost use Rattle.std.specs.Prelude.{◌-◌, ◌^◌, min, sum_by, List, length, slice_get, true, Some, ℕ};
+ghost use Rattle.std.specs.Prelude.{List, length, slice_get, true, Some, ℕ};
 ghost use Rattle.psg_terms.specs.Terms.{Term as Plain};
 ghost use Rattle.psg_terms.specs.Signature.{Signature as Sig};
 ghost use Rattle.psg_terms.specs.Weight.{above_of};
 ghost use Rattle.psg_unify.specs.Pairs.{AreJoinable};
 ghost use Rattle.psg_unify.specs.Columns.{picked};
 ghost use Rattle.psg_relation.specs.Joining.{IsJoint};
-ghost use Rattle.psg_relation.specs.Narrowing.{ArePaired, ArePushed, IsPlanned, IsNarrow, open_at};
+ghost use Rattle.psg_relation.specs.Narrowing.{ArePaired, ArePushed, IsPlanned, IsNarrow, IsSide, IsPlace};
+ghost use Rattle.psg_relation.specs.Narrowing.{number_of, numbers, spot_of, spots};
 ghost use Rattle.psg_relation.specs.Settling.{IsSettled};
 
-use crate::beside::{are_below, column_at};
 use crate::row::RelRow;
 use crate::selecting::with_diagonal;
 use crate::settling::settled;
 use psg_terms::{Signature, Term};
 use psg_unify::JoinPool;
 use std::alloc::{AllocError, Global};
+
+/// A column that is solved.
+#[derive(Clone, Copy)]
+pub enum Side {
+    /// The left one of this number.
+    Left(usize),
+    /// The right one of this number.
+    Right(usize),
+}
+
+/// Where a kept column of the whole rows is.
+#[derive(Clone, Copy)]
+pub enum Place {
+    /// It is solved, and has this number among the kept ones.
+    Solved(usize),
+    /// It has no variable, and is the column of this number of both rows, the right ones after the left ones.
+    Given(usize),
+}
 
 /// Columns that are solved, and the places of the kept ones.
 #[derive(Drop)]
@@ -27,10 +45,10 @@ pub struct Narrow {
     pub lefts: Vec<Term>,
     /// The right columns that are solved: those of the pairs, and then those that are kept.
     pub rights: Vec<Term>,
-    /// The numbers of the kept columns among these, the right ones after the left ones.
-    pub keep: Vec<usize>,
-    /// Where each kept column of the whole rows is: a solved one among the kept ones, and another one after them.
-    pub places: Vec<usize>,
+    /// The kept columns among these, in the order in which they are kept.
+    pub keep: Vec<Side>,
+    /// Where each kept column of the whole rows is.
+    pub places: Vec<Place>,
 }
 
 /// Says whether the terms are equal for all values of their variables, as far as that shows at once.
@@ -93,20 +111,15 @@ fn paired(
 }
 
 /// Puts a kept column that has no variable, so that it is shared.
-fn keep_shared(narrow: &mut Narrow, column: usize, count: usize) -> Result<(), AllocError>
+fn keep_shared(narrow: &mut Narrow, column: usize) -> Result<(), AllocError>
     ensures front { narrow.new.front ≡ narrow.old.front }
-    ensures planned { OnOk result ((left right lefts rights : List Plain) (width : ℕ) (keep : List ℕ) (t : Plain)
+    ensures planned { OnOk result ((left right lefts rights : List Plain) (width count : ℕ) (keep : List ℕ) (t : Plain)
         → slice_get (left ++ right) column ≡ Some t → above_of t ≡ 0
         → IsPlanned left right lefts rights width count keep narrow.old
         → IsPlanned left right lefts rights width count (keep ++ column ∷ []) narrow.new) }
 {
-    match count.checked_add(column) {
-        Some(place) => {
-            narrow.places.push(place)?;
-            Ok(())
-        }
-        None => Err(AllocError),
-    }
+    narrow.places.push(Place::Given(column))?;
+    Ok(())
 }
 
 /// Puts a kept column of the left row among those that are solved.
@@ -118,43 +131,32 @@ fn keep_left(narrow: &mut Narrow, term: &Term, column: usize) -> Result<(), Allo
 {
     let copy = term.share()?;
     let lefts = narrow.lefts.as_slice();
-    let at = lefts.len();
+    let next = lefts.len();
     let kept = narrow.keep.as_slice();
     let place = kept.len();
     narrow.lefts.push(copy)?;
-    narrow.keep.push(at)?;
-    narrow.places.push(place)?;
+    narrow.keep.push(Side::Left(next))?;
+    narrow.places.push(Place::Solved(place))?;
     Ok(())
 }
 
-/// Puts a kept column of the right row among those that are solved. The width is the number of them that the left row
-/// is to have.
-fn keep_right(
-    narrow: &mut Narrow,
-    term: &Term,
-    column: usize,
-    width: usize,
-) -> Result<(), AllocError>
+/// Puts a kept column of the right row among those that are solved.
+fn keep_right(narrow: &mut Narrow, term: &Term, column: usize) -> Result<(), AllocError>
     ensures front { narrow.new.front ≡ narrow.old.front }
-    ensures planned { OnOk result ((left right lefts rights : List Plain) (count : ℕ) (keep : List ℕ) (i : ℕ)
+    ensures planned { OnOk result ((left right lefts rights : List Plain) (width count : ℕ) (keep : List ℕ) (i : ℕ)
         → column ≡ length left + i → slice_get right i ≡ Some term.now
         → IsPlanned left right lefts rights width count keep narrow.old
         → IsPlanned left right lefts rights width count (keep ++ column ∷ []) narrow.new) }
 {
     let copy = term.share()?;
     let rights = narrow.rights.as_slice();
-    let count = rights.len();
+    let next = rights.len();
     let kept = narrow.keep.as_slice();
     let place = kept.len();
-    match width.checked_add(count) {
-        Some(at) => {
-            narrow.rights.push(copy)?;
-            narrow.keep.push(at)?;
-            narrow.places.push(place)?;
-            Ok(())
-        }
-        None => Err(AllocError),
-    }
+    narrow.rights.push(copy)?;
+    narrow.keep.push(Side::Right(next))?;
+    narrow.places.push(Place::Solved(place))?;
+    Ok(())
 }
 
 /// Puts a kept column of one of the rows.
@@ -163,19 +165,17 @@ fn keep_column(
     left: &[Term],
     right: &[Term],
     column: usize,
-    width: usize,
-    count: usize,
 ) -> Result<(), AllocError>
     requires { column < length left.now + length right.now }
     ensures front { narrow.new.front ≡ narrow.old.front }
-    ensures planned { OnOk result ((lefts rights : List Plain) (keep : List ℕ)
+    ensures planned { OnOk result ((lefts rights : List Plain) (width count : ℕ) (keep : List ℕ)
         → IsPlanned left.now right.now lefts rights width count keep narrow.old
         → IsPlanned left.now right.now lefts rights width count (keep ++ column ∷ []) narrow.new) }
 {
     if column < left.len() {
         let term = &left[column];
         if term.above() == 0 {
-            keep_shared(narrow, column, count)?;
+            keep_shared(narrow, column)?;
             return Ok(());
         }
         keep_left(narrow, term, column)?;
@@ -184,48 +184,11 @@ fn keep_column(
     let place = column - left.len();
     let other = &right[place];
     if other.above() == 0 {
-        keep_shared(narrow, column, count)?;
+        keep_shared(narrow, column)?;
         return Ok(());
     }
-    keep_right(narrow, other, column, width)?;
+    keep_right(narrow, other, column)?;
     Ok(())
-}
-
-/// Returns 1 where the row has a column of this number that has variables, and else 0.
-fn open_in(row: &[Term], column: usize) -> usize
-    ensures { result ≡ open_at row.now column }
-{
-    if column >= row.len() {
-        return 0;
-    }
-    let term = &row[column];
-    if term.above() == 0 {
-        return 0;
-    }
-    1
-}
-
-/// Returns 1 where the column of this number, of the left columns and the right ones after them, has variables, and
-/// else 0.
-fn open_column(left: &[Term], right: &[Term], column: usize) -> usize
-    ensures { result ≡ open_at (left.now ++ right.now) column }
-{
-    if column < left.len() {
-        return open_in(left, column);
-    }
-    open_in(right, column - left.len())
-}
-
-/// Returns how many of the columns of these numbers have variables, of the left columns and the right ones after them.
-fn open_columns(left: &[Term], right: &[Term], keep: &[usize]) -> usize
-    ensures { result ≡ min (sum_by (open_at (left.now ++ right.now)) keep.now) (2 ^ 64 - 1) }
-{
-    let mut count = 0usize;
-    for i in 0..keep.len() {
-        let column = keep[i];
-        count = count.saturating_add(open_column(left, right, column));
-    }
-    count
 }
 
 /// Puts the kept columns of both rows.
@@ -234,18 +197,16 @@ fn keep_columns(
     left: &[Term],
     right: &[Term],
     keep: &[usize],
-    width: usize,
-    count: usize,
 ) -> Result<(), AllocError>
     requires { All (λ k. k < length left.now + length right.now) keep.now }
     ensures front { narrow.new.front ≡ narrow.old.front }
-    ensures planned { OnOk result ((lefts rights : List Plain)
+    ensures planned { OnOk result ((lefts rights : List Plain) (width count : ℕ)
         → IsPlanned left.now right.now lefts rights width count [] narrow.old
         → IsPlanned left.now right.now lefts rights width count keep.now narrow.new) }
 {
     for i in 0..keep.len() {
         let column = keep[i];
-        keep_column(narrow, left, right, column, width, count)?;
+        keep_column(narrow, left, right, column)?;
     }
     Ok(())
 }
@@ -263,36 +224,76 @@ fn narrow_of(
     ensures { IfOk result (λ n. IsNarrow left.now right.now pairs.now keep.now n) }
 {
     let mut narrow = paired(alloc, left, right, pairs)?;
-    let count = open_columns(left, right, keep);
-    let width = narrow.front.saturating_add(open_columns(left, &[], keep));
-    keep_columns(&mut narrow, left, right, keep, width, count)?;
-    let lefts = narrow.lefts.as_slice();
-    if lefts.len() != width {
-        return Err(AllocError);
-    }
-    let kept = narrow.keep.as_slice();
-    if kept.len() != count {
-        return Err(AllocError);
-    }
+    keep_columns(&mut narrow, left, right, keep)?;
     Ok(narrow)
 }
 
-/// Returns the terms at these places: among the solved ones, or after them those of the left row and of the right one.
-/// It fails as if out of memory where there are not as many solved ones as the count says.
+/// Returns the number of a column, of the left columns and the right ones after them.
+fn number(lefts: &[Term], rights: &[Term], side: Side) -> usize
+    requires { IsSide lefts.now rights.now side }
+    ensures { result ≡ number_of (length lefts.now) side }
+{
+    match side {
+        Side::Left(column) => column,
+        Side::Right(column) => {
+            let count = lefts.len();
+            count + column
+        }
+    }
+}
+
+/// Returns the numbers of the columns, of the left columns and the right ones after them.
+fn side_numbers(
+    alloc: Global,
+    lefts: &[Term],
+    rights: &[Term],
+    keep: &[Side],
+) -> Result<Vec<usize>, AllocError>
+    requires { All (IsSide lefts.now rights.now) keep.now }
+    ensures { IfOk result (λ v. v.items ≡ numbers (length lefts.now) keep.now) }
+{
+    let mut all = Vec::with_capacity(alloc, keep.len())?;
+    for i in 0..keep.len() {
+        let side = keep[i];
+        all.push(number(lefts, rights, side))?;
+    }
+    Ok(all)
+}
+
+/// Returns the term at a place: a solved one, or one of the left row or of the right one.
+fn term_at(solved: &[Term], left: &[Term], right: &[Term], place: Place) -> Result<Term, AllocError>
+    requires { IsPlace (length solved.now) (length left.now + length right.now) place }
+    ensures { IfOk result (λ t.
+        slice_get (solved.now ++ (left.now ++ right.now)) (spot_of (length solved.now) place) ≡ Some t) }
+{
+    match place {
+        Place::Solved(column) => {
+            let term = solved[column].share()?;
+            Ok(term)
+        }
+        Place::Given(column) => {
+            if column < left.len() {
+                let term = left[column].share()?;
+                return Ok(term);
+            }
+            let term = right[column - left.len()].share()?;
+            Ok(term)
+        }
+    }
+}
+
+/// Returns the terms at these places: solved ones, and those of the left row and of the right one.
 fn planned_row(
     alloc: Global,
     solved: &[Term],
     left: &[Term],
     right: &[Term],
-    places: &[usize],
-    count: usize,
+    places: &[Place],
 ) -> Result<RelRow, AllocError>
-    ensures row { IfOk result (λ row. row ≡ picked (solved.now ++ (left.now ++ right.now)) places.now) }
-    ensures count { IfOk result (λ _. length solved.now ≡ count) }
+    requires { All (IsPlace (length solved.now) (length left.now + length right.now)) places.now }
+    ensures { IfOk result (λ row. row
+        ≡ picked (solved.now ++ (left.now ++ right.now)) (spots (length solved.now) places.now)) }
 {
-    if solved.len() != count {
-        return Err(AllocError);
-    }
     let mut terms = Vec::with_capacity(alloc, places.len())?;
     for i in 0..places.len() {
         let place = places[i];
@@ -300,18 +301,6 @@ fn planned_row(
         terms.push(term)?;
     }
     Ok(RelRow::new(terms))
-}
-
-/// Returns the term at a place: among the solved ones, or after them of the left row and of the right one.
-fn term_at(solved: &[Term], left: &[Term], right: &[Term], place: usize) -> Result<Term, AllocError>
-    ensures { IfOk result (λ t. slice_get (solved.now ++ (left.now ++ right.now)) place ≡ Some t) }
-{
-    if place < solved.len() {
-        let term = solved[place].share()?;
-        return Ok(term);
-    }
-    let other = column_at(left, right, place - solved.len())?;
-    Ok(other)
 }
 
 /// Returns the kept columns of the join of two rows, where they can be made to agree. Only columns with variables,
@@ -335,18 +324,15 @@ pub fn narrowed(
     let inner = with_diagonal(alloc, narrow.front, &[])?;
     let lefts = narrow.lefts.as_slice();
     let rights = narrow.rights.as_slice();
-    let kept = narrow.keep.as_slice();
-    let most = lefts.len().saturating_add(rights.len());
-    if !are_below(kept, most) {
-        return Err(AllocError);
-    }
+    let numbers = side_numbers(alloc, lefts, rights, narrow.keep.as_slice())?;
+    let kept = numbers.as_slice();
     let pairs = inner.as_slice();
     let solution = pool.join(alloc, sig, lefts, rights, pairs, kept)?;
     match solution {
         Some(solved) => {
             let terms = solved.as_slice();
             let places = narrow.places.as_slice();
-            let row = planned_row(alloc, terms, left, right, places, kept.len())?;
+            let row = planned_row(alloc, terms, left, right, places)?;
             Ok(Some(row))
         }
         None => Ok(None),

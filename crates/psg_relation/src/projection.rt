@@ -45,7 +45,7 @@ pub fn all_columns(
 /// once.
 ///
 /// `Wide` is returned exactly where this relation has more than 16,384 variables and constructors, which takes columns
-/// that are kept more than once. `Memory` is returned as in `Rel::of`, and the cost is that of `Rel::of`.
+/// that are kept more than once. `Memory` is returned when memory runs out, and the cost is that of `Rel::of`.
 pub fn project(alloc: Global, sig: &Signature, rel: &Rel, keep: &[usize]) -> Result<Rel, RelFault>
     requires sorts { (sorts : List ℕ) × AllHaveSorts sig.now rel.now sorts }
     requires keep { AllWithin rel.now keep.now }

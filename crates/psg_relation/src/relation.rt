@@ -201,7 +201,7 @@ pub fn relation_of(alloc: Global, sig: &Signature, rows: Vec<RelRow>) -> Result<
 }
 
 /// Returns the relation of the most general rows, unless they are too large together.
-fn sealed(sig: &Signature, kept: Vec<RelRow>) -> Result<Rel, RelFault>
+pub fn sealed(sig: &Signature, kept: Vec<RelRow>) -> Result<Rel, RelFault>
     requires sound { IsSound sig.now }
     requires sorted { (sorts : List ℕ) × AllHaveSorts sig.now kept.items sorts }
     requires canonical { (row : List Plain) → IsIn row kept.items → IsCanonical sig.now row }

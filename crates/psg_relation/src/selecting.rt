@@ -10,7 +10,8 @@ ghost use Rattle.psg_relation.specs.Selecting.{diagonal, twins, width_of};
 
 use crate::joining::with_join_in;
 use crate::projection::all_columns;
-use crate::relation::{Rel, RelFault, relation_of};
+use crate::rejoining::{Partners, relation_of_joins};
+use crate::relation::{Rel, RelFault};
 use crate::row::RelRow;
 use psg_terms::Signature;
 use psg_unify::JoinPool;
@@ -74,8 +75,8 @@ fn self_joins(
 /// The columns of the numbers in `keep` are kept, in this order.
 ///
 /// `Wide` is returned exactly where this relation has more than 16,384 variables and constructors or a term deeper than
-/// 1,000. `Memory` is returned as in `join`, and the cost is that of `Rel::of`, with one join of each row with itself
-/// where there are pairs.
+/// 1,000. `Memory` is returned as in `join` where there are pairs, and else as in `Rel::of`. The cost is that of
+/// `Rel::of`, with one join of each row with itself where there are pairs, and one more where `join` makes one more.
 pub fn select(
     alloc: Global,
     sig: &Signature,
@@ -96,6 +97,7 @@ pub fn select(
         return Rel::of(alloc, sig, columns.as_slice());
     }
     let all = with_diagonal(alloc, width(rows), pairs)?;
-    let made = self_joins(alloc, sig, rows, all.as_slice(), keep)?;
-    relation_of(alloc, sig, made)
+    let agree = all.as_slice();
+    let made = self_joins(alloc, sig, rows, agree, keep)?;
+    relation_of_joins(alloc, sig, made, rows, rows, Partners::Itself, agree, keep)
 }

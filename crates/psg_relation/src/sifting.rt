@@ -4,7 +4,7 @@ ghost use Rattle.psg_terms.specs.Relations.{IsIn};
 ghost use Rattle.psg_terms.specs.Text.{IsInTextOrder};
 ghost use Rattle.psg_relation.specs.Choices.{AllHaveSorts};
 ghost use Rattle.psg_relation.specs.Ordered.{KeepsOrder};
-ghost use Rattle.psg_relation.specs.Sifted.{IsSifted, IsSplit, LosesHeavy, HasSameRows, IsLightly, StartsHeavy};
+ghost use Rattle.psg_relation.specs.Sifted.{IsSplit, IsHalved, LosesHeavy, HasSameRows, IsLightly, StartsHeavy};
 
 use crate::maximal::{are_covered, maximal};
 use crate::order::in_order;
@@ -77,7 +77,7 @@ fn starts_heavy(rows: &[RelRow]) -> bool
 
 /// Returns the rows where they are one or none: there is nothing to compare and no order, so no text is written. `None`
 /// where the row is too large for a relation.
-fn alone(rows: Vec<RelRow>) -> Option<Vec<RelRow>>
+pub fn alone(rows: Vec<RelRow>) -> Option<Vec<RelRow>>
     requires { vec_len rows ≤ 1 }
     ensures rows { MatchOption result (LosesHeavy rows.items) (λ kept. IsLightly rows.items kept.items) }
     ensures same { IfSome result (λ kept. kept.items ≡ rows.items) }
@@ -86,6 +86,32 @@ fn alone(rows: Vec<RelRow>) -> Option<Vec<RelRow>>
         return None;
     }
     Some(rows)
+}
+
+/// The most general ones of the rows that a relation can have, and the rows that are too large for one.
+#[derive(Drop)]
+pub struct Sifted {
+    /// The most general rows, in byte order of their texts.
+    pub kept: Vec<RelRow>,
+    /// The rows that are too large for a relation.
+    pub heavy: Vec<RelRow>,
+}
+
+/// Returns the most general ones of the rows that are not too large, in byte order of their texts, and the rows that
+/// are.
+pub fn sift_light(alloc: Global, sig: &Signature, rows: Vec<RelRow>) -> Result<Sifted, AllocError>
+    requires { (sorts : List ℕ) × AllHaveSorts sig.now rows.items sorts }
+    ensures halved { IfOk result (λ s. IsHalved rows.items s.kept.items s.heavy.items) }
+    ensures order { IfOk result (λ s. IsInTextOrder sig.now s.kept.items) }
+{
+    let split = by_size(alloc, rows)?;
+    let sorted = in_order(alloc, sig, split.light)?;
+    let once = without_repeats(alloc, sorted)?;
+    let kept = maximal(alloc, once)?;
+    Ok(Sifted {
+        kept,
+        heavy: split.heavy,
+    })
 }
 
 /// Returns the most general rows of more than one, in byte order of their texts, or `None` where one of them is too
@@ -99,12 +125,9 @@ fn sift_many(
     ensures rows { IfOk result (λ o. MatchOption o (LosesHeavy rows.items) (λ kept. IsLightly rows.items kept.items)) }
     ensures order { IfOk result (λ o. IfSome o (λ kept. IsInTextOrder sig.now kept.items)) }
 {
-    let split = by_size(alloc, rows)?;
-    let sorted = in_order(alloc, sig, split.light)?;
-    let once = without_repeats(alloc, sorted)?;
-    let kept = maximal(alloc, once)?;
-    if are_covered(alloc, kept.as_slice(), split.heavy.as_slice())? {
-        Ok(Some(kept))
+    let sifted = sift_light(alloc, sig, rows)?;
+    if are_covered(alloc, sifted.kept.as_slice(), sifted.heavy.as_slice())? {
+        Ok(Some(sifted.kept))
     } else {
         Ok(None)
     }

@@ -51,7 +51,7 @@ each_noted P seen (x ∷ xs) h (p, k) =
     each_noted P (noted seen x) xs (elim (is_noted x seen) as (λ b. Each P (if b then seen else seen ++ x ∷ [])) [ true ↦ h | false ↦ each_end P seen x h p ]) k
 
 -- the cell of a variable
-cell_at_place : (x : Variable) (xs : List Variable) → is_noted x xs ≡ true → slice_get (frees xs) (place x xs) ≡ Some (free x.0)
+pub cell_at_place : (x : Variable) (xs : List Variable) → is_noted x xs ≡ true → slice_get (frees xs) (place x xs) ≡ Some (free x.0)
 cell_at_place x [] h = absurd (true_false (sym h))
 cell_at_place x (y ∷ ys) h =
     elim (cases (same_variable x y)) [

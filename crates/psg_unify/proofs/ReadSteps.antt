@@ -1,5 +1,5 @@
 -- Steps of writing cells out with canonical numbers.
-use Rattle.std.proofs.Common.{◌≡◌, inl, inr, ℕ, zero, suc, ◌≤◌, ◌+◌, ◌==◌, Option, Some, None, List, [], ◌∷◌, ◌++◌, map, reverse, take, length, slice_get, All, refl, ap, ap₂, sym, ◌∙◌, subst, append-nil}
+use Rattle.std.proofs.Common.{◌≡◌, ◌⊎◌, inl, inr, ℕ, zero, suc, ◌≤◌, ◌+◌, ◌==◌, Option, Some, None, List, [], ◌∷◌, ◌++◌, map, reverse, take, length, slice_get, All, refl, ap, ap₂, sym, ◌∙◌, subst, append-nil}
 use Rattle.std.proofs.Math.ListN.{set}
 use Rattle.std.proofs.lemmas.Bool.{eqb-true, eqb-false}
 use Rattle.std.proofs.lemmas.List.{reverse-reverse, take_all}
@@ -23,7 +23,7 @@ use Rattle.psg_unify.specs.declared.walking.Item.TheVariants.{Visit, Leave}
 use Rattle.psg_unify.specs.Reading.{Reading, IsReading}
 use Rattle.psg_unify.specs.Fitting.{Fits}
 use Rattle.psg_unify.specs.Walking.{EndsWith}
-use Rattle.psg_unify.specs.ReadOut.{AreWritten, IsKept, IsWrittenAt, IsReadingOut, ReadsOn}
+use Rattle.psg_unify.specs.ReadOut.{AreWritten, IsWrittenAt, IsReadingOut, ReadsOn}
 use Rattle.psg_unify.proofs.Laws.{read_by, has_reading}
 use Rattle.psg_unify.proofs.SortsRead.{cells_have_sorts}
 use Rattle.psg_unify.proofs.Rounds.{same_cell, take_next}
@@ -46,8 +46,12 @@ none_more old new e h k t g = behind old k h (ap (λ l. slice_get l k) (sym e) �
   behind (x ∷ xs) zero h g = h 0 t g
   behind (x ∷ xs) (suc k) h g = behind xs k (λ j u i. h (suc j) u i) g
 
--- what was kept is there, and the rest is as it was
-pub kept_at : (old : List (Option Term)) (id : CellId) (t : Term) → IsKept old (set old id.0 (Some t)) id t
+-- at most the cell's term is new
+abbrev pub IsNewAt : List (Option Term) → List (Option Term) → CellId → Term → Type 0
+IsNewAt old new id t =
+    (k : ℕ) (u : Term) → slice_get new k ≡ Some (Some u) → (slice_get old k ≡ Some (Some u)) ⊎ ((k ≡ id.0) × (u ≡ t))
+
+kept_at : (old : List (Option Term)) (id : CellId) (t : Term) → IsNewAt old (set old id.0 (Some t)) id t
 kept_at old id t k u g = elim (either (k == id.0)) [
   | inl e ↦ (let same : k ≡ id.0 = eqb-true k id.0 e in inr (same, here old k (ap (λ j. slice_get (set old j (Some t)) k) same ∙ g)))
   | inr f ↦ inl (sym (slice_get-set_other old k id.0 (Some t) (eqb-false k id.0 f)) ∙ g)
@@ -56,6 +60,10 @@ kept_at old id t k u g = elim (either (k == id.0)) [
   here [] k g = cc
   here (x ∷ xs) zero g = cc
   here (x ∷ xs) (suc k) g = here xs k g
+
+-- what was kept is there, and the rest is as it was
+pub new_at : (old new : List (Option Term)) (id : CellId) (t : Term) → new ≡ set old id.0 (Some t) → IsNewAt old new id t
+new_at old new id t e = subst (λ (w : List (Option Term)). IsNewAt old w id t) (sym e) (kept_at old id t)
 
 -- one term more
 pub written_more : (w : List (Option Term)) (ids : List CellId) (old new : List Term) (k : ℕ) (id : CellId) (t : Term) → slice_get ids k ≡ Some id → slice_get w id.0 ≡ Some (Some t) → new ≡ old ++ t ∷ []
@@ -81,7 +89,7 @@ module _ (sig : Signature) (kept : Kept) where
   )
 
   -- a cell's term was kept
-  keeps : (read : Reading) (k0 k1 : List Variable) (w0 w1 : List (Option Term)) (id : CellId) (t : Term) (rest : List Item) (final : List Variable) → Extends k0 k1 → IsKept w0 w1 id t
+  keeps : (read : Reading) (k0 k1 : List Variable) (w0 w1 : List (Option Term)) (id : CellId) (t : Term) (rest : List Item) (final : List Variable) → Extends k0 k1 → IsNewAt w0 w1 id t
       → EndsWith sig read k1 rest final → IsWrittenAt sig read k1 id t → ((x : CellId) (u : Term) → slice_get w0 x.0 ≡ Some (Some u) → IsWrittenAt sig read k0 x u) → IsReadingOut sig read k1 w1 rest final
   keeps read k0 k1 w0 w1 id t rest final e k ends own before = record {
     ends = ends;
@@ -93,7 +101,7 @@ module _ (sig : Signature) (kept : Kept) where
 
   -- an open cell that is a variable
   pub reads_open : (k0 k1 : List Variable) (w0 w1 : List (Option Term)) (id : CellId) (s number fresh : ℕ) (t : Term) (rest : List Item) → Holds kept id (Free s) → only_constructor sig s ≡ None → number ≡ id.0 + 1
-      → k1 ≡ noted k0 (s, number) → fresh ≡ 0 + place (s, number) k1 + 1 → t ≡ variable s fresh → IsKept w0 w1 id t → ReadsOn sig kept k0 k1 w0 w1 (Visit id ∷ rest) rest
+      → k1 ≡ noted k0 (s, number) → fresh ≡ 0 + place (s, number) k1 + 1 → t ≡ variable s fresh → IsNewAt w0 w1 id t → ReadsOn sig kept k0 k1 w0 w1 (Visit id ∷ rest) rest
   reads_open k0 k1 w0 w1 id s number fresh t rest holds o n k f m h read r final i =
       let is : read id ≡ variable s number = r.open_cell id s holds.0 holds.1 ∙ ap (variable s) (sym n) in
       let one : opens sig (variables (read id)) ≡ (s, number) ∷ [] = ap (λ x. opens sig (variables x)) is ∙ ap (λ p. open_first p (s, number) []) o in
@@ -106,7 +114,7 @@ module _ (sig : Signature) (kept : Kept) where
       i.right
 
   -- an open cell of a sort that is one constant
-  pub reads_constant : (known : List Variable) (w0 w1 : List (Option Term)) (id : CellId) (s c : ℕ) (t : Term) (rest : List Item) → Holds kept id (Free s) → only_constructor sig s ≡ Some c → t ≡ symbol c → IsKept w0 w1 id t
+  pub reads_constant : (known : List Variable) (w0 w1 : List (Option Term)) (id : CellId) (s c : ℕ) (t : Term) (rest : List Item) → Holds kept id (Free s) → only_constructor sig s ≡ Some c → t ≡ symbol c → IsNewAt w0 w1 id t
       → ReadsOn sig kept known known w0 w1 (Visit id ∷ rest) rest
   reads_constant known w0 w1 id s c t rest holds o m h read r final i =
       let is : read id ≡ variable s (id.0 + 1) = r.open_cell id s holds.0 holds.1 in
@@ -139,7 +147,7 @@ module _ (sig : Signature) (kept : Kept) where
   }
 
   -- a bound cell is left
-  pub leaves_bound : (known : List Variable) (w0 w1 : List (Option Term)) (id to : CellId) (t : Term) (rest : List Item) → Holds kept id (Bound to) → slice_get w0 to.0 ≡ Some (Some t) → IsKept w0 w1 id t
+  pub leaves_bound : (known : List Variable) (w0 w1 : List (Option Term)) (id to : CellId) (t : Term) (rest : List Item) → Holds kept id (Bound to) → slice_get w0 to.0 ≡ Some (Some t) → IsNewAt w0 w1 id t
       → ReadsOn sig kept known known w0 w1 (Leave id ∷ rest) rest
   leaves_bound known w0 w1 id to t rest holds at h read r final i =
       keeps read known known w0 w1 id t rest final (extends_refl known) h i.ends.1
@@ -155,7 +163,7 @@ module _ (sig : Signature) (kept : Kept) where
 
   -- a constructor cell is left
   pub leaves_con : (known : List Variable) (w0 w1 : List (Option Term)) (id : CellId) (c n : ℕ) (parts : List Term) (t : Term) (rest : List Item) → Holds kept id (Con c n) → AreWritten w0 (arguments_of kept.cells id) parts
-      → t ≡ applied (symbol c) parts → IsKept w0 w1 id t → ReadsOn sig kept known known w0 w1 (Leave id ∷ rest) rest
+      → t ≡ applied (symbol c) parts → IsNewAt w0 w1 id t → ReadsOn sig kept known known w0 w1 (Leave id ∷ rest) rest
   leaves_con known w0 w1 id c n parts t rest holds a m h read r final i =
       keeps read known known w0 w1 id t rest final (extends_refl known) h i.ends.1 (
         m ∙ ap (applied (symbol c)) (all_right read known w0 i.right (arguments_of kept.cells id) parts a)

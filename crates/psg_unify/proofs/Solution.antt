@@ -1,5 +1,5 @@
 -- What a solver leaves in a pool into which two rows were put.
-use Rattle.std.proofs.Common.{◌≡◌, ◌⊎◌, inl, inr, ℕ, zero, suc, ◌<◌, ◌≤◌, ◌==◌, cond, nat_le, true, false, Option, Some, None, List, [], ◌∷◌, ◌++◌, map, reverse, take, drop, length, slice_get, All, refl, ap, ap₂, sym, ◌∙◌, subst, arith, append-nil, append_assoc, length-append}
+use Rattle.std.proofs.Common.{◌≡◌, ◌⊎◌, inl, inr, ℕ, zero, suc, ◌<◌, ◌≤◌, ◌+◌, ◌-◌, ◌==◌, cond, nat_le, true, false, Option, Some, None, List, [], ◌∷◌, ◌++◌, map, reverse, take, drop, length, slice_get, replicate, All, refl, ap, ap₂, sym, ◌∙◌, subst, arith, append-nil, append_assoc, length-append}
 use Rattle.std.proofs.lemmas.Bool.{eqb-true}
 use Rattle.std.proofs.lemmas.Bool.Decides.{nat_tests}
 use Rattle.std.proofs.lemmas.Option.{slice_get_within}
@@ -26,14 +26,16 @@ use Rattle.psg_unify.specs.Solved.{Reaches, here, by_binding, by_argument, IsGro
 use Rattle.psg_unify.specs.Putting.{IsLonger}
 use Rattle.psg_unify.specs.Joined.{IsNext, IsFrom, IsSolving}
 use Rattle.psg_unify.specs.Meeting.{IsMoreBound, StaysSolving, HasNoValuation, CanSolve}
-use Rattle.psg_unify.specs.Circles.{IsEdge, HasCircle, FallsFrom}
+use Rattle.psg_unify.specs.Climbing.{AreFrom, IsGoing}
+use Rattle.psg_unify.specs.Circles.{IsEdge, HasCircle, IsClosed, FallsFrom}
 use Rattle.psg_unify.specs.Asking.{AskFor, ArePut, IsExtended}
 use Rattle.psg_unify.proofs.Laws.{over_at, All-both}
 use Rattle.psg_unify.proofs.SortsRead.{cells_sorts}
 use Rattle.psg_unify.proofs.Closing.{in_all, map-twice, state_end}
 use Rattle.psg_unify.proofs.Rounds.{on_top, nothing_in, no_circle}
 use Rattle.psg_unify.proofs.Patched.{patch, patch-grounding, values_of, IsFull}
-use Rattle.psg_unify.proofs.SolvedRows.{map-both, length-map, asked_agree, agree_asked, full_under, valuation_under, left_among, read_put, reads_put, left_same, right_same, rows_apart, left_sorts, right_sorts, left_length, right_length, put_bindings, agreeing_values, solving_begins}
+use Rattle.psg_unify.proofs.Climbs.{climbing_begins}
+use Rattle.psg_unify.proofs.SolvedRows.{map-both, length-map, asked_both, asked_agree, agree_asked, full_under, valuation_under, left_among, read_put, reads_put, left_same, right_same, rows_apart, left_sorts, right_sorts, left_length, right_length, put_bindings, agreeing_values, solving_begins}
 
 -- what holds of all members
 pub every_in : {X : Type 0} (P : X → Type 0) (xs : List X) → ((x : X) → IsIn x xs → P x) → All P xs
@@ -99,6 +101,10 @@ module _ (old now : Kept) (mark : Lengths) (c : mark.cells ≡ length old.cells)
         (ap (λ n. take n old.bindings) b ∙ take-whole old.bindings ∙ sym (ap₂ take b e.bindings_are ∙ take-front old.bindings e.bindings)) r.stay;
   }
 
+-- how many cells were put
+pub put_count : (old put : Kept) (start count : ℕ) → start ≡ length old.cells → count ≡ length put.cells → IsLonger old put → length old.cells + (count - start) ≡ length put.cells
+put_count old put start count s c l = let e = ap (λ (x : List Put). length x) l.cells_are in omega (arith, s, c, e, length-append old.cells l.cells)
+
 -- the equations of no pairs, and of one more in front
 pub ask_none : (lefts rights : List CellId) (pairs : List Pair) (equations : List Equation) → equations ≡ [] → AskFor lefts rights (drop (length pairs) pairs) (reverse equations)
 ask_none lefts rights pairs equations e =
@@ -132,6 +138,41 @@ module _ (sig : Signature) (left right : List Term) (pairs : List Pair) (old mid
       (sym (length-map (λ (n : ℕ). Some n) p.joinable.right_sorts)
       ∙ ap (λ (l : List (Option ℕ)). length l) (sym (right_sorts sig left right pairs old mid put lefts rights p p.joinable.right_sorts p.joinable.right_sorted)) ∙ length-map (sort_at sig put.cells) rights)
       p.joinable.equal
+
+  mid_longer : length old.cells ≤ length mid.cells
+  mid_longer = let e = ap (λ (c : List Put). length c) p.one.longer.cells_are in omega (arith, e, length-append old.cells p.one.longer.cells)
+
+  -- arguments of a cell that was put
+  pub put_arguments : (id : CellId) → length old.cells ≤ id.0 → All (λ (a : CellId). length old.cells ≤ a.0) (arguments_of put.cells id)
+  put_arguments id b = elim (cases_at id) [
+    | inl l ↦ subst (All (λ (a : CellId). length old.cells ≤ a.0)) (sym (ap (λ c. arguments_of c id) p.two.longer.cells_are ∙ arguments_before mid.cells p.two.longer.cells id l)) (p.one.apart id b)
+    | inr l ↦ All-weaker (λ (a : CellId). length mid.cells ≤ a.0) (λ (a : CellId). length old.cells ≤ a.0)
+        (λ a m. let e = mid_longer in omega (arith, m, e)) (arguments_of put.cells id) (p.two.apart id l)
+  ] where
+    cases_at : (id : CellId) → (id.0 < length mid.cells) ⊎ (length mid.cells ≤ id.0)
+    cases_at id = elim (either (nat_le (length mid.cells) id.0)) [
+      | inl t ↦ inr (grind (arith, nat_tests))
+      | inr f ↦ inl (grind (arith, nat_tests))
+    ]
+
+  -- the solver goes on from here
+  pub going_begins : (equations : List Equation) (classes : Classes) (n : ℕ) → AskFor lefts rights pairs equations → classes.base ≡ length old.cells → classes.next.items ≡ replicate n None → classes.heights.items ≡ replicate n 0
+      → length old.cells + n ≡ length put.cells → IsGoing put classes equations
+  going_begins equations classes n asks base next heights count = record {
+    climbing = climbing_begins put classes n next heights (omega (arith, base, count)) (λ id l. unbound id (let b = base in omega (arith, l, b)));
+    closed = λ id l. subst (λ (b : ℕ). All (λ (a : CellId). b ≤ a.0) (arguments_of put.cells id)) (sym base) (put_arguments id (let b = base in omega (arith, l, b)));
+    left_from = subst (λ (b : ℕ). All (AreFrom b) equations) (sym base)
+        (asked_both (λ (a : CellId). length old.cells ≤ a.0) lefts rights pairs equations p.one.beyond
+        (All-weaker (λ (a : CellId). length mid.cells ≤ a.0) (λ (a : CellId). length old.cells ≤ a.0) (λ a m. let e = mid_longer in omega (arith, m, e)) rights p.two.beyond) asks);
+  } where
+    unbound : (id : CellId) → length old.cells ≤ id.0 → target_of put.bindings id ≡ None
+    unbound id l = elim (some_or_none (target_of old.bindings id)) [
+      | inl none ↦ ap (λ b. target_of b id) (put_bindings sig left right pairs old mid put lefts rights p) ∙ none
+      | inr o ↦ absurd (
+          let over = over_at old.cells old.bindings id o.0 p.sound.over o.1 in
+          let within = slice_get_within old.cells id.0 (free over.0.0) over.0.1 in
+          omega (arith, l, within))
+    ]
 
   pub can_solve : (equations : List Equation) (classes : Classes) → AskFor lefts rights pairs equations → ((id to : CellId) → IsNext classes id to → ⊥) → CanSolve put classes equations
   can_solve equations classes asks none = record {
@@ -195,16 +236,20 @@ module _ (sig : Signature) (left right : List Term) (pairs : List Pair) (old mid
 
   -- arguments of a new cell
   new_arguments : (id : CellId) → length old.cells ≤ id.0 → All (λ (a : CellId). length old.cells ≤ a.0) (arguments_of new.cells id)
-  new_arguments id b = subst (λ c. All (λ (a : CellId). length old.cells ≤ a.0) (arguments_of c id)) (sym more.cells_are) (elim (cases_at id) [
-    | inl l ↦ subst (All (λ (a : CellId). length old.cells ≤ a.0)) (sym (ap (λ c. arguments_of c id) p.two.longer.cells_are ∙ arguments_before mid.cells p.two.longer.cells id l)) (p.one.apart id b)
-    | inr l ↦ All-weaker (λ (a : CellId). length mid.cells ≤ a.0) (λ (a : CellId). length old.cells ≤ a.0)
-        (λ a m. let e = ap (λ (c : List Put). length c) p.one.longer.cells_are in omega (arith, m, e, length-append old.cells p.one.longer.cells)) (arguments_of put.cells id) (p.two.apart id l)
-  ]) where
-    cases_at : (id : CellId) → (id.0 < length mid.cells) ⊎ (length mid.cells ≤ id.0)
-    cases_at id = elim (either (nat_le (length mid.cells) id.0)) [
-      | inl t ↦ inr (grind (arith, nat_tests))
-      | inr f ↦ inl (grind (arith, nat_tests))
-    ]
+  new_arguments id b = subst (λ c. All (λ (a : CellId). length old.cells ≤ a.0) (arguments_of c id)) (sym more.cells_are) (put_arguments sig left right pairs old mid put lefts rights p id b)
+
+  -- new cells lead to new cells alone
+  pub closed_solved : IsClosed (length old.cells) new
+  closed_solved id to b e = elim e [
+    | inl t ↦ new_target id to b t
+    | inr i ↦ in_all (λ (c : CellId). length old.cells ≤ c.0) to (arguments_of new.cells id) i (new_arguments id b)
+  ]
+
+  old_within : length old.cells ≤ length new.cells
+  old_within = let e = ap (λ (c : List Put). length c) cells_are in omega (arith, e, length-append old.cells (p.one.longer.cells ++ p.two.longer.cells))
+
+  pub closed_both : (base : ℕ) → base ≡ length old.cells → (base ≤ length new.cells) × IsClosed base new
+  closed_both base e = (let l = old_within in omega (arith, l, e), subst (λ (b : ℕ). IsClosed b new) (sym e) closed_solved)
 
   reached : (a b : CellId) → length old.cells ≤ a.0 → Reaches new a b → length old.cells ≤ b.0
   reached a _ l (here _) = l

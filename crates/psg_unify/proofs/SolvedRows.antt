@@ -23,7 +23,7 @@ use Rattle.psg_unify.specs.Pairs.{Pair, AgreeOn, AreOfEqualSort, IsAgreeing}
 use Rattle.psg_unify.specs.Reading.{Reading, IsReading}
 use Rattle.psg_unify.specs.Fitting.{Fits, sort_at, sort_in}
 use Rattle.psg_unify.specs.Valuations.{Equation, Equals, IsValuation, Solves, IsState}
-use Rattle.psg_unify.specs.Joined.{IsNext, AreSortedAlike, AreThereBoth, IsSolving}
+use Rattle.psg_unify.specs.Joined.{IsNext, AreSortedAlike, IsSolving}
 use Rattle.psg_unify.specs.Asking.{AskFor, ArePut}
 use Rattle.psg_unify.proofs.Laws.{with_cells, read_by, has_reading, reading_before}
 use Rattle.psg_unify.proofs.SortsRead.{all_at, cell_sorts}
@@ -86,15 +86,15 @@ module _ (v : Reading) (lefts rights : List CellId) where
       (same_value (v e.0) (v e.1) (sym (value_at v lefts p.0 e.0 x) ∙ same ∙ value_at v rights p.1 e.1 y))
       (agree_asked pairs equations a h)
 
--- cells of the equations are there
-asked_there : (cells : List Put) (lefts rights : List CellId) (pairs : List Pair) (equations : List Equation) → All (IsAmong cells) lefts → All (IsAmong cells) rights
-    → AskFor lefts rights pairs equations → All (AreThereBoth cells) equations
-asked_there cells lefts rights [] [] l r a = λ k d m. absurd (omega (arith, m))
-asked_there cells lefts rights [] (e ∷ equations) l r a = absurd a
-asked_there cells lefts rights (p ∷ pairs) [] l r a = absurd a
-asked_there cells lefts rights (p ∷ pairs) (e ∷ equations) l r (x, y, a) =
-    All-cons (AreThereBoth cells) e equations (all_at (IsAmong cells) lefts p.0 e.0 l x, all_at (IsAmong cells) rights p.1 e.1 r y)
-    (asked_there cells lefts rights pairs equations l r a)
+-- what holds of the cells of both rows holds of those of the equations
+pub asked_both : (P : CellId → Type 0) (lefts rights : List CellId) (pairs : List Pair) (equations : List Equation) → All P lefts → All P rights
+    → AskFor lefts rights pairs equations → All (λ (e : Equation). P e.0 × P e.1) equations
+asked_both P lefts rights [] [] l r a = λ k d m. absurd (omega (arith, m))
+asked_both P lefts rights [] (e ∷ equations) l r a = absurd a
+asked_both P lefts rights (p ∷ pairs) [] l r a = absurd a
+asked_both P lefts rights (p ∷ pairs) (e ∷ equations) l r (x, y, a) =
+    All-cons (λ (q : Equation). P q.0 × P q.1) e equations (all_at P lefts p.0 e.0 l x, all_at P rights p.1 e.1 r y)
+    (asked_both P lefts rights pairs equations l r a)
 
 -- and of equal sorts
 asked_sorts : (sig : Signature) (cells : List Put) (lefts rights : List CellId) (ls rs : List ℕ) (pairs : List Pair) (equations : List Equation)
@@ -233,7 +233,7 @@ module _ (sig : Signature) (left right : List Term) (pairs : List Pair) (old mid
     sorts = p.two.fits.sorts;
     left_sorts = asked_sorts sig put.cells lefts rights p.joinable.left_sorts p.joinable.right_sorts pairs equations
         (left_sorts p.joinable.left_sorts p.joinable.left_sorted) (right_sorts p.joinable.right_sorts p.joinable.right_sorted) p.joinable.equal a;
-    left_there = asked_there put.cells lefts rights pairs equations left_among p.two.among a;
+    left_there = asked_both (IsAmong put.cells) lefts rights pairs equations left_among p.two.among a;
     more = [];
     bindings_are = put_bindings ∙ sym (append-nil old.bindings);
     from = λ k d l. absurd (omega (arith, l));

@@ -17,6 +17,8 @@ use Rattle.psg_unify.specs.Fitting.{IsPutOf, IsOfOneSort, sort_at}
 use Rattle.psg_unify.specs.Valuations.{IsValuation, Solves, Equation, Equals, HoldsBelow, EqualsBelow, AreLinked, itself, onward, back, Follows, stays, over_binding, over_link, IsState}
 use Rattle.psg_unify.specs.Joined.{IsNext, IsStep, AreThere, AreThereBoth, AreSortedAlike, IsFrom, IsSolving}
 use Rattle.psg_unify.specs.Meeting.{pairs_of, IsMoreBound, StaysSolving, HasNoValuation, CanSolve, IsNextApart}
+use Rattle.psg_unify.specs.Climbing.{IsEnd, IsGoing}
+use Rattle.psg_unify.proofs.Climbs.{going_ends}
 use Rattle.psg_unify.proofs.Laws.{over_at, with_bindings}
 use Rattle.psg_unify.proofs.SortsRead.{all_at, sort_of_target}
 use Rattle.psg_unify.proofs.Closing.{in_all, linked_below, linked_equal, state_linked, state_apart, state_bound, state_clash}
@@ -337,6 +339,13 @@ stays_raised old new before raised left more b n h = λ sig bs asked apart s.
       },
     )
 
+-- a free cell was bound, and its target raised
+pub stays_bound : (old new : Kept) (before raised : Classes) (left : List Equation) (x y : CellId) → target_of old.bindings x ≡ None → new.cells ≡ old.cells → new.bindings ≡ old.bindings ++ record { bound = x; target = y } ∷ []
+    → before.base ≤ x.0 → before.base ≤ y.0 → raised.base ≡ before.base → raised.next ≡ before.next → StaysSolving old new before raised ((x, y) ∷ left) left
+stays_bound old new before raised left x y n ec eb lx ly b m =
+    stays_raised old new before raised ((x, y) ∷ left) left b m
+    (λ sig bs asked apart s. (apart, solving_bound sig before.base bs asked old new before apart left (record { bound = x; target = y }) n ec eb lx ly s))
+
 -- two cells of different constructors
 pub clash : (now : Kept) (classes : Classes) (left : List Equation) (x y : CellId) (c d m n : ℕ) → Holds now x (Con c m) → Holds now y (Con d n) → c ≢ d → HasNoValuation now classes ((x, y) ∷ left)
 clash now classes left x y c d m n hx hy ne = λ sig bs asked apart s v val past e.
@@ -451,18 +460,17 @@ if_none_known (Some v) p = tt
 pub next_here : (now : Kept) (classes : Classes) (all items rest : List Equation) (p : Equation) (x y : CellId) → items ≡ rest ++ p ∷ [] → CanSolve now classes all
     → ((apart : List Equation) → ((p q : CellId) → IsNext classes p q → AreLinked apart p q) → Follows now.bindings apart p.0 x)
     → ((apart : List Equation) → ((p q : CellId) → IsNext classes p q → AreLinked apart p q) → Follows now.bindings apart p.1 y)
-    → IsAmong now.cells x → IsAmong now.cells y → target_of now.bindings x ≡ None → target_of now.bindings y ≡ None → x.0 ≢ y.0
+    → IsEnd now classes x → IsEnd now classes y → x.0 ≢ y.0 → IsGoing now classes (reverse items)
     → IsUnder now now classes classes all (reverse items) → IsNextApart now classes all (x, y) (reverse rest)
-next_here now classes all items rest p x y e can fa fb ix iy ex ey ne u =
-    let w = under_ends now now classes classes all items rest p x y e fa fb ix iy u in
+next_here now classes all items rest p x y e can fa fb ex ey ne g u =
+    let w = under_ends now now classes classes all items rest p x y e fa fb ex.there ey.there u in
     record {
       stays = w.stays;
       can = under_can now now classes classes all ((x, y) ∷ reverse rest) can w;
-      first_there = ix;
-      second_there = iy;
-      first_ends = ex;
-      second_ends = ey;
+      first_end = ex;
+      second_end = ey;
       other = ne;
+      going = going_ends now classes p x y (reverse rest) ex ey (subst (IsGoing now classes) (top_equation items rest p e) g);
     }
 
 -- an equation of one end was dropped

@@ -12,7 +12,7 @@ use Rattle.psg_unify.specs.declared.walking.Item.{Item}
 use Rattle.psg_unify.specs.declared.walking.Item.TheVariants.{Visit, Leave}
 use Rattle.psg_unify.specs.Walking.{EndsWith}
 
-known_each : (known xs : List Variable) → Each (IsAmong known) xs → AreKnown known xs
+pub known_each : (known xs : List Variable) → Each (IsAmong known) xs → AreKnown known xs
 known_each known [] h = tt
 known_each known (x ∷ xs) (p, h) = (p, known_each known xs h)
 

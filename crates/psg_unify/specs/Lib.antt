@@ -7,8 +7,14 @@ pub mod Walking
 pub mod Putting
 pub mod Making
 pub mod Joined
+pub mod Counting
+pub mod Climbing
 pub mod Meeting
 pub mod Circles
+pub mod Filling
 pub mod ReadOut
 pub mod Asking
 pub mod Columns
+pub mod Numbering
+pub mod Covering
+pub mod Unwritten

@@ -1,12 +1,12 @@
 -- What is still to be put of a row, and what is known while it is put.
-use Rattle.std.specs.Prelude.{ℕ, ◌≡◌, ◌≤◌, ◌+◌, ◌++◌, true, List, [], ◌∷◌, reverse}
+use Rattle.std.specs.Prelude.{ℕ, suc, ◌≡◌, ◌≤◌, ◌+◌, ◌-◌, ◌++◌, true, List, [], ◌∷◌, reverse}
 use Rattle.std.specs.Prelude.{map, take, drop, length, slice_get, All, Some}
 use Rattle.psg_terms.specs.Terms.{Term, symbol, applied}
 use Rattle.psg_terms.specs.Sizes.{size}
 use Rattle.psg_terms.specs.Signature.{Signature, HaveSorts}
 use Rattle.psg_terms.specs.Instances.{Substitution, substitute}
-use Rattle.psg_terms.specs.Canonical.{Variable, is_noted}
-use Rattle.psg_terms.specs.Renaming.{place, numbering, Renumbered}
+use Rattle.psg_terms.specs.Canonical.{Variable, is_noted, variables}
+use Rattle.psg_terms.specs.Renaming.{place, opens, numbering, AreKnown, Renumbered}
 use Rattle.psg_pool.specs.declared.cells.CellId.{CellId}
 use Rattle.psg_pool.specs.Cells.{free, constructor, IsAmong, arguments_of}
 use Rattle.psg_pool.specs.Bindings.{Kept, IsSound}
@@ -27,6 +27,12 @@ abbrev pub work : List Task → ℕ
 work [] = 0
 work (Whole t ∷ rest) = size t + 1 + work rest
 work (Make c n ∷ rest) = 1 + work rest
+
+-- Where this many cells are made, each constructor finds its arguments; the open variables of the terms are known.
+abbrev pub MayPut : Signature → List Variable → ℕ → List Task → Type 0
+MayPut sig known n [] = Unit {0}
+MayPut sig known n (Whole t ∷ rest) = AreKnown known (opens sig (variables t)) × MayPut sig known (suc n) rest
+MayPut sig known n (Make c k ∷ rest) = (k ≤ n) × MayPut sig known (suc (n - k)) rest
 
 -- a constructor cell over the last cells has taken their place
 pub record IsMade (old new : Kept) (before after : List CellId) (c n : ℕ) : Type 0 where

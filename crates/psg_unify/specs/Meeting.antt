@@ -1,14 +1,14 @@
 -- What a step of a solver of equations over cells keeps.
-use Rattle.std.specs.Prelude.{◌≡◌, ◌≢◌, ◌++◌, ◌∷◌, List, [], None}
+use Rattle.std.specs.Prelude.{◌≡◌, ◌≢◌, ◌++◌, ◌∷◌, List, []}
 use Rattle.psg_terms.specs.Signature.{Signature}
 use Rattle.psg_pool.specs.declared.cells.CellId.{CellId}
 use Rattle.psg_pool.specs.declared.cells.Binding.{Binding}
-use Rattle.psg_pool.specs.Cells.{IsAmong}
-use Rattle.psg_pool.specs.Bindings.{Kept, target_of}
+use Rattle.psg_pool.specs.Bindings.{Kept}
 use Rattle.psg_unify.specs.declared.classes.Classes.{Classes}
 use Rattle.psg_unify.specs.Reading.{Reading}
 use Rattle.psg_unify.specs.Valuations.{Equation, Equals, IsValuation, Solves}
 use Rattle.psg_unify.specs.Joined.{IsSolving}
+use Rattle.psg_unify.specs.Climbing.{IsEnd, IsGoing}
 
 -- the arguments of two cells, place by place
 abbrev pub pairs_of : List CellId → List CellId → List Equation
@@ -44,14 +44,12 @@ pub record CanSolve (kept : Kept) (classes : Classes) (left : List Equation) : T
   pub apart : List Equation
   pub solving : IsSolving sig classes.base bs asked kept classes apart left
 
--- Equations that hold already were dropped, and the next one is of two different cells at which bindings lead no
--- further.
+-- Equations that hold already were dropped, and the next one is of two different cells from which nothing leads on.
 pub record IsNextApart (kept : Kept) (classes : Classes) (before : List Equation) (p : Equation)
     (after : List Equation) : Type 0 where
   pub stays : StaysSolving kept kept classes classes before (p ∷ after)
   pub can : CanSolve kept classes (p ∷ after)
-  pub first_there : IsAmong kept.cells p.0
-  pub second_there : IsAmong kept.cells p.1
-  pub first_ends : target_of kept.bindings p.0 ≡ None
-  pub second_ends : target_of kept.bindings p.1 ≡ None
+  pub first_end : IsEnd kept classes p.0
+  pub second_end : IsEnd kept classes p.1
   pub other : p.0.0 ≢ p.1.0
+  pub going : IsGoing kept classes (p ∷ after)

@@ -1,5 +1,5 @@
 -- What is known while cells are written out with canonical numbers.
-use Rattle.std.specs.Prelude.{ℕ, ◌≡◌, ◌⊎◌, List, [], ◌∷◌, slice_get, Option, Some}
+use Rattle.std.specs.Prelude.{◌≡◌, ◌≤◌, List, [], ◌∷◌, slice_get, Option, Some}
 use Rattle.psg_terms.specs.Terms.{Term}
 use Rattle.psg_terms.specs.Signature.{Signature}
 use Rattle.psg_terms.specs.Canonical.{Variable, variables}
@@ -8,8 +8,10 @@ use Rattle.psg_terms.specs.Renaming.{opens, numbering, AreKnown}
 use Rattle.psg_pool.specs.declared.cells.CellId.{CellId}
 use Rattle.psg_pool.specs.Bindings.{Kept}
 use Rattle.psg_unify.specs.declared.walking.Item.{Item}
+use Rattle.psg_unify.specs.declared.walking.Item.TheVariants.{Visit}
 use Rattle.psg_unify.specs.Reading.{Reading, IsReading}
 use Rattle.psg_unify.specs.Walking.{EndsWith}
+use Rattle.psg_unify.specs.Filling.{IsFilled, StaysFilling, fresh}
 
 -- each of the cells has its term
 abbrev pub AreWritten : List (Option Term) → List CellId → List Term → Type 0
@@ -17,11 +19,6 @@ AreWritten written [] [] = Unit {0}
 AreWritten written [] (t ∷ terms) = ⊥
 AreWritten written (id ∷ ids) [] = ⊥
 AreWritten written (id ∷ ids) (t ∷ terms) = (slice_get written id.0 ≡ Some (Some t)) × AreWritten written ids terms
-
--- at most the cell's term is new
-abbrev pub IsKept : List (Option Term) → List (Option Term) → CellId → Term → Type 0
-IsKept old new id t =
-    (k : ℕ) (u : Term) → slice_get new k ≡ Some (Some u) → (slice_get old k ≡ Some (Some u)) ⊎ ((k ≡ id.0) × (u ≡ t))
 
 -- what was written is what the cell reads as, numbered, and its variables are known
 abbrev pub IsWrittenAt : Signature → Reading → List Variable → CellId → Term → Type 0
@@ -40,3 +37,11 @@ abbrev pub ReadsOn : Signature → Kept → (known after : List Variable) → (o
 ReadsOn sig kept known after old new stack rest =
     (read : Reading) → IsReading kept read → (final : List Variable)
     → IsReadingOut sig read known old stack final → IsReadingOut sig read after new rest final
+
+-- Cells were written, and the next one is not written.
+pub record IsNextUnwritten (kept : Kept) (old new : List (Option Term)) (stack rest : List Item) (id : CellId)
+    : Type 0 where
+  pub reads : (s : Signature) (known : List Variable) → ReadsOn s kept known known old new stack (Visit id ∷ rest)
+  pub stays : StaysFilling kept old new stack (Visit id ∷ rest)
+  pub other : IsFilled new id → ⊥
+  pub fewer : fresh new (Visit id ∷ rest) ≤ fresh old stack

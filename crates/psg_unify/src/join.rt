@@ -1,5 +1,6 @@
 //! The join of two rows on pairs of columns.
-ghost use Rattle.std.specs.Prelude.{◌≡◌, ◌<◌, ◌+◌, ◌↔◌, ◌++◌, All, List, ℕ, IfOk, IfSome, IfNone, OnErr, length, map};
+ghost use Rattle.std.specs.Prelude.{◌≡◌, ◌<◌, ◌+◌, ◌↔◌, ◌++◌, [], All, List, ℕ, IfOk, IfSome, IfNone, OnErr};
+ghost use Rattle.std.specs.Prelude.{length, map};
 ghost use Rattle.psg_terms.specs.Terms.{Term as Plain};
 ghost use Rattle.psg_terms.specs.Signature.{HaveSorts};
 ghost use Rattle.psg_terms.specs.Canonical.{IsCanonical};
@@ -85,7 +86,11 @@ fn read_picked(
 }
 
 /// Returns the cells at these places.
-fn picked_cells(alloc: Global, cells: &[CellId], keep: &[usize]) -> Result<Vec<CellId>, AllocError>
+pub fn picked_cells(
+    alloc: Global,
+    cells: &[CellId],
+    keep: &[usize],
+) -> Result<Vec<CellId>, AllocError>
     requires { All (λ k. k < length cells.now) keep.now }
     ensures { IfOk result (λ v. v.items ≡ picked cells.now keep.now) }
 {
@@ -161,7 +166,10 @@ impl Model for JoinPool {
 
 impl JoinPool {
     /// Makes an empty pool. It takes no memory itself.
-    pub fn new(alloc: Global) -> JoinPool {
+    pub fn new(alloc: Global) -> JoinPool
+        ensures cells { result.cells ≡ [] }
+        ensures bindings { result.bindings ≡ [] }
+    {
         JoinPool {
             pool: Pool::new(alloc),
         }

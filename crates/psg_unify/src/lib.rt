@@ -9,6 +9,10 @@
 //! binds free cells and joins classes of equal constructor cells, so nothing is copied; then one walk looks for
 //! circles, and another one writes the row, each cell once.
 //!
+//! A row that is too large to be written out is kept as an `UnwrittenRow`, and `covers` says of cells in a pool whether
+//! their row is an instance of another one. Both number cells by what they read as, one number for equal terms, so
+//! that no term is written out to be compared.
+//!
 //! What always holds:
 //! - A pool fits the signature: its cells have sorts, and none leads back to itself. So each cell reads as one term.
 //! - Each step of the solver keeps exactly those values of the cells for which its equation holds.
@@ -18,14 +22,20 @@
 
 mod circles;
 mod classes;
+mod covering;
+mod forms;
 mod join;
 mod making;
+mod numbering;
 mod putting;
 mod reading;
 mod regions;
 mod solving;
+mod unwritten;
 mod walking;
 
+pub use covering::covers;
 pub use join::{JoinPool, join_in, join_rows, join_rows_in};
 pub use reading::read_row;
 pub use regions::solve_in;
+pub use unwritten::UnwrittenRow;

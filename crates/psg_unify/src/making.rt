@@ -1,5 +1,6 @@
 //! The constructors of rows that are put into a pool, with a stack of what is still to be put.
-ghost use Rattle.std.specs.Prelude.{◌≡◌, ◌<◌, ◌+◌, ◌++◌, ◌∷◌, [], true, All, List, reverse, map, length, OnOk, IfOk};
+ghost use Rattle.std.specs.Prelude.{◌≡◌, ◌<◌, ◌≤◌, ◌+◌, ◌^◌, ◌++◌, ◌∷◌, [], true, All, List};
+ghost use Rattle.std.specs.Prelude.{reverse, map, length, OnOk, IfOk};
 ghost use Rattle.psg_terms.specs.Renaming.{keys, place};
 ghost use Rattle.psg_terms.specs.Canonical.{is_noted};
 ghost use Rattle.psg_terms.specs.Signature.{AreTerms};
@@ -8,7 +9,7 @@ ghost use Rattle.psg_pool.specs.Cells.{IsAmong};
 ghost use Rattle.psg_pool.specs.Bindings.{Kept, IsSound};
 ghost use Rattle.psg_unify.specs.Fitting.{Fits};
 ghost use Rattle.psg_unify.specs.Putting.{IsLonger};
-ghost use Rattle.psg_unify.specs.Making.{IsMade, IsPutting, IsPutRow, work};
+ghost use Rattle.psg_unify.specs.Making.{IsMade, IsPutting, IsPutRow, MayPut, work};
 ghost use Rattle.psg_unify.specs.declared.making.Task.TheVariants.{Whole};
 
 use crate::putting::put_variables;
@@ -47,14 +48,12 @@ fn make(
     con: ConId,
     count: usize,
 ) -> Result<(), AllocError>
-    requires { All (IsAmong pool.old.cells) cells.old.items }
+    requires among { All (IsAmong pool.old.cells) cells.old.items }
+    requires count { count ≤ length cells.old.items }
     ensures made { OnOk result (IsMade pool.old pool.new cells.old.items cells.new.items con.0 count) }
     ensures sound { OnOk result (IsSound pool.new) }
     ensures longer { IsLonger pool.old pool.new }
 {
-    if cells.len() < count {
-        return Err(AllocError);
-    }
     let start = cells.len() - count;
     let id = pool.put_con(con.0, &cells.as_slice()[start..])?;
     cells.truncate(start);
@@ -63,22 +62,15 @@ fn make(
 }
 
 /// Returns the cell of a known variable. Each variable has a cell from `base` on, by its place.
-fn cell_of(
-    known: &IndexSet<Key>,
-    base: usize,
-    sort: SortId,
-    number: u32,
-) -> Result<CellId, AllocError>
-    ensures known { IfOk result (λ _. is_noted (sort.0, number) (keys known.now.keys) ≡ true) }
-    ensures place { IfOk result (λ id. id.0 ≡ base + place (sort.0, number) (keys known.now.keys)) }
+fn cell_of(known: &IndexSet<Key>, base: usize, sort: SortId, number: u32) -> CellId
+    requires known { is_noted (sort.0, number) (keys known.now.keys) ≡ true }
+    requires room { base + length (keys known.now.keys) < 2 ^ 64 }
+    ensures { result.0 ≡ base + place (sort.0, number) (keys known.now.keys) }
 {
-    let Some(place) = place_of(known, sort, number) else {
-        return Err(AllocError);
-    };
-    let Some(cell) = base.checked_add(place) else {
-        return Err(AllocError);
-    };
-    Ok(CellId(cell))
+    match place_of(known, sort, number) {
+        Some(place) => CellId(base + place),
+        None => unreachable!(),
+    }
 }
 
 /// Does a term: a variable has its cell, and of a constructor the arguments are put first, and then the constructor.
@@ -90,6 +82,11 @@ fn put_whole(
     cells: &mut Vec<CellId>,
     term: &Term,
 ) -> Result<(), AllocError>
+    requires may { MayPut sig.now (keys known.now.keys) (length cells.old.items)
+        (Whole term.now ∷ reverse tasks.old.items) }
+    requires room { base + length (keys known.now.keys) < 2 ^ 64 }
+    ensures may { OnOk result (MayPut sig.now (keys known.now.keys) (length cells.new.items)
+        (reverse tasks.new.items)) }
     ensures less { OnOk result (work (reverse tasks.new.items) < work (Whole term.now ∷ reverse tasks.old.items)) }
     ensures put { OnOk result ((old now : Kept) (row : List Plain) → IsSound old → base ≡ length old.cells
         → IsPutting sig.now old (keys known.now.keys) row now (Whole term.now ∷ reverse tasks.old.items) cells.old.items
@@ -102,7 +99,7 @@ fn put_whole(
                 Ok(())
             }
             None => {
-                let cell = cell_of(known, base, *sort, *number)?;
+                let cell = cell_of(known, base, *sort, *number);
                 cells.push(cell)?;
                 Ok(())
             }
@@ -130,6 +127,10 @@ fn do_task(
     task: Task,
 ) -> Result<(), AllocError>
     requires among { All (IsAmong pool.old.cells) cells.old.items }
+    requires may { MayPut sig.now (keys known.now.keys) (length cells.old.items) (task ∷ reverse tasks.old.items) }
+    requires room { base + length (keys known.now.keys) < 2 ^ 64 }
+    ensures may { OnOk result (MayPut sig.now (keys known.now.keys) (length cells.new.items)
+        (reverse tasks.new.items)) }
     ensures less { OnOk result (work (reverse tasks.new.items) < work (task ∷ reverse tasks.old.items)) }
     ensures put { OnOk result ((old : Kept) (row : List Plain) → IsSound old → base ≡ length old.cells
         → IsPutting sig.now old (keys known.now.keys) row pool.old (task ∷ reverse tasks.old.items) cells.old.items
@@ -157,7 +158,9 @@ fn put_terms(
     pool: &mut Pool,
     row: &[Term],
 ) -> Result<Vec<CellId>, AllocError>
-    requires { (old : Kept) × IsSound old × (base ≡ length old.cells)
+    requires may { MayPut sig.now (keys known.now.keys) 0 (map (λ (t : Plain). Whole t) row.now) }
+    requires room { base + length (keys known.now.keys) < 2 ^ 64 }
+    requires putting { (old : Kept) × IsSound old × (base ≡ length old.cells)
         × IsPutting sig.now old (keys known.now.keys) row.now pool.old (map (λ (t : Plain). Whole t) row.now) [] }
     ensures put { IfOk result (λ cells. (old : Kept) × (base ≡ length old.cells)
         × IsPutting sig.now old (keys known.now.keys) row.now pool.new [] cells.items) }
@@ -194,6 +197,7 @@ pub fn put_row(
     let base = pool.count();
     let mut known = IndexSet::new(alloc);
     put_variables(alloc, sig, pool, &mut known, row)?;
+    let _end = pool.count();
     let cells = put_terms(alloc, sig, &known, base, pool, row)?;
     Ok(cells)
 }

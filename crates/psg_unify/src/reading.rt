@@ -1,6 +1,6 @@
 //! Rows read out of a pool, with canonical numbers.
-ghost use Rattle.std.specs.Prelude.{◌≡◌, ◌+◌, ◌∷◌, ◌↔◌, [], All, IfOk, IfSome, IfNone, OnOk, IsTrue, List};
-ghost use Rattle.std.specs.Prelude.{Some, ℕ, slice_get, length, map, reverse};
+ghost use Rattle.std.specs.Prelude.{◌≡◌, ◌<◌, ◌+◌, ◌∷◌, ◌↔◌, [], All, IfOk, IfSome, IfNone, OnOk, IsTrue, List};
+ghost use Rattle.std.specs.Prelude.{Some, ℕ, set, slice_get, length, map, reverse};
 ghost use Rattle.psg_terms.specs.Terms.{Term as Plain};
 ghost use Rattle.psg_terms.specs.Canonical.{Variable, IsCanonical};
 ghost use Rattle.psg_terms.specs.Instances.{HasSameInstances};
@@ -9,13 +9,17 @@ ghost use Rattle.psg_terms.specs.Signature.{Signature as Sig, HaveSorts};
 ghost use Rattle.psg_pool.specs.Cells.{IsAmong, arguments_of};
 ghost use Rattle.psg_pool.specs.Bindings.{Holds, IsSound};
 ghost use Rattle.psg_pool.specs.declared.cells.Cell.TheVariants.{Free as Open};
+ghost use Rattle.psg_pool.specs.declared.cells.CellId.{CellId as Id};
 ghost use Rattle.psg_unify.specs.declared.walking.Item.{Item as Step};
 ghost use Rattle.psg_unify.specs.declared.walking.Item.TheVariants.{Visit, Leave};
-ghost use Rattle.psg_unify.specs.Fitting.{Fits};
+ghost use Rattle.psg_unify.specs.Fitting.{Fits, Falls};
 ghost use Rattle.psg_unify.specs.Reading.{Reading, IsReading};
-ghost use Rattle.psg_unify.specs.ReadOut.{AreWritten, IsKept, ReadsOn};
+ghost use Rattle.psg_unify.specs.ReadOut.{AreWritten, ReadsOn};
+ghost use Rattle.psg_unify.specs.Filling.{IsFilled, IsKept, IsFilling, StaysFilling};
+ghost use Rattle.psg_unify.specs.ReadOut.{IsNextUnwritten};
+ghost use Rattle.psg_unify.specs.Filling.{fresh};
 
-use crate::walking::{Item, cell_at, push_arguments, push_cells};
+use crate::walking::{Item, push_arguments, push_cells};
 use indexmap::IndexSet;
 use psg_pool::{Cell, CellId, Pool};
 use psg_terms::canonical::{Key, note, number_of};
@@ -24,10 +28,11 @@ use std::alloc::{AllocError, Global};
 
 /// Returns as many empty places as this.
 fn empty_places(alloc: Global, count: usize) -> Result<Vec<Option<Term>>, AllocError>
-    ensures { IfOk result (λ v. (k : ℕ) (t : Plain) → slice_get v.items k ≡ Some (Some t) → ⊥) }
+    ensures empty { IfOk result (λ v. (k : ℕ) (t : Plain) → slice_get v.items k ≡ Some (Some t) → ⊥) }
+    ensures count { IfOk result (λ v. length v.items ≡ count) }
 {
     let mut places = Vec::with_capacity(alloc, count)?;
-    for _ in 0..count {
+    for _place in 0..count {
         places.push(None)?;
     }
     Ok(places)
@@ -35,7 +40,7 @@ fn empty_places(alloc: Global, count: usize) -> Result<Vec<Option<Term>>, AllocE
 
 /// Says whether the cell's term was written.
 fn is_written(written: &[Option<Term>], id: CellId) -> bool
-    ensures { IsTrue result ↔ ((t : Plain) × (slice_get written.now id.0 ≡ Some (Some t))) }
+    ensures { IsTrue result ↔ IsFilled written.now id }
 {
     match written.get(id.0) {
         Some(place) => place.is_some(),
@@ -45,6 +50,7 @@ fn is_written(written: &[Option<Term>], id: CellId) -> bool
 
 /// Returns the cell's term, which was written.
 fn written_of(written: &[Option<Term>], id: CellId) -> Result<Term, AllocError>
+    requires { IsFilled written.now id }
     ensures { IfOk result (λ t. slice_get written.now id.0 ≡ Some (Some t)) }
 {
     match written.get(id.0) {
@@ -53,22 +59,18 @@ fn written_of(written: &[Option<Term>], id: CellId) -> Result<Term, AllocError>
                 let copy = term.share()?;
                 Ok(copy)
             }
-            None => Err(AllocError),
+            None => unreachable!(),
         },
-        None => Err(AllocError),
+        None => unreachable!(),
     }
 }
 
 /// Keeps the cell's term.
-fn keep(written: &mut Vec<Option<Term>>, id: CellId, term: Term) -> Result<(), AllocError>
-    ensures kept { OnOk result (IsKept written.old.items written.new.items id term) }
-    ensures here { OnOk result (slice_get written.new.items id.0 ≡ Some (Some term)) }
+fn keep(written: &mut Vec<Option<Term>>, id: CellId, term: Term)
+    requires { id.0 < length written.old.items }
+    ensures { written.new.items ≡ set written.old.items id.0 (Some term) }
 {
-    if id.0 >= written.len() {
-        return Err(AllocError);
-    }
     written[id.0] = Some(term);
-    Ok(())
 }
 
 /// Returns the terms of the arguments of a cell, which were written.
@@ -79,7 +81,8 @@ fn written_arguments(
     id: CellId,
     count: usize,
 ) -> Result<Vec<Term>, AllocError>
-    requires { length (arguments_of pool.now.cells id) ≡ count }
+    requires count { length (arguments_of pool.now.cells id) ≡ count }
+    requires there { All (IsFilled written.now) (arguments_of pool.now.cells id) }
     ensures { IfOk result (λ v. AreWritten written.now (arguments_of pool.now.cells id) v.items) }
 {
     let mut terms = Vec::with_capacity(alloc, count)?;
@@ -97,6 +100,7 @@ fn written_row(
     written: &[Option<Term>],
     cells: &[CellId],
 ) -> Result<Vec<Term>, AllocError>
+    requires { All (IsFilled written.now) cells.now }
     ensures { IfOk result (λ v. AreWritten written.now cells.now v.items) }
 {
     let mut terms = Vec::with_capacity(alloc, cells.len())?;
@@ -128,14 +132,16 @@ fn write_open(
     id: CellId,
     sort: SortId,
 ) -> Result<(), AllocError>
-    requires { Holds pool.now id (Open sort.0) }
-    ensures { OnOk result ((rest : List Step) → ReadsOn sig.now pool.now (keys known.old.keys) (keys known.new.keys)
-        written.old.items written.new.items (Visit id ∷ rest) rest) }
+    requires holds { Holds pool.now id (Open sort.0) }
+    requires within { id.0 < length written.old.items }
+    ensures reads { OnOk result ((rest : List Step) → ReadsOn sig.now pool.now (keys known.old.keys)
+        (keys known.new.keys) written.old.items written.new.items (Visit id ∷ rest) rest) }
+    ensures kept { OnOk result (IsKept written.old.items written.new.items id) }
 {
     match sig.constant_of(sort) {
         Some(con) => {
             let term = Term::apply(alloc, con, Vec::new(alloc))?;
-            keep(written, id, term)?;
+            keep(written, id, term);
             Ok(())
         }
         None => {
@@ -143,7 +149,7 @@ fn write_open(
             let place = note(known, sort, number)?;
             let fresh = number_of(0, place)?;
             let term = Term::var(alloc, sort, fresh)?;
-            keep(written, id, term)?;
+            keep(written, id, term);
             Ok(())
         }
     }
@@ -159,11 +165,20 @@ fn go_to(
     stack: &mut Vec<Item>,
     id: CellId,
 ) -> Result<(), AllocError>
-    ensures { OnOk result
+    requires readable { (cells : List Id)
+        × IsFilling pool.now cells written.old.items (Visit id ∷ reverse stack.old.items) }
+    requires falls { (height : Id → ℕ) × Falls pool.now height }
+    requires other { IsFilled written.old.items id → ⊥ }
+    ensures reads { OnOk result
         (ReadsOn sig.now pool.now (keys known.old.keys) (keys known.new.keys) written.old.items written.new.items
         (Visit id ∷ reverse stack.old.items) (reverse stack.new.items)) }
+    ensures stays { OnOk result (StaysFilling pool.now written.old.items written.new.items
+        (Visit id ∷ reverse stack.old.items) (reverse stack.new.items)) }
+    ensures fewer { OnOk result (fresh written.new.items (reverse stack.new.items)
+        < fresh written.old.items (Visit id ∷ reverse stack.old.items)) }
 {
-    let cell = cell_at(pool, id)?;
+    let _mark = pool.mark();
+    let cell = pool.cell(id);
     match cell {
         Cell::Free(sort) => {
             write_open(alloc, sig, pool, known, written, id, SortId(sort))?;
@@ -189,21 +204,24 @@ fn leave(
     written: &mut Vec<Option<Term>>,
     id: CellId,
 ) -> Result<(), AllocError>
-    ensures { OnOk result ((s : Sig) (known : List Variable) (rest : List Step) → ReadsOn s pool.now known known
+    requires { (cells : List Id) × (rest : List Step)
+        × IsFilling pool.now cells written.old.items (Leave id ∷ rest) }
+    ensures reads { OnOk result ((s : Sig) (known : List Variable) (rest : List Step) → ReadsOn s pool.now known known
         written.old.items written.new.items (Leave id ∷ rest) rest) }
+    ensures kept { OnOk result (IsKept written.old.items written.new.items id) }
 {
-    let cell = cell_at(pool, id)?;
+    let cell = pool.cell(id);
     match cell {
-        Cell::Free(_) => Err(AllocError),
+        Cell::Free(_) => unreachable!(),
         Cell::Bound(to) => {
             let term = written_of(written.as_slice(), to)?;
-            keep(written, id, term)?;
+            keep(written, id, term);
             Ok(())
         }
         Cell::Con { con, count } => {
             let parts = written_arguments(alloc, pool, written.as_slice(), id, count)?;
             let term = Term::apply(alloc, ConId(con), parts)?;
-            keep(written, id, term)?;
+            keep(written, id, term);
             Ok(())
         }
     }
@@ -217,10 +235,13 @@ fn next_unwritten(
     written: &mut Vec<Option<Term>>,
     stack: &mut Vec<Item>,
 ) -> Result<Option<CellId>, AllocError>
-    ensures some { IfOk result (λ o. IfSome o (λ id. (s : Sig) (known : List Variable) → ReadsOn s pool.now known known
-        written.old.items written.new.items (reverse stack.old.items) (Visit id ∷ reverse stack.new.items))) }
-    ensures none { IfOk result (λ o. IfNone o ((s : Sig) (known : List Variable) → ReadsOn s pool.now known known
+    requires { (cells : List Id) × IsFilling pool.now cells written.old.items (reverse stack.old.items) }
+    ensures some { IfOk result (λ o. IfSome o (λ id. IsNextUnwritten pool.now written.old.items written.new.items
+        (reverse stack.old.items) (reverse stack.new.items) id)) }
+    ensures reads { IfOk result (λ o. IfNone o ((s : Sig) (known : List Variable) → ReadsOn s pool.now known known
         written.old.items written.new.items (reverse stack.old.items) [])) }
+    ensures stays { IfOk result (λ o. IfNone o (StaysFilling pool.now written.old.items written.new.items
+        (reverse stack.old.items) [])) }
 {
     while let Some(item) = stack.pop() {
         match item {
@@ -237,8 +258,8 @@ fn next_unwritten(
     Ok(None)
 }
 
-/// Writes all cells that are on the stack, and those to which they lead. Each turn goes to a cell that was not written,
-/// and no cell leads back to itself, so that there are no more turns than cells.
+/// Writes all cells that are on the stack, and those to which they lead. Each turn goes to a cell that was neither
+/// written nor gone to.
 fn read_all(
     alloc: Global,
     sig: &Signature,
@@ -247,20 +268,19 @@ fn read_all(
     written: &mut Vec<Option<Term>>,
     stack: &mut Vec<Item>,
 ) -> Result<(), AllocError>
-    ensures { OnOk result
+    requires readable { (cells : List Id)
+        × IsFilling pool.now cells written.old.items (reverse stack.old.items) }
+    requires falls { (height : Id → ℕ) × Falls pool.now height }
+    ensures reads { OnOk result
         (ReadsOn sig.now pool.now (keys known.old.keys) (keys known.new.keys) written.old.items written.new.items
         (reverse stack.old.items) []) }
+    ensures stays { OnOk result (StaysFilling pool.now written.old.items written.new.items (reverse stack.old.items)
+        []) }
 {
-    for _ in 0..pool.count().saturating_add(1) {
-        let next = next_unwritten(alloc, pool, written, stack)?;
-        match next {
-            None => return Ok(()),
-            Some(id) => {
-                go_to(alloc, sig, pool, known, written, stack, id)?;
-            }
-        }
+    while let Some(id) = next_unwritten(alloc, pool, written, stack)? {
+        go_to(alloc, sig, pool, known, written, stack, id)?;
     }
-    Err(AllocError)
+    Ok(())
 }
 
 /// Returns the canonical row of the cells. Each cell that the row reaches is written once and then shared. It takes a

@@ -70,7 +70,7 @@ fn put_and_solve(
     let mut equations = equations_of(alloc, lefts.as_slice(), rights.as_slice(), pairs)?;
     let count = pool.count() - start;
     let mut classes = Classes::new(alloc, start, count)?;
-    if !solve(pool, &mut classes, &mut equations, start)? {
+    if !solve(pool, &mut classes, &mut equations)? {
         return Ok(None);
     }
     let _solved = pool.mark();

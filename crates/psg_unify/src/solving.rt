@@ -1,11 +1,11 @@
 //! Equations of cells, solved in a pool.
-ghost use Rattle.std.specs.Prelude.{◌≡◌, ◌≢◌, ◌++◌, ◌∷◌, ◌⊎◌, [], IfOk, IfSome, IfNone, OnOk};
-ghost use Rattle.std.specs.Prelude.{true, false, reverse, length, None};
-ghost use Rattle.psg_pool.specs.Cells.{IsAmong, arguments_of};
-ghost use Rattle.psg_pool.specs.Bindings.{IsFree, Holds, target_of};
+ghost use Rattle.std.specs.Prelude.{◌≡◌, ◌≢◌, ◌<◌, ◌≤◌, ◌+◌, ◌-◌, ◌++◌, ◌∷◌, [], IfOk, IfSome, IfNone, OnOk};
+ghost use Rattle.std.specs.Prelude.{List, true, false, reverse, length, set, max, Some};
+ghost use Rattle.psg_pool.specs.Cells.{IsPutFree, arguments_of};
+ghost use Rattle.psg_pool.specs.Bindings.{Holds};
 ghost use Rattle.psg_pool.specs.declared.cells.Cell.TheVariants.{Con};
-ghost use Rattle.psg_pool.specs.declared.cells.CellId.{CellId as Id};
-ghost use Rattle.psg_unify.specs.Joined.{IsNext};
+ghost use Rattle.psg_unify.specs.Valuations.{Equation};
+ghost use Rattle.psg_unify.specs.Climbing.{IsClimbing, IsEnd, IsGoing, IsCloser, height_at};
 ghost use Rattle.psg_unify.specs.Meeting.{pairs_of, IsMoreBound, StaysSolving, HasNoValuation, CanSolve, IsNextApart};
 
 use crate::classes::{Classes, end_of, height_of, join, raise};
@@ -33,54 +33,40 @@ fn push_arguments(
     Ok(())
 }
 
-/// Binds a free cell to another cell at which bindings lead no further.
-fn bind_free(
-    pool: &mut Pool,
-    classes: &Classes,
-    left: &Vec<(CellId, CellId)>,
-    x: CellId,
-    y: CellId,
-    base: usize,
-) -> Result<(), AllocError>
-    requires is_free { IsFree pool.old x }
-    requires there { IsAmong pool.old.cells y }
-    requires ends { target_of pool.old.bindings y ≡ None }
+/// Binds a free cell to another cell from which nothing leads on, and raises that one.
+fn bind_free(pool: &mut Pool, classes: &mut Classes, x: CellId, y: CellId) -> Result<(), AllocError>
+    requires is_free { IsPutFree pool.old.cells x }
+    requires x_end { IsEnd pool.old classes.old x }
+    requires y_end { IsEnd pool.old classes.old y }
     requires other { x.0 ≢ y.0 }
-    requires base { base ≡ classes.now.base }
-    ensures bound { OnOk result (StaysSolving pool.old pool.new classes.now classes.now
-        ((x, y) ∷ reverse left.now.items) (reverse left.now.items)) }
+    requires climbing { IsClimbing pool.old classes.old }
+    ensures bound { OnOk result ((left : List Equation)
+        → StaysSolving pool.old pool.new classes.old classes.new ((x, y) ∷ left) left) }
+    ensures closer { OnOk result ((left : List Equation) → IsGoing pool.old classes.old ((x, y) ∷ left)
+        → IsCloser pool.old pool.new classes.old classes.new left) }
     ensures more { IsMoreBound pool.old pool.new }
-{
-    if x.0 < base || y.0 < base {
-        return Err(AllocError);
-    }
-    pool.bind(x, y)?;
-    Ok(())
-}
-
-/// Returns the height of a class to which another one is joined.
-fn taller(lower: u32, higher: u32) -> u32 {
-    if lower == higher {
-        return higher.saturating_add(1);
-    }
-    higher
-}
-
-/// Joins the first cell to the second one.
-fn join_to(
-    classes: &mut Classes,
-    x: CellId,
-    y: CellId,
-    lower: u32,
-    higher: u32,
-) -> Result<(), AllocError>
     ensures base { classes.new.base ≡ classes.old.base }
-    ensures next { OnOk result ((id next : Id) → IsNext classes.new id next
-        → IsNext classes.old id next ⊎ ((id ≡ x) × (next ≡ y))) }
 {
-    raise(classes, y, taller(lower, higher));
-    join(classes, x, y)?;
+    pool.bind(x, y)?;
+    raise(classes, x, y);
     Ok(())
+}
+
+/// Joins the first cell to the second one, and raises that one.
+fn join_to(classes: &mut Classes, x: CellId, y: CellId)
+    requires from { classes.old.base ≤ x.0 }
+    requires within { x.0 < classes.old.base + length classes.old.next.items }
+    requires to_from { classes.old.base ≤ y.0 }
+    requires to_within { y.0 < classes.old.base + length classes.old.next.items }
+    requires heights { length classes.old.heights.items ≡ length classes.old.next.items }
+    requires room { height_at classes.old x < length classes.old.heights.items }
+    ensures base { classes.new.base ≡ classes.old.base }
+    ensures next { classes.new.next.items ≡ set classes.old.next.items (x.0 - classes.old.base) (Some y) }
+    ensures heights { classes.new.heights.items ≡ set classes.old.heights.items (y.0 - classes.old.base)
+        (max (height_at classes.old y) (height_at classes.old x + 1)) }
+{
+    raise(classes, x, y);
+    join(classes, x, y);
 }
 
 /// Joins the classes of two cells of one constructor, the lower class to the higher one, and puts their arguments on
@@ -96,109 +82,71 @@ fn take_apart(
 ) -> Result<(), AllocError>
     requires x { Holds pool.now x (Con con count) }
     requires y { Holds pool.now y (Con con count) }
-    requires x_there { IsAmong pool.now.cells x }
-    requires y_there { IsAmong pool.now.cells y }
+    requires x_end { IsEnd pool.now classes.old x }
+    requires y_end { IsEnd pool.now classes.old y }
+    requires other { x.0 ≢ y.0 }
+    requires going { IsGoing pool.now classes.old ((x, y) ∷ reverse left.old.items) }
     ensures apart { OnOk result (StaysSolving pool.now pool.now classes.old classes.new
         ((x, y) ∷ reverse left.old.items) (reverse left.new.items)) }
+    ensures closer { OnOk result (IsCloser pool.now pool.now classes.old classes.new (reverse left.new.items)) }
     ensures base { classes.new.base ≡ classes.old.base }
 {
     let _mark = pool.mark();
     push_arguments(pool, left, x, y, count)?;
-    let first = height_of(classes, x);
-    let second = height_of(classes, y);
-    if second < first {
-        join_to(classes, y, x, second, first)?;
+    if height_of(classes, y) < height_of(classes, x) {
+        join_to(classes, y, x);
         return Ok(());
     }
-    join_to(classes, x, y, first, second)?;
+    join_to(classes, x, y);
     Ok(())
 }
 
-/// Binds a free cell to another cell at which bindings lead no further, which gets the height of both.
-fn bind_raised(
-    pool: &mut Pool,
-    classes: &mut Classes,
-    left: &Vec<(CellId, CellId)>,
-    x: CellId,
-    y: CellId,
-    base: usize,
-    height: u32,
-) -> Result<(), AllocError>
-    requires is_free { IsFree pool.old x }
-    requires there { IsAmong pool.old.cells y }
-    requires ends { target_of pool.old.bindings y ≡ None }
+/// Binds one of two free cells to the other one, the lower class to the higher one, so that no way gets longer than the
+/// logarithm of the number of cells, and one step for the constructor.
+fn meet_free(pool: &mut Pool, classes: &mut Classes, x: CellId, y: CellId) -> Result<(), AllocError>
+    requires x { IsPutFree pool.old.cells x }
+    requires y { IsPutFree pool.old.cells y }
+    requires x_end { IsEnd pool.old classes.old x }
+    requires y_end { IsEnd pool.old classes.old y }
     requires other { x.0 ≢ y.0 }
-    requires base { base ≡ classes.old.base }
-    ensures bound { OnOk result (StaysSolving pool.old pool.new classes.old classes.new
-        ((x, y) ∷ reverse left.now.items) (reverse left.now.items)) }
+    requires climbing { IsClimbing pool.old classes.old }
+    ensures bound { OnOk result ((left : List Equation)
+        → StaysSolving pool.old pool.new classes.old classes.new ((x, y) ∷ left) left) }
+    ensures closer { OnOk result ((left : List Equation) → IsGoing pool.old classes.old ((x, y) ∷ left)
+        → IsCloser pool.old pool.new classes.old classes.new left) }
     ensures more { IsMoreBound pool.old pool.new }
     ensures base { classes.new.base ≡ classes.old.base }
 {
-    bind_free(pool, classes, left, x, y, base)?;
-    raise(classes, y, height);
-    Ok(())
-}
-
-/// Binds one of two free cells to the other one, the lower class to the higher one, so that no way over free cells gets
-/// longer than the logarithm of their number.
-fn meet_free(
-    pool: &mut Pool,
-    classes: &mut Classes,
-    left: &Vec<(CellId, CellId)>,
-    x: CellId,
-    y: CellId,
-    base: usize,
-) -> Result<(), AllocError>
-    requires x { IsFree pool.old x }
-    requires y { IsFree pool.old y }
-    requires x_there { IsAmong pool.old.cells x }
-    requires y_there { IsAmong pool.old.cells y }
-    requires other { x.0 ≢ y.0 }
-    requires base { base ≡ classes.old.base }
-    ensures bound { OnOk result (StaysSolving pool.old pool.new classes.old classes.new
-        ((x, y) ∷ reverse left.now.items) (reverse left.now.items)) }
-    ensures more { IsMoreBound pool.old pool.new }
-    ensures base { classes.new.base ≡ classes.old.base }
-{
-    let first = height_of(classes, x);
-    let second = height_of(classes, y);
-    if second < first {
-        bind_raised(pool, classes, left, y, x, base, first)?;
+    if height_of(classes, y) < height_of(classes, x) {
+        bind_free(pool, classes, y, x)?;
         return Ok(());
     }
-    let height = taller(first, second);
-    bind_raised(pool, classes, left, x, y, base, height)?;
+    bind_free(pool, classes, x, y)?;
     Ok(())
 }
 
 /// Binds a free cell to the cell at which another way ends.
-fn meet_open(
-    pool: &mut Pool,
-    classes: &mut Classes,
-    left: &Vec<(CellId, CellId)>,
-    x: CellId,
-    y: CellId,
-    base: usize,
-) -> Result<(), AllocError>
-    requires x { IsFree pool.old x }
-    requires x_there { IsAmong pool.old.cells x }
-    requires y_there { IsAmong pool.old.cells y }
-    requires ends { target_of pool.old.bindings y ≡ None }
+fn meet_open(pool: &mut Pool, classes: &mut Classes, x: CellId, y: CellId) -> Result<(), AllocError>
+    requires x { IsPutFree pool.old.cells x }
+    requires x_end { IsEnd pool.old classes.old x }
+    requires y_end { IsEnd pool.old classes.old y }
     requires other { x.0 ≢ y.0 }
-    requires base { base ≡ classes.old.base }
-    ensures bound { OnOk result (StaysSolving pool.old pool.new classes.old classes.new
-        ((x, y) ∷ reverse left.now.items) (reverse left.now.items)) }
+    requires climbing { IsClimbing pool.old classes.old }
+    ensures bound { OnOk result ((left : List Equation)
+        → StaysSolving pool.old pool.new classes.old classes.new ((x, y) ∷ left) left) }
+    ensures closer { OnOk result ((left : List Equation) → IsGoing pool.old classes.old ((x, y) ∷ left)
+        → IsCloser pool.old pool.new classes.old classes.new left) }
     ensures more { IsMoreBound pool.old pool.new }
     ensures base { classes.new.base ≡ classes.old.base }
 {
     match pool.cell(y) {
         Cell::Bound(_) => unreachable!(),
         Cell::Free(_) => {
-            meet_free(pool, classes, left, x, y, base)?;
+            meet_free(pool, classes, x, y)?;
             Ok(())
         }
         Cell::Con { .. } => {
-            bind_free(pool, classes, left, x, y, base)?;
+            bind_free(pool, classes, x, y)?;
             Ok(())
         }
     }
@@ -211,19 +159,19 @@ fn meet_con(
     left: &mut Vec<(CellId, CellId)>,
     x: CellId,
     y: CellId,
-    base: usize,
     con: u32,
     count: usize,
 ) -> Result<bool, AllocError>
     requires solving { CanSolve pool.old classes.old ((x, y) ∷ reverse left.old.items) }
     requires x { Holds pool.old x (Con con count) }
-    requires x_there { IsAmong pool.old.cells x }
-    requires y_there { IsAmong pool.old.cells y }
-    requires ends { target_of pool.old.bindings y ≡ None }
+    requires x_end { IsEnd pool.old classes.old x }
+    requires y_end { IsEnd pool.old classes.old y }
     requires other { x.0 ≢ y.0 }
-    requires base { base ≡ classes.old.base }
+    requires going { IsGoing pool.old classes.old ((x, y) ∷ reverse left.old.items) }
     ensures yes { IfOk result (λ d. d ≡ true → StaysSolving pool.old pool.new classes.old classes.new
         ((x, y) ∷ reverse left.old.items) (reverse left.new.items)) }
+    ensures closer { IfOk result (λ d. d ≡ true
+        → IsCloser pool.old pool.new classes.old classes.new (reverse left.new.items)) }
     ensures no { IfOk result (λ d. d ≡ false → HasNoValuation pool.old classes.old ((x, y) ∷ reverse left.old.items)) }
     ensures more { IsMoreBound pool.old pool.new }
     ensures base { classes.new.base ≡ classes.old.base }
@@ -231,7 +179,7 @@ fn meet_con(
     match pool.cell(y) {
         Cell::Bound(_) => unreachable!(),
         Cell::Free(_) => {
-            bind_free(pool, classes, left, y, x, base)?;
+            bind_free(pool, classes, y, x)?;
             Ok(true)
         }
         Cell::Con { con: other, .. } => {
@@ -244,25 +192,24 @@ fn meet_con(
     }
 }
 
-/// Makes two cells equal at which bindings lead no further, and says whether they can be. What is left to be made equal
-/// goes onto the stack.
+/// Makes two cells equal from which nothing leads on, and says whether they can be. What is left to be made equal goes
+/// onto the stack.
 fn meet(
     pool: &mut Pool,
     classes: &mut Classes,
     left: &mut Vec<(CellId, CellId)>,
     x: CellId,
     y: CellId,
-    base: usize,
 ) -> Result<bool, AllocError>
     requires solving { CanSolve pool.old classes.old ((x, y) ∷ reverse left.old.items) }
-    requires x_there { IsAmong pool.old.cells x }
-    requires y_there { IsAmong pool.old.cells y }
-    requires x_ends { target_of pool.old.bindings x ≡ None }
-    requires y_ends { target_of pool.old.bindings y ≡ None }
+    requires x_end { IsEnd pool.old classes.old x }
+    requires y_end { IsEnd pool.old classes.old y }
     requires other { x.0 ≢ y.0 }
-    requires base { base ≡ classes.old.base }
+    requires going { IsGoing pool.old classes.old ((x, y) ∷ reverse left.old.items) }
     ensures yes { IfOk result (λ d. d ≡ true → StaysSolving pool.old pool.new classes.old classes.new
         ((x, y) ∷ reverse left.old.items) (reverse left.new.items)) }
+    ensures closer { IfOk result (λ d. d ≡ true
+        → IsCloser pool.old pool.new classes.old classes.new (reverse left.new.items)) }
     ensures no { IfOk result (λ d. d ≡ false → HasNoValuation pool.old classes.old ((x, y) ∷ reverse left.old.items)) }
     ensures more { IsMoreBound pool.old pool.new }
     ensures base { classes.new.base ≡ classes.old.base }
@@ -270,11 +217,11 @@ fn meet(
     match pool.cell(x) {
         Cell::Bound(_) => unreachable!(),
         Cell::Free(_) => {
-            meet_open(pool, classes, left, x, y, base)?;
+            meet_open(pool, classes, x, y)?;
             Ok(true)
         }
         Cell::Con { con, count } => {
-            let met = meet_con(pool, classes, left, x, y, base, con, count)?;
+            let met = meet_con(pool, classes, left, x, y, con, count)?;
             Ok(met)
         }
     }
@@ -286,51 +233,43 @@ fn next_apart(
     pool: &Pool,
     classes: &Classes,
     left: &mut Vec<(CellId, CellId)>,
-) -> Result<Option<(CellId, CellId)>, AllocError>
-    requires { CanSolve pool.now classes.now (reverse left.old.items) }
-    ensures some { IfOk result (λ o. IfSome o (λ p.
-        IsNextApart pool.now classes.now (reverse left.old.items) p (reverse left.new.items))) }
-    ensures none { IfOk result (λ o. IfNone o (StaysSolving pool.now pool.now classes.now classes.now
-        (reverse left.old.items) [])) }
+) -> Option<(CellId, CellId)>
+    requires solving { CanSolve pool.now classes.now (reverse left.old.items) }
+    requires going { IsGoing pool.now classes.now (reverse left.old.items) }
+    ensures some { IfSome result (λ p.
+        IsNextApart pool.now classes.now (reverse left.old.items) p (reverse left.new.items)) }
+    ensures none { IfNone result (StaysSolving pool.now pool.now classes.now classes.now (reverse left.old.items) []) }
 {
     while let Some(pair) = left.pop() {
-        let x = end_of(pool, classes, pair.0)?;
-        let y = end_of(pool, classes, pair.1)?;
+        let x = end_of(pool, classes, pair.0);
+        let y = end_of(pool, classes, pair.1);
         if x.0 != y.0 {
-            return Ok(Some((x, y)));
+            return Some((x, y));
         }
     }
-    Ok(None)
+    None
 }
 
 /// Solves the equations on the stack in the pool and says whether they can be solved, except that it does not look for
-/// circles. Each turn binds a free cell or joins a class, so that there are no more turns than cells from `base` on.
-/// Each way to an end is no longer than twice the logarithm of the number of cells. It returns `AllocError` when memory
+/// circles. Each turn binds a free cell or joins a class, so that there are no more turns than cells in the classes.
+/// Each way to an end has at most one step more than the logarithm of their number. It returns `AllocError` when memory
 /// runs out.
 pub fn solve(
     pool: &mut Pool,
     classes: &mut Classes,
     left: &mut Vec<(CellId, CellId)>,
-    base: usize,
 ) -> Result<bool, AllocError>
     requires solving { CanSolve pool.old classes.old (reverse left.old.items) }
-    requires base { base ≡ classes.old.base }
+    requires going { IsGoing pool.old classes.old (reverse left.old.items) }
     ensures yes { IfOk result (λ d. d ≡ true
         → StaysSolving pool.old pool.new classes.old classes.new (reverse left.old.items) []) }
     ensures no { IfOk result (λ d. d ≡ false → HasNoValuation pool.old classes.old (reverse left.old.items)) }
     ensures more { IsMoreBound pool.old pool.new }
 {
-    let cells = pool.count().saturating_sub(base);
-    for _ in 0..cells.saturating_add(1) {
-        let next = next_apart(pool, classes, left)?;
-        match next {
-            None => return Ok(true),
-            Some(pair) => {
-                if !meet(pool, classes, left, pair.0, pair.1, base)? {
-                    return Ok(false);
-                }
-            }
+    while let Some(pair) = next_apart(pool, classes, left) {
+        if !meet(pool, classes, left, pair.0, pair.1)? {
+            return Ok(false);
         }
     }
-    Err(AllocError)
+    Ok(true)
 }

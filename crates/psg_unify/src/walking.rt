@@ -1,11 +1,10 @@
 //! Walks over cells, with a stack of what is still to be done.
-ghost use Rattle.std.specs.Prelude.{◌≡◌, ◌++◌, reverse, map, length, IfOk, OnOk};
-ghost use Rattle.psg_pool.specs.Cells.{IsAmong, arguments_of};
-ghost use Rattle.psg_pool.specs.Bindings.{Holds};
+ghost use Rattle.std.specs.Prelude.{◌≡◌, ◌++◌, reverse, map, length, OnOk};
+ghost use Rattle.psg_pool.specs.Cells.{arguments_of};
 ghost use Rattle.psg_pool.specs.declared.cells.CellId.{CellId as Id};
 ghost use Rattle.psg_unify.specs.declared.walking.Item.TheVariants.{Visit};
 
-use psg_pool::{Cell, CellId, Pool};
+use psg_pool::{CellId, Pool};
 use std::alloc::AllocError;
 
 /// What is still to be done at a cell.
@@ -15,18 +14,6 @@ pub enum Item {
     Visit(CellId),
     /// Leave the cell, whose arguments are done.
     Leave(CellId),
-}
-
-/// Returns what a cell holds, and `AllocError` where there is no such cell.
-pub fn cell_at(pool: &Pool, id: CellId) -> Result<Cell, AllocError>
-    ensures holds { IfOk result (λ cell. Holds pool.now id cell) }
-    ensures among { OnOk result (IsAmong pool.now.cells id) }
-{
-    if id.0 >= pool.count() {
-        return Err(AllocError);
-    }
-    let cell = pool.cell(id);
-    Ok(cell)
 }
 
 /// Puts visits to the arguments of a cell on the stack, the first one on top.

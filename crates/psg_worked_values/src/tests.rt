@@ -9,3 +9,4 @@ mod relations;
 mod rows;
 mod signatures;
 mod terms;
+mod unwritten;

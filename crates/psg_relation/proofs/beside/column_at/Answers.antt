@@ -1,4 +1,4 @@
-use Rattle.std.proofs.Common.{◌≡◌, ◌+◌, ◌-◌, ◌∙◌, ℕ, Some, length, slice_get, sym, ap, arith}
+use Rattle.std.proofs.Common.{◌≡◌, ◌+◌, ◌-◌, ◌∙◌, Some, length, sym, ap, arith}
 use Rattle.psg_terms.specs.Terms.{Term}
 use Rattle.psg_unify.proofs.Theorem.{column}
 use Rattle.psg_relation.proofs.Unsolved.{at_left, at_right}

@@ -1,8 +1,7 @@
-use Rattle.std.proofs.Common.{◌≡◌, ◌∙◌, sym, subst, arith}
+use Rattle.std.proofs.Common.{sym, subst}
 use Rattle.psg_terms.specs.Signature.{HaveSorts}
 use Rattle.psg_terms.specs.Canonical.{IsCanonical}
 use Rattle.psg_terms.specs.Instances.{HasSameInstances}
-use Rattle.psg_relation.specs.Heavy.{highest_in}
 use Rattle.psg_relation.proofs.Unsolved.{closed_canonical, same_itself}
 use Rattle.psg_relation.proofs.beside.finished.Goals as goal
 

@@ -1,6 +1,5 @@
-use Rattle.std.proofs.Common.{◌≡◌, ap, sym, ◌∙◌, arith}
+use Rattle.std.proofs.Common.{◌≡◌, sym, ◌∙◌, arith}
 use Rattle.std.proofs.lemmas.Bool.Decides.{nat_tests}
-use Rattle.psg_relation.specs.Heavy.{highest_in}
 use Rattle.psg_relation.proofs.beside.is_closed_slice.Goals as goal
 
 pub returns : goal.returns

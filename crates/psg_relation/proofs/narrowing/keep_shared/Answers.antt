@@ -2,6 +2,6 @@ use Rattle.std.proofs.Common.{refl}
 use Rattle.psg_relation.proofs.NarrowPlans.{planned_shared}
 use Rattle.psg_relation.proofs.narrowing.keep_shared.Goals as goal
 
-pub returns-in_ok-push-in-Some-clause-planned : goal.returns-in_ok-push-in-Some-clause-planned
-returns-in_ok-push-in-Some-clause-planned c = λ left right lefts rights width keep t at closed h.
-    planned_shared left right lefts rights width c.args.count keep c.args.column c.args.narrow.now _ h t c.in-Some.place at closed c.in-Some.ensures.1 refl refl refl c.in_ok-push-in-Some.ensures.items
+pub returns-clause-planned : goal.returns-clause-planned
+returns-clause-planned c = λ left right lefts rights width count keep t at closed h.
+    planned_shared left right lefts rights width count keep c.args.column c.args.narrow.now _ h t at closed refl refl refl c.in_ok-push.ensures.items

@@ -1,10 +1,7 @@
-use Rattle.std.proofs.Common.{ℕ, List, ◌∙◌, ap, length, sym}
-use Rattle.psg_terms.specs.Terms.{Term}
 use Rattle.psg_relation.proofs.NarrowPlans.{narrow_made}
 use Rattle.psg_relation.proofs.narrowing.narrow_of.Goals as goal
 
 pub returns : goal.returns
 returns c =
-    narrow_made c.args.left.now c.args.right.now c.args.pairs.now c.args.keep.now c.saturating_add-width.result c.open_columns-count.result c.in_ok-narrow.narrow c.keep_columns.new.narrow
+    narrow_made c.args.left.now c.args.right.now c.args.pairs.now c.args.keep.now c.in_ok-narrow.narrow c.keep_columns.new.narrow
     c.in_ok-narrow.ensures.paired c.in_ok-narrow.ensures.front c.in_ok-narrow.ensures.keep c.in_ok-narrow.ensures.places c.keep_columns.ensures.front c.in_ok-keep_columns.ensures.planned
-    (ap (λ (x : List Term). length x) (sym c.as_slice-lefts.ensures.value) ∙ c.if-lefts-width.false) (ap (λ (x : List ℕ). length x) (sym c.as_slice-kept.ensures.value) ∙ c.if-kept-count.false)

@@ -5,7 +5,9 @@ use Rattle.psg_relation.specs.Joining.{AreJoined, MayMeet}
 use Rattle.psg_relation.specs.Selecting.{diagonal, twins, width_of}
 use Rattle.psg_relation.proofs.Columns.{all_sorted, projected}
 use Rattle.psg_relation.proofs.Making.{err_map, ok_map}
-use Rattle.psg_relation.proofs.Selected.{no_pairs, self_joinable, selected_relation, selected_sorts, selected_ready, unpaired, within_twice}
+use Rattle.psg_relation.proofs.Selected.{no_pairs, self_joinable, self_equal, selected_relation, selected_sorts, selected_ready, unpaired, within_twice}
+use Rattle.psg_unify.specs.Pairs.{AreOfEqualSort}
+use Rattle.psg_relation.proofs.HeldJoins.{twins_may}
 use Rattle.psg_relation.proofs.selecting.select.Goals as goal
 
 pub of-requires : goal.of-requires
@@ -53,30 +55,43 @@ self_joins-requires c = λ row i.
     let sig = c.args.sig.now in
     let rows = c.args.rows.now in
     let keep = c.args.keep.now in
-    let own : c.as_slice-2.result.now ≡ diagonal 0 (width_of rows) ++ c.args.pairs.now = c.as_slice-2.ensures.value ∙ c.in_ok-all.ensures ∙ ap (λ n. diagonal 0 n ++ c.args.pairs.now) c.width.ensures in
+    let own : c.as_slice-agree.result.now ≡ diagonal 0 (width_of rows) ++ c.args.pairs.now = c.as_slice-agree.ensures.value ∙ c.in_ok-all.ensures ∙ ap (λ n. diagonal 0 n ++ c.args.pairs.now) c.width.ensures in
     subst (λ ps. MayMeet sig row row ps keep) (sym own) (record {
       joinable = self_joinable sig rows c.requires.sorts.0 c.args.pairs.now c.requires.sorts.1 c.requires.sorts.2 row i;
       within = within_twice row keep (c.requires.keep row i);
     })
 
-pub relation_of-requires-clause-sorts : goal.relation_of-requires-clause-sorts
-relation_of-requires-clause-sorts c =
+pub relation_of_joins-requires-clause-sorts : goal.relation_of_joins-requires-clause-sorts
+relation_of_joins-requires-clause-sorts c =
     let sig = c.args.sig.now in
     let rows = c.args.rows.now in
     let keep = c.args.keep.now in
     let joined = c.in_ok-made.made.items in
-    let own : c.as_slice-2.result.now ≡ diagonal 0 (width_of rows) ++ c.args.pairs.now = c.as_slice-2.ensures.value ∙ c.in_ok-all.ensures ∙ ap (λ n. diagonal 0 n ++ c.args.pairs.now) c.width.ensures in
+    let own : c.as_slice-agree.result.now ≡ diagonal 0 (width_of rows) ++ c.args.pairs.now = c.as_slice-agree.ensures.value ∙ c.in_ok-all.ensures ∙ ap (λ n. diagonal 0 n ++ c.args.pairs.now) c.width.ensures in
     let a : AreJoined sig (diagonal 0 (width_of rows) ++ c.args.pairs.now) keep (twins rows) joined = subst (λ ps. AreJoined sig ps keep (twins rows) joined) own c.in_ok-made.ensures in
     let r = c.requires.sorts in
     (picked r.0 keep, selected_sorts sig rows c.args.pairs.now keep r.0 r.1 c.requires.keep joined a r.0 r.1)
 
-pub relation_of-requires-clause-ready : goal.relation_of-requires-clause-ready
-relation_of-requires-clause-ready c =
+pub relation_of_joins-requires-clause-joined : goal.relation_of_joins-requires-clause-joined
+relation_of_joins-requires-clause-joined c = c.in_ok-made.ensures
+
+pub relation_of_joins-requires-clause-may : goal.relation_of_joins-requires-clause-may
+relation_of_joins-requires-clause-may c =
+    let sig = c.args.sig.now in
+    let rows = c.args.rows.now in
+    let keep = c.args.keep.now in
+    let r = c.requires.sorts in
+    let own : c.as_slice-agree.result.now ≡ diagonal 0 (width_of rows) ++ c.args.pairs.now = c.as_slice-agree.ensures.value ∙ c.in_ok-all.ensures ∙ ap (λ n. diagonal 0 n ++ c.args.pairs.now) c.width.ensures in
+    twins_may sig c.as_slice-agree.result.now keep rows r.0 r.1 (λ row i. within_twice row keep (c.requires.keep row i))
+    (λ row i. subst (AreOfEqualSort r.0 r.0) (sym own) (self_equal sig rows r.0 c.args.pairs.now r.1 r.2 row i))
+
+pub relation_of_joins-requires-clause-ready : goal.relation_of_joins-requires-clause-ready
+relation_of_joins-requires-clause-ready c =
     let sig = c.args.sig.now in
     let rows = c.args.rows.now in
     let keep = c.args.keep.now in
     let joined = c.in_ok-made.made.items in
-    let own : c.as_slice-2.result.now ≡ diagonal 0 (width_of rows) ++ c.args.pairs.now = c.as_slice-2.ensures.value ∙ c.in_ok-all.ensures ∙ ap (λ n. diagonal 0 n ++ c.args.pairs.now) c.width.ensures in
+    let own : c.as_slice-agree.result.now ≡ diagonal 0 (width_of rows) ++ c.args.pairs.now = c.as_slice-agree.ensures.value ∙ c.in_ok-all.ensures ∙ ap (λ n. diagonal 0 n ++ c.args.pairs.now) c.width.ensures in
     let a : AreJoined sig (diagonal 0 (width_of rows) ++ c.args.pairs.now) keep (twins rows) joined = subst (λ ps. AreJoined sig ps keep (twins rows) joined) own c.in_ok-made.ensures in
     let r = c.requires.sorts in
     selected_ready sig rows c.args.pairs.now keep r.0 r.1 c.requires.keep joined a
@@ -88,13 +103,13 @@ returns-clause-relation c =
     let pairs = c.args.pairs.now in
     let keep = c.args.keep.now in
     let joined = c.in_ok-made.made.items in
-    let own : c.as_slice-2.result.now ≡ diagonal 0 (width_of rows) ++ c.args.pairs.now = c.as_slice-2.ensures.value ∙ c.in_ok-all.ensures ∙ ap (λ n. diagonal 0 n ++ c.args.pairs.now) c.width.ensures in
+    let own : c.as_slice-agree.result.now ≡ diagonal 0 (width_of rows) ++ c.args.pairs.now = c.as_slice-agree.ensures.value ∙ c.in_ok-all.ensures ∙ ap (λ n. diagonal 0 n ++ c.args.pairs.now) c.width.ensures in
     let a : AreJoined sig (diagonal 0 (width_of rows) ++ c.args.pairs.now) keep (twins rows) joined = subst (λ ps. AreJoined sig ps keep (twins rows) joined) own c.in_ok-made.ensures in
-    ok_map c.relation_of.result (λ rel. (sorts : List ℕ) → AllHaveSorts sig joined sorts → IsRelation sig sorts (IsOfRow sig joined) rel)
+    ok_map c.relation_of_joins.result (λ rel. (sorts : List ℕ) → AllHaveSorts sig joined sorts → IsRelation sig sorts (IsOfRow sig joined) rel)
     (λ rel. (sorts : List ℕ) → AllHaveSorts sig rows sorts → IsRelation sig (picked sorts keep) (IsSelected sig rows pairs keep) rel)
     (λ rel h sorts sorted. selected_relation sig rows pairs keep sorts sorted c.requires.keep joined a (picked sorts keep) rel
     (h (picked sorts keep) (selected_sorts sig rows pairs keep sorts sorted c.requires.keep joined a sorts sorted)))
-    c.relation_of.ensures.relation
+    c.relation_of_joins.ensures.relation
 
 pub returns-clause-some : goal.returns-clause-some
 returns-clause-some c =
@@ -103,11 +118,11 @@ returns-clause-some c =
     let pairs = c.args.pairs.now in
     let keep = c.args.keep.now in
     let joined = c.in_ok-made.made.items in
-    let own : c.as_slice-2.result.now ≡ diagonal 0 (width_of rows) ++ c.args.pairs.now = c.as_slice-2.ensures.value ∙ c.in_ok-all.ensures ∙ ap (λ n. diagonal 0 n ++ c.args.pairs.now) c.width.ensures in
+    let own : c.as_slice-agree.result.now ≡ diagonal 0 (width_of rows) ++ c.args.pairs.now = c.as_slice-agree.ensures.value ∙ c.in_ok-all.ensures ∙ ap (λ n. diagonal 0 n ++ c.args.pairs.now) c.width.ensures in
     let a : AreJoined sig (diagonal 0 (width_of rows) ++ c.args.pairs.now) keep (twins rows) joined = subst (λ ps. AreJoined sig ps keep (twins rows) joined) own c.in_ok-made.ensures in
-    err_map c.relation_of.result ((sorts : List ℕ) → AllHaveSorts sig joined sorts → HasWide sig sorts (IsOfRow sig joined))
+    err_map c.relation_of_joins.result ((sorts : List ℕ) → AllHaveSorts sig joined sorts → HasWide sig sorts (IsOfRow sig joined))
     ((sorts : List ℕ) → AllHaveSorts sig rows sorts → HasWide sig (picked sorts keep) (IsSelected sig rows pairs keep))
     (λ some sorts sorted.
     let (others, q, passes) = some (picked sorts keep) (selected_sorts sig rows pairs keep sorts sorted c.requires.keep joined a sorts sorted) in
     (others, selected_relation sig rows pairs keep sorts sorted c.requires.keep joined a (picked sorts keep) others q, passes))
-    c.relation_of.ensures.some
+    c.relation_of_joins.ensures.some

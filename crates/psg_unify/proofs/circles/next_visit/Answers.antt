@@ -1,26 +1,51 @@
-use Rattle.std.proofs.Common.{◌∷◌, reverse, subst, arith}
-use Rattle.psg_unify.specs.declared.walking.Item.{Item}
-use Rattle.psg_unify.specs.Circles.{IsWalking}
-use Rattle.psg_unify.proofs.Rounds.{on_top, none_left, drops_left}
+use Rattle.std.proofs.Common.{reverse, refl, subst, arith}
+use Rattle.psg_unify.specs.declared.circles.Progress.TheVariants.{Left}
+use Rattle.psg_unify.specs.declared.walking.Item.TheVariants.{Visit, Leave}
+use Rattle.psg_unify.specs.Circles.{StaysWalking}
+use Rattle.psg_unify.proofs.Rounds.{popped, none_left, meets_left, leaves_cell, top_within, set_at, unseen_left}
 use Rattle.psg_unify.proofs.circles.next_visit.Goals as goal
 
-pub loop-item-preserved-in_ok-leave-in-Leave : goal.loop-item-preserved-in_ok-leave-in-Leave
-loop-item-preserved-in_ok-leave-in-Leave c =
-    c.in_ok-leave-in-Leave.ensures (reverse c.pop.new.self.items)
-    (subst (λ (i : Item). IsWalking c.args.pool.now c.args.base c.loop-item.marks.items (i ∷ reverse c.pop.new.self.items)) c.in-Leave.is (subst (λ l. IsWalking c.args.pool.now c.args.base c.loop-item.marks.items l) (on_top c.pop.new.self.items c.loop-item.stack.items c.in-Some.item c.in-Some.ensures.items) c.loop-item.invariant))
+pub loop-item-init : goal.loop-item-init
+loop-item-init c = (λ kept w. w, omega arith)
 
-pub returns-then-not-branch-clause-some : goal.returns-then-not-branch-clause-some
-returns-then-not-branch-clause-some c =
-    subst (λ (i : Item). IsWalking c.args.pool.now c.args.base c.loop-item.marks.items (i ∷ reverse c.pop.new.self.items)) c.in-Visit.is (subst (λ l. IsWalking c.args.pool.now c.args.base c.loop-item.marks.items l) (on_top c.pop.new.self.items c.loop-item.stack.items c.in-Some.item c.in-Some.ensures.items) c.loop-item.invariant)
+pub set_progress-requires : goal.set_progress-requires
+set_progress-requires c =
+    let own = top_within c.requires.0 c.args.base c.loop-item.marks.items (Leave c.in-Leave.id) (reverse c.pop.new.self.items)
+    (popped c.requires.0 c.args.base c.loop-item.marks.items c.loop-item.stack.items c.pop.new.self.items c.in-Some.item (Leave c.in-Leave.id) c.in-Some.ensures.items c.in-Leave.is (c.loop-item.invariant.0 c.requires.0 c.requires.1)) in
+    record { from = own.0; within = own.1 }
+
+pub was_left-requires : goal.was_left-requires
+was_left-requires c =
+    let own = top_within c.requires.0 c.args.base c.loop-item.marks.items (Visit c.in-Visit.id) (reverse c.pop.new.self.items)
+    (popped c.requires.0 c.args.base c.loop-item.marks.items c.loop-item.stack.items c.pop.new.self.items c.in-Some.item (Visit c.in-Visit.id) c.in-Some.ensures.items c.in-Visit.is (c.loop-item.invariant.0 c.requires.0 c.requires.1)) in
+    record { from = own.0; within = own.1 }
+
+pub loop-item-preserved-in-Leave : goal.loop-item-preserved-in-Leave
+loop-item-preserved-in-Leave c =
+    let u = unseen_left c.args.base c.loop-item.marks.items c.set_progress.new.marks.items c.in-Leave.id Left refl c.set_progress.ensures in (
+      λ kept before.
+          let w = popped kept c.args.base c.loop-item.marks.items c.loop-item.stack.items c.pop.new.self.items c.in-Some.item (Leave c.in-Leave.id) c.in-Some.ensures.items c.in-Leave.is (c.loop-item.invariant.0 kept before) in
+          let own = top_within kept c.args.base c.loop-item.marks.items (Leave c.in-Leave.id) (reverse c.pop.new.self.items) w in
+          leaves_cell kept c.args.base c.loop-item.marks.items c.set_progress.new.marks.items c.in-Leave.id (reverse c.pop.new.self.items)
+          (set_at c.args.base c.loop-item.marks.items c.set_progress.new.marks.items c.in-Leave.id Left own.0 own.1 c.set_progress.ensures) w,
+      (let k = c.loop-item.invariant.1 in omega (arith, u, k)),
+    )
+
+pub returns-then-not-was_left-clause-some : goal.returns-then-not-was_left-clause-some
+returns-then-not-was_left-clause-some c = λ kept before.
+    popped kept c.args.base c.loop-item.marks.items c.loop-item.stack.items c.pop.new.self.items c.in-Some.item (Visit c.in-Visit.id) c.in-Some.ensures.items c.in-Visit.is (c.loop-item.invariant.0 kept before)
+
+pub returns-then-not-was_left-clause-other : goal.returns-then-not-was_left-clause-other
+returns-then-not-was_left-clause-other c = λ l. (let e = c.was_left.ensures.1 l in cc)
 
 pub loop-item-preserved : goal.loop-item-preserved
-loop-item-preserved c =
-    drops_left c.args.pool.now c.args.base c.loop-item.marks.items c.in-Visit.id (reverse c.pop.new.self.items) (c.in_ok-was_left-in-Visit.ensures c.if-not-branch.false)
-    (subst (λ (i : Item). IsWalking c.args.pool.now c.args.base c.loop-item.marks.items (i ∷ reverse c.pop.new.self.items)) c.in-Visit.is (subst (λ l. IsWalking c.args.pool.now c.args.base c.loop-item.marks.items l) (on_top c.pop.new.self.items c.loop-item.stack.items c.in-Some.item c.in-Some.ensures.items) c.loop-item.invariant))
+loop-item-preserved c = (
+  λ kept before. meets_left kept c.args.base c.loop-item.marks.items c.in-Visit.id (reverse c.pop.new.self.items) (c.was_left.ensures.0 c.if-not-was_left.false)
+      (popped kept c.args.base c.loop-item.marks.items c.loop-item.stack.items c.pop.new.self.items c.in-Some.item (Visit c.in-Visit.id) c.in-Some.ensures.items c.in-Visit.is (c.loop-item.invariant.0 kept before)),
+  c.loop-item.invariant.1,
+)
 
 pub returns-clause-none : goal.returns-clause-none
 returns-clause-none c =
-    subst (λ l. IsWalking c.args.pool.now c.args.base c.loop-item.marks.items (reverse l)) (none_left c.loop-item.stack.items (omega (arith, c.in_default.ensures.cases))) c.loop-item.invariant
-
-pub returns-clause-done : goal.returns-clause-done
-returns-clause-done c = none_left c.pop.new.self.items (omega (arith, c.in_default.ensures.cases))
+    subst (λ l. StaysWalking c.args.base c.args.marks.now.items c.loop-item.marks.items (reverse c.args.stack.now.items) (reverse l)) (none_left c.loop-item.stack.items (omega (arith, c.in_default.ensures.cases)))
+    c.loop-item.invariant.0

@@ -1,4 +1,4 @@
-use Rattle.std.proofs.Common.{◌≡◌, [], List, refl, sym, ap, ◌∙◌, subst}
+use Rattle.std.proofs.Common.{◌≡◌, [], List, refl, sym, ap, ◌∙◌, subst, arith}
 use Rattle.psg_terms.specs.Canonical.{Variable, noted_all, variables_of}
 use Rattle.psg_terms.specs.Renaming.{keys, opens}
 use Rattle.psg_pool.specs.Bindings.{Kept}
@@ -6,10 +6,24 @@ use Rattle.psg_unify.specs.Putting.{PutsKnown}
 use Rattle.psg_unify.specs.Making.{IsPutting}
 use Rattle.psg_unify.proofs.VariablesPut.{longer_both}
 use Rattle.psg_unify.proofs.PuttingEnds.{put_begins, put_ends, before_is}
+use Rattle.psg_unify.proofs.PuttingTasks.{may_begin, room_for}
 use Rattle.psg_unify.proofs.making.put_row.Goals as goal
 
-pub put_terms-requires : goal.put_terms-requires
-put_terms-requires c =
+pub put_terms-requires-clause-may : goal.put_terms-requires-clause-may
+put_terms-requires-clause-may c =
+    let none : keys c.new-known.result.keys ≡ [] = ap keys c.new-known.ensures.empty in
+    may_begin c.args.sig.now (keys c.put_variables.new.known.keys) c.args.row.now
+    (c.in_ok-put_variables.ensures.known ∙ ap (λ l. noted_all l (opens c.args.sig.now (variables_of c.args.row.now))) none)
+
+pub put_terms-requires-clause-room : goal.put_terms-requires-clause-room
+put_terms-requires-clause-room c =
+    let none : keys c.new-known.result.keys ≡ [] = ap keys c.new-known.ensures.empty in
+    let e = room_for c.args.pool.now.cells c.put_variables.new.pool.cells (keys c.new-known.result.keys) (keys c.put_variables.new.known.keys) c.count-base.result c.count-end.result
+    c.count-base.ensures c.count-end.ensures none c.in_ok-put_variables.ensures.cells in
+    omega (arith, e)
+
+pub put_terms-requires-clause-putting : goal.put_terms-requires-clause-putting
+put_terms-requires-clause-putting c =
     let none : keys c.new-known.result.keys ≡ [] = ap keys c.new-known.ensures.empty in (
       c.args.pool.now,
       c.mark-mark.ensures.sound,
