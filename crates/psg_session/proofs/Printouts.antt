@@ -1,5 +1,5 @@
 -- The printed text that a session keeps of its opened fragment.
-use Rattle.std.proofs.Common.{◌≡◌, Option, Some, None, option_map, refl, sym, ◌∙◌, ap, subst}
+use Rattle.std.proofs.Common.{◌≡◌, inl, inr, ℕ, List, Option, Some, None, option_map, refl, sym, ◌∙◌, ap, subst}
 use Rattle.std.proofs.lemmas.Option.{none-some}
 use Rattle.psg_grammar.specs.declared.types.Definition.{Definition}
 use Rattle.psg_cache.specs.Annotated.{tree_in}
@@ -10,9 +10,22 @@ use Rattle.psg_unparse.specs.declared.spans.Printed.{Printed}
 use Rattle.psg_session.specs.declared.editor.Editor.{Editor}
 use Rattle.psg_session.specs.declared.editor.OpenedTree.{OpenedTree}
 use Rattle.psg_session.specs.declared.editor.Outcome.{Outcome}
-use Rattle.psg_session.specs.Outcomes.{after}
+use Rattle.psg_cache.specs.Annotated.{Annotated}
+use Rattle.psg_session.specs.declared.changes.Made.{Made}
+use Rattle.psg_session.specs.declared.changes.Plan.{Plan}
+use Rattle.psg_session.specs.declared.changes.Plan.TheVariants.{Makes}
+use Rattle.psg_session.specs.declared.editor.Outcome.TheVariants.{Changes}
+use Rattle.psg_session.specs.declared.replies.Mark.{Mark}
+use Rattle.psg_grammar.specs.Fragments.{Fragment}
+use Rattle.psg_grammar.specs.WellFormed.{WellFormed}
+use Rattle.std.specs.Prelude.{IfSome}
+use Rattle.psg_unparse.specs.Splicing.{IsSplicing}
+use Rattle.psg_session.specs.declared.edits.Edit.{Edit}
+use Rattle.psg_session.specs.declared.edits.Edit.TheVariants.{Put}
+use Rattle.psg_session.specs.Edits.{edited}
+use Rattle.psg_session.specs.Outcomes.{after, changed, IsFit}
 use Rattle.psg_session.specs.PlainState.{Opened, State}
-use Rattle.psg_session.specs.Printouts.{IsKeptText, IsPrinted, IsPrinting}
+use Rattle.psg_session.specs.Printouts.{IsKeptText, IsNextText, IsPlannedText, unknown, known, IsPrinted, IsPrinting}
 use Rattle.psg_session.specs.Sessions.{opened_of, state_of}
 
 -- none of the four commands
@@ -74,6 +87,42 @@ module _ (def : Definition) where
   pub kept_settled : (old new : Editor) (outcome : Outcome) (q : Option Printed) → state_of new ≡ after old outcome
       → IsKeptText def (after old outcome).opened q → IsKeptText def (opened_of new.opened) q
   kept_settled old new outcome q state kept = subst (λ (s : State). IsKeptText def s.opened q) (sym state) kept
+
+pub one_made : (p : Plan) (a b : Made) → p ≡ Makes a → p ≡ Makes b → a ≡ b
+one_made p a b e f = let z : Makes a ≡ Makes b = sym e ∙ f in cc
+
+pub nothing_planned : (def : Definition) (e : Editor) (plan : Plan) → IsPlannedText def e plan None
+nothing_planned def e plan = unknown
+
+-- what is spliced is the text of the planned tree
+pub planned_by : (def : Definition) (e : Editor) (plan : Plan) (held : OpenedTree) (made : Made) (place : List ℕ)
+    (new : Fragment) (before : Printed) (q : Option Printed)
+    → e.opened ≡ Some held → plan ≡ Makes made → made.edit ≡ Put place new
+    → WellFormed def (tree_in held.note) held.kind → before ≡ printed_of def (tree_in held.note)
+    → IfSome q (IsSplicing def (tree_in held.note) place new before) → IsPlannedText def e plan q
+planned_by def e plan held made place new before None opened makes put formed is h = unknown
+planned_by def e plan held made place new before (Some p) opened makes put formed is h =
+    let same : p ≡ printed_of def (edited made.edit (tree_in held.note)) =
+    h held.kind formed is ∙ ap (λ (x : Edit). printed_of def (edited x (tree_in held.note))) (sym put) in
+    subst (λ (x : Printed). IsPlannedText def e plan (Some x)) (sym same) (known held made opened makes)
+
+-- nothing is known of the next text
+pub no_text : (def : Definition) (e : Editor) (outcome : Outcome) (q : Option Printed) → q ≡ None
+    → IsNextText def e outcome q
+no_text def e outcome q none = inl none
+
+-- the text of the new version
+pub next_text : (def : Definition) (e : Editor) (plan : Plan) (note : Annotated) (cursor : List ℕ) (mark : Mark)
+    (q : Option Printed) → IsPlannedText def e plan q → IsFit def e.opened (Changes note cursor mark)
+    → ((held : OpenedTree) (made : Made) → e.opened ≡ Some held → plan ≡ Makes made
+    → tree_in note ≡ edited made.edit (tree_in held.note))
+    → IsNextText def e (Changes note cursor mark) q
+next_text def e plan note cursor mark None unknown fit version = inl refl
+next_text def e plan note cursor mark (Some p) (known held made opened makes) fit version =
+    inr (subst (λ (o : Option OpenedTree). IsPrinted def
+    (changed (state_of e) (opened_of o) (tree_in note) cursor).opened
+    (Some (printed_of def (edited made.edit (tree_in held.note)))))
+    (sym opened) (ap (λ f. Some (printed_of def f)) (sym (version held made opened makes))))
 
 -- the text of a definition that two names are given
 pub passed : (def one other : Definition) (o : Option Opened) (q r : Option Printed) → one ≡ def → other ≡ def → r ≡ q

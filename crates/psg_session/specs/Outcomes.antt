@@ -13,7 +13,6 @@ use Rattle.psg_cache.specs.Annotated.{Annotated, tree_in}
 use Rattle.psg_cache.specs.declared.note.NoteFault.{NoteFault}
 use Rattle.psg_cache.specs.declared.note.NoteFault.TheVariants as faults
 use Rattle.psg_history.specs.Versions.{Versions}
-use Rattle.psg_history.specs.declared.history.TheConstants.{VERSIONS}
 use Rattle.psg_script.specs.declared.command.Command.{Command}
 use Rattle.psg_script.specs.declared.command.Command.TheVariants.{Refine, Insert, Cut, Remove, Close, Reopen, Paste}
 use Rattle.psg_script.specs.declared.command.Where.{Where}
@@ -41,7 +40,8 @@ use Rattle.psg_session.specs.declared.edits.Edit.{Edit}
 use Rattle.psg_library.specs.declared.fragment.SavedFragment.{SavedFragment as Saved}
 use Rattle.psg_session.specs.Edits.{MayEdit, cost_of, edited}
 use Rattle.psg_session.specs.Good.{IsGoodIn}
-use Rattle.psg_session.specs.PlainState.{Answer, Opened, State, not_asked, named_path, with_change, with_cursor}
+use Rattle.psg_session.specs.PlainState.{Answer, Opened, State, most_versions, not_asked, named_path, with_change}
+use Rattle.psg_session.specs.PlainState.{with_cursor}
 use Rattle.psg_session.specs.Leaves.{GivesLeaves}
 use Rattle.psg_session.specs.PlainStep.{Gives, IsRefused, IsTaken, Makes, IsOperator, IsOfPhylum, IsListOf, OfResult}
 use Rattle.psg_session.specs.PlainStep.{Steps, end_of, opening, growing, closing, loosening}
@@ -108,6 +108,11 @@ reply_in (Undoes cursor mark) = Marked mark
 reply_in (Redoes cursor mark) = Marked mark
 reply_in (Saves saved lines) = Answered lines
 
+-- a new version is this tree
+abbrev pub IsVersionOf : Fragment → Outcome → Type 0
+IsVersionOf f (Changes note cursor mark) = tree_in note ≡ f
+IsVersionOf f _ = Unit {0}
+
 -- the editor stays
 abbrev pub IsStay : Outcome → Type 0
 IsStay (Stays reply) = Unit {0}
@@ -141,7 +146,7 @@ IsGoneOn old new note cursor =
     ((old.opened ≡ None) × (new ≡ old))
     ⊎ ((held : OpenedTree) × (old.opened ≡ Some held)
     × (new.opened ≡ Some (record { kind = held.kind; note = note })) × (new.cursor ≡ cursor)
-    × (new.history.earlier ≡ take VERSIONS (held.note ∷ old.history.earlier)) × (new.history.later ≡ [])
+    × (new.history.earlier ≡ take most_versions (held.note ∷ old.history.earlier)) × (new.history.later ≡ [])
     × (new.saved ≡ old.saved))
 
 -- The editor stepped to another version. `from` is what a history keeps on the side to which it steps: the nearest note

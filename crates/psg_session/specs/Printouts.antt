@@ -1,11 +1,20 @@
 -- The printed text of the opened fragment, which is kept from one command to the next.
-use Rattle.std.specs.Prelude.{◌≡◌, ◌⊎◌, Option, None, option_map}
+use Rattle.std.specs.Prelude.{◌≡◌, ◌⊎◌, Option, None, Some, option_map}
 use Rattle.psg_grammar.specs.declared.types.Definition.{Definition}
 use Rattle.psg_script.specs.declared.command.Command.{Command}
 use Rattle.psg_script.specs.declared.command.Command.TheVariants.{Goto, Range, Screen, Show}
 use Rattle.psg_unparse.specs.Spots.{printed_of}
 use Rattle.psg_unparse.specs.declared.spans.Printed.{Printed}
+use Rattle.psg_cache.specs.Annotated.{tree_in}
+use Rattle.psg_session.specs.declared.changes.Made.{Made}
+use Rattle.psg_session.specs.declared.changes.Plan.{Plan}
+use Rattle.psg_session.specs.declared.changes.Plan.TheVariants.{Makes}
+use Rattle.psg_session.specs.declared.editor.Editor.{Editor}
+use Rattle.psg_session.specs.declared.editor.OpenedTree.{OpenedTree}
+use Rattle.psg_session.specs.declared.editor.Outcome.{Outcome}
 use Rattle.psg_session.specs.declared.session.Parts.{Parts}
+use Rattle.psg_session.specs.Edits.{edited}
+use Rattle.psg_session.specs.Outcomes.{after}
 use Rattle.psg_session.specs.PlainState.{Opened}
 use Rattle.psg_session.specs.Sessions.{IsSession, opened_of}
 
@@ -25,6 +34,16 @@ module _ (def : Definition) where
   -- no text is kept, or that of the opened fragment
   abbrev pub IsKeptText : Option Opened → Option Printed → Type 0
   IsKeptText opened printed = (printed ≡ None) ⊎ IsPrinted opened printed
+
+  -- no text is known after the outcome, or it is that of the fragment that is opened then
+  abbrev pub IsNextText : Editor → Outcome → Option Printed → Type 0
+  IsNextText editor outcome printed = IsKeptText (after editor outcome).opened printed
+
+  -- no text is known of the planned tree, or it is that tree's
+  pub data IsPlannedText (e : Editor) (plan : Plan) : Option Printed → Type 0 where
+    unknown : IsPlannedText e plan None
+    known : (held : OpenedTree) (made : Made) → e.opened ≡ Some held → plan ≡ Makes made
+        → IsPlannedText e plan (Some (printed_of def (edited made.edit (tree_in held.note))))
 
 -- a session that keeps no text, or that of its opened fragment
 pub record IsKeeping (p : Parts) (printed : Option Printed) : Type 0 where

@@ -1,12 +1,17 @@
 //! The editor and its steps.
-ghost use Rattle.std.specs.Prelude.{◌≡◌, IfOk, IfSome, IfNone, option_copied};
+ghost use Rattle.std.specs.Prelude.{◌≡◌, IfOk, IfSome, IfNone, Some, None, option_copied};
+ghost use Rattle.psg_cache.specs.Annotated.{tree_in};
 ghost use Rattle.psg_grammar.specs.declared.types.Definition.{Definition as PlainDefinition};
 ghost use Rattle.psg_session.specs.Formed.{IsFormedState};
 ghost use Rattle.psg_session.specs.Outcomes.{after, reply_in, IsChanging, IsFit, IsGoneOn, IsOutcome, IsPlan, IsStay};
-ghost use Rattle.psg_session.specs.Outcomes.{Spends};
+ghost use Rattle.psg_session.specs.Outcomes.{IsVersionOf, Spends};
+ghost use Rattle.psg_session.specs.Edits.{edited};
+ghost use Rattle.psg_session.specs.declared.changes.Made.{Made as PlainMade};
+ghost use Rattle.psg_session.specs.declared.changes.Plan.TheVariants.{Makes};
+ghost use Rattle.psg_session.specs.declared.editor.OpenedTree.{OpenedTree as PlainHeld};
 ghost use Rattle.psg_session.specs.PlainState.{not_asked};
 ghost use Rattle.psg_session.specs.Reached.{IsReaching};
-ghost use Rattle.psg_session.specs.Printouts.{IsPrinted, IsPrinting};
+ghost use Rattle.psg_session.specs.Printouts.{IsNextText, IsPrinted, IsPrinting};
 ghost use Rattle.psg_session.specs.Sessions.{opened_of, state_of, IsEditor};
 ghost use Rattle.psg_session.specs.Ticks.{HasTicked};
 ghost use Rattle.psg_session.specs.Views.{IsLanguage};
@@ -235,6 +240,8 @@ pub(crate) fn carry_out<L: Ledger>(
     ensures ticks { (command : PlainCommand) → IsPlan language.now.definition editor.now command plan
         → HasTicked language.now.definition (state_of editor.now) command steps.old steps.new }
     ensures spends { Spends editor.now plan steps.old steps.new }
+    ensures version { IfOk result (λ outcome. (held : PlainHeld) (made : PlainMade) → editor.now.opened ≡ Some held
+        → plan ≡ Makes made → IsVersionOf (edited made.edit (tree_in held.note)) outcome) }
 {
     let made = match plan {
         Plan::Makes(made) => made,
@@ -277,24 +284,28 @@ fn change<L: Ledger>(
 }
 
 /// Finds what a command does to the editor that asks nothing of the files. A change evaluates what is new and the nodes
-/// above it, and `steps` counts the evaluations, and the tokens of typed text. It fails where memory runs out.
-#[tactic(auto, using(crate::proofs::Ticking::quiet))]
+/// above it, and `steps` counts the evaluations, and the tokens of typed text. It fails where memory runs out. Where it
+/// knows the printed text of the new version, it puts that into `next`.
+#[tactic(auto, using(crate::proofs::Ticking::quiet, crate::proofs::Printouts::no_text))]
 pub fn step<L: Ledger>(
     alloc: Global,
     language: &LanguageParts,
     editor: &Editor,
     printed: Option<&Printed>,
+    next: &mut Option<Printed>,
     command: &Command,
     steps: &mut Steps<L>,
 ) -> Result<Outcome, AllocError>
     requires language { IsLanguage language.now }
     requires editor { IsEditor language.now.definition editor.now }
     requires formed { IsFormedState language.now.definition (state_of editor.now) }
+    requires fresh { next.old ≡ None }
     requires alone { IsReaching command.now → ⊥ }
     requires printed { IsPrinting command.now
         → IsPrinted language.now.definition (opened_of editor.now.opened) (option_copied printed) }
     ensures outcome { IfOk result (IsOutcome language.now.definition editor.now not_asked command.now) }
     ensures ticks { HasTicked language.now.definition (state_of editor.now) command.now steps.old steps.new }
+    ensures next { IfOk result (λ outcome. IsNextText language.now.definition editor.now outcome next.new) }
 {
     match command {
         Command::New { phylum } => {
@@ -311,7 +322,7 @@ pub fn step<L: Ledger>(
         }
         Command::Range { start, end, text } => {
             let outcome = replace_bytes(
-                alloc, language, editor, printed, *start, *end, text, steps,
+                alloc, language, editor, printed, next, *start, *end, text, steps,
             )?;
             Ok(outcome)
         }

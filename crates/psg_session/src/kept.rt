@@ -1,5 +1,5 @@
 //! Saved fragments in files.
-ghost use Rattle.std.specs.Prelude.{◌≡◌, ◌↔◌, ◌++◌, ◌∷◌, ℕ, [], IfErr, IfOk, IsTrue, map, option_copied};
+ghost use Rattle.std.specs.Prelude.{◌≡◌, ◌↔◌, ◌++◌, ◌∷◌, ℕ, [], IfErr, IfOk, IsTrue, None, map, option_copied};
 ghost use Rattle.std.specs.Prelude.{string_bytes};
 ghost use Rattle.psg_terms.specs.Names.{Name};
 ghost use Rattle.psg_grammar.specs.Sizes.{HasLongList, IsBig};
@@ -13,7 +13,7 @@ ghost use Rattle.psg_session.specs.PlainState.{got};
 ghost use Rattle.psg_session.specs.Outcomes.{IsOutcome};
 ghost use Rattle.psg_session.specs.Exchanges.{Outside};
 ghost use Rattle.psg_session.specs.Reached.{HasReached, IsFragmentAnswer, IsReaching};
-ghost use Rattle.psg_session.specs.Printouts.{IsPrinted, IsPrinting};
+ghost use Rattle.psg_session.specs.Printouts.{IsNextText, IsPrinted, IsPrinting};
 ghost use Rattle.psg_session.specs.Sessions.{opened_of, state_of, IsEditor};
 ghost use Rattle.psg_session.specs.Views.{IsLanguage};
 
@@ -21,6 +21,7 @@ use crate::editor::{Editor, Outcome, step};
 use crate::refusal::Refusal;
 use crate::replies::Reply;
 use crate::saved::{is_full, saved_named, with_saved};
+use psg_grammar::{MOST_ELEMENTS, MOST_NODES};
 use psg_library::{KeptFault, SavedFragment, fragment_bytes, read_fragment};
 use psg_script::Command;
 use psg_specimen::LanguageParts;
@@ -33,12 +34,6 @@ use std::sync::ledger::Ledger;
 
 /// The most bytes of a kept fragment.
 pub const MOST_KEPT_BYTES: usize = 262_144;
-
-/// The most nodes of a tree.
-const MOST_NODES: u64 = 20_000;
-
-/// The most elements of a list.
-const MOST_ELEMENTS: u64 = 4_096;
 
 /// Gives the one line of a reply: the word and the name.
 fn named_line(alloc: Global, word: &str, name: &str) -> Result<Vec<String>, AllocError>
@@ -236,32 +231,37 @@ fn step_alone<L: Ledger>(
     language: &LanguageParts,
     editor: &Editor,
     printed: Option<&Printed>,
+    next: &mut Option<Printed>,
     command: &Command,
     steps: &mut Steps<L>,
 ) -> Result<Outcome, AllocError>
     requires language { IsLanguage language.now }
     requires editor { IsEditor language.now.definition editor.now }
     requires formed { IsFormedState language.now.definition (state_of editor.now) }
+    requires fresh { next.old ≡ None }
     requires alone { IsReaching command.now → ⊥ }
     requires printed { IsPrinting command.now
         → IsPrinted language.now.definition (opened_of editor.now.opened) (option_copied printed) }
     ensures reached { (outside : Outside) → IfOk result (HasReached language.now.definition editor.now command.now
         outside outside steps.old steps.new) }
+    ensures next { IfOk result (λ outcome. IsNextText language.now.definition editor.now outcome next.new) }
     ensures stopped { (outside : Outside) → IfErr result (λ _. HasStopped language.now.definition (state_of editor.now)
         command.now outside outside steps.old steps.new) }
 {
-    let outcome = step(alloc, language, editor, printed, command, steps)?;
+    let outcome = step(alloc, language, editor, printed, next, command, steps)?;
     Ok(outcome)
 }
 
 /// Finds what a command does to the editor. A `keep` writes its file and a `fetch` reads it; no other command asks
 /// anything of the files. `steps` counts evaluations, and the tokens of typed text and of a fetched fragment. It fails
-/// where memory runs out.
+/// where memory runs out. Where it knows the printed text of the new version, it puts that into `next`.
+#[tactic(auto, using(crate::proofs::Printouts::no_text))]
 pub fn reach<F: Files, L: Ledger>(
     alloc: Global,
     language: &LanguageParts,
     editor: &Editor,
     printed: Option<&Printed>,
+    next: &mut Option<Printed>,
     command: &Command,
     files: &mut F,
     steps: &mut Steps<L>,
@@ -269,12 +269,14 @@ pub fn reach<F: Files, L: Ledger>(
     requires language { IsLanguage language.now }
     requires editor { IsEditor language.now.definition editor.now }
     requires formed { IsFormedState language.now.definition (state_of editor.now) }
+    requires fresh { next.old ≡ None }
     requires printed { IsPrinting command.now
         → IsPrinted language.now.definition (opened_of editor.now.opened) (option_copied printed) }
     ensures reached { IfOk result (HasReached language.now.definition editor.now command.now
         (record { held = F.holds files.old; entries = F.faults files.old })
         (record { held = F.holds files.new; entries = F.faults files.new })
         steps.old steps.new) }
+    ensures next { IfOk result (λ outcome. IsNextText language.now.definition editor.now outcome next.new) }
     ensures stopped { IfErr result (λ _. HasStopped language.now.definition (state_of editor.now) command.now
         (record { held = F.holds files.old; entries = F.faults files.old })
         (record { held = F.holds files.new; entries = F.faults files.new })
@@ -290,7 +292,7 @@ pub fn reach<F: Files, L: Ledger>(
             Ok(outcome)
         }
         _ => {
-            let outcome = step_alone(alloc, language, editor, printed, command, steps)?;
+            let outcome = step_alone(alloc, language, editor, printed, next, command, steps)?;
             Ok(outcome)
         }
     }

@@ -1,17 +1,28 @@
 //! The printed text of the opened fragment, which is kept from one command to the next.
-ghost use Rattle.std.specs.Prelude.{◌≡◌, IfOk, IsTrue};
+ghost use Rattle.std.specs.Prelude.{◌≡◌, IfOk, IsTrue, None, Some, option_copied};
+ghost use Rattle.psg_cache.specs.Annotated.{tree_in};
 ghost use Rattle.std.specs.Bool.{Decides};
 ghost use Rattle.psg_grammar.specs.declared.types.Definition.{Definition as PlainDefinition};
 ghost use Rattle.psg_grammar.specs.Sound.{IsSound};
 ghost use Rattle.psg_session.specs.declared.editor.Editor.{Editor as PlainEditor};
-ghost use Rattle.psg_session.specs.Outcomes.{after};
-ghost use Rattle.psg_session.specs.Printouts.{IsKeptText, IsPrinted, IsPrinting};
-ghost use Rattle.psg_session.specs.Sessions.{opened_of};
+ghost use Rattle.psg_session.specs.Outcomes.{after, IsFit, IsVersionOf};
+ghost use Rattle.psg_session.specs.Edits.{edited};
+ghost use Rattle.psg_session.specs.Formed.{IsFormedState};
+ghost use Rattle.psg_session.specs.Views.{IsLanguage};
+ghost use Rattle.psg_session.specs.declared.changes.Made.{Made as PlainMade};
+ghost use Rattle.psg_session.specs.declared.changes.Plan.{Plan as PlainPlan};
+ghost use Rattle.psg_session.specs.declared.changes.Plan.TheVariants.{Makes};
+ghost use Rattle.psg_session.specs.declared.editor.OpenedTree.{OpenedTree as PlainHeld};
+ghost use Rattle.psg_session.specs.Printouts.{IsKeptText, IsNextText, IsPlannedText, IsPrinted, IsPrinting};
+ghost use Rattle.psg_session.specs.Sessions.{opened_of, state_of};
 
+use crate::changes::Plan;
 use crate::editor::{Editor, Outcome};
+use crate::edits::Edit;
 use psg_grammar::Definition;
 use psg_script::Command;
-use psg_unparse::{Printed, unparse};
+use psg_specimen::LanguageParts;
+use psg_unparse::{Printed, spliced, unparse};
 use std::alloc::{AllocError, Global};
 
 /// Says whether the command is answered from the printed text.
@@ -71,12 +82,60 @@ fn leaves_tree(outcome: &Outcome) -> bool
     }
 }
 
-/// Drops the kept text where another tree is opened after the outcome.
-pub(crate) fn keep_for(printed: &mut Option<Printed>, outcome: &Outcome)
+/// Keeps the text of the fragment that is opened after the outcome: the old one where the tree is the same, else
+/// `next`.
+pub(crate) fn keep_for(printed: &mut Option<Printed>, next: Option<Printed>, outcome: &Outcome)
     ensures { (def : PlainDefinition) (old : PlainEditor) → IsKeptText def (opened_of old.opened) printed.old
-        → IsKeptText def (after old outcome.now).opened printed.new }
+        → IsNextText def old outcome.now next → IsKeptText def (after old outcome.now).opened printed.new }
 {
     if !leaves_tree(outcome) {
-        *printed = None;
+        *printed = next;
+    }
+}
+
+/// Splices the text of the planned tree, where one node is replaced and the text around it stays. It takes time linear
+/// in the text and in the paths of the nodes, and fails where memory runs out.
+#[tactic(auto, using(crate::proofs::Printouts::nothing_planned))]
+pub(crate) fn planned_text(
+    alloc: Global,
+    language: &LanguageParts,
+    editor: &Editor,
+    printed: Option<&Printed>,
+    plan: &Plan,
+) -> Result<Option<Printed>, AllocError>
+    requires language { IsLanguage language.now }
+    requires formed { IsFormedState language.now.definition (state_of editor.now) }
+    requires printed { IsPrinted language.now.definition (opened_of editor.now.opened) (option_copied printed) }
+    ensures { IfOk result (IsPlannedText language.now.definition editor.now plan.now) }
+{
+    let Plan::Makes(made) = plan else {
+        return Ok(None);
+    };
+    let Edit::Put { at, new } = &made.edit else {
+        return Ok(None);
+    };
+    let Some(held) = &editor.opened else {
+        return Ok(None);
+    };
+    let Some(before) = printed else {
+        return Ok(None);
+    };
+    let tree = held.note.tree();
+    let text = spliced(alloc, &language.definition, tree, before, at, new)?;
+    Ok(text)
+}
+
+/// Puts the text into `next` where the outcome is a new version.
+pub(crate) fn put_next(next: &mut Option<Printed>, outcome: &Outcome, text: Option<Printed>)
+    ensures { (def : PlainDefinition) (editor : PlainEditor) (plan : PlainPlan) → next.old ≡ None
+        → IsPlannedText def editor plan text → IsFit def editor.opened outcome.now
+        → ((held : PlainHeld) (made : PlainMade) → editor.opened ≡ Some held → plan ≡ Makes made
+        → IsVersionOf (edited made.edit (tree_in held.note)) outcome.now) → IsNextText def editor outcome.now next.new }
+{
+    match outcome {
+        Outcome::Changes(_note, _cursor, _mark) => {
+            *next = text;
+        }
+        _ => {}
     }
 }

@@ -1,5 +1,5 @@
 //! Bytes of the printed text, replaced by typed ones.
-ghost use Rattle.std.specs.Prelude.{◌≡◌, ◌≤◌, ◌+◌, ℕ, [], IfOk, Option, option_copied};
+ghost use Rattle.std.specs.Prelude.{◌≡◌, ◌≤◌, ◌+◌, ℕ, [], IfOk, None, Option, option_copied};
 ghost use Rattle.psg_cache.specs.Annotated.{tree_in};
 ghost use Rattle.psg_grammar.specs.Paths.{Path as PlainPath};
 ghost use Rattle.psg_grammar.specs.Printable.{IsPrintable};
@@ -13,7 +13,7 @@ ghost use Rattle.psg_session.specs.declared.judging.Trial.TheVariants.{Types};
 ghost use Rattle.psg_session.specs.Formed.{IsFormedState};
 ghost use Rattle.psg_session.specs.Outcomes.{made_of, IsOutcome, IsPlan, MaySpend};
 ghost use Rattle.psg_session.specs.PlainState.{not_asked};
-ghost use Rattle.psg_session.specs.Printouts.{IsPrinted};
+ghost use Rattle.psg_session.specs.Printouts.{IsNextText, IsPrinted};
 ghost use Rattle.psg_session.specs.RangeAnswers.{IsRangeAnswer, IsRangeRefusal};
 ghost use Rattle.psg_session.specs.Sessions.{opened_of, plain, state_of, IsEditor};
 ghost use Rattle.psg_session.specs.Ticks.{HasTicked};
@@ -25,6 +25,7 @@ use crate::changes::{Made, Plan};
 use crate::editor::{Editor, OpenedTree, Outcome, carry_out};
 use crate::edits::Edit;
 use crate::judging::Trial;
+use crate::printout::{planned_text, put_next};
 use crate::refusal::Refusal;
 use psg_specimen::LanguageParts;
 use psg_terms::{Steps, Txt};
@@ -149,12 +150,14 @@ fn range<L: Ledger>(
 /// It is refused with `NoRange` where the text has no such bytes, with `NoTokens` and `NoTree` where the whole new text
 /// has no tokens or no tree, and with `TooDeep` where one has them that is too deep, or whose brackets nest too deep.
 /// It takes a step for each token of the nodes around the bytes that are read again, evaluates the new nodes and those
-/// above them, and fails where memory runs out.
+/// above them, and fails where memory runs out. It puts the text of the new version into `next`, where the text around
+/// the node that is read again stays as it was.
 pub(crate) fn replace_bytes<L: Ledger>(
     alloc: Global,
     language: &LanguageParts,
     editor: &Editor,
     printed: Option<&Printed>,
+    next: &mut Option<Printed>,
     start: u32,
     end: u32,
     text: &Txt,
@@ -164,12 +167,16 @@ pub(crate) fn replace_bytes<L: Ledger>(
     requires editor { IsEditor language.now.definition editor.now }
     requires formed { IsFormedState language.now.definition (state_of editor.now) }
     requires printed { IsPrinted language.now.definition (opened_of editor.now.opened) (option_copied printed) }
+    requires fresh { next.old ≡ None }
     ensures outcome { IfOk result (IsOutcome language.now.definition editor.now not_asked
         (commands.Range start end text.now)) }
     ensures ticks { HasTicked language.now.definition (state_of editor.now) (commands.Range start end text.now)
         steps.old steps.new }
+    ensures next { IfOk result (λ outcome. IsNextText language.now.definition editor.now outcome next.new) }
 {
     let plan = range(alloc, language, editor, printed, start, end, text, steps)?;
+    let made = planned_text(alloc, language, editor, printed, &plan)?;
     let outcome = carry_out(alloc, language, editor, plan, steps)?;
+    put_next(next, &outcome, made);
     Ok(outcome)
 }

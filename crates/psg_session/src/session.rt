@@ -10,7 +10,7 @@ ghost use Rattle.psg_session.specs.Formed.{HasText, IsFormedState};
 ghost use Rattle.psg_session.specs.Lines.{HasAnswered, HasBroken};
 ghost use Rattle.psg_session.specs.PlainState.{start, Opened};
 ghost use Rattle.psg_session.specs.Reached.{HasReached};
-ghost use Rattle.psg_session.specs.Printouts.{IsKeptText};
+ghost use Rattle.psg_session.specs.Printouts.{IsKeptText, IsNextText};
 ghost use Rattle.psg_session.specs.Sessions.{IsEditor, opened_of, state_of};
 ghost use Rattle.psg_session.specs.Views.{reply_of};
 ghost use Rattle.psg_specimen.specs.Refusal.{IsAccepted};
@@ -43,8 +43,9 @@ pub struct Parts {
 }
 
 /// An editor of a language's fragments. It keeps the printed text of the opened fragment from the first command that is
-/// answered from it until the tree changes. So the first `show`, `goto`, `screen` or `range` after a change prints the
-/// whole text, in time linear in it.
+/// answered from it until the tree changes. After a `range` it keeps the text of the new version, if the text around
+/// the node that was read again stays as it was. So the first `show`, `goto`, `screen` or `range` after another change
+/// prints the whole text, in time linear in it.
 #[derive(Drop)]
 pub struct Session {
     parts: Parts,
@@ -110,16 +111,18 @@ impl Session {
         ensures language { self.new.language ≡ self.old.language }
     {
         read_text(command);
+        let mut next = None;
         let outcome = reached(
             alloc,
             &self.parts.language,
             &self.parts.editor,
             &mut self.printed,
+            &mut next,
             command,
             files,
             steps,
         )?;
-        keep_for(&mut self.printed, &outcome);
+        keep_for(&mut self.printed, next, &outcome);
         let reply = self.parts.editor.settle(outcome);
         Ok(reply)
     }
@@ -207,6 +210,7 @@ fn reached<F: Files, L: Ledger>(
     language: &Language,
     editor: &Editor,
     printed: &mut Option<Printed>,
+    next: &mut Option<Printed>,
     command: &Command,
     files: &mut F,
     steps: &mut Steps<L>,
@@ -214,6 +218,7 @@ fn reached<F: Files, L: Ledger>(
     requires editor { IsEditor language.now editor.now }
     requires formed { IsFormedState language.now (state_of editor.now) }
     requires kept { IsKeptText language.now (opened_of editor.now.opened) printed.old }
+    requires fresh { next.old ≡ None }
     ensures reached { IfOk result (HasReached language.now editor.now command.now
         (record { held = F.holds files.old; entries = F.faults files.old })
         (record { held = F.holds files.new; entries = F.faults files.new })
@@ -225,6 +230,7 @@ fn reached<F: Files, L: Ledger>(
     ensures sound { IsSound language.now }
     ensures accepted { IsAccepted language.now }
     ensures kept { IsKeptText language.now (opened_of editor.now.opened) printed.new }
+    ensures next { IfOk result (λ outcome. IsNextText language.now editor.now outcome next.new) }
 {
     let definition = language.definition();
     print_for(alloc, definition, editor, command, printed)?;
@@ -234,6 +240,7 @@ fn reached<F: Files, L: Ledger>(
         parts,
         editor,
         printed.as_ref(),
+        next,
         command,
         files,
         steps,

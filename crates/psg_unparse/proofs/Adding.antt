@@ -13,7 +13,8 @@ use Rattle.psg_grammar.specs.declared.types.Item.TheVariants as items
 use Rattle.psg_unparse.specs.declared.layout.Writer.{Writer}
 use Rattle.psg_reads_back.specs.Rows.{Piece, token, mark}
 use Rattle.psg_reads_back.specs.Layout.{is_line, is_tight, is_space, glues, glues_first, last_char, last_in, marks_behind, open_behind, gap_after, gap, laid}
-use Rattle.psg_unparse.specs.Writing.{IsWritten, first_in, Adds, glues_with, gap_behind, gap_in, IsBegun, ended_by}
+use Rattle.psg_unparse.specs.Plain.{has_token, keeps_plain, plain_in, head_in}
+use Rattle.psg_unparse.specs.Writing.{head_with, IsWritten, first_in, Adds, glues_with, gap_behind, gap_in, IsBegun, ended_by}
 use Rattle.psg_reads_back.proofs.Rows.{laid-append, last_in-append}
 
 -- ---- rows
@@ -53,6 +54,41 @@ first_in-append before (mark i ∷ a) b =
     first_in-append (before ++ mark i ∷ []) a b
     ∙ ap (λ x. option_or (first_in (before ++ mark i ∷ []) a) (first_in x b)) (append_assoc before (mark i ∷ []) a)
 
+-- ---- plain rows, and what they begin with
+
+and-assoc : (a b c : Bool) → (a && (b && c)) ≡ ((a && b) && c)
+and-assoc true b c = refl
+and-assoc false b c = refl
+
+and-true : (b : Bool) → b ≡ (b && true)
+and-true true = refl
+and-true false = refl
+
+and-false : (b : Bool) → false ≡ (b && false)
+and-false true = refl
+and-false false = refl
+
+pub plain_in-append : (c : Option ℕ) (a b : List Piece) → plain_in c (a ++ b) ≡ (plain_in c a && plain_in (last_in c a) b)
+plain_in-append c [] b = refl
+plain_in-append c (token t ∷ a) b = plain_in-append (Some (last_char 0 (chars t))) a b
+plain_in-append c (mark i ∷ a) b =
+    ap (λ x. keeps_plain c i && x) (plain_in-append c a b) ∙ and-assoc (keeps_plain c i) (plain_in c a) (plain_in (last_in c a) b)
+
+pub head_in-mark : (a : List Piece) (i : Item) → head_in (a ++ mark i ∷ []) ≡ head_in a
+head_in-mark [] i = refl
+head_in-mark (token t ∷ a) i = refl
+head_in-mark (mark j ∷ a) i = head_in-mark a i
+
+head_known : (c : ℕ) (a : List Piece) (begins head : Option ℕ) → head_with (last_in (Some c) a) begins head ≡ head
+head_known c [] begins head = refl
+head_known c (token t ∷ a) begins head = head_known (last_char 0 (chars t)) a begins head
+head_known c (mark i ∷ a) begins head = head_known c a begins head
+
+pub head_in-token : (a : List Piece) (t : List ℕ) → head_in (a ++ token t ∷ []) ≡ head_with (last_in None a) (slice_get (chars t) 0) (head_in a)
+head_in-token [] t = refl
+head_in-token (token s ∷ a) t = sym (head_known (last_char 0 (chars s)) a (slice_get (chars t) 0) (slice_get (chars s) 0))
+head_in-token (mark i ∷ a) t = head_in-token a t
+
 -- a mark adds no byte
 laid-mark : (before : List Piece) (i : Item) → laid [] (before ++ mark i ∷ []) ≡ laid [] before
 laid-mark before i = laid-append [] before (mark i ∷ []) ∙ append-nil (laid [] before)
@@ -81,8 +117,9 @@ or_false false = refl
 
 pub adds-mark : (i : Item) (old new : Writer) → string_bytes new.out ≡ string_bytes old.out → new.last ≡ old.last
     → new.levels ≡ open_behind old.levels (mark i ∷ []) → new.line ≡ (old.line || is_line i) → new.tight ≡ (old.tight || is_tight i)
-    → new.space ≡ (old.space || is_space i) → new.first ≡ old.first → Adds (mark i ∷ []) old new
-adds-mark i old new bytes last levels line tight space first = record {
+    → new.space ≡ (old.space || is_space i) → new.first ≡ old.first → new.plain ≡ (old.plain && keeps_plain old.last i) → new.head ≡ old.head
+    → Adds (mark i ∷ []) old new
+adds-mark i old new bytes last levels line tight space first plain head = record {
   written = λ before h. record {
     bytes = bytes ∙ h.bytes ∙ sym (laid-mark before i);
     last = last ∙ h.last ∙ sym (last_in-append None before (mark i ∷ []));
@@ -90,6 +127,11 @@ adds-mark i old new bytes last levels line tight space first = record {
     line = line ∙ marked is_line before h.line;
     tight = tight ∙ marked is_tight before h.tight;
     space = space ∙ marked is_space before h.space;
+    plain =
+        plain ∙ ap₂ (λ x y. x && keeps_plain y i) h.plain h.last
+        ∙ ap (λ x. plain_in None before && x) (and-true (keeps_plain (last_in None before) i))
+        ∙ sym (plain_in-append None before (mark i ∷ []));
+    head = head ∙ h.head ∙ sym (head_in-mark before i);
   };
   first = λ before h. first ∙ sym (option_or-none old.first);
 } where
@@ -101,31 +143,31 @@ adds-mark i old new bytes last levels line tight space first = record {
       ∙ sym (list_any-append test (marks_behind [] before) (i ∷ []))
       ∙ ap (list_any test) (sym (marks_behind-append [] before (mark i ∷ [])))
 
-unread : (i : Item) (w : Writer) → open_behind w.levels (mark i ∷ []) ≡ w.levels → is_line i ≡ false → is_tight i ≡ false → is_space i ≡ false → Adds (mark i ∷ []) w w
-unread i w levels line tight space =
+unread : (i : Item) (w : Writer) → open_behind w.levels (mark i ∷ []) ≡ w.levels → is_line i ≡ false → is_tight i ≡ false → is_space i ≡ false → keeps_plain w.last i ≡ true → Adds (mark i ∷ []) w w
+unread i w levels line tight space plain =
     adds-mark i w w refl refl (sym levels) (or_false w.line ∙ ap (λ b. w.line || b) (sym line)) (or_false w.tight ∙ ap (λ b. w.tight || b) (sym tight))
-    (or_false w.space ∙ ap (λ b. w.space || b) (sym space)) refl
+    (or_false w.space ∙ ap (λ b. w.space || b) (sym space)) refl (and-true w.plain ∙ ap (λ b. w.plain && b) (sym plain)) refl
 
 or_true : (b : Bool) → true ≡ (b || true)
 or_true true = refl
 or_true false = refl
 
-pub adds-tight : (w : Writer) → Adds (mark items.Tight ∷ []) w (record w { tight = true })
-adds-tight w = adds-mark items.Tight w (record w { tight = true }) refl refl refl (or_false w.line) (or_true w.tight) (or_false w.space) refl
+pub adds-tight : (w : Writer) (p : Bool) → p ≡ (w.plain && has_token w.last) → Adds (mark items.Tight ∷ []) w (record w { tight = true; plain = p })
+adds-tight w p e = adds-mark items.Tight w (record w { tight = true; plain = p }) refl refl refl (or_false w.line) (or_true w.tight) (or_false w.space) refl e refl
 
-pub adds-space : (w : Writer) → Adds (mark items.Space ∷ []) w (record w { space = true })
-adds-space w = adds-mark items.Space w (record w { space = true }) refl refl refl (or_false w.line) (or_false w.tight) (or_true w.space) refl
+pub adds-space : (w : Writer) (p : Bool) → p ≡ (w.plain && has_token w.last) → Adds (mark items.Space ∷ []) w (record w { space = true; plain = p })
+adds-space w p e = adds-mark items.Space w (record w { space = true; plain = p }) refl refl refl (or_false w.line) (or_false w.tight) (or_true w.space) refl e refl
 
-pub adds-line : (w : Writer) → Adds (mark items.Line ∷ []) w (record w { line = true })
-adds-line w = adds-mark items.Line w (record w { line = true }) refl refl refl (or_true w.line) (or_false w.tight) (or_false w.space) refl
+pub adds-line : (w : Writer) → Adds (mark items.Line ∷ []) w (record w { line = true; plain = false })
+adds-line w = adds-mark items.Line w (record w { line = true; plain = false }) refl refl refl (or_true w.line) (or_false w.tight) (or_false w.space) refl (and-false w.plain) refl
 
-pub adds-in : (w : Writer) (n : ℕ) → n ≡ w.levels + 1 → Adds (mark items.In ∷ []) w (record w { levels = n })
-adds-in w n e = adds-mark items.In w (record w { levels = n }) refl refl e (or_false w.line) (or_false w.tight) (or_false w.space) refl
+pub adds-in : (w : Writer) (n : ℕ) → n ≡ w.levels + 1 → Adds (mark items.In ∷ []) w (record w { levels = n; plain = false })
+adds-in w n e = adds-mark items.In w (record w { levels = n; plain = false }) refl refl e (or_false w.line) (or_false w.tight) (or_false w.space) refl (and-false w.plain) refl
 
-pub adds-out : (w : Writer) (n : ℕ) → n ≡ w.levels - 1 → Adds (mark items.Out ∷ []) w (record w { levels = n })
-adds-out w n e = adds-mark items.Out w (record w { levels = n }) refl refl e (or_false w.line) (or_false w.tight) (or_false w.space) refl
+pub adds-out : (w : Writer) (n : ℕ) → n ≡ w.levels - 1 → Adds (mark items.Out ∷ []) w (record w { levels = n; plain = false })
+adds-out w n e = adds-mark items.Out w (record w { levels = n; plain = false }) refl refl e (or_false w.line) (or_false w.tight) (or_false w.space) refl (and-false w.plain) refl
 
-glues_with-first : (c : ℕ) (cs : List ℕ) → glues_with c (slice_get cs 0) ≡ glues_first c cs
+pub glues_with-first : (c : ℕ) (cs : List ℕ) → glues_with c (slice_get cs 0) ≡ glues_first c cs
 glues_with-first c [] = refl
 glues_with-first c (d ∷ cs) = refl
 
@@ -142,8 +184,9 @@ gap_written w before cs (Some c) h = alike w.line w.tight w.space w.levels (glue
 
 pub adds-token : (t : List ℕ) (begins : Option ℕ) (old mid new : Writer) → IsBegun begins old mid → begins ≡ slice_get (chars t) 0
     → string_bytes new.out ≡ string_bytes mid.out ++ t → new.last ≡ Some (last_char 0 (chars t)) → new.levels ≡ mid.levels
-    → new.line ≡ false → new.tight ≡ false → new.space ≡ false → new.first ≡ mid.first → Adds (token t ∷ []) old new
-adds-token t begins old mid new begun begin bytes last levels line tight space first = record {
+    → new.line ≡ false → new.tight ≡ false → new.space ≡ false → new.first ≡ mid.first → new.plain ≡ mid.plain → new.head ≡ mid.head
+    → Adds (token t ∷ []) old new
+adds-token t begins old mid new begun begin bytes last levels line tight space first plain head = record {
   written = λ before h. record {
     bytes =
         bytes ∙ ap (λ x. x ++ t) (front before h) ∙ append_assoc (laid [] before) (gap before t) t
@@ -153,6 +196,10 @@ adds-token t begins old mid new begun begin bytes last levels line tight space f
     line = line ∙ ap (list_any is_line) (sym (marks_behind-append [] before (token t ∷ [])));
     tight = tight ∙ ap (list_any is_tight) (sym (marks_behind-append [] before (token t ∷ [])));
     space = space ∙ ap (list_any is_space) (sym (marks_behind-append [] before (token t ∷ [])));
+    plain = plain ∙ begun.plain ∙ h.plain ∙ and-true (plain_in None before) ∙ sym (plain_in-append None before (token t ∷ []));
+    head =
+        head ∙ begun.head ∙ ap₂ (λ l x. head_with l begins x) h.last h.head
+        ∙ ap (λ b. head_with (last_in None before) b (head_in before)) begin ∙ sym (head_in-token before t);
   };
   first = λ before h.
       first ∙ begun.first ∙ ap (λ n. option_or old.first (Some n)) (ap length (front before h) ∙ length-append (laid [] before) (gap before t));
@@ -164,12 +211,12 @@ adds-token t begins old mid new begun begin bytes last levels line tight space f
 
 -- the token's bytes are written, and it is ended by its last character
 pub token_put : (t : List ℕ) (begins : Option ℕ) (last : ℕ) (old mid pushed new : Writer) → IsBegun begins old mid → begins ≡ slice_get (chars t) 0
-    → string_bytes pushed.out ≡ string_bytes mid.out ++ t → pushed.levels ≡ mid.levels → pushed.first ≡ mid.first → last ≡ last_char 0 (chars t)
-    → new ≡ ended_by last pushed → Adds (token t ∷ []) old new
-token_put t begins last old mid pushed new begun begin bytes levels first l e =
+    → string_bytes pushed.out ≡ string_bytes mid.out ++ t → pushed.levels ≡ mid.levels → pushed.first ≡ mid.first → pushed.plain ≡ mid.plain → pushed.head ≡ mid.head
+    → last ≡ last_char 0 (chars t) → new ≡ ended_by last pushed → Adds (token t ∷ []) old new
+token_put t begins last old mid pushed new begun begin bytes levels first plain head l e =
     adds-token t begins old mid new begun begin (ap (λ (x : Writer). string_bytes x.out) e ∙ bytes) (ap (λ (x : Writer). x.last) e ∙ ap Some l)
     (ap (λ (x : Writer). x.levels) e ∙ levels) (ap (λ (x : Writer). x.line) e) (ap (λ (x : Writer). x.tight) e) (ap (λ (x : Writer). x.space) e)
-    (ap (λ (x : Writer). x.first) e ∙ first)
+    (ap (λ (x : Writer). x.first) e ∙ first) (ap (λ (x : Writer). x.plain) e ∙ plain) (ap (λ (x : Writer). x.head) e ∙ head)
 
 -- what stands between two tokens
 pub gap-line : (w : Writer) (c : ℕ) (begins : Option ℕ) → w.line ≡ true → gap_behind w c begins ≡ 10 ∷ replicate (2 * w.levels) 32
@@ -201,12 +248,12 @@ adds-other items.Space w a b c d e = absurd (b refl)
 adds-other items.Line w a b c d e = absurd (c refl)
 adds-other items.In w a b c d e = absurd (d refl)
 adds-other items.Out w a b c d e = absurd (e refl)
-adds-other (items.Word x) w a b c d e = unread (items.Word x) w refl refl refl refl
-adds-other (items.Slot k) w a b c d e = unread (items.Slot k) w refl refl refl refl
-adds-other (items.Refers s) w a b c d e = unread (items.Refers s) w refl refl refl refl
-adds-other (items.Declares s) w a b c d e = unread (items.Declares s) w refl refl refl refl
-adds-other items.Number w a b c d e = unread items.Number w refl refl refl refl
-adds-other items.Text w a b c d e = unread items.Text w refl refl refl refl
+adds-other (items.Word x) w a b c d e = unread (items.Word x) w refl refl refl refl refl
+adds-other (items.Slot k) w a b c d e = unread (items.Slot k) w refl refl refl refl refl
+adds-other (items.Refers s) w a b c d e = unread (items.Refers s) w refl refl refl refl refl
+adds-other (items.Declares s) w a b c d e = unread (items.Declares s) w refl refl refl refl refl
+adds-other items.Number w a b c d e = unread items.Number w refl refl refl refl refl
+adds-other items.Text w a b c d e = unread items.Text w refl refl refl refl refl
 
 -- ---- characters that run together
 

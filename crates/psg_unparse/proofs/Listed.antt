@@ -284,7 +284,7 @@ among-got path t (x ∷ xs) (inl a) = (x, (0, refl, a.0))
 among-got path t (x ∷ xs) (inr a) = let (p, (k, g, e)) = among-got path t xs a in (p, (suc k, g, e))
 
 -- a path that goes on leads into a child
-into : (o : Option Fragment) (q : Path) (t : Fragment) → option_and_then (λ u. node_at u q) o ≡ Some t → (u : Fragment) × ((o ≡ Some u) × (node_at u q ≡ Some t))
+pub into : (o : Option Fragment) (q : Path) (t : Fragment) → option_and_then (λ u. node_at u q) o ≡ Some t → (u : Fragment) × ((o ≡ Some u) × (node_at u q ≡ Some t))
 into None q t h = absurd (cc)
 into (Some u) q t h = (u, (refl, h))
 

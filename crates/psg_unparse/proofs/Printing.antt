@@ -23,7 +23,7 @@ use Rattle.psg_reads_back.specs.Layout.{laid, lead, text_of}
 use Rattle.psg_unparse.specs.Spots.{span_of}
 use Rattle.psg_reads_back.specs.Spots.{Spot, top_spot, element_spot, rest_spot, child_spot, front_spot, leaf_spot, placed_from, placed_below, placed_in}
 use Rattle.psg_unparse.specs.Writing.{IsWritten, Adds, first_in}
-use Rattle.psg_unparse.specs.Walking.{Prints, IsOpened, IsClosed, count_of, level_wanted, ending_row, part_row, part_spans, span_at, spans_below, spans_from}
+use Rattle.psg_unparse.specs.Walking.{Prints, IsWhole, IsOpened, IsClosed, count_of, level_wanted, ending_row, part_row, part_spans, span_at, spans_below, spans_from}
 use Rattle.psg_reads_back.proofs.Rows.{laid-append}
 use Rattle.psg_unparse.proofs.Items.{operator-parts, short-from, short-behind}
 use Rattle.psg_unparse.proofs.Adding.{adds-then}
@@ -234,11 +234,11 @@ module _ (def : Definition) where
 
   -- a whole tree
   pub top_printed : (t : Fragment) (a b : Printer) → a.path.items ≡ [] → a.spans.items ≡ [] → IsWritten a.writer [] → Prints (row def t) (spans_from def a.path.items t) a b
-      → (string_bytes b.writer.out ≡ text_of def t) × (b.spans.items ≡ map (span_of def) (placed_in def t))
-  top_printed t a b p s w x = (
-    (x.adds.written [] w).bytes,
-    x.spans [] w ∙ ap (λ k. k ++ spans_from def a.path.items t []) s ∙ ap (λ k. spans_from def k t []) p ∙ sym (map_from top_spot t),
-  )
+      → IsWhole def t b
+  top_printed t a b p s w x = record {
+    written = x.adds.written [] w;
+    spans = x.spans [] w ∙ ap (λ k. k ++ spans_from def a.path.items t []) s ∙ ap (λ k. spans_from def k t []) p ∙ sym (map_from top_spot t);
+  }
 
   -- ---- a node
 
@@ -252,7 +252,7 @@ module _ (def : Definition) where
         same before i = ap length (laid-append [] before (mark i ∷ []) ∙ append-nil (laid [] before))
 
   written_again : (before : Pieces) (w v : Writer) (first : Option ℕ) → v ≡ record w { first = first } → IsWritten w before → IsWritten v before
-  written_again before w v first e h = subst (λ x. IsWritten x before) (sym e) (record { bytes = h.bytes; last = h.last; levels = h.levels; line = h.line; tight = h.tight; space = h.space })
+  written_again before w v first e h = subst (λ x. IsWritten x before) (sym e) (record { bytes = h.bytes; last = h.last; levels = h.levels; line = h.line; tight = h.tight; space = h.space; plain = h.plain; head = h.head })
 
   pub node_printed : (t : Fragment) (place : ℕ) (outer : Option ℕ) (a b c d : Printer) → place ≡ length a.spans.items → IsOpened outer a b
       → Prints (row def t) (λ before. spans_below def b.path.items before 0 t) b c → IsClosed place outer c d

@@ -2,3 +2,5 @@ pub mod Spots
 pub mod Writing
 pub mod Walking
 pub mod Listing
+pub mod Plain
+pub mod Splicing

@@ -14,6 +14,7 @@ use Rattle.psg_tree.specs.AbstractText.{quoted}
 use Rattle.psg_reads_back.specs.Rows.{Piece, token, row, opening, closing, is_bracketed}
 use Rattle.psg_reads_back.specs.Rows.{is_below_level, operator_of, between}
 use Rattle.psg_reads_back.specs.Layout.{laid, lead}
+use Rattle.psg_unparse.specs.Spots.{printed_of}
 use Rattle.psg_unparse.specs.Writing.{IsWritten, Adds}
 use Rattle.psg_unparse.specs.declared.nodes.Printer.{Printer}
 use Rattle.psg_unparse.specs.declared.spans.Span.{Span}
@@ -87,6 +88,11 @@ module _ (def : Definition) where
 
   abbrev pub PrintsPart : Path → ℕ → Part → Printer → Printer → Type 0
   PrintsPart path wanted part = Prints (part_row def wanted part) (part_spans def path wanted part)
+
+-- the printer has written the tree, with its spans and no other ones
+pub record IsWhole (def : Definition) (t : Fragment) (p : Printer) : Type 0 where
+  pub written : IsWritten p.writer (row def t)
+  pub spans : p.spans.items ≡ (printed_of def t).spans
 
 -- how many children a part is
 abbrev pub count_of : Part → ℕ

@@ -8,6 +8,7 @@ use Rattle.psg_grammar.specs.declared.types.Item.TheVariants as items
 use Rattle.psg_reads_back.specs.Rows.{Piece, token, mark}
 use Rattle.psg_reads_back.specs.Layout.{is_line, is_tight, is_space, glues, last_in}
 use Rattle.psg_reads_back.specs.Layout.{marks_behind, open_behind, gap, laid}
+use Rattle.psg_unparse.specs.Plain.{head_in, plain_in}
 use Rattle.psg_unparse.specs.declared.layout.Writer.{Writer}
 
 -- the writer has written the row
@@ -18,6 +19,8 @@ pub record IsWritten (w : Writer) (row : List Piece) : Type 0 where
   pub line : w.line ≡ list_any is_line (marks_behind [] row)
   pub tight : w.tight ≡ list_any is_tight (marks_behind [] row)
   pub space : w.space ≡ list_any is_space (marks_behind [] row)
+  pub plain : w.plain ≡ plain_in None row
+  pub head : w.head ≡ head_in row
 
 -- the byte at which the first token of a row begins, after the row before it
 abbrev pub first_in : List Piece → List Piece → Option ℕ
@@ -50,11 +53,18 @@ abbrev pub gap_in : Writer → Option ℕ → Option ℕ → List ℕ
 gap_in w None begins = []
 gap_in w (Some c) begins = gap_behind w c begins
 
+-- the first character of the first token, where the next one begins with this character
+abbrev pub head_with : Option ℕ → Option ℕ → Option ℕ → Option ℕ
+head_with None begins head = begins
+head_with (Some c) begins head = head
+
 -- the gap is written in front of a token that begins with the character
 pub record IsBegun (begins : Option ℕ) (old new : Writer) : Type 0 where
   pub bytes : string_bytes new.out ≡ string_bytes old.out ++ gap_in old old.last begins
   pub first : new.first ≡ option_or old.first (Some (length (string_bytes new.out)))
   pub levels : new.levels ≡ old.levels
+  pub plain : new.plain ≡ old.plain
+  pub head : new.head ≡ head_with old.last begins old.head
 
 -- the token's bytes are written, and its last character is kept
 abbrev pub ended_by : ℕ → Writer → Writer

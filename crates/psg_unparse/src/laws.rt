@@ -3,6 +3,7 @@ ghost use Rattle.psg_grammar.specs.declared.types.Kind.{Kind};
 ghost use Rattle.psg_grammar.specs.Fragments.{Fragment};
 ghost use Rattle.psg_grammar.specs.WellFormed.{WellFormed};
 ghost use Rattle.psg_unparse.specs.Listing.{IsCutAtEach, IsListing};
+ghost use Rattle.psg_unparse.specs.Splicing.{Splices};
 
 use psg_grammar::Definition;
 
@@ -17,4 +18,11 @@ pub fn cut_at_nodes(_definition: &Definition)
 pub fn listed_once(_definition: &Definition)
     ensures { (fragment : Fragment) (kind : Kind) → WellFormed _definition.now fragment kind
         → IsListing _definition.now fragment }
+{}
+
+/// States what the text of a tree becomes where a node is replaced by one that fits in its place: the node's own text
+/// is replaced, the spans of the nodes above it are as much longer, and those after it are as much later. The call has
+/// no cost.
+pub fn splices(_definition: &Definition)
+    ensures { Splices _definition.now }
 {}

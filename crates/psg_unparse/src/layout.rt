@@ -1,11 +1,14 @@
 //! Laying out tokens and marks: the gap in front of a token depends on what is written before it.
 ghost use Rattle.std.specs.Prelude.{◌≡◌, ◌++◌, ◌*◌, ◌&&◌, not, true, cond, ◌∷◌, [], Some, replicate, slice_get};
-ghost use Rattle.std.specs.Prelude.{IfNone, IfSome, OnOk, chars, decimal, string_bytes};
+ghost use Rattle.std.specs.Prelude.{IfNone, IfSome, IsTrue, List, OnOk, chars, decimal, string_bytes};
 ghost use Rattle.psg_grammar.specs.declared.types.Item.TheVariants as items;
 ghost use Rattle.psg_tree.specs.AbstractText as text;
 ghost use Rattle.psg_reads_back.specs.Rows as rows;
+ghost use Rattle.psg_reads_back.specs.Rows.{Piece};
 ghost use Rattle.psg_reads_back.specs.Layout.{last_char};
-ghost use Rattle.psg_unparse.specs.Writing.{Adds, IsBegun, IsWritten, ended_by, gap_behind, gap_in, glues_with, piece};
+ghost use Rattle.psg_unparse.specs.Writing.{Adds, IsBegun, IsWritten, ended_by, gap_behind, gap_in, glues_with};
+ghost use Rattle.psg_unparse.specs.Writing.{head_with, piece};
+ghost use Rattle.psg_unparse.specs.Plain.{has_token, IsPlain};
 
 use itoa::Buffer;
 use psg_grammar::Item;
@@ -25,6 +28,10 @@ pub(crate) struct Writer {
     pub(crate) space: bool,
     /// The byte at which the first token begins that was written since this was set to `None`.
     pub(crate) first: Option<usize>,
+    /// Whether each mark so far follows a token, and none puts a line or changes a level.
+    pub(crate) plain: bool,
+    /// The first character of the first token.
+    pub(crate) head: Option<char>,
 }
 
 impl Writer {
@@ -40,13 +47,37 @@ impl Writer {
             tight: false,
             space: false,
             first: None,
+            plain: true,
+            head: None,
         }
+    }
+
+    /// Says whether the row is plain with one more mark that puts no line and changes no level.
+    fn stays_plain(&self) -> bool
+        ensures { result ≡ (self.now.plain && has_token self.now.last) }
+    {
+        self.plain && self.last.is_some()
+    }
+
+    /// Says whether the row that was written begins and ends with a token, and has no mark that puts a line or changes
+    /// a level.
+    pub(crate) fn is_plain(&self) -> bool
+        ensures { IsTrue result → (row : List Piece) → IsWritten self.now row → IsPlain row }
+    {
+        if self.line || self.tight {
+            return false;
+        }
+        if self.space {
+            return false;
+        }
+        self.stays_plain()
     }
 
     /// Keeps the next token beside the last one.
     pub(crate) fn put_tight(&mut self)
         ensures { Adds (rows.mark items.Tight ∷ []) self.old self.new }
     {
+        self.plain = self.stays_plain();
         self.tight = true;
     }
 
@@ -54,6 +85,7 @@ impl Writer {
     pub(crate) fn put_space(&mut self)
         ensures { Adds (rows.mark items.Space ∷ []) self.old self.new }
     {
+        self.plain = self.stays_plain();
         self.space = true;
     }
 
@@ -61,6 +93,7 @@ impl Writer {
     pub(crate) fn put_line(&mut self)
         ensures { Adds (rows.mark items.Line ∷ []) self.old self.new }
     {
+        self.plain = false;
         self.line = true;
     }
 
@@ -71,6 +104,7 @@ impl Writer {
         let Some(levels) = self.levels.checked_add(1) else {
             return Err(AllocError);
         };
+        self.plain = false;
         self.levels = levels;
         Ok(())
     }
@@ -79,6 +113,7 @@ impl Writer {
     fn put_out(&mut self)
         ensures { Adds (rows.mark items.Out ∷ []) self.old self.new }
     {
+        self.plain = false;
         self.levels = self.levels.saturating_sub(1);
     }
 
@@ -164,6 +199,7 @@ impl Writer {
         ensures { OnOk result (IsBegun begins self.old self.new) }
     {
         self.write_gap(begins)?;
+        self.head = head_with(self.last, begins, self.head);
         self.first = self.first.or(Some(self.out.len()));
         Ok(())
     }
@@ -219,6 +255,16 @@ impl Writer {
         self.line = false;
         self.tight = false;
         self.space = false;
+    }
+}
+
+/// Returns the first character of the first token, where the next one begins with this character.
+fn head_with(last: Option<char>, begins: Option<char>, head: Option<char>) -> Option<char>
+    ensures { result ≡ head_with last begins head }
+{
+    match last {
+        Some(_) => head,
+        None => begins,
     }
 }
 

@@ -9,6 +9,8 @@ pub mod laws;
 mod layout;
 pub mod nodes;
 pub mod spans;
+pub mod splicing;
 
 pub use nodes::unparse;
 pub use spans::{Printed, Span};
+pub use splicing::spliced;

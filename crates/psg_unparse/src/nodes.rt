@@ -1,6 +1,6 @@
 //! The walk over a tree that writes it.
 ghost use Rattle.std.specs.Prelude.{◌≡◌, ◌+◌, ◌<◌, ◌==◌, ◌&&◌, not, [], ◌∷◌, ◌++◌, length, slice_get, Some};
-ghost use Rattle.std.specs.Prelude.{IfOk, OnOk};
+ghost use Rattle.std.specs.Prelude.{IfOk, IfSome, OnOk};
 ghost use Rattle.std.specs.List.{AllByRecursion};
 ghost use Rattle.psg_grammar.specs.Fragments.{operator as plain_operator};
 ghost use Rattle.psg_grammar.specs.Lookups.{is_part, operator_at};
@@ -16,7 +16,8 @@ ghost use Rattle.psg_reads_back.specs.Back.{ReadsBackIfPrintable};
 ghost use Rattle.psg_reads_back.specs.Nodes.{NodesReadBackIfPrintable};
 ghost use Rattle.psg_unparse.specs.Spots.{printed_of};
 ghost use Rattle.psg_unparse.specs.Walking.{IsOpened, IsClosed, PrintsBelow, PrintsPart, PrintsTree};
-ghost use Rattle.psg_unparse.specs.Walking.{count_of, ending_row, is_below, level_wanted};
+ghost use Rattle.psg_unparse.specs.Walking.{count_of, IsWhole, ending_row, is_below, level_wanted};
+ghost use Rattle.psg_unparse.specs.Plain.{IsPlainText};
 ghost use Rattle.psg_unparse.specs.Writing.{Adds};
 
 use crate::layout::Writer;
@@ -63,6 +64,14 @@ impl Printer {
         span.end = end;
         self.writer.first = outer.or(first);
     }
+}
+
+/// What is printed of a tree by itself, with the first character of its first token and the last one of its last token.
+#[derive(Drop)]
+pub(crate) struct PlainText {
+    pub(crate) printed: Printed,
+    pub(crate) first: Option<char>,
+    pub(crate) last: Option<char>,
 }
 
 /// Says whether the item has a part of the tree.
@@ -419,6 +428,54 @@ fn write_node(
     Ok(())
 }
 
+/// Writes a whole tree. It takes the memory for the spans at once.
+fn print_whole(alloc: Global, definition: &Definition, tree: &Tree) -> Result<Printer, AllocError>
+    requires { IsSound definition.now }
+    ensures { IfOk result (IsWhole definition.now tree.now) }
+{
+    let writer = Writer::new(alloc);
+    let path = Vec::new(alloc);
+    // each node has a span
+    let count = nodes(tree) as usize;
+    let spans = Vec::with_capacity(alloc, count)?;
+    let mut printer = Printer {
+        writer,
+        path,
+        spans,
+    };
+    write_node(alloc, &mut printer, definition, tree)?;
+    Ok(printer)
+}
+
+/// Prints a tree by itself, if it is written the same in all places but for the gap in front of it and after it: its
+/// row begins and ends with a token, and no mark in it puts a line or changes a level. Its cost is that of `unparse`.
+pub(crate) fn print_plain(
+    alloc: Global,
+    definition: &Definition,
+    tree: &Tree,
+) -> Result<Option<PlainText>, AllocError>
+    requires { IsSound definition.now }
+    ensures { IfOk result (λ found. IfSome found
+        (λ made. IsPlainText definition.now tree.now made.printed made.first made.last)) }
+{
+    let Printer { writer, spans, .. } = print_whole(alloc, definition, tree)?;
+    if !writer.is_plain() {
+        return Ok(None);
+    }
+    let first = writer.head;
+    let last = writer.last;
+    let text = Txt::of(alloc, writer.out)?;
+    let printed = Printed {
+        text,
+        spans: Seq::of(spans),
+    };
+    Ok(Some(PlainText {
+        printed,
+        first,
+        last,
+    }))
+}
+
 /// Writes a tree as text, and lists the spans of its nodes, in one walk over it.
 ///
 /// The text is that of the tree's tokens, which the marks between them keep apart: a mark for a line gives a line feed
@@ -443,18 +500,7 @@ pub fn unparse(alloc: Global, definition: &Definition, tree: &Tree) -> Result<Pr
     ensures spans { IfOk result (λ _. IsClass definition.now
         → AllByRecursion IsFixedWord (fixed_words definition.now) → NodesReadBackIfPrintable definition.now tree.now) }
 {
-    let writer = Writer::new(alloc);
-    let path = Vec::new(alloc);
-    // each node has a span
-    let count = nodes(tree) as usize;
-    let spans = Vec::with_capacity(alloc, count)?;
-    let mut printer = Printer {
-        writer,
-        path,
-        spans,
-    };
-    write_node(alloc, &mut printer, definition, tree)?;
-    let Printer { writer, spans, .. } = printer;
+    let Printer { writer, spans, .. } = print_whole(alloc, definition, tree)?;
     let text = Txt::of(alloc, writer.out)?;
     Ok(Printed {
         text,

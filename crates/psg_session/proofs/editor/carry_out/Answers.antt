@@ -1,4 +1,8 @@
-use Rattle.std.proofs.Common.{inl, inr, refl, sym, subst}
+use Rattle.std.proofs.Common.{◌∙◌, Ok, inr, ap₂, refl, subst}
+use Rattle.psg_session.specs.declared.changes.Made.{Made}
+use Rattle.psg_session.specs.declared.editor.OpenedTree.{OpenedTree}
+use Rattle.psg_session.proofs.Printouts.{one_made}
+use Rattle.psg_session.proofs.StepLaws.{some_once}
 use Rattle.psg_session.specs.Outcomes.{IsJudged, IsMade, IsPlan}
 use Rattle.psg_session.specs.Edits.{edited}
 use Rattle.psg_session.specs.Sessions.{state_of}
@@ -100,3 +104,27 @@ returns-in_err-mark-clause-spends g c =
 pub returns-clause-spends : goal.returns-clause-spends
 returns-clause-spends g c =
     inr (c.in-Makes.made, c.in-Makes.is, c.in-Some.held, c.in-Some.is, c.note_after-noted.ensures.ticks)
+
+pub returns-in-RefusedBy-clause-version : goal.returns-in-RefusedBy-clause-version
+returns-in-RefusedBy-clause-version g c = λ held made opened makes. tt
+
+pub returns-in_default-clause-version : goal.returns-in_default-clause-version
+returns-in_default-clause-version g c = λ held made opened makes. tt
+
+pub returns-in-Err-clause-version : goal.returns-in-Err-clause-version
+returns-in-Err-clause-version g c = λ held made opened makes. tt
+
+pub returns-clause-version : goal.returns-clause-version
+returns-clause-version g c = λ held made opened makes.
+    let (command, plan) = c.requires.plan in
+    let def = c.args.language.now.definition in
+    let f = edited c.in-Makes.made.edit (tree_in c.in-Some.held.note) in
+    let judged : IsJudged def c.in-Makes.made.trial f (Ok c.in-Ok.note) =
+    subst (IsJudged def c.in-Makes.made.trial f) c.in-Ok.is (c.in_ok-note.ensures.judged def f
+    c.note_after-noted.ensures.noted
+    (small_here def c.args.editor.now command c.in-Makes.made
+    (subst (IsPlan def c.args.editor.now command) c.in-Makes.is plan) c.in-Some.held c.in-Some.is c.requires.editor)) in
+    judged.0.tree
+    ∙ ap₂ (λ (h : OpenedTree) (m : Made). edited m.edit (tree_in h.note))
+    (some_once c.in-Some.held held c.args.editor.now.opened c.in-Some.is opened)
+    (one_made c.args.plan c.in-Makes.made made c.in-Makes.is makes)

@@ -26,5 +26,6 @@ invariant_of-self-2 g c = record {
       c.settle-reply.ensures.state c.settle-reply.result c.settle-reply.ensures.reply;
   text = kept_settled c.self.inside.parts.language c.self.inside.parts.editor c.settle-reply.new.self
       c.in_ok-outcome.outcome c.keep_for.new.printed c.settle-reply.ensures.state
-      (c.keep_for.ensures c.self.inside.parts.language c.self.inside.parts.editor c.in_ok-outcome.ensures.kept);
+      (c.keep_for.ensures c.self.inside.parts.language c.self.inside.parts.editor c.in_ok-outcome.ensures.kept
+      c.in_ok-outcome.ensures.next);
 }

@@ -10,6 +10,6 @@ use Rattle.psg_unparse.proofs.layout.Writer.put_text.Goals as goal
 pub returns : goal.returns
 returns c =
     token_put (quoted c.args.contents.now) (Some 34) 34 c.args.self.now c.begin.new.self (record c.begin.new.self { out = c.write_quoted.new.out }) c.end.new.self
-    c.in_ok-begin.ensures (quote_first (flat_map escaped_byte c.args.contents.now ++ 34 ∷ [])) c.in_ok-write_quoted.ensures refl refl
+    c.in_ok-begin.ensures (quote_first (flat_map escaped_byte c.args.contents.now ++ 34 ∷ [])) c.in_ok-write_quoted.ensures refl refl refl refl
     (quote_last (string_bytes c.write_quoted.new.out) (string_bytes c.begin.new.self.out) (flat_map escaped_byte c.args.contents.now) (IsUtf8-string_bytes c.write_quoted.new.out) c.in_ok-write_quoted.ensures)
     c.end.ensures
