@@ -5,7 +5,6 @@ use Rattle.std.specs.List.{AllByRecursion}
 use Rattle.std.specs.Str.{IsCharBoundary}
 use Rattle.psg_grammar.specs.declared.types.Kind.{Kind}
 use Rattle.psg_grammar.specs.declared.types.Definition.{Definition}
-use Rattle.psg_grammar.specs.declared.limits.TheConstants.{MOST_DEPTH, MOST_BRACKETS}
 use Rattle.psg_grammar.specs.Fragments.{Fragment}
 use Rattle.psg_grammar.specs.Kinds.{IsOfKind}
 use Rattle.psg_grammar.specs.Paths.{Path, replaced}
@@ -113,12 +112,12 @@ module _ (def : Definition) (f : Fragment) (e : Typing) where
     pub inside : IsOutside e (text_of def f) → ⊥
     pub nesting : ℕ
     pub reads : ReadsAs def kind 0 new_text (replaced path tree f) nesting
-    pub depth : depth_of (replaced path tree f) ≤ MOST_DEPTH
-    pub brackets : nesting ≤ MOST_BRACKETS
+    pub depth : depth_of (replaced path tree f) ≤ 200
+    pub brackets : nesting ≤ 400
 
   -- the whole new text is read as a tree that is past a limit
   pub record HasDeepTree (kind : Kind) : Type 0 where
     pub tree : Fragment
     pub nesting : ℕ
     pub reads : ReadsAs def kind 0 new_text tree nesting
-    pub deep : (MOST_DEPTH < depth_of tree) ⊎ (MOST_BRACKETS < nesting)
+    pub deep : (200 < depth_of tree) ⊎ (400 < nesting)

@@ -1,7 +1,6 @@
 -- A printed tree with what is typed into it, and what is answered for one of its nodes.
 use Rattle.std.specs.Prelude.{ℕ, ◌≡◌, ◌⊎◌, ◌<◌, ◌≤◌, ◌+◌, length, IsUtf8}
 use Rattle.psg_grammar.specs.declared.types.Definition.{Definition}
-use Rattle.psg_grammar.specs.declared.limits.TheConstants.{MOST_DEPTH}
 use Rattle.psg_grammar.specs.Fragments.{Fragment}
 use Rattle.psg_grammar.specs.Kinds.{IsOfKind}
 use Rattle.psg_grammar.specs.declared.types.Kind.{Kind}
@@ -34,7 +33,7 @@ pub record IsJob (j : Job) : Type 0 where
   pub reader : IsReader j.reader.now
   pub formed : WellFormed (language_of j) (tree_in j) j.kind
   pub printable : IsPrintable (tree_in j)
-  pub shallow : depth_of (tree_in j) ≤ MOST_DEPTH
+  pub shallow : depth_of (tree_in j) ≤ 200
   pub printed : j.printed.now ≡ printed_of (language_of j) (tree_in j)
   pub inside : IsInside (typing_in j) (text_of (language_of j) (tree_in j))
   pub new : IsUtf8 (typing_in j).new
