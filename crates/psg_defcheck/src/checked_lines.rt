@@ -6,7 +6,6 @@ ghost use Rattle.psg_terms.specs.Names.{is_among};
 ghost use Rattle.psg_deflines.specs.Entries.{AreEntries, IsPlain, written};
 ghost use Rattle.psg_defcheck.specs.Scopes as scopes;
 ghost use Rattle.psg_defcheck.specs.Faults.{ArePassed};
-ghost use Rattle.psg_defcheck.specs.Aboves.{IsAbove};
 ghost use Rattle.psg_defcheck.specs.Checks.{IsCheckFault, IsKindAt};
 ghost use Rattle.psg_defcheck.specs.NameSets.{has, listed};
 
@@ -120,13 +119,6 @@ impl<'a> CheckedLines<'a> {
         ensures passed { ArePassed self.now [] self.now }
     {
         self.entries
-    }
-
-    /// Returns the names that the lines declare.
-    pub fn names(&self) -> &Above<'a>
-        ensures { IsAbove self.now result.now }
-    {
-        &self.names
     }
 
     /// Returns the position of a sort among the sorts. It is one look-up.

@@ -9,7 +9,7 @@ use Rattle.psg_grammar.specs.declared.types.Case.{Case}
 use Rattle.psg_grammar.specs.declared.types.HoleRow.{HoleRow}
 use Rattle.psg_grammar.specs.declared.types.DeclareRow.{DeclareRow}
 use Rattle.psg_grammar.specs.declared.types.Definition.{Definition}
-use Rattle.psg_grammar.specs.Sound.{IsTermOf, IsShort, IsCase, IsHoleRow, IsDeclareRow, HasSpaceSort}
+use Rattle.psg_grammar.specs.Sound.{IsTermOf, IsShort, IsCase, IsHoleRow, IsDeclareRow}
 use Rattle.psg_deflines.specs.WrittenTerms.{WrittenTerm, term_parts}
 use Rattle.psg_deflines.specs.WrittenTrees.{WrittenTree, HasTreeForm}
 use Rattle.psg_deflines.specs.Forms.{HasForm, HasFormBehindBy, by_parts}

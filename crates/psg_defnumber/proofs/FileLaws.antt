@@ -9,22 +9,23 @@ use Rattle.psg_deflines.specs.Versions.{IsVersion, is_of}
 use Rattle.psg_deflines.specs.Entries.{written}
 use Rattle.psg_deflines.specs.Forms.{HasForm}
 use Rattle.psg_deflines.specs.declared.lines.Line.{Line}
-use Rattle.psg_defcheck.specs.Scopes.{spaces}
+use Rattle.psg_defcheck.specs.Scopes.{spaces, phylum_names, list_names}
 use Rattle.psg_defnumber.specs.Numbers.{IsNumbered}
 use Rattle.psg_defnumber.specs.Soundness.{NumberedIsSound}
 use Rattle.psg_defnumber.proofs.LineSizes.{lines_total, few-lines, entries-total, entries-formed}
 use Rattle.psg_defnumber.proofs.SymbolLaws.{small-signature}
-use Rattle.psg_defnumber.proofs.NameLaws.{kinds-once, phylum_names, list_names}
-use Rattle.psg_defnumber.proofs.KindLaws.{phyla-sound, few-phyla, phyla-named, spaces-inside, few-spaces, space-names, are-inside}
-use Rattle.psg_defnumber.proofs.SoundLists.{lists-sound, few-lists, lists-named}
-use Rattle.psg_defnumber.proofs.OperatorLaws.{operators-sound, few-operators, operators-named, have-columns}
+use Rattle.psg_defnumber.proofs.NameLaws.{kinds-once}
+use Rattle.psg_defnumber.proofs.KindLaws.{phyla-sound, few-phyla, spaces-inside, few-spaces, space-names, are-inside}
+use Rattle.psg_defnumber.proofs.SoundLists.{lists-sound, few-lists}
+use Rattle.psg_defnumber.proofs.OperatorLaws.{operators-sound, few-operators, have-columns}
+use Rattle.psg_defnumber.proofs.NamedLaws.{phyla-names, lists-names, operators-names}
 use Rattle.psg_defnumber.proofs.CaseLaws.{hole-rows-sound, few-hole-rows, declare-rows-sound, few-declare-rows}
 
 kinds-named : {version : ℕ} (file : List Line) (def : Definition) → IsNumbered version file def
     → kind_names def ≡ phylum_names file ++ list_names file
 kinds-named file def h =
-    let phyla = phyla-named def file def.phyla h.phyla in
-    ap₂ (λ (xs ys : List Name). xs ++ ys) phyla (lists-named def file file def.lists h.lists)
+    let phyla = phyla-names def file def.phyla h.phyla in
+    ap₂ (λ (xs ys : List Name). xs ++ ys) phyla (lists-names def file file def.lists h.lists)
 
 file-is-sound : {version : ℕ} (file : List Line) (def : Definition) → IsVersion version → AllByRecursion (λ line. is_of version line ≡ true) file → lines_total file < 2 ^ 32 → AllByRecursion HasForm file
     → IsNumbered version file def → IsSoundSignature def.signature → IsSound def
@@ -40,7 +41,7 @@ file-is-sound file def is right limit form h sound =
       spaces = space-names def file h is right form;
       space_sorts = spaces-inside def (spaces file) def.spaces h.spaces;
       kind_names = ap has_twice (kinds-named file def h) ∙ kinds-once file h.kinds_once;
-      operator_names = ap has_twice (operators-named def file def.operators h.operators) ∙ h.operators_once;
+      operator_names = ap has_twice (operators-names def file def.operators h.operators) ∙ h.operators_once;
       phyla = phyla-sound def file def.phyla form h.phyla;
       lists = lists-sound def sound inside file file def.lists short form h.lists;
       operators = operators-sound def sound inside file def.operators limit form h.operators;

@@ -1,6 +1,8 @@
 -- Specimens and their parts.
-use Rattle.std.proofs.Common.{◌≡◌, ℕ, ◌+◌, ◌<◌, List, [], ◌∷◌, ◌++◌, take, get_or, length, map, refl, ap, ap₂, sym, ◌∙◌, subst, Option, Some, None, Bool, true, false, cond, slice_get, arith, append_assoc, append-nil}
+use Rattle.std.proofs.Common.{◌≡◌, ℕ, ◌+◌, ◌<◌, ◌≤◌, List, [], ◌∷◌, ◌++◌, take, get_or, length, map, refl, ap, ap₂, sym, ◌∙◌, subst, Option, Some, None, Bool, true, false, cond, slice_get, arith, append_assoc, append-nil}
+use Rattle.std.proofs.lemmas.List.{take_all}
 use Rattle.std.specs.Borrow.{Bor}
+use Rattle.std.specs.List.{AllByRecursion}
 use mathlib.Core.Former.{Count}
 use Rattle.psg_terms.specs.Names.{Name}
 use Rattle.psg_terms.specs.Terms.{Term}
@@ -17,9 +19,9 @@ use Rattle.psg_grammar.specs.declared.types.Specimen.{Specimen, Op, Op', List as
 use Rattle.psg_grammar.specs.declared.types.Definition.{Definition}
 use Rattle.psg_grammar.specs.Lookups.{is_part, part_items}
 use Rattle.psg_grammar.specs.Specimens.{holes_of, holes_of_part, holes_of_row, holes_of_list, rest_hole}
-use Rattle.psg_grammar.specs.Sound.{HasKindSort}
+use Rattle.psg_grammar.specs.Sound.{HasKindSort, IsItem}
 use Rattle.psg_deflines.specs.WrittenTerms.{WrittenTerm}
-use Rattle.psg_deflines.specs.WrittenTrees.{WrittenTree, operator, list_end}
+use Rattle.psg_deflines.specs.WrittenTrees.{WrittenTree, operator}
 use Rattle.psg_deflines.specs.WrittenTrees as trees
 use Rattle.psg_deflines.specs.TreeShapes.{with_part, with_parts, list_of, ending}
 use Rattle.psg_deflines.specs.declared.trees.LinePlace.{LinePlace}
@@ -88,6 +90,12 @@ parts-next def a b c items ws old new i x w p same atx lt at e h k =
     (λ full names. PartsFit full names (items_now (take i items) ++ x.now ∷ []) (old ++ p ∷ []) (take i ws ++ w ∷ []))
     (sym (part_terms-snoc old p)) (λ full names keeps both. fit-snoc full names (items_now (take i items)) old (take i ws) x.now p w both.0 both.1)
     (made-both def a b c (part_terms old) (hole_terms (holes_of_part p)) _ _ h k))))
+
+pub parts-all : (def : Definition) (a b : List Known) (items : List (Bor Item)) (ws : List LinePart) (made : List SpecimenPart) (i : ℕ) → length items ≡ length ws → length ws ≤ i
+    → IsMade def a b (part_terms made) (λ full names. PartsFit full names (items_now (take i items)) made (take i ws)) → IsMade def a b (part_terms made) (λ full names. PartsFit full names (items_now items) made ws)
+parts-all def a b items ws made i same le h =
+    subst (λ l. IsMade def a b (part_terms made) (λ full names. PartsFit full names (items_now l) made ws)) (take_all i items (omega arith))
+    (subst (λ l. IsMade def a b (part_terms made) (λ full names. PartsFit full names (items_now (take i items)) made l)) (take_all i ws le) h)
 
 pub elements-next : (def : Definition) (a b c : List Known) (l : ℕ) (ws : List WrittenTree) (old new : List Specimen) (i : ℕ) (w : WrittenTree) (s : Specimen)
     → i < length ws → w ≡ get_or ws i w → new ≡ old ++ s ∷ []
@@ -199,6 +207,21 @@ part_items-append (x ∷ xs) ys =
       | true ↦ ap (λ l. x ∷ l) (part_items-append xs ys)
       | false ↦ part_items-append xs ys
     ]
+
+pub items-named : (def : Definition) (items : List (Bor Item)) (all : List Item) → items_now items ≡ part_items all → AllByRecursion (IsItem def) all → AllByRecursion (λ (b : Bor Item). IsItem def b.now) items
+items-named def items all e h = each items (subst (AllByRecursion (IsItem def)) (sym e) (with_parts_all all h))
+  where
+    with_parts_all : (xs : List Item) → AllByRecursion (IsItem def) xs → AllByRecursion (IsItem def) (part_items xs)
+    with_parts_all [] h = tt
+    with_parts_all (x ∷ xs) h =
+        elim (is_part x) as (λ b. AllByRecursion (IsItem def) (cond b (x ∷ part_items xs) (part_items xs))) [
+          | true ↦ (h.0, with_parts_all xs h.1)
+          | false ↦ with_parts_all xs h.1
+        ]
+
+    each : (bs : List (Bor Item)) → AllByRecursion (IsItem def) (items_now bs) → AllByRecursion (λ (b : Bor Item). IsItem def b.now) bs
+    each [] h = tt
+    each (b ∷ bs) h = (h.0, each bs h.1)
 
 pub items-taken : (items : List Item) (i : ℕ) (x : Item) (b : Bor Item) (old new : List (Bor Item)) (test : Bool) → i < length items → x ≡ get_or items i x → items_now old ≡ part_items (take i items) → new ≡ old ++ b ∷ [] → b.now ≡ x
     → test ≡ is_part x → test ≡ true → items_now new ≡ part_items (take (i + 1) items)

@@ -16,12 +16,8 @@ use Rattle.psg_deflines.specs.declared.lines.Line.TheVariants as lines
 use Rattle.psg_deflines.specs.Versions.{IsVersion, is_of}
 use Rattle.psg_defcheck.specs.Scopes.{spaces, space_names}
 use Rattle.psg_defnumber.specs.Numbers.{IsSort, ArePhyla, AreLists, AreSpaces, IsNumbered}
-use Rattle.psg_defnumber.proofs.ListLaws.{cons-same}
 use Rattle.psg_defnumber.proofs.SpecimenLaws.{AreInside, IsInside, HasPhylumInside, HasListInside, HasSpaceInside}
-use Rattle.psg_defnumber.proofs.NameLaws.{phylum_names}
-
-abbrev pub phylum_name : Phylum → Name
-phylum_name p = p.name
+use Rattle.psg_defnumber.proofs.NamedLaws.{spaces-names}
 
 -- ---- names of spaces
 
@@ -85,14 +81,6 @@ module _ (def : Definition) where
       omega (arith, ap length e, few-phyla behind rest hs)
   few-phyla (line ∷ behind) all h = omega (arith, few-phyla behind all h)
 
-  pub phyla-named : (file : List Line) (all : List Phylum) → ArePhyla def file all
-      → map phylum_name all ≡ phylum_names file
-  phyla-named [] all e = ap (map phylum_name) e
-  phyla-named (lines.Phylum name sort bracketed ∷ behind) all (p, rest, e, h, hs) =
-      let more = phyla-named behind rest hs in
-      ap (map phylum_name) e ∙ cons-same p.name name (map phylum_name rest) (phylum_names behind) h.named more
-  phyla-named (line ∷ behind) all h = phyla-named behind all h
-
   phyla-inside : (file : List Line) (all : List Phylum) → ArePhyla def file all
       → AllByRecursion (HasPhylumInside def) all
   phyla-inside [] all e = subst (AllByRecursion (HasPhylumInside def)) (sym e) tt
@@ -115,10 +103,6 @@ module _ (def : Definition) where
 
   -- ---- spaces
 
-  pub spaces-named : (ds : List (Name × Name)) (all : List Space) → AreSpaces def ds all → map space_name all ≡ map (λ (d : Name × Name). d.0) ds
-  spaces-named [] all e = ap (map space_name) e
-  spaces-named (d ∷ ds) all (s, rest, e, name, of, h) = ap (map space_name) e ∙ ap₂ (λ z zs. z ∷ zs) name (spaces-named ds rest h)
-
   spaces-length : (ds : List (Name × Name)) (all : List Space) → AreSpaces def ds all → length all ≡ length ds
   spaces-length [] all e = ap length e
   spaces-length (d ∷ ds) all (s, rest, e, name, of, h) = omega (arith, ap length e, spaces-length ds rest h)
@@ -134,7 +118,7 @@ module _ (def : Definition) where
     few-spaces = omega (arith, spaces-length (spaces file) def.spaces numbered.spaces, few-declared file)
 
     pub names-are : map space_name def.spaces ≡ space_names file
-    names-are = spaces-named (spaces file) def.spaces numbered.spaces ∙ names-declared file
+    names-are = spaces-names def file def.spaces numbered.spaces
 
     -- version 1 has one space at most, without a name, and version 2 names each
     pub space-names : IsVersion version → AllByRecursion (λ line. is_of version line ≡ true) file → AllByRecursion HasForm file → AreSpaceNames def.version def.spaces

@@ -1,15 +1,15 @@
 -- A variable that is met, for the first time or again.
-use Rattle.std.proofs.Common.{◌≡◌, ℕ, ◌+◌, ◌≤◌, ◌==◌, ◌&&◌, ◌||◌, Bool, false, true, cond, if◌then◌else◌, zero, suc, List, [], ◌∷◌, ◌++◌, length, refl, ap, ap₂, sym, ◌∙◌, inl, inr, Option, Some, None, slice_get, is_some, not, arith, append-nil}
+use Rattle.std.proofs.Common.{◌≡◌, ℕ, ◌+◌, ◌≤◌, ◌==◌, ◌&&◌, ◌||◌, Bool, false, true, cond, if◌then◌else◌, zero, suc, List, [], ◌∷◌, ◌++◌, length, refl, ap, ap₂, sym, ◌∙◌, inl, inr, Option, Some, None, slice_get, arith, append-nil}
 use Rattle.std.specs.Str.{bytes_eq}
 use Rattle.std.specs.Borrow.{Bor}
-use Rattle.std.specs.Map.{lookup}
+use Rattle.std.specs.Map.{lookup, lookup_key}
 use Rattle.std.proofs.lemmas.Bool.Decides.{nat_tests}
-use Rattle.std.proofs.lemmas.Bool.{or_right, or_left, true≢false}
+use Rattle.std.proofs.lemmas.Bool.{or_right, or_left}
 use Rattle.psg_terms.specs.Names.{Name, is_among, has_twice}
 use Rattle.psg_terms.specs.Canonical.{same_variable, is_noted}
 use Rattle.psg_terms.proofs.Variables.{same_variable-refl, cases}
 use Rattle.psg_terms.proofs.RenamingLaws.{noted-new}
-use Rattle.psg_terms.proofs.DeclareLaws.{slice_get-end, has_twice-push, bytes_eq-sym}
+use Rattle.psg_terms.proofs.DeclareLaws.{slice_get-end, has_twice-push, bytes_eq-sym, bytes_eq-same}
 use Rattle.psg_defnumber.specs.Naming.{Known, names_of, numbered_from, IsMet}
 use Rattle.psg_defnumber.proofs.ListLaws.{map-append, map-at}
 
@@ -97,7 +97,16 @@ unplaced (x ∷ known) name h =
     some_none : {X : Type 0} (x : X) → ◌≡◌ {A = Option X} (Some x) None → ⊥
     some_none x e = cc
 
--- what a test for no value says
-pub not_some : {X : Type 0} (o : Option X) (b : Bool) → is_some o ≡ not b → b ≡ true → o ≡ None
-not_some None b e h = refl
-not_some (Some x) b e h = absurd (true≢false (e ∙ ap not h))
+-- the key that is found is the name
+pub keyed : (known : List Known) (name : Name) (k : Bor (List ℕ)) → lookup_key (λ (k : Bor (List ℕ)). bytes_eq name k.now) known ≡ Some k → k.now ≡ name
+keyed [] name k h = absurd (cc)
+keyed (x ∷ known) name k h =
+    elim (cases (bytes_eq name x.0.now)) [
+      | inl e ↦
+          let same : x.0 ≡ k = same-some x.0 k (sym (ap (λ b. cond b (Some x.0) (lookup_key (λ (k : Bor (List ℕ)). bytes_eq name k.now) known)) e) ∙ h) in
+          sym (bytes_eq-same name k.now (ap (λ (y : Bor (List ℕ)). bytes_eq name y.now) (sym same) ∙ e))
+      | inr e ↦ keyed known name k (sym (ap (λ b. cond b (Some x.0) (lookup_key (λ (k : Bor (List ℕ)). bytes_eq name k.now) known)) e) ∙ h)
+    ]
+  where
+    same-some : {X : Type 0} (x y : X) → ◌≡◌ {A = Option X} (Some x) (Some y) → x ≡ y
+    same-some x y e = cc

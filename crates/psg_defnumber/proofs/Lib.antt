@@ -11,7 +11,9 @@ pub mod RowLaws
 pub mod ListRowLaws
 pub mod OnceLaws
 pub mod NamedLaws
+pub mod SignatureLaws
 pub mod SortLineLaws
+pub mod PlacingLaws
 pub mod StageLaws
 pub mod TermSorts
 pub mod TreeWeights

@@ -1,5 +1,5 @@
 -- Rows that are put into their lists.
-use Rattle.std.proofs.Common.{◌≡◌, ◌≢◌, ℕ, ◌+◌, ◌<◌, ◌≤◌, Bool, false, true, zero, suc, List, [], ◌∷◌, ◌++◌, take, get_or, length, refl, ap, sym, ◌∙◌, subst, inl, inr, Option, Some, None, slice_get, slice_set, append-nil}
+use Rattle.std.proofs.Common.{◌≡◌, ◌≢◌, ℕ, ◌+◌, ◌<◌, ◌≤◌, Bool, false, true, zero, suc, List, [], ◌∷◌, ◌++◌, take, get_or, length, refl, ap, sym, ◌∙◌, subst, inl, inr, Option, Some, slice_get, slice_set, append-nil}
 use Rattle.std.specs.List.{AllByRecursion}
 use Rattle.std.specs.Str.{bytes_eq}
 use Rattle.std.proofs.lemmas.Bool.{or_parts, or_left, or_right, false≢true}
@@ -18,6 +18,7 @@ use Rattle.psg_deflines.specs.WrittenTerms.{WrittenTerm}
 use Rattle.psg_deflines.specs.declared.lines.Line.{Line}
 use Rattle.psg_deflines.specs.declared.lines.Line.TheVariants as lines
 use Rattle.psg_defcheck.specs.Scopes.{kind_names}
+use Rattle.psg_defcheck.proofs.GroundLaws.{written-append}
 use Rattle.psg_defnumber.specs.Growing.{Lasts}
 use Rattle.psg_defnumber.specs.Numbers.{AreNils, AreCells, AreLists, IsList, IsNil, IsRow}
 use Rattle.psg_defnumber.specs.Filling.{Fills}
@@ -186,11 +187,6 @@ pub other-fills : (def : Definition) (entry : Entry) (line : Line) (ls : List Li
     → (file : List Line) → Fills def file (file ++ written (entry ∷ [])) ls ls
 other-fills def entry line ls e p q file = λ all once full keeps h.
     subst (λ x. AreLists full (file ++ written (x ∷ [])) all ls) (sym e) (lists-same full file line all ls (every (Skips full line) (other-skips full line p q) (kind_names all)) h)
-
-pub written-append : (xs ys : List Entry) → written (xs ++ ys) ≡ written xs ++ written ys
-written-append [] ys = refl
-written-append (None ∷ xs) ys = written-append xs ys
-written-append (Some line ∷ xs) ys = ap (λ l. line ∷ l) (written-append xs ys)
 
 pub fills-none : (def : Definition) (ls : List ListKind) → Fills def [] [] ls ls
 fills-none def ls = λ all once full keeps h. h

@@ -1,8 +1,9 @@
 -- What is made of a line's terms, part by part.
-use Rattle.std.proofs.Common.{◌≡◌, ℕ, List, [], ◌∷◌, ◌++◌, refl, ap, sym, ◌∙◌, subst, append_assoc, append-nil}
+use Rattle.std.proofs.Common.{◌≡◌, refl, ℕ, List, [], ◌∷◌, ◌++◌, sym, subst, append-nil}
 use Rattle.psg_terms.specs.Names.{Name}
 use Rattle.psg_terms.specs.Terms.{Term}
 use Rattle.psg_terms.specs.Canonical.{variables, variables_of}
+use Rattle.psg_terms.proofs.RenamingLaws.{variables_of-append}
 use Rattle.psg_grammar.specs.declared.types.Definition.{Definition}
 use Rattle.psg_deflines.specs.WrittenTerms.{WrittenTerm}
 use Rattle.psg_defnumber.specs.Numbers.{IsTerm, AreTerms, IsNaming}
@@ -12,9 +13,8 @@ use Rattle.psg_defnumber.specs.Fitting.{IsMade}
 use Rattle.psg_defnumber.proofs.ListLaws.{grows-refl}
 use Rattle.psg_defnumber.proofs.MeetLaws.{meets-none, meets-then, named-later, naming}
 
-pub variables_of-append : (xs ys : List Term) → variables_of (xs ++ ys) ≡ variables_of xs ++ variables_of ys
-variables_of-append [] ys = refl
-variables_of-append (x ∷ xs) ys = ap (λ l. variables x ++ l) (variables_of-append xs ys) ∙ sym (append_assoc (variables x) (variables_of xs) (variables_of ys))
+pub keeps-self : (d : Definition) → Keeps d d
+keeps-self d = record { signature = refl; spaces = grows-refl d.spaces; phyla = grows-refl d.phyla; lists = grows-refl d.lists; operators = grows-refl d.operators }
 
 -- nothing is made
 pub made-empty : (def : Definition) (a : List Known) (row : List Term) (P : Definition → List Name → Type 0) → row ≡ [] → ((full : Definition) (names : List Name) → Keeps def full → P full names) → IsMade def a a row P

@@ -1,22 +1,13 @@
 -- The names of the kinds, phyla first, are distinct where those of a file's lines are.
-use Rattle.std.proofs.Common.{◌≡◌, ◌||◌, Bool, true, false, List, [], ◌∷◌, ◌++◌, refl, sym, ◌∙◌}
+use Rattle.std.proofs.Common.{◌≡◌, ◌||◌, true, false, List, [], ◌∷◌, ◌++◌, refl, ap, sym, ◌∙◌, inl, inr}
 use Rattle.std.specs.Prelude.{bytes_eq}
 use Rattle.std.proofs.lemmas.Bool.{false≢true, or_from, or_parts}
 use Rattle.psg_terms.specs.Names.{Name, is_among, has_twice}
-use Rattle.psg_terms.proofs.DeclareLaws.{is_among-append, bytes_eq-sym}
+use Rattle.psg_terms.proofs.DeclareLaws.{is_among-append, bytes_eq-sym, bytes_eq-same}
+use Rattle.psg_terms.proofs.Variables.{cases}
 use Rattle.psg_deflines.specs.declared.lines.Line.{Line}
 use Rattle.psg_deflines.specs.declared.lines.Line.TheVariants as lines
-use Rattle.psg_defcheck.specs.Scopes.{kind_names}
-
-abbrev pub phylum_names : List Line → List Name
-phylum_names [] = []
-phylum_names (lines.Phylum name sort bracketed ∷ rest) = name ∷ phylum_names rest
-phylum_names (_ ∷ rest) = phylum_names rest
-
-abbrev pub list_names : List Line → List Name
-list_names [] = []
-list_names (lines.List name sort element separator on_lines unfinished ∷ rest) = name ∷ list_names rest
-list_names (_ ∷ rest) = list_names rest
+use Rattle.psg_defcheck.specs.Scopes.{kind_names, phylum_names, list_names}
 
 among-middle : (xs ys : List Name) (y n : Name) → is_among (xs ++ ys) n ≡ false → bytes_eq y n ≡ false
     → is_among (xs ++ y ∷ ys) n ≡ false
@@ -56,3 +47,29 @@ kinds-once (lines.List name sort element separator on_lines unfinished ∷ rest)
     let parts = or_parts (is_among (kind_names rest) name) (has_twice (kind_names rest)) h in
     once-middle (phylum_names rest) (list_names rest) name (kinds-once rest parts.1) (not-among rest name parts.0)
 kinds-once (line ∷ rest) h = kinds-once rest h
+
+-- two lists without a name twice, and no name in both
+once-parts : (xs ys : List Name) → has_twice (xs ++ ys) ≡ false → (has_twice xs ≡ false) × (has_twice ys ≡ false)
+    × ((n : Name) → is_among xs n ≡ true → is_among ys n ≡ false)
+once-parts [] ys h = (refl, h, λ n e. absurd (false≢true e))
+once-parts (x ∷ xs) ys h =
+    let both = or_parts (is_among (xs ++ ys) x) (has_twice (xs ++ ys)) h in
+    let own = or_parts (is_among xs x) (is_among ys x) (sym (is_among-append xs ys x) ∙ both.0) in
+    let rest = once-parts xs ys both.1 in (
+      or_from (is_among xs x) (has_twice xs) own.0 rest.0,
+      rest.1,
+      λ n e. elim (cases (bytes_eq x n)) [
+        | inl same ↦ ap (is_among ys) (sym (bytes_eq-same x n same)) ∙ own.1
+        | inr other ↦ rest.2 n (ap (λ c. c || is_among xs n) (sym other) ∙ e)
+      ],
+    )
+
+module _ (file : List Line) (once : has_twice (kind_names file) ≡ false) where
+  pub phyla-once : has_twice (phylum_names file) ≡ false
+  phyla-once = (once-parts (phylum_names file) (list_names file) (kinds-once file once)).0
+
+  pub lists-once : has_twice (list_names file) ≡ false
+  lists-once = (once-parts (phylum_names file) (list_names file) (kinds-once file once)).1
+
+  pub apart : (n : Name) → is_among (phylum_names file) n ≡ true → is_among (list_names file) n ≡ true → ⊥
+  apart n a b = false≢true (sym ((once-parts (phylum_names file) (list_names file) (kinds-once file once)).2 n a) ∙ b)

@@ -1,8 +1,8 @@
 -- Positions of names are those of what has the names in a definition.
-use Rattle.std.proofs.Common.{◌≡◌, ℕ, ◌<◌, true, zero, suc, List, [], ◌∷◌, map, length, slice_get, get_or, refl, ap, sym, ◌∙◌, subst, Option, Some, None, IsTrue, is_some, drop, arith}
-use Rattle.std.proofs.lemmas.Bool.{false≢true}
+use Rattle.std.proofs.Common.{◌≡◌, ◌⊎◌, inl, inr, ℕ, ◌<◌, false, zero, suc, List, [], ◌∷◌, map, length, slice_get, get_or, refl, ap, sym, ◌∙◌, subst, Option, Some, None, IsTrue, is_some, drop, arith}
+use Rattle.std.proofs.lemmas.Bool.{false≢true, true≢false, or_parts}
 use Rattle.std.proofs.lemmas.Option.{slice_get-map, slice_get_within, get_or_from_slice_get}
-use Rattle.std.specs.List.{AllByRecursion}
+use Rattle.std.specs.List.{AllByRecursion, list_any}
 use Rattle.std.specs.Option.{option_map}
 use Rattle.psg_terms.specs.Names.{Name}
 use Rattle.psg_terms.specs.Signature.{Signature, Symbol}
@@ -13,7 +13,11 @@ use Rattle.psg_grammar.specs.declared.types.Space.{Space}
 use Rattle.psg_grammar.specs.declared.types.Phylum.{Phylum}
 use Rattle.psg_grammar.specs.declared.types.ListKind.{ListKind}
 use Rattle.psg_grammar.specs.declared.types.Operator.{Operator}
+use Rattle.psg_grammar.specs.declared.types.Item.{Item}
 use Rattle.psg_grammar.specs.declared.types.Definition.{Definition}
+use Rattle.psg_grammar.specs.Sound.{HasKindSort, HasSpaceSort, IsItem}
+use Rattle.psg_deflines.specs.declared.lines.LineItem.{LineItem}
+use Rattle.psg_deflines.specs.declared.lines.LineItem.TheVariants as items
 use Rattle.psg_deflines.specs.Entries.{Entry, written}
 use Rattle.psg_deflines.specs.WrittenTrees.{WrittenTree, operator, place}
 use Rattle.psg_deflines.specs.TreeShapes.{with_parts}
@@ -21,16 +25,16 @@ use Rattle.psg_deflines.specs.declared.trees.LinePlace.{LinePlace}
 use Rattle.psg_deflines.specs.declared.trees.LinePart.{LinePart}
 use Rattle.psg_deflines.specs.declared.lines.Line.{Line}
 use Rattle.psg_deflines.specs.declared.lines.Line.TheVariants as lines
-use Rattle.psg_defcheck.specs.Scopes.{sort_names, space_names, phylum_names, list_names, operator_names, KindDecl, kind_declared, is_list, is_kind, operator_declared}
+use Rattle.psg_defcheck.specs.Scopes.{sort_names, entity_sort, space_names, phylum_names, list_names, operator_names, KindDecl, kind_declared, is_list, is_kind, operator_declared}
 use Rattle.psg_defcheck.specs.Scopes as scopes
-use Rattle.psg_defcheck.specs.Meanings.{IsKnown, KnowsTree}
+use Rattle.psg_defcheck.specs.Meanings.{IsKnown, KnowsTree, is_name_item}
 use Rattle.psg_defcheck.specs.Parts.{KnowsPlace, KnowsEnd}
 use Rattle.psg_defcheck.specs.Faults.{ArePassed}
 use Rattle.psg_defcheck.specs.Checks.{IsKindAt}
 use Rattle.psg_defcheck.proofs.KnownLaws.{knows-parts}
 use Rattle.psg_defnumber.specs.Growing.{Lasts}
-use Rattle.psg_defnumber.specs.Declaring.{HasSorts, HasPhyla, AreListsOf, HasKinds, HasNames, IsSpaceAt, IsKnownEntry}
-use Rattle.psg_defnumber.specs.Numbers.{sort_decls, IsKind, IsSpaceNamed, IsOperatorNamed, AreSpaces, ArePhyla, AreLists, AreOperators}
+use Rattle.psg_defnumber.specs.Declaring.{HasSorts, HasPhyla, AreListsOf, HasKinds, HasNames, IsSpaceAt, IsMeant, IsMeantEntry, HasElements}
+use Rattle.psg_defnumber.specs.Numbers.{IsItem as IsItemNamed, AreItems, sort_decls, IsKind, IsSpaceNamed, IsOperatorNamed, AreSpaces, ArePhyla, AreLists, AreOperators}
 use Rattle.psg_defnumber.proofs.OnceLaws.{decls-sorts}
 
 same-some : {X : Type 0} (x y : X) → ◌≡◌ {A = Option X} (Some x) (Some y) → x ≡ y
@@ -78,6 +82,31 @@ operator-is file p n def own at h e = λ full keeps.
     let same : own ≡ found.0 = e ∙ get_or_from_slice_get def.operators p found.0 own found.1 in
     (keeps.operators p own (found.1 ∙ ap Some (sym same)), ap (λ (o : Operator). o.name) same ∙ found.2)
 
+-- so a kind is there
+pub kind-there : (file : List Line) (k : Kind) (n : Name) → IsKindAt file n k → (def : Definition) → HasKinds file def → (s : ℕ) × HasKindSort def k s
+kind-there file (kinds.Phylum p) n at def h = let found = named-at (λ (q : Phylum). q.name) def.phyla (phylum_names file) p n h.phyla at in (found.0.sort.0, (found.0, found.1, refl))
+kind-there file (kinds.List l) n at def h = let found = named-at (λ (q : ListKind). q.name) def.lists (list_names file) l n h.lists at in (found.0.sort.0, (found.0, found.1, refl))
+
+-- and a space is there, where a line declares one
+pub read-within : {X : Type 0} (xs : List X) (p : ℕ) → p < length xs → (x : X) × (slice_get xs p ≡ Some x)
+read-within [] p lt = absurd (omega arith)
+read-within (x ∷ xs) zero lt = (x, refl)
+read-within (x ∷ xs) (suc p) lt = read-within xs p (omega arith)
+
+space-first : (file : List Line) → IsTrue (is_some (entity_sort file)) → 0 < length (space_names file)
+space-first [] h = absurd (false≢true h)
+space-first (lines.Space name sort ∷ file) h = omega arith
+space-first (_ ∷ file) h = space-first file h
+
+space-within : (file : List Line) (p : ℕ) (n : Name) → IsTrue (is_some (entity_sort file)) → IsSpaceAt file n p → p < length (space_names file)
+space-within file p [] some at = subst (λ q. q < length (space_names file)) (sym at) (space-first file some)
+space-within file p (c ∷ cs) some at = slice_get_within (space_names file) p (c ∷ cs) at
+
+pub space-there : (file : List Line) (p : ℕ) (n : Name) → IsTrue (is_some (entity_sort file)) → IsSpaceAt file n p → (def : Definition) → HasKinds file def → (s : ℕ) × HasSpaceSort def p s
+space-there file p n some at def h =
+    let found = read-within (space_names file) p (space-within file p n some at) in
+    let space = named-at (λ (s : Space). s.name) def.spaces (space_names file) p found.0 h.spaces found.1 in (space.0.sort.0, (space.0, space.1, refl))
+
 -- a position of a name is that of something
 pub named-below : {X : Type 0} (f : X → Name) (xs : List X) (names : List Name) (p : ℕ) (n : Name) → map f xs ≡ names → slice_get names p ≡ Some n → p < length xs
 named-below f xs names p n e h = let found = named-at f xs names p n e h in slice_get_within xs p found.0 found.1
@@ -100,24 +129,27 @@ list-kind file n h = go (kind_declared file n) refl
     go None e = absurd (false≢true (rw e at h))
 
 -- the lines are known
-pub known-line : (file : List Line) (entry : Entry) (line own : Line) → IsKnownEntry file entry → entry ≡ Some line → line ≡ own → IsKnown file own
-known-line file entry line own h e d = subst (IsKnownEntry file) (e ∙ ap Some d) h
+pub meant-line : (file : List Line) (entry : Entry) (line own : Line) → IsMeantEntry file entry → entry ≡ Some line → line ≡ own → IsMeant file own
+meant-line file entry line own h e d = subst (IsMeantEntry file) (e ∙ ap Some d) h
 
-pub known-at : (file : List Line) (entries : List Entry) (i : ℕ) (e : Entry) → AllByRecursion (IsKnown file) (written entries) → i < length entries → e ≡ get_or entries i e → IsKnownEntry file e
+pub known-line : (file : List Line) (entry : Entry) (line own : Line) → IsMeantEntry file entry → entry ≡ Some line → line ≡ own → IsKnown file own
+known-line file entry line own h e d = (meant-line file entry line own h e d).known
+
+pub known-at : (file : List Line) (entries : List Entry) (i : ℕ) (e : Entry) → AllByRecursion (IsMeant file) (written entries) → i < length entries → e ≡ get_or entries i e → IsMeantEntry file e
 known-at file [] i e h lt at = absurd (omega arith)
-known-at file (None ∷ entries) zero e h lt at = subst (IsKnownEntry file) (sym at) tt
-known-at file (Some line ∷ entries) zero e h lt at = subst (IsKnownEntry file) (sym at) h.0
+known-at file (None ∷ entries) zero e h lt at = subst (IsMeantEntry file) (sym at) tt
+known-at file (Some line ∷ entries) zero e h lt at = subst (IsMeantEntry file) (sym at) h.0
 known-at file (None ∷ entries) (suc i) e h lt at = known-at file entries i e h (omega arith) at
 known-at file (Some line ∷ entries) (suc i) e h lt at = known-at file entries i e h.1 (omega arith) at
 
-pub all-known : (file above rest : List Line) → ArePassed file above rest → AllByRecursion (IsKnown file) rest
+pub all-known : (file above rest : List Line) → ArePassed file above rest → AllByRecursion (IsMeant file) rest
 all-known file above [] h = tt
-all-known file above (line ∷ rest) h = (h.0.1.0, all-known file _ rest h.1)
+all-known file above (line ∷ rest) h = (record { known = h.0.1.0; entity = h.0.1.1.1.1.0; above = above; sorted = h.0.1.1.1.0 }, all-known file _ rest h.1)
 
-pub lines-known : (seen : List Line) (entries : List Entry) → written entries ≡ seen → ArePassed seen [] seen → AllByRecursion (IsKnown seen) (written entries)
-lines-known seen entries e h = subst (AllByRecursion (IsKnown seen)) (sym e) (all-known seen [] seen h)
+pub lines-known : (seen : List Line) (entries : List Entry) → written entries ≡ seen → ArePassed seen [] seen → AllByRecursion (IsMeant seen) (written entries)
+lines-known seen entries e h = subst (AllByRecursion (IsMeant seen)) (sym e) (all-known seen [] seen h)
 
-pub known-drop : (file : List Line) (k : ℕ) (entries : List Entry) → AllByRecursion (IsKnown file) (written entries) → AllByRecursion (IsKnown file) (written (drop k entries))
+pub known-drop : (file : List Line) (k : ℕ) (entries : List Entry) → AllByRecursion (IsMeant file) (written entries) → AllByRecursion (IsMeant file) (written (drop k entries))
 known-drop file zero entries h = h
 known-drop file (suc k) [] h = h
 known-drop file (suc k) (None ∷ entries) h = known-drop file k entries h
@@ -155,8 +187,41 @@ lists-names def rows (lines.List name sort element separator on unfinished ∷ f
     ap (map (λ (q : ListKind). q.name)) e ∙ ap (λ n. n ∷ map (λ (q : ListKind). q.name) rest) is.named ∙ ap (λ ns. name ∷ ns) (lists-names def rows file rest more)
 lists-names def rows (_ ∷ file) lists h = lists-names def rows file lists h
 
+-- and the phylum of each list's elements is there
+pub lists-elements : (def : Definition) (rows file : List Line) (lists : List ListKind) → AreLists def rows file lists → AllByRecursion (HasElements def) lists
+lists-elements def rows [] lists h = subst (AllByRecursion (HasElements def)) (sym h) tt
+lists-elements def rows (lines.List name sort element separator on unfinished ∷ file) lists (l, rest, e, is, more) =
+    subst (AllByRecursion (HasElements def)) (sym e) ((is.element_sort, is.elements_sort), lists-elements def rows file rest more)
+lists-elements def rows (_ ∷ file) lists h = lists-elements def rows file lists h
+
 pub operators-names : (def : Definition) (file : List Line) (operators : List Operator) → AreOperators def file operators → map (λ (q : Operator). q.name) operators ≡ operator_names file
 operators-names def [] operators h = ap (map (λ (q : Operator). q.name)) h
 operators-names def (lines.Operator name phylum scope level parts ∷ file) operators (o, rest, e, is, more) =
     ap (map (λ (q : Operator). q.name)) e ∙ ap (λ n. n ∷ map (λ (q : Operator). q.name) rest) is.named ∙ ap (λ l. name ∷ l) (operators-names def file rest more)
 operators-names def (_ ∷ file) operators h = operators-names def file operators h
+
+-- what items name is there, where a line declares a space
+pub items-there : (file : List Line) (def : Definition) → HasKinds file def → (parts : List LineItem) (xs : List Item) → (list_any is_name_item parts ≡ false) ⊎ IsTrue (is_some (entity_sort file)) → AreItems def parts xs → AllByRecursion (IsItem def) xs
+items-there file def has [] xs some h = subst (AllByRecursion (IsItem def)) (sym h) tt
+items-there file def has (w ∷ ws) xs some (i, rest, e, h, hs) =
+    subst (AllByRecursion (IsItem def)) (sym e) (one w i some h, items-there file def has ws rest (later some) hs)
+  where
+    later : (list_any is_name_item (w ∷ ws) ≡ false) ⊎ IsTrue (is_some (entity_sort file)) → (list_any is_name_item ws ≡ false) ⊎ IsTrue (is_some (entity_sort file))
+    later (inl f) = inl (or_parts (is_name_item w) (list_any is_name_item ws) f).1
+    later (inr s) = inr s
+
+    kind : (k : Kind) (n : Name) → IsKind def n k → (s : ℕ) × HasKindSort def k s
+    kind (kinds.Phylum p) n (x, at, named) = (x.sort.0, (x, at, refl))
+    kind (kinds.List l) n (x, at, named) = (x.sort.0, (x, at, refl))
+
+    space : (n : Name) (p : ℕ) → IsTrue (is_some (entity_sort file)) → IsSpaceNamed def n p → (s : ℕ) × HasSpaceSort def p s
+    space [] p s at = space-there file p [] s at def has
+    space (c ∷ cs) p s (x, at, named) = (x.sort.0, (x, at, refl))
+
+    one : (w : LineItem) (i : Item) → (list_any is_name_item (w ∷ ws) ≡ false) ⊎ IsTrue (is_some (entity_sort file)) → IsItemNamed def w i → IsItem def i
+    one (items.Slot n) i s (k, is, e) = subst (IsItem def) (sym e) (kind k n is)
+    one (items.Refers n) i (inl f) h = absurd (true≢false f)
+    one (items.Refers n) i (inr s) (p, is, e) = subst (IsItem def) (sym e) (space n p s is)
+    one (items.Declares n) i (inl f) h = absurd (true≢false f)
+    one (items.Declares n) i (inr s) (p, is, e) = subst (IsItem def) (sym e) (space n p s is)
+    one _ i s h = subst (IsItem def) (sym h) tt

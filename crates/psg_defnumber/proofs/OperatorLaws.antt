@@ -1,5 +1,5 @@
 -- The operators of a file's lines.
-use Rattle.std.proofs.Common.{◌≡◌, Bool, ℕ, ◌≤◌, ◌<◌, ◌^◌, ◌++◌, List, [], ◌∷◌, length, map, codes, ap, sym, ◌∙◌, subst, arith}
+use Rattle.std.proofs.Common.{◌≡◌, Bool, ℕ, ◌≤◌, ◌<◌, ◌^◌, ◌++◌, List, [], ◌∷◌, length, map, codes, ap, sym, subst, arith}
 use Rattle.std.specs.List.{AllByRecursion}
 use Rattle.psg_terms.specs.Names.{Name}
 use Rattle.psg_terms.specs.Signature.{AreSorts}
@@ -17,17 +17,12 @@ use Rattle.psg_deflines.specs.Forms.{HasForm, word_if, level_parts, item_part, p
 use Rattle.psg_deflines.specs.declared.lines.LineItem.{LineItem}
 use Rattle.psg_deflines.specs.declared.lines.Line.{Line}
 use Rattle.psg_deflines.specs.declared.lines.Line.TheVariants as lines
-use Rattle.psg_defcheck.specs.Scopes.{operator_names}
 use Rattle.psg_defnumber.specs.Numbers.{AreItems, AreOperators}
 use Rattle.psg_defnumber.specs.Soundness.{total}
-use Rattle.psg_defnumber.proofs.ListLaws.{cons-same}
 use Rattle.psg_defnumber.proofs.SpecimenLaws.{AreInside, HaveColumns, kind-inside, space-inside}
 use Rattle.psg_defnumber.proofs.TreeWeights.{total-append}
 use Rattle.psg_defnumber.proofs.LineSizes.{lines_total, few-lines, items-long}
 use Rattle.psg_defnumber.proofs.SoundRows.{rows-are, few-rows}
-
-abbrev pub operator_name : Operator → Name
-operator_name o = o.name
 
 module _ (def : Definition) where
   columns-inside : AreInside def → (xs : List Item) (sorts : List ℕ) → AreColumns def (part_items xs) sorts
@@ -98,22 +93,20 @@ module _ (def : Definition) where
       omega (arith, ap length e, few-operators behind rest hs)
   few-operators (line ∷ behind) all h = omega (arith, few-operators behind all h)
 
-  pub operators-named : (file : List Line) (all : List Operator) → AreOperators def file all
-      → map operator_name all ≡ operator_names file
-  operators-named [] all e = ap (map operator_name) e
-  operators-named (lines.Operator name phylum scope level parts ∷ behind) all (op, rest, e, h, hs) =
-      let more = operators-named behind rest hs in
-      ap (map operator_name) e ∙ cons-same op.name name (map operator_name rest) (operator_names behind) h.named more
-  operators-named (line ∷ behind) all h = operators-named behind all h
-
-  abbrev HasColumns : Operator → Type 0
+  abbrev pub HasColumns : Operator → Type 0
   HasColumns op = (sorts : List ℕ) × AreColumns def (part_items op.items) sorts
 
-  each-columns : (file : List Line) (all : List Operator) → AreOperators def file all → AllByRecursion HasColumns all
+  pub each-columns : (file : List Line) (all : List Operator) → AreOperators def file all → AllByRecursion HasColumns all
   each-columns [] all e = subst (AllByRecursion HasColumns) (sym e) tt
   each-columns (lines.Operator name phylum scope level parts ∷ behind) all (op, rest, e, h, hs) =
       subst (AllByRecursion HasColumns) (sym e) ((h.columns, h.are_columns), each-columns behind rest hs)
   each-columns (line ∷ behind) all h = each-columns behind all h
+
+  -- what the items of each operator name is there
+  pub operators-items : (all : List Operator) → AllByRecursion HasColumns all
+      → AllByRecursion (λ (op : Operator). AllByRecursion (IsItem def) op.items) all
+  operators-items [] h = tt
+  operators-items (op ∷ all) h = (items-are op.items h.0.0 h.0.1, operators-items all h.1)
 
   pub have-columns : (file : List Line) → AreOperators def file def.operators → HaveColumns def
   have-columns file h o op at = each_at HasColumns def.operators (each-columns file def.operators h) o op at

@@ -1,15 +1,14 @@
 -- Sorts that are taken from their lines.
-use Rattle.std.proofs.Common.{◌≡◌, ℕ, ◌+◌, ◌<◌, ◌≤◌, List, [], ◌∷◌, ◌++◌, Some, None, take, get_or, length, length-append, refl, ap, ap₂, sym, ◌∙◌, arith, append-nil}
+use Rattle.std.proofs.Common.{◌≡◌, ℕ, ◌+◌, ◌<◌, ◌≤◌, List, [], ◌∷◌, ◌++◌, Some, None, take, get_or, length, refl, ap, ap₂, sym, ◌∙◌, append-nil}
 use Rattle.std.proofs.lemmas.List.{take_all}
-use Rattle.psg_terms.specs.Declarations.{with_sort, in_order, names_in, constructor_names}
 use Rattle.psg_terms.specs.declared.declare.ConDecl.{ConDecl}
 use Rattle.psg_terms.specs.declared.declare.SortDecl.{SortDecl}
-use Rattle.psg_terms.proofs.DeclareLaws.{take-next, in_order-push, names_in-append}
+use Rattle.psg_terms.proofs.DeclareLaws.{take-next}
 use Rattle.psg_deflines.specs.Entries.{Entry, written}
 use Rattle.psg_deflines.specs.declared.lines.Line.{Line}
 use Rattle.psg_deflines.specs.declared.lines.Line.TheVariants as lines
 use Rattle.psg_defnumber.specs.Numbers.{sort_decls}
-use Rattle.psg_defnumber.proofs.ListRowLaws.{written-append}
+use Rattle.psg_defcheck.proofs.GroundLaws.{written-append}
 
 -- one more copy
 pub copy-next : {X : Type 0} (xs old new : List X) (i : ℕ) (x y : X) → i < length xs → x ≡ get_or xs i x → old ≡ take i xs → new ≡ old ++ y ∷ [] → y ≡ x → new ≡ take (i + 1) xs
@@ -54,19 +53,3 @@ sorts-next entries i entry old new lt at h e =
 
 pub sorts-all : (entries : List Entry) (i : ℕ) (done : List SortDecl) → length entries ≤ i → done ≡ sort_decls (written (take i entries)) → done ≡ sort_decls (written entries)
 sorts-all entries i done le h = h ∙ ap (λ l. sort_decls (written l)) (take_all i entries le)
-
--- how many constructors there are
-own-count : (n : ℕ) (cs : List ConDecl) → length (names_in (with_sort n cs)) ≡ length cs
-own-count n [] = refl
-own-count n (c ∷ cs) = omega (arith, own-count n cs)
-
-pub count-next : (decls : List SortDecl) (i : ℕ) (d : SortDecl) (count more : ℕ) → i < length decls → d ≡ get_or decls i d → count ≡ length (constructor_names (take i decls)) → more ≡ length d.constructors
-    → count + more ≡ length (constructor_names (take (i + 1) decls))
-count-next decls i d count more lt at h e =
-    let grown : length (constructor_names (take (i + 1) decls)) ≡ length (constructor_names (take i decls) ++ names_in (with_sort (0 + length (take i decls)) d.constructors)) =
-    ap (λ l. length (constructor_names l)) (take-next decls i d lt at) ∙ ap (λ l. length (names_in l)) (in_order-push 0 (take i decls) d)
-    ∙ ap length (names_in-append (in_order 0 (take i decls)) (with_sort (0 + length (take i decls)) d.constructors)) in
-    omega (arith, grown, length-append (constructor_names (take i decls)) (names_in (with_sort (0 + length (take i decls)) d.constructors)), own-count (0 + length (take i decls)) d.constructors)
-
-pub count-all : (decls : List SortDecl) (i count : ℕ) → length decls ≤ i → count ≡ length (constructor_names (take i decls)) → length (constructor_names decls) ≡ count
-count-all decls i count le h = sym (h ∙ ap (λ l. length (constructor_names l)) (take_all i decls le))

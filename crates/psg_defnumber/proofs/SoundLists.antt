@@ -1,7 +1,6 @@
 -- The lists of a file's lines.
-use Rattle.std.proofs.Common.{◌≡◌, ◌≤◌, ◌<◌, ◌^◌, List, [], ◌∷◌, length, map, ap, sym, ◌∙◌, subst, arith}
+use Rattle.std.proofs.Common.{◌≤◌, ◌<◌, ◌^◌, List, [], ◌∷◌, length, ap, sym, subst, arith}
 use Rattle.std.specs.List.{AllByRecursion}
-use Rattle.psg_terms.specs.Names.{Name}
 use Rattle.psg_terms.specs.Sound.{IsSound as IsSoundSignature}
 use Rattle.psg_grammar.specs.declared.types.Kind.TheVariants as kinds
 use Rattle.psg_grammar.specs.declared.types.ListKind.{ListKind}
@@ -11,14 +10,9 @@ use Rattle.psg_deflines.specs.Forms.{HasForm}
 use Rattle.psg_deflines.specs.declared.lines.Line.{Line}
 use Rattle.psg_deflines.specs.declared.lines.Line.TheVariants as lines
 use Rattle.psg_defnumber.specs.Numbers.{AreLists}
-use Rattle.psg_defnumber.proofs.ListLaws.{cons-same}
 use Rattle.psg_defnumber.proofs.SpecimenLaws.{AreInside, kind-inside}
-use Rattle.psg_defnumber.proofs.NameLaws.{list_names}
 use Rattle.psg_defnumber.proofs.KindLaws.{sort-inside}
 use Rattle.psg_defnumber.proofs.SoundRows.{nils-are, few-nils, cells-are, few-cells}
-
-abbrev pub list_name : ListKind → Name
-list_name l = l.name
 
 module _ (def : Definition) where
   pub lists-sound : IsSoundSignature def.signature → AreInside def → (file behind : List Line) (all : List ListKind)
@@ -50,11 +44,3 @@ module _ (def : Definition) where
   few-lists file (lines.List name sort elements separator on_lines unfinished ∷ behind) all (l, rest, e, h, hs) =
       omega (arith, ap length e, few-lists file behind rest hs)
   few-lists file (line ∷ behind) all h = omega (arith, few-lists file behind all h)
-
-  pub lists-named : (file behind : List Line) (all : List ListKind) → AreLists def file behind all
-      → map list_name all ≡ list_names behind
-  lists-named file [] all e = ap (map list_name) e
-  lists-named file (lines.List name sort elements separator on_lines unfinished ∷ behind) all (l, rest, e, h, hs) =
-      let more = lists-named file behind rest hs in
-      ap (map list_name) e ∙ cons-same l.name name (map list_name rest) (list_names behind) h.named more
-  lists-named file (line ∷ behind) all h = lists-named file behind all h

@@ -21,8 +21,13 @@ use Rattle.psg_defnumber.specs.Filling.{Fills}
 use Rattle.psg_defnumber.specs.Stages.{IsDeclared}
 use Rattle.psg_defnumber.specs.Numbers.{sort_decls, AreSpaces, ArePhyla, AreLists, AreOperators, AreHoleRows, AreDeclareRows, IsNumbered}
 use Rattle.psg_defnumber.proofs.ListLaws.{grows-refl, grows-nil, grows-trans}
-use Rattle.psg_defnumber.specs.Declaring.{HasSorts, HasConstructors, HasPhyla, HasKinds, HasNames}
-use Rattle.psg_defnumber.proofs.NamedLaws.{phyla-names, spaces-names, lists-names, operators-names}
+use Rattle.psg_defnumber.specs.Declaring.{HasSorts, HasConstructors, HasPhyla, AreListsOf, HasKinds, HasNames, IsMeant}
+use Rattle.psg_defnumber.proofs.NamedLaws.{all-known, phyla-names, spaces-names, lists-names, lists-elements, operators-names}
+use Rattle.psg_defnumber.proofs.MadeLaws.{keeps-self}
+use Rattle.psg_defnumber.proofs.OperatorLaws.{each-columns, operators-items}
+use Rattle.psg_defnumber.proofs.PlacingLaws.{lists-meant, element-places, operator-declared, items-placed, kind-at}
+use Rattle.psg_grammar.specs.declared.types.Kind.TheVariants as kinds
+use Rattle.std.specs.List.{AllByRecursion}
 use Rattle.psg_defnumber.proofs.OnceLaws.{decls-sorts, decls-constructors, kinds-once, operators-once, spaces-once, sorts-once, constructors-once}
 
 abbrev pub staged : ℕ → Signature → List Space → List Phylum → List ListKind → List Operator → Definition
@@ -44,9 +49,6 @@ keeps-then a b c h k = record {
 -- what holds of a part holds of the whole
 pub lasts-on : (a b : Definition) (P : Definition → Type 0) → Keeps a b → Lasts a P → Lasts b P
 lasts-on a b P h k = λ full keeps. k full (keeps-then a b full h keeps)
-
-pub keeps-self : (d : Definition) → Keeps d d
-keeps-self d = record { signature = refl; spaces = grows-refl d.spaces; phyla = grows-refl d.phyla; lists = grows-refl d.lists; operators = grows-refl d.operators }
 
 pub is-declared : (version : ℕ) (file seen : List Line) (sig : Signature) (spaces : List Space) (phyla : List Phylum) (bare lists : List ListKind) (operators : List Operator) → file ≡ seen → ArePassed seen [] seen → IsSpelled (sort_decls file) sig → IsSound sig
     → ((def : Definition) → HasSorts seen def → Lasts def (λ full. AreSpaces full (scopes.spaces file) spaces))
@@ -108,19 +110,39 @@ module _ (version : ℕ) (file seen : List Line) (sig : Signature) (spaces : Lis
         spaces = spaces-names d file spaces (of_spaces d has d (keeps-self d)) ∙ ap space_names e;
         phyla = phyla-there of_phyla;
         lists = lists-names d file file lists (of_lists file once d (keeps-self d) (bare-there of_phyla of_bare)) ∙ ap list_names e;
+        elements = lists-elements d file file lists (of_lists file once d (keeps-self d) (bare-there of_phyla of_bare));
+        once = kinds-once seen passed;
+        places = element-places seen d (phyla-there of_phyla) seen seen lists (lists-meant seen (kinds-once seen passed)) (all-known seen [] seen passed)
+            (subst (λ f. AreLists d f f lists) e (of_lists file once d (keeps-self d) (bare-there of_phyla of_bare)));
       }
 
 -- a definition that is declared has the names of the lines
-pub names-of : (version : ℕ) (file seen : List Line) (d : Definition) → file ≡ seen → IsDeclared version file d → HasNames seen d
-names-of version file seen d e h = record {
+pub names-of : (version : ℕ) (file seen : List Line) (d : Definition) → file ≡ seen → ArePassed seen [] seen → IsDeclared version file d → HasNames seen d
+names-of version file seen d e passed h = record {
   kinds = record {
     constructors = symbol_names (sort_decls file) d.signature h.signature ∙ decls-constructors 0 file ∙ ap constructor_names e;
     spaces = spaces-names d file d.spaces (h.spaces d (keeps-self d)) ∙ ap space_names e;
     phyla = phyla-names d file d.phyla (h.phyla d (keeps-self d)) ∙ ap phylum_names e;
     lists = lists-names d file file d.lists (h.lists d (keeps-self d)) ∙ ap list_names e;
+    elements = lists-elements d file file d.lists (h.lists d (keeps-self d));
+    once = kinds-once seen passed;
+    places = element-places seen d phyla seen seen d.lists (lists-meant seen (kinds-once seen passed)) known (subst (λ f. AreLists d f f d.lists) e (h.lists d (keeps-self d)));
   };
   operators = operators-names d file d.operators (h.operators d (keeps-self d)) ∙ ap operator_names e;
+  items = operators-items d d.operators (each-columns d file d.operators (h.operators d (keeps-self d)));
+  parts = λ n o says p own at named.
+      let it = operator-declared seen d seen d.operators known (operators-once seen passed) (subst (λ f. AreOperators d f d.operators) e (h.operators d (keeps-self d))) n o says p own at named in
+      record { phylum = kind-at seen d phyla lists o.phylum (kinds.Phylum own.phylum) it.phylum; placed = items-placed seen d phyla lists o.made own.items it.known it.items };
 }
+  where
+    phyla : HasPhyla seen d
+    phyla = phyla-names d file d.phyla (h.phyla d (keeps-self d)) ∙ ap phylum_names e
+
+    lists : AreListsOf seen d.lists
+    lists = lists-names d file file d.lists (h.lists d (keeps-self d)) ∙ ap list_names e
+
+    known : AllByRecursion (IsMeant seen) seen
+    known = all-known seen [] seen passed
 
 abbrev pub with_holes : Definition → List HoleRow → List DeclareRow → Definition
 with_holes d holes declares = record { version = d.version; signature = d.signature; spaces = d.spaces; phyla = d.phyla; lists = d.lists; operators = d.operators; hole_rows = holes; declare_rows = declares }
@@ -130,8 +152,8 @@ pub is-numbered : (version : ℕ) (file : List Line) (d : Definition) (holes : L
 is-numbered version file d holes declares passed h of_holes of_declares =
     let k : Keeps d (with_holes d holes declares) = record { signature = refl; spaces = grows-refl d.spaces; phyla = grows-refl d.phyla; lists = grows-refl d.lists; operators = grows-refl d.operators } in
     let whole = with_holes d holes declares in record {
-      sorts_once = sorts-once file d.signature h.signature h.sound;
-      constructors_once = constructors-once file d.signature h.signature h.sound;
+      sorts_once = sorts-once file passed;
+      constructors_once = constructors-once file passed;
       kinds_once = kinds-once file passed;
       operators_once = operators-once file passed;
       spaces_once = spaces-once file passed;

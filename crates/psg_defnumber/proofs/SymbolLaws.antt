@@ -3,17 +3,19 @@ use Rattle.std.proofs.Common.{◌≡◌, ℕ, ◌+◌, ◌≤◌, ◌<◌, ◌^�
 use Rattle.std.specs.List.{AllByRecursion}
 use Rattle.psg_terms.specs.Names.{Name}
 use Rattle.psg_terms.specs.Signature.{Signature, Symbol}
-use Rattle.psg_terms.specs.Declarations.{Numbered, with_sort, in_order, AreNamed, AreSpelled, IsSpelled, sort_names}
+use Rattle.psg_terms.specs.Declarations.{Numbered, with_sort, in_order, AreNamed, AreSpelled, IsSpelled, sort_names, names_in, constructor_names}
 use Rattle.psg_terms.specs.declared.declare.ConDecl.{ConDecl}
 use Rattle.psg_grammar.specs.Sound.{IsKindName, IsOwnName, IsShort}
+use Rattle.psg_terms.proofs.DeclareLaws.{sort_names-length}
+use Rattle.psg_deflines.specs.Entries.{written}
 use Rattle.psg_deflines.specs.Forms.{HasForm, HasConstructorForm, constructor_parts, argument_parts}
 use Rattle.psg_deflines.specs.declared.lines.Line.{Line}
 use Rattle.psg_deflines.specs.declared.lines.Line.TheVariants as lines
 use Rattle.psg_defnumber.specs.Numbers.{sort_decls}
-use Rattle.psg_defnumber.specs.Soundness.{total}
+use Rattle.psg_defnumber.specs.Soundness.{total, AreOfFile}
 use Rattle.psg_defnumber.proofs.ListLaws.{all-append}
 use Rattle.psg_defnumber.proofs.TreeWeights.{total-append}
-use Rattle.psg_defnumber.proofs.LineSizes.{lines_total, arguments-long, constructors-long}
+use Rattle.psg_defnumber.proofs.LineSizes.{lines_total, few-lines, entries-total, entries-formed, arguments-long, constructors-long}
 
 pub sorts-named : (file : List Line) → AllByRecursion HasForm file
     → AllByRecursion IsKindName (sort_names (sort_decls file))
@@ -113,3 +115,25 @@ small-signature file sig h limit short spelled =
       few_constructors = omega (arith, spelled-length sorts cs sig.symbols spelled.symbols, few-numbered 0 file h);
       few_arguments = spelled-short sorts cs sig.symbols spelled.symbols small;
     }
+
+-- ---- the lines of a file
+
+small-file : (file : List Line) → AreOfFile file → (lines_total file < 2 ^ 32) × AllByRecursion HasForm file
+small-file file h = subst (λ l. (lines_total l < 2 ^ 32) × AllByRecursion HasForm l) h.lines (total-few, entries-formed [] h.texts h.entries h.each)
+  where
+    total-few : lines_total (written h.entries) < 2 ^ 32
+    total-few = omega (arith, entries-total [] h.texts h.entries h.each, h.few)
+
+pub few-decls : (file : List Line) → AreOfFile file → length (sort_decls file) < 2 ^ 32
+few-decls file h =
+    let small = small-file file h in
+    omega (arith, small.0, few-lines file, few-sorts file, sort_names-length (sort_decls file))
+
+names-length : (cs : List Numbered) → length (names_in cs) ≡ length cs
+names-length [] = refl
+names-length (c ∷ cs) = omega (arith, names-length cs)
+
+pub few-declared : (file : List Line) → AreOfFile file → length (constructor_names (sort_decls file)) < 2 ^ 32
+few-declared file h =
+    let small = small-file file h in
+    omega (arith, small.0, few-numbered 0 file small.1, names-length (in_order 0 (sort_decls file)))

@@ -1,5 +1,6 @@
 pub mod Numbers
 pub mod Growing
+pub mod Placing
 pub mod Declaring
 pub mod Naming
 pub mod Fitting

@@ -1,5 +1,5 @@
 -- Names mean the positions of what they name.
-use Rattle.std.specs.Prelude.{ℕ, ◌≡◌, ◌≢◌, ◌≤◌, ◌+◌, ◌⊎◌, Bool, false, Option, Some, None, List, [], ◌∷◌, length, map}
+use Rattle.std.specs.Prelude.{ℕ, ◌≡◌, ◌≢◌, ◌+◌, ◌⊎◌, Bool, false, Option, Some, None, List, [], ◌∷◌, map}
 use Rattle.std.specs.Prelude.{slice_get}
 use Rattle.psg_terms.specs.Names.{Name, has_twice}
 use Rattle.psg_terms.specs.Terms.{Term}

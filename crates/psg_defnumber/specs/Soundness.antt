@@ -10,6 +10,7 @@ use Rattle.psg_grammar.specs.declared.types.Definition.{Definition}
 use Rattle.psg_grammar.specs.Sound.{IsSound}
 use Rattle.psg_deflines.specs.Versions.{IsVersion, is_of}
 use Rattle.psg_deflines.specs.Entries.{Entry, written, AreEntries, IsPlain}
+use Rattle.psg_deflines.specs.declared.lines.Line.{Line}
 use Rattle.psg_lexis.specs.Tokens.{IsFixedWord}
 use Rattle.psg_defnumber.specs.Numbers.{IsNumbered}
 
@@ -17,6 +18,14 @@ use Rattle.psg_defnumber.specs.Numbers.{IsNumbered}
 abbrev pub total : List (List ℕ) → ℕ
 total [] = 0
 total (text ∷ texts) = length text + total texts
+
+-- the lines are those of a file of fewer than 2^32 bytes
+pub record AreOfFile (file : List Line) : Type 0 where
+  pub texts : List (List ℕ)
+  pub entries : List Entry
+  pub each : AreEntries [] texts entries
+  pub lines : written entries ≡ file
+  pub few : total texts < 2 ^ 32
 
 -- a definition that the lines of a file of fewer than 2^32 bytes are together is sound
 abbrev pub NumberedIsSound : Type 0

@@ -1,10 +1,10 @@
-//! The one place for what the tests of meaning exclude, where that is not proved.
+//! The one place for what the tests of lines exclude, where that is not proved.
 ghost use Rattle.std.specs.Prelude.{◌≡◌, IfOk, OnOk, IsTrue, Some};
 
 use std::alloc::AllocError;
 
-/// Returns what is at a position. Lines that pass the tests of meaning leave no position without anything. That is not
-/// proved here, so the error is an answer.
+/// Returns the value. A number of a line that passes the tests of its form has one. That is not proved here, so the
+/// error is an answer.
 pub fn found<T: Drop>(answer: Option<T>) -> Result<T, AllocError>
     ensures { IfOk result (λ x. answer ≡ Some x) }
 {

@@ -1,11 +1,16 @@
 //! Hole rows with their cases, and declare rows.
-ghost use Rattle.std.specs.Prelude.{◌↔◌, List, IfOk, IsTrue, OnOk};
+ghost use Rattle.std.specs.Prelude.{◌↔◌, ◌≡◌, ◌∷◌, [], None, Some, ℕ, List, IfOk, IsTrue, OnOk};
 ghost use Rattle.std.specs.List.{AllByRecursion};
+ghost use Rattle.psg_terms.specs.Names.{Name};
+ghost use Rattle.psg_grammar.specs.Sound.{HasKindSort};
 ghost use Rattle.psg_deflines.specs.Entries.{Entry, written};
-ghost use Rattle.psg_defcheck.specs.Meanings.{IsKnown, KnowsBehindBy, KnowsTerm};
-ghost use Rattle.psg_defcheck.specs.Scopes.{is_kind};
-ghost use Rattle.psg_defnumber.specs.Declaring.{HasNames, IsKnownEntry};
+ghost use Rattle.psg_deflines.specs.declared.lines.Line.{Line as PlainLine};
+ghost use Rattle.psg_defcheck.specs.Faults.{ArePassed};
+ghost use Rattle.psg_defcheck.specs.Meanings.{KnowsBehindBy, KnowsTerm, SortsBehindBy};
+ghost use Rattle.psg_defcheck.specs.Scopes.{is_kind, kind_place, last_hole};
+ghost use Rattle.psg_defnumber.specs.Declaring.{HasNames, IsMeant, IsMeantEntry};
 ghost use Rattle.psg_defnumber.specs.Growing.{Lasts};
+ghost use Rattle.psg_defnumber.specs.Placing.{CasesFit};
 ghost use Rattle.psg_defnumber.specs.Numbers.{AreCases, IsHoleRow, AreHoleRows, AreDeclareRows};
 ghost use Rattle.psg_defnumber.specs.Putting.{Puts, ReadsCases, ReadsHoleRows, ReadsDeclareRows, IsHoleEntry};
 
@@ -41,8 +46,10 @@ fn put_case(
     entry: &Option<Line>,
 ) -> Result<(), AllocError>
     requires inside { IsHoleEntry entry.now → ⊥ }
-    requires known { IsKnownEntry checked.now entry.now }
+    requires known { IsMeantEntry checked.now entry.now }
     requires names { HasNames checked.now def.now }
+    requires there { (s : ℕ) × HasKindSort def.now kind s }
+    requires fits { CasesFit checked.now kind (written (entry.now ∷ [])) }
     ensures { OnOk result ((rest : List Entry)
         → Puts def.now (ReadsCases kind sort.0) entry.now rest made.old.items made.new.items) }
 {
@@ -66,8 +73,10 @@ fn cases(
     sort: SortId,
     behind: &[Option<Line>],
 ) -> Result<Vec<Case>, AllocError>
-    requires known { AllByRecursion (IsKnown checked.now) (written behind.now) }
+    requires known { AllByRecursion (IsMeant checked.now) (written behind.now) }
     requires names { HasNames checked.now def.now }
+    requires there { (s : ℕ) × HasKindSort def.now kind s }
+    requires fits { CasesFit checked.now kind (written behind.now) }
     ensures { IfOk result (λ v. Lasts def.now (λ full. AreCases full kind sort.0 (written behind.now) v.items)) }
 {
     let mut made = Vec::new(alloc);
@@ -93,13 +102,17 @@ fn hole_row(
     requires kind { IsTrue (is_kind checked.now kind.now) }
     requires term { KnowsTerm checked.now term.now }
     requires specimen { KnowsBehindBy checked.now specimen.now }
-    requires behind { AllByRecursion (IsKnown checked.now) (written behind.now) }
+    requires behind { AllByRecursion (IsMeant checked.now) (written behind.now) }
     requires names { HasNames checked.now def.now }
+    requires sorted { (sorts : Name → Name)
+        × SortsBehindBy checked.now sorts (kind_place checked.now kind.now) specimen.now }
+    requires passed { (above : List PlainLine) × (last_hole None above ≡ Some kind.now)
+        × ArePassed checked.now above (written behind.now) }
     ensures { IfOk result (λ r. Lasts def.now (λ full.
         IsHoleRow full kind.now term.now specimen.now (written behind.now) r)) }
 {
     let kind = kind_named(checked, kind);
-    let sort = kind_sort(def, kind)?;
+    let sort = kind_sort(def, kind);
     let Some(tree) = specimen else {
         let term = lone_term(alloc, def, checked, sort, term)?;
         let cases = cases(alloc, def, checked, kind, sort, behind)?;
@@ -129,9 +142,10 @@ fn put_hole_row(
     entry: &Option<Line>,
     behind: &[Option<Line>],
 ) -> Result<(), AllocError>
-    requires known { IsKnownEntry checked.now entry.now }
-    requires behind { AllByRecursion (IsKnown checked.now) (written behind.now) }
+    requires known { IsMeantEntry checked.now entry.now }
+    requires behind { AllByRecursion (IsMeant checked.now) (written behind.now) }
     requires names { HasNames checked.now def.now }
+    requires passed { (above : List PlainLine) × ArePassed checked.now above (written (entry.now ∷ behind.now)) }
     ensures { OnOk result (Puts def.now ReadsHoleRows entry.now behind.now made.old.items made.new.items) }
 {
     let Some(line) = entry else {
@@ -157,8 +171,9 @@ pub fn hole_rows(
     checked: &CheckedLines,
     entries: &[Option<Line>],
 ) -> Result<Vec<HoleRow>, AllocError>
-    requires known { AllByRecursion (IsKnown checked.now) (written entries.now) }
+    requires known { AllByRecursion (IsMeant checked.now) (written entries.now) }
     requires names { HasNames checked.now def.now }
+    requires passed { (above : List PlainLine) × ArePassed checked.now above (written entries.now) }
     ensures { IfOk result (λ v. Lasts def.now (λ full. AreHoleRows full (written entries.now) v.items)) }
 {
     let mut made = Vec::new(alloc);
@@ -183,7 +198,7 @@ fn put_declare_row(
     made: &mut Vec<DeclareRow>,
     entry: &Option<Line>,
 ) -> Result<(), AllocError>
-    requires known { IsKnownEntry checked.now entry.now }
+    requires known { IsMeantEntry checked.now entry.now }
     requires names { HasNames checked.now def.now }
     ensures { OnOk result ((rest : List Entry)
         → Puts def.now ReadsDeclareRows entry.now rest made.old.items made.new.items) }
@@ -213,7 +228,7 @@ pub fn declare_rows(
     checked: &CheckedLines,
     entries: &[Option<Line>],
 ) -> Result<Vec<DeclareRow>, AllocError>
-    requires known { AllByRecursion (IsKnown checked.now) (written entries.now) }
+    requires known { AllByRecursion (IsMeant checked.now) (written entries.now) }
     requires names { HasNames checked.now def.now }
     ensures { IfOk result (λ v. Lasts def.now (λ full. AreDeclareRows full (written entries.now) v.items)) }
 {

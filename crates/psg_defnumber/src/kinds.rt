@@ -3,9 +3,8 @@ ghost use Rattle.std.specs.Prelude.{List, [], IfOk, OnOk};
 ghost use Rattle.std.specs.List.{AllByRecursion};
 ghost use Rattle.psg_grammar.specs.declared.types.Definition.{Definition as Plain};
 ghost use Rattle.psg_deflines.specs.Entries.{Entry, written};
-ghost use Rattle.psg_defcheck.specs.Meanings.{IsKnown};
 ghost use Rattle.psg_defcheck.specs.Scopes.{spaces};
-ghost use Rattle.psg_defnumber.specs.Declaring.{HasPhyla, HasSorts, IsKnownEntry};
+ghost use Rattle.psg_defnumber.specs.Declaring.{HasPhyla, HasSorts, IsMeant, IsMeantEntry};
 ghost use Rattle.psg_defnumber.specs.Growing.{Lasts};
 ghost use Rattle.psg_defnumber.specs.Numbers.{AreSpaces, ArePhyla, AreLists};
 ghost use Rattle.psg_defnumber.specs.Putting.{Puts, ReadsSpaces, ReadsPhyla, ReadsLists};
@@ -23,7 +22,7 @@ fn put_space(
     made: &mut Vec<Space>,
     entry: &Option<Line>,
 ) -> Result<(), AllocError>
-    requires { IsKnownEntry checked.now entry.now }
+    requires { IsMeantEntry checked.now entry.now }
     ensures { OnOk result ((def : Plain) (rest : List Entry) → HasSorts checked.now def
         → Puts def ReadsSpaces entry.now rest made.old.items made.new.items) }
 {
@@ -45,7 +44,7 @@ pub fn spaces(
     checked: &CheckedLines,
     entries: &[Option<Line>],
 ) -> Result<Vec<Space>, AllocError>
-    requires { AllByRecursion (IsKnown checked.now) (written entries.now) }
+    requires { AllByRecursion (IsMeant checked.now) (written entries.now) }
     ensures { IfOk result (λ v. (def : Plain) → HasSorts checked.now def
         → Lasts def (λ full. AreSpaces full (spaces (written entries.now)) v.items)) }
 {
@@ -62,7 +61,7 @@ fn put_phylum(
     made: &mut Vec<Phylum>,
     entry: &Option<Line>,
 ) -> Result<(), AllocError>
-    requires { IsKnownEntry checked.now entry.now }
+    requires { IsMeantEntry checked.now entry.now }
     ensures { OnOk result ((def : Plain) (rest : List Entry) → HasSorts checked.now def
         → Puts def ReadsPhyla entry.now rest made.old.items made.new.items) }
 {
@@ -93,7 +92,7 @@ pub fn phyla(
     checked: &CheckedLines,
     entries: &[Option<Line>],
 ) -> Result<Vec<Phylum>, AllocError>
-    requires { AllByRecursion (IsKnown checked.now) (written entries.now) }
+    requires { AllByRecursion (IsMeant checked.now) (written entries.now) }
     ensures { IfOk result (λ v. (def : Plain) → HasSorts checked.now def
         → Lasts def (λ full. ArePhyla full (written entries.now) v.items)) }
 {
@@ -111,7 +110,7 @@ fn put_list(
     made: &mut Vec<ListKind>,
     entry: &Option<Line>,
 ) -> Result<(), AllocError>
-    requires { IsKnownEntry checked.now entry.now }
+    requires { IsMeantEntry checked.now entry.now }
     ensures { OnOk result ((def : Plain) (rest : List Entry) → HasSorts checked.now def → HasPhyla checked.now def
         → Puts def ReadsLists entry.now rest made.old.items made.new.items) }
 {
@@ -152,7 +151,7 @@ pub fn lists(
     checked: &CheckedLines,
     entries: &[Option<Line>],
 ) -> Result<Vec<ListKind>, AllocError>
-    requires { AllByRecursion (IsKnown checked.now) (written entries.now) }
+    requires { AllByRecursion (IsMeant checked.now) (written entries.now) }
     ensures { IfOk result (λ v. (def : Plain) → HasSorts checked.now def → HasPhyla checked.now def
         → Lasts def (λ full. AreLists full [] (written entries.now) v.items)) }
 {

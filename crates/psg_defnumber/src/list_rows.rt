@@ -5,9 +5,9 @@ ghost use Rattle.psg_terms.specs.Names.{has_twice};
 ghost use Rattle.psg_deflines.specs.Entries.{written};
 ghost use Rattle.psg_deflines.specs.declared.lines.Line.{Line as PlainLine};
 ghost use Rattle.psg_deflines.specs.declared.lines.Line.TheVariants as lines;
-ghost use Rattle.psg_defcheck.specs.Meanings.{IsKnown, KnowsTerm};
+ghost use Rattle.psg_defcheck.specs.Meanings.{KnowsTerm};
 ghost use Rattle.psg_defcheck.specs.Scopes.{is_list, kind_names};
-ghost use Rattle.psg_defnumber.specs.Declaring.{AreListsOf, HasConstructors, IsKnownEntry};
+ghost use Rattle.psg_defnumber.specs.Declaring.{AreListsOf, HasConstructors, HasElements, IsMeant, IsMeantEntry};
 ghost use Rattle.psg_defnumber.specs.Growing.{Lasts};
 ghost use Rattle.psg_defnumber.specs.Numbers.{AreLists, IsRow};
 ghost use Rattle.psg_defnumber.specs.Filling.{Fills};
@@ -98,6 +98,7 @@ fn put_cell(
     requires element { KnowsTerm checked.now element.now }
     requires rest { KnowsTerm checked.now rest.now }
     requires lists { AreListsOf checked.now lists.old.items }
+    requires elements { AllByRecursion (HasElements def.now) lists.old.items }
     requires constructors { HasConstructors checked.now def.now.signature }
     ensures { OnOk result ((file : List PlainLine)
         → Fills def.now file (file ++ lines.Cell list.now term.now element.now rest.now ∷ [])
@@ -105,7 +106,7 @@ fn put_cell(
 {
     let place = list_named(checked, list);
     let own = &mut lists[place as usize];
-    let elements = phylum_sort(def, own.element)?;
+    let elements = phylum_sort(def, own.element);
     let made = cell(alloc, def, checked, own.sort, elements, term, element, rest)?;
     own.cell_rows.push(made)?;
     Ok(())
@@ -119,8 +120,9 @@ fn put_list_row(
     lists: &mut Vec<ListKind>,
     entry: &Option<Line>,
 ) -> Result<(), AllocError>
-    requires known { IsKnownEntry checked.now entry.now }
+    requires known { IsMeantEntry checked.now entry.now }
     requires lists { AreListsOf checked.now lists.old.items }
+    requires elements { AllByRecursion (HasElements def.now) lists.old.items }
     requires constructors { HasConstructors checked.now def.now.signature }
     ensures { OnOk result ((file : List PlainLine)
         → Fills def.now file (file ++ written (entry.now ∷ [])) lists.old.items lists.new.items) }
@@ -154,7 +156,7 @@ pub fn fill_lists(
     lists: &mut Vec<ListKind>,
     entries: &[Option<Line>],
 ) -> Result<(), AllocError>
-    requires known { AllByRecursion (IsKnown checked.now) (written entries.now) }
+    requires known { AllByRecursion (IsMeant checked.now) (written entries.now) }
     requires once { has_twice (kind_names checked.now) ≡ false }
     requires lists { AreLists def.now [] checked.now lists.old.items }
     requires constructors { HasConstructors checked.now def.now.signature }

@@ -1,9 +1,8 @@
 //! What names mean in a definition.
-ghost use Rattle.std.specs.Prelude.{◌≡◌, ◌<◌, IfOk, IsTrue, OnOk, Some, is_some, length, slice_get};
+ghost use Rattle.std.specs.Prelude.{◌≡◌, ◌<◌, ℕ, IfOk, IsTrue, OnOk, Some, is_some, length, slice_get};
 ghost use Rattle.psg_terms.specs.Names.{is_among};
 ghost use Rattle.psg_terms.specs.Signature.{Symbol};
 ghost use Rattle.psg_terms.specs.Kept.{numbers_of};
-ghost use Rattle.psg_grammar.specs.declared.types.Kind.{Kind as PlainKind};
 ghost use Rattle.psg_grammar.specs.declared.types.Kind.TheVariants as kinds;
 ghost use Rattle.psg_grammar.specs.Sound.{HasKindSort, HasSpaceSort};
 ghost use Rattle.psg_defcheck.specs.Checks.{IsKindAt};
@@ -14,19 +13,11 @@ ghost use Rattle.psg_defnumber.specs.Declaring.{HasConstructors, HasNames, IsSpa
 ghost use Rattle.psg_defnumber.specs.Growing.{Lasts};
 ghost use Rattle.psg_defnumber.specs.Numbers.{IsOperatorNamed};
 
-use crate::found::{found, holds};
+use crate::found::holds;
 use psg_defcheck::CheckedLines;
 use psg_grammar::{Definition, Kind, ListKind, Operator, Phylum};
 use psg_terms::{ConId, Constructor, Signature, SortId, Txt};
 use std::alloc::AllocError;
-
-/// Returns the error where the kinds differ.
-pub fn same_kind(kind: Kind, other: Kind) -> Result<(), AllocError>
-    ensures { OnOk result (kind ≡ other) }
-{
-    holds(kind == other)?;
-    Ok(())
-}
 
 /// Returns the number of the sort of the name.
 pub fn sort_named(checked: &CheckedLines, name: &Txt) -> SortId
@@ -124,39 +115,54 @@ pub fn space_named(checked: &CheckedLines, name: &Txt) -> u32
     number
 }
 
-/// Returns the sort of the values of a phylum.
-pub fn phylum_sort(def: &Definition, phylum: u32) -> Result<SortId, AllocError>
-    ensures { IfOk result (λ s. Lasts def.now (λ full. HasKindSort full (kinds.Phylum phylum) s.0)) }
+/// Returns the item at the position.
+fn at<T>(items: &[T], place: u32) -> &T
+    requires { place < length items.now }
+    ensures { slice_get items.now place ≡ Some result.now }
 {
-    let own = found(def.phyla.as_slice().get(phylum as usize))?;
-    Ok(own.sort)
+    &items[place as usize]
+}
+
+/// Returns the sort of the values of a phylum.
+pub fn phylum_sort(def: &Definition, phylum: u32) -> SortId
+    requires { (s : ℕ) × HasKindSort def.now (kinds.Phylum phylum) s }
+    ensures { Lasts def.now (λ full. HasKindSort full (kinds.Phylum phylum) result.0) }
+{
+    let own = at(def.phyla.as_slice(), phylum);
+    own.sort
 }
 
 /// Returns the list of the number.
-pub fn list_at(def: &Definition, list: u32) -> Result<&ListKind, AllocError>
-    ensures { IfOk result (λ l. slice_get def.now.lists list ≡ Some l.now) }
+pub fn list_at(def: &Definition, list: u32) -> &ListKind
+    requires { list < length def.now.lists }
+    ensures { slice_get def.now.lists list ≡ Some result.now }
 {
-    let own = found(def.lists.as_slice().get(list as usize))?;
-    Ok(own)
+    let own = at(def.lists.as_slice(), list);
+    own
 }
 
 /// Returns the sort of the values of a kind.
-pub fn kind_sort(def: &Definition, kind: Kind) -> Result<SortId, AllocError>
-    ensures { IfOk result (λ s. Lasts def.now (λ full. HasKindSort full kind s.0)) }
+pub fn kind_sort(def: &Definition, kind: Kind) -> SortId
+    requires { (s : ℕ) × HasKindSort def.now kind s }
+    ensures { Lasts def.now (λ full. HasKindSort full kind result.0) }
 {
     match kind {
-        Kind::Phylum(phylum) => Ok(phylum_sort(def, phylum)?),
+        Kind::Phylum(phylum) => {
+            let sort = phylum_sort(def, phylum);
+            sort
+        }
         Kind::List(list) => {
-            let own = found(def.lists.as_slice().get(list as usize))?;
-            Ok(own.sort)
+            let own = list_at(def, list);
+            own.sort
         }
     }
 }
 
 /// Returns the sort of the entities of a space.
-pub fn space_sort(def: &Definition, space: u32) -> Result<SortId, AllocError>
-    ensures { IfOk result (λ s. Lasts def.now (λ full. HasSpaceSort full space s.0)) }
+pub fn space_sort(def: &Definition, space: u32) -> SortId
+    requires { (s : ℕ) × HasSpaceSort def.now space s }
+    ensures { Lasts def.now (λ full. HasSpaceSort full space result.0) }
 {
-    let own = found(def.spaces.as_slice().get(space as usize))?;
-    Ok(own.sort)
+    let own = at(def.spaces.as_slice(), space);
+    own.sort
 }

@@ -5,6 +5,7 @@ ghost use Rattle.psg_terms.specs.Sound.{IsSound};
 ghost use Rattle.psg_deflines.specs.Entries.{IsPlain, written};
 ghost use Rattle.psg_defcheck.specs.Faults.{ArePassed};
 ghost use Rattle.psg_defnumber.specs.Numbers.{IsNumbered};
+ghost use Rattle.psg_defnumber.specs.Soundness.{AreOfFile};
 ghost use Rattle.psg_defnumber.specs.Stages.{IsDeclared};
 
 use crate::holes::{declare_rows, hole_rows};
@@ -52,6 +53,7 @@ fn declared(
 ) -> Result<Definition, AllocError>
     requires lines { written entries.now ≡ checked.now }
     requires passed { ArePassed checked.now [] checked.now }
+    requires few { AreOfFile checked.now }
     ensures { IfOk result (IsDeclared version (written entries.now)) }
 {
     let signature = signature(alloc, entries)?;
@@ -69,15 +71,16 @@ fn declared(
     Ok(def)
 }
 
-/// Gives the definition of the version that the lines are together. Each line passes the tests of its form and of its
-/// meaning. It takes time linear in the lines except for the look-ups of names, each of which is one look-up in a
-/// table.
+/// Returns the definition of the version that the lines are together. Each line passes the tests of its form and of its
+/// meaning, and the file has fewer than 2^32 bytes. The one error is memory that runs out. It takes time linear in the
+/// lines except for the look-ups of names, each of which is one look-up in a table.
 pub fn numbered(
     alloc: Global,
     version: u32,
     checked: &CheckedLines,
 ) -> Result<Definition, AllocError>
-    requires { AllByRecursion (IsPlain version) checked.now }
+    requires plain { AllByRecursion (IsPlain version) checked.now }
+    requires few { AreOfFile checked.now }
     ensures numbered { IfOk result (IsNumbered version checked.now) }
     ensures signature { IfOk result (λ d. IsSound d.signature) }
 {

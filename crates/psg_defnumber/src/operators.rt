@@ -3,10 +3,10 @@ ghost use Rattle.std.specs.Prelude.{◌↔◌, List, IfOk, IsTrue, OnOk};
 ghost use Rattle.std.specs.List.{AllByRecursion};
 ghost use Rattle.psg_terms.specs.Kept.{numbers_of};
 ghost use Rattle.psg_grammar.specs.declared.types.Item.{Item as PlainItem};
-ghost use Rattle.psg_grammar.specs.Sound.{AreColumns};
+ghost use Rattle.psg_grammar.specs.Sound.{AreColumns, IsItem as IsItemThere};
 ghost use Rattle.psg_deflines.specs.Entries.{Entry, written};
-ghost use Rattle.psg_defcheck.specs.Meanings.{IsKnown, KnowsItem};
-ghost use Rattle.psg_defnumber.specs.Declaring.{HasKinds, IsKnownEntry};
+ghost use Rattle.psg_defcheck.specs.Meanings.{KnowsItem};
+ghost use Rattle.psg_defnumber.specs.Declaring.{HasKinds, IsMeant, IsMeantEntry};
 ghost use Rattle.psg_defnumber.specs.Growing.{Lasts};
 ghost use Rattle.psg_defnumber.specs.Numbers.{IsItem, AreItems, AreRows, AreOperators};
 ghost use Rattle.psg_defnumber.specs.Putting.{Puts, ReadsColumns, ReadsRows, ReadsOperators, IsOperatorEntry};
@@ -73,22 +73,23 @@ fn items(
 
 /// Puts the sort of an item's column after the others, if it has one.
 fn put_column(def: &Definition, sorts: &mut Vec<SortId>, item: &Item) -> Result<(), AllocError>
+    requires { IsItemThere def.now item.now }
     ensures { OnOk result ((rest : List PlainItem)
         → Puts def.now ReadsColumns item.now rest sorts.old.items sorts.new.items) }
 {
     match item {
         Item::Slot(kind) => {
-            let sort = kind_sort(def, *kind)?;
+            let sort = kind_sort(def, *kind);
             sorts.push(sort)?;
             Ok(())
         }
         Item::Refers(space) => {
-            let sort = space_sort(def, *space)?;
+            let sort = space_sort(def, *space);
             sorts.push(sort)?;
             Ok(())
         }
         Item::Declares(space) => {
-            let sort = space_sort(def, *space)?;
+            let sort = space_sort(def, *space);
             sorts.push(sort)?;
             Ok(())
         }
@@ -98,6 +99,7 @@ fn put_column(def: &Definition, sorts: &mut Vec<SortId>, item: &Item) -> Result<
 
 /// The sorts of the columns of an operator's rows, in order.
 fn columns(alloc: Global, def: &Definition, items: &[Item]) -> Result<Vec<SortId>, AllocError>
+    requires { AllByRecursion (IsItemThere def.now) items.now }
     ensures { IfOk result (λ v. Lasts def.now (λ full. AreColumns full items.now (numbers_of v.items))) }
 {
     let mut sorts = Vec::with_capacity(alloc, items.len())?;
@@ -131,7 +133,7 @@ fn put_row(
     entry: &Option<Line>,
 ) -> Result<(), AllocError>
     requires inside { IsOperatorEntry entry.now → ⊥ }
-    requires known { IsKnownEntry checked.now entry.now }
+    requires known { IsMeantEntry checked.now entry.now }
     requires kinds { HasKinds checked.now def.now }
     ensures { OnOk result ((rest : List Entry)
         → Puts def.now (ReadsRows sort.0 (numbers_of sorts.now)) entry.now rest made.old.items made.new.items) }
@@ -160,7 +162,7 @@ fn rows(
     sorts: &[SortId],
     behind: &[Option<Line>],
 ) -> Result<Vec<Row>, AllocError>
-    requires known { AllByRecursion (IsKnown checked.now) (written behind.now) }
+    requires known { AllByRecursion (IsMeant checked.now) (written behind.now) }
     requires kinds { HasKinds checked.now def.now }
     ensures { IfOk result (λ v. Lasts def.now (λ full.
         AreRows full sort.0 (numbers_of sorts.now) (written behind.now) v.items)) }
@@ -184,9 +186,9 @@ fn put_operator(
     entry: &Option<Line>,
     behind: &[Option<Line>],
 ) -> Result<(), AllocError>
-    requires known { IsKnownEntry checked.now entry.now }
+    requires known { IsMeantEntry checked.now entry.now }
     requires kinds { HasKinds checked.now def.now }
-    requires behind { AllByRecursion (IsKnown checked.now) (written behind.now) }
+    requires behind { AllByRecursion (IsMeant checked.now) (written behind.now) }
     ensures { OnOk result (Puts def.now ReadsOperators entry.now behind.now made.old.items made.new.items) }
 {
     let Some(line) = entry else {
@@ -203,7 +205,7 @@ fn put_operator(
         return Ok(());
     };
     let phylum = phylum_named(checked, phylum);
-    let sort = phylum_sort(def, phylum)?;
+    let sort = phylum_sort(def, phylum);
     let items = items(alloc, def, checked, parts.as_slice())?;
     let sorts = columns(alloc, def, items.as_slice())?;
     let rows = rows(alloc, def, checked, sort, sorts.as_slice(), behind)?;
@@ -226,7 +228,7 @@ pub fn operators(
     checked: &CheckedLines,
     entries: &[Option<Line>],
 ) -> Result<Vec<Operator>, AllocError>
-    requires known { AllByRecursion (IsKnown checked.now) (written entries.now) }
+    requires known { AllByRecursion (IsMeant checked.now) (written entries.now) }
     requires kinds { HasKinds checked.now def.now }
     ensures { IfOk result (λ v. Lasts def.now (λ full. AreOperators full (written entries.now) v.items)) }
 {

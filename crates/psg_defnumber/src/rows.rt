@@ -1,12 +1,14 @@
 //! Rows from their lines.
-ghost use Rattle.std.specs.Prelude.{List, ◌∷◌, [], IfOk, IsTrue};
+ghost use Rattle.std.specs.Prelude.{ℕ, IfOk, IsTrue, is_some};
 ghost use Rattle.std.specs.List.{AllByRecursion};
 ghost use Rattle.psg_terms.specs.Kept.{numbers_of};
-ghost use Rattle.psg_grammar.specs.declared.types.Kind.TheVariants as kinds;
+ghost use Rattle.psg_grammar.specs.Sound.{HasKindSort};
+ghost use Rattle.psg_grammar.specs.declared.types.Kind.{Kind as PlainKind};
 ghost use Rattle.psg_defcheck.specs.Meanings.{KnowsSpace, KnowsTerm, KnowsTree};
-ghost use Rattle.psg_defcheck.specs.Scopes.{is_list};
+ghost use Rattle.psg_defcheck.specs.Scopes.{element_place, entity_sort, is_list};
 ghost use Rattle.psg_defnumber.specs.Declaring.{HasConstructors, HasNames};
 ghost use Rattle.psg_defnumber.specs.Growing.{Lasts};
+ghost use Rattle.psg_defnumber.specs.Placing.{IsPlaceOf, TreeFits};
 ghost use Rattle.psg_defnumber.specs.Numbers.{IsRow, IsNil, IsCase, IsDeclareRow};
 
 use crate::lookups::{list_at, list_named, phylum_sort, space_named, space_sort};
@@ -75,6 +77,8 @@ pub fn case(
     requires term { KnowsTerm checked.now written.now }
     requires tree { KnowsTree checked.now tree.now }
     requires names { HasNames checked.now def.now }
+    requires there { (s : ℕ) × HasKindSort def.now kind s }
+    requires fits { TreeFits checked.now kind tree.now }
     ensures { IfOk result (λ one. Lasts def.now (λ full. IsCase full kind sort.0 written.now tree.now one)) }
 {
     let mut known: Known = IndexMap::new(alloc);
@@ -98,19 +102,22 @@ pub fn declare_row(
     tree: &LineTree,
 ) -> Result<DeclareRow, AllocError>
     requires space { KnowsSpace checked.now space.now }
+    requires spaces { IsTrue (is_some (entity_sort checked.now)) }
     requires list { IsTrue (is_list checked.now list.now) }
     requires entity { KnowsTerm checked.now entity.now }
     requires value { KnowsTerm checked.now value.now }
     requires tree { KnowsTree checked.now tree.now }
     requires names { HasNames checked.now def.now }
+    requires fits { (phylum : PlainKind) → IsPlaceOf checked.now (element_place checked.now list.now) phylum
+        → TreeFits checked.now phylum tree.now }
     ensures { IfOk result (λ r. Lasts def.now
         (λ full. IsDeclareRow full space.now list.now entity.now value.now tree.now r)) }
 {
     let list = list_named(checked, list);
-    let own = list_at(def, list)?;
+    let own = list_at(def, list);
     let space = space_named(checked, space);
-    let entities = space_sort(def, space)?;
-    let values = phylum_sort(def, own.element)?;
+    let entities = space_sort(def, space);
+    let values = phylum_sort(def, own.element);
     let mut known: Known = IndexMap::new(alloc);
     let entity = term(alloc, &def.signature, checked, &mut known, entities, entity)?;
     let value = term(alloc, &def.signature, checked, &mut known, values, value)?;

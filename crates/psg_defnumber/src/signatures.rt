@@ -1,12 +1,13 @@
 //! The signature from the lines of sorts.
-ghost use Rattle.std.specs.Prelude.{◌≡◌, ◌+◌, ◌<◌, ◌^◌, ◌∷◌, ◌++◌, [], length, IfOk, OnOk};
-ghost use Rattle.psg_terms.specs.Declarations.{constructor_names, IsSpelled};
+ghost use Rattle.std.specs.Prelude.{◌≡◌, ◌∷◌, ◌++◌, [], IfOk, OnOk};
+ghost use Rattle.psg_terms.specs.Declarations.{IsSpelled};
 ghost use Rattle.psg_deflines.specs.Entries.{written};
+ghost use Rattle.psg_defcheck.specs.Faults.{ArePassed};
 ghost use Rattle.psg_defnumber.specs.Numbers.{sort_decls};
+ghost use Rattle.psg_defnumber.specs.Soundness.{AreOfFile};
 
-use crate::found::holds;
 use psg_deflines::Line;
-use psg_terms::{ConDecl, Seq, Signature, SortDecl, Txt};
+use psg_terms::{ConDecl, Seq, SigFault, Signature, SortDecl, Txt};
 use std::alloc::{AllocError, Global};
 
 /// The same texts, shared.
@@ -67,31 +68,19 @@ fn sort_lines(alloc: Global, entries: &[Option<Line>]) -> Result<Vec<SortDecl>, 
     Ok(made)
 }
 
-/// Each constructor can have a number.
-fn few_constructors(decls: &[SortDecl]) -> Result<(), AllocError>
-    ensures { OnOk result (length (constructor_names decls.now) < 2 ^ 32) }
-{
-    let mut count = 0usize;
-    for decl in decls {
-        let more = decl.constructors.as_slice().len();
-        holds(count < 0x1_0000_0000)?;
-        holds(more < 0x1_0000_0000)?;
-        count += more;
-    }
-    holds(count < 0x1_0000_0000)?;
-    Ok(())
-}
-
-/// Makes the signature of the sorts and constructors. Lines that pass the tests of meaning leave no fault. That is not
-/// proved here, so a fault has the same answer as memory that runs out.
+/// Makes the signature of the sorts and constructors. Lines that pass the tests of meaning leave no fault but memory
+/// that runs out.
 pub fn signature(alloc: Global, entries: &[Option<Line>]) -> Result<Signature, AllocError>
+    requires passed { ArePassed (written entries.now) [] (written entries.now) }
+    requires few { AreOfFile (written entries.now) }
     ensures { IfOk result (IsSpelled (sort_decls (written entries.now))) }
 {
     let decls = sort_lines(alloc, entries)?;
-    holds(decls.len() < 0x1_0000_0000)?;
-    few_constructors(decls.as_slice())?;
     match Signature::new(alloc, decls) {
         Ok(signature) => Ok(signature),
-        Err(_) => Err(AllocError),
+        Err(fault) => match fault {
+            SigFault::Memory => Err(AllocError),
+            _ => unreachable!(),
+        },
     }
 }

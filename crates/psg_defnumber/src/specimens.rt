@@ -1,20 +1,23 @@
 //! Specimens from the specimens of a line.
-ghost use Rattle.std.specs.Prelude.{◌≡◌, ◌+◌, ◌-◌, ◌*◌, ◌∷◌, [], IfOk, map};
+ghost use Rattle.std.specs.Prelude.{◌≡◌, ◌+◌, ◌-◌, ◌*◌, ◌∷◌, ℕ, [], IfOk, map};
 ghost use Rattle.std.specs.Borrow.{Bor};
 ghost use Rattle.std.specs.List.{AllByRecursion};
 ghost use Rattle.psg_lexis.specs.Tokens.{value_of};
 ghost use Rattle.psg_grammar.specs.declared.types.Item.{Item as PlainItem};
+ghost use Rattle.psg_grammar.specs.declared.types.Kind.TheVariants as kinds;
 ghost use Rattle.psg_grammar.specs.Lookups.{is_part, part_items};
+ghost use Rattle.psg_grammar.specs.Sound.{HasKindSort, IsItem};
 ghost use Rattle.psg_grammar.specs.Specimens.{holes_of_part, rest_hole};
 ghost use Rattle.psg_defcheck.specs.Meanings.{KnowsTree};
 ghost use Rattle.psg_defcheck.specs.Parts.{KnowsEnd, KnowsPart, KnowsPlace};
 ghost use Rattle.psg_defnumber.specs.Declaring.{HasNames};
+ghost use Rattle.psg_defnumber.specs.Placing.{TreeFits, IsPartAt, ArePartsAt, AreElementsAt, IsRestAt};
 ghost use Rattle.psg_defnumber.specs.Numbers.{IsPlace, IsTree, terms_of};
 ghost use Rattle.psg_defnumber.specs.Fitting.{IsMade, hole_terms, part_terms, element_terms};
 ghost use Rattle.psg_defnumber.specs.Fitting.{PartFits, PartsFit, ElementsFit, RestFits};
 
 use crate::found::{found, holds};
-use crate::lookups::{kind_named, kind_sort, list_at, operator_named, same_kind};
+use crate::lookups::{kind_named, kind_sort, list_at, operator_named};
 use crate::terms::term;
 use crate::variables::Known;
 use psg_defcheck::CheckedLines;
@@ -57,7 +60,7 @@ fn place<'a>(
         (λ full names. IsPlace full names written.now.kind written.now.term h)) }
 {
     let kind = kind_named(checked, &written.kind);
-    let sort = kind_sort(def, kind)?;
+    let sort = kind_sort(def, kind);
     let made = term(alloc, &def.signature, checked, known, sort, &written.term)?;
     Ok(SpecimenHole { kind, term: made })
 }
@@ -73,6 +76,7 @@ fn list_rest<'a>(
 ) -> Result<Option<SpecimenHole>, AllocError>
     requires declared { KnowsEnd checked.now written.now }
     requires names { HasNames checked.now def.now }
+    requires fits { IsRestAt checked.now (kinds.List list) written.now }
     ensures { IfOk result (λ r. IsMade def.now known.old.entries known.new.entries (hole_terms (rest_hole r))
         (λ full names. RestFits full names list r written.now)) }
 {
@@ -80,7 +84,6 @@ fn list_rest<'a>(
         None => Ok(None),
         Some(own) => {
             let made = place(alloc, def, checked, known, own)?;
-            same_kind(made.kind, Kind::List(list))?;
             Ok(Some(made))
         }
     }
@@ -121,36 +124,38 @@ fn part<'a>(
 ) -> Result<SpecimenPart, AllocError>
     requires declared { KnowsPart checked.now written.now }
     requires names { HasNames checked.now def.now }
+    requires there { IsItem def.now item.now }
+    requires fits { IsPartAt checked.now item.now written.now }
     ensures { IfOk result (λ p. IsMade def.now known.old.entries known.new.entries (hole_terms (holes_of_part p))
         (λ full names. PartFits full names item.now p written.now)) }
 {
     match item {
         Item::Slot(kind) => {
             let LinePart::Tree(tree) = written else {
-                return Err(AllocError);
+                unreachable!()
             };
             let made = specimen(alloc, def, checked, known, *kind, tree)?;
             Ok(SpecimenPart::Sub(made))
         }
         Item::Refers(_) | Item::Declares(_) => {
             let LinePart::Name(name) = written else {
-                return Err(AllocError);
+                unreachable!()
             };
             Ok(SpecimenPart::Name(name.share()?))
         }
         Item::Number => {
             let LinePart::Number(digits) = written else {
-                return Err(AllocError);
+                unreachable!()
             };
             Ok(SpecimenPart::Number(decimal(digits.as_str())?))
         }
         Item::Text => {
             let LinePart::Text(text) = written else {
-                return Err(AllocError);
+                unreachable!()
             };
             Ok(SpecimenPart::Text(text.share()?))
         }
-        _ => Err(AllocError),
+        _ => unreachable!(),
     }
 }
 
@@ -166,10 +171,11 @@ fn parts<'a>(
 ) -> Result<Vec<SpecimenPart>, AllocError>
     requires declared { AllByRecursion (KnowsPart checked.now) written.now }
     requires names { HasNames checked.now def.now }
+    requires there { AllByRecursion (λ (b : Bor PlainItem). IsItem def.now b.now) items.now }
+    requires fits { ArePartsAt checked.now (map (λ (b : Bor PlainItem). b.now) items.now) written.now }
     ensures { IfOk result (λ v. IsMade def.now known.old.entries known.new.entries (part_terms v.items)
         (λ full names. PartsFit full names (map (λ (b : Bor PlainItem). b.now) items.now) v.items written.now)) }
 {
-    holds(items.len() == written.len())?;
     let mut made = Vec::with_capacity(alloc, written.len())?;
     for i in 0..written.len() {
         let one = part(alloc, def, checked, known, items[i], &written[i])?;
@@ -190,6 +196,8 @@ fn elements<'a>(
 ) -> Result<Vec<Specimen>, AllocError>
     requires declared { AllByRecursion (KnowsTree checked.now) written.now }
     requires names { HasNames checked.now def.now }
+    requires there { (s : ℕ) × HasKindSort def.now (kinds.Phylum phylum) s }
+    requires fits { AreElementsAt checked.now (kinds.Phylum phylum) written.now }
     ensures { IfOk result (λ v. IsMade def.now known.old.entries known.new.entries (element_terms v.items)
         (λ full names. ElementsFit full names phylum v.items written.now)) }
 {
@@ -213,6 +221,8 @@ pub fn specimen<'a>(
 ) -> Result<Specimen, AllocError>
     requires declared { KnowsTree checked.now written.now }
     requires names { HasNames checked.now def.now }
+    requires there { (s : ℕ) × HasKindSort def.now kind s }
+    requires fits { TreeFits checked.now kind written.now }
     ensures { IfOk result (λ s. IsMade def.now known.old.entries known.new.entries (terms_of def.now s)
         (λ full names. IsTree full names kind s written.now)) }
 {
@@ -222,7 +232,6 @@ pub fn specimen<'a>(
             parts: written,
         } => {
             let (op, own) = operator_named(def, checked, name);
-            same_kind(kind, Kind::Phylum(own.phylum))?;
             let items = items_of(alloc, own.items.as_slice())?;
             let made = parts(
                 alloc,
@@ -242,9 +251,9 @@ pub fn specimen<'a>(
             rest,
         } => {
             let Kind::List(list) = kind else {
-                return Err(AllocError);
+                unreachable!()
             };
-            let own = list_at(def, list)?;
+            let own = list_at(def, list);
             let made = elements(alloc, def, checked, known, own.element, written.as_slice())?;
             let rest = list_rest(alloc, def, checked, known, list, rest)?;
             Ok(Specimen::List {
@@ -255,7 +264,6 @@ pub fn specimen<'a>(
         }
         TreeShape::Place(own) => {
             let made = place(alloc, def, checked, known, own)?;
-            same_kind(made.kind, kind)?;
             Ok(Specimen::Hole(made))
         }
     }

@@ -2,7 +2,7 @@
 ghost use Rattle.std.specs.Prelude.{IfOk};
 ghost use Rattle.psg_defnumber.specs.Naming.{IsMet};
 
-use crate::found::{found, holds};
+use crate::found::holds;
 use indexmap::IndexMap;
 use psg_terms::SortId;
 use psg_terms::canonical::number_of;
@@ -15,17 +15,14 @@ pub type Known<'a> = IndexMap<&'a str, SortId>;
 pub fn variable<'a>(known: &mut Known<'a>, name: &'a str, sort: SortId) -> Result<u32, AllocError>
     ensures { IfOk result (IsMet known.old.entries known.new.entries name.now sort.0) }
 {
-    match known.get_index_of(name) {
-        Some(place) => {
-            let (own, own_sort) = found(known.get_index(place))?;
-            holds(*own == name)?;
+    match known.get_full(name) {
+        Some((place, own, own_sort)) => {
             holds(*own_sort == sort)?;
             Ok(number_of(0, place)?)
         }
         None => {
             let place = known.len();
-            let before = known.insert(name, sort)?;
-            holds(before.is_none())?;
+            known.insert(name, sort)?;
             Ok(number_of(0, place)?)
         }
     }

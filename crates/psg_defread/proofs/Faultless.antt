@@ -1,6 +1,6 @@
 -- A file whose lines pass all tests has no fault.
-use Rattle.std.proofs.Common.{◌≡◌, ◌⊎◌, inl, inr, ℕ, true, List, [], ◌∷◌, ◌++◌, Option, Some, None, refl, sym, ◌∙◌, ap, subst}
-use Rattle.std.proofs.Common.{Result, Ok, Err}
+use Rattle.std.proofs.Common.{◌≡◌, inl, inr, ℕ, true, List, [], ◌∷◌, ◌++◌, Some, sym, ◌∙◌, ap, subst}
+use Rattle.std.proofs.Common.{Result}
 use Rattle.std.specs.Prelude.{IfErr, IsErrAnd}
 use Rattle.std.proofs.lemmas.Result.{err_from_is_err_and}
 use Rattle.std.specs.List.{AllByRecursion}
@@ -8,7 +8,7 @@ use Rattle.std.specs.Str.Lines.{lines}
 use Rattle.std.proofs.lemmas.List.{append_assoc, append-nil}
 use Rattle.psg_grammar.specs.declared.types.Definition.{Definition}
 use Rattle.psg_deflines.specs.Versions.{is_of}
-use Rattle.psg_deflines.specs.Entries.{Entry, written, AreEntries, behind_head, IsPlain}
+use Rattle.psg_deflines.specs.Entries.{Entry, written, IsPlain}
 use Rattle.psg_deflines.specs.Reading.{HasEntries, AreLinesOf, HasNoFormFault}
 use Rattle.psg_deflines.specs.Refusals.{IsFirstOf}
 use Rattle.psg_deflines.specs.declared.fault.DefCode.{DefCode}
@@ -19,15 +19,11 @@ use Rattle.psg_deflines.specs.Refusals.{IsFormFault}
 use Rattle.psg_deflines.specs.declared.lines.Line.{Line}
 use Rattle.psg_defcheck.specs.Faults.{meaning_codes, PassesMeaning, ArePassed, IsMeaningFault}
 use Rattle.psg_defcheck.specs.Checks.{IsCheckFault}
-use Rattle.psg_defread.specs.Refusals.{HasMeaningFault, IsReadFault, Refusal, no_form, no_meaning}
+use Rattle.psg_defcheck.proofs.GroundLaws.{written-append}
+use Rattle.psg_defread.specs.Refusals.{IsReadFault, Refusal, no_form, no_meaning}
 use Rattle.psg_defread.specs.Reading.{IsFaultless, Spells}
 use Rattle.psg_defnumber.specs.Numbers.{IsNumbered}
 use Rattle.psg_defnumber.specs.Once.{OneNumbering}
-
-pub written_append : (xs ys : List Entry) → written (xs ++ ys) ≡ written xs ++ written ys
-written_append [] ys = refl
-written_append (None ∷ xs) ys = written_append xs ys
-written_append (Some x ∷ xs) ys = ap (λ r. x ∷ r) (written_append xs ys)
 
 -- what passes all tests has no first one that fails
 pub all_pass : (Passes : DefCode → Type 0) (tests : List DefCode) (code : DefCode) → AllByRecursion Passes tests → IsFirstOf Passes tests code → ⊥
@@ -44,7 +40,7 @@ no_meaning_fault : (entries : List Entry) (fault : DefFault) → ArePassed (writ
 no_meaning_fault entries fault passed m =
     all_pass (PassesMeaning (written entries) (written m.front) m.line) meaning_codes fault.code
     (passed_at (written entries) [] (written m.front) m.line (written m.behind)
-    (subst (ArePassed (written entries) []) (ap written m.split ∙ written_append m.front (Some m.line ∷ m.behind)) passed))
+    (subst (ArePassed (written entries) []) (ap written m.split ∙ written-append m.front (Some m.line ∷ m.behind)) passed))
     m.first
 
 -- plain lines are of the version

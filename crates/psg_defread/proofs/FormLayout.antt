@@ -1,6 +1,6 @@
 -- The lines that write a definition are in the order of their ranks; rows follow an operator, and the cases of a hole
 -- row follow it.
-use Rattle.std.proofs.Common.{◌≡◌, ◌≢◌, ℕ, Bool, true, false, Some, None, List, [], ◌∷◌, ◌++◌, map, IsTrue, refl, sym, subst, append-nil, append_assoc, arith, suc, ◌+◌, ◌≤◌}
+use Rattle.std.proofs.Common.{◌≡◌, ◌≢◌, ℕ, Bool, true, false, Some, None, List, [], ◌∷◌, ◌++◌, map, IsTrue, refl, sym, subst, append-nil, append_assoc, arith, suc, ◌≤◌}
 use Rattle.std.specs.List.{flat_map, AllByRecursion}
 use Rattle.std.proofs.lemmas.Bool.{false≢true}
 use Rattle.psg_terms.specs.Names.{Name}

@@ -1,5 +1,5 @@
 -- The variables of each of the lines that write a definition are numbered by first occurrence.
-use Rattle.std.proofs.Common.{◌≡◌, inl, inr, ℕ, zero, suc, ◌+◌, ◌<◌, ◌≤◌, ◌^◌, ◌||◌, true, false, cond, if◌then◌else◌, List, [], ◌∷◌, ◌++◌, length, length-append, map, refl, ap, sym, ◌∙◌, subst, arith, Some}
+use Rattle.std.proofs.Common.{◌≡◌, inl, inr, ℕ, zero, suc, ◌+◌, ◌<◌, ◌^◌, ◌||◌, true, false, cond, if◌then◌else◌, List, [], ◌∷◌, ◌++◌, length, length-append, map, refl, ap, sym, ◌∙◌, subst, arith}
 use Rattle.std.specs.Prelude.{decimal, bytes_eq}
 use Rattle.std.specs.List.{AllByRecursion}
 use Rattle.std.proofs.lemmas.Bool.{or_from, or_left, or_right, false≢true}
@@ -17,7 +17,6 @@ use Rattle.psg_defread.specs.Layout.{met_in, met_in_all, numbers_from, line_term
 use Rattle.psg_defread.specs.WrittenLines.{term_written, lines_of, space_line, phylum_line, list_line, row_line, operator_lines, nil_lines, cell_line, cell_lines, case_line, hole_lines, declare_line}
 use Rattle.psg_defread.proofs.NumberTerms.{HasFewVariables, noted-all-front, numbered-front, noted-short}
 use Rattle.psg_defread.proofs.NumberNames.{decimals-apart}
-use Rattle.std.specs.Str.Lines.{lines as texts_of}
 use Rattle.psg_grammar.specs.declared.types.Kind.{Kind}
 use Rattle.psg_grammar.specs.declared.types.Row.{Row}
 use Rattle.psg_grammar.specs.declared.types.ListKind.{ListKind}
@@ -25,7 +24,6 @@ use Rattle.psg_grammar.specs.declared.types.Operator.{Operator}
 use Rattle.psg_grammar.specs.declared.types.Case.{Case}
 use Rattle.psg_grammar.specs.declared.types.HoleRow.{HoleRow}
 use Rattle.psg_grammar.specs.declared.types.DeclareRow.{DeclareRow}
-use Rattle.psg_deflines.specs.Entries.{written, AreSpelled}
 use Rattle.psg_deflines.specs.WrittenTerms.{WrittenTerm}
 use Rattle.psg_deflines.specs.declared.lines.Line.{Line}
 use Rattle.psg_deflines.specs.declared.lines.Line.TheVariants as lines
@@ -37,7 +35,6 @@ use Rattle.psg_defread.proofs.NumberRows.{IsSmallRow, IsSmallNil, IsSmallCase, p
 use Rattle.psg_defread.proofs.NumberOperators.{HasSmallRows}
 use Rattle.psg_defread.proofs.NumberLists.{HasSmallListRows}
 use Rattle.psg_defread.proofs.NumberCases.{HasSmallCases, IsSmallDeclareRow}
-use Rattle.psg_defread.proofs.NumberLines.{written-short}
 use Rattle.psg_defread.proofs.NumberSmall.{HasSmallNumbers, small-numbers}
 use Rattle.psg_defread.proofs.Blocks.{all-lines, map-all, mapped, flattened, sorts-all}
 use Rattle.psg_defread.proofs.Origins.{OfRow, OfOperator, OfNil, OfCell, OfList, OfCase, OfHoleRow, OfDeclareRow, Origins, IsFormed, read-from}

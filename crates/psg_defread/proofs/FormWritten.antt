@@ -1,6 +1,6 @@
 -- Each of the lines that write a definition has its form, fixed words alone, and no term and no specimen that is nested
 -- too deep.
-use Rattle.std.proofs.Common.{ℕ, List, None, [], refl, sym, subst, arith, ◌≡◌, true, inl, inr, ap, ◌∙◌}
+use Rattle.std.proofs.Common.{ℕ, List, None, refl, sym, subst, arith, ◌≡◌, true, inl, inr, ap, ◌∙◌}
 use Rattle.std.specs.List.{AllByRecursion}
 use Rattle.psg_terms.specs.Names.{Name}
 use Rattle.psg_terms.specs.Terms.{Term}

@@ -19,7 +19,8 @@ use Rattle.psg_defcheck.specs.Faults.{ArePassed}
 use Rattle.psg_defread.specs.Refusals as refusals
 use Rattle.psg_defread.specs.Reading.{IsFaultless}
 use Rattle.psg_defread.proofs.JoinTexts.{written-some}
-use Rattle.psg_defread.proofs.Faultless.{faultless, written_append, all_pass}
+use Rattle.psg_defread.proofs.Faultless.{faultless, all_pass}
+use Rattle.psg_defcheck.proofs.GroundLaws.{written-append}
 
 pub heads-same : (v w : ℕ) (texts : List (List ℕ)) → HasHead v texts → HasHead w texts → v ≡ w
 heads-same v w [] h k = absurd h
@@ -85,7 +86,7 @@ module _ (once : SpellOnce) where
       let same = entry-once above u e f h.0 k.0 in
       let far : (above ++ written (e ∷ [])) ++ written fs ≡ above ++ written (f ∷ fs) =
       append_assoc above (written (e ∷ [])) (written fs)
-      ∙ ap (λ l. above ++ l) (sym (written_append (e ∷ []) fs) ∙ ap (λ x. written (x ∷ fs)) same) in
+      ∙ ap (λ l. above ++ l) (sym (written-append (e ∷ []) fs) ∙ ap (λ x. written (x ∷ fs)) same) in
       subst (λ a. AllByRecursion (PassesForm version a t) form_codes) far
       (clean-at version (above ++ written (e ∷ [])) front t behind es fs h.1
       (subst (λ x. AreEntries (above ++ written (x ∷ [])) front fs) (sym same) k.1) (rest e es p))
@@ -128,7 +129,7 @@ module _ (once : SpellOnce) where
   entries-snoc above (u ∷ ts) [] t e h k = absurd h
   entries-snoc above (u ∷ ts) (f ∷ es) t e h k =
       let far : above ++ written (f ∷ es) ≡ (above ++ written (f ∷ [])) ++ written es =
-      ap (λ l. above ++ l) (written_append (f ∷ []) es) ∙ sym (append_assoc above (written (f ∷ [])) (written es)) in
+      ap (λ l. above ++ l) (written-append (f ∷ []) es) ∙ sym (append_assoc above (written (f ∷ [])) (written es)) in
       (h.0, entries-snoc (above ++ written (f ∷ [])) ts es t e h.1 (subst (λ a. IsEntry a t e) far k))
 
   plain-snoc : (version : ℕ) (xs ys : List Line) → AllByRecursion (IsPlain version) xs → AllByRecursion (IsPlain version) ys
@@ -180,14 +181,14 @@ module _ (once : SpellOnce) where
     entries-plain front [] es (f ∷ fs) e each plain h right not = absurd h
     entries-plain front (t ∷ ts) es [] e each plain h right not = absurd h
     entries-plain front (t ∷ ts) es (None ∷ fs) e each plain h right not =
-        let same : written (es ++ None ∷ []) ≡ written es = written_append es (None ∷ []) ∙ append-nil (written es) in
+        let same : written (es ++ None ∷ []) ≡ written es = written-append es (None ∷ []) ∙ append-nil (written es) in
         let same2 : written es ++ [] ≡ written (es ++ None ∷ []) = append-nil (written es) ∙ sym same in
         entries-plain (front ++ t ∷ []) ts (es ++ None ∷ []) fs (e ∙ sym (append_assoc front (t ∷ []) ts))
         (entries-snoc [] front es t None each h.0) (subst (AllByRecursion (IsPlain version)) (sym same) plain)
         (subst (λ a. AreEntries a ts fs) same2 h.1) right not
     entries-plain front (t ∷ ts) es (Some line ∷ fs) e each plain h right not =
         line-plain front t ts es line e each plain h.0 right.0 (λ own.
-        let same : written (es ++ Some line ∷ []) ≡ written es ++ line ∷ [] = written_append es (Some line ∷ []) in
+        let same : written (es ++ Some line ∷ []) ≡ written es ++ line ∷ [] = written-append es (Some line ∷ []) in
         entries-plain (front ++ t ∷ []) ts (es ++ Some line ∷ []) fs (e ∙ sym (append_assoc front (t ∷ []) ts))
         (entries-snoc [] front es t (Some line) each h.0)
         (subst (AllByRecursion (IsPlain version)) (sym same) (plain-snoc version (written es) (line ∷ []) plain (own, tt)))

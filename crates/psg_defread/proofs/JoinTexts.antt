@@ -23,7 +23,7 @@ use Rattle.std.proofs.lemmas.List.Splits.{slice_split_at}
 use Rattle.psg_deflines.specs.Versions.{IsVersion, is_of}
 use Rattle.psg_deflines.specs.Entries.{IsSkipped, HasPlace, AreEntries, AreSpelled, HasHead, written}
 use Rattle.psg_deflines.specs.declared.lines.Line.TheVariants as lines
-use Rattle.psg_defread.proofs.WriteLaws.{take-next}
+use Rattle.psg_terms.proofs.DeclareLaws.{take-next}
 
 -- a space, or a character behind it in the order of codes
 abbrev pub IsClear : ℕ → Type 0

@@ -1,5 +1,5 @@
 -- The hole rows, each with its cases, and the declare rows in the lines that write a definition.
-use Rattle.std.proofs.Common.{◌≢◌, ℕ, ◌≤◌, None, List, [], ◌∷◌, ◌++◌, map, refl, sym, subst, arith}
+use Rattle.std.proofs.Common.{◌≢◌, ℕ, ◌≤◌, None, List, [], ◌∷◌, ◌++◌, map, refl, arith}
 use Rattle.std.specs.List.{AllByRecursion, flat_map}
 use Rattle.psg_terms.specs.Names.{Name}
 use Rattle.psg_terms.specs.Sound.{IsSound as IsSoundSignature}

@@ -1,5 +1,5 @@
 -- The lines that write a definition are together this definition.
-use Rattle.std.proofs.Common.{◌≡◌, ℕ, ◌<◌, ◌^◌, List, [], ◌∷◌, length, map, Some, refl, ap, arith}
+use Rattle.std.proofs.Common.{ℕ, ◌<◌, ◌^◌, List, [], length, map, Some, ap, arith}
 use Rattle.std.specs.Str.Lines.{lines as texts_of}
 use Rattle.psg_grammar.specs.declared.types.Definition.{Definition}
 use Rattle.psg_grammar.specs.Sound.{IsSound}

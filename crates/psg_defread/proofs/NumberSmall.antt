@@ -16,7 +16,7 @@ use Rattle.psg_deflines.specs.WrittenTrees.{WrittenTree, operator, place_parts, 
 use Rattle.psg_deflines.specs.Forms.{terms_parts, parts_of, columns_parts, by_parts}
 use Rattle.psg_defnumber.specs.Soundness.{total}
 use Rattle.psg_defnumber.proofs.TreeWeights.{total-append}
-use Rattle.psg_defread.specs.WrittenLines.{term_written, kind_name, operator_name, tree_written, part_written, parts_written, elements_written, end_written, lines_of, sort_lines, space_line, phylum_line, list_line, operator_lines, row_line, nil_lines, cell_line, cell_lines, hole_lines, case_line, declare_line}
+use Rattle.psg_defread.specs.WrittenLines.{term_written, kind_name, operator_name, tree_written, part_written, parts_written, elements_written, end_written, lines_of, operator_lines, row_line, nil_lines, cell_line, cell_lines, hole_lines, case_line, declare_line}
 use Rattle.psg_defread.proofs.NumberRows.{place_terms, IsSmallRow, IsSmallNil, IsSmallCase}
 use Rattle.std.specs.List.{AllByRecursion, flat_map}
 use Rattle.psg_terms.specs.Signature.{HaveSorts}

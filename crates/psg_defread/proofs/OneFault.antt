@@ -1,5 +1,5 @@
 -- A file is refused with one fault at most.
-use Rattle.std.proofs.Common.{◌≡◌, ◌⊎◌, inl, inr, ℕ, ◌+◌, ◌<◌, List, [], ◌∷◌, ◌++◌, length, take, Some, refl, ap, ap₂, sym, ◌∙◌, subst, arith}
+use Rattle.std.proofs.Common.{◌≡◌, inl, inr, ℕ, ◌+◌, List, [], ◌∷◌, ◌++◌, length, take, Some, refl, ap, ap₂, sym, ◌∙◌, subst, arith}
 use Rattle.std.specs.Prelude.{IsUtf8}
 use Rattle.std.specs.List.{AllByRecursion}
 use Rattle.std.specs.Str.Lines.{lines as texts_of}
@@ -11,9 +11,10 @@ use Rattle.psg_deflines.specs.declared.fault.DefCode.{DefCode}
 use Rattle.psg_deflines.specs.declared.fault.DefFault.{DefFault}
 use Rattle.psg_deflines.specs.declared.lines.Line.{Line}
 use Rattle.psg_defcheck.specs.Faults.{meaning_codes, PassesMeaning, ArePassed, IsMeaningFault}
-use Rattle.psg_defread.specs.Refusals.{HasMeaningFault, Refusal}
+use Rattle.psg_defread.specs.Refusals.{Refusal}
 use Rattle.psg_defread.specs.Refusals as refusals
-use Rattle.psg_defread.proofs.Faultless.{all_pass, passed_at, written_append, all_of}
+use Rattle.psg_defread.proofs.Faultless.{all_pass, passed_at, all_of}
+use Rattle.psg_defcheck.proofs.GroundLaws.{written-append}
 use Rattle.psg_defread.proofs.JoinFaults.{SpellOnce, heads-same, entries-once, clean-at, clean}
 
 same_fault : (f g : DefFault) → f.line ≡ g.line → f.code ≡ g.code → f ≡ g
@@ -102,7 +103,7 @@ module _ (once : SpellOnce) where
       → ArePassed file [] (written whole) → IsFirstOf (PassesMeaning file (written front) line) meaning_codes code → ⊥
   passed_line file front line mid whole code e passed first =
       all_pass (PassesMeaning file (written front) line) meaning_codes code
-      (passed_at file [] (written front) line (written mid) (subst (ArePassed file []) (ap written e ∙ written_append front (Some line ∷ mid)) passed)) first
+      (passed_at file [] (written front) line (written mid) (subst (ArePassed file []) (ap written e ∙ written-append front (Some line ∷ mid)) passed)) first
 
   meaning_once : (entries : List Entry) (f g : DefFault) → IsMeaningFault entries f → IsMeaningFault entries g → f ≡ g
   meaning_once entries f g h k = by (places h.front k.front (Some h.line) (Some k.line) h.behind k.behind (sym h.split ∙ k.split)) where

@@ -1,5 +1,5 @@
 -- The lines of hole rows, of their cases and of declare rows pass the tests of their meaning.
-use Rattle.std.proofs.Common.{◌≡◌, IsTrue, is_some, ℕ, Some, None, List, [], ◌∷◌, ◌++◌, map, ap, sym, ◌∙◌, subst}
+use Rattle.std.proofs.Common.{◌≡◌, IsTrue, ℕ, Some, None, List, [], ◌∷◌, ◌++◌, map, ap, sym, ◌∙◌, subst}
 use Rattle.std.specs.List.{AllByRecursion}
 use Rattle.std.specs.Option.{option_and_then}
 use Rattle.psg_terms.specs.Names.{Name}

@@ -1,11 +1,10 @@
 -- The lines that write a definition pass the tests of their meaning.
-use Rattle.std.proofs.Common.{◌≡◌, ℕ, ◌+◌, ◌<◌, ◌^◌, Some, List, [], length, map, slice_get, refl, subst, arith}
-use Rattle.std.specs.Str.Lines.{lines as texts_of}
+use Rattle.std.proofs.Common.{◌≡◌, ℕ, ◌+◌, ◌<◌, ◌^◌, Some, List, [], slice_get, refl, subst, arith}
 use Rattle.psg_terms.specs.Names.{Name}
 use Rattle.psg_grammar.specs.declared.types.ListKind.{ListKind}
 use Rattle.psg_grammar.specs.declared.types.Definition.{Definition}
 use Rattle.psg_grammar.specs.Sound.{IsSound}
-use Rattle.psg_deflines.specs.Entries.{written, AreSpelled}
+use Rattle.psg_deflines.specs.Entries.{written}
 use Rattle.psg_deflines.specs.declared.lines.Line.{Line}
 use Rattle.psg_defcheck.specs.Scopes.{kind_declared}
 use Rattle.psg_defcheck.specs.Faults.{ArePassed}
@@ -14,7 +13,7 @@ use Rattle.psg_defread.specs.WrittenLines.{lines_of, space_line, phylum_line, li
 use Rattle.psg_defread.proofs.WasRead.{WasRead}
 use Rattle.psg_defread.proofs.NumberSmall.{HasSmallNumbers, small-numbers}
 use Rattle.psg_defread.proofs.NumberSorts.{sort-names-are}
-use Rattle.psg_defread.proofs.NumberLines.{written_numbered, written-short}
+use Rattle.psg_defread.proofs.NumberLines.{written_numbered}
 use Rattle.psg_defread.proofs.Blocks.{blocks}
 use Rattle.psg_defread.proofs.PassedTests.{IsRightBlock, right-blocks, right-map, right-flat, all-passed}
 use Rattle.psg_defread.proofs.PassedDeclared.{Declares, list_told}

@@ -1,9 +1,9 @@
 -- The lines of operators with their rows, of nil rows and of cell rows pass the tests of their meaning.
-use Rattle.std.proofs.Common.{◌≡◌, ℕ, Some, None, List, [], ◌∷◌, ◌++◌, length, map, refl, sym, ◌∙◌, subst, arith, ◌<◌, zero, suc, slice_get, ap}
+use Rattle.std.proofs.Common.{◌≡◌, ℕ, Some, None, List, [], ◌∷◌, ◌++◌, length, map, refl, sym, ◌∙◌, subst, ◌<◌, zero, suc, slice_get, ap}
 use Rattle.std.specs.List.{AllByRecursion}
 use Rattle.std.proofs.lemmas.List.{length-map}
 use Rattle.psg_terms.specs.Terms.{Term}
-use Rattle.psg_terms.specs.Signature.{Signature, HaveSorts}
+use Rattle.psg_terms.proofs.OneRelation.{sorts_length}
 use Rattle.psg_terms.specs.Canonical.{first_occurrences, IsNumberedFrom}
 use Rattle.psg_grammar.specs.declared.types.Kind.TheVariants as kinds
 use Rattle.psg_grammar.specs.declared.types.Operator.{Operator}
@@ -28,13 +28,6 @@ use Rattle.std.specs.Option.{option_and_then}
 use Rattle.psg_grammar.specs.declared.types.ListKind.{ListKind}
 use Rattle.psg_defread.proofs.NumberLists.{HasSmallListRows}
 
-row-length : (sig : Signature) (row : List Term) (sorts : List ℕ) → HaveSorts sig row sorts
-    → length row ≡ length sorts
-row-length sig [] [] h = refl
-row-length sig [] (s ∷ sorts) h = absurd h
-row-length sig (t ∷ row) [] h = absurd h
-row-length sig (t ∷ row) (s ∷ sorts) h = omega (arith, row-length sig row sorts h.1)
-
 module _ (def : Definition) (sound : IsSound def) (file : List Line) (declares : Declares def file) where
   module _ (op : Operator) (sort : ℕ) (columns : List ℕ) (of_phylum : HasKindSort def (kinds.Phylum op.phylum) sort)
       (are : AreColumns def (part_items op.items) columns) where
@@ -48,7 +41,7 @@ module _ (def : Definition) (sound : IsSound def) (file : List Line) (declares :
         let w = term_written def row.head in
         let ws = map (term_written def) row.columns in
         let size = columns-counted def sound file declares op.items columns are
-        ∙ sym (row-length def.signature row.columns columns is.of_columns)
+        ∙ sym (sorts_length def.signature row.columns columns is.of_columns)
         ∙ sym (length-map row.columns (term_written def)) in
         let at_head = subst (λ at. SortsTerm file v.sorts [] at w)
         (sym (value-placed def sound file declares (kinds.Phylum op.phylum) sort of_phylum)) head.sorted in

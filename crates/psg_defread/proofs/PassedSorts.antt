@@ -5,7 +5,7 @@ use Rattle.std.proofs.lemmas.Bool.{eq-eqb}
 use Rattle.std.proofs.lemmas.List.Elements.{Contains-append_left, Contains-append_right, Contains-push}
 use Rattle.psg_terms.specs.Terms.{Term}
 use Rattle.psg_terms.specs.Terms as terms
-use Rattle.psg_terms.specs.Signature.{Signature, Symbol, Takes, AreClosed, constructors_from, only_constructor, sole, AreSorts}
+use Rattle.psg_terms.specs.Signature.{Symbol, Takes, AreClosed, constructors_from, only_constructor, sole, AreSorts}
 use Rattle.psg_terms.specs.Instances.{IsGround}
 use Rattle.psg_terms.specs.declared.declare.ConDecl.{ConDecl}
 use Rattle.psg_terms.proofs.Variables.{cases}

@@ -1,5 +1,5 @@
 -- A term as it is written passes the tests of its meaning, where variables have the sorts of their places.
-use Rattle.std.proofs.Common.{◌≡◌, is_some, ℕ, ◌+◌, List, [], ◌∷◌, length, map, refl, ap, ap₂, sym, ◌∙◌, subst, arith, ◌||◌, true, false, cond, if◌then◌else◌, inl, inr, ◌<◌, ◌≤◌, ◌^◌, ◌++◌, length-append}
+use Rattle.std.proofs.Common.{◌≡◌, is_some, ℕ, ◌+◌, List, [], ◌∷◌, length, map, refl, ap, ap₂, sym, ◌∙◌, subst, arith, ◌||◌, true, cond, inl, inr, ◌<◌, ◌≤◌, ◌^◌}
 use Rattle.std.specs.Prelude.{decimal, bytes_eq}
 use Rattle.std.specs.List.{AllByRecursion}
 use Rattle.std.proofs.lemmas.List.{length-map}
@@ -17,7 +17,7 @@ use Rattle.psg_defcheck.specs.Meanings.{KnowsTerm, CountsTerm, IsArity, Accepts,
 use Rattle.psg_defread.specs.WrittenLines.{sort_name, term_written}
 use Rattle.psg_defread.proofs.NumberNames.{name-found, decimals-apart}
 use Rattle.psg_defread.proofs.PassedDeclared.{Declares, place_of, sort-placed}
-use Rattle.psg_terms.specs.Canonical.{Variable, variables, variables_of, same_variable, is_noted, noted, noted_all, first_occurrences, IsNumberedFrom}
+use Rattle.psg_terms.specs.Canonical.{Variable, variables, variables_of, same_variable, is_noted, first_occurrences, IsNumberedFrom}
 use Rattle.psg_terms.proofs.Variables.{cases, same_variable-true, true_false}
 use Rattle.psg_terms.proofs.Unique.{Each, each-front}
 use Rattle.psg_terms.proofs.RenamingLaws.{IsAmong, among-noted_all}

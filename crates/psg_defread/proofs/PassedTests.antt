@@ -12,6 +12,7 @@ use Rattle.psg_defcheck.specs.Scopes.{sort_names, constructor_names, kind_names,
 use Rattle.psg_defcheck.specs.Meanings.{IsNew, IsKnown, IsCounted, IsSorted, HasEntity, HasGround, HasChoice}
 use Rattle.psg_defcheck.proofs.AboveLaws.{sort_names-append, constructor_names-append, operator_names-append, space_names-append}
 use Rattle.psg_defnumber.specs.Numbers.{IsNumbered}
+use Rattle.psg_defnumber.proofs.OnceLaws.{kind_names-append}
 use Rattle.psg_defcheck.specs.Faults.{ArePassed}
 use Rattle.psg_defread.proofs.Blocks.{joined}
 
@@ -68,12 +69,6 @@ each-apart xs (y ∷ ys) zs h =
     (once-apart xs (ys ++ zs) y h, each-apart xs ys zs (once-without xs (ys ++ zs) y h))
 
 -- ---- none is declared above
-
-kind_names-append : (xs ys : List Line) → kind_names (xs ++ ys) ≡ kind_names xs ++ kind_names ys
-kind_names-append [] ys = refl
-kind_names-append (lines.Phylum n s b ∷ xs) ys = ap (λ q. n ∷ q) (kind_names-append xs ys)
-kind_names-append (lines.List n s e w b f ∷ xs) ys = ap (λ q. n ∷ q) (kind_names-append xs ys)
-kind_names-append (_ ∷ xs) ys = kind_names-append xs ys
 
 module _ {version : ℕ} (file : List Line) (def : Definition) (numbered : IsNumbered version file def) (above rest : List Line) where
   new-kind : (line : Line) (name : Name) → kind_names (line ∷ rest) ≡ name ∷ kind_names rest

@@ -1,13 +1,11 @@
 -- Sorts and their constructors in order.
-use Rattle.std.proofs.Common.{◌≡◌, ◌==◌, ℕ, ◌+◌, ◌<◌, ◌≤◌, true, false, cond, zero, suc, List, [], ◌∷◌, ◌++◌, map, take, length, get_or, length-append, refl, ap, ap₂, sym, ◌∙◌, subst, append_assoc, arith}
+use Rattle.std.proofs.Common.{◌≡◌, ◌==◌, ℕ, ◌+◌, ◌<◌, ◌≤◌, true, false, cond, zero, suc, List, [], ◌∷◌, ◌++◌, map, take, drop, length, get_or, length-append, refl, ap, ap₂, sym, ◌∙◌, subst, append_assoc, append-nil, arith}
 use Rattle.std.specs.List.{AllByRecursion}
-use Rattle.std.proofs.lemmas.List.{take_all, take_more}
+use Rattle.std.proofs.lemmas.List.{take_all, drop_all}
 use Rattle.psg_terms.specs.Names.{Name}
 use Rattle.psg_terms.specs.Signature.{Symbol, constructors_from}
 use Rattle.psg_terms.specs.Marks.{con_numbers}
-use Rattle.psg_terms.specs.Kept.{numbers_of}
 use Rattle.psg_terms.specs.declared.sorts.ConId.{ConId}
-use Rattle.psg_terms.specs.declared.sorts.SortId.{SortId}
 use Rattle.psg_terms.specs.declared.declare.ConDecl.{ConDecl}
 use Rattle.psg_grammar.specs.declared.types.Definition.{Definition}
 use Rattle.psg_deflines.specs.declared.lines.Line.{Line}
@@ -15,32 +13,6 @@ use Rattle.psg_deflines.specs.declared.lines.Line.TheVariants as lines
 use Rattle.psg_defread.specs.WrittenLines.{name_at, sort_name, constructor_name, constructors_written, sort_lines}
 use Rattle.psg_defread.specs.ConstructorAt.{constructor_at}
 use Rattle.psg_defread.proofs.NumberAll.{all-mapped}
-
--- ---- lists of numbers
-
-numbers-snoc : {Y : Type 0} (f : ℕ → Y) (l : List SortId) (x : SortId)
-    → map f (numbers_of (l ++ x ∷ [])) ≡ map f (numbers_of l) ++ f x.0 ∷ []
-numbers-snoc f [] x = refl
-numbers-snoc f (z ∷ l) x = ap (λ r. f z.0 ∷ r) (numbers-snoc f l x)
-
-pub numbers-next : {Y : Type 0} (f : ℕ → Y) (xs : List SortId) (i : ℕ) (d : SortId) (y : Y) (before after : List Y)
-    → i < length xs → y ≡ f (get_or xs i d).0 → after ≡ before ++ y ∷ []
-    → before ≡ map f (numbers_of (take i xs)) → after ≡ map f (numbers_of (take (i + 1) xs))
-numbers-next f xs i d y before after h s a b =
-    a ∙ ap₂ (λ l z. l ++ z ∷ []) b s
-    ∙ sym (ap (λ l. map f (numbers_of l)) (take_more xs i d h) ∙ numbers-snoc f (take i xs) (get_or xs i d))
-
-constructors-snoc : {Y : Type 0} (f : ℕ → Y) (l : List ConId) (x : ConId)
-    → map f (con_numbers (l ++ x ∷ [])) ≡ map f (con_numbers l) ++ f x.0 ∷ []
-constructors-snoc f [] x = refl
-constructors-snoc f (z ∷ l) x = ap (λ r. f z.0 ∷ r) (constructors-snoc f l x)
-
-pub constructors-next : {Y : Type 0} (f : ℕ → Y) (xs : List ConId) (i : ℕ) (d : ConId) (y : Y) (before after : List Y)
-    → i < length xs → y ≡ f (get_or xs i d).0 → after ≡ before ++ y ∷ []
-    → before ≡ map f (con_numbers (take i xs)) → after ≡ map f (con_numbers (take (i + 1) xs))
-constructors-next f xs i d y before after h s a b =
-    a ∙ ap₂ (λ l z. l ++ z ∷ []) b s
-    ∙ sym (ap (λ l. map f (con_numbers l)) (take_more xs i d h) ∙ constructors-snoc f (take i xs) (get_or xs i d))
 
 -- ---- the constructors of a sort
 
@@ -108,10 +80,11 @@ module _ (def : Definition) where
 
   pub constructors-are : (sort : ℕ) (ids : List ConId) (i : ℕ) (now : List ConDecl)
       → con_numbers ids ≡ constructors_from 0 sort def.signature.symbols → length ids ≤ i
-      → now ≡ map (constructor_at def) (con_numbers (take i ids))
+      → now ++ map (constructor_at def) (con_numbers (drop i ids)) ≡ map (constructor_at def) (con_numbers ids)
       → now ≡ constructors_written def sort def.signature.symbols
   constructors-are sort ids i now e l h =
-      h ∙ ap (λ xs. map (constructor_at def) (con_numbers xs)) (take_all i ids l) ∙ ap (map (constructor_at def)) e
+      sym (ap (λ xs. now ++ map (constructor_at def) (con_numbers xs)) (drop_all i ids l) ∙ append-nil now) ∙ h
+      ∙ ap (map (constructor_at def)) e
       ∙ constructors-from sort [] def.signature.symbols refl
 
   -- ---- sorts

@@ -1,5 +1,5 @@
 //! The lines of the rows of lists.
-ghost use Rattle.std.specs.Prelude.{◌≡◌, ◌++◌, map, IfOk, OnOk};
+ghost use Rattle.std.specs.Prelude.{◌≡◌, ◌++◌, IfOk, OnOk};
 ghost use Rattle.std.specs.List.{flat_map};
 ghost use Rattle.psg_deflines.specs.declared.lines.Line.TheVariants as lines;
 ghost use Rattle.psg_defread.specs.WrittenLines.{cell_line, cell_lines, nil_lines, term_written};

@@ -1,7 +1,7 @@
 //! Specimens with names in place of positions.
-ghost use Rattle.std.specs.Prelude.{◌≡◌, IfOk, decimal, string_bytes};
+ghost use Rattle.std.specs.Prelude.{◌≡◌, IfOk, decimal};
 ghost use Rattle.psg_deflines.specs.WrittenTrees.{WrittenTree, operator};
-ghost use Rattle.psg_deflines.specs.TreeShapes.{with_part, with_parts, ending};
+ghost use Rattle.psg_deflines.specs.TreeShapes.{with_part, ending};
 ghost use Rattle.psg_defread.specs.WrittenLines.{kind_name, term_written, end_written, part_written, tree_written};
 
 use crate::names::{kind_name, operator_name};

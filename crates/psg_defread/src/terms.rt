@@ -1,5 +1,5 @@
 //! Terms with names in place of positions.
-ghost use Rattle.std.specs.Prelude.{◌≡◌, IfOk, map, decimal, string_bytes};
+ghost use Rattle.std.specs.Prelude.{◌≡◌, IfOk, map, decimal};
 ghost use Rattle.psg_deflines.specs.WrittenTerms.{variable, named, applied};
 ghost use Rattle.psg_defread.specs.WrittenLines.{constructor_name, term_at, term_written};
 

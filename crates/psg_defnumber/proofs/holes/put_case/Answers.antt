@@ -1,3 +1,6 @@
+use Rattle.std.proofs.Common.{ap, subst, ◌∙◌, ◌∷◌, [], Some}
+use Rattle.psg_deflines.specs.Entries.{written}
+use Rattle.psg_defnumber.specs.Placing.{CasesFit}
 use Rattle.psg_deflines.specs.declared.lines.Line.TheVariants as lines
 use Rattle.psg_defnumber.proofs.LineLaws.{case-put}
 use Rattle.psg_defnumber.proofs.NamedLaws.{known-line}
@@ -8,6 +11,10 @@ case-requires-clause-tree c = (known-line c.args.checked.now c.args.entry.now c.
 
 pub case-requires-clause-term : goal.case-requires-clause-term
 case-requires-clause-term c = (known-line c.args.checked.now c.args.entry.now c.in-Some.line (lines.Case c.in-Case.term c.in-Case.specimen) c.requires.known c.in-Some.is c.in-Case.is).0
+
+pub case-requires-clause-fits : goal.case-requires-clause-fits
+case-requires-clause-fits c =
+    (subst (λ e. CasesFit c.args.checked.now c.args.kind (written (e ∷ []))) (c.in-Some.is ∙ ap Some c.in-Case.is) c.requires.fits).0
 
 pub returns : goal.returns
 returns c = λ rest.

@@ -1,10 +1,20 @@
 use Rattle.psg_deflines.specs.declared.lines.Line.TheVariants as lines
+use Rattle.psg_defcheck.specs.Scopes.{element_place}
 use Rattle.psg_defnumber.proofs.LineLaws.{declare-put}
-use Rattle.psg_defnumber.proofs.NamedLaws.{known-line}
+use Rattle.psg_defnumber.proofs.NamedLaws.{known-line, meant-line}
 use Rattle.psg_defnumber.proofs.holes.put_declare_row.Goals as goal
 
 pub declare_row-requires-clause-space : goal.declare_row-requires-clause-space
 declare_row-requires-clause-space c = (known-line c.args.checked.now c.args.entry.now c.in-Some.line (lines.Declare c.in-Declare.space c.in-Declare.list c.in-Declare.entity c.in-Declare.value c.in-Declare.specimen) c.requires.known c.in-Some.is c.in-Declare.is).0
+
+pub declare_row-requires-clause-spaces : goal.declare_row-requires-clause-spaces
+declare_row-requires-clause-spaces c =
+    (meant-line c.args.checked.now c.args.entry.now c.in-Some.line (lines.Declare c.in-Declare.space c.in-Declare.list c.in-Declare.entity c.in-Declare.value c.in-Declare.specimen) c.requires.known c.in-Some.is c.in-Declare.is).entity
+
+pub declare_row-requires-clause-fits : goal.declare_row-requires-clause-fits
+declare_row-requires-clause-fits c = λ phylum at.
+    let sorted = (meant-line c.args.checked.now c.args.entry.now c.in-Some.line (lines.Declare c.in-Declare.space c.in-Declare.list c.in-Declare.entity c.in-Declare.value c.in-Declare.specimen) c.requires.known c.in-Some.is c.in-Declare.is).sorted in
+    record { spot = element_place c.args.checked.now c.in-Declare.list; sorts = sorted.0; place = at; sorted = sorted.1.2 }
 
 pub declare_row-requires-clause-list : goal.declare_row-requires-clause-list
 declare_row-requires-clause-list c = (known-line c.args.checked.now c.args.entry.now c.in-Some.line (lines.Declare c.in-Declare.space c.in-Declare.list c.in-Declare.entity c.in-Declare.value c.in-Declare.specimen) c.requires.known c.in-Some.is c.in-Declare.is).1

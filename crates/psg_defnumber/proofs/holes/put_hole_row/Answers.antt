@@ -1,6 +1,10 @@
+use Rattle.std.proofs.Common.{ap, subst, ◌∙◌, ◌∷◌, ◌++◌, [], Some, None}
+use Rattle.psg_deflines.specs.Entries.{written}
+use Rattle.psg_defcheck.specs.Faults.{ArePassed}
+use Rattle.psg_defcheck.proofs.AboveLaws.{last_hole-append}
 use Rattle.psg_deflines.specs.declared.lines.Line.TheVariants as lines
 use Rattle.psg_defnumber.proofs.LineLaws.{hole-put}
-use Rattle.psg_defnumber.proofs.NamedLaws.{known-line}
+use Rattle.psg_defnumber.proofs.NamedLaws.{known-line, meant-line}
 use Rattle.psg_defnumber.proofs.holes.put_hole_row.Goals as goal
 
 pub hole_row-requires-clause-kind : goal.hole_row-requires-clause-kind
@@ -11,6 +15,19 @@ hole_row-requires-clause-specimen c = (known-line c.args.checked.now c.args.entr
 
 pub hole_row-requires-clause-term : goal.hole_row-requires-clause-term
 hole_row-requires-clause-term c = (known-line c.args.checked.now c.args.entry.now c.in-Some.line (lines.Hole c.in-Hole.kind c.in-Hole.term c.in-Hole.specimen) c.requires.known c.in-Some.is c.in-Hole.is).1
+
+pub hole_row-requires-clause-sorted : goal.hole_row-requires-clause-sorted
+hole_row-requires-clause-sorted c =
+    let sorted = (meant-line c.args.checked.now c.args.entry.now c.in-Some.line (lines.Hole c.in-Hole.kind c.in-Hole.term c.in-Hole.specimen) c.requires.known c.in-Some.is c.in-Hole.is).sorted in (sorted.0, sorted.1.1)
+
+pub hole_row-requires-clause-passed : goal.hole_row-requires-clause-passed
+hole_row-requires-clause-passed c =
+    let above = c.requires.passed.0 in
+    let passed = subst (λ e. ArePassed c.args.checked.now above (written (e ∷ c.args.behind.now))) (c.in-Some.is ∙ ap Some c.in-Hole.is) c.requires.passed.1 in (
+      above ++ lines.Hole c.in-Hole.kind c.in-Hole.term c.in-Hole.specimen ∷ [],
+      last_hole-append None above (lines.Hole c.in-Hole.kind c.in-Hole.term c.in-Hole.specimen ∷ []),
+      passed.1,
+    )
 
 pub returns : goal.returns
 returns c =

@@ -1,8 +1,8 @@
 use Rattle.std.proofs.Common.{take}
 use Rattle.psg_deflines.specs.Entries.{written}
+use Rattle.psg_defnumber.proofs.MadeLaws.{keeps-self}
 use Rattle.psg_defnumber.proofs.ListRowLaws.{fills-none, fills-next, fills-all}
-use Rattle.psg_defnumber.proofs.NamedLaws.{known-at, lists-names}
-use Rattle.psg_defnumber.proofs.StageLaws.{keeps-self}
+use Rattle.psg_defnumber.proofs.NamedLaws.{known-at, lists-names, lists-elements}
 use Rattle.psg_defnumber.proofs.list_rows.fill_lists.Goals as goal
 
 pub put_list_row-requires-clause-known : goal.put_list_row-requires-clause-known
@@ -11,6 +11,11 @@ put_list_row-requires-clause-known c = known-at c.args.checked.now c.args.entrie
 pub put_list_row-requires-clause-lists : goal.put_list_row-requires-clause-lists
 put_list_row-requires-clause-lists c =
     lists-names c.args.def.now (written (take c.loop-entry.entry-index c.args.entries.now)) c.args.checked.now c.loop-entry.lists.items
+    (c.loop-entry.invariant c.args.checked.now c.requires.once c.args.def.now (keeps-self c.args.def.now) c.requires.lists)
+
+pub put_list_row-requires-clause-elements : goal.put_list_row-requires-clause-elements
+put_list_row-requires-clause-elements c =
+    lists-elements c.args.def.now (written (take c.loop-entry.entry-index c.args.entries.now)) c.args.checked.now c.loop-entry.lists.items
     (c.loop-entry.invariant c.args.checked.now c.requires.once c.args.def.now (keeps-self c.args.def.now) c.requires.lists)
 
 pub loop-entry-init : goal.loop-entry-init

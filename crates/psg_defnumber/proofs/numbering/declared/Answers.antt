@@ -2,15 +2,23 @@ use Rattle.std.proofs.Common.{[], subst, sym}
 use Rattle.psg_grammar.specs.declared.types.Definition.{Definition}
 use Rattle.psg_deflines.specs.Entries.{written}
 use Rattle.psg_defcheck.specs.Scopes as scopes
+use Rattle.psg_defcheck.specs.Faults.{ArePassed}
 use Rattle.psg_defnumber.specs.Declaring.{HasConstructors, HasKinds}
 use Rattle.psg_defnumber.specs.Filling.{Fills}
 use Rattle.psg_defnumber.specs.Growing.{Lasts}
 use Rattle.psg_defnumber.specs.Numbers.{AreSpaces, ArePhyla, AreLists, AreOperators}
+use Rattle.psg_defnumber.specs.Soundness.{AreOfFile}
 use Rattle.psg_defnumber.specs.Stages.{IsDeclared}
 use Rattle.psg_defnumber.proofs.NamedLaws.{lines-known}
 use Rattle.psg_defnumber.proofs.OnceLaws.{kinds-once}
 use Rattle.psg_defnumber.proofs.StageLaws.{filled, bare-of, constructors-of, kinds-of, is-declared}
 use Rattle.psg_defnumber.proofs.numbering.declared.Goals as goal
+
+pub signature-requires-clause-passed : goal.signature-requires-clause-passed
+signature-requires-clause-passed c = subst (λ file. ArePassed file [] file) (sym c.requires.lines) c.requires.passed
+
+pub signature-requires-clause-few : goal.signature-requires-clause-few
+signature-requires-clause-few c = subst AreOfFile (sym c.requires.lines) c.requires.few
 
 pub spaces-requires : goal.spaces-requires
 spaces-requires c = lines-known c.args.checked.now c.args.entries.now c.requires.lines c.requires.passed

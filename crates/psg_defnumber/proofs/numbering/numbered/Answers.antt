@@ -1,4 +1,5 @@
-use Rattle.std.proofs.Common.{subst, sym}
+use Rattle.std.proofs.Common.{[], subst, sym}
+use Rattle.psg_defcheck.specs.Faults.{ArePassed}
 use Rattle.psg_deflines.specs.Entries.{written}
 use Rattle.psg_defnumber.specs.Growing.{Lasts}
 use Rattle.psg_defnumber.specs.Numbers.{AreHoleRows, AreDeclareRows}
@@ -11,13 +12,17 @@ pub hole_rows-requires-clause-known : goal.hole_rows-requires-clause-known
 hole_rows-requires-clause-known c = lines-known c.args.checked.now c.entries-entries.result.now c.entries-entries.ensures.lines c.entries-entries.ensures.passed
 
 pub hole_rows-requires-clause-names : goal.hole_rows-requires-clause-names
-hole_rows-requires-clause-names c = names-of c.args.version (written c.entries-entries.result.now) c.args.checked.now c.in_ok-def.def c.entries-entries.ensures.lines c.in_ok-def.ensures
+hole_rows-requires-clause-names c = names-of c.args.version (written c.entries-entries.result.now) c.args.checked.now c.in_ok-def.def c.entries-entries.ensures.lines c.entries-entries.ensures.passed c.in_ok-def.ensures
+
+pub hole_rows-requires-clause-passed : goal.hole_rows-requires-clause-passed
+hole_rows-requires-clause-passed c =
+    ([], subst (ArePassed c.args.checked.now []) (sym c.entries-entries.ensures.lines) c.entries-entries.ensures.passed)
 
 pub declare_rows-requires-clause-known : goal.declare_rows-requires-clause-known
 declare_rows-requires-clause-known c = lines-known c.args.checked.now c.entries-entries.result.now c.entries-entries.ensures.lines c.entries-entries.ensures.passed
 
 pub declare_rows-requires-clause-names : goal.declare_rows-requires-clause-names
-declare_rows-requires-clause-names c = names-of c.args.version (written c.entries-entries.result.now) c.args.checked.now c.in_ok-def.def c.entries-entries.ensures.lines c.in_ok-def.ensures
+declare_rows-requires-clause-names c = names-of c.args.version (written c.entries-entries.result.now) c.args.checked.now c.in_ok-def.def c.entries-entries.ensures.lines c.entries-entries.ensures.passed c.in_ok-def.ensures
 
 pub returns-clause-numbered : goal.returns-clause-numbered
 returns-clause-numbered c =

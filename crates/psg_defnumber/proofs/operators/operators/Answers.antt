@@ -1,7 +1,7 @@
 use Rattle.std.proofs.Common.{◌+◌, refl, subst, sym}
 use Rattle.std.specs.List.{AllByRecursion}
 use Rattle.psg_deflines.specs.Entries.{written}
-use Rattle.psg_defcheck.specs.Meanings.{IsKnown}
+use Rattle.psg_defnumber.specs.Declaring.{IsMeant}
 use Rattle.psg_defnumber.specs.Putting.{Puts, ReadsOperators}
 use Rattle.psg_deflines.proofs.Lists.{rest-whole}
 use Rattle.psg_defnumber.proofs.PutLaws.{reads-next, reads-end}
@@ -13,7 +13,7 @@ put_operator-requires-clause-known c = known-at c.args.checked.now c.args.entrie
 
 pub put_operator-requires-clause-behind : goal.put_operator-requires-clause-behind
 put_operator-requires-clause-behind c =
-    subst (λ l. AllByRecursion (IsKnown c.args.checked.now) (written l)) (sym (rest-whole c.args.entries.now (c.loop-i.i + 1))) (known-drop c.args.checked.now (c.loop-i.i + 1) c.args.entries.now c.requires.known)
+    subst (λ l. AllByRecursion (IsMeant c.args.checked.now) (written l)) (sym (rest-whole c.args.entries.now (c.loop-i.i + 1))) (known-drop c.args.checked.now (c.loop-i.i + 1) c.args.entries.now c.requires.known)
 
 pub loop-i-preserved : goal.loop-i-preserved
 loop-i-preserved c =

@@ -1,13 +1,16 @@
-use Rattle.std.proofs.Common.{ap, refl, subst, sym, ◌∙◌}
-use Rattle.std.specs.List.{AllByRecursion}
+use Rattle.std.proofs.Common.{◌≡◌, ◌⊎◌, false, IsTrue, is_some, ap, refl, subst, sym, ◌∙◌}
+use Rattle.std.specs.List.{AllByRecursion, list_any}
 use Rattle.psg_terms.specs.Kept.{numbers_of}
-use Rattle.psg_grammar.specs.Sound.{AreColumns}
+use Rattle.psg_grammar.specs.declared.types.Kind.TheVariants as kinds
+use Rattle.psg_grammar.specs.Sound.{AreColumns, IsItem}
 use Rattle.psg_deflines.specs.Entries.{written}
 use Rattle.psg_deflines.specs.declared.lines.Line.TheVariants as lines
-use Rattle.psg_defcheck.specs.Meanings.{KnowsItem}
+use Rattle.psg_defcheck.specs.Meanings.{KnowsItem, is_name_item}
+use Rattle.psg_defcheck.specs.Scopes.{entity_sort}
+use Rattle.psg_defnumber.proofs.MadeLaws.{keeps-self}
 use Rattle.psg_defnumber.specs.Growing.{Lasts}
 use Rattle.psg_defnumber.specs.Numbers.{AreItems, AreRows}
-use Rattle.psg_defnumber.proofs.NamedLaws.{known-line, phylum-is}
+use Rattle.psg_defnumber.proofs.NamedLaws.{known-line, meant-line, phylum-is, kind-there, items-there}
 use Rattle.psg_defnumber.proofs.LineLaws.{operator-put}
 use Rattle.psg_defnumber.proofs.operators.put_operator.Goals as goal
 
@@ -20,12 +23,24 @@ items-requires-clause-known c =
     subst (AllByRecursion (KnowsItem c.args.checked.now)) (sym c.as_slice.ensures)
     (known-line c.args.checked.now c.args.entry.now c.in-Some.line (lines.Operator c.in-Operator.name c.in-Operator.phylum c.in-Operator.scope c.in-Operator.level c.in-Operator.parts) c.requires.known c.in-Some.is c.in-Operator.is).1
 
+pub phylum_sort-sort-requires : goal.phylum_sort-sort-requires
+phylum_sort-sort-requires c =
+    kind-there c.args.checked.now (kinds.Phylum c.phylum_named-phylum.result) c.in-Operator.phylum c.phylum_named-phylum.ensures c.args.def.now c.requires.kinds
+
+pub columns-requires : goal.columns-requires
+columns-requires c =
+    let line = meant-line c.args.checked.now c.args.entry.now c.in-Some.line (lines.Operator c.in-Operator.name c.in-Operator.phylum c.in-Operator.scope c.in-Operator.level c.in-Operator.parts) c.requires.known c.in-Some.is c.in-Operator.is in
+    subst (AllByRecursion (IsItem c.args.def.now)) (sym c.as_slice-2.ensures.value)
+    (items-there c.args.checked.now c.args.def.now c.requires.kinds c.as_slice.result.now c.in_ok-items.items.items
+    (subst (λ parts. (list_any is_name_item parts ≡ false) ⊎ IsTrue (is_some (entity_sort c.args.checked.now))) (sym c.as_slice.ensures) line.entity)
+    (c.in_ok-items.ensures c.args.def.now (keeps-self c.args.def.now)))
+
 pub returns : goal.returns
 returns c =
-    operator-put c.args.def.now c.args.entry.now c.in-Some.line c.in-Operator.name c.in-Operator.phylum c.in-Operator.scope c.in-Operator.level c.as_slice.result.now c.args.behind.now c.args.made.now.items c.push.new.self.items _ c.in_ok-sort.sort.0 c.as_slice-3.result.now
+    operator-put c.args.def.now c.args.entry.now c.in-Some.line c.in-Operator.name c.in-Operator.phylum c.in-Operator.scope c.in-Operator.level c.as_slice.result.now c.args.behind.now c.args.made.now.items c.push.new.self.items _ c.phylum_sort-sort.result.0 c.as_slice-3.result.now
     c.in-Some.is (c.in-Operator.is ∙ ap (lines.Operator c.in-Operator.name c.in-Operator.phylum c.in-Operator.scope c.in-Operator.level) (sym c.as_slice.ensures)) c.in_ok-push.ensures.items c.in_ok-name.ensures (phylum-is c.args.checked.now c.phylum_named-phylum.result c.in-Operator.phylum c.phylum_named-phylum.ensures c.args.def.now c.requires.kinds.phyla) refl refl
     (subst (λ is. Lasts c.args.def.now (λ full. AreItems full c.as_slice.result.now is)) (sym c.of.ensures) c.in_ok-items.ensures)
-    c.in_ok-sort.ensures
+    c.phylum_sort-sort.ensures
     (subst (λ is. Lasts c.args.def.now (λ full. AreColumns full is (numbers_of c.as_slice-3.result.now))) (c.as_slice-2.ensures.value ∙ sym c.of.ensures)
     (subst (λ ss. Lasts c.args.def.now (λ full. AreColumns full c.as_slice-2.result.now (numbers_of ss))) (sym c.as_slice-3.ensures.value) c.in_ok-sorts.ensures))
-    (subst (λ rs. Lasts c.args.def.now (λ full. AreRows full c.in_ok-sort.sort.0 (numbers_of c.as_slice-3.result.now) (written c.args.behind.now) rs)) (sym c.of-2.ensures) c.in_ok-rows.ensures)
+    (subst (λ rs. Lasts c.args.def.now (λ full. AreRows full c.phylum_sort-sort.result.0 (numbers_of c.as_slice-3.result.now) (written c.args.behind.now) rs)) (sym c.of-2.ensures) c.in_ok-rows.ensures)

@@ -1,20 +1,39 @@
 use Rattle.std.proofs.Common.{ap, arith, refl, subst, sym, ◌∙◌}
-use Rattle.std.proofs.lemmas.Bool.{eqb-true}
 use Rattle.psg_deflines.specs.WrittenTrees.{operator}
 use Rattle.psg_deflines.specs.TreeShapes.{with_parts, ending, list_of, tree_of}
-use Rattle.psg_defcheck.proofs.TreeLaws.{operator-parts, list-elements, part_below, element_below}
+use Rattle.psg_defcheck.proofs.TreeLaws.{operator-parts, list-elements, part_below, part_tree, element_below}
 use Rattle.psg_defcheck.proofs.SortLaws.{all-at}
 use Rattle.psg_defcheck.proofs.TreeSortLaws.{known_parts, known_end, known_elements}
+use Rattle.psg_defnumber.proofs.MadeLaws.{keeps-self}
 use Rattle.psg_defnumber.proofs.NamedLaws.{operator-known, place-known}
-use Rattle.psg_defnumber.proofs.FitLaws.{slot-made, parts-next, elements-next, operator-made, list-made, hole-made, items_now}
+use Rattle.psg_defnumber.proofs.FitLaws.{slot-made, parts-next, parts-all, elements-next, operator-made, list-made, hole-made, items_now, items-named}
 use Rattle.psg_grammar.specs.Lookups.{part_items}
 use Rattle.psg_defnumber.specs.Fitting.{IsMade, part_terms, element_terms, PartsFit, ElementsFit}
+use Rattle.std.proofs.Common.{ℕ, ◌<◌}
+use Rattle.std.specs.Borrow.{Bor}
+use Rattle.std.proofs.lemmas.Option.{slice_get_within}
+use Rattle.psg_grammar.specs.declared.types.Item.{Item}
+use Rattle.psg_grammar.specs.Sound.{HasKindSort, IsItem}
+use Rattle.psg_grammar.proofs.SoundParts.{each_at}
+use Rattle.psg_defcheck.specs.Parts.{KnowsPart}
+use Rattle.psg_defnumber.specs.Declaring.{HasElements, HasItems}
+use Rattle.psg_grammar.specs.declared.types.Kind.TheVariants as kinds
+use Rattle.psg_defnumber.proofs.PlacingLaws.{element-at, tree-at, part-at, parts-count, operator-parts-fit, list-fits, list-parts-fit, place-fits, made-kind}
+use Rattle.psg_defnumber.specs.Placing.{ArePartsAt}
 use Rattle.psg_defnumber.proofs.specimens.+specimen.Goals as goal
 
 pub elements-specimen-requires : goal.elements-specimen-requires
 elements-specimen-requires t c =
-    let lt = element_below c.args.written.now c.loop-tree.tree-index c.tree-item.result c.loop-tree-test.true c.tree-item.is in
-    (omega arith, (all-at _ c.args.written.now c.loop-tree.tree-index c.tree-item.result c.requires.declared c.loop-tree-test.true c.tree-item.is, c.requires.names))
+    let lt = element_below c.args.written.now c.loop-tree.tree-index c.tree-item.result c.loop-tree-test.true c.tree-item.is in (
+      omega arith,
+      (
+        all-at _ c.args.written.now c.loop-tree.tree-index c.tree-item.result c.requires.declared c.loop-tree-test.true c.tree-item.is,
+        (
+          c.requires.names,
+          (c.requires.there, element-at c.args.checked.now (kinds.Phylum c.args.phylum) c.args.written.now c.loop-tree.tree-index c.tree-item.result c.requires.fits c.loop-tree-test.true c.tree-item.is),
+        ),
+      ),
+    )
 
 pub elements-loop-tree-preserved : goal.elements-loop-tree-preserved
 elements-loop-tree-preserved t c =
@@ -25,27 +44,99 @@ pub part-returns-in_ok-made-in-Slot : goal.part-returns-in_ok-made-in-Slot
 part-returns-in_ok-made-in-Slot t c =
     slot-made c.args.def.now c.args.known.now.entries c.specimen.new.known.entries c.args.item.now c.args.written.now c.in-Slot.kind c.in-Tree.tree c.in_ok-made-in-Slot.made c.in-Slot.is c.in-Tree.is c.in_ok-made-in-Slot.ensures
 
+pub part-specimen-requires : goal.part-specimen-requires
+part-specimen-requires t c =
+    let lt = part_tree c.args.written.now c.in-Tree.tree c.in-Tree.is in
+    let known = subst (KnowsPart c.args.checked.now) c.in-Tree.is c.requires.declared in
+    let fits = tree-at c.args.checked.now c.args.item.now c.args.written.now c.in-Slot.kind c.in-Tree.tree c.in-Slot.is c.in-Tree.is c.requires.fits in
+    (omega arith, (known, (c.requires.names, (subst (IsItem c.args.def.now) c.in-Slot.is c.requires.there, fits))))
+
 pub parts-part-requires : goal.parts-part-requires
 parts-part-requires t c =
-    let lt = part_below c.args.written.now c.loop-i.i c.index-written-i.result c.loop-i-test.true c.index-written-i.is in
-    (omega arith, (all-at _ c.args.written.now c.loop-i.i c.index-written-i.result c.requires.declared c.loop-i-test.true c.index-written-i.is, c.requires.names))
+    let lt = part_below c.args.written.now c.loop-i.i c.index-written-i.result c.loop-i-test.true c.index-written-i.is in (
+      omega arith,
+      (
+        all-at _ c.args.written.now c.loop-i.i c.index-written-i.result c.requires.declared c.loop-i-test.true c.index-written-i.is,
+        (
+          c.requires.names,
+          (
+            all-at (λ (b : Bor Item). IsItem c.args.def.now b.now) c.args.items.now c.loop-i.i c.index-items-i.result c.requires.there
+                (subst (λ n. c.loop-i.i < n) (sym (parts-count c.args.checked.now c.args.items.now c.args.written.now c.requires.fits)) c.loop-i-test.true) c.index-items-i.is,
+            part-at c.args.checked.now c.args.items.now c.args.written.now c.loop-i.i c.index-items-i.result c.index-written-i.result c.requires.fits c.loop-i-test.true c.index-items-i.is c.index-written-i.is,
+          ),
+        ),
+      ),
+    )
 
 pub parts-loop-i-preserved : goal.parts-loop-i-preserved
 parts-loop-i-preserved t c =
     parts-next c.args.def.now c.args.known.now.entries c.loop-i.known.entries c.part.new.known.entries c.args.items.now c.args.written.now c.loop-i.made.items c.push.new.self.items c.loop-i.i c.index-items-i.result c.index-written-i.result c.in_ok-one.one
-    (eqb-true _ _ c.in_ok-holds.ensures) c.index-items-i.is c.loop-i-test.true c.index-written-i.is c.in_ok-push.ensures.items c.loop-i.invariant c.in_ok-one.ensures
+    (parts-count c.args.checked.now c.args.items.now c.args.written.now c.requires.fits) c.index-items-i.is c.loop-i-test.true c.index-written-i.is c.in_ok-push.ensures.items c.loop-i.invariant c.in_ok-one.ensures
+
+pub parts-bounds-items-i : goal.parts-bounds-items-i
+parts-bounds-items-i t c = subst (λ n. c.loop-i.i < n) (sym (parts-count c.args.checked.now c.args.items.now c.args.written.now c.requires.fits)) c.loop-i-test.true
+
+pub parts-returns : goal.parts-returns
+parts-returns t c =
+    parts-all c.args.def.now c.args.known.now.entries c.loop-i.known.entries c.args.items.now c.args.written.now c.loop-i.made.items c.loop-i.i (parts-count c.args.checked.now c.args.items.now c.args.written.now c.requires.fits) c.loop-i-test.false
+    c.loop-i.invariant
+
+pub specimen-unreachable-requires : goal.specimen-unreachable-requires
+specimen-unreachable-requires t c =
+    let e = sym (ap tree_of c.in-List.is) ∙ c.written.view_is in
+    let known = known_end c.args.checked.now c.args.written.now c.in-List.rest c.in-List.written e c.requires.declared in
+    let list = list-fits c.args.checked.now c.requires.names.kinds.once c.args.kind c.in-List.rest c.in-List.written c.args.written.now e known c.requires.fits in
+    c.in_default.not-List list.0 list.2
 
 pub specimen-parts-requires : goal.specimen-parts-requires
 specimen-parts-requires t c =
     let ps = c.as_slice-in-Operator-2.result.now in
     let e = ap (with_parts (operator c.in-Operator.name)) c.as_slice-in-Operator-2.ensures ∙ sym (ap tree_of c.in-Operator.is) ∙ c.written.view_is in
-    let lt = operator-parts c.args.written.now c.in-Operator.name ps ps e refl in (omega arith, (known_parts c.args.checked.now c.args.written.now c.in-Operator.name ps e c.requires.declared, c.requires.names))
+    let lt = operator-parts c.args.written.now c.in-Operator.name ps ps e refl in
+    let own = c.operator_named-op.result in
+    let at = c.operator_named-op.ensures c.args.def.now (keeps-self c.args.def.now) in (
+      omega arith,
+      (
+        known_parts c.args.checked.now c.args.written.now c.in-Operator.name ps e c.requires.declared,
+        (
+          c.requires.names,
+          (
+            items-named c.args.def.now c.as_slice-in-Operator.result.now own.1.now.items (ap items_now c.as_slice-in-Operator.ensures.value ∙ c.in_ok-items-in-Operator.ensures ∙ ap part_items c.as_slice.ensures)
+                (each_at (HasItems c.args.def.now) c.args.def.now.operators c.requires.names.items own.0 own.1.now at.0),
+            subst (λ is. ArePartsAt c.args.checked.now is ps) (sym (ap items_now c.as_slice-in-Operator.ensures.value ∙ c.in_ok-items-in-Operator.ensures ∙ ap part_items c.as_slice.ensures))
+                (operator-parts-fit c.args.checked.now c.args.def.now c.requires.names c.args.kind c.in-Operator.name ps c.args.written.now e c.requires.declared own.0 own.1.now at.0 at.1 c.requires.fits).1,
+          ),
+        ),
+      ),
+    )
 
 pub specimen-elements-requires : goal.specimen-elements-requires
 specimen-elements-requires t c =
     let es = c.as_slice-in-List.result.now in
     let e = ap (list_of (ending c.in-List.rest)) c.as_slice-in-List.ensures ∙ sym (ap tree_of c.in-List.is) ∙ c.written.view_is in
-    let lt = list-elements c.args.written.now c.in-List.rest es es e refl in (omega arith, (known_elements c.args.checked.now c.args.written.now c.in-List.rest es e c.requires.declared, c.requires.names))
+    let lt = list-elements c.args.written.now c.in-List.rest es es e refl in (
+      omega arith,
+      (
+        known_elements c.args.checked.now c.args.written.now c.in-List.rest es e c.requires.declared,
+        (
+          c.requires.names,
+          (
+            each_at (HasElements c.args.def.now) c.args.def.now.lists c.requires.names.kinds.elements c.in-List-kind.list c.list_at-own.result.now c.list_at-own.ensures,
+            (list-parts-fit c.args.checked.now c.args.def.now c.requires.names c.args.kind c.in-List.rest es c.args.written.now e c.requires.declared c.in-List-kind.list c.list_at-own.result.now c.in-List-kind.is c.list_at-own.ensures c.requires.fits).0,
+          ),
+        ),
+      ),
+    )
+
+pub specimen-list_rest-requires-clause-fits : goal.specimen-list_rest-requires-clause-fits
+specimen-list_rest-requires-clause-fits t c =
+    let es = c.as_slice-in-List.result.now in
+    let e = ap (list_of (ending c.in-List.rest)) c.as_slice-in-List.ensures ∙ sym (ap tree_of c.in-List.is) ∙ c.written.view_is in
+    (list-parts-fit c.args.checked.now c.args.def.now c.requires.names c.args.kind c.in-List.rest es c.args.written.now e c.requires.declared c.in-List-kind.list c.list_at-own.result.now c.in-List-kind.is c.list_at-own.ensures c.requires.fits).1
+
+pub specimen-list_at-own-requires : goal.specimen-list_at-own-requires
+specimen-list_at-own-requires t c =
+    let there = subst (λ k. (s : ℕ) × HasKindSort c.args.def.now k s) c.in-List-kind.is c.requires.there in slice_get_within c.args.def.now.lists c.in-List-kind.list there.1.0 there.1.1
 
 pub specimen-list_rest-requires-clause-declared : goal.specimen-list_rest-requires-clause-declared
 specimen-list_rest-requires-clause-declared t c = known_end c.args.checked.now c.args.written.now c.in-List.rest c.in-List.written (sym (ap tree_of c.in-List.is) ∙ c.written.view_is) c.requires.declared
@@ -62,7 +153,9 @@ specimen-returns-in_ok-made-in-Operator t c =
     operator-made c.args.def.now c.args.known.now.entries c.parts.new.known.entries c.args.kind c.in-Operator.name c.operator_named-op.result.0 c.operator_named-op.result.1.now (items_now c.as_slice-in-Operator.result.now) c.of.result
     c.as_slice-in-Operator-2.result.now c.args.written.now
     (ap (with_parts (operator c.in-Operator.name)) c.as_slice-in-Operator-2.ensures ∙ sym (ap tree_of c.in-Operator.is) ∙ c.written.view_is)
-    c.in_ok-same_kind-in-Operator.ensures
+    (operator-parts-fit c.args.checked.now c.args.def.now c.requires.names c.args.kind c.in-Operator.name c.as_slice-in-Operator-2.result.now c.args.written.now
+    (ap (with_parts (operator c.in-Operator.name)) c.as_slice-in-Operator-2.ensures ∙ sym (ap tree_of c.in-Operator.is) ∙ c.written.view_is)
+    c.requires.declared c.operator_named-op.result.0 c.operator_named-op.result.1.now (c.operator_named-op.ensures c.args.def.now (keeps-self c.args.def.now)).0 (c.operator_named-op.ensures c.args.def.now (keeps-self c.args.def.now)).1 c.requires.fits).0
     (ap items_now c.as_slice-in-Operator.ensures.value ∙ c.in_ok-items-in-Operator.ensures ∙ ap part_items c.as_slice.ensures)
     c.operator_named-op.ensures
     (subst (λ ps. IsMade c.args.def.now c.args.known.now.entries c.parts.new.known.entries (part_terms ps) (λ full names. PartsFit full names (items_now c.as_slice-in-Operator.result.now) ps c.as_slice-in-Operator-2.result.now))
@@ -70,16 +163,18 @@ specimen-returns-in_ok-made-in-Operator t c =
 
 pub specimen-returns-in_ok-rest-in-List : goal.specimen-returns-in_ok-rest-in-List
 specimen-returns-in_ok-rest-in-List t c =
-    list-made c.args.def.now c.args.known.now.entries c.elements.new.known.entries c.list_rest.new.known.entries c.args.kind c.in-List-kind.list c.in_ok-own-in-List.own.now c.of-in-List.result c.in_ok-rest-in-List.rest
+    list-made c.args.def.now c.args.known.now.entries c.elements.new.known.entries c.list_rest.new.known.entries c.args.kind c.in-List-kind.list c.list_at-own.result.now c.of-in-List.result c.in_ok-rest-in-List.rest
     c.as_slice-in-List.result.now c.in-List.rest c.args.written.now
     (ap (list_of (ending c.in-List.rest)) c.as_slice-in-List.ensures ∙ sym (ap tree_of c.in-List.is) ∙ c.written.view_is)
     c.in-List-kind.is
-    c.in_ok-own-in-List.ensures
-    (subst (λ ss. IsMade c.args.def.now c.args.known.now.entries c.elements.new.known.entries (element_terms ss) (λ full names. ElementsFit full names c.in_ok-own-in-List.own.now.element ss c.as_slice-in-List.result.now))
+    c.list_at-own.ensures
+    (subst (λ ss. IsMade c.args.def.now c.args.known.now.entries c.elements.new.known.entries (element_terms ss) (λ full names. ElementsFit full names c.list_at-own.result.now.element ss c.as_slice-in-List.result.now))
     (sym c.of-in-List.ensures) c.in_ok-made-in-List.ensures)
     c.in_ok-rest-in-List.ensures
 
-pub specimen-returns-in_ok-same_kind-in-Place : goal.specimen-returns-in_ok-same_kind-in-Place
-specimen-returns-in_ok-same_kind-in-Place t c =
+pub specimen-returns-in_ok-made-in-Place : goal.specimen-returns-in_ok-made-in-Place
+specimen-returns-in_ok-made-in-Place t c =
     hole-made c.args.def.now c.args.known.now.entries c.place.new.known.entries c.args.kind c.in_ok-made-in-Place.made c.in-Place.own.kind c.in-Place.own.term c.args.written.now
-    (sym (ap tree_of c.in-Place.is) ∙ c.written.view_is) c.in_ok-same_kind-in-Place.ensures c.in_ok-made-in-Place.ensures
+    (sym (ap tree_of c.in-Place.is) ∙ c.written.view_is) (place-fits c.args.checked.now c.requires.names.kinds.once c.args.kind c.in_ok-made-in-Place.made.kind c.in-Place.own c.args.written.now (sym (ap tree_of c.in-Place.is) ∙ c.written.view_is)
+    (made-kind c.args.checked.now c.args.def.now c.requires.names c.args.known.now.entries c.place.new.known.entries c.in-Place.own.kind c.in-Place.own.term c.in_ok-made-in-Place.made c.in_ok-made-in-Place.ensures) c.requires.fits)
+    c.in_ok-made-in-Place.ensures

@@ -1,6 +1,7 @@
-use Rattle.std.proofs.Common.{◌≡◌, ◌++◌, map, take}
+use Rattle.std.proofs.Common.{◌≡◌, ◌++◌, map, drop}
 use Rattle.psg_defread.specs.WrittenLines.{declare_line}
 use Rattle.psg_defread.proofs.holes.push_declares.Given as goal
 
 abbrev pub invariant-loop-i : goal.invariant-loop-i
-invariant-loop-i l = l.out.items ≡ l.initial.out.items ++ map (declare_line l.def) (take l.i l.rows)
+invariant-loop-i l =
+    l.out.items ++ map (declare_line l.def) (drop l.i l.rows) ≡ l.initial.out.items ++ map (declare_line l.def) l.rows

@@ -1,6 +1,7 @@
-use Rattle.std.proofs.Common.{◌≡◌, ◌++◌, map, take}
+use Rattle.std.proofs.Common.{◌≡◌, ◌++◌, map, drop}
 use Rattle.psg_defread.specs.WrittenLines.{list_line}
 use Rattle.psg_defread.proofs.kinds.push_lists.Given as goal
 
 abbrev pub invariant-loop-i : goal.invariant-loop-i
-invariant-loop-i l = l.out.items ≡ l.initial.out.items ++ map (list_line l.def) (take l.i l.lists)
+invariant-loop-i l =
+    l.out.items ++ map (list_line l.def) (drop l.i l.lists) ≡ l.initial.out.items ++ map (list_line l.def) l.lists

@@ -1,6 +1,7 @@
-use Rattle.std.proofs.Common.{◌≡◌, ◌++◌, map, take}
+use Rattle.std.proofs.Common.{◌≡◌, ◌++◌, map, drop}
 use Rattle.psg_defread.specs.WrittenLines.{phylum_line}
 use Rattle.psg_defread.proofs.kinds.push_phyla.Given as goal
 
 abbrev pub invariant-loop-i : goal.invariant-loop-i
-invariant-loop-i l = l.out.items ≡ l.initial.out.items ++ map (phylum_line l.def) (take l.i l.phyla)
+invariant-loop-i l =
+    l.out.items ++ map (phylum_line l.def) (drop l.i l.phyla) ≡ l.initial.out.items ++ map (phylum_line l.def) l.phyla

@@ -1,6 +1,7 @@
-use Rattle.std.proofs.Common.{◌≡◌, ◌++◌, map, take}
+use Rattle.std.proofs.Common.{◌≡◌, ◌++◌, map, drop}
 use Rattle.psg_defread.specs.WrittenLines.{space_line}
 use Rattle.psg_defread.proofs.kinds.push_spaces.Given as goal
 
 abbrev pub invariant-loop-i : goal.invariant-loop-i
-invariant-loop-i l = l.out.items ≡ l.initial.out.items ++ map (space_line l.def) (take l.i l.spaces)
+invariant-loop-i l =
+    l.out.items ++ map (space_line l.def) (drop l.i l.spaces) ≡ l.initial.out.items ++ map (space_line l.def) l.spaces

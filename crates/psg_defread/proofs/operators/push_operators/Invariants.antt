@@ -1,7 +1,8 @@
-use Rattle.std.proofs.Common.{◌≡◌, ◌++◌, take}
+use Rattle.std.proofs.Common.{◌≡◌, ◌++◌, drop}
 use Rattle.std.specs.List.{flat_map}
 use Rattle.psg_defread.specs.WrittenLines.{operator_lines}
 use Rattle.psg_defread.proofs.operators.push_operators.Given as goal
 
 abbrev pub invariant-loop-i : goal.invariant-loop-i
-invariant-loop-i l = l.out.items ≡ l.initial.out.items ++ flat_map (operator_lines l.def) (take l.i l.operators)
+invariant-loop-i l =
+    l.out.items ++ flat_map (operator_lines l.def) (drop l.i l.operators) ≡ l.initial.out.items ++ flat_map (operator_lines l.def) l.operators

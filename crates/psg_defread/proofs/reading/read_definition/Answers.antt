@@ -1,4 +1,4 @@
-use Rattle.std.proofs.Common.{◌≡◌, ◌∙◌, [], ◌+◌, ◌<◌, ◌≤◌, length, arith, sym, ap, subst}
+use Rattle.std.proofs.Common.{◌∙◌, [], length, arith, sym, ap, subst}
 use Rattle.std.specs.Str.Lines.{lines as lines_of}
 use Rattle.std.specs.List.{AllByRecursion}
 use Rattle.psg_deflines.specs.Entries.{IsPlain, behind_head, written}
@@ -19,8 +19,20 @@ of-requires-clause-few c =
     let few = few_entries c.in_ok-found.found.version c.args.bytes.now c.in_ok-found.found.entries.items read.spelled.spelled.head read.spelled.spelled.each in
     omega (arith, few.0, ap length c.as_slice-entries.ensures.value, c.requires)
 
-pub numbered-requires : goal.numbered-requires
-numbered-requires c =
+pub numbered-requires-clause-few : goal.numbered-requires-clause-few
+numbered-requires-clause-few c =
+    let read = c.in_ok-found.ensures.ok in
+    let few = few_entries c.in_ok-found.found.version c.args.bytes.now c.in_ok-found.found.entries.items read.spelled.spelled.head read.spelled.spelled.each in
+    record {
+      texts = behind_head (lines_of c.args.bytes.now);
+      entries = c.in_ok-found.found.entries.items;
+      each = read.spelled.spelled.each;
+      lines = sym (checked_lines c.in_ok-checked.ensures.ok c.as_slice-entries.ensures.value);
+      few = omega (arith, few.1, c.requires);
+    }
+
+pub numbered-requires-clause-plain : goal.numbered-requires-clause-plain
+numbered-requires-clause-plain c =
     subst (AllByRecursion (IsPlain c.in_ok-found.found.version)) (ap written (sym c.as_slice-entries.ensures.value) ∙ sym c.in_ok-checked.ensures.ok) c.in_ok-found.ensures.ok.plain
 
 pub returns-clause-faultless : goal.returns-clause-faultless

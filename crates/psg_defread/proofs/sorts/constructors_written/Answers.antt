@@ -1,18 +1,11 @@
 use Rattle.std.proofs.Common.{arith}
-use Rattle.psg_defread.specs.ConstructorAt.{constructor_at}
-use Rattle.psg_defread.proofs.SortLaws.{constructor-inside, constructors-next, constructors-are}
+use Rattle.psg_defread.proofs.SortLaws.{constructor-inside, constructors-are}
 use Rattle.psg_defread.proofs.sorts.constructors_written.Goals as goal
 
 pub constructor_written-requires : goal.constructor_written-requires
 constructor_written-requires c =
     constructor-inside c.args.def.now.signature.symbols c.args.sort.0 c.constructors_of-ids.result.now c.loop-i.i
     _ c.constructors_of-ids.ensures c.loop-i-test.true
-
-pub loop-i-preserved : goal.loop-i-preserved
-loop-i-preserved c =
-    constructors-next (constructor_at c.args.def.now) c.constructors_of-ids.result.now c.loop-i.i _
-    c.in_ok-one.one c.loop-i.written.items c.push.new.self.items c.loop-i-test.true c.in_ok-one.ensures
-    c.in_ok-push.ensures.items c.loop-i.invariant
 
 pub returns : goal.returns
 returns c =

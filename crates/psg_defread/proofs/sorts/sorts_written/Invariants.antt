@@ -1,7 +1,8 @@
-use Rattle.std.proofs.Common.{◌≡◌, map, take}
+use Rattle.std.proofs.Common.{◌≡◌, ◌++◌, map, drop}
 use Rattle.psg_terms.specs.Kept.{numbers_of}
 use Rattle.psg_defread.specs.WrittenLines.{sort_name}
 use Rattle.psg_defread.proofs.sorts.sorts_written.Given as goal
 
 abbrev pub invariant-loop-i : goal.invariant-loop-i
-invariant-loop-i l = l.written.items ≡ map (sort_name l.def) (numbers_of (take l.i l.sorts))
+invariant-loop-i l =
+    l.written.items ++ map (sort_name l.def) (numbers_of (drop l.i l.sorts)) ≡ map (sort_name l.def) (numbers_of l.sorts)

@@ -3,8 +3,7 @@ use Rattle.psg_terms.specs.Shapes.{term_of}
 use Rattle.psg_terms.specs.Sizes.{size, sizes}
 use Rattle.psg_terms.proofs.Nodes.{size-con}
 use Rattle.psg_terms.proofs.Weights.{sizes-at}
-use Rattle.psg_defread.specs.WrittenLines.{term_written}
-use Rattle.psg_defread.proofs.WriteLaws.{mapped, mapped-all, con-written}
+use Rattle.psg_defread.proofs.WriteLaws.{con-written}
 use Rattle.psg_defread.proofs.terms.+term.Goals as goal
 
 pub term_written-terms_written-requires : goal.term_written-terms_written-requires
@@ -24,15 +23,3 @@ terms_written-term_written-requires t c =
     let z = sizes-at c.args.terms.now c.loop-i.i c.index-terms-i.result c.loop-i-test.true in
     let r = ap size c.index-terms-i.is in
     omega arith
-
-pub terms_written-loop-i-preserved : goal.terms_written-loop-i-preserved
-terms_written-loop-i-preserved t c =
-    mapped (term_written c.args.def.now) c.args.terms.now c.loop-i.i c.index-terms-i.result c.in_ok-one.one
-    c.loop-i.written.items
-    c.push.new.self.items c.loop-i-test.true c.index-terms-i.is c.in_ok-one.ensures c.in_ok-push.ensures.items
-    c.loop-i.invariant
-
-pub terms_written-returns : goal.terms_written-returns
-terms_written-returns t c =
-    mapped-all (term_written c.args.def.now) c.args.terms.now c.loop-i.i c.loop-i.written.items
-    (omega (arith, c.loop-i-test.false)) c.loop-i.invariant

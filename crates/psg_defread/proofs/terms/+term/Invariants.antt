@@ -1,4 +1,4 @@
-use Rattle.std.proofs.Common.{◌≡◌, map, take}
+use Rattle.std.proofs.Common.{◌≡◌, ◌++◌, map, drop}
 use Rattle.psg_terms.specs.Sizes.{size, sizes}
 use Rattle.psg_defread.specs.WrittenLines.{term_written}
 use Rattle.psg_defread.proofs.terms.+term.Given as goal
@@ -10,4 +10,5 @@ abbrev pub decreases-terms_written : goal.decreases-terms_written
 decreases-terms_written l = sizes l.terms.now
 
 abbrev pub invariant-terms_written-loop-i : goal.invariant-terms_written-loop-i
-invariant-terms_written-loop-i l = l.written.items ≡ map (term_written l.def) (take l.i l.terms)
+invariant-terms_written-loop-i l =
+    l.written.items ++ map (term_written l.def) (drop l.i l.terms) ≡ map (term_written l.def) l.terms
