@@ -1,9 +1,10 @@
 -- A text cut where no token stands across: both sides have their tokens by themselves, and don't run together.
-use Rattle.std.proofs.Common.{◌≡◌, inl, inr, ℕ, ◌+◌, ◌≤◌, Bool, true, false, ◌||◌, ◌&&◌, ◌==◌, not, List, [], ◌∷◌, ◌++◌, length, sym, ap, ◌∙◌, subst, refl, append-nil, length-append, arith, codes}
+use Rattle.std.proofs.Common.{◌≡◌, inl, inr, ℕ, ◌+◌, ◌≤◌, Bool, true, false, ◌||◌, ◌==◌, not, List, [], ◌∷◌, ◌++◌, length, sym, ap, ◌∙◌, subst, refl, append-nil, length-append, arith, codes}
 use Rattle.std.specs.Prelude.{encode_utf8, encode_utf8_all}
 use Rattle.std.specs.List.{AllByRecursion, list_any, list_all}
-use Rattle.std.proofs.lemmas.Bool.{false≢true, or_cases, eqb-true}
+use Rattle.std.proofs.lemmas.Bool.{false≢true, or_cases, eqb-true, not-true}
 use Rattle.std.proofs.lemmas.Str.{encodes-append, encode_ascii, length-le-encodes}
+use Rattle.std.specs.Cmp.{first_so, second_so}
 use Rattle.unicode_ident.proofs.Computing.{unicode_ident}
 use Rattle.psg_terms.specs.Names.{Name}
 use Rattle.psg_terms.specs.Words.{goes_on_word, IsWord}
@@ -28,38 +29,26 @@ bytes_of-append xs ys = ap length (encodes-append xs ys) ∙ length-append (enco
 
 -- ---- classes
 
-not_true : (b : Bool) → not b ≡ true → b ≡ false
-not_true true h = absurd (false≢true h)
-not_true false h = refl
-
-left_true : (a b : Bool) → (a && b) ≡ true → a ≡ true
-left_true true b h = refl
-left_true false b h = h
-
-right_true : (a b : Bool) → (a && b) ≡ true → b ≡ true
-right_true true b h = h
-right_true false b h = absurd (false≢true h)
-
 among : (p : ℕ → Bool) (c : ℕ) (cs : List ℕ) → list_any (λ d. c == d) cs ≡ true → list_all p cs ≡ true → p c ≡ true
 among p c [] h a = absurd (false≢true h)
 among p c (d ∷ cs) h a = elim (or_cases (c == d) (list_any (λ x. c == x) cs) h) [
-  | inl e ↦ ap p (eqb-true c d e) ∙ left_true (p d) (list_all p cs) a
-  | inr e ↦ among p c cs e (right_true (p d) (list_all p cs) a)
+  | inl e ↦ ap p (eqb-true c d e) ∙ first_so (p d) (list_all p cs) a
+  | inr e ↦ among p c cs e (second_so (p d) (list_all p cs) a)
 ]
 
 symbol_no_word : (c : ℕ) → is_symbol c ≡ true → goes_on_word c ≡ false
 unfolding unicode_ident
-symbol_no_word c h = not_true (goes_on_word c) (among (λ d. not (goes_on_word d)) c (codes "+-*/%<>=!&|^~:.@#$") h refl)
+symbol_no_word c h = not-true (goes_on_word c) (among (λ d. not (goes_on_word d)) c (codes "+-*/%<>=!&|^~:.@#$") h refl)
 
 digit_no_symbol : (c : ℕ) → is_symbol c ≡ true → is_digit c ≡ false
-digit_no_symbol c h = not_true (is_digit c) (among (λ d. not (is_digit d)) c (codes "+-*/%<>=!&|^~:.@#$") h refl)
+digit_no_symbol c h = not-true (is_digit c) (among (λ d. not (is_digit d)) c (codes "+-*/%<>=!&|^~:.@#$") h refl)
 
 solo_no_word : (c : ℕ) → is_solo c ≡ true → goes_on_word c ≡ false
 unfolding unicode_ident
-solo_no_word c h = not_true (goes_on_word c) (among (λ d. not (goes_on_word d)) c (codes "()[]{},;") h refl)
+solo_no_word c h = not-true (goes_on_word c) (among (λ d. not (goes_on_word d)) c (codes "()[]{},;") h refl)
 
 solo_no_symbol : (c : ℕ) → is_solo c ≡ true → is_symbol c ≡ false
-solo_no_symbol c h = not_true (is_symbol c) (among (λ d. not (is_symbol d)) c (codes "()[]{},;") h refl)
+solo_no_symbol c h = not-true (is_symbol c) (among (λ d. not (is_symbol d)) c (codes "()[]{},;") h refl)
 
 quote_no_word : goes_on_word 34 ≡ false
 unfolding unicode_ident

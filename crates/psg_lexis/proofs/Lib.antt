@@ -3,6 +3,7 @@ pub mod Reserved
 pub mod Starts
 pub mod Decimals
 pub mod Contents
+pub mod Escapes
 pub mod Closing
 pub mod Literals
 pub mod Walk

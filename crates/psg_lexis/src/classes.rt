@@ -1,9 +1,8 @@
 //! The classes of characters that tokens are made of.
 ghost use Rattle.std.specs.Prelude.{◌≡◌, ◌↔◌, ◌<◌, IsTrue};
-ghost use Rattle.psg_terms.specs.Words.{starts_word, goes_on_word};
 ghost use Rattle.psg_lexis.specs.Classes.{is_blank, is_digit, is_solo, is_symbol, is_escape, Glue};
 
-use unicode_ident::{is_xid_continue, is_xid_start};
+use psg_terms::goes_on_word;
 
 /// The runs that reach as far as their characters do.
 #[derive(Clone, Copy)]
@@ -42,18 +41,6 @@ pub(crate) fn is_blank(c: char) -> bool
     matches!(c, ' ' | '\t' | '\n' | '\r')
 }
 
-pub(crate) fn starts_word(c: char) -> bool
-    ensures { result ≡ starts_word c }
-{
-    is_xid_start(c) | (c == '_')
-}
-
-pub(crate) fn goes_on_word(c: char) -> bool
-    ensures { result ≡ goes_on_word c }
-{
-    is_xid_continue(c) | (c == '_')
-}
-
 pub(crate) fn is_digit(c: char) -> bool
     ensures { result ≡ is_digit c }
 {
@@ -67,7 +54,8 @@ pub(crate) fn is_solo(c: char) -> bool
     matches!(c, '(' | ')' | '[' | ']' | '{' | '}' | ',' | ';')
 }
 
-pub(crate) fn is_symbol(c: char) -> bool
+/// Says whether the character is a symbol, of which runs are tokens.
+pub fn is_symbol(c: char) -> bool
     ensures { result ≡ is_symbol c }
 {
     matches!(

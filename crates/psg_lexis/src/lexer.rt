@@ -9,12 +9,12 @@ ghost use Rattle.psg_lexis.specs.declared.token.Spanned.{Spanned};
 ghost use Rattle.psg_lexis.specs.declared.token.LexFault.{LexFault};
 ghost use Rattle.psg_lexis.specs.Faults.{IsFault, HasFault, OrMemory};
 
-use crate::classes::{Run, is_blank, is_digit, is_solo, is_symbol, starts_word};
+use crate::classes::{Run, is_blank, is_digit, is_solo, is_symbol};
 use crate::lexis::Lexis;
 use crate::literal::literal;
 use crate::splits::{split_first, split_run, word_begins, word_goes_on};
 use crate::token::{LexFault, Spanned, Token};
-use psg_terms::Txt;
+use psg_terms::{Txt, starts_word};
 use std::alloc::Global;
 
 /// The most bytes of a word.

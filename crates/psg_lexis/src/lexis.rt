@@ -3,9 +3,9 @@ ghost use Rattle.std.specs.Prelude.{◌≡◌, ◌↔◌, IfOk, IsTrue, chars};
 ghost use Rattle.psg_terms.specs.Names.{is_among};
 ghost use Rattle.psg_terms.specs.Words.{IsWord};
 
-use crate::classes::{Run, starts_word};
+use crate::classes::Run;
 use crate::splits::{split_first, split_run};
-use psg_terms::{Seq, Txt};
+use psg_terms::{Seq, Txt, starts_word};
 use std::alloc::{AllocError, Global};
 use std::collections::HashSet;
 use std::marker::Model;

@@ -11,10 +11,12 @@ pub mod classes;
 pub mod lexer;
 pub mod lexis;
 mod literal;
+pub mod quoting;
 mod splits;
 pub mod token;
 
-pub use classes::glues;
+pub use classes::{glues, is_symbol};
 pub use lexer::lex;
 pub use lexis::Lexis;
+pub use quoting::write_escaped;
 pub use token::{LexFault, Spanned, Token};

@@ -4,7 +4,8 @@ ghost use Rattle.psg_terms.specs.Words.{starts_word, goes_on_word};
 ghost use Rattle.psg_lexis.specs.Classes.{begins_by};
 ghost use Rattle.psg_lexis.specs.Splits.{IsFirst, IsRun, takes};
 
-use crate::classes::{Run, goes_on_word, starts_word};
+use crate::classes::Run;
+use psg_terms::{goes_on_word, starts_word};
 
 /// Returns the first character of the text, and the text after it.
 pub(crate) fn split_first(text: &str) -> Option<(char, &str)>

@@ -1,5 +1,8 @@
 -- An operator's tree is built part by part, and its tokens with it.
-use Rattle.std.proofs.Common.{◌≡◌, ℕ, suc, ◌+◌, max, Bool, true, false, cond, ◌&&◌, List, [], ◌∷◌, ◌++◌, length, take, drop, Some, slice_get, sym, ap, ◌∙◌, subst, refl, append_assoc, arith}
+use Rattle.std.proofs.Common.{◌≡◌, ℕ, ◌+◌, max, Bool, true, false, cond, ◌&&◌, List, [], ◌∷◌, ◌++◌, length, sym, ap, ◌∙◌, subst, refl, append_assoc, suc, drop, arith}
+use Rattle.std.proofs.Math.Seq.{take-append_seam}
+use Rattle.std.proofs.Math.Bool.{and-false, and-true}
+use Rattle.psg_terms.proofs.Lists.{slice_get-middle}
 use Rattle.std.specs.List.{list_all}
 use Rattle.psg_grammar.specs.declared.types.Kind.TheVariants as kinds
 use Rattle.psg_grammar.specs.declared.types.Item.{Item}
@@ -9,57 +12,9 @@ use Rattle.psg_grammar.specs.declared.types.Definition.{Definition}
 use Rattle.psg_grammar.specs.Fragments.{Fragment, operator, with_child, with_name, with_number, with_text}
 use Rattle.psg_grammar.specs.Levels.{is_mark, least_level_of}
 use Rattle.psg_class.specs.Terminals.{Token, word, numeral, quoted, fixed, a_name, terminal_of}
-use Rattle.psg_class.specs.Places.{solid, is_empty, slot_level}
+use Rattle.psg_class.specs.Places.{solid, slot_level}
+use Rattle.psg_class.proofs.LeastLevels.{level_there}
 use Rattle.psg_class.specs.Yields.{TreeYields, ListYields, PartsYield, of_word, of_refers, of_declares, of_number, of_text, of_slot, of_list_slot}
-
--- ---- the least level of a slot, by its place among all items and among the solid ones
-
-get_behind : {X : Type 0} (front : List X) (x : X) (behind : List X)
-    → slice_get (front ++ x ∷ behind) (length front) ≡ Some x
-get_behind [] x behind = refl
-get_behind (y ∷ front) x behind = get_behind front x behind
-
-take_front : {X : Type 0} (front behind : List X) → take (length front) (front ++ behind) ≡ front
-take_front [] behind = refl
-take_front (x ∷ front) behind = ap (λ xs. x ∷ xs) (take_front front behind)
-
-drop_past : {X : Type 0} (front : List X) (x : X) (behind : List X)
-    → drop (suc (length front)) (front ++ x ∷ behind) ≡ behind
-drop_past [] x behind = refl
-drop_past (y ∷ front) x behind = drop_past front x behind
-
-drop_front : {X : Type 0} (front : List X) (x : X) (behind : List X)
-    → drop (length front + 1) (front ++ x ∷ behind) ≡ behind
-drop_front front x behind = ap (λ n. drop n (front ++ x ∷ behind)) (one_more (length front))
-    ∙ drop_past front x behind where
-      one_more : (n : ℕ) → n + 1 ≡ suc n
-      one_more n = omega arith
-
-pub none_solid : (xs : List Item) → is_empty (solid xs) ≡ list_all is_mark xs
-none_solid [] = refl
-none_solid (items.Word w ∷ xs) = refl
-none_solid (items.Slot k ∷ xs) = refl
-none_solid (items.Refers s ∷ xs) = refl
-none_solid (items.Declares s ∷ xs) = refl
-none_solid (items.Number ∷ xs) = refl
-none_solid (items.Text ∷ xs) = refl
-none_solid (items.Space ∷ xs) = none_solid xs
-none_solid (items.Tight ∷ xs) = none_solid xs
-none_solid (items.Line ∷ xs) = none_solid xs
-none_solid (items.In ∷ xs) = none_solid xs
-none_solid (items.Out ∷ xs) = none_solid xs
-
-pub level_there : (o : Operator) (front : List Item) (p : ℕ) (behind : List Item)
-    → o.items ≡ front ++ items.Slot (kinds.Phylum p) ∷ behind
-    → least_level_of o (length front) ≡ slot_level o (kinds.Phylum p) (list_all is_mark front) (solid behind)
-level_there o front p behind e =
-    rw (
-      e,
-      get_behind front (items.Slot (kinds.Phylum p)) behind,
-      take_front front (items.Slot (kinds.Phylum p) ∷ behind),
-      drop_front front (items.Slot (kinds.Phylum p)) behind,
-      none_solid behind,
-    ) refl
 
 all_snoc : (test : Item → Bool) (xs : List Item) (x : Item)
     → list_all test (xs ++ x ∷ []) ≡ (list_all test xs && test x)
@@ -71,14 +26,6 @@ all_snoc test (y ∷ xs) x = ap (λ b. test y && b) (all_snoc test xs x) ∙ ass
   assoc : (a b c : Bool) → (a && (b && c)) ≡ ((a && b) && c)
   assoc true b c = refl
   assoc false b c = refl
-
-and_false : (b : Bool) → (b && false) ≡ false
-and_false true = refl
-and_false false = refl
-
-keep_true : (b : Bool) → (b && true) ≡ b
-keep_true true = refl
-keep_true false = refl
 
 module _ (def : Definition) (n : ℕ) (o : Operator) where
   -- The items before these were read as these tokens and have made f. Whatever the items left make of it, all items
@@ -99,7 +46,7 @@ module _ (def : Definition) (n : ℕ) (o : Operator) where
 
   not_first : (front : List Item) (i : Item) → is_mark i ≡ false → false ≡ list_all is_mark (front ++ i ∷ [])
   not_first front i h = sym (all_snoc is_mark front i ∙ ap (λ b. list_all is_mark front && b) h
-      ∙ and_false (list_all is_mark front))
+      ∙ and-false (list_all is_mark front))
 
   pub past_word : {f : Fragment} {first : Bool} {w : List ℕ} {rest : List Item} {d : ℕ} {ts : List Token} (t : Token)
       → terminal_of def t ≡ fixed w
@@ -118,7 +65,7 @@ module _ (def : Definition) (n : ℕ) (o : Operator) where
     front = a.front ++ i ∷ [];
     whole = moved a.front i rest a.whole;
     is_first = a.is_first ∙ sym (all_snoc is_mark a.front i ∙ ap (λ b. list_all is_mark a.front && b) h
-        ∙ keep_true (list_all is_mark a.front));
+        ∙ and-true (list_all is_mark a.front));
     goes = λ g e us y. a.goes g e us
         (subst (λ xs. PartsYield def o first f d xs g e us) (sym (ap (λ b. cond b (solid rest) (i ∷ solid rest)) h)) y);
   }
@@ -137,7 +84,7 @@ module _ (def : Definition) (n : ℕ) (o : Operator) where
         (a.goes g e (own ++ us) (of_slot t m own us (subst (λ l. TreeYields def t p l m own) level y) z));
   } where
     level : least_level_of o (length a.front) ≡ slot_level o (kinds.Phylum p) first (solid rest)
-    level = level_there o a.front p rest a.whole
+    level = level_there o a.front (kinds.Phylum p) rest a.whole
         ∙ ap (λ b. slot_level o (kinds.Phylum p) b (solid rest)) (sym a.is_first)
 
   pub past_refers : {f : Fragment} {first : Bool} {s : ℕ} {rest : List Item} {d : ℕ} {ts : List Token} (x : List ℕ)

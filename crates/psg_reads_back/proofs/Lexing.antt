@@ -1,9 +1,9 @@
 -- A written row has its tokens.
-use Rattle.std.proofs.Common.{◌≡◌, ◌⊎◌, inl, inr, ℕ, zero, suc, ◌+◌, ◌*◌, Bool, true, false, cond, ◌&&◌, ◌||◌, List, [], ◌∷◌, ◌++◌, length, Option, Some, None, sym, ap, ◌∙◌, subst, refl, append-nil, arith, replicate}
+use Rattle.std.proofs.Common.{◌≡◌, ◌⊎◌, inl, inr, ℕ, zero, suc, ◌+◌, ◌*◌, Bool, true, false, cond, ◌&&◌, List, [], ◌∷◌, ◌++◌, length, Option, Some, None, sym, ap, ◌∙◌, subst, refl, append-nil, arith, replicate}
 use Rattle.std.specs.Prelude.{map, not}
 use Rattle.std.specs.Str.{chars, IsUtf8}
 use Rattle.std.specs.List.{AllByRecursion, list_any}
-use Rattle.std.proofs.lemmas.Bool.{false≢true}
+use Rattle.std.proofs.lemmas.Bool.{false≢true, and_from, or_left, or_right}
 use Rattle.std.proofs.lemmas.Str.{chars-append, chars-nil}
 use lib.Utf8.{encode}
 use Rattle.unicode_ident.proofs.Computing.{unicode_ident}
@@ -21,25 +21,13 @@ use Rattle.psg_reads_back.proofs.Rows.{last_in-append, last_char-snoc}
 
 -- ---- what does not glue
 
-both_true : (a b : Bool) → a ≡ true → b ≡ true → (a && b) ≡ true
-both_true true b h k = k
-both_true false b h k = absurd (false≢true h)
-
-or_first : (a b : Bool) → a ≡ true → (a || b) ≡ true
-or_first true b h = refl
-or_first false b h = absurd (false≢true h)
-
-or_second : (a b : Bool) → b ≡ true → (a || b) ≡ true
-or_second true b h = refl
-or_second false b h = h
-
 not_glued : (c d : ℕ) → glues c d ≡ false → Glue c d → ⊥
 not_glued c d h (inl (p, q)) =
-    false≢true (sym h ∙ or_first (goes_on_word c && goes_on_word d) (is_symbol c && is_symbol d)
-    (both_true (goes_on_word c) (goes_on_word d) p q))
+    false≢true (sym h ∙ or_left (goes_on_word c && goes_on_word d) (is_symbol c && is_symbol d)
+    (and_from (goes_on_word c) (goes_on_word d) p q))
 not_glued c d h (inr (p, q)) =
-    false≢true (sym h ∙ or_second (goes_on_word c && goes_on_word d) (is_symbol c && is_symbol d)
-    (both_true (is_symbol c) (is_symbol d) p q))
+    false≢true (sym h ∙ or_right (goes_on_word c && goes_on_word d) (is_symbol c && is_symbol d)
+    (and_from (is_symbol c) (is_symbol d) p q))
 
 abbrev pub IsGapByte : ℕ → Type 0
 IsGapByte b = (b ≡ 32) ⊎ (b ≡ 10)

@@ -1,20 +1,19 @@
 -- Placeholders, ends of lists, and lists with one more element in front.
-use Rattle.std.proofs.Common.{◌≡◌, ℕ, zero, suc, ◌<◌, max, Bool, true, false, List, [], ◌∷◌, ◌++◌, length, Some, slice_get, refl, ap, sym, ◌∙◌, subst, append-nil, arith}
+use Rattle.std.proofs.Common.{◌≡◌, ℕ, ◌<◌, max, Bool, true, false, List, [], ◌∷◌, ◌++◌, length, Some, slice_get, refl, ap, sym, ◌∙◌, subst, append-nil, arith}
 use Rattle.std.specs.Prelude.{codes}
 use Rattle.std.proofs.lemmas.Option.{none-some}
+use Rattle.psg_terms.proofs.Lists.{each_at, slice_get_some}
 use Rattle.psg_grammar.specs.declared.types.Kind.{Kind}
 use Rattle.psg_grammar.specs.declared.types.Kind.TheVariants as kinds
 use Rattle.psg_grammar.specs.declared.types.ListKind.{ListKind}
 use Rattle.psg_grammar.specs.declared.types.Definition.{Definition}
-use Rattle.psg_grammar.specs.Declaring.{is_declaring}
+use Rattle.psg_grammar.specs.Declaring.{is_declaring, HasHoles}
 use Rattle.psg_grammar.specs.Fragments.{Fragment, hole, ending, cell, operator, with_child, with_name, with_number, with_text, anything, observed}
 use Rattle.psg_grammar.specs.Sizes.{depth_of}
 use Rattle.psg_grammar.specs.Sound.{IsSound, IsPhylum}
 use Rattle.psg_grammar.specs.WellFormed.{fixed_words, IsListEnd}
-use Rattle.psg_grammar.proofs.SoundParts.{each_at}
 use Rattle.psg_tree.specs.AbstractText.{name_of_phylum}
 use Rattle.psg_class.specs.Terminals.{Token, placeholder, dots}
-use Rattle.psg_class.specs.Follow.{HasHoles}
 use Rattle.psg_class.specs.Yields.{TreeYields, of_hole, no_elements, only_more, elements, SomeYield, last_element, and_more, and_elements}
 use Rattle.psg_reads_back.specs.Rows.{Piece, token, row, operator_of, separating}
 use Rattle.psg_reads_back.proofs.Lexing.{RowTokens, no_pieces, a_mark, a_token}
@@ -25,20 +24,15 @@ use Rattle.psg_reads_back.proofs.Passing.{tokens-append}
 use Rattle.psg_reads_back.proofs.Claims.{TreeBack, ListBack, WholeBack}
 use Rattle.psg_reads_back.proofs.SlotSteps.{below_zero}
 
-at_within : {X : Type 0} (xs : List X) (k : ℕ) → k < length xs → (x : X) × (slice_get xs k ≡ Some x)
-at_within [] k h = absurd (omega arith)
-at_within (x ∷ xs) zero h = (x, refl)
-at_within (x ∷ xs) (suc k) h = at_within xs k (omega arith)
-
 same_kind : (l m : ℕ) → kinds.List l ≡ kinds.List m → m ≡ l
 same_kind l m e = cc
 
 module _ (def : Definition) where
   -- ---- a placeholder
 
-  hole_tree : (sound : IsSound def) (p : ℕ) → p < length def.phyla → HasHoles def p → TreeBack def (hole p) p
+  hole_tree : (sound : IsSound def) (p : ℕ) → p < length def.phyla → HasHoles def (kinds.Phylum p) → TreeBack def (hole p) p
   hole_tree sound p h closed =
-      let (phylum, found) = at_within def.phyla p h in
+      let (phylum, found) = slice_get_some def.phyla p h in
       let is : IsPhylum def phylum = each_at (IsPhylum def) def.phyla sound.phyla p phylum found in
       record {
         tokens = placeholder phylum.name ∷ [];

@@ -12,36 +12,18 @@ use Rattle.unicode_width.specs.Width.{char_width}
 use Rattle.psg_terms.specs.Names.{Name}
 use Rattle.psg_lexis.specs.Classes.{Chars, All}
 use Rattle.psg_lexis.specs.Tokens.{escaped, quoted as quoted_chars, is_content, IsToken, text as a_text}
+use Rattle.psg_lexis.proofs.Escapes.{escaped_char}
 use Rattle.psg_grammar.specs.Printable.{IsShown}
-use Rattle.psg_tree.specs.AbstractText.{escaped_byte, quoted as quoted_bytes}
-use Rattle.psg_tree.proofs.Quoted.{escaped_ascii, escaped_other}
+use Rattle.psg_tree.specs.AbstractText.{quoted as quoted_bytes}
 use Rattle.psg_class.specs.Terminals.{quoted}
 use Rattle.psg_reads_back.proofs.Lexing.{IsTextOf}
 
 -- ---- the bytes of escaped characters
 
-two : (c d : ℕ) → c < 128 → d < 128 → encode_utf8_all (c ∷ d ∷ []) ≡ c ∷ d ∷ []
-two c d h k = ap₂ (λ x y. x ++ (y ++ [])) (encode_ascii c h) (encode_ascii d k)
-
-escaped_char : (c : ℕ) → flat_map escaped_byte (encode_utf8 c) ≡ encode_utf8_all (escaped c)
-escaped_char c = elim (eqb_tells c 34) [
-  | inl p ↦ subst (λ x. flat_map escaped_byte (encode_utf8 x) ≡ encode_utf8_all (escaped x)) (sym p.1)
-      (escaped_ascii 34 (lit< tt) ∙ sym (two 92 34 (lit< tt) (lit< tt)))
-  | inr p ↦ elim (eqb_tells c 92) [
-    | inl q ↦ subst (λ x. flat_map escaped_byte (encode_utf8 x) ≡ encode_utf8_all (escaped x)) (sym q.1)
-        (escaped_ascii 92 (lit< tt) ∙ sym (two 92 92 (lit< tt) (lit< tt)))
-    | inr q ↦ elim (eqb_tells c 10) [
-      | inl r ↦ subst (λ x. flat_map escaped_byte (encode_utf8 x) ≡ encode_utf8_all (escaped x)) (sym r.1)
-          (escaped_ascii 10 (lit< tt) ∙ sym (two 92 110 (lit< tt) (lit< tt)))
-      | inr r ↦ escaped_other c p.1 q.1 r.1 ∙ sym (rw (p.0, q.0, r.0) (append-nil (encode_utf8 c)))
-    ]
-  ]
-]
-
-escaped_chars : (cs : Chars) → flat_map escaped_byte (encode_utf8_all cs) ≡ encode_utf8_all (quoted_chars cs)
+escaped_chars : (cs : Chars) → flat_map escaped (encode_utf8_all cs) ≡ encode_utf8_all (quoted_chars cs)
 escaped_chars [] = refl
 escaped_chars (c ∷ cs) =
-    flat_map-append escaped_byte (encode_utf8 c) (encode_utf8_all cs)
+    flat_map-append escaped (encode_utf8 c) (encode_utf8_all cs)
     ∙ ap₂ (λ x y. x ++ y) (escaped_char c) (escaped_chars cs)
     ∙ sym (encodes-append (escaped c) (quoted_chars cs))
 

@@ -22,7 +22,8 @@ use Rattle.psg_reads_back.specs.Rows.{Piece, row, left, wanted, wanted_of, opera
 use Rattle.psg_reads_back.proofs.Lexing.{RowTokens, no_pieces, a_mark, a_token}
 use Rattle.psg_reads_back.proofs.WordTokens.{open_text, close_text}
 use Rattle.psg_reads_back.proofs.FixedTokens.{HasTokens}
-use Rattle.psg_reads_back.proofs.Building.{none_solid, level_there, past_slot, past_list}
+use Rattle.psg_class.proofs.LeastLevels.{none_solid, level_there}
+use Rattle.psg_reads_back.proofs.Building.{past_slot, past_list}
 use Rattle.psg_reads_back.proofs.Passing.{tokens-append}
 use Rattle.psg_reads_back.proofs.Claims.{TreeBack, ListBack, WholeBack, PartBack, list_top}
 use Rattle.psg_reads_back.proofs.PartSteps.{added, next_left, front_at, words_next}
@@ -71,7 +72,7 @@ module _ (def : Definition) (sound : IsSound def) (c : ClassFacts def) where
             (ap solid whole ∙ solid_both front (items.Slot (kinds.Phylum p) ∷ behind)) m other there of_p in
             let same : least_level_of o (length front)
             ≡ slot_level o (kinds.Phylum p) (is_empty (solid front)) (solid behind) =
-            level_there o front p behind whole
+            level_there o front (kinds.Phylum p) behind whole
             ∙ ap (λ x. slot_level o (kinds.Phylum p) x (solid behind)) (sym (none_solid front)) in
             omega (arith, low, least, same))
       ]

@@ -5,6 +5,7 @@ use Rattle.std.specs.Slice.{IsGetResult}
 use Rattle.std.proofs.lemmas.Bool.Decides.{eqb_tells}
 use Rattle.std.proofs.lemmas.List.{take_more, length-take-le}
 use Rattle.std.proofs.lemmas.Option.{slice_get_past, slice_get_read}
+use Rattle.psg_terms.proofs.Lists.{suc_is_not_zero}
 use Rattle.psg_grammar.specs.Fragments.{Fragment, hole, ending, cell, operator, with_child, with_name, with_number, with_text, anything, observed, children_of}
 use Rattle.psg_grammar.specs.Paths.{change_child, put_child}
 use Rattle.psg_tree.specs.declared.tree.Part.{Part}
@@ -101,9 +102,6 @@ same_tests m k = elim (eqb_tells m k) [
   | inr q ↦ elim (eqb_tells (suc m) (suc k)) [ inl r ↦ absurd (q.1 (omega (arith, r.1))) | inr r ↦ q.0 ∙ sym r.0 ]
 ]
 
-pub not_zero : (m : ℕ) → (suc m == 0) ≡ false
-not_zero m = elim (eqb_tells (suc m) 0) [ inl q ↦ absurd (omega (arith, q.1)) | inr q ↦ q.0 ]
-
 zero_not : (k : ℕ) → (0 == suc k) ≡ false
 zero_not k = elim (eqb_tells 0 (suc k)) [ inl q ↦ absurd (omega (arith, q.1)) | inr q ↦ q.0 ]
 
@@ -121,7 +119,7 @@ put_part-push new (suc k) [] (Sub t) = ap (λ b. Sub (cond b new t) ∷ []) (sym
 put_part-push new k [] (Name n) = refl
 put_part-push new k [] (Number n) = refl
 put_part-push new k [] (Text t) = refl
-put_part-push new zero (Sub s ∷ ps) p = ap (λ l. Sub new ∷ (ps ++ l)) (unchosen new p) ∙ ap (λ b. Sub new ∷ (ps ++ chosen_part b new p ∷ [])) (sym (not_zero (length (subtrees ps))))
+put_part-push new zero (Sub s ∷ ps) p = ap (λ l. Sub new ∷ (ps ++ l)) (unchosen new p) ∙ ap (λ b. Sub new ∷ (ps ++ chosen_part b new p ∷ [])) (sym (suc_is_not_zero (length (subtrees ps))))
 put_part-push new (suc k) (Sub s ∷ ps) p = ap (λ l. Sub s ∷ l) (put_part-push new k ps p ∙ ap (λ b. put_part new k ps ++ chosen_part b new p ∷ []) (same_tests (length (subtrees ps)) k))
 put_part-push new k (Name m ∷ ps) p = ap (λ l. Name m ∷ l) (put_part-push new k ps p)
 put_part-push new k (Number m ∷ ps) p = ap (λ l. Number m ∷ l) (put_part-push new k ps p)
@@ -130,7 +128,7 @@ put_part-push new k (Text m ∷ ps) p = ap (λ l. Text m ∷ l) (put_part-push n
 pub put_element-push : (new : Fragment) (k : ℕ) (es : List Fragment) (e : Fragment) → put_element new k (es ++ e ∷ []) ≡ put_element new k es ++ cond (length es == k) new e ∷ []
 put_element-push new zero [] e = refl
 put_element-push new (suc k) [] e = ap (λ b. cond b new e ∷ []) (sym (zero_not k))
-put_element-push new zero (s ∷ es) e = ap (λ b. new ∷ (es ++ cond b new e ∷ [])) (sym (not_zero (length es)))
+put_element-push new zero (s ∷ es) e = ap (λ b. new ∷ (es ++ cond b new e ∷ [])) (sym (suc_is_not_zero (length es)))
 put_element-push new (suc k) (s ∷ es) e = ap (λ l. s ∷ l) (put_element-push new k es e ∙ ap (λ b. put_element new k es ++ cond b new e ∷ []) (same_tests (length es) k))
 
 -- what a node that is read stands for

@@ -4,7 +4,8 @@ use Rattle.std.specs.List.{AllByRecursion}
 use Rattle.std.specs.Slice.{IsGetResult}
 use Rattle.std.proofs.lemmas.Bool.Decides.{eqb_tells}
 use Rattle.std.proofs.lemmas.List.{append-nil, drop_all, length-drop}
-use Rattle.std.proofs.lemmas.Option.{slice_get_past, slice_get_read, slice_get_within, get_or_from_slice_get, none-some}
+use Rattle.std.proofs.lemmas.Option.{slice_get_within, get_or_from_slice_get, none-some}
+use Rattle.psg_terms.proofs.Lists.{got_some}
 use Rattle.psg_grammar.specs.declared.types.Kind.{Kind}
 use Rattle.psg_grammar.specs.declared.types.Kind.TheVariants as kinds
 use Rattle.psg_grammar.specs.declared.types.Item.{Item}
@@ -23,15 +24,6 @@ use Rattle.psg_tree.specs.declared.tree.Part.TheVariants.{Sub, Name, Number, Tex
 use Rattle.psg_tree.specs.Shapes.{with_part, with_parts, list_of}
 use Rattle.psg_tree.specs.Reaching.{PhylumDeclares}
 use Rattle.psg_tree.specs.Forms.{PartFits, PartsFit}
-
--- what a slice gives at a number
-pub got_some : {X : Type 0} (xs : List X) (i : ℕ) (r : Option (Bor X)) (x : Bor X) → IsGetResult xs i i r → r ≡ Some x → slice_get xs i ≡ Some x.now
-got_some {X} xs i None x h e = absurd (none-some x e)
-got_some {X} xs i (Some y) x h e = slice_get_read xs (length xs) i y.now refl h.3.0 h.1 ∙ ap (λ (z : Bor X). Some z.now) (let same : y ≡ x = cc in same)
-
-pub got_none : {X : Type 0} (xs : List X) (i : ℕ) (r : Option (Bor X)) → IsGetResult xs i i r → r ≡ None → slice_get xs i ≡ None
-got_none xs i None h e = slice_get_past xs i h.3
-got_none xs i (Some y) h e = absurd (none-some y (sym e))
 
 module _ (def : Definition) where
   -- the parts of a node are those of some items

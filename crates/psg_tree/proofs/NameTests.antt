@@ -1,10 +1,12 @@
 -- Tests of names, character by character and word by word.
-use Rattle.std.proofs.Common.{◌≡◌, ℕ, ◌+◌, ◌<◌, Bool, true, false, not, cond, ◌&&◌, ◌||◌, List, [], ◌∷◌, ◌++◌, length, drop, get_or, refl, ap, sym, ◌∙◌, true≢false, IsTrue, bytes_eq}
+use Rattle.std.proofs.Common.{◌≡◌, ℕ, ◌+◌, ◌<◌, Bool, true, false, cond, ◌&&◌, ◌||◌, List, [], ◌∷◌, ◌++◌, length, drop, get_or, refl, ap, sym, ◌∙◌, true≢false, IsTrue, bytes_eq}
 use Rattle.std.specs.List.{AllByRecursion}
 use Rattle.std.specs.Cmp.{first_so, second_so}
 use Rattle.std.specs.Str.{chars, IsUtf8}
 use Rattle.std.proofs.lemmas.List.{at_drop_more}
 use Rattle.std.proofs.lemmas.Str.{encodes-chars, encodes_same}
+use Rattle.std.proofs.Math.Bool.{or_assoc}
+use Rattle.std.proofs.lemmas.Bool.{and_from}
 use Rattle.psg_terms.specs.Names.{Name, is_among}
 use Rattle.psg_terms.specs.Words.{starts_word, goes_on_word, IsWord, IsFreeWord}
 use Rattle.psg_grammar.specs.declared.types.Operator.{Operator}
@@ -13,10 +15,6 @@ use Rattle.psg_grammar.specs.declared.types.Item.{Item}
 use Rattle.psg_grammar.specs.declared.types.Definition.{Definition}
 use Rattle.psg_grammar.specs.WellFormed.{words_in, operator_words, separators, fixed_words}
 use Rattle.psg_tree.specs.WordTests.{is_word_from}
-
-or_assoc : (a b c : Bool) → (a || b) || c ≡ a || (b || c)
-or_assoc true b c = refl
-or_assoc false b c = refl
 
 among-append : (xs ys : List Name) (n : Name) → is_among (xs ++ ys) n ≡ is_among xs n || is_among ys n
 among-append [] ys n = refl
@@ -63,13 +61,9 @@ all_go_on : (cs : List ℕ) → is_word_from false cs ≡ true → AllByRecursio
 all_go_on [] h = tt
 all_go_on (c ∷ cs) h = (first_so (goes_on_word c) (is_word_from false cs) h, all_go_on cs (second_so (goes_on_word c) (is_word_from false cs) h))
 
-both : (a b : Bool) → a ≡ true → b ≡ true → a && b ≡ true
-both true b e f = f
-both false b e f = absurd (true≢false (sym e))
-
 go_on_all : (cs : List ℕ) → AllByRecursion (λ d. IsTrue (goes_on_word d)) cs → is_word_from false cs ≡ true
 go_on_all [] h = refl
-go_on_all (c ∷ cs) h = both (goes_on_word c) (is_word_from false cs) h.0 (go_on_all cs h.1)
+go_on_all (c ∷ cs) h = and_from (goes_on_word c) (is_word_from false cs) h.0 (go_on_all cs h.1)
 
 word_tested : (cs : List ℕ) → is_word_from true cs ≡ true → IsWord cs
 word_tested [] h = absurd (true≢false (sym h))
@@ -77,7 +71,7 @@ word_tested (c ∷ cs) h = (first_so (starts_word c) (is_word_from false cs) h, 
 
 word_passes : (cs : List ℕ) → IsWord cs → is_word_from true cs ≡ true
 word_passes [] h = absurd h
-word_passes (c ∷ cs) h = both (starts_word c) (is_word_from false cs) h.0 (go_on_all cs h.1)
+word_passes (c ∷ cs) h = and_from (starts_word c) (is_word_from false cs) h.0 (go_on_all cs h.1)
 
 pub free_word : (fixed : List Name) (n : Name) → IsUtf8 n → is_word_from true (chars n) ≡ true → is_among fixed n ≡ false → IsFreeWord fixed n
 free_word fixed n u w f = (chars n, sym (encodes-chars n u), word_tested (chars n) w, f)
@@ -87,7 +81,3 @@ free_word_is_word fixed n u (cs, e, w, f) = ap (is_word_from true) (encodes_same
 
 pub free_word_is_free : (fixed : List Name) (n : Name) → IsFreeWord fixed n → is_among fixed n ≡ false
 free_word_is_free fixed n (cs, e, w, f) = f
-
-pub not_true : (b : Bool) → not b ≡ true → b ≡ false
-not_true true h = absurd (true≢false (sym h))
-not_true false h = refl

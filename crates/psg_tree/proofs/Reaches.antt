@@ -4,6 +4,7 @@ use Rattle.std.proofs.lemmas.Bool.{or_cases, or_left, or_right}
 use Rattle.std.specs.List.{AllByRecursion}
 use Rattle.std.proofs.lemmas.List.{take_more}
 use Rattle.std.proofs.lemmas.Option.{slice_get_read, none-some}
+use Rattle.psg_terms.proofs.Lists.{each_push, each_at}
 use Rattle.psg_grammar.specs.declared.types.Kind.{Kind}
 use Rattle.psg_grammar.specs.declared.types.Kind.TheVariants as kinds
 use Rattle.psg_grammar.specs.declared.types.Item.{Item}
@@ -17,13 +18,9 @@ use Rattle.psg_tree.specs.declared.reach.Step.{Step}
 use Rattle.psg_tree.specs.declared.reach.Step.TheVariants as next
 use Rattle.psg_tree.specs.Reaching.{is_in, element_of, phylum_of, AnyDeclare, PhylumDeclares, IsFoundAt, IsClosedItem, IsClosedOperator, IsItemStep, IsItemsStep, IsOperatorsStep}
 
-all_push : {X : Type 0} (P : X → Type 0) (xs : List X) (y : X) → AllByRecursion P xs → P y → AllByRecursion P (xs ++ y ∷ [])
-all_push P [] y h p = (p, tt)
-all_push P (x ∷ xs) y h p = (h.0, all_push P xs y h.1 p)
-
 -- one more that is so
 pub all_more : {X : Type 0} (P : X → Type 0) (xs : List X) (i : ℕ) (y : X) → i < length xs → y ≡ get_or xs i y → AllByRecursion P (take i xs) → P y → AllByRecursion P (take (i + 1) xs)
-all_more P xs i y h e a p = subst (AllByRecursion P) (sym (take_more xs i y h ∙ ap (λ x. take i xs ++ x ∷ []) (sym e))) (all_push P (take i xs) y a p)
+all_more P xs i y h e a p = subst (AllByRecursion P) (sym (take_more xs i y h ∙ ap (λ x. take i xs ++ x ∷ []) (sym e))) (each_push P (take i xs) y a p)
 
 -- what is declared at a place of the kind
 pub kind_declares : (def : Definition) (k : Kind) (p s : ℕ) → phylum_of def k ≡ Some p → Declares def s (kinds.Phylum p) → Declares def s k
@@ -61,11 +58,6 @@ pub step_of_operator : (def : Definition) (found : List ℕ) (ops : List Operato
 step_of_operator def found ops i op next.Declares h e plain there n p = (i, op, slice_get_read ops (length ops) i op refl h e, plain, there, p.0, p.1)
 step_of_operator def found ops i op (next.To q) h e plain there n p = (p.0, i, op, slice_get_read ops (length ops) i op refl h e, plain, there, p.1)
 step_of_operator def found ops i op next.Closed h e plain there n p = absurd (n refl)
-
-each_at : {X : Type 0} (P : X → Type 0) (xs : List X) → AllByRecursion P xs → (k : ℕ) (x : X) → slice_get xs k ≡ Some x → P x
-each_at P [] h k x e = absurd (none-some x e)
-each_at P (y ∷ xs) h zero x e = let same : y ≡ x = (let f : Some y ≡ Some x = e in cc) in subst P same h.0
-each_at P (y ∷ xs) h (suc k) x e = each_at P xs h.1 k x e
 
 -- nothing declares where no step is left
 module _ (def : Definition) (found : List ℕ) (closed : AllByRecursion (IsClosedOperator def found) def.operators) (s : ℕ) where

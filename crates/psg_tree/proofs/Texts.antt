@@ -2,6 +2,7 @@
 use Rattle.std.proofs.Common.{◌≡◌, inl, inr, ℕ, zero, suc, ◌+◌, ◌<◌, ◌≤◌, ◌==◌, Bool, true, false, cond, List, [], ◌∷◌, ◌++◌, length, take, drop, get_or, refl, ap, ap₂, sym, ◌∙◌, arith, append_assoc, codes, if◌then◌else◌, is_ok, OnOk, Result, Ok, Err}
 use Rattle.std.proofs.lemmas.Bool.Decides.{eqb_tells}
 use Rattle.std.proofs.lemmas.List.{take_more, take_all, drop_more, drop_all, append-nil}
+use Rattle.psg_terms.proofs.Lists.{suc_is_not_zero}
 use Rattle.psg_grammar.specs.declared.types.Definition.{Definition}
 use Rattle.psg_grammar.specs.Fragments.{Fragment, operator}
 use Rattle.psg_tree.specs.declared.tree.Part.{Part}
@@ -11,7 +12,6 @@ use Rattle.psg_tree.specs.declared.tree.Shape.TheVariants.{List as ListOf}
 use Rattle.psg_tree.specs.Shapes.{with_part, with_parts, list_of, tree_of}
 use Rattle.psg_tree.specs.AbstractText.{has_parts, mark, comma, closed, inner, abstract_text}
 use Rattle.psg_tree.specs.PartTexts.{part_text}
-use Rattle.psg_tree.proofs.Children.{not_zero}
 
 -- what is still to be written of a list's elements and its end
 abbrev pub tail_text : Definition → ℕ → List Fragment → Bool → List ℕ
@@ -43,7 +43,7 @@ mark_at o zero ps h = refl
 mark_at o (suc i) [] h = absurd (omega (arith, h))
 mark_at o (suc i) (p ∷ ps) h =
     ap (λ b. cond b (codes ",") (codes "(")) (parts_count (with_part (operator o) p) (take i ps) (part_counts (operator o) p))
-    ∙ ap (λ b. cond b (codes "(") (codes ",")) (sym (not_zero i))
+    ∙ ap (λ b. cond b (codes "(") (codes ",")) (sym (suc_is_not_zero i))
 
 -- one more part
 pub part_written : (def : Definition) (o i : ℕ) (ps : List Part) (p : Part) (start before between after sign : List ℕ)
@@ -71,7 +71,7 @@ closed-parts f p (q ∷ ps) text = closed-parts (with_part f p) q ps text
 -- the bracket behind the parts
 closed-operator : (o : ℕ) (ps : List Part) (text : List ℕ) → closed (with_parts (operator o) ps) text ≡ text ++ cond (length ps == 0) [] (codes ")")
 closed-operator o [] text = sym (append-nil text)
-closed-operator o (p ∷ ps) text = closed-parts (operator o) p ps text ∙ ap (λ b. text ++ cond b [] (codes ")")) (sym (not_zero (length ps)))
+closed-operator o (p ∷ ps) text = closed-parts (operator o) p ps text ∙ ap (λ b. text ++ cond b [] (codes ")")) (sym (suc_is_not_zero (length ps)))
 
 -- all parts are written
 pub parts_written : (def : Definition) (o i : ℕ) (ps : List Part) (start before after sign : List ℕ)

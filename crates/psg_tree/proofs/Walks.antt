@@ -1,9 +1,11 @@
 -- A change of the node at a path, step by step.
-use Rattle.std.proofs.Common.{◌≡◌, inl, inr, ℕ, zero, suc, ◌+◌, ◌-◌, ◌<◌, ◌≤◌, cond, List, [], ◌∷◌, ◌++◌, length, take, drop, get_or, slice_get, option_and_then, Option, Some, None, refl, ap, sym, ◌∙◌, subst, arith, length-append}
+use Rattle.std.proofs.Common.{◌≡◌, inl, inr, ℕ, zero, suc, ◌+◌, ◌-◌, ◌<◌, ◌≤◌, cond, List, [], ◌∷◌, ◌++◌, length, take, drop, get_or, slice_get, option_and_then, Some, refl, ap, sym, ◌∙◌, subst, arith, length-append}
 use Rattle.std.proofs.lemmas.Bool.Decides.{eqb_tells}
 use Rattle.std.proofs.lemmas.List.{nil_from_length}
-use Rattle.std.proofs.lemmas.Option.{slice_get_within}
+use Rattle.std.proofs.lemmas.Option.{slice_get_within, same_Some}
 use Rattle.std.proofs.lemmas.Slice.{first_rest}
+use Rattle.psg_grammar.proofs.PathLaws.{step}
+use Rattle.psg_terms.proofs.Lists.{slice_get-end}
 use Rattle.psg_grammar.specs.Fragments.{Fragment, hole, ending, cell, operator, with_child, with_name, with_number, with_text, anything, observed, children_of}
 use Rattle.psg_grammar.specs.Paths.{Path, node_at, change_child, put_child, change_at}
 use Rattle.psg_tree.specs.Faults.{IsReplaced}
@@ -13,18 +15,11 @@ got_front [] ys k h = absurd (omega (arith, h))
 got_front (x ∷ xs) ys zero h = refl
 got_front (x ∷ xs) ys (suc k) h = got_front xs ys k (omega (arith, h))
 
-got_next : (xs : List Fragment) (y : Fragment) → slice_get (xs ++ y ∷ []) (length xs) ≡ Some y
-got_next [] y = refl
-got_next (x ∷ xs) y = got_next xs y
-
-same_some : (a b : Fragment) → Some a ≡ Some b → a ≡ b
-same_some a b e = cc
-
 -- changes that agree at the child
 pub change_child-agree : (g h : Fragment → Fragment) (k : ℕ) (f t : Fragment) → slice_get (children_of f) k ≡ Some t → g t ≡ h t → change_child g k f ≡ change_child h k f
 change_child-agree g h k (hole p) t s e = refl
 change_child-agree g h k (ending l u) t s e = refl
-change_child-agree g h zero (cell l c r) t s e = let d = same_some c t s in ap (λ x. cell l x r) (ap g d ∙ e ∙ ap h (sym d))
+change_child-agree g h zero (cell l c r) t s e = let d = same_Some c t s in ap (λ x. cell l x r) (ap g d ∙ e ∙ ap h (sym d))
 change_child-agree g h (suc k) (cell l c r) t s e = ap (λ x. cell l c x) (change_child-agree g h k r t s e)
 change_child-agree g h k (operator o) t s e = refl
 change_child-agree g h k (with_child f c) t s e =
@@ -32,7 +27,7 @@ change_child-agree g h k (with_child f c) t s e =
     let w : k < length (children_of f ++ c ∷ []) = slice_get_within (children_of f ++ c ∷ []) k t s in
     elim (eqb_tells (length (children_of f)) k) [
       | inl q ↦
-          let d = same_some c t (sym (got_next (children_of f) c) ∙ ap (slice_get (children_of f ++ c ∷ [])) q.1 ∙ s) in
+          let d = same_Some c t (sym (slice_get-end (children_of f) c) ∙ ap (slice_get (children_of f ++ c ∷ [])) q.1 ∙ s) in
           ap (λ b. cond b (with_child f (g c)) (with_child (change_child g k f) c)) q.0
           ∙ ap (λ x. with_child f x) (ap g d ∙ e ∙ ap h (sym d))
           ∙ ap (λ b. cond b (with_child f (h c)) (with_child (change_child h k f) c)) (sym q.0)
@@ -48,16 +43,11 @@ change_child-agree g h k (with_text f n) t s e = ap (λ x. with_text x n) (chang
 change_child-agree g h k anything t s e = refl
 change_child-agree g h k (observed f) t s e = ap observed (change_child-agree g h k f t s e)
 
--- the child on the path to a node
-step_child : (path : Path) (o : Option Fragment) (x : Fragment) → option_and_then (λ t. node_at t path) o ≡ Some x → (t : Fragment) × (o ≡ Some t) × (node_at t path ≡ Some x)
-step_child path None x e = absurd (cc)
-step_child path (Some t) x e = (t, refl, e)
-
 -- changes that agree at the node
 pub change_at-agree : (g h : Fragment → Fragment) (path : Path) (f x : Fragment) → node_at f path ≡ Some x → g x ≡ h x → change_at g path f ≡ change_at h path f
-change_at-agree g h [] f x s e = let d = same_some f x s in ap g d ∙ e ∙ ap h (sym d)
+change_at-agree g h [] f x s e = let d = same_Some f x s in ap g d ∙ e ∙ ap h (sym d)
 change_at-agree g h (k ∷ path) f x s e =
-    let c = step_child path (slice_get (children_of f) k) x s in
+    let c = step (slice_get (children_of f) k) path x s in
     change_child-agree (change_at g path) (change_at h path) k f c.0 c.1 (change_at-agree g h path c.0 x c.2 e)
 
 -- no step is left

@@ -2,6 +2,7 @@
 use Rattle.std.specs.Prelude.{ℕ, ◌==◌, Bool, true, false, cond, List, [], ◌∷◌, ◌++◌, Option, None, Some, slice_get}
 use Rattle.std.specs.Prelude.{codes, decimal}
 use Rattle.std.specs.List.{flat_map}
+use Rattle.psg_lexis.specs.Tokens.{escaped}
 use Rattle.psg_grammar.specs.declared.types.Phylum.{Phylum}
 use Rattle.psg_grammar.specs.declared.types.Operator.{Operator}
 use Rattle.psg_grammar.specs.declared.types.Definition.{Definition}
@@ -26,13 +27,9 @@ operator_name def o = name_of_operator (slice_get def.operators o)
 abbrev pub phylum_name : Definition → ℕ → List ℕ
 phylum_name def p = name_of_phylum (slice_get def.phyla p)
 
--- a quote, a backslash and a line feed are escaped
-abbrev pub escaped_byte : ℕ → List ℕ
-escaped_byte b = cond (b == 34) (codes "\\\"") (cond (b == 92) (codes "\\\\") (cond (b == 10) (codes "\\n") (b ∷ [])))
-
 -- a text in quotes, with its escapes
 abbrev pub quoted : List ℕ → List ℕ
-quoted t = codes "\"" ++ flat_map escaped_byte t ++ codes "\""
+quoted t = codes "\"" ++ flat_map escaped t ++ codes "\""
 
 -- whether the fragment is an operator with a part
 abbrev pub has_parts : Fragment → Bool

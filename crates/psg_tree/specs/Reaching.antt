@@ -9,7 +9,7 @@ use Rattle.psg_grammar.specs.declared.types.ListKind.{ListKind}
 use Rattle.psg_grammar.specs.declared.types.Operator.{Operator}
 use Rattle.psg_grammar.specs.declared.types.Definition.{Definition}
 use Rattle.psg_grammar.specs.Declaring.{Declares, AnyDeclares}
-use Rattle.psg_tree.specs.declared.reach.Found.{Found, Only, More'}
+use Rattle.psg_tree.specs.declared.reach.PhylumChain.{PhylumChain, Only, More'}
 use Rattle.psg_tree.specs.declared.reach.Step.{Step}
 use Rattle.psg_tree.specs.declared.reach.Step.TheVariants as next
 
@@ -19,9 +19,9 @@ is_in p [] = false
 is_in p (q ∷ qs) = (q == p) || is_in p qs
 
 -- the phyla that are found, the last one first
-abbrev pub found_list : Found → List ℕ
-found_list (Only p) = p ∷ []
-found_list (More' p pointer before) = p ∷ found_list before
+abbrev pub chain_phyla : PhylumChain → List ℕ
+chain_phyla (Only p) = p ∷ []
+chain_phyla (More' p pointer before) = p ∷ chain_phyla before
 
 -- the phylum of the elements of a list that is there
 abbrev pub element_of : Option ListKind → Option ℕ

@@ -2,7 +2,7 @@
 ghost use Rattle.std.specs.Prelude.{◌≡◌, ◌↔◌, ◌≤◌, true, length, drop, IsTrue, IsUtf8};
 ghost use Rattle.std.specs.List.{AllByRecursion};
 ghost use Rattle.psg_grammar.specs.Fragments.{hole, operator};
-ghost use Rattle.psg_grammar.specs.Lookups.{is_part, part_items};
+ghost use Rattle.psg_grammar.specs.Lookups.{part_items};
 ghost use Rattle.psg_grammar.specs.Sound.{IsSound};
 ghost use Rattle.psg_grammar.specs.WellFormed.{WellFormed};
 ghost use Rattle.psg_tree.specs.Shapes.{with_parts, list_of};
@@ -11,30 +11,16 @@ ghost use Rattle.psg_tree.specs.Forms as forms;
 use crate::reach::declares;
 use crate::tree::{Part, Shape, Tree};
 use crate::words::is_name;
-use psg_grammar::{Definition, Item, Kind};
+use psg_grammar::{Definition, Item, Kind, is_part};
 use psg_terms::Txt;
 
-/// Says whether an item has a part of the tree.
-fn has_part(item: &Item) -> bool
-    ensures { result ≡ is_part item.now }
-{
-    match item {
-        Item::Slot(_) => true,
-        Item::Refers(_) => true,
-        Item::Declares(_) => true,
-        Item::Number => true,
-        Item::Text => true,
-        _ => false,
-    }
-}
-
 /// Says whether a name position takes the name.
-fn name_fits(def: &Definition, name: &Txt, item: &Item) -> bool
-    ensures { IsTrue result ↔ forms.NameFits def.now name.now item.now }
+fn name_fits(definition: &Definition, name: &Txt, item: &Item) -> bool
+    ensures { IsTrue result ↔ forms.NameFits definition.now name.now item.now }
 {
     match item {
-        Item::Refers(_) => is_name(def, name.as_str()),
-        Item::Declares(_) => is_name(def, name.as_str()),
+        Item::Refers(_) => is_name(definition, name.as_str()),
+        Item::Declares(_) => is_name(definition, name.as_str()),
         _ => false,
     }
 }
@@ -62,25 +48,25 @@ fn text_fits(contents: &Txt, item: &Item) -> bool
 
 /// Says whether the item is a slot for the tree.
 #[cycle(fits)]
-fn tree_fits(def: &Definition, tree: &Tree, item: &Item) -> bool
-    requires { IsSound def.now }
-    ensures { IsTrue result ↔ forms.TreeFits def.now tree.now item.now }
+fn tree_fits(definition: &Definition, tree: &Tree, item: &Item) -> bool
+    requires { IsSound definition.now }
+    ensures { IsTrue result ↔ forms.TreeFits definition.now tree.now item.now }
 {
     match item {
-        Item::Slot(kind) => well_formed(def, tree, *kind),
+        Item::Slot(kind) => well_formed(definition, tree, *kind),
         _ => false,
     }
 }
 
 /// Says whether the part is one of the item.
 #[cycle(fits)]
-fn part_fits(def: &Definition, part: &Part, item: &Item) -> bool
-    requires { IsSound def.now }
-    ensures { IsTrue result ↔ forms.PartFits def.now part.now item.now }
+fn part_fits(definition: &Definition, part: &Part, item: &Item) -> bool
+    requires { IsSound definition.now }
+    ensures { IsTrue result ↔ forms.PartFits definition.now part.now item.now }
 {
     match part {
-        Part::Sub(tree) => tree_fits(def, tree, item),
-        Part::Name(name) => name_fits(def, name, item),
+        Part::Sub(tree) => tree_fits(definition, tree, item),
+        Part::Name(name) => name_fits(definition, name, item),
         Part::Number(value) => number_fits(*value, item),
         Part::Text(contents) => text_fits(contents, item),
     }
@@ -88,18 +74,18 @@ fn part_fits(def: &Definition, part: &Part, item: &Item) -> bool
 
 /// Returns the number of the next part after the item, or none where the part isn't one of it.
 #[cycle(fits)]
-fn next_part(def: &Definition, parts: &[Part], at: usize, item: &Item) -> Option<usize>
-    requires sound { IsSound def.now }
+fn next_part(definition: &Definition, parts: &[Part], at: usize, item: &Item) -> Option<usize>
+    requires sound { IsSound definition.now }
     requires within { at ≤ length parts.now }
-    ensures { forms.IsNextPart def.now parts.now at item.now result }
+    ensures { forms.IsNextPart definition.now parts.now at item.now result }
 {
-    if !has_part(item) {
+    if !is_part(item) {
         return Some(at);
     }
     match parts.get(at) {
         None => None,
         Some(part) => {
-            if part_fits(def, part, item) {
+            if part_fits(definition, part, item) {
                 Some(at + 1)
             } else {
                 None
@@ -110,13 +96,13 @@ fn next_part(def: &Definition, parts: &[Part], at: usize, item: &Item) -> Option
 
 /// Says whether the parts are those of the items.
 #[cycle(fits)]
-fn parts_fit(def: &Definition, parts: &[Part], items: &[Item]) -> bool
-    requires { IsSound def.now }
-    ensures { IsTrue result ↔ forms.PartsFit def.now parts.now (part_items items.now) }
+fn parts_fit(definition: &Definition, parts: &[Part], items: &[Item]) -> bool
+    requires { IsSound definition.now }
+    ensures { IsTrue result ↔ forms.PartsFit definition.now parts.now (part_items items.now) }
 {
     let mut at: usize = 0;
     for item in items {
-        match next_part(def, parts, at, item) {
+        match next_part(definition, parts, at, item) {
             None => return false,
             Some(next) => at = next,
         }
@@ -146,29 +132,29 @@ fn is_list(kind: Kind, list: u32) -> bool
 
 /// Says whether an operator with these parts is a tree of the kind.
 #[cycle(fits)]
-fn operator_fits(def: &Definition, op: u32, parts: &[Part], kind: Kind) -> bool
-    requires { IsSound def.now }
-    ensures { IsTrue result ↔ WellFormed def.now (with_parts (operator op) parts.now) kind }
+fn operator_fits(definition: &Definition, op: u32, parts: &[Part], kind: Kind) -> bool
+    requires { IsSound definition.now }
+    ensures { IsTrue result ↔ WellFormed definition.now (with_parts (operator op) parts.now) kind }
 {
-    match def.operators.as_slice().get(op as usize) {
+    match definition.operators.as_slice().get(op as usize) {
         None => false,
         Some(operator) => {
             if !is_phylum(kind, operator.phylum) {
                 return false;
             }
-            parts_fit(def, parts, operator.items.as_slice())
+            parts_fit(definition, parts, operator.items.as_slice())
         }
     }
 }
 
 /// Says whether the elements are trees of the phylum.
 #[cycle(fits)]
-fn elements_fit(def: &Definition, elements: &[Tree], phylum: u32) -> bool
-    requires { IsSound def.now }
-    ensures { IsTrue result ↔ AllByRecursion (λ e. WellFormed def.now e (Kind.Phylum phylum)) elements.now }
+fn elements_fit(definition: &Definition, elements: &[Tree], phylum: u32) -> bool
+    requires { IsSound definition.now }
+    ensures { IsTrue result ↔ AllByRecursion (λ e. WellFormed definition.now e (Kind.Phylum phylum)) elements.now }
 {
     for element in elements {
-        if !well_formed(def, element, Kind::Phylum(phylum)) {
+        if !well_formed(definition, element, Kind::Phylum(phylum)) {
             return false;
         }
     }
@@ -184,11 +170,17 @@ fn may_end(unfinished: bool, allowed: bool) -> bool
 
 /// Says whether a list of these elements is a tree of the kind.
 #[cycle(fits)]
-fn list_fits(def: &Definition, list: u32, elements: &[Tree], unfinished: bool, kind: Kind) -> bool
-    requires { IsSound def.now }
-    ensures { IsTrue result ↔ WellFormed def.now (list_of list elements.now unfinished) kind }
+fn list_fits(
+    definition: &Definition,
+    list: u32,
+    elements: &[Tree],
+    unfinished: bool,
+    kind: Kind,
+) -> bool
+    requires { IsSound definition.now }
+    ensures { IsTrue result ↔ WellFormed definition.now (list_of list elements.now unfinished) kind }
 {
-    match def.lists.as_slice().get(list as usize) {
+    match definition.lists.as_slice().get(list as usize) {
         None => false,
         Some(own) => {
             if !is_list(kind, list) {
@@ -197,20 +189,20 @@ fn list_fits(def: &Definition, list: u32, elements: &[Tree], unfinished: bool, k
             if !may_end(unfinished, own.unfinished) {
                 return false;
             }
-            elements_fit(def, elements, own.element)
+            elements_fit(definition, elements, own.element)
         }
     }
 }
 
 /// Says whether a placeholder is a tree of the kind.
-fn hole_fits(def: &Definition, phylum: u32, kind: Kind) -> bool
-    requires { IsSound def.now }
-    ensures { IsTrue result ↔ WellFormed def.now (hole phylum) kind }
+fn hole_fits(definition: &Definition, phylum: u32, kind: Kind) -> bool
+    requires { IsSound definition.now }
+    ensures { IsTrue result ↔ WellFormed definition.now (hole phylum) kind }
 {
-    if !is_phylum(kind, phylum) || phylum as usize >= def.phyla.as_slice().len() {
+    if !is_phylum(kind, phylum) || phylum as usize >= definition.phyla.as_slice().len() {
         return false;
     }
-    !declares(def, phylum)
+    !declares(definition, phylum)
 }
 
 /// Says whether the tree is one of the kind: each operator has the parts of its items, each child is of the kind of its
@@ -220,17 +212,17 @@ fn hole_fits(def: &Definition, phylum: u32, kind: Kind) -> bool
 /// It takes one walk over the tree and no memory. At each name it goes over the words of the definition, and at each
 /// placeholder it searches the phyla that can be reached from its own.
 #[cycle(fits)]
-pub fn well_formed(def: &Definition, tree: &Tree, kind: Kind) -> bool
-    requires { IsSound def.now }
-    ensures { IsTrue result ↔ WellFormed def.now tree.now kind }
+pub fn well_formed(definition: &Definition, tree: &Tree, kind: Kind) -> bool
+    requires { IsSound definition.now }
+    ensures { IsTrue result ↔ WellFormed definition.now tree.now kind }
 {
     match tree.shape() {
-        Shape::Op { op, parts } => operator_fits(def, *op, parts.as_slice(), kind),
+        Shape::Op { op, parts } => operator_fits(definition, *op, parts.as_slice(), kind),
         Shape::List {
             list,
             elements,
             unfinished,
-        } => list_fits(def, *list, elements.as_slice(), *unfinished, kind),
-        Shape::Hole { phylum } => hole_fits(def, *phylum, kind),
+        } => list_fits(definition, *list, elements.as_slice(), *unfinished, kind),
+        Shape::Hole { phylum } => hole_fits(definition, *phylum, kind),
     }
 }

@@ -10,19 +10,19 @@ use psg_grammar::{Definition, Item, Kind, Operator};
 
 /// The phyla found so far, the last one first.
 #[derive(Clone, Copy)]
-enum Found<'a> {
+enum PhylumChain<'a> {
     Only(u32),
-    More(u32, &'a Found<'a>),
+    More(u32, &'a PhylumChain<'a>),
 }
 
-impl Found<'_> {
+impl PhylumChain<'_> {
     /// Says whether the phylum was found.
     fn has(&self, phylum: u32) -> bool
-        ensures { result ≡ reaching.is_in phylum (reaching.found_list self.now) }
+        ensures { result ≡ reaching.is_in phylum (reaching.chain_phyla self.now) }
     {
         match self {
-            Found::Only(first) => *first == phylum,
-            Found::More(last, before) => *last == phylum || before.has(phylum),
+            PhylumChain::Only(first) => *first == phylum,
+            PhylumChain::More(last, before) => *last == phylum || before.has(phylum),
         }
     }
 }
@@ -39,12 +39,12 @@ enum Step {
 }
 
 /// Returns the phylum whose trees are at places of the kind.
-fn phylum_of(def: &Definition, kind: Kind) -> Option<u32>
-    ensures { result ≡ reaching.phylum_of def.now kind }
+fn phylum_of(definition: &Definition, kind: Kind) -> Option<u32>
+    ensures { result ≡ reaching.phylum_of definition.now kind }
 {
     match kind {
         Kind::Phylum(phylum) => Some(phylum),
-        Kind::List(list) => match def.lists.as_slice().get(list as usize) {
+        Kind::List(list) => match definition.lists.as_slice().get(list as usize) {
             None => None,
             Some(kind) => Some(kind.element),
         },
@@ -52,10 +52,10 @@ fn phylum_of(def: &Definition, kind: Kind) -> Option<u32>
 }
 
 /// Returns the step to a place of the kind.
-fn kind_step(def: &Definition, kind: Kind, found: &Found) -> Step
-    ensures { reaching.IsKindStep def.now (reaching.found_list found.now) kind result }
+fn kind_step(definition: &Definition, kind: Kind, found: &PhylumChain) -> Step
+    ensures { reaching.IsKindStep definition.now (reaching.chain_phyla found.now) kind result }
 {
-    match phylum_of(def, kind) {
+    match phylum_of(definition, kind) {
         None => Step::Closed,
         Some(phylum) => {
             if found.has(phylum) {
@@ -68,22 +68,22 @@ fn kind_step(def: &Definition, kind: Kind, found: &Found) -> Step
 }
 
 /// Returns the step that an item makes.
-fn item_step(def: &Definition, item: &Item, found: &Found) -> Step
-    ensures { reaching.IsItemStep def.now (reaching.found_list found.now) item.now result }
+fn item_step(definition: &Definition, item: &Item, found: &PhylumChain) -> Step
+    ensures { reaching.IsItemStep definition.now (reaching.chain_phyla found.now) item.now result }
 {
     match item {
         Item::Declares(_) => Step::Declares,
-        Item::Slot(kind) => kind_step(def, *kind, found),
+        Item::Slot(kind) => kind_step(definition, *kind, found),
         _ => Step::Closed,
     }
 }
 
 /// Returns the first step that one of the items makes.
-fn items_step(def: &Definition, items: &[Item], found: &Found) -> Step
-    ensures { reaching.IsItemsStep def.now (reaching.found_list found.now) items.now result }
+fn items_step(definition: &Definition, items: &[Item], found: &PhylumChain) -> Step
+    ensures { reaching.IsItemsStep definition.now (reaching.chain_phyla found.now) items.now result }
 {
     for item in items {
-        match item_step(def, item, found) {
+        match item_step(definition, item, found) {
             Step::Closed => {}
             step => return step,
         }
@@ -92,12 +92,12 @@ fn items_step(def: &Definition, items: &[Item], found: &Found) -> Step
 }
 
 /// Returns the first step that an operator of a phylum found makes, scope operators aside.
-fn operators_step(def: &Definition, operators: &[Operator], found: &Found) -> Step
-    ensures { reaching.IsOperatorsStep def.now (reaching.found_list found.now) operators.now result }
+fn operators_step(definition: &Definition, operators: &[Operator], found: &PhylumChain) -> Step
+    ensures { reaching.IsOperatorsStep definition.now (reaching.chain_phyla found.now) operators.now result }
 {
     for operator in operators {
         if !operator.scope && found.has(operator.phylum) {
-            match items_step(def, operator.items.as_slice(), found) {
+            match items_step(definition, operator.items.as_slice(), found) {
                 Step::Closed => {}
                 step => return step,
             }
@@ -107,20 +107,20 @@ fn operators_step(def: &Definition, operators: &[Operator], found: &Found) -> St
 }
 
 /// Says whether a declaring position can be reached from one of the phyla found.
-fn reaches(def: &Definition, found: &Found) -> bool
-    ensures { IsTrue result ↔ reaching.AnyDeclare def.now (reaching.found_list found.now) }
+fn reaches(definition: &Definition, found: &PhylumChain) -> bool
+    ensures { IsTrue result ↔ reaching.AnyDeclare definition.now (reaching.chain_phyla found.now) }
 {
-    match operators_step(def, def.operators.as_slice(), found) {
+    match operators_step(definition, definition.operators.as_slice(), found) {
         Step::Declares => true,
         Step::Closed => false,
-        Step::To(phylum) => reaches(def, &Found::More(phylum, &*found)),
+        Step::To(phylum) => reaches(definition, &PhylumChain::More(phylum, &*found)),
     }
 }
 
 /// Says whether a declaring position can be reached from the phylum without passing a scope operator. For each phylum
 /// that can be reached it goes once over all operators, and looks up the phylum of each slot among those found.
-pub fn declares(def: &Definition, phylum: u32) -> bool
-    ensures { IsTrue result ↔ reaching.PhylumDeclares def.now phylum }
+pub fn declares(definition: &Definition, phylum: u32) -> bool
+    ensures { IsTrue result ↔ reaching.PhylumDeclares definition.now phylum }
 {
-    reaches(def, &Found::Only(phylum))
+    reaches(definition, &PhylumChain::Only(phylum))
 }

@@ -1,7 +1,6 @@
 //! The abstract text of a tree.
 ghost use Rattle.std.specs.Prelude.{◌≡◌, ◌==◌, ◌++◌, [], cond, codes, decimal, length, IfOk, OnOk};
-ghost use Rattle.std.specs.Prelude.{string_bytes, encode_utf8};
-ghost use Rattle.std.specs.List.{flat_map};
+ghost use Rattle.std.specs.Prelude.{string_bytes};
 ghost use Rattle.psg_grammar.specs.Fragments.{hole, operator};
 ghost use Rattle.psg_tree.specs.Shapes.{with_parts, list_of};
 ghost use Rattle.psg_tree.specs.AbstractText as text;
@@ -11,38 +10,26 @@ ghost use Rattle.psg_tree.specs.PartTexts.{part_text};
 use crate::tree::{Part, Shape, Tree};
 use itoa::Buffer;
 use psg_grammar::Definition;
+use psg_lexis::write_escaped;
 use std::alloc::{AllocError, Global};
 
 /// Returns the operator's name, empty where the definition has no operator of the number.
-fn operator_name(def: &Definition, op: u32) -> &str
-    ensures { result.now ≡ text.operator_name def.now op }
+fn operator_name(definition: &Definition, op: u32) -> &str
+    ensures { result.now ≡ text.operator_name definition.now op }
 {
-    match def.operators.as_slice().get(op as usize) {
+    match definition.operators.as_slice().get(op as usize) {
         Some(operator) => operator.name.as_str(),
         None => "",
     }
 }
 
 /// Returns the phylum's name, empty where the definition has no phylum of the number. It takes constant time.
-pub fn phylum_name(def: &Definition, phylum: u32) -> &str
-    ensures { result.now ≡ text.phylum_name def.now phylum }
+pub fn phylum_name(definition: &Definition, phylum: u32) -> &str
+    ensures { result.now ≡ text.phylum_name definition.now phylum }
 {
-    match def.phyla.as_slice().get(phylum as usize) {
+    match definition.phyla.as_slice().get(phylum as usize) {
         Some(phylum) => phylum.name.as_str(),
         None => "",
-    }
-}
-
-/// Writes a character of a quoted text, a quote, a backslash or a line feed as its escape.
-fn write_escaped(out: &mut String, ch: char) -> Result<(), AllocError>
-    ensures { OnOk result (string_bytes out.new
-        ≡ string_bytes out.old ++ flat_map text.escaped_byte (encode_utf8 ch)) }
-{
-    match ch {
-        '"' => out.push_str("\\\""),
-        '\\' => out.push_str("\\\\"),
-        '\n' => out.push_str("\\n"),
-        _ => out.push(ch),
     }
 }
 
@@ -96,11 +83,11 @@ fn bracket_of(unfinished: bool) -> &'static str
 
 /// Writes a part of an operator.
 #[cycle(write)]
-fn write_part(out: &mut String, def: &Definition, part: &Part) -> Result<(), AllocError>
-    ensures { OnOk result (string_bytes out.new ≡ string_bytes out.old ++ part_text def.now part.now) }
+fn write_part(out: &mut String, definition: &Definition, part: &Part) -> Result<(), AllocError>
+    ensures { OnOk result (string_bytes out.new ≡ string_bytes out.old ++ part_text definition.now part.now) }
 {
     match part {
-        Part::Sub(tree) => write_tree(out, def, tree),
+        Part::Sub(tree) => write_tree(out, definition, tree),
         Part::Name(name) => out.push_str(name.as_str()),
         Part::Number(value) => write_number(out, *value),
         Part::Text(contents) => write_quoted(out, contents.as_str()),
@@ -111,17 +98,17 @@ fn write_part(out: &mut String, def: &Definition, part: &Part) -> Result<(), All
 #[cycle(write)]
 fn write_operator(
     out: &mut String,
-    def: &Definition,
+    definition: &Definition,
     op: u32,
     parts: &[Part],
 ) -> Result<(), AllocError>
     ensures { OnOk result (string_bytes out.new
-        ≡ string_bytes out.old ++ abstract_text def.now (with_parts (operator op) parts.now)) }
+        ≡ string_bytes out.old ++ abstract_text definition.now (with_parts (operator op) parts.now)) }
 {
-    out.push_str(operator_name(def, op))?;
+    out.push_str(operator_name(definition, op))?;
     for (i, part) in parts.iter().enumerate() {
         out.push_str(mark_before(i))?;
-        write_part(out, def, part)?;
+        write_part(out, definition, part)?;
     }
     out.push_str(bracket_behind(parts))
 }
@@ -130,43 +117,43 @@ fn write_operator(
 #[cycle(write)]
 fn write_list(
     out: &mut String,
-    def: &Definition,
+    definition: &Definition,
     elements: &[Tree],
     unfinished: bool,
 ) -> Result<(), AllocError>
     ensures { OnOk result (string_bytes out.new
-        ≡ string_bytes out.old ++ abstract_text def.now (list_of 0 elements.now unfinished)) }
+        ≡ string_bytes out.old ++ abstract_text definition.now (list_of 0 elements.now unfinished)) }
 {
     out.push_str("[")?;
     for (i, element) in elements.iter().enumerate() {
         out.push_str(comma_before(i))?;
-        write_tree(out, def, element)?;
+        write_tree(out, definition, element)?;
     }
     out.push_str(bracket_of(unfinished))
 }
 
 /// Writes a placeholder.
-fn write_hole(out: &mut String, def: &Definition, phylum: u32) -> Result<(), AllocError>
+fn write_hole(out: &mut String, definition: &Definition, phylum: u32) -> Result<(), AllocError>
     ensures { OnOk result (string_bytes out.new
-        ≡ string_bytes out.old ++ abstract_text def.now (hole phylum)) }
+        ≡ string_bytes out.old ++ abstract_text definition.now (hole phylum)) }
 {
     out.push_str("?")?;
-    out.push_str(phylum_name(def, phylum))
+    out.push_str(phylum_name(definition, phylum))
 }
 
 /// Writes a tree.
 #[cycle(write)]
-fn write_tree(out: &mut String, def: &Definition, tree: &Tree) -> Result<(), AllocError>
-    ensures { OnOk result (string_bytes out.new ≡ string_bytes out.old ++ abstract_text def.now tree.now) }
+fn write_tree(out: &mut String, definition: &Definition, tree: &Tree) -> Result<(), AllocError>
+    ensures { OnOk result (string_bytes out.new ≡ string_bytes out.old ++ abstract_text definition.now tree.now) }
 {
     match tree.shape() {
-        Shape::Op { op, parts } => write_operator(out, def, *op, parts.as_slice()),
+        Shape::Op { op, parts } => write_operator(out, definition, *op, parts.as_slice()),
         Shape::List {
             elements,
             unfinished,
             ..
-        } => write_list(out, def, elements.as_slice(), *unfinished),
-        Shape::Hole { phylum } => write_hole(out, def, *phylum),
+        } => write_list(out, definition, elements.as_slice(), *unfinished),
+        Shape::Hole { phylum } => write_hole(out, definition, *phylum),
     }
 }
 
@@ -174,10 +161,14 @@ fn write_tree(out: &mut String, def: &Definition, tree: &Tree) -> Result<(), All
 /// names, numbers and texts in quotes as parts; `[e,e]` for a list, with `|...` before its last bracket where it is
 /// unfinished; `?P` for a placeholder. In a text the quote, the backslash and the line feed are escaped as `\"`, `\\`
 /// and `\n`. Where the definition has no operator or phylum of a number, its name is empty.
-pub fn abstract_text(alloc: Global, def: &Definition, tree: &Tree) -> Result<String, AllocError>
-    ensures { IfOk result (λ text. string_bytes text ≡ abstract_text def.now tree.now) }
+pub fn abstract_text(
+    alloc: Global,
+    definition: &Definition,
+    tree: &Tree,
+) -> Result<String, AllocError>
+    ensures { IfOk result (λ text. string_bytes text ≡ abstract_text definition.now tree.now) }
 {
     let mut out = String::new(alloc);
-    write_tree(&mut out, def, tree)?;
+    write_tree(&mut out, definition, tree)?;
     Ok(out)
 }

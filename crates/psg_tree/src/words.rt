@@ -7,26 +7,17 @@ ghost use Rattle.psg_grammar.specs.WellFormed.{words_in, operator_words, separat
 ghost use Rattle.psg_tree.specs.WordTests.{is_word_from};
 
 use psg_grammar::{Definition, Item, ListKind, Operator};
-
-/// Says whether a word may begin with the character.
-fn starts(ch: char) -> bool
-    ensures { result ≡ starts_word ch }
-{
-    unicode_ident::is_xid_start(ch) | (ch == '_')
-}
-
-/// Says whether a word may go on with the character.
-fn goes_on(ch: char) -> bool
-    ensures { result ≡ goes_on_word ch }
-{
-    unicode_ident::is_xid_continue(ch) | (ch == '_')
-}
+use psg_terms::{goes_on_word, starts_word};
 
 /// Says whether a word may have the character at its beginning, or else after it.
 fn fits_word(first: bool, ch: char) -> bool
     ensures { result ≡ cond first (starts_word ch) (goes_on_word ch) }
 {
-    if first { starts(ch) } else { goes_on(ch) }
+    if first {
+        starts_word(ch)
+    } else {
+        goes_on_word(ch)
+    }
 }
 
 /// Says whether the text is a word.
@@ -82,18 +73,19 @@ fn is_separator(lists: &[ListKind], text: &str) -> bool
 }
 
 /// Says whether the text is a word of the operators or a separator.
-fn is_fixed(def: &Definition, text: &str) -> bool
-    ensures { result ≡ is_among (fixed_words def.now) text.now }
+fn is_fixed(definition: &Definition, text: &str) -> bool
+    ensures { result ≡ is_among (fixed_words definition.now) text.now }
 {
-    is_operator_word(def.operators.as_slice(), text) || is_separator(def.lists.as_slice(), text)
+    is_operator_word(definition.operators.as_slice(), text)
+        || is_separator(definition.lists.as_slice(), text)
 }
 
 /// Says whether the text is a word that is no fixed one. It goes over all operators and lists.
-pub fn is_name(def: &Definition, text: &str) -> bool
-    ensures { IsTrue result ↔ IsName def.now text.now }
+pub fn is_name(definition: &Definition, text: &str) -> bool
+    ensures { IsTrue result ↔ IsName definition.now text.now }
 {
     if !is_word(text) {
         return false;
     }
-    !is_fixed(def, text)
+    !is_fixed(definition, text)
 }

@@ -1,6 +1,6 @@
 -- What each step of the writer adds to the row that is written.
 use Rattle.std.proofs.Common.{◌≡◌, inl, inr, ℕ, ◌+◌, ◌-◌, ◌*◌, Bool, true, false, cond, ◌||◌, ◌&&◌, not, List, [], ◌∷◌, ◌++◌, length, replicate, Option, Some, None, slice_get, refl, ap, ap₂, sym, subst, ◌∙◌, append_assoc, append-nil, string_bytes, length-append, arith, IsTrue, ◌↔◌}
-use Rattle.std.proofs.lemmas.Bool.{false≢true, or_cases}
+use Rattle.std.proofs.lemmas.Bool.{or_cases}
 use Rattle.std.proofs.lemmas.List.{replicate-append-replicate}
 use Rattle.psg_terms.specs.Words.{goes_on_word}
 use Rattle.psg_lexis.specs.Classes.{is_symbol, Glue}
@@ -8,6 +8,8 @@ use Rattle.std.specs.Str.{chars}
 use Rattle.std.specs.List.{list_any}
 use Rattle.std.specs.Option.{option_or}
 use Rattle.std.proofs.lemmas.List.Folds.{list_any-append}
+use Rattle.std.proofs.Math.Bool.{and_assoc, and-true, and-false, or-false, or-true}
+use Rattle.std.specs.Cmp.{both_ways, first_so, second_so}
 use Rattle.psg_grammar.specs.declared.types.Item.{Item}
 use Rattle.psg_grammar.specs.declared.types.Item.TheVariants as items
 use Rattle.psg_unparse.specs.declared.layout.Writer.{Writer}
@@ -56,23 +58,11 @@ first_in-append before (mark i ∷ a) b =
 
 -- ---- plain rows, and what they begin with
 
-and-assoc : (a b c : Bool) → (a && (b && c)) ≡ ((a && b) && c)
-and-assoc true b c = refl
-and-assoc false b c = refl
-
-and-true : (b : Bool) → b ≡ (b && true)
-and-true true = refl
-and-true false = refl
-
-and-false : (b : Bool) → false ≡ (b && false)
-and-false true = refl
-and-false false = refl
-
 pub plain_in-append : (c : Option ℕ) (a b : List Piece) → plain_in c (a ++ b) ≡ (plain_in c a && plain_in (last_in c a) b)
 plain_in-append c [] b = refl
 plain_in-append c (token t ∷ a) b = plain_in-append (Some (last_char 0 (chars t))) a b
 plain_in-append c (mark i ∷ a) b =
-    ap (λ x. keeps_plain c i && x) (plain_in-append c a b) ∙ and-assoc (keeps_plain c i) (plain_in c a) (plain_in (last_in c a) b)
+    ap (λ x. keeps_plain c i && x) (plain_in-append c a b) ∙ sym (and_assoc (keeps_plain c i) (plain_in c a) (plain_in (last_in c a) b))
 
 pub head_in-mark : (a : List Piece) (i : Item) → head_in (a ++ mark i ∷ []) ≡ head_in a
 head_in-mark [] i = refl
@@ -111,10 +101,6 @@ adds-then {p} {q} {a} {b} {c} f g = record {
       ∙ ap (option_or a.first) (sym (first_in-append before p q));
 }
 
-or_false : (b : Bool) → b ≡ (b || false)
-or_false true = refl
-or_false false = refl
-
 pub adds-mark : (i : Item) (old new : Writer) → string_bytes new.out ≡ string_bytes old.out → new.last ≡ old.last
     → new.levels ≡ open_behind old.levels (mark i ∷ []) → new.line ≡ (old.line || is_line i) → new.tight ≡ (old.tight || is_tight i)
     → new.space ≡ (old.space || is_space i) → new.first ≡ old.first → new.plain ≡ (old.plain && keeps_plain old.last i) → new.head ≡ old.head
@@ -129,7 +115,7 @@ adds-mark i old new bytes last levels line tight space first plain head = record
     space = space ∙ marked is_space before h.space;
     plain =
         plain ∙ ap₂ (λ x y. x && keeps_plain y i) h.plain h.last
-        ∙ ap (λ x. plain_in None before && x) (and-true (keeps_plain (last_in None before) i))
+        ∙ ap (λ x. plain_in None before && x) (sym (and-true (keeps_plain (last_in None before) i)))
         ∙ sym (plain_in-append None before (mark i ∷ []));
     head = head ∙ h.head ∙ sym (head_in-mark before i);
   };
@@ -139,33 +125,29 @@ adds-mark i old new bytes last levels line tight space first plain head = record
       → (b || test i) ≡ list_any test (marks_behind [] (before ++ mark i ∷ []))
   marked {b} test before h =
       ap (λ x. x || test i) h
-      ∙ ap (λ x. list_any test (marks_behind [] before) || x) (or_false (test i))
+      ∙ ap (λ x. list_any test (marks_behind [] before) || x) (sym (or-false (test i)))
       ∙ sym (list_any-append test (marks_behind [] before) (i ∷ []))
       ∙ ap (list_any test) (sym (marks_behind-append [] before (mark i ∷ [])))
 
 unread : (i : Item) (w : Writer) → open_behind w.levels (mark i ∷ []) ≡ w.levels → is_line i ≡ false → is_tight i ≡ false → is_space i ≡ false → keeps_plain w.last i ≡ true → Adds (mark i ∷ []) w w
 unread i w levels line tight space plain =
-    adds-mark i w w refl refl (sym levels) (or_false w.line ∙ ap (λ b. w.line || b) (sym line)) (or_false w.tight ∙ ap (λ b. w.tight || b) (sym tight))
-    (or_false w.space ∙ ap (λ b. w.space || b) (sym space)) refl (and-true w.plain ∙ ap (λ b. w.plain && b) (sym plain)) refl
-
-or_true : (b : Bool) → true ≡ (b || true)
-or_true true = refl
-or_true false = refl
+    adds-mark i w w refl refl (sym levels) (sym (or-false w.line) ∙ ap (λ b. w.line || b) (sym line)) (sym (or-false w.tight) ∙ ap (λ b. w.tight || b) (sym tight))
+    (sym (or-false w.space) ∙ ap (λ b. w.space || b) (sym space)) refl (sym (and-true w.plain) ∙ ap (λ b. w.plain && b) (sym plain)) refl
 
 pub adds-tight : (w : Writer) (p : Bool) → p ≡ (w.plain && has_token w.last) → Adds (mark items.Tight ∷ []) w (record w { tight = true; plain = p })
-adds-tight w p e = adds-mark items.Tight w (record w { tight = true; plain = p }) refl refl refl (or_false w.line) (or_true w.tight) (or_false w.space) refl e refl
+adds-tight w p e = adds-mark items.Tight w (record w { tight = true; plain = p }) refl refl refl (sym (or-false w.line)) (sym (or-true w.tight)) (sym (or-false w.space)) refl e refl
 
 pub adds-space : (w : Writer) (p : Bool) → p ≡ (w.plain && has_token w.last) → Adds (mark items.Space ∷ []) w (record w { space = true; plain = p })
-adds-space w p e = adds-mark items.Space w (record w { space = true; plain = p }) refl refl refl (or_false w.line) (or_false w.tight) (or_true w.space) refl e refl
+adds-space w p e = adds-mark items.Space w (record w { space = true; plain = p }) refl refl refl (sym (or-false w.line)) (sym (or-false w.tight)) (sym (or-true w.space)) refl e refl
 
 pub adds-line : (w : Writer) → Adds (mark items.Line ∷ []) w (record w { line = true; plain = false })
-adds-line w = adds-mark items.Line w (record w { line = true; plain = false }) refl refl refl (or_true w.line) (or_false w.tight) (or_false w.space) refl (and-false w.plain) refl
+adds-line w = adds-mark items.Line w (record w { line = true; plain = false }) refl refl refl (sym (or-true w.line)) (sym (or-false w.tight)) (sym (or-false w.space)) refl (sym (and-false w.plain)) refl
 
 pub adds-in : (w : Writer) (n : ℕ) → n ≡ w.levels + 1 → Adds (mark items.In ∷ []) w (record w { levels = n; plain = false })
-adds-in w n e = adds-mark items.In w (record w { levels = n; plain = false }) refl refl e (or_false w.line) (or_false w.tight) (or_false w.space) refl (and-false w.plain) refl
+adds-in w n e = adds-mark items.In w (record w { levels = n; plain = false }) refl refl e (sym (or-false w.line)) (sym (or-false w.tight)) (sym (or-false w.space)) refl (sym (and-false w.plain)) refl
 
 pub adds-out : (w : Writer) (n : ℕ) → n ≡ w.levels - 1 → Adds (mark items.Out ∷ []) w (record w { levels = n; plain = false })
-adds-out w n e = adds-mark items.Out w (record w { levels = n; plain = false }) refl refl e (or_false w.line) (or_false w.tight) (or_false w.space) refl (and-false w.plain) refl
+adds-out w n e = adds-mark items.Out w (record w { levels = n; plain = false }) refl refl e (sym (or-false w.line)) (sym (or-false w.tight)) (sym (or-false w.space)) refl (sym (and-false w.plain)) refl
 
 pub glues_with-first : (c : ℕ) (cs : List ℕ) → glues_with c (slice_get cs 0) ≡ glues_first c cs
 glues_with-first c [] = refl
@@ -196,7 +178,7 @@ adds-token t begins old mid new begun begin bytes last levels line tight space f
     line = line ∙ ap (list_any is_line) (sym (marks_behind-append [] before (token t ∷ [])));
     tight = tight ∙ ap (list_any is_tight) (sym (marks_behind-append [] before (token t ∷ [])));
     space = space ∙ ap (list_any is_space) (sym (marks_behind-append [] before (token t ∷ [])));
-    plain = plain ∙ begun.plain ∙ h.plain ∙ and-true (plain_in None before) ∙ sym (plain_in-append None before (token t ∷ []));
+    plain = plain ∙ begun.plain ∙ h.plain ∙ sym (and-true (plain_in None before)) ∙ sym (plain_in-append None before (token t ∷ []));
     head =
         head ∙ begun.head ∙ ap₂ (λ l x. head_with l begins x) h.last h.head
         ∙ ap (λ b. head_with (last_in None before) b (head_in before)) begin ∙ sym (head_in-token before t);
@@ -257,29 +239,16 @@ adds-other items.Text w a b c d e = unread items.Text w refl refl refl refl refl
 
 -- ---- characters that run together
 
-bool_same : (r v : Bool) → (r ≡ true → v ≡ true) → (v ≡ true → r ≡ true) → r ≡ v
-bool_same true v f g = sym (f refl)
-bool_same false true f g = g refl
-bool_same false false f g = refl
-
-left_true : (a b : Bool) → (a && b) ≡ true → a ≡ true
-left_true true b h = refl
-left_true false b h = h
-
-right_true : (a b : Bool) → (a && b) ≡ true → b ≡ true
-right_true true b h = h
-right_true false b h = absurd (false≢true h)
-
 pub glues_tells : (r : Bool) (a b : ℕ) → (IsTrue r ↔ Glue a b) → r ≡ glues a b
-glues_tells r a b h = bool_same r (glues a b) (λ e. there (h.0 e)) (λ e. h.1 (back e)) where
+glues_tells r a b h = both_ways r (glues a b) (λ e. there (h.0 e)) (λ e. h.1 (back e)) where
   there : Glue a b → glues a b ≡ true
   there (inl (p, q)) = ap₂ (λ x y. (x && y) || (is_symbol a && is_symbol b)) p q
-  there (inr (p, q)) = ap₂ (λ x y. (goes_on_word a && goes_on_word b) || (x && y)) p q ∙ sym (or_true (goes_on_word a && goes_on_word b))
+  there (inr (p, q)) = ap₂ (λ x y. (goes_on_word a && goes_on_word b) || (x && y)) p q ∙ sym (sym (or-true (goes_on_word a && goes_on_word b)))
 
   back : glues a b ≡ true → Glue a b
   back e = elim (or_cases (goes_on_word a && goes_on_word b) (is_symbol a && is_symbol b) e) [
-    | inl f ↦ inl (left_true (goes_on_word a) (goes_on_word b) f, right_true (goes_on_word a) (goes_on_word b) f)
-    | inr f ↦ inr (left_true (is_symbol a) (is_symbol b) f, right_true (is_symbol a) (is_symbol b) f)
+    | inl f ↦ inl (first_so (goes_on_word a) (goes_on_word b) f, second_so (goes_on_word a) (goes_on_word b) f)
+    | inr f ↦ inr (first_so (is_symbol a) (is_symbol b) f, second_so (is_symbol a) (is_symbol b) f)
   ]
 
 -- ---- indentation

@@ -2,6 +2,8 @@
 use Rattle.std.proofs.Common.{◌≡◌, ℕ, ◌≤◌, ◌==◌, Bool, true, false, cond, ◌&&◌, not, List, [], ◌∷◌, length, None, refl, ap, sym, subst, ◌∙◌, arith}
 use Rattle.std.specs.Prelude.{option_and_then, slice_get}
 use Rattle.std.proofs.lemmas.Bool.{false≢true}
+use Rattle.std.proofs.lemmas.List.{nil_from_length}
+use Rattle.psg_terms.proofs.Lists.{suc_is_not_zero}
 use Rattle.psg_grammar.specs.declared.types.Definition.{Definition}
 use Rattle.psg_grammar.specs.declared.types.Item.{Item}
 use Rattle.psg_grammar.specs.declared.types.Item.TheVariants as items
@@ -12,7 +14,6 @@ use Rattle.psg_tree.specs.declared.tree.Part.TheVariants.{Sub, Name, Number, Tex
 use Rattle.psg_tree.specs.declared.tree.Shape.{Shape}
 use Rattle.psg_tree.specs.declared.tree.Shape.TheVariants.{Op, List as ListOf, Hole}
 use Rattle.psg_tree.specs.Shapes.{with_part, with_parts, list_of, tree_of}
-use Rattle.psg_tree.proofs.Children.{not_zero}
 use Rattle.psg_unparse.specs.declared.layout.Writer.{Writer}
 use Rattle.psg_reads_back.specs.Rows.{words, from_part, behind_first, operator_of, between, separating}
 use Rattle.psg_unparse.specs.Writing.{Adds, piece}
@@ -69,15 +70,11 @@ pub left-part-rest : (all rest : List Item) (i : Item) (behind : List Item) (sta
     → rest ≡ from_part all
 left-part-rest all rest i behind start now h e p = e ∙ sym (ap from_part e ∙ ap (λ b. cond b (i ∷ behind) (from_part behind)) p) ∙ h.rest
 
-nothing : (rest : List Item) → length rest ≡ 0 → rest ≡ []
-nothing [] h = refl
-nothing (i ∷ rest) h = absurd (omega (arith, h))
-
 pub left-end-adds : (all rest : List Item) (start now : Writer) → AreLeft all rest start now → length rest ≡ 0 → Adds (words all) start now
-left-end-adds all rest start now h e = h.adds now (subst (λ x. Adds x now now) (sym (ap words (nothing rest e))) (adds-nothing now))
+left-end-adds all rest start now h e = h.adds now (subst (λ x. Adds x now now) (sym (ap words (nil_from_length rest e))) (adds-nothing now))
 
 pub left-end-rest : (all rest : List Item) (start now : Writer) → AreLeft all rest start now → length rest ≡ 0 → rest ≡ from_part all
-left-end-rest all rest start now h e = nothing rest e ∙ sym (ap from_part (nothing rest e)) ∙ h.rest
+left-end-rest all rest start now h e = nil_from_length rest e ∙ sym (ap from_part (nil_from_length rest e)) ∙ h.rest
 
 short-cond : (b : Bool) (i : Item) (xs : List Item) → length (from_part xs) ≤ length xs → length (cond b (i ∷ xs) (from_part xs)) ≤ length (i ∷ xs)
 short-cond true i xs h = omega arith
@@ -93,7 +90,7 @@ short-behind (i ∷ xs) = omega arith
 
 -- ---- the operator of a tree
 
-top-part : (f : Fragment) (p : Part) → top_operator (with_part f p) ≡ top_operator f
+pub top-part : (f : Fragment) (p : Part) → top_operator (with_part f p) ≡ top_operator f
 top-part f (Sub t) = refl
 top-part f (Name n) = refl
 top-part f (Number x) = refl
@@ -124,7 +121,7 @@ operator-hole def s p f e h = ap (operator_of def) (sym (ap tree_of e) ∙ h)
 pub between-none : (def : Definition) (l : ℕ) (es : List Fragment) (u : Bool) → (length es == 0 && not u) ≡ true → between def l (list_of l es u) ≡ []
 between-none def l [] true h = absurd (false≢true h)
 between-none def l [] false h = refl
-between-none def l (e ∷ es) u h = absurd (false≢true (sym (ap (λ b. b && not u) (not_zero (length es))) ∙ h))
+between-none def l (e ∷ es) u h = absurd (false≢true (sym (ap (λ b. b && not u) (suc_is_not_zero (length es))) ∙ h))
 
 pub between-some : (def : Definition) (l : ℕ) (es : List Fragment) (u : Bool) → (length es == 0 && not u) ≡ false → between def l (list_of l es u) ≡ separating (slice_get def.lists l)
 between-some def l [] true h = refl

@@ -4,6 +4,7 @@ use Rattle.std.specs.Prelude.{decimal, option_and_then}
 use Rattle.std.specs.List.{AllByRecursion}
 use Rattle.std.proofs.lemmas.List.{append_cancel_left}
 use Rattle.std.proofs.lemmas.Option.{slice_get_within}
+use Rattle.psg_terms.proofs.Lists.{slice_get-front, slice_get-end}
 use Rattle.psg_grammar.specs.declared.types.Definition.{Definition}
 use Rattle.psg_grammar.specs.declared.types.Item.{Item}
 use Rattle.psg_grammar.specs.declared.types.Kind.{Kind}
@@ -105,15 +106,6 @@ pub each-at : (P : Placed → Type 0) (xs : List Placed) (k : ℕ) (p : Placed) 
 each-at P [] k p a e = absurd (cc)
 each-at P (x ∷ xs) zero p a e = let same : x ≡ p = cc in subst P same a.0
 each-at P (x ∷ xs) (suc k) p a e = each-at P xs k p a.1 e
-
-pub get-front : (xs ys : List Fragment) (k : ℕ) (t : Fragment) → slice_get xs k ≡ Some t → slice_get (xs ++ ys) k ≡ Some t
-get-front [] ys k t e = absurd (cc)
-get-front (x ∷ xs) ys zero t e = e
-get-front (x ∷ xs) ys (suc k) t e = get-front xs ys k t e
-
-pub get-last : (xs : List Fragment) (t : Fragment) → slice_get (xs ++ t ∷ []) (length xs) ≡ Some t
-get-last [] t = refl
-get-last (x ∷ xs) t = get-last xs t
 
 -- a child of the node with one more child is one of the others, or the last
 pub get-split : (xs : List Fragment) (t : Fragment) (k : ℕ) (u : Fragment) → slice_get (xs ++ t ∷ []) k ≡ Some u
@@ -223,12 +215,12 @@ module _ (def : Definition) where
   below s n (with_child f t) h c =
       each-append (IsBelow n (children_of f ++ t ∷ []) s.path) (placed_below def (front_spot def s f t) n f) (placed_from def (child_spot def s f t) t)
       (each-as (IsBelow n (children_of f) s.path) (IsBelow n (children_of f ++ t ∷ []) s.path)
-      (λ p b. record { number = b.number; child = b.child; sum = b.sum; rest = b.rest; tree = b.tree; path_is = b.path_is; got = get-front (children_of f) (t ∷ []) b.child b.tree b.got; node = b.node })
+      (λ p b. record { number = b.number; child = b.child; sum = b.sum; rest = b.rest; tree = b.tree; path_is = b.path_is; got = slice_get-front (children_of f) (t ∷ []) b.child b.tree b.got; node = b.node })
       (placed_below def (front_spot def s f t) n f)
       (below (front_spot def s f t) n f h.0 (λ _. c tt)))
       (each-as (IsAt t (s.path ++ length (children_of f) ∷ [])) (IsBelow n (children_of f ++ t ∷ []) s.path)
       (λ p. at-below n (length (children_of f)) (length (children_of f)) t (children_of f ++ t ∷ []) s.path p
-      (let z : length (children_of f) ≡ n + length (children_of f) = omega (arith, c tt) in z) (get-last (children_of f) t))
+      (let z : length (children_of f) ≡ n + length (children_of f) = omega (arith, c tt) in z) (slice_get-end (children_of f) t))
       (placed_from def (child_spot def s f t) t)
       (at-top (child_spot def s f t) t h.1.0 (below (child_spot def s f t) 0 t h.1.0 (λ _. refl))))
   below s n (with_name f x) h c = below (leaf_spot def s f x) n f h.0 (λ _. c tt)

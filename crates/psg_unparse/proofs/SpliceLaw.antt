@@ -1,6 +1,7 @@
 -- The text of a tree with another node is the old text, in which the node's own text is replaced.
 use Rattle.std.proofs.Common.{◌≡◌, ℕ, zero, suc, ◌+◌, ◌-◌, ◌<◌, true, List, [], ◌∷◌, ◌++◌, length, map, take, drop, Option, Some, None, slice_get, refl, ap, ap₂, sym, subst, ◌∙◌, append_assoc, append-nil, length-append, arith}
 use Rattle.std.proofs.Math.Seq.{take-append_seam, drop-append_seam}
+use Rattle.psg_terms.proofs.Lists.{slice_get-middle}
 use Rattle.std.specs.List.{AllByRecursion}
 use Rattle.psg_grammar.specs.declared.types.Kind.{Kind}
 use Rattle.psg_grammar.specs.declared.types.Definition.{Definition}
@@ -30,10 +31,6 @@ map_got g [] k y e = absurd (cc)
 map_got g (x ∷ xs) zero y e = (x, refl, (let s : Some (g x) ≡ Some y = e in cc))
 map_got g (x ∷ xs) (suc k) y e = map_got g xs k y e
 
-at_seam : {X : Type 0} (xs : List X) (x : X) (ys : List X) → slice_get (xs ++ x ∷ ys) (length xs) ≡ Some x
-at_seam [] x ys = refl
-at_seam (y ∷ xs) x ys = at_seam xs x ys
-
 -- a text cut at a plain row
 cut_text : (pre r post : Pieces) → plain_in None r ≡ true
     → laid [] (pre ++ (r ++ post)) ≡ (laid [] pre ++ front (state_of pre) r) ++ (laid [] r ++ laid (pre ++ r) post)
@@ -61,7 +58,7 @@ module _ (def : Definition) (f : Fragment) (kind : Kind) (h : WellFormed def f k
 
   own_at : slice_get spans (length cut.ahead) ≡ Some own
   unfolding own
-  own_at = ap (λ z. slice_get z (length cut.ahead)) spans_are ∙ at_seam cut.ahead (span_at def path cut.pre u) (spans_below def path cut.pre 0 u ++ cut.rear)
+  own_at = ap (λ z. slice_get z (length cut.ahead)) spans_are ∙ slice_get-middle cut.ahead (span_at def path cut.pre u) (spans_below def path cut.pre 0 u ++ cut.rear)
 
   place_is : (place : ℕ) (node : Span) → slice_get spans place ≡ Some node → node.path ≡ path → place ≡ length cut.ahead
   unfolding own

@@ -3,6 +3,7 @@ use Rattle.std.proofs.Common.{◌≡◌, ◌↔◌, inl, inr, ℕ, zero, suc, �
 use Rattle.std.specs.List.{AllByRecursion}
 use Rattle.std.proofs.lemmas.Bool.{false≢true, and_parts}
 use Rattle.std.proofs.lemmas.Bool.Decides.{eqb_tells}
+use Rattle.std.proofs.Math.Bool.{and-true, and-false, or-false}
 use Rattle.unicode_ident.proofs.IdentLemmas.{is_xid_continue-ascii}
 use Rattle.psg_terms.specs.Words.{goes_on_word}
 use Rattle.psg_lexis.specs.Classes.{is_symbol}
@@ -19,22 +20,6 @@ use Rattle.psg_unparse.specs.Spots.{printed_of}
 use Rattle.psg_unparse.proofs.SpliceLaw.{spliced_at}
 
 -- ---- characters
-
-and-true : (b : Bool) → (b && true) ≡ b
-and-true true = refl
-and-true false = refl
-
-and-false : (b : Bool) → (b && false) ≡ false
-and-false true = refl
-and-false false = refl
-
-or-false : (b : Bool) → (b || false) ≡ b
-or-false true = refl
-or-false false = refl
-
-or-true : (b : Bool) → (b || true) ≡ true
-or-true true = refl
-or-true false = refl
 
 -- a character runs together with `_` if a word goes on with it, and with `+` if it is a symbol
 pub glue_word : (c : ℕ) → glues c 95 ≡ goes_on_word c

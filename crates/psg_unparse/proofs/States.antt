@@ -1,7 +1,8 @@
 -- What the text of a row depends on of the row before it.
 use Rattle.std.proofs.Common.{◌≡◌, ℕ, ◌+◌, ◌-◌, ◌*◌, Bool, true, false, cond, ◌||◌, ◌&&◌, not, List, [], ◌∷◌, ◌++◌, length, replicate, Option, Some, None, slice_get, refl, ap, ap₂, sym, subst, ◌∙◌, append_assoc, append-nil, length-append, arith}
-use Rattle.std.proofs.lemmas.Bool.{false≢true, and_parts}
+use Rattle.std.proofs.lemmas.Bool.{false≢true, and_parts, or_from}
 use Rattle.std.proofs.lemmas.List.Folds.{list_any-append}
+use Rattle.std.proofs.Math.Bool.{or-false}
 use Rattle.std.specs.Str.{chars}
 use Rattle.std.specs.List.{list_any}
 use Rattle.psg_terms.specs.Words.{goes_on_word}
@@ -73,10 +74,6 @@ front s (mark i ∷ r) = front (after s (mark i)) r
 
 -- ---- the state of a row
 
-or_false : (b : Bool) → (b || false) ≡ b
-or_false true = refl
-or_false false = refl
-
 same_state : {l l' : Option ℕ} {n n' : ℕ} {a a' b b' c c' : Bool} → l ≡ l' → n ≡ n' → a ≡ a' → b ≡ b' → c ≡ c'
     → ◌≡◌ {A = State} (record { last = l; levels = n; line = a; tight = b; space = c }) (record { last = l'; levels = n'; line = a'; tight = b'; space = c' })
 same_state e f g h k = cc
@@ -84,7 +81,7 @@ same_state e f g h k = cc
 any_mark : (test : Item → Bool) (b : Pieces) (i : Item) → list_any test (marks_behind [] (b ++ mark i ∷ [])) ≡ (list_any test (marks_behind [] b) || test i)
 any_mark test b i =
     ap (list_any test) (marks_behind-append [] b (mark i ∷ [])) ∙ list_any-append test (marks_behind [] b) (i ∷ [])
-    ∙ ap (λ x. list_any test (marks_behind [] b) || x) (or_false (test i))
+    ∙ ap (λ x. list_any test (marks_behind [] b) || x) (or-false (test i))
 
 step : (b : Pieces) (p : Piece) → state_of (b ++ p ∷ []) ≡ after (state_of b) p
 step b (token t) =
@@ -171,12 +168,12 @@ unread s items.Space h = absurd (false≢true h)
 unread s items.Line h = absurd (false≢true h)
 unread s items.In h = absurd (false≢true h)
 unread s items.Out h = absurd (false≢true h)
-unread s (items.Word w) h = same_state refl refl (or_false s.line) (or_false s.tight) (or_false s.space)
-unread s (items.Slot k) h = same_state refl refl (or_false s.line) (or_false s.tight) (or_false s.space)
-unread s (items.Refers k) h = same_state refl refl (or_false s.line) (or_false s.tight) (or_false s.space)
-unread s (items.Declares k) h = same_state refl refl (or_false s.line) (or_false s.tight) (or_false s.space)
-unread s items.Number h = same_state refl refl (or_false s.line) (or_false s.tight) (or_false s.space)
-unread s items.Text h = same_state refl refl (or_false s.line) (or_false s.tight) (or_false s.space)
+unread s (items.Word w) h = same_state refl refl (or-false s.line) (or-false s.tight) (or-false s.space)
+unread s (items.Slot k) h = same_state refl refl (or-false s.line) (or-false s.tight) (or-false s.space)
+unread s (items.Refers k) h = same_state refl refl (or-false s.line) (or-false s.tight) (or-false s.space)
+unread s (items.Declares k) h = same_state refl refl (or-false s.line) (or-false s.tight) (or-false s.space)
+unread s items.Number h = same_state refl refl (or-false s.line) (or-false s.tight) (or-false s.space)
+unread s items.Text h = same_state refl refl (or-false s.line) (or-false s.tight) (or-false s.space)
 
 no_line : (o : Option ℕ) (i : Item) → keeps_plain o i ≡ true → is_line i ≡ false
 no_line o items.Tight h = refl
@@ -228,15 +225,12 @@ ending_of x = last_char 0 (chars x)
 flat_after : (s t : State) (x : List ℕ) → Flat (ending_of x) (after s (token x)) (after t (token x))
 flat_after s t x = record { last = refl; last' = refl; line = refl; line' = refl; tight = refl; space = refl }
 
-or_both : (a b : Bool) → a ≡ false → b ≡ false → (a || b) ≡ false
-or_both a b e f = ap₂ (λ x y. x || y) e f
-
 flat_mark : (c : ℕ) (s t : State) (i : Item) → Flat c s t → keeps_plain (Some c) i ≡ true → Flat c (after s (mark i)) (after t (mark i))
 flat_mark c s t i h k = record {
   last = h.last;
   last' = h.last';
-  line = or_both s.line (is_line i) h.line (no_line (Some c) i k);
-  line' = or_both t.line (is_line i) h.line' (no_line (Some c) i k);
+  line = or_from s.line (is_line i) h.line (no_line (Some c) i k);
+  line' = or_from t.line (is_line i) h.line' (no_line (Some c) i k);
   tight = ap (λ b. b || is_tight i) h.tight;
   space = ap (λ b. b || is_space i) h.space;
 }

@@ -3,7 +3,7 @@ ghost use Rattle.std.specs.Prelude.{◌≡◌, ◌+◌, ◌<◌, ◌==◌, ◌&&
 ghost use Rattle.std.specs.Prelude.{IfOk, IfSome, OnOk};
 ghost use Rattle.std.specs.List.{AllByRecursion};
 ghost use Rattle.psg_grammar.specs.Fragments.{operator as plain_operator};
-ghost use Rattle.psg_grammar.specs.Lookups.{is_part, operator_at};
+ghost use Rattle.psg_grammar.specs.Lookups.{operator_at};
 ghost use Rattle.psg_grammar.specs.Sound.{IsSound};
 ghost use Rattle.psg_tree.specs.AbstractText as text;
 ghost use Rattle.psg_tree.specs.Shapes.{list_of, with_parts};
@@ -22,7 +22,7 @@ ghost use Rattle.psg_unparse.specs.Writing.{Adds};
 
 use crate::layout::Writer;
 use crate::spans::{Printed, Span};
-use psg_grammar::{Definition, Item, ListKind, least_level, op_level};
+use psg_grammar::{Definition, Item, ListKind, is_part, least_level, op_level};
 use psg_terms::{Seq, Txt};
 use psg_tree::{Part, Path, Shape, Tree, nodes, phylum_name};
 use std::alloc::{AllocError, Global};
@@ -72,16 +72,6 @@ pub(crate) struct PlainText {
     pub(crate) printed: Printed,
     pub(crate) first: Option<char>,
     pub(crate) last: Option<char>,
-}
-
-/// Says whether the item has a part of the tree.
-pub fn is_part(item: &Item) -> bool
-    ensures { result ≡ is_part item.now }
-{
-    matches!(
-        item,
-        Item::Slot(_) | Item::Refers(_) | Item::Declares(_) | Item::Number | Item::Text
-    )
 }
 
 /// Returns the items of the operator of the number, none where the definition has no such operator.

@@ -34,7 +34,7 @@ decreases-well_formed l = 6 * height l.tree.now + 4
 
 abbrev pub invariant-parts_fit-loop-item : goal.invariant-parts_fit-loop-item
 invariant-parts_fit-loop-item l =
-    (l.at ≤ length l.parts) × (PartsFit l.def l.parts (part_items l.items) ↔ PartsFit l.def (drop l.at l.parts) (part_items (drop l.item-index l.items)))
+    (l.at ≤ length l.parts) × (PartsFit l.definition l.parts (part_items l.items) ↔ PartsFit l.definition (drop l.at l.parts) (part_items (drop l.item-index l.items)))
 
 abbrev pub invariant-elements_fit-loop-element : goal.invariant-elements_fit-loop-element
-invariant-elements_fit-loop-element l = AllByRecursion (λ e. WellFormed l.def e (kinds.Phylum l.phylum)) (take l.element-index l.elements)
+invariant-elements_fit-loop-element l = AllByRecursion (λ e. WellFormed l.definition e (kinds.Phylum l.phylum)) (take l.element-index l.elements)

@@ -1,7 +1,7 @@
 use Rattle.std.proofs.Common.{◌^◌}
-use Rattle.psg_tree.specs.Reaching.{found_list}
+use Rattle.psg_tree.specs.Reaching.{chain_phyla}
 use Rattle.psg_tree.proofs.Missing.{missing}
 use Rattle.psg_tree.proofs.reach.+reaches.Given as goal
 
 abbrev pub decreases-reaches : goal.decreases-reaches
-decreases-reaches l = missing (2 ^ 32) (found_list l.found.now)
+decreases-reaches l = missing (2 ^ 32) (chain_phyla l.found.now)

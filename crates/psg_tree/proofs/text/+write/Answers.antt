@@ -13,7 +13,7 @@ write_list-write_tree-requires t c =
 pub write_list-returns : goal.write_list-returns
 write_list-returns t c =
     on_written c.push_str-2.result (string_bytes c.push_str-2.new.self) _ _ _ c.push_str-2.ensures.bytes
-    (elements_written c.args.def.now c.loop-i.i c.args.elements.now c.args.unfinished (string_bytes c.args.out.now) (string_bytes c.loop-i.out) (string_bytes c.push_str-2.new.self) c.bracket_of.result.now c.loop-i-test.false c.loop-i.invariant c.bracket_of.ensures)
+    (elements_written c.args.definition.now c.loop-i.i c.args.elements.now c.args.unfinished (string_bytes c.args.out.now) (string_bytes c.loop-i.out) (string_bytes c.push_str-2.new.self) c.bracket_of.result.now c.loop-i-test.false c.loop-i.invariant c.bracket_of.ensures)
 
 pub write_operator-write_part-requires : goal.write_operator-write_part-requires
 write_operator-write_part-requires t c =
@@ -22,13 +22,13 @@ write_operator-write_part-requires t c =
 
 pub write_operator-loop-i-preserved : goal.write_operator-loop-i-preserved
 write_operator-loop-i-preserved t c =
-    part_written c.args.def.now c.args.op c.loop-i.i c.args.parts.now c.index-parts-i.result (string_bytes c.args.out.now) (string_bytes c.loop-i.out) (string_bytes c.push_str-in-loop-i.new.self) (string_bytes c.write_part.new.out)
+    part_written c.args.definition.now c.args.op c.loop-i.i c.args.parts.now c.index-parts-i.result (string_bytes c.args.out.now) (string_bytes c.loop-i.out) (string_bytes c.push_str-in-loop-i.new.self) (string_bytes c.write_part.new.out)
     c.mark_before.result.now c.loop-i-test.true c.index-parts-i.is c.loop-i.invariant c.mark_before.ensures c.in_ok-push_str-2.ensures.bytes c.in_ok-write_part.ensures
 
 pub write_operator-returns : goal.write_operator-returns
 write_operator-returns t c =
     on_written c.push_str-2.result (string_bytes c.push_str-2.new.self) _ _ _ c.push_str-2.ensures.bytes
-    (parts_written c.args.def.now c.args.op c.loop-i.i c.args.parts.now (string_bytes c.args.out.now) (string_bytes c.loop-i.out) (string_bytes c.push_str-2.new.self) c.bracket_behind.result.now c.loop-i-test.false c.loop-i.invariant c.bracket_behind.ensures)
+    (parts_written c.args.definition.now c.args.op c.loop-i.i c.args.parts.now (string_bytes c.args.out.now) (string_bytes c.loop-i.out) (string_bytes c.push_str-2.new.self) c.bracket_behind.result.now c.loop-i-test.false c.loop-i.invariant c.bracket_behind.ensures)
 
 pub write_tree-write_operator-requires : goal.write_tree-write_operator-requires
 write_tree-write_operator-requires t c =
@@ -45,5 +45,5 @@ write_tree-write_list-requires t c =
 
 pub write_tree-returns-in-List : goal.write_tree-returns-in-List
 write_tree-returns-in-List t c =
-    let e = list_text c.args.def.now _ _ _ _ _ c.in-List.is c.shape.ensures in
+    let e = list_text c.args.definition.now _ _ _ _ _ c.in-List.is c.shape.ensures in
     rw (← e) (rw (← c.as_slice-in-List.ensures) c.write_list.ensures)

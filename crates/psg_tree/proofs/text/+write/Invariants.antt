@@ -18,7 +18,7 @@ abbrev pub decreases-write_tree : goal.decreases-write_tree
 decreases-write_tree l = 3 * height l.tree.now + 2
 
 abbrev pub invariant-write_operator-loop-i : goal.invariant-write_operator-loop-i
-invariant-write_operator-loop-i l = string_bytes l.out ≡ string_bytes l.fn.out ++ inner l.def (with_parts (operator l.op) (take l.i l.parts))
+invariant-write_operator-loop-i l = string_bytes l.out ≡ string_bytes l.fn.out ++ inner l.definition (with_parts (operator l.op) (take l.i l.parts))
 
 abbrev pub invariant-write_list-loop-i : goal.invariant-write_list-loop-i
-invariant-write_list-loop-i l = string_bytes l.out ++ tail_text l.def l.i (drop l.i l.elements) l.unfinished ≡ string_bytes l.fn.out ++ (codes "[" ++ inner l.def (list_of 0 l.elements l.unfinished))
+invariant-write_list-loop-i l = string_bytes l.out ++ tail_text l.definition l.i (drop l.i l.elements) l.unfinished ≡ string_bytes l.fn.out ++ (codes "[" ++ inner l.definition (list_of 0 l.elements l.unfinished))
