@@ -2,19 +2,13 @@
 use Rattle.std.proofs.Common.{◌≡◌, ℕ, ◌+◌, ◌<◌, ◌≤◌, ◌⊎◌, inl, inr, zero, suc, All, List, [], ◌∷◌, ◌++◌, map, length, refl, ap, ◌∙◌, sym, subst, Option, Some, None, slice_get, arith}
 use Rattle.std.specs.Prelude.{sum_by}
 use Rattle.std.proofs.lemmas.List.Elements.{All-get_or}
-use Rattle.std.proofs.lemmas.List.Sums.{sum_by-cons, sum_by-append}
+use Rattle.std.proofs.lemmas.List.Sums.{sum_by-cons}
+use Rattle.psg_terms.proofs.Lists.{sum_by-around, in_at}
 use Rattle.psg_terms.specs.Relations.{IsIn, first, later, IsOnce}
 use Rattle.psg_relation.specs.Choices.{pick, picked}
 use Rattle.psg_relation.proofs.Members.{around, beside, in-contains, in-map}
 use Rattle.psg_relation.proofs.Weights.{sum-some}
 use Rattle.psg_columns.specs.Fewer.{KeptOnce}
-
-sum_around : {X : Type 0} (f : X → ℕ) (x : X) (front back : List X) → sum_by f (front ++ x ∷ back) ≡ f x + sum_by f (front ++ back)
-sum_around f x front back =
-    let a = sum_by-append f front (x ∷ back) in
-    let b = sum_by-cons f x back in
-    let c = sum_by-append f front back in
-    omega arith
 
 -- where each member has a source of its own that weighs as much, the members together weigh no more than the sources
 pub sum_from : {X Y : Type 0} (f : X → ℕ) (g : Y → ℕ) (From : X → Y → Type 0)
@@ -31,7 +25,7 @@ sum_from f g From same most (x ∷ xs) ys (a, o) h =
       | inr d ↦ absurd (a (subst (λ v. IsIn v xs) (same z x y (subst (From z) d other) from) j))
     ]) in
     let p = sum_by-cons f x xs in
-    let q = ap (sum_by g) e ∙ sum_around g y front back in
+    let q = ap (sum_by g) e ∙ sum_by-around g y front back in
     let l = most x y from in
     omega arith
 
@@ -100,15 +94,10 @@ in_pick x None rest h = inr h
 in_pick x (Some y) rest first = inl refl
 in_pick x (Some y) rest (later h) = inr h
 
-get_in : {X : Type 0} (xs : List X) (k : ℕ) (x : X) → slice_get xs k ≡ Some x → IsIn x xs
-get_in [] k x e = absurd (cc)
-get_in (y ∷ xs) zero x e = let d : y ≡ x = cc in subst (λ z. IsIn z (y ∷ xs)) d first
-get_in (y ∷ xs) (suc k) x e = later (get_in xs k x e)
-
 -- a column that is kept is one of the row
 pub in_picked : {X : Type 0} (x : X) (row : List X) (keep : List ℕ) → IsIn x (picked row keep) → IsIn x row
 in_picked x row [] h = elim h [ ]
 in_picked x row (k ∷ keep) h = elim (in_pick x (slice_get row k) (picked row keep) h) [
-  | inl e ↦ get_in row k x e
+  | inl e ↦ in_at row k x e
   | inr i ↦ in_picked x row keep i
 ]

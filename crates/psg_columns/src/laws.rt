@@ -5,8 +5,8 @@ use psg_terms::Signature;
 
 /// States that a relation of columns, each of which is kept once, is within the limit where the rows that have the
 /// columns are.
-pub fn fewer_columns(signature: &Signature)
-    ensures { FewerColumns signature.now }
+pub fn fewer_columns(sig: &Signature)
+    ensures { FewerColumns sig.now }
 {
-    signature.sound();
+    sig.sound();
 }

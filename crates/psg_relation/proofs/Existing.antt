@@ -1,11 +1,11 @@
 -- Some list is the relation of rows of equal sorts.
-use Rattle.std.proofs.Common.{◌≡◌, ◌≢◌, ℕ, ◌⊎◌, inl, inr, Bool, false, cond, List, [], ◌∷◌, ◌++◌, append_assoc, IsTrue, map, refl, ap, ap₂, sym, ◌∙◌, subst, Option, Some, None, nat_cmp, is_lt}
+use Rattle.std.proofs.Common.{◌≡◌, ◌≢◌, ℕ, ◌⊎◌, inl, inr, Bool, false, cond, List, [], ◌∷◌, ◌++◌, append_assoc, IsTrue, map, refl, ap, ap₂, sym, ◌∙◌, subst, Option, Some, None, nat_cmp, is_lt, append-nil}
 use Rattle.std.specs.Ordering.{is_le, ordering_reverse}
 use Rattle.std.specs.Cmp.{IsStrictWeakOrder}
 use Rattle.std.specs.Cmp.Lexicographic.{slice_cmp, nat_list_cmp_total}
 use Rattle.std.specs.declared.cmp.Ordering.{Ordering}
 use Rattle.std.specs.declared.cmp.Ordering.TheVariants.{Less, Equal, Greater}
-use Rattle.std.proofs.lemmas.Bool.{true≢false}
+use Rattle.std.proofs.lemmas.Bool.{true≢false, cases_Bool, cases_eq}
 use Rattle.std.proofs.lemmas.List.MinMax.{ranks_by}
 use Rattle.psg_terms.specs.Terms.{Term, variable, symbol, apply}
 use Rattle.psg_terms.specs.Signature.{Signature, HaveSorts}
@@ -18,7 +18,6 @@ use Rattle.psg_terms.specs.Relations.{IsIn, first, later, IsRelation}
 use Rattle.psg_terms.specs.Text.{row_text}
 use Rattle.psg_terms.proofs.Fitting.{updated, updated-agrees, updated-here, grown-here, grown-before, grown-agrees, Grown}
 use Rattle.psg_terms.proofs.Renumbering.{renumbered_canonical, renumbered_same}
-use Rattle.psg_terms.proofs.Variables.{cases, number_cases}
 use Rattle.psg_relation.specs.Choices.{AllHaveSorts, IsOfRow}
 use Rattle.psg_relation.specs.Ordered.{IsOrdered, KeepsOrder, is_not_above}
 use Rattle.psg_relation.specs.Sealed.{AreCanonicalOf}
@@ -30,14 +29,14 @@ use Rattle.psg_relation.proofs.Relating.{sifted_relation}
 
 -- terms are equal or not
 pub term_cases : (a b : Term) → (a ≡ b) ⊎ (a ≢ b)
-term_cases (variable s n) (variable p q) = elim (number_cases s p) [
-  | inl d ↦ elim (number_cases n q) [ inl e ↦ inl (ap₂ variable d e) | inr e ↦ inr (λ h. e (cc)) ]
+term_cases (variable s n) (variable p q) = elim (cases_eq s p) [
+  | inl d ↦ elim (cases_eq n q) [ inl e ↦ inl (ap₂ variable d e) | inr e ↦ inr (λ h. e (cc)) ]
   | inr d ↦ inr (λ h. d (cc))
 ]
 term_cases (variable s n) (symbol c) = inr (λ h. cc)
 term_cases (variable s n) (apply f a) = inr (λ h. cc)
 term_cases (symbol c) (variable s n) = inr (λ h. cc)
-term_cases (symbol c) (symbol d) = elim (number_cases c d) [ inl e ↦ inl (ap symbol e) | inr e ↦ inr (λ h. e (cc)) ]
+term_cases (symbol c) (symbol d) = elim (cases_eq c d) [ inl e ↦ inl (ap symbol e) | inr e ↦ inr (λ h. e (cc)) ]
 term_cases (symbol c) (apply f a) = inr (λ h. cc)
 term_cases (apply f a) (variable s n) = inr (λ h. cc)
 term_cases (apply f a) (symbol c) = inr (λ h. cc)
@@ -106,7 +105,7 @@ at_variable old s n special (Some t) e = elim (term_cases t special) [
 fit : (general special : Term) (old : Lookup) → Decided old (Makes general special)
 fit (variable s n) special old = at_variable old s n special (old s n) refl
 fit (symbol c) (variable s n) old = never old (Makes (symbol c) (variable s n)) (λ f m. cc)
-fit (symbol c) (symbol d) old = elim (number_cases c d) [
+fit (symbol c) (symbol d) old = elim (cases_eq c d) [
   | inl e ↦ settled old (Makes (symbol c) (symbol d)) (λ f. ap symbol e)
   | inr e ↦ never old (Makes (symbol c) (symbol d)) (λ f m. e (cc))
 ]
@@ -150,12 +149,8 @@ covered_cases (k ∷ kept) row = elim (instance_cases row k) [
   beyond k kept row m ni nc first i = ni i
   beyond k kept row m ni nc (later h) i = nc (m, h, i)
 
-append-none : {X : Type 0} (xs : List X) → xs ++ [] ≡ xs
-append-none [] = refl
-append-none (x ∷ xs) = ap (λ ys. x ∷ ys) (append-none xs)
-
 out_from : (row : List Term) (done rest more : List (List Term)) → LeavesOut row done rest → (r : List (List Term)) × LeavesOut row (done ++ more) r
-out_from row done rest [] l = (rest, subst (λ z. LeavesOut row z rest) (sym (append-none done)) l)
+out_from row done rest [] l = (rest, subst (λ z. LeavesOut row z rest) (sym (append-nil done)) l)
 out_from row done rest (k ∷ more) l =
     let step = elim (instance_cases k row) as (λ _. (r : List (List Term)) × LeavesOut row (done ++ k ∷ []) r) [
       | inl i ↦ (rest, out_drop row done rest k l i)
@@ -171,7 +166,7 @@ grow kept row = elim (covered_cases kept row) [
 ]
 
 sift_from : (done kept more : List (List Term)) → IsSifted done kept → KeepsOrder done kept → (k : List (List Term)) × IsSifted (done ++ more) k × KeepsOrder (done ++ more) k
-sift_from done kept [] s o = (kept, subst (λ z. IsSifted z kept) (sym (append-none done)) s, subst (λ z. KeepsOrder z kept) (sym (append-none done)) o)
+sift_from done kept [] s o = (kept, subst (λ z. IsSifted z kept) (sym (append-nil done)) s, subst (λ z. KeepsOrder z kept) (sym (append-nil done)) o)
 sift_from done kept (row ∷ more) s o =
     let (next, g) = grow kept row in
     let found = sift_from (done ++ row ∷ []) next more (sifted_more done kept row next s g) (grown done kept row next s o g) in
@@ -206,7 +201,7 @@ module _ (sig : Signature) where
   above_trans x y z a b = not_below x z (weak.chain z y x (below_not y z b) (below_not x y a))
 
   above_total : (x y : List Term) → IsTrue (is_not_above sig x y) ⊎ IsTrue (is_not_above sig y x)
-  above_total x y = elim (cases (is_below y x)) [ inl e ↦ inr (not_below y x (weak.one_way y x e)) | inr e ↦ inl (not_below x y e) ]
+  above_total x y = elim (cases_Bool (is_below y x)) [ inl e ↦ inr (not_below y x (weak.one_way y x e)) | inr e ↦ inl (not_below x y e) ]
 
   -- the rows and one more, in order
   record IsInserted (x : List Term) (xs ys : List (List Term)) : Type 0 where
@@ -277,7 +272,7 @@ module _ (sig : Signature) (sound : IsSound sig) where
       (copy, renumbered_canonical sig sound known row copy made, (same.1, same.0), λ rs k. (renumbered_same sig sound 0 [] known row copy rs k made).2)
 
   forms_from : (ss : List ℕ) (done made more : List (List Term)) → AreCanonicalOf sig done made → ((row : List Term) → IsIn row more → HaveSorts sig row ss) → (forms : List (List Term)) × AreCanonicalOf sig (done ++ more) forms
-  forms_from ss done made [] a h = (made, subst (λ z. AreCanonicalOf sig z made) (sym (append-none done)) a)
+  forms_from ss done made [] a h = (made, subst (λ z. AreCanonicalOf sig z made) (sym (append-nil done)) a)
   forms_from ss done made (row ∷ more) a h =
       let (copy, canonical, same, sorted) = form row ss (h row first) in
       let found = forms_from ss (done ++ row ∷ []) (made ++ copy ∷ []) more (forms_push sig done made row copy a canonical same sorted) (λ r i. h r (later i)) in

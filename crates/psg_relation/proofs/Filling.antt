@@ -1,7 +1,10 @@
 -- Rows in which variables are replaced that have to be terms without variables.
 use Rattle.std.proofs.Common.{◌≡◌, ℕ, ◌<◌, ◌+◌, true, false, cond, inl, inr, List, [], ◌∷◌, ◌++◌, All, map, length, get_or, take, drop, zero, suc, refl, ap, ap₂, sym, ◌∙◌, subst, Option, Some, None, slice_get, arith}
 use Rattle.std.proofs.lemmas.List.Elements.{All-push, All-head, All-tail}
-use Rattle.std.proofs.lemmas.Option.{slice_get_read}
+use Rattle.std.proofs.lemmas.Option.{slice_get_read, same_Some}
+use Rattle.std.proofs.lemmas.Bool.{cases_Bool}
+use Rattle.std.proofs.lemmas.List.{map-append}
+use Rattle.psg_terms.proofs.Lists.{take_item}
 use Rattle.psg_terms.specs.Terms.{Term, variable, symbol, applied}
 use Rattle.psg_terms.specs.declared.sorts.SortId.{SortId}
 use Rattle.psg_terms.specs.Signature.{Signature, HasSort}
@@ -9,17 +12,16 @@ use Rattle.psg_terms.specs.Weight.{above_of}
 use Rattle.psg_terms.specs.Instances.{Substitution, substitute, IsSorted}
 use Rattle.psg_terms.specs.Canonical.{Variable, same_variable}
 use Rattle.psg_terms.proofs.Applied.{applied-substitute}
-use Rattle.psg_terms.proofs.DeclareLaws.{take-next}
 use Rattle.psg_terms.proofs.InstanceLaws.{after, map-substitute-after, grounding-after}
 use Rattle.psg_terms.proofs.Nodes.{same_arguments}
 use Rattle.psg_terms.proofs.Recognising.{substitute-closed}
 use Rattle.psg_terms.proofs.Renumbering.{HaveSorts-substitute}
-use Rattle.psg_terms.proofs.Variables.{cases, same_variable-true}
+use Rattle.psg_terms.proofs.Variables.{same_variable-true}
 use Rattle.psg_unify.specs.Pairs.{Pair, AgreeOn, AreJoinable, IsAgreeing}
 use Rattle.psg_relation.specs.declared.forcing.Forced.{Forced}
 use Rattle.psg_relation.specs.Forcing.{by_forced, IsForced, IsFit, Forces}
 use Rattle.psg_relation.specs.Joining.{IsJoint}
-use Rattle.psg_relation.proofs.Pairing.{value_at, same_some}
+use Rattle.psg_relation.proofs.Pairing.{value_at}
 use Rattle.psg_relation.proofs.Solving.{rows_alike}
 
 first_same : (x y : Term) → ◌≡◌ {A = List Term} (x ∷ []) (y ∷ []) → x ≡ y
@@ -49,7 +51,7 @@ forces_con sig old new c d args parts t u et eu h = record {
 
 at_place : (g : Substitution) (row closed : List Term) (i : ℕ) (x y : Term) → i < length row → x ≡ get_or row i x → i < length closed → y ≡ get_or closed i y → map (substitute g) row ≡ closed → substitute g x ≡ y
 at_place g row closed i x y l ex m ey e =
-    same_some (substitute g x) y (sym (value_at g row i x (slice_get_read row (length row) i x refl l ex)) ∙ ap (λ (r : List Term). slice_get r i) e ∙ slice_get_read closed (length closed) i y refl m ey)
+    same_Some (substitute g x) y (sym (value_at g row i x (slice_get_read row (length row) i x refl l ex)) ∙ ap (λ (r : List Term). slice_get r i) e ∙ slice_get_read closed (length closed) i y refl m ey)
 
 pub forces_step : (sig : Signature) (old now next : List Forced) (row closed : List Term) (i : ℕ) (x y : Term) → i < length row → x ≡ get_or row i x → i < length closed → y ≡ get_or closed i y
     → Forces sig old now row closed → Forces sig now next (x ∷ []) (y ∷ []) → Forces sig old next row closed
@@ -63,7 +65,7 @@ forces_step sig old now next row closed i x y l ex m ey h k = record {
 pub absorbs_forced : (sig : Signature) (g : Substitution) (fs : List Forced) → All (IsFit sig) fs → All (IsForced g) fs → (s n : ℕ) → g s n ≡ substitute g (by_forced fs s n)
 absorbs_forced sig g [] fit forced s n = refl
 absorbs_forced sig g (b ∷ fs) fit forced s n =
-    elim (cases (same_variable (b.sort.0, b.number) (s, n))) [
+    elim (cases_Bool (same_variable (b.sort.0, b.number) (s, n))) [
       | inl e ↦ (
           let here : IsForced g b = All-head (IsForced g) b fs forced in
           let closed = (All-head (IsFit sig) b fs fit).1 in
@@ -77,7 +79,7 @@ absorbs_forced sig g (b ∷ fs) fit forced s n =
 pub forced-sorted : (sig : Signature) (fs : List Forced) → All (IsFit sig) fs → IsSorted sig (by_forced fs)
 forced-sorted sig [] fit p q l = (l, refl, refl)
 forced-sorted sig (b ∷ fs) fit p q l =
-    elim (cases (same_variable (b.sort.0, b.number) (p, q))) [
+    elim (cases_Bool (same_variable (b.sort.0, b.number) (p, q))) [
       | inl e ↦ (
           let h = (All-head (IsFit sig) b fs fit).0 in
           let same = same_variable-true (b.sort.0, b.number) (p, q) e in
@@ -109,13 +111,9 @@ forced_past fs i s n b l e t h =
 pub filled_con : (f : Substitution) (c : ℕ) (args parts : List Term) (t u : Term) → t ≡ applied (symbol c) args → u ≡ applied (symbol c) parts → parts ≡ map (substitute f) args → u ≡ substitute f t
 filled_con f c args parts t u e d h = d ∙ ap (applied (symbol c)) h ∙ sym (applied-substitute f (symbol c) args) ∙ sym (ap (substitute f) e)
 
-map-append : (f : Term → Term) (xs ys : List Term) → map f (xs ++ ys) ≡ map f xs ++ map f ys
-map-append f [] ys = refl
-map-append f (x ∷ xs) ys = ap (λ l. f x ∷ l) (map-append f xs ys)
-
 pub filled_step : (f : Substitution) (row now after : List Term) (i : ℕ) (t u : Term) → now ≡ map (substitute f) (take i row) → u ≡ substitute f t → after ≡ now ++ u ∷ [] → i < length row → t ≡ get_or row i t → after ≡ map (substitute f) (take (i + 1) row)
 filled_step f row now after i t u h k e lt at =
-    e ∙ ap₂ (λ xs y. xs ++ y ∷ []) h k ∙ sym (ap (map (substitute f)) (take-next row i t lt at) ∙ map-append (substitute f) (take i row) (t ∷ []))
+    e ∙ ap₂ (λ xs y. xs ++ y ∷ []) h k ∙ sym (ap (map (substitute f)) (take_item row i t lt at) ∙ map-append (substitute f) (take i row) (t ∷ []))
 
 -- ---- the join of the filled rows is that of the rows
 

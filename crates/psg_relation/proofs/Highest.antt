@@ -1,10 +1,10 @@
 -- The greatest variable number of rows.
 use Rattle.std.proofs.Common.{◌≡◌, ℕ, ◌+◌, ◌<◌, ◌==◌, ◌↔◌, max, List, [], ◌∷◌, ◌++◌, IsTrue, take, get_or, length, refl, ap, ap₂, sym, ◌∙◌, arith}
 use Rattle.std.proofs.lemmas.Bool.Decides.{nat_tests}
+use Rattle.psg_terms.proofs.Lists.{take_item}
 use Rattle.psg_terms.specs.Terms.{Term, variable, symbol, apply}
 use Rattle.psg_terms.specs.Weight.{above_of}
 use Rattle.psg_terms.specs.Instances.{IsGround}
-use Rattle.psg_terms.proofs.DeclareLaws.{take-next}
 use Rattle.psg_relation.specs.Heavy.{highest_in}
 use Rattle.psg_relation.specs.Sifted.{AreGround}
 
@@ -13,7 +13,7 @@ highest-push [] t = omega arith
 highest-push (x ∷ row) t = omega (arith, highest-push row t)
 
 pub highest_step : (now own after : ℕ) (row : List Term) (i : ℕ) (t : Term) → now ≡ highest_in (take i row) → own ≡ above_of t → after ≡ max now own → i < length row → t ≡ get_or row i t → after ≡ highest_in (take (i + 1) row)
-highest_step now own after row i t h o a lt at = a ∙ ap₂ max h o ∙ sym (highest-push (take i row) t) ∙ ap highest_in (sym (take-next row i t lt at))
+highest_step now own after row i t h o a lt at = a ∙ ap₂ max h o ∙ sym (highest-push (take i row) t) ∙ ap highest_in (sym (take_item row i t lt at))
 
 ground-closed : (t : Term) → above_of t ≡ 0 → IsGround t
 ground-closed (variable s n) e = absurd (omega (arith, e))

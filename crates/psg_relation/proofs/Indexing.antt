@@ -1,24 +1,25 @@
 -- Rows found by the heads of a column.
-use Rattle.std.proofs.Common.{◌≡◌, ℕ, ◌+◌, ◌<◌, ◌==◌, ◌⊎◌, inl, inr, true, false, cond, zero, suc, Option, Some, None, List, [], ◌∷◌, ◌++◌, All, map, length, get_or, slice_get, append_assoc, refl, ap, sym, ◌∙◌, subst, arith}
+use Rattle.std.proofs.Common.{◌≡◌, ℕ, ◌+◌, ◌<◌, ◌==◌, ◌⊎◌, inl, inr, true, false, cond, zero, suc, Option, Some, None, IfSome, IfNone, List, [], ◌∷◌, ◌++◌, All, map, length, get_or, slice_get, append_assoc, refl, ap, sym, ◌∙◌, subst, arith}
 use Rattle.std.specs.Prelude.{Vec}
 use Rattle.std.specs.HashMap.{HashMap}
 use Rattle.std.specs.Map.{lookup}
 use Rattle.std.specs.declared.hash.FoldHasher.{FoldHasher}
 use Rattle.std.specs.declared.hash.BuildHasherDefault.{BuildHasherDefault}
-use Rattle.std.proofs.lemmas.Bool.Decides.{nat_tests}
 use Rattle.std.proofs.lemmas.List.Elements.{All-nil, All-push, All-same, All-weaker}
+use Rattle.std.proofs.lemmas.List.{length_push}
+use Rattle.std.proofs.lemmas.Bool.{cases_eq}
+use Rattle.psg_terms.proofs.Lists.{in_cases, in_at, eqb-refl, in_either, in_right, in_left}
 use Rattle.psg_terms.specs.Terms.{Term, variable, symbol, apply, applied}
 use Rattle.psg_terms.specs.Signature.{Signature}
 use Rattle.psg_terms.specs.Instances.{Substitution, substitute, IsInstance}
 use Rattle.psg_terms.specs.Relations.{IsIn, first, later}
-use Rattle.psg_terms.proofs.Variables.{number_cases}
 use Rattle.psg_unify.specs.Pairs.{Pair as Columns}
 use Rattle.psg_relation.specs.Choices.{pick, picked}
 use Rattle.psg_relation.specs.Heads.{head_of, HeadAt, items_of, places_at, IsNoted, IsIndexed}
-use Rattle.psg_relation.specs.Sifted.{IsCovered}
+use Rattle.psg_relation.specs.Sifted.{HoldsNone, IsCovered}
 use Rattle.psg_relation.specs.Joining.{Joins, AreJoined, IsCrossed, IsMore, Two, with_each}
-use Rattle.psg_relation.proofs.Members.{in-left, in-last, in-split}
-use Rattle.psg_relation.proofs.Meeting.{joined_one, each-push, in-either, in-right, each-in, in-each}
+use Rattle.psg_relation.proofs.Members.{in-last, in-split}
+use Rattle.psg_relation.proofs.Meeting.{joined_one, each-push, each-in, in-each}
 
 head-applied : (t : Term) (row : List Term) → head_of (applied t row) ≡ head_of t
 head-applied t [] = refl
@@ -54,27 +55,18 @@ no_meeting sig (q ∷ pairs) keep left right x p c d e (t, at, h) (u, bt, k) ne 
     let heads : ◌≡◌ {A = Option ℕ} (Some c) (Some d) = sym (head-substitute f t c h) ∙ ap head_of one ∙ head-substitute g u d k in
     ne (cc)
 
-in-cons : {X : Type 0} (y x : X) (xs : List X) → IsIn y (x ∷ xs) → (y ≡ x) ⊎ IsIn y xs
-in-cons y x xs first = inl refl
-in-cons y x xs (later h) = inr h
-
-get-in : {X : Type 0} (xs : List X) (k : ℕ) (x : X) → slice_get xs k ≡ Some x → IsIn x xs
-get-in [] k x e = absurd (cc)
-get-in (y ∷ xs) zero x e = let h : y ≡ x = cc in subst (λ z. IsIn z (y ∷ xs)) h first
-get-in (y ∷ xs) (suc k) x e = later (get-in xs k x e)
-
 pub picked-in : {X : Type 0} (xs : List X) (ks : List ℕ) (y : X) → IsIn y (picked xs ks) → IsIn y xs
 picked-in xs [] y h = elim h [ ]
 picked-in xs (k ∷ ks) y h =
     elim (slice_get xs k) as (λ o. slice_get xs k ≡ o → IsIn y (pick o (picked xs ks)) → IsIn y xs) [
       | None ↦ λ e i. picked-in xs ks y i
-      | Some x ↦ λ e i. elim (in-cons y x (picked xs ks) i) [ inl d ↦ subst (λ z. IsIn z xs) (sym d) (get-in xs k x e) | inr j ↦ picked-in xs ks y j ]
+      | Some x ↦ λ e i. elim (in_cases y x (picked xs ks) i) [ inl d ↦ subst (λ z. IsIn z xs) (sym d) (in_at xs k x e) | inr j ↦ picked-in xs ks y j ]
     ] refl h
 
 pub in-picked : {X : Type 0} (xs : List X) (ks : List ℕ) (j : ℕ) (y : X) → slice_get xs j ≡ Some y → IsIn j ks → IsIn y (picked xs ks)
 in-picked xs [] j y e h = elim h [ ]
 in-picked xs (k ∷ ks) j y e h =
-    elim (in-cons j k ks h) [
+    elim (in_cases j k ks h) [
       | inl d ↦ subst (λ o. IsIn y (pick o (picked xs ks))) (sym (ap (slice_get xs) (sym d) ∙ e)) first
       | inr i ↦ elim (slice_get xs k) as (λ o. IsIn y (pick o (picked xs ks))) [ None ↦ in-picked xs ks j y e i | Some x ↦ later (in-picked xs ks j y e i) ]
     ]
@@ -89,11 +81,6 @@ pub at-get : (xs : List (List Term)) (i : ℕ) (x : List Term) → i < length xs
 at-get [] i x l e = absurd (omega arith)
 at-get (y ∷ xs) zero x l e = sym e
 at-get (y ∷ xs) (suc i) x l e = at-get xs i x (omega arith) e
-
-pub get-at : (xs : List (List Term)) (i : ℕ) (x : List Term) → i < length xs → x ≡ get_or xs i x → slice_get xs i ≡ Some x
-get-at [] i x l e = absurd (omega arith)
-get-at (y ∷ xs) zero x l e = ap (λ z. Some z) (sym e)
-get-at (y ∷ xs) (suc i) x l e = get-at xs i x (omega arith) e
 
 pub places_none : {Z : Type 0} (table : HashMap ℕ (Vec ℕ Z) (BuildHasherDefault FoldHasher)) → table.entries ≡ [] → (c : ℕ) → places_at table c ≡ []
 places_none table e c = ap (λ es. items_of (lookup (λ (b : ℕ). c == b) es)) e
@@ -110,9 +97,6 @@ indexed_begin rows column free at e d = record {
   heads_within = λ c. All-same (λ i. i < 0) (at c) [] (d c) (All-nil (λ i. i < 0));
   found = λ i l. absurd (omega arith);
 }
-
-same_number : (c : ℕ) → (c == c) ≡ true
-same_number c = grind (arith, nat_tests)
 
 module _ (rows : List (List Term)) (column n : ℕ) (row : List Term) (l : n < length rows) (e : row ≡ get_or rows n row) (free more : List ℕ) (at after : ℕ → List ℕ) (ix : IsIndexed rows column n free at) where
   abbrev Below : ℕ → Type 0
@@ -132,10 +116,10 @@ module _ (rows : List (List Term)) (column n : ℕ) (row : List Term) (l : n < l
   noted_free m a = record {
     free_within = All-same Below more (free ++ n ∷ []) m (longer free ix.free_within);
     heads_within = λ c. All-same Below (after c) (at c) (a c) (wider (at c) (ix.heads_within c));
-    found = λ i h. elim (number_cases i n) [
+    found = λ i h. elim (cases_eq i n) [
       | inl d ↦ inl (subst (IsIn i) (sym m) (subst (λ z. IsIn z (free ++ n ∷ [])) (sym d) (in-last n free)))
       | inr ne ↦ elim (ix.found i (earlier i h ne)) [
-        | inl f ↦ inl (subst (IsIn i) (sym m) (in-left i free (n ∷ []) f))
+        | inl f ↦ inl (subst (IsIn i) (sym m) (in_left i free (n ∷ []) f))
         | inr (c, k, j) ↦ inr (c, k, subst (IsIn i) (sym (a c)) j)
       ]
     ];
@@ -146,15 +130,15 @@ module _ (rows : List (List Term)) (column n : ℕ) (row : List Term) (l : n < l
     free_within = All-same Below more free m (wider free ix.free_within);
     heads_within = λ c. All-same Below (after c) (cond (head == c) (at c ++ n ∷ []) (at c)) (a c)
         (elim (head == c) as (λ b. All Below (cond b (at c ++ n ∷ []) (at c))) [ true ↦ longer (at c) (ix.heads_within c) | false ↦ wider (at c) (ix.heads_within c) ]);
-    found = λ i h. elim (number_cases i n) [
+    found = λ i h. elim (cases_eq i n) [
       | inl d ↦ inr (
         head,
         subst (λ z. HeadAt (get_or rows z []) column head) (sym d) (subst (λ r. HeadAt r column head) (sym (at-get rows n row l e)) k),
-        subst (IsIn i) (sym (a head)) (subst (λ b. IsIn i (cond b (at head ++ n ∷ []) (at head))) (sym (same_number head)) (subst (λ z. IsIn z (at head ++ n ∷ [])) (sym d) (in-last n (at head)))),
+        subst (IsIn i) (sym (a head)) (subst (λ b. IsIn i (cond b (at head ++ n ∷ []) (at head))) (sym (eqb-refl head)) (subst (λ z. IsIn z (at head ++ n ∷ [])) (sym d) (in-last n (at head)))),
       )
       | inr ne ↦ elim (ix.found i (earlier i h ne)) [
         | inl f ↦ inl (subst (IsIn i) (sym m) f)
-        | inr (c, g, j) ↦ inr (c, g, subst (IsIn i) (sym (a c)) (elim (head == c) as (λ b. IsIn i (cond b (at c ++ n ∷ []) (at c))) [ true ↦ in-left i (at c) (n ∷ []) j | false ↦ j ]))
+        | inr (c, g, j) ↦ inr (c, g, subst (IsIn i) (sym (a c)) (elim (head == c) as (λ b. IsIn i (cond b (at c ++ n ∷ []) (at c))) [ true ↦ in_left i (at c) (n ∷ []) j | false ↦ j ]))
       ]
     ];
   }
@@ -190,19 +174,19 @@ module _ (sig : Signature) (pairs : List Columns) (keep : List ℕ) where
   crossed_by one right free own made mid more f o cover c d done a =
       let front = done ++ with_each one free in
       joined_fewer (front ++ with_each one own) (done ++ with_each one right) more (d front (c done a))
-      (λ p h. elim (in-either p front (with_each one own) h) [
-        | inl i ↦ elim (in-either p done (with_each one free) i) [
-          | inl j ↦ in-left p done (with_each one right) j
-          | inr j ↦ let (e, k) = each-in p one free j in in-right p done (with_each one right) (each-both p one right e (f p.1 k))
+      (λ p h. elim (in_either p front (with_each one own) h) [
+        | inl i ↦ elim (in_either p done (with_each one free) i) [
+          | inl j ↦ in_left p done (with_each one right) j
+          | inr j ↦ let (e, k) = each-in p one free j in in_right p done (with_each one right) (each-both p one right e (f p.1 k))
         ]
-        | inr i ↦ let (e, k) = each-in p one own i in in-right p done (with_each one right) (each-both p one right e (o p.1 k))
+        | inr i ↦ let (e, k) = each-in p one own i in in_right p done (with_each one right) (each-both p one right e (o p.1 k))
       ])
-      (λ p h. elim (in-either p done (with_each one right) h) [
-        | inl i ↦ inl (in-left p front (with_each one own) (in-left p done (with_each one free) i))
+      (λ p h. elim (in_either p done (with_each one right) h) [
+        | inl i ↦ inl (in_left p front (with_each one own) (in_left p done (with_each one free) i))
         | inr i ↦ let (e, k) = each-in p one right i in elim (cover p.1 k) [
-          | inl j ↦ inl (in-left p front (with_each one own) (in-right p done (with_each one free) (each-both p one free e j)))
+          | inl j ↦ inl (in_left p front (with_each one own) (in_right p done (with_each one free) (each-both p one free e j)))
           | inr rest ↦ elim rest [
-            | inl j ↦ inl (in-right p front (with_each one own) (each-both p one own e j))
+            | inl j ↦ inl (in_right p front (with_each one own) (each-both p one own e j))
             | inr none ↦ inr (λ x j. none x (subst (λ (z : List Term). Joins sig pairs keep z p.1 x) e j))
           ]
         ]
@@ -215,7 +199,7 @@ module _ (sig : Signature) (pairs : List Columns) (keep : List ℕ) where
       let (k, l, g, is) = in-place right other i in
       elim (ix.found k l) [
         | inl f ↦ inl (in-picked right free k other g f)
-        | inr (d, own, j) ↦ elim (number_cases head d) [
+        | inr (d, own, j) ↦ elim (cases_eq head d) [
           | inl same ↦ inr (inl (in-picked right (at head) k other g (subst (λ z. IsIn k (at z)) (sym same) j)))
           | inr ne ↦ inr (inr (λ x. no_meeting sig pairs keep one other x p head d e h (subst (λ r. HeadAt r p.1 d) is own) ne))
         ]
@@ -230,14 +214,63 @@ held_head k row column c d (t, at, h) (f, e) (u, bt, g) =
     let heads : ◌≡◌ {A = Option ℕ} (Some c) (Some d) = sym (head-substitute f t c h) ∙ ap head_of one ∙ g in
     cc
 
-pub covered_by : (kept : List (List Term)) (row : List Term) (head : ℕ) (free : List ℕ) (at : ℕ → List ℕ) → IsIndexed kept 0 (length kept) free at → HeadAt row 0 head → IsCovered kept row
+instance_head : (k row : List Term) (column c : ℕ) → HeadAt k column c → IsInstance row k → HeadAt row column c
+instance_head k row column c (t, at, h) (f, e) = (substitute f t, ap (λ r. slice_get r column) e ∙ slice_get-map (substitute f) k column t at, head-substitute f t c h)
+
+pub covered_by : (kept : List (List Term)) (row : List Term) (column head : ℕ) (free : List ℕ) (at : ℕ → List ℕ) → IsIndexed kept column (length kept) free at → HeadAt row column head → IsCovered kept row
     → IsCovered (picked kept free) row ⊎ IsCovered (picked kept (at head)) row
-covered_by kept row head free at ix h (k, i, j) =
+covered_by kept row column head free at ix h (k, i, j) =
     let (p, l, g, is) = in-place kept k i in
     elim (ix.found p l) [
       | inl f ↦ inl (k, in-picked kept free p k g f, j)
-      | inr (d, own, m) ↦ inr (k, in-picked kept (at head) p k g (subst (λ c. IsIn p (at c)) (held_head k row 0 d head (subst (λ r. HeadAt r 0 d) is own) j h) m), j)
+      | inr (d, own, m) ↦ inr (k, in-picked kept (at head) p k g (subst (λ c. IsIn p (at c)) (held_head k row column d head (subst (λ r. HeadAt r column d) is own) j h) m), j)
     ]
+
+-- a row without a constructor at the head is no instance of one that has one there
+pub covered_free : (kept : List (List Term)) (row : List Term) (column : ℕ) (free : List ℕ) (at : ℕ → List ℕ) → IsIndexed kept column (length kept) free at → ((c : ℕ) → HeadAt row column c → ⊥) → IsCovered kept row
+    → IsCovered (picked kept free) row
+covered_free kept row column free at ix none (k, i, j) =
+    let (p, l, g, is) = in-place kept k i in
+    elim (ix.found p l) [
+      | inl f ↦ (k, in-picked kept free p k g f, j)
+      | inr (d, own, m) ↦ absurd (none d (instance_head k row column d (subst (λ r. HeadAt r column d) is own) j))
+    ]
+
+-- an instance of a row with a constructor at the head is among the free ones or those with this constructor
+pub held_by : (kept : List (List Term)) (row : List Term) (column head : ℕ) (free : List ℕ) (at : ℕ → List ℕ) → IsIndexed kept column (length kept) free at → HeadAt row column head
+    → HoldsNone row (picked kept free) → HoldsNone row (picked kept (at head)) → HoldsNone row kept
+held_by kept row column head free at ix h no_free no_own = λ k i j.
+    let (p, l, g, is) = in-place kept k i in
+    elim (ix.found p l) [
+      | inl f ↦ no_free k (in-picked kept free p k g f) j
+      | inr (d, own, m) ↦ no_own k (in-picked kept (at head) p k g (subst (λ c. IsIn p (at c)) (sym (held_head row k column head d h j (subst (λ r. HeadAt r column d) is own))) m)) j
+    ]
+
+-- one row more is no instance
+pub none_next : (row other : List Term) (tried next : List (List Term)) → next ≡ tried ++ other ∷ [] → HoldsNone row tried → (IsInstance other row → ⊥) → HoldsNone row next
+none_next row other tried next e nope here = λ k i j. elim (in-split k other tried (subst (IsIn k) e i)) [ inl a ↦ nope k a j | inr d ↦ here (subst (λ z. IsInstance z row) d j) ]
+
+-- ---- the head of a column
+
+pub some_head : (row : List Term) (column : ℕ) (t : Term) (o : Option ℕ) → slice_get row column ≡ Some t → o ≡ head_of t → IfSome o (HeadAt row column)
+some_head row column t None at e = tt
+some_head row column t (Some c) at e = (t, at, sym e)
+
+pub no_head : (row : List Term) (column : ℕ) (t : Term) (o : Option ℕ) → slice_get row column ≡ Some t → o ≡ head_of t → IfNone o ((c : ℕ) → HeadAt row column c → ⊥)
+no_head row column t None at e = λ c (u, bt, h).
+    let both : ◌≡◌ {A = Option Term} (Some t) (Some u) = sym at ∙ bt in
+    let one : t ≡ u = cc in
+    let heads : ◌≡◌ {A = Option ℕ} None (Some c) = e ∙ ap head_of one ∙ h in
+    absurd (cc)
+no_head row column t (Some c) at e = tt
+
+pub head_within : (row : List Term) (column c : ℕ) → HeadAt row column c → column < length row
+head_within row column c (t, at, h) = get-within row column t at
+  where
+    get-within : (row : List Term) (i : ℕ) (t : Term) → slice_get row i ≡ Some t → i < length row
+    get-within [] i t e = absurd (cc)
+    get-within (x ∷ row) zero t e = omega arith
+    get-within (x ∷ row) (suc i) t e = let k = get-within row i t e in omega (arith, k)
 
 pub covered_among : (kept : List (List Term)) (row : List Term) (places : List ℕ) → IsCovered (picked kept places) row → IsCovered kept row
 covered_among kept row places (k, i, j) = (k, picked-in kept places k i, j)
@@ -256,20 +289,16 @@ last-at : (rows : List (List Term)) (row : List Term) → row ≡ get_or (rows +
 last-at [] row = refl
 last-at (x ∷ rows) row = last-at rows row
 
-length-last : (rows : List (List Term)) (row : List Term) → length (rows ++ row ∷ []) ≡ length rows + 1
-length-last [] row = omega arith
-length-last (x ∷ rows) row = omega (arith, length-last rows row)
-
-indexed_grow : (rows : List (List Term)) (row : List Term) (free : List ℕ) (at : ℕ → List ℕ) → IsIndexed rows 0 (length rows) free at → IsIndexed (rows ++ row ∷ []) 0 (length rows) free at
-indexed_grow rows row free at ix = record {
+indexed_grow : (rows : List (List Term)) (row : List Term) (column : ℕ) (free : List ℕ) (at : ℕ → List ℕ) → IsIndexed rows column (length rows) free at → IsIndexed (rows ++ row ∷ []) column (length rows) free at
+indexed_grow rows row column free at ix = record {
   free_within = ix.free_within;
   heads_within = ix.heads_within;
-  found = λ i l. elim (ix.found i l) [ inl f ↦ inl f | inr (c, h, j) ↦ inr (c, subst (λ r. HeadAt r 0 c) (sym (front-same rows row i l)) h, j) ];
+  found = λ i l. elim (ix.found i l) [ inl f ↦ inl f | inr (c, h, j) ↦ inr (c, subst (λ r. HeadAt r column c) (sym (front-same rows row i l)) h, j) ];
 }
 
-pub indexed_push : (rows : List (List Term)) (row : List Term) (all : List (List Term)) (free more : List ℕ) (at after : ℕ → List ℕ) → IsIndexed rows 0 (length rows) free at → IsNoted row 0 (length rows) free at more after → all ≡ rows ++ row ∷ []
-    → IsIndexed all 0 (length all) more after
-indexed_push rows row all free more at after ix noted e =
+pub indexed_push : (rows : List (List Term)) (row : List Term) (all : List (List Term)) (column : ℕ) (free more : List ℕ) (at after : ℕ → List ℕ) → IsIndexed rows column (length rows) free at → IsNoted row column (length rows) free at more after → all ≡ rows ++ row ∷ []
+    → IsIndexed all column (length all) more after
+indexed_push rows row all column free more at after ix noted e =
     let longer = rows ++ row ∷ [] in
-    let next = indexed_next longer 0 (length rows) row (let l = length-last rows row in omega arith) (last-at rows row) free more at after (indexed_grow rows row free at ix) noted in
-    subst (λ xs. IsIndexed xs 0 (length xs) more after) (sym e) (subst (λ n. IsIndexed longer 0 n more after) (sym (length-last rows row)) next)
+    let next = indexed_next longer column (length rows) row (let l = length_push rows row in omega arith) (last-at rows row) free more at after (indexed_grow rows row column free at ix) noted in
+    subst (λ xs. IsIndexed xs column (length xs) more after) (sym e) (subst (λ n. IsIndexed longer column n more after) (sym (length_push rows row)) next)

@@ -1,18 +1,17 @@
 -- Joins of all pairs of rows.
-use Rattle.std.proofs.Common.{◌≡◌, ℕ, ◌+◌, ◌<◌, ◌≤◌, ◌↔◌, ◌⊎◌, inl, inr, List, [], ◌∷◌, ◌++◌, All, append_assoc, length, length-append, take, get_or, refl, ap, sym, ◌∙◌, subst, slice_get, zero, suc, arith}
+use Rattle.std.proofs.Common.{◌≡◌, ℕ, ◌+◌, ◌<◌, ◌≤◌, ◌↔◌, inl, inr, List, [], ◌∷◌, ◌++◌, All, append_assoc, length, length-append, take, get_or, refl, ap, sym, ◌∙◌, subst, slice_get, zero, suc, arith, append-nil}
+use Rattle.psg_terms.proofs.OneRelation.{sorts_length}
+use Rattle.psg_terms.proofs.Lists.{take_item, in_either, in_right, in_left}
 use Rattle.psg_terms.specs.Terms.{Term}
 use Rattle.psg_terms.specs.Signature.{Signature, HaveSorts}
 use Rattle.psg_terms.specs.Instances.{IsGroundInstance, HasSameInstances}
 use Rattle.psg_terms.specs.Canonical.{AreWrittenOut}
-use Rattle.psg_terms.specs.Kept.{numbers_of}
-use Rattle.psg_terms.specs.declared.sorts.SortId.{SortId}
 use Rattle.psg_terms.specs.Relations.{IsIn, first, later, Pair, IsGlued, IsRelation}
-use Rattle.psg_terms.proofs.DeclareLaws.{take-next}
 use Rattle.psg_unify.specs.Pairs.{Pair as Columns, IsAgreeing}
 use Rattle.psg_relation.specs.Choices.{AllHaveSorts, IsOfRow, Agrees, pick, picked}
 use Rattle.psg_relation.specs.Sealed.{IsReady, AllReady}
 use Rattle.psg_relation.specs.Joining.{Joins, IsJoinOf, IsMore, Two, with_each, all_pairs, AreJoined, MayJoin, MayMeet}
-use Rattle.psg_relation.proofs.Members.{in-left, in-last, in-split}
+use Rattle.psg_relation.proofs.Members.{in-last, in-split}
 use Rattle.psg_relation.proofs.Columns.{picked_ground}
 use Rattle.psg_relation.proofs.Relating.{carried}
 
@@ -24,12 +23,6 @@ pick-written sig (t ∷ row) (suc k) (a, h) rest r = pick-written sig row k h re
 pub picked-written : (sig : Signature) (row : List Term) (keep : List ℕ) → AreWrittenOut sig row → AreWrittenOut sig (picked row keep)
 picked-written sig row [] h = tt
 picked-written sig row (k ∷ keep) h = pick-written sig row k h (picked row keep) (picked-written sig row keep h)
-
-pub sorts-many : (sig : Signature) (xs : List Term) (ss : List ℕ) → HaveSorts sig xs ss → length xs ≡ length ss
-sorts-many sig [] [] h = refl
-sorts-many sig [] (s ∷ ss) h = absurd h
-sorts-many sig (x ∷ xs) [] h = absurd h
-sorts-many sig (x ∷ xs) (s ∷ ss) (_, h) = omega (arith, sorts-many sig xs ss h)
 
 -- the kept columns of the joined row, made ready
 pub join_of : (sig : Signature) (pairs : List Columns) (keep : List ℕ) (left right joined row : List Term) → IsReady sig row → HasSameInstances sig row (picked joined keep)
@@ -48,7 +41,7 @@ module _ (sig : Signature) (pairs : List Columns) (keep : List ℕ) where
 
   pub joined_one : (done : List Two) (made : List (List Term)) (left right : List Term) (more : List (List Term)) → AreJoined sig pairs keep done made → IsMore sig pairs keep left right made more → AreJoined sig pairs keep (done ++ (left, right) ∷ []) more
   joined_one done made left right more a (inl (none, e)) = subst (AreJoined sig pairs keep (done ++ (left, right) ∷ [])) (sym e) (record {
-    from = λ m h. let (p, i, j) = a.from m h in (p, in-left p done ((left, right) ∷ []) i, j);
+    from = λ m h. let (p, i, j) = a.from m h in (p, in_left p done ((left, right) ∷ []) i, j);
     to = λ p h x j. elim (in-split p (left, right) done h) [
       | inl b ↦ a.to p b x j
       | inr d ↦ absurd (none x (subst (λ (q : Two). Joins sig pairs keep q.0 q.1 x) d j))
@@ -56,11 +49,11 @@ module _ (sig : Signature) (pairs : List Columns) (keep : List ℕ) where
   })
   joined_one done made left right more a (inr (row, j, e)) = subst (AreJoined sig pairs keep (done ++ (left, right) ∷ [])) (sym e) (record {
     from = λ m h. elim (in-split m row made h) [
-      | inl b ↦ let (p, i, k) = a.from m b in (p, in-left p done ((left, right) ∷ []) i, k)
+      | inl b ↦ let (p, i, k) = a.from m b in (p, in_left p done ((left, right) ∷ []) i, k)
       | inr d ↦ ((left, right), in-last (left, right) done, subst (IsJoinOf sig pairs keep left right) (sym d) j)
     ];
     to = λ p h x k. elim (in-split p (left, right) done h) [
-      | inl b ↦ let (m, i, l) = a.to p b x k in (m, in-left m made (row ∷ []) i, l)
+      | inl b ↦ let (m, i, l) = a.to p b x k in (m, in_left m made (row ∷ []) i, l)
       | inr d ↦ (row, in-last row made, subst (λ (q : Two). IsJoinOf sig pairs keep q.0 q.1 row) (sym d) j)
     ];
   })
@@ -69,12 +62,8 @@ pub each-push : (one other : List Term) (rest : List (List Term)) → with_each 
 each-push one other [] = refl
 each-push one other (x ∷ rest) = ap (λ ps. (one, x) ∷ ps) (each-push one other rest)
 
-append-none : {X : Type 0} (xs : List X) → xs ++ [] ≡ xs
-append-none [] = refl
-append-none (x ∷ xs) = ap (λ ys. x ∷ ys) (append-none xs)
-
 pairs-push : (left right : List (List Term)) (one : List Term) → all_pairs (left ++ one ∷ []) right ≡ all_pairs left right ++ with_each one right
-pairs-push [] right one = append-none (with_each one right)
+pairs-push [] right one = append-nil (with_each one right)
 pairs-push (l ∷ left) right one = ap (λ ps. with_each l right ++ ps) (pairs-push left right one) ∙ sym (append_assoc (with_each l right) (all_pairs left right) (with_each one right))
 
 -- one step of each walk
@@ -82,22 +71,13 @@ pub each_step : (sig : Signature) (pairs : List Columns) (keep : List ℕ) (done
     → AreJoined sig pairs keep (done ++ with_each one (take i right)) now → IsMore sig pairs keep one other now more → AreJoined sig pairs keep (done ++ with_each one (take (i + 1) right)) more
 each_step sig pairs keep done one right now more i other l e a m =
     subst (λ ps. AreJoined sig pairs keep ps more)
-    (append_assoc done (with_each one (take i right)) ((one, other) ∷ []) ∙ ap (λ ps. done ++ ps) (sym (each-push one other (take i right)) ∙ ap (with_each one) (sym (take-next right i other l e))))
+    (append_assoc done (with_each one (take i right)) ((one, other) ∷ []) ∙ ap (λ ps. done ++ ps) (sym (each-push one other (take i right)) ∙ ap (with_each one) (sym (take_item right i other l e))))
     (joined_one sig pairs keep (done ++ with_each one (take i right)) now one other more a m)
 
 pub pairs_step : (sig : Signature) (pairs : List Columns) (keep : List ℕ) (left right more : List (List Term)) (i : ℕ) (one : List Term) → i < length left → one ≡ get_or left i one
     → AreJoined sig pairs keep (all_pairs (take i left) right ++ with_each one right) more → AreJoined sig pairs keep (all_pairs (take (i + 1) left) right) more
 pairs_step sig pairs keep left right more i one l e a =
-    subst (λ ps. AreJoined sig pairs keep ps more) (sym (pairs-push (take i left) right one) ∙ ap (λ ls. all_pairs ls right) (sym (take-next left i one l e))) a
-
-pub in-either : {X : Type 0} (x : X) (xs ys : List X) → IsIn x (xs ++ ys) → IsIn x xs ⊎ IsIn x ys
-in-either x [] ys h = inr h
-in-either x (y ∷ xs) ys first = inl first
-in-either x (y ∷ xs) ys (later h) = elim (in-either x xs ys h) [ inl a ↦ inl (later a) | inr b ↦ inr b ]
-
-pub in-right : {X : Type 0} (x : X) (xs ys : List X) → IsIn x ys → IsIn x (xs ++ ys)
-in-right x [] ys h = h
-in-right x (y ∷ xs) ys h = later (in-right x xs ys h)
+    subst (λ ps. AreJoined sig pairs keep ps more) (sym (pairs-push (take i left) right one) ∙ ap (λ ls. all_pairs ls right) (sym (take_item left i one l e))) a
 
 pub each-in : (p : Two) (one : List Term) (right : List (List Term)) → IsIn p (with_each one right) → (p.0 ≡ one) × IsIn p.1 right
 each-in p one [] h = elim h [ ]
@@ -111,15 +91,15 @@ in-each one other (o ∷ rest) (later h) = later (in-each one other rest h)
 
 pub pairs-in : (p : Two) (left right : List (List Term)) → IsIn p (all_pairs left right) → IsIn p.0 left × IsIn p.1 right
 pairs-in p [] right h = elim h [ ]
-pairs-in p (l ∷ left) right h = elim (in-either p (with_each l right) (all_pairs left right) h) [
+pairs-in p (l ∷ left) right h = elim (in_either p (with_each l right) (all_pairs left right) h) [
   | inl a ↦ let (e, i) = each-in p l right a in (subst (λ z. IsIn z (l ∷ left)) (sym e) first, i)
   | inr b ↦ let (i, j) = pairs-in p left right b in (later i, j)
 ]
 
 pub in-pairs : (one other : List Term) (left right : List (List Term)) → IsIn one left → IsIn other right → IsIn (one, other) (all_pairs left right)
 in-pairs one other [] right h i = elim h [ ]
-in-pairs one other (l ∷ left) right first i = in-left (one, other) (with_each one right) (all_pairs left right) (in-each one other right i)
-in-pairs one other (l ∷ left) right (later h) i = in-right (one, other) (with_each l right) (all_pairs left right) (in-pairs one other left right h i)
+in-pairs one other (l ∷ left) right first i = in_left (one, other) (with_each one right) (all_pairs left right) (in-each one other right i)
+in-pairs one other (l ∷ left) right (later h) i = in_right (one, other) (with_each l right) (all_pairs left right) (in-pairs one other left right h i)
 
 module _ (sig : Signature) (pairs : List Columns) (keep : List ℕ) (left right made : List (List Term)) (a : AreJoined sig pairs keep (all_pairs left right) made) where
   abbrev Glued : Pair sig (Agrees pairs keep) left right → List Term → Type 0
@@ -168,21 +148,17 @@ may_meet sig left right pairs keep j one other h i = record {
 
 pub within_joined : (sig : Signature) (left right joined : List Term) (ls rs keep : List ℕ) → HaveSorts sig left ls → HaveSorts sig right rs → HaveSorts sig joined (ls ++ rs) → All (λ (k : ℕ). k < length left + length right) keep → All (λ (k : ℕ). k < length joined) keep
 within_joined sig left right joined ls rs keep hl hr hj h = λ k d l.
-    let a = sorts-many sig left ls hl in
-    let b = sorts-many sig right rs hr in
-    let c = sorts-many sig joined (ls ++ rs) hj in
+    let a = sorts_length sig left ls hl in
+    let b = sorts_length sig right rs hr in
+    let c = sorts_length sig joined (ls ++ rs) hj in
     let e = length-append ls rs in
     let m = h k d l in
     omega arith
 
-pub numbers-many : (xs : List SortId) → length (numbers_of xs) ≡ length xs
-numbers-many [] = refl
-numbers-many (x ∷ xs) = omega (arith, numbers-many xs)
-
 -- columns among as many as two rows have sorts
 pub within_sorts : (sig : Signature) (one other : List Term) (ls rs keep : List ℕ) (count : ℕ) → HaveSorts sig one ls → HaveSorts sig other rs → count ≤ length ls + length rs → All (λ (k : ℕ). k < count) keep → All (λ (k : ℕ). k < length one + length other) keep
 within_sorts sig one other ls rs keep count hl hr c h = λ k d l.
-    let a = sorts-many sig one ls hl in
-    let b = sorts-many sig other rs hr in
+    let a = sorts_length sig one ls hl in
+    let b = sorts_length sig other rs hr in
     let m = h k d l in
     omega arith

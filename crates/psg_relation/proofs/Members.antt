@@ -1,13 +1,8 @@
 -- Members of lists.
 use Rattle.std.proofs.Common.{◌≡◌, ℕ, ◌+◌, ◌<◌, ◌⊎◌, inl, inr, zero, suc, List, [], ◌∷◌, ◌++◌, map, take, get_or, length, refl, ap, sym, subst, arith}
+use Rattle.psg_terms.proofs.Lists.{take_item, in_left}
 use Rattle.std.specs.List.{Contains}
 use Rattle.psg_terms.specs.Relations.{IsIn, first, later, IsOnce}
-use Rattle.psg_terms.proofs.DeclareLaws.{take-next}
-
-pub in-left : {X : Type 0} (x : X) (xs ys : List X) → IsIn x xs → IsIn x (xs ++ ys)
-in-left x [] ys h = elim h [ ]
-in-left x (y ∷ xs) ys first = first
-in-left x (y ∷ xs) ys (later h) = later (in-left x xs ys h)
 
 pub in-last : {X : Type 0} (x : X) (xs : List X) → IsIn x (xs ++ x ∷ [])
 in-last x [] = first
@@ -35,7 +30,7 @@ in-at x xs i l e = contains-in x xs (i, l, sym e)
 
 -- a member of the elements that a loop has seen
 pub in-next : {X : Type 0} (y : X) (xs : List X) (i : ℕ) (x : X) → i < length xs → x ≡ get_or xs i x → IsIn y (take (i + 1) xs) → IsIn y (take i xs) ⊎ (y ≡ x)
-in-next y xs i x l e h = in-split y x (take i xs) (subst (IsIn y) (take-next xs i x l e) h)
+in-next y xs i x l e h = in-split y x (take i xs) (subst (IsIn y) (take_item xs i x l e) h)
 
 pub not_cons : {X : Type 0} (x y : X) (xs : List X) → (x ≡ y → ⊥) → (IsIn x xs → ⊥) → IsIn x (y ∷ xs) → ⊥
 not_cons x y xs a b first = a refl
@@ -52,7 +47,7 @@ pub once-split : {X : Type 0} (xs : List X) (x : X) → IsOnce (xs ++ x ∷ []) 
 once-split [] x o = (tt, λ h. elim h [ ])
 once-split (y ∷ xs) x (a, o) =
     let r = once-split xs x o in
-    ((λ h. a (in-left y xs (x ∷ []) h), r.0), not_cons x y xs (λ e. a (subst (λ z. IsIn z (xs ++ x ∷ [])) e (in-last x xs))) r.1)
+    ((λ h. a (in_left y xs (x ∷ []) h), r.0), not_cons x y xs (λ e. a (subst (λ z. IsIn z (xs ++ x ∷ [])) e (in-last x xs))) r.1)
 
 -- a member with what stands before and behind it
 pub around : {X : Type 0} (x : X) (xs : List X) → IsIn x xs → (front : List X) × (back : List X) × (xs ≡ front ++ x ∷ back)
@@ -73,12 +68,6 @@ in-earlier [] i k d h l = absurd (omega arith)
 in-earlier (x ∷ xs) zero k d h l = absurd (omega arith)
 in-earlier (x ∷ xs) (suc i) zero d h l = first
 in-earlier (x ∷ xs) (suc i) (suc k) d h l = later (in-earlier xs i k d (omega arith) (omega arith))
-
--- the element at a place does not depend on what would stand for none
-pub at-any : {X : Type 0} (xs : List X) (i : ℕ) (d e : X) → i < length xs → get_or xs i d ≡ get_or xs i e
-at-any [] i d e l = absurd (omega arith)
-at-any (x ∷ xs) zero d e l = refl
-at-any (x ∷ xs) (suc i) d e l = at-any xs i d e (omega arith)
 
 pub in-map : {X Y : Type 0} (f : X → Y) (x : X) (xs : List X) → IsIn x xs → IsIn (f x) (map f xs)
 in-map f x [] h = elim h [ ]

@@ -2,6 +2,9 @@
 use Rattle.std.proofs.Common.{◌≡◌, ℕ, ◌<◌, ◌+◌, ◌≤◌, ◌↔◌, inl, inr, List, [], ◌∷◌, ◌++◌, All, map, length, zero, suc, refl, ap, ap₂, sym, ◌∙◌, subst, Some, slice_get, arith, length-append, append-nil}
 use Rattle.std.proofs.lemmas.List.{map-append, length-map}
 use Rattle.std.proofs.lemmas.List.Elements.{All-head, All-tail}
+use Rattle.std.proofs.lemmas.Option.{same_Some}
+use Rattle.psg_terms.proofs.OneRelation.{sorts_length, sorts_once}
+use Rattle.psg_terms.proofs.Lists.{slice_get_some, slice_get-front}
 use Rattle.psg_terms.specs.Terms.{Term}
 use Rattle.psg_terms.specs.Signature.{Signature, HaveSorts}
 use Rattle.psg_terms.specs.Sound.{IsSound}
@@ -22,11 +25,9 @@ use Rattle.psg_relation.specs.declared.narrowing.Narrow.{Narrow}
 use Rattle.psg_relation.specs.declared.narrowing.Place.{Place}
 use Rattle.psg_relation.proofs.Columns.{map-picked, picked-sorts}
 use Rattle.psg_relation.proofs.Unsolved.{get-right}
-use Rattle.psg_relation.proofs.Meeting.{sorts-many}
-use Rattle.psg_relation.proofs.NarrowPlans.{get-before, plans_picked, plans_written, sides_within}
-use Rattle.psg_relation.proofs.Pairing.{value_at, same_some}
-use Rattle.psg_relation.proofs.Selected.{diagonal-tail, get-left, some_within}
-use Rattle.psg_relation.proofs.Unifying.{one_type}
+use Rattle.psg_relation.proofs.NarrowPlans.{plans_picked, plans_written, sides_within}
+use Rattle.psg_relation.proofs.Pairing.{value_at}
+use Rattle.psg_relation.proofs.Selected.{diagonal-tail, get-left}
 
 -- ---- pairs of columns with equal numbers
 
@@ -35,7 +36,7 @@ front_same [] [] us vs e h = refl
 front_same [] (y ∷ b) us vs e h = absurd (omega (arith, e))
 front_same (x ∷ a) [] us vs e h = absurd (omega (arith, e))
 front_same (x ∷ a) (y ∷ b) us vs e h =
-    let d : x ≡ y = same_some x y h.0 in
+    let d : x ≡ y = same_Some x y h.0 in
     ap₂ (λ z zs. z ∷ zs) d (front_same a b us vs (omega (arith, e)) (diagonal-tail (length a) 0 x y (a ++ us) (b ++ vs) h.1))
 
 front_self : (k n : ℕ) (a us vs : List Term) → k + n ≤ length a → AgreeOn (diagonal k n) (a ++ us) (a ++ vs)
@@ -45,44 +46,31 @@ front_self k (suc n) a us vs l = (get-left a us k (omega (arith, l)) ∙ sym (ge
 front_sorts : (k n : ℕ) (ss us vs : List ℕ) → k + n ≤ length ss → AreOfEqualSort (ss ++ us) (ss ++ vs) (diagonal k n)
 front_sorts k zero ss us vs l = tt
 front_sorts k (suc n) ss us vs l =
-    let (s, e) = some_within ss k (omega (arith, l)) in
+    let (s, e) = slice_get_some ss k (omega (arith, l)) in
     ((s, get-left ss us k (omega (arith, l)) ∙ e, get-left ss vs k (omega (arith, l)) ∙ e), front_sorts (suc k) n ss us vs (omega (arith, l)))
 
 -- ---- columns of rows
 
-there_is : {X : Type 0} (xs : List X) (k : ℕ) → k < length xs → (x : X) × (slice_get xs k ≡ Some x)
-there_is [] k l = absurd (omega (arith, l))
-there_is (x ∷ xs) zero l = (x, refl)
-there_is (x ∷ xs) (suc k) l = there_is xs k (omega (arith, l))
-
 picked-get : {X : Type 0} (V : List X) (keep : List ℕ) (q j : ℕ) (v : X) → All (λ (k : ℕ). k < length V) keep → slice_get keep q ≡ Some j → slice_get V j ≡ Some v → slice_get (picked V keep) q ≡ Some v
 picked-get V [] q j v h e d = absurd (cc)
 picked-get V (a ∷ keep) zero j v h e d =
-    let same : a ≡ j = same_some a j e in
+    let same : a ≡ j = same_Some a j e in
     ap (λ o. slice_get (pick o (picked V keep)) 0) (ap (slice_get V) same ∙ d)
 picked-get V (a ∷ keep) (suc q) j v h e d =
-    let (x, ex) = there_is V a (All-head (λ (k : ℕ). k < length V) a keep h) in
+    let (x, ex) = slice_get_some V a (All-head (λ (k : ℕ). k < length V) a keep h) in
     ap (λ o. slice_get (pick o (picked V keep)) (suc q)) ex ∙ picked-get V keep q j v (All-tail (λ (k : ℕ). k < length V) a keep h) e d
 
 picked-many : {X : Type 0} (V : List X) (keep : List ℕ) → All (λ (k : ℕ). k < length V) keep → length (picked V keep) ≡ length keep
 picked-many V [] h = refl
 picked-many V (a ∷ keep) h =
-    let (x, ex) = there_is V a (All-head (λ (k : ℕ). k < length V) a keep h) in
+    let (x, ex) = slice_get_some V a (All-head (λ (k : ℕ). k < length V) a keep h) in
     let rest = picked-many V keep (All-tail (λ (k : ℕ). k < length V) a keep h) in
     ap (λ o. length (pick o (picked V keep))) ex ∙ (let e : suc (length (picked V keep)) ≡ suc (length keep) = ap suc rest in e)
 
 closed_both : (f g : Substitution) (left right : List Term) (k : ℕ) (t : Term) → slice_get (left ++ right) k ≡ Some t → above_of t ≡ 0 → slice_get (map (substitute f) left ++ map (substitute g) right) k ≡ Some t
 closed_both f g [] right k t e c = value_at g right k t e ∙ ap (λ (x : Term). Some x) (substitute-closed g t c)
-closed_both f g (x ∷ left) right zero t e c = let d : x ≡ t = same_some x t e in ap (λ (y : Term). Some y) (ap (substitute f) d ∙ substitute-closed f t c)
+closed_both f g (x ∷ left) right zero t e c = let d : x ≡ t = same_Some x t e in ap (λ (y : Term). Some y) (ap (substitute f) d ∙ substitute-closed f t c)
 closed_both f g (x ∷ left) right (suc k) t e c = closed_both f g left right k t e c
-
-sorts_one : (sig : Signature) (row : List Term) (ss rs : List ℕ) → HaveSorts sig row ss → HaveSorts sig row rs → ss ≡ rs
-sorts_one sig [] [] [] h k = refl
-sorts_one sig [] [] (r ∷ rs) h k = absurd k
-sorts_one sig [] (s ∷ ss) rs h k = absurd h
-sorts_one sig (t ∷ row) [] rs h k = absurd h
-sorts_one sig (t ∷ row) (s ∷ ss) [] h k = absurd k
-sorts_one sig (t ∷ row) (s ∷ ss) (r ∷ rs) h k = ap₂ (λ x xs. x ∷ xs) (one_type sig t [] [] s r h.0 k.0).1 (sorts_one sig row ss rs h.1 k.1)
 
 module _ (sig : Signature) (sound : IsSound sig) (left right : List Term) (pairs : List Pair) (keep : List ℕ) (j : AreJoinable sig left right pairs) (n : Narrow) (h : IsNarrow left right pairs keep n) where
   abbrev lefts : List Term
@@ -107,10 +95,10 @@ module _ (sig : Signature) (sound : IsSound sig) (left right : List Term) (pairs
   paired = h.paired sig j
 
   front_is : n.front ≡ length paired.sorts
-  front_is = h.front ∙ sorts-many sig h.lefts paired.sorts paired.left_sorted
+  front_is = h.front ∙ sorts_length sig h.lefts paired.sorts paired.left_sorted
 
   same_count : length h.lefts ≡ length h.rights
-  same_count = sorts-many sig h.lefts paired.sorts paired.left_sorted ∙ sym (sorts-many sig h.rights paired.sorts paired.right_sorted)
+  same_count = sorts_length sig h.lefts paired.sorts paired.left_sorted ∙ sym (sorts_length sig h.rights paired.sorts paired.right_sorted)
 
   abbrev left_more : (ss : List ℕ) × HaveSorts sig h.planned.more_left ss
   left_more = h.planned.left_typed sig j.left_sorts j.left_sorted
@@ -178,11 +166,11 @@ module _ (sig : Signature) (sound : IsSound sig) (left right : List Term) (pairs
 
         moved : (k q : ℕ) → IsMoved left right lefts rights (length lefts) keeps k q → slice_get ((picked (solved_under f g) keeps) ++ map (substitute u) (left ++ right)) q ≡ slice_get (whole_under f g) k
         moved k q (inl (t, i, a, b, c)) =
-            get-before (picked (solved_under f g) keeps) (map (substitute u) (left ++ right)) q (substitute f t)
-            (picked-get (solved_under f g) keeps q i (substitute f t) (within_under f g) c (get-before (map (substitute f) lefts) (map (substitute g) rights) i (substitute f t) (value_at f lefts i t b)))
-            ∙ sym (get-before (map (substitute f) left) (map (substitute g) right) k (substitute f t) (value_at f left k t a))
+            slice_get-front (picked (solved_under f g) keeps) (map (substitute u) (left ++ right)) q (substitute f t)
+            (picked-get (solved_under f g) keeps q i (substitute f t) (within_under f g) c (slice_get-front (map (substitute f) lefts) (map (substitute g) rights) i (substitute f t) (value_at f lefts i t b)))
+            ∙ sym (slice_get-front (map (substitute f) left) (map (substitute g) right) k (substitute f t) (value_at f left k t a))
         moved k q (inr (t, i, m, e, a, b, c)) =
-            get-before (picked (solved_under f g) keeps) (map (substitute u) (left ++ right)) q (substitute g t)
+            slice_get-front (picked (solved_under f g) keeps) (map (substitute u) (left ++ right)) q (substitute g t)
             (picked-get (solved_under f g) keeps q (length lefts + m) (substitute g t) (within_under f g) c
             (at_left (map (substitute f) lefts) (map (substitute g) rights) m (length lefts + m) (substitute g t) (value_at g rights m t b) (ap (λ (z : ℕ). z + m) (sym (length-map lefts (substitute f))))))
             ∙ sym (at_left (map (substitute f) left) (map (substitute g) right) i k (substitute g t) (value_at g right i t a) (e ∙ ap (λ (z : ℕ). z + i) (sym (length-map left (substitute f)))))
@@ -245,7 +233,7 @@ module _ (sig : Signature) (sound : IsSound sig) (left right : List Term) (pairs
           let one : HaveSorts sig l ls = subst (λ z. HaveSorts sig z ls) (sym el) (HaveSorts-substitute sig f gf.sorted left ls hl) in
           let other : HaveSorts sig r rs = subst (λ z. HaveSorts sig z rs) (sym er) (HaveSorts-substitute sig g gg.sorted right rs hr) in
           let kept : HaveSorts sig (map (substitute u) row) (picked (ls ++ rs) keep) = subst (λ z. HaveSorts sig z (picked (ls ++ rs) keep)) (sym (ex ∙ ap (λ z. picked z keep) ef)) (picked-sorts sig (l ++ r) (ls ++ rs) keep (sorts-append sig l r ls rs one other)) in
-          subst (HaveSorts sig row) (sorts_one sig (map (substitute u) row) ts (picked (ls ++ rs) keep) under kept) typed
+          subst (HaveSorts sig row) (sorts_once sig (map (substitute u) row) ts (picked (ls ++ rs) keep) under kept) typed
 
       pub narrow_join : IsJoinOf sig pairs keep left right row
       narrow_join = record {
@@ -305,10 +293,10 @@ module _ (sig : Signature) (sound : IsSound sig) (left right : List Term) (pairs
   pub slices_count : (solved : List Term) → ((us vs : List ℕ) → HaveSorts sig ls us → HaveSorts sig rs vs → HaveSorts sig solved (picked (us ++ vs) ks)) → length solved ≡ length n.keep.items
   slices_count solved sorted =
       let inside = slices_joinable in
-      let a = sorts-many sig ls inside.left_sorts inside.left_sorted in
-      let b = sorts-many sig rs inside.right_sorts inside.right_sorted in
+      let a = sorts_length sig ls inside.left_sorts inside.left_sorted in
+      let b = sorts_length sig rs inside.right_sorts inside.right_sorted in
       let whole : length ls + length rs ≡ length (inside.left_sorts ++ inside.right_sorts) = (let c = length-append inside.left_sorts inside.right_sorts in omega (arith, a, b, c)) in
-      sorts-many sig solved (picked (inside.left_sorts ++ inside.right_sorts) ks) (sorted inside.left_sorts inside.right_sorts inside.left_sorted inside.right_sorted)
+      sorts_length sig solved (picked (inside.left_sorts ++ inside.right_sorts) ks) (sorted inside.left_sorts inside.right_sorts inside.left_sorted inside.right_sorted)
       ∙ picked-many (inside.left_sorts ++ inside.right_sorts) ks (subst (λ (m : ℕ). All (λ (k : ℕ). k < m) ks) whole slices_within)
       ∙ ap (λ (k : List ℕ). length k) ek ∙ length-map n.keep.items (number_of (length n.lefts.items))
 

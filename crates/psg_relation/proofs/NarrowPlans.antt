@@ -1,8 +1,9 @@
 -- Joins of two rows of which only some columns are solved.
 use Rattle.std.proofs.Common.{◌≡◌, ℕ, ◌<◌, ◌+◌, ◌≤◌, ◌↔◌, inl, inr, true, List, [], ◌∷◌, ◌++◌, All, map, length, get_or, take, zero, suc, refl, ap, ap₂, sym, ◌∙◌, subst, Some, slice_get, arith, length-append, append_assoc, append-nil}
-use Rattle.std.proofs.lemmas.List.{map-append, take_all, take_more, length-map}
+use Rattle.std.proofs.lemmas.List.{map-append, take_all, take_more, length-map, same_from_push}
 use Rattle.std.proofs.lemmas.List.Elements.{All-weaker, All-push, All-cons, All-head, All-tail}
-use Rattle.std.proofs.lemmas.Option.{slice_get_within, get_or_from_slice_get}
+use Rattle.std.proofs.lemmas.Option.{slice_get_within, get_or_from_slice_get, same_Some}
+use Rattle.psg_terms.proofs.Lists.{slice_get-front, slice_get-end}
 use Rattle.psg_terms.specs.Terms.{Term}
 use Rattle.psg_terms.specs.Signature.{Signature, HasSort, HaveSorts}
 use Rattle.psg_terms.specs.Weight.{above_of}
@@ -20,30 +21,9 @@ use Rattle.psg_relation.specs.declared.narrowing.Side.TheVariants.{Left, Right}
 use Rattle.psg_relation.specs.declared.narrowing.Place.{Place}
 use Rattle.psg_relation.specs.declared.narrowing.Place.TheVariants.{Solved, Given}
 use Rattle.psg_relation.proofs.Columns.{picked-push}
-use Rattle.psg_relation.proofs.Pairing.{value_at, same_some, sort_at, equal_at, take_pair, agree_push, agree_split}
+use Rattle.psg_relation.proofs.Pairing.{value_at, sort_at, equal_at, take_pair, agree_push, agree_split}
 
 -- ---- lists
-
-snoc_same : (xs ys : List Term) (x y : Term) → xs ++ x ∷ [] ≡ ys ++ y ∷ [] → (xs ≡ ys) × (x ≡ y)
-snoc_same [] [] x y e = (refl, cc)
-snoc_same [] (b ∷ []) x y e = absurd (cc)
-snoc_same [] (b ∷ c ∷ ys) x y e = absurd (cc)
-snoc_same (a ∷ []) [] x y e = absurd (cc)
-snoc_same (a ∷ c ∷ xs) [] x y e = absurd (cc)
-snoc_same (a ∷ xs) (b ∷ ys) x y e =
-    let h : a ≡ b = cc in
-    let t : xs ++ x ∷ [] ≡ ys ++ y ∷ [] = cc in
-    let k = snoc_same xs ys x y t in
-    (ap₂ (λ z zs. z ∷ zs) h k.0, k.1)
-
-pub get-before : {X : Type 0} (xs ys : List X) (k : ℕ) (x : X) → slice_get xs k ≡ Some x → slice_get (xs ++ ys) k ≡ Some x
-get-before [] ys k x e = absurd (cc)
-get-before (a ∷ xs) ys zero x e = e
-get-before (a ∷ xs) ys (suc k) x e = get-before xs ys k x e
-
-get-last : {X : Type 0} (xs : List X) (x : X) → slice_get (xs ++ x ∷ []) (length xs) ≡ Some x
-get-last [] x = refl
-get-last (a ∷ xs) x = get-last xs x
 
 -- ---- the pairs that are solved
 
@@ -57,7 +37,7 @@ module _ (sig : Signature) (left right : List Term) where
 
     columns_same : (f g : Substitution) → (slice_get (map (substitute f) left) p.0 ≡ slice_get (map (substitute g) right) p.1) ↔ (substitute f x ≡ substitute g y)
     columns_same f g = (
-      λ e. same_some (substitute f x) (substitute g y) (sym (value_at f left p.0 x ex) ∙ e ∙ value_at g right p.1 y ey),
+      λ e. same_Some (substitute f x) (substitute g y) (sym (value_at f left p.0 x ex) ∙ e ∙ value_at g right p.1 y ey),
       λ e. value_at f left p.0 x ex ∙ ap (λ (t : Term). Some t) e ∙ sym (value_at g right p.1 y ey),
     )
 
@@ -89,7 +69,7 @@ module _ (sig : Signature) (left right : List Term) where
               let k = split f g a in
               map-append (substitute f) lefts (x ∷ []) ∙ ap₂ (λ xs z. xs ++ z ∷ []) (h.to f g k.0) k.1 ∙ sym (map-append (substitute g) rights (y ∷ []));
           back = λ f g e.
-              let k = snoc_same (map (substitute f) lefts) (map (substitute g) rights) (substitute f x) (substitute g y) (sym (map-append (substitute f) lefts (x ∷ [])) ∙ e ∙ map-append (substitute g) rights (y ∷ [])) in
+              let k = same_from_push (map (substitute f) lefts) (map (substitute g) rights) (substitute f x) (substitute g y) (sym (map-append (substitute f) lefts (x ∷ [])) ∙ e ∙ map-append (substitute g) rights (y ∷ [])) in
               both f g (h.back f g k.0) k.1;
         }))
 
@@ -171,7 +151,7 @@ module _ (Moved Shared : ℕ → ℕ → Type 0) where
       let lt : from < length A = omega (arith, up, l) in
       let (u, e, d, x) = past-next sig from A w lt in
       let rest = plans_written sig A both w s (suc from) to keep places l h in
-      let here : slice_get (A ++ both) b ≡ Some u = ap (slice_get (A ++ both)) q ∙ get-before A both from u e in (
+      let here : slice_get (A ++ both) b ≡ Some u = ap (slice_get (A ++ both)) q ∙ slice_get-front A both from u e in (
         ap (λ o. variables_of (pick o (picked (A ++ both) places))) here ∙ ap (λ (y : List Variable). variables u ++ y) rest.0 ∙ sym (ap variables_of d),
         subst (λ o. AreWrittenOut sig (pick o (picked (A ++ both) places))) (sym here) (x, rest.1),
       )
@@ -179,8 +159,8 @@ module _ (Moved Shared : ℕ → ℕ → Type 0) where
 -- ---- steps of putting the kept columns
 
 moved_more : (left right lefts rights more other : List Term) (width : ℕ) (keep more_keep : List ℕ) (k q : ℕ) → IsMoved left right lefts rights width keep k q → IsMoved left right (lefts ++ more) (rights ++ other) width (keep ++ more_keep) k q
-moved_more left right lefts rights more other width keep more_keep k q (inl (t, j, a, b, c)) = inl (t, j, a, get-before lefts more j t b, get-before keep more_keep q j c)
-moved_more left right lefts rights more other width keep more_keep k q (inr (t, i, j, e, a, b, c)) = inr (t, i, j, e, a, get-before rights other j t b, get-before keep more_keep q (width + j) c)
+moved_more left right lefts rights more other width keep more_keep k q (inl (t, j, a, b, c)) = inl (t, j, a, slice_get-front lefts more j t b, slice_get-front keep more_keep q j c)
+moved_more left right lefts rights more other width keep more_keep k q (inr (t, i, j, e, a, b, c)) = inr (t, i, j, e, a, slice_get-front rights other j t b, slice_get-front keep more_keep q (width + j) c)
 
 plans_wider : (M N S : ℕ → ℕ → Type 0) → ((k q : ℕ) → M k q → N k q) → (from to : ℕ) (keep places : List ℕ) → Plans M S from to keep places → Plans N S from to keep places
 plans_wider M N S w from to [] [] h = h
@@ -281,7 +261,7 @@ module _ (left right lefts rights : List Term) (width count : ℕ) (keep : List 
   last_number s ek =
       ap (λ (x : List ℕ). slice_get x (length old.keep.items)) (ap (numbers width) ek ∙ map-append (number_of width) old.keep.items (s ∷ []))
       ∙ ap (slice_get (numbers width old.keep.items ++ number_of width s ∷ [])) (sym (length-map old.keep.items (number_of width)))
-      ∙ get-last (numbers width old.keep.items) (number_of width s)
+      ∙ slice_get-end (numbers width old.keep.items) (number_of width s)
 
   moved_sides : (s : Side) → (more other : List Term) → new.lefts.items ≡ old.lefts.items ++ more → new.rights.items ≡ old.rights.items ++ other → new.keep.items ≡ old.keep.items ++ s ∷ []
       → IsSide new.lefts.items new.rights.items s → All (IsSide new.lefts.items new.rights.items) new.keep.items
@@ -311,7 +291,7 @@ module _ (left right lefts rights : List Term) (width count : ℕ) (keep : List 
     rights_are = er ∙ h.rights_are;
     right_typed = h.right_typed;
     plan = moved_plan (Left (length old.lefts.items))
-        (inl (t, length old.lefts.items, at, ap (λ x. slice_get x (length old.lefts.items)) el ∙ get-last old.lefts.items t, last_number (Left (length old.lefts.items)) ek))
+        (inl (t, length old.lefts.items, at, ap (λ x. slice_get x (length old.lefts.items)) el ∙ slice_get-end old.lefts.items t, last_number (Left (length old.lefts.items)) ek))
         (t ∷ []) [] el (er ∙ sym (append-nil old.rights.items)) ek ep;
     sides = moved_sides (Left (length old.lefts.items)) (t ∷ []) [] el (er ∙ sym (append-nil old.rights.items)) ek
         (let a = ap (λ (x : List Term). length x) el in let b = length-append old.lefts.items (t ∷ []) in omega (arith, a, b));
@@ -332,7 +312,7 @@ module _ (left right lefts rights : List Term) (width count : ℕ) (keep : List 
         let (s, b) = column_typed sig right rs i t hr at in
         (ss ++ s ∷ [], sorts-append sig h.more_right (t ∷ []) ss (s ∷ []) a (b, tt));
     plan = moved_plan (Right (length old.rights.items))
-        (inr (t, i, length old.rights.items, e, at, ap (λ x. slice_get x (length old.rights.items)) er ∙ get-last old.rights.items t, last_number (Right (length old.rights.items)) ek))
+        (inr (t, i, length old.rights.items, e, at, ap (λ x. slice_get x (length old.rights.items)) er ∙ slice_get-end old.rights.items t, last_number (Right (length old.rights.items)) ek))
         [] (t ∷ []) (el ∙ sym (append-nil old.lefts.items)) er ek ep;
     sides = moved_sides (Right (length old.rights.items)) [] (t ∷ []) (el ∙ sym (append-nil old.lefts.items)) er ek
         (let a = ap (λ (x : List Term). length x) er in let b = length-append old.rights.items (t ∷ []) in omega (arith, a, b));

@@ -14,6 +14,7 @@ use Rattle.std.proofs.lemmas.Bool.{true≢false}
 use Rattle.std.proofs.lemmas.List.MinMax.{ranks_by}
 use Rattle.std.proofs.lemmas.List.Sorted.{sorted_far, IsPermutation-sym, Contains-permutation}
 use Rattle.std.proofs.lemmas.List.{map-append}
+use Rattle.psg_terms.proofs.Lists.{in_left}
 use Rattle.psg_terms.specs.Terms.{Term}
 use Rattle.psg_terms.specs.Signature.{Signature}
 use Rattle.psg_terms.specs.Relations.{IsIn, first, later}
@@ -22,7 +23,7 @@ use Rattle.psg_relation.specs.Ordered.{IsOrdered, KeepsOrder, is_not_above}
 use Rattle.psg_relation.specs.Sifted.{IsSifted, IsGrown}
 use Rattle.psg_relation.specs.Texts.{AreTexts, rows_in}
 use Rattle.psg_relation.specs.declared.order.Printed.{Printed}
-use Rattle.psg_relation.proofs.Members.{in-left, in-last, in-split, in-contains, contains-in, map-in}
+use Rattle.psg_relation.proofs.Members.{in-last, in-split, in-contains, contains-in, map-in}
 
 ordered-push : {X : Type 0} (test : X → X → Bool) (xs : List X) (x : X) → IsOrdered test xs → ((y : X) → IsIn y xs → IsTrue (test y x)) → IsOrdered test (xs ++ x ∷ [])
 ordered-push test [] x o h = (λ y i. elim i [ ], tt)
@@ -33,7 +34,7 @@ ordered-push test (z ∷ xs) x (a, o) h = (
 
 ordered-front : {X : Type 0} (test : X → X → Bool) (xs : List X) (x : X) → IsOrdered test (xs ++ x ∷ []) → IsOrdered test xs
 ordered-front test [] x o = tt
-ordered-front test (z ∷ xs) x (a, o) = (λ y i. a y (in-left y xs (x ∷ []) i), ordered-front test xs x o)
+ordered-front test (z ∷ xs) x (a, o) = (λ y i. a y (in_left y xs (x ∷ []) i), ordered-front test xs x o)
 
 ordered-last : {X : Type 0} (test : X → X → Bool) (xs : List X) (x : X) → IsOrdered test (xs ++ x ∷ []) → (y : X) → IsIn y xs → IsTrue (test y x)
 ordered-last test [] x o y i = elim i [ ]

@@ -3,16 +3,14 @@ use Rattle.std.proofs.Common.{◌≡◌, ℕ, ◌<◌, ◌+◌, ◌≤◌, Bool,
 use Rattle.std.specs.Option.{option_map}
 use Rattle.std.proofs.lemmas.Bool.{false≢true}
 use Rattle.std.proofs.lemmas.List.{take_more, take_all}
-use Rattle.std.proofs.lemmas.Option.{slice_get-map}
+use Rattle.std.proofs.lemmas.Option.{slice_get-map, same_Some}
 use Rattle.psg_terms.specs.Terms.{Term}
 use Rattle.psg_terms.specs.Signature.{Signature, HasSort, HaveSorts}
 use Rattle.psg_terms.specs.Weight.{above_of}
 use Rattle.psg_terms.specs.Instances.{Substitution, substitute}
 use Rattle.psg_terms.proofs.Recognising.{substitute-closed}
 use Rattle.psg_unify.specs.Pairs.{Pair, AgreeOn, AreOfEqualSort}
-use Rattle.psg_relation.specs.Heads.{head_of}
 use Rattle.psg_relation.specs.Settling.{IsSettled, AreSettled}
-use Rattle.psg_relation.proofs.Indexing.{head-substitute}
 
 pub sort_at : (sig : Signature) (row : List Term) (ss : List ℕ) (i : ℕ) (t : Term) (s : ℕ) → HaveSorts sig row ss → slice_get row i ≡ Some t → slice_get ss i ≡ Some s → HasSort sig t s
 sort_at sig [] ss i t s h e d = absurd (cc)
@@ -22,9 +20,6 @@ sort_at sig (x ∷ row) (r ∷ ss) (suc i) t s (_, h) e d = sort_at sig row ss i
 
 pub value_at : (g : Substitution) (row : List Term) (i : ℕ) (t : Term) → slice_get row i ≡ Some t → slice_get (map (substitute g) row) i ≡ Some (substitute g t)
 value_at g row i t e = slice_get-map (substitute g) row i ∙ ap (option_map (substitute g)) e
-
-pub same_some : {X : Type 0} (x y : X) → ◌≡◌ {A = Option X} (Some x) (Some y) → x ≡ y
-same_some x y e = cc
 
 -- the pair at a place
 pub equal_at : (ls rs : List ℕ) (pairs : List Pair) (i : ℕ) (p d : Pair) → i < length pairs → p ≡ get_or pairs i d → AreOfEqualSort ls rs pairs → (s : ℕ) × (slice_get ls p.0 ≡ Some s) × (slice_get rs p.1 ≡ Some s)
@@ -64,11 +59,6 @@ pairs_within sig left right ls rs pairs hl hr h k d l =
 pub settled_is : (a b : Term) (o : Option Bool) (equal : Bool) → o ≡ Some equal → IfSome o (λ e. IsSettled a b e) → IsSettled a b equal
 settled_is a b o equal e h = subst (λ p. IfSome p (λ e. IsSettled a b e)) e h
 
-pub clash : (a b : Term) (c d : ℕ) → Some c ≡ head_of a → Some d ≡ head_of b → (c ≡ d → ⊥) → IsSettled a b false
-clash a b c d ha hb ne = λ f g e.
-    let heads : ◌≡◌ {A = Option ℕ} (Some c) (Some d) = sym (head-substitute f a c (sym ha)) ∙ ap head_of e ∙ head-substitute g b d (sym hb) in
-    ne (same_some c d heads)
-
 pub settled_closed : (a b : Term) (equal : Bool) → above_of a ≡ 0 → above_of b ≡ 0 → (IsTrue equal ↔ (a ≡ b)) → IsSettled a b equal
 settled_closed a b true ca cb h = λ f g. substitute-closed f a ca ∙ h.0 refl ∙ sym (substitute-closed g b cb)
 settled_closed a b false ca cb h = λ f g e. false≢true (h.1 (sym (substitute-closed f a ca) ∙ e ∙ substitute-closed g b cb))
@@ -79,7 +69,7 @@ module _ (left right : List Term) (pairs : List Pair) (i : ℕ) (p d : Pair) (x 
 
   -- what two rows that agree make of this pair
   pub pair_equal : (f g : Substitution) → AgreeOn pairs (map (substitute f) left) (map (substitute g) right) → substitute f x ≡ substitute g y
-  pair_equal f g a = same_some (substitute f x) (substitute g y) (sym (value_at f left p.0 x ex) ∙ agree_at pairs i p d (map (substitute f) left) (map (substitute g) right) lt ep a ∙ value_at g right p.1 y ey)
+  pair_equal f g a = same_Some (substitute f x) (substitute g y) (sym (value_at f left p.0 x ex) ∙ agree_at pairs i p d (map (substitute f) left) (map (substitute g) right) lt ep a ∙ value_at g right p.1 y ey)
 
   pub pair_agrees : (f g : Substitution) → substitute f x ≡ substitute g y → slice_get (map (substitute f) left) p.0 ≡ slice_get (map (substitute g) right) p.1
   pair_agrees f g e = value_at f left p.0 x ex ∙ ap (λ (t : Term). Some t) e ∙ sym (value_at g right p.1 y ey)

@@ -3,18 +3,19 @@ use Rattle.std.proofs.Common.{◌≡◌, ℕ, ◌+◌, ◌<◌, ◌≤◌, ◌�
 use Rattle.std.proofs.lemmas.Bool.{true≢false}
 use Rattle.std.proofs.lemmas.Bool.Decides.{eqb_tells}
 use Rattle.std.proofs.lemmas.List.Elements.{All-head, All-tail}
+use Rattle.psg_terms.proofs.OneRelation.{sorts_length}
+use Rattle.psg_terms.proofs.Lists.{take_item, slice_get_some}
 use Rattle.psg_terms.specs.Terms.{Term}
 use Rattle.psg_terms.specs.Signature.{Signature, HaveSorts}
 use Rattle.psg_terms.specs.Instances.{IsGroundInstance}
 use Rattle.psg_terms.specs.Relations.{IsIn, first, later, IsRelation}
-use Rattle.psg_terms.proofs.DeclareLaws.{take-next}
 use Rattle.psg_terms.proofs.Renumbering.{HaveSorts-substitute}
 use Rattle.psg_unify.specs.Pairs.{Pair as Columns, AgreeOn, AreOfEqualSort, AreJoinable}
 use Rattle.psg_relation.specs.Choices.{AllHaveSorts, AllWithin, IsOfRow, IsProjected, IsSelected, pick, picked}
 use Rattle.psg_relation.specs.Sealed.{AllReady}
 use Rattle.psg_relation.specs.Joining.{Joins, IsJoinOf, IsMore, Two, AreJoined}
 use Rattle.psg_relation.specs.Selecting.{diagonal, twins, width_of}
-use Rattle.psg_relation.proofs.Meeting.{joined_one, sorts-many}
+use Rattle.psg_relation.proofs.Meeting.{joined_one}
 use Rattle.psg_relation.proofs.Relating.{carried}
 
 -- ---- pairs
@@ -44,14 +45,9 @@ pub diagonal_self : (k n : ℕ) (l : List Term) → AgreeOn (diagonal k n) l l
 diagonal_self k zero l = tt
 diagonal_self k (suc n) l = (refl, diagonal_self (suc k) n l)
 
-pub some_within : (ss : List ℕ) (k : ℕ) → k < length ss → (s : ℕ) × (slice_get ss k ≡ Some s)
-some_within [] k h = absurd (omega arith)
-some_within (s ∷ ss) zero h = (s, refl)
-some_within (s ∷ ss) (suc k) h = some_within ss k (omega arith)
-
 diagonal_sorts : (n k : ℕ) (ss : List ℕ) → k + n ≤ length ss → AreOfEqualSort ss ss (diagonal k n)
 diagonal_sorts zero k ss h = tt
-diagonal_sorts (suc n) k ss h = let (s, e) = some_within ss k (omega arith) in ((s, e, e), diagonal_sorts n (suc k) ss (omega arith))
+diagonal_sorts (suc n) k ss h = let (s, e) = slice_get_some ss k (omega arith) in ((s, e, e), diagonal_sorts n (suc k) ss (omega arith))
 
 sorts-append : (ls rs : List ℕ) (xs ys : List Columns) → AreOfEqualSort ls rs xs → AreOfEqualSort ls rs ys → AreOfEqualSort ls rs (xs ++ ys)
 sorts-append ls rs [] ys h k = k
@@ -99,14 +95,14 @@ module _ (sig : Signature) (pairs : List Columns) (keep : List ℕ) where
   selected row x ss h within = (
     λ (full, (l, r, gl, gr, agree, d), e).
         let (own, more) = (agree-append (diagonal 0 (length row)) pairs l r).0 agree in
-        let a = sorts-many sig row ss h in
-        let b = sorts-many sig l ss (inst row l ss h gl) in
-        let c = sorts-many sig r ss (inst row r ss h gr) in
+        let a = sorts_length sig row ss h in
+        let b = sorts_length sig l ss (inst row l ss h gl) in
+        let c = sorts_length sig r ss (inst row r ss h gr) in
         let same : l ≡ r = diagonal_same l r (omega arith) (subst (λ n. AgreeOn (diagonal 0 n) l r) (let q : length row ≡ length l = omega arith in q) own) in
         (l, gl, subst (AgreeOn pairs l) (sym same) more, e ∙ ap (λ f. picked f keep) d ∙ picked-left l r keep (subst (λ n. All (λ (k : ℕ). k < n) keep) (let q : length row ≡ length l = omega arith in q) within)),
     λ (full, g, agree, e).
-        let a = sorts-many sig row ss h in
-        let b = sorts-many sig full ss (inst row full ss h g) in (
+        let a = sorts_length sig row ss h in
+        let b = sorts_length sig full ss (inst row full ss h g) in (
           full ++ full,
           (full, full, g, g, (agree-append (diagonal 0 (length row)) pairs full full).1 (diagonal_self 0 (length row) full, agree), refl),
           e ∙ sym (picked-left full full keep (subst (λ n. All (λ (k : ℕ). k < n) keep) (let q : length row ≡ length full = omega arith in q) within)),
@@ -122,7 +118,7 @@ twins-push (r ∷ rows) row = ap (λ ps. (r, r) ∷ ps) (twins-push rows row)
 pub twins_step : (sig : Signature) (pairs : List Columns) (keep : List ℕ) (rows now more : List (List Term)) (i : ℕ) (row : List Term) → i < length rows → row ≡ get_or rows i row
     → AreJoined sig pairs keep (twins (take i rows)) now → IsMore sig pairs keep row row now more → AreJoined sig pairs keep (twins (take (i + 1) rows)) more
 twins_step sig pairs keep rows now more i row l e a m =
-    subst (λ ps. AreJoined sig pairs keep ps more) (sym (twins-push (take i rows) row) ∙ ap twins (sym (take-next rows i row l e)))
+    subst (λ ps. AreJoined sig pairs keep ps more) (sym (twins-push (take i rows) row) ∙ ap twins (sym (take_item rows i row l e)))
     (joined_one sig pairs keep (twins (take i rows)) now row row more a m)
 
 pub twins-in : (p : Two) (rows : List (List Term)) → IsIn p (twins rows) → IsIn p.0 rows × (p.0 ≡ p.1)
@@ -138,13 +134,13 @@ in-twins row (r ∷ rows) (later h) = later (in-twins row rows h)
 -- all rows have the width of the first
 pub width_same : (sig : Signature) (rows : List (List Term)) (ss : List ℕ) → AllHaveSorts sig rows ss → (row : List Term) → IsIn row rows → length row ≡ width_of rows
 width_same sig [] ss all row h = elim h [ ]
-width_same sig (r ∷ rows) ss all row h = sorts-many sig row ss (all row h) ∙ sym (sorts-many sig r ss (all r first))
+width_same sig (r ∷ rows) ss all row h = sorts_length sig row ss (all row h) ∙ sym (sorts_length sig r ss (all r first))
 
 pub self_equal : (sig : Signature) (rows : List (List Term)) (ss : List ℕ) (pairs : List Columns) → AllHaveSorts sig rows ss → AreOfEqualSort ss ss pairs
     → (row : List Term) → IsIn row rows → AreOfEqualSort ss ss (diagonal 0 (width_of rows) ++ pairs)
 self_equal sig rows ss pairs all equal row h =
     let w = width_same sig rows ss all row h in
-    let m = sorts-many sig row ss (all row h) in
+    let m = sorts_length sig row ss (all row h) in
     sorts-append ss ss (diagonal 0 (width_of rows)) pairs (diagonal_sorts (width_of rows) 0 ss (omega arith)) equal
 
 pub self_joinable : (sig : Signature) (rows : List (List Term)) (ss : List ℕ) (pairs : List Columns) → AllHaveSorts sig rows ss → AreOfEqualSort ss ss pairs
@@ -185,7 +181,7 @@ module _ (sig : Signature) (rows : List (List Term)) (pairs : List Columns) (kee
       let (there, e) = twins-in two rows j in
       let l : HaveSorts sig two.0 ls = h two.0 there in
       let picked_both : HaveSorts sig m (picked (ls ++ ls) keep) = k.sorted ls ls l (subst (λ z. HaveSorts sig z ls) e l) in
-      let n = sorts-many sig two.0 ls l in
+      let n = sorts_length sig two.0 ls l in
       subst (HaveSorts sig m) (picked-left ls ls keep (subst (λ n. All (λ (k : ℕ). k < n) keep) n (within two.0 there))) picked_both
 
   pub selected_ready : AllReady sig made

@@ -1,8 +1,8 @@
 -- Some list is the relation of the joins of two lists of rows.
-use Rattle.std.proofs.Common.{◌≡◌, ℕ, ◌↔◌, ◌⊎◌, inl, inr, List, [], ◌∷◌, ◌++◌, append_assoc, map, zero, suc, refl, ap, ap₂, sym, ◌∙◌, subst, Option, Some, slice_get, length}
+use Rattle.std.proofs.Common.{◌≡◌, ℕ, ◌↔◌, ◌⊎◌, inl, inr, List, [], ◌∷◌, ◌++◌, append_assoc, map, zero, suc, refl, ap, ap₂, sym, ◌∙◌, subst, Some, slice_get, length, append-nil}
 use Rattle.std.specs.Option.{option_map}
 use Rattle.std.proofs.lemmas.List.{map-append}
-use Rattle.std.proofs.lemmas.Option.{slice_get-map}
+use Rattle.std.proofs.lemmas.Option.{slice_get-map, same_Some}
 use Rattle.psg_terms.specs.Terms.{Term}
 use Rattle.psg_terms.specs.Signature.{Signature, HasSort, HaveSorts}
 use Rattle.psg_terms.specs.Sound.{IsSound}
@@ -31,9 +31,6 @@ term_at sig (x ∷ row) (r ∷ ss) (suc i) s (_, h) e = term_at sig row ss i s h
 column_of : (g : Substitution) (row : List Term) (i : ℕ) (t : Term) → slice_get row i ≡ Some t → slice_get (map (substitute g) row) i ≡ Some (substitute g t)
 column_of g row i t e = slice_get-map (substitute g) row i ∙ ap (option_map (substitute g)) e
 
-inner : (x y : Term) → ◌≡◌ {A = Option Term} (Some x) (Some y) → x ≡ y
-inner x y e = cc
-
 -- the columns of the pairs, as equations
 record AreColumns (sig : Signature) (left right : List Term) (pairs : List Columns) (es : List Equation) : Type 0 where
   typed : AreTyped sig es
@@ -49,7 +46,7 @@ columns sig left right ls rs (p ∷ pairs) hl hr ((s, el, er), e) =
       (x, y) ∷ es,
       record {
         typed = (([], s, tx), ([], s, ty), h.typed);
-        to = λ g (d, a). (inner (substitute g x) (substitute g y) (sym (column_of g left p.0 x ex) ∙ d ∙ column_of g right p.1 y ey), h.to g a);
+        to = λ g (d, a). (same_Some (substitute g x) (substitute g y) (sym (column_of g left p.0 x ex) ∙ d ∙ column_of g right p.1 y ey), h.to g a);
         back = λ g (d, u). (column_of g left p.0 x ex ∙ ap Some d ∙ sym (column_of g right p.1 y ey), h.back g u);
       },
     )
@@ -147,13 +144,9 @@ module _ (sig : Signature) (sound : IsSound sig) (left right : List Term) (pairs
         )
   ]
 
-append-none : {X : Type 0} (xs : List X) → xs ++ [] ≡ xs
-append-none [] = refl
-append-none (x ∷ xs) = ap (λ ys. x ∷ ys) (append-none xs)
-
 module _ (sig : Signature) (sound : IsSound sig) (pairs : List Columns) (keep : List ℕ) where
   joins_from : (done : List Two) (made : List (List Term)) (twos : List Two) → AreJoined sig pairs keep done made → ((p : Two) → IsIn p twos → AreJoinable sig p.0 p.1 pairs) → (all : List (List Term)) × AreJoined sig pairs keep (done ++ twos) all
-  joins_from done made [] a h = (made, subst (λ z. AreJoined sig pairs keep z made) (sym (append-none done)) a)
+  joins_from done made [] a h = (made, subst (λ z. AreJoined sig pairs keep z made) (sym (append-nil done)) a)
   joins_from done made (p ∷ twos) a h =
       let (more, m) = one_more sig sound p.0 p.1 pairs (h p first) keep made in
       let found = joins_from (done ++ p ∷ []) more twos (joined_one sig pairs keep done made p.0 p.1 more a m) (λ q i. h q (later i)) in

@@ -1,20 +1,20 @@
 -- Steps of splitting and ordering rows, and what the most general ones are then.
-use Rattle.std.proofs.Common.{◌≡◌, ◌≤◌, inl, inr, true, false, Option, Some, None, List, [], ◌∷◌, ◌++◌, length, refl, sym, ◌∙◌, subst, arith}
-use Rattle.std.specs.Prelude.{IfSome}
+use Rattle.std.proofs.Common.{◌≡◌, ◌≤◌, inl, inr, true, false, List, [], ◌∷◌, ◌++◌, length, refl, sym, ◌∙◌, subst, arith}
 use Rattle.std.specs.List.Sorted.{IsPermutation}
 use Rattle.std.proofs.lemmas.List.Sorted.{IsPermutation-sym, Contains-permutation}
+use Rattle.psg_terms.proofs.Lists.{in_left}
 use Rattle.psg_terms.specs.Terms.{Term}
 use Rattle.psg_terms.specs.Relations.{IsIn, first, later}
 use Rattle.psg_terms.specs.Signature.{Signature}
 use Rattle.psg_terms.specs.Text.{IsInTextOrder}
 use Rattle.psg_relation.specs.Heavy.{IsHeavy}
 use Rattle.psg_relation.specs.Sifted.{AreCovered, IsSifted, IsSplit, IsHalved, HasSameRows, IsLightly, LosesHeavy, StartsHeavy}
-use Rattle.psg_relation.proofs.Members.{in-left, in-last, in-split, in-contains, contains-in}
+use Rattle.psg_relation.proofs.Members.{in-last, in-split, in-contains, contains-in}
 use Rattle.psg_relation.proofs.Growing.{instance-refl, sifted_none}
 
 push-in : (x row : List Term) (done more : List (List Term)) → (IsIn x done → IsIn x more) → IsIn x (done ++ row ∷ []) → IsIn x (more ++ row ∷ [])
 push-in x row done more h i = elim (in-split x row done i) [
-  | inl a ↦ in-left x more (row ∷ []) (h a)
+  | inl a ↦ in_left x more (row ∷ []) (h a)
   | inr e ↦ subst (λ z. IsIn z (more ++ row ∷ [])) (sym e) (in-last row more)
 ]
 
@@ -24,25 +24,25 @@ split_none = record { lights = λ row h. elim h [ ]; heavies = λ row h. elim h 
 split_light : (done light heavy : List (List Term)) (row : List Term) → IsSplit done light heavy → (IsHeavy row → ⊥) → IsSplit (done ++ row ∷ []) (light ++ row ∷ []) heavy
 split_light done light heavy row s small = record {
   lights = λ x h. elim (in-split x row light h) [
-    | inl a ↦ (in-left x done (row ∷ []) (s.lights x a).0, (s.lights x a).1)
+    | inl a ↦ (in_left x done (row ∷ []) (s.lights x a).0, (s.lights x a).1)
     | inr e ↦ (subst (λ z. IsIn z (done ++ row ∷ [])) (sym e) (in-last row done), λ w. small (subst IsHeavy e w))
   ];
-  heavies = λ x h. (in-left x done (row ∷ []) (s.heavies x h).0, (s.heavies x h).1);
+  heavies = λ x h. (in_left x done (row ∷ []) (s.heavies x h).0, (s.heavies x h).1);
   all = λ x h. elim (in-split x row done h) [
-    | inl a ↦ elim (s.all x a) [ inl b ↦ inl (in-left x light (row ∷ []) b) | inr b ↦ inr b ]
+    | inl a ↦ elim (s.all x a) [ inl b ↦ inl (in_left x light (row ∷ []) b) | inr b ↦ inr b ]
     | inr e ↦ inl (subst (λ z. IsIn z (light ++ row ∷ [])) (sym e) (in-last row light))
   ];
 }
 
 split_heavy : (done light heavy : List (List Term)) (row : List Term) → IsSplit done light heavy → IsHeavy row → IsSplit (done ++ row ∷ []) light (heavy ++ row ∷ [])
 split_heavy done light heavy row s large = record {
-  lights = λ x h. (in-left x done (row ∷ []) (s.lights x h).0, (s.lights x h).1);
+  lights = λ x h. (in_left x done (row ∷ []) (s.lights x h).0, (s.lights x h).1);
   heavies = λ x h. elim (in-split x row heavy h) [
-    | inl a ↦ (in-left x done (row ∷ []) (s.heavies x a).0, (s.heavies x a).1)
+    | inl a ↦ (in_left x done (row ∷ []) (s.heavies x a).0, (s.heavies x a).1)
     | inr e ↦ (subst (λ z. IsIn z (done ++ row ∷ [])) (sym e) (in-last row done), subst IsHeavy (sym e) large)
   ];
   all = λ x h. elim (in-split x row done h) [
-    | inl a ↦ elim (s.all x a) [ inl b ↦ inl b | inr b ↦ inr (in-left x heavy (row ∷ []) b) ]
+    | inl a ↦ elim (s.all x a) [ inl b ↦ inl b | inr b ↦ inr (in_left x heavy (row ∷ []) b) ]
     | inr e ↦ inr (subst (λ z. IsIn z (heavy ++ row ∷ [])) (sym e) (in-last row heavy))
   ];
 }
@@ -61,7 +61,7 @@ same_push done once row s = record { there = λ x. push-in x row done once (s.th
 pub same_repeat : (done once : List (List Term)) (row : List Term) → HasSameRows done once → IsIn row done → HasSameRows (done ++ row ∷ []) once
 same_repeat done once row s h = record {
   there = λ x i. elim (in-split x row done i) [ inl a ↦ s.there x a | inr e ↦ subst (λ z. IsIn z once) (sym e) (s.there row h) ];
-  back = λ x i. in-left x done (row ∷ []) (s.back x i);
+  back = λ x i. in_left x done (row ∷ []) (s.back x i);
 }
 
 same_permuted : (rows sorted : List (List Term)) → IsPermutation rows sorted → HasSameRows rows sorted
@@ -143,10 +143,6 @@ alone_heavy (row ∷ []) l w = record {
   uncovered = λ (k, h, i). elim h [ ];
 }
 alone_heavy (row ∷ other ∷ rows) l w = absurd (omega arith)
-
-pub some_map : {X : Type 0} (o : Option X) (A B : X → Type 0) → ((x : X) → A x → B x) → IfSome o A → IfSome o B
-some_map None A B f h = h
-some_map (Some x) A B f h = f x h
 
 pub alone_ordered : (sig : Signature) (rows : List (List Term)) → length rows ≤ 1 → IsInTextOrder sig rows
 alone_ordered sig [] l = tt

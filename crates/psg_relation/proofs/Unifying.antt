@@ -1,13 +1,15 @@
 -- Equations of terms have a most general solution, or none.
 use Rattle.std.proofs.Common.{◌≡◌, ◌≢◌, ℕ, ◌+◌, ◌<◌, ◌≤◌, ◌⊎◌, ◌||◌, inl, inr, Bool, true, false, cond, List, [], ◌∷◌, ◌++◌, length, zero, suc, refl, ap, ap₂, sym, ◌∙◌, subst, arith}
+use Rattle.std.proofs.lemmas.Bool.{cases_Bool, or_cases, or_parts, cases_eq}
+use Rattle.psg_terms.proofs.OneRelation.{takes_once}
 use Rattle.psg_terms.specs.Terms.{Term, variable, symbol, apply}
 use Rattle.psg_terms.specs.Sizes.{size}
-use Rattle.psg_terms.specs.Signature.{Signature, Symbol, Takes, HasSort}
+use Rattle.psg_terms.specs.Signature.{Signature, Takes, HasSort}
 use Rattle.psg_terms.specs.Instances.{Substitution, substitute, IsSorted}
 use Rattle.psg_terms.specs.Canonical.{Variable, same_variable, is_noted, variables}
 use Rattle.psg_terms.proofs.Covers.{among-left, among-right}
 use Rattle.psg_terms.proofs.InstanceLaws.{after, substitute-after, substitute-same, Takes-substitute}
-use Rattle.psg_terms.proofs.Variables.{cases, number_cases, same_variable-refl, same_variable-true, same_variable-sym, true_false}
+use Rattle.psg_terms.proofs.Variables.{same_variable-refl, same_variable-true, same_variable-sym, true_false}
 use Rattle.psg_relation.proofs.Existing.{term_cases}
 
 abbrev pub Equation : Type 0
@@ -85,10 +87,10 @@ without x (y ∷ ys) = cond (same_variable x y) (without x ys) (y ∷ without x 
 
 noted_without : (x v : Variable) (xs : List Variable) → same_variable x v ≡ false → is_noted v xs ≡ true → is_noted v (without x xs) ≡ true
 noted_without x v [] ne h = h
-noted_without x v (y ∷ ys) ne h = elim (cases (same_variable x y)) [
+noted_without x v (y ∷ ys) ne h = elim (cases_Bool (same_variable x y)) [
   | inl e ↦ (let d : same_variable v y ≡ false = subst (λ z. same_variable v z ≡ false) (same_variable-true x y e) (same_variable-sym x v ne) in
       subst (λ b. is_noted v (cond b (without x ys) (y ∷ without x ys)) ≡ true) (sym e) (noted_without x v ys ne (ap (λ b. b || is_noted v ys) (sym d) ∙ h)))
-  | inr e ↦ subst (λ b. is_noted v (cond b (without x ys) (y ∷ without x ys)) ≡ true) (sym e) (elim (cases (same_variable v y)) [
+  | inr e ↦ subst (λ b. is_noted v (cond b (without x ys) (y ∷ without x ys)) ≡ true) (sym e) (elim (cases_Bool (same_variable v y)) [
     | inl d ↦ ap (λ b. b || is_noted v (without x ys)) d
     | inr d ↦ ap (λ b. b || is_noted v (without x ys)) d ∙ noted_without x v ys ne (ap (λ b. b || is_noted v ys) (sym d) ∙ h)
   ])
@@ -100,7 +102,7 @@ at_most x (y ∷ ys) = let k = at_most x ys in elim (same_variable x y) as (λ b
 
 shorter : (x : Variable) (xs : List Variable) → is_noted x xs ≡ true → length (without x xs) < length xs
 shorter x [] h = absurd (true_false (sym h))
-shorter x (y ∷ ys) h = elim (cases (same_variable x y)) [
+shorter x (y ∷ ys) h = elim (cases_Bool (same_variable x y)) [
   | inl e ↦ (let k = at_most x ys in subst (λ b. length (cond b (without x ys) (y ∷ without x ys)) < length (y ∷ ys)) (sym e) (omega arith))
   | inr e ↦ (let k = shorter x ys (ap (λ b. b || is_noted x ys) (sym e) ∙ h) in subst (λ b. length (cond b (without x ys) (y ∷ without x ys)) < length (y ∷ ys)) (sym e) (omega arith))
 ]
@@ -111,18 +113,6 @@ occurs : Variable → Term → Bool
 occurs x (variable s n) = same_variable x (s, n)
 occurs x (symbol c) = false
 occurs x (apply f a) = occurs x f || occurs x a
-
-or_left : (a b : Bool) → (a || b) ≡ false → a ≡ false
-or_left true b h = h
-or_left false b h = refl
-
-or_right : (a b : Bool) → (a || b) ≡ false → b ≡ false
-or_right true b h = absurd (true_false h)
-or_right false b h = h
-
-or_cases : (a b : Bool) → (a || b) ≡ true → (a ≡ true) ⊎ (b ≡ true)
-or_cases true b h = inl refl
-or_cases false b h = inr h
 
 -- one variable gets a term of its own
 abbrev single : Variable → Term → Substitution
@@ -135,7 +125,7 @@ single-absent : (x : Variable) (t u : Term) → occurs x u ≡ false → substit
 unfolding occurs
 single-absent x t (variable p q) h = ap (λ b. cond b t (variable p q)) h
 single-absent x t (symbol c) h = refl
-single-absent x t (apply f a) h = ap₂ apply (single-absent x t f (or_left (occurs x f) (occurs x a) h)) (single-absent x t a (or_right (occurs x f) (occurs x a) h))
+single-absent x t (apply f a) h = ap₂ apply (single-absent x t f ((or_parts (occurs x f) (occurs x a) h).0)) (single-absent x t a ((or_parts (occurs x f) (occurs x a) h).1))
 
 -- a variable inside a term has a smaller value
 inside : (g : Substitution) (x : Variable) (u : Term) → occurs x u ≡ true → (u ≡ variable x.0 x.1) ⊎ (size (g x.0 x.1) < size (substitute g u))
@@ -151,10 +141,10 @@ absent_within : (x : Variable) (xs : List Variable) (t : Term) → occurs x t �
 unfolding occurs
 absent_within x xs (variable s n) h w = noted_without x (s, n) xs h w
 absent_within x xs (symbol c) h w = tt
-absent_within x xs (apply f a) h (v, w) = (absent_within x xs f (or_left (occurs x f) (occurs x a) h) v, absent_within x xs a (or_right (occurs x f) (occurs x a) h) w)
+absent_within x xs (apply f a) h (v, w) = (absent_within x xs f ((or_parts (occurs x f) (occurs x a) h).0) v, absent_within x xs a ((or_parts (occurs x f) (occurs x a) h).1) w)
 
 bound_within : (x : Variable) (xs : List Variable) (t u : Term) → IsWithin (without x xs) t → IsWithin xs u → IsWithin (without x xs) (substitute (single x t) u)
-bound_within x xs t (variable s n) h w = elim (cases (same_variable x (s, n))) [
+bound_within x xs t (variable s n) h w = elim (cases_Bool (same_variable x (s, n))) [
   | inl e ↦ subst (λ b. IsWithin (without x xs) (cond b t (variable s n))) (sym e) h
   | inr e ↦ subst (λ b. IsWithin (without x xs) (cond b t (variable s n))) (sym e) (noted_without x (s, n) xs e w)
 ]
@@ -191,16 +181,6 @@ pub unifies_more : (g f : Substitution) (es : List Equation) → Unifies f es �
 unifies_more g f [] h = tt
 unifies_more g f (e ∷ es) (d, h) = (substitute-after g f e.0 ∙ ap (substitute g) d ∙ sym (substitute-after g f e.1), unifies_more g f es h)
 
-tail_of : List ℕ → List ℕ
-tail_of [] = []
-tail_of (x ∷ xs) = xs
-
-pub one_type : (sig : Signature) (t : Term) (v w : List ℕ) (r s : ℕ) → Takes sig t v r → Takes sig t w s → (v ≡ w) × (r ≡ s)
-unfolding tail_of
-one_type sig (variable p n) v w r s (_, e, d) (_, e', d') = (e ∙ sym e', sym d ∙ d')
-one_type sig (symbol c) v w r s (a, p, q, x) (b, p', q', x') = let e : a ≡ b = cc in (sym q ∙ ap (λ (y : Symbol). y.arguments) e ∙ q', sym x ∙ ap (λ (y : Symbol). y.sort) e ∙ x')
-one_type sig (apply f a) v w r s (x, p, _) (y, p', _) = let both = one_type sig f (x ∷ v) (y ∷ w) r s p p' in (ap tail_of both.0, both.1)
-
 -- ---- the solution
 
 module _ (sig : Signature) where
@@ -209,14 +189,14 @@ module _ (sig : Signature) where
   result_from es fs to back (inr no_one) = inr (λ g s h. no_one g s (to g h))
 
   single-sorted : (s n : ℕ) (t : Term) → HasSort sig t s → IsSorted sig (single (s, n) t)
-  single-sorted s n t h p q l = elim (cases (same_variable (s, n) (p, q))) [
+  single-sorted s n t h p q l = elim (cases_Bool (same_variable (s, n) (p, q))) [
     | inl e ↦ subst (λ b. HasSort sig (cond b t (variable p q)) p) (sym e) (subst (λ (y : Variable). HasSort sig t y.0) (same_variable-true (s, n) (p, q) e) h)
     | inr e ↦ subst (λ b. HasSort sig (cond b t (variable p q)) p) (sym e) (l, refl, refl)
   ]
 
   -- a solution does not change by what it makes equal
   absorbs : (g : Substitution) (s n : ℕ) (t : Term) → g s n ≡ substitute g t → (p q : ℕ) → g p q ≡ substitute g (single (s, n) t p q)
-  absorbs g s n t e p q = elim (cases (same_variable (s, n) (p, q))) [
+  absorbs g s n t e p q = elim (cases_Bool (same_variable (s, n) (p, q))) [
     | inl d ↦ subst (λ b. g p q ≡ substitute g (cond b t (variable p q))) (sym d) (subst (λ (y : Variable). g y.0 y.1 ≡ substitute g t) (same_variable-true (s, n) (p, q) d) e)
     | inr d ↦ subst (λ b. g p q ≡ substitute g (cond b t (variable p q))) (sym d) refl
   ]
@@ -245,14 +225,14 @@ module _ (sig : Signature) where
 
   unsorted : (s n : ℕ) (b : Term) (es : List Equation) (w : List ℕ) (r : ℕ) → s < length sig.sorts → Takes sig b w r → (w ≡ [] → s ≡ r → ⊥) → Unsolved sig ((variable s n, b) ∷ es)
   unsorted s n b es w r l k ne g sorted (e, u) =
-      let both = one_type sig (g s n) [] w s r (sorted s n l) (subst (λ z. Takes sig z w r) (sym e) (Takes-substitute sig g sorted b w r k)) in
+      let both = takes_once sig (g s n) [] w s r (sorted s n l) (subst (λ z. Takes sig z w r) (sym e) (Takes-substitute sig g sorted b w r k)) in
       ne (sym both.0) both.1
 
   circle : (s n : ℕ) (b : Term) (es : List Equation) → b ≢ variable s n → occurs (s, n) b ≡ true → Unsolved sig ((variable s n, b) ∷ es)
   circle s n b es ne o g sorted (e, u) = elim (inside g (s, n) b o) [ inl d ↦ ne d | inr l ↦ (let k = ap size e in absurd (omega arith)) ]
 
   type_cases : (w : List ℕ) (r s : ℕ) → ((w ≡ []) × (s ≡ r)) ⊎ (w ≡ [] → s ≡ r → ⊥)
-  type_cases [] r s = elim (number_cases s r) [ inl e ↦ inl (refl, e) | inr ne ↦ inr (λ d e. ne e) ]
+  type_cases [] r s = elim (cases_eq s r) [ inl e ↦ inl (refl, e) | inr ne ↦ inr (λ d e. ne e) ]
   type_cases (x ∷ w) r s = inr (λ d e. cc)
 
   -- a variable and another term that has no place for it
@@ -268,7 +248,7 @@ module _ (sig : Signature) where
   variable_step : (xs : List Variable) (s n : ℕ) (b : Term) (es : List Equation) → Below (length xs) → Result sig es → IsWithin xs (variable s n) → IsWithin xs b → AreWithin xs es → s < length sig.sorts → IsTyped sig b → AreTyped sig es → Result sig ((variable s n, b) ∷ es)
   variable_step xs s n b es ih rest here there all l k typed = elim (term_cases b (variable s n)) [
     | inl e ↦ result_from ((variable s n, b) ∷ es) es (λ g h. h.1) (λ g h. (ap (substitute g) (sym e), h)) rest
-    | inr ne ↦ elim (cases (occurs (s, n) b)) [
+    | inr ne ↦ elim (cases_Bool (occurs (s, n) b)) [
       | inl o ↦ inr (circle s n b es ne o)
       | inr o ↦ variable_bound xs s n b es ih here there all l k typed o
     ]
@@ -293,7 +273,7 @@ module _ (sig : Signature) where
       let p = size_pos b in variable_step xs s n b es ih (next es (omega arith) w typed) wa wb w k.0 tb typed
   step m xs ih next (symbol c) (variable s n) es l wa wb w ta (v, r, k) typed =
       turned (symbol c) (variable s n) es (variable_step xs s n (symbol c) es ih (next es (omega arith) w typed) wb wa w k.0 ta typed)
-  step m xs ih next (symbol c) (symbol d) es l wa wb w ta tb typed = elim (number_cases c d) [
+  step m xs ih next (symbol c) (symbol d) es l wa wb w ta tb typed = elim (cases_eq c d) [
     | inl e ↦ result_from ((symbol c, symbol d) ∷ es) es (λ g h. h.1) (λ g h. (ap symbol e, h)) (next es (omega arith) w typed)
     | inr ne ↦ inr (λ g s (e, h). ne (cc))
   ]

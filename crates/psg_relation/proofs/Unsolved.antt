@@ -1,6 +1,7 @@
 -- Kept columns of two rows that need not be solved.
 use Rattle.std.proofs.Common.{◌≡◌, ℕ, ◌<◌, ◌+◌, ◌↔◌, ◌⊎◌, inl, inr, true, false, cond, List, [], ◌∷◌, ◌++◌, All, map, length, get_or, suc, refl, ap, ap₂, sym, ◌∙◌, subst, Some, slice_get, arith}
 use Rattle.std.proofs.lemmas.List.{map-append, length-map}
+use Rattle.std.proofs.lemmas.Bool.{cases_Bool}
 use Rattle.psg_terms.specs.Terms.{Term, variable}
 use Rattle.psg_terms.specs.Signature.{Signature, HasSort, HaveSorts}
 use Rattle.psg_terms.specs.Sound.{IsSound}
@@ -10,7 +11,7 @@ use Rattle.psg_terms.proofs.InstanceLaws.{Takes-substitute, ground-substitute}
 use Rattle.psg_terms.proofs.Recognising.{substitute-closed, variables-closed, written-closed}
 use Rattle.psg_terms.proofs.Separate.{grounding}
 use Rattle.psg_terms.proofs.SoundChoices.{choices}
-use Rattle.psg_terms.proofs.Variables.{cases, same_variable-true, same_variable-refl}
+use Rattle.psg_terms.proofs.Variables.{same_variable-true, same_variable-refl}
 use Rattle.psg_unify.specs.Pairs.{Pair, AgreeOn, AreOfEqualSort, AreJoinable, IsAgreeing}
 use Rattle.psg_unify.specs.Columns.{picked, Joins}
 use Rattle.psg_unify.proofs.Theorem.{Setting, left_same, right_same, solution, sorts-append}
@@ -127,11 +128,11 @@ module _ (sig : Signature) (sound : IsSound sig) (pairs : List Pair) (keep : Lis
 
     value_grounding : IsGrounding sig by_value
     value_grounding = record {
-      variable_free = λ p q l. elim (cases (same_variable (v, n) (p, q))) [
+      variable_free = λ p q l. elim (cases_Bool (same_variable (v, n) (p, q))) [
         | inl e ↦ subst (λ b. IsGround (cond b value ((choices sig sound).some p))) (sym e) value_ground
         | inr e ↦ subst (λ b. IsGround (cond b value ((choices sig sound).some p))) (sym e) ((grounding sig (choices sig sound)).variable_free p q l)
       ];
-      sorted = λ p q l. elim (cases (same_variable (v, n) (p, q))) [
+      sorted = λ p q l. elim (cases_Bool (same_variable (v, n) (p, q))) [
         | inl e ↦ subst (λ b. HasSort sig (cond b value ((choices sig sound).some p)) p) (sym e) (subst (λ (x : Variable). HasSort sig value x.0) (same_variable-true (v, n) (p, q) e) value_sort)
         | inr e ↦ subst (λ b. HasSort sig (cond b value ((choices sig sound).some p)) p) (sym e) ((grounding sig (choices sig sound)).sorted p q l)
       ];

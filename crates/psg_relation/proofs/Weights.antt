@@ -2,19 +2,19 @@
 use Rattle.std.proofs.Common.{◌≡◌, ℕ, ◌+◌, ◌<◌, ◌≤◌, ◌⊎◌, inl, inr, min, max, List, [], ◌∷◌, ◌++◌, take, get_or, length, refl, ap, ◌∙◌, subst, suc, arith}
 use Rattle.std.specs.Prelude.{sum_by, Any}
 use Rattle.std.proofs.lemmas.Bool.{cases_lt}
-use Rattle.std.proofs.lemmas.List.Sums.{sum_by-cons, sum_by-append, sum_by_push}
+use Rattle.std.proofs.lemmas.List.Sums.{sum_by-cons, sum_by_push}
 use Rattle.std.proofs.lemmas.List.Recursion.{max_push}
+use Rattle.psg_terms.proofs.Lists.{take_item, sum_by-around}
 use Rattle.psg_terms.specs.Terms.{Term}
 use Rattle.psg_terms.specs.Weight.{symbols_of, depth_of, weight_of, PassesLimit}
 use Rattle.psg_terms.specs.Relations.{IsIn, first, later, IsOnce}
-use Rattle.psg_terms.proofs.DeclareLaws.{take-next}
 use Rattle.psg_relation.specs.Heavy.{deepest_in, deepest_of, IsHeavy}
 use Rattle.psg_relation.proofs.Members.{in-contains, contains-in, around, beside}
 
 -- one element more in a sum that stops at m
 pub sum_step : {X : Type 0} (f : X → ℕ) (m now own after : ℕ) (xs : List X) (i : ℕ) (x : X) → now ≡ min (sum_by f (take i xs)) m → own ≡ min (f x) m → after ≡ min (now + own) m → i < length xs → x ≡ get_or xs i x → after ≡ min (sum_by f (take (i + 1) xs)) m
 sum_step f m now own after xs i x h o a lt at =
-    let e = ap (sum_by f) (take-next xs i x lt at) ∙ sum_by_push f (take i xs) x in
+    let e = ap (sum_by f) (take_item xs i x lt at) ∙ sum_by_push f (take i xs) x in
     grown (sum_by f (take i xs)) (f x) (sum_by f (take (i + 1) xs)) e h o a
   where
     grown : (p q r : ℕ) → r ≡ p + q → now ≡ min p m → own ≡ min q m → after ≡ min (now + own) m → after ≡ min r m
@@ -24,7 +24,7 @@ sum_step f m now own after xs i x h o a lt at =
 pub max_step : {X : Type 0} (F : List X → ℕ) (f : X → ℕ) → F [] ≡ 0 → ((x : X) (xs : List X) → F (x ∷ xs) ≡ max (f x) (F xs))
     → (m now own after : ℕ) (xs : List X) (i : ℕ) (x : X) → now ≡ min (F (take i xs)) m → own ≡ min (f x) m → after ≡ max now own → i < length xs → x ≡ get_or xs i x → after ≡ min (F (take (i + 1) xs)) m
 max_step F f none step m now own after xs i x h o a lt at =
-    let e = ap F (take-next xs i x lt at) ∙ max_push F f none step (take i xs) x in
+    let e = ap F (take_item xs i x lt at) ∙ max_push F f none step (take i xs) x in
     grown (F (take i xs)) (f x) (F (take (i + 1) xs)) e h o a
   where
     grown : (p q r : ℕ) → r ≡ max p q → now ≡ min p m → own ≡ min q m → after ≡ max now own → after ≡ min r m
@@ -77,13 +77,6 @@ any-deepest n rows h =
     let k = deeper-rows rows row there in
     omega arith
 
-sum-around : {X : Type 0} (f : X → ℕ) (x : X) (front back : List X) → sum_by f (front ++ x ∷ back) ≡ f x + sum_by f (front ++ back)
-sum-around f x front back =
-    let a = sum_by-append f front (x ∷ back) in
-    let b = sum_by-cons f x back in
-    let c = sum_by-append f front back in
-    omega arith
-
 -- distinct members weigh no more than all
 pub sum-some : {X : Type 0} (f : X → ℕ) (xs ys : List X) → IsOnce xs → ((x : X) → IsIn x xs → IsIn x ys) → sum_by f xs ≤ sum_by f ys
 sum-some f [] ys o h = omega arith
@@ -91,14 +84,14 @@ sum-some f (x ∷ xs) ys (a, o) h =
     let (front, back, e) = around x ys (h x first) in
     let ih = sum-some f xs (front ++ back) o (λ y i. elim (beside y x front back (subst (IsIn y) e (h y (later i)))) [ inl b ↦ b | inr d ↦ absurd (a (subst (λ z. IsIn z xs) d i)) ]) in
     let p = sum_by-cons f x xs in
-    let q = ap (sum_by f) e ∙ sum-around f x front back in
+    let q = ap (sum_by f) e ∙ sum_by-around f x front back in
     omega arith
 
 -- a list with a heavy row passes the limit
 pub heavy_passes : (row : List Term) (rows : List (List Term)) → IsIn row rows → IsHeavy row → PassesLimit rows
 heavy_passes row rows h (inl w) =
     let (front, back, e) = around row rows h in
-    let q = ap (sum_by (sum_by symbols_of)) e ∙ sum-around (sum_by symbols_of) row front back in
+    let q = ap (sum_by (sum_by symbols_of)) e ∙ sum_by-around (sum_by symbols_of) row front back in
     inl (omega arith)
 heavy_passes row rows h (inr d) = inr (member-any (Any (λ t. 1000 < depth_of t)) rows row h (deep-any 1000 row d))
 

@@ -22,6 +22,10 @@ pub record IsSifted (rows kept : List (List Term)) : Type 0 where
   pub apart : (k other : List Term) → IsIn k kept → IsIn other kept → IsInstance k other → k ≡ other
   pub once : IsOnce kept
 
+-- no member is an instance of the row
+abbrev pub HoldsNone : List Term → List (List Term) → Type 0
+HoldsNone row kept = (k : List Term) → IsIn k kept → IsInstance k row → ⊥
+
 -- the list without the instances of a row
 pub record LeavesOut (row : List Term) (kept rest : List (List Term)) : Type 0 where
   pub among : (k : List Term) → IsIn k rest → IsIn k kept

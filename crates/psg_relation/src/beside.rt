@@ -1,5 +1,5 @@
 //! Kept columns of two rows that need not be solved.
-ghost use Rattle.std.specs.Prelude.{◌≡◌, ◌<◌, ◌++◌, ◌⊎◌, All, IfOk, IsTrue, List, Some};
+ghost use Rattle.std.specs.Prelude.{◌≡◌, ◌<◌, ◌+◌, ◌++◌, ◌⊎◌, All, IfOk, IsTrue, List, Some};
 ghost use Rattle.std.specs.Prelude.{length, slice_get, true, false, ℕ};
 ghost use Rattle.psg_terms.specs.Canonical.{IsCanonical};
 ghost use Rattle.psg_terms.specs.Instances.{HasSameInstances};
@@ -16,22 +16,18 @@ use psg_terms::canonical::{canonical, renumbered};
 use psg_terms::{Node, Signature, Term};
 use std::alloc::{AllocError, Global};
 
-/// Returns the column of this number, of the left columns and the right ones after them. It fails where there is no
-/// such column.
-pub fn column_at(left: &[Term], right: &[Term], place: usize) -> Result<Term, AllocError>
+/// Returns the column of this number, of the left columns and the right ones after them.
+fn column_at(left: &[Term], right: &[Term], place: usize) -> Result<Term, AllocError>
+    requires { place < length left.now + length right.now }
     ensures { IfOk result (λ t. slice_get (left.now ++ right.now) place ≡ Some t) }
 {
     if place < left.len() {
         let term = left[place].share()?;
         return Ok(term);
     }
-    match right.get(place - left.len()) {
-        Some(other) => {
-            let term = other.share()?;
-            Ok(term)
-        }
-        None => Err(AllocError),
-    }
+    let rest = place - left.len();
+    let other = right[rest].share()?;
+    Ok(other)
 }
 
 /// Returns the terms in the columns of these numbers, of the left columns and the right ones after them.
@@ -41,6 +37,7 @@ fn columns_of(
     right: &[Term],
     keep: &[usize],
 ) -> Result<Vec<Term>, AllocError>
+    requires { All (λ k. k < length left.now + length right.now) keep.now }
     ensures { IfOk result (λ v. v.items ≡ picked (left.now ++ right.now) keep.now) }
 {
     let mut terms = Vec::with_capacity(alloc, keep.len())?;
@@ -116,6 +113,7 @@ fn apart(
 ) -> Result<RelRow, AllocError>
     requires joinable { AreJoinable sig.now left.now right.now pairs.now }
     requires settled { AreSettled left.now right.now pairs.now true }
+    requires keep { All (λ k. k < length left.now + length right.now) keep.now }
     ensures { IfOk result (λ row. IsJoinOf sig.now pairs.now keep.now left.now right.now row) }
 {
     sig.sound();
@@ -140,6 +138,7 @@ pub fn beside(
 ) -> Result<RelRow, AllocError>
     requires joinable { AreJoinable sig.now left.now right.now pairs.now }
     requires settled { AreSettled left.now right.now pairs.now true }
+    requires keep { All (λ k. k < length left.now + length right.now) keep.now }
     ensures { IfOk result (λ row. IsJoinOf sig.now pairs.now keep.now left.now right.now row) }
 {
     if are_both_open(left, right) {
@@ -195,6 +194,7 @@ pub fn any_value(
 ) -> Result<RelRow, AllocError>
     requires joinable { AreJoinable sig.now left.now right.now pairs.now }
     requires any { IsAnyValue right.now pairs.now keep.now (length left.now) }
+    requires keep { All (λ k. k < length left.now + length right.now) keep.now }
     ensures { IfOk result (λ row. IsJoinOf sig.now pairs.now keep.now left.now right.now row) }
 {
     sig.sound();

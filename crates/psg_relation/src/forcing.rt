@@ -73,12 +73,12 @@ fn force_variable(
 fn force(
     sig: &Signature,
     forced: &mut Vec<Forced>,
-    open: &Term,
+    general: &Term,
     closed: &Term,
 ) -> Result<(), AllocError>
-    ensures { OnOk result (Forces sig.now forced.old.items forced.new.items (open.now ∷ []) (closed.now ∷ [])) }
+    ensures { OnOk result (Forces sig.now forced.old.items forced.new.items (general.now ∷ []) (closed.now ∷ [])) }
 {
-    match open.node() {
+    match general.node() {
         Node::Var { sort, number } => {
             force_variable(sig, forced, *sort, *number, closed)?;
             Ok(())
@@ -145,25 +145,25 @@ pub fn forced_pairs(
 }
 
 /// Says whether the first term has variables and the second one none.
-fn is_open_alone(open: &Term, closed: &Term) -> bool
+fn is_open_alone(general: &Term, closed: &Term) -> bool
     ensures { IsTrue result → above_of closed.now ≡ 0 }
 {
-    open.above() > 0 && closed.above() == 0
+    general.above() > 0 && closed.above() == 0
 }
 
 /// Notes which variables of a term have to be which terms so that it is the other term, where that has no variables.
 fn force_closed(
     sig: &Signature,
     forced: &mut Vec<Forced>,
-    open: &Term,
+    general: &Term,
     closed: &Term,
 ) -> Result<(), AllocError>
     ensures fit { OnOk result (All (IsFit sig.now) forced.old.items → All (IsFit sig.now) forced.new.items) }
     ensures forced { OnOk result ((f g : Substitution) → All (IsForced f) forced.old.items
-        → substitute f open.now ≡ substitute g closed.now → All (IsForced f) forced.new.items) }
+        → substitute f general.now ≡ substitute g closed.now → All (IsForced f) forced.new.items) }
 {
-    if is_open_alone(open, closed) {
-        force(sig, forced, open, closed)?;
+    if is_open_alone(general, closed) {
+        force(sig, forced, general, closed)?;
     }
     Ok(())
 }

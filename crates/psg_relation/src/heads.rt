@@ -1,5 +1,6 @@
 //! The rows of a list by the heads of one of their columns.
-ghost use Rattle.std.specs.Prelude.{◌≡◌, ◌==◌, ◌<◌, ◌∷◌, ◌++◌, [], cond, length, false, IfOk, IfSome, OnOk, ℕ};
+ghost use Rattle.std.specs.Prelude.{◌≡◌, ◌==◌, ◌<◌, ◌∷◌, ◌++◌, [], cond, length, false, IfOk, IfNone, IfSome};
+ghost use Rattle.std.specs.Prelude.{OnOk, ℕ};
 ghost use Rattle.psg_terms.specs.Terms.{Term as Plain};
 ghost use Rattle.psg_relation.specs.Heads.{head_of, HeadAt, places_at, IsNoted, IsIndexed};
 
@@ -43,7 +44,7 @@ impl Heads {
 }
 
 /// Returns the constructor at the head of a term, or `None` for a variable.
-pub fn head_of(term: &Term) -> Option<u32>
+fn head_of(term: &Term) -> Option<u32>
     ensures { result ≡ head_of term.now }
 {
     match term.node() {
@@ -54,12 +55,13 @@ pub fn head_of(term: &Term) -> Option<u32>
 
 /// Returns the constructor at the head of a column, or `None` where it has a variable or the row has no such column.
 pub fn head_at(row: &[Term], column: usize) -> Option<u32>
-    ensures { IfSome result (HeadAt row.now column) }
+    ensures some { IfSome result (HeadAt row.now column) }
+    ensures none { IfNone result ((c : ℕ) → HeadAt row.now column c → ⊥) }
 {
-    match row.get(column) {
-        Some(term) => head_of(term),
-        None => None,
+    if column < row.len() {
+        return head_of(&row[column]);
     }
+    None
 }
 
 /// Takes the places of a head out of the table.
@@ -121,4 +123,46 @@ pub fn heads_of(alloc: Global, rows: &[RelRow], column: usize) -> Result<Heads, 
         note_row(alloc, &mut heads, rows[i].terms(), column, i)?;
     }
     Ok(heads)
+}
+
+/// Counts the pairs of rows that are compared where rows are found by the heads of this column.
+fn meetings(alloc: Global, rows: &[RelRow], column: usize) -> Result<usize, AllocError> {
+    let mut counts: HashMap<u32, usize> = HashMap::new(alloc);
+    let mut all = 0usize;
+    for row in rows {
+        match head_at(row.terms(), column) {
+            Some(head) => {
+                let count = match counts.get(&head) {
+                    Some(found) => *found,
+                    None => 0,
+                };
+                all = all.saturating_add(count);
+                counts.insert(head, count.saturating_add(1))?;
+            }
+            None => all = all.saturating_add(rows.len()),
+        }
+    }
+    Ok(all)
+}
+
+/// Returns the column by whose heads the fewest pairs of rows are compared, and the first one of less than sixteen
+/// rows. It reads the head of each term.
+pub fn best_column(alloc: Global, rows: &[RelRow]) -> Result<usize, AllocError> {
+    let width = match rows.first() {
+        Some(row) => row.terms().len(),
+        None => 0,
+    };
+    if width < 2 || rows.len() < 16 {
+        return Ok(0);
+    }
+    let mut best = 0;
+    let mut least = usize::MAX;
+    for column in 0..width {
+        let count = meetings(alloc, rows, column)?;
+        if count < least {
+            best = column;
+            least = count;
+        }
+    }
+    Ok(best)
 }

@@ -34,6 +34,7 @@ fn settled_row(
 ) -> Result<Option<RelRow>, AllocError>
     requires joinable { AreJoinable sig.now left.now right.now pairs.now }
     requires settled { AreSettled left.now right.now pairs.now equal }
+    requires keep { All (λ k. k < length left.now + length right.now) keep.now }
     ensures { IfOk result (λ o. IsJoint sig.now pairs.now keep.now left.now right.now o) }
 {
     if equal {

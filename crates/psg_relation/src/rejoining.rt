@@ -111,7 +111,7 @@ fn is_join_held(
                 let large = is_large_held(alloc, sig, kept, left, right, pairs, keep)?;
                 return Ok(large);
             }
-            let held = is_held(alloc, kept, heads, row.terms())?;
+            let held = is_held(alloc, kept, heads, 0, row.terms())?;
             Ok(held)
         }
     }
@@ -228,83 +228,47 @@ fn are_meeting_held(
     }
 }
 
-/// Says whether each join of the left rows with the right ones is an instance of one of the rows that are kept.
-/// Each row is tried with each.
-fn are_plain_held(
+/// Says whether each join of one row with the others is an instance of one of the rows that are kept. Where there are
+/// pairs, it is tried with those that it can meet by the heads of the first pair's columns.
+fn are_row_held(
     alloc: Global,
     sig: &Signature,
+    pool: &mut JoinPool,
     kept: &[RelRow],
-    left: &[RelRow],
+    heads: &Heads,
+    one: &[Term],
     right: &[RelRow],
+    index: &Heads,
     pairs: &[(usize, usize)],
     keep: &[usize],
 ) -> Result<bool, AllocError>
     requires sound { IsSound sig.now }
-    requires compare { (p : Two) → IsIn p (all_pairs left.now right.now)
+    requires indexed { IsIndexed kept.now 0 (length kept.now) heads.now.free.items (places_at heads.now.places) }
+    requires others { (first : Columns) → slice_get pairs.now 0 ≡ Some first
+        → IsIndexed right.now first.1 (length right.now) index.now.free.items (places_at index.now.places) }
+    requires compare { (p : Two) → IsIn p (with_each one.now right.now)
         → MayCompare sig.now pairs.now keep.now kept.now p }
-    ensures { IfOk result (λ b. AreHeld b sig.now pairs.now keep.now kept.now (all_pairs left.now right.now)) }
+    ensures { IfOk result (λ b. AreHeld b sig.now pairs.now keep.now kept.now (with_each one.now right.now)) }
 {
-    let heads = heads_of(alloc, kept, 0)?;
-    let mut pool = JoinPool::new(alloc);
-    for one in left {
-        let held = are_held_of(
-            alloc,
-            sig,
-            &mut pool,
-            kept,
-            &heads,
-            one.terms(),
-            right,
-            pairs,
-            keep,
-        )?;
-        if !held {
-            return Ok(false);
-        }
+    if pairs.is_empty() {
+        let plain = are_held_of(alloc, sig, pool, kept, heads, one, right, pairs, keep)?;
+        return Ok(plain);
     }
-    Ok(true)
+    let first = pairs[0];
+    let held = are_meeting_held(
+        alloc, sig, pool, kept, heads, one, right, index, pairs, keep, first,
+    )?;
+    Ok(held)
 }
 
-/// Says whether each join of the left rows with the right ones is an instance of one of the rows that are kept. Each row
-/// is tried with those that it can meet by the heads of the first pair's columns.
-fn are_indexed_held(
-    alloc: Global,
-    sig: &Signature,
-    kept: &[RelRow],
-    left: &[RelRow],
-    right: &[RelRow],
-    pairs: &[(usize, usize)],
-    keep: &[usize],
-    first: (usize, usize),
-) -> Result<bool, AllocError>
-    requires sound { IsSound sig.now }
-    requires pair { slice_get pairs.now 0 ≡ Some first }
-    requires compare { (p : Two) → IsIn p (all_pairs left.now right.now)
-        → MayCompare sig.now pairs.now keep.now kept.now p }
-    ensures { IfOk result (λ b. AreHeld b sig.now pairs.now keep.now kept.now (all_pairs left.now right.now)) }
+/// Returns the right column of the first pair, or the first column where there are no pairs.
+fn first_right(pairs: &[(usize, usize)]) -> usize
+    ensures { (first : Columns) → slice_get pairs.now 0 ≡ Some first → result ≡ first.1 }
 {
-    let heads = heads_of(alloc, kept, 0)?;
-    let index = heads_of(alloc, right, first.1)?;
-    let mut pool = JoinPool::new(alloc);
-    for one in left {
-        let held = are_meeting_held(
-            alloc,
-            sig,
-            &mut pool,
-            kept,
-            &heads,
-            one.terms(),
-            right,
-            &index,
-            pairs,
-            keep,
-            first,
-        )?;
-        if !held {
-            return Ok(false);
-        }
+    if pairs.is_empty() {
+        return 0;
     }
-    Ok(true)
+    pairs[0].1
 }
 
 /// Says whether each join of the left rows with the right ones is an instance of one of the rows that are kept.
@@ -322,12 +286,28 @@ fn are_pairs_held(
         → MayCompare sig.now pairs.now keep.now kept.now p }
     ensures { IfOk result (λ b. AreHeld b sig.now pairs.now keep.now kept.now (all_pairs left.now right.now)) }
 {
-    if pairs.is_empty() {
-        let plain = are_plain_held(alloc, sig, kept, left, right, pairs, keep)?;
-        return Ok(plain);
+    let heads = heads_of(alloc, kept, 0)?;
+    let column = first_right(pairs);
+    let index = heads_of(alloc, right, column)?;
+    let mut pool = JoinPool::new(alloc);
+    for one in left {
+        let held = are_row_held(
+            alloc,
+            sig,
+            &mut pool,
+            kept,
+            &heads,
+            one.terms(),
+            right,
+            &index,
+            pairs,
+            keep,
+        )?;
+        if !held {
+            return Ok(false);
+        }
     }
-    let held = are_indexed_held(alloc, sig, kept, left, right, pairs, keep, pairs[0])?;
-    Ok(held)
+    Ok(true)
 }
 
 /// Says whether each join of a row with itself is an instance of one of the rows that are kept.

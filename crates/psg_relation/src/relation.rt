@@ -80,8 +80,8 @@ impl Rel {
     ///
     /// It writes each row out once, writes the text of each row that is not too large once to sort by it, and then
     /// compares each row with those of the most general ones so far that have its constructor, or a variable, at the
-    /// head of the first column; a row with variables is compared with all of them. A row that is alone needs no text
-    /// and no comparison.
+    /// head of one column: that one by whose heads the fewest rows meet. A row with a variable there is compared with
+    /// all of them. A row that is alone needs no text and no comparison.
     pub fn of(alloc: Global, sig: &Signature, rows: &[RelRow]) -> Result<Rel, RelFault>
         requires { (sorts : List ℕ) × AllHaveSorts sig.now rows.now sorts }
         ensures relation { IfOk result (λ rel. (sorts : List ℕ) → AllHaveSorts sig.now rows.now sorts

@@ -3,23 +3,10 @@ ghost use Rattle.std.specs.Prelude.{◌≡◌, ◌<◌, All, IfSome, IsTrue, Som
 ghost use Rattle.psg_terms.specs.Weight.{above_of};
 ghost use Rattle.psg_relation.specs.Settling.{IsSettled, AreSettled};
 
-use crate::heads::head_of;
 use crate::weighing::{MOST_DEPTH, MOST_SYMBOLS};
 use psg_terms::Term;
 use psg_terms::matching::same;
-
-/// Says whether the terms have different constructors at their heads.
-fn is_clash(a: &Term, b: &Term) -> bool
-    ensures { IsTrue result → IsSettled a.now b.now false }
-{
-    match head_of(a) {
-        Some(first) => match head_of(b) {
-            Some(second) => first != second,
-            None => false,
-        },
-        None => false,
-    }
-}
+use psg_unify::is_clash;
 
 /// Says whether the term has no variable and is no larger than a term of a relation.
 fn is_closed_term(term: &Term) -> bool

@@ -1,12 +1,11 @@
 -- How many bindings lead on from a cell.
 use Rattle.std.proofs.Common.{◌≡◌, inl, inr, ℕ, zero, suc, ◌<◌, ◌≤◌, ◌==◌, ◌||◌, Bool, true, false, Option, Some, None, List, length, refl, ap, sym, ◌∙◌, subst, arith}
-use Rattle.std.proofs.lemmas.Bool.{eq-eqb, eqb-true}
+use Rattle.std.proofs.lemmas.Bool.{eq-eqb, eqb-true, or_right, false_from_ne_true, cases_Bool}
 use Rattle.std.proofs.lemmas.Option.{slice_get_within}
 use Rattle.psg_pool.specs.declared.cells.CellId.{CellId}
 use Rattle.psg_pool.specs.declared.cells.Binding.{Binding}
 use Rattle.psg_pool.specs.Cells.{Put, free}
 use Rattle.psg_pool.specs.Bindings.{Kept, IsSound, target_of, Leads, arrived, followed, Ends, unbound, bound}
-use Rattle.psg_pool.proofs.Places.{either}
 use Rattle.psg_pool.proofs.Following.{ends_round}
 use Rattle.psg_unify.specs.Counting.{count_below}
 use Rattle.psg_unify.proofs.Counts.{count_most, count_less}
@@ -39,27 +38,19 @@ is_passed bs _ (bound id next t rest) k = (id.0 == k) || is_passed bs next rest 
 
 passed_leads : (bs : List Binding) (id : CellId) (e : Ends bs id) (k : ℕ) → is_passed bs id e k ≡ true → Leads bs id (record { 0 = k })
 passed_leads bs _ (unbound id n) k h = absurd (cc)
-passed_leads bs _ (bound id next t rest) k h = elim (either (id.0 == k)) [
+passed_leads bs _ (bound id next t rest) k h = elim (cases_Bool (id.0 == k)) [
   | inl same ↦ subst (λ (n : ℕ). Leads bs id (record { 0 = n })) (eqb-true id.0 k same) (arrived id)
   | inr f ↦ followed id next (record { 0 = k }) t (passed_leads bs next rest k (ap (λ (b : Bool). b || is_passed bs next rest k) (sym f) ∙ h))
 ]
-
-or_second : (a b : Bool) → b ≡ true → (a || b) ≡ true
-or_second true b h = refl
-or_second false b h = h
-
-not_true : (b : Bool) → (b ≡ true → ⊥) → b ≡ false
-not_true true h = absurd (h refl)
-not_true false h = refl
 
 -- no cell is passed twice
 chain_most : (cells : List Put) (bs : List Binding) → ((id to : CellId) → target_of bs id ≡ Some to → id.0 < length cells) → (id : CellId) (e : Ends bs id) → chain bs id e ≤ count_below (length cells) (is_passed bs id e)
 chain_most cells bs there _ (unbound id n) = omega arith
 chain_most cells bs there _ (bound id next t rest) =
     let before = chain_most cells bs there next rest in
-    let less = count_less (length cells) (is_passed bs id (bound id next t rest)) (is_passed bs next rest) (λ k _ h. or_second (id.0 == k) (is_passed bs next rest k) h)
+    let less = count_less (length cells) (is_passed bs id (bound id next t rest)) (is_passed bs next rest) (λ k _ h. or_right (id.0 == k) (is_passed bs next rest k) h)
     id.0 (there id next t) (ap (λ (b : Bool). b || is_passed bs next rest id.0) (eq-eqb id.0 id.0 refl))
-    (not_true (is_passed bs next rest id.0) (λ h. ends_round bs id next (bound id next t rest) t (passed_leads bs next rest id.0 h))) in
+    (false_from_ne_true (is_passed bs next rest id.0) (λ h. ends_round bs id next (bound id next t rest) t (passed_leads bs next rest id.0 h))) in
     omega (arith, before, less)
 
 -- a cell that is bound is there

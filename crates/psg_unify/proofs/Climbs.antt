@@ -1,13 +1,13 @@
 -- Cells get higher as they are bound and joined.
 use Rattle.std.proofs.Common.{◌≡◌, ◌≢◌, ◌⊎◌, inl, inr, ℕ, zero, suc, ◌<◌, ◌≤◌, ◌+◌, ◌-◌, ◌==◌, max, true, false, Option, Some, None, IfSome, IfNone, List, [], ◌∷◌, ◌++◌, slice_get, get_or, length, set, replicate, All, refl, ap, ap₂, sym, ◌∙◌, subst, arith}
-use Rattle.std.proofs.lemmas.Bool.{eqb-true, eqb-false}
+use Rattle.std.proofs.lemmas.Bool.{eqb-true, eqb-false, cases_Bool}
 use Rattle.std.proofs.lemmas.List.{length-set, get_or-set_same, get_or-set_other, length-replicate}
 use Rattle.std.proofs.lemmas.Option.{slice_get-get_or}
 use Rattle.std.proofs.lemmas.List.Elements.{All-cons, All-head, All-tail, All-append}
 use Rattle.psg_pool.specs.declared.cells.CellId.{CellId}
 use Rattle.psg_pool.specs.Cells.{IsAmong, arguments_of}
 use Rattle.psg_pool.specs.Bindings.{Kept, target_of}
-use Rattle.psg_pool.proofs.Places.{either, some_or_none, slice_get-set_other, slice_get-set_same}
+use Rattle.psg_pool.proofs.Places.{some_or_none, slice_get-set_other, slice_get-set_same}
 use Rattle.psg_pool.proofs.Links.{target_of_here, target_of_there}
 use Rattle.psg_pool.proofs.Following.{target_of-append, target_of-append_none}
 use Rattle.psg_unify.specs.declared.classes.Classes.{Classes}
@@ -99,7 +99,7 @@ module _ (old new : Kept) (c d : Classes) (x y : CellId) (k : IsClimbing old c) 
 
   -- no cell gets lower
   no_lower : (id : CellId) → height_at c id ≤ height_at d id
-  no_lower id = elim (either ((id.0 - c.base) == (y.0 - c.base))) [
+  no_lower id = elim (cases_Bool ((id.0 - c.base) == (y.0 - c.base))) [
     | inl t ↦ (
         let e = eqb-true (id.0 - c.base) (y.0 - c.base) t in
         let h = height_raised id e in
@@ -132,7 +132,7 @@ module _ (old new : Kept) (c d : Classes) (x y : CellId) (k : IsClimbing old c) 
     bounded = λ id. (
         let less = fewer_ends in
         let n = u.count in
-        elim (either ((id.0 - c.base) == (y.0 - c.base))) [
+        elim (cases_Bool ((id.0 - c.base) == (y.0 - c.base))) [
           | inl t ↦ (
               let raised = height_raised id (eqb-true (id.0 - c.base) (y.0 - c.base) t) in
               let bx = k.bounded x in
@@ -170,7 +170,7 @@ united_bound old new c d x y b n h e w ex = record {
     | inl t ↦ elim (some_or_none (target_of old.bindings id)) [
       | inl none ↦ (
           let own : target_of (record { bound = x; target = y } ∷ []) id ≡ Some to = sym (target_of-append_none old.bindings (record { bound = x; target = y } ∷ []) id none) ∙ ap (λ l. target_of l id) (sym w) ∙ t in
-          elim (either (x.0 == id.0)) [
+          elim (cases_Bool (x.0 == id.0)) [
             | inl same ↦ (
                 let is : Some y ≡ Some to = sym (target_of_here (record { bound = x; target = y }) [] id (eqb-true x.0 id.0 same)) ∙ own in
                 inr (ap (λ (m : ℕ). record { 0 = m }) (sym (eqb-true x.0 id.0 same)), (cc)))
@@ -204,7 +204,7 @@ united_bound old new c d x y b n h e w ex = record {
 
 -- a class leads to where it led before, or where a cell was joined
 pub next_joined : (c d : Classes) (x y : CellId) → c.base ≤ x.0 → d.base ≡ c.base → d.next.items ≡ set c.next.items (x.0 - c.base) (Some y) → (id next : CellId) → IsNext d id next → IsNext c id next ⊎ ((id ≡ x) × (next ≡ y))
-next_joined c d x y l b n id next (k, i, g) = elim (either (k == (x.0 - c.base))) [
+next_joined c d x y l b n id next (k, i, g) = elim (cases_Bool (k == (x.0 - c.base))) [
   | inl t ↦ (
       let at = eqb-true k (x.0 - c.base) t in
       let place : id.0 ≡ x.0 = omega (arith, i, at, b, l) in
@@ -231,7 +231,7 @@ united_joined kept c d x y b n h climbing ex = record {
   ];
   ended = λ k l t.
       let same : ◌≡◌ {A = CellId} (record { 0 = d.base + k }) (record { 0 = c.base + k }) = ap (λ (m : ℕ). record { 0 = m + k }) b in
-      elim (either (k == (x.0 - c.base))) [
+      elim (cases_Bool (k == (x.0 - c.base))) [
         | inl e ↦ absurd (
             let f = joined_is (target_of kept.bindings (record { 0 = d.base + k })) (slice_get d.next.items k) y
             (ap₂ (λ (xs : List (Option CellId)) (m : ℕ). slice_get xs m) n (eqb-true k (x.0 - c.base) e) ∙ here) in

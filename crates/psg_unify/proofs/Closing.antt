@@ -11,8 +11,8 @@ use Rattle.psg_pool.specs.declared.cells.CellId.{CellId}
 use Rattle.psg_pool.specs.declared.cells.Binding.{Binding}
 use Rattle.psg_pool.specs.Cells.{Put, free, constructor, IsAmong, arguments_of, arguments_in}
 use Rattle.psg_pool.specs.Bindings.{Kept, target_of, IsSound}
-use Rattle.std.proofs.lemmas.Bool.{eqb-true}
-use Rattle.psg_pool.proofs.Places.{either, some_or_none, slice_get_none}
+use Rattle.std.proofs.lemmas.Bool.{eqb-true, cases_Bool}
+use Rattle.psg_pool.proofs.Places.{some_or_none, slice_get_none}
 use Rattle.psg_pool.proofs.Links.{target_of_here, target_of_there}
 use Rattle.psg_pool.proofs.Following.{target_of-append, target_of-append_none}
 use Rattle.psg_unify.specs.Reading.{Reading, IsReading}
@@ -174,7 +174,7 @@ solves_more bs b v n = (
   ),
   λ p id to e. elim (some_or_none (target_of bs id)) [
     | inr s ↦ (let x : Some s.0 ≡ Some to = sym (target_of-append bs (b ∷ []) id s.0 s.1) ∙ e in let same : s.0 ≡ to = cc in p.0 id s.0 s.1 ∙ ap v same)
-    | inl o ↦ elim (either (b.bound.0 == id.0)) [
+    | inl o ↦ elim (cases_Bool (b.bound.0 == id.0)) [
       | inl t ↦ (
           let here = target_of_here b [] id (eqb-true b.bound.0 id.0 t) in
           let x : Some b.target ≡ Some to = sym here ∙ sym (target_of-append_none bs (b ∷ []) id o) ∙ e in

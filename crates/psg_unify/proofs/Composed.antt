@@ -52,8 +52,5 @@ fits_nothing sig kept c b = subst (Fits sig) (sym (ap₂ (λ x y. record { cells
 pub known_where : {V P : Type 0} (o : Option V) (v : V) → o ≡ Some v → IfSome o (λ _. P) → P
 known_where {V} {P} o v e h = subst (λ w. IfSome w (λ _. P)) e h
 
-pub some_known : {V : Type 0} (P : V → Type 0) (o : Option V) (v : V) → o ≡ Some v → IfSome o P → P v
-some_known P o v e h = subst (λ w. IfSome w P) e h
-
 pub none_known : {V P : Type 0} (o : Option V) → o ≡ None → IfNone o P → P
 none_known {V} {P} o e h = subst (λ w. IfNone w P) e h

@@ -1,8 +1,8 @@
 -- Steps of matching a row of terms with cells.
 use Rattle.std.proofs.Common.{◌≡◌, ◌≢◌, ◌↔◌, ◌⊎◌, inl, inr, ℕ, zero, suc, ◌<◌, ◌≤◌, ◌+◌, Bool, true, false, cond, IsTrue, Option, Some, None, List, [], ◌∷◌, ◌++◌, map, take, length, slice_get, All, refl, ap, ap₂, sym, ◌∙◌, subst, append_assoc, append-nil, arith}
 use Rattle.std.specs.Map.{lookup as entry}
-use Rattle.std.proofs.lemmas.Bool.{false≢true}
-use Rattle.std.proofs.lemmas.List.{take_all}
+use Rattle.std.proofs.lemmas.Bool.{false≢true, cases_Bool}
+use Rattle.std.proofs.lemmas.List.{take_all, length-map}
 use Rattle.std.proofs.lemmas.List.Elements.{All-nil, All-cons, All-head, All-tail, All-append}
 use Rattle.psg_terms.specs.Relations.{IsIn, first, later}
 use Rattle.psg_terms.specs.Terms.{Term, variable, symbol, applied}
@@ -12,7 +12,7 @@ use Rattle.psg_terms.specs.Instances.{Substitution, substitute, IsInstance}
 use Rattle.psg_terms.specs.Canonical.{Variable, same_variable}
 use Rattle.psg_terms.specs.Renaming.{written}
 use Rattle.psg_terms.specs.Matching.{same_key}
-use Rattle.psg_terms.proofs.Variables.{cases, same_variable-refl, same_variable-true}
+use Rattle.psg_terms.proofs.Variables.{same_variable-refl, same_variable-true}
 use Rattle.psg_terms.proofs.Applied.{applied-substitute}
 use Rattle.psg_terms.proofs.Nodes.{no_variable, same_constructor, same_arguments}
 use Rattle.psg_pool.specs.declared.cells.CellId.{CellId}
@@ -25,7 +25,6 @@ use Rattle.psg_unify.specs.Fitting.{Falls}
 use Rattle.psg_unify.specs.Circles.{HasCircle, FallsFrom}
 use Rattle.psg_unify.specs.Reading.{Reading, IsReading}
 use Rattle.psg_unify.specs.Numbering.{IsClearReading, IsNumbered, StaysNumbered}
-use Rattle.psg_unify.proofs.SolvedRows.{length-map}
 use Rattle.psg_unify.specs.Covering.{FirstCells, first_cell, facing, facings, AreMet, IsFit, StaysFit, FitsNone, CanMatch, weigh}
 use Rattle.psg_unify.proofs.Rounds.{edge_there, has_arguments, no_circle, take_next}
 use Rattle.psg_unify.proofs.Chains.{bound_there}
@@ -164,7 +163,7 @@ module _ (sig : Signature) (kept : Kept) where
   meets_first old new s n id none grown en el read r i = (subst (IsNumbered read) (sym en) i, λ f. (onward f, back f)) where
     onward : (f : Substitution) → IsFit f read old.first (facing (variable s n) id ∷ old.left.items) → IsFit f read new.first new.left.items
     onward f h = record {
-      known = λ p q x e. elim (cases (same_variable (s, n) (p, q))) [
+      known = λ p q x e. elim (cases_Bool (same_variable (s, n) (p, q))) [
         | inl t ↦
             (let same : ◌≡◌ {A = Variable} (s, n) (p, q) = same_variable-true (s, n) (p, q) t in
             let is : Some id ≡ Some x = sym (grown p q ∙ ap (λ b. cond b (Some id) (first_cell old.first p q)) t) ∙ e in
@@ -177,7 +176,7 @@ module _ (sig : Signature) (kept : Kept) where
 
     back : (f : Substitution) → IsFit f read new.first new.left.items → IsFit f read old.first (facing (variable s n) id ∷ old.left.items)
     back f h = record {
-      known = λ p q x e. elim (cases (same_variable (s, n) (p, q))) [
+      known = λ p q x e. elim (cases_Bool (same_variable (s, n) (p, q))) [
         | inl t ↦
             (let same : ◌≡◌ {A = Variable} (s, n) (p, q) = same_variable-true (s, n) (p, q) t in
             let no : None ≡ Some x = sym none ∙ ap (λ (y : Variable). first_cell old.first y.0 y.1) same ∙ e in
@@ -259,7 +258,7 @@ module _ (sig : Signature) (kept : Kept) where
       let e : applied (symbol c) (map (substitute f) args) ≡ applied (symbol d) (map read ids) = sym (applied-substitute f (symbol c) args) ∙ g.met.0 ∙ ends sig read r ∙ r.con_cell id d ids h.0 in
       elim ne [
         | inl x ↦ x (same_constructor c d (map (substitute f) args) (map read ids) e)
-        | inr x ↦ x (sym (length-map (substitute f) args) ∙ ap length (same_arguments c d (map (substitute f) args) (map read ids) e) ∙ length-map read ids ∙ h.1)
+        | inr x ↦ x (sym (length-map args (substitute f)) ∙ ap length (same_arguments c d (map (substitute f) args) (map read ids) e) ∙ length-map ids read ∙ h.1)
       ]
 
   -- a constructor meets an open cell of a sort that is this constant
@@ -289,7 +288,7 @@ module _ (sig : Signature) (kept : Kept) where
     by_sort : (o : Option ℕ) → only_constructor sig s ≡ o → ⊥
     by_sort None k = no_variable c s (id.0 + 1) (map (substitute f) args) (e None k)
     by_sort (Some d) k = elim ne [
-      | inl x ↦ x (sym (length-map (substitute f) args) ∙ ap length (same_arguments c d (map (substitute f) args) [] (e (Some d) k)))
+      | inl x ↦ x (sym (length-map args (substitute f)) ∙ ap length (same_arguments c d (map (substitute f) args) [] (e (Some d) k)))
       | inr x ↦ x (k ∙ ap (λ y. Some y) (sym (same_constructor c d (map (substitute f) args) [] (e (Some d) k))))
     ]
 
@@ -335,7 +334,7 @@ pub first_none : (table : FirstCells) → table.entries ≡ [] → (s n : ℕ) �
 first_none table e s n = ap (λ es. entry (same_key (record { sort = record { 0 = s }; number = n })) es) e
 
 pub lengths_differ : (read : Reading) (general : List Term) (ids : List CellId) → length general ≢ length ids → IsInstance (map read ids) general → ⊥
-lengths_differ read general ids ne (f, e) = ne (sym (length-map (substitute f) general) ∙ sym (ap length e) ∙ length-map read ids)
+lengths_differ read general ids ne (f, e) = ne (sym (length-map general (substitute f)) ∙ sym (ap length e) ∙ length-map ids read)
 
 -- what is noted and left is there
 all_split : {X : Type 0} (P : X → Type 0) (xs ys : List X) → All P (xs ++ ys) → All P xs × All P ys
@@ -397,7 +396,7 @@ module _ (kept : Kept) where
       → ((p q : ℕ) → first_cell new.first p q ≡ cond (same_variable (s, n) (p, q)) (Some id) (first_cell old.first p q)) → CanMatch kept old → CanMatch kept new
   can_note old new s n id l m e grown c = record {
     count = ap (λ v. length v.cells.items) m ∙ c.count;
-    first = λ p q x at. elim (cases (same_variable (s, n) (p, q))) [
+    first = λ p q x at. elim (cases_Bool (same_variable (s, n) (p, q))) [
       | inl t ↦
           (let is : Some id ≡ Some x = sym (grown p q ∙ ap (λ b. cond b (Some id) (first_cell old.first p q)) t) ∙ at in
           let one : id ≡ x = cc in

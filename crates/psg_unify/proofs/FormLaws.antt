@@ -1,12 +1,12 @@
 -- Forms of terms: equal terms have one number.
 use Rattle.std.proofs.Common.{◌≡◌, ◌⊎◌, inl, inr, ℕ, zero, suc, ◌+◌, ◌&&◌, ◌||◌, ◌==◌, not, Bool, true, false, cond, if◌then◌else◌, Option, Some, None, List, [], ◌∷◌, ◌++◌, length, slice_get, refl, ap, ap₂, sym, ◌∙◌, subst, append-nil, arith}
 use Rattle.std.proofs.Math.ListN.{set}
-use Rattle.std.proofs.lemmas.Bool.{eqb-true, eqb-false}
-use Rattle.std.proofs.lemmas.Bool.Decides.{nat_tests}
+use Rattle.std.proofs.lemmas.Bool.{eqb-true, eqb-false, and_parts, cases_Bool}
+use Rattle.psg_terms.proofs.Lists.{eqb-refl}
 use Rattle.std.specs.List.{list_any, position_or_len}
 use Rattle.psg_terms.specs.Terms.{Term, variable, symbol, apply, applied}
 use Rattle.psg_pool.specs.declared.cells.CellId.{CellId}
-use Rattle.psg_pool.proofs.Places.{either, slice_get-append, slice_get-append_last, slice_get-set_other}
+use Rattle.psg_pool.proofs.Places.{slice_get-append, slice_get-append_last, slice_get-set_other}
 use Rattle.psg_unify.specs.declared.forms.Form.{Form}
 use Rattle.psg_unify.specs.Numbering.{open_form, symbol_form, apply_form, Makes, of_open, of_symbol, of_apply, AreOnce, IsFound}
 
@@ -14,14 +14,10 @@ use Rattle.psg_unify.specs.Numbering.{open_form, symbol_form, apply_form, Makes,
 abbrev pub same_form : Form → Form → Bool
 same_form a b = (a.kind == b.kind) && ((a.first == b.first) && (a.second == b.second))
 
-and-both : (a b : Bool) → (a && b) ≡ true → (a ≡ true) × (b ≡ true)
-and-both true b e = (refl, e)
-and-both false b e = cc
-
 same_form-true : (a b : Form) → same_form a b ≡ true → a ≡ b
 same_form-true a b e =
-    let one = and-both (a.kind == b.kind) ((a.first == b.first) && (a.second == b.second)) e in
-    let two = and-both (a.first == b.first) (a.second == b.second) one.1 in
+    let one = and_parts (a.kind == b.kind) ((a.first == b.first) && (a.second == b.second)) e in
+    let two = and_parts (a.first == b.first) (a.second == b.second) one.1 in
     let k = eqb-true a.kind b.kind one.0 in
     let f = eqb-true a.first b.first two.0 in
     let s = eqb-true a.second b.second two.1 in
@@ -29,19 +25,16 @@ same_form-true a b e =
     ∙ ap (λ (n : ℕ). record { kind = b.kind; first = n; second = a.second }) f
     ∙ ap (λ (n : ℕ). record { kind = b.kind; first = b.first; second = n }) s
 
-itself : (n : ℕ) → (n == n) ≡ true
-itself n = grind (arith, nat_tests)
-
 same_form-refl : (a : Form) → same_form a a ≡ true
 same_form-refl a =
-    ap (λ b. b && ((a.first == a.first) && (a.second == a.second))) (itself a.kind)
-    ∙ ap (λ b. b && (a.second == a.second)) (itself a.first)
-    ∙ itself a.second
+    ap (λ b. b && ((a.first == a.first) && (a.second == a.second))) (eqb-refl a.kind)
+    ∙ ap (λ b. b && (a.second == a.second)) (eqb-refl a.first)
+    ∙ eqb-refl a.second
 
 -- a form that is among others has its place there
 at_place : (form : Form) (xs : List Form) → list_any (same_form form) xs ≡ true → slice_get xs (position_or_len (same_form form) xs) ≡ Some form
 at_place form [] e = cc
-at_place form (x ∷ xs) e = elim (either (same_form form x)) [
+at_place form (x ∷ xs) e = elim (cases_Bool (same_form form x)) [
   | inl t ↦
       (let here : position_or_len (same_form form) (x ∷ xs) ≡ 0 = ap (λ b. cond (not b) (1 + position_or_len (same_form form) xs) 0) t in
       ap (slice_get (x ∷ xs)) here ∙ ap (λ (y : Form). Some y) (sym (same_form-true form x t)))
@@ -54,7 +47,7 @@ at_place form (x ∷ xs) e = elim (either (same_form form x)) [
 -- else the place is after all
 no_place : (form : Form) (xs : List Form) → list_any (same_form form) xs ≡ false → position_or_len (same_form form) xs ≡ length xs
 no_place form [] e = refl
-no_place form (x ∷ xs) e = elim (either (same_form form x)) [
+no_place form (x ∷ xs) e = elim (cases_Bool (same_form form x)) [
   | inl t ↦ (let b : true ≡ false = sym (ap (λ b. b || list_any (same_form form) xs) t) ∙ e in cc)
   | inr f ↦
       (let rest = no_place form xs (sym (ap (λ b. b || list_any (same_form form) xs) f) ∙ e) in
@@ -68,7 +61,7 @@ not_there form (x ∷ xs) zero e g =
     let one : x ≡ form = cc in
     let t : same_form form x ≡ true = ap (same_form form) one ∙ same_form-refl form in
     let b : true ≡ false = sym (ap (λ b. b || list_any (same_form form) xs) t) ∙ e in cc
-not_there form (x ∷ xs) (suc i) e g = elim (either (same_form form x)) [
+not_there form (x ∷ xs) (suc i) e g = elim (cases_Bool (same_form form x)) [
   | inl t ↦ (let b : true ≡ false = sym (ap (λ b. b || list_any (same_form form) xs) t) ∙ e in cc)
   | inr f ↦ not_there form xs i (sym (ap (λ b. b || list_any (same_form form) xs) f) ∙ e) g
 ]
@@ -96,7 +89,7 @@ once_more xs form e once i j p a b = elim (at_end xs form i p a) [
 ]
 
 pub found : (old new : List Form) (form : Form) (number : ℕ) → new ≡ (if list_any (same_form form) old then old else old ++ form ∷ []) → number ≡ position_or_len (same_form form) old → IsFound old new form number
-found old new form number e n = elim (either (list_any (same_form form) old)) [
+found old new form number e n = elim (cases_Bool (list_any (same_form form) old)) [
   | inl t ↦
       (let same : new ≡ old = e ∙ ap (λ b. if b then old else old ++ form ∷ []) t in
       record {
@@ -183,7 +176,7 @@ IsOneMore old new id number = (k n : ℕ) → slice_get new k ≡ Some (Some n)
     → (slice_get old k ≡ Some (Some n)) ⊎ ((k ≡ id.0) × (n ≡ number))
 
 set_more : (old : List (Option ℕ)) (id : CellId) (number : ℕ) → IsOneMore old (set old id.0 (Some number)) id number
-set_more old id number k n g = elim (either (k == id.0)) [
+set_more old id number k n g = elim (cases_Bool (k == id.0)) [
   | inl e ↦ (let same : k ≡ id.0 = eqb-true k id.0 e in inr (same, here old k (ap (λ j. slice_get (set old j (Some number)) k) same ∙ g)))
   | inr f ↦ inl (sym (slice_get-set_other old k id.0 (Some number) (eqb-false k id.0 f)) ∙ g)
 ] where

@@ -1,13 +1,14 @@
 -- What keeps a pool fitting, and what it reads as.
 use Rattle.std.proofs.Common.{◌≡◌, inl, inr, ℕ, zero, suc, ◌<◌, ◌==◌, ◌+◌, Option, Some, None, List, [], ◌∷◌, ◌++◌, map, length, take, slice_get, All, refl, ap, ap₂, sym, ◌∙◌, subst, arith, length-append}
-use Rattle.std.proofs.lemmas.Bool.{eqb-true}
+use Rattle.std.proofs.lemmas.Bool.{eqb-true, cases_Bool}
 use Rattle.std.proofs.lemmas.List.Elements.{All-weaker, All-cons, All-head, All-tail, All-push, All-take}
+use Rattle.std.proofs.Math.Seq.{take-append_seam, take-length}
 use Rattle.psg_terms.specs.Terms.{Term, variable, symbol, applied}
 use Rattle.psg_pool.specs.declared.cells.CellId.{CellId}
 use Rattle.psg_pool.specs.declared.cells.Binding.{Binding}
 use Rattle.psg_pool.specs.Cells.{Put, free, constructor, IsAmong, IsPutFree, arguments_in, arguments_of}
 use Rattle.psg_pool.specs.Bindings.{Kept, target_of, IsSound, IsOver}
-use Rattle.psg_pool.proofs.Places.{either, some_or_none, slice_get_none, slice_get-append}
+use Rattle.psg_pool.proofs.Places.{some_or_none, slice_get_none, slice_get-append}
 use Rattle.psg_pool.proofs.Links.{target_of_here, target_of_there}
 use Rattle.psg_pool.proofs.Following.{target_of-append}
 use Rattle.psg_unify.specs.Reading.{Reading, IsReading}
@@ -70,21 +71,13 @@ pub All-both : {X : Type 0} (P Q R : X → Type 0) → ((x : X) → P x → Q x 
 All-both P Q R f [] p q = λ k d l. absurd (omega (arith, l))
 All-both P Q R f (x ∷ xs) p q = All-cons R x xs (f x (All-head P x xs p) (All-head Q x xs q)) (All-both P Q R f xs (All-tail P x xs p) (All-tail Q x xs q))
 
-take-all-append : {X : Type 0} (xs ys : List X) → take (length xs) (xs ++ ys) ≡ xs
-take-all-append [] ys = refl
-take-all-append (x ∷ xs) ys = ap (λ l. x ∷ l) (take-all-append xs ys)
-
-take-itself : {X : Type 0} (xs : List X) → take (length xs) xs ≡ xs
-take-itself [] = refl
-take-itself (x ∷ xs) = ap (λ l. x ∷ l) (take-itself xs)
-
 -- what is bound was put free, and its target is there
 pub over_at : (cells : List Put) (bs : List Binding) (id to : CellId) → All (IsOver cells) bs → target_of bs id ≡ Some to → IsPutFree cells id × IsAmong cells to
 over_at cells [] id to h e = cc
 over_at cells (b ∷ rest) id to h e =
     let own : IsOver cells b = h 0 b (omega arith) in
     let others : All (IsOver cells) rest = λ k d l. h (suc k) d (omega (arith, l)) in
-    elim (either (b.bound.0 == id.0)) [
+    elim (cases_Bool (b.bound.0 == id.0)) [
       | inl t ↦
           let here : Some b.target ≡ Some to = sym (target_of_here b rest id (eqb-true b.bound.0 id.0 t)) ∙ e in
           let same : b.target ≡ to = cc in
@@ -168,8 +161,8 @@ reading_before kept more read r = record {
 pub restored : (old new : Kept) → IsGrown old new → cut (length old.cells) (length old.bindings) new ≡ old
 restored old new g =
     ap₂ (λ c b. record { cells = c; bindings = b })
-    (ap (take (length old.cells)) g.cells_are ∙ take-all-append old.cells g.cells)
-    (ap (take (length old.bindings)) g.bindings_are ∙ take-all-append old.bindings g.bindings)
+    (ap (take (length old.cells)) g.cells_are ∙ take-append_seam old.cells g.cells)
+    (ap (take (length old.bindings)) g.bindings_are ∙ take-append_seam old.bindings g.bindings)
 
 -- and it may be released so
 pub releasable : (old new : Kept) (mark : Lengths) → IsReleasable old mark → mark.cells ≡ length old.cells → mark.bindings ≡ length old.bindings → IsGrown old new → IsReleasable new mark
@@ -177,7 +170,7 @@ releasable old new mark r c b g = record {
   cells = let e = ap (λ (l : List Put). length l) g.cells_are in omega (arith, c, e, length-append old.cells g.cells);
   bindings = let e = ap (λ (l : List Binding). length l) g.bindings_are in omega (arith, b, e, length-append old.bindings g.bindings);
   stay = subst (All (λ (b : Binding). (b.bound.0 < mark.cells) × (b.target.0 < mark.cells)))
-      (ap (λ n. take n old.bindings) b ∙ take-itself old.bindings ∙ sym (take-all-append old.bindings g.bindings)
+      (ap (λ n. take n old.bindings) b ∙ take-length old.bindings ∙ sym (take-append_seam old.bindings g.bindings)
       ∙ ap (λ n. take n (old.bindings ++ g.bindings)) (sym b) ∙ ap (take mark.bindings) (sym g.bindings_are)) r.stay;
 }
 
@@ -236,7 +229,7 @@ fits_free sig kept s sound f h =
 pub fits_fewer : (sig : Signature) (kept : Kept) (bs more : List Binding) → kept.bindings ≡ bs ++ more → Fits sig kept → Fits sig (with_bindings kept bs)
 fits_fewer sig kept bs more e f = record {
   puts = f.puts;
-  sorts = subst (All (IsOfOneSort sig kept.cells)) (ap (take (length bs)) e ∙ take-all-append bs more) (All-take (IsOfOneSort sig kept.cells) (length bs) kept.bindings f.sorts);
+  sorts = subst (All (IsOfOneSort sig kept.cells)) (ap (take (length bs)) e ∙ take-append_seam bs more) (All-take (IsOfOneSort sig kept.cells) (length bs) kept.bindings f.sorts);
   height = f.height;
   falls = falls_fewer kept bs more f.height e f.falls;
 }

@@ -27,3 +27,4 @@ pub mod NumberSteps
 pub mod CoverSteps
 pub mod ClearRows
 pub mod UnwrittenRows
+pub mod Clashes

@@ -1,15 +1,16 @@
 -- A constructor cell over cells of its arguments' sorts keeps a pool fitting.
 use Rattle.std.proofs.Common.{◌≡◌, ◌⊎◌, inl, inr, ℕ, zero, suc, ◌<◌, ◌==◌, cond, max, Some, List, [], ◌∷◌, ◌++◌, map, length, slice_get, All, refl, ap, ap₂, sym, ◌∙◌, subst, arith, append-nil}
-use Rattle.std.proofs.lemmas.Bool.{eqb-true, eqb-false}
+use Rattle.std.proofs.lemmas.Bool.{eqb-true, eqb-false, cases_Bool}
 use Rattle.std.proofs.lemmas.Option.{slice_get_within}
 use Rattle.std.proofs.lemmas.List.Elements.{All-weaker, All-cons, All-head, All-tail}
-use Rattle.psg_terms.specs.Terms.{Term, variable, symbol, apply, applied}
-use Rattle.psg_terms.specs.Signature.{Signature, Symbol, HasSort, HaveSorts, Takes}
+use Rattle.psg_terms.proofs.OneRelation.{takes_once}
+use Rattle.psg_terms.specs.Terms.{symbol, applied}
+use Rattle.psg_terms.specs.Signature.{Signature, HasSort, HaveSorts}
 use Rattle.psg_terms.proofs.Applied.{applied-sorts}
 use Rattle.psg_pool.specs.declared.cells.CellId.{CellId}
 use Rattle.psg_pool.specs.Cells.{Put, free, constructor, IsAmong, arguments_in, arguments_of}
 use Rattle.psg_pool.specs.Bindings.{Kept, target_of, IsSound, IsOver}
-use Rattle.psg_pool.proofs.Places.{either, some_or_none}
+use Rattle.psg_pool.proofs.Places.{some_or_none}
 use Rattle.psg_unify.specs.Reading.{Reading, IsReading}
 use Rattle.psg_unify.specs.Fitting.{Fits, IsPutOf, IsOfOneSort, sort_at, sort_in}
 use Rattle.psg_unify.proofs.Laws.{with_cells, over_at, All-both, fits_more, one_sort-append}
@@ -53,19 +54,19 @@ abbrev raised : (CellId → ℕ) → ℕ → ℕ → CellId → ℕ
 raised h at top id = cond (id.0 == at) top (h id)
 
 raised_other : (h : CellId → ℕ) (at top : ℕ) (id : CellId) → id.0 < at → raised h at top id ≡ h id
-raised_other h at top id l = elim (either (id.0 == at)) [
+raised_other h at top id l = elim (cases_Bool (id.0 == at)) [
   | inl t ↦ let e = eqb-true id.0 at t in absurd (omega (arith, e, l))
   | inr f ↦ ap (λ b. cond b top (h id)) f
 ]
 
 raised_here : (h : CellId → ℕ) (at top : ℕ) (id : CellId) → id.0 ≡ at → raised h at top id ≡ top
-raised_here h at top id e = elim (either (id.0 == at)) [
+raised_here h at top id e = elim (cases_Bool (id.0 == at)) [
   | inl t ↦ ap (λ b. cond b top (h id)) t
   | inr f ↦ absurd (eqb-false id.0 at f e)
 ]
 
 raised_at_least : (h : CellId → ℕ) (at top : ℕ) (id : CellId) (n : ℕ) → (id.0 ≡ at → n < top) → n < h id → n < raised h at top id
-raised_at_least h at top id n k l = elim (either (id.0 == at)) [
+raised_at_least h at top id n k l = elim (cases_Bool (id.0 == at)) [
   | inl t ↦ let e = ap (λ b. cond b top (h id)) t in let m = k (eqb-true id.0 at t) in omega (arith, e, m)
   | inr f ↦ let e = ap (λ b. cond b top (h id)) f in omega (arith, e, l)
 ]
@@ -107,13 +108,6 @@ fits_con sig kept c args sound f p among =
           | inr n ↦ subst (All (λ a. raised f.height (length kept.cells) (top_of f.height args) a < raised f.height (length kept.cells) (top_of f.height args) id)) (sym n) (λ k d l. absurd (omega (arith, l)))
         ]
 
--- a term has one sort
-pub sort_once : (sig : Signature) (t : Term) (v w : List ℕ) (r s : ℕ) → Takes sig t v r → Takes sig t w s → (v ≡ w) × (r ≡ s)
-sort_once sig (variable p n) v w r s (l, a, b) (m, c, d) = (a ∙ sym c, sym b ∙ d)
-sort_once sig (symbol c) v w r s (a, p, q, x) (b, p', q', x') =
-    let e : a ≡ b = cc in (sym q ∙ ap (λ (y : Symbol). y.arguments) e ∙ q', sym x ∙ ap (λ (y : Symbol). y.sort) e ∙ x')
-sort_once sig (apply f a) v w r s (x, p, _) (y, p', _) = let both = sort_once sig f (x ∷ v) (y ∷ w) r s p p' in (ap rest_of both.0, both.1)
-
 -- cells that read as a row of sorts have these sorts
 module _ (sig : Signature) (kept : Kept) (sound : IsSound kept) (fits : Fits sig kept) (read : Reading) (r : IsReading kept read) where
   pub sorts_back : (ids : List CellId) (ss : List ℕ) → All (IsAmong kept.cells) ids → HaveSorts sig (map read ids) ss → map (sort_at sig kept.cells) ids ≡ map (λ (n : ℕ). Some n) ss
@@ -123,7 +117,7 @@ module _ (sig : Signature) (kept : Kept) (sound : IsSound kept) (fits : Fits sig
   sorts_back (x ∷ ids) (s ∷ ss) i (h, hs) =
       let l = All-head (IsAmong kept.cells) x ids i in
       let own = has_a_sort sig kept.cells x fits.puts l in
-      let same : own.0 ≡ s = (sort_once sig (read x) [] [] own.0 s (cell_sorts sig kept sound fits read r x l own.0 own.1) h).1 in
+      let same : own.0 ≡ s = (takes_once sig (read x) [] [] own.0 s (cell_sorts sig kept sound fits read r x l own.0 own.1) h).1 in
       ap₂ (λ y ys. y ∷ ys) (own.1 ∙ ap (λ (n : ℕ). Some n) same) (sorts_back ids ss (All-tail (IsAmong kept.cells) x ids i) hs)
 
   -- where the constructor over what the cells read as has a sort, a constructor cell over them fits

@@ -1,6 +1,6 @@
 -- Substitutions that give the values of cells, and all that a reading's variables have in common.
 use Rattle.std.proofs.Common.{◌≡◌, inl, inr, ℕ, zero, suc, ◌<◌, ◌+◌, ◌-◌, ◌==◌, cond, Option, Some, None, List, [], ◌∷◌, map, slice_get, All, refl, ap, sym, ◌∙◌, subst, arith}
-use Rattle.std.proofs.lemmas.Bool.{eqb-true, eq-eqb}
+use Rattle.std.proofs.lemmas.Bool.{eqb-true, eq-eqb, cases_Bool}
 use Rattle.std.proofs.lemmas.List.Elements.{All-weaker, All-head, All-tail}
 use Rattle.psg_terms.specs.Terms.{Term, symbol}
 use Rattle.psg_terms.specs.Signature.{Signature, HasSort}
@@ -13,7 +13,7 @@ use Rattle.psg_terms.proofs.Renumbering.{AgreeAt, agree}
 use Rattle.psg_pool.specs.declared.cells.CellId.{CellId}
 use Rattle.psg_pool.specs.Cells.{Put, free, constructor, IsAmong, arguments_in, arguments_of}
 use Rattle.psg_pool.specs.Bindings.{Kept, target_of, IsSound}
-use Rattle.psg_pool.proofs.Places.{either, some_or_none, slice_get_none}
+use Rattle.psg_pool.proofs.Places.{some_or_none, slice_get_none}
 use Rattle.psg_unify.specs.Reading.{Reading, IsReading}
 use Rattle.psg_unify.specs.Fitting.{Falls, sort_at, sort_in}
 use Rattle.psg_unify.specs.Valuations.{IsValuation, Solves, by_cells}
@@ -63,7 +63,7 @@ patch sig cells v d s n = chosen (sort_at sig cells (record { 0 = n - 1 })) (v (
 
 choose : (P : Term → Type 0) (o : Option ℕ) (x y : Term) (s : ℕ) → (o ≡ Some s → P x) → P y → P (chosen o x y s)
 choose P None x y s f p = p
-choose P (Some t) x y s f p = elim (either (t == s)) [
+choose P (Some t) x y s f p = elim (cases_Bool (t == s)) [
   | inl e ↦ subst P (sym (ap (λ b. cond b x y) e)) (f (ap (λ (n : ℕ). Some n) (eqb-true t s e)))
   | inr e ↦ subst P (sym (ap (λ b. cond b x y) e)) p
 ]

@@ -1,11 +1,11 @@
 -- The columns of rows and of their ground instances.
-use Rattle.std.proofs.Common.{◌≡◌, ℕ, ◌<◌, ◌+◌, ◌↔◌, zero, suc, List, [], ◌∷◌, ◌++◌, map, length, take, get_or, refl, ap, ap₂, sym, ◌∙◌, Option, Some, None, slice_get, arith}
+use Rattle.std.proofs.Common.{◌≡◌, ℕ, ◌<◌, ◌+◌, ◌↔◌, zero, suc, List, [], ◌∷◌, ◌++◌, map, length, take, get_or, refl, ap, ap₂, sym, ◌∙◌, Option, Some, None, slice_get}
 use Rattle.std.specs.Option.{option_map}
 use Rattle.std.proofs.lemmas.Option.{slice_get-map}
+use Rattle.psg_terms.proofs.Lists.{take_item}
 use Rattle.psg_terms.specs.Terms.{Term}
 use Rattle.psg_terms.specs.Signature.{Signature, HaveSorts}
 use Rattle.psg_terms.specs.Instances.{Substitution, substitute, IsGroundInstance}
-use Rattle.psg_terms.proofs.DeclareLaws.{take-next}
 use Rattle.psg_unify.specs.Columns.{pick, picked}
 
 map-pick : (f : Substitution) (o : Option Term) (rest : List Term) → map (substitute f) (pick o rest) ≡ pick (option_map (substitute f) o) (map (substitute f) rest)
@@ -45,10 +45,4 @@ picked-push row (m ∷ keep) k x e = ap (pick (slice_get row m)) (picked-push ro
 
 pub picked-more : {X : Type 0} (row : List X) (keep : List ℕ) (i k : ℕ) (x : X) (now more : List X) → i < length keep → k ≡ get_or keep i k → slice_get row k ≡ Some x → now ≡ picked row (take i keep) → more ≡ now ++ x ∷ [] → more ≡ picked row (take (i + 1) keep)
 picked-more row keep i k x now more l e at d m =
-    m ∙ ap (λ xs. xs ++ x ∷ []) d ∙ sym (picked-push row (take i keep) k x at) ∙ ap (picked row) (sym (take-next keep i k l e))
-
--- the element at a place does not depend on what would be given for none
-pub at-any : {X : Type 0} (xs : List X) (i : ℕ) (d e : X) → i < length xs → get_or xs i d ≡ get_or xs i e
-at-any [] i d e l = absurd (omega arith)
-at-any (x ∷ xs) zero d e l = refl
-at-any (x ∷ xs) (suc i) d e l = at-any xs i d e (omega arith)
+    m ∙ ap (λ xs. xs ++ x ∷ []) d ∙ sym (picked-push row (take i keep) k x at) ∙ ap (picked row) (sym (take_item keep i k l e))

@@ -1,6 +1,7 @@
 -- The begin and the end of putting a row into a pool.
 use Rattle.std.proofs.Common.{◌≡◌, inl, inr, ℕ, zero, suc, ◌<◌, ◌≤◌, ◌+◌, ◌||◌, true, false, cond, if◌then◌else◌, Some, None, List, [], ◌∷◌, ◌++◌, reverse, map, length, slice_get, All, refl, ap, ap₂, sym, ◌∙◌, subst, arith, append-nil, append_assoc}
 use Rattle.std.proofs.lemmas.List.{reverse-append, reverse-reverse}
+use Rattle.std.proofs.lemmas.Bool.{cases_Bool}
 use Rattle.psg_terms.specs.Terms.{Term, variable, symbol, apply, applied}
 use Rattle.psg_terms.specs.Signature.{Signature, HaveSorts, only_constructor}
 use Rattle.psg_terms.specs.Sound.{IsSound as IsSoundSignature}
@@ -10,7 +11,7 @@ use Rattle.psg_terms.specs.Canonical.{Variable, same_variable, variables_of, is_
 use Rattle.psg_terms.specs.Renaming.{place, opens, open_first, numbering}
 use Rattle.psg_terms.specs.declared.sorts.ConId.{ConId}
 use Rattle.psg_terms.proofs.Nodes.{size-con}
-use Rattle.psg_terms.proofs.Variables.{cases, same_variable-true, true_false}
+use Rattle.psg_terms.proofs.Variables.{same_variable-true, true_false}
 use Rattle.psg_terms.proofs.Unique.{Each, IsOfSort, all_of_sort}
 use Rattle.psg_terms.proofs.Renumbering.{HaveSorts-substitute, numbering-sorted}
 use Rattle.psg_pool.specs.declared.cells.CellId.{CellId}
@@ -54,7 +55,7 @@ each_noted P seen (x ∷ xs) h (p, k) =
 pub cell_at_place : (x : Variable) (xs : List Variable) → is_noted x xs ≡ true → slice_get (frees xs) (place x xs) ≡ Some (free x.0)
 cell_at_place x [] h = absurd (true_false (sym h))
 cell_at_place x (y ∷ ys) h =
-    elim (cases (same_variable x y)) [
+    elim (cases_Bool (same_variable x y)) [
       | inl e ↦ ap (λ b. slice_get (frees (y ∷ ys)) (cond b 0 (place x ys + 1))) e ∙ ap (λ (z : Variable). Some (free z.0)) (sym (same_variable-true x y e))
       | inr e ↦ ap (λ b. slice_get (frees (y ∷ ys)) (cond b 0 (place x ys + 1))) e ∙ ap (slice_get (frees (y ∷ ys))) (step (place x ys))
           ∙ cell_at_place x ys (ap (λ b. b || is_noted x ys) (sym e) ∙ h)

@@ -1,7 +1,7 @@
 -- Steps of putting a row into a pool.
 use Rattle.std.proofs.Common.{◌≡◌, inl, inr, ℕ, zero, suc, ◌≤◌, ◌+◌, true, Some, None, List, [], ◌∷◌, ◌++◌, reverse, map, length, take, drop, slice_get, All, refl, ap, ap₂, sym, ◌∙◌, subst, arith, length-append, append_assoc}
 use Rattle.std.proofs.lemmas.Option.{slice_get_within}
-use Rattle.std.proofs.lemmas.List.{reverse-append, reverse-reverse, length-reverse}
+use Rattle.std.proofs.lemmas.List.{reverse-append, reverse-reverse, length-reverse, map-append, length-map}
 use Rattle.std.proofs.lemmas.List.Elements.{All-weaker, All-push, All-cons, All-head, All-tail}
 use Rattle.psg_terms.specs.Terms.{Term, variable, symbol, applied}
 use Rattle.psg_terms.specs.Signature.{Signature, HasSort, HaveSorts, only_constructor}
@@ -25,14 +25,6 @@ use Rattle.psg_unify.proofs.Laws.{with_cells, read_by, has_reading, reading_befo
 use Rattle.psg_unify.proofs.MadeCells.{arguments_either, fits_con, put_of_sorted}
 use Rattle.psg_unify.proofs.VariablesPut.{longer_both, longer_one}
 
-map_both : {X Y : Type 0} (f : X → Y) (xs ys : List X) → map f (xs ++ ys) ≡ map f xs ++ map f ys
-map_both f [] ys = refl
-map_both f (x ∷ xs) ys = ap (λ l. f x ∷ l) (map_both f xs ys)
-
-map_length : {X Y : Type 0} (f : X → Y) (xs : List X) → length (map f xs) ≡ length xs
-map_length f [] = refl
-map_length f (x ∷ xs) = ap suc (map_length f xs)
-
 take_front : {X : Type 0} (n : ℕ) (xs ys : List X) → n ≡ length xs → take n (xs ++ ys) ≡ xs
 take_front zero [] ys e = refl
 take_front zero (x ∷ xs) ys e = absurd (omega (arith, e))
@@ -46,10 +38,10 @@ drop_front (suc n) [] ys e = absurd (omega (arith, e))
 drop_front (suc n) (x ∷ xs) ys e = drop_front n xs ys (omega (arith, e))
 
 rev_push : {X Y : Type 0} (f : X → Y) (xs after : List X) (x : X) → after ≡ xs ++ x ∷ [] → reverse (map f after) ≡ f x ∷ reverse (map f xs)
-rev_push f xs after x e = ap (λ l. reverse (map f l)) e ∙ ap reverse (map_both f xs (x ∷ [])) ∙ reverse-append (map f xs) (f x ∷ [])
+rev_push f xs after x e = ap (λ l. reverse (map f l)) e ∙ ap reverse (map-append f xs (x ∷ [])) ∙ reverse-append (map f xs) (f x ∷ [])
 
 rev_both : {X Y : Type 0} (f : X → Y) (xs ys all : List X) → all ≡ xs ++ ys → reverse (map f all) ≡ reverse (map f ys) ++ reverse (map f xs)
-rev_both f xs ys all e = ap (λ l. reverse (map f l)) e ∙ ap reverse (map_both f xs ys) ∙ reverse-append (map f xs) (map f ys)
+rev_both f xs ys all e = ap (λ l. reverse (map f l)) e ∙ ap reverse (map-append f xs ys) ∙ reverse-append (map f xs) (map f ys)
 
 all_parts : {X : Type 0} (P : X → Type 0) (xs ys : List X) → All P (xs ++ ys) → All P xs × All P ys
 all_parts P [] ys h = (λ k d l. absurd (omega (arith, l)), h)
@@ -86,7 +78,7 @@ pub makes_con : (f : Substitution) (t : Term) (c : ConId) (args : List Term) (n 
     → makes f (map (λ (t : Term). Whole t) args ++ Make c n ∷ rest) made ≡ makes f (Whole t ∷ rest) made
 makes_con f t c args n rest made e l =
     makes_whole f args (Make c n ∷ rest) made
-    ∙ makes_make f c n rest (map (substitute f) args) made (l ∙ sym (map_length (substitute f) args))
+    ∙ makes_make f c n rest (map (substitute f) args) made (l ∙ sym (length-map args (substitute f)))
     ∙ ap (λ u. makes f rest (u ∷ made)) (sym (applied-substitute f (symbol c.0) args) ∙ ap (substitute f) (sym e))
 
 -- each of the terms has a sort
@@ -196,7 +188,7 @@ module _ (sig : Signature) (old : Kept) (known : List Variable) (row : List Term
       subst (AllSorted sig) (sym (p.made read r)) (sorted_reverse sig (map (substitute numbers) row) (all_sorted sig (map (substitute numbers) row) p.terms.0 p.terms.1)) in
       let is : makes numbers (Make c n ∷ rest) (reverse (map read cells)) ≡ makes numbers rest (applied (symbol c.0) (map read args) ∷ reverse (map read front)) =
       ap (makes numbers (Make c n ∷ rest)) (rev_both read front args cells e)
-      ∙ makes_make numbers c n rest (map read args) (reverse (map read front)) (sym l ∙ sym (map_length read args)) in
+      ∙ makes_make numbers c n rest (map read args) (reverse (map read front)) (sym l ∙ sym (length-map args read)) in
       let k = made_sorted sig numbers rest (applied (symbol c.0) (map read args) ∷ reverse (map read front)) (subst (AllSorted sig) is whole) in
       put_of_sorted sig now p.sound p.fits read r c.0 args k.0.0 among k.0.1
 
@@ -230,7 +222,7 @@ module _ (sig : Signature) (old : Kept) (known : List Variable) (row : List Term
             let is : read m.id ≡ applied (symbol c.0) (map read m.args) =
             r.con_cell m.id c.0 m.args (ap (λ ps. slice_get ps m.id.0) m.cells_are ∙ slice_get-append_last now.cells (constructor c.0 m.args) m.id.0 m.id_is) in
             ap (makes numbers rest) (rev_push read m.front after m.id m.after_is ∙ ap (λ u. u ∷ reverse (map read m.front)) is)
-            ∙ sym (makes_make numbers c n rest (map read m.args) (reverse (map read m.front)) (sym m.count ∙ sym (map_length read m.args)))
+            ∙ sym (makes_make numbers c n rest (map read m.args) (reverse (map read m.front)) (sym m.count ∙ sym (length-map m.args read)))
             ∙ ap (makes numbers (Make c n ∷ rest)) (sym (rev_both read m.front m.args cells m.split))
             ∙ p.made read older;
       }

@@ -1,32 +1,23 @@
 -- Tasks find the cells that they take.
-use Rattle.std.proofs.Common.{◌≡◌, ℕ, suc, ◌<◌, ◌+◌, ◌-◌, true, None, List, [], ◌∷◌, ◌++◌, map, length, refl, ap, sym, ◌∙◌, subst, arith, length-append, append-nil}
-use Rattle.std.proofs.lemmas.Option.{slice_get_within}
+use Rattle.std.proofs.Common.{◌≡◌, ℕ, suc, ◌+◌, ◌-◌, true, None, List, [], ◌∷◌, ◌++◌, map, length, refl, ap, sym, ◌∙◌, subst, arith, length-append, append-nil}
 use Rattle.psg_terms.specs.Terms.{Term, variable, symbol, applied}
 use Rattle.psg_terms.specs.Signature.{Signature, only_constructor}
 use Rattle.psg_terms.specs.Canonical.{Variable, variables, variables_of, is_noted, noted_all}
-use Rattle.psg_terms.specs.Renaming.{place, opens, open_first, AreKnown}
+use Rattle.psg_terms.specs.Renaming.{opens, open_first, AreKnown}
 use Rattle.psg_terms.specs.declared.sorts.ConId.{ConId}
 use Rattle.psg_terms.proofs.RenamingLaws.{among-noted_all, opens-append, variables-applied}
 use Rattle.psg_pool.specs.declared.cells.CellId.{CellId}
-use Rattle.psg_pool.specs.Cells.{Put, free}
+use Rattle.psg_pool.specs.Cells.{Put}
 use Rattle.psg_pool.specs.Bindings.{Kept}
 use Rattle.psg_unify.specs.declared.making.Task.{Task}
 use Rattle.psg_unify.specs.declared.making.Task.TheVariants.{Whole, Make}
 use Rattle.psg_unify.specs.Putting.{frees, PutsKnown}
 use Rattle.psg_unify.specs.Making.{IsMade, MayPut}
 use Rattle.psg_unify.proofs.Steps.{known_each}
-use Rattle.psg_unify.proofs.PuttingEnds.{cell_at_place}
 
 frees_count : (xs : List Variable) → length (frees xs) ≡ length xs
 frees_count [] = refl
 frees_count (x ∷ xs) = ap suc (frees_count xs)
-
--- a known variable has its place among the known ones
-pub place_within : (x : Variable) (known : List Variable) → is_noted x known ≡ true → place x known < length known
-place_within x known h =
-    let l = slice_get_within (frees known) (place x known) (free x.0) (cell_at_place x known h) in
-    let e = frees_count known in
-    omega (arith, l, e)
 
 known_parts : (known xs ys : List Variable) → AreKnown known (xs ++ ys) → AreKnown known xs × AreKnown known ys
 known_parts known [] ys h = (tt, h)

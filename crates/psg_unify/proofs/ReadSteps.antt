@@ -1,7 +1,7 @@
 -- Steps of writing cells out with canonical numbers.
 use Rattle.std.proofs.Common.{◌≡◌, ◌⊎◌, inl, inr, ℕ, zero, suc, ◌≤◌, ◌+◌, ◌==◌, Option, Some, None, List, [], ◌∷◌, ◌++◌, map, reverse, take, length, slice_get, All, refl, ap, ap₂, sym, ◌∙◌, subst, append-nil}
 use Rattle.std.proofs.Math.ListN.{set}
-use Rattle.std.proofs.lemmas.Bool.{eqb-true, eqb-false}
+use Rattle.std.proofs.lemmas.Bool.{eqb-true, eqb-false, cases_Bool}
 use Rattle.std.proofs.lemmas.List.{reverse-reverse, take_all}
 use Rattle.psg_terms.specs.Terms.{Term, variable, symbol, applied}
 use Rattle.psg_terms.specs.Signature.{Signature, HaveSorts, only_constructor}
@@ -17,7 +17,7 @@ use Rattle.psg_pool.specs.declared.cells.CellId.{CellId}
 use Rattle.psg_pool.specs.declared.cells.Cell.TheVariants.{Free, Bound, Con}
 use Rattle.psg_pool.specs.Cells.{IsAmong, arguments_of}
 use Rattle.psg_pool.specs.Bindings.{Kept, IsSound, Holds}
-use Rattle.psg_pool.proofs.Places.{either, slice_get-set_other}
+use Rattle.psg_pool.proofs.Places.{slice_get-set_other}
 use Rattle.psg_unify.specs.declared.walking.Item.{Item}
 use Rattle.psg_unify.specs.declared.walking.Item.TheVariants.{Visit, Leave}
 use Rattle.psg_unify.specs.Reading.{Reading, IsReading}
@@ -52,7 +52,7 @@ IsNewAt old new id t =
     (k : ℕ) (u : Term) → slice_get new k ≡ Some (Some u) → (slice_get old k ≡ Some (Some u)) ⊎ ((k ≡ id.0) × (u ≡ t))
 
 kept_at : (old : List (Option Term)) (id : CellId) (t : Term) → IsNewAt old (set old id.0 (Some t)) id t
-kept_at old id t k u g = elim (either (k == id.0)) [
+kept_at old id t k u g = elim (cases_Bool (k == id.0)) [
   | inl e ↦ (let same : k ≡ id.0 = eqb-true k id.0 e in inr (same, here old k (ap (λ j. slice_get (set old j (Some t)) k) same ∙ g)))
   | inr f ↦ inl (sym (slice_get-set_other old k id.0 (Some t) (eqb-false k id.0 f)) ∙ g)
 ] where

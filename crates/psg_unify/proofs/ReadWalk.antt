@@ -1,15 +1,16 @@
 -- A walk over cells that gives each of them a value once.
 use Rattle.std.proofs.Common.{◌≡◌, ◌≢◌, ◌⊎◌, ◌==◌, ◌&&◌, ◌||◌, inl, inr, Bool, true, false, not, ℕ, ◌<◌, ◌≤◌, Option, Some, None, List, [], ◌∷◌, ◌++◌, map, reverse, length, slice_get, get_or, set, All, refl, ap, ap₂, sym, ◌∙◌, subst, arith}
-use Rattle.std.proofs.lemmas.Bool.{eq-eqb, eqb-true, eqb-false, false≢true}
+use Rattle.std.proofs.lemmas.Bool.{eq-eqb, eqb-true, eqb-false, false≢true, cases_Bool, both_ways}
 use Rattle.std.proofs.lemmas.List.{length-set, reverse-reverse}
 use Rattle.std.proofs.lemmas.Option.{slice_get-get_or}
 use Rattle.std.proofs.lemmas.List.Elements.{All-weaker, All-cons, All-head, All-tail}
+use Rattle.psg_terms.proofs.Lists.{in_cases}
 use Rattle.psg_terms.specs.Relations.{IsIn, first, later}
 use Rattle.psg_pool.specs.declared.cells.CellId.{CellId}
 use Rattle.psg_pool.specs.declared.cells.Cell.TheVariants.{Free}
 use Rattle.psg_pool.specs.Cells.{IsAmong, arguments_of}
 use Rattle.psg_pool.specs.Bindings.{Kept, IsSound, Holds}
-use Rattle.psg_pool.proofs.Places.{either, slice_get-set_other, slice_get-set_same}
+use Rattle.psg_pool.proofs.Places.{slice_get-set_other, slice_get-set_same}
 use Rattle.psg_unify.specs.declared.walking.Item.{Item}
 use Rattle.psg_unify.specs.declared.walking.Item.TheVariants.{Visit, Leave}
 use Rattle.psg_unify.specs.Fitting.{Falls}
@@ -19,11 +20,11 @@ use Rattle.psg_unify.specs.Circles.{IsEdge, HasCircle, cell_of, IsStack, HasNext
 use Rattle.psg_unify.specs.Filling.{IsFilled, IsKept, IsFilling, is_opened, is_value, is_fresh, fresh}
 use Rattle.psg_unify.proofs.Closing.{in_all}
 use Rattle.psg_unify.proofs.Counts.{count_fewer, count_less}
-use Rattle.psg_unify.proofs.Rounds.{same_cell, leave_met, nothing_in, in_cases, on_top, stack_next, due_more, due_known, due_next, due_visits, edge_there, visits_path, visits_within, all_visits}
+use Rattle.psg_unify.proofs.Rounds.{same_cell, leave_met, nothing_in, on_top, stack_next, due_more, due_known, due_next, due_visits, edge_there, visits_path, visits_within, all_visits}
 
 -- terms that were there are there
 pub still_filled : {X : Type 0} → (old new : List (Option X)) (id : CellId) → IsKept old new id → (x : CellId) → IsFilled old x → IsFilled new x
-still_filled {X} old new id (t, e) x (u, g) = elim (either (x.0 == id.0)) [
+still_filled {X} old new id (t, e) x (u, g) = elim (cases_Bool (x.0 == id.0)) [
   | inl same ↦ (
       let at = eqb-true x.0 id.0 same in
       (t, ap₂ (λ (w : List (Option X)) (n : ℕ). slice_get w n) e at ∙ slice_get-set_same old id.0 (Some t) (Some u) (ap (slice_get old) (sym at) ∙ g)))
@@ -154,19 +155,16 @@ no_value None h = refl
 no_value (Some None) h = refl
 no_value (Some (Some t)) h = absurd (h t refl)
 
-never_both : (b : Bool) → b ≡ true → b ≡ false → ⊥
-never_both b t f = let x : true ≡ false = sym t ∙ f in cc
-
 opened_visits : (k : ℕ) (xs : List CellId) (rest : List Item) → is_opened (map (λ (a : CellId). Visit a) xs ++ rest) k ≡ is_opened rest k
 opened_visits k [] rest = refl
 opened_visits k (x ∷ xs) rest = opened_visits k xs rest
 
 -- what is new is not written
 old_fresh : {X : Type 0} → (old new : List (Option X)) (id : CellId) (k : ℕ) → IsKept old new id → id.0 < length old → is_value (slice_get new k) ≡ false → (id.0 ≢ k) × (is_value (slice_get old k) ≡ false)
-old_fresh {X} old new id k (t, e) l f = elim (either (id.0 == k)) [
+old_fresh {X} old new id k (t, e) l f = elim (cases_Bool (id.0 == k)) [
   | inl same ↦ absurd (
       let at = eqb-true id.0 k same in
-      never_both (is_value (slice_get new k)) (ap is_value (ap (slice_get new) (sym at) ∙ here_at old new id t e l)) f)
+      both_ways (is_value (slice_get new k)) f (ap is_value (ap (slice_get new) (sym at) ∙ here_at old new id t e l)))
   | inr other ↦ (
       let d = eqb-false id.0 k other in
       (d, ap is_value (sym (ap (λ (w : List (Option X)). slice_get w k) e ∙ slice_get-set_other old k id.0 (Some t) (λ s. d (sym s)))) ∙ f))
@@ -185,7 +183,7 @@ fresh_left old new id rest k l =
     let e = by_length old new id rest k in
     omega (arith, c, e) where
       not_here : (a b : ℕ) → a ≢ b → (a == b) ≡ false
-      not_here a b d = elim (either (a == b)) [
+      not_here a b d = elim (cases_Bool (a == b)) [
         | inl t ↦ absurd (d (eqb-true a b t))
         | inr f ↦ f
       ]
@@ -241,13 +239,13 @@ module _ (kept : Kept) (height : CellId → ℕ) (falls : Falls kept height) whe
 opened_in : (rest : List Item) (id : CellId) → is_opened rest id.0 ≡ true → IsIn (Leave id) rest
 opened_in [] id e = absurd (false≢true e)
 opened_in (Visit y ∷ rest) id e = later (opened_in rest id e)
-opened_in (Leave y ∷ rest) id e = elim (either (y.0 == id.0)) [
+opened_in (Leave y ∷ rest) id e = elim (cases_Bool (y.0 == id.0)) [
   | inl t ↦ subst (λ (c : CellId). IsIn (Leave id) (Leave c ∷ rest)) (same_cell id y (sym (eqb-true y.0 id.0 t))) first
   | inr f ↦ later (opened_in rest id (ap (λ (b : Bool). b || is_opened rest id.0) (sym f) ∙ e))
 ]
 
 pub not_opened : (kept : Kept) → (HasCircle kept → ⊥) → (id : CellId) (rest : List Item) → IsStack kept (Visit id ∷ rest) → is_opened rest id.0 ≡ false
-not_opened kept none id rest p = elim (either (is_opened rest id.0)) [
+not_opened kept none id rest p = elim (cases_Bool (is_opened rest id.0)) [
   | inl t ↦ absurd (none (leave_met kept id rest (opened_in rest id t) p))
   | inr f ↦ f
 ]

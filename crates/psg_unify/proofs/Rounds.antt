@@ -1,17 +1,18 @@
 -- Walks over cells that look for circles.
 use Rattle.std.proofs.Common.{◌≡◌, ◌≢◌, ◌⊎◌, ◌==◌, inl, inr, Bool, cond, ℕ, zero, suc, eq-eqb, ◌<◌, ◌≤◌, ◌+◌, ◌-◌, Option, Some, None, List, [], ◌∷◌, ◌++◌, map, reverse, take, length, slice_get, get_or, All, refl, ap, sym, ◌∙◌, subst, arith}
-use Rattle.std.proofs.lemmas.Bool.{eqb-true, eqb-false}
+use Rattle.std.proofs.lemmas.Bool.{eqb-true, eqb-false, cases_Bool}
 use Rattle.std.proofs.Math.ListN.{replicate, set}
 use Rattle.std.proofs.lemmas.List.{reverse-append, take_more, length-set, length-replicate, get_or-replicate}
 use Rattle.std.proofs.lemmas.Option.{slice_get_within, get_or_from_slice_get, slice_get-get_or}
 use Rattle.std.proofs.lemmas.List.Elements.{All-weaker, All-cons, All-head, All-tail}
+use Rattle.psg_terms.proofs.Lists.{in_cases, in_right}
 use Rattle.psg_terms.specs.Sizes.{size}
 use Rattle.psg_terms.specs.Relations.{IsIn, first, later}
 use Rattle.psg_pool.specs.declared.cells.CellId.{CellId}
 use Rattle.psg_pool.specs.declared.cells.Cell.TheVariants.{Free, Bound, Con}
 use Rattle.psg_pool.specs.Cells.{Put, free, constructor, IsAmong, arguments_in, arguments_of}
 use Rattle.psg_pool.specs.Bindings.{Kept, IsSound, Holds, Leads, arrived, followed}
-use Rattle.psg_pool.proofs.Places.{either, some_or_none, slice_get-set_other, slice_get-set_same}
+use Rattle.psg_pool.proofs.Places.{some_or_none, slice_get-set_other, slice_get-set_same}
 use Rattle.psg_pool.proofs.Following.{ends_round}
 use Rattle.psg_unify.specs.declared.circles.Progress.{Progress}
 use Rattle.psg_unify.specs.declared.circles.Progress.TheVariants.{New, Open, Left}
@@ -31,14 +32,6 @@ nothing_in x i = in_all (λ y. ⊥) x [] i (λ k d l. absurd (omega (arith, l)))
 in_list : {X : Type 0} (y : X) (l : List X) → IsIn y l → (x : X) (xs : List X) → l ≡ x ∷ xs → (y ≡ x) ⊎ IsIn y xs
 in_list y _ first x xs e = let same : y ≡ x = cc in inl same
 in_list y _ (later {xs = zs} i) x xs e = let rest : zs ≡ xs = cc in inr (subst (IsIn y) rest i)
-
--- a member is the first one or one of the rest
-pub in_cases : {X : Type 0} (y x : X) (xs : List X) → IsIn y (x ∷ xs) → (y ≡ x) ⊎ IsIn y xs
-in_cases y x xs i = in_list y (x ∷ xs) i x xs refl
-
-pub in_behind : {X : Type 0} (y : X) (xs ys : List X) → IsIn y ys → IsIn y (xs ++ ys)
-in_behind y [] ys i = i
-in_behind y (x ∷ xs) ys i = later (in_behind y xs ys i)
 
 -- what was done at the cell was set, and at all others it is what it was before
 pub record IsSet (base : ℕ) (old new : List Progress) (id : CellId) (p : Progress) : Type 0 where
@@ -77,7 +70,7 @@ same_cell x y e = ap (λ (n : ℕ). record { 0 = n }) e
 
 -- one cell or another
 pub cell_cases : (x y : CellId) → (x ≡ y) ⊎ (x.0 ≢ y.0)
-cell_cases x y = elim (either (x.0 == y.0)) [
+cell_cases x y = elim (cases_Bool (x.0 == y.0)) [
   | inl t ↦ inl (same_cell x y (eqb-true x.0 y.0 t))
   | inr f ↦ inr (eqb-false x.0 y.0 f)
 ]
@@ -237,7 +230,7 @@ module _ (kept : Kept) where
       → IsWalking kept base old (Visit id ∷ rest) → IsWalking kept base marks new
   opens_cell sound base old marks id rest new n s h w = record {
     path = subst (IsStack kept) (sym h.stack) (stack_next id h.cells rest h.next w.path);
-    opened = λ x o. subst (IsIn (Leave x)) (sym h.stack) (in_behind (Leave x) (map (λ (a : CellId). Visit a) h.cells) (Leave id ∷ rest) (elim (cell_cases x id) [
+    opened = λ x o. subst (IsIn (Leave x)) (sym h.stack) (in_right (Leave x) (map (λ (a : CellId). Visit a) h.cells) (Leave id ∷ rest) (elim (cell_cases x id) [
       | inl e ↦ (let same : Leave x ≡ Leave id = ap (λ (y : CellId). Leave y) e in subst (λ y. IsIn y (Leave id ∷ rest)) (sym same) first)
       | inr d ↦ elim (in_cases (Leave x) (Visit id) rest (w.opened x (s.back x Open d o))) [
         | inl e ↦ (cc)
@@ -347,7 +340,7 @@ module _ (kept : Kept) where
     higher_here x e = ap (λ (b : Bool). cond b w.top (w.height x)) (eq-eqb x.0 id.0 e)
 
     higher_there : (x : CellId) → x.0 ≢ id.0 → higher x ≡ w.height x
-    higher_there x d = elim (either (x.0 == id.0)) [
+    higher_there x d = elim (cases_Bool (x.0 == id.0)) [
       | inl t ↦ absurd (d (eqb-true x.0 id.0 t))
       | inr f ↦ ap (λ (b : Bool). cond b w.top (w.height x)) f
     ]
@@ -453,10 +446,6 @@ module _ (kept : Kept) (sound : IsSound kept) (v : Reading) (val : IsValuation k
 pub on_top : {X : Type 0} (old new : List X) (x : X) → new ≡ old ++ x ∷ [] → reverse new ≡ x ∷ reverse old
 on_top old new x e = ap reverse e ∙ reverse-append old (x ∷ [])
 
-pub none_left : {X : Type 0} (xs : List X) → length xs ≡ 0 → xs ≡ []
-none_left [] e = refl
-none_left (x ∷ xs) e = absurd (omega (arith, e))
-
 pub next_none : (kept : Kept) (id : CellId) (s : ℕ) (stack : List Item) → Holds kept id (Free s) → HasNext kept id stack stack
 next_none kept id s stack h = record { cells = []; stack = refl; next = λ k d l. absurd (omega (arith, l)); each = λ to e. absurd (edge_free kept id to s h e) }
 
@@ -528,7 +517,7 @@ visits_more base n old new l e v = record {
   stack_is = e ∙ ap (λ (s : List Item). Visit (record { 0 = n }) ∷ s) v.stack_is;
   within = All-cons (λ (id : CellId). (base ≤ id.0) × (id.0 < n + 1)) (record { 0 = n }) v.cells (l, omega arith)
       (All-weaker (λ (id : CellId). (base ≤ id.0) × (id.0 < n)) (λ (id : CellId). (base ≤ id.0) × (id.0 < n + 1)) (λ id h. (h.0, (let k = h.1 in omega (arith, k)))) v.cells v.within);
-  each = λ id b i. elim (either (id.0 == n)) [
+  each = λ id b i. elim (cases_Bool (id.0 == n)) [
     | inl t ↦ subst (λ (c : CellId). IsIn c (record { 0 = n } ∷ v.cells)) (ap (λ (m : ℕ). record { 0 = m }) (sym (eqb-true id.0 n t))) first
     | inr f ↦ (let d = eqb-false id.0 n f in later (v.each id b (omega (arith, d, i))))
   ];

@@ -1,9 +1,11 @@
 -- What a solver leaves in a pool into which two rows were put.
 use Rattle.std.proofs.Common.{◌≡◌, ◌⊎◌, inl, inr, ℕ, zero, suc, ◌<◌, ◌≤◌, ◌+◌, ◌-◌, ◌==◌, cond, nat_le, true, false, Option, Some, None, List, [], ◌∷◌, ◌++◌, map, reverse, take, drop, length, slice_get, replicate, All, refl, ap, ap₂, sym, ◌∙◌, subst, arith, append-nil, append_assoc, length-append}
-use Rattle.std.proofs.lemmas.Bool.{eqb-true}
+use Rattle.std.proofs.lemmas.Bool.{eqb-true, cases_Bool}
 use Rattle.std.proofs.lemmas.Bool.Decides.{nat_tests}
 use Rattle.std.proofs.lemmas.Option.{slice_get_within}
 use Rattle.std.proofs.lemmas.List.Elements.{All-weaker, All-cons, All-head, All-tail, All-append}
+use Rattle.std.proofs.Math.Seq.{take-append_seam, take-length}
+use Rattle.std.proofs.lemmas.List.{map-append, length-map}
 use Rattle.psg_terms.specs.Terms.{Term}
 use Rattle.psg_terms.specs.Signature.{Signature, HaveSorts}
 use Rattle.psg_terms.specs.Instances.{substitute, IsGroundInstance}
@@ -13,7 +15,7 @@ use Rattle.psg_pool.specs.declared.cells.CellId.{CellId}
 use Rattle.psg_pool.specs.declared.cells.Binding.{Binding}
 use Rattle.psg_pool.specs.Cells.{Put, free, IsAmong, arguments_in, arguments_of}
 use Rattle.psg_pool.specs.Bindings.{Kept, target_of, IsSound}
-use Rattle.psg_pool.proofs.Places.{either, some_or_none, slice_get-append, slice_get_none}
+use Rattle.psg_pool.proofs.Places.{some_or_none, slice_get-append, slice_get_none}
 use Rattle.psg_pool.proofs.Links.{target_of_here, target_of_there}
 use Rattle.psg_pool.proofs.Following.{target_of-append, target_of-append_none}
 use Rattle.psg_pool.specs.Marks.{Lengths, IsReleasable}
@@ -35,7 +37,7 @@ use Rattle.psg_unify.proofs.Closing.{in_all, map-twice, state_end}
 use Rattle.psg_unify.proofs.Rounds.{on_top, nothing_in, no_circle}
 use Rattle.psg_unify.proofs.Patched.{patch, patch-grounding, values_of, IsFull}
 use Rattle.psg_unify.proofs.Climbs.{climbing_begins}
-use Rattle.psg_unify.proofs.SolvedRows.{map-both, length-map, asked_both, asked_agree, agree_asked, full_under, valuation_under, left_among, read_put, reads_put, left_same, right_same, rows_apart, left_sorts, right_sorts, left_length, right_length, put_bindings, agreeing_values, solving_begins}
+use Rattle.psg_unify.proofs.SolvedRows.{asked_both, asked_agree, agree_asked, full_under, valuation_under, left_among, read_put, reads_put, left_same, right_same, rows_apart, left_sorts, right_sorts, left_length, right_length, put_bindings, agreeing_values, solving_begins}
 
 -- what holds of all members
 pub every_in : {X : Type 0} (P : X → Type 0) (xs : List X) → ((x : X) → IsIn x xs → P x) → All P xs
@@ -45,7 +47,7 @@ every_in P (x ∷ xs) h = All-cons P x xs (h x first) (every_in P xs (λ y i. h 
 -- what a later binding binds
 target_in : (base : ℕ) (bs : List Binding) (id to : CellId) → All (IsFrom base) bs → target_of bs id ≡ Some to → (base ≤ id.0) × (base ≤ to.0)
 target_in base [] id to h e = let none : None ≡ Some to = e in cc
-target_in base (b ∷ rest) id to h e = elim (either (b.bound.0 == id.0)) [
+target_in base (b ∷ rest) id to h e = elim (cases_Bool (b.bound.0 == id.0)) [
   | inl t ↦ (
       let own = All-head (IsFrom base) b rest h in
       let at : Some b.target ≡ Some to = sym (target_of_here b rest id (eqb-true b.bound.0 id.0 t)) ∙ e in
@@ -78,27 +80,19 @@ extended_bound old mid new l m = record {
   bindings_are = m.bindings_are ∙ ap (λ b. b ++ m.bindings) l.bindings_are;
 }
 
-take-front : {X : Type 0} (xs ys : List X) → take (length xs) (xs ++ ys) ≡ xs
-take-front [] ys = refl
-take-front (x ∷ xs) ys = ap (λ l. x ∷ l) (take-front xs ys)
-
-take-whole : {X : Type 0} (xs : List X) → take (length xs) xs ≡ xs
-take-whole [] = refl
-take-whole (x ∷ xs) = ap (λ l. x ∷ l) (take-whole xs)
-
 -- a pool that was extended goes back to what it was
 module _ (old now : Kept) (mark : Lengths) (c : mark.cells ≡ length old.cells) (b : mark.bindings ≡ length old.bindings) (e : IsExtended old now) where
   pub goes_back : (new : Kept) → new.cells ≡ take mark.cells now.cells → new.bindings ≡ take mark.bindings now.bindings → new ≡ old
   goes_back new cells bindings = ap₂ (λ x y. record { cells = x; bindings = y })
-      (cells ∙ ap₂ take c e.cells_are ∙ take-front old.cells e.cells)
-      (bindings ∙ ap₂ take b e.bindings_are ∙ take-front old.bindings e.bindings)
+      (cells ∙ ap₂ take c e.cells_are ∙ take-append_seam old.cells e.cells)
+      (bindings ∙ ap₂ take b e.bindings_are ∙ take-append_seam old.bindings e.bindings)
 
   pub may_go_back : IsReleasable old mark → IsReleasable now mark
   may_go_back r = record {
     cells = let l = ap (λ (x : List Put). length x) e.cells_are in omega (arith, c, l, length-append old.cells e.cells);
     bindings = let l = ap (λ (x : List Binding). length x) e.bindings_are in omega (arith, b, l, length-append old.bindings e.bindings);
     stay = subst (All (λ (x : Binding). (x.bound.0 < mark.cells) × (x.target.0 < mark.cells)))
-        (ap (λ n. take n old.bindings) b ∙ take-whole old.bindings ∙ sym (ap₂ take b e.bindings_are ∙ take-front old.bindings e.bindings)) r.stay;
+        (ap (λ n. take n old.bindings) b ∙ take-length old.bindings ∙ sym (ap₂ take b e.bindings_are ∙ take-append_seam old.bindings e.bindings)) r.stay;
   }
 
 -- how many cells were put
@@ -133,10 +127,10 @@ within ls rs n m (p ∷ pairs) a b (s, h) =
 module _ (sig : Signature) (left right : List Term) (pairs : List Pair) (old mid put : Kept) (lefts rights : List CellId) (p : ArePut sig left right pairs old mid put lefts rights) where
   pub pairs_within : All (λ (q : Pair). (q.0 < length lefts) × (q.1 < length rights)) pairs
   pairs_within = within p.joinable.left_sorts p.joinable.right_sorts (length lefts) (length rights) pairs
-      (sym (length-map (λ (n : ℕ). Some n) p.joinable.left_sorts)
-      ∙ ap (λ (l : List (Option ℕ)). length l) (sym (left_sorts sig left right pairs old mid put lefts rights p p.joinable.left_sorts p.joinable.left_sorted)) ∙ length-map (sort_at sig put.cells) lefts)
-      (sym (length-map (λ (n : ℕ). Some n) p.joinable.right_sorts)
-      ∙ ap (λ (l : List (Option ℕ)). length l) (sym (right_sorts sig left right pairs old mid put lefts rights p p.joinable.right_sorts p.joinable.right_sorted)) ∙ length-map (sort_at sig put.cells) rights)
+      (sym (length-map p.joinable.left_sorts (λ (n : ℕ). Some n))
+      ∙ ap (λ (l : List (Option ℕ)). length l) (sym (left_sorts sig left right pairs old mid put lefts rights p p.joinable.left_sorts p.joinable.left_sorted)) ∙ length-map lefts (sort_at sig put.cells))
+      (sym (length-map p.joinable.right_sorts (λ (n : ℕ). Some n))
+      ∙ ap (λ (l : List (Option ℕ)). length l) (sym (right_sorts sig left right pairs old mid put lefts rights p p.joinable.right_sorts p.joinable.right_sorted)) ∙ length-map rights (sort_at sig put.cells))
       p.joinable.equal
 
   mid_longer : length old.cells ≤ length mid.cells
@@ -150,7 +144,7 @@ module _ (sig : Signature) (left right : List Term) (pairs : List Pair) (old mid
         (λ a m. let e = mid_longer in omega (arith, m, e)) (arguments_of put.cells id) (p.two.apart id l)
   ] where
     cases_at : (id : CellId) → (id.0 < length mid.cells) ⊎ (length mid.cells ≤ id.0)
-    cases_at id = elim (either (nat_le (length mid.cells) id.0)) [
+    cases_at id = elim (cases_Bool (nat_le (length mid.cells) id.0)) [
       | inl t ↦ inr (grind (arith, nat_tests))
       | inr f ↦ inl (grind (arith, nat_tests))
     ]
@@ -285,7 +279,7 @@ module _ (sig : Signature) (left right : List Term) (pairs : List Pair) (old mid
     at_old id l = let t : nat_le (length old.cells) id.0 ≡ false = grind (arith, nat_tests) in ap (λ b. cond b (height id) (p.fits.height id)) t
 
     place_of : (id : CellId) → (id.0 < length old.cells) ⊎ (length old.cells ≤ id.0)
-    place_of id = elim (either (nat_le (length old.cells) id.0)) [
+    place_of id = elim (cases_Bool (nat_le (length old.cells) id.0)) [
       | inl t ↦ inr (grind (arith, nat_tests))
       | inr f ↦ inl (grind (arith, nat_tests))
     ]
@@ -354,7 +348,7 @@ module _ (sig : Signature) (left right : List Term) (pairs : List Pair) (old mid
             (right_same sig left right pairs old mid put lefts rights p before reads p.joinable.right_sorts p.joinable.right_sorted).1 (map v rights)
                 (patch sig put.cells v k.some, grounding, on rights p.two.among),
             asked_agree v lefts rights pairs equations asks (state_end new.cells old.bindings equations new.bindings apart s.state v val sol),
-            e ∙ sym (map-twice v read (substitute g) (lefts ++ rights) (every_in (λ x. v x ≡ substitute g (read x)) (lefts ++ rights) (λ x i. refl))) ∙ map-both v lefts rights,
+            e ∙ sym (map-twice v read (substitute g) (lefts ++ rights) (every_in (λ x. v x ≡ substitute g (read x)) (lefts ++ rights) (λ x i. refl))) ∙ map-append v lefts rights,
           )
 
       from_agreeing : (values : List Term) → IsAgreeing sig left right pairs values → IsGroundInstance sig (map read (lefts ++ rights)) values
@@ -375,9 +369,9 @@ module _ (sig : Signature) (left right : List Term) (pairs : List Pair) (old mid
           cells_sorts sig new sound fits_solved read r (lefts ++ rights) (ls ++ rs) all_among
           (
           ap (λ c. map (sort_at sig c) (lefts ++ rights)) more.cells_are
-          ∙ map-both (sort_at sig put.cells) lefts rights
+          ∙ map-append (sort_at sig put.cells) lefts rights
           ∙ ap₂ (λ x y. x ++ y) (left_sorts sig left right pairs old mid put lefts rights p ls hl) (right_sorts sig left right pairs old mid put lefts rights p rs hr)
-          ∙ sym (map-both (λ (n : ℕ). Some n) ls rs)
+          ∙ sym (map-append (λ (n : ℕ). Some n) ls rs)
           )
 
     before_is_put : by_old old new ≡ put

@@ -1,9 +1,11 @@
 -- Two rows in a pool, and what the solved pool says of them.
-use Rattle.std.proofs.Common.{◌≡◌, inl, inr, ℕ, suc, cond, nat_le, true, false, Option, Some, None, List, [], ◌∷◌, ◌++◌, map, length, slice_get, All, refl, ap, ap₂, sym, ◌∙◌, subst, arith, append-nil, length-append}
+use Rattle.std.proofs.Common.{◌≡◌, inl, inr, ℕ, cond, nat_le, true, false, Some, None, List, [], ◌∷◌, ◌++◌, map, length, slice_get, All, refl, ap, ap₂, sym, ◌∙◌, subst, arith, append-nil, length-append}
 use Rattle.std.specs.Option.{option_map}
 use Rattle.std.proofs.lemmas.Bool.Decides.{nat_tests}
-use Rattle.std.proofs.lemmas.Option.{slice_get-map, slice_get_within}
+use Rattle.std.proofs.lemmas.Option.{slice_get-map, slice_get_within, same_Some}
 use Rattle.std.proofs.lemmas.List.Elements.{All-weaker, All-cons, All-head, All-tail}
+use Rattle.std.proofs.lemmas.Bool.{cases_Bool}
+use Rattle.std.proofs.lemmas.List.{map-append, length-map}
 use Rattle.psg_terms.specs.Terms.{Term, symbol, applied}
 use Rattle.psg_terms.specs.Signature.{Signature, HasSort, HaveSorts}
 use Rattle.psg_terms.specs.Canonical.{Variable, variables_of, is_noted}
@@ -11,7 +13,6 @@ use Rattle.psg_terms.specs.Instances.{Substitution, substitute, IsGround, IsGrou
 use Rattle.psg_terms.specs.Renaming.{numbering}
 use Rattle.psg_terms.proofs.Applied.{applied-substitute}
 use Rattle.psg_terms.proofs.InstanceLaws.{Takes-substitute, ground-substitute}
-use Rattle.psg_terms.proofs.Variables.{cases}
 use Rattle.psg_terms.proofs.Unique.{Each, each-map, each-among}
 use Rattle.psg_terms.proofs.Renumbering.{renumbered_same, renumbered_above, IsAtMost, IsAbove, AgreeAt, agree_in}
 use Rattle.psg_pool.specs.declared.cells.CellId.{CellId}
@@ -47,24 +48,13 @@ joint-grounding sig n g h hg hh = record {
   sorted = λ s m lt. elim (nat_le m n) as (λ b. HasSort sig (cond b (g s m) (h s m)) s) [ true ↦ hg.sorted s m lt | false ↦ hh.sorted s m lt ];
 }
 
-pub map-both : {X Y : Type 0} (f : X → Y) (xs ys : List X) → map f (xs ++ ys) ≡ map f xs ++ map f ys
-map-both f [] ys = refl
-map-both f (x ∷ xs) ys = ap (λ l. f x ∷ l) (map-both f xs ys)
-
 map-same : (v read : Reading) (f : Term → Term) (xs : List CellId) → ((x : CellId) → v x ≡ f (read x)) → map v xs ≡ map f (map read xs)
 map-same v read f [] h = refl
 map-same v read f (x ∷ xs) h = ap₂ (λ y ys. y ∷ ys) (h x) (map-same v read f xs h)
 
-pub length-map : {X Y : Type 0} (f : X → Y) (xs : List X) → length (map f xs) ≡ length xs
-length-map f [] = refl
-length-map f (x ∷ xs) = ap suc (length-map f xs)
-
 -- what stands at a place of a row of values
 value_at : {Y : Type 0} (v : CellId → Y) (xs : List CellId) (i : ℕ) (x : CellId) → slice_get xs i ≡ Some x → slice_get (map v xs) i ≡ Some (v x)
 value_at v xs i x e = slice_get-map v xs i ∙ ap (option_map v) e
-
-same_value : {Y : Type 0} (x y : Y) → ◌≡◌ {A = Option Y} (Some x) (Some y) → x ≡ y
-same_value x y e = cc
 
 -- the equations say that the rows agree on the pairs
 module _ (v : Reading) (lefts rights : List CellId) where
@@ -83,7 +73,7 @@ module _ (v : Reading) (lefts rights : List CellId) where
   agree_asked (p ∷ pairs) [] a h = absurd a
   agree_asked (p ∷ pairs) (e ∷ equations) (x, y, a) (same, h) =
       All-cons (λ (q : Equation). v q.0 ≡ v q.1) e equations
-      (same_value (v e.0) (v e.1) (sym (value_at v lefts p.0 e.0 x) ∙ same ∙ value_at v rights p.1 e.1 y))
+      (same_Some (v e.0) (v e.1) (sym (value_at v lefts p.0 e.0 x) ∙ same ∙ value_at v rights p.1 e.1 y))
       (agree_asked pairs equations a h)
 
 -- what holds of the cells of both rows holds of those of the equations
@@ -109,7 +99,7 @@ asked_sorts sig cells lefts rights ls rs (p ∷ pairs) (e ∷ equations) el er (
     (asked_sorts sig cells lefts rights ls rs pairs equations el er h a) where
       one : (ids : List CellId) (ns : List ℕ) (i : ℕ) (id : CellId) → map (sort_at sig cells) ids ≡ map (λ (n : ℕ). Some n) ns → slice_get ids i ≡ Some id → slice_get ns i ≡ Some s.0 → sort_at sig cells id ≡ Some s.0
       one ids ns i id e at sort =
-          same_value (sort_at sig cells id) (Some s.0) (sym (value_at (sort_at sig cells) ids i id at) ∙ ap (λ l. slice_get l i) e
+          same_Some (sort_at sig cells id) (Some s.0) (sym (value_at (sort_at sig cells) ids i id at) ∙ ap (λ l. slice_get l i) e
           ∙ slice_get-map (λ (n : ℕ). Some n) ns i ∙ ap (option_map (λ (n : ℕ). Some n)) sort)
 
 -- a cell of a sort is there
@@ -174,7 +164,7 @@ module _ (sig : Signature) (left right : List Term) (pairs : List Pair) (old mid
 
   -- no variable is in both rows
   pub rows_apart : (read : Reading) → IsReading put read → (x : Variable) → is_noted x (variables_of (map read lefts)) ≡ true → is_noted x (variables_of (map read rights)) ≡ false
-  rows_apart read r x h = elim (cases (is_noted x (variables_of (map read rights)))) [
+  rows_apart read r x h = elim (cases_Bool (is_noted x (variables_of (map read rights)))) [
     | inl t ↦
         let low = each-among (IsAtMost (length mid.cells)) x (variables_of (map read lefts)) (left_low read r) h in
         let high = each-among (IsAbove (length mid.cells)) x (variables_of (map read rights)) (right_high read r) t in
@@ -189,10 +179,10 @@ module _ (sig : Signature) (left right : List Term) (pairs : List Pair) (old mid
   right_sorts ss h = sorts_back sig put p.two.sound p.two.fits read_put reads_put rights ss p.two.among (right_same read_put reads_put ss h).2
 
   pub left_length : length lefts ≡ length left
-  left_length = sym (length-map read_put lefts) ∙ ap (λ (l : List Term). length l) (p.one.read_as read_put (mid_reading read_put reads_put)).made ∙ length-map (substitute (numbering sig (length old.cells) p.one.known)) left
+  left_length = sym (length-map lefts read_put) ∙ ap (λ (l : List Term). length l) (p.one.read_as read_put (mid_reading read_put reads_put)).made ∙ length-map left (substitute (numbering sig (length old.cells) p.one.known))
 
   pub right_length : length rights ≡ length right
-  right_length = sym (length-map read_put rights) ∙ ap (λ (l : List Term). length l) (p.two.read_as read_put reads_put).made ∙ length-map (substitute (numbering sig (length mid.cells) p.two.known)) right
+  right_length = sym (length-map rights read_put) ∙ ap (λ (l : List Term). length l) (p.two.read_as read_put reads_put).made ∙ length-map right (substitute (numbering sig (length mid.cells) p.two.known))
 
   pub put_bindings : put.bindings ≡ old.bindings
   put_bindings = p.two.longer.bindings_are ∙ p.one.longer.bindings_are
@@ -218,7 +208,7 @@ module _ (sig : Signature) (left right : List Term) (pairs : List Pair) (old mid
         solves = λ id to t. ap (substitute f) (reads_put.bound_cell id to t);
         agree = subst (λ a. AgreeOn pairs a (map v rights)) (sym on_left) (subst (AgreeOn pairs l) (sym on_right) agree);
         full = full_under sig put p.two.sound p.two.fits read_put reads_put f grounds;
-        values_are = e ∙ ap₂ (λ a b. a ++ b) (sym on_left) (sym on_right) ∙ sym (map-both v lefts rights);
+        values_are = e ∙ ap₂ (λ a b. a ++ b) (sym on_left) (sym on_right) ∙ sym (map-append v lefts rights);
       }
 
   -- the solver can begin

@@ -1,6 +1,6 @@
 -- What a fitting pool reads as has the sorts of its cells.
 use Rattle.std.proofs.Common.{◌≡◌, inl, inr, ℕ, zero, suc, ◌<◌, ◌==◌, Option, Some, None, List, [], ◌∷◌, map, length, slice_get, All, refl, ap, sym, ◌∙◌, subst, arith}
-use Rattle.std.proofs.lemmas.Bool.{eqb-true}
+use Rattle.std.proofs.lemmas.Bool.{eqb-true, cases_Bool}
 use Rattle.std.proofs.lemmas.List.Elements.{All-weaker, All-head, All-tail}
 use Rattle.psg_terms.specs.Terms.{symbol}
 use Rattle.psg_terms.specs.Signature.{Signature, HasSort, HaveSorts}
@@ -9,7 +9,7 @@ use Rattle.psg_pool.specs.declared.cells.CellId.{CellId}
 use Rattle.psg_pool.specs.declared.cells.Binding.{Binding}
 use Rattle.psg_pool.specs.Cells.{Put, free, constructor, IsAmong, arguments_in, arguments_of}
 use Rattle.psg_pool.specs.Bindings.{Kept, target_of, IsSound}
-use Rattle.psg_pool.proofs.Places.{either, some_or_none, slice_get_none}
+use Rattle.psg_pool.proofs.Places.{some_or_none, slice_get_none}
 use Rattle.psg_pool.proofs.Links.{target_of_here, target_of_there}
 use Rattle.psg_unify.specs.Reading.{Reading, IsReading}
 use Rattle.psg_unify.specs.Fitting.{Fits, IsPutOf, IsOfOneSort, sort_at, sort_in, made_sort}
@@ -25,7 +25,7 @@ all_at P (y ∷ xs) (suc i) x h e = all_at P xs i x (All-tail P y xs h) e
 pub sort_of_target : (sig : Signature) (cells : List Put) (bs : List Binding) (id to : CellId) → All (IsOfOneSort sig cells) bs → target_of bs id ≡ Some to
     → sort_at sig cells id ≡ sort_at sig cells to
 sort_of_target sig cells [] id to h e = let none : None ≡ Some to = e in cc
-sort_of_target sig cells (b ∷ rest) id to h e = elim (either (b.bound.0 == id.0)) [
+sort_of_target sig cells (b ∷ rest) id to h e = elim (cases_Bool (b.bound.0 == id.0)) [
   | inl t ↦
       let here : Some b.target ≡ Some to = sym (target_of_here b rest id (eqb-true b.bound.0 id.0 t)) ∙ e in
       let same : b.target ≡ to = cc in

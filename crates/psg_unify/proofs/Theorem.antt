@@ -1,6 +1,6 @@
 -- Ground instances of two rows that agree, as instances of both rows with numbers apart.
-use Rattle.std.proofs.Common.{◌≡◌, ℕ, ◌+◌, List, [], ◌∷◌, ◌++◌, map, length, get_or, slice_get, refl, ap₂, sym, ◌∙◌, subst, Some, ◌<◌, arith}
-use Rattle.std.proofs.lemmas.Option.{slice_get_read}
+use Rattle.std.proofs.Common.{◌≡◌, ℕ, ◌+◌, List, [], ◌∷◌, ◌++◌, map, length, ap₂, sym, ◌∙◌, subst, arith}
+use Rattle.std.proofs.lemmas.List.{map-append}
 use Rattle.psg_terms.specs.Terms.{Term}
 use Rattle.psg_terms.specs.Signature.{Signature, HaveSorts}
 use Rattle.psg_terms.specs.Instances.{Substitution, substitute, IsGrounding, AllGroundInstancesIn}
@@ -10,10 +10,7 @@ use Rattle.psg_terms.specs.Renaming.{Renumbered}
 use Rattle.psg_terms.proofs.Unique.{Each, each-map}
 use Rattle.psg_terms.proofs.Renumbering.{renumbered_same, renumbered_at_most, renumbered_above, IsAtMost, IsAbove, AgreeAt, agree_in}
 use Rattle.psg_unify.specs.Pairs.{Pair, AgreeOn, IsAgreeing, AreJoinable}
-use Rattle.psg_unify.proofs.SolvedRows.{joint, joint-low, joint-high, joint-grounding, map-both}
-
-pub column : (row : List Term) (i : ℕ) (t : Term) → i < length row → t ≡ get_or row i t → slice_get row i ≡ Some t
-column row i t l e = slice_get_read row (length row) i t refl l e
+use Rattle.psg_unify.proofs.SolvedRows.{joint, joint-low, joint-high, joint-grounding}
 
 pub sorts-append : (sig : Signature) (xs ys : List Term) (ss rs : List ℕ) → HaveSorts sig xs ss → HaveSorts sig ys rs → HaveSorts sig (xs ++ ys) (ss ++ rs)
 sorts-append sig [] ys [] rs h k = k
@@ -53,7 +50,7 @@ module _ (sig : Signature) (left right : List Term) (pairs : List Pair) (lefts r
         f,
         joint-grounding sig n gl.0 gr.0 gl.1 gr.1,
         subst (λ a. AgreeOn pairs a (map (substitute f) rights)) (sym on_left) (subst (AgreeOn pairs l) (sym on_right) agree),
-        e ∙ ap₂ (λ a b. a ++ b) (sym on_left) (sym on_right) ∙ sym (map-both (substitute f) lefts rights),
+        e ∙ ap₂ (λ a b. a ++ b) (sym on_left) (sym on_right) ∙ sym (map-append (substitute f) lefts rights),
       ) where
         zero_plus : (k : ℕ) → 0 + k ≡ k
         zero_plus k = omega arith

@@ -1,6 +1,7 @@
 -- Putting a free cell for each variable of a row.
 use Rattle.std.proofs.Common.{◌≡◌, ◌≢◌, ◌<◌, ◌+◌, ℕ, inl, inr, if◌then◌else◌, Some, None, List, [], ◌∷◌, ◌++◌, reverse, length, refl, ap, sym, ◌∙◌, subst, append_assoc, append-nil, length-append, arith}
 use Rattle.std.proofs.lemmas.List.{reverse-append, reverse-reverse}
+use Rattle.std.proofs.lemmas.Bool.{cases_Bool}
 use Rattle.psg_terms.specs.Terms.{Term, variable, symbol, applied}
 use Rattle.psg_terms.specs.Signature.{Signature, only_constructor}
 use Rattle.psg_terms.specs.Sizes.{sizes}
@@ -9,7 +10,6 @@ use Rattle.psg_terms.specs.Canonical.{Variable, variables, variables_of, is_note
 use Rattle.psg_terms.specs.Renaming.{opens, open_first}
 use Rattle.psg_terms.proofs.Nodes.{size-con}
 use Rattle.psg_terms.proofs.Recognising.{variables-closed}
-use Rattle.psg_terms.proofs.Variables.{cases}
 use Rattle.psg_terms.proofs.RenamingLaws.{noted_all-append, opens-append, variables-applied, variables_of-append}
 use Rattle.psg_pool.specs.Cells.{Put, free}
 use Rattle.psg_pool.specs.Bindings.{Kept}
@@ -40,7 +40,7 @@ puts_nothing cells known = record { more = []; cells_are = sym (append-nil cells
 
 -- a variable that was known
 pub puts_known : (cells : List Put) (known after : List Variable) (x : Variable) → after ≡ noted known x → length after ≡ length known → PutsKnown cells cells known after
-puts_known cells known after x e l = elim (cases (is_noted x known)) [
+puts_known cells known after x e l = elim (cases_Bool (is_noted x known)) [
   | inl t ↦ subst (PutsKnown cells cells known) (sym (e ∙ ap (λ b. if b then known else known ++ x ∷ []) t)) (puts_nothing cells known)
   | inr f ↦
       let longer : after ≡ known ++ x ∷ [] = e ∙ ap (λ b. if b then known else known ++ x ∷ []) f in
@@ -51,7 +51,7 @@ puts_known cells known after x e l = elim (cases (is_noted x known)) [
 -- a variable that is new
 pub puts_new : (old new : List Put) (known after : List Variable) (x : Variable) → after ≡ noted known x → length after ≢ length known → new ≡ old ++ free x.0 ∷ []
     → PutsKnown old new known after
-puts_new old new known after x e l d = elim (cases (is_noted x known)) [
+puts_new old new known after x e l d = elim (cases_Bool (is_noted x known)) [
   | inl t ↦ absurd (l (ap (λ (l : List Variable). length l) (e ∙ ap (λ b. if b then known else known ++ x ∷ []) t)))
   | inr f ↦ record {
     more = free x.0 ∷ [];

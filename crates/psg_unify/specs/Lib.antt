@@ -18,3 +18,4 @@ pub mod Columns
 pub mod Numbering
 pub mod Covering
 pub mod Unwritten
+pub mod Clashing

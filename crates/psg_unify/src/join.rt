@@ -13,6 +13,7 @@ ghost use Rattle.psg_unify.specs.Fitting.{Fits};
 ghost use Rattle.psg_unify.specs.Reading.{Reading, IsReading};
 ghost use Rattle.psg_unify.specs.Solved.{IsGrown};
 
+use crate::heads::has_clash;
 use crate::reading::read_row;
 use crate::regions::solve_in;
 use psg_pool::{CellId, Pool};
@@ -22,6 +23,7 @@ use std::marker::Model;
 
 /// Returns the join of two rows as `join_rows` makes it, solved in the pool. What was put and bound there stays, so
 /// that the caller, who took a mark before, releases it. After `None` and after `AllocError` the pool is as it was.
+/// Where the columns of a pair have different constructors at their heads, nothing is put there.
 pub fn join_rows_in(
     alloc: Global,
     sig: &Signature,
@@ -49,6 +51,9 @@ pub fn join_rows_in(
 {
     sig.sound();
     let mark = pool.mark();
+    if has_clash(left, right, pairs) {
+        return Ok(None);
+    }
     let solved = solve_in(alloc, sig, pool, left, right, pairs)?;
     match solved {
         Some(cells) => match read_row(alloc, sig, pool, cells.as_slice()) {
@@ -215,9 +220,10 @@ impl JoinPool {
 /// pair is a column of the left row and one of the right row, each from 0. The rows' variables are apart, also where
 /// they have equal numbers.
 ///
-/// Each place of both rows is put into a pool once. Chains of equations are solved in time near linear in what was put,
-/// also where the row would be exponentially large in print: each cell is written once and then shared. Terms are
-/// walked with stacks on the heap. Only a term that is dropped or compared is walked by calls, as deep as it is nested;
+/// Where the columns of a pair have different constructors at their heads, nothing is put into a pool. Otherwise each
+/// place of both rows is put there once. Chains of equations are solved in time near linear in what was put, also where
+/// the row would be exponentially large in print: each cell is written once and then shared. Terms are walked with
+/// stacks on the heap. Only a term that is dropped or compared is walked by calls, as deep as it is nested;
 /// 150,000 nested constructors were tried on a stack of 8 MB, and a join of rows of two relations has at most 32,768.
 ///
 /// `AllocError` is returned when memory runs out, and where 32 bits do not count the cells.

@@ -24,6 +24,7 @@ mod circles;
 mod classes;
 mod covering;
 mod forms;
+mod heads;
 mod join;
 mod making;
 mod numbering;
@@ -35,6 +36,7 @@ mod unwritten;
 mod walking;
 
 pub use covering::covers;
+pub use heads::is_clash;
 pub use join::{JoinPool, join_in, join_rows, join_rows_in};
 pub use reading::read_row;
 pub use regions::solve_in;

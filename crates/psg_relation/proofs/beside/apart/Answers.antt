@@ -1,4 +1,5 @@
-use Rattle.std.proofs.Common.{◌≡◌, ◌++◌, ◌∙◌, ap₂, sym, subst}
+use Rattle.std.proofs.Common.{◌≡◌, ◌<◌, ◌+◌, ◌++◌, ◌∙◌, ℕ, All, ap, ap₂, length, sym, subst}
+use Rattle.std.proofs.lemmas.List.{length-map}
 use Rattle.psg_terms.specs.Signature.{HaveSorts}
 use Rattle.psg_terms.specs.Instances.{HasSameInstances}
 use Rattle.psg_unify.specs.Columns.{picked}
@@ -6,6 +7,14 @@ use Rattle.psg_unify.proofs.Theorem.{Setting}
 use Rattle.psg_relation.proofs.Columns.{picked-sorts}
 use Rattle.psg_relation.proofs.Unsolved.{apart_exact, apart_sorts, kept_join}
 use Rattle.psg_relation.proofs.beside.apart.Goals as goal
+
+pub columns_of-requires : goal.columns_of-requires
+columns_of-requires c =
+    let left = c.args.left.now in
+    let right = c.args.right.now in
+    let one = ap length c.as_slice-one.ensures.value ∙ ap length c.in_ok-first.ensures.2.made ∙ length-map left _ in
+    let other = ap length c.as_slice-other.ensures.value ∙ ap length c.in_ok-second.ensures.2.made ∙ length-map right _ in
+    subst (λ n. All (λ (k : ℕ). k < n) c.args.keep.now) (ap₂ (λ a b. a + b) (sym one) (sym other)) c.requires.keep
 
 pub finished-requires : goal.finished-requires
 finished-requires c =

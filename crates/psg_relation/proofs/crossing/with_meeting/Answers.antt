@@ -19,6 +19,6 @@ returns-in_ok-all-in-Some c =
     let more = c.in_ok-more-in-Some.more.items in
     let all = c.in_ok-all-in-Some.all.items in
     crossed_by sig pairs keep one right (picked right free) (picked right (at head)) made more all (picked-in right free) (picked-in right (at head))
-    (met sig pairs keep one right c.args.first head free at c.requires.pair c.in-Some.ensures c.requires.indexed)
+    (met sig pairs keep one right c.args.first head free at c.requires.pair c.in-Some.ensures.some c.requires.indexed)
     (subst (λ ps. IsCrossed sig pairs keep one (picked right ps) made more) c.as_slice-free.ensures.value c.in_ok-more-in-Some.ensures)
     (subst (λ ps. IsCrossed sig pairs keep one (picked right ps) more all) c.places_of-own.ensures c.in_ok-all-in-Some.ensures)

@@ -1,11 +1,13 @@
 use Rattle.std.proofs.Common.{◌+◌, ◌<◌, ◌++◌, ◌∷◌, [], ℕ, All, length, take, slice_index_or, refl, sym, subst}
 use Rattle.std.proofs.lemmas.List.Elements.{All-get_or}
+use Rattle.std.proofs.lemmas.List.{get_or_default}
+use Rattle.psg_terms.proofs.Lists.{slice_get_item}
 use Rattle.psg_unify.specs.Pairs.{AreJoinable}
 use Rattle.psg_relation.specs.Choices.{picked}
 use Rattle.psg_relation.specs.Joining.{IsMore}
 use Rattle.psg_relation.proofs.Columns.{picked-more}
-use Rattle.psg_relation.proofs.Indexing.{get-at, one_crossed}
-use Rattle.psg_relation.proofs.Members.{at-any, in-at}
+use Rattle.psg_relation.proofs.Indexing.{one_crossed}
+use Rattle.psg_relation.proofs.Members.{in-at}
 use Rattle.psg_relation.proofs.crossing.with_places.Goals as goal
 
 pub with_join_in-requires-clause-joinable : goal.with_join_in-requires-clause-joinable
@@ -34,7 +36,7 @@ loop-i-preserved c = λ done a.
     let within = All-get_or (λ (k : ℕ). k < length right) places i 0 c.loop-i-test.true c.requires.within in
     let tried = picked right (take i places) in
     one_crossed c.args.sig.now c.args.pairs.now c.args.keep.now done c.args.one.now tried (picked right (take (i + 1) places)) c.loop-i.more.items c.in_ok-more.more.items other
-    (sym (picked-more right places i place other tried (tried ++ other ∷ []) c.loop-i-test.true (at-any places i 0 place c.loop-i-test.true)
-    (get-at right place other within c.index-right-place.is) refl refl))
+    (sym (picked-more right places i place other tried (tried ++ other ∷ []) c.loop-i-test.true (get_or_default places i 0 place c.loop-i-test.true)
+    (slice_get_item right place other within c.index-right-place.is) refl refl))
     (c.loop-i.invariant done a)
     (subst (λ r. IsMore c.args.sig.now c.args.pairs.now c.args.keep.now c.args.one.now r c.loop-i.more.items c.in_ok-more.more.items) c.terms.ensures c.in_ok-more.ensures)

@@ -9,18 +9,18 @@ use Rattle.psg_relation.proofs.forcing.+force.Goals as goal
 
 pub force-returns-in_ok-force_variable-in-Var : goal.force-returns-in_ok-force_variable-in-Var
 force-returns-in_ok-force_variable-in-Var t c =
-    forces_variable c.args.sig.now c.args.forced.now.items c.force_variable.new.forced.items c.in-Var.sort.0 c.in-Var.number c.args.open.now c.args.closed.now
+    forces_variable c.args.sig.now c.args.forced.now.items c.force_variable.new.forced.items c.in-Var.sort.0 c.in-Var.number c.args.general.now c.args.closed.now
     (sym c.node.ensures ∙ ap term_of c.in-Var.is) c.in_ok-force_variable-in-Var.ensures
 
 pub force-force_all-requires : goal.force-force_all-requires
 force-force_all-requires t c =
-    let s = size-con c.args.open.now c.in-Con.con.0 c.in-Con.args (sym c.node.ensures ∙ ap term_of c.in-Con.is) in
+    let s = size-con c.args.general.now c.in-Con.con.0 c.in-Con.args (sym c.node.ensures ∙ ap term_of c.in-Con.is) in
     let d = ap sizes c.as_slice.ensures in
     (omega arith, tt)
 
 pub force-returns-in_ok-force_all-in-Con-node : goal.force-returns-in_ok-force_all-in-Con-node
 force-returns-in_ok-force_all-in-Con-node t c =
-    forces_con c.args.sig.now c.args.forced.now.items c.force_all.new.forced.items c.in-Con.con.0 c.in-Con-node.con.0 c.in-Con.args c.in-Con-node.parts c.args.open.now c.args.closed.now
+    forces_con c.args.sig.now c.args.forced.now.items c.force_all.new.forced.items c.in-Con.con.0 c.in-Con-node.con.0 c.in-Con.args c.in-Con-node.parts c.args.general.now c.args.closed.now
     (sym c.node.ensures ∙ ap term_of c.in-Con.is) (sym c.node-in-Con.ensures ∙ ap term_of c.in-Con-node.is)
     (subst (λ xs. Forces c.args.sig.now c.args.forced.now.items c.force_all.new.forced.items xs c.in-Con-node.parts) c.as_slice.ensures
     (subst (λ ys. Forces c.args.sig.now c.args.forced.now.items c.force_all.new.forced.items c.as_slice.result.now ys) c.as_slice-in-Con-node.ensures c.in_ok-force_all-in-Con-node.ensures))

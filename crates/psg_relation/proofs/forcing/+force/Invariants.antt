@@ -4,7 +4,7 @@ use Rattle.psg_relation.specs.Forcing.{Forces}
 use Rattle.psg_relation.proofs.forcing.+force.Given as goal
 
 abbrev pub decreases-force : goal.decreases-force
-decreases-force l = size l.open.now
+decreases-force l = size l.general.now
 
 abbrev pub decreases-force_all : goal.decreases-force_all
 decreases-force_all l = sizes l.row.now

@@ -1,7 +1,7 @@
 use Rattle.std.proofs.Common.{◌<◌, All, length, slice_index_or, refl, sym, subst}
 use Rattle.std.proofs.lemmas.List.Elements.{All-get_or, All-nil}
+use Rattle.psg_terms.proofs.Lists.{slice_get_item}
 use Rattle.psg_unify.specs.Pairs.{Pair}
-use Rattle.psg_unify.proofs.Theorem.{column}
 use Rattle.psg_relation.specs.Forcing.{IsFit, IsForced}
 use Rattle.psg_relation.proofs.Pairing.{pair_equal}
 use Rattle.psg_relation.proofs.forcing.forced_pairs.Goals as goal
@@ -21,7 +21,7 @@ loop-i-preserved c =
     let p : Pair = slice_index_or c.args.pairs.now c.loop-i.i (0, 0) in
     let both = All-get_or (λ (q : Pair). (q.0 < length c.args.left.now) × (q.1 < length c.args.right.now)) c.args.pairs.now c.loop-i.i (0, 0) c.loop-i-test.true c.requires in
     let equal = pair_equal c.args.left.now c.args.right.now c.args.pairs.now c.loop-i.i p (0, 0) c.index-left-pair.result c.index-right-pair.result c.loop-i-test.true refl
-    (column c.args.left.now p.0 c.index-left-pair.result both.0 c.index-left-pair.is) (column c.args.right.now p.1 c.index-right-pair.result both.1 c.index-right-pair.is) in
+    (slice_get_item c.args.left.now p.0 c.index-left-pair.result both.0 c.index-left-pair.is) (slice_get_item c.args.right.now p.1 c.index-right-pair.result both.1 c.index-right-pair.is) in
     let h = c.loop-i.invariant in (
       (c.in_ok-force_closed.ensures.fit h.0.0, c.in_ok-force_closed-2.ensures.fit h.0.1),
       (

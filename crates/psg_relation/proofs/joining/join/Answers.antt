@@ -1,10 +1,11 @@
 use Rattle.std.proofs.Common.{ℕ, ◌++◌, List, sym, subst}
+use Rattle.std.proofs.lemmas.Result.{IfOk-weaker}
 use Rattle.psg_terms.specs.Terms.{Term}
 use Rattle.psg_terms.specs.Relations.{IsRelation, IsGlued}
 use Rattle.psg_terms.specs.Weight.{PassesLimit}
 use Rattle.psg_relation.specs.Choices.{AllHaveSorts, HasWide, IsOfRow, Agrees, picked}
 use Rattle.psg_relation.specs.Joining.{AreJoined, MayJoin, all_pairs}
-use Rattle.psg_relation.proofs.Making.{err_map, ok_map}
+use Rattle.psg_relation.proofs.Making.{err_map}
 use Rattle.psg_relation.proofs.Meeting.{joined_sorts, joined_ready, joined_relation, unjoined_relation}
 use Rattle.psg_relation.proofs.HeldJoins.{pairs_may}
 use Rattle.psg_relation.proofs.joining.join.Goals as goal
@@ -62,7 +63,7 @@ returns-clause-relation c =
     let rows = c.in_ok-made.made.items in
     let a : AreJoined sig pairs keep (all_pairs left right) rows =
     subst (λ rs. AreJoined sig pairs keep (all_pairs left rs) rows) c.rows-rights.ensures.rows (subst (λ ls. AreJoined sig pairs keep (all_pairs ls c.rows-rights.result.now) rows) c.rows-lefts.ensures.rows c.in_ok-made.ensures) in
-    ok_map c.relation_of_joins.result (λ rel. (sorts : List ℕ) → AllHaveSorts sig rows sorts → IsRelation sig sorts (IsOfRow sig rows) rel)
+    IfOk-weaker c.relation_of_joins.result (λ rel. (sorts : List ℕ) → AllHaveSorts sig rows sorts → IsRelation sig sorts (IsOfRow sig rows) rel)
     (λ rel. (ls rs : List ℕ) → AllHaveSorts sig left ls → AllHaveSorts sig right rs → IsRelation sig (picked (ls ++ rs) keep) (IsGlued sig (Agrees pairs keep) left right) rel)
     (λ rel h ls rs hl hr. joined_relation sig pairs keep left right rows a (picked (ls ++ rs) keep) rel (h (picked (ls ++ rs) keep) (joined_sorts sig pairs keep left right rows a ls rs hl hr)))
     c.relation_of_joins.ensures.relation

@@ -8,5 +8,5 @@ abbrev pub invariant-loop-row : goal.invariant-loop-row
 invariant-loop-row l = record {
   sifted : IsSifted l.yielded l.kept.rows.items;
   order : KeepsOrder l.yielded l.kept.rows.items;
-  indexed : IsIndexed l.kept.rows.items 0 (length l.kept.rows.items) l.kept.heads.free.items (places_at l.kept.heads.places);
+  indexed : IsIndexed l.kept.rows.items l.column (length l.kept.rows.items) l.kept.heads.free.items (places_at l.kept.heads.places);
 }

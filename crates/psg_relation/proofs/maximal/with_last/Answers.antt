@@ -11,6 +11,6 @@ returns-clause-indexed c =
     let more = c.note_row.new.heads.free.items in
     let after = places_at c.note_row.new.heads.places in
     let count : c.len-place.result ≡ length rows = c.len-place.ensures ∙ c.args.kept.rows.ok.0 in
-    indexed_push rows c.args.row c.push.new.self.items free more at after c.requires
-    (subst (λ n. IsNoted c.args.row 0 n free at more after) count (subst (λ r. IsNoted r 0 c.len-place.result free at more after) c.terms.ensures c.in_ok-note_row.ensures))
+    indexed_push rows c.args.row c.push.new.self.items c.args.column free more at after c.requires
+    (subst (λ n. IsNoted c.args.row c.args.column n free at more after) count (subst (λ r. IsNoted r c.args.column c.len-place.result free at more after) c.terms.ensures c.in_ok-note_row.ensures))
     c.in_ok-push.ensures.items

@@ -11,3 +11,8 @@ returns-then-is_closed-clause-grown c =
     (λ h. false≢true (sym c.if-branch.false ∙ c.in_ok-is_held.ensures.1
     (subst (λ ks. IsCovered ks c.terms.result.now) (sym c.as_slice.ensures.value) (subst (IsCovered kept) (sym c.terms.ensures) h))))
     c.in_ok-more.ensures.rows
+
+pub with_general-requires-clause-apart : goal.with_general-requires-clause-apart
+with_general-requires-clause-apart c =
+    λ h. false≢true (sym c.if-branch.false ∙ c.in_ok-is_held.ensures.1
+    (subst (λ ks. IsCovered ks c.terms.result.now) (sym c.as_slice.ensures.value) (subst (IsCovered c.args.kept.rows.items) (sym c.terms.ensures) h)))

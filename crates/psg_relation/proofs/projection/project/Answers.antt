@@ -1,10 +1,11 @@
 use Rattle.std.proofs.Common.{◌≡◌, ℕ, List, sym, subst}
+use Rattle.std.proofs.lemmas.Result.{IfOk-weaker}
 use Rattle.psg_terms.specs.Terms.{Term}
 use Rattle.psg_terms.specs.Relations.{IsRelation}
 use Rattle.psg_terms.specs.Weight.{PassesLimit}
 use Rattle.psg_relation.specs.Choices.{AllHaveSorts, HasWide, IsOfRow, IsProjected, picked, all_picked}
 use Rattle.psg_relation.proofs.Columns.{all_sorted, projected, unprojected}
-use Rattle.psg_relation.proofs.Making.{err_map, ok_map}
+use Rattle.psg_relation.proofs.Making.{err_map}
 use Rattle.psg_relation.proofs.projection.project.Goals as goal
 
 pub returns-clause-relation : goal.returns-clause-relation
@@ -14,7 +15,7 @@ returns-clause-relation c =
     let keep = c.args.keep.now in
     let made = c.as_slice.result.now in
     let e : made ≡ all_picked rel keep = cc (c.as_slice.ensures.value, c.in_ok-columns.ensures, c.rows.ensures.rows) in
-    ok_map c.of.result (λ rows. (sorts : List ℕ) → AllHaveSorts sig made sorts → IsRelation sig sorts (IsOfRow sig made) rows)
+    IfOk-weaker c.of.result (λ rows. (sorts : List ℕ) → AllHaveSorts sig made sorts → IsRelation sig sorts (IsOfRow sig made) rows)
     (λ rows. (sorts : List ℕ) → AllHaveSorts sig rel sorts → IsRelation sig (picked sorts keep) (IsProjected sig rel keep) rows)
     (λ rows h sorts sorted. projected sig rel keep (picked sorts keep) rows
     (subst (λ m. IsRelation sig (picked sorts keep) (IsOfRow sig m) rows) e

@@ -15,7 +15,7 @@ returns-then-not-some c =
 pub returns-in_ok-same-in-Some : goal.returns-in_ok-same-in-Some
 returns-in_ok-same-in-Some c =
     meeting_held c.args.sig.now c.args.pairs.now c.args.keep.now c.args.kept.now c.args.one.now c.args.right.now c.args.first c.in-Some.head c.args.index.now.free.items (places_at c.args.index.now.places)
-    c.requires.pair c.in-Some.ensures c.requires.others
+    c.requires.pair c.in-Some.ensures.some c.requires.others
     (subst (λ ps. AreHeld true c.args.sig.now c.args.pairs.now c.args.keep.now c.args.kept.now (with_each c.args.one.now (picked c.args.right.now ps))) c.as_slice-free.ensures.value
     (subst (λ b. AreHeld b c.args.sig.now c.args.pairs.now c.args.keep.now c.args.kept.now (with_each c.args.one.now (picked c.args.right.now c.as_slice-free.result.now))) c.if-not-some.false c.in_ok-some-in-Some.ensures))
     c.in_ok-same-in-Some.same

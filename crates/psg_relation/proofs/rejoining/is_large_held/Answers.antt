@@ -1,6 +1,7 @@
 use Rattle.std.proofs.Common.{inl}
+use Rattle.psg_terms.proofs.Lists.{IfSome_at}
 use Rattle.psg_unify.specs.Unwritten.{IsUnwritten}
-use Rattle.psg_unify.proofs.Composed.{some_known, none_known}
+use Rattle.psg_unify.proofs.Composed.{none_known}
 use Rattle.psg_relation.proofs.HeldJoins.{by_cells}
 use Rattle.psg_relation.proofs.rejoining.is_large_held.Goals as goal
 
@@ -14,7 +15,7 @@ pub returns-in_ok-held-in-Some : goal.returns-in_ok-held-in-Some
 returns-in_ok-held-in-Some c =
     by_cells c.args.sig.now c.args.pairs.now c.args.keep.now c.args.kept.now (c.args.left.now, c.args.right.now) c.in_ok-held-in-Some.held
     (c.in_ok-held-in-Some.ensures (c.args.left.now, c.args.right.now) c.args.pairs.now c.args.keep.now
-    (some_known (λ row. IsUnwritten c.args.sig.now c.args.left.now c.args.right.now c.args.pairs.now c.args.keep.now row) c.in_ok-solved.solved c.in-Some.row c.in-Some.is c.in_ok-solved.ensures.some) c.requires)
+    (IfSome_at (λ row. IsUnwritten c.args.sig.now c.args.left.now c.args.right.now c.args.pairs.now c.args.keep.now row) c.in_ok-solved.solved c.in-Some.row c.in-Some.is c.in_ok-solved.ensures.some) c.requires)
 
 pub returns-in-None : goal.returns-in-None
 returns-in-None c = inl (λ x (full, a, e). none_known c.in_ok-solved.solved c.in-None.is c.in_ok-solved.ensures.none full a)

@@ -1,17 +1,17 @@
 use Rattle.std.proofs.Common.{◌≡◌, ◌≤◌, ◌++◌, ap, sym, length, subst, arith}
+use Rattle.std.proofs.lemmas.Option.{IfSome_then}
 use Rattle.psg_terms.specs.Text.{IsInTextOrder}
 use Rattle.psg_relation.specs.Choices.{picked}
 use Rattle.psg_relation.specs.Rejoining.{partners, AreSiftedJoins}
 use Rattle.psg_relation.specs.Sifted.{AreCovered}
-use Rattle.psg_relation.proofs.Splitting.{alone_ordered, some_map, lightly, losing}
+use Rattle.psg_relation.proofs.Splitting.{alone_ordered, lightly, losing}
 use Rattle.psg_relation.proofs.HeldJoins.{paired_sorts, sifted_joins}
 use Rattle.psg_relation.proofs.rejoining.sift_joins.Goals as goal
 
 pub returns-then-len-le1-clause-order : goal.returns-then-len-le1-clause-order
 returns-then-len-le1-clause-order c =
     let few : length c.args.rows.items ≤ 1 = let n = c.len.ensures in let t = c.if-len-le1.true in grind arith in
-    some_map c.alone.result (λ kept. kept.items ≡ c.args.rows.items) (λ kept. IsInTextOrder c.args.sig.now kept.items)
-    (λ kept e. alone_ordered c.args.sig.now kept.items (let same = ap length e in omega arith)) c.alone.ensures.same
+    IfSome_then c.alone.result {P = (λ kept. kept.items ≡ c.args.rows.items)} {Q = (λ kept. IsInTextOrder c.args.sig.now kept.items)} c.alone.ensures.same (λ kept e. alone_ordered c.args.sig.now kept.items (let same = ap length e in omega arith))
 
 pub sift_light-requires : goal.sift_light-requires
 sift_light-requires c = (

@@ -1,10 +1,11 @@
 use Rattle.std.proofs.Common.{◌≡◌, ◌++◌, ℕ, List, ap, sym, ◌∙◌, subst}
+use Rattle.std.proofs.lemmas.Result.{IfOk-weaker}
 use Rattle.psg_terms.specs.Relations.{IsRelation}
 use Rattle.psg_relation.specs.Choices.{AllHaveSorts, HasWide, IsOfRow, IsSelected, picked, all_picked}
 use Rattle.psg_relation.specs.Joining.{AreJoined, MayMeet}
 use Rattle.psg_relation.specs.Selecting.{diagonal, twins, width_of}
 use Rattle.psg_relation.proofs.Columns.{all_sorted, projected}
-use Rattle.psg_relation.proofs.Making.{err_map, ok_map}
+use Rattle.psg_relation.proofs.Making.{err_map}
 use Rattle.psg_relation.proofs.Selected.{no_pairs, self_joinable, self_equal, selected_relation, selected_sorts, selected_ready, unpaired, within_twice}
 use Rattle.psg_unify.specs.Pairs.{AreOfEqualSort}
 use Rattle.psg_relation.proofs.HeldJoins.{twins_may}
@@ -25,7 +26,7 @@ returns-then-is_empty-clause-relation c =
     let keep = c.args.keep.now in
     let made = c.as_slice.result.now in
     let e : made ≡ all_picked rows keep = c.as_slice.ensures.value ∙ c.in_ok-columns.ensures in
-    ok_map c.of.result (λ rel. (sorts : List ℕ) → AllHaveSorts sig made sorts → IsRelation sig sorts (IsOfRow sig made) rel)
+    IfOk-weaker c.of.result (λ rel. (sorts : List ℕ) → AllHaveSorts sig made sorts → IsRelation sig sorts (IsOfRow sig made) rel)
     (λ rel. (sorts : List ℕ) → AllHaveSorts sig rows sorts → IsRelation sig (picked sorts keep) (IsSelected sig rows c.args.pairs.now keep) rel)
     (λ rel h sorts sorted. unpaired sig rows keep c.args.pairs.now (no_pairs c.args.pairs.now (sym c.is_empty.ensures ∙ c.if-is_empty.true)) (picked sorts keep) rel (projected sig rows keep (picked sorts keep) rel
     (subst (λ m. IsRelation sig (picked sorts keep) (IsOfRow sig m) rel) e
@@ -105,7 +106,7 @@ returns-clause-relation c =
     let joined = c.in_ok-made.made.items in
     let own : c.as_slice-agree.result.now ≡ diagonal 0 (width_of rows) ++ c.args.pairs.now = c.as_slice-agree.ensures.value ∙ c.in_ok-all.ensures ∙ ap (λ n. diagonal 0 n ++ c.args.pairs.now) c.width.ensures in
     let a : AreJoined sig (diagonal 0 (width_of rows) ++ c.args.pairs.now) keep (twins rows) joined = subst (λ ps. AreJoined sig ps keep (twins rows) joined) own c.in_ok-made.ensures in
-    ok_map c.relation_of_joins.result (λ rel. (sorts : List ℕ) → AllHaveSorts sig joined sorts → IsRelation sig sorts (IsOfRow sig joined) rel)
+    IfOk-weaker c.relation_of_joins.result (λ rel. (sorts : List ℕ) → AllHaveSorts sig joined sorts → IsRelation sig sorts (IsOfRow sig joined) rel)
     (λ rel. (sorts : List ℕ) → AllHaveSorts sig rows sorts → IsRelation sig (picked sorts keep) (IsSelected sig rows pairs keep) rel)
     (λ rel h sorts sorted. selected_relation sig rows pairs keep sorts sorted c.requires.keep joined a (picked sorts keep) rel
     (h (picked sorts keep) (selected_sorts sig rows pairs keep sorts sorted c.requires.keep joined a sorts sorted)))

@@ -1,8 +1,9 @@
 use Rattle.std.proofs.Common.{reverse, refl, subst, arith}
+use Rattle.std.proofs.lemmas.List.{nil_from_length}
 use Rattle.psg_unify.specs.declared.circles.Progress.TheVariants.{Left}
 use Rattle.psg_unify.specs.declared.walking.Item.TheVariants.{Visit, Leave}
 use Rattle.psg_unify.specs.Circles.{StaysWalking}
-use Rattle.psg_unify.proofs.Rounds.{popped, none_left, meets_left, leaves_cell, top_within, set_at, unseen_left}
+use Rattle.psg_unify.proofs.Rounds.{popped, meets_left, leaves_cell, top_within, set_at, unseen_left}
 use Rattle.psg_unify.proofs.circles.next_visit.Goals as goal
 
 pub loop-item-init : goal.loop-item-init
@@ -47,5 +48,5 @@ loop-item-preserved c = (
 
 pub returns-clause-none : goal.returns-clause-none
 returns-clause-none c =
-    subst (λ l. StaysWalking c.args.base c.args.marks.now.items c.loop-item.marks.items (reverse c.args.stack.now.items) (reverse l)) (none_left c.loop-item.stack.items (omega (arith, c.in_default.ensures.cases)))
+    subst (λ l. StaysWalking c.args.base c.args.marks.now.items c.loop-item.marks.items (reverse c.args.stack.now.items) (reverse l)) (nil_from_length c.loop-item.stack.items (omega (arith, c.in_default.ensures.cases)))
     c.loop-item.invariant.0

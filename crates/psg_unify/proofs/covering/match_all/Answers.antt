@@ -1,6 +1,6 @@
 use Rattle.std.proofs.Common.{refl, sym, ◌∙◌, arith}
+use Rattle.std.proofs.lemmas.List.{nil_from_length}
 use Rattle.psg_terms.specs.Sizes.{size}
-use Rattle.psg_unify.proofs.Rounds.{none_left}
 use Rattle.psg_unify.proofs.CoverSteps.{fits_begin, fits_next, fits_stop, fits_done, weighs_top, can_top}
 use Rattle.psg_unify.proofs.covering.match_all.Goals as goal
 
@@ -24,7 +24,7 @@ pub returns-clause-yes : goal.returns-clause-yes
 returns-clause-yes c = λ _.
     fits_done c.args.sig.now c.args.pool.now c.args.state.now c.loop-next.state (record { numbers = c.loop-next.state.numbers; first = c.loop-next.state.first; left = c.pop.new.self })
     c.args.state.now.left.items refl refl
-    (none_left c.loop-next.state.left.items (omega (arith, c.in_default.ensures.cases)) ∙ sym (none_left c.pop.new.self.items (omega (arith, c.in_default.ensures.cases, c.in_default.ensures.len))))
+    (nil_from_length c.loop-next.state.left.items (omega (arith, c.in_default.ensures.cases)) ∙ sym (nil_from_length c.pop.new.self.items (omega (arith, c.in_default.ensures.cases, c.in_default.ensures.len))))
     c.loop-next.invariant.0
 
 pub loop-next-init : goal.loop-next-init

@@ -1,7 +1,7 @@
 use Rattle.std.proofs.Common.{reverse, sym, subst, arith}
+use Rattle.std.proofs.lemmas.List.{nil_from_length}
 use Rattle.psg_unify.specs.declared.walking.Item.TheVariants.{Visit, Leave}
 use Rattle.psg_unify.specs.Filling.{IsFilled, StaysFilling}
-use Rattle.psg_unify.proofs.Rounds.{none_left}
 use Rattle.psg_unify.proofs.NumberSteps.{stays_none, stays_both}
 use Rattle.psg_unify.proofs.ReadWalk.{filling_known, filling_left, filling_top, taken, taken_fresh, fresh_left}
 use Rattle.psg_unify.proofs.numbering.next_unnumbered.Goals as goal
@@ -60,4 +60,4 @@ loop-item-preserved c = (
 
 pub returns-clause-stays : goal.returns-clause-stays
 returns-clause-stays c =
-    subst (λ l. StaysFilling c.args.pool.now c.args.numbers.now.cells.items c.loop-item.numbers.cells.items (reverse c.args.stack.now.items) (reverse l)) (none_left c.loop-item.stack.items (omega (arith, c.in_default.ensures.cases))) c.loop-item.invariant.1
+    subst (λ l. StaysFilling c.args.pool.now c.args.numbers.now.cells.items c.loop-item.numbers.cells.items (reverse c.args.stack.now.items) (reverse l)) (nil_from_length c.loop-item.stack.items (omega (arith, c.in_default.ensures.cases))) c.loop-item.invariant.1

@@ -1,9 +1,10 @@
 use Rattle.std.proofs.Common.{◌∷◌, reverse, sym, subst, arith}
+use Rattle.std.proofs.lemmas.List.{nil_from_length}
 use Rattle.psg_unify.specs.declared.walking.Item.{Item}
 use Rattle.psg_unify.specs.declared.walking.Item.TheVariants.{Visit, Leave}
 use Rattle.psg_unify.specs.ReadOut.{ReadsOn}
 use Rattle.psg_unify.specs.Filling.{IsFilled, StaysFilling}
-use Rattle.psg_unify.proofs.Rounds.{on_top, none_left}
+use Rattle.psg_unify.proofs.Rounds.{on_top}
 use Rattle.psg_unify.proofs.ReadSteps.{reads_begin, reads_both, reads_known}
 use Rattle.psg_unify.proofs.ReadWalk.{filling_known, filling_left, filling_top, taken, taken_fresh, fresh_left}
 use Rattle.psg_unify.proofs.reading.next_unwritten.Goals as goal
@@ -70,8 +71,8 @@ loop-item-preserved c = (
 
 pub returns-clause-reads : goal.returns-clause-reads
 returns-clause-reads c = λ s known.
-    subst (λ l. ReadsOn s c.args.pool.now known known c.args.written.now.items c.loop-item.written.items (reverse c.args.stack.now.items) (reverse l)) (none_left c.loop-item.stack.items (omega (arith, c.in_default.ensures.cases))) (c.loop-item.invariant.0 s known)
+    subst (λ l. ReadsOn s c.args.pool.now known known c.args.written.now.items c.loop-item.written.items (reverse c.args.stack.now.items) (reverse l)) (nil_from_length c.loop-item.stack.items (omega (arith, c.in_default.ensures.cases))) (c.loop-item.invariant.0 s known)
 
 pub returns-clause-stays : goal.returns-clause-stays
 returns-clause-stays c =
-    subst (λ l. StaysFilling c.args.pool.now c.args.written.now.items c.loop-item.written.items (reverse c.args.stack.now.items) (reverse l)) (none_left c.loop-item.stack.items (omega (arith, c.in_default.ensures.cases))) c.loop-item.invariant.1
+    subst (λ l. StaysFilling c.args.pool.now c.args.written.now.items c.loop-item.written.items (reverse c.args.stack.now.items) (reverse l)) (nil_from_length c.loop-item.stack.items (omega (arith, c.in_default.ensures.cases))) c.loop-item.invariant.1

@@ -1,10 +1,11 @@
 use Rattle.std.proofs.Common.{ℕ, List}
+use Rattle.std.proofs.lemmas.Result.{IfOk-weaker}
 use Rattle.psg_terms.specs.Terms.{Term}
 use Rattle.psg_terms.specs.Relations.{IsRelation}
 use Rattle.psg_terms.specs.Weight.{PassesLimit}
 use Rattle.psg_relation.specs.Choices.{AllHaveSorts, HasWide, IsOfRow}
 use Rattle.psg_relation.specs.Sealed.{AreCanonicalOf}
-use Rattle.psg_relation.proofs.Making.{of_made, to_made, err_map, ok_map}
+use Rattle.psg_relation.proofs.Making.{of_made, to_made, err_map}
 use Rattle.psg_relation.proofs.relation.Rel.of.Goals as goal
 
 pub returns-clause-relation : goal.returns-clause-relation
@@ -13,7 +14,7 @@ returns-clause-relation c =
     let rows = c.args.rows.now in
     let made = c.in_ok-made.made.items in
     let a : AreCanonicalOf sig rows made = c.in_ok-made.ensures in
-    ok_map c.relation_of.result (λ rel. (sorts : List ℕ) → AllHaveSorts sig made sorts → IsRelation sig sorts (IsOfRow sig made) rel)
+    IfOk-weaker c.relation_of.result (λ rel. (sorts : List ℕ) → AllHaveSorts sig made sorts → IsRelation sig sorts (IsOfRow sig made) rel)
     (λ rel. (sorts : List ℕ) → AllHaveSorts sig rows sorts → IsRelation sig sorts (IsOfRow sig rows) rel)
     (λ rel h sorts sorted. of_made sig rows made a sorts rel (h sorts (a.sorted sorts sorted))) c.relation_of.ensures.relation
 
