@@ -5,6 +5,9 @@ use Rattle.std.specs.Option.{option_map}
 use Rattle.std.proofs.lemmas.List.{map-append}
 use Rattle.std.proofs.Math.Seq.{take-suc, take-length}
 use Rattle.std.proofs.lemmas.Option.{slice_get-map, slice_get_read}
+use Rattle.std.proofs.lemmas.Bool.{cases_Bool, false_from_ne_true, or_right, or_parts, or_left}
+use Rattle.std.proofs.Math.Bool.{and-false}
+use Rattle.std.specs.Cmp.{first_so}
 use Rattle.psg_terms.specs.Names.{is_among, has_twice}
 use Rattle.psg_terms.proofs.DeclareLaws.{is_among-append}
 use Rattle.psg_grammar.specs.Keys.{Key, space_of, in_order, outward}
@@ -12,7 +15,7 @@ use Rattle.psg_scope.specs.declared.header.NameCol.{NameCol}
 use Rattle.psg_scope.specs.declared.header.Header.{Header}
 use Rattle.psg_scope.specs.Headers.{key_of, keys, is_declared, declared_keys, keep_if, has_space, AreAscending, IsKey, IsHeader, IsOrdered, ArePlaces, AreRising, IsBelow}
 use Rattle.psg_scope.specs.Merging.{merge, clashes}
-use Rattle.psg_scope.proofs.KeyLists.{either, not_true, neither, or_left, or_right, and-false, and_left, key_is, below-all, below-among, below-absent, in_order-rising, in_order-whole, in_order-among, rising-same}
+use Rattle.psg_scope.proofs.KeyLists.{key_is, below-all, below-among, below-absent, in_order-rising, in_order-whole, in_order-among, rising-same}
 use Rattle.psg_scope.proofs.MergeLaws.{merge-among, merge-declared, merge-rising, clashes-common, common-meets, has_twice-append, undeclared}
 
 pub keys-whole : (cols : List NameCol) → AllByRecursion IsKey (keys cols)
@@ -109,7 +112,7 @@ kept_by : (k : Key) (c : NameCol) (cs : List NameCol) (u : ℕ → Bool) → IsB
     → is_among (keys (kept_cols u cs)) k ≡ (is_among (keys cs) k && not (u (space_of k) || is_declared cs k))
     → (s d : Bool) → u c.space ≡ s → c.declared ≡ d
     → is_among (keys (cond (s || d) (kept_cols u cs) (c ∷ kept_cols u cs))) k ≡ (is_among (keys (c ∷ cs)) k && not (u (space_of k) || is_declared (c ∷ cs) k))
-kept_by k c cs u b h true d e f = elim (either (bytes_eq (key_of c) k)) [
+kept_by k c cs u b h true d e f = elim (cases_Bool (bytes_eq (key_of c) k)) [
   | inl same ↦
       let is : key_of c ≡ k = key_is (key_of c) k same in
       let gone : is_among (keys cs) k ≡ false = subst (λ q. is_among (keys cs) q ≡ false) is (below-absent (key_of c) (keys cs) b) in
@@ -118,7 +121,7 @@ kept_by k c cs u b h true d e f = elim (either (bytes_eq (key_of c) k)) [
       ∙ sym (ap (λ p. (bytes_eq (key_of c) k || is_among (keys cs) k) && not (p || is_declared (c ∷ cs) k)) stopped ∙ and-false (bytes_eq (key_of c) k || is_among (keys cs) k))
   | inr other ↦ passed k c cs u other h
 ]
-kept_by k c cs u b h false true e f = elim (either (bytes_eq (key_of c) k)) [
+kept_by k c cs u b h false true e f = elim (cases_Bool (bytes_eq (key_of c) k)) [
   | inl same ↦
       let is : key_of c ≡ k = key_is (key_of c) k same in
       let gone : is_among (keys cs) k ≡ false = subst (λ q. is_among (keys cs) q ≡ false) is (below-absent (key_of c) (keys cs) b) in
@@ -127,7 +130,7 @@ kept_by k c cs u b h false true e f = elim (either (bytes_eq (key_of c) k)) [
       ∙ sym (ap (λ p. (bytes_eq (key_of c) k || is_among (keys cs) k) && not p) (or_right (u (space_of k)) (is_declared (c ∷ cs) k) here) ∙ and-false (bytes_eq (key_of c) k || is_among (keys cs) k))
   | inr other ↦ passed k c cs u other h
 ]
-kept_by k c cs u b h false false e f = elim (either (bytes_eq (key_of c) k)) [
+kept_by k c cs u b h false false e f = elim (cases_Bool (bytes_eq (key_of c) k)) [
   | inl same ↦
       let is : key_of c ≡ k = key_is (key_of c) k same in
       let gone : is_among (keys cs) k ≡ false = subst (λ q. is_among (keys cs) q ≡ false) is (below-absent (key_of c) (keys cs) b) in
@@ -148,7 +151,7 @@ kept_rising_by : (c : NameCol) (cs : List NameCol) (u : ℕ → Bool) → AreRis
 kept_rising_by c cs u r h true = h
 kept_rising_by c cs u r h false = (
   below-all (key_of c) (keys (kept_cols u cs)) (λ m there. below-among (key_of c) m (keys cs) r.0
-      (and_left (is_among (keys cs) m) (not (u (space_of m) || is_declared cs m)) (sym (kept-among m cs u r.1) ∙ there))),
+      (first_so (is_among (keys cs) m) (not (u (space_of m) || is_declared cs m)) (sym (kept-among m cs u r.1) ∙ there))),
   h,
 )
 
@@ -170,14 +173,14 @@ kept-undeclared k (c ∷ cs) u = kept_undeclared_by k c (kept_cols u cs) (u c.sp
 outward_by : (k n : Key) (ns d : List Key) (u : ℕ → Bool) → is_among (outward u d ns) k ≡ (is_among ns k && not (u (space_of k) || is_among d k))
     → (b : Bool) → (u (space_of n) || is_among d n) ≡ b
     → is_among (cond b (outward u d ns) (n ∷ outward u d ns)) k ≡ ((bytes_eq n k || is_among ns k) && not (u (space_of k) || is_among d k))
-outward_by k n ns d u h true e = elim (either (bytes_eq n k)) [
+outward_by k n ns d u h true e = elim (cases_Bool (bytes_eq n k)) [
   | inl same ↦
       let stopped : (u (space_of k) || is_among d k) ≡ true = subst (λ q. (u (space_of q) || is_among d q) ≡ true) (key_is n k same) e in
       h ∙ ap (λ p. is_among ns k && not p) stopped ∙ and-false (is_among ns k)
       ∙ sym (ap (λ p. (bytes_eq n k || is_among ns k) && not p) stopped ∙ and-false (bytes_eq n k || is_among ns k))
   | inr other ↦ h ∙ sym (ap (λ p. (p || is_among ns k) && not (u (space_of k) || is_among d k)) other)
 ]
-outward_by k n ns d u h false e = elim (either (bytes_eq n k)) [
+outward_by k n ns d u h false e = elim (cases_Bool (bytes_eq n k)) [
   | inl same ↦
       let free : (u (space_of k) || is_among d k) ≡ false = subst (λ q. (u (space_of q) || is_among d q) ≡ false) (key_is n k same) e in
       ap (λ p. p || is_among (outward u d ns) k) same
@@ -242,7 +245,7 @@ kept_cols-append u (x ∷ xs) ys =
     spread true = refl
     spread false = refl
 
-key-there : (all : List NameCol) (i : ℕ) (key : NameCol) → i < length all → key ≡ get_or all i key → slice_get (keys all) i ≡ Some (key_of key)
+pub key-there : (all : List NameCol) (i : ℕ) (key : NameCol) → i < length all → key ≡ get_or all i key → slice_get (keys all) i ≡ Some (key_of key)
 key-there all i key h e = slice_get-map key_of all i ∙ ap (option_map key_of) (slice_get_read all (length all) i key refl h e)
 
 pub keep_step : {all names more : List NameCol} {unfinished kept also : List ℕ} {i : ℕ} {key : NameCol} → IsKeptSoFar all unfinished i names kept
@@ -256,10 +259,10 @@ keep_step {all} {names} {more} {unfinished} {kept} {also} {i} {key} s h e f p q 
 }
   where
     open_there : (has_space unfinished key.space || key.declared) ≡ false
-    open_there = not_true (has_space unfinished key.space || key.declared) (λ g. absurd (true≢false (f ∙ ap not g)))
+    open_there = false_from_ne_true (has_space unfinished key.space || key.declared) (λ g. absurd (true≢false (f ∙ ap not g)))
 
     undeclared_there : key.declared ≡ false
-    undeclared_there = (neither (has_space unfinished key.space) key.declared open_there).1
+    undeclared_there = (or_parts (has_space unfinished key.space) key.declared open_there).1
 
     own : kept_cols (has_space unfinished) (key ∷ []) ≡ (record key { declared = false }) ∷ []
     own = ap (λ b. cond b [] (key ∷ [])) open_there ∙ ap (λ b. (record key { declared = b }) ∷ []) undeclared_there
@@ -314,7 +317,7 @@ outward_rising_by : (k : Key) (ks d : List Key) (u : ℕ → Bool) → IsBelow k
 outward_rising_by k ks d u below h true = h
 outward_rising_by k ks d u below h false = (
   below-all k (outward u d ks) (λ m there. below-among k m ks below
-      (and_left (is_among ks m) (not (u (space_of m) || is_among d m)) (sym (outward-among m ks d u) ∙ there))),
+      (first_so (is_among ks m) (not (u (space_of m) || is_among d m)) (sym (outward-among m ks d u) ∙ there))),
   h,
 )
 

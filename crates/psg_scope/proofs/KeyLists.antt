@@ -1,7 +1,8 @@
 -- Lists of keys in order, each once.
-use Rattle.std.proofs.Common.{◌≡◌, ◌⊎◌, inl, inr, Bool, true, false, ◌||◌, ◌&&◌, List, [], ◌∷◌, refl, sym, ap, subst, ◌∙◌, bytes_eq, true≢false}
+use Rattle.std.proofs.Common.{◌≡◌, inl, inr, Bool, true, false, ◌||◌, List, [], ◌∷◌, refl, sym, ap, subst, ◌∙◌, bytes_eq, true≢false}
 use Rattle.std.specs.List.{AllByRecursion}
 use Rattle.std.proofs.lemmas.Slice.Eq.{bytes_eq-Decides}
+use Rattle.std.proofs.lemmas.Bool.{cases_Bool, false_from_ne_true, or_cases, or_right, or_left}
 use Rattle.std.specs.declared.cmp.Ordering.{Ordering}
 use Rattle.std.specs.declared.cmp.Ordering.TheVariants.{Less, Equal, Greater}
 use Rattle.psg_terms.specs.Names.{is_among}
@@ -15,68 +16,14 @@ key_is n m e = (bytes_eq-Decides n m).0 e
 pub key_refl : (n : Key) → bytes_eq n n ≡ true
 key_refl n = (bytes_eq-Decides n n).1 refl
 
-pub either : (b : Bool) → (b ≡ true) ⊎ (b ≡ false)
-either true = inl refl
-either false = inr refl
-
-pub not_true : (b : Bool) → (b ≡ true → ⊥) → b ≡ false
-not_true true f = absurd (f refl)
-not_true false f = refl
-
-pub or-assoc : (a b c : Bool) → ((a || b) || c) ≡ (a || (b || c))
-or-assoc true b c = refl
-or-assoc false b c = refl
-
 pub or-swap : (a b c : Bool) → (a || (b || c)) ≡ (b || (a || c))
 or-swap true true c = refl
 or-swap true false c = refl
 or-swap false b c = refl
 
-pub or-false : (a : Bool) → (a || false) ≡ a
-or-false true = refl
-or-false false = refl
-
-pub or_cases : (a b : Bool) → (a || b) ≡ true → (a ≡ true) ⊎ (b ≡ true)
-or_cases true b e = inl refl
-or_cases false b e = inr e
-
-pub or_right : (a b : Bool) → b ≡ true → (a || b) ≡ true
-or_right true b e = refl
-or_right false b e = e
-
-pub neither : (a b : Bool) → (a || b) ≡ false → (a ≡ false) × (b ≡ false)
-neither true b e = absurd (true≢false e)
-neither false b e = (refl, e)
-
-pub and-false : (a : Bool) → (a && false) ≡ false
-and-false true = refl
-and-false false = refl
-
-pub and-true : (a : Bool) → (a && true) ≡ a
-and-true true = refl
-and-true false = refl
-
-pub and_left : (a b : Bool) → (a && b) ≡ true → a ≡ true
-and_left true b e = refl
-and_left false b e = absurd (true≢false (sym e))
-
-pub and_right : (a b : Bool) → (a && b) ≡ true → b ≡ true
-and_right true b e = e
-and_right false b e = absurd (true≢false (sym e))
-
-pub or_left : (a b : Bool) → a ≡ true → (a || b) ≡ true
-or_left true b e = refl
-or_left false b e = absurd (true≢false (sym e))
-
--- two tests that imply each other give the same answer
-pub both_ways : (s t : Bool) → (s ≡ true → t ≡ true) → (t ≡ true → s ≡ true) → s ≡ t
-both_ways true t f g = sym (f refl)
-both_ways false true f g = g refl
-both_ways false false f g = refl
-
 -- a key below another is another one
 pub less-differs : (n m : Key) → key_cmp n m ≡ Less → bytes_eq n m ≡ false
-less-differs n m h = not_true (bytes_eq n m) (λ e. absurd (clash (key_is n m e)))
+less-differs n m h = false_from_ne_true (bytes_eq n m) (λ e. absurd (clash (key_is n m e)))
   where
     clash : n ≡ m → ⊥
     clash e =
@@ -85,7 +32,7 @@ less-differs n m h = not_true (bytes_eq n m) (λ e. absurd (clash (key_is n m e)
         absurd (cc)
 
 pub less-differs_back : (n m : Key) → key_cmp m n ≡ Less → bytes_eq n m ≡ false
-less-differs_back n m h = not_true (bytes_eq n m) (λ e. absurd (clash (key_is n m e)))
+less-differs_back n m h = false_from_ne_true (bytes_eq n m) (λ e. absurd (clash (key_is n m e)))
   where
     clash : n ≡ m → ⊥
     clash e =
@@ -105,7 +52,7 @@ below-among n m (k ∷ ks) b e = elim (or_cases (bytes_eq k m) (is_among ks m) e
 ]
 
 pub below-absent : (n : Key) (ks : List Key) → IsBelow n ks → is_among ks n ≡ false
-below-absent n ks b = not_true (is_among ks n) (λ e. absurd (clash e))
+below-absent n ks b = false_from_ne_true (is_among ks n) (λ e. absurd (clash e))
   where
     clash : is_among ks n ≡ true → ⊥
     clash e =
@@ -203,7 +150,7 @@ rising-same (k ∷ ks) [] s t w v same = absurd (true≢false (sym (or_left (byt
 rising-same (k ∷ ks) (m ∷ ms) s t w v same = by (λ f. rising-same ks ms s.1 t.1 w.1 v.1 f) (key_cmp k m) refl
   where
     tails : k ≡ m → (n : Key) → is_among ks n ≡ is_among ms n
-    tails e n = elim (either (bytes_eq k n)) [
+    tails e n = elim (cases_Bool (bytes_eq k n)) [
       | inl here ↦
           let p : is_among ks n ≡ false = subst (λ q. is_among ks q ≡ false) (key_is k n here) (below-absent k ks s.0) in
           let q : is_among ms n ≡ false = subst (λ q. is_among ms q ≡ false) (sym e ∙ key_is k n here) (below-absent m ms t.0) in

@@ -4,3 +4,4 @@ pub mod MergeLaws
 pub mod SpaceLaws
 pub mod HeaderLaws
 pub mod RunLaws
+pub mod SharedLaws

@@ -1,20 +1,24 @@
 -- Two lists of keys made one.
-use Rattle.std.proofs.Common.{◌≡◌, inl, inr, ℕ, Bool, true, false, ◌||◌, ◌&&◌, List, [], ◌∷◌, ◌++◌, map, Some, length, refl, sym, ap, ap₂, subst, ◌∙◌, arith, append_assoc, append-nil, bytes_eq, true≢false}
+use Rattle.std.proofs.Common.{◌≡◌, inl, inr, ℕ, Bool, true, false, ◌||◌, ◌&&◌, List, [], ◌∷◌, ◌++◌, map, Some, length, refl, sym, ap, ap₂, subst, ◌∙◌, append_assoc, append-nil, bytes_eq, true≢false}
 use Rattle.std.specs.List.{slice_get}
 use Rattle.std.proofs.lemmas.List.{map-append, length-map}
+use Rattle.std.proofs.Math.Bool.{or-false, and-false, and-true, or_assoc}
+use Rattle.std.proofs.lemmas.Bool.{or_cases, or_right, or_parts, or_left}
+use Rattle.psg_terms.proofs.Lists.{slice_get-end, slice_get-front}
+use Rattle.std.specs.Cmp.{first_so, second_so, both_ways}
 use Rattle.std.specs.declared.cmp.Ordering.{Ordering}
 use Rattle.std.specs.declared.cmp.Ordering.TheVariants.{Less, Equal, Greater}
 use Rattle.psg_terms.specs.Names.{is_among, has_twice}
-use Rattle.psg_terms.proofs.DeclareLaws.{is_among-append, slice_get-front, slice_get-end}
+use Rattle.psg_terms.proofs.DeclareLaws.{is_among-append}
 use Rattle.psg_grammar.specs.Keys.{Key, key_cmp}
 use Rattle.psg_scope.specs.Headers.{declare_one, key_of, keys, is_declared, both, ArePlaces, IsBelow, AreRising}
 use Rattle.psg_scope.specs.Merging.{by_order, merge, merge_with, clashes, clash_with, GrowsBy, IsPlacedSoFar, IsUpTo}
 use Rattle.psg_scope.specs.declared.header.NameCol.{NameCol}
 use Rattle.psg_scope.specs.declared.merging.Merging.{Merging}
 use Rattle.psg_scope.proofs.KeyOrder.{key_exact, key_turned}
-use Rattle.psg_scope.proofs.KeyLists.{both_ways, or-assoc, or-swap, or-false, or_cases, or_left, or_right, key_is, key_refl, neither, and_left, and_right, and-false, and-true, less-differs, below-through, below-among, below-absent, below-all}
+use Rattle.psg_scope.proofs.KeyLists.{or-swap, key_is, key_refl, less-differs, below-through, below-among, below-absent, below-all}
 
-same_keys : (x y : NameCol) → key_cmp (key_of x) (key_of y) ≡ Equal → key_of x ≡ key_of y
+pub same_keys : (x y : NameCol) → key_cmp (key_of x) (key_of y) ≡ Equal → key_of x ≡ key_of y
 same_keys x y e = key_exact (key_of x) (key_of y) tt tt e
 
 -- ---- what is declared
@@ -35,7 +39,7 @@ module _ (k : Key) (x : NameCol) (behind : List NameCol → List NameCol) (xs : 
       → is_declared more k ≡ (is_declared (x ∷ xs) k || is_declared ys k)
       → is_declared (by_order r (x ∷ behind (y ∷ ys)) (both x y ∷ behind ys) (y ∷ more)) k ≡ (is_declared (x ∷ xs) k || is_declared (y ∷ ys) k)
   declared_by y ys more Less e f =
-      ap (λ b. (x.declared && bytes_eq (key_of x) k) || b) (h (y ∷ ys)) ∙ sym (or-assoc (x.declared && bytes_eq (key_of x) k) (is_declared xs k) (is_declared (y ∷ ys) k))
+      ap (λ b. (x.declared && bytes_eq (key_of x) k) || b) (h (y ∷ ys)) ∙ sym (or_assoc (x.declared && bytes_eq (key_of x) k) (is_declared xs k) (is_declared (y ∷ ys) k))
   declared_by y ys more Equal e f =
       ap (λ b. ((x.declared || y.declared) && bytes_eq (key_of x) k) || b) (h ys)
       ∙ declared_in_both x.declared y.declared (bytes_eq (key_of x) k) (is_declared xs k) (is_declared ys k)
@@ -44,7 +48,7 @@ module _ (k : Key) (x : NameCol) (behind : List NameCol → List NameCol) (xs : 
       ap (λ b. (y.declared && bytes_eq (key_of y) k) || b) f ∙ or-swap (y.declared && bytes_eq (key_of y) k) (is_declared (x ∷ xs) k) (is_declared ys k)
 
   merge_with-declared : (ys : List NameCol) → is_declared (merge_with x behind ys) k ≡ (is_declared (x ∷ xs) k || is_declared ys k)
-  merge_with-declared [] = ap (λ b. (x.declared && bytes_eq (key_of x) k) || b) (h []) ∙ sym (or-assoc (x.declared && bytes_eq (key_of x) k) (is_declared xs k) false)
+  merge_with-declared [] = ap (λ b. (x.declared && bytes_eq (key_of x) k) || b) (h []) ∙ sym (or_assoc (x.declared && bytes_eq (key_of x) k) (is_declared xs k) false)
   merge_with-declared (y ∷ ys) = declared_by y ys (merge_with x behind ys) (key_cmp (key_of x) (key_of y)) refl (merge_with-declared ys)
 
 pub merge-declared : (xs ys : List NameCol) (k : Key) → is_declared (merge xs ys) k ≡ (is_declared xs k || is_declared ys k)
@@ -63,7 +67,7 @@ module _ (k : Key) (x : NameCol) (behind : List NameCol → List NameCol) (xs : 
       → is_among (keys more) k ≡ (is_among (keys (x ∷ xs)) k || is_among (keys ys) k)
       → is_among (keys (by_order r (x ∷ behind (y ∷ ys)) (both x y ∷ behind ys) (y ∷ more))) k ≡ (is_among (keys (x ∷ xs)) k || is_among (keys (y ∷ ys)) k)
   among_by y ys more Less e f =
-      ap (λ b. bytes_eq (key_of x) k || b) (h (y ∷ ys)) ∙ sym (or-assoc (bytes_eq (key_of x) k) (is_among (keys xs) k) (is_among (keys (y ∷ ys)) k))
+      ap (λ b. bytes_eq (key_of x) k || b) (h (y ∷ ys)) ∙ sym (or_assoc (bytes_eq (key_of x) k) (is_among (keys xs) k) (is_among (keys (y ∷ ys)) k))
   among_by y ys more Equal e f =
       ap (λ b. bytes_eq (key_of x) k || b) (h ys)
       ∙ one_of_both (bytes_eq (key_of x) k) (is_among (keys xs) k) (is_among (keys ys) k)
@@ -72,7 +76,7 @@ module _ (k : Key) (x : NameCol) (behind : List NameCol → List NameCol) (xs : 
       ap (λ b. bytes_eq (key_of y) k || b) f ∙ or-swap (bytes_eq (key_of y) k) (is_among (keys (x ∷ xs)) k) (is_among (keys ys) k)
 
   merge_with-among : (ys : List NameCol) → is_among (keys (merge_with x behind ys)) k ≡ (is_among (keys (x ∷ xs)) k || is_among (keys ys) k)
-  merge_with-among [] = ap (λ b. bytes_eq (key_of x) k || b) (h []) ∙ sym (or-assoc (bytes_eq (key_of x) k) (is_among (keys xs) k) false)
+  merge_with-among [] = ap (λ b. bytes_eq (key_of x) k || b) (h []) ∙ sym (or_assoc (bytes_eq (key_of x) k) (is_among (keys xs) k) false)
   merge_with-among (y ∷ ys) = among_by y ys (merge_with x behind ys) (key_cmp (key_of x) (key_of y)) refl (merge_with-among ys)
 
 pub merge-among : (xs ys : List NameCol) (k : Key) → is_among (keys (merge xs ys)) k ≡ (is_among (keys xs) k || is_among (keys ys) k)
@@ -120,7 +124,7 @@ merge-rising (x ∷ xs) ys s t = merge_with-rising x xs s.0 ys t (λ zs u. merge
 pub undeclared : (ys : List NameCol) (k : Key) → is_among (keys ys) k ≡ false → is_declared ys k ≡ false
 undeclared [] k e = refl
 undeclared (y ∷ ys) k e =
-    let h : (bytes_eq (key_of y) k ≡ false) × (is_among (keys ys) k ≡ false) = neither (bytes_eq (key_of y) k) (is_among (keys ys) k) e in
+    let h : (bytes_eq (key_of y) k ≡ false) × (is_among (keys ys) k ≡ false) = or_parts (bytes_eq (key_of y) k) (is_among (keys ys) k) e in
     ap (λ b. (y.declared && b) || is_declared ys k) h.0 ∙ ap (λ b. b || is_declared ys k) (and-false y.declared) ∙ undeclared ys k h.1
 
 common-nil : (xs : List NameCol) → declare_one xs [] ≡ false
@@ -211,14 +215,14 @@ shared-meets (k ∷ ks) ds n h t = elim (or_cases (bytes_eq k n) (is_among ks n)
   | inr later ↦ or_right (is_among ds k) (meets ks ds) (shared-meets ks ds n later t)
 ]
 
-common-shared : (xs ys : List NameCol) → declare_one xs ys ≡ true → IsShared (is_declared xs) (is_declared ys)
+pub common-shared : (xs ys : List NameCol) → declare_one xs ys ≡ true → IsShared (is_declared xs) (is_declared ys)
 common-shared [] ys e = absurd (true≢false (sym e))
 common-shared (x ∷ xs) ys e = elim (or_cases (x.declared && is_declared ys (key_of x)) (declare_one xs ys) e) [
   | inl both_declare ↦ record {
     key = key_of x;
     here = or_left (x.declared && bytes_eq (key_of x) (key_of x)) (is_declared xs (key_of x))
-        (ap (λ b. x.declared && b) (key_refl (key_of x)) ∙ and-true x.declared ∙ and_left x.declared (is_declared ys (key_of x)) both_declare);
-    there = and_right x.declared (is_declared ys (key_of x)) both_declare;
+        (ap (λ b. x.declared && b) (key_refl (key_of x)) ∙ and-true x.declared ∙ first_so x.declared (is_declared ys (key_of x)) both_declare);
+    there = second_so x.declared (is_declared ys (key_of x)) both_declare;
   }
   | inr later ↦
       let s = common-shared xs ys later in
@@ -229,9 +233,9 @@ shared-common : (xs ys : List NameCol) (n : Key) → is_declared xs n ≡ true �
 shared-common [] ys n h t = absurd (true≢false (sym h))
 shared-common (x ∷ xs) ys n h t = elim (or_cases (x.declared && bytes_eq (key_of x) n) (is_declared xs n) h) [
   | inl here ↦
-      let same : key_of x ≡ n = key_is (key_of x) n (and_right x.declared (bytes_eq (key_of x) n) here) in
+      let same : key_of x ≡ n = key_is (key_of x) n (second_so x.declared (bytes_eq (key_of x) n) here) in
       or_left (x.declared && is_declared ys (key_of x)) (declare_one xs ys)
-      (ap (λ b. x.declared && b) (subst (λ q. is_declared ys q ≡ true) (sym same) t) ∙ and-true x.declared ∙ and_left x.declared (bytes_eq (key_of x) n) here)
+      (ap (λ b. x.declared && b) (subst (λ q. is_declared ys q ≡ true) (sym same) t) ∙ and-true x.declared ∙ first_so x.declared (bytes_eq (key_of x) n) here)
   | inr later ↦ or_right (x.declared && is_declared ys (key_of x)) (declare_one xs ys) (shared-common xs ys n later t)
 ]
 
@@ -316,16 +320,12 @@ pub step_both : {left right a b lefts rights : List NameCol} {old new : Merging}
 step_both {left} {right} {a} {b} {lefts} {rights} {old} {new} {x} {y} {clash} s h g e = record {
   names = ap (λ l. l ++ merge lefts rights) g.names ∙ append_assoc old.names.items (both x y ∷ []) (merge lefts rights) ∙ ap (λ l. old.names.items ++ l) (sym h.2) ∙ s.names;
   clash = ap (λ c. c || clashes lefts rights) (e ∙ ap (λ c. c || (x.declared && y.declared)) g.clash)
-      ∙ or-assoc old.clashes (x.declared && y.declared) (clashes lefts rights) ∙ ap (λ c. old.clashes || c) (sym h.3) ∙ s.clash;
+      ∙ or_assoc old.clashes (x.declared && y.declared) (clashes lefts rights) ∙ ap (λ c. old.clashes || c) (sym h.3) ∙ s.clash;
   lefts = placed-step old.names.items new.names.items (both x y) x old.left.items new.left.items left a lefts s.lefts h.0 refl g.names g.lefts;
   rights = placed-step old.names.items new.names.items (both x y) y old.right.items new.right.items right b rights s.rights h.1 (sym h.4) g.names g.rights;
 }
 
 -- ---- which key comes next
-
-pub empty : {X : Type 0} (xs : List X) → length xs ≡ 0 → xs ≡ []
-empty [] e = refl
-empty (x ∷ xs) e = absurd (omega arith)
 
 pub alone : (left right : List NameCol) (x : NameCol) (rest : List NameCol) → left ≡ x ∷ rest → right ≡ []
     → (left ≡ x ∷ rest) × (merge left right ≡ x ∷ merge rest right) × (clashes left right ≡ clashes rest right)

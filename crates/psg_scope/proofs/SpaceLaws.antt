@@ -1,35 +1,29 @@
 -- Two ascending lists of spaces made one.
-use Rattle.std.proofs.Common.{◌≡◌, inl, inr, ℕ, zero, suc, ◌<◌, ◌≤◌, ◌==◌, get_or, Result, Ok, Err, MatchResult, is_ok, true, ◌||◌, List, [], ◌∷◌, ◌++◌, length, refl, sym, ap, subst, ◌∙◌, arith, true≢false}
+use Rattle.std.proofs.Common.{◌≡◌, inl, inr, ℕ, zero, suc, ◌<◌, ◌≤◌, ◌==◌, get_or, Result, Ok, Err, MatchResult, is_ok, true, ◌||◌, List, [], ◌∷◌, ◌++◌, length, sym, ap, subst, ◌∙◌, arith, true≢false}
 use Rattle.std.specs.List.{AllByRecursion}
-use Rattle.std.proofs.lemmas.Bool.Decides.{eqb_tells}
-use Rattle.std.proofs.lemmas.Bool.{cases_lt}
+use Rattle.std.proofs.lemmas.Bool.{cases_lt, false_from_ne_true, or_cases, or_right, or_left, eqb-true}
 use Rattle.std.specs.Ordering.{nat_cmp}
 use Rattle.std.specs.List.Sorted.{IsBinarySearchResult}
 use Rattle.std.proofs.lemmas.List.Sorted.{searched}
+use Rattle.std.proofs.Math.Bool.{or-false, or_assoc}
+use Rattle.psg_terms.proofs.Lists.{eqb-refl}
 use Rattle.psg_scope.specs.Headers.{AreAscending, has_space}
 use Rattle.psg_scope.specs.Spaces.{IsLeast}
-use Rattle.psg_scope.proofs.KeyLists.{not_true, or-assoc, or-false, or_cases, or_left, or_right}
-
-space_is : (s t : ℕ) → (s == t) ≡ true → s ≡ t
-space_is s t e = elim (eqb_tells s t) [ inl h ↦ h.1 | inr h ↦ absurd (true≢false (sym e ∙ h.0)) ]
-
-space_refl : (s : ℕ) → (s == s) ≡ true
-space_refl s = elim (eqb_tells s s) [ inl h ↦ h.0 | inr h ↦ absurd (h.1 refl) ]
 
 pub all-has : (P : ℕ → Type 0) (ss : List ℕ) (t : ℕ) → AllByRecursion P ss → has_space ss t ≡ true → P t
 all-has P [] t a e = absurd (true≢false (sym e))
 all-has P (s ∷ ss) t a e = elim (or_cases (s == t) (has_space ss t) e) [
-  | inl same ↦ subst P (space_is s t same) a.0
+  | inl same ↦ subst P (eqb-true s t same) a.0
   | inr later ↦ all-has P ss t a.1 later
 ]
 
 pub all-of : (P : ℕ → Type 0) (ss : List ℕ) → ((t : ℕ) → has_space ss t ≡ true → P t) → AllByRecursion P ss
 all-of P [] f = tt
-all-of P (s ∷ ss) f = (f s (or_left (s == s) (has_space ss s) (space_refl s)), all-of P ss (λ t e. f t (or_right (s == t) (has_space ss t) e)))
+all-of P (s ∷ ss) f = (f s (or_left (s == s) (has_space ss s) (eqb-refl s)), all-of P ss (λ t e. f t (or_right (s == t) (has_space ss t) e)))
 
 pub has-push : (ss : List ℕ) (s t : ℕ) → has_space (ss ++ s ∷ []) t ≡ (has_space ss t || (s == t))
 has-push [] s t = or-false (s == t)
-has-push (r ∷ ss) s t = ap (λ b. (r == t) || b) (has-push ss s t) ∙ sym (or-assoc (r == t) (has_space ss t) (s == t))
+has-push (r ∷ ss) s t = ap (λ b. (r == t) || b) (has-push ss s t) ∙ sym (or_assoc (r == t) (has_space ss t) (s == t))
 
 ascending-push : (ss : List ℕ) (s : ℕ) → AreAscending ss → ((t : ℕ) → has_space ss t ≡ true → t < s) → AreAscending (ss ++ s ∷ [])
 ascending-push [] s a f = (tt, tt)
@@ -38,7 +32,7 @@ ascending-push (r ∷ ss) s a f = (all-of (λ t. r < t) (ss ++ s ∷ []) behind,
     behind : (t : ℕ) → has_space (ss ++ s ∷ []) t ≡ true → r < t
     behind t e = elim (or_cases (has_space ss t) (s == t) (sym (has-push ss s t) ∙ e)) [
       | inl there ↦ all-has (λ q. r < q) ss t a.0 there
-      | inr same ↦ subst (λ q. r < q) (space_is s t same) (f r (or_left (r == r) (has_space ss r) (space_refl r)))
+      | inr same ↦ subst (λ q. r < q) (eqb-true s t same) (f r (or_left (r == r) (has_space ss r) (eqb-refl r)))
     ]
 
 -- ---- as far as the walk has come
@@ -54,7 +48,7 @@ pub union_step : {left right a b all lefts rights new : List ℕ} {s : ℕ} → 
     → new ≡ all ++ s ∷ [] → IsUnionSoFar left right lefts rights new
 union_step {left} {right} {a} {b} {all} {lefts} {rights} {new} {s} u h e = record {
   spaces = λ t. ap (λ l. has_space l t || (has_space lefts t || has_space rights t)) e ∙ ap (λ c. c || (has_space lefts t || has_space rights t)) (has-push all s t)
-      ∙ or-assoc (has_space all t) (s == t) (has_space lefts t || has_space rights t) ∙ ap (λ c. has_space all t || c) (sym (h.spaces t)) ∙ u.spaces t;
+      ∙ or_assoc (has_space all t) (s == t) (has_space lefts t || has_space rights t) ∙ ap (λ c. has_space all t || c) (sym (h.spaces t)) ∙ u.spaces t;
   lefts = h.left_ascending u.lefts;
   rights = h.right_ascending u.rights;
   ascending = subst AreAscending (sym e) (ascending-push all s u.ascending (λ t there. u.below t s there here));
@@ -62,12 +56,12 @@ union_step {left} {right} {a} {b} {all} {lefts} {rights} {new} {s} u h e = recor
 }
   where
     here : (has_space a s || has_space b s) ≡ true
-    here = h.spaces s ∙ or_left (s == s) (has_space lefts s || has_space rights s) (space_refl s)
+    here = h.spaces s ∙ or_left (s == s) (has_space lefts s || has_space rights s) (eqb-refl s)
 
     under : (t r : ℕ) → (has_space all t || (s == t)) ≡ true → (has_space lefts r || has_space rights r) ≡ true → t < r
     under t r there later = elim (or_cases (has_space all t) (s == t) there) [
       | inl before ↦ u.below t r before (h.spaces r ∙ or_right (s == r) (has_space lefts r || has_space rights r) later)
-      | inr same ↦ subst (λ q. q < r) (space_is s t same) (elim (or_cases (has_space lefts r) (has_space rights r) later) [
+      | inr same ↦ subst (λ q. q < r) (eqb-true s t same) (elim (or_cases (has_space lefts r) (has_space rights r) later) [
         | inl one ↦ all-has (λ q. s < q) lefts r (h.above_left u.lefts u.rights) one
         | inr two ↦ all-has (λ q. s < q) rights r (h.above_right u.lefts u.rights) two
       ])
@@ -91,13 +85,13 @@ ascending-at (s ∷ ss) (suc i) (suc j) a h k = ascending-at ss i j a.1 (omega a
 
 has-at : (ss : List ℕ) (i : ℕ) → i < length ss → has_space ss (get_or ss i 0) ≡ true
 has-at [] i h = absurd (omega arith)
-has-at (s ∷ ss) zero h = or_left (s == s) (has_space ss s) (space_refl s)
+has-at (s ∷ ss) zero h = or_left (s == s) (has_space ss s) (eqb-refl s)
 has-at (s ∷ ss) (suc i) h = or_right (s == get_or ss i 0) (has_space ss (get_or ss i 0)) (has-at ss i (omega arith))
 
 has-index : (ss : List ℕ) (s : ℕ) → has_space ss s ≡ true → (k : ℕ) × (k < length ss) × (get_or ss k 0 ≡ s)
 has-index [] s e = absurd (true≢false (sym e))
 has-index (r ∷ ss) s e = elim (or_cases (r == s) (has_space ss s) e) [
-  | inl same ↦ (0, omega arith, space_is r s same)
+  | inl same ↦ (0, omega arith, eqb-true r s same)
   | inr later ↦ let f = has-index ss s later in (suc f.0, omega arith, f.2)
 ]
 
@@ -107,7 +101,7 @@ search_tells ss s r a h = by r (searched ss s r h (λ i j. ascending-at ss i j a
     by : (q : Result ℕ ℕ) → MatchResult q (λ i. (i < length ss) × (get_or ss i 0 ≡ s)) (λ i. (i ≤ length ss) × ((k : ℕ) → k < i → get_or ss k 0 < s) × ((k : ℕ) → i ≤ k → k < length ss → s < get_or ss k 0))
         → is_ok q ≡ has_space ss s
     by (Ok i) f = sym (subst (λ t. has_space ss t ≡ true) f.1 (has-at ss i f.0))
-    by (Err i) f = sym (not_true (has_space ss s) (λ e. absurd (
+    by (Err i) f = sym (false_from_ne_true (has_space ss s) (λ e. absurd (
         let w = has-index ss s e in
         elim (cases_lt w.0 i) [
           | inl below ↦ let g : get_or ss w.0 0 < s = f.1 w.0 below in omega (arith, g, w.2)

@@ -1,3 +1,4 @@
 pub mod Headers
 pub mod Merging
 pub mod Spaces
+pub mod Sharing

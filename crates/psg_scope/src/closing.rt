@@ -4,6 +4,7 @@ ghost use Rattle.psg_grammar.specs.Keys.{Key, outward};
 ghost use Rattle.psg_scope.specs.Headers.{AreAscending, ArePlaces, has_space, IsHeader, IsOrdered, keys, PassesOutward};
 
 use crate::header::{Header, NameCol};
+use crate::names::Names;
 use psg_terms::Seq;
 use std::alloc::{AllocError, Global};
 
@@ -17,8 +18,8 @@ pub struct Closed {
 }
 
 /// Makes the header of a scope operator from that of its inside region: the keys that the region neither declares nor
-/// may still declare. It declares none of them, and leaves no space unfinished. It takes a number of steps that is that
-/// of the keys times the logarithm of the number of unfinished spaces.
+/// may still declare. It declares none of them, and leaves no space unfinished. It asks of each key twice, once to
+/// count those that pass and once to share them: in steps, the keys times the logarithm of the unfinished spaces.
 pub fn close_region(alloc: Global, header: &Header) -> Result<Closed, AllocError>
     requires { IsOrdered header.now }
     ensures outward { IfOk result (λ c. PassesOutward header.now c.header) }
@@ -29,10 +30,11 @@ pub fn close_region(alloc: Global, header: &Header) -> Result<Closed, AllocError
         → IsHeader (outward unfinished declared names) [] (λ _. false) c.header) }
     ensures kept { IfOk result (λ c. ArePlaces header.now.names c.kept (keys c.header.names)) }
 {
-    let mut names = Vec::new(alloc);
-    let mut kept = Vec::new(alloc);
     let all = header.names.as_slice();
     let unfinished = header.unfinished.as_slice();
+    let count = passing(all, unfinished);
+    let mut names = Vec::with_capacity(alloc, count)?;
+    let mut kept = Vec::with_capacity(alloc, count)?;
     for i in 0..all.len() {
         let key = &all[i];
         if passes(key, unfinished) {
@@ -40,14 +42,28 @@ pub fn close_region(alloc: Global, header: &Header) -> Result<Closed, AllocError
             kept.push(i)?;
         }
     }
+    let shared = Names::of(alloc, names)?;
     Ok(Closed {
         header: Header {
-            names: Seq::of(names),
+            names: shared,
             unfinished: Seq::of(Vec::new(alloc)),
             twice: false,
         },
         kept: Seq::of(kept),
     })
+}
+
+/// Counts the keys that pass outward.
+fn passing(names: &[NameCol], unfinished: &[u32]) -> usize
+    requires { AreAscending unfinished.now }
+{
+    let mut count = 0usize;
+    for key in names {
+        if passes(key, unfinished) {
+            count = count.saturating_add(1);
+        }
+    }
+    count
 }
 
 /// Says whether the key passes outward.

@@ -3,6 +3,7 @@ ghost use Rattle.std.specs.Prelude.{◌≡◌, ◌↔◌, ◌∷◌, [], false, 
 ghost use Rattle.psg_grammar.specs.Keys.{key_cmp};
 ghost use Rattle.psg_scope.specs.Headers.{key_of};
 
+use crate::names::Names;
 use psg_terms::{Seq, Txt};
 use std::alloc::{AllocError, Global};
 use std::cmp::Ordering;
@@ -82,8 +83,8 @@ fn same_spaces(left: &[u32], right: &[u32]) -> bool
 /// The keys of a region.
 #[derive(Drop)]
 pub struct Header {
-    /// The keys in order, each once.
-    pub names: Seq<NameCol>,
+    /// The keys in order, each once. Several headers may share one list.
+    pub names: Names,
     /// The spaces in which the region may still declare more keys, ascending.
     pub unfinished: Seq<u32>,
     /// Whether the region declares a key twice.
@@ -96,7 +97,7 @@ impl Header {
         ensures { result ≡ record { names = []; unfinished = []; twice = false } }
     {
         Header {
-            names: Seq::of(Vec::new(alloc)),
+            names: Names::none(),
             unfinished: Seq::of(Vec::new(alloc)),
             twice: false,
         }
@@ -109,7 +110,7 @@ impl Header {
         let mut names = Vec::with_capacity(alloc, 1)?;
         names.push(position.share(position.declared)?)?;
         Ok(Header {
-            names: Seq::of(names),
+            names: Names::of(alloc, names)?,
             unfinished: Seq::of(Vec::new(alloc)),
             twice: false,
         })

@@ -4,7 +4,8 @@ ghost use Rattle.psg_grammar.specs.Keys.{Key};
 ghost use Rattle.psg_scope.specs.Headers.{ArePlaces, declared_keys, IsHeader, IsOrdered, IsUnion, keys};
 
 use crate::header::{Header, NameCol};
-use crate::merging::{is_either, merged};
+use crate::merging::is_either;
+use crate::sharing::whole_of;
 use crate::spaces::union;
 use psg_terms::Seq;
 use std::alloc::{AllocError, Global};
@@ -22,7 +23,10 @@ pub struct Joined {
 
 /// Makes the header of a region that has the positions of two: its keys are those of both, in order and each once, and
 /// a key that one of them declares is declared. It declares a key twice where one of them does or both declare one key.
-/// It copies each key once, and shares the names.
+///
+/// Where one header has all keys of the other, and the other one declares none, its list of keys is shared: this takes,
+/// for each key of the other one, the logarithm of its keys. Else it copies each key once, and shares the names. In both
+/// cases it makes a place for each key of each header.
 pub fn join(alloc: Global, left: &Header, right: &Header) -> Result<Joined, AllocError>
     requires left { IsOrdered left.now }
     requires right { IsOrdered right.now }
@@ -37,7 +41,7 @@ pub fn join(alloc: Global, left: &Header, right: &Header) -> Result<Joined, Allo
     ensures left { IfOk result (λ j. ArePlaces j.header.names j.left (keys left.now.names)) }
     ensures right { IfOk result (λ j. ArePlaces j.header.names j.right (keys right.now.names)) }
 {
-    let all = merged(alloc, left.names.as_slice(), right.names.as_slice())?;
+    let all = whole_of(alloc, &left.names, &right.names)?;
     let unfinished = union(
         alloc,
         left.unfinished.as_slice(),
@@ -45,7 +49,7 @@ pub fn join(alloc: Global, left: &Header, right: &Header) -> Result<Joined, Allo
     )?;
     Ok(Joined {
         header: Header {
-            names: Seq::of(all.names),
+            names: all.names,
             unfinished: Seq::of(unfinished),
             twice: is_either(is_either(left.twice, right.twice), all.clashes),
         },

@@ -15,8 +15,11 @@ mod closing;
 pub mod header;
 mod joining;
 mod merging;
+pub mod names;
+mod sharing;
 mod spaces;
 
 pub use closing::{Closed, close_region};
 pub use header::{Header, NameCol};
 pub use joining::{Joined, header_of, join};
+pub use names::Names;

@@ -50,7 +50,7 @@ fn next<'a>(left: &'a [NameCol], right: &'a [NameCol]) -> First<'a>
 }
 
 /// Counts the keys of a list that are below the key. It looks at a number of keys that is the logarithm of theirs.
-fn below(cols: &[NameCol], key: &NameCol) -> usize
+pub(crate) fn below(cols: &[NameCol], key: &NameCol) -> usize
     requires { AreRising (keys cols.now) }
     ensures within { result ≤ length cols.now }
     ensures below { AllByRecursion (λ (c : Col). key_cmp (key_of c) (key_of key.now) ≡ Less) (take result cols.now) }

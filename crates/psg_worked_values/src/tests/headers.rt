@@ -2,7 +2,7 @@
 ghost use Rattle.std.specs.Prelude.{IfOk};
 ghost use Rattle.psg_scope.specs.Headers.{IsOrdered};
 
-use psg_scope::{Header, NameCol, close_region, header_of, join};
+use psg_scope::{Header, NameCol, Names, close_region, header_of, join};
 use psg_terms::{Seq, Txt};
 use std::alloc::{AllocError, Global};
 use std::test::Fail;
@@ -38,7 +38,7 @@ fn unfinished(alloc: Global, space: u32) -> Result<Header, AllocError>
 {
     let spaces = vec![in alloc; space]?;
     Ok(Header {
-        names: Seq::of(Vec::new(alloc)),
+        names: Names::none(),
         unfinished: Seq::of(spaces),
         twice: false,
     })
@@ -120,6 +120,13 @@ fn of_regions(rt: HostRuntime) -> Result<(), Fail> {
         ("0:x", "0:x! 0:y", "0:x! 0:y |0:y "),
         ("0:x! 0:y", "0:x", "0:x! 0:y |0:y "),
         ("0:x! 0:y", "0:x! 0:y", "0:x! 0:y twice|0:y "),
+        ("0:w 0:x! 0:y", "0:w 0:x", "0:w 0:x! 0:y |0:w 0:y "),
+        ("0:w 0:x", "0:w 0:x! 0:y", "0:w 0:x! 0:y |0:w 0:y "),
+        ("0:w 0:x 0:y", "0:x!", "0:w 0:x! 0:y |0:w 0:y "),
+        ("0:x!", "0:w 0:x 0:y", "0:w 0:x! 0:y |0:w 0:y "),
+        ("0:w 0:x! 0:y", "0:x!", "0:w 0:x! 0:y twice|0:w 0:y "),
+        ("0:x! 0:y", "1:x", "0:x! 1:x 0:y |1:x 0:y "),
+        ("", "0:x! 0:y", "0:x! 0:y |0:y "),
         ("0:x & 0:x! 0:y", "more 0", "0:x! 0:y 0 |"),
         ("more 1", "0:x & 0:x! 0:y", "0:x! 0:y 1 |0:y "),
         ("more 1", "more 0", "0 1 |"),
@@ -142,5 +149,19 @@ fn places(rt: HostRuntime) -> Result<(), Fail> {
     assert!(rt; both.right.as_slice() == [0, 1, 3].as_slice());
     let outward = close_region(rt.alloc(), &both.header)?;
     assert!(rt; outward.kept.as_slice() == [0, 3].as_slice());
+    Ok(())
+}
+
+// Where one side has all keys of the other, its own keys are at 0, 1, 2, ..
+#[test]
+fn places_inside(rt: HostRuntime) -> Result<(), Fail> {
+    let long = header(rt.alloc(), "0:a 0:b! 0:d 0:e")?;
+    let short = header(rt.alloc(), "0:b 0:e")?;
+    let both = join(rt.alloc(), &long, &short)?;
+    assert!(rt; both.left.as_slice() == [0, 1, 2, 3].as_slice());
+    assert!(rt; both.right.as_slice() == [1, 3].as_slice());
+    let turned = join(rt.alloc(), &short, &long)?;
+    assert!(rt; turned.left.as_slice() == [1, 3].as_slice());
+    assert!(rt; turned.right.as_slice() == [0, 1, 2, 3].as_slice());
     Ok(())
 }

@@ -79,6 +79,31 @@ fn one_row_of_many(rt: HostRuntime) -> Result<(), Fail> {
     Ok(())
 }
 
+/// `bool` before the given number of arrays of arrays of `int`, from no array on, and a variable before one array.
+fn pairs_of_arrays(alloc: Global, count: usize) -> Result<String, AllocError> {
+    let mut rows = String::new(alloc);
+    for depth in 0..count {
+        rows.push_str("bool ")?;
+        for _ in 0..depth {
+            rows.push_str("arr ")?;
+        }
+        rows.push_str("int\n")?;
+    }
+    rows.push_str("?3 arr int")?;
+    Ok(rows)
+}
+
+// The row with a variable stays in place of the one with one array. It has 12 letters with the bar; one with n arrays
+// has 9 + 5n, and n is 0 or 2 to 17.
+#[test]
+fn one_row_of_a_few(rt: HostRuntime) -> Result<(), Fail> {
+    let rows = pairs_of_arrays(rt.alloc(), 18)?;
+    let text = relation(rt.alloc(), (rows.as_str(), 2))?;
+    assert_eq!(rt; text.as_str().len(), 925);
+    assert!(rt; text.as_str().starts_with("?1 arr(int)|bool arr(arr("));
+    Ok(())
+}
+
 /// The digits of a number below 256, as arrays for 1 and `var` for 0, the last one innermost.
 fn put_digits(text: &mut String, number: u32) -> Result<(), AllocError> {
     let mut rest = number;
@@ -205,8 +230,8 @@ fn chained(alloc: Global, count: usize) -> Result<String, AllocError> {
     joined_text(alloc, what)
 }
 
-// The chain's pair has 2^(n + 1) - 1 symbols: 16,383 within the limit, and 2^41 - 1, of which the halves are compared as
-// cells. Each is an instance of the other row.
+// The chain's pair has 2^(n + 1) - 1 symbols: 16,383 within the limit, and 2^41 - 1, of which the halves are compared
+// as cells. Each is an instance of the other row.
 #[test]
 fn chains(rt: HostRuntime) -> Result<(), Fail> {
     for count in [13, 18, 40] {

@@ -17,12 +17,12 @@ loop-i-preserved c = elim c.if-passes.branch [
 
 pub returns-clause-region : goal.returns-clause-region
 returns-clause-region c n d u is = closed is
-    (c.of.ensures ∙ kept_at_end c.loop-i.invariant (omega arith) ∙ ap₂ (λ s l. kept_cols (has_space s) l) c.as_slice-unfinished.ensures c.as_slice-all.ensures)
+    (c.in_ok-shared.ensures ∙ kept_at_end c.loop-i.invariant (omega arith) ∙ ap₂ (λ s l. kept_cols (has_space s) l) c.as_slice-unfinished.ensures c.as_slice-all.ensures)
     (c.of-2.ensures ∙ c.new.ensures.items) refl
 
 pub returns-clause-outward : goal.returns-clause-outward
 returns-clause-outward c =
-    let made = c.of.ensures ∙ kept_at_end c.loop-i.invariant (omega arith) ∙ ap₂ (λ s l. kept_cols (has_space s) l) c.as_slice-unfinished.ensures c.as_slice-all.ensures in
+    let made = c.in_ok-shared.ensures ∙ kept_at_end c.loop-i.invariant (omega arith) ∙ ap₂ (λ s l. kept_cols (has_space s) l) c.as_slice-unfinished.ensures c.as_slice-all.ensures in
     record {
       keys_are = ap keys made ∙ outward_keys _ _ c.requires.keys_rise;
       undeclared = λ k. ap (λ l. is_declared l k) made ∙ kept-undeclared k c.args.header.now.names (has_space c.args.header.now.unfinished);
@@ -32,7 +32,7 @@ returns-clause-outward c =
 
 pub returns-clause-ordered : goal.returns-clause-ordered
 returns-clause-ordered c = record {
-  keys_rise = subst (λ l. AreRising (keys l)) (sym (c.of.ensures ∙ kept_at_end c.loop-i.invariant (omega arith) ∙ ap₂ (λ s l. kept_cols (has_space s) l) c.as_slice-unfinished.ensures c.as_slice-all.ensures))
+  keys_rise = subst (λ l. AreRising (keys l)) (sym (c.in_ok-shared.ensures ∙ kept_at_end c.loop-i.invariant (omega arith) ∙ ap₂ (λ s l. kept_cols (has_space s) l) c.as_slice-unfinished.ensures c.as_slice-all.ensures))
       (kept-rising _ _ c.requires.keys_rise);
   spaces_rise = subst AreAscending (sym (c.of-2.ensures ∙ c.new.ensures.items)) tt;
 }

@@ -1,4 +1,4 @@
-use Rattle.std.proofs.Common.{false, [], ◌∷◌, refl, sym, subst}
+use Rattle.std.proofs.Common.{sym, subst}
 use Rattle.psg_scope.specs.Headers.{IsOrdered}
 use Rattle.psg_scope.proofs.HeaderLaws.{of_halves}
 use Rattle.psg_scope.proofs.joining.+header_of.Goals as goal
