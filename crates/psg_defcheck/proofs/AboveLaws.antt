@@ -1,6 +1,7 @@
 -- Laws of what is kept of the lines above a line.
 use Rattle.std.proofs.Common.{◌≡◌, ℕ, ◌+◌, ◌<◌, ◌||◌, Bool, true, false, List, [], ◌∷◌, ◌++◌, take, get_or, length, refl, ap, sym, ◌∙◌, subst, Option, Some, None, is_some, append_assoc, append-nil}
 use Rattle.std.proofs.lemmas.Bool.{or_parts}
+use Rattle.std.proofs.Math.Bool.{or-true}
 use Rattle.std.specs.Str.{bytes_eq}
 use Rattle.std.specs.Option.{option_map}
 use Rattle.std.specs.Borrow.{Bor}
@@ -66,10 +67,6 @@ pub names_of-append : (xs ys : List ConDecl) → names_of (xs ++ ys) ≡ names_o
 names_of-append [] ys = refl
 names_of-append (c ∷ xs) ys = ap (λ q. c.name ∷ q) (names_of-append xs ys)
 
-or-true : (a : Bool) → true ≡ (a || true)
-or-true true = refl
-or-true false = refl
-
 -- kinds are phyla and lists
 pub kinds-named : (ls : List Line) (n : Name) → is_among (kind_names ls) n ≡ (is_among (phylum_names ls) n || is_among (list_names ls) n)
 kinds-named [] n = refl
@@ -77,7 +74,7 @@ kinds-named (lines.Phylum m s b ∷ rest) n =
     elim (bytes_eq m n) as (λ t. (t || is_among (kind_names rest) n) ≡ ((t || is_among (phylum_names rest) n) || is_among (list_names rest) n)) [ true ↦ refl | false ↦ kinds-named rest n ]
 kinds-named (lines.List m s e w b f ∷ rest) n =
     elim (bytes_eq m n) as (λ t. (t || is_among (kind_names rest) n) ≡ (is_among (phylum_names rest) n || (t || is_among (list_names rest) n))) [
-      | true ↦ or-true (is_among (phylum_names rest) n)
+      | true ↦ sym (or-true (is_among (phylum_names rest) n))
       | false ↦ kinds-named rest n
     ]
 kinds-named (_ ∷ rest) n = kinds-named rest n

@@ -1,6 +1,6 @@
 -- Laws of names that lines declare and of their positions.
 use Rattle.std.proofs.Common.{◌≡◌, ℕ, ◌+◌, ◌<◌, ◌≤◌, ◌^◌, ◌||◌, Bool, true, false, cond, List, [], ◌∷◌, ◌++◌, length, slice_get, refl, ap, sym, ◌∙◌, subst, inl, inr, Option, Some, None, is_some, arith}
-use Rattle.std.proofs.lemmas.Bool.{true≢false, false≢true, or_left, or_right}
+use Rattle.std.proofs.lemmas.Bool.{true≢false, false≢true, or_left, or_right, cases_Bool}
 use Rattle.std.proofs.lemmas.Option.{slice_get_within}
 use Rattle.std.proofs.Common.{Result, Ok, Err}
 use Rattle.std.proofs.lemmas.Result.{err_from_is_err_and}
@@ -8,7 +8,6 @@ use Rattle.std.specs.Prelude.{IfSome, IfErr, IsErrAnd}
 use Rattle.std.specs.Str.{bytes_eq}
 use Rattle.psg_terms.specs.Names.{Name, is_among}
 use Rattle.psg_terms.specs.declared.declare.ConDecl.{ConDecl}
-use Rattle.psg_terms.proofs.Variables.{cases}
 use Rattle.psg_terms.proofs.DeclareLaws.{is_among-append}
 use Rattle.psg_deflines.specs.Entries.{Entry, written}
 use Rattle.psg_deflines.specs.declared.lines.Line.{Line}
@@ -56,7 +55,7 @@ IsTold ls n (a_list s e) = is_among (list_names ls) n ≡ true
 
 kind-told : (ls : List Line) (n : Name) (d : KindDecl) → kind_declared ls n ≡ Some d → IsTold ls n d
 kind-told [] n d e = absurd (cc)
-kind-told (lines.Phylum m s b ∷ rest) n d e = elim (cases (bytes_eq m n)) [
+kind-told (lines.Phylum m s b ∷ rest) n d e = elim (cases_Bool (bytes_eq m n)) [
   | inl t ↦ subst (IsTold (lines.Phylum m s b ∷ rest) n) (same (a_phylum s) d (sym (ap (λ c. cond c (Some (a_phylum s)) (kind_declared rest n)) t) ∙ e)) (or_left (bytes_eq m n) (is_among (phylum_names rest) n) t)
   | inr f ↦ later d (kind-told rest n d (sym (ap (λ c. cond c (Some (a_phylum s)) (kind_declared rest n)) f) ∙ e))
 ]
@@ -67,7 +66,7 @@ kind-told (lines.Phylum m s b ∷ rest) n d e = elim (cases (bytes_eq m n)) [
     later : (d : KindDecl) → IsTold rest n d → IsTold (lines.Phylum m s b ∷ rest) n d
     later (a_phylum x) h = or_right (bytes_eq m n) (is_among (phylum_names rest) n) h
     later (a_list x y) h = h
-kind-told (lines.List m s x w b f ∷ rest) n d e = elim (cases (bytes_eq m n)) [
+kind-told (lines.List m s x w b f ∷ rest) n d e = elim (cases_Bool (bytes_eq m n)) [
   | inl t ↦ subst (IsTold (lines.List m s x w b f ∷ rest) n) (same (a_list s x) d (sym (ap (λ c. cond c (Some (a_list s x)) (kind_declared rest n)) t) ∙ e)) (or_left (bytes_eq m n) (is_among (list_names rest) n) t)
   | inr g ↦ later d (kind-told rest n d (sym (ap (λ c. cond c (Some (a_list s x)) (kind_declared rest n)) g) ∙ e))
 ]

@@ -1,9 +1,9 @@
 -- Terms and specimens with the numbers of arguments and parts of the declarations.
 use Rattle.std.proofs.Common.{◌≡◌, ◌↔◌, ℕ, ◌+◌, ◌<◌, IsTrue, Bool, true, false, cond, List, [], ◌∷◌, ◌++◌, take, get_or, length, refl, ap, sym, ◌∙◌, subst, Option, Some, None, arith}
 use Rattle.std.proofs.lemmas.Bool.{false≢true}
+use Rattle.psg_terms.proofs.Lists.{take_item}
 use Rattle.std.specs.List.{AllByRecursion}
 use Rattle.psg_terms.specs.Names.{Name}
-use Rattle.psg_terms.proofs.DeclareLaws.{take-next}
 use Rattle.psg_deflines.specs.WrittenTerms.{WrittenTerm, named, apply, applied}
 use Rattle.psg_deflines.specs.WrittenTrees.{WrittenTree, operator, with_tree, with_name, with_number, with_text}
 use Rattle.psg_deflines.specs.TreeShapes.{with_parts, ending, list_of}
@@ -15,9 +15,6 @@ use Rattle.psg_deflines.specs.declared.lines.Line.{Line}
 use Rattle.psg_defcheck.specs.Scopes.{constructor_declared, operator_declared}
 use Rattle.psg_defcheck.specs.Meanings.{CountsTerm, CountsTree, IsArity, IsPartCount, count_of}
 use Rattle.psg_defcheck.specs.Parts.{CountsPart, CountsEnd}
-
-suc-plus : (k n : ℕ) → k + 1 + n ≡ k + (1 + n)
-suc-plus k n = omega arith
 
 pub counts-applied : (file : List Line) (k m : ℕ) (f : WrittenTerm) (args : List WrittenTerm) → m ≡ k + length args → CountsTerm file k (applied f args) ↔ (CountsTerm file m f × AllByRecursion (CountsTerm file 0) args)
 counts-applied file k m f [] e = let z : m ≡ k = omega arith in (λ c. (subst (λ n. CountsTerm file n f) (sym z) c, tt), λ h. subst (λ n. CountsTerm file n f) z h.0)
@@ -103,8 +100,8 @@ count_of-append test (y ∷ xs) x =
 
 pub count-more : (test : LineItem → Bool) (xs : List LineItem) (i : ℕ) (x : LineItem) (n : ℕ) → i < length xs → x ≡ get_or xs i x → test x ≡ true → n ≡ count_of test (take i xs) → n + 1 ≡ count_of test (take (i + 1) xs)
 count-more test xs i x n lt at is e =
-    ap (λ m. m + 1) e ∙ sym (ap (λ b. cond b (count_of test (take i xs) + 1) (count_of test (take i xs))) is) ∙ sym (count_of-append test (take i xs) x) ∙ ap (count_of test) (sym (take-next xs i x lt at))
+    ap (λ m. m + 1) e ∙ sym (ap (λ b. cond b (count_of test (take i xs) + 1) (count_of test (take i xs))) is) ∙ sym (count_of-append test (take i xs) x) ∙ ap (count_of test) (sym (take_item xs i x lt at))
 
 pub count-same : (test : LineItem → Bool) (xs : List LineItem) (i : ℕ) (x : LineItem) (n : ℕ) → i < length xs → x ≡ get_or xs i x → test x ≡ false → n ≡ count_of test (take i xs) → n ≡ count_of test (take (i + 1) xs)
 count-same test xs i x n lt at is e =
-    e ∙ sym (ap (λ b. cond b (count_of test (take i xs) + 1) (count_of test (take i xs))) is) ∙ sym (count_of-append test (take i xs) x) ∙ ap (count_of test) (sym (take-next xs i x lt at))
+    e ∙ sym (ap (λ b. cond b (count_of test (take i xs) + 1) (count_of test (take i xs))) is) ∙ sym (count_of-append test (take i xs) x) ∙ ap (count_of test) (sym (take_item xs i x lt at))

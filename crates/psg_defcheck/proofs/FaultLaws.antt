@@ -1,8 +1,9 @@
 -- Lines that pass all tests, and the first one that does not.
 use Rattle.std.proofs.Common.{◌≡◌, ◌↔◌, ℕ, ◌+◌, ◌<◌, Bool, false, IsTrue, suc, List, [], ◌∷◌, ◌++◌, take, drop, get_or, length, ap, sym, ◌∙◌, subst, Some, None, append_assoc, append-nil}
 use Rattle.std.proofs.lemmas.Bool.{false≢true}
+use Rattle.psg_terms.proofs.Lists.{take_item}
 use Rattle.std.specs.List.{AllByRecursion}
-use Rattle.psg_terms.proofs.DeclareLaws.{take-next, around}
+use Rattle.psg_terms.proofs.DeclareLaws.{around}
 use Rattle.psg_deflines.specs.Entries.{Entry, written}
 use Rattle.psg_deflines.specs.declared.fault.DefCode.{DefCode}
 use Rattle.psg_deflines.specs.declared.lines.Line.{Line}
@@ -29,13 +30,13 @@ passed-push file above (x ∷ xs) line h k =
 
 pub passed-none : (file : List Line) (entries : List Entry) (i : ℕ) (e : Entry) (above : Above) → HasPassed file (written (take i entries)) above → i < length entries → e ≡ get_or entries i e → e ≡ None → HasPassed file (written (take (i + 1) entries)) above
 passed-none file entries i e above h lt at is =
-    subst (λ ls. HasPassed file ls above) (sym (ap written (take-next entries i e lt at ∙ ap (λ (x : Entry). take i entries ++ x ∷ []) is) ∙ written-append (take i entries) (None ∷ []) ∙ append-nil (written (take i entries)))) h
+    subst (λ ls. HasPassed file ls above) (sym (ap written (take_item entries i e lt at ∙ ap (λ (x : Entry). take i entries ++ x ∷ []) is) ∙ written-append (take i entries) (None ∷ []) ∙ append-nil (written (take i entries)))) h
 
 pub passed-some : (file : List Line) (entries : List Entry) (i : ℕ) (e : Entry) (line : Line) (above after : Above) → HasPassed file (written (take i entries)) above → i < length entries → e ≡ get_or entries i e → e ≡ Some line
     → ((ls : List Line) → IsAbove ls above → IsLineFault file ls line None) → ((ls : List Line) → IsAbove ls above → IsNew ls line → IsAbove (ls ++ line ∷ []) after) → HasPassed file (written (take (i + 1) entries)) after
 passed-some file entries i e line above after h lt at is passes step =
     let front = written (take i entries) in
-    subst (λ ls. HasPassed file ls after) (sym (ap written (take-next entries i e lt at ∙ ap (λ (x : Entry). take i entries ++ x ∷ []) is) ∙ written-append (take i entries) (Some line ∷ [])))
+    subst (λ ls. HasPassed file ls after) (sym (ap written (take_item entries i e lt at ∙ ap (λ (x : Entry). take i entries ++ x ∷ []) is) ∙ written-append (take i entries) (Some line ∷ [])))
     (record { above = step front h.above (passes front h.above).0; passed = passed-push file [] front line h.passed (passes front h.above) })
 
 pub fault-at : (entries : List Entry) (i : ℕ) (e : Entry) (line : Line) (above : Above) (code : DefCode) (place : ℕ) → HasPassed (written entries) (written (take i entries)) above → i < length entries → e ≡ get_or entries i e → e ≡ Some line

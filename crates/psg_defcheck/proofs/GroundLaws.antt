@@ -1,6 +1,7 @@
 -- Laws of the marks of sorts that have terms without variables.
 use Rattle.std.proofs.Common.{◌≡◌, ◌↔◌, ℕ, ◌+◌, ◌<◌, ◌≤◌, ◌||◌, Bool, true, false, cond, IsTrue, is_some, zero, suc, List, [], ◌∷◌, ◌++◌, take, get_or, length, refl, ap, sym, ◌∙◌, subst, inl, inr, Option, Some, None, MatchBool, arith}
 use Rattle.std.proofs.lemmas.Bool.{or_cases, false≢true, true≢false}
+use Rattle.psg_terms.proofs.Lists.{take_item, each_append}
 use Rattle.std.specs.Bool.{OnTrue, OnFalse}
 use Rattle.std.specs.List.{AllByRecursion}
 use Rattle.std.specs.Option.{option_map}
@@ -9,7 +10,7 @@ use Rattle.std.specs.Borrow.{Bor}
 use Rattle.psg_terms.specs.Names.{Name, is_among}
 use Rattle.psg_terms.specs.declared.declare.ConDecl.{ConDecl}
 use Rattle.psg_terms.specs.declared.declare.SortDecl.{SortDecl}
-use Rattle.psg_terms.proofs.DeclareLaws.{take-next, bytes_eq-same, bytes_eq-refl}
+use Rattle.psg_terms.proofs.DeclareLaws.{bytes_eq-same, bytes_eq-refl}
 use Rattle.psg_deflines.specs.Entries.{Entry, written}
 use Rattle.psg_deflines.specs.declared.lines.Line.{Line}
 use Rattle.psg_deflines.specs.declared.lines.Line.TheVariants as lines
@@ -113,11 +114,7 @@ written-append (Some l ∷ xs) ys = ap (λ q. l ∷ q) (written-append xs ys)
 
 names-next : (all : List Entry) (i : ℕ) (e : Entry) → i < length all → e ≡ get_or all i e → sort_names (written (take (i + 1) all)) ≡ sort_names (written (take i all)) ++ sort_names (written (e ∷ []))
 names-next all i e lt at =
-    ap (λ es. sort_names (written es)) (take-next all i e lt at) ∙ ap sort_names (written-append (take i all) (e ∷ [])) ∙ sort_names-append (written (take i all)) (written (e ∷ []))
-
-each-append : (P : Name → Type 0) (xs ys : List Name) → AllByRecursion P xs → AllByRecursion P ys → AllByRecursion P (xs ++ ys)
-each-append P [] ys h k = k
-each-append P (x ∷ xs) ys h k = (h.0, each-append P xs ys h.1 k)
+    ap (λ es. sort_names (written es)) (take_item all i e lt at) ∙ ap sort_names (written-append (take i all) (e ∷ [])) ∙ sort_names-append (written (take i all)) (written (e ∷ []))
 
 -- an entry that is no sort's line
 pub round-other : (file : List Line) (first now : Names) (all : List Entry) (i : ℕ) (e : Entry) (b : Bool) → IsRound file first now all (take i all) b → i < length all → e ≡ get_or all i e → sort_names (written (e ∷ [])) ≡ [] → IsRound file first now all (take (i + 1) all) b
@@ -126,7 +123,7 @@ round-other file first now all i e false h lt at nothing = record {
   right = h.right;
   rest = (
     h.rest.0,
-    subst (AllByRecursion (Keeps file now)) (sym (names-next all i e lt at)) (each-append (Keeps file now) (sort_names (written (take i all))) (sort_names (written (e ∷ []))) h.rest.1
+    subst (AllByRecursion (Keeps file now)) (sym (names-next all i e lt at)) (each_append (Keeps file now) (sort_names (written (take i all))) (sort_names (written (e ∷ []))) h.rest.1
         (subst (AllByRecursion (Keeps file now)) (sym nothing) tt)),
   );
 }
@@ -151,10 +148,6 @@ among-entry (x ∷ all) (suc i) e d lt at is = past x (among-entry all i e d (om
 abbrev pub IsMark : List Line → Names → Names → Name → Bool → Type 0
 IsMark file old new k b = MatchBool b ((has old k ≡ false) × ((n : Name) → has new n ≡ (bytes_eq k n || has old n))) ((new ≡ old) × Keeps file new k)
 
-or-true : (b : Bool) → (b || true) ≡ true
-or-true true = refl
-or-true false = refl
-
 pub round-sort : (file : List Line) (first now after : Names) (all : List Entry) (i : ℕ) (e : Entry) (d : SortDecl) (k : Name) (b m r : Bool) → IsRound file first now all (take i all) b → i < length all → e ≡ get_or all i e → e ≡ Some (lines.Sort d) → k ≡ d.name
     → (AreRight file now → AreRight file after) → IsMark file now after k m → r ≡ (b || m) → IsRound file first after all (take (i + 1) all) r
 round-sort file first now after all i e d k b m r h lt at is name right marks er = subst (IsRound file first after all (take (i + 1) all)) (sym er) (go b m h marks)
@@ -167,7 +160,7 @@ round-sort file first now after all i e d k b m r h lt at is name right marks er
 
     kept : (w : Names) → AllByRecursion (Keeps file w) (sort_names (written (take i all))) → Keeps file w k → AllByRecursion (Keeps file w) (sort_names (written (take (i + 1) all)))
     kept w xs q = subst (AllByRecursion (Keeps file w)) (sym (names-next all i e lt at ∙ ap (λ (y : Entry). sort_names (written (take i all)) ++ sort_names (written (y ∷ []))) is))
-        (each-append (Keeps file w) (sort_names (written (take i all))) (d.name ∷ []) xs (to_name w q, tt))
+        (each_append (Keeps file w) (sort_names (written (take i all))) (d.name ∷ []) xs (to_name w q, tt))
 
     less : (has now k ≡ false) × ((n : Name) → has after n ≡ (bytes_eq k n || has now n)) → waiting after names < waiting now names
     less q = waiting-less now after k names q.1 q.0 (ap (is_among names) name ∙ among-entry all i e d lt at is)

@@ -1,6 +1,6 @@
 -- Laws of names in order.
 use Rattle.std.proofs.Common.{◌≡◌, ℕ, ◌||◌, Bool, true, false, if◌then◌else◌, List, [], ◌∷◌, ◌++◌, map, slice_get, get_or, refl, ap, ap₂, sym, ◌∙◌, inl, inr, Option, Some, None}
-use Rattle.std.proofs.lemmas.Bool.{true≢false}
+use Rattle.std.proofs.lemmas.Bool.{true≢false, cases_Bool}
 use Rattle.std.proofs.lemmas.List.{map-append}
 use Rattle.std.proofs.lemmas.List.Quantifiers.{position-Some}
 use Rattle.std.proofs.lemmas.Option.{slice_get-map, slice_get-get_or}
@@ -10,7 +10,6 @@ use Rattle.std.specs.Prelude.{IfSome}
 use Rattle.std.specs.Str.{bytes_eq}
 use Rattle.std.specs.Borrow.{Bor}
 use Rattle.psg_terms.specs.Names.{Name, is_among}
-use Rattle.psg_terms.proofs.Variables.{cases}
 use Rattle.psg_terms.proofs.DeclareLaws.{is_among-append, bytes_eq-same, bytes_eq-refl, bytes_eq-sym}
 
 abbrev pub Keys : Type 0
@@ -20,7 +19,7 @@ abbrev pub texts : Keys → List Name
 texts ks = map (λ (k : Bor (List ℕ)). k.now) ks
 
 bytes_eq-swap : (m n : Name) → bytes_eq m n ≡ bytes_eq n m
-bytes_eq-swap m n = elim (cases (bytes_eq m n)) [
+bytes_eq-swap m n = elim (cases_Bool (bytes_eq m n)) [
   | inl e ↦ e ∙ sym (ap (λ x. bytes_eq x m) (sym (bytes_eq-same m n e)) ∙ bytes_eq-refl m)
   | inr e ↦ e ∙ sym (bytes_eq-sym m n e)
 ]
@@ -50,13 +49,13 @@ or-swap false true = refl
 or-swap false false = refl
 
 pub listed-insert : (ks : Keys) (k : Bor (List ℕ)) (n : Name) → is_among (texts (with_key ks k)) n ≡ (bytes_eq k.now n || is_among (texts ks) n)
-listed-insert ks k n = elim (cases (is_among (texts ks) k.now)) [
+listed-insert ks k n = elim (cases_Bool (is_among (texts ks) k.now)) [
   | inl e ↦ ap (λ b. is_among (texts (if b then ks else ks ++ k ∷ [])) n) (listed-among ks k.now ∙ e) ∙ there e
   | inr e ↦ ap (λ l. is_among l n) (listed-last ks k e) ∙ is_among-append (texts ks) (k.now ∷ []) n ∙ or-swap (is_among (texts ks) n) (bytes_eq k.now n)
 ]
   where
     there : is_among (texts ks) k.now ≡ true → is_among (texts ks) n ≡ (bytes_eq k.now n || is_among (texts ks) n)
-    there e = elim (cases (bytes_eq k.now n)) [
+    there e = elim (cases_Bool (bytes_eq k.now n)) [
       | inl f ↦ ap (is_among (texts ks)) (sym (bytes_eq-same k.now n f)) ∙ e ∙ sym (ap (λ b. b || is_among (texts ks) n) f)
       | inr f ↦ sym (ap (λ b. b || is_among (texts ks) n) f)
     ]

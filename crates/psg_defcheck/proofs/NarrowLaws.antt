@@ -1,12 +1,12 @@
 -- Laws of what leaves some of the sorts that agree with a table.
 use Rattle.std.proofs.Common.{◌≡◌, ◌↔◌, ℕ, Bool, true, false, cond, List, [], refl, ap, sym, ◌∙◌, subst, inl, inr, Option, Some, None, MatchOption, unwrap_or}
 use Rattle.std.proofs.lemmas.Map.Text.{hash_map_updates_str}
+use Rattle.std.proofs.lemmas.Bool.{cases_Bool}
 use Rattle.std.specs.Option.{option_map}
 use Rattle.std.specs.Str.{bytes_eq}
 use Rattle.std.specs.Borrow.{Bor}
 use Rattle.std.specs.Map.{lookup}
 use Rattle.psg_terms.specs.Names.{Name}
-use Rattle.psg_terms.proofs.Variables.{cases}
 use Rattle.psg_terms.proofs.DeclareLaws.{bytes_eq-same, bytes_eq-refl}
 use Rattle.psg_defcheck.specs.Meanings.{MayStand}
 use Rattle.psg_defcheck.specs.Tables.{Table, found, name_told}
@@ -63,13 +63,13 @@ variable_new m new n wanted place at none u =
     here s a = subst (says s n) (new-at n ∙ ap (λ b. cond b (Some wanted) (found m n)) (bytes_eq-refl n)) (a n)
 
     forth : (s : Name → Name) → Agrees new s → Agrees m s
-    forth s a q = elim (cases (bytes_eq n q)) [
+    forth s a q = elim (cases_Bool (bytes_eq n q)) [
       | inl t ↦ subst (says s q) (sym (ap (found m) (sym (bytes_eq-same n q t)) ∙ none)) tt
       | inr f ↦ subst (says s q) (new-at q ∙ ap (λ b. cond b (Some wanted) (found m q)) f) (a q)
     ]
 
     back : (s : Name → Name) → Agrees m s → s n ≡ wanted.now → Agrees new s
-    back s a e q = elim (cases (bytes_eq n q)) [
+    back s a e q = elim (cases_Bool (bytes_eq n q)) [
       | inl t ↦ subst (says s q) (sym (new-at q ∙ ap (λ b. cond b (Some wanted) (found m q)) t)) (ap s (sym (bytes_eq-same n q t)) ∙ e)
       | inr f ↦ subst (says s q) (sym (new-at q ∙ ap (λ b. cond b (Some wanted) (found m q)) f)) (a q)
     ]

@@ -1,11 +1,12 @@
 -- Names that no line above and no constructor before declares.
 use Rattle.std.proofs.Common.{◌≡◌, ℕ, ◌+◌, ◌<◌, ◌||◌, Bool, true, false, suc, List, [], ◌∷◌, ◌++◌, take, drop, get_or, length, refl, ap, ap₂, sym, ◌∙◌, subst, append_assoc}
 use Rattle.std.proofs.lemmas.Bool.{or_parts, true≢false}
+use Rattle.psg_terms.proofs.Lists.{take_item}
 use Rattle.std.specs.List.{AllByRecursion}
 use Rattle.std.specs.Str.{bytes_eq}
 use Rattle.psg_terms.specs.Names.{Name, is_among, has_twice}
 use Rattle.psg_terms.specs.declared.declare.ConDecl.{ConDecl}
-use Rattle.psg_terms.proofs.DeclareLaws.{take-next, around, bytes_eq-sym, is_among-append, has_twice-push, has_twice-front}
+use Rattle.psg_terms.proofs.DeclareLaws.{around, bytes_eq-sym, is_among-append, has_twice-push, has_twice-front}
 use Rattle.psg_defcheck.specs.Scopes.{names_of}
 use Rattle.psg_defcheck.specs.NameSets.{has, listed, AreNames, AreFresh}
 use Rattle.psg_defcheck.specs.declared.names.Names.{Names}
@@ -32,7 +33,7 @@ pub none-new : (names seen : Names) → listed seen ≡ [] → AreNew names seen
 none-new names seen h = record { seen_all = h; once = refl; apart = λ before _. tt }
 
 next-names : (cs : List ConDecl) (i : ℕ) (c : ConDecl) → i < length cs → c ≡ get_or cs i c → names_of (take (i + 1) cs) ≡ names_of (take i cs) ++ c.name ∷ []
-next-names cs i c lt at = ap names_of (take-next cs i c lt at) ∙ names_of-append (take i cs) (c ∷ [])
+next-names cs i c lt at = ap names_of (take_item cs i c lt at) ∙ names_of-append (take i cs) (c ∷ [])
 
 pub new-step : (names seen after : Names) (cs : List ConDecl) (i : ℕ) (c : ConDecl) (k : Name) (a b : Bool) → AreNew names seen (take i cs) → i < length cs → c ≡ get_or cs i c → k ≡ c.name → a ≡ false → a ≡ has names k → b ≡ false → b ≡ has seen k
     → Puts seen after k → AreNew names after (take (i + 1) cs)

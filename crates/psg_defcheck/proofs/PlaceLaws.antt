@@ -1,6 +1,7 @@
 -- Places of columns and parts, item by item.
 use Rattle.std.proofs.Common.{◌≡◌, ℕ, ◌+◌, ◌<◌, List, [], ◌∷◌, ◌++◌, map, take, get_or, length, refl, ap, sym, ◌∙◌, append-nil}
-use Rattle.psg_terms.proofs.DeclareLaws.{take-next}
+use Rattle.std.proofs.lemmas.List.{map_push}
+use Rattle.psg_terms.proofs.Lists.{take_item}
 use Rattle.psg_deflines.specs.declared.lines.LineItem.{LineItem}
 use Rattle.psg_deflines.specs.declared.lines.LineItem.TheVariants as items
 use Rattle.psg_deflines.specs.declared.lines.Line.{Line}
@@ -23,19 +24,15 @@ part_places-append file (items.Number ∷ xs) ys = ap (λ q. meanings.for_number
 part_places-append file (items.Text ∷ xs) ys = ap (λ q. meanings.for_text ∷ q) (part_places-append file xs ys)
 part_places-append file (_ ∷ xs) ys = part_places-append file xs ys
 
-pub map-push : {X Y : Type 0} (read : X → Y) (xs : List X) (x : X) → map read (xs ++ x ∷ []) ≡ map read xs ++ read x ∷ []
-map-push read [] x = refl
-map-push read (y ∷ xs) x = ap (λ q. read y ∷ q) (map-push read xs x)
-
 -- a list that follows the items, with one item more
 step : {X Y Z : Type 0} (read : X → Y) (of : List Z → List Y) → ((xs ys : List Z) → of (xs ++ ys) ≡ of xs ++ of ys) → (zs : List Z) (i : ℕ) (z : Z) (old new : List X) → i < length zs → z ≡ get_or zs i z
     → map read old ≡ of (take i zs) → map read new ≡ map read old ++ of (z ∷ []) → map read new ≡ of (take (i + 1) zs)
-step read of split zs i z old new lt at e n = n ∙ ap (λ q. q ++ of (z ∷ [])) e ∙ sym (split (take i zs) (z ∷ [])) ∙ ap of (sym (take-next zs i z lt at))
+step read of split zs i z old new lt at e n = n ∙ ap (λ q. q ++ of (z ∷ [])) e ∙ sym (split (take i zs) (z ∷ [])) ∙ ap of (sym (take_item zs i z lt at))
 
 pub step-some : {X Y Z : Type 0} (read : X → Y) (of : List Z → List Y) → ((xs ys : List Z) → of (xs ++ ys) ≡ of xs ++ of ys) → (zs : List Z) (i : ℕ) (z : Z) (old new : List X) (x : X) → i < length zs → z ≡ get_or zs i z
     → map read old ≡ of (take i zs) → new ≡ old ++ x ∷ [] → of (z ∷ []) ≡ read x ∷ [] → map read new ≡ of (take (i + 1) zs)
 step-some read of split zs i z old new x lt at e n is =
-    step read of split zs i z old new lt at e (ap (map read) n ∙ map-push read old x ∙ ap (λ q. map read old ++ q) (sym is))
+    step read of split zs i z old new lt at e (ap (map read) n ∙ map_push read old x ∙ ap (λ q. map read old ++ q) (sym is))
 
 pub step-none : {X Y Z : Type 0} (read : X → Y) (of : List Z → List Y) → ((xs ys : List Z) → of (xs ++ ys) ≡ of xs ++ of ys) → (zs : List Z) (i : ℕ) (z : Z) (old new : List X) → i < length zs → z ≡ get_or zs i z
     → map read old ≡ of (take i zs) → new ≡ old → of (z ∷ []) ≡ [] → map read new ≡ of (take (i + 1) zs)

@@ -1,11 +1,11 @@
 -- Terms at places of their own sorts.
 use Rattle.std.proofs.Common.{◌≡◌, ◌↔◌, ℕ, ◌+◌, ◌<◌, zero, suc, Bool, true, false, IsTrue, is_some, List, [], ◌∷◌, ◌++◌, map, take, get_or, length, refl, ap, ap₂, sym, ◌∙◌, subst, Option, Some, None, append-nil, arith}
-use Rattle.std.proofs.lemmas.List.{take_all}
+use Rattle.std.proofs.lemmas.List.{take_all, map_push, length-map}
 use Rattle.std.proofs.lemmas.Bool.{false≢true}
+use Rattle.psg_terms.proofs.Lists.{take_item, get_or_fixed}
 use Rattle.std.specs.List.{AllByRecursion}
 use Rattle.std.specs.Borrow.{Bor}
 use Rattle.psg_terms.specs.Names.{Name}
-use Rattle.psg_terms.proofs.DeclareLaws.{take-next}
 use Rattle.psg_deflines.specs.WrittenTerms.{WrittenTerm, variable, named, apply, applied}
 use Rattle.psg_deflines.specs.declared.lines.Line.{Line}
 use Rattle.psg_defcheck.specs.Scopes.{Constructor, constructor_declared, Place, sort_place}
@@ -13,7 +13,6 @@ use Rattle.psg_defcheck.specs.Meanings.{KnowsTerm, CountsTerm, MayStand, SortsTe
 use Rattle.psg_defcheck.specs.Sorting.{place_told, places_told, Agrees, Narrows}
 use Rattle.psg_defcheck.proofs.KnownLaws.{knows-applied}
 use Rattle.psg_defcheck.proofs.CountedLaws.{counts-applied}
-use Rattle.psg_defcheck.proofs.PlaceLaws.{map-push}
 use Rattle.psg_defcheck.proofs.NarrowLaws.{Sorts, narrows-then, narrows-as}
 
 pub all-at : {X : Type 0} (P : X → Type 0) (xs : List X) (i : ℕ) (x : X) → AllByRecursion P xs → i < length xs → x ≡ get_or xs i x → P x
@@ -68,11 +67,6 @@ pub told-length : (ps : List (Option (Bor (List ℕ)))) → length (places_told 
 told-length [] = refl
 told-length (p ∷ ps) = omega (arith, told-length ps)
 
-pub get-same : {X : Type 0} (xs : List X) (i : ℕ) (d : X) → i < length xs → get_or xs i d ≡ get_or xs i (get_or xs i d)
-get-same [] i d lt = absurd (omega arith)
-get-same (x ∷ xs) zero d lt = refl
-get-same (x ∷ xs) (suc i) d lt = get-same xs i d (omega arith)
-
 pub all-next : (file : List Line) (s : Name → Name) (ps : List (Option (Bor (List ℕ)))) (ts : List WrittenTerm) (i : ℕ) (d : Option (Bor (List ℕ))) (t : WrittenTerm) → length ps ≡ length ts → i < length ts → t ≡ get_or ts i t
     → (SortAll file s (places_told (take i ps)) (take i ts) × SortsTerm file s [] (place_told (get_or ps i d)) t) ↔ SortAll file s (places_told (take (i + 1) ps)) (take (i + 1) ts)
 all-next file s ps ts i d t l lt at =
@@ -80,8 +74,8 @@ all-next file s ps ts i d t l lt at =
     let p = get_or ps i d in
     let eq : length (places_told (take i ps)) ≡ length (take i ts) = told-length (take i ps) ∙ take-length i ps lp ∙ sym (take-length i ts lt) in
     let r = all-push file s (places_told (take i ps)) (take i ts) (place_told p) t eq in
-    let ep : places_told (take (i + 1) ps) ≡ places_told (take i ps) ++ place_told p ∷ [] = ap places_told (take-next ps i p lp (get-same ps i d lp)) ∙ map-push place_told (take i ps) p in
-    let et : take (i + 1) ts ≡ take i ts ++ t ∷ [] = take-next ts i t lt at in
+    let ep : places_told (take (i + 1) ps) ≡ places_told (take i ps) ++ place_told p ∷ [] = ap places_told (take_item ps i p lp (get_or_fixed ps i d lp)) ∙ map_push place_told (take i ps) p in
+    let et : take (i + 1) ts ≡ take i ts ++ t ∷ [] = take_item ts i t lt at in
     let e : SortAll file s (places_told (take (i + 1) ps)) (take (i + 1) ts) ≡ SortAll file s (places_told (take i ps) ++ place_told p ∷ []) (take i ts ++ t ∷ []) = ap₂ (SortAll file s) ep et in (
       λ h. subst (λ X. X) (sym e) (r.1 h),
       λ h. r.0 (subst (λ X. X) e h),
@@ -99,16 +93,12 @@ known_arguments file t n args e k = ((knows-applied file (named n) args).0 (subs
 pub counted_arguments : (file : List Line) (t : WrittenTerm) (n : Name) (args : List WrittenTerm) → applied (named n) args ≡ t → CountsTerm file 0 t → AllByRecursion (CountsTerm file 0) args
 counted_arguments file t n args e k = ((counts-applied file 0 (length args) (named n) args (omega arith)).0 (subst (CountsTerm file 0) (sym e) k)).1
 
-map-length : {X Y : Type 0} (read : X → Y) (xs : List X) → length (map read xs) ≡ length xs
-map-length read [] = refl
-map-length read (x ∷ xs) = omega (arith, map-length read xs)
-
 pub places_count : (file : List Line) (t : WrittenTerm) (n : Name) (args : List WrittenTerm) (c : Constructor) (ps : List (Option (Bor (List ℕ)))) → applied (named n) args ≡ t → CountsTerm file 0 t → Some c ≡ constructor_declared file n → places_told ps ≡ map (sort_place file) c.1.args
     → length ps ≡ length args
 places_count file t n args c ps e k at is =
     let h = ((counts-applied file 0 (length args) (named n) args (omega arith)).0 (subst (CountsTerm file 0) (sym e) k)).0 in
     let arity : length c.1.args ≡ length args = subst (λ o. IsArity o (length args)) (sym at) h in
-    sym (told-length ps) ∙ ap length is ∙ map-length (sort_place file) c.1.args ∙ arity
+    sym (told-length ps) ∙ ap length is ∙ length-map c.1.args (sort_place file) ∙ arity
 
 pub not_standing : (file : List Line) (s : Name → Name) (at : Place) (t : WrittenTerm) (n : Name) (args : List WrittenTerm) (c : Constructor) (b : Bool) → applied (named n) args ≡ t → Some c ≡ constructor_declared file n → b ≡ false → IsTrue b ↔ MayStand at c.0 → SortsTerm file s [] at t → ⊥
 not_standing file s at t n args c b e is f stands h =

@@ -1,11 +1,11 @@
 -- Specimens at places of their own kinds.
 use Rattle.std.proofs.Common.{◌≡◌, ◌↔◌, ℕ, ◌+◌, ◌<◌, zero, suc, Bool, true, false, IsTrue, is_some, List, [], ◌∷◌, ◌++◌, take, get_or, length, refl, ap, ap₂, sym, ◌∙◌, subst, Option, Some, None, append-nil, arith}
-use Rattle.std.proofs.lemmas.List.{take_all}
+use Rattle.std.proofs.lemmas.List.{take_all, map_push}
 use Rattle.std.proofs.lemmas.Bool.{false≢true}
+use Rattle.psg_terms.proofs.Lists.{take_item, get_or_fixed, each_take}
 use Rattle.std.specs.List.{AllByRecursion}
 use Rattle.std.specs.Borrow.{Bor}
 use Rattle.psg_terms.specs.Names.{Name}
-use Rattle.psg_terms.proofs.DeclareLaws.{take-next}
 use Rattle.psg_deflines.specs.WrittenTerms.{WrittenTerm}
 use Rattle.psg_deflines.specs.WrittenTrees.{WrittenTree, operator, with_tree, with_name, with_number, with_text}
 use Rattle.psg_deflines.specs.TreeShapes.{with_parts, ending, list_of}
@@ -23,8 +23,7 @@ use Rattle.psg_defcheck.specs.declared.places.PartPlace.{PartPlace as Told}
 use Rattle.psg_defcheck.specs.declared.places.PartPlace.TheVariants as places
 use Rattle.psg_defcheck.proofs.KnownLaws.{knows-parts, knows-elements}
 use Rattle.psg_defcheck.proofs.CountedLaws.{counts-parts, counts-elements}
-use Rattle.psg_defcheck.proofs.PlaceLaws.{map-push}
-use Rattle.psg_defcheck.proofs.SortLaws.{take-length, get-same}
+use Rattle.psg_defcheck.proofs.SortLaws.{take-length}
 use Rattle.psg_defcheck.proofs.NarrowLaws.{Sorts, narrows-always, narrows-then, narrows-as}
 
 -- an operator stands at a place where its parts stand at some places
@@ -213,8 +212,8 @@ all-next file s qs ps i d p l lt at =
     let q = get_or qs i d in
     let eq : length (part_places_told (take i qs)) ≡ length (take i ps) = told-length (take i qs) ∙ take-length i qs lq ∙ sym (take-length i ps lt) in
     let r = all-push file s (part_places_told (take i qs)) (take i ps) (part_place_told q) p eq in
-    let ep : part_places_told (take (i + 1) qs) ≡ part_places_told (take i qs) ++ part_place_told q ∷ [] = ap part_places_told (take-next qs i q lq (get-same qs i d lq)) ∙ map-push part_place_told (take i qs) q in
-    let et : take (i + 1) ps ≡ take i ps ++ p ∷ [] = take-next ps i p lt at in
+    let ep : part_places_told (take (i + 1) qs) ≡ part_places_told (take i qs) ++ part_place_told q ∷ [] = ap part_places_told (take_item qs i q lq (get_or_fixed qs i d lq)) ∙ map_push part_place_told (take i qs) q in
+    let et : take (i + 1) ps ≡ take i ps ++ p ∷ [] = take_item ps i p lt at in
     let e : PartsStand file s (part_places_told (take (i + 1) qs)) (take (i + 1) ps) ≡ PartsStand file s (part_places_told (take i qs) ++ part_place_told q ∷ []) (take i ps ++ p ∷ []) = ap₂ (PartsStand file s) ep et in (
       λ h. subst (λ X. X) (sym e) (r.1 h),
       λ h. r.0 (subst (λ X. X) e h),
@@ -250,15 +249,10 @@ each-push : {X : Type 0} (P : X → Type 0) (xs : List X) (x : X) → (AllByRecu
 each-push P [] x = (λ h. (h.1, tt), λ h. (tt, h.0))
 each-push P (y ∷ xs) x = let r = each-push P xs x in (λ h. (h.0.0, r.0 (h.0.1, h.1)), λ h. let z = r.1 h.1 in ((h.0, z.0), z.1))
 
-each-front : {X : Type 0} (P : X → Type 0) (xs : List X) (i : ℕ) → AllByRecursion P xs → AllByRecursion P (take i xs)
-each-front P xs zero h = tt
-each-front P [] (suc i) h = tt
-each-front P (x ∷ xs) (suc i) h = (h.0, each-front P xs i h.1)
-
 pub each_more : (P : (Name → Name) → WrittenTree → Type 0) (ts : List WrittenTree) (i : ℕ) (t : WrittenTree) (a b c : Sorts) (r : Bool) → i < length ts → t ≡ get_or ts i t
     → Narrows (λ s. AllByRecursion (P s) (take i ts)) a b true → Narrows (λ s. P s t) b c r → Narrows (λ s. AllByRecursion (P s) (take (i + 1) ts)) a c r
 each_more P ts i t a b c r lt at h k =
-    subst (λ us. Narrows (λ s. AllByRecursion (P s) us) a c r) (sym (take-next ts i t lt at))
+    subst (λ us. Narrows (λ s. AllByRecursion (P s) us) a c r) (sym (take_item ts i t lt at))
     (narrows-as (λ s. AllByRecursion (P s) (take i ts) × P s t) (λ s. AllByRecursion (P s) (take i ts ++ t ∷ [])) a c r (λ s. each-push (P s) (take i ts) t)
     (narrows-then (λ s. AllByRecursion (P s) (take i ts)) (λ s. P s t) a b c r h k))
 
@@ -266,7 +260,7 @@ pub each_stops : (P : (Name → Name) → WrittenTree → Type 0) (ts : List Wri
     → Narrows (λ s. AllByRecursion (P s) (take i ts)) a b true → Narrows (λ s. P s t) b c r → (s : Name → Name) → Agrees a s → AllByRecursion (P s) ts → ⊥
 each_stops P ts i t a b c r lt at f h k s agrees all =
     let w = subst (Narrows (λ s. AllByRecursion (P s) (take (i + 1) ts)) a c) f (each_more P ts i t a b c r lt at h k) in
-    w s agrees (each-front (P s) ts (i + 1) all)
+    w s agrees (each_take (P s) (i + 1) ts all)
 
 pub each_ends : (P : (Name → Name) → WrittenTree → Type 0) (ts : List WrittenTree) (i : ℕ) (a b : Sorts) → length ts ≡ i → Narrows (λ s. AllByRecursion (P s) (take i ts)) a b true → Narrows (λ s. AllByRecursion (P s) ts) a b true
 each_ends P ts i a b e h = subst (λ us. Narrows (λ s. AllByRecursion (P s) us) a b true) (take_all i ts (omega arith)) h

@@ -1,5 +1,6 @@
 -- Worked cases of how lines are spelled.
-use Rattle.std.proofs.Common.{◌≡◌, ℕ, ◌&&◌, Bool, true, false, zero, suc, List, [], ◌∷◌, ◌++◌, refl, arith}
+use Rattle.std.proofs.Common.{◌≡◌, ℕ, true, false, zero, suc, List, [], ◌∷◌, ◌++◌, refl, arith}
+use Rattle.std.proofs.Math.Bool.{and-false}
 use Rattle.std.specs.Prelude.{codes, Some, None}
 use Rattle.psg_deflines.specs.WrittenTerms.{WrittenTerm, variable, named, apply, term_depth, IsShallowTerm}
 use Rattle.psg_deflines.specs.WrittenTrees.{operator, with_tree, with_name, list_end, list_rest, element, place, tree_parts, tree_depth}
@@ -14,10 +15,6 @@ abbrev pub spaced : List (List ℕ) → List ℕ
 spaced [] = []
 spaced (p ∷ []) = p
 spaced (p ∷ q ∷ rest) = p ++ 32 ∷ spaced (q ∷ rest)
-
-and-false : (b : Bool) → (b && false) ≡ false
-and-false true = refl
-and-false false = refl
 
 pub written-spaced : (parts : List (List ℕ)) → IsWritten parts (spaced parts)
 written-spaced [] = refl

@@ -4,8 +4,8 @@ use Rattle.std.specs.Prelude.{if◌then◌else◌}
 use Rattle.std.specs.Str.Lines.{lines, lines_of_parts}
 use Rattle.std.specs.List.{slice_split, onto_first}
 use Rattle.std.proofs.lemmas.Bool.Decides.{eqb_tells}
+use Rattle.psg_terms.proofs.Lists.{take_item}
 use Rattle.psg_deflines.specs.Refusals.{line_feeds}
-use Rattle.psg_deflines.proofs.Lists.{take-next}
 
 -- the bytes of the parts, and one for each part
 abbrev weight : List (List ℕ) → ℕ
@@ -65,7 +65,7 @@ feeds-append (c ∷ xs) ys = elim (c == 10) as (λ b. cond b (1 + line_feeds (xs
 
 pub feeds-next : (bytes : List ℕ) (i c : ℕ) → i < length bytes → c ≡ get_or bytes i c → line_feeds (take (i + 1) bytes) ≡ line_feeds (take i bytes) + cond (c == 10) 1 0
 feeds-next bytes i c h e =
-    ap line_feeds (take-next bytes i c h e) ∙ feeds-append (take i bytes) (c ∷ []) ∙ ap (λ n. line_feeds (take i bytes) + n) (one (c == 10))
+    ap line_feeds (take_item bytes i c h e) ∙ feeds-append (take i bytes) (c ∷ []) ∙ ap (λ n. line_feeds (take i bytes) + n) (one (c == 10))
   where
     one : (b : Bool) → cond b (1 + 0) 0 ≡ cond b 1 0
     one true = omega arith

@@ -5,6 +5,7 @@ use Rattle.std.proofs.lemmas.Slice.Eq.{bytes_eq-Decides}
 use Rattle.std.specs.List.{AllByRecursion, list_any}
 use Rattle.std.proofs.lemmas.Bool.{or_cases, eqb-true, false≢true}
 use Rattle.std.proofs.lemmas.Str.{encodes-chars, encodes-append, encode_ascii, length-le-encodes, chars_from_encodes}
+use Rattle.std.proofs.lemmas.List.{nil_from_length}
 use Rattle.psg_terms.specs.Names.{Name, is_among}
 use Rattle.psg_terms.specs.Words.{IsWord}
 use Rattle.psg_lexis.specs.Classes.{Chars, is_solo, is_symbol, All, BeginsBy}
@@ -13,7 +14,6 @@ use Rattle.psg_lexis.specs.declared.token.Token.{Token}
 use Rattle.psg_lexis.specs.declared.token.Token.TheVariants as tokens
 use Rattle.psg_lexis.specs.declared.token.Spanned.{Spanned}
 use Rattle.psg_deflines.specs.FixedTokens.{IsFixedToken, IsOneToken}
-use Rattle.psg_deflines.proofs.Lists.{nil-length}
 
 -- a character among some has what all of them have
 among-all : (P : ℕ → Type 0) (c : ℕ) (xs : List ℕ) → list_any (λ d. eqb c d) xs ≡ true → AllByRecursion P xs → P c
@@ -53,7 +53,7 @@ whole-token fixed cs at ts (next all p t us begins tail) w u e z s one starts en
     let same : t ≡ s = cc in
     let total : length w ≡ bytes_of begins.front + bytes_of begins.rest =
     sym (ap length (encodes-chars w u)) ∙ ap bytes_of (sym e ∙ begins.whole) ∙ bytes_of-append begins.front begins.rest in
-    let none : begins.rest ≡ [] = nil-length begins.rest (omega (arith, length-le-encodes begins.rest, total, ends, ap (λ x. x.end) same, begins.ends, z)) in
+    let none : begins.rest ≡ [] = nil_from_length begins.rest (omega (arith, length-le-encodes begins.rest, total, ends, ap (λ x. x.end) same, begins.ends, z)) in
     let front : begins.front ≡ chars w = sym (append-nil begins.front) ∙ ap (λ r. begins.front ++ r) (sym none) ∙ sym begins.whole ∙ e in
     subst (λ x. IsToken fixed (chars w) [] x.token) same
     (subst (λ f. IsToken fixed f [] t.token) front (subst (λ r. IsToken fixed begins.front r t.token) none begins.token))

@@ -2,6 +2,7 @@
 use Rattle.std.proofs.Common.{◌≡◌, ℕ, ◌-◌, ◌<◌, ◌≤◌, Bool, true, false, cond, List, [], ◌∷◌, ◌++◌, take, drop, get_or, length, append_assoc, map, codes, refl, ap, sym, ◌∙◌, subst, arith}
 use Rattle.std.specs.List.{AllByRecursion}
 use Rattle.std.proofs.lemmas.Bool.{false≢true}
+use Rattle.std.proofs.lemmas.List.{take_rest}
 use Rattle.psg_terms.specs.Names.{Name}
 use Rattle.psg_terms.specs.declared.declare.ConDecl.{ConDecl}
 use Rattle.psg_grammar.specs.Sound.{IsKindName, IsOwnName, IsLevel}
@@ -16,7 +17,6 @@ use Rattle.psg_deflines.specs.Only.{IsOnly}
 use Rattle.psg_deflines.specs.declared.lines.LineItem.{LineItem}
 use Rattle.psg_deflines.specs.declared.lines.Line.{Line}
 use Rattle.psg_deflines.specs.declared.lines.Line.TheVariants as lines
-use Rattle.psg_deflines.proofs.Lists.{rest-whole}
 use Rattle.psg_deflines.proofs.TermFound.{texts-length}
 use Rattle.psg_deflines.proofs.PartReads.{Slices, no-slice, rest_of, first_of, byte_of}
 use Rattle.psg_deflines.proofs.LineInverses.{Is_sort, sort_line, sort-inverse, Is_entity, entity_line, entity-inverse, Is_space, space_line, space-inverse, Is_phylum, phylum_line, phylum-inverse, Is_list, list_line, list-inverse, Is_op, op_line, op-inverse}
@@ -250,7 +250,7 @@ pub three : (ts : Slices) → 3 ≤ length ts → texts ts ≡ at ts 0 ∷ at ts
 three [] h = absurd (omega arith)
 three (a ∷ []) h = absurd (omega arith)
 three (a ∷ b ∷ []) h = absurd (omega arith)
-three (a ∷ b ∷ c ∷ ts) h = ap (λ xs. a.now ∷ b.now ∷ c.now ∷ texts xs) (sym (rest-whole (a ∷ b ∷ c ∷ ts) 3))
+three (a ∷ b ∷ c ∷ ts) h = ap (λ xs. a.now ∷ b.now ∷ c.now ∷ texts xs) (sym (take_rest (a ∷ b ∷ c ∷ ts) 3))
 
 pub op-long : (ts : Slices) (line : Line) → IsForm (codes "op" ∷ texts ts) line → 3 ≤ length ts
 op-long ts line h = long line (op-inverse (texts ts) line h.written)

@@ -1,5 +1,6 @@
 -- Operators' items from parts of a line.
 use Rattle.std.proofs.Common.{◌≡◌, ℕ, ◌+◌, ◌<◌, ◌≤◌, List, [], ◌∷◌, ◌++◌, drop, get_or, length, map, codes, refl, ap, sym, ◌∙◌, subst, arith}
+use Rattle.std.proofs.lemmas.List.{drop_all}
 use Rattle.std.specs.Borrow.{Bor}
 use Rattle.psg_grammar.specs.declared.types.Level.TheVariants as levels
 use Rattle.psg_deflines.specs.Parts.{texts}
@@ -11,7 +12,6 @@ use Rattle.psg_deflines.specs.declared.lines.LineItem.{LineItem}
 use Rattle.psg_deflines.proofs.Stages.{IsReadTo, read-more, read-all, read-not}
 use Rattle.psg_deflines.proofs.PartReads.{Slices, left-one, first_of, rest_of}
 use Rattle.psg_deflines.proofs.TermFound.{texts-length}
-use Rattle.psg_deflines.proofs.Lists.{drop-all}
 
 items-more : (all : Parts) (done : List LineItem) (part : List ℕ) (rest : Parts) (item : LineItem) → IsReadTo AreItemParts all done (part ∷ rest) → IsOnly (IsItemPart part) item → IsReadTo AreItemParts all (done ++ item ∷ []) rest
 items-more all done part rest item h o = read-more AreItemParts all done (part ∷ rest) item rest h sound complete
@@ -38,7 +38,7 @@ items-not ts i d done h r none = read-not AreItemParts (texts ts) done ((get_or 
     refused (x ∷ tail) k = none x (record { form = k.each.0; written = ap first_of k.written })
 
 pub items-end : (ts : Slices) (i : ℕ) (done : List LineItem) → length ts ≤ i → IsReadTo AreItemParts (texts ts) done (drop i (texts ts)) → IsOnly (AreItemParts (texts ts)) done
-items-end ts i done h r = read-all AreItemParts (texts ts) done [] (subst (IsReadTo AreItemParts (texts ts) done) (drop-all (texts ts) i (omega (arith, texts-length ts))) r) (record { each = tt; written = refl }) nothing
+items-end ts i done h r = read-all AreItemParts (texts ts) done [] (subst (IsReadTo AreItemParts (texts ts) done) (drop_all i (texts ts) (omega (arith, texts-length ts))) r) (record { each = tt; written = refl }) nothing
   where
     nothing : (tail : List LineItem) → AreItemParts [] tail → tail ≡ []
     nothing [] k = refl

@@ -13,7 +13,7 @@ mod WordLaws
 pub mod LineInverses
 pub mod Lists
 mod Options
-mod NumberLaws
+pub mod NumberLaws
 mod PieceLaws
 mod PlaceLaws
 mod PartLaws

@@ -1,10 +1,11 @@
 -- What the writer puts down is what the line is spelled by.
-use Rattle.std.proofs.Common.{◌≡◌, subst, map, inl, inr, ℕ, zero, suc, ◌+◌, ◌<◌, ◌==◌, ◌&&◌, Bool, true, false, cond, List, [], ◌∷◌, ◌++◌, length, take, get_or, refl, ap, ap₂, sym, ◌∙◌, arith, append_assoc, codes, encode_utf8_all, Some, None, Option, ◌≤◌, Result, Ok, Err, OnOk, is_ok, if◌then◌else◌}
+use Rattle.std.proofs.Common.{◌≡◌, subst, map, ℕ, zero, suc, ◌+◌, ◌<◌, ◌==◌, cond, List, [], ◌∷◌, ◌++◌, length, take, get_or, refl, ap, ap₂, sym, ◌∙◌, arith, append_assoc, codes, encode_utf8_all, Some, None, Option, ◌≤◌, Result, Ok, Err, OnOk, is_ok, if◌then◌else◌}
 use Rattle.std.specs.List.{flat_map}
 use Rattle.std.proofs.lemmas.Grind.{flat_map-append}
 use Rattle.std.proofs.lemmas.List.{take_more, take_all, append-nil}
-use Rattle.std.proofs.lemmas.Bool.Decides.{eqb_tells}
 use Rattle.std.proofs.lemmas.Str.{encodes-append, encode_ascii}
+use Rattle.std.proofs.Math.Bool.{and-false}
+use Rattle.psg_terms.proofs.Lists.{suc_is_not_zero}
 use Rattle.psg_lexis.specs.Tokens.{escaped, quoted}
 use Rattle.psg_terms.specs.Names.{Name}
 use Rattle.psg_deflines.specs.Written.{IsWritten, ends_word}
@@ -25,10 +26,6 @@ use Rattle.psg_deflines.specs.declared.trees.LinePart.{LinePart}
 use Rattle.psg_deflines.specs.declared.trees.LinePart.TheVariants.{Tree, Name as NamePart, Number, Text}
 use Rattle.psg_deflines.specs.declared.trees.LinePlace.{LinePlace}
 
-and-false : (b : Bool) → (b && false) ≡ false
-and-false true = refl
-and-false false = refl
-
 -- one space between two parts spells them
 pub written-spaced : (ps : List (List ℕ)) → IsWritten ps (spaced ps)
 written-spaced [] = refl
@@ -37,14 +34,11 @@ written-spaced (p ∷ q ∷ rest) = (1, spaced (q ∷ rest), refl, and-false (en
 
 -- ---- elements with a comma between two
 
-not-zero : (n : ℕ) → (suc n == 0) ≡ false
-not-zero n = elim (eqb_tells (suc n) 0) [ inl q ↦ absurd (omega (arith, q.1)) | inr q ↦ q.0 ]
-
 mark-more : (m : List ℕ) (n : ℕ) → mark_at m (suc n) ≡ codes ","
-mark-more m n = ap (λ b. cond b m (codes ",")) (not-zero n)
+mark-more m n = ap (λ b. cond b m (codes ",")) (suc_is_not_zero n)
 
 closing-more : (n : ℕ) → closing (suc n) ≡ codes ")" ∷ []
-closing-more n = ap (λ b. cond b [] (codes ")" ∷ [])) (not-zero n)
+closing-more n = ap (λ b. cond b [] (codes ")" ∷ [])) (suc_is_not_zero n)
 
 comma-snoc : {X : Type 0} (f : X → List (List ℕ)) (xs : List X) (x : X)
     → flat_map (λ y. codes "," ∷ f y) (xs ++ x ∷ []) ≡ flat_map (λ y. codes "," ∷ f y) xs ++ codes "," ∷ f x
@@ -194,7 +188,7 @@ list-closed (Some p) [] = refl
 list-closed o (e ∷ rest) =
     ap (λ t. codes "[" ∷ tree_parts e ++ t) (follow-elements o rest)
     ∙ ap (λ t. codes "[" ∷ t) (sym (append_assoc (tree_parts e) (flat_map (λ t. codes "," ∷ tree_parts t) rest) (ending_parts o)))
-    ∙ ap (λ b. cond b (codes "[" ∷ []) [] ++ (separated (codes "[") tree_parts (e ∷ rest) ++ ending_parts o)) (sym (not-zero (length rest)))
+    ∙ ap (λ b. cond b (codes "[" ∷ []) [] ++ (separated (codes "[") tree_parts (e ∷ rest) ++ ending_parts o)) (sym (suc_is_not_zero (length rest)))
 
 -- ---- the ends of loops
 
@@ -210,16 +204,13 @@ three old first before after a b c whole f g h w =
     ∙ append_assoc old (behind a) (behind b ++ behind c)
     ∙ ap (λ x. old ++ x) (ap (λ x. behind a ++ x) (sym (behind-append b c)) ∙ sym (behind-append a (b ++ c)) ∙ ap behind (sym w))
 
-take-whole : {X : Type 0} (xs : List X) (i : ℕ) → length xs ≤ i → take i xs ≡ xs
-take-whole xs i h = take_all i xs h
-
 pub term-end : (t : WrittenTerm) (sh : TermShape) (n : List ℕ) (kept args : List WrittenTerm) (i : ℕ) (old first before after : List ℕ)
     → sh ≡ Named n kept → term_of sh ≡ t → args ≡ kept → length args ≤ i
     → first ≡ old ++ behind (n ∷ []) → before ≡ first ++ behind (separated (codes "(") term_parts (take i args))
     → after ≡ before ++ behind (closing (length args)) → after ≡ old ++ behind (term_parts t)
 term-end t sh n kept args i old first before after s v k l f g h =
     three old first before after (n ∷ []) (separated (codes "(") term_parts args) (closing (length args)) (term_parts t) f
-    (g ∙ ap (λ x. first ++ behind (separated (codes "(") term_parts x)) (take-whole args i l)) h
+    (g ∙ ap (λ x. first ++ behind (separated (codes "(") term_parts x)) (take_all i args l)) h
     (ap term_parts (sym v ∙ ap term_of s ∙ ap (applied (named n)) (sym k)) ∙ term-closed n args)
 
 pub operator-end : (t : WrittenTree) (sh : TreeShape) (n : List ℕ) (kept ps : List LinePart) (i : ℕ) (old first before after : List ℕ)
@@ -228,7 +219,7 @@ pub operator-end : (t : WrittenTree) (sh : TreeShape) (n : List ℕ) (kept ps : 
     → after ≡ before ++ behind (closing (length ps)) → after ≡ old ++ behind (tree_parts t)
 operator-end t sh n kept ps i old first before after s v k l f g h =
     three old first before after (n ∷ []) (separated (codes "(") part_parts ps) (closing (length ps)) (tree_parts t) f
-    (g ∙ ap (λ x. first ++ behind (separated (codes "(") part_parts x)) (take-whole ps i l)) h
+    (g ∙ ap (λ x. first ++ behind (separated (codes "(") part_parts x)) (take_all i ps l)) h
     (ap tree_parts (sym v ∙ ap tree_of s ∙ ap (with_parts (operator n)) (sym k)) ∙ operator-closed n ps)
 
 pub list-end : (t : WrittenTree) (sh : TreeShape) (kept es : List WrittenTree) (o : Option LinePlace) (i : ℕ) (old first before after : List ℕ)
@@ -237,7 +228,7 @@ pub list-end : (t : WrittenTree) (sh : TreeShape) (kept es : List WrittenTree) (
     → after ≡ before ++ behind (ending_parts o) → after ≡ old ++ behind (tree_parts t)
 list-end t sh kept es o i old first before after s v k l f g h =
     three old first before after (cond (length es == 0) (codes "[" ∷ []) []) (separated (codes "[") tree_parts es) (ending_parts o) (tree_parts t) f
-    (g ∙ ap (λ x. first ++ behind (separated (codes "[") tree_parts x)) (take-whole es i l)) h
+    (g ∙ ap (λ x. first ++ behind (separated (codes "[") tree_parts x)) (take_all i es l)) h
     (ap tree_parts (sym v ∙ ap tree_of s ∙ ap (list_of (ending o)) (sym k)) ∙ list-closed o es)
 
 -- ---- heights
@@ -284,7 +275,7 @@ each f g xs x i start before after h e k b a =
 
 pub each-end : {X : Type 0} (f : List X → List (List ℕ)) (xs : List X) (i : ℕ) (start before : List ℕ) → length xs ≤ i
     → before ≡ start ++ behind (f (take i xs)) → before ≡ start ++ behind (f xs)
-each-end f xs i start before l b = b ∙ ap (λ y. start ++ behind (f y)) (take-whole xs i l)
+each-end f xs i start before l b = b ∙ ap (λ y. start ++ behind (f y)) (take_all i xs l)
 
 pub constructor-snoc : (cs : List ConDecl) (c : ConDecl) → constructor_parts (cs ++ c ∷ []) ≡ constructor_parts cs ++ c.name ∷ argument_parts c.args
 constructor-snoc [] c = append-nil (c.name ∷ argument_parts c.args)

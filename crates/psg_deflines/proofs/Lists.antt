@@ -1,8 +1,9 @@
 -- Laws of lists and runs.
-use Rattle.std.proofs.Common.{◌≡◌, ◌==◌, ℕ, ◌+◌, ◌-◌, ◌<◌, ◌≤◌, Bool, true, false, cond, zero, suc, List, [], ◌∷◌, ◌++◌, take, drop, get_or, length, length-drop, refl, ap, sym, ◌∙◌, subst, arith}
+use Rattle.std.proofs.Common.{◌≡◌, ◌==◌, ℕ, ◌+◌, ◌-◌, ◌<◌, ◌≤◌, Bool, true, false, cond, zero, suc, List, [], ◌∷◌, ◌++◌, take, drop, get_or, length, refl, ap, sym, ◌∙◌, subst, arith}
 use Rattle.std.specs.List.{list_all, prefix_len, AllByRecursion}
-use Rattle.std.proofs.lemmas.List.{take_all, take_more}
+use Rattle.std.proofs.lemmas.List.{take_all}
 use Rattle.std.proofs.lemmas.Bool.{and_parts, and_from, false≢true}
+use Rattle.psg_terms.proofs.Lists.{take_item, each_push}
 
 -- the first element passes
 abbrev pub begins_by : (ℕ → Bool) → List ℕ → Bool
@@ -41,36 +42,8 @@ run-ends p (x ∷ xs) =
     add-one-first : 1 + prefix_len p xs ≡ suc (prefix_len p xs)
     add-one-first = omega arith
 
--- what a slice from an index to the end holds
-pub rest-whole : {X : Type 0} (xs : List X) (n : ℕ) → take (length xs - n) (drop n xs) ≡ drop n xs
-rest-whole xs n = take_all (length xs - n) (drop n xs) (omega (arith, length-drop n xs))
-
-pub nil-length : {X : Type 0} (xs : List X) → length xs ≡ 0 → xs ≡ []
-nil-length [] h = refl
-nil-length (x ∷ xs) h = absurd (omega arith)
-
 pub length-nil : {X : Type 0} (xs : List X) → xs ≡ [] → length xs ≡ 0
 length-nil xs h = ap length h
-
--- one more element of a list
-pub take-next : {X : Type 0} (xs : List X) (i : ℕ) (x : X) → i < length xs → x ≡ get_or xs i x → take (i + 1) xs ≡ take i xs ++ x ∷ []
-take-next xs i x h e = take_more xs i x h ∙ ap (λ y. take i xs ++ y ∷ []) (sym e)
-
--- what is left at an element
-pub drop-next : {X : Type 0} (xs : List X) (i : ℕ) (x : X) → i < length xs → x ≡ get_or xs i x → drop i xs ≡ x ∷ drop (i + 1) xs
-drop-next [] i x h e = absurd (omega arith)
-drop-next (y ∷ ys) zero x h e = ap (λ z. z ∷ ys) (sym e)
-drop-next (y ∷ ys) (suc i) x h e = drop-next ys i x (omega arith) e ∙ ap (λ n. x ∷ drop n (y ∷ ys)) (plus-one i)
-  where
-    plus-one : (n : ℕ) → suc (n + 1) ≡ suc n + 1
-    plus-one n = omega arith
-
-pub drop-all : {X : Type 0} (xs : List X) (i : ℕ) → length xs ≤ i → drop i xs ≡ []
-drop-all xs i h = nil-length (drop i xs) (omega (arith, length-drop i xs))
-
-pub all-more : {X : Type 0} (P : X → Type 0) (xs : List X) (x : X) → AllByRecursion P xs → P x → AllByRecursion P (xs ++ x ∷ [])
-all-more P [] x h p = (p, tt)
-all-more P (y ∷ ys) x h p = (h.0, all-more P ys x h.1 p)
 
 pub all-at : {X : Type 0} (P : X → Type 0) (xs : List X) (i : ℕ) (x : X) → i < length xs → x ≡ get_or xs i x → AllByRecursion P xs → P x
 all-at P [] i x h e a = absurd (omega arith)
@@ -83,7 +56,7 @@ not-empty [] h = absurd (false≢true h)
 not-empty (x ∷ xs) h = omega arith
 
 pub all-next : {X : Type 0} (P : X → Type 0) (xs : List X) (i : ℕ) (x : X) → i < length xs → x ≡ get_or xs i x → AllByRecursion P (take i xs) → P x → AllByRecursion P (take (i + 1) xs)
-all-next P xs i x h e a p = subst (AllByRecursion P) (sym (take-next xs i x h e)) (all-more P (take i xs) x a p)
+all-next P xs i x h e a p = subst (AllByRecursion P) (sym (take_item xs i x h e)) (each_push P (take i xs) x a p)
 
 pub all-take : {X : Type 0} (P : X → Type 0) (xs : List X) (i : ℕ) → length xs ≤ i → AllByRecursion P (take i xs) → AllByRecursion P xs
 all-take P xs i h a = subst (AllByRecursion P) (take_all i xs h) a

@@ -3,7 +3,7 @@ use Rattle.std.proofs.Common.{◌≡◌, ◌≢◌, ℕ, ◌+◌, ◌<◌, ◌�
 use Rattle.std.specs.Prelude.{encode_utf8_all, chars, codes, not}
 use Rattle.std.specs.List.{list_all, list_any, prefix_len}
 use Rattle.std.proofs.Math.Seq.{take-append_seam}
-use Rattle.std.proofs.lemmas.List.{length-take}
+use Rattle.std.proofs.lemmas.List.{length-take, drop_all}
 use Rattle.std.proofs.lemmas.List.Sums.{prefix_len-le-length}
 use Rattle.std.proofs.lemmas.Str.{encode_ascii}
 use Rattle.std.proofs.lemmas.Bool.{and_cases, and_left, and_parts, cases_Bool, eqb-true, false≢true, or_cases, or_left, or_right}
@@ -13,7 +13,7 @@ use Rattle.psg_deflines.specs.WrittenTerms.{is_plain}
 use Rattle.psg_deflines.specs.WrittenTrees.{quoted_part}
 use Rattle.psg_deflines.specs.Written.{goes_on_word, ends_word, begins_word}
 use Rattle.psg_deflines.specs.Parts.{is_mark, is_sigil, goes_behind, IsPart, a_word, a_mark, a_sigil, a_quoted, IsWordPart, IsApart, IsFirst, HasNoFirst}
-use Rattle.psg_deflines.proofs.Lists.{begins_by, prefix_len-run, list_all-run, run-ends, drop-all}
+use Rattle.psg_deflines.proofs.Lists.{begins_by, prefix_len-run, list_all-run, run-ends}
 
 -- a character of a word begins no other part
 sigil-no_word : (c : ℕ) → is_sigil c ≡ true → goes_on_word c ≡ true → ⊥
@@ -148,7 +148,7 @@ begins-drop (x ∷ xs) zero h = refl
 begins-drop (x ∷ xs) (suc n) h = begins-drop xs n (omega arith)
 
 pub begins-end : (xs : List ℕ) (n : ℕ) → length xs ≤ n → begins_word (drop n xs) ≡ false
-begins-end xs n h = ap begins_word (drop-all xs n h)
+begins-end xs n h = ap begins_word (drop_all n xs h)
 
 -- The same for a text and what a slice behind its first character holds.
 pub named_first-text : (text name : List ℕ) (n : ℕ) → 0 < length text → is_sigil (get_or text 0 0) ≡ true → name ≡ drop 1 text

@@ -3,9 +3,10 @@ use Rattle.std.proofs.Common.{◌≡◌, ℕ, ◌+◌, ◌<◌, ◌≤◌, ◌||
 use Rattle.std.specs.Prelude.{Some, None, map, ◌⊎◌}
 use Rattle.std.specs.List.{AllByRecursion}
 use Rattle.std.specs.Borrow.{Bor}
-use Rattle.std.proofs.lemmas.List.{take-append-drop, length-take, take_all}
+use Rattle.std.proofs.lemmas.List.{take-append-drop, length-take, take_all, get_or_default}
 use Rattle.std.proofs.Math.Seq.{take-append_seam}
 use Rattle.std.proofs.lemmas.Bool.Decides.{eqb_tells}
+use Rattle.psg_terms.proofs.Lists.{take_item, each_push}
 use Rattle.psg_deflines.specs.Parts.{texts}
 use Rattle.psg_deflines.specs.Versions.{is_of}
 use Rattle.psg_deflines.specs.Entries.{IsSkipped, IsLineBehind, IsEntry, Entry, written, AreEntries, IsPlain, takes_rows, takes_cases}
@@ -18,7 +19,6 @@ use Rattle.psg_deflines.specs.declared.lines.Line.{Line}
 use Rattle.psg_deflines.specs.declared.lines.Line.TheVariants as lines_of
 use Rattle.psg_deflines.specs.declared.entries.EntryRead.TheVariants as reads
 use Rattle.psg_deflines.specs.Only.{IsOnly}
-use Rattle.psg_deflines.proofs.Lists.{take-next, all-more}
 
 -- ---- one more entry
 
@@ -129,7 +129,7 @@ cases-entry es (Some line) = ap (takes_cases false) (written-append es (Some lin
 
 plain-entry : (version : ℕ) (es : List Entry) (e : Entry) → AllByRecursion (IsPlain version) (written es) → IsPlainEntry version e → AllByRecursion (IsPlain version) (written (es ++ e ∷ []))
 plain-entry version es None h p = subst (AllByRecursion (IsPlain version)) (sym (written-append es (None ∷ []) ∙ append-nil (written es))) h
-plain-entry version es (Some line) h p = subst (AllByRecursion (IsPlain version)) (sym (written-append es (Some line ∷ []))) (all-more (IsPlain version) (written es) line h p)
+plain-entry version es (Some line) h p = subst (AllByRecursion (IsPlain version)) (sym (written-append es (Some line ∷ []))) (each_push (IsPlain version) (written es) line h p)
 
 -- ---- a text that is read has no fault
 
@@ -193,15 +193,10 @@ front-is ts front text behind e = (
     at [] = refl
     at (x ∷ xs) = at xs
 
-get-same : (ts : List (List ℕ)) (i : ℕ) (a b : List ℕ) → i < length ts → get_or ts i a ≡ get_or ts i b
-get-same [] i a b h = absurd (omega arith)
-get-same (t ∷ ts) zero a b h = refl
-get-same (t ∷ ts) (suc i) a b h = get-same ts i a b (omega arith)
-
 pub read-next : (version : ℕ) (ts : List (List ℕ)) (i : ℕ) (t : List ℕ) (entries new : List Entry) (rows cases : Bool) (e : Entry) → i < length ts → t ≡ get_or ts i t → IsReadUpTo version ts i entries rows cases
     → IsEntryRead version (written entries) t (reads.Found e) → new ≡ entries ++ e ∷ [] → IsReadUpTo version ts (i + 1) new (rows_after rows e) (cases_after cases e)
 read-next version ts i t entries new rows cases e l at h r added =
-    let grown : take (i + 1) ts ≡ take i ts ++ t ∷ [] = take-next ts i t l at in
+    let grown : take (i + 1) ts ≡ take i ts ++ t ∷ [] = take_item ts i t l at in
     subst (λ es. IsReadUpTo version ts (i + 1) es (rows_after rows e) (cases_after cases e)) (sym added) (record {
       only = record {
         is = subst (λ xs. AreEntries [] xs (entries ++ e ∷ [])) (sym grown) (snoc-sound [] (take i ts) t entries e h.only.is r.0.is);
@@ -228,7 +223,7 @@ read-next version ts i t entries new rows cases e l at h r added =
     by_place fault f (inr m) =
         let place = front-is ts f.front f.text f.behind f.split in
         let front : f.front ≡ take i ts = place.0 ∙ ap (λ n. take n ts) m in
-        let text : f.text ≡ t = place.1 ∙ ap (λ n. get_or ts n f.text) m ∙ get-same ts i f.text t l ∙ sym at in
+        let text : f.text ≡ t = place.1 ∙ ap (λ n. get_or ts n f.text) m ∙ get_or_default ts i f.text t l ∙ sym at in
         let same : f.entries ≡ entries = h.only.only f.entries (subst (λ xs. AreEntries [] xs f.entries) front f.each) in
         first-none (PassesForm version (written entries) t) (passes-all version (written entries) t e r.0 r.1) form_codes fault.code
         (subst (λ x. IsFirstOf (PassesForm version (written entries) x) form_codes fault.code) text (subst (λ x. IsFirstOf (PassesForm version (written x) f.text) form_codes fault.code) same f.first))
@@ -239,7 +234,7 @@ read-fault version ts i t entries rows cases fault l at h r place = record {
   front = take i ts;
   text = t;
   behind = drop (i + 1) ts;
-  split = sym (take-append-drop (i + 1) ts) ∙ ap (λ x. x ++ drop (i + 1) ts) (take-next ts i t l at) ∙ append_assoc (take i ts) (t ∷ []) (drop (i + 1) ts);
+  split = sym (take-append-drop (i + 1) ts) ∙ ap (λ x. x ++ drop (i + 1) ts) (take_item ts i t l at) ∙ append_assoc (take i ts) (t ∷ []) (drop (i + 1) ts);
   entries = entries;
   each = h.only.is;
   plain = h.plain;

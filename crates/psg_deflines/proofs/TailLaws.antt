@@ -2,7 +2,7 @@
 use Rattle.std.proofs.Common.{◌≡◌, ℕ, ◌+◌, ◌<◌, ◌≤◌, List, [], ◌∷◌, ◌++◌, drop, length, length-append, length-drop, append_assoc, append-nil, codes, inl, inr, refl, ap, sym, ◌∙◌, subst, arith}
 use Rattle.std.specs.Prelude.{Option, Some, None, ◌⊎◌}
 use Rattle.std.specs.List.{AllByRecursion}
-use Rattle.std.proofs.lemmas.List.{drop-drop}
+use Rattle.std.proofs.lemmas.List.{drop-drop, nil_from_length}
 use Rattle.std.proofs.lemmas.Bool.{false≢true}
 use Rattle.psg_grammar.specs.Sound.{IsOwnName}
 use Rattle.psg_deflines.specs.WrittenTerms.{WrittenTerm, variable, named, apply, term_parts, opened, HasTermForm}
@@ -16,7 +16,6 @@ use Rattle.psg_deflines.specs.declared.tree_reading.TreeRead.{TreeRead}
 use Rattle.psg_deflines.specs.declared.tails.TermsRead.{TermsRead}
 use Rattle.psg_deflines.specs.declared.tails.Behind.{Behind}
 use Rattle.psg_deflines.specs.declared.tails.Tail.{Tail}
-use Rattle.psg_deflines.proofs.Lists.{nil-length}
 use Rattle.psg_deflines.proofs.PartReads.{first_byte, rest_of, byte_of}
 
 -- a term begins with no bracket, no colon, and with a part
@@ -128,7 +127,7 @@ pub terms-end : (most : ℕ) (ps : Parts) (found : TermsRead) → AreTermsTo mos
 terms-end most ps found h few at =
     let full : (length h.terms ≡ most) ⊎ (drop found.taken ps ≡ []) = elim at [
       | inl e ↦ inl (omega (arith, h.size))
-      | inr l ↦ inr (nil-length (drop found.taken ps) (omega (arith, length-drop found.taken ps)))
+      | inr l ↦ inr (nil_from_length (drop found.taken ps) (omega (arith, length-drop found.taken ps)))
     ] in
     record {
       terms = h.terms;
@@ -209,7 +208,7 @@ module _ (ps rest : Parts) (by : ps ≡ codes "by" ∷ rest) where
 
   pub end-found : (found : TreeRead) (behind : Behind) → IsTreeFound rest found → length rest ≤ found.taken → ((w : WrittenTree) → IsTreeKept found.tree w → IsBehind behind (Some w)) → IsBehindFound ps behind
   end-found found behind h all kept =
-      let none : drop found.taken rest ≡ [] = nil-length (drop found.taken rest) (omega (arith, length-drop found.taken rest)) in
+      let none : drop found.taken rest ≡ [] = nil_from_length (drop found.taken rest) (omega (arith, length-drop found.taken rest)) in
       record {
         specimen = Some h.tree;
         form = h.read.form;

@@ -3,7 +3,7 @@ use Rattle.std.proofs.Common.{◌≡◌, ℕ, ◌+◌, ◌-◌, ◌<◌, ◌≤�
 use Rattle.std.specs.Prelude.{Option, Some, None, MatchOption}
 use Rattle.std.specs.Borrow.{Bor}
 use Rattle.std.proofs.lemmas.Bool.{false≢true, leb-true, leb-false}
-use Rattle.std.proofs.lemmas.List.{drop-drop}
+use Rattle.std.proofs.lemmas.List.{drop-drop, take_rest, nil_from_length}
 use Rattle.psg_deflines.specs.Parts.{texts}
 use Rattle.psg_deflines.specs.WrittenTerms.{WrittenTerm, term_parts, HasTermForm, IsShallowTerm, most_nested}
 use Rattle.psg_deflines.specs.TermWalks.{Parts, IsNotOpened, HasNoTerm, IsKept, IsTermFound, Stage, expects, has, IsStep, HasNoStep, IsStepMade, framed_behind, AreOpen, IsWalk, is_deep, height, IsDone, IsFinished, IsAdvanced}
@@ -11,7 +11,6 @@ use Rattle.psg_deflines.specs.declared.term_reading.Brackets.{Brackets}
 use Rattle.psg_deflines.specs.declared.term_reading.Walk.{Walk}
 use Rattle.psg_deflines.specs.declared.term_reading.Walk.TheVariants as walks
 use Rattle.psg_deflines.specs.declared.term_reading.TermRead.{TermRead}
-use Rattle.psg_deflines.proofs.Lists.{rest-whole, nil-length}
 use Rattle.psg_deflines.proofs.TermWalkLaws.{IsGood, walked, step-good, step-walked, step-shorter, Leads, ends, goes, leads-next, leads-not, leads-end, walked-over, Fits, IsFit, leads-fit, step-fit, step-deep, step-fit-has}
 
 pub texts-drop : (ts : List (Bor (List ℕ))) (n : ℕ) → texts (drop n ts) ≡ drop n (texts ts)
@@ -21,7 +20,7 @@ texts-drop (t ∷ ts) zero = refl
 texts-drop (t ∷ ts) (suc n) = texts-drop ts n
 
 pub texts-from : (ts : List (Bor (List ℕ))) (n : ℕ) → texts (take (length ts - n) (drop n ts)) ≡ drop n (texts ts)
-texts-from ts n = ap texts (rest-whole ts n) ∙ texts-drop ts n
+texts-from ts n = ap texts (take_rest ts n) ∙ texts-drop ts n
 
 pub texts-length : (ts : List (Bor (List ℕ))) → length (texts ts) ≡ length ts
 texts-length [] = refl
@@ -97,7 +96,7 @@ done-stage : (walk : Walk) (s : Stage) → IsWalk walk s → IsDone walk → (t 
 done-stage (walks.Expects b) s h done = absurd done
 done-stage (walks.Has b x) (expects fs) h done = absurd h
 done-stage (walks.Has b x) (has fs t) h done =
-    let none : fs ≡ [] = nil-length fs (sym h.0.count ∙ done) in
+    let none : fs ≡ [] = nil_from_length fs (sym h.0.count ∙ done) in
     (t, ap (λ y. has y t) none, kept_as)
   where
     kept_as : (kept : Option WrittenTerm) → MatchOption kept (b.deep ≡ true) (λ y. (b.deep ≡ false) × (y ≡ x)) → MatchOption kept (b.deep ≡ true) (λ y. (b.deep ≡ false) × (y ≡ t))

@@ -1,5 +1,5 @@
 -- How deep the specimens are that a walk over a specimen's parts holds.
-use Rattle.std.proofs.Common.{◌≡◌, ℕ, ◌+◌, ◌≤◌, suc, List, [], ◌∷◌, ◌++◌, length, refl, sym, subst, arith}
+use Rattle.std.proofs.Common.{◌≡◌, ℕ, ◌+◌, ◌≤◌, List, [], ◌∷◌, ◌++◌, length, refl, sym, subst, arith, add-one}
 use Rattle.std.specs.Prelude.{Some}
 use Rattle.std.specs.List.{AllByRecursion}
 use Rattle.psg_deflines.specs.WrittenTerms.{WrittenTerm, IsShallowTerm}
@@ -59,20 +59,17 @@ list-unfits height (e ∷ es) end h =
     let rest = list-unfits height es end (omega (arith, h.0), both.1) in
     (((omega (arith, h.0), both.0), rest.0), rest.1)
 
-one-more : (n : ℕ) → n + 1 ≡ suc n
-one-more n = omega arith
-
 -- ---- a specimen ends
 
 pub placed-fit : (fs : List TreeFrame) (t : WrittenTree) → AreFit fs → Fits (length fs) t → IsFit (placed fs t)
 placed-fit [] t h k = k
-placed-fit (in_operator f ∷ fs) t h k = (tree-fits (length fs) f t h.0 (subst (λ n. Fits n t) (sym (one-more (length fs))) k), h.1)
-placed-fit (in_list es ∷ fs) t h k = ((h.0.0, all-snoc (Fits (length fs + 1)) es t h.0.1 (subst (λ n. Fits n t) (sym (one-more (length fs))) k)), h.1)
+placed-fit (in_operator f ∷ fs) t h k = (tree-fits (length fs) f t h.0 (subst (λ n. Fits n t) (sym (add-one (length fs))) k), h.1)
+placed-fit (in_list es ∷ fs) t h k = ((h.0.0, all-snoc (Fits (length fs + 1)) es t h.0.1 (subst (λ n. Fits n t) (sym (add-one (length fs))) k)), h.1)
 
 pub placed-unfit : (fs : List TreeFrame) (t : WrittenTree) → IsFit (placed fs t) → AreFit fs × Fits (length fs) t
 placed-unfit [] t h = (tt, h)
-placed-unfit (in_operator f ∷ fs) t h = let k = tree-unfits (length fs) f t h.0 in ((k.0, h.1), subst (λ n. Fits n t) (one-more (length fs)) k.1)
-placed-unfit (in_list es ∷ fs) t h = let k = all-unsnoc (Fits (length fs + 1)) es t h.0.1 in (((h.0.0, k.0), h.1), subst (λ n. Fits n t) (one-more (length fs)) k.1)
+placed-unfit (in_operator f ∷ fs) t h = let k = tree-unfits (length fs) f t h.0 in ((k.0, h.1), subst (λ n. Fits n t) (add-one (length fs)) k.1)
+placed-unfit (in_list es ∷ fs) t h = let k = all-unsnoc (Fits (length fs + 1)) es t h.0.1 in (((h.0.0, k.0), h.1), subst (λ n. Fits n t) (add-one (length fs)) k.1)
 
 -- ---- steps back
 

@@ -71,10 +71,6 @@ written-no_space part parts line p w =
     length-append [] ys = omega arith
     length-append (x ∷ xs) ys = omega (arith, length-append xs ys)
 
-nil-drop : (n : ℕ) → drop {A = ℕ} n [] ≡ []
-nil-drop zero = refl
-nil-drop (suc n) = refl
-
 -- What stands behind the first part of a line: the next part behind some spaces, or nothing.
 behind-next : (text : List ℕ) (n gap : ℕ) (part rest : List ℕ) (spaces : ℕ) → IsFirst text n → gap ≡ prefix_len is_space (drop n text)
     → IsPart part → text ≡ part ++ (replicate spaces 32 ++ rest) → IsApart part (replicate spaces 32 ++ rest) → begins_by is_space rest ≡ false

@@ -1,13 +1,14 @@
 //! Parts of lines as texts, each after one space.
-ghost use Rattle.std.specs.Prelude.{◌≡◌, ◌++◌, ◌∷◌, [], cond, OnOk, string_bytes, encode_utf8_all};
+ghost use Rattle.std.specs.Prelude.{◌≡◌, ◌++◌, ◌∷◌, [], cond, OnOk, string_bytes};
 ghost use Rattle.std.specs.List.{flat_map};
-ghost use Rattle.psg_lexis.specs.Tokens.{escaped, quoted};
+ghost use Rattle.psg_lexis.specs.Tokens.{quoted};
 ghost use Rattle.psg_deflines.specs.WrittenTerms.{term_parts};
 ghost use Rattle.psg_deflines.specs.WrittenTrees.{place_parts, quoted_part, tree_parts};
 ghost use Rattle.psg_deflines.specs.LineTexts.{behind, closing, ending_parts, mark_at, part_parts};
 
 use crate::terms::{LineTerm, TermShape};
 use crate::trees::{LinePart, LinePlace, LineTree, TreeShape};
+use psg_lexis::write_escaped;
 use std::alloc::AllocError;
 
 /// Writes one part.
@@ -27,18 +28,6 @@ pub fn write_if(out: &mut String, wanted: bool, word: &str) -> Result<(), AllocE
         write_word(out, word)?;
     }
     Ok(())
-}
-
-/// Writes a character of a quoted text, a quote, a backslash or a line feed as its escape.
-fn write_escaped(out: &mut String, ch: char) -> Result<(), AllocError>
-    ensures { OnOk result (string_bytes out.new ≡ string_bytes out.old ++ encode_utf8_all (escaped ch)) }
-{
-    match ch {
-        '"' => out.push_str("\\\""),
-        '\\' => out.push_str("\\\\"),
-        '\n' => out.push_str("\\n"),
-        _ => out.push(ch),
-    }
 }
 
 /// Writes a text in quotes.

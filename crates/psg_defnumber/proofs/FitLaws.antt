@@ -1,12 +1,12 @@
 -- Specimens and their parts.
 use Rattle.std.proofs.Common.{◌≡◌, ℕ, ◌+◌, ◌<◌, ◌≤◌, List, [], ◌∷◌, ◌++◌, take, get_or, length, map, refl, ap, ap₂, sym, ◌∙◌, subst, Option, Some, None, Bool, true, false, cond, slice_get, arith, append_assoc, append-nil}
-use Rattle.std.proofs.lemmas.List.{take_all}
+use Rattle.std.proofs.lemmas.List.{take_all, map-append}
+use Rattle.psg_terms.proofs.Lists.{take_item}
 use Rattle.std.specs.Borrow.{Bor}
 use Rattle.std.specs.List.{AllByRecursion}
 use mathlib.Core.Former.{Count}
 use Rattle.psg_terms.specs.Names.{Name}
 use Rattle.psg_terms.specs.Terms.{Term}
-use Rattle.psg_terms.proofs.DeclareLaws.{take-next}
 use Rattle.psg_grammar.specs.declared.types.Kind.{Kind}
 use Rattle.psg_grammar.specs.declared.types.Kind.TheVariants as kinds
 use Rattle.psg_grammar.specs.declared.types.Item.{Item}
@@ -29,19 +29,18 @@ use Rattle.psg_deflines.specs.declared.trees.LinePart.{LinePart}
 use Rattle.psg_deflines.specs.declared.trees.LinePart.TheVariants as parts
 use Rattle.psg_defnumber.specs.Numbers.{IsKind, IsPlace, IsTree, AreParts, IsListFrom, IsOperatorNamed, IsTerm, terms_of}
 use Rattle.psg_defnumber.specs.Growing.{Lasts}
-use Rattle.psg_defnumber.specs.Naming.{Known, IsMadeTerm}
+use Rattle.psg_defnumber.specs.Naming.{LineVariable, IsMadeTerm}
 use Rattle.psg_defnumber.specs.Fitting.{IsMade, hole_terms, part_terms, element_terms, PartFits, PartsFit, ElementsFit, RestFits}
-use Rattle.psg_defnumber.proofs.ListLaws.{map-append}
 use Rattle.psg_defnumber.proofs.MadeLaws.{made-as, made-both, made-term}
 
 -- a hole place
-pub place-made : (def : Definition) (a b : List Known) (n : Name) (kind : Kind) (sort : ℕ) (w : WrittenTerm) (t : Term) → Lasts def (λ full. IsKind full n kind) → Lasts def (λ full. HasKindSort full kind sort)
+pub place-made : (def : Definition) (a b : List LineVariable) (n : Name) (kind : Kind) (sort : ℕ) (w : WrittenTerm) (t : Term) → Lasts def (λ full. IsKind full n kind) → Lasts def (λ full. HasKindSort full kind sort)
     → IsMadeTerm def.signature a b sort w t → IsMade def a b (t ∷ []) (λ full names. IsPlace full names n w (record { kind = kind; term = t }))
 place-made def a b n kind sort w t of_kind of_sort h =
     made-as def a b (t ∷ []) (t ∷ []) (λ full names. IsTerm full.signature names [] sort w t) (λ full names. IsPlace full names n w (record { kind = kind; term = t })) refl
     (λ full names k is. record { of_kind = of_kind full k; sort = sort; kind_sort = of_sort full k; of_term = is }) (made-term def a b sort w t h)
 
-pub rest-made : (def : Definition) (a b : List Known) (l : ℕ) (h : SpecimenHole) (w : LinePlace) (whole : Option LinePlace) → whole ≡ Some w → h.kind ≡ kinds.List l → IsMade def a b (h.term ∷ []) (λ full names. IsPlace full names w.kind w.term h)
+pub rest-made : (def : Definition) (a b : List LineVariable) (l : ℕ) (h : SpecimenHole) (w : LinePlace) (whole : Option LinePlace) → whole ≡ Some w → h.kind ≡ kinds.List l → IsMade def a b (h.term ∷ []) (λ full names. IsPlace full names w.kind w.term h)
     → IsMade def a b (hole_terms (rest_hole (Some h))) (λ full names. RestFits full names l (Some h) whole)
 rest-made def a b l h w whole e of_list m =
     subst (λ o. IsMade def a b (h.term ∷ []) (λ full names. RestFits full names l (Some h) o)) (sym e)
@@ -74,16 +73,16 @@ elements-snoc full names l (r ∷ ss) ws s w (v, more, e, one, rest) k = (v, mor
 abbrev pub items_now : List (Bor Item) → List Item
 items_now items = map (λ (b : Bor Item). b.now) items
 
-pub parts-next : (def : Definition) (a b c : List Known) (items : List (Bor Item)) (ws : List LinePart) (old new : List SpecimenPart) (i : ℕ) (x : Bor Item) (w : LinePart) (p : SpecimenPart)
+pub parts-next : (def : Definition) (a b c : List LineVariable) (items : List (Bor Item)) (ws : List LinePart) (old new : List SpecimenPart) (i : ℕ) (x : Bor Item) (w : LinePart) (p : SpecimenPart)
     → length items ≡ length ws → x ≡ get_or items i x → i < length ws → w ≡ get_or ws i w → new ≡ old ++ p ∷ []
     → IsMade def a b (part_terms old) (λ full names. PartsFit full names (items_now (take i items)) old (take i ws))
     → IsMade def b c (hole_terms (holes_of_part p)) (λ full names. PartFits full names x.now p w)
     → IsMade def a c (part_terms new) (λ full names. PartsFit full names (items_now (take (i + 1) items)) new (take (i + 1) ws))
 parts-next def a b c items ws old new i x w p same atx lt at e h k =
     let more_items : items_now (take (i + 1) items) ≡ items_now (take i items) ++ x.now ∷ [] =
-    ap items_now (take-next items i x (omega arith) atx) ∙ map-append (λ (b : Bor Item). b.now) (take i items) (x ∷ []) in
+    ap items_now (take_item items i x (omega arith) atx) ∙ map-append (λ (b : Bor Item). b.now) (take i items) (x ∷ []) in
     subst (λ l. IsMade def a c (part_terms new) (λ full names. PartsFit full names l new (take (i + 1) ws))) (sym more_items)
-    (subst (λ l. IsMade def a c (part_terms new) (λ full names. PartsFit full names (items_now (take i items) ++ x.now ∷ []) new l)) (sym (take-next ws i w lt at))
+    (subst (λ l. IsMade def a c (part_terms new) (λ full names. PartsFit full names (items_now (take i items) ++ x.now ∷ []) new l)) (sym (take_item ws i w lt at))
     (subst (λ l. IsMade def a c (part_terms l) (λ full names. PartsFit full names (items_now (take i items) ++ x.now ∷ []) l (take i ws ++ w ∷ []))) (sym e)
     (made-as def a c (part_terms old ++ hole_terms (holes_of_part p)) (part_terms (old ++ p ∷ []))
     (λ full names. PartsFit full names (items_now (take i items)) old (take i ws) × PartFits full names x.now p w)
@@ -91,19 +90,19 @@ parts-next def a b c items ws old new i x w p same atx lt at e h k =
     (sym (part_terms-snoc old p)) (λ full names keeps both. fit-snoc full names (items_now (take i items)) old (take i ws) x.now p w both.0 both.1)
     (made-both def a b c (part_terms old) (hole_terms (holes_of_part p)) _ _ h k))))
 
-pub parts-all : (def : Definition) (a b : List Known) (items : List (Bor Item)) (ws : List LinePart) (made : List SpecimenPart) (i : ℕ) → length items ≡ length ws → length ws ≤ i
+pub parts-all : (def : Definition) (a b : List LineVariable) (items : List (Bor Item)) (ws : List LinePart) (made : List SpecimenPart) (i : ℕ) → length items ≡ length ws → length ws ≤ i
     → IsMade def a b (part_terms made) (λ full names. PartsFit full names (items_now (take i items)) made (take i ws)) → IsMade def a b (part_terms made) (λ full names. PartsFit full names (items_now items) made ws)
 parts-all def a b items ws made i same le h =
     subst (λ l. IsMade def a b (part_terms made) (λ full names. PartsFit full names (items_now l) made ws)) (take_all i items (omega arith))
     (subst (λ l. IsMade def a b (part_terms made) (λ full names. PartsFit full names (items_now (take i items)) made l)) (take_all i ws le) h)
 
-pub elements-next : (def : Definition) (a b c : List Known) (l : ℕ) (ws : List WrittenTree) (old new : List Specimen) (i : ℕ) (w : WrittenTree) (s : Specimen)
+pub elements-next : (def : Definition) (a b c : List LineVariable) (l : ℕ) (ws : List WrittenTree) (old new : List Specimen) (i : ℕ) (w : WrittenTree) (s : Specimen)
     → i < length ws → w ≡ get_or ws i w → new ≡ old ++ s ∷ []
     → IsMade def a b (element_terms old) (λ full names. ElementsFit full names l old (take i ws))
     → IsMade def b c (terms_of def s) (λ full names. IsTree full names (kinds.Phylum l) s w)
     → IsMade def a c (element_terms new) (λ full names. ElementsFit full names l new (take (i + 1) ws))
 elements-next def a b c l ws old new i w s lt at e h k =
-    subst (λ r. IsMade def a c (element_terms new) (λ full names. ElementsFit full names l new r)) (sym (take-next ws i w lt at))
+    subst (λ r. IsMade def a c (element_terms new) (λ full names. ElementsFit full names l new r)) (sym (take_item ws i w lt at))
     (subst (λ r. IsMade def a c (element_terms r) (λ full names. ElementsFit full names l r (take i ws ++ w ∷ []))) (sym e)
     (made-as def a c (element_terms old ++ hole_terms (holes_of s)) (element_terms (old ++ s ∷ []))
     (λ full names. ElementsFit full names l old (take i ws) × IsTree full names (kinds.Phylum l) s w)
@@ -152,7 +151,7 @@ abbrev elements_row : Specimen → (n : Count) × Row_of-Specimen n
 elements_row (List' l shape row end) = (_, row)
 elements_row _ = (_, end_of-Specimen)
 
-pub operator-made : (def : Definition) (a b : List Known) (kind : Kind) (n : Name) (o : ℕ) (op : Operator) (items : List Item) (ps : List SpecimenPart) (ws : List LinePart) (w : WrittenTree)
+pub operator-made : (def : Definition) (a b : List LineVariable) (kind : Kind) (n : Name) (o : ℕ) (op : Operator) (items : List Item) (ps : List SpecimenPart) (ws : List LinePart) (w : WrittenTree)
     → with_parts (operator n) ws ≡ w → kind ≡ kinds.Phylum op.phylum → items ≡ part_items op.items → Lasts def (λ full. IsOperatorNamed full n o op)
     → IsMade def a b (part_terms ps) (λ full names. PartsFit full names items ps ws) → IsMade def a b (terms_of def (Op o ps)) (λ full names. IsTree full names kind (Op o ps) w)
 operator-made def a b kind n o op items ps ws w e of_kind its named h =
@@ -170,7 +169,7 @@ operator-made def a b kind n o op items ps ws w e of_kind its named h =
     ))
     h
 
-pub list-made : (def : Definition) (a b c : List Known) (kind : Kind) (l : ℕ) (list : ListKind) (ss : List Specimen) (end : Option SpecimenHole) (ws : List WrittenTree) (rest : Option LinePlace) (w : WrittenTree)
+pub list-made : (def : Definition) (a b c : List LineVariable) (kind : Kind) (l : ℕ) (list : ListKind) (ss : List Specimen) (end : Option SpecimenHole) (ws : List WrittenTree) (rest : Option LinePlace) (w : WrittenTree)
     → list_of (ending rest) ws ≡ w → kind ≡ kinds.List l → slice_get def.lists l ≡ Some list
     → IsMade def a b (element_terms ss) (λ full names. ElementsFit full names list.element ss ws) → IsMade def b c (hole_terms (rest_hole end)) (λ full names. RestFits full names l end rest)
     → IsMade def a c (terms_of def (ListOf l ss end)) (λ full names. IsTree full names kind (ListOf l ss end) w)
@@ -187,12 +186,12 @@ list-made def a b c kind l list ss end ws rest w e of_kind at h k =
     ))
     (made-both def a b c (element_terms ss) (hole_terms (rest_hole end)) _ _ h k)
 
-pub hole-made : (def : Definition) (a b : List Known) (kind : Kind) (h : SpecimenHole) (n : Name) (t : WrittenTerm) (w : WrittenTree) → trees.place n t ≡ w → h.kind ≡ kind → IsMade def a b (h.term ∷ []) (λ full names. IsPlace full names n t h)
+pub hole-made : (def : Definition) (a b : List LineVariable) (kind : Kind) (h : SpecimenHole) (n : Name) (t : WrittenTerm) (w : WrittenTree) → trees.place n t ≡ w → h.kind ≡ kind → IsMade def a b (h.term ∷ []) (λ full names. IsPlace full names n t h)
     → IsMade def a b (terms_of def (Hole h)) (λ full names. IsTree full names kind (Hole h) w)
 hole-made def a b kind h n t w e of_kind m =
     made-as def a b (h.term ∷ []) (terms_of def (Hole h)) (λ full names. IsPlace full names n t h) (λ full names. IsTree full names kind (Hole h) w) refl (λ full names k is. (n, t, of_kind, is, sym e)) m
 
-pub slot-made : (def : Definition) (a b : List Known) (i : Item) (w : LinePart) (k : Kind) (t : WrittenTree) (s : Specimen) → i ≡ slots.Slot k → w ≡ parts.Tree t → IsMade def a b (terms_of def s) (λ full names. IsTree full names k s t)
+pub slot-made : (def : Definition) (a b : List LineVariable) (i : Item) (w : LinePart) (k : Kind) (t : WrittenTree) (s : Specimen) → i ≡ slots.Slot k → w ≡ parts.Tree t → IsMade def a b (terms_of def s) (λ full names. IsTree full names k s t)
     → IsMade def a b (hole_terms (holes_of_part (Sub s))) (λ full names. PartFits full names i (Sub s) w)
 slot-made def a b i w k t s e d m =
     subst (λ j. IsMade def a b (hole_terms (holes_of_part (Sub s))) (λ full names. PartFits full names j (Sub s) w)) (sym e)
@@ -227,10 +226,10 @@ pub items-taken : (items : List Item) (i : ℕ) (x : Item) (b : Bor Item) (old n
     → test ≡ is_part x → test ≡ true → items_now new ≡ part_items (take (i + 1) items)
 items-taken items i x b old new test lt at h e of_item t holds =
     ap items_now e ∙ map-append (λ (b : Bor Item). b.now) old (b ∷ []) ∙ ap₂ (λ l y. l ++ y ∷ []) h of_item
-    ∙ ap (λ c. part_items (take i items) ++ cond c (x ∷ []) []) (sym holds ∙ t) ∙ sym (ap part_items (take-next items i x lt at) ∙ part_items-append (take i items) (x ∷ []))
+    ∙ ap (λ c. part_items (take i items) ++ cond c (x ∷ []) []) (sym holds ∙ t) ∙ sym (ap part_items (take_item items i x lt at) ∙ part_items-append (take i items) (x ∷ []))
 
 pub items-passed : (items : List Item) (i : ℕ) (x : Item) (old new : List (Bor Item)) (test : Bool) → i < length items → x ≡ get_or items i x → items_now old ≡ part_items (take i items) → new ≡ old
     → test ≡ is_part x → test ≡ false → items_now new ≡ part_items (take (i + 1) items)
 items-passed items i x old new test lt at h e t fails =
     ap items_now e ∙ h ∙ sym (append-nil (part_items (take i items)))
-    ∙ ap (λ c. part_items (take i items) ++ cond c (x ∷ []) []) (sym fails ∙ t) ∙ sym (ap part_items (take-next items i x lt at) ∙ part_items-append (take i items) (x ∷ []))
+    ∙ ap (λ c. part_items (take i items) ++ cond c (x ∷ []) []) (sym fails ∙ t) ∙ sym (ap part_items (take_item items i x lt at) ∙ part_items-append (take i items) (x ∷ []))

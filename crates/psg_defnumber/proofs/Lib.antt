@@ -1,7 +1,7 @@
 mod CaseNumbers
 pub mod ListLaws
 pub mod MeetLaws
-pub mod KnownLaws
+pub mod LineVariableLaws
 pub mod MadeLaws
 pub mod FitLaws
 pub mod DigitLaws
@@ -14,6 +14,8 @@ pub mod NamedLaws
 pub mod SignatureLaws
 pub mod SortLineLaws
 pub mod PlacingLaws
+pub mod SortPlaces
+pub mod StandLaws
 pub mod StageLaws
 pub mod TermSorts
 pub mod TreeWeights

@@ -1,5 +1,5 @@
 -- The texts of a file are together at least as long as its lines have parts.
-use Rattle.std.proofs.Common.{◌≡◌, ℕ, suc, ◌+◌, ◌≤◌, Some, None, List, [], ◌∷◌, ◌++◌, length, length-append, map, ap, replicate, arith}
+use Rattle.std.proofs.Common.{◌≡◌, ℕ, suc, ◌+◌, ◌≤◌, Some, None, List, [], ◌∷◌, ◌++◌, length, length-append, map, ap, subst, replicate, arith}
 use Rattle.std.specs.Prelude.{chars, encode_utf8_all}
 use Rattle.std.specs.List.{AllByRecursion}
 use Rattle.std.proofs.lemmas.Bool.{false≢true}
@@ -16,7 +16,7 @@ use Rattle.psg_deflines.specs.declared.lines.LineItem.{LineItem}
 use Rattle.psg_deflines.specs.declared.lines.LineItem.TheVariants as items
 use Rattle.psg_deflines.specs.declared.lines.Line.{Line}
 use Rattle.psg_deflines.specs.declared.lines.Line.TheVariants as lines
-use Rattle.psg_defnumber.specs.Soundness.{total}
+use Rattle.psg_defnumber.specs.Soundness.{total, AreOfFile}
 use Rattle.psg_defnumber.proofs.TreeWeights.{total-append}
 
 written-total : (parts : List (List ℕ)) (text : List ℕ) → IsWritten parts text → total parts ≤ length text
@@ -57,6 +57,10 @@ entries-formed above (t ∷ texts) [] h = absurd h
 entries-formed above (t ∷ texts) (None ∷ entries) h = entries-formed (above ++ []) texts entries h.1
 entries-formed above (t ∷ texts) (Some line ∷ entries) h =
     (h.0.spelled.form, entries-formed (above ++ line ∷ []) texts entries h.1)
+
+-- each line of a file has its form
+pub formed : (file : List Line) → AreOfFile file → AllByRecursion HasForm file
+formed file h = subst (AllByRecursion HasForm) h.lines (entries-formed [] h.texts h.entries h.each)
 
 -- each line has a word in front
 line-long : (line : Line) → 1 ≤ total (parts_of line)

@@ -4,9 +4,10 @@ use Rattle.std.specs.List.{AllByRecursion}
 use Rattle.std.specs.Str.{bytes_eq}
 use Rattle.std.proofs.lemmas.Bool.{or_parts, or_left, or_right, false≢true}
 use Rattle.std.proofs.lemmas.List.{take_all}
+use Rattle.psg_terms.proofs.Lists.{take_item}
 use Rattle.psg_terms.specs.Names.{Name, is_among, has_twice}
 use Rattle.psg_terms.specs.Terms.{Term}
-use Rattle.psg_terms.proofs.DeclareLaws.{take-next, bytes_eq-refl}
+use Rattle.psg_terms.proofs.DeclareLaws.{bytes_eq-refl}
 use Rattle.psg_grammar.specs.declared.types.ListKind.{ListKind}
 use Rattle.psg_grammar.specs.declared.types.Row.{Row}
 use Rattle.psg_grammar.specs.declared.types.Phylum.{Phylum}
@@ -194,7 +195,7 @@ fills-none def ls = λ all once full keeps h. h
 pub fills-next : (def : Definition) (entries : List Entry) (i : ℕ) (entry : Entry) (old mid new : List ListKind) → i < length entries → entry ≡ get_or entries i entry → Fills def [] (written (take i entries)) old mid
     → Fills def (written (take i entries)) (written (take i entries) ++ written (entry ∷ [])) mid new → Fills def [] (written (take (i + 1) entries)) old new
 fills-next def entries i entry old mid new lt at h k = λ all once full keeps l.
-    subst (λ x. AreLists full x all new) (sym (ap written (take-next entries i entry lt at) ∙ written-append (take i entries) (entry ∷ []))) (k all once full keeps (h all once full keeps l))
+    subst (λ x. AreLists full x all new) (sym (ap written (take_item entries i entry lt at) ∙ written-append (take i entries) (entry ∷ []))) (k all once full keeps (h all once full keeps l))
 
 pub fills-all : (def : Definition) (entries : List Entry) (i : ℕ) (old new : List ListKind) → length entries ≤ i → Fills def [] (written (take i entries)) old new → Fills def [] (written entries) old new
 fills-all def entries i old new le h = subst (λ x. Fills def [] (written x) old new) (take_all i entries le) h

@@ -1,10 +1,9 @@
 -- The names of the kinds, phyla first, are distinct where those of a file's lines are.
 use Rattle.std.proofs.Common.{◌≡◌, ◌||◌, true, false, List, [], ◌∷◌, ◌++◌, refl, ap, sym, ◌∙◌, inl, inr}
 use Rattle.std.specs.Prelude.{bytes_eq}
-use Rattle.std.proofs.lemmas.Bool.{false≢true, or_from, or_parts}
+use Rattle.std.proofs.lemmas.Bool.{false≢true, or_from, or_parts, cases_Bool}
 use Rattle.psg_terms.specs.Names.{Name, is_among, has_twice}
 use Rattle.psg_terms.proofs.DeclareLaws.{is_among-append, bytes_eq-sym, bytes_eq-same}
-use Rattle.psg_terms.proofs.Variables.{cases}
 use Rattle.psg_deflines.specs.declared.lines.Line.{Line}
 use Rattle.psg_deflines.specs.declared.lines.Line.TheVariants as lines
 use Rattle.psg_defcheck.specs.Scopes.{kind_names, phylum_names, list_names}
@@ -58,7 +57,7 @@ once-parts (x ∷ xs) ys h =
     let rest = once-parts xs ys both.1 in (
       or_from (is_among xs x) (has_twice xs) own.0 rest.0,
       rest.1,
-      λ n e. elim (cases (bytes_eq x n)) [
+      λ n e. elim (cases_Bool (bytes_eq x n)) [
         | inl same ↦ ap (is_among ys) (sym (bytes_eq-same x n same)) ∙ own.1
         | inr other ↦ rest.2 n (ap (λ c. c || is_among xs n) (sym other) ∙ e)
       ],

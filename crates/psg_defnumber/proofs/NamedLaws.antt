@@ -1,7 +1,7 @@
 -- Positions of names are those of what has the names in a definition.
 use Rattle.std.proofs.Common.{◌≡◌, ◌⊎◌, inl, inr, ℕ, ◌<◌, false, zero, suc, List, [], ◌∷◌, map, length, slice_get, get_or, refl, ap, sym, ◌∙◌, subst, Option, Some, None, IsTrue, is_some, drop, arith}
 use Rattle.std.proofs.lemmas.Bool.{false≢true, true≢false, or_parts}
-use Rattle.std.proofs.lemmas.Option.{slice_get-map, slice_get_within, get_or_from_slice_get}
+use Rattle.std.proofs.lemmas.Option.{slice_get-map, slice_get_within, get_or_from_slice_get, same_Some}
 use Rattle.std.specs.List.{AllByRecursion, list_any}
 use Rattle.std.specs.Option.{option_map}
 use Rattle.psg_terms.specs.Names.{Name}
@@ -19,6 +19,7 @@ use Rattle.psg_grammar.specs.Sound.{HasKindSort, HasSpaceSort, IsItem}
 use Rattle.psg_deflines.specs.declared.lines.LineItem.{LineItem}
 use Rattle.psg_deflines.specs.declared.lines.LineItem.TheVariants as items
 use Rattle.psg_deflines.specs.Entries.{Entry, written}
+use Rattle.psg_deflines.specs.Forms.{HasForm}
 use Rattle.psg_deflines.specs.WrittenTrees.{WrittenTree, operator, place}
 use Rattle.psg_deflines.specs.TreeShapes.{with_parts}
 use Rattle.psg_deflines.specs.declared.trees.LinePlace.{LinePlace}
@@ -33,12 +34,11 @@ use Rattle.psg_defcheck.specs.Faults.{ArePassed}
 use Rattle.psg_defcheck.specs.Checks.{IsKindAt}
 use Rattle.psg_defcheck.proofs.KnownLaws.{knows-parts}
 use Rattle.psg_defnumber.specs.Growing.{Lasts}
+use Rattle.psg_defnumber.specs.Soundness.{AreOfFile}
 use Rattle.psg_defnumber.specs.Declaring.{HasSorts, HasPhyla, AreListsOf, HasKinds, HasNames, IsSpaceAt, IsMeant, IsMeantEntry, HasElements}
 use Rattle.psg_defnumber.specs.Numbers.{IsItem as IsItemNamed, AreItems, sort_decls, IsKind, IsSpaceNamed, IsOperatorNamed, AreSpaces, ArePhyla, AreLists, AreOperators}
 use Rattle.psg_defnumber.proofs.OnceLaws.{decls-sorts}
-
-same-some : {X : Type 0} (x y : X) → ◌≡◌ {A = Option X} (Some x) (Some y) → x ≡ y
-same-some x y e = cc
+use Rattle.psg_defnumber.proofs.LineSizes.{formed}
 
 pub named-at : {X : Type 0} (f : X → Name) (xs : List X) (names : List Name) (p : ℕ) (n : Name) → map f xs ≡ names → slice_get names p ≡ Some n → (x : X) × (slice_get xs p ≡ Some x) × (f x ≡ n)
 named-at {X} f xs names p n e h = go (slice_get xs p) refl
@@ -111,15 +111,13 @@ space-there file p n some at def h =
 pub named-below : {X : Type 0} (f : X → Name) (xs : List X) (names : List Name) (p : ℕ) (n : Name) → map f xs ≡ names → slice_get names p ≡ Some n → p < length xs
 named-below f xs names p n e h = let found = named-at f xs names p n e h in slice_get_within xs p found.0 found.1
 
-pub symbol-is : (sig : Signature) (names : List Name) (p : ℕ) (k n own : Name) (args : List ℕ) (x : ℕ) (t : Symbol) (sort : ℕ) → map (λ (s : Symbol). s.name) sig.symbols ≡ names → slice_get names p ≡ Some k → k ≡ n
-    → slice_get sig.symbols p ≡ Some (record { name = own; arguments = args; sort = x }) → slice_get sig.symbols p ≡ Some t → t.sort ≡ sort
-    → (s : Symbol) × (slice_get sig.symbols p ≡ Some s) × (s.name ≡ n) × (s.arguments ≡ args) × (s.sort ≡ sort)
-symbol-is sig names p k n own args x t sort e at named is there of_sort =
-    let found = named-at (λ (s : Symbol). s.name) sig.symbols names p k e at in
+pub symbol-is : (sig : Signature) (names : List Name) (p : ℕ) (k n own : Name) (args : List ℕ) (x : ℕ) → map (λ (s : Symbol). s.name) sig.symbols ≡ names → slice_get names p ≡ Some k → k ≡ n
+    → slice_get sig.symbols p ≡ Some (record { name = own; arguments = args; sort = x }) → (s : Symbol) × (slice_get sig.symbols p ≡ Some s) × (s.name ≡ n) × (s.arguments ≡ args)
+symbol-is sig names p k n own args x e at named is =
     let s : Symbol = record { name = own; arguments = args; sort = x } in
+    let found = named-at (λ (s : Symbol). s.name) sig.symbols names p k e at in
     let one : ◌≡◌ {A = Option Symbol} (Some s) (Some found.0) = sym is ∙ found.1 in
-    let two : ◌≡◌ {A = Option Symbol} (Some s) (Some t) = sym is ∙ there in
-    (s, is, ap (λ (y : Symbol). y.name) (same-some s found.0 one) ∙ found.2 ∙ named, refl, ap (λ (y : Symbol). y.sort) (same-some s t two) ∙ of_sort)
+    (s, is, ap (λ (y : Symbol). y.name) (same_Some s found.0 one) ∙ found.2 ∙ named, refl)
 
 pub list-kind : (file : List Line) (n : Name) → IsTrue (is_list file n) → IsTrue (is_kind file n)
 list-kind file n h = go (kind_declared file n) refl
@@ -142,12 +140,12 @@ known-at file (Some line ∷ entries) zero e h lt at = subst (IsMeantEntry file)
 known-at file (None ∷ entries) (suc i) e h lt at = known-at file entries i e h (omega arith) at
 known-at file (Some line ∷ entries) (suc i) e h lt at = known-at file entries i e h.1 (omega arith) at
 
-pub all-known : (file above rest : List Line) → ArePassed file above rest → AllByRecursion (IsMeant file) rest
-all-known file above [] h = tt
-all-known file above (line ∷ rest) h = (record { known = h.0.1.0; entity = h.0.1.1.1.1.0; above = above; sorted = h.0.1.1.1.0 }, all-known file _ rest h.1)
+pub all-known : (file above rest : List Line) → AllByRecursion HasForm rest → ArePassed file above rest → AllByRecursion (IsMeant file) rest
+all-known file above [] form h = tt
+all-known file above (line ∷ rest) form h = (record { form = form.0; known = h.0.1.0; entity = h.0.1.1.1.1.0; above = above; sorted = h.0.1.1.1.0 }, all-known file _ rest form.1 h.1)
 
-pub lines-known : (seen : List Line) (entries : List Entry) → written entries ≡ seen → ArePassed seen [] seen → AllByRecursion (IsMeant seen) (written entries)
-lines-known seen entries e h = subst (AllByRecursion (IsMeant seen)) (sym e) (all-known seen [] seen h)
+pub lines-known : (seen : List Line) (entries : List Entry) → written entries ≡ seen → AreOfFile seen → ArePassed seen [] seen → AllByRecursion (IsMeant seen) (written entries)
+lines-known seen entries e few h = subst (AllByRecursion (IsMeant seen)) (sym e) (all-known seen [] seen (formed seen few) h)
 
 pub known-drop : (file : List Line) (k : ℕ) (entries : List Entry) → AllByRecursion (IsMeant file) (written entries) → AllByRecursion (IsMeant file) (written (drop k entries))
 known-drop file zero entries h = h

@@ -1,5 +1,6 @@
 -- Two definitions of one file have their phyla, the heads of their lists and the heads of their operators in common.
 use Rattle.std.proofs.Common.{◌≡◌, ℕ, true, List, [], ◌∷◌, ap, ap₂, sym, ◌∙◌, subst, Some, slice_get}
+use Rattle.psg_terms.proofs.Lists.{slice_get-map_some, slice_get_once}
 use Rattle.psg_terms.specs.Names.{Name, is_among}
 use Rattle.psg_terms.specs.declared.sorts.SortId.{SortId}
 use Rattle.psg_terms.proofs.DeclareLaws.{is_among-at}
@@ -19,8 +20,7 @@ use Rattle.psg_deflines.specs.declared.lines.Line.{Line}
 use Rattle.psg_deflines.specs.declared.lines.Line.TheVariants as lines
 use Rattle.psg_defcheck.specs.Scopes.{phylum_names, list_names, operator_names, space_names}
 use Rattle.psg_defnumber.specs.Numbers.{IsTerm, AreTerms, IsSort, IsKind, IsItem, AreItems, IsSpaceNamed, IsOperatorNamed, ArePhyla, AreLists, AreOperators, AreSpaces, IsNumbered}
-use Rattle.psg_defnumber.proofs.OnceNames.{same_at, named_place, Together, together-at}
-use Rattle.psg_defnumber.proofs.ListLaws.{map-at}
+use Rattle.psg_defnumber.proofs.OnceNames.{named_place, Together, together-at}
 use Rattle.psg_defnumber.proofs.NameLaws.{phyla-once, lists-once, apart}
 use Rattle.psg_defnumber.proofs.NamedLaws.{phyla-names, spaces-names, lists-names, operators-names}
 use Rattle.psg_terms.proofs.Spelled.{one_place}
@@ -104,13 +104,13 @@ module _ {version : ℕ} (file : List Line) (x y : Definition) (hx : IsNumbered 
       → is_among (phylum_names file) n ≡ true
   phylum-among d n p h (k, at, e) =
       is_among-at (phylum_names file) p n (ap (λ l. slice_get l p) (sym (phyla-names d file d.phyla h.phyla))
-      ∙ map-at phylum_name d.phyla p k at ∙ ap Some e)
+      ∙ slice_get-map_some phylum_name d.phyla p k at ∙ ap Some e)
 
   list-among : (d : Definition) (n : Name) (p : ℕ) → IsNumbered version file d → IsKind d n (kinds.List p)
       → is_among (list_names file) n ≡ true
   list-among d n p h (k, at, e) =
       is_among-at (list_names file) p n (ap (λ l. slice_get l p) (sym
-      (lists-names d file file d.lists h.lists)) ∙ map-at list_name d.lists p k at ∙ ap Some e)
+      (lists-names d file file d.lists h.lists)) ∙ slice_get-map_some list_name d.lists p k at ∙ ap Some e)
 
   pub kind-same : (n : Name) (k l : Kind) → IsKind x n k → IsKind y n l → k ≡ l
   kind-same n (kinds.Phylum p) (kinds.Phylum q) h k = ap kinds.Phylum (phylum-place n p q h k)
@@ -139,7 +139,7 @@ module _ {version : ℕ} (file : List Line) (x y : Definition) (hx : IsNumbered 
 
   kind_sort-same : (k : Kind) (s r : ℕ) → HasKindSort x k s → HasKindSort y k r → s ≡ r
   kind_sort-same (kinds.Phylum p) s r (f, at, e) (g, at', e') =
-      let same = same_at y.phyla p f g (ap (λ z. slice_get z p) (sym phyla-same) ∙ at) at' in
+      let same = slice_get_once y.phyla p f g (ap (λ z. slice_get z p) (sym phyla-same) ∙ at) at' in
       sym e ∙ ap (λ (z : Phylum). z.sort.0) same ∙ e'
   kind_sort-same (kinds.List l) s r (f, at, e) (g, at', e') = sym e ∙ ap (λ (z : SortId). z.0)
       (head-at l f g at at').sort ∙ e'

@@ -1,12 +1,8 @@
 -- A name that stands once has one place.
 use Rattle.std.proofs.Common.{◌≡◌, ℕ, false, zero, suc, List, [], ◌∷◌, map, ap, sym, ◌∙◌, subst, Some, slice_get}
+use Rattle.psg_terms.proofs.Lists.{slice_get-map_some}
 use Rattle.psg_terms.specs.Names.{Name, has_twice}
 use Rattle.psg_terms.proofs.Spelled.{one_place}
-use Rattle.psg_defnumber.proofs.ListLaws.{map-at}
-
--- what stands at a place is one value
-pub same_at : {X : Type 0} (xs : List X) (i : ℕ) (x y : X) → slice_get xs i ≡ Some x → slice_get xs i ≡ Some y → x ≡ y
-same_at xs i x y a b = cc
 
 -- two lists with one list of names, each once, have a name at one place
 module _ {X : Type 0} (name : X → Name) (names : List Name) (once : has_twice names ≡ false) (xs ys : List X)
@@ -14,8 +10,8 @@ module _ {X : Type 0} (name : X → Name) (names : List Name) (once : has_twice 
   pub named_place : (n : Name) (i j : ℕ) (x y : X) → slice_get xs i ≡ Some x → name x ≡ n
       → slice_get ys j ≡ Some y → name y ≡ n → i ≡ j
   named_place n i j x y at e at' f =
-      one_place names i j n once (ap (λ l. slice_get l i) (sym left) ∙ map-at name xs i x at ∙ ap Some e) (ap
-      (λ l. slice_get l j) (sym right) ∙ map-at name ys j y at' ∙ ap Some f)
+      one_place names i j n once (ap (λ l. slice_get l i) (sym left) ∙ slice_get-map_some name xs i x at ∙ ap Some e) (ap
+      (λ l. slice_get l j) (sym right) ∙ slice_get-map_some name ys j y at' ∙ ap Some f)
 
 -- place by place
 abbrev pub Together : {X : Type 0} → (X → X → Type 0) → List X → List X → Type 0

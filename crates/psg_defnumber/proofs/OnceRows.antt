@@ -1,5 +1,6 @@
 -- Two definitions of one file have the same rows.
 use Rattle.std.proofs.Common.{◌≡◌, ℕ, List, [], ◌∷◌, ap, ap₂, sym, ◌∙◌, subst, inl, inr, Option, Some, None, slice_get}
+use Rattle.psg_terms.proofs.Lists.{slice_get_once}
 use Rattle.psg_terms.specs.Names.{Name}
 use Rattle.psg_terms.specs.Terms.{Term}
 use Rattle.psg_terms.specs.Canonical.{variables, variables_of, first_occurrences}
@@ -22,14 +23,13 @@ use Rattle.psg_deflines.specs.WrittenTrees.{WrittenTree}
 use Rattle.psg_deflines.specs.declared.lines.Line.{Line}
 use Rattle.psg_deflines.specs.declared.lines.Line.TheVariants as lines
 use Rattle.psg_defnumber.specs.Numbers.{IsTerm, IsTree, IsRow, AreRows, IsNil, AreNils, AreCells, terms_of, IsCase, AreCases, HasCases, IsHoleRow, AreHoleRows, IsDeclareRow, AreDeclareRows}
-use Rattle.psg_defnumber.proofs.OnceNames.{same_at}
 use Rattle.psg_defnumber.proofs.OnceTerms.{one_row, row_fixes}
 use Rattle.psg_defnumber.proofs.OnceTrees.{Agree, tree-same, known-holes}
 
 module _ (x y : Definition) (agree : Agree x y) (spaces : x.spaces ≡ y.spaces) where
   space-same : (n s r : ℕ) → HasSpaceSort x n s → HasSpaceSort y n r → s ≡ r
   space-same n s r (f, at, e) (g, at', e') =
-      let same = same_at y.spaces n f g (ap (λ z. slice_get z n) (sym spaces) ∙ at) at' in
+      let same = slice_get_once y.spaces n f g (ap (λ z. slice_get z n) (sym spaces) ∙ at) at' in
       sym e ∙ ap (λ (z : Space). z.sort.0) same ∙ e'
 
   pub columns-same : (is : List Item) (ss rs : List ℕ) → AreColumns x is ss → AreColumns y is rs → ss ≡ rs

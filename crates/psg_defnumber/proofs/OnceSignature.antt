@@ -1,5 +1,6 @@
 -- The lines of a file spell one signature.
 use Rattle.std.proofs.Common.{◌≡◌, ℕ, false, List, map, ap, ◌∙◌, Some, slice_get}
+use Rattle.psg_terms.proofs.Lists.{slice_get-map_some}
 use Rattle.psg_terms.specs.Names.{has_twice}
 use Rattle.psg_terms.specs.Signature.{Symbol}
 use Rattle.psg_terms.specs.Declarations.{AreDistinct}
@@ -8,7 +9,6 @@ use Rattle.psg_terms.proofs.Spelled.{one_signature, one_place}
 use Rattle.psg_grammar.specs.declared.types.Definition.{Definition}
 use Rattle.psg_deflines.specs.declared.lines.Line.{Line}
 use Rattle.psg_defnumber.specs.Numbers.{sort_decls, IsNumbered}
-use Rattle.psg_defnumber.proofs.ListLaws.{map-at}
 use Rattle.psg_defnumber.proofs.OnceLaws.{decls-sorts, decls-constructors}
 
 module _ {version : ℕ} (file : List Line) (d : Definition) (h : IsNumbered version file d) where
@@ -28,7 +28,7 @@ module _ {version : ℕ} (file : List Line) (d : Definition) (h : IsNumbered ver
       let names = symbol_names (sort_decls file) d.signature h.signature in
       one_place (map (λ (s : Symbol). s.name) d.signature.symbols) c e z.name (ap has_twice names
       ∙ distinct.constructors)
-      (map-at (λ (s : Symbol). s.name) d.signature.symbols c s at ∙ ap Some name) (map-at (λ
+      (slice_get-map_some (λ (s : Symbol). s.name) d.signature.symbols c s at ∙ ap Some name) (slice_get-map_some (λ
       (s : Symbol). s.name) d.signature.symbols e z at')
 
   pub signature-same : (e : Definition) → IsNumbered version file e → d.signature ≡ e.signature

@@ -1,16 +1,17 @@
 -- A line's terms are one row, whatever list of names numbers their variables.
 use Rattle.std.proofs.Common.{◌≡◌, ℕ, ◌+◌, ◌||◌, true, false, if◌then◌else◌, List, [], ◌∷◌, ◌++◌, refl, ap, ap₂, sym, ◌∙◌, subst, inl, inr, Some, slice_get, arith}
+use Rattle.std.proofs.lemmas.Bool.{cases_Bool}
+use Rattle.psg_terms.proofs.Lists.{slice_get_once}
 use Rattle.psg_terms.specs.Names.{Name, has_twice}
 use Rattle.psg_terms.specs.Terms.{Term}
 use Rattle.psg_terms.specs.Terms as terms
 use Rattle.psg_terms.specs.Signature.{Signature, Symbol}
 use Rattle.psg_terms.specs.Canonical.{Variable, same_variable, variables, variables_of, is_noted, noted, noted_all, first_occurrences, IsNumberedFrom}
-use Rattle.psg_terms.proofs.Variables.{cases, same_variable-refl, same_variable-true, same_variable-false, true_false}
+use Rattle.psg_terms.proofs.Variables.{same_variable-refl, same_variable-true, same_variable-false, true_false}
 use Rattle.psg_terms.proofs.Unique.{Each, each-front}
 use Rattle.psg_terms.proofs.RenamingLaws.{IsAmong, among-noted_all}
 use Rattle.psg_deflines.specs.WrittenTerms.{WrittenTerm, variable, named, apply}
 use Rattle.psg_defnumber.specs.Numbers.{IsTerm, AreTerms, IsNaming}
-use Rattle.psg_defnumber.proofs.OnceNames.{same_at}
 use Rattle.psg_terms.proofs.Spelled.{one_place}
 
 -- the variables stand for one name and are of one sort
@@ -78,7 +79,7 @@ module _ (a b : List Name) (ha : has_twice a ≡ false) (hb : has_twice b ≡ fa
   forth x y z w p q e =
       let place : p.left ≡ q.left = same_place p.left q.left x.1 z.1 p.left_number q.left_number (ap (λ
       (v : Variable). v.1) e) in
-      let name : p.name ≡ q.name = same_at a q.left p.name q.name (subst
+      let name : p.name ≡ q.name = slice_get_once a q.left p.name q.name (subst
       (λ k. slice_get a k ≡ Some p.name) place p.left_at) q.left_at in
       let other : p.right ≡ q.right = one_place b p.right q.right q.name hb (p.right_at ∙ ap Some name) q.right_at in
       ap₂ (λ s n. (s, n)) (sym p.sort ∙ ap (λ (v : Variable). v.0) e ∙ q.sort) (p.right_number
@@ -91,7 +92,7 @@ module _ (a b : List Name) (ha : has_twice a ≡ false) (hb : has_twice b ≡ fa
   back x y z w p q e =
       let place : p.right ≡ q.right = same_place p.right q.right y.1 w.1 p.right_number q.right_number (ap (λ
       (v : Variable). v.1) e) in
-      let name : p.name ≡ q.name = same_at b q.right p.name q.name (subst
+      let name : p.name ≡ q.name = slice_get_once b q.right p.name q.name (subst
       (λ k. slice_get b k ≡ Some p.name) place p.right_at) q.right_at in
       let other : p.left ≡ q.left = one_place a p.left q.left q.name ha (p.left_at ∙ ap Some name) q.left_at in
       ap₂ (λ s n. (s, n)) (p.sort ∙ ap (λ (v : Variable). v.0) e ∙ sym q.sort) (p.left_number
@@ -102,7 +103,7 @@ module _ (a b : List Name) (ha : has_twice a ≡ false) (hb : has_twice b ≡ fa
 
   same-test : (x y z w : Variable) → Alike a b x y → Alike a b z w → same_variable x z ≡ same_variable y w
   same-test x y z w p q =
-      elim (cases (same_variable x z)) [
+      elim (cases_Bool (same_variable x z)) [
         | inl e ↦ (let f = forth x y z w p q (same_variable-true x z e) in e
             ∙ sym (subst (λ v. same_variable y v ≡ true) f (same_variable-refl y)))
         | inr e ↦ e ∙ sym (same_variable-false y w (λ f. true_false (sym (subst (λ v. same_variable x v ≡ true)
@@ -151,7 +152,7 @@ module _ (a b : List Name) (ha : has_twice a ≡ false) (hb : has_twice b ≡ fa
   among-same x y (z ∷ xs) (w ∷ ys) p (q, h) e i =
       let head : z ≡ w = cc in
       let rest : xs ≡ ys = cc in
-      elim (cases (same_variable x z)) [
+      elim (cases_Bool (same_variable x z)) [
         | inl t ↦ (let s = same_variable-true x z t in s ∙ head ∙ sym (forth x y z w p q s))
         | inr t ↦ among-same x y xs ys p h rest (ap (λ c. c || is_noted x xs) (sym t) ∙ i)
       ]
@@ -208,7 +209,7 @@ module _ (sig : Signature) (once : (c d : ℕ) (s z : Symbol) → slice_get sig.
   arguments-same a b (variable n) xs ys s r t u h k = h.0 ∙ sym k.0
   arguments-same a b (named n) xs ys s r t u (c, x, at, name, args, sort, e) (d, y, at', name', args', sort', e') =
       let same = once c d x y at at' (name ∙ sym name') in
-      let symbol = same_at sig.symbols d x y (subst (λ k. slice_get sig.symbols k ≡ Some x) same at) at' in
+      let symbol = slice_get_once sig.symbols d x y (subst (λ k. slice_get sig.symbols k ≡ Some x) same at) at' in
       sym args ∙ ap (λ (z : Symbol). z.arguments) symbol ∙ args'
   arguments-same a b (apply f w) xs ys s r t u (m, g, v, hf, hw, e) (n, g', v', hf', hw', e') =
       let longer = arguments-same a b f (m ∷ xs) (n ∷ ys) s r g g' hf hf' in

@@ -1,7 +1,7 @@
 -- Lines that pass the tests of their meaning spell sorts that are not refused.
 use Rattle.std.proofs.Common.{◌≡◌, ◌≢◌, ◌⊎◌, inl, inr, ℕ, ◌+◌, ◌==◌, true, false, cond, zero, suc, List, [], ◌∷◌, ◌++◌, length, refl, ap, sym, ◌∙◌, subst, Option, Some, None, slice_get, arith}
 use Rattle.std.proofs.lemmas.Bool.Decides.{nat_tests}
-use Rattle.std.proofs.lemmas.Bool.{false≢true}
+use Rattle.std.proofs.lemmas.Bool.{false≢true, cases_Bool, cases_eq}
 use Rattle.std.specs.List.{AllByRecursion, Contains}
 use Rattle.std.specs.Str.{bytes_eq}
 use Rattle.psg_terms.specs.Names.{Name, has_twice}
@@ -17,7 +17,6 @@ use Rattle.psg_terms.specs.declared.declare.SigFault.TheVariants.{Repeated, Unkn
 use Rattle.psg_terms.proofs.Applied.{AllGround, applied-takes, applied-ground}
 use Rattle.psg_terms.proofs.DeclareLaws.{bytes_eq-same}
 use Rattle.psg_terms.proofs.Spelled.{one_place, repeat-twice, all_among-middle}
-use Rattle.psg_terms.proofs.Variables.{cases, number_cases}
 use Rattle.psg_deflines.specs.declared.lines.Line.{Line}
 use Rattle.psg_deflines.specs.declared.lines.Line.TheVariants as lines
 use Rattle.psg_defcheck.specs.Scopes.{sort_names, sort_declared}
@@ -82,7 +81,7 @@ declared-in : (s : ℕ) (file : List Line) (n : Name) (d : SortDecl) (c : ConDec
     → (k : ℕ) × (slice_get (sort_names file) k ≡ Some n) × IsIn (s + k, c) (in_order s (sort_decls file))
 declared-in s [] n d c e h = absurd (cc)
 declared-in s (lines.Sort own ∷ file) n d c e h =
-    elim (cases (bytes_eq own.name n)) [
+    elim (cases_Bool (bytes_eq own.name n)) [
       | inl t ↦
           let same : own ≡ d = same-some own d (sym (ap (λ b. cond b (Some own) (sort_declared file n)) t) ∙ e) in
           let place : s ≡ s + 0 = omega arith in (
@@ -221,7 +220,7 @@ only-constant file sorts s m c [] right n [] h e = absurd (cc)
 only-constant file sorts s m c [] right n (x ∷ xs) h e = absurd h
 only-constant file sorts s m c (d ∷ ds) right n xs h e =
     let next : Next sorts s c (in_order (m + 1) ds) = λ k ys. only-constant file sorts s (m + 1) c ds right.1 k ys in
-    elim (number_cases m s) [
+    elim (cases_eq m s) [
       | inl same ↦ chosen sorts s m c (in_order (m + 1) ds) same next d.constructors right.0.choice n xs h e
       | inr other ↦ skipped sorts s m c (in_order (m + 1) ds) other next d.constructors n xs h e
     ]

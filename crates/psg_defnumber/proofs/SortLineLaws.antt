@@ -1,9 +1,9 @@
 -- Sorts that are taken from their lines.
 use Rattle.std.proofs.Common.{◌≡◌, ℕ, ◌+◌, ◌<◌, ◌≤◌, List, [], ◌∷◌, ◌++◌, Some, None, take, get_or, length, refl, ap, ap₂, sym, ◌∙◌, append-nil}
 use Rattle.std.proofs.lemmas.List.{take_all}
+use Rattle.psg_terms.proofs.Lists.{take_item}
 use Rattle.psg_terms.specs.declared.declare.ConDecl.{ConDecl}
 use Rattle.psg_terms.specs.declared.declare.SortDecl.{SortDecl}
-use Rattle.psg_terms.proofs.DeclareLaws.{take-next}
 use Rattle.psg_deflines.specs.Entries.{Entry, written}
 use Rattle.psg_deflines.specs.declared.lines.Line.{Line}
 use Rattle.psg_deflines.specs.declared.lines.Line.TheVariants as lines
@@ -12,7 +12,7 @@ use Rattle.psg_defcheck.proofs.GroundLaws.{written-append}
 
 -- one more copy
 pub copy-next : {X : Type 0} (xs old new : List X) (i : ℕ) (x y : X) → i < length xs → x ≡ get_or xs i x → old ≡ take i xs → new ≡ old ++ y ∷ [] → y ≡ x → new ≡ take (i + 1) xs
-copy-next xs old new i x y lt at h e same = e ∙ ap₂ (λ l z. l ++ z ∷ []) h same ∙ sym (take-next xs i x lt at)
+copy-next xs old new i x y lt at h e same = e ∙ ap₂ (λ l z. l ++ z ∷ []) h same ∙ sym (take_item xs i x lt at)
 
 pub copy-all : {X : Type 0} (xs done : List X) (i : ℕ) → length xs ≤ i → done ≡ take i xs → done ≡ xs
 copy-all xs done i le h = h ∙ take_all i xs le
@@ -49,7 +49,7 @@ pub sorts-next : (entries : List Entry) (i : ℕ) (entry : Entry) (old new : Lis
     → new ≡ sort_decls (written (take (i + 1) entries))
 sorts-next entries i entry old new lt at h e =
     e ∙ ap (λ l. l ++ sort_decls (written (entry ∷ []))) h ∙ sym (sort_decls-append (written (take i entries)) (written (entry ∷ [])))
-    ∙ ap sort_decls (sym (written-append (take i entries) (entry ∷ []))) ∙ ap (λ l. sort_decls (written l)) (sym (take-next entries i entry lt at))
+    ∙ ap sort_decls (sym (written-append (take i entries) (entry ∷ []))) ∙ ap (λ l. sort_decls (written l)) (sym (take_item entries i entry lt at))
 
 pub sorts-all : (entries : List Entry) (i : ℕ) (done : List SortDecl) → length entries ≤ i → done ≡ sort_decls (written (take i entries)) → done ≡ sort_decls (written entries)
 sorts-all entries i done le h = h ∙ ap (λ l. sort_decls (written l)) (take_all i entries le)

@@ -2,6 +2,7 @@
 use Rattle.std.proofs.Common.{◌≡◌, inl, inr, ℕ, ◌+◌, ◌≤◌, ◌<◌, ◌^◌, List, [], ◌∷◌, ◌++◌, length, map, Option, Some, None, slice_get, refl, ap, sym, ◌∙◌, subst, append-nil, append_assoc, arith}
 use Rattle.std.proofs.lemmas.Bool.{false≢true}
 use Rattle.std.proofs.lemmas.List.{map-append}
+use Rattle.psg_terms.proofs.Lists.{each_at, each_append}
 use Rattle.std.specs.List.{AllByRecursion}
 use Rattle.psg_terms.specs.Names.{Name}
 use Rattle.psg_terms.specs.Sound.{IsSound as IsSoundSignature}
@@ -24,9 +25,7 @@ use Rattle.psg_grammar.specs.Placed.{FitsPlaces}
 use Rattle.psg_grammar.specs.Sound.{HasKindSort, HasSpaceSort, AreColumns, HasShortLists, HasSpecimenNames, IsHolePlace, IsSpecimen, kind_of}
 use Rattle.psg_deflines.specs.WrittenTerms.{WrittenTerm}
 use Rattle.psg_deflines.specs.WrittenTrees.{WrittenTree, operator, with_tree, with_name, with_number, with_text, element, HasTreeForm}
-use Rattle.psg_grammar.proofs.SoundParts.{each_at}
 use Rattle.psg_defnumber.specs.Numbers.{IsPlace, IsTree, IsPart, AreParts, IsListFrom}
-use Rattle.psg_defnumber.proofs.ListLaws.{all-append}
 use Rattle.psg_defnumber.proofs.TermSorts.{term-takes}
 use Rattle.psg_defnumber.proofs.TreeWeights.{weight}
 
@@ -200,7 +199,7 @@ module _ (def : Definition) (sound : IsSoundSignature def.signature) (inside : A
     rests = (first.rests, behind.rests);
     few = λ f h. behind.few (part_of p f) (first.few f h);
     named = λ f h. behind.named (part_of p f) (first.named f h);
-    places = all-append (IsHolePlace def) (holes_of_part p) (holes_of_row rest) first.places behind.places;
+    places = each_append (IsHolePlace def) (holes_of_part p) (holes_of_row rest) first.places behind.places;
   }
 
   element-then : {m : _} (l count more : ℕ) (list : ListKind) (s : Specimen) (elements : Row_of-Specimen m)
@@ -224,7 +223,7 @@ module _ (def : Definition) (sound : IsSoundSignature def.signature) (inside : A
     short = omega (arith, behind.short);
     few = (omega (arith, behind.short), first.few, behind.few);
     named = (first.named, behind.named);
-    places = all-append (IsHolePlace def) (holes_of s) (holes_of_list elements rest) first.places behind.places;
+    places = each_append (IsHolePlace def) (holes_of s) (holes_of_list elements rest) first.places behind.places;
   }
 
   no-elements : (l : ℕ) (list : ListKind) (rest : Option SpecimenHole) (w : WrittenTree)

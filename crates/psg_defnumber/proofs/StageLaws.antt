@@ -1,8 +1,8 @@
 -- A definition that is made in stages.
 use Rattle.std.proofs.Common.{ℕ, ◌≡◌, false, List, [], map, refl, ap, sym, ◌∙◌, subst}
 use Rattle.psg_terms.specs.Names.{has_twice}
-use Rattle.psg_terms.specs.Signature.{Signature}
-use Rattle.psg_terms.specs.Declarations.{IsSpelled}
+use Rattle.psg_terms.specs.Signature.{Signature, Symbol}
+use Rattle.psg_terms.specs.Declarations.{in_order, AreSpelled, IsSpelled}
 use Rattle.psg_terms.specs.Sound.{IsSound}
 use Rattle.psg_terms.proofs.DeclareFaults.{symbol_names}
 use Rattle.psg_grammar.specs.declared.types.Space.{Space}
@@ -17,15 +17,18 @@ use Rattle.psg_defcheck.specs.Scopes.{sort_names, constructor_names, space_names
 use Rattle.psg_defcheck.specs.Scopes as scopes
 use Rattle.psg_defcheck.specs.Faults.{ArePassed}
 use Rattle.psg_defnumber.specs.Growing.{Keeps, Lasts}
+use Rattle.psg_defnumber.specs.Soundness.{AreOfFile}
+use Rattle.psg_defnumber.proofs.LineSizes.{formed}
 use Rattle.psg_defnumber.specs.Filling.{Fills}
 use Rattle.psg_defnumber.specs.Stages.{IsDeclared}
 use Rattle.psg_defnumber.specs.Numbers.{sort_decls, AreSpaces, ArePhyla, AreLists, AreOperators, AreHoleRows, AreDeclareRows, IsNumbered}
 use Rattle.psg_defnumber.proofs.ListLaws.{grows-refl, grows-nil, grows-trans}
-use Rattle.psg_defnumber.specs.Declaring.{HasSorts, HasConstructors, HasPhyla, AreListsOf, HasKinds, HasNames, IsMeant}
+use Rattle.psg_defnumber.specs.Declaring.{HasSorts, HasConstructors, HasPhyla, AreListsOf, HasKinds, HasNames, IsMeant, HasPhylumSort}
+use Rattle.psg_defnumber.proofs.SortPlaces.{symbols-sorted, phyla-sorted, lists-sorted, spaces-sorted}
 use Rattle.psg_defnumber.proofs.NamedLaws.{all-known, phyla-names, spaces-names, lists-names, lists-elements, operators-names}
 use Rattle.psg_defnumber.proofs.MadeLaws.{keeps-self}
 use Rattle.psg_defnumber.proofs.OperatorLaws.{each-columns, operators-items}
-use Rattle.psg_defnumber.proofs.PlacingLaws.{lists-meant, element-places, operator-declared, items-placed, kind-at}
+use Rattle.psg_defnumber.proofs.PlacingLaws.{AreMeant, kinds-meant, element-places, operator-declared, items-placed, kind-at}
 use Rattle.psg_grammar.specs.declared.types.Kind.TheVariants as kinds
 use Rattle.std.specs.List.{AllByRecursion}
 use Rattle.psg_defnumber.proofs.OnceLaws.{decls-sorts, decls-constructors, kinds-once, operators-once, spaces-once, sorts-once, constructors-once}
@@ -81,16 +84,33 @@ is-declared version file seen sig spaces phyla bare lists operators e passed spe
     phyla-there : map (λ (p : Phylum). p.name) phyla ≡ phylum_names seen
     phyla-there = phyla-names whole file phyla (of_phyla whole has whole (keeps-self whole)) ∙ ap phylum_names e
 
+-- a signature that the lines spell has their constructors
+pub constructors-there : (file seen : List Line) (sig : Signature) → file ≡ seen → ArePassed seen [] seen → IsSpelled (sort_decls file) sig → HasConstructors seen sig
+constructors-there file seen sig e passed spelled = record {
+  names = names;
+  once = sorts-once seen passed;
+  sorts = symbols-sorted seen sig
+      (subst (λ f. AreSpelled (sort_names f) (in_order 0 (sort_decls f)) sig.symbols) e (subst (λ ns. AreSpelled ns (in_order 0 (sort_decls file)) sig.symbols) (decls-sorts file) spelled.symbols)) names (constructors-once seen passed);
+}
+  where
+    names : map (λ (s : Symbol). s.name) sig.symbols ≡ constructor_names seen
+    names = symbol_names (sort_decls file) sig spelled ∙ decls-constructors 0 file ∙ ap constructor_names e
+
 -- The lists that are made are those of the lines, at first without rows.
-module _ (version : ℕ) (file seen : List Line) (sig : Signature) (spaces : List Space) (phyla : List Phylum) (bare lists : List ListKind) (e : file ≡ seen) (passed : ArePassed seen [] seen) (spelled : IsSpelled (sort_decls file) sig) where
-  has : sig.sorts ≡ sort_names seen
+module _ (version : ℕ) (file seen : List Line) (sig : Signature) (spaces : List Space) (phyla : List Phylum) (bare lists : List ListKind) (e : file ≡ seen) (passed : ArePassed seen [] seen) (few : AreOfFile seen) (spelled : IsSpelled (sort_decls file) sig) where
+  pub has : sig.sorts ≡ sort_names seen
   has = spelled.sorts ∙ decls-sorts file ∙ ap sort_names e
 
   pub constructors-of : HasConstructors seen sig
-  constructors-of = symbol_names (sort_decls file) sig spelled ∙ decls-constructors 0 file ∙ ap constructor_names e
+  constructors-of = constructors-there file seen sig e passed spelled
 
-  phyla-there : ((def : Definition) → HasSorts seen def → Lasts def (λ full. ArePhyla full file phyla)) → HasPhyla seen (staged version sig spaces phyla [] [])
+  pub phyla-there : ((def : Definition) → HasSorts seen def → Lasts def (λ full. ArePhyla full file phyla)) → HasPhyla seen (staged version sig spaces phyla [] [])
   phyla-there of_phyla = let d = staged version sig spaces phyla [] [] in phyla-names d file phyla (of_phyla d has d (keeps-self d)) ∙ ap phylum_names e
+
+  pub phyla-of : ((def : Definition) → HasSorts seen def → Lasts def (λ full. ArePhyla full file phyla)) → AllByRecursion (HasPhylumSort seen) phyla
+  phyla-of of_phyla =
+      let d = staged version sig spaces phyla [] [] in
+      phyla-sorted seen d has seen phyla (kinds-meant seen (kinds-once seen passed)) (subst (λ f. ArePhyla d f phyla) e (of_phyla d has d (keeps-self d)))
 
   bare-there : ((def : Definition) → HasSorts seen def → Lasts def (λ full. ArePhyla full file phyla)) → ((def : Definition) → HasSorts seen def → HasPhyla seen def → Lasts def (λ full. AreLists full [] file bare))
       → AreLists (staged version sig spaces phyla [] []) [] file bare
@@ -112,21 +132,27 @@ module _ (version : ℕ) (file seen : List Line) (sig : Signature) (spaces : Lis
         lists = lists-names d file file lists (of_lists file once d (keeps-self d) (bare-there of_phyla of_bare)) ∙ ap list_names e;
         elements = lists-elements d file file lists (of_lists file once d (keeps-self d) (bare-there of_phyla of_bare));
         once = kinds-once seen passed;
-        places = element-places seen d (phyla-there of_phyla) seen seen lists (lists-meant seen (kinds-once seen passed)) (all-known seen [] seen passed)
+        places = element-places seen d (phyla-there of_phyla) seen seen lists (kinds-meant seen (kinds-once seen passed)) (all-known seen [] seen (formed seen few) passed)
             (subst (λ f. AreLists d f f lists) e (of_lists file once d (keeps-self d) (bare-there of_phyla of_bare)));
+        phylum_sorts = phyla-of of_phyla;
+        list_sorts = lists-sorted seen d has seen seen lists (kinds-meant seen (kinds-once seen passed)) (subst (λ f. AreLists d f f lists) e (of_lists file once d (keeps-self d) (bare-there of_phyla of_bare)));
+        space_sorts = spaces-sorted seen d has spaces (subst (λ f. AreSpaces d (scopes.spaces f) spaces) e (of_spaces d has d (keeps-self d))) (spaces-once seen passed);
       }
 
 -- a definition that is declared has the names of the lines
-pub names-of : (version : ℕ) (file seen : List Line) (d : Definition) → file ≡ seen → ArePassed seen [] seen → IsDeclared version file d → HasNames seen d
-names-of version file seen d e passed h = record {
+pub names-of : (version : ℕ) (file seen : List Line) (d : Definition) → file ≡ seen → AreOfFile seen → ArePassed seen [] seen → IsDeclared version file d → HasNames seen d
+names-of version file seen d e few passed h = record {
   kinds = record {
-    constructors = symbol_names (sort_decls file) d.signature h.signature ∙ decls-constructors 0 file ∙ ap constructor_names e;
+    constructors = constructors-there file seen d.signature e passed h.signature;
     spaces = spaces-names d file d.spaces (h.spaces d (keeps-self d)) ∙ ap space_names e;
     phyla = phyla-names d file d.phyla (h.phyla d (keeps-self d)) ∙ ap phylum_names e;
     lists = lists-names d file file d.lists (h.lists d (keeps-self d)) ∙ ap list_names e;
     elements = lists-elements d file file d.lists (h.lists d (keeps-self d));
     once = kinds-once seen passed;
-    places = element-places seen d phyla seen seen d.lists (lists-meant seen (kinds-once seen passed)) known (subst (λ f. AreLists d f f d.lists) e (h.lists d (keeps-self d)));
+    places = element-places seen d phyla seen seen d.lists (kinds-meant seen (kinds-once seen passed)) known (subst (λ f. AreLists d f f d.lists) e (h.lists d (keeps-self d)));
+    phylum_sorts = phyla-sorted seen d has seen d.phyla meant (subst (λ f. ArePhyla d f d.phyla) e (h.phyla d (keeps-self d)));
+    list_sorts = lists-sorted seen d has seen seen d.lists meant (subst (λ f. AreLists d f f d.lists) e (h.lists d (keeps-self d)));
+    space_sorts = spaces-sorted seen d has d.spaces (subst (λ f. AreSpaces d (scopes.spaces f) d.spaces) e (h.spaces d (keeps-self d))) (spaces-once seen passed);
   };
   operators = operators-names d file d.operators (h.operators d (keeps-self d)) ∙ ap operator_names e;
   items = operators-items d d.operators (each-columns d file d.operators (h.operators d (keeps-self d)));
@@ -135,6 +161,12 @@ names-of version file seen d e passed h = record {
       record { phylum = kind-at seen d phyla lists o.phylum (kinds.Phylum own.phylum) it.phylum; placed = items-placed seen d phyla lists o.made own.items it.known it.items };
 }
   where
+    has : HasSorts seen d
+    has = h.signature.sorts ∙ decls-sorts file ∙ ap sort_names e
+
+    meant : AreMeant seen seen
+    meant = kinds-meant seen (kinds-once seen passed)
+
     phyla : HasPhyla seen d
     phyla = phyla-names d file d.phyla (h.phyla d (keeps-self d)) ∙ ap phylum_names e
 
@@ -142,7 +174,7 @@ names-of version file seen d e passed h = record {
     lists = lists-names d file file d.lists (h.lists d (keeps-self d)) ∙ ap list_names e
 
     known : AllByRecursion (IsMeant seen) seen
-    known = all-known seen [] seen passed
+    known = all-known seen [] seen (formed seen few) passed
 
 abbrev pub with_holes : Definition → List HoleRow → List DeclareRow → Definition
 with_holes d holes declares = record { version = d.version; signature = d.signature; spaces = d.spaces; phyla = d.phyla; lists = d.lists; operators = d.operators; hole_rows = holes; declare_rows = declares }

@@ -1,5 +1,6 @@
 -- The sorts and constructors of a signature that a file spells.
 use Rattle.std.proofs.Common.{◌≡◌, ℕ, ◌+◌, ◌≤◌, ◌<◌, ◌^◌, List, [], ◌∷◌, length, length-append, refl, ap, sym, subst, arith}
+use Rattle.psg_terms.proofs.Lists.{each_append}
 use Rattle.std.specs.List.{AllByRecursion}
 use Rattle.psg_terms.specs.Names.{Name}
 use Rattle.psg_terms.specs.Signature.{Signature, Symbol}
@@ -13,7 +14,6 @@ use Rattle.psg_deflines.specs.declared.lines.Line.{Line}
 use Rattle.psg_deflines.specs.declared.lines.Line.TheVariants as lines
 use Rattle.psg_defnumber.specs.Numbers.{sort_decls}
 use Rattle.psg_defnumber.specs.Soundness.{total, AreOfFile}
-use Rattle.psg_defnumber.proofs.ListLaws.{all-append}
 use Rattle.psg_defnumber.proofs.TreeWeights.{total-append}
 use Rattle.psg_defnumber.proofs.LineSizes.{lines_total, few-lines, entries-total, entries-formed, arguments-long, constructors-long}
 
@@ -46,7 +46,7 @@ all-small n [] h limit = tt
 all-small n (lines.Sort d ∷ rest) h limit =
     let first = constructors-small n d.constructors h.0.2 (omega arith) in
     let more = all-small (n + 1) rest h.1 (omega arith) in
-    all-append IsSmall (with_sort n d.constructors) (in_order (n + 1) (sort_decls rest)) first more
+    each_append IsSmall (with_sort n d.constructors) (in_order (n + 1) (sort_decls rest)) first more
 all-small n (line ∷ rest) h limit = all-small n rest h.1 (omega arith)
 
 sort-length : (s : ℕ) (cs : List ConDecl) → length (with_sort s cs) ≡ length cs

@@ -1,10 +1,13 @@
 -- The fixed words and separators of plain lines.
-use Rattle.std.proofs.Common.{ℕ, List, [], ◌∷◌, sym, subst}
+use Rattle.std.proofs.Common.{ℕ, List, [], ◌∷◌, ◌++◌, sym, subst}
 use Rattle.std.specs.List.{AllByRecursion}
+use Rattle.psg_terms.specs.Names.{Name}
 use Rattle.psg_grammar.specs.declared.types.Item.{Item}
+use Rattle.psg_grammar.specs.declared.types.Item.TheVariants as own
 use Rattle.psg_grammar.specs.declared.types.ListKind.{ListKind}
 use Rattle.psg_grammar.specs.declared.types.Operator.{Operator}
 use Rattle.psg_grammar.specs.declared.types.Definition.{Definition}
+use Rattle.psg_grammar.specs.WellFormed.{operator_words, separators, words_in}
 use Rattle.psg_deflines.specs.Entries.{written, IsPlain}
 use Rattle.psg_deflines.specs.Forms.{IsFixedItem}
 use Rattle.psg_lexis.specs.Tokens.{IsFixedWord}
@@ -13,7 +16,33 @@ use Rattle.psg_deflines.specs.declared.lines.LineItem.TheVariants as items
 use Rattle.psg_deflines.specs.declared.lines.Line.{Line}
 use Rattle.psg_deflines.specs.declared.lines.Line.TheVariants as lines
 use Rattle.psg_defnumber.specs.Numbers.{IsItem, AreItems, AreOperators, AreLists}
-use Rattle.psg_defnumber.specs.Soundness.{IsFixed, WordsAreTokens}
+use Rattle.psg_defnumber.specs.Soundness.{WordsAreTokens}
+
+-- the item is no fixed word, or one that is one token
+abbrev IsFixed : Item → Type 0
+IsFixed (own.Word w) = IsFixedWord w
+IsFixed _ = Unit {0}
+
+all-append : (xs ys : List Name) → AllByRecursion IsFixedWord xs → AllByRecursion IsFixedWord ys
+    → AllByRecursion IsFixedWord (xs ++ ys)
+all-append [] ys all more = more
+all-append (x ∷ xs) ys (one, all) more = (one, all-append xs ys all more)
+
+of_items : (xs : List Item) → AllByRecursion IsFixed xs → AllByRecursion IsFixedWord (words_in xs)
+of_items [] all = tt
+of_items (own.Word w ∷ xs) (one, all) = (one, of_items xs all)
+of_items (_ ∷ xs) (one, all) = of_items xs all
+
+of_operators : (os : List Operator) → AllByRecursion (λ (o : Operator). AllByRecursion IsFixed o.items) os
+    → AllByRecursion IsFixedWord (operator_words os)
+of_operators [] all = tt
+of_operators (o ∷ os) (one, all) =
+    all-append (words_in o.items) (operator_words os) (of_items o.items one) (of_operators os all)
+
+of_lists : (ls : List ListKind) → AllByRecursion (λ (l : ListKind). IsFixedWord l.separator) ls
+    → AllByRecursion IsFixedWord (separators ls)
+of_lists [] all = tt
+of_lists (l ∷ ls) (one, all) = (one, of_lists ls all)
 
 module _ (def : Definition) where
   item-fixed : (w : LineItem) (i : Item) → IsFixedItem w → IsItem def w i → IsFixed i
@@ -62,7 +91,7 @@ module _ (def : Definition) where
   separators-fixed version file (line ∷ behind) all plain h = separators-fixed version file behind all plain.1 h
 
 pub token-words : WordsAreTokens
-token-words version entries def plain numbered = record {
-  words = operators-fixed def version (written entries) def.operators plain numbered.operators;
-  separators = separators-fixed def version (written entries) (written entries) def.lists plain numbered.lists;
-}
+token-words version entries def plain numbered =
+    all-append (operator_words def.operators) (separators def.lists)
+    (of_operators def.operators (operators-fixed def version (written entries) def.operators plain numbered.operators))
+    (of_lists def.lists (separators-fixed def version (written entries) (written entries) def.lists plain numbered.lists))

@@ -15,12 +15,12 @@ use Rattle.psg_deflines.specs.TreeShapes.{with_part}
 use Rattle.psg_deflines.specs.declared.trees.LinePlace.{LinePlace}
 use Rattle.psg_deflines.specs.declared.trees.LinePart.{LinePart}
 use Rattle.psg_defnumber.specs.Growing.{Lasts}
-use Rattle.psg_defnumber.specs.Naming.{Known, Meets, Named}
+use Rattle.psg_defnumber.specs.Naming.{LineVariable, Meets, Named}
 use Rattle.psg_defnumber.specs.Numbers.{IsPlace, IsTree, IsPart}
 
 -- The terms are made by variables that are met. It holds with whatever names are met later, in each definition of which
 -- this is a part.
-pub record IsMade (def : Definition) (old new : List Known) (row : List Term)
+pub record IsMade (def : Definition) (old new : List LineVariable) (row : List Term)
     (Holds : Definition → List Name → Type 0) : Type 0 where
   pub meets : Meets old new (variables_of row)
   pub is : Named new (λ names. Lasts def (λ full. Holds full names))

@@ -1,5 +1,6 @@
 pub mod Numbers
 pub mod Growing
+pub mod Sorts
 pub mod Placing
 pub mod Declaring
 pub mod Naming

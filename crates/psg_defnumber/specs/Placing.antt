@@ -1,19 +1,28 @@
 -- Specimens at places of their own kinds.
-use Rattle.std.specs.Prelude.{List, [], ◌∷◌, Option, Some, None}
+use Rattle.std.specs.Prelude.{ℕ, List, [], ◌∷◌, Option, Some, None}
 use Rattle.std.specs.List.{AllByRecursion}
 use Rattle.psg_terms.specs.Names.{Name}
 use Rattle.psg_grammar.specs.declared.types.Kind.{Kind}
 use Rattle.psg_grammar.specs.declared.types.Item.{Item}
 use Rattle.psg_grammar.specs.declared.types.Item.TheVariants as items
-use Rattle.psg_deflines.specs.WrittenTrees.{WrittenTree}
+use Rattle.psg_deflines.specs.WrittenTerms.{WrittenTerm}
+use Rattle.psg_deflines.specs.WrittenTrees.{WrittenTree, HasTreeForm}
+use Rattle.psg_deflines.specs.TreeWalks.{IsLiteral}
 use Rattle.psg_deflines.specs.declared.trees.LinePlace.{LinePlace}
 use Rattle.psg_deflines.specs.declared.trees.LinePart.{LinePart}
+use Rattle.psg_deflines.specs.declared.trees.LinePart.TheVariants as parts
 use Rattle.psg_deflines.specs.declared.lines.Line.{Line}
 use Rattle.psg_deflines.specs.declared.lines.Line.TheVariants as lines
 use Rattle.psg_defcheck.specs.Scopes.{Place}
 use Rattle.psg_defcheck.specs.Meanings.{PartPlace, for_tree, for_name, for_number, for_text, SortsTree}
 use Rattle.psg_defcheck.specs.Checks.{IsKindAt}
 use Rattle.psg_defcheck.specs.Sorting.{PartStands, PartsStand, EndStands}
+use Rattle.psg_defnumber.specs.Sorts.{TermStands}
+
+-- what is written in the part has its form
+abbrev pub HasPartForm : LinePart → Type 0
+HasPartForm (parts.Tree t) = HasTreeForm t
+HasPartForm p = IsLiteral p
 
 module _ (file : List Line) where
   -- the place is that of the kind
@@ -37,49 +46,49 @@ module _ (file : List Line) where
   ArePartsOf (q ∷ places) [] = ⊥
   ArePartsOf (q ∷ places) (i ∷ rest) = IsPartOf q i × ArePartsOf places rest
 
-  -- for some sorts of the variables the specimen may be at the place of the kind
-  pub record TreeFits (kind : Kind) (w : WrittenTree) : Type 0 where
-    pub spot : Place
-    pub sorts : Name → Name
-    pub place : IsPlaceOf spot kind
-    pub sorted : SortsTree file sorts [] spot w
+  module _ (sorts : Name → Name) where
+    -- the specimen has its form and may be at the place of the kind
+    pub record TreeFits (kind : Kind) (w : WrittenTree) : Type 0 where
+      pub spot : Place
+      pub place : IsPlaceOf spot kind
+      pub sorted : SortsTree file sorts [] spot w
+      pub form : HasTreeForm w
 
-  -- the specimen of a hole row, where it has one, may be at the place of the kind
-  abbrev pub BehindFits : Kind → Option WrittenTree → Type 0
-  BehindFits kind None = Unit {0}
-  BehindFits kind (Some w) = TreeFits kind w
+    -- the part has its form and may be at the place of the item
+    pub record IsPartAt (i : Item) (p : LinePart) : Type 0 where
+      pub spot : PartPlace
+      pub place : IsPartOf spot i
+      pub sorted : PartStands file sorts spot p
+      pub form : HasPartForm p
 
-  -- for some sorts of the variables the part may be at the place of the item
-  pub record IsPartAt (i : Item) (p : LinePart) : Type 0 where
-    pub spot : PartPlace
-    pub sorts : Name → Name
-    pub place : IsPartOf spot i
-    pub sorted : PartStands file sorts spot p
+    -- the parts have their forms and may be at the places of the items, one by one
+    pub record ArePartsAt (all : List Item) (ps : List LinePart) : Type 0 where
+      pub spots : List PartPlace
+      pub place : ArePartsOf spots all
+      pub sorted : PartsStand file sorts spots ps
+      pub form : AllByRecursion HasPartForm ps
 
-  -- for some sorts of the variables the parts may be at the places of the items, one by one
-  pub record ArePartsAt (all : List Item) (ps : List LinePart) : Type 0 where
-    pub spots : List PartPlace
-    pub sorts : Name → Name
-    pub place : ArePartsOf spots all
-    pub sorted : PartsStand file sorts spots ps
+    -- each of the specimens has its form and may be at the place of the kind
+    pub record AreElementsAt (kind : Kind) (ws : List WrittenTree) : Type 0 where
+      pub spot : Place
+      pub place : IsPlaceOf spot kind
+      pub sorted : AllByRecursion (SortsTree file sorts [] spot) ws
+      pub form : AllByRecursion HasTreeForm ws
 
-  -- for some sorts of the variables each of the specimens may be at the place of the kind
-  pub record AreElementsAt (kind : Kind) (ws : List WrittenTree) : Type 0 where
-    pub spot : Place
-    pub sorts : Name → Name
-    pub place : IsPlaceOf spot kind
-    pub sorted : AllByRecursion (SortsTree file sorts [] spot) ws
+    -- the rest of a list, where there is one, may be at the place of the kind
+    pub record IsRestAt (kind : Kind) (rest : Option LinePlace) : Type 0 where
+      pub spot : Place
+      pub place : IsPlaceOf spot kind
+      pub sorted : EndStands file sorts spot rest
 
-  -- for some sorts of the variables the rest, where there is one, may be at the place of the kind
-  pub record IsRestAt (kind : Kind) (rest : Option LinePlace) : Type 0 where
-    pub spot : Place
-    pub sorts : Name → Name
-    pub place : IsPlaceOf spot kind
-    pub sorted : EndStands file sorts spot rest
+    -- the term may be at the place of the sort, and the specimen at that of the kind
+    abbrev pub CaseFits : Kind → ℕ → WrittenTerm → WrittenTree → Type 0
+    CaseFits kind sort w tree = TermStands file sorts sort w × TreeFits kind tree
 
-  -- the specimens of the cases before the next hole row may be at the place of the kind
-  abbrev pub CasesFit : Kind → List Line → Type 0
-  CasesFit kind [] = Unit {0}
-  CasesFit kind (lines.Hole of_kind w specimen ∷ rest) = Unit {0}
-  CasesFit kind (lines.Case w specimen ∷ rest) = TreeFits kind specimen × CasesFit kind rest
-  CasesFit kind (_ ∷ rest) = CasesFit kind rest
+  -- For some sorts of the variables in each of them, the cases before the next hole row may be of the kind and the sort.
+  abbrev pub CasesFit : Kind → ℕ → List Line → Type 0
+  CasesFit kind sort [] = Unit {0}
+  CasesFit kind sort (lines.Hole of_kind w specimen ∷ rest) = Unit {0}
+  CasesFit kind sort (lines.Case w specimen ∷ rest) =
+      ((sorts : Name → Name) × CaseFits sorts kind sort w specimen) × CasesFit kind sort rest
+  CasesFit kind sort (_ ∷ rest) = CasesFit kind sort rest

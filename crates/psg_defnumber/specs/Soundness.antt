@@ -2,12 +2,9 @@
 use Rattle.std.specs.Prelude.{ℕ, true, ◌≡◌, ◌<◌, ◌+◌, ◌^◌, List, [], ◌∷◌, length}
 use Rattle.std.specs.List.{AllByRecursion}
 use Rattle.psg_terms.specs.Sound.{IsSound as IsSoundSignature}
-use Rattle.psg_grammar.specs.declared.types.Item.{Item}
-use Rattle.psg_grammar.specs.declared.types.Item.TheVariants as items
-use Rattle.psg_grammar.specs.declared.types.ListKind.{ListKind}
-use Rattle.psg_grammar.specs.declared.types.Operator.{Operator}
 use Rattle.psg_grammar.specs.declared.types.Definition.{Definition}
 use Rattle.psg_grammar.specs.Sound.{IsSound}
+use Rattle.psg_grammar.specs.WellFormed.{fixed_words}
 use Rattle.psg_deflines.specs.Versions.{IsVersion, is_of}
 use Rattle.psg_deflines.specs.Entries.{Entry, written, AreEntries, IsPlain}
 use Rattle.psg_deflines.specs.declared.lines.Line.{Line}
@@ -34,17 +31,8 @@ NumberedIsSound = (version : ℕ) (texts : List (List ℕ)) (entries : List Entr
     → AreEntries [] texts entries → AllByRecursion (λ line. is_of version line ≡ true) (written entries)
     → IsNumbered version (written entries) def → IsSoundSignature def.signature → IsSound def
 
--- the item is no fixed word, or one that is one token
-abbrev pub IsFixed : Item → Type 0
-IsFixed (items.Word w) = IsFixedWord w
-IsFixed _ = Unit {0}
-
--- each fixed word and each separator is one token
-pub record HasTokenWords (def : Definition) : Type 0 where
-  pub words : AllByRecursion (λ (o : Operator). AllByRecursion IsFixed o.items) def.operators
-  pub separators : AllByRecursion (λ (l : ListKind). IsFixedWord l.separator) def.lists
-
 -- each fixed word and each separator of such a definition is one token
 abbrev pub WordsAreTokens : Type 0
 WordsAreTokens = (version : ℕ) (entries : List Entry) (def : Definition)
-    → AllByRecursion (IsPlain version) (written entries) → IsNumbered version (written entries) def → HasTokenWords def
+    → AllByRecursion (IsPlain version) (written entries) → IsNumbered version (written entries) def
+    → AllByRecursion IsFixedWord (fixed_words def)

@@ -4,10 +4,11 @@ ghost use Rattle.std.specs.List.{AllByRecursion};
 ghost use Rattle.psg_terms.specs.Names.{Name};
 ghost use Rattle.psg_grammar.specs.Sound.{HasKindSort};
 ghost use Rattle.psg_deflines.specs.Entries.{Entry, written};
+ghost use Rattle.psg_deflines.specs.Forms.{HasFormBehindBy};
 ghost use Rattle.psg_deflines.specs.declared.lines.Line.{Line as PlainLine};
 ghost use Rattle.psg_defcheck.specs.Faults.{ArePassed};
-ghost use Rattle.psg_defcheck.specs.Meanings.{KnowsBehindBy, KnowsTerm, SortsBehindBy};
-ghost use Rattle.psg_defcheck.specs.Scopes.{is_kind, kind_place, last_hole};
+ghost use Rattle.psg_defcheck.specs.Meanings.{KnowsBehindBy, KnowsTerm, SortsBehindBy, SortsTerm};
+ghost use Rattle.psg_defcheck.specs.Scopes.{is_kind, kind_place, last_hole, value_place};
 ghost use Rattle.psg_defnumber.specs.Declaring.{HasNames, IsMeant, IsMeantEntry};
 ghost use Rattle.psg_defnumber.specs.Growing.{Lasts};
 ghost use Rattle.psg_defnumber.specs.Placing.{CasesFit};
@@ -38,7 +39,7 @@ fn is_hole(entry: &Option<Line>) -> bool
 /// Puts the case of a line after the others, if it declares one.
 fn put_case(
     alloc: Global,
-    def: &Definition,
+    definition: &Definition,
     checked: &CheckedLines,
     kind: Kind,
     sort: SortId,
@@ -47,11 +48,11 @@ fn put_case(
 ) -> Result<(), AllocError>
     requires inside { IsHoleEntry entry.now → ⊥ }
     requires known { IsMeantEntry checked.now entry.now }
-    requires names { HasNames checked.now def.now }
-    requires there { (s : ℕ) × HasKindSort def.now kind s }
-    requires fits { CasesFit checked.now kind (written (entry.now ∷ [])) }
+    requires names { HasNames checked.now definition.now }
+    requires there { (s : ℕ) × HasKindSort definition.now kind s }
+    requires fits { CasesFit checked.now kind sort.0 (written (entry.now ∷ [])) }
     ensures { OnOk result ((rest : List Entry)
-        → Puts def.now (ReadsCases kind sort.0) entry.now rest made.old.items made.new.items) }
+        → Puts definition.now (ReadsCases kind sort.0) entry.now rest made.old.items made.new.items) }
 {
     let Some(line) = entry else {
         return Ok(());
@@ -59,7 +60,7 @@ fn put_case(
     let Line::Case { term, specimen } = line else {
         return Ok(());
     };
-    let one = case(alloc, def, checked, kind, sort, term, specimen)?;
+    let one = case(alloc, definition, checked, kind, sort, term, specimen)?;
     made.push(one)?;
     Ok(())
 }
@@ -67,24 +68,24 @@ fn put_case(
 /// The cases in front of the next hole row's line, in order.
 fn cases(
     alloc: Global,
-    def: &Definition,
+    definition: &Definition,
     checked: &CheckedLines,
     kind: Kind,
     sort: SortId,
     behind: &[Option<Line>],
 ) -> Result<Vec<Case>, AllocError>
     requires known { AllByRecursion (IsMeant checked.now) (written behind.now) }
-    requires names { HasNames checked.now def.now }
-    requires there { (s : ℕ) × HasKindSort def.now kind s }
-    requires fits { CasesFit checked.now kind (written behind.now) }
-    ensures { IfOk result (λ v. Lasts def.now (λ full. AreCases full kind sort.0 (written behind.now) v.items)) }
+    requires names { HasNames checked.now definition.now }
+    requires there { (s : ℕ) × HasKindSort definition.now kind s }
+    requires fits { CasesFit checked.now kind sort.0 (written behind.now) }
+    ensures { IfOk result (λ v. Lasts definition.now (λ full. AreCases full kind sort.0 (written behind.now) v.items)) }
 {
     let mut made = Vec::new(alloc);
     for entry in behind {
         if is_hole(entry) {
             return Ok(made);
         }
-        put_case(alloc, def, checked, kind, sort, &mut made, entry)?;
+        put_case(alloc, definition, checked, kind, sort, &mut made, entry)?;
     }
     Ok(made)
 }
@@ -92,7 +93,7 @@ fn cases(
 /// A hole row. Its specimen makes its one case; without one its cases follow its line.
 fn hole_row(
     alloc: Global,
-    def: &Definition,
+    definition: &Definition,
     checked: &CheckedLines,
     kind: &Txt,
     term: &LineTerm,
@@ -103,26 +104,27 @@ fn hole_row(
     requires term { KnowsTerm checked.now term.now }
     requires specimen { KnowsBehindBy checked.now specimen.now }
     requires behind { AllByRecursion (IsMeant checked.now) (written behind.now) }
-    requires names { HasNames checked.now def.now }
-    requires sorted { (sorts : Name → Name)
+    requires names { HasNames checked.now definition.now }
+    requires sorted { (sorts : Name → Name) × SortsTerm checked.now sorts [] (value_place checked.now kind.now) term.now
         × SortsBehindBy checked.now sorts (kind_place checked.now kind.now) specimen.now }
+    requires form { HasFormBehindBy specimen.now }
     requires passed { (above : List PlainLine) × (last_hole None above ≡ Some kind.now)
         × ArePassed checked.now above (written behind.now) }
-    ensures { IfOk result (λ r. Lasts def.now (λ full.
+    ensures { IfOk result (λ r. Lasts definition.now (λ full.
         IsHoleRow full kind.now term.now specimen.now (written behind.now) r)) }
 {
     let kind = kind_named(checked, kind);
-    let sort = kind_sort(def, kind);
+    let sort = kind_sort(definition, kind);
     let Some(tree) = specimen else {
-        let term = lone_term(alloc, def, checked, sort, term)?;
-        let cases = cases(alloc, def, checked, kind, sort, behind)?;
+        let term = lone_term(alloc, definition, checked, sort, term)?;
+        let cases = cases(alloc, definition, checked, kind, sort, behind)?;
         return Ok(HoleRow {
             kind,
             term,
             cases: Seq::of(cases),
         });
     };
-    let one = case(alloc, def, checked, kind, sort, term, tree)?;
+    let one = case(alloc, definition, checked, kind, sort, term, tree)?;
     let term = one.term.share()?;
     let mut cases = Vec::with_capacity(alloc, 1)?;
     cases.push(one)?;
@@ -136,7 +138,7 @@ fn hole_row(
 /// Puts the hole row of a line after the others, if it declares one, with the cases that follow the line.
 fn put_hole_row(
     alloc: Global,
-    def: &Definition,
+    definition: &Definition,
     checked: &CheckedLines,
     made: &mut Vec<HoleRow>,
     entry: &Option<Line>,
@@ -144,9 +146,9 @@ fn put_hole_row(
 ) -> Result<(), AllocError>
     requires known { IsMeantEntry checked.now entry.now }
     requires behind { AllByRecursion (IsMeant checked.now) (written behind.now) }
-    requires names { HasNames checked.now def.now }
+    requires names { HasNames checked.now definition.now }
     requires passed { (above : List PlainLine) × ArePassed checked.now above (written (entry.now ∷ behind.now)) }
-    ensures { OnOk result (Puts def.now ReadsHoleRows entry.now behind.now made.old.items made.new.items) }
+    ensures { OnOk result (Puts definition.now ReadsHoleRows entry.now behind.now made.old.items made.new.items) }
 {
     let Some(line) = entry else {
         return Ok(());
@@ -159,7 +161,7 @@ fn put_hole_row(
     else {
         return Ok(());
     };
-    let one = hole_row(alloc, def, checked, kind, term, specimen, behind)?;
+    let one = hole_row(alloc, definition, checked, kind, term, specimen, behind)?;
     made.push(one)?;
     Ok(())
 }
@@ -167,20 +169,20 @@ fn put_hole_row(
 /// Makes the hole rows, in order, each with its cases. It reads the cases once.
 pub fn hole_rows(
     alloc: Global,
-    def: &Definition,
+    definition: &Definition,
     checked: &CheckedLines,
     entries: &[Option<Line>],
 ) -> Result<Vec<HoleRow>, AllocError>
     requires known { AllByRecursion (IsMeant checked.now) (written entries.now) }
-    requires names { HasNames checked.now def.now }
+    requires names { HasNames checked.now definition.now }
     requires passed { (above : List PlainLine) × ArePassed checked.now above (written entries.now) }
-    ensures { IfOk result (λ v. Lasts def.now (λ full. AreHoleRows full (written entries.now) v.items)) }
+    ensures { IfOk result (λ v. Lasts definition.now (λ full. AreHoleRows full (written entries.now) v.items)) }
 {
     let mut made = Vec::new(alloc);
     for i in 0..entries.len() {
         put_hole_row(
             alloc,
-            def,
+            definition,
             checked,
             &mut made,
             &entries[i],
@@ -193,15 +195,15 @@ pub fn hole_rows(
 /// Puts the declare row of a line after the others, if it declares one.
 fn put_declare_row(
     alloc: Global,
-    def: &Definition,
+    definition: &Definition,
     checked: &CheckedLines,
     made: &mut Vec<DeclareRow>,
     entry: &Option<Line>,
 ) -> Result<(), AllocError>
     requires known { IsMeantEntry checked.now entry.now }
-    requires names { HasNames checked.now def.now }
+    requires names { HasNames checked.now definition.now }
     ensures { OnOk result ((rest : List Entry)
-        → Puts def.now ReadsDeclareRows entry.now rest made.old.items made.new.items) }
+        → Puts definition.now ReadsDeclareRows entry.now rest made.old.items made.new.items) }
 {
     let Some(line) = entry else {
         return Ok(());
@@ -216,7 +218,9 @@ fn put_declare_row(
     else {
         return Ok(());
     };
-    let one = declare_row(alloc, def, checked, space, list, entity, value, specimen)?;
+    let one = declare_row(
+        alloc, definition, checked, space, list, entity, value, specimen,
+    )?;
     made.push(one)?;
     Ok(())
 }
@@ -224,17 +228,17 @@ fn put_declare_row(
 /// Makes the declare rows, in order.
 pub fn declare_rows(
     alloc: Global,
-    def: &Definition,
+    definition: &Definition,
     checked: &CheckedLines,
     entries: &[Option<Line>],
 ) -> Result<Vec<DeclareRow>, AllocError>
     requires known { AllByRecursion (IsMeant checked.now) (written entries.now) }
-    requires names { HasNames checked.now def.now }
-    ensures { IfOk result (λ v. Lasts def.now (λ full. AreDeclareRows full (written entries.now) v.items)) }
+    requires names { HasNames checked.now definition.now }
+    ensures { IfOk result (λ v. Lasts definition.now (λ full. AreDeclareRows full (written entries.now) v.items)) }
 {
     let mut made = Vec::new(alloc);
     for entry in entries {
-        put_declare_row(alloc, def, checked, &mut made, entry)?;
+        put_declare_row(alloc, definition, checked, &mut made, entry)?;
     }
     Ok(made)
 }

@@ -13,7 +13,6 @@
 //! calls that do nothing.
 #![tactic(auto)]
 
-mod found;
 mod holes;
 mod kinds;
 pub mod laws;

@@ -1,5 +1,5 @@
 //! What names mean in a definition.
-ghost use Rattle.std.specs.Prelude.{◌≡◌, ◌<◌, ℕ, IfOk, IsTrue, OnOk, Some, is_some, length, slice_get};
+ghost use Rattle.std.specs.Prelude.{◌≡◌, ◌<◌, ℕ, IsTrue, Some, is_some, length, slice_get};
 ghost use Rattle.psg_terms.specs.Names.{is_among};
 ghost use Rattle.psg_terms.specs.Signature.{Symbol};
 ghost use Rattle.psg_terms.specs.Kept.{numbers_of};
@@ -13,11 +13,9 @@ ghost use Rattle.psg_defnumber.specs.Declaring.{HasConstructors, HasNames, IsSpa
 ghost use Rattle.psg_defnumber.specs.Growing.{Lasts};
 ghost use Rattle.psg_defnumber.specs.Numbers.{IsOperatorNamed};
 
-use crate::found::holds;
 use psg_defcheck::CheckedLines;
 use psg_grammar::{Definition, Kind, ListKind, Operator, Phylum};
 use psg_terms::{ConId, Constructor, Signature, SortId, Txt};
-use std::alloc::AllocError;
 
 /// Returns the number of the sort of the name.
 pub fn sort_named(checked: &CheckedLines, name: &Txt) -> SortId
@@ -40,23 +38,21 @@ fn constructor_at(sig: &Signature, place: usize) -> ConId
     }
 }
 
-/// Returns the constructor of the name with its number, or the error where it makes terms of another sort.
+/// Returns the constructor of the name with its number.
 pub fn constructor_named<'d>(
     sig: &'d Signature,
     checked: &CheckedLines,
-    sort: SortId,
     name: &Txt,
-) -> Result<(ConId, &'d Constructor), AllocError>
+) -> (ConId, &'d Constructor)
     requires there { IsTrue (is_some (constructor_declared checked.now name.now)) }
     requires constructors { HasConstructors checked.now sig.now }
-    ensures { IfOk result (λ r. (s : Symbol) × (slice_get sig.now.symbols r.0.0 ≡ Some s) × (s.name ≡ name.now)
-        × (s.arguments ≡ numbers_of r.1.now.args) × (s.sort ≡ sort.0)) }
+    ensures { (s : Symbol) × (slice_get sig.now.symbols result.0.0 ≡ Some s) × (s.name ≡ name.now)
+        × (s.arguments ≡ numbers_of result.1.now.args) }
 {
     let place = checked.constructor(name.as_str());
     let con = constructor_at(sig, place);
     let own = sig.constructor(con);
-    holds(sig.sort_of(con) == sort)?;
-    Ok((con, own))
+    (con, own)
 }
 
 /// Returns the number of the phylum of the name.
@@ -88,15 +84,15 @@ pub fn kind_named(checked: &CheckedLines, name: &Txt) -> Kind
 
 /// Returns the operator of the name, with its number.
 pub fn operator_named<'d>(
-    def: &'d Definition,
+    definition: &'d Definition,
     checked: &CheckedLines,
     name: &Txt,
 ) -> (u32, &'d Operator)
     requires there { IsTrue (is_some (operator_declared checked.now name.now)) }
-    requires names { HasNames checked.now def.now }
-    ensures { Lasts def.now (λ full. IsOperatorNamed full name.now result.0 result.1.now) }
+    requires names { HasNames checked.now definition.now }
+    ensures { Lasts definition.now (λ full. IsOperatorNamed full name.now result.0 result.1.now) }
 {
-    let operators = def.operators.as_slice();
+    let operators = definition.operators.as_slice();
     let number = checked.operator(name.as_str());
     let own = &operators[number as usize];
     (number, own)
@@ -124,45 +120,45 @@ fn at<T>(items: &[T], place: u32) -> &T
 }
 
 /// Returns the sort of the values of a phylum.
-pub fn phylum_sort(def: &Definition, phylum: u32) -> SortId
-    requires { (s : ℕ) × HasKindSort def.now (kinds.Phylum phylum) s }
-    ensures { Lasts def.now (λ full. HasKindSort full (kinds.Phylum phylum) result.0) }
+pub fn phylum_sort(definition: &Definition, phylum: u32) -> SortId
+    requires { (s : ℕ) × HasKindSort definition.now (kinds.Phylum phylum) s }
+    ensures { Lasts definition.now (λ full. HasKindSort full (kinds.Phylum phylum) result.0) }
 {
-    let own = at(def.phyla.as_slice(), phylum);
+    let own = at(definition.phyla.as_slice(), phylum);
     own.sort
 }
 
 /// Returns the list of the number.
-pub fn list_at(def: &Definition, list: u32) -> &ListKind
-    requires { list < length def.now.lists }
-    ensures { slice_get def.now.lists list ≡ Some result.now }
+pub fn list_at(definition: &Definition, list: u32) -> &ListKind
+    requires { list < length definition.now.lists }
+    ensures { slice_get definition.now.lists list ≡ Some result.now }
 {
-    let own = at(def.lists.as_slice(), list);
+    let own = at(definition.lists.as_slice(), list);
     own
 }
 
 /// Returns the sort of the values of a kind.
-pub fn kind_sort(def: &Definition, kind: Kind) -> SortId
-    requires { (s : ℕ) × HasKindSort def.now kind s }
-    ensures { Lasts def.now (λ full. HasKindSort full kind result.0) }
+pub fn kind_sort(definition: &Definition, kind: Kind) -> SortId
+    requires { (s : ℕ) × HasKindSort definition.now kind s }
+    ensures { Lasts definition.now (λ full. HasKindSort full kind result.0) }
 {
     match kind {
         Kind::Phylum(phylum) => {
-            let sort = phylum_sort(def, phylum);
+            let sort = phylum_sort(definition, phylum);
             sort
         }
         Kind::List(list) => {
-            let own = list_at(def, list);
+            let own = list_at(definition, list);
             own.sort
         }
     }
 }
 
 /// Returns the sort of the entities of a space.
-pub fn space_sort(def: &Definition, space: u32) -> SortId
-    requires { (s : ℕ) × HasSpaceSort def.now space s }
-    ensures { Lasts def.now (λ full. HasSpaceSort full space result.0) }
+pub fn space_sort(definition: &Definition, space: u32) -> SortId
+    requires { (s : ℕ) × HasSpaceSort definition.now space s }
+    ensures { Lasts definition.now (λ full. HasSpaceSort full space result.0) }
 {
-    let own = at(def.spaces.as_slice(), space);
+    let own = at(definition.spaces.as_slice(), space);
     own.sort
 }

@@ -58,17 +58,17 @@ fn declared(
 {
     let signature = signature(alloc, entries)?;
     signature.sound();
-    let mut def = of_sorts(alloc, version, signature);
+    let mut definition = of_sorts(alloc, version, signature);
     let spaces = spaces(alloc, checked, entries)?;
-    def.spaces = Seq::of(spaces);
+    definition.spaces = Seq::of(spaces);
     let phyla = phyla(alloc, checked, entries)?;
-    def.phyla = Seq::of(phyla);
+    definition.phyla = Seq::of(phyla);
     let mut lists = lists(alloc, checked, entries)?;
-    fill_lists(alloc, &def, checked, &mut lists, entries)?;
-    def.lists = Seq::of(lists);
-    let operators = operators(alloc, &def, checked, entries)?;
-    def.operators = Seq::of(operators);
-    Ok(def)
+    fill_lists(alloc, &definition, checked, &mut lists, entries)?;
+    definition.lists = Seq::of(lists);
+    let operators = operators(alloc, &definition, checked, entries)?;
+    definition.operators = Seq::of(operators);
+    Ok(definition)
 }
 
 /// Returns the definition of the version that the lines are together. Each line passes the tests of its form and of its
@@ -85,10 +85,10 @@ pub fn numbered(
     ensures signature { IfOk result (λ d. IsSound d.signature) }
 {
     let entries = checked.entries();
-    let mut def = declared(alloc, version, checked, entries)?;
-    let holes = hole_rows(alloc, &def, checked, entries)?;
-    let declares = declare_rows(alloc, &def, checked, entries)?;
-    def.hole_rows = Seq::of(holes);
-    def.declare_rows = Seq::of(declares);
-    Ok(def)
+    let mut definition = declared(alloc, version, checked, entries)?;
+    let holes = hole_rows(alloc, &definition, checked, entries)?;
+    let declares = declare_rows(alloc, &definition, checked, entries)?;
+    definition.hole_rows = Seq::of(holes);
+    definition.declare_rows = Seq::of(declares);
+    Ok(definition)
 }

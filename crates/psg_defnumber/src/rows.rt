@@ -1,20 +1,22 @@
 //! Rows from their lines.
-ghost use Rattle.std.specs.Prelude.{ℕ, IfOk, IsTrue, is_some};
+ghost use Rattle.std.specs.Prelude.{ℕ, [], IfOk, IsTrue, is_some, option_and_then};
 ghost use Rattle.std.specs.List.{AllByRecursion};
 ghost use Rattle.psg_terms.specs.Kept.{numbers_of};
 ghost use Rattle.psg_grammar.specs.Sound.{HasKindSort};
-ghost use Rattle.psg_grammar.specs.declared.types.Kind.{Kind as PlainKind};
-ghost use Rattle.psg_defcheck.specs.Meanings.{KnowsSpace, KnowsTerm, KnowsTree};
-ghost use Rattle.psg_defcheck.specs.Scopes.{element_place, entity_sort, is_list};
+ghost use Rattle.psg_terms.specs.Names.{Name};
+ghost use Rattle.psg_deflines.specs.WrittenTrees.{HasTreeForm};
+ghost use Rattle.psg_defcheck.specs.Meanings.{KnowsSpace, KnowsTerm, KnowsTree, SortsTerm, SortsTree};
+ghost use Rattle.psg_defcheck.specs.Scopes.{element_place, entity_place, entity_sort, is_list, value_place};
 ghost use Rattle.psg_defnumber.specs.Declaring.{HasConstructors, HasNames};
 ghost use Rattle.psg_defnumber.specs.Growing.{Lasts};
-ghost use Rattle.psg_defnumber.specs.Placing.{IsPlaceOf, TreeFits};
+ghost use Rattle.psg_defnumber.specs.Placing.{CaseFits};
+ghost use Rattle.psg_defnumber.specs.Sorts.{RowStands, TermStands};
 ghost use Rattle.psg_defnumber.specs.Numbers.{IsRow, IsNil, IsCase, IsDeclareRow};
 
 use crate::lookups::{list_at, list_named, phylum_sort, space_named, space_sort};
 use crate::specimens::specimen;
 use crate::terms::{term, terms};
-use crate::variables::Known;
+use crate::variables::LineVariables;
 use indexmap::IndexMap;
 use psg_defcheck::CheckedLines;
 use psg_deflines::{LineTerm, LineTree};
@@ -25,7 +27,7 @@ use std::alloc::{AllocError, Global};
 /// Makes a row: the term of the sort, and terms of these sorts, one by one.
 pub fn row(
     alloc: Global,
-    def: &Definition,
+    definition: &Definition,
     checked: &CheckedLines,
     sort: SortId,
     sorts: &[SortId],
@@ -34,13 +36,29 @@ pub fn row(
 ) -> Result<Row, AllocError>
     requires head { KnowsTerm checked.now head.now }
     requires columns { AllByRecursion (KnowsTerm checked.now) columns.now }
-    requires constructors { HasConstructors checked.now def.now.signature }
-    ensures { IfOk result (λ r. Lasts def.now (λ full.
+    requires constructors { HasConstructors checked.now definition.now.signature }
+    requires fits { (own : Name → Name)
+        × RowStands checked.now own sort.0 (numbers_of sorts.now) head.now columns.now }
+    ensures { IfOk result (λ r. Lasts definition.now (λ full.
         IsRow full sort.0 (numbers_of sorts.now) head.now columns.now r)) }
 {
-    let mut known: Known = IndexMap::new(alloc);
-    let head = term(alloc, &def.signature, checked, &mut known, sort, head)?;
-    let columns = terms(alloc, &def.signature, checked, &mut known, sorts, columns)?;
+    let mut known: LineVariables = IndexMap::new(alloc);
+    let head = term(
+        alloc,
+        &definition.signature,
+        checked,
+        &mut known,
+        sort,
+        head,
+    )?;
+    let columns = terms(
+        alloc,
+        &definition.signature,
+        checked,
+        &mut known,
+        sorts,
+        columns,
+    )?;
     Ok(Row {
         head,
         columns: Seq::of(columns),
@@ -50,24 +68,32 @@ pub fn row(
 /// Makes the term of a line that has one alone.
 pub fn lone_term(
     alloc: Global,
-    def: &Definition,
+    definition: &Definition,
     checked: &CheckedLines,
     sort: SortId,
     written: &LineTerm,
 ) -> Result<Term, AllocError>
     requires term { KnowsTerm checked.now written.now }
-    requires constructors { HasConstructors checked.now def.now.signature }
-    ensures { IfOk result (λ t. Lasts def.now (λ full. IsNil full sort.0 written.now t)) }
+    requires constructors { HasConstructors checked.now definition.now.signature }
+    requires fits { (sorts : Name → Name) × TermStands checked.now sorts sort.0 written.now }
+    ensures { IfOk result (λ t. Lasts definition.now (λ full. IsNil full sort.0 written.now t)) }
 {
-    let mut known: Known = IndexMap::new(alloc);
-    let made = term(alloc, &def.signature, checked, &mut known, sort, written)?;
+    let mut known: LineVariables = IndexMap::new(alloc);
+    let made = term(
+        alloc,
+        &definition.signature,
+        checked,
+        &mut known,
+        sort,
+        written,
+    )?;
     Ok(made)
 }
 
 /// Makes a case: a part of a kind's values with a specimen.
 pub fn case(
     alloc: Global,
-    def: &Definition,
+    definition: &Definition,
     checked: &CheckedLines,
     kind: Kind,
     sort: SortId,
@@ -76,14 +102,21 @@ pub fn case(
 ) -> Result<Case, AllocError>
     requires term { KnowsTerm checked.now written.now }
     requires tree { KnowsTree checked.now tree.now }
-    requires names { HasNames checked.now def.now }
-    requires there { (s : ℕ) × HasKindSort def.now kind s }
-    requires fits { TreeFits checked.now kind tree.now }
-    ensures { IfOk result (λ one. Lasts def.now (λ full. IsCase full kind sort.0 written.now tree.now one)) }
+    requires names { HasNames checked.now definition.now }
+    requires there { (s : ℕ) × HasKindSort definition.now kind s }
+    requires fits { (sorts : Name → Name) × CaseFits checked.now sorts kind sort.0 written.now tree.now }
+    ensures { IfOk result (λ one. Lasts definition.now (λ full. IsCase full kind sort.0 written.now tree.now one)) }
 {
-    let mut known: Known = IndexMap::new(alloc);
-    let made = term(alloc, &def.signature, checked, &mut known, sort, written)?;
-    let shown = specimen(alloc, def, checked, &mut known, kind, tree)?;
+    let mut known: LineVariables = IndexMap::new(alloc);
+    let made = term(
+        alloc,
+        &definition.signature,
+        checked,
+        &mut known,
+        sort,
+        written,
+    )?;
+    let shown = specimen(alloc, definition, checked, &mut known, kind, tree)?;
     Ok(Case {
         term: made,
         specimen: shown,
@@ -93,7 +126,7 @@ pub fn case(
 /// Makes a declare row of the space and the list.
 pub fn declare_row(
     alloc: Global,
-    def: &Definition,
+    definition: &Definition,
     checked: &CheckedLines,
     space: &Txt,
     list: &Txt,
@@ -107,22 +140,40 @@ pub fn declare_row(
     requires entity { KnowsTerm checked.now entity.now }
     requires value { KnowsTerm checked.now value.now }
     requires tree { KnowsTree checked.now tree.now }
-    requires names { HasNames checked.now def.now }
-    requires fits { (phylum : PlainKind) → IsPlaceOf checked.now (element_place checked.now list.now) phylum
-        → TreeFits checked.now phylum tree.now }
-    ensures { IfOk result (λ r. Lasts def.now
+    requires names { HasNames checked.now definition.now }
+    requires form { HasTreeForm tree.now }
+    requires sorted { (sorts : Name → Name)
+        × SortsTerm checked.now sorts [] (entity_place checked.now space.now) entity.now
+        × SortsTerm checked.now sorts []
+        (option_and_then (value_place checked.now) (element_place checked.now list.now)) value.now
+        × SortsTree checked.now sorts [] (element_place checked.now list.now) tree.now }
+    ensures { IfOk result (λ r. Lasts definition.now
         (λ full. IsDeclareRow full space.now list.now entity.now value.now tree.now r)) }
 {
     let list = list_named(checked, list);
-    let own = list_at(def, list);
+    let own = list_at(definition, list);
     let space = space_named(checked, space);
-    let entities = space_sort(def, space);
-    let values = phylum_sort(def, own.element);
-    let mut known: Known = IndexMap::new(alloc);
-    let entity = term(alloc, &def.signature, checked, &mut known, entities, entity)?;
-    let value = term(alloc, &def.signature, checked, &mut known, values, value)?;
+    let entities = space_sort(definition, space);
+    let values = phylum_sort(definition, own.element);
+    let mut known: LineVariables = IndexMap::new(alloc);
+    let entity = term(
+        alloc,
+        &definition.signature,
+        checked,
+        &mut known,
+        entities,
+        entity,
+    )?;
+    let value = term(
+        alloc,
+        &definition.signature,
+        checked,
+        &mut known,
+        values,
+        value,
+    )?;
     let kind = Kind::Phylum(own.element);
-    let shown = specimen(alloc, def, checked, &mut known, kind, tree)?;
+    let shown = specimen(alloc, definition, checked, &mut known, kind, tree)?;
     Ok(DeclareRow {
         space,
         list,

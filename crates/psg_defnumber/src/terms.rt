@@ -1,14 +1,14 @@
 //! Terms from the terms of a line.
-ghost use Rattle.std.specs.Prelude.{IfOk};
+ghost use Rattle.std.specs.Prelude.{IfOk, OnOk};
 ghost use Rattle.std.specs.List.{AllByRecursion};
 ghost use Rattle.psg_terms.specs.Kept.{numbers_of};
 ghost use Rattle.psg_defcheck.specs.Meanings.{KnowsTerm};
 ghost use Rattle.psg_defnumber.specs.Declaring.{HasConstructors};
 ghost use Rattle.psg_defnumber.specs.Naming.{IsMadeTerm, AreMadeTerms};
+ghost use Rattle.psg_defnumber.specs.Sorts.{ForSomeSorts, StaysSorted, TermStands, TermsStand};
 
-use crate::found::holds;
 use crate::lookups::constructor_named;
-use crate::variables::{Known, variable};
+use crate::variables::{LineVariables, variable};
 use psg_defcheck::CheckedLines;
 use psg_deflines::{LineTerm, TermShape};
 use psg_terms::{Signature, SortId, Term};
@@ -20,13 +20,17 @@ pub fn term<'a>(
     alloc: Global,
     sig: &Signature,
     checked: &CheckedLines,
-    known: &mut Known<'a>,
+    known: &mut LineVariables<'a>,
     sort: SortId,
     written: &'a LineTerm,
 ) -> Result<Term, AllocError>
     requires declared { KnowsTerm checked.now written.now }
     requires constructors { HasConstructors checked.now sig.now }
-    ensures { IfOk result (IsMadeTerm sig.now known.old.entries known.new.entries sort.0 written.now) }
+    requires fits { ForSomeSorts checked.now known.old.entries
+        (λ sorts. TermStands checked.now sorts sort.0 written.now) }
+    ensures made { IfOk result (IsMadeTerm sig.now known.old.entries known.new.entries sort.0 written.now) }
+    ensures agrees { OnOk result (StaysSorted checked.now known.old.entries known.new.entries
+        (λ sorts. TermStands checked.now sorts sort.0 written.now)) }
 {
     match &written.shape {
         TermShape::Variable(name) => match sig.constant_of(sort) {
@@ -41,7 +45,7 @@ pub fn term<'a>(
             }
         },
         TermShape::Named { name, args } => {
-            let (con, own) = constructor_named(sig, checked, sort, name)?;
+            let (con, own) = constructor_named(sig, checked, name);
             let args = terms(
                 alloc,
                 sig,
@@ -62,16 +66,19 @@ pub fn terms<'a>(
     alloc: Global,
     sig: &Signature,
     checked: &CheckedLines,
-    known: &mut Known<'a>,
+    known: &mut LineVariables<'a>,
     sorts: &[SortId],
     written: &'a [LineTerm],
 ) -> Result<Vec<Term>, AllocError>
     requires declared { AllByRecursion (KnowsTerm checked.now) written.now }
     requires constructors { HasConstructors checked.now sig.now }
-    ensures { IfOk result (λ v.
+    requires fits { ForSomeSorts checked.now known.old.entries
+        (λ own. TermsStand checked.now own (numbers_of sorts.now) written.now) }
+    ensures made { IfOk result (λ v.
         AreMadeTerms sig.now known.old.entries known.new.entries (numbers_of sorts.now) written.now v.items) }
+    ensures agrees { OnOk result (StaysSorted checked.now known.old.entries known.new.entries
+        (λ own. TermsStand checked.now own (numbers_of sorts.now) written.now)) }
 {
-    holds(sorts.len() == written.len())?;
     let mut made = Vec::with_capacity(alloc, written.len())?;
     for i in 0..written.len() {
         let one = term(alloc, sig, checked, known, sorts[i], &written[i])?;

@@ -1,12 +1,12 @@
 -- The lines that write a definition, block by block: the lines of a block have one rank. What is said of a file by its
 -- lines of some ranks is not changed by a block of others.
 use Rattle.std.proofs.Common.{◌≡◌, ℕ, zero, suc, ◌+◌, ◌<◌, ◌≤◌, List, [], ◌∷◌, ◌++◌, drop, map, refl, sym, subst, append_assoc, arith}
+use Rattle.psg_terms.proofs.Lists.{each_append}
 use Rattle.std.specs.List.{AllByRecursion, flat_map}
 use Rattle.psg_terms.specs.Names.{Name}
 use Rattle.psg_grammar.specs.declared.types.Definition.{Definition}
 use Rattle.psg_deflines.specs.declared.lines.Line.{Line}
 use Rattle.psg_deflines.specs.declared.lines.Line.TheVariants as lines
-use Rattle.psg_defnumber.proofs.ListLaws.{all-append}
 use Rattle.psg_defread.specs.Layout.{rank}
 use Rattle.psg_defread.specs.WrittenLines.{lines_of, sort_lines, space_line, phylum_line, list_line, operator_lines, row_line, nil_lines, cell_lines, cell_line, hole_lines, case_line, declare_line, term_written}
 
@@ -64,7 +64,7 @@ map-all P f each (x ∷ xs) = (each x, map-all P f each xs)
 pub flat-all : {X : Type 0} (P : Line → Type 0) (f : X → List Line) → ((x : X) → AllByRecursion P (f x))
     → (xs : List X) → AllByRecursion P (flat_map f xs)
 flat-all P f each [] = tt
-flat-all P f each (x ∷ xs) = all-append P (f x) (flat_map f xs) (each x) (flat-all P f each xs)
+flat-all P f each (x ∷ xs) = each_append P (f x) (flat_map f xs) (each x) (flat-all P f each xs)
 
 -- where it holds of the lines of each thing that is written
 pub mapped : {X : Type 0} (P : Line → Type 0) (f : X → Line) (xs : List X) → AllByRecursion (λ x. P (f x)) xs
@@ -75,7 +75,7 @@ mapped P f (x ∷ xs) h = (h.0, mapped P f xs h.1)
 pub flattened : {X : Type 0} (P : Line → Type 0) (f : X → List Line) (xs : List X)
     → AllByRecursion (λ x. AllByRecursion P (f x)) xs → AllByRecursion P (flat_map f xs)
 flattened P f [] h = tt
-flattened P f (x ∷ xs) h = all-append P (f x) (flat_map f xs) h.0 (flattened P f xs h.1)
+flattened P f (x ∷ xs) h = each_append P (f x) (flat_map f xs) h.0 (flattened P f xs h.1)
 
 pub sorts-all : (P : Line → Type 0) (def : Definition)
     → ((n : ℕ) (name : Name) → AllByRecursion P (sort_lines def n (name ∷ []))) → (n : ℕ) (names : List Name)
@@ -87,7 +87,7 @@ all-blocks : (P : Line → Type 0) (bs : List (List Line)) → AllByRecursion (A
     → AllByRecursion P (joined bs)
 all-blocks P [] h = tt
 all-blocks P (b ∷ []) h = h.0
-all-blocks P (b ∷ c ∷ rest) h = all-append P b (joined (c ∷ rest)) h.0 (all-blocks P (c ∷ rest) h.1)
+all-blocks P (b ∷ c ∷ rest) h = each_append P b (joined (c ∷ rest)) h.0 (all-blocks P (c ∷ rest) h.1)
 
 pub record HoldsOfBlocks (P : Line → Type 0) (def : Definition) : Type 0 where
   pub sorts : AllByRecursion P (sort_lines def 0 def.signature.sorts)

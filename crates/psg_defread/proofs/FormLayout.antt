@@ -3,6 +3,7 @@
 use Rattle.std.proofs.Common.{◌≡◌, ◌≢◌, ℕ, Bool, true, false, Some, None, List, [], ◌∷◌, ◌++◌, map, IsTrue, refl, sym, subst, append-nil, append_assoc, arith, suc, ◌≤◌}
 use Rattle.std.specs.List.{flat_map, AllByRecursion}
 use Rattle.std.proofs.lemmas.Bool.{false≢true}
+use Rattle.psg_terms.proofs.Lists.{each_append}
 use Rattle.psg_terms.specs.Names.{Name}
 use Rattle.psg_grammar.specs.declared.types.Kind.TheVariants as kinds
 use Rattle.psg_grammar.specs.declared.types.Level.{Level}
@@ -20,7 +21,6 @@ use Rattle.psg_deflines.specs.declared.lines.Line.TheVariants as lines
 use Rattle.psg_defread.specs.WrittenLines.{lines_of, item_written, row_line, operator_lines, case_line, hole_lines, kind_name, term_written, tree_written}
 use Rattle.psg_defread.specs.Layout.{rank, IsRanked, HasCasesBehind}
 use Rattle.psg_defread.proofs.Blocks.{from_nils, from_declares, flat-front, some-blocks, first-blocks, last-blocks, blocks, joined, map-all, flat-all, HasRank, AreRanked, ranked}
-use Rattle.psg_defnumber.proofs.ListLaws.{all-append}
 
 -- each line has its place behind those above it
 abbrev ArePlaced : List Line → List Line → Type 0
@@ -183,4 +183,4 @@ written_cases def =
     let own = flat-all HasCasesBehind (hole_lines def)
     (λ h. (refl, map-all HasCasesBehind (case_line def) (λ c. tt) h.cases)) def.hole_rows in
     first-blocks 7 (λ r. r ≢ 7) HaveCases cases-step def (λ r h e. omega (arith, h, e))
-    (all-append HasCasesBehind (flat_map (hole_lines def) def.hole_rows) (from_declares def) own last)
+    (each_append HasCasesBehind (flat_map (hole_lines def) def.hole_rows) (from_declares def) own last)

@@ -17,10 +17,10 @@ use Rattle.psg_defread.proofs.NumberNames.{name-found}
 use Rattle.psg_defread.proofs.NumberSorts.{decls, decls-same}
 use Rattle.std.specs.Prelude.{not}
 use Rattle.std.proofs.lemmas.Bool.{false≢true}
+use Rattle.psg_terms.proofs.Lists.{each_at}
 use Rattle.psg_grammar.specs.declared.types.Item.{Item}
 use Rattle.psg_grammar.specs.declared.types.Item.TheVariants as made
 use Rattle.psg_grammar.specs.Sound.{IsOwnName, AreSpaceNames}
-use Rattle.psg_grammar.proofs.SoundParts.{each_at}
 use Rattle.psg_deflines.specs.Forms.{IsSpaceName}
 use Rattle.psg_deflines.specs.Versions.{is_named, names_rightly, names_space}
 

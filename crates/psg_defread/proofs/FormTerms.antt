@@ -4,6 +4,7 @@ use Rattle.std.specs.Prelude.{decimal}
 use Rattle.std.specs.List.{list_all, AllByRecursion}
 use Rattle.std.proofs.lemmas.Bool.{and_from, or_right, false≢true}
 use Rattle.std.proofs.lemmas.Bool.Decides.{nat_tests}
+use Rattle.psg_terms.proofs.Lists.{each_at}
 use Rattle.std.specs.Fmt.{digit_glyph, digits_onto, digits}
 use Rattle.psg_grammar.specs.Sound.{is_upper, is_lower, is_digit, IsOwnName}
 use Rattle.psg_deflines.specs.WrittenTerms.{is_plain, is_variable_name, WrittenTerm, variable, named, apply, is_head, HasTermForm, term_depth, most_nested, IsShallowTerm}
@@ -14,7 +15,6 @@ use Rattle.psg_terms.specs.Terms as terms
 use Rattle.psg_terms.specs.Signature.{Symbol, constructors_of, only_constructor}
 use Rattle.psg_terms.proofs.SoundChoices.{listed}
 use Rattle.psg_grammar.specs.declared.types.Definition.{Definition}
-use Rattle.psg_grammar.proofs.SoundParts.{each_at}
 use Rattle.psg_defnumber.specs.Numbers.{IsTerm, AreTerms}
 use Rattle.psg_defread.specs.WrittenLines.{term_written, term_at, constructor_name}
 use Rattle.psg_defread.proofs.NumberNames.{name-found}

@@ -21,12 +21,12 @@ use Rattle.psg_lexis.proofs.Decimals.{decimal-value}
 use Rattle.psg_deflines.specs.WrittenTerms.{WrittenTerm, IsShallowTerm, most_nested}
 use Rattle.psg_deflines.specs.WrittenTrees.{WrittenTree, operator, with_tree, with_name, with_number, with_text, list_end, list_rest, element, place, is_front, is_list, HasTreeForm, tree_depth, place_terms, IsShallowTree}
 use Rattle.psg_defnumber.specs.Numbers.{IsKind, IsPlace, IsTree, IsPart, AreParts, IsListFrom}
-use Rattle.psg_defnumber.proofs.ListLaws.{all-append}
 use Rattle.psg_defread.specs.WrittenLines.{term_written, kind_name, operator_name, tree_written, part_written, parts_written, elements_written, end_written}
 use Rattle.psg_defread.proofs.NumberAll.{all-front, all-behind}
 use Rattle.psg_defread.proofs.NumberNames.{name-found}
 use Rattle.psg_defread.proofs.FormTerms.{number-spelled, IsNamedSymbol, IsKeptTerm, term-kept, shallow-kept}
 use Rattle.std.proofs.lemmas.List.{map-append}
+use Rattle.psg_terms.proofs.Lists.{each_append}
 use Rattle.psg_terms.specs.Terms.{Term}
 use Rattle.psg_grammar.specs.Specimens.{holes_of, holes_of_part, holes_of_row, holes_of_list}
 
@@ -79,7 +79,7 @@ sub-kept front now t v k = record {
   depth = λ e. ap₂ (λ m n. max m (n + 1)) e k.depth;
   places = λ h. (
     all-front IsShallowTerm (place_terms front) (place_terms t) h,
-    λ s. all-append IsShallowTerm (place_terms now) (place_terms v) s
+    λ s. each_append IsShallowTerm (place_terms now) (place_terms v) s
         (k.places (all-behind IsShallowTerm (place_terms front) (place_terms t) h)),
   );
 }
@@ -125,7 +125,7 @@ element-kept : (e r v u : WrittenTree) → IsKeptTree e v → IsKeptTree r u →
 element-kept e r v u k l list = record {
   form = λ h. (list, k.form h.1, l.form h.2);
   depth = ap₂ (λ m n. max (m + 1) n) k.depth l.depth;
-  places = λ h. all-append IsShallowTerm (place_terms v) (place_terms u)
+  places = λ h. each_append IsShallowTerm (place_terms v) (place_terms u)
       (k.places (all-front IsShallowTerm (place_terms e) (place_terms r) h))
       (l.places (all-behind IsShallowTerm (place_terms e) (place_terms r) h));
 }

@@ -2,15 +2,16 @@
 use Rattle.std.proofs.Common.{◌≡◌, inl, inr, ℕ, zero, suc, ◌+◌, ◌<◌, ◌^◌, ◌||◌, true, false, cond, if◌then◌else◌, List, [], ◌∷◌, ◌++◌, length, length-append, map, refl, ap, sym, ◌∙◌, subst, arith}
 use Rattle.std.specs.Prelude.{decimal, bytes_eq}
 use Rattle.std.specs.List.{AllByRecursion}
-use Rattle.std.proofs.lemmas.Bool.{or_from, or_left, or_right, false≢true}
+use Rattle.std.proofs.lemmas.Bool.{or_from, or_left, or_right, false≢true, cases_Bool}
 use Rattle.std.proofs.lemmas.List.{map-append}
+use Rattle.psg_terms.proofs.Lists.{each_joined}
 use Rattle.psg_terms.specs.Names.{Name, is_among}
 use Rattle.psg_terms.specs.Terms.{Term}
 use Rattle.psg_terms.specs.Terms as terms
 use Rattle.psg_terms.specs.Canonical.{Variable, variables, variables_of, same_variable, is_noted, noted, noted_all, first_occurrences, IsNumberedFrom}
 use Rattle.psg_terms.proofs.DeclareLaws.{bytes_eq-refl}
 use Rattle.psg_terms.proofs.RenamingLaws.{noted_all-append}
-use Rattle.psg_terms.proofs.Variables.{cases, same_variable-true}
+use Rattle.psg_terms.proofs.Variables.{same_variable-true}
 use Rattle.psg_grammar.specs.declared.types.Definition.{Definition}
 use Rattle.psg_defnumber.proofs.ListLaws.{cons-same}
 use Rattle.psg_defread.specs.Layout.{met_in, met_in_all, numbers_from, line_terms, HasNumberedVariables}
@@ -30,7 +31,6 @@ use Rattle.psg_deflines.specs.declared.lines.Line.TheVariants as lines
 use Rattle.psg_defnumber.specs.Numbers.{AreTerms}
 use Rattle.psg_defnumber.proofs.LineSizes.{lines_total}
 use Rattle.psg_defread.proofs.WasRead.{WasRead}
-use Rattle.psg_defread.proofs.NumberAll.{all-joined}
 use Rattle.psg_defread.proofs.NumberRows.{IsSmallRow, IsSmallNil, IsSmallCase, place_terms}
 use Rattle.psg_defread.proofs.NumberOperators.{HasSmallRows}
 use Rattle.psg_defread.proofs.NumberLists.{HasSmallListRows}
@@ -60,7 +60,7 @@ counted-front xs ys h = record {
 met-known : (x : Variable) (seen : List Variable) → is_noted x seen ≡ true
     → is_among (known_names seen) (decimal x.1) ≡ true
 met-known x [] h = absurd (false≢true h)
-met-known x (y ∷ ys) h = elim (cases (same_variable x y)) [
+met-known x (y ∷ ys) h = elim (cases_Bool (same_variable x y)) [
   | inl e ↦
       let same : x ≡ y = same_variable-true x y e in
       let named : bytes_eq (decimal y.1) (decimal x.1) ≡ true =
@@ -98,7 +98,7 @@ met_next seen x =
 
 met-variable : (x : Variable) (seen : List Variable) → IsCounted (noted seen x)
     → met_next seen x ≡ known_names (noted seen x)
-met-variable x seen h = elim (cases (is_noted x seen)) [
+met-variable x seen h = elim (cases_Bool (is_noted x seen)) [
   | inl e ↦
       let still : noted seen x ≡ seen = ap (λ b. if b then seen else seen ++ x ∷ []) e in
       ap (λ b. cond b (known_names seen) (known_names seen ++ decimal x.1 ∷ [])) (met-known x seen e)
@@ -226,27 +226,27 @@ module _ (def : Definition) where
   operator-numbered : (op : Operator) → OfOperator def IsFormed op → HasSmallRows op
       → AreNumbered (operator_lines def op)
   operator-numbered op of small =
-      let rows = all-joined (OfRow def IsFormed of.is.sort of.is.columns) IsSmallRow
+      let rows = each_joined (OfRow def IsFormed of.is.sort of.is.columns) IsSmallRow
       (λ row. HasNumberedVariables (row_line def row)) (row-numbered of.is.sort of.is.columns) op.rows of.rows small in
       ((0, refl), mapped HasNumberedVariables (row_line def) op.rows rows)
 
   nils-numbered : (l : ListKind) → OfList def IsFormed l → HasSmallListRows l → AreNumbered (nil_lines def l)
   nils-numbered l of small =
       let line : Term → Line = λ t. lines.Nil l.name (term_written def t) in
-      mapped HasNumberedVariables line l.nil_rows (all-joined (OfNil def IsFormed l.sort.0 l.name) IsSmallNil
+      mapped HasNumberedVariables line l.nil_rows (each_joined (OfNil def IsFormed l.sort.0 l.name) IsSmallNil
       (λ t. HasNumberedVariables (line t)) (nil-numbered l.sort.0 l.name) l.nil_rows of.nils small.0)
 
   cells-numbered : (l : ListKind) → OfList def IsFormed l → HasSmallListRows l → AreNumbered (cell_lines def l)
   cells-numbered l of small =
       mapped HasNumberedVariables (cell_line def l.name) l.cell_rows
-      (all-joined (OfCell def IsFormed l.sort.0 of.is.element_sort l.name) IsSmallRow
+      (each_joined (OfCell def IsFormed l.sort.0 of.is.element_sort l.name) IsSmallRow
       (λ row. HasNumberedVariables (cell_line def l.name row)) (cell-numbered l.sort.0 of.is.element_sort l.name)
       l.cell_rows of.cells small.1)
 
   hole-numbered : (row : HoleRow) → OfHoleRow def IsFormed row → HasSmallCases row
       → AreNumbered (hole_lines def row)
   hole-numbered row of small =
-      let cases = all-joined (OfCase def IsFormed row.kind of.sort) IsSmallCase
+      let cases = each_joined (OfCase def IsFormed row.kind of.sort) IsSmallCase
       (λ one. HasNumberedVariables (case_line def one)) (case-numbered row.kind of.sort) row.cases of.cases small.1 in (
         met-in-order def (row.term ∷ []) small.0 of.is.naming.first,
         mapped HasNumberedVariables (case_line def) row.cases cases,
@@ -256,15 +256,15 @@ module _ (def : Definition) where
 
   lines-numbered : Origins def IsFormed → HasSmallNumbers def → AreNumbered (lines_of def)
   lines-numbered of small =
-      let joined = all-joined (OfOperator def IsFormed) HasSmallRows (λ op. AreNumbered (operator_lines def op))
+      let joined = each_joined (OfOperator def IsFormed) HasSmallRows (λ op. AreNumbered (operator_lines def op))
       operator-numbered def.operators of.operators small.operators in
-      let nils = all-joined (OfList def IsFormed) HasSmallListRows (λ l. AreNumbered (nil_lines def l))
+      let nils = each_joined (OfList def IsFormed) HasSmallListRows (λ l. AreNumbered (nil_lines def l))
       nils-numbered def.lists of.lists small.lists in
-      let cells = all-joined (OfList def IsFormed) HasSmallListRows (λ l. AreNumbered (cell_lines def l))
+      let cells = each_joined (OfList def IsFormed) HasSmallListRows (λ l. AreNumbered (cell_lines def l))
       cells-numbered def.lists of.lists small.lists in
-      let holes = all-joined (OfHoleRow def IsFormed) HasSmallCases (λ row. AreNumbered (hole_lines def row))
+      let holes = each_joined (OfHoleRow def IsFormed) HasSmallCases (λ row. AreNumbered (hole_lines def row))
       hole-numbered def.hole_rows of.hole_rows small.hole_rows in
-      let declares = all-joined (OfDeclareRow def IsFormed) IsSmallDeclareRow
+      let declares = each_joined (OfDeclareRow def IsFormed) IsSmallDeclareRow
       (λ row. HasNumberedVariables (declare_line def row)) declare-numbered def.declare_rows of.declare_rows
       small.declare_rows in
       all-lines HasNumberedVariables def (record {

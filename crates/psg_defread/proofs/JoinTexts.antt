@@ -20,10 +20,10 @@ use Rattle.psg_deflines.proofs.SpellLaws.{line-parts}
 use Rattle.std.specs.List as lists
 use Rattle.std.specs.Str.Lines.{lines as texts_of, lines_of_parts, strip_carriage_return}
 use Rattle.std.proofs.lemmas.List.Splits.{slice_split_at}
+use Rattle.psg_terms.proofs.Lists.{take_item}
 use Rattle.psg_deflines.specs.Versions.{IsVersion, is_of}
 use Rattle.psg_deflines.specs.Entries.{IsSkipped, HasPlace, AreEntries, AreSpelled, HasHead, written}
 use Rattle.psg_deflines.specs.declared.lines.Line.TheVariants as lines
-use Rattle.psg_terms.proofs.DeclareLaws.{take-next}
 
 -- a space, or a character behind it in the order of codes
 abbrev pub IsClear : ℕ → Type 0
@@ -251,7 +251,7 @@ pub laid-next : (version : ℕ) (ls : List Line) (i : ℕ) (line : Line) (own be
 laid-next version ls i line own before after h e is a b = record {
   texts = b.texts ++ own ∷ [];
   whole = a ∙ ap (λ x. x ++ (own ++ 10 ∷ [])) b.whole ∙ sym (fed-snoc (head_text version ∷ b.texts) own);
-  each = subst (λ l. AreTexts l (b.texts ++ own ∷ [])) (sym (take-next ls i line h e))
+  each = subst (λ l. AreTexts l (b.texts ++ own ∷ [])) (sym (take_item ls i line h e))
       (texts-snoc (take i ls) b.texts line own b.each is);
 }
 

@@ -14,8 +14,3 @@ pub all-mapped : {X : Type 0} (P Q : X → Type 0) → ((x : X) → P x → Q x)
     → AllByRecursion Q xs
 all-mapped P Q f [] h = tt
 all-mapped P Q f (x ∷ xs) h = (f x h.0, all-mapped P Q f xs h.1)
-
-pub all-joined : {X : Type 0} (P Q R : X → Type 0) → ((x : X) → P x → Q x → R x) → (xs : List X)
-    → AllByRecursion P xs → AllByRecursion Q xs → AllByRecursion R xs
-all-joined P Q R f [] h k = tt
-all-joined P Q R f (x ∷ xs) h k = (f x h.0 k.0, all-joined P Q R f xs h.1 k.1)

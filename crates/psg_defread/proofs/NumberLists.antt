@@ -3,6 +3,7 @@ use Rattle.std.proofs.Common.{◌≡◌, ◌≢◌, inl, inr, ℕ, false, List, 
 use Rattle.std.specs.Prelude.{bytes_eq}
 use Rattle.std.specs.List.{AllByRecursion, flat_map}
 use Rattle.std.proofs.lemmas.Bool.{or_parts, false≢true}
+use Rattle.psg_terms.proofs.Lists.{each_joined}
 use Rattle.psg_terms.specs.Names.{Name, is_among, has_twice}
 use Rattle.psg_terms.specs.Terms.{Term}
 use Rattle.psg_terms.specs.Sound.{IsSound as IsSoundSignature}
@@ -19,7 +20,7 @@ use Rattle.psg_deflines.specs.declared.lines.Line.TheVariants as lines
 use Rattle.psg_defnumber.specs.Numbers.{AreTerms, IsRow, AreNils, AreCells, IsList, AreLists}
 use Rattle.psg_defread.specs.Layout.{rank}
 use Rattle.psg_defread.specs.WrittenLines.{lines_of, sort_name, kind_name, term_written, term_at, list_line, nil_lines, cell_line, cell_lines}
-use Rattle.psg_defread.proofs.NumberAll.{all-mapped, all-joined}
+use Rattle.psg_defread.proofs.NumberAll.{all-mapped}
 use Rattle.psg_defread.proofs.NumberRows.{IsSmallNil, IsSmallRow, nil-again, row-again}
 use Rattle.psg_defread.proofs.Origins.{IsFormed, OfNil, OfCell, OfList}
 use Rattle.psg_defread.proofs.NumberKinds.{sort-again}
@@ -121,7 +122,7 @@ module _ (def : Definition) where
       (no-nils l.name l.sort.0 rest tail apart none)) in
       let behind = all-nils sound rest tail both.1 of.1 few.1 none in (
         first,
-        all-joined (IsApart l.name) (HasNilsIn more) (HasNilsIn (flat_map (nil_lines def) (l ∷ rest) ++ tail))
+        each_joined (IsApart l.name) (HasNilsIn more) (HasNilsIn (flat_map (nil_lines def) (l ∷ rest) ++ tail))
             (λ k ne has. flat-front (λ ls. HasNilsIn ls k) (nil_lines def) l rest tail
             (other-nils k.name l.name k.sort.0 (λ e. ne (sym e)) l.nil_rows k.nil_rows more has)) rest apart behind,
       )
@@ -195,7 +196,7 @@ module _ (def : Definition) where
       (no-cells l.name l.sort.0 elements rest tail apart none)) in
       let behind = all-cells sound rest tail both.1 none in (
         first,
-        all-joined (IsApart l.name) (HasCellsIn more) (HasCellsIn (flat_map (cell_lines def) (l ∷ rest) ++ tail))
+        each_joined (IsApart l.name) (HasCellsIn more) (HasCellsIn (flat_map (cell_lines def) (l ∷ rest) ++ tail))
             (λ k ne has elements of few.
             flat-front (λ ls. AreCells def k.name k.sort.0 elements ls k.cell_rows) (cell_lines def) l rest tail
             (other-cells k.name l.name k.sort.0 elements (λ e. ne (sym e)) l.cell_rows k.cell_rows more

@@ -1,11 +1,10 @@
 -- Variables that are named by their numbers.
 use Rattle.std.proofs.Common.{◌≡◌, ◌≢◌, ℕ, zero, suc, ◌+◌, ◌<◌, ◌≤◌, ◌^◌, false, Some, None, List, [], ◌∷◌, slice_get, refl, ap, ◌∙◌, inl, inr, arith}
 use Rattle.std.specs.Prelude.{decimal, bytes_eq}
-use Rattle.std.proofs.lemmas.Bool.{or_from}
+use Rattle.std.proofs.lemmas.Bool.{or_from, cases_Bool}
 use Rattle.std.proofs.lemmas.Fmt.{decimal_injective}
 use Rattle.psg_terms.specs.Names.{Name, is_among, has_twice}
 use Rattle.psg_terms.proofs.DeclareLaws.{bytes_eq-same}
-use Rattle.psg_terms.proofs.Variables.{cases}
 use Rattle.psg_defread.specs.WrittenLines.{name_at}
 use Rattle.psg_defread.specs.Layout.{numbers_from}
 
@@ -18,7 +17,7 @@ number-at-from n (suc k) (suc i) h =
 
 -- different numbers are written differently
 pub decimals-apart : (m n : ℕ) → m ≢ n → m < 2 ^ 64 → n < 2 ^ 64 → bytes_eq (decimal m) (decimal n) ≡ false
-decimals-apart m n other h k = elim (cases (bytes_eq (decimal m) (decimal n))) [
+decimals-apart m n other h k = elim (cases_Bool (bytes_eq (decimal m) (decimal n))) [
   | inl e ↦ absurd (other (decimal_injective m n h k (bytes_eq-same (decimal m) (decimal n) e)))
   | inr e ↦ e
 ]

@@ -1,5 +1,6 @@
 -- No row of a definition has more variables than the lines that write it have bytes.
 use Rattle.std.proofs.Common.{◌≡◌, ℕ, ◌+◌, ◌≤◌, List, [], ◌∷◌, ◌++◌, length, length-append, map, Option, Some, None, codes, refl, arith, ◌<◌, ◌^◌}
+use Rattle.psg_terms.proofs.Lists.{each_joined}
 use Rattle.std.specs.Prelude.{decimal}
 use Rattle.psg_terms.specs.Names.{Name}
 use Rattle.psg_terms.specs.Terms.{Term}
@@ -30,7 +31,7 @@ use Rattle.psg_grammar.specs.Sound.{IsSound, IsRow, IsListKind}
 use Rattle.psg_deflines.specs.declared.lines.Line.{Line}
 use Rattle.psg_deflines.specs.declared.lines.Line.TheVariants as lines
 use Rattle.psg_defnumber.proofs.LineSizes.{lines_total}
-use Rattle.psg_defread.proofs.NumberAll.{all-mapped, all-joined}
+use Rattle.psg_defread.proofs.NumberAll.{all-mapped}
 use Rattle.psg_defread.proofs.Blocks.{blocks, joined}
 use Rattle.psg_defread.proofs.NumberOperators.{HasSmallRows}
 use Rattle.psg_defread.proofs.NumberLists.{HasSmallListRows}
@@ -298,7 +299,7 @@ module _ (def : Definition) where
   cells-small : (l : ListKind) → IsListKind def l → lines_total (cell_lines def l) < 2 ^ 63
       → AllByRecursion IsSmallRow l.cell_rows
   cells-small l sound h =
-      all-joined (λ row. total (parts_of (cell_line def l.name row)) < 2 ^ 63)
+      each_joined (λ row. total (parts_of (cell_line def l.name row)) < 2 ^ 63)
       (IsRow def l.sort.0 (sound.element ∷ l.sort.0 ∷ [])) IsSmallRow
       (λ row k is. omega (arith, k, cell-long l.name row.head row.columns sound.element l.sort.0 is.of_columns))
       l.cell_rows (map-within (cell_line def l.name) l.cell_rows h) sound.cells
@@ -324,13 +325,13 @@ module _ (def : Definition) where
       short-blocks (blocks def) h in
       let nils = all-mapped (λ l. lines_total (nil_lines def l) < 2 ^ 63)
       (λ (l : ListKind). AllByRecursion IsSmallNil l.nil_rows) nils-small def.lists (flat-within (nil_lines def) def.lists nil-lines) in
-      let cells = all-joined (IsListKind def) (λ l. lines_total (cell_lines def l) < 2 ^ 63)
+      let cells = each_joined (IsListKind def) (λ l. lines_total (cell_lines def l) < 2 ^ 63)
       (λ (l : ListKind). AllByRecursion IsSmallRow l.cell_rows) cells-small def.lists sound.lists
       (flat-within (cell_lines def) def.lists cell-lines) in
       record {
         operators = all-mapped (λ op. lines_total (operator_lines def op) < 2 ^ 63) HasSmallRows operator-small
             def.operators (flat-within (operator_lines def) def.operators op-lines);
-        lists = all-joined (λ (l : ListKind). AllByRecursion IsSmallNil l.nil_rows)
+        lists = each_joined (λ (l : ListKind). AllByRecursion IsSmallNil l.nil_rows)
             (λ (l : ListKind). AllByRecursion IsSmallRow l.cell_rows) HasSmallListRows (λ l n c. (n, c)) def.lists nils
             cells;
         hole_rows = all-mapped (λ row. lines_total (hole_lines def row) < 2 ^ 63) HasSmallCases hole-small

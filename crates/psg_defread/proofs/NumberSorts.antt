@@ -2,6 +2,7 @@
 use Rattle.std.proofs.Common.{◌≡◌, ◌≢◌, ℕ, ◌+◌, ◌<◌, ◌≤◌, ◌==◌, true, false, cond, List, [], ◌∷◌, ◌++◌, map, refl, ap, ap₂, sym, ◌∙◌, subst, append-nil, append_assoc, arith}
 use Rattle.std.specs.List.{AllByRecursion}
 use Rattle.std.proofs.lemmas.Bool.{eq-eqb, ne_eqb}
+use Rattle.psg_terms.proofs.Lists.{each_append}
 use Rattle.psg_terms.specs.Names.{Name, has_twice}
 use Rattle.psg_terms.specs.Signature.{Symbol}
 use Rattle.psg_terms.specs.Declarations.{Numbered, with_sort, in_order, AreNamed, AreSpelled, IsSpelled}
@@ -13,7 +14,6 @@ use Rattle.psg_deflines.specs.declared.lines.Line.{Line}
 use Rattle.psg_deflines.specs.declared.lines.Line.TheVariants as lines
 use Rattle.psg_defcheck.specs.Scopes.{sort_names, constructor_names, names_of}
 use Rattle.psg_defnumber.specs.Numbers.{sort_decls}
-use Rattle.psg_defnumber.proofs.ListLaws.{all-append}
 use Rattle.psg_defread.specs.Layout.{rank}
 use Rattle.psg_defread.specs.WrittenLines.{lines_of, sort_name, sort_lines, constructors_written}
 use Rattle.psg_defread.proofs.NumberAll.{all-mapped}
@@ -74,7 +74,7 @@ from-spelled sorts n (d ∷ ds) xs h =
     (sort-spelled sorts n d.constructors s.front s.of_front) in
     let more = all-mapped (IsAtLeast (n + 1)) (IsAtLeast n) (λ x e. omega (arith, e)) s.behind
     (from-spelled sorts (n + 1) ds s.behind s.of_behind) in
-    subst (AllByRecursion (IsAtLeast n)) (sym s.whole) (all-append (IsAtLeast n) s.front s.behind own more)
+    subst (AllByRecursion (IsAtLeast n)) (sym s.whole) (each_append (IsAtLeast n) s.front s.behind own more)
 
 -- ---- the names that sorts declare
 
@@ -164,7 +164,7 @@ module _ (def : Definition) where
       let old = all-mapped (IsBelow n) (IsBelow (n + 1)) (λ x k. omega (arith, k)) front below in
       let joined = parted ∙ sym (append_assoc front s.front s.behind) in
       let more = decls-again (n + 1) ds (front ++ s.front) s.behind joined
-      (all-append (IsBelow (n + 1)) front s.front old own) s.of_behind in
+      (each_append (IsBelow (n + 1)) front s.front old own) s.of_behind in
       let same = middle n front s.front s.behind parted below (from-spelled sorts (n + 1) ds s.behind s.of_behind)
       ∙ own-written n d.constructors s.front s.of_front in
       ap₂ (λ (cs : List ConDecl) (rest : List SortDecl). record { name = d.name; constructors = cs } ∷ rest) same more

@@ -14,9 +14,9 @@ use Rattle.psg_defnumber.specs.Numbers.{IsTerm, AreTerms}
 use Rattle.psg_defread.specs.WrittenLines.{term_written, constructor_name}
 use Rattle.psg_defread.proofs.NumberNames.{number_names, number-at, name-found}
 use Rattle.std.proofs.lemmas.Bool.Decides.{nat_tests}
+use Rattle.std.proofs.lemmas.Bool.{cases_Bool}
 use Rattle.psg_terms.specs.Canonical.{Variable, variables, variables_of, same_variable, is_noted, noted, noted_all, first_occurrences, IsNumberedFrom}
 use Rattle.psg_terms.proofs.RenamingLaws.{noted_all-append}
-use Rattle.psg_terms.proofs.Variables.{cases}
 use Rattle.psg_defread.proofs.NumberAll.{all-front, all-behind}
 
 -- the numbers of its variables are small
@@ -170,7 +170,7 @@ noted-under : (bound : ℕ) (x : Variable) (ys : List Variable) → is_noted x y
     → AllByRecursion (IsUnder bound) ys → x.1 < bound
 noted-under bound x [] e h = absurd (let f : false ≡ true = e in cc)
 noted-under bound x (y ∷ ys) e h =
-    elim (cases (same_variable x y)) [
+    elim (cases_Bool (same_variable x y)) [
       | inl same ↦ let k = h.0 in let f : x.1 ≡ y.1 = same-number x y same in omega (arith, k, f)
       | inr other ↦ noted-under bound x ys (sym (ap (λ b. b || is_noted x ys) other) ∙ e) h.1
     ]
@@ -181,7 +181,7 @@ noted-under bound x (y ∷ ys) e h =
 first-under : (bound : ℕ) (seen : List Variable) (x : Variable) → AllByRecursion (IsUnder bound) (noted seen x)
     → x.1 < bound
 first-under bound seen x h =
-    elim (cases (is_noted x seen)) [
+    elim (cases_Bool (is_noted x seen)) [
       | inl e ↦ noted-under bound x seen e
           (subst (λ b. AllByRecursion (IsUnder bound) (if b then seen else seen ++ x ∷ [])) e h)
       | inr e ↦

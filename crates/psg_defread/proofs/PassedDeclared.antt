@@ -2,6 +2,7 @@
 use Rattle.std.proofs.Common.{◌≡◌, Bool, true, cond, IsTrue, is_some, ℕ, ◌<◌, Some, None, List, [], ◌∷◌, length, map, get_or, slice_get, refl, ap, sym, ◌∙◌, subst}
 use Rattle.std.specs.Option.{option_and_then}
 use Rattle.std.proofs.lemmas.Option.{slice_get-get_or}
+use Rattle.psg_terms.proofs.Lists.{each_at}
 use Rattle.psg_terms.specs.Names.{Name, is_among}
 use Rattle.psg_terms.specs.Signature.{Symbol}
 use Rattle.psg_terms.specs.declared.declare.ConDecl.{ConDecl}
@@ -13,7 +14,6 @@ use Rattle.psg_grammar.specs.declared.types.ListKind.{ListKind}
 use Rattle.psg_grammar.specs.declared.types.Operator.{Operator}
 use Rattle.psg_grammar.specs.declared.types.Definition.{Definition}
 use Rattle.psg_grammar.specs.Sound.{IsSound, IsPhylum, IsListKind, HasKindSort, HasSpaceSort}
-use Rattle.psg_grammar.proofs.SoundParts.{each_at}
 use Rattle.psg_deflines.specs.declared.lines.Line.{Line}
 use Rattle.psg_defcheck.specs.Scopes.{sort_names, sort_declared, Constructor, constructor_declared, KindDecl, a_phylum, a_list, kind_declared, OpDecl, operator_declared, entity_sort, space_sort, is_kind, is_list, is_phylum, Place, sort_place, kind_place, phylum_place, value_place, element_place, entity_place, sort_told, element_told}
 use Rattle.psg_defread.specs.WrittenLines.{sort_name, kind_name, space_name, item_written, constructors_written}

@@ -3,6 +3,7 @@ use Rattle.std.proofs.Common.{◌≡◌, ◌≢◌, IsTrue, is_some, inl, inr, t
 use Rattle.std.specs.Prelude.{bytes_eq}
 use Rattle.std.specs.List.{flat_map}
 use Rattle.std.proofs.lemmas.Bool.{false≢true, eq-eqb, ne_eqb, or_parts}
+use Rattle.psg_terms.proofs.Lists.{each_at, slice_get-map_some}
 use Rattle.psg_terms.specs.Names.{Name, is_among, has_twice}
 use Rattle.psg_terms.specs.Signature.{Symbol}
 use Rattle.psg_terms.proofs.DeclareLaws.{bytes_eq-refl, is_among-at, has_twice-front}
@@ -15,10 +16,8 @@ use Rattle.psg_grammar.specs.declared.types.Definition.{Definition}
 use Rattle.psg_grammar.specs.Sound.{IsSound, IsOwnName, HasSpaceSort}
 use Rattle.psg_deflines.specs.declared.lines.Line.{Line}
 use Rattle.psg_deflines.specs.declared.lines.Line.TheVariants as lines
-use Rattle.psg_grammar.proofs.SoundParts.{each_at}
 use Rattle.psg_defread.proofs.NumberNames.{name-found}
 use Rattle.psg_defcheck.specs.Scopes.{sort_names, sort_declared, Constructor, constructor_among, constructor_declared, KindDecl, a_phylum, kind_declared, OpDecl, operator_declared, entity_sort, space_declared, space_sort}
-use Rattle.psg_defnumber.proofs.ListLaws.{map-at}
 use Rattle.psg_defread.specs.Layout.{rank}
 use Rattle.psg_defread.specs.WrittenLines.{lines_of, sort_name, space_name, sort_lines, space_line, phylum_line, list_line, row_line, operator_lines}
 use Rattle.psg_defread.proofs.Blocks.{from_entities, from_phyla, from_lists, from_operators, from_nils, flat-front, first-blocks}
@@ -84,7 +83,7 @@ module _ (def : Definition) where
       test ∙ subst (λ (y : Symbol). constructor_among sort (of_sort def k xs) y.name behind ≡ behind) same rest
   other-sort sort k (x ∷ xs) (suc c) s behind once e other =
       let rest = other-sort sort k xs c s behind (once-rest x.name (named xs) once) e other in
-      let at = map-at (λ (y : Symbol). y.name) xs c s e in
+      let at = slice_get-map_some (λ (y : Symbol). y.name) xs c s e in
       elim (x.sort == k) as (λ b. constructor_among sort (with_front def b x k xs) s.name behind ≡ behind) [
         | true ↦
             ap (λ b. cond b (Some (made_by sort x))
@@ -107,7 +106,7 @@ module _ (def : Definition) where
       ≡ Some (made_by sort y)) same here
   own-sort sort k (x ∷ xs) (suc c) s behind once e of =
       let rest = own-sort sort k xs c s behind (once-rest x.name (named xs) once) e of in
-      let at = map-at (λ (y : Symbol). y.name) xs c s e in
+      let at = slice_get-map_some (λ (y : Symbol). y.name) xs c s e in
       let told = Some (made_by sort s) in
       elim (x.sort == k) as (λ b. constructor_among sort (with_front def b x k xs) s.name behind ≡ told) [
         | true ↦
@@ -156,7 +155,7 @@ module _ (def : Definition) where
       (bytes_eq-refl x.name)
       )
   phylum-in (x ∷ all) tail (suc p) k once e =
-      let at = map-at (λ (y : Phylum). y.name) all p k e in
+      let at = slice_get-map_some (λ (y : Phylum). y.name) all p k e in
       ap (λ b. cond b (Some (phylum_told x)) (kind_declared (map (phylum_line def) all ++ tail) k.name))
       (once-at x.name (phyla_named all) p k.name once at)
       ∙ phylum-in all tail p k (once-rest x.name (phyla_named all) once) e
@@ -180,7 +179,7 @@ module _ (def : Definition) where
       (bytes_eq-refl x.name)
       )
   list-in (x ∷ all) tail (suc l) k once e =
-      let at = map-at (λ (y : ListKind). y.name) all l k e in
+      let at = slice_get-map_some (λ (y : ListKind). y.name) all l k e in
       ap (λ b. cond b (Some (list_told def x)) (kind_declared (map (list_line def) all ++ tail) k.name))
       (once-at x.name (lists_named all) l k.name once at)
       ∙ list-in all tail l k (once-rest x.name (lists_named all) once) e
@@ -224,7 +223,7 @@ module _ (def : Definition) where
       )
       )
   operator-in (x ∷ all) tail (suc o) op once e =
-      let at = map-at (λ (y : Operator). y.name) all o op e in
+      let at = slice_get-map_some (λ (y : Operator). y.name) all o op e in
       let behind = flat_map (operator_lines def) all ++ tail in
       let more = map (row_line def) x.rows ++ behind in
       flat-front (λ ls. operator_declared ls op.name ≡ Some (operator_written def op)) (operator_lines def) x all tail (
@@ -266,7 +265,7 @@ module _ (def : Definition) where
       subst (λ (y : Space). space_declared (map (space_line def) (x ∷ all) ++ tail) y.name ≡ Some (sort_name def y.sort.0)) same
       (ap (λ b. cond b (Some (sort_name def x.sort.0)) (space_declared (map (space_line def) all ++ tail) x.name)) (bytes_eq-refl x.name))
   space-in (x ∷ all) tail (suc n) k once e =
-      let at = map-at (λ (y : Space). y.name) all n k e in
+      let at = slice_get-map_some (λ (y : Space). y.name) all n k e in
       ap (λ b. cond b (Some (sort_name def x.sort.0)) (space_declared (map (space_line def) all ++ tail) k.name))
       (once-at x.name (spaces_named all) n k.name once at)
       ∙ space-in all tail n k (once-rest x.name (spaces_named all) once) e
@@ -306,7 +305,7 @@ module _ (def : Definition) where
     list-declared : (l : ℕ) (k : ListKind) → slice_get def.lists l ≡ Some k
         → kind_declared (lines_of def) k.name ≡ Some (list_told def k)
     list-declared l k at =
-        let named = map-at (λ (y : ListKind). y.name) def.lists l k at in
+        let named = slice_get-map_some (λ (y : ListKind). y.name) def.lists l k at in
         let other = once-before (phyla_named def.phyla) (lists_named def.lists) l k.name sound.kind_names named in
         let once = once-back (phyla_named def.phyla) (lists_named def.lists) sound.kind_names in
         kind-in k.name (Some (list_told def k)) (

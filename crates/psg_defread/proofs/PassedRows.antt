@@ -2,8 +2,8 @@
 use Rattle.std.proofs.Common.{◌≡◌, ℕ, Some, None, List, [], ◌∷◌, ◌++◌, length, map, refl, sym, ◌∙◌, subst, ◌<◌, zero, suc, slice_get, ap}
 use Rattle.std.specs.List.{AllByRecursion}
 use Rattle.std.proofs.lemmas.List.{length-map}
-use Rattle.psg_terms.specs.Terms.{Term}
 use Rattle.psg_terms.proofs.OneRelation.{sorts_length}
+use Rattle.psg_terms.specs.Terms.{Term}
 use Rattle.psg_terms.specs.Canonical.{first_occurrences, IsNumberedFrom}
 use Rattle.psg_grammar.specs.declared.types.Kind.TheVariants as kinds
 use Rattle.psg_grammar.specs.declared.types.Operator.{Operator}

@@ -1,24 +1,23 @@
 -- The lines of sorts, spaces, phyla and lists pass the tests of their meaning.
 use Rattle.std.proofs.Common.{◌≡◌, true, false, cond, inl, inr, ℕ, zero, suc, ◌+◌, ◌<◌, ◌==◌, Some, None, List, [], ◌∷◌, length, map, slice_get, refl, ap, sym, ◌∙◌, subst, arith, ◌++◌}
 use Rattle.std.specs.List.{Contains, AllByRecursion}
-use Rattle.std.proofs.lemmas.Bool.{eq-eqb}
+use Rattle.std.proofs.lemmas.Bool.{eq-eqb, cases_Bool}
 use Rattle.std.proofs.lemmas.List.Elements.{Contains-append_left, Contains-append_right, Contains-push}
 use Rattle.psg_terms.specs.Terms.{Term}
 use Rattle.psg_terms.specs.Terms as terms
 use Rattle.psg_terms.specs.Signature.{Symbol, Takes, AreClosed, constructors_from, only_constructor, sole, AreSorts}
 use Rattle.psg_terms.specs.Instances.{IsGround}
 use Rattle.psg_terms.specs.declared.declare.ConDecl.{ConDecl}
-use Rattle.psg_terms.proofs.Variables.{cases}
 use Rattle.psg_grammar.specs.declared.types.Definition.{Definition}
 use Rattle.psg_grammar.specs.Sound.{IsSound, IsPhylum, IsListKind}
 use Rattle.psg_deflines.specs.declared.lines.Line.{Line}
 use Rattle.psg_defcheck.specs.Meanings.{AreInhabited, none, more, IsChoice, KnowsSort}
 use Rattle.psg_defcheck.proofs.GroundLaws.{inhabited-more}
-use Rattle.psg_defnumber.proofs.OnceNames.{same_at}
 use Rattle.psg_defread.specs.WrittenLines.{sort_name, constructors_written, sort_lines, space_line, phylum_line, list_line}
 use Rattle.psg_defread.proofs.NumberTerms.{closed-sort}
 use Rattle.psg_defread.proofs.PassedDeclared.{Declares, constructor_written, of_sort, with_front, sort_written, sort-at, sort-known, phylum-known}
 use Rattle.std.proofs.lemmas.Option.{slice_get_within}
+use Rattle.psg_terms.proofs.Lists.{slice_get_once}
 use Rattle.psg_terms.specs.Names.{Name}
 use Rattle.psg_grammar.specs.declared.types.Phylum.{Phylum}
 use Rattle.psg_grammar.specs.declared.types.ListKind.{ListKind}
@@ -85,7 +84,7 @@ module _ (def : Definition) where
   none-numbered : (m n : ℕ) (xs : List Symbol) → of_sort def n xs ≡ [] → numbered m n xs ≡ []
   none-numbered m n [] h = refl
   none-numbered m n (x ∷ xs) h =
-      elim (cases (x.sort == n)) [
+      elim (cases_Bool (x.sort == n)) [
         | inl e ↦
             let bad : one x ∷ of_sort def n xs ≡ [] =
             ap (λ b. with_front def b x n xs) (sym e) ∙ h in
@@ -105,7 +104,7 @@ module _ (def : Definition) where
   only-one : (m n : ℕ) (xs : List Symbol) (c : ConDecl) → of_sort def n xs ≡ c ∷ [] → IsOnlyOne m n xs c
   only-one m n [] c h = absurd (cc)
   only-one m n (x ∷ xs) c h =
-      elim (cases (x.sort == n)) [
+      elim (cases_Bool (x.sort == n)) [
         | inl e ↦
             let both : one x ∷ of_sort def n xs ≡ c ∷ [] =
             ap (λ b. with_front def b x n xs) (sym e) ∙ h in
@@ -145,7 +144,7 @@ module _ (def : Definition) where
           let place : 0 + r.place ≡ r.place = omega arith in
           let only : only_constructor def.signature n ≡ Some r.place = r.only ∙ ap Some place in
           let (s, at, takes, of) = sound.signature.constant n r.place inside only in
-          let same = same_at def.signature.symbols r.place r.found s r.at at in
+          let same = slice_get_once def.signature.symbols r.place r.found s r.at at in
           let args = ap (λ (y : Symbol). map (sort_name def) y.arguments) same ∙ ap (map (sort_name def)) takes in
           ap (λ (d : ConDecl). d.args) (sym r.is) ∙ args
       go (c ∷ d ∷ rest) e = tt

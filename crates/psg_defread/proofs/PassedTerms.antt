@@ -3,6 +3,7 @@ use Rattle.std.proofs.Common.{◌≡◌, is_some, ℕ, ◌+◌, List, [], ◌∷
 use Rattle.std.specs.Prelude.{decimal, bytes_eq}
 use Rattle.std.specs.List.{AllByRecursion}
 use Rattle.std.proofs.lemmas.List.{length-map}
+use Rattle.std.proofs.lemmas.Bool.{cases_Bool}
 use Rattle.psg_terms.specs.Names.{Name}
 use Rattle.psg_terms.specs.Terms.{Term}
 use Rattle.psg_terms.specs.Terms as terms
@@ -18,7 +19,7 @@ use Rattle.psg_defread.specs.WrittenLines.{sort_name, term_written}
 use Rattle.psg_defread.proofs.NumberNames.{name-found, decimals-apart}
 use Rattle.psg_defread.proofs.PassedDeclared.{Declares, place_of, sort-placed}
 use Rattle.psg_terms.specs.Canonical.{Variable, variables, variables_of, same_variable, is_noted, first_occurrences, IsNumberedFrom}
-use Rattle.psg_terms.proofs.Variables.{cases, same_variable-true, true_false}
+use Rattle.psg_terms.proofs.Variables.{same_variable-true, true_false}
 use Rattle.psg_terms.proofs.Unique.{Each, each-front}
 use Rattle.psg_terms.proofs.RenamingLaws.{IsAmong, among-noted_all}
 use Rattle.psg_terms.proofs.DeclareLaws.{bytes_eq-refl}
@@ -114,7 +115,7 @@ number-between : (n : ℕ) (xs : List Variable) (x : Variable) → IsNumberedFro
     → IsBetween n xs x
 number-between n [] x h i = absurd (true_false (sym i))
 number-between n (y ∷ ys) x h i =
-    elim (cases (same_variable x y)) [
+    elim (cases_Bool (same_variable x y)) [
       | inl e ↦
           let same : x.1 ≡ y.1 = ap (λ (v : Variable). v.1) (same_variable-true x y e) in
           let first = h.0 in
@@ -139,7 +140,7 @@ module _ (def : Definition) where
       → is_noted x xs ≡ true → named_sort xs (decimal x.1) ≡ sort_name def x.0
   sort-named n [] x limit h i = absurd (true_false (sym i))
   sort-named n (y ∷ ys) x limit h i =
-      elim (cases (same_variable x y)) [
+      elim (cases_Bool (same_variable x y)) [
         | inl e ↦
             let same : x ≡ y = same_variable-true x y e in
             subst (λ (v : Variable). named_sort (y ∷ ys) (decimal v.1) ≡ sort_name def v.0) (sym same) (

@@ -1,5 +1,6 @@
 -- A specimen as it is written passes the tests of its meaning.
 use Rattle.std.proofs.Common.{◌≡◌, IsTrue, is_some, ℕ, ◌+◌, List, [], ◌∷◌, length, map, Option, Some, None, slice_get, refl, ap, sym, ◌∙◌, subst, arith}
+use Rattle.psg_terms.proofs.Lists.{each_at}
 use Rattle.std.specs.Prelude.{decimal}
 use Rattle.std.specs.List.{AllByRecursion}
 use Rattle.psg_terms.specs.Names.{Name}
@@ -16,7 +17,6 @@ use Rattle.psg_grammar.specs.declared.types.Definition.{Definition}
 use Rattle.psg_grammar.specs.Lookups.{part_items}
 use Rattle.psg_grammar.specs.Specimens.{holes_of, holes_of_part, holes_of_row, holes_of_list}
 use Rattle.psg_grammar.specs.Sound.{IsSound, IsItem, IsListKind, IsOperator, HasKindSort}
-use Rattle.psg_grammar.proofs.SoundParts.{each_at}
 use Rattle.psg_deflines.specs.WrittenTerms.{WrittenTerm}
 use Rattle.psg_deflines.specs.WrittenTrees.{WrittenTree, operator, with_tree, with_name, with_number, with_text, element}
 use Rattle.psg_deflines.specs.declared.lines.Line.{Line}

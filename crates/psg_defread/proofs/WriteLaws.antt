@@ -1,11 +1,11 @@
 -- Lists that are made item by item, and terms and specimens from their parts.
 use Rattle.std.proofs.Common.{◌≡◌, List, [], ◌++◌, append_assoc, ap, sym, ◌∙◌, ℕ, ◌+◌, ◌<◌, ◌≤◌, ◌∷◌, map, take, length, get_or, Option, refl}
 use Rattle.std.proofs.lemmas.List.{take_all}
+use Rattle.psg_terms.proofs.Lists.{take_item}
 use mathlib.Core.Former.{Count}
 use Rattle.psg_terms.specs.Names.{Name}
 use Rattle.psg_terms.specs.Terms.{Term}
 use Rattle.psg_terms.specs.Terms as terms
-use Rattle.psg_terms.proofs.DeclareLaws.{take-next}
 use Rattle.psg_grammar.specs.declared.types.SpecimenHole.{SpecimenHole}
 use Rattle.psg_grammar.specs.declared.types.SpecimenPart.{SpecimenPart}
 use Rattle.psg_grammar.specs.declared.types.Specimen.{Specimen, Op, Op', List as ListOf, List', Row_of-Specimen, end_of-Specimen, more_of-Specimen, Row_of-SpecimenPart, end_of-SpecimenPart, more_of-SpecimenPart, items-the_row-SpecimenPart, items_hidden-the_row-SpecimenPart-0, items-the_row-Specimen, items_hidden-the_row-Specimen-1}
@@ -90,7 +90,7 @@ module _ (def : Definition) where
   parts-next ps i p w before after h e one a b front =
       ap (with_parts front) a ∙ with_parts-snoc front before w ∙ one (with_parts front before)
       ∙ ap (λ f. part_written def f p) (b front)
-      ∙ sym (ap (listed front) (take-next ps i p h e) ∙ listed-snoc front (take i ps) p)
+      ∙ sym (ap (listed front) (take_item ps i p h e) ∙ listed-snoc front (take i ps) p)
 
   abbrev parts_row : Specimen → (n : Count) × Row_of-SpecimenPart n
   parts_row (Op' o shape row) = (_, row)

@@ -12,37 +12,37 @@ use psg_grammar::{Case, DeclareRow, Definition, HoleRow};
 use std::alloc::{AllocError, Global};
 
 /// The line of a case.
-fn case_line(alloc: Global, def: &Definition, case: &Case) -> Result<Line, AllocError>
-    ensures { IfOk result (λ l. l ≡ case_line def.now case.now) }
+fn case_line(alloc: Global, definition: &Definition, case: &Case) -> Result<Line, AllocError>
+    ensures { IfOk result (λ l. l ≡ case_line definition.now case.now) }
 {
-    let term = term_written(alloc, def, &case.term)?;
-    let specimen = tree_written(alloc, def, &case.specimen)?;
+    let term = term_written(alloc, definition, &case.term)?;
+    let specimen = tree_written(alloc, definition, &case.specimen)?;
     Ok(Line::Case { term, specimen })
 }
 
 /// Puts the lines of cases after the others.
 fn push_cases(
     alloc: Global,
-    def: &Definition,
+    definition: &Definition,
     cases: &[Case],
     out: &mut Vec<Line>,
 ) -> Result<(), AllocError>
-    ensures { OnOk result (out.new.items ≡ out.old.items ++ map (case_line def.now) cases.now) }
+    ensures { OnOk result (out.new.items ≡ out.old.items ++ map (case_line definition.now) cases.now) }
 {
     for i in 0..cases.len() {
-        let line = case_line(alloc, def, &cases[i])?;
+        let line = case_line(alloc, definition, &cases[i])?;
         out.push(line)?;
     }
     Ok(())
 }
 
 /// The line of a hole row without its cases.
-fn hole_line(alloc: Global, def: &Definition, row: &HoleRow) -> Result<Line, AllocError>
+fn hole_line(alloc: Global, definition: &Definition, row: &HoleRow) -> Result<Line, AllocError>
     ensures { IfOk result (λ l. l
-        ≡ lines.Hole (kind_name def.now row.now.kind) (term_written def.now row.now.term) None) }
+        ≡ lines.Hole (kind_name definition.now row.now.kind) (term_written definition.now row.now.term) None) }
 {
-    let kind = kind_name(alloc, def, row.kind)?;
-    let term = term_written(alloc, def, &row.term)?;
+    let kind = kind_name(alloc, definition, row.kind)?;
+    let term = term_written(alloc, definition, &row.term)?;
     Ok(Line::Hole {
         kind,
         term,
@@ -53,42 +53,46 @@ fn hole_line(alloc: Global, def: &Definition, row: &HoleRow) -> Result<Line, All
 /// Puts the line of a hole row and those of its cases after the others.
 fn push_hole(
     alloc: Global,
-    def: &Definition,
+    definition: &Definition,
     row: &HoleRow,
     out: &mut Vec<Line>,
 ) -> Result<(), AllocError>
-    ensures { OnOk result (out.new.items ≡ out.old.items ++ hole_lines def.now row.now) }
+    ensures { OnOk result (out.new.items ≡ out.old.items ++ hole_lines definition.now row.now) }
 {
-    let line = hole_line(alloc, def, row)?;
+    let line = hole_line(alloc, definition, row)?;
     out.push(line)?;
-    push_cases(alloc, def, row.cases.as_slice(), out)?;
+    push_cases(alloc, definition, row.cases.as_slice(), out)?;
     Ok(())
 }
 
 /// Puts the lines of hole rows after the others.
 pub fn push_holes(
     alloc: Global,
-    def: &Definition,
+    definition: &Definition,
     rows: &[HoleRow],
     out: &mut Vec<Line>,
 ) -> Result<(), AllocError>
-    ensures { OnOk result (out.new.items ≡ out.old.items ++ flat_map (hole_lines def.now) rows.now) }
+    ensures { OnOk result (out.new.items ≡ out.old.items ++ flat_map (hole_lines definition.now) rows.now) }
 {
     for i in 0..rows.len() {
-        push_hole(alloc, def, &rows[i], out)?;
+        push_hole(alloc, definition, &rows[i], out)?;
     }
     Ok(())
 }
 
 /// The line of a declare row.
-fn declare_line(alloc: Global, def: &Definition, row: &DeclareRow) -> Result<Line, AllocError>
-    ensures { IfOk result (λ l. l ≡ declare_line def.now row.now) }
+fn declare_line(
+    alloc: Global,
+    definition: &Definition,
+    row: &DeclareRow,
+) -> Result<Line, AllocError>
+    ensures { IfOk result (λ l. l ≡ declare_line definition.now row.now) }
 {
-    let space = space_name(alloc, def, row.space)?;
-    let list = list_name(alloc, def, row.list)?;
-    let entity = term_written(alloc, def, &row.term)?;
-    let value = term_written(alloc, def, &row.value)?;
-    let specimen = tree_written(alloc, def, &row.specimen)?;
+    let space = space_name(alloc, definition, row.space)?;
+    let list = list_name(alloc, definition, row.list)?;
+    let entity = term_written(alloc, definition, &row.term)?;
+    let value = term_written(alloc, definition, &row.value)?;
+    let specimen = tree_written(alloc, definition, &row.specimen)?;
     Ok(Line::Declare {
         space,
         list,
@@ -101,14 +105,14 @@ fn declare_line(alloc: Global, def: &Definition, row: &DeclareRow) -> Result<Lin
 /// Puts the lines of declare rows after the others.
 pub fn push_declares(
     alloc: Global,
-    def: &Definition,
+    definition: &Definition,
     rows: &[DeclareRow],
     out: &mut Vec<Line>,
 ) -> Result<(), AllocError>
-    ensures { OnOk result (out.new.items ≡ out.old.items ++ map (declare_line def.now) rows.now) }
+    ensures { OnOk result (out.new.items ≡ out.old.items ++ map (declare_line definition.now) rows.now) }
 {
     for i in 0..rows.len() {
-        let line = declare_line(alloc, def, &rows[i])?;
+        let line = declare_line(alloc, definition, &rows[i])?;
         out.push(line)?;
     }
     Ok(())

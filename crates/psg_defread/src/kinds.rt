@@ -8,36 +8,36 @@ use psg_grammar::{Definition, ListKind, Phylum, Space};
 use std::alloc::{AllocError, Global};
 
 /// The line of a space.
-fn space_line(alloc: Global, def: &Definition, space: &Space) -> Result<Line, AllocError>
-    ensures { IfOk result (λ l. l ≡ space_line def.now space.now) }
+fn space_line(alloc: Global, definition: &Definition, space: &Space) -> Result<Line, AllocError>
+    ensures { IfOk result (λ l. l ≡ space_line definition.now space.now) }
 {
     let name = space.name.share()?;
-    let sort = sort_name(alloc, def, space.sort)?;
+    let sort = sort_name(alloc, definition, space.sort)?;
     Ok(Line::Space { name, sort })
 }
 
 /// Puts the lines of spaces after the others.
 pub fn push_spaces(
     alloc: Global,
-    def: &Definition,
+    definition: &Definition,
     spaces: &[Space],
     out: &mut Vec<Line>,
 ) -> Result<(), AllocError>
-    ensures { OnOk result (out.new.items ≡ out.old.items ++ map (space_line def.now) spaces.now) }
+    ensures { OnOk result (out.new.items ≡ out.old.items ++ map (space_line definition.now) spaces.now) }
 {
     for i in 0..spaces.len() {
-        let line = space_line(alloc, def, &spaces[i])?;
+        let line = space_line(alloc, definition, &spaces[i])?;
         out.push(line)?;
     }
     Ok(())
 }
 
 /// The line of a phylum.
-fn phylum_line(alloc: Global, def: &Definition, phylum: &Phylum) -> Result<Line, AllocError>
-    ensures { IfOk result (λ l. l ≡ phylum_line def.now phylum.now) }
+fn phylum_line(alloc: Global, definition: &Definition, phylum: &Phylum) -> Result<Line, AllocError>
+    ensures { IfOk result (λ l. l ≡ phylum_line definition.now phylum.now) }
 {
     let name = phylum.name.share()?;
-    let sort = sort_name(alloc, def, phylum.sort)?;
+    let sort = sort_name(alloc, definition, phylum.sort)?;
     let bracketed = phylum.bracketed;
     Ok(Line::Phylum {
         name,
@@ -49,26 +49,26 @@ fn phylum_line(alloc: Global, def: &Definition, phylum: &Phylum) -> Result<Line,
 /// Puts the lines of phyla after the others.
 pub fn push_phyla(
     alloc: Global,
-    def: &Definition,
+    definition: &Definition,
     phyla: &[Phylum],
     out: &mut Vec<Line>,
 ) -> Result<(), AllocError>
-    ensures { OnOk result (out.new.items ≡ out.old.items ++ map (phylum_line def.now) phyla.now) }
+    ensures { OnOk result (out.new.items ≡ out.old.items ++ map (phylum_line definition.now) phyla.now) }
 {
     for i in 0..phyla.len() {
-        let line = phylum_line(alloc, def, &phyla[i])?;
+        let line = phylum_line(alloc, definition, &phyla[i])?;
         out.push(line)?;
     }
     Ok(())
 }
 
 /// The line of a list.
-fn list_line(alloc: Global, def: &Definition, list: &ListKind) -> Result<Line, AllocError>
-    ensures { IfOk result (λ l. l ≡ list_line def.now list.now) }
+fn list_line(alloc: Global, definition: &Definition, list: &ListKind) -> Result<Line, AllocError>
+    ensures { IfOk result (λ l. l ≡ list_line definition.now list.now) }
 {
     let name = list.name.share()?;
-    let sort = sort_name(alloc, def, list.sort)?;
-    let element = phylum_name(alloc, def, list.element)?;
+    let sort = sort_name(alloc, definition, list.sort)?;
+    let element = phylum_name(alloc, definition, list.element)?;
     let separator = list.separator.share()?;
     Ok(Line::List {
         name,
@@ -83,14 +83,14 @@ fn list_line(alloc: Global, def: &Definition, list: &ListKind) -> Result<Line, A
 /// Puts the lines of lists after the others.
 pub fn push_lists(
     alloc: Global,
-    def: &Definition,
+    definition: &Definition,
     lists: &[ListKind],
     out: &mut Vec<Line>,
 ) -> Result<(), AllocError>
-    ensures { OnOk result (out.new.items ≡ out.old.items ++ map (list_line def.now) lists.now) }
+    ensures { OnOk result (out.new.items ≡ out.old.items ++ map (list_line definition.now) lists.now) }
 {
     for i in 0..lists.len() {
-        let line = list_line(alloc, def, &lists[i])?;
+        let line = list_line(alloc, definition, &lists[i])?;
         out.push(line)?;
     }
     Ok(())

@@ -13,14 +13,14 @@ use psg_terms::Seq;
 use std::alloc::{AllocError, Global};
 
 /// An item as it is written.
-fn item_written(alloc: Global, def: &Definition, item: &Item) -> Result<LineItem, AllocError>
-    ensures { IfOk result (λ w. w ≡ item_written def.now item.now) }
+fn item_written(alloc: Global, definition: &Definition, item: &Item) -> Result<LineItem, AllocError>
+    ensures { IfOk result (λ w. w ≡ item_written definition.now item.now) }
 {
     match item {
         Item::Word(word) => Ok(LineItem::Word(word.share()?)),
-        Item::Slot(kind) => Ok(LineItem::Slot(kind_name(alloc, def, *kind)?)),
-        Item::Refers(space) => Ok(LineItem::Refers(space_name(alloc, def, *space)?)),
-        Item::Declares(space) => Ok(LineItem::Declares(space_name(alloc, def, *space)?)),
+        Item::Slot(kind) => Ok(LineItem::Slot(kind_name(alloc, definition, *kind)?)),
+        Item::Refers(space) => Ok(LineItem::Refers(space_name(alloc, definition, *space)?)),
+        Item::Declares(space) => Ok(LineItem::Declares(space_name(alloc, definition, *space)?)),
         Item::Number => Ok(LineItem::Number),
         Item::Text => Ok(LineItem::Text),
         Item::Space => Ok(LineItem::Space),
@@ -34,25 +34,25 @@ fn item_written(alloc: Global, def: &Definition, item: &Item) -> Result<LineItem
 /// Items as they are written.
 fn items_written(
     alloc: Global,
-    def: &Definition,
+    definition: &Definition,
     items: &[Item],
 ) -> Result<Vec<LineItem>, AllocError>
-    ensures { IfOk result (λ v. v.items ≡ map (item_written def.now) items.now) }
+    ensures { IfOk result (λ v. v.items ≡ map (item_written definition.now) items.now) }
 {
     let mut written = Vec::with_capacity(alloc, items.len())?;
     for i in 0..items.len() {
-        let one = item_written(alloc, def, &items[i])?;
+        let one = item_written(alloc, definition, &items[i])?;
         written.push(one)?;
     }
     Ok(written)
 }
 
 /// The line of a row of an operator.
-fn row_line(alloc: Global, def: &Definition, row: &Row) -> Result<Line, AllocError>
-    ensures { IfOk result (λ l. l ≡ row_line def.now row.now) }
+fn row_line(alloc: Global, definition: &Definition, row: &Row) -> Result<Line, AllocError>
+    ensures { IfOk result (λ l. l ≡ row_line definition.now row.now) }
 {
-    let head = term_written(alloc, def, &row.head)?;
-    let columns = terms_written(alloc, def, row.columns.as_slice())?;
+    let head = term_written(alloc, definition, &row.head)?;
+    let columns = terms_written(alloc, definition, row.columns.as_slice())?;
     let columns = Seq::of(columns);
     Ok(Line::Row { head, columns })
 }
@@ -60,28 +60,32 @@ fn row_line(alloc: Global, def: &Definition, row: &Row) -> Result<Line, AllocErr
 /// Puts the lines of rows after the others.
 fn push_rows(
     alloc: Global,
-    def: &Definition,
+    definition: &Definition,
     rows: &[Row],
     out: &mut Vec<Line>,
 ) -> Result<(), AllocError>
-    ensures { OnOk result (out.new.items ≡ out.old.items ++ map (row_line def.now) rows.now) }
+    ensures { OnOk result (out.new.items ≡ out.old.items ++ map (row_line definition.now) rows.now) }
 {
     for i in 0..rows.len() {
-        let line = row_line(alloc, def, &rows[i])?;
+        let line = row_line(alloc, definition, &rows[i])?;
         out.push(line)?;
     }
     Ok(())
 }
 
 /// The line of an operator without its rows.
-fn operator_line(alloc: Global, def: &Definition, operator: &Operator) -> Result<Line, AllocError>
+fn operator_line(
+    alloc: Global,
+    definition: &Definition,
+    operator: &Operator,
+) -> Result<Line, AllocError>
     ensures { IfOk result (λ l. l ≡ lines.Operator operator.now.name
-        (kind_name def.now (kinds.Phylum operator.now.phylum)) operator.now.scope operator.now.level
-        (map (item_written def.now) operator.now.items)) }
+        (kind_name definition.now (kinds.Phylum operator.now.phylum)) operator.now.scope operator.now.level
+        (map (item_written definition.now) operator.now.items)) }
 {
     let name = operator.name.share()?;
-    let phylum = phylum_name(alloc, def, operator.phylum)?;
-    let items = items_written(alloc, def, operator.items.as_slice())?;
+    let phylum = phylum_name(alloc, definition, operator.phylum)?;
+    let items = items_written(alloc, definition, operator.items.as_slice())?;
     let items = Seq::of(items);
     Ok(Line::Operator {
         name,
@@ -95,29 +99,29 @@ fn operator_line(alloc: Global, def: &Definition, operator: &Operator) -> Result
 /// Puts the line of an operator and those of its rows after the others.
 fn push_operator(
     alloc: Global,
-    def: &Definition,
+    definition: &Definition,
     operator: &Operator,
     out: &mut Vec<Line>,
 ) -> Result<(), AllocError>
-    ensures { OnOk result (out.new.items ≡ out.old.items ++ operator_lines def.now operator.now) }
+    ensures { OnOk result (out.new.items ≡ out.old.items ++ operator_lines definition.now operator.now) }
 {
-    let line = operator_line(alloc, def, operator)?;
+    let line = operator_line(alloc, definition, operator)?;
     out.push(line)?;
-    push_rows(alloc, def, operator.rows.as_slice(), out)?;
+    push_rows(alloc, definition, operator.rows.as_slice(), out)?;
     Ok(())
 }
 
 /// Puts the lines of operators after the others.
 pub fn push_operators(
     alloc: Global,
-    def: &Definition,
+    definition: &Definition,
     operators: &[Operator],
     out: &mut Vec<Line>,
 ) -> Result<(), AllocError>
-    ensures { OnOk result (out.new.items ≡ out.old.items ++ flat_map (operator_lines def.now) operators.now) }
+    ensures { OnOk result (out.new.items ≡ out.old.items ++ flat_map (operator_lines definition.now) operators.now) }
 {
     for i in 0..operators.len() {
-        push_operator(alloc, def, &operators[i], out)?;
+        push_operator(alloc, definition, &operators[i], out)?;
     }
     Ok(())
 }

@@ -1,8 +1,10 @@
 //! Definitions from their bytes.
 ghost use Rattle.std.specs.Prelude.{◌≡◌, ◌<◌, ◌^◌, length, IfOk, IfErr};
+ghost use Rattle.std.specs.List.{AllByRecursion};
+ghost use Rattle.psg_lexis.specs.Tokens.{IsFixedWord};
 ghost use Rattle.psg_grammar.specs.Sound.{IsSound};
+ghost use Rattle.psg_grammar.specs.WellFormed.{fixed_words};
 ghost use Rattle.psg_grammar.specs.declared.types.Definition.{Definition as Plain};
-ghost use Rattle.psg_defnumber.specs.Soundness.{HasTokenWords};
 ghost use Rattle.psg_defread.specs.Refusals.{IsReadFault};
 ghost use Rattle.psg_defread.specs.Reading.{Spells, IsFaultless};
 
@@ -23,7 +25,7 @@ pub fn read_definition(alloc: Global, bytes: &[u8]) -> Result<Definition, ReadFa
     ensures only { IfOk result (λ d. (other : Plain) → Spells bytes.now other → other ≡ d) }
     ensures err { IfErr result (IsReadFault bytes.now) }
     ensures sound { IfOk result IsSound }
-    ensures words { IfOk result HasTokenWords }
+    ensures words { IfOk result (λ d. AllByRecursion IsFixedWord (fixed_words d)) }
 {
     let found = read_lines(alloc, bytes)?;
     let entries = found.entries.as_slice();

@@ -12,25 +12,33 @@ use psg_terms::{ConDecl, ConId, Seq, SortDecl, SortId, Txt};
 use std::alloc::{AllocError, Global};
 
 /// The names of sorts.
-fn sorts_written(alloc: Global, def: &Definition, sorts: &[SortId]) -> Result<Vec<Txt>, AllocError>
-    ensures { IfOk result (λ v. v.items ≡ map (sort_name def.now) (numbers_of sorts.now)) }
+fn sorts_written(
+    alloc: Global,
+    definition: &Definition,
+    sorts: &[SortId],
+) -> Result<Vec<Txt>, AllocError>
+    ensures { IfOk result (λ v. v.items ≡ map (sort_name definition.now) (numbers_of sorts.now)) }
 {
     let mut written = Vec::with_capacity(alloc, sorts.len())?;
     for i in 0..sorts.len() {
-        let one = sort_name(alloc, def, sorts[i])?;
+        let one = sort_name(alloc, definition, sorts[i])?;
         written.push(one)?;
     }
     Ok(written)
 }
 
 /// The constructor as its sort declares it.
-fn constructor_written(alloc: Global, def: &Definition, con: ConId) -> Result<ConDecl, AllocError>
-    requires { con.0 < length def.now.signature.symbols }
-    ensures { IfOk result (λ d. d ≡ constructor_at def.now con.0) }
+fn constructor_written(
+    alloc: Global,
+    definition: &Definition,
+    con: ConId,
+) -> Result<ConDecl, AllocError>
+    requires { con.0 < length definition.now.signature.symbols }
+    ensures { IfOk result (λ d. d ≡ constructor_at definition.now con.0) }
 {
-    let name = constructor_name(alloc, def, con)?;
-    let own = def.signature.constructor(con);
-    let args = sorts_written(alloc, def, own.args.as_slice())?;
+    let name = constructor_name(alloc, definition, con)?;
+    let own = definition.signature.constructor(con);
+    let args = sorts_written(alloc, definition, own.args.as_slice())?;
     let args = Seq::of(args);
     Ok(ConDecl { name, args })
 }
@@ -38,41 +46,46 @@ fn constructor_written(alloc: Global, def: &Definition, con: ConId) -> Result<Co
 /// The constructors of a sort, in order.
 fn constructors_written(
     alloc: Global,
-    def: &Definition,
+    definition: &Definition,
     sort: SortId,
 ) -> Result<Vec<ConDecl>, AllocError>
-    requires { sort.0 < length def.now.signature.sorts }
-    ensures { IfOk result (λ v. v.items ≡ constructors_written def.now sort.0 def.now.signature.symbols) }
+    requires { sort.0 < length definition.now.signature.sorts }
+    ensures { IfOk result (λ v. v.items ≡ constructors_written definition.now sort.0 definition.now.signature.symbols) }
 {
-    let ids = def.signature.constructors_of(sort);
+    let ids = definition.signature.constructors_of(sort);
     let mut written = Vec::with_capacity(alloc, ids.len())?;
     for i in 0..ids.len() {
-        let one = constructor_written(alloc, def, ids[i])?;
+        let one = constructor_written(alloc, definition, ids[i])?;
         written.push(one)?;
     }
     Ok(written)
 }
 
 /// The line of a sort.
-fn sort_line(alloc: Global, def: &Definition, sort: SortId) -> Result<Line, AllocError>
-    requires { sort.0 < length def.now.signature.sorts }
+fn sort_line(alloc: Global, definition: &Definition, sort: SortId) -> Result<Line, AllocError>
+    requires { sort.0 < length definition.now.signature.sorts }
     ensures { IfOk result (λ l. l ≡ lines.Sort (record {
-      name = sort_name def.now sort.0;
-      constructors = constructors_written def.now sort.0 def.now.signature.symbols;
+      name = sort_name definition.now sort.0;
+      constructors = constructors_written definition.now sort.0 definition.now.signature.symbols;
     })) }
 {
-    let name = sort_name(alloc, def, sort)?;
-    let constructors = constructors_written(alloc, def, sort)?;
+    let name = sort_name(alloc, definition, sort)?;
+    let constructors = constructors_written(alloc, definition, sort)?;
     let constructors = Seq::of(constructors);
     Ok(Line::Sort(SortDecl { name, constructors }))
 }
 
 /// Puts the lines of all sorts after the others.
-pub fn push_sorts(alloc: Global, def: &Definition, out: &mut Vec<Line>) -> Result<(), AllocError>
-    ensures { OnOk result (out.new.items ≡ out.old.items ++ sort_lines def.now 0 def.now.signature.sorts) }
+pub fn push_sorts(
+    alloc: Global,
+    definition: &Definition,
+    out: &mut Vec<Line>,
+) -> Result<(), AllocError>
+    ensures { OnOk result (out.new.items
+        ≡ out.old.items ++ sort_lines definition.now 0 definition.now.signature.sorts) }
 {
-    for i in 0..def.signature.sorts() {
-        let line = sort_line(alloc, def, SortId(i))?;
+    for i in 0..definition.signature.sorts() {
+        let line = sort_line(alloc, definition, SortId(i))?;
         out.push(line)?;
     }
     Ok(())

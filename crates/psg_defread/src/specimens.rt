@@ -14,29 +14,29 @@ use std::alloc::{AllocError, Global};
 /// A place as it is written.
 fn place_written(
     alloc: Global,
-    def: &Definition,
+    definition: &Definition,
     hole: &SpecimenHole,
 ) -> Result<LinePlace, AllocError>
-    ensures kind { IfOk result (λ p. p.kind ≡ kind_name def.now hole.now.kind) }
-    ensures term { IfOk result (λ p. p.term ≡ term_written def.now hole.now.term) }
+    ensures kind { IfOk result (λ p. p.kind ≡ kind_name definition.now hole.now.kind) }
+    ensures term { IfOk result (λ p. p.term ≡ term_written definition.now hole.now.term) }
 {
-    let kind = kind_name(alloc, def, hole.kind)?;
-    let term = term_written(alloc, def, &hole.term)?;
+    let kind = kind_name(alloc, definition, hole.kind)?;
+    let term = term_written(alloc, definition, &hole.term)?;
     Ok(LinePlace { kind, term })
 }
 
 /// What a list goes on with after its elements.
 fn rest_written(
     alloc: Global,
-    def: &Definition,
+    definition: &Definition,
     rest: &Option<SpecimenHole>,
 ) -> Result<Option<LinePlace>, AllocError>
-    ensures { IfOk result (λ r. ending r ≡ end_written def.now rest.now) }
+    ensures { IfOk result (λ r. ending r ≡ end_written definition.now rest.now) }
 {
     match rest {
         None => Ok(None),
         Some(hole) => {
-            let place = place_written(alloc, def, hole)?;
+            let place = place_written(alloc, definition, hole)?;
             Ok(Some(place))
         }
     }
@@ -54,14 +54,15 @@ fn number_written(alloc: Global, number: u128) -> Result<Txt, AllocError>
 #[cycle(tree)]
 fn part_written(
     alloc: Global,
-    def: &Definition,
+    definition: &Definition,
     part: &SpecimenPart,
 ) -> Result<LinePart, AllocError>
-    ensures { IfOk result (λ p. (front : WrittenTree) → with_part front p ≡ part_written def.now front part.now) }
+    ensures { IfOk result (λ p. (front : WrittenTree)
+        → with_part front p ≡ part_written definition.now front part.now) }
 {
     match part {
         SpecimenPart::Sub(specimen) => {
-            let tree = tree_written(alloc, def, specimen)?;
+            let tree = tree_written(alloc, definition, specimen)?;
             Ok(LinePart::Tree(tree))
         }
         SpecimenPart::Name(name) => Ok(LinePart::Name(name.share()?)),
@@ -75,18 +76,18 @@ fn part_written(
 #[cycle(tree)]
 pub fn tree_written(
     alloc: Global,
-    def: &Definition,
+    definition: &Definition,
     specimen: &Specimen,
 ) -> Result<LineTree, AllocError>
-    ensures { IfOk result (λ w. w ≡ tree_written def.now specimen.now) }
+    ensures { IfOk result (λ w. w ≡ tree_written definition.now specimen.now) }
 {
     match specimen {
         Specimen::Op { op, parts } => {
-            let name = operator_name(alloc, def, *op)?;
+            let name = operator_name(alloc, definition, *op)?;
             let parts = parts.as_slice();
             let mut written = Vec::with_capacity(alloc, parts.len())?;
             for i in 0..parts.len() {
-                let one = part_written(alloc, def, &parts[i])?;
+                let one = part_written(alloc, definition, &parts[i])?;
                 written.push(one)?;
             }
             let parts = Seq::of(written);
@@ -97,16 +98,16 @@ pub fn tree_written(
             let elements = elements.as_slice();
             let mut written = Vec::with_capacity(alloc, elements.len())?;
             for i in 0..elements.len() {
-                let one = tree_written(alloc, def, &elements[i])?;
+                let one = tree_written(alloc, definition, &elements[i])?;
                 written.push(one)?;
             }
             let elements = Seq::of(written);
-            let rest = rest_written(alloc, def, rest)?;
+            let rest = rest_written(alloc, definition, rest)?;
             let shape = TreeShape::List { elements, rest };
             Ok(LineTree { shape })
         }
         Specimen::Hole(hole) => {
-            let place = place_written(alloc, def, hole)?;
+            let place = place_written(alloc, definition, hole)?;
             let shape = TreeShape::Place(place);
             Ok(LineTree { shape })
         }

@@ -23,13 +23,13 @@ fn variable(alloc: Global, number: u32) -> Result<LineTerm, AllocError>
 /// A constructor with arguments.
 fn applied(
     alloc: Global,
-    def: &Definition,
+    definition: &Definition,
     con: ConId,
     args: Vec<LineTerm>,
 ) -> Result<LineTerm, AllocError>
-    ensures { IfOk result (λ w. w ≡ applied (named (constructor_name def.now con.0)) args.items) }
+    ensures { IfOk result (λ w. w ≡ applied (named (constructor_name definition.now con.0)) args.items) }
 {
-    let name = constructor_name(alloc, def, con)?;
+    let name = constructor_name(alloc, definition, con)?;
     let args = Seq::of(args);
     Ok(LineTerm {
         shape: TermShape::Named { name, args },
@@ -38,8 +38,12 @@ fn applied(
 
 /// Makes the term as it is written. It calls itself as deep as the term is nested.
 #[cycle(term)]
-pub fn term_written(alloc: Global, def: &Definition, term: &Term) -> Result<LineTerm, AllocError>
-    ensures { IfOk result (λ w. w ≡ term_written def.now term.now) }
+pub fn term_written(
+    alloc: Global,
+    definition: &Definition,
+    term: &Term,
+) -> Result<LineTerm, AllocError>
+    ensures { IfOk result (λ w. w ≡ term_written definition.now term.now) }
 {
     match term.node() {
         Node::Var { number, .. } => {
@@ -47,8 +51,8 @@ pub fn term_written(alloc: Global, def: &Definition, term: &Term) -> Result<Line
             Ok(made)
         }
         Node::Con { con, args } => {
-            let written = terms_written(alloc, def, args.as_slice())?;
-            let made = applied(alloc, def, *con, written)?;
+            let written = terms_written(alloc, definition, args.as_slice())?;
+            let made = applied(alloc, definition, *con, written)?;
             Ok(made)
         }
     }
@@ -58,14 +62,14 @@ pub fn term_written(alloc: Global, def: &Definition, term: &Term) -> Result<Line
 #[cycle(term)]
 pub fn terms_written(
     alloc: Global,
-    def: &Definition,
+    definition: &Definition,
     terms: &[Term],
 ) -> Result<Vec<LineTerm>, AllocError>
-    ensures { IfOk result (λ v. v.items ≡ map (term_written def.now) terms.now) }
+    ensures { IfOk result (λ v. v.items ≡ map (term_written definition.now) terms.now) }
 {
     let mut written = Vec::with_capacity(alloc, terms.len())?;
     for i in 0..terms.len() {
-        let one = term_written(alloc, def, &terms[i])?;
+        let one = term_written(alloc, definition, &terms[i])?;
         written.push(one)?;
     }
     Ok(written)
@@ -74,14 +78,14 @@ pub fn terms_written(
 /// Makes the term of a row's column.
 pub fn column_written(
     alloc: Global,
-    def: &Definition,
+    definition: &Definition,
     row: &Row,
     column: usize,
 ) -> Result<LineTerm, AllocError>
-    ensures { IfOk result (λ w. w ≡ term_written def.now (term_at row.now.columns column)) }
+    ensures { IfOk result (λ w. w ≡ term_written definition.now (term_at row.now.columns column)) }
 {
     match row.columns.as_slice().get(column) {
-        Some(term) => Ok(term_written(alloc, def, term)?),
-        None => Ok(applied(alloc, def, ConId(0), Vec::new(alloc))?),
+        Some(term) => Ok(term_written(alloc, definition, term)?),
+        None => Ok(applied(alloc, definition, ConId(0), Vec::new(alloc))?),
     }
 }

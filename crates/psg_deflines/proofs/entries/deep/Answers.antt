@@ -1,14 +1,14 @@
 use Rattle.std.proofs.Common.{cond, ap, subst}
+use Rattle.std.proofs.lemmas.List.{nil_from_length}
 use Rattle.psg_deflines.specs.Parts.{texts}
 use Rattle.psg_deflines.specs.FormReads.{IsForm}
 use Rattle.psg_deflines.specs.declared.fault.DefCode.TheVariants.{Nested, Form}
-use Rattle.psg_deflines.proofs.Lists.{nil-length}
 use Rattle.psg_deflines.proofs.TermStepLaws.{texts-first}
 use Rattle.psg_deflines.proofs.EntryLaws.{deep-none}
 use Rattle.psg_deflines.proofs.entries.deep.Goals as goal
 
 pub returns-in_default : goal.returns-in_default
-returns-in_default c = λ line f deep. absurd (deep-none c.args.version (texts c.args.parts.now) line (ap texts (nil-length c.args.parts.now c.in_default.ensures.cases)) f)
+returns-in_default c = λ line f deep. absurd (deep-none c.args.version (texts c.args.parts.now) line (ap texts (nil_from_length c.args.parts.now c.in_default.ensures.cases)) f)
 
 pub returns-then-deep_is_of : goal.returns-then-deep_is_of
 returns-then-deep_is_of c = λ line f deep.

@@ -1,13 +1,13 @@
 use Rattle.std.proofs.Common.{refl, ap, ◌∙◌, ◌∷◌}
 use Rattle.std.proofs.lemmas.Bool.{false≢true}
+use Rattle.std.proofs.lemmas.List.{nil_from_length}
 use Rattle.psg_deflines.specs.Parts.{texts}
-use Rattle.psg_deflines.proofs.Lists.{nil-length}
 use Rattle.psg_deflines.proofs.TermStepLaws.{texts-first}
 use Rattle.psg_deflines.proofs.EntryLaws.{place-row, place-case, place-else, place-none}
 use Rattle.psg_deflines.proofs.entries.has_place.Goals as goal
 
 pub returns-in_default : goal.returns-in_default
-returns-in_default c = λ above rows cases. place-none above (texts c.args.parts.now) (ap texts (nil-length c.args.parts.now c.in_default.ensures.cases))
+returns-in_default c = λ above rows cases. place-none above (texts c.args.parts.now) (ap texts (nil_from_length c.args.parts.now c.in_default.ensures.cases))
 
 pub returns-then-is : goal.returns-then-is
 returns-then-is c = λ above rows cases.

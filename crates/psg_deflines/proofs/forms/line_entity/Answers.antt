@@ -1,7 +1,7 @@
 use Rattle.std.proofs.Common.{◌≡◌, arith, get_or}
+use Rattle.std.proofs.lemmas.Option.{MatchOption-at_some}
 use Rattle.psg_terms.specs.Names.{Name}
 use Rattle.psg_grammar.specs.Sound.{IsKindName}
-use Rattle.psg_deflines.proofs.Options.{when-some}
 use Rattle.psg_deflines.proofs.PartReads.{no-slice}
 use Rattle.psg_deflines.proofs.FormLaws.{entity-long, entity-only}
 use Rattle.psg_deflines.proofs.forms.line_entity.Goals as goal
@@ -13,4 +13,4 @@ pub returns : goal.returns
 returns c =
     let part = (get_or c.args.parts.now 0 no-slice).now in
     entity-only c.args.parts.now c.in_ok-name.name c.in-Some.sort c.if-parts-ne1.false c.in_ok-name.ensures
-    (when-some (IsKindName part → ⊥) (λ (t : Name). (t ≡ part) × IsKindName part) c.in_ok-sort.field-0 c.in-Some.sort c.in-Some.is c.in_ok-sort.ensures)
+    (MatchOption-at_some (IsKindName part → ⊥) (λ (t : Name). (t ≡ part) × IsKindName part) c.in-Some.sort c.in-Some.is c.in_ok-sort.ensures)

@@ -1,10 +1,10 @@
 use Rattle.std.proofs.Common.{◌≡◌, ℕ, List, ◌∙◌, sym, ap, arith, length}
+use Rattle.std.proofs.lemmas.List.{nil_from_length}
+use Rattle.std.proofs.lemmas.Option.{MatchOption-at_some, MatchOption-at_none}
 use Rattle.std.specs.Prelude.{map}
 use Rattle.std.specs.Str.Lines.{lines}
 use Rattle.psg_deflines.proofs.PartReads.{Slices}
 use Rattle.psg_deflines.specs.Parts.{texts}
-use Rattle.psg_deflines.proofs.Lists.{nil-length}
-use Rattle.psg_deflines.proofs.Options.{when-some, when-none}
 use Rattle.psg_deflines.proofs.TermFound.{texts-length}
 use Rattle.psg_deflines.proofs.CountLaws.{lines-few}
 use Rattle.psg_deflines.proofs.ReadLaws.{map-texts}
@@ -19,13 +19,13 @@ shown ls ts ss e f = sym e ∙ map-texts ts ∙ ap texts (sym f)
 pub returns-in_default-clause-err : goal.returns-in_default-clause-err
 returns-in_default-clause-err c =
     none-head (lines c.args.text.now) c.no_version.result
-    (shown (lines c.args.text.now) c.in_ok-written.written.items c.deref.result.now c.in_ok-written.ensures c.deref.ensures.value ∙ ap texts (nil-length c.deref.result.now c.in_default.ensures.cases)) c.no_version.ensures
+    (shown (lines c.args.text.now) c.in_ok-written.written.items c.deref.result.now c.in_ok-written.ensures c.deref.ensures.value ∙ ap texts (nil_from_length c.deref.result.now c.in_default.ensures.cases)) c.no_version.ensures
 
 pub returns-in_default-2-clause-err : goal.returns-in_default-2-clause-err
 returns-in_default-2-clause-err c =
     other-head (lines c.args.text.now) (texts c.in-Some.rest.now) c.in-Some.head.now.now c.no_version-in_default-2.result
     (shown (lines c.args.text.now) c.in_ok-written.written.items c.deref.result.now c.in_ok-written.ensures c.deref.ensures.value ∙ ap texts c.in-Some.ensures.cases.0)
-    (when-none (IsNoLineHead c.in-Some.head.now.now) (IsLineHead c.in-Some.head.now.now) c.in_ok-version.field-0 c.in_default-2.is c.in_ok-version.ensures) c.no_version-in_default-2.ensures
+    (MatchOption-at_none (IsNoLineHead c.in-Some.head.now.now) (IsLineHead c.in-Some.head.now.now) c.in_default-2.is c.in_ok-version.ensures) c.no_version-in_default-2.ensures
 
 pub entries-requires : goal.entries-requires
 entries-requires c =
@@ -35,12 +35,12 @@ entries-requires c =
 pub returns-clause-ok : goal.returns-clause-ok
 returns-clause-ok c =
     let all = shown (lines c.args.text.now) c.in_ok-written.written.items c.deref.result.now c.in_ok-written.ensures c.deref.ensures.value ∙ ap texts c.in-Some.ensures.cases.0 in
-    let head = when-some (IsNoLineHead c.in-Some.head.now.now) (IsLineHead c.in-Some.head.now.now) c.in_ok-version.field-0 c.in-Some-2.version c.in-Some-2.is c.in_ok-version.ensures in
+    let head = MatchOption-at_some (IsNoLineHead c.in-Some.head.now.now) (IsLineHead c.in-Some.head.now.now) c.in-Some-2.version c.in-Some-2.is c.in_ok-version.ensures in
     text-read c.in-Some-2.version (lines c.args.text.now) (texts c.in-Some.rest.now) c.in-Some.head.now.now c.in_ok-entries.entries.items all head c.in_ok-entries.ensures.ok
 
 pub returns-in_err-entries-clause-err : goal.returns-in_err-entries-clause-err
 returns-in_err-entries-clause-err c =
     let all = shown (lines c.args.text.now) c.in_ok-written.written.items c.deref.result.now c.in_ok-written.ensures c.deref.ensures.value ∙ ap texts c.in-Some.ensures.cases.0 in
-    let head = when-some (IsNoLineHead c.in-Some.head.now.now) (IsLineHead c.in-Some.head.now.now) c.in_ok-version.field-0 c.in-Some-2.version c.in-Some-2.is c.in_ok-version.ensures in
+    let head = MatchOption-at_some (IsNoLineHead c.in-Some.head.now.now) (IsLineHead c.in-Some.head.now.now) c.in-Some-2.version c.in-Some-2.is c.in_ok-version.ensures in
     err-passed (lines c.args.text.now) _ c.in_err-entries.field-0.0 c.from_residual-in_err-entries.ensures.1
     (text-fault c.in-Some-2.version (lines c.args.text.now) (texts c.in-Some.rest.now) c.in-Some.head.now.now c.in_err-entries.field-0.0 all head c.in_err-entries.ensures.err)

@@ -1,9 +1,9 @@
 use Rattle.std.proofs.Common.{◌≡◌, ◌==◌, ◌&&◌, ◌++◌, sym, ap, ◌∙◌, subst, inl, inr, codes, ◌∷◌}
+use Rattle.std.proofs.lemmas.Option.{MatchOption-at_some, MatchOption-at_none}
 use Rattle.std.specs.Prelude.{Some, None, not, ◌⊎◌}
 use Rattle.psg_deflines.specs.WrittenTerms.{WrittenTerm}
 use Rattle.psg_deflines.specs.LineReads.{IsFormRead}
 use Rattle.psg_deflines.specs.Forms.{tag}
-use Rattle.psg_deflines.proofs.Options.{when-some, when-none}
 use Rattle.psg_deflines.proofs.TermFormReads.{only-if, IsSingle, declare-kept, declare-deep, declare-other}
 use Rattle.psg_deflines.proofs.term_forms.declare_of.Goals.{in-Some, in-None}
 use Rattle.psg_deflines.proofs.term_forms.declare_of.Goals as goal
@@ -18,10 +18,10 @@ returns c = λ ps named kind h.
     only-if all _ c.match-both.read c.only_if.result c.only_if.ensures
     (λ e. elim c.match-both.branch [
       | in-Some w ↦
-          let inner = when-some Lost Found c.both.result w.in-Some.terms w.in-Some.ensures.0 c.both.ensures in
+          let inner = MatchOption-at_some Lost Found w.in-Some.terms w.in-Some.ensures.0 c.both.ensures in
           subst (IsFormRead all) (sym w.read-is)
           (declare-kept c.args.list ps kind c.args.tail c.args.space named h (sym flag ∙ e) c.one_of.result single w.in-Some.terms.0 w.in-Some.terms.1 w.in-Some.specimen inner.0 inner.1 (sym c.tree.ensures ∙ w.in-Some.ensures.1))
       | in-None w ↦ subst (IsFormRead all) (sym w.read-is) (declare-deep c.args.list ps kind c.args.tail c.args.space named h (sym flag ∙ e) c.one_of.result single
-          (elim w.in-None.ensures [ inl f ↦ inl (when-none Lost Found c.both.result f c.both.ensures) | inr f ↦ inr (sym c.tree.ensures ∙ f) ]))
+          (elim w.in-None.ensures [ inl f ↦ inl (MatchOption-at_none Lost Found f c.both.ensures) | inr f ↦ inr (sym c.tree.ensures ∙ f) ]))
     ])
     (λ e. declare-other c.args.list ps kind c.args.tail c.args.space h (sym flag ∙ e))

@@ -1,9 +1,9 @@
 use Rattle.psg_deflines.specs.Parts.{texts}
+use Rattle.std.proofs.lemmas.Option.{MatchOption-at_none}
 use Rattle.psg_deflines.specs.TailReads.{HasNoNamedTail, IsNamedTailFound}
-use Rattle.psg_deflines.proofs.Options.{when-none}
 use Rattle.psg_deflines.proofs.TermFormLaws.{cell-none}
 use Rattle.psg_deflines.proofs.term_forms.line_cell.Goals as goal
 
 pub returns-in-None : goal.returns-in-None
 returns-in-None c =
-    cell-none (texts c.args.parts.now) (when-none (HasNoNamedTail 2 (texts c.args.parts.now)) (λ r. IsNamedTailFound 2 (texts c.args.parts.now) r.0 r.1) c.in_ok-name.field-0 c.in-None.is c.in_ok-name.ensures)
+    cell-none (texts c.args.parts.now) (MatchOption-at_none (HasNoNamedTail 2 (texts c.args.parts.now)) (λ r. IsNamedTailFound 2 (texts c.args.parts.now) r.0 r.1) c.in-None.is c.in_ok-name.ensures)

@@ -1,9 +1,9 @@
 use Rattle.psg_deflines.specs.Parts.{texts}
+use Rattle.std.proofs.lemmas.Option.{MatchOption-at_none}
 use Rattle.psg_deflines.specs.TailReads.{HasNoNamedTail, IsNamedTailFound}
-use Rattle.psg_deflines.proofs.Options.{when-none}
 use Rattle.psg_deflines.proofs.TermFormLaws.{hole-none}
 use Rattle.psg_deflines.proofs.term_forms.line_hole.Goals as goal
 
 pub returns-in-None : goal.returns-in-None
 returns-in-None c =
-    hole-none (texts c.args.parts.now) (when-none (HasNoNamedTail 0 (texts c.args.parts.now)) (λ r. IsNamedTailFound 0 (texts c.args.parts.now) r.0 r.1) c.in_ok-name.field-0 c.in-None.is c.in_ok-name.ensures)
+    hole-none (texts c.args.parts.now) (MatchOption-at_none (HasNoNamedTail 0 (texts c.args.parts.now)) (λ r. IsNamedTailFound 0 (texts c.args.parts.now) r.0 r.1) c.in-None.is c.in_ok-name.ensures)

@@ -1,9 +1,9 @@
 use Rattle.std.proofs.Common.{ℕ, drop, refl, sym, ◌∙◌, subst, arith}
 use Rattle.std.proofs.lemmas.Bool.{false≢true}
+use Rattle.std.proofs.lemmas.Option.{MatchOption-at_some, MatchOption-at_none}
 use Rattle.psg_deflines.specs.Parts.{texts}
 use Rattle.psg_deflines.specs.TermWalks.{IsAdvanced, IsStepMade, HasNoStep, is_deep}
 use Rattle.psg_deflines.specs.declared.term_reading.Walk.{Walk}
-use Rattle.psg_deflines.proofs.Options.{when-some, when-none}
 use Rattle.psg_deflines.proofs.TermFound.{walked-start, walked-more, walked-none, walked-done, made-longer, texts-from, texts-length}
 use Rattle.psg_deflines.proofs.term_reading.line_term.Goals as goal
 
@@ -15,7 +15,7 @@ returns-in_default c =
     let h = c.steps.invariant.1 in
     let ps = texts c.args.parts.now in
     let none : HasNoStep h.stage (drop c.steps.taken ps) =
-    when-none (HasNoStep h.stage (drop c.steps.taken ps)) (λ (r : Walk × ℕ). IsStepMade h.stage (is_deep c.steps.walk) (drop c.steps.taken ps) r.0 r.1) c.in_ok-next.field-0 c.in_default.is
+    MatchOption-at_none (HasNoStep h.stage (drop c.steps.taken ps)) (λ (r : Walk × ℕ). IsStepMade h.stage (is_deep c.steps.walk) (drop c.steps.taken ps) r.0 r.1) c.in_default.is
     (subst (λ xs. IsAdvanced h.stage (is_deep c.steps.walk) xs c.in_ok-next.field-0) (texts-from c.args.parts.now c.steps.taken) (c.in_ok-next.ensures h.stage h.shown)) in
     walked-none ps c.steps.walk c.steps.taken h (λ d. false≢true (sym c.steps-test.true ∙ c.is_done.ensures.1 d)) none
 
@@ -24,7 +24,7 @@ steps-preserved c =
     let h = c.steps.invariant.1 in
     let ps = texts c.args.parts.now in
     let made : IsStepMade h.stage (is_deep c.steps.walk) (drop c.steps.taken ps) c.in-Some.next c.in-Some.more =
-    when-some (HasNoStep h.stage (drop c.steps.taken ps)) (λ (r : Walk × ℕ). IsStepMade h.stage (is_deep c.steps.walk) (drop c.steps.taken ps) r.0 r.1) c.in_ok-next.field-0 (c.in-Some.next, c.in-Some.more) c.in-Some.is
+    MatchOption-at_some (HasNoStep h.stage (drop c.steps.taken ps)) (λ (r : Walk × ℕ). IsStepMade h.stage (is_deep c.steps.walk) (drop c.steps.taken ps) r.0 r.1) (c.in-Some.next, c.in-Some.more) c.in-Some.is
     (subst (λ xs. IsAdvanced h.stage (is_deep c.steps.walk) xs c.in_ok-next.field-0) (texts-from c.args.parts.now c.steps.taken) (c.in_ok-next.ensures h.stage h.shown)) in
     let next = walked-more ps c.steps.walk c.in-Some.next c.steps.taken c.in-Some.more h made in
     (omega (arith, next.fits, texts-length c.args.parts.now), next)
@@ -34,7 +34,7 @@ steps-smaller c =
     let h = c.steps.invariant.1 in
     let ps = texts c.args.parts.now in
     let made : IsStepMade h.stage (is_deep c.steps.walk) (drop c.steps.taken ps) c.in-Some.next c.in-Some.more =
-    when-some (HasNoStep h.stage (drop c.steps.taken ps)) (λ (r : Walk × ℕ). IsStepMade h.stage (is_deep c.steps.walk) (drop c.steps.taken ps) r.0 r.1) c.in_ok-next.field-0 (c.in-Some.next, c.in-Some.more) c.in-Some.is
+    MatchOption-at_some (HasNoStep h.stage (drop c.steps.taken ps)) (λ (r : Walk × ℕ). IsStepMade h.stage (is_deep c.steps.walk) (drop c.steps.taken ps) r.0 r.1) (c.in-Some.next, c.in-Some.more) c.in-Some.is
     (subst (λ xs. IsAdvanced h.stage (is_deep c.steps.walk) xs c.in_ok-next.field-0) (texts-from c.args.parts.now c.steps.taken) (c.in_ok-next.ensures h.stage h.shown)) in
     let next = walked-more ps c.steps.walk c.in-Some.next c.steps.taken c.in-Some.more h made in
     omega (arith, made-longer h.stage (is_deep c.steps.walk) (drop c.steps.taken ps) c.in-Some.next c.in-Some.more made, next.fits, texts-length c.args.parts.now)

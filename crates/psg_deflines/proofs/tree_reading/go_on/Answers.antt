@@ -2,24 +2,24 @@ use Rattle.psg_deflines.specs.Parts.{texts}
 use Rattle.psg_deflines.specs.TreeWalks.{after, finished}
 use Rattle.psg_deflines.specs.TreePieces.{HasNoFinish, IsFinishRead}
 use Rattle.psg_deflines.specs.TreeStages.{IsLed}
-use Rattle.psg_deflines.proofs.Options.{when-some, when-none}
 use Rattle.psg_deflines.proofs.TreeMoves.{step-not-finished, step-finished-none, step-finished}
 use Rattle.std.proofs.Common.{◌≡◌}
+use Rattle.std.proofs.lemmas.Option.{MatchOption-at_some, MatchOption-at_none}
 use Rattle.std.specs.Prelude.{None}
 use Rattle.psg_deflines.proofs.tree_reading.go_on.Goals as goal
 
 pub returns-in_default : goal.returns-in_default
 returns-in_default c = λ fs h.
-    step-not-finished fs (texts c.args.parts.now) (when-none (HasNoFinish (texts c.args.parts.now)) (IsFinishRead (texts c.args.parts.now)) c.in_ok-read.field-0 c.in_default.is c.in_ok-read.ensures)
+    step-not-finished fs (texts c.args.parts.now) (MatchOption-at_none (HasNoFinish (texts c.args.parts.now)) (IsFinishRead (texts c.args.parts.now)) c.in_default.is c.in_ok-read.ensures)
 
 pub returns-in_default-2 : goal.returns-in_default-2
 returns-in_default-2 c = λ fs h.
-    let read = when-some (HasNoFinish (texts c.args.parts.now)) (IsFinishRead (texts c.args.parts.now)) c.in_ok-read.field-0 c.in-Some.read c.in-Some.is c.in_ok-read.ensures in
+    let read = MatchOption-at_some (HasNoFinish (texts c.args.parts.now)) (IsFinishRead (texts c.args.parts.now)) c.in-Some.read c.in-Some.is c.in_ok-read.ensures in
     step-finished-none fs (texts c.args.parts.now) c.in-Some.read read
-    (when-none (finished fs read.finish ≡ None) (IsLed (after fs) (finished fs read.finish) c.args.trees.deep) c.in_ok-walk.field-0 c.in_default-2.is (c.in_ok-walk.ensures fs read.finish h read.shown))
+    (MatchOption-at_none (finished fs read.finish ≡ None) (IsLed (after fs) (finished fs read.finish) c.args.trees.deep) c.in_default-2.is (c.in_ok-walk.ensures fs read.finish h read.shown))
 
 pub returns : goal.returns
 returns c = λ fs h.
-    let read = when-some (HasNoFinish (texts c.args.parts.now)) (IsFinishRead (texts c.args.parts.now)) c.in_ok-read.field-0 c.in-Some.read c.in-Some.is c.in_ok-read.ensures in
+    let read = MatchOption-at_some (HasNoFinish (texts c.args.parts.now)) (IsFinishRead (texts c.args.parts.now)) c.in-Some.read c.in-Some.is c.in_ok-read.ensures in
     step-finished fs c.args.trees.deep (texts c.args.parts.now) c.in-Some.read read c.in-Some-2.walk
-    (when-some (finished fs read.finish ≡ None) (IsLed (after fs) (finished fs read.finish) c.args.trees.deep) c.in_ok-walk.field-0 c.in-Some-2.walk c.in-Some-2.is (c.in_ok-walk.ensures fs read.finish h read.shown))
+    (MatchOption-at_some (finished fs read.finish ≡ None) (IsLed (after fs) (finished fs read.finish) c.args.trees.deep) c.in-Some-2.walk c.in-Some-2.is (c.in_ok-walk.ensures fs read.finish h read.shown))

@@ -1,9 +1,9 @@
 use Rattle.std.proofs.Common.{rules, ℕ, ◌≤◌, length, drop, refl, sym, ◌∙◌, subst, arith, ◌+◌}
 use Rattle.std.proofs.lemmas.Bool.{false≢true}
+use Rattle.std.proofs.lemmas.Option.{MatchOption-at_some, MatchOption-at_none}
 use Rattle.psg_deflines.specs.Parts.{texts}
 use Rattle.psg_deflines.specs.TreeStages.{IsTreeAdvanced, IsTreeStepMade, HasNoTreeStep, is_deep}
 use Rattle.psg_deflines.specs.declared.tree_reading.TreeWalk.{TreeWalk}
-use Rattle.psg_deflines.proofs.Options.{when-some, when-none}
 use Rattle.psg_deflines.proofs.TermFound.{texts-from, texts-length}
 use Rattle.psg_deflines.proofs.TreeFound.{walked-start, walked-more, walked-none, walked-done, made-longer}
 use Rattle.psg_deflines.proofs.tree_reading.line_tree.Goals as goal
@@ -16,7 +16,7 @@ returns-in_default c =
     let h = c.steps.invariant.1 in
     let ps = texts c.args.parts.now in
     let none : HasNoTreeStep h.stage (drop c.steps.taken ps) =
-    when-none (HasNoTreeStep h.stage (drop c.steps.taken ps)) (λ (r : TreeWalk × ℕ). IsTreeStepMade h.stage (is_deep c.steps.walk) (drop c.steps.taken ps) r.0 r.1) c.in_ok-next.field-0 c.in_default.is
+    MatchOption-at_none (HasNoTreeStep h.stage (drop c.steps.taken ps)) (λ (r : TreeWalk × ℕ). IsTreeStepMade h.stage (is_deep c.steps.walk) (drop c.steps.taken ps) r.0 r.1) c.in_default.is
     (subst (λ xs. IsTreeAdvanced h.stage (is_deep c.steps.walk) xs c.in_ok-next.field-0) (texts-from c.args.parts.now c.steps.taken) (c.in_ok-next.ensures h.stage h.shown)) in
     walked-none ps c.steps.walk c.steps.taken h (λ d. false≢true (sym c.steps-test.true ∙ c.is_done.ensures.1 d)) none
 
@@ -25,7 +25,7 @@ steps-preserved c =
     let h = c.steps.invariant.1 in
     let ps = texts c.args.parts.now in
     let made : IsTreeStepMade h.stage (is_deep c.steps.walk) (drop c.steps.taken ps) c.in-Some.next c.in-Some.more =
-    when-some (HasNoTreeStep h.stage (drop c.steps.taken ps)) (λ (r : TreeWalk × ℕ). IsTreeStepMade h.stage (is_deep c.steps.walk) (drop c.steps.taken ps) r.0 r.1) c.in_ok-next.field-0 (c.in-Some.next, c.in-Some.more) c.in-Some.is
+    MatchOption-at_some (HasNoTreeStep h.stage (drop c.steps.taken ps)) (λ (r : TreeWalk × ℕ). IsTreeStepMade h.stage (is_deep c.steps.walk) (drop c.steps.taken ps) r.0 r.1) (c.in-Some.next, c.in-Some.more) c.in-Some.is
     (subst (λ xs. IsTreeAdvanced h.stage (is_deep c.steps.walk) xs c.in_ok-next.field-0) (texts-from c.args.parts.now c.steps.taken) (c.in_ok-next.ensures h.stage h.shown)) in
     let next = walked-more ps c.steps.walk c.in-Some.next c.steps.taken c.in-Some.more h made in
     (omega (arith, next.fits, texts-length c.args.parts.now), next)
@@ -35,7 +35,7 @@ steps-smaller c =
     let h = c.steps.invariant.1 in
     let ps = texts c.args.parts.now in
     let made : IsTreeStepMade h.stage (is_deep c.steps.walk) (drop c.steps.taken ps) c.in-Some.next c.in-Some.more =
-    when-some (HasNoTreeStep h.stage (drop c.steps.taken ps)) (λ (r : TreeWalk × ℕ). IsTreeStepMade h.stage (is_deep c.steps.walk) (drop c.steps.taken ps) r.0 r.1) c.in_ok-next.field-0 (c.in-Some.next, c.in-Some.more) c.in-Some.is
+    MatchOption-at_some (HasNoTreeStep h.stage (drop c.steps.taken ps)) (λ (r : TreeWalk × ℕ). IsTreeStepMade h.stage (is_deep c.steps.walk) (drop c.steps.taken ps) r.0 r.1) (c.in-Some.next, c.in-Some.more) c.in-Some.is
     (subst (λ xs. IsTreeAdvanced h.stage (is_deep c.steps.walk) xs c.in_ok-next.field-0) (texts-from c.args.parts.now c.steps.taken) (c.in_ok-next.ensures h.stage h.shown)) in
     let next = walked-more ps c.steps.walk c.in-Some.next c.steps.taken c.in-Some.more h made in
     omega (arith, made-longer h.stage (is_deep c.steps.walk) (drop c.steps.taken ps) c.in-Some.next c.in-Some.more made, next.fits, texts-length c.args.parts.now)
@@ -48,7 +48,7 @@ overflow_add-taken c =
     let h = c.steps.invariant.1 in
     let ps = texts c.args.parts.now in
     let made : IsTreeStepMade h.stage (is_deep c.steps.walk) (drop c.steps.taken ps) c.in-Some.next c.in-Some.more =
-    when-some (HasNoTreeStep h.stage (drop c.steps.taken ps)) (λ (r : TreeWalk × ℕ). IsTreeStepMade h.stage (is_deep c.steps.walk) (drop c.steps.taken ps) r.0 r.1) c.in_ok-next.field-0 (c.in-Some.next, c.in-Some.more) c.in-Some.is
+    MatchOption-at_some (HasNoTreeStep h.stage (drop c.steps.taken ps)) (λ (r : TreeWalk × ℕ). IsTreeStepMade h.stage (is_deep c.steps.walk) (drop c.steps.taken ps) r.0 r.1) (c.in-Some.next, c.in-Some.more) c.in-Some.is
     (subst (λ xs. IsTreeAdvanced h.stage (is_deep c.steps.walk) xs c.in_ok-next.field-0) (texts-from c.args.parts.now c.steps.taken) (c.in_ok-next.ensures h.stage h.shown)) in
     let next = walked-more ps c.steps.walk c.in-Some.next c.steps.taken c.in-Some.more h made in
     let small : c.steps.taken + c.in-Some.more ≤ length c.args.parts.now = omega (arith, next.fits, texts-length c.args.parts.now) in

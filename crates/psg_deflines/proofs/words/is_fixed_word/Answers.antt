@@ -1,11 +1,11 @@
 use Rattle.std.proofs.Common.{◌≡◌, ◌≢◌, false, [], ◌∷◌, length, sym, subst, ap, ◌∙◌}
 use Rattle.std.specs.Prelude.{IsTrue, ◌↔◌, chars}
 use Rattle.std.proofs.lemmas.Bool.{false≢true}
+use Rattle.std.proofs.lemmas.Result.{IfOk-weaker}
 use Rattle.psg_lexis.specs.Tokens.{HasTokens, IsFixedWord}
 use Rattle.psg_lexis.specs.declared.token.LexFault.TheVariants.{Memory}
 use Rattle.psg_deflines.specs.FixedTokens.{IsOneToken}
 use Rattle.psg_deflines.proofs.FixedLaws.{word-from-token, token-from-word}
-use Rattle.psg_deflines.proofs.Options.{ok-from}
 use Rattle.psg_deflines.proofs.words.is_fixed_word.Goals as goal
 
 pub returns-in-Ok : goal.returns-in-Ok
@@ -26,7 +26,7 @@ returns c =
     let same : c.as_str-text.result.now ≡ c.args.word.now = c.as_str-text.ensures in
     let fixed : c.in_ok-lexis.lexis ≡ c.as_str-text.result.now ∷ [] =
     c.in_ok-lexis.ensures.words ∙ c.as_slice.ensures.value ∙ c.in_ok-words.ensures.items ∙ ap (λ x. x ∷ []) (c.in_ok-share.ensures ∙ sym same) in
-    ok-from (λ b. (b ≡ false) × (c.in-Err.fault ≢ Memory)) (λ b. IsTrue b ↔ IsFixedWord c.args.word.now) c.unless_memory.result
+    IfOk-weaker c.unless_memory.result (λ b. (b ≡ false) × (c.in-Err.fault ≢ Memory)) (λ b. IsTrue b ↔ IsFixedWord c.args.word.now)
     (λ b e. (
       λ h. absurd (false≢true (sym e.0 ∙ h)),
       λ h.

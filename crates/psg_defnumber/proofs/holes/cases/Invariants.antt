@@ -7,5 +7,5 @@ use Rattle.psg_defnumber.proofs.holes.cases.Given as goal
 
 abbrev pub invariant-loop-entry : goal.invariant-loop-entry
 invariant-loop-entry l =
-    ReadsTo l.def (ReadsCases l.kind l.sort.0) l.behind l.made.items (drop l.entry-index l.behind)
-    × CasesFit l.checked l.kind (written (drop l.entry-index l.behind))
+    ReadsTo l.definition (ReadsCases l.kind l.sort.0) l.behind l.made.items (drop l.entry-index l.behind)
+    × CasesFit l.checked l.kind l.sort.0 (written (drop l.entry-index l.behind))

@@ -9,8 +9,8 @@ put_declare_row-requires-clause-known c = known-at c.args.checked.now c.args.ent
 
 pub loop-entry-preserved : goal.loop-entry-preserved
 loop-entry-preserved c =
-    reads-next c.args.def.now ReadsDeclareRows c.args.entries.now c.loop-entry.entry-index c.entry-item.result c.loop-entry.made.items c.put_declare_row.new.made.items c.loop-entry-test.true c.entry-item.is c.loop-entry.invariant
+    reads-next c.args.definition.now ReadsDeclareRows c.args.entries.now c.loop-entry.entry-index c.entry-item.result c.loop-entry.made.items c.put_declare_row.new.made.items c.loop-entry-test.true c.entry-item.is c.loop-entry.invariant
     (c.in_ok-put_declare_row.ensures (drop (c.loop-entry.entry-index + 1) c.args.entries.now))
 
 pub returns : goal.returns
-returns c = reads-end c.args.def.now ReadsDeclareRows c.args.entries.now c.loop-entry.entry-index c.loop-entry.made.items c.loop-entry-test.false (λ full. refl) c.loop-entry.invariant
+returns c = reads-end c.args.definition.now ReadsDeclareRows c.args.entries.now c.loop-entry.entry-index c.loop-entry.made.items c.loop-entry-test.false (λ full. refl) c.loop-entry.invariant

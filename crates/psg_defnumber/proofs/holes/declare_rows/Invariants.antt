@@ -4,4 +4,4 @@ use Rattle.psg_defnumber.proofs.PutLaws.{ReadsTo}
 use Rattle.psg_defnumber.proofs.holes.declare_rows.Given as goal
 
 abbrev pub invariant-loop-entry : goal.invariant-loop-entry
-invariant-loop-entry l = ReadsTo l.def ReadsDeclareRows l.entries l.made.items (drop l.entry-index l.entries)
+invariant-loop-entry l = ReadsTo l.definition ReadsDeclareRows l.entries l.made.items (drop l.entry-index l.entries)

@@ -14,8 +14,8 @@ case-requires-clause-term c = (known-line c.args.checked.now c.args.entry.now c.
 
 pub case-requires-clause-fits : goal.case-requires-clause-fits
 case-requires-clause-fits c =
-    (subst (λ e. CasesFit c.args.checked.now c.args.kind (written (e ∷ []))) (c.in-Some.is ∙ ap Some c.in-Case.is) c.requires.fits).0
+    (subst (λ e. CasesFit c.args.checked.now c.args.kind c.args.sort.0 (written (e ∷ []))) (c.in-Some.is ∙ ap Some c.in-Case.is) c.requires.fits).0
 
 pub returns : goal.returns
 returns c = λ rest.
-    case-put c.args.def.now c.args.kind c.args.sort.0 c.args.entry.now c.in-Some.line c.in-Case.term c.in-Case.specimen rest c.args.made.now.items c.push.new.self.items c.in_ok-one.one c.in-Some.is c.in-Case.is c.in_ok-push.ensures.items c.in_ok-one.ensures
+    case-put c.args.definition.now c.args.kind c.args.sort.0 c.args.entry.now c.in-Some.line c.in-Case.term c.in-Case.specimen rest c.args.made.now.items c.push.new.self.items c.in_ok-one.one c.in-Some.is c.in-Case.is c.in_ok-push.ensures.items c.in_ok-one.ensures

@@ -18,7 +18,10 @@ hole_row-requires-clause-term c = (known-line c.args.checked.now c.args.entry.no
 
 pub hole_row-requires-clause-sorted : goal.hole_row-requires-clause-sorted
 hole_row-requires-clause-sorted c =
-    let sorted = (meant-line c.args.checked.now c.args.entry.now c.in-Some.line (lines.Hole c.in-Hole.kind c.in-Hole.term c.in-Hole.specimen) c.requires.known c.in-Some.is c.in-Hole.is).sorted in (sorted.0, sorted.1.1)
+    let sorted = (meant-line c.args.checked.now c.args.entry.now c.in-Some.line (lines.Hole c.in-Hole.kind c.in-Hole.term c.in-Hole.specimen) c.requires.known c.in-Some.is c.in-Hole.is).sorted in (sorted.0, sorted.1.0, sorted.1.1)
+
+pub hole_row-requires-clause-form : goal.hole_row-requires-clause-form
+hole_row-requires-clause-form c = (meant-line c.args.checked.now c.args.entry.now c.in-Some.line (lines.Hole c.in-Hole.kind c.in-Hole.term c.in-Hole.specimen) c.requires.known c.in-Some.is c.in-Hole.is).form.2
 
 pub hole_row-requires-clause-passed : goal.hole_row-requires-clause-passed
 hole_row-requires-clause-passed c =
@@ -31,4 +34,4 @@ hole_row-requires-clause-passed c =
 
 pub returns : goal.returns
 returns c =
-    hole-put c.args.def.now c.args.entry.now c.in-Some.line c.in-Hole.kind c.in-Hole.term c.in-Hole.specimen c.args.behind.now c.args.made.now.items c.push.new.self.items c.in_ok-one.one c.in-Some.is c.in-Hole.is c.in_ok-push.ensures.items c.in_ok-one.ensures
+    hole-put c.args.definition.now c.args.entry.now c.in-Some.line c.in-Hole.kind c.in-Hole.term c.in-Hole.specimen c.args.behind.now c.args.made.now.items c.push.new.self.items c.in_ok-one.one c.in-Some.is c.in-Hole.is c.in_ok-push.ensures.items c.in_ok-one.ensures

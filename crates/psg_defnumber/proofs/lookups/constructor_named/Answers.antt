@@ -1,5 +1,4 @@
 use Rattle.std.proofs.Common.{◌≡◌, ap, ◌∙◌, sym, subst, Some, is_some, slice_get, length, ◌<◌}
-use Rattle.std.proofs.lemmas.Bool.{eqb-true}
 use Rattle.psg_terms.specs.Signature.{Symbol}
 use Rattle.psg_defcheck.specs.Scopes.{constructor_declared, constructor_names}
 use Rattle.psg_defnumber.proofs.NamedLaws.{named-below, symbol-is}
@@ -10,20 +9,14 @@ constructor-place-requires c = ap (λ n. is_some (constructor_declared c.args.ch
 
 pub constructor_at-con-requires : goal.constructor_at-con-requires
 constructor_at-con-requires c =
-    named-below (λ (s : Symbol). s.name) c.args.sig.now.symbols (constructor_names c.args.checked.now) c.constructor-place.result c.as_str.result.now c.requires.constructors c.constructor-place.ensures
+    named-below (λ (s : Symbol). s.name) c.args.sig.now.symbols (constructor_names c.args.checked.now) c.constructor-place.result c.as_str.result.now c.requires.constructors.names c.constructor-place.ensures
 
 pub constructor-own-requires : goal.constructor-own-requires
 constructor-own-requires c =
     subst (λ p. p < length c.args.sig.now.symbols) (sym c.constructor_at-con.ensures)
-    (named-below (λ (s : Symbol). s.name) c.args.sig.now.symbols (constructor_names c.args.checked.now) c.constructor-place.result c.as_str.result.now c.requires.constructors c.constructor-place.ensures)
-
-pub sort_of-requires : goal.sort_of-requires
-sort_of-requires c =
-    subst (λ p. p < length c.args.sig.now.symbols) (sym c.constructor_at-con.ensures)
-    (named-below (λ (s : Symbol). s.name) c.args.sig.now.symbols (constructor_names c.args.checked.now) c.constructor-place.result c.as_str.result.now c.requires.constructors c.constructor-place.ensures)
+    (named-below (λ (s : Symbol). s.name) c.args.sig.now.symbols (constructor_names c.args.checked.now) c.constructor-place.result c.as_str.result.now c.requires.constructors.names c.constructor-place.ensures)
 
 pub returns : goal.returns
 returns c =
-    symbol-is c.args.sig.now (constructor_names c.args.checked.now) c.constructor_at-con.result.0 c.as_str.result.now c.args.name.now _ _ _ _ c.args.sort.0 c.requires.constructors
-    (subst (λ p. slice_get (constructor_names c.args.checked.now) p ≡ Some c.as_str.result.now) (sym c.constructor_at-con.ensures) c.constructor-place.ensures) c.as_str.ensures c.constructor-own.ensures.1 c.sort_of.ensures.1
-    (c.sort_of.ensures.2 ∙ eqb-true _ _ (sym c.eq.ensures ∙ c.in_ok-holds.ensures))
+    symbol-is c.args.sig.now (constructor_names c.args.checked.now) c.constructor_at-con.result.0 c.as_str.result.now c.args.name.now _ _ _ c.requires.constructors.names
+    (subst (λ p. slice_get (constructor_names c.args.checked.now) p ≡ Some c.as_str.result.now) (sym c.constructor_at-con.ensures) c.constructor-place.ensures) c.as_str.ensures c.constructor-own.ensures.1

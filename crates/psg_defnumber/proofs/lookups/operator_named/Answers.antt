@@ -14,5 +14,5 @@ bounds-operators-number c =
 
 pub returns : goal.returns
 returns c =
-    operator-is c.args.checked.now c.operator-number.result c.args.name.now c.args.def.now c.index-operators-number.result (c.operator-number.ensures ∙ ap Some c.as_str.ensures) c.requires.names
+    operator-is c.args.checked.now c.operator-number.result c.args.name.now c.args.definition.now c.index-operators-number.result (c.operator-number.ensures ∙ ap Some c.as_str.ensures) c.requires.names
     (c.index-operators-number.is ∙ ap (λ l. get_or l c.operator-number.result c.index-operators-number.result) c.as_slice-operators.ensures)

@@ -15,15 +15,15 @@ space_named-space-requires-in-Declares c = subst (KnowsItem c.args.checked.now) 
 
 pub returns-in-Slot : goal.returns-in-Slot
 returns-in-Slot c =
-    slot-item c.args.def.now c.args.part.now c.in-Slot.name c.kind_named-kind.result c.in-Slot.is
-    (kind-is c.args.checked.now c.kind_named-kind.result c.in-Slot.name c.kind_named-kind.ensures c.args.def.now c.requires.kinds)
+    slot-item c.args.definition.now c.args.part.now c.in-Slot.name c.kind_named-kind.result c.in-Slot.is
+    (kind-is c.args.checked.now c.kind_named-kind.result c.in-Slot.name c.kind_named-kind.ensures c.args.definition.now c.requires.kinds)
 
 pub returns-in-Refers : goal.returns-in-Refers
 returns-in-Refers c =
-    refers-item c.args.def.now c.args.part.now c.in-Refers.name c.space_named-space.result c.in-Refers.is
-    (space-is c.args.checked.now c.space_named-space.result c.in-Refers.name c.space_named-space.ensures c.args.def.now c.requires.kinds)
+    refers-item c.args.definition.now c.args.part.now c.in-Refers.name c.space_named-space.result c.in-Refers.is
+    (space-is c.args.checked.now c.space_named-space.result c.in-Refers.name c.space_named-space.ensures c.args.definition.now c.requires.kinds)
 
 pub returns-in-Declares : goal.returns-in-Declares
 returns-in-Declares c =
-    declares-item c.args.def.now c.args.part.now c.in-Declares.name c.space_named-space-in-Declares.result c.in-Declares.is
-    (space-is c.args.checked.now c.space_named-space-in-Declares.result c.in-Declares.name c.space_named-space-in-Declares.ensures c.args.def.now c.requires.kinds)
+    declares-item c.args.definition.now c.args.part.now c.in-Declares.name c.space_named-space-in-Declares.result c.in-Declares.is
+    (space-is c.args.checked.now c.space_named-space-in-Declares.result c.in-Declares.name c.space_named-space-in-Declares.ensures c.args.definition.now c.requires.kinds)

@@ -11,8 +11,8 @@ item-requires-clause-known c = all-at (KnowsItem c.args.checked.now) c.args.part
 
 pub loop-part-preserved : goal.loop-part-preserved
 loop-part-preserved c =
-    reads-next c.args.def.now ReadsItems c.args.parts.now c.loop-part.part-index c.part-item.result c.loop-part.made.items c.push.new.self.items c.loop-part-test.true c.part-item.is c.loop-part.invariant
-    (item-put c.args.def.now c.part-item.result (drop (c.loop-part.part-index + 1) c.args.parts.now) c.loop-part.made.items c.push.new.self.items c.in_ok-one.one c.in_ok-push.ensures.items c.in_ok-one.ensures)
+    reads-next c.args.definition.now ReadsItems c.args.parts.now c.loop-part.part-index c.part-item.result c.loop-part.made.items c.push.new.self.items c.loop-part-test.true c.part-item.is c.loop-part.invariant
+    (item-put c.args.definition.now c.part-item.result (drop (c.loop-part.part-index + 1) c.args.parts.now) c.loop-part.made.items c.push.new.self.items c.in_ok-one.one c.in_ok-push.ensures.items c.in_ok-one.ensures)
 
 pub returns : goal.returns
-returns c = reads-end c.args.def.now ReadsItems c.args.parts.now c.loop-part.part-index c.loop-part.made.items c.loop-part-test.false (λ full. refl) c.loop-part.invariant
+returns c = reads-end c.args.definition.now ReadsItems c.args.parts.now c.loop-part.part-index c.loop-part.made.items c.loop-part-test.false (λ full. refl) c.loop-part.invariant

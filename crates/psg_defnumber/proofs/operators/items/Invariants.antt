@@ -4,4 +4,4 @@ use Rattle.psg_defnumber.proofs.PutLaws.{ReadsTo}
 use Rattle.psg_defnumber.proofs.operators.items.Given as goal
 
 abbrev pub invariant-loop-part : goal.invariant-loop-part
-invariant-loop-part l = ReadsTo l.def ReadsItems l.parts l.made.items (drop l.part-index l.parts)
+invariant-loop-part l = ReadsTo l.definition ReadsItems l.parts l.made.items (drop l.part-index l.parts)

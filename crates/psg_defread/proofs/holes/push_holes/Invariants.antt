@@ -5,4 +5,4 @@ use Rattle.psg_defread.proofs.holes.push_holes.Given as goal
 
 abbrev pub invariant-loop-i : goal.invariant-loop-i
 invariant-loop-i l =
-    l.out.items ++ flat_map (hole_lines l.def) (drop l.i l.rows) ≡ l.initial.out.items ++ flat_map (hole_lines l.def) l.rows
+    l.out.items ++ flat_map (hole_lines l.definition) (drop l.i l.rows) ≡ l.initial.out.items ++ flat_map (hole_lines l.definition) l.rows

@@ -4,4 +4,4 @@ use Rattle.psg_defread.proofs.kinds.push_phyla.Given as goal
 
 abbrev pub invariant-loop-i : goal.invariant-loop-i
 invariant-loop-i l =
-    l.out.items ++ map (phylum_line l.def) (drop l.i l.phyla) ≡ l.initial.out.items ++ map (phylum_line l.def) l.phyla
+    l.out.items ++ map (phylum_line l.definition) (drop l.i l.phyla) ≡ l.initial.out.items ++ map (phylum_line l.definition) l.phyla

@@ -4,4 +4,4 @@ use Rattle.psg_defread.proofs.kinds.push_spaces.Given as goal
 
 abbrev pub invariant-loop-i : goal.invariant-loop-i
 invariant-loop-i l =
-    l.out.items ++ map (space_line l.def) (drop l.i l.spaces) ≡ l.initial.out.items ++ map (space_line l.def) l.spaces
+    l.out.items ++ map (space_line l.definition) (drop l.i l.spaces) ≡ l.initial.out.items ++ map (space_line l.definition) l.spaces

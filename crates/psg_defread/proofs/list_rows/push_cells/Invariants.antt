@@ -5,4 +5,4 @@ use Rattle.psg_defread.proofs.list_rows.push_cells.Given as goal
 
 abbrev pub invariant-loop-i : goal.invariant-loop-i
 invariant-loop-i l =
-    l.out.items ++ flat_map (cell_lines l.def) (drop l.i l.lists) ≡ l.initial.out.items ++ flat_map (cell_lines l.def) l.lists
+    l.out.items ++ flat_map (cell_lines l.definition) (drop l.i l.lists) ≡ l.initial.out.items ++ flat_map (cell_lines l.definition) l.lists

@@ -5,4 +5,4 @@ use Rattle.psg_defread.proofs.list_rows.push_nils.Given as goal
 
 abbrev pub invariant-loop-i : goal.invariant-loop-i
 invariant-loop-i l =
-    l.out.items ++ flat_map (nil_lines l.def) (drop l.i l.lists) ≡ l.initial.out.items ++ flat_map (nil_lines l.def) l.lists
+    l.out.items ++ flat_map (nil_lines l.definition) (drop l.i l.lists) ≡ l.initial.out.items ++ flat_map (nil_lines l.definition) l.lists

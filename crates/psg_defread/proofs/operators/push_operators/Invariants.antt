@@ -5,4 +5,4 @@ use Rattle.psg_defread.proofs.operators.push_operators.Given as goal
 
 abbrev pub invariant-loop-i : goal.invariant-loop-i
 invariant-loop-i l =
-    l.out.items ++ flat_map (operator_lines l.def) (drop l.i l.operators) ≡ l.initial.out.items ++ flat_map (operator_lines l.def) l.operators
+    l.out.items ++ flat_map (operator_lines l.definition) (drop l.i l.operators) ≡ l.initial.out.items ++ flat_map (operator_lines l.definition) l.operators

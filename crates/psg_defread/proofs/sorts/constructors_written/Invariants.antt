@@ -5,5 +5,5 @@ use Rattle.psg_defread.proofs.sorts.constructors_written.Given as goal
 
 abbrev pub invariant-loop-i : goal.invariant-loop-i
 invariant-loop-i l =
-    l.written.items ++ map (constructor_at l.def) (con_numbers (drop l.i l.ids))
-    ≡ map (constructor_at l.def) (con_numbers l.ids)
+    l.written.items ++ map (constructor_at l.definition) (con_numbers (drop l.i l.ids))
+    ≡ map (constructor_at l.definition) (con_numbers l.ids)

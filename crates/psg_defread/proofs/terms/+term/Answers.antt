@@ -14,7 +14,7 @@ term_written-terms_written-requires t c =
 
 pub term_written-returns-in_ok-made-in-Con : goal.term_written-returns-in_ok-made-in-Con
 term_written-returns-in_ok-made-in-Con t c =
-    con-written c.args.def.now c.args.term.now c.in-Con.con.0 c.in-Con.args c.as_slice.result.now
+    con-written c.args.definition.now c.args.term.now c.in-Con.con.0 c.in-Con.args c.as_slice.result.now
     c.in_ok-written-in-Con.written.items c.in_ok-made-in-Con.made (sym c.node.ensures ∙ ap term_of c.in-Con.is)
     c.as_slice.ensures c.in_ok-written-in-Con.ensures c.in_ok-made-in-Con.ensures
 

@@ -11,4 +11,4 @@ decreases-terms_written l = sizes l.terms.now
 
 abbrev pub invariant-terms_written-loop-i : goal.invariant-terms_written-loop-i
 invariant-terms_written-loop-i l =
-    l.written.items ++ map (term_written l.def) (drop l.i l.terms) ≡ map (term_written l.def) l.terms
+    l.written.items ++ map (term_written l.definition) (drop l.i l.terms) ≡ map (term_written l.definition) l.terms
