@@ -1,5 +1,6 @@
 -- What can begin some parts, by the first of them.
-use Rattle.std.proofs.Common.{◌≡◌, ◌⊎◌, inl, inr, ℕ, zero, suc, ◌+◌, ◌<◌, true, false, List, [], ◌∷◌, ◌++◌, length, take, drop, get_or, Some, None, refl, ap, sym, ◌∙◌, subst, arith, add-one, true≢false}
+use Rattle.std.proofs.Common.{◌≡◌, ◌⊎◌, inl, inr, ℕ, ◌+◌, ◌<◌, true, false, List, [], ◌∷◌, ◌++◌, length, take, drop, get_or, Some, None, refl, ap, sym, ◌∙◌, subst, arith, add-one, true≢false}
+use Rattle.std.proofs.Math.Seq.{split_at as split_suc}
 use Rattle.psg_grammar.specs.declared.types.Kind.{Kind}
 use Rattle.psg_grammar.specs.declared.types.Kind.TheVariants as kinds
 use Rattle.psg_class.specs.declared.grid.Cell.{Cell}
@@ -10,11 +11,6 @@ use Rattle.psg_class.specs.declared.sources.Rows.{Rows}
 use Rattle.psg_class.specs.declared.sources.Draft.{Draft}
 use Rattle.psg_class.specs.Sources.{Adds, NoLink, OneCell, Either, IsRows, IsKind, IsPartOf, IsShapeOf, LeadFact, IsOnly, TokenIn, SlotIn, can_end, BeginFact, BeginLink, first_row, kind_index, is_phylum_kind}
 use Rattle.psg_class.proofs.Drafts.{adds_as, adds_both}
-
-split_suc : {X : Type 0} (xs : List X) (n : ℕ) (d : X) → n < length xs → xs ≡ take n xs ++ get_or xs n d ∷ drop (suc n) xs
-split_suc [] n d h = absurd (omega arith)
-split_suc (x ∷ xs) zero d h = refl
-split_suc (x ∷ xs) (suc n) d h = ap (λ l. x ∷ l) (split_suc xs n d (omega arith))
 
 pub split_at : {X : Type 0} (xs : List X) (n : ℕ) (d : X) → n < length xs → xs ≡ take n xs ++ get_or xs n d ∷ drop (n + 1) xs
 split_at xs n d h = split_suc xs n d h ∙ ap (λ k. take n xs ++ get_or xs n d ∷ drop k xs) (sym (add-one n))

@@ -1,6 +1,9 @@
 -- Led operators and lists, by the sets of what can stand behind them.
-use Rattle.std.proofs.Common.{◌≡◌, inl, inr, ℕ, suc, ◌+◌, ◌<◌, ◌||◌, ◌&&◌, ◌==◌, Bool, true, false, List, [], ◌∷◌, length, map, Option, Some, None, slice_get, is_some, refl, ap, ap₂, sym, ◌∙◌, subst, arith, true≢false, eqb-true, eq-eqb}
+use Rattle.std.proofs.Common.{◌≡◌, inl, inr, ℕ, ◌+◌, ◌<◌, ◌||◌, ◌&&◌, ◌==◌, Bool, true, false, List, [], ◌∷◌, length, map, Option, Some, None, slice_get, is_some, refl, ap, ap₂, sym, ◌∙◌, subst, arith, true≢false, eqb-true, eq-eqb}
 use Rattle.std.proofs.lemmas.Bool.{and_from, and_parts, cases_Bool, or_cases, or_left, or_right}
+use Rattle.std.proofs.lemmas.Option.{slice_get_within, same_Some}
+use Rattle.std.proofs.lemmas.List.{length-map}
+use Rattle.psg_terms.proofs.Lists.{each_at, slice_get-map_some}
 use Rattle.std.specs.Prelude.{◌↔◌, IfSome, Vec, Contains}
 use Rattle.std.specs.declared.alloc.Global.{Global}
 use Rattle.psg_terms.specs.Names.{Name, is_among}
@@ -9,13 +12,12 @@ use Rattle.psg_grammar.specs.declared.types.Kind.TheVariants as kinds
 use Rattle.psg_grammar.specs.declared.types.Phylum.{Phylum}
 use Rattle.psg_grammar.specs.declared.types.ListKind.{ListKind}
 use Rattle.psg_grammar.specs.declared.types.Definition.{Definition}
-use Rattle.psg_grammar.specs.Declaring.{Declares, is_declaring}
+use Rattle.psg_grammar.specs.Declaring.{Declares, is_declaring, HasHoles}
 use Rattle.psg_grammar.specs.DeclaringTables.{AreSpacesOf}
 use Rattle.psg_grammar.specs.Sound.{IsListKind}
 use Rattle.psg_grammar.specs.WellFormed.{fixed_words, operator_words, separators}
-use Rattle.psg_grammar.proofs.SoundParts.{each_at}
 use Rattle.psg_class.specs.Terminals.{Terminal, fixed, open_bracket, close_bracket}
-use Rattle.psg_class.specs.Follow.{HasHoles, FirstOfList, first_element, first_more, Follow}
+use Rattle.psg_class.specs.Follow.{FirstOfList, first_element, first_more, Follow}
 use Rattle.psg_class.specs.Class.{LedFollows, led_behind, ListEnd, separator_behind, first_behind}
 use Rattle.psg_class.specs.Numbers.{number_of, is_number_before, word_number}
 use Rattle.psg_class.specs.Shapes.{shape_of}
@@ -31,8 +33,7 @@ use Rattle.psg_class.specs.declared.shape.Shape.{Shape}
 use Rattle.psg_class.specs.declared.sources.Rows.{Rows}
 use Rattle.psg_class.specs.declared.behind.Sets.{Sets}
 use Rattle.psg_class.proofs.WordLaws.{number_found}
-use Rattle.psg_class.proofs.FormCells.{get_inside}
-use Rattle.psg_class.proofs.FormLaws.{get_map, map_get}
+use Rattle.psg_class.proofs.FormLaws.{map_get}
 use Rattle.psg_class.proofs.BeginLaws.{kind_small}
 use Rattle.psg_class.proofs.TwiceLaws.{Gives}
 use Rattle.psg_class.proofs.LeadLaws.{led_there, led_back, led_cell_is}
@@ -42,13 +43,6 @@ use Rattle.psg_class.proofs.FailingLaws.{number_self}
 use Rattle.psg_class.proofs.SetLaws.{Describes, means, has_list, has_follow}
 use Rattle.psg_class.proofs.ReadLaws.{known, shape_at, among_separator, among_right, distinct}
 
-same_number : (n m : ℕ) → Some n ≡ Some m → n ≡ m
-same_number n m e = cc
-
-map_length : {X Y : Type 0} (f : X → Y) (xs : List X) → length (map f xs) ≡ length xs
-map_length f [] = refl
-map_length f (x ∷ xs) = ap (λ n. suc n) (map_length f xs)
-
 token_same : (p : Option Part) (n m : ℕ) → p ≡ Some (parts.Token n) → p ≡ Some (parts.Token m) → n ≡ m
 token_same p n m e f = let x : Some (parts.Token n) ≡ Some (parts.Token m) = sym e ∙ f in cc
 
@@ -57,7 +51,7 @@ token_same p n m e f = let x : Some (parts.Token n) ≡ Some (parts.Token m) = s
 pub holes_are : (def : Definition) (found : List (Vec ℕ Global)) (flags : List Bool) → length found ≡ length def.phyla → ((p : ℕ) → IfSome (slice_get found p) (λ spaces. AreSpacesOf def p spaces.items))
     → ((space : ℕ) (kind : Kind) → (is_declaring def space kind ≡ true) ↔ Declares def space kind) → flags ≡ map has_none found → AreHoles def flags
 holes_are def found flags one exact search e = record {
-  one_each = ap length e ∙ map_length has_none found ∙ one;
+  one_each = ap length e ∙ length-map found has_none ∙ one;
   exact = λ p b at. (let (v, there, same) = map_get has_none found p b (subst (λ z. slice_get z p ≡ Some b) e at) in both p b v (spaces p v there) same);
 } where
   spaces : (p : ℕ) (v : Vec ℕ Global) → slice_get found p ≡ Some v → AreSpacesOf def p v.items
@@ -71,7 +65,7 @@ holes_are def found flags one exact search e = record {
   some [] h = refl
   some (x ∷ xs) h = absurd (h x (0, omega arith, refl))
 
-  both : (p : ℕ) (b : Bool) (v : Vec ℕ Global) → AreSpacesOf def p v.items → b ≡ has_none v → ((b ≡ true) → HasHoles def p) × (HasHoles def p → b ≡ true)
+  both : (p : ℕ) (b : Bool) (v : Vec ℕ Global) → AreSpacesOf def p v.items → b ≡ has_none v → ((b ≡ true) → HasHoles def (kinds.Phylum p)) × (HasHoles def (kinds.Phylum p) → b ≡ true)
   both p b v are same = (
     (λ t s. elim (cases_Bool (is_declaring def s (kinds.Phylum p))) [
       | inl y ↦ absurd (empty v.items (sym same ∙ t) s ((are.exact s).1 ((search s (kinds.Phylum p)).0 y)))
@@ -111,15 +105,15 @@ module _ (def : Definition) (words : List Name) (among : (w : Name) → is_among
               (fixed k.separator, is, separator_behind k found (subst (Follow def (kinds.List l)) (same_terminal def words t (fixed k.separator) c num is) f))
 
     list_there : (l : ℕ) (t : Terminal) → FirstOfList def l t → l < length def.lists
-    list_there l t (first_element k found f) = get_inside def.lists l k found
-    list_there l t (first_more k found u) = get_inside def.lists l k found
+    list_there l t (first_element k found f) = slice_get_within def.lists l k found
+    list_there l t (first_more k found u) = slice_get_within def.lists l k found
 
     end_back : (l : ℕ) (t : Terminal) → ListEnd def l t → (l < length def.lists) × ((c : ℕ) × (number_of def words t ≡ Some c) × (c < width) × (ends s.rows s.grid s.separators.items l c ≡ true))
     end_back l t (separator_behind k found f) =
-        let h = get_inside def.lists l k found in
+        let h = slice_get_within def.lists l k found in
         let (c, num, lt, e) = (sets.follows (kinds.List l) (list_kind l h)).complete (fixed k.separator) f in
-        let at : slice_get s.separators.items l ≡ Some (separator_number (length def.phyla + 4) words k) = ap (λ z. slice_get z l) sets.separators ∙ get_map (separator_number (length def.phyla + 4) words) def.lists l k found in
-        let same : c ≡ separator_number (length def.phyla + 4) words k = same_number c (separator_number (length def.phyla + 4) words k) (sym num ∙ separator_known l k found) in (
+        let at : slice_get s.separators.items l ≡ Some (separator_number (length def.phyla + 4) words k) = ap (λ z. slice_get z l) sets.separators ∙ slice_get-map_some (separator_number (length def.phyla + 4) words) def.lists l k found in
+        let same : c ≡ separator_number (length def.phyla + 4) words k = same_Some c (separator_number (length def.phyla + 4) words k) (sym num ∙ separator_known l k found) in (
           h,
           (
             c,
@@ -133,7 +127,7 @@ module _ (def : Definition) (words : List Name) (among : (w : Name) → is_among
         let h = list_there l t g in
         let (c, num, lt, e) = (sets.lists l h).complete t g in
         let (d, num', lt', e') = (sets.follows (kinds.List l) (list_kind l h)).complete t f in
-        let same : d ≡ c = same_number d c (sym num' ∙ num) in (
+        let same : d ≡ c = same_Some d c (sym num' ∙ num) in (
           h,
           (
             c,
@@ -148,7 +142,7 @@ module _ (def : Definition) (words : List Name) (among : (w : Name) → is_among
     list_end_table = record { sound = λ l c h lt e. end_there l c h lt e; complete = end_back }
 
     pub separators_length : length s.separators.items ≡ length def.lists
-    separators_length = ap length sets.separators ∙ map_length (separator_number (length def.phyla + 4) words) def.lists
+    separators_length = ap length sets.separators ∙ length-map def.lists (separator_number (length def.phyla + 4) words)
 
     pub kinds_length : s.rows.kinds ≡ s.rows.phyla + length s.separators.items
     kinds_length = let a = sets.sizes.phyla_are in let b = sets.sizes.kinds_are in let c = separators_length in omega (arith, a, b, c)
@@ -181,7 +175,7 @@ module _ (def : Definition) (words : List Name) (shapes : List Shape) (read : Is
           record {
             shape = g.shape;
             at = g.at;
-            behind = (g.gives ∙ ap (λ q. Some (cell_of q c)) (sym x), ap₂ (λ q k. is_set s.grid (s.rows.kinds + q) k) x (same_number c d (sym num ∙ num')) ∙ e);
+            behind = (g.gives ∙ ap (λ q. Some (cell_of q c)) (sym x), ap₂ (λ q k. is_set s.grid (s.rows.kinds + q) k) x (same_Some c d (sym num ∙ num')) ∙ e);
           },
         )
 
@@ -197,7 +191,7 @@ module _ (def : Definition) (words : List Name) (shapes : List Shape) (read : Is
     led_first (Some (n, c)) ((some, before), x) =
         let (t, num, f) = clash_there n c x in
         let (o, found, e) = map_get (shape_of (length def.phyla + 4) words) def.operators n x.shape (there n x.shape x.at) in (
-          get_inside def.operators n o found,
+          slice_get_within def.operators n o found,
           (
             ((t, f), λ m lt g. (let (d, num', y) = clash_back m g.0 g.1 in before m lt (d, y))),
             (
@@ -216,10 +210,10 @@ module _ (def : Definition) (words : List Name) (shapes : List Shape) (read : Is
     whole = parts_with rows shapes def.phyla def.lists holes seps opening closing
 
     separator_at : (l n : ℕ) (k : ListKind) → slice_get seps l ≡ Some n → slice_get def.lists l ≡ Some k → number_of def words (fixed k.separator) ≡ Some n
-    separator_at l n k at found = separator_known def words read.among l k found ∙ sym (get_map (separator_number (length def.phyla + 4) words) def.lists l k found) ∙ ap (λ z. slice_get z l) (sym es) ∙ at
+    separator_at l n k at found = separator_known def words read.among l k found ∙ sym (slice_get-map_some (separator_number (length def.phyla + 4) words) def.lists l k found) ∙ ap (λ z. slice_get z l) (sym es) ∙ at
 
     element_at : (l : ℕ) (k : ListKind) → slice_get def.lists l ≡ Some k → k.element < rows.phyla
-    element_at l k found = let (p, e, x) = (each_at (IsListKind def) def.lists read.sound.lists l k found).element_sort in subst (λ z. k.element < z) (sym sizes.phyla_are) (get_inside def.phyla k.element p e)
+    element_at l k found = let (p, e, x) = (each_at (IsListKind def) def.lists read.sound.lists l k found).element_sort in subst (λ z. k.element < z) (sym sizes.phyla_are) (slice_get_within def.phyla k.element p e)
 
     pub are_parts : AreParts width (parts_with rows shapes def.phyla def.lists holes seps opening closing)
     are_parts = record {
@@ -228,7 +222,7 @@ module _ (def : Definition) (words : List Name) (shapes : List Shape) (read : Is
       shapes = shape_at def words shapes read rows sizes width wide;
       elements = element_at;
       holes = hs.one_each;
-      separators = ap length es ∙ map_length (separator_number (length def.phyla + 4) words) def.lists;
+      separators = ap length es ∙ length-map def.lists (separator_number (length def.phyla + 4) words);
       each = λ l n at. (let (k, found, same) = map_get (separator_number (length def.phyla + 4) words) def.lists l n (subst (λ z. slice_get z l ≡ Some n) es at) in small (fixed k.separator) n (separator_at l n k at found));
       opening = small open_bracket opening op;
       closing = small close_bracket closing cl;

@@ -1,6 +1,6 @@
 -- Steps of the closure of a table along links.
-use Rattle.std.proofs.Common.{◌≡◌, ◌≢◌, ◌⊎◌, inl, inr, ℕ, ◌+◌, ◌<◌, ◌≤◌, ◌==◌, ◌||◌, Bool, true, false, List, [], ◌∷◌, length, get_or, Contains, Option, Some, None, Bor, refl, ap, sym, ◌∙◌, subst, arith, eqb-true, eq-eqb, true≢false}
-use Rattle.std.proofs.lemmas.Bool.{cases_Bool, or_parts}
+use Rattle.std.proofs.Common.{◌≡◌, ◌≢◌, ◌⊎◌, inl, inr, ℕ, ◌+◌, ◌<◌, ◌≤◌, ◌||◌, Bool, true, false, List, [], ◌∷◌, length, get_or, Contains, Option, Some, None, Bor, refl, ap, sym, ◌∙◌, subst, arith, true≢false}
+use Rattle.std.proofs.lemmas.Bool.{cases_Bool, or_parts, cases_eq}
 use Rattle.std.specs.Prelude.{◌↔◌}
 use Rattle.std.proofs.lemmas.List.{get_or_default}
 use Rattle.std.proofs.lemmas.Option.{none-some}
@@ -10,12 +10,9 @@ use Rattle.psg_class.specs.Grids.{IsGrid, is_set, IsCell, IsSameSize, Keeps, uns
 use Rattle.psg_class.specs.declared.grid.Grid.{Grid}
 use Rattle.psg_class.specs.declared.grid.Link.{Link}
 
-pub number_cases : (n m : ℕ) → (n ≡ m) ⊎ (n ≢ m)
-number_cases n m = elim (cases_Bool (n == m)) [ inl e ↦ inl (eqb-true n m e) | inr e ↦ inr (λ x. true≢false (sym (eq-eqb n m x) ∙ e)) ]
-
 pub cell_cases : (r row c column : ℕ) → ((r ≡ row) × (c ≡ column)) ⊎ ((r ≢ row) ⊎ (c ≢ column))
-cell_cases r row c column = elim (number_cases r row) [
-  | inl e ↦ (elim (number_cases c column) [ inl f ↦ inl (e, f) | inr f ↦ inr (inr f) ])
+cell_cases r row c column = elim (cases_eq r row) [
+  | inl e ↦ (elim (cases_eq c column) [ inl f ↦ inl (e, f) | inr f ↦ inr (inr f) ])
   | inr e ↦ inr (inl e)
 ]
 
@@ -80,13 +77,10 @@ followed_more l start now column more changed step done last e c h k =
     let (x, y) = or_parts changed more e in
     let same : now ≡ start = step.same y in
     let here : is_set now l.from column ≡ true → is_set now l.to column ≡ true = subst (λ b. OnFalse b (is_set now l.from column ≡ true → is_set now l.to column ≡ true)) x last in
-    elim (number_cases c column) [
+    elim (cases_eq c column) [
       | inl at ↦ subst (λ z. is_set start l.to z ≡ true) (sym at) (subst (λ g. is_set g l.to column ≡ true) same (here (subst (λ g. is_set g l.from column ≡ true) (sym same) (subst (λ z. is_set start l.from z ≡ true) at k))))
       | inr off ↦ done y c (omega arith) k
     ]
-
-pub contains_at : {X : Type 0} (xs : List X) (i : ℕ) (d : X) → i < length xs → Contains xs (get_or xs i d)
-contains_at xs i d h = (i, h, get_or_default xs i (get_or xs i d) d h)
 
 -- what a slice gives is among its items
 pub contains_got : {X : Type 0} (xs : List X) (i : ℕ) (r : Option (Bor X)) (x : Bor X) → IsGetResult xs i i r → r ≡ Some x → Contains xs x.now
@@ -98,7 +92,7 @@ pub each_of : {X : Type 0} (P : X → Type 0) (xs : List X) (d : X) (n : ℕ) �
 each_of P xs d n h all x (i, lt, e) = subst P (get_or_default xs i d x lt ∙ e) (all i (omega arith))
 
 pub one_more : (P : ℕ → Type 0) (n : ℕ) → ((j : ℕ) → j < n → P j) → P n → (j : ℕ) → j < n + 1 → P j
-one_more P n below here j h = elim (number_cases j n) [ inl e ↦ subst P (sym e) here | inr d ↦ below j (omega arith) ]
+one_more P n below here j h = elim (cases_eq j n) [ inl e ↦ subst P (sym e) here | inr d ↦ below j (omega arith) ]
 
 -- one link more that needed nothing
 pub followed_link : (links : List Link) (d : Link) (start now : Grid) (n : ℕ) (more changed : Bool) → IsStep links start now more → (more ≡ false → (j : ℕ) → j < n → Follows start (get_or links j d))

@@ -1,12 +1,13 @@
 -- Drafts: cells and links that are added one after the other.
 use Rattle.std.proofs.Common.{◌≡◌, ◌≢◌, ◌⊎◌, inl, inr, ℕ, ◌+◌, ◌<◌, true, List, [], ◌∷◌, ◌++◌, Contains, refl, ap, sym, ◌∙◌, subst, arith}
 use Rattle.std.proofs.lemmas.List.Elements.{Contains-append_left, Contains-push, Contains-push_cases}
+use Rattle.std.proofs.lemmas.Bool.{cases_eq}
 use Rattle.psg_class.specs.Grids.{IsGrid, is_set, IsCell, IsSameSize, AreLinks}
 use Rattle.psg_class.specs.declared.grid.Grid.{Grid}
 use Rattle.psg_class.specs.declared.grid.Link.{Link}
 use Rattle.psg_class.specs.declared.sources.Draft.{Draft}
 use Rattle.psg_class.specs.Sources.{Adds, NoLink, OneCell, Either, Below, HasLink, link_of, IsDraft}
-use Rattle.psg_class.proofs.Closing.{same_size, cell_in, cell_back, cell_cases, number_cases}
+use Rattle.psg_class.proofs.Closing.{same_size, cell_in, cell_back, cell_cases}
 
 same_links : (a b : Grid) (links : List Link) → IsSameSize a b → AreLinks a links → AreLinks b links
 same_links a b links size inside l h = let (x, y) = inside l h in (subst (λ z. l.to < z) (sym size.height) x, subst (λ z. l.from < z) (sym size.height) y)
@@ -101,7 +102,7 @@ adds_more F E n a b d h k = adds_as (Either (Below F n) (F n)) (Either (Below E 
   there G r c (inr x) = (n, omega arith, x)
 
   back : (G : ℕ → ℕ → ℕ → Type 0) (r c : ℕ) → Below G (n + 1) r c → Either (Below G n) (G n) r c
-  back G r c (j, lt, x) = elim (number_cases j n) [ inl e ↦ inr (subst (λ z. G z r c) e x) | inr d' ↦ inl (j, (omega arith), x) ]
+  back G r c (j, lt, x) = elim (cases_eq j n) [ inl e ↦ inr (subst (λ z. G z r c) e x) | inr d' ↦ inl (j, (omega arith), x) ]
 
 pub still_draft : (F E : ℕ → ℕ → Type 0) (height width : ℕ) (a b : Draft) → IsDraft height width a → Adds F E a b → IsDraft height width b
 still_draft F E height width a b d h = record { table = record { height_is = h.size.height ∙ d.table.height_is; width_is = h.size.width ∙ d.table.width_is; grid = h.size.grid }; inside = h.inside }

@@ -4,7 +4,7 @@ use Rattle.std.specs.Prelude.{nat_lt}
 use Rattle.std.specs.Ordering.{ordering_reverse}
 use Rattle.std.specs.Cmp.Lexicographic.{slice_cmp}
 use Rattle.std.proofs.lemmas.Cmp.{nat_list_cmp_total}
-use Rattle.std.proofs.lemmas.Bool.{cases_Bool, ltb-true}
+use Rattle.std.proofs.lemmas.Bool.{cases_Bool, ltb-true, cases_eq}
 use Rattle.std.proofs.lemmas.List.{take_more}
 use Rattle.psg_terms.specs.Names.{Name}
 use Rattle.psg_grammar.specs.declared.types.Phylum.{Phylum}
@@ -13,7 +13,6 @@ use Rattle.psg_class.specs.Numbers.{is_number_before, words_before, word_at}
 use Rattle.psg_class.specs.Failing.{IsLeastIf, first_number, cells_from, bracket_cell, bracket_cells}
 use Rattle.psg_class.specs.declared.grid.Cell.{Cell}
 use Rattle.psg_class.specs.declared.shape.Shape.{Shape}
-use Rattle.psg_class.proofs.Closing.{number_cases}
 
 cells_front : (f : Shape → Option Cell) (xs : List Shape) (s : Shape) → cells_from f (xs ++ s ∷ []) ≡ cells_from f xs ++ listed (f s)
 cells_front f [] s = append-nil (listed (f s))
@@ -83,7 +82,7 @@ pub least_more : (base : ℕ) (words : List Name) (set : ℕ → Bool) (n : ℕ)
 least_more base words set n None h here = (
   omega arith,
   here,
-  λ m lt e. elim (number_cases m n) [
+  λ m lt e. elim (cases_eq m n) [
     | inl x ↦ subst (λ z. is_number_before base words z n ≡ false) (sym x) (number_self base words n)
     | inr x ↦ absurd (true≢false (sym e ∙ h m (omega arith)))
   ],
@@ -93,7 +92,7 @@ least_more base words set n (Some b) (lt, e, h) here = choose (cases_Bool (is_nu
   new t = (
     omega arith,
     here,
-    λ m lt' x. elim (number_cases m n) [
+    λ m lt' x. elim (cases_eq m n) [
       | inl y ↦ subst (λ z. is_number_before base words z n ≡ false) (sym y) (number_self base words n)
       | inr y ↦ (elim (cases_Bool (is_number_before base words m n)) [
         | inl z ↦ absurd (true≢false (sym (number_trans base words m n b z t) ∙ h m (omega arith) x))
@@ -106,7 +105,7 @@ least_more base words set n (Some b) (lt, e, h) here = choose (cases_Bool (is_nu
   old t = (
     omega arith,
     e,
-    λ m lt' x. elim (number_cases m n) [
+    λ m lt' x. elim (cases_eq m n) [
       | inl y ↦ subst (λ z. is_number_before base words z b ≡ false) (sym y) t
       | inr y ↦ h m (omega arith) x
     ],
@@ -117,11 +116,11 @@ least_more base words set n (Some b) (lt, e, h) here = choose (cases_Bool (is_nu
   choose (inr t) = subst (Good base words set n) (sym (ap (λ c. cond c n b) t)) (old t)
 
 pub least_same : (base : ℕ) (words : List Name) (set : ℕ → Bool) (n : ℕ) (o : Option ℕ) → IsLeastIf base words set n o → set n ≡ false → IsLeastIf base words set (n + 1) o
-least_same base words set n None h here = λ m lt. elim (number_cases m n) [ inl x ↦ subst (λ z. set z ≡ false) (sym x) here | inr x ↦ h m (omega arith) ]
+least_same base words set n None h here = λ m lt. elim (cases_eq m n) [ inl x ↦ subst (λ z. set z ≡ false) (sym x) here | inr x ↦ h m (omega arith) ]
 least_same base words set n (Some b) (lt, e, h) here = (
   omega arith,
   e,
-  λ m lt' x. elim (number_cases m n) [
+  λ m lt' x. elim (cases_eq m n) [
     | inl y ↦ absurd (true≢false (sym (subst (λ z. set z ≡ true) y x) ∙ here))
     | inr y ↦ h m (omega arith) x
   ],

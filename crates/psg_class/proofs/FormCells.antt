@@ -1,5 +1,5 @@
 -- Cells of the levels and forms of shapes.
-use Rattle.std.proofs.Common.{◌≡◌, ◌≢◌, inl, inr, ℕ, zero, suc, ◌+◌, ◌*◌, ◌<◌, ◌==◌, Bool, true, false, cond, max, List, [], ◌∷◌, map, length, get_or, Option, Some, None, slice_get, refl, sym, ◌∙◌, subst, arith, eqb-true, eq-eqb, true≢false}
+use Rattle.std.proofs.Common.{◌≡◌, ◌≢◌, inl, inr, ℕ, ◌+◌, ◌*◌, ◌<◌, ◌==◌, Bool, true, false, cond, max, List, [], ◌∷◌, map, Option, Some, None, sym, ◌∙◌, subst, arith, eqb-true, eq-eqb, true≢false}
 use Rattle.std.proofs.lemmas.Bool.{and_parts, cases_Bool, or_cases}
 use Rattle.std.specs.Prelude.{MatchOption, IfSome, IfNone}
 use Rattle.psg_grammar.specs.declared.types.Level.{Level}
@@ -12,19 +12,6 @@ use Rattle.psg_class.specs.Grids.{is_at, once, AreInside}
 use Rattle.psg_class.specs.declared.grid.Cell.{Cell}
 use Rattle.psg_class.specs.declared.shape.Shape.{Shape}
 use Rattle.psg_class.specs.Forms.{own_first, own_last, asks, bound_cell, asked_cell, form_cell, form_code, AreInPhyla, HaveLevels, LacksBracket, Mixes, MixesAny, IsFirstIf, IsFirstPair}
-
-pub get_inside : {X : Type 0} (xs : List X) (n : ℕ) (x : X) → slice_get xs n ≡ Some x → n < length xs
-get_inside {X = X} [] n x e = absurd (let y : ◌≡◌ {A = Option X} None (Some x) = e in cc)
-get_inside (y ∷ xs) zero x e = omega arith
-get_inside (y ∷ xs) (suc n) x e = let h = get_inside xs n x e in omega (arith, h)
-
-pub get_at : {X : Type 0} (xs : List X) (n : ℕ) (d : X) → n < length xs → slice_get xs n ≡ Some (get_or xs n d)
-get_at [] n d h = absurd (omega arith)
-get_at (x ∷ xs) zero d h = refl
-get_at (x ∷ xs) (suc n) d h = get_at xs n d (omega arith)
-
-pub get_same : {X : Type 0} (xs : List X) (n : ℕ) (x y : X) → slice_get xs n ≡ Some x → slice_get xs n ≡ Some y → x ≡ y
-get_same {X = X} xs n x y e f = let h : ◌≡◌ {A = Option X} (Some x) (Some y) = sym e ∙ f in cc
 
 -- the first where one holds is the first where the other does
 pub first_same : (P Q : ℕ → Type 0) → ((n : ℕ) → P n → Q n) → ((n : ℕ) → Q n → P n) → (n : ℕ) → IsFirst P n → IsFirst Q n

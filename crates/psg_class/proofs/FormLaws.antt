@@ -2,6 +2,8 @@
 use Rattle.std.proofs.Common.{◌≡◌, ◌≢◌, ◌⊎◌, inl, inr, ℕ, zero, suc, ◌+◌, ◌*◌, ◌<◌, ◌≤◌, ◌==◌, ◌&&◌, ◌||◌, Bool, true, false, cond, max, List, [], ◌∷◌, ◌++◌, map, Option, Some, None, slice_get, refl, ap, ap₂, sym, ◌∙◌, subst, arith, true≢false, eqb-true, eq-eqb}
 use Rattle.std.specs.Prelude.{nat_lt}
 use Rattle.std.proofs.lemmas.Bool.{and_parts, cases_Bool, ltb-true, or_cases, or_right}
+use Rattle.std.proofs.lemmas.Option.{same_Some}
+use Rattle.psg_terms.proofs.Lists.{slice_get-map_some}
 use Rattle.psg_terms.specs.Names.{Name}
 use Rattle.psg_grammar.specs.declared.types.Kind.TheVariants as kinds
 use Rattle.psg_grammar.specs.declared.types.Level.{Level}
@@ -23,11 +25,6 @@ use Rattle.psg_class.proofs.ClassFacts.{own_at_end, slot_is, same_or_not}
 use Rattle.psg_class.proofs.PartLaws.{Known, starts_same, fits_same, first_own, last_own, match_of}
 
 -- ---- items of a mapped list
-
-pub get_map : {X Y : Type 0} (f : X → Y) (xs : List X) (n : ℕ) (x : X) → slice_get xs n ≡ Some x → slice_get (map f xs) n ≡ Some (f x)
-get_map {X = X} {Y = Y} f [] n x e = absurd (let h : ◌≡◌ {A = Option X} None (Some x) = e in cc)
-get_map {X = X} {Y = Y} f (y ∷ xs) zero x e = let h : ◌≡◌ {A = Option X} (Some y) (Some x) = e in let k : y ≡ x = cc in ap (λ z. Some (f z)) k
-get_map f (y ∷ xs) (suc n) x e = get_map f xs n x e
 
 pub map_get : {X Y : Type 0} (f : X → Y) (xs : List X) (n : ℕ) (y : Y) → slice_get (map f xs) n ≡ Some y → (x : X) × (slice_get xs n ≡ Some x) × (y ≡ f x)
 map_get {X = X} {Y = Y} f [] n y e = absurd (let h : ◌≡◌ {A = Option Y} None (Some y) = e in cc)
@@ -71,14 +68,14 @@ module _ (def : Definition) (base : ℕ) (words : List Name) (known : (n : ℕ) 
       record { o = o; found = at; fails = starts_same base words o (known n o at) ∙ ap starts (sym e) ∙ f.fails }
 
   pub no_first_back : (n : ℕ) → NoFirst def n → FailsTest starts (map (shape_of base words) def.operators) n
-  no_first_back n f = record { shape = shape_of base words f.o; at = get_map (shape_of base words) def.operators n f.o f.found; fails = sym (starts_same base words f.o (known n f.o f.found)) ∙ f.fails }
+  no_first_back n f = record { shape = shape_of base words f.o; at = slice_get-map_some (shape_of base words) def.operators n f.o f.found; fails = sym (starts_same base words f.o (known n f.o f.found)) ∙ f.fails }
 
   pub bad_form_there : (n : ℕ) → FailsTest fits (map (shape_of base words) def.operators) n → BadForm def n
   bad_form_there n f = let (o, at, e) = map_get (shape_of base words) def.operators n f.shape f.at in
       record { o = o; found = at; fails = fits_same base words o (known n o at) o.level ∙ ap fits (sym e) ∙ f.fails }
 
   pub bad_form_back : (n : ℕ) → BadForm def n → FailsTest fits (map (shape_of base words) def.operators) n
-  bad_form_back n f = record { shape = shape_of base words f.o; at = get_map (shape_of base words) def.operators n f.o f.found; fails = sym (fits_same base words f.o (known n f.o f.found) f.o.level) ∙ f.fails }
+  bad_form_back n f = record { shape = shape_of base words f.o; at = slice_get-map_some (shape_of base words) def.operators n f.o f.found; fails = sym (fits_same base words f.o (known n f.o f.found) f.o.level) ∙ f.fails }
 
   -- ---- brackets
 
@@ -147,9 +144,9 @@ module _ (def : Definition) (base : ℕ) (words : List Name) (known : (n : ℕ) 
             low = level_number f.o.level;
             below = omega (arith, lower, most);
             is_asked = subst (λ q. cells_by asked_cell (map (shape_of base words) def.operators) q (asks (shape_of base words f.holder)) ≡ true) (sym own)
-                (once_of asked_cell (map (shape_of base words) def.operators) f.n (shape_of base words f.holder) (get_map (shape_of base words) def.operators f.n f.holder f.holds));
+                (once_of asked_cell (map (shape_of base words) def.operators) f.n (shape_of base words f.holder) (slice_get-map_some (shape_of base words) def.operators f.n f.holder f.holds));
             is_bound = subst (λ q. cells_by bound_cell (map (shape_of base words) def.operators) q (level_number f.o.level) ≡ true) f.of_phylum
-                (once_of bound_cell (map (shape_of base words) def.operators) f.m (shape_of base words f.o) (get_map (shape_of base words) def.operators f.m f.o f.there));
+                (once_of bound_cell (map (shape_of base words) def.operators) f.m (shape_of base words f.o) (slice_get-map_some (shape_of base words) def.operators f.m f.o f.there));
           };
         }
 
@@ -235,16 +232,13 @@ index_small (levels.InfixLeft n) = omega arith
 index_small (levels.InfixRight n) = omega arith
 index_small (levels.InfixNone n) = omega arith
 
-same_some : (n m : ℕ) → Some n ≡ Some m → n ≡ m
-same_some n m e = cc
-
 code_is : (a : Level) (level : ℕ) → number_of a ≡ Some level → form_code a ≡ 5 * level + form_index a
 code_is levels.Plain level e = absurd (let x : None ≡ Some level = e in cc)
-code_is (levels.Prefix n) level e = let x = same_some n level e in omega (arith, x)
-code_is (levels.Postfix n) level e = let x = same_some n level e in omega (arith, x)
-code_is (levels.InfixLeft n) level e = let x = same_some n level e in omega (arith, x)
-code_is (levels.InfixRight n) level e = let x = same_some n level e in omega (arith, x)
-code_is (levels.InfixNone n) level e = let x = same_some n level e in omega (arith, x)
+code_is (levels.Prefix n) level e = let x = same_Some n level e in omega (arith, x)
+code_is (levels.Postfix n) level e = let x = same_Some n level e in omega (arith, x)
+code_is (levels.InfixLeft n) level e = let x = same_Some n level e in omega (arith, x)
+code_is (levels.InfixRight n) level e = let x = same_Some n level e in omega (arith, x)
+code_is (levels.InfixNone n) level e = let x = same_Some n level e in omega (arith, x)
 
 is_code : (a : Level) (level i : ℕ) → form_code a ≡ 5 * level + i → i < 5 → 1 ≤ level → (number_of a ≡ Some level) × (form_index a ≡ i)
 is_code levels.Plain level i e h k = absurd (omega (arith, e, h, k))
@@ -256,22 +250,22 @@ is_code (levels.InfixNone n) level i e h k = (ap Some (omega (arith, e, h, k)), 
 
 number_small : (a : Level) (level : ℕ) → IsLevel a → number_of a ≡ Some level → (1 ≤ level) × (level < 10)
 number_small levels.Plain level h e = absurd (let x : None ≡ Some level = e in cc)
-number_small (levels.Prefix n) level (h, k) e = let x = same_some n level e in (omega (arith, x, h), omega (arith, x, k))
-number_small (levels.Postfix n) level (h, k) e = let x = same_some n level e in (omega (arith, x, h), omega (arith, x, k))
-number_small (levels.InfixLeft n) level (h, k) e = let x = same_some n level e in (omega (arith, x, h), omega (arith, x, k))
-number_small (levels.InfixRight n) level (h, k) e = let x = same_some n level e in (omega (arith, x, h), omega (arith, x, k))
-number_small (levels.InfixNone n) level (h, k) e = let x = same_some n level e in (omega (arith, x, h), omega (arith, x, k))
+number_small (levels.Prefix n) level (h, k) e = let x = same_Some n level e in (omega (arith, x, h), omega (arith, x, k))
+number_small (levels.Postfix n) level (h, k) e = let x = same_Some n level e in (omega (arith, x, h), omega (arith, x, k))
+number_small (levels.InfixLeft n) level (h, k) e = let x = same_Some n level e in (omega (arith, x, h), omega (arith, x, k))
+number_small (levels.InfixRight n) level (h, k) e = let x = same_Some n level e in (omega (arith, x, h), omega (arith, x, k))
+number_small (levels.InfixNone n) level (h, k) e = let x = same_Some n level e in (omega (arith, x, h), omega (arith, x, k))
 
 same_index : (a b : Level) (level : ℕ) → number_of a ≡ Some level → number_of b ≡ Some level → form_index a ≡ form_index b → a ≡ b
 same_index a b level e f h = elim (same_or_not a b level e f) [ inl x ↦ x | inr x ↦ absurd (differ a b e f x h) ] where
   differ : (a b : Level) → number_of a ≡ Some level → number_of b ≡ Some level → a ≢ b → form_index a ≡ form_index b → ⊥
   differ levels.Plain b e f x h = absurd (let y : None ≡ Some level = e in cc)
   differ a levels.Plain e f x h = absurd (let y : None ≡ Some level = f in cc)
-  differ (levels.Prefix n) (levels.Prefix m) e f x h = x (ap levels.Prefix (same_some n m (e ∙ sym f)))
-  differ (levels.Postfix n) (levels.Postfix m) e f x h = x (ap levels.Postfix (same_some n m (e ∙ sym f)))
-  differ (levels.InfixLeft n) (levels.InfixLeft m) e f x h = x (ap levels.InfixLeft (same_some n m (e ∙ sym f)))
-  differ (levels.InfixRight n) (levels.InfixRight m) e f x h = x (ap levels.InfixRight (same_some n m (e ∙ sym f)))
-  differ (levels.InfixNone n) (levels.InfixNone m) e f x h = x (ap levels.InfixNone (same_some n m (e ∙ sym f)))
+  differ (levels.Prefix n) (levels.Prefix m) e f x h = x (ap levels.Prefix (same_Some n m (e ∙ sym f)))
+  differ (levels.Postfix n) (levels.Postfix m) e f x h = x (ap levels.Postfix (same_Some n m (e ∙ sym f)))
+  differ (levels.InfixLeft n) (levels.InfixLeft m) e f x h = x (ap levels.InfixLeft (same_Some n m (e ∙ sym f)))
+  differ (levels.InfixRight n) (levels.InfixRight m) e f x h = x (ap levels.InfixRight (same_Some n m (e ∙ sym f)))
+  differ (levels.InfixNone n) (levels.InfixNone m) e f x h = x (ap levels.InfixNone (same_Some n m (e ∙ sym f)))
   differ (levels.Prefix n) (levels.Postfix m) e f x h = omega (arith, h)
   differ (levels.Prefix n) (levels.InfixLeft m) e f x h = omega (arith, h)
   differ (levels.Prefix n) (levels.InfixRight m) e f x h = omega (arith, h)
@@ -296,7 +290,7 @@ same_index a b level e f h = elim (same_or_not a b level e f) [ inl x ↦ x | in
 module _ (def : Definition) (base : ℕ) (words : List Name) (levels : (n : ℕ) (o : Operator) → slice_get def.operators n ≡ Some o → IsLevel o.level) where
   has_code : (p level : ℕ) (n : ℕ) (o : Operator) → slice_get def.operators n ≡ Some o → o.phylum ≡ p → number_of o.level ≡ Some level → cells_by form_cell (map (shape_of base words) def.operators) p (5 * level + form_index o.level) ≡ true
   has_code p level n o at e f = subst (λ q. cells_by form_cell (map (shape_of base words) def.operators) q (5 * level + form_index o.level) ≡ true) e
-      (subst (λ c. cells_by form_cell (map (shape_of base words) def.operators) o.phylum c ≡ true) (code_is o.level level f) (once_of form_cell (map (shape_of base words) def.operators) n (shape_of base words o) (get_map (shape_of base words) def.operators n o at)))
+      (subst (λ c. cells_by form_cell (map (shape_of base words) def.operators) o.phylum c ≡ true) (code_is o.level level f) (once_of form_cell (map (shape_of base words) def.operators) n (shape_of base words o) (slice_get-map_some (shape_of base words) def.operators n o at)))
 
   pub mixes_there : (p level : ℕ) → MixedLevel def p level → Mixes (cells_by form_cell (map (shape_of base words) def.operators)) p level
   mixes_there p level f =

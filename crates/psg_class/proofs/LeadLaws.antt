@@ -1,5 +1,6 @@
 -- First and second tokens of operators, by their shapes.
 use Rattle.std.proofs.Common.{◌≡◌, ℕ, zero, suc, ◌+◌, List, [], ◌∷◌, ◌++◌, length, map, drop, Option, Some, None, slice_get, refl, ap, ap₂, sym, ◌∙◌, subst, arith}
+use Rattle.psg_terms.proofs.Lists.{slice_get-map_some}
 use Rattle.psg_terms.specs.Names.{Name}
 use Rattle.psg_grammar.specs.declared.types.Kind.{Kind}
 use Rattle.psg_grammar.specs.declared.types.Item.{Item}
@@ -18,7 +19,7 @@ use Rattle.psg_class.specs.declared.shape.Part.{Part}
 use Rattle.psg_class.specs.declared.shape.Part.TheVariants as parts
 use Rattle.psg_class.specs.declared.shape.Shape.{Shape}
 use Rattle.psg_class.proofs.PartLaws.{Match, Known, match_of, token_of, slot_of}
-use Rattle.psg_class.proofs.FormLaws.{get_map, map_get}
+use Rattle.psg_class.proofs.FormLaws.{map_get}
 use Rattle.psg_class.proofs.TwiceLaws.{Gives}
 
 part_same : {p q : Part} → Some p ≡ Some q → p ≡ q
@@ -169,7 +170,7 @@ module _ (def : Definition) (words : List Name) where
     pub leads_back : (r n : ℕ) (t : Terminal) → Leads def r n t → (c : ℕ) × (number_of def words t ≡ Some c) × Gives lead_cell (map (shape_of (length def.phyla + 4) words) def.operators) r c n
     leads_back r n t l =
         let (c, h, e) = of_leads r n t l in
-        (c, h, record { shape = shape_of (length def.phyla + 4) words l.o; at = get_map (shape_of (length def.phyla + 4) words) def.operators n l.o l.found; gives = ap (token_cell l.o.phylum) e ∙ ap (λ p. Some (cell_of p c)) l.phylum })
+        (c, h, record { shape = shape_of (length def.phyla + 4) words l.o; at = slice_get-map_some (shape_of (length def.phyla + 4) words) def.operators n l.o l.found; gives = ap (token_cell l.o.phylum) e ∙ ap (λ p. Some (cell_of p c)) l.phylum })
 
     pub led_there : (r c n : ℕ) → Gives led_cell (map (shape_of (length def.phyla + 4) words) def.operators) r c n → (t : Terminal) × (number_of def words t ≡ Some c) × Led def r n t
     led_there r c n g =
@@ -185,7 +186,7 @@ module _ (def : Definition) (words : List Name) where
           h,
           record {
             shape = shape_of (length def.phyla + 4) words l.o;
-            at = get_map (shape_of (length def.phyla + 4) words) def.operators n l.o l.found;
+            at = slice_get-map_some (shape_of (length def.phyla + 4) words) def.operators n l.o l.found;
             gives = ap₂ (behind_slot l.o.phylum) e f ∙ ap (λ p. Some (cell_of p c)) l.phylum;
           },
         )

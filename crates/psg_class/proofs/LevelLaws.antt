@@ -1,5 +1,6 @@
 -- What the class says of binding levels.
 use Rattle.std.proofs.Common.{◌≡◌, ℕ, ◌≤◌, ◌==◌, ◌&&◌, Bool, true, false, cond, List, [], ◌∷◌, ◌++◌, Some, None, slice_get, refl, sym, ap, ◌∙◌, subst, max, arith, eq-eqb, eqb-true, true≢false}
+use Rattle.std.proofs.Math.Nat.{le_antisymm}
 use Rattle.psg_grammar.specs.declared.types.Kind.{Kind}
 use Rattle.psg_grammar.specs.declared.types.Kind.TheVariants as kinds
 use Rattle.psg_grammar.specs.declared.types.Level.{Level}
@@ -49,9 +50,6 @@ no_token i m k h e = let x : None ≡ Some m = subst (λ j. item_terminal j ≡ 
 abbrev Mixed : Level → Level → Type 0
 Mixed a b = (level : ℕ) → number_of a ≡ Some level → number_of b ≡ Some level → a ≡ b
 
-equal : (n m : ℕ) → n ≤ m → m ≤ n → n ≡ m
-equal n m h k = omega (arith, h, k)
-
 clash_levels : (o p : Operator) (a b : Level) → HasForm o a → OwnLast o → HasForm p b → (k : Kind) (more : List Item) → solid p.items ≡ items.Slot k ∷ more
     → Mixed a b → first_level b ≤ level_number a → last_level a ≤ level_number b → ⊥
 clash_levels o p levels.Plain b f l g k more e mixed h h' = f.1 l
@@ -66,12 +64,12 @@ clash_levels o p (levels.InfixNone n) (levels.Postfix m) f l g k more e mixed h 
 clash_levels o p (levels.InfixNone n) (levels.InfixLeft m) f l g k more e mixed h h' = omega (arith, h, h')
 clash_levels o p (levels.InfixNone n) (levels.InfixRight m) f l g k more e mixed h h' = omega (arith, h, h')
 clash_levels o p (levels.InfixNone n) (levels.InfixNone m) f l g k more e mixed h h' = omega (arith, h, h')
-clash_levels o p (levels.Prefix n) (levels.Postfix m) f l g k more e mixed h h' = let x : levels.Prefix n ≡ levels.Postfix m = mixed n refl (ap Some (equal m n h h')) in cc
-clash_levels o p (levels.Prefix n) (levels.InfixLeft m) f l g k more e mixed h h' = let x : levels.Prefix n ≡ levels.InfixLeft m = mixed n refl (ap Some (equal m n h h')) in cc
+clash_levels o p (levels.Prefix n) (levels.Postfix m) f l g k more e mixed h h' = let x : levels.Prefix n ≡ levels.Postfix m = mixed n refl (ap Some (le_antisymm h h')) in cc
+clash_levels o p (levels.Prefix n) (levels.InfixLeft m) f l g k more e mixed h h' = let x : levels.Prefix n ≡ levels.InfixLeft m = mixed n refl (ap Some (le_antisymm h h')) in cc
 clash_levels o p (levels.Prefix n) (levels.InfixRight m) f l g k more e mixed h h' = omega (arith, h, h')
 clash_levels o p (levels.Prefix n) (levels.InfixNone m) f l g k more e mixed h h' = omega (arith, h, h')
-clash_levels o p (levels.InfixRight n) (levels.Postfix m) f l g k more e mixed h h' = let x : levels.InfixRight n ≡ levels.Postfix m = mixed n refl (ap Some (equal m n h h')) in cc
-clash_levels o p (levels.InfixRight n) (levels.InfixLeft m) f l g k more e mixed h h' = let x : levels.InfixRight n ≡ levels.InfixLeft m = mixed n refl (ap Some (equal m n h h')) in cc
+clash_levels o p (levels.InfixRight n) (levels.Postfix m) f l g k more e mixed h h' = let x : levels.InfixRight n ≡ levels.Postfix m = mixed n refl (ap Some (le_antisymm h h')) in cc
+clash_levels o p (levels.InfixRight n) (levels.InfixLeft m) f l g k more e mixed h h' = let x : levels.InfixRight n ≡ levels.InfixLeft m = mixed n refl (ap Some (le_antisymm h h')) in cc
 clash_levels o p (levels.InfixRight n) (levels.InfixRight m) f l g k more e mixed h h' = omega (arith, h, h')
 clash_levels o p (levels.InfixRight n) (levels.InfixNone m) f l g k more e mixed h h' = omega (arith, h, h')
 

@@ -28,3 +28,4 @@ pub mod Soundness
 pub mod Machine
 pub mod WordForms
 pub mod FormedLaws
+pub mod LeastLevels

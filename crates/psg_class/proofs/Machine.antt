@@ -7,13 +7,13 @@ use Rattle.psg_grammar.specs.declared.types.Operator.{Operator}
 use Rattle.psg_grammar.specs.declared.types.ListKind.{ListKind}
 use Rattle.psg_grammar.specs.declared.types.Phylum.{Phylum}
 use Rattle.psg_grammar.specs.declared.types.Definition.{Definition}
-use Rattle.psg_class.specs.Follow.{HasHoles}
 use Rattle.psg_grammar.specs.Fragments.{Fragment, hole, ending, cell, operator, with_child, with_name, with_number, with_text}
 use Rattle.psg_class.specs.Terminals.{open_bracket, close_bracket, Token, word, numeral, quoted, solo, symbols, placeholder, dots, Terminal, fixed, a_name, a_number, a_text, a_hole, a_more, word_terminal, fixed_if, is_word, is_run, terminal_of, item_terminal, next_terminal}
 use Rattle.psg_grammar.specs.Levels.{level_number, first_level}
 use Rattle.psg_terms.specs.Names.{is_among}
 use Rattle.psg_lexis.specs.Classes.{is_solo}
 use Rattle.psg_grammar.specs.WellFormed.{fixed_words}
+use Rattle.psg_grammar.specs.Declaring.{HasHoles}
 use Rattle.psg_class.specs.Places.{slot_level}
 use Rattle.psg_class.specs.Follow.{Leads, Led, First, FirstOfList, first_element, first_more}
 use Rattle.psg_class.proofs.ClassFacts.{ClassFacts}
@@ -66,7 +66,7 @@ module _ (def : Definition) (c : ClassFacts def) (F : Fragment) (D : ℕ) where
   Given st f d ts = Ends def st f d ts F D
 
   -- a tree of a phylum begins
-  pub step_hole : (p m : ℕ) (st : List Frame) (x : List ℕ) (ts : List Token) (phylum : Phylum) → slice_get def.phyla p ≡ Some phylum → HasHoles def p → phylum.name ≡ x
+  pub step_hole : (p m : ℕ) (st : List Frame) (x : List ℕ) (ts : List Token) (phylum : Phylum) → slice_get def.phyla p ≡ Some phylum → HasHoles def (kinds.Phylum p) → phylum.name ≡ x
       → Does (start p m) st (placeholder x ∷ ts) ↔ Does (grow p m (hole p) 0 None) st ts
   step_hole p m st x ts phylum found closed is = (λ (g, e, s, r, h). (g, e, s, there g e s r, h), λ (g, e, s, r, h). (g, e, s, run_hole phylum found closed is r, h)) where
     there : (g : Fragment) (e : ℕ) (s : List Token) → Run def (start p m) (placeholder x ∷ ts) g e s → Run def (grow p m (hole p) 0 None) ts g e s

@@ -1,10 +1,12 @@
 -- What is known of the shapes of a definition that has been read.
-use Rattle.std.proofs.Common.{◌≡◌, inl, inr, ℕ, zero, suc, ◌+◌, ◌<◌, ◌||◌, Bool, true, false, cond, List, [], ◌∷◌, ◌++◌, length, map, Option, Some, None, slice_get, refl, ap, sym, ◌∙◌, subst, arith, true≢false}
+use Rattle.std.proofs.Common.{◌≡◌, inl, inr, ℕ, zero, suc, ◌+◌, ◌<◌, Bool, true, false, cond, List, [], ◌∷◌, ◌++◌, length, map, Option, Some, None, slice_get, ap, sym, ◌∙◌, subst, arith, true≢false}
 use Rattle.std.proofs.lemmas.Bool.{or_cases, or_left, or_right}
+use Rattle.std.proofs.lemmas.Option.{slice_get_within}
+use Rattle.psg_terms.proofs.Lists.{each_at}
 use Rattle.std.specs.List.{AllByRecursion}
 use Rattle.std.specs.Prelude.{bytes_eq}
 use Rattle.psg_terms.specs.Names.{Name, is_among, has_twice}
-use Rattle.psg_terms.proofs.DeclareLaws.{bytes_eq-refl}
+use Rattle.psg_terms.proofs.DeclareLaws.{bytes_eq-refl, has_twice-front}
 use Rattle.psg_grammar.specs.declared.types.Kind.{Kind}
 use Rattle.psg_grammar.specs.declared.types.Kind.TheVariants as kinds
 use Rattle.psg_grammar.specs.declared.types.Item.{Item}
@@ -16,7 +18,6 @@ use Rattle.psg_grammar.specs.declared.types.Definition.{Definition}
 use Rattle.psg_grammar.specs.Levels.{is_mark}
 use Rattle.psg_grammar.specs.Sound.{IsSound, IsLevel, IsItem, IsOperator, HasKindSort}
 use Rattle.psg_grammar.specs.WellFormed.{words_in, operator_words, separators}
-use Rattle.psg_grammar.proofs.SoundParts.{each_at}
 use Rattle.psg_class.specs.Places.{solid}
 use Rattle.psg_class.specs.Class.{NoFirst, BadForm, NoBracket, MixedLevel}
 use Rattle.psg_class.specs.Numbers.{phylum_names}
@@ -30,7 +31,7 @@ use Rattle.psg_class.specs.declared.shape.Shape.{Shape}
 use Rattle.psg_class.specs.declared.sources.Rows.{Rows}
 use Rattle.psg_class.proofs.PartLaws.{Known, match_of, slot_of}
 use Rattle.psg_class.proofs.FormLaws.{map_get, no_first_there, no_first_back, bad_form_there, bad_form_back, lacks_there, lacks_back, mixes_there, mixes_back}
-use Rattle.psg_class.proofs.FormCells.{get_inside, if_same, pair_of, asks_small}
+use Rattle.psg_class.proofs.FormCells.{if_same, pair_of, asks_small}
 use Rattle.psg_class.proofs.LeadLaws.{at_part, part_token}
 use Rattle.psg_class.proofs.NumberLaws.{number_small}
 
@@ -72,18 +73,9 @@ middle : (P : Item → Type 0) (front : List Item) (i : Item) (behind : List Ite
 middle P [] i behind h = h.0
 middle P (j ∷ front) i behind h = middle P front i behind h.1
 
-twice_front : (xs ys : List Name) → has_twice (xs ++ ys) ≡ false → has_twice xs ≡ false
-twice_front [] ys h = refl
-twice_front (x ∷ xs) ys h = both (is_among xs x) (is_among (xs ++ ys) x) (has_twice xs) (has_twice (xs ++ ys)) (λ a. among_left xs ys x a) (twice_front xs ys) h where
-  both : (a b c d : Bool) → (a ≡ true → b ≡ true) → (d ≡ false → c ≡ false) → b || d ≡ false → a || c ≡ false
-  both true true c d f g k = absurd (true≢false k)
-  both true false c d f g k = absurd (true≢false (sym (f refl)))
-  both false true c d f g k = absurd (true≢false k)
-  both false false c d f g k = g k
-
 -- no name of a phylum stands twice
 pub distinct : (def : Definition) → IsSound def → has_twice (phylum_names def) ≡ false
-distinct def sound = twice_front (phylum_names def) (map (λ (l : ListKind). l.name) def.lists) sound.kind_names
+distinct def sound = has_twice-front (phylum_names def) (map (λ (l : ListKind). l.name) def.lists) sound.kind_names
 
 module _ (def : Definition) (words : List Name) (shapes : List Shape) (read : IsRead def words shapes) where
   abbrev pub all_shapes : List Shape
@@ -99,7 +91,7 @@ module _ (def : Definition) (words : List Name) (shapes : List Shape) (read : Is
   level_at n o e = (operator_at n o e).level
 
   phylum_small : (o : Operator) → IsOperator def o → o.phylum < length def.phyla
-  phylum_small o h = let (k, e, s) = h.phylum_sort in get_inside def.phyla o.phylum k e
+  phylum_small o h = let (k, e, s) = h.phylum_sort in slice_get_within def.phyla o.phylum k e
 
   pub phylum_at : (n : ℕ) (o : Operator) → slice_get def.operators n ≡ Some o → o.phylum < length def.phyla
   phylum_at n o e = phylum_small o (operator_at n o e)
@@ -152,8 +144,8 @@ module _ (def : Definition) (words : List Name) (shapes : List Shape) (read : Is
   -- ---- parts
 
   kind_there : (rows : Rows) → AreRows (length def.phyla) (length def.lists) rows → (k : Kind) (s : ℕ) → HasKindSort def k s → IsKind rows k
-  kind_there rows are (kinds.Phylum p) s (k, e, x) = subst (λ z. p < z) (sym are.phyla_are) (get_inside def.phyla p k e)
-  kind_there rows are (kinds.List l) s (k, e, x) = let h = get_inside def.lists l k e in let a = are.phyla_are in let b = are.kinds_are in omega (arith, h, a, b)
+  kind_there rows are (kinds.Phylum p) s (k, e, x) = subst (λ z. p < z) (sym are.phyla_are) (slice_get_within def.phyla p k e)
+  kind_there rows are (kinds.List l) s (k, e, x) = let h = slice_get_within def.lists l k e in let a = are.phyla_are in let b = are.kinds_are in omega (arith, h, a, b)
 
   part_at : (rows : Rows) → AreRows (length def.phyla) (length def.lists) rows → (o : Operator) → IsOperator def o → Known (length def.phyla + 4) words o.items → (j : ℕ) (p : Part) → slice_get (parts_of (length def.phyla + 4) words o.items) j ≡ Some p → IsPartOf rows (length def.phyla + 4 + length words) p
   part_at rows are o is own j (parts.Token n) e =

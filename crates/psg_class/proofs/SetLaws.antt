@@ -1,5 +1,7 @@
 -- The sets that grow from facts and links are First, Led and Follow.
 use Rattle.std.proofs.Common.{◌≡◌, ◌⊎◌, inl, inr, ℕ, suc, ◌+◌, ◌<◌, ◌≤◌, ◌&&◌, Bool, true, false, List, [], ◌∷◌, ◌++◌, length, map, drop, get_or, Option, Some, None, slice_get, refl, ap, ap₂, sym, ◌∙◌, subst, arith, add-one, true≢false}
+use Rattle.std.proofs.lemmas.Option.{slice_get_within, slice_get-get_or}
+use Rattle.psg_terms.proofs.Lists.{slice_get-map_some}
 use Rattle.psg_terms.specs.Names.{Name, has_twice}
 use Rattle.psg_grammar.specs.declared.types.Kind.{Kind}
 use Rattle.psg_grammar.specs.declared.types.Kind.TheVariants as kinds
@@ -9,9 +11,10 @@ use Rattle.psg_grammar.specs.declared.types.Operator.{Operator}
 use Rattle.psg_grammar.specs.declared.types.Phylum.{Phylum}
 use Rattle.psg_grammar.specs.declared.types.ListKind.{ListKind}
 use Rattle.psg_grammar.specs.declared.types.Definition.{Definition}
+use Rattle.psg_grammar.specs.Declaring.{HasHoles}
 use Rattle.psg_class.specs.Terminals.{Terminal, fixed, a_hole, a_more, open_bracket, close_bracket, item_terminal}
 use Rattle.psg_class.specs.Places.{solid, is_empty, is_own as is_own_kind, is_own_last}
-use Rattle.psg_class.specs.Follow.{Leads, Led, HasHoles, First, first_operator, first_hole, first_bracket, FirstOfList, first_element, first_more, BeginsWith, CanBeEmpty, Inside, Follow, by_rest, by_end, by_led, by_separator, by_list, by_bracket}
+use Rattle.psg_class.specs.Follow.{Leads, Led, First, first_operator, first_hole, first_bracket, FirstOfList, first_element, first_more, BeginsWith, CanBeEmpty, Inside, Follow, by_rest, by_end, by_led, by_separator, by_list, by_bracket}
 use Rattle.psg_class.specs.Numbers.{number_of, phylum_names}
 use Rattle.psg_class.specs.Shapes.{parts_of, shape_of}
 use Rattle.psg_class.specs.Forms.{is_own}
@@ -22,8 +25,7 @@ use Rattle.psg_class.specs.declared.shape.Shape.{Shape}
 use Rattle.psg_class.specs.declared.sources.Rows.{Rows}
 use Rattle.psg_class.proofs.WordLaws.{place_distinct}
 use Rattle.psg_class.proofs.PartLaws.{Match, Known, match_of, slot_of}
-use Rattle.psg_class.proofs.FormLaws.{get_map, map_get}
-use Rattle.psg_class.proofs.FormCells.{get_at, get_inside}
+use Rattle.psg_class.proofs.FormLaws.{map_get}
 use Rattle.psg_class.proofs.BeginLaws.{kind_small}
 use Rattle.psg_class.proofs.SlotLaws.{rest_parts}
 use Rattle.psg_class.proofs.LeadLaws.{at_part, at_item, token_part, part_token, slot_part, leads_of, of_leads, led_of, of_led}
@@ -33,7 +35,7 @@ pub record Describes (def : Definition) (words : List Name) (a : Parts) : Type 0
   pub shapes : a.shapes ≡ map (shape_of (length def.phyla + 4) words) def.operators
   pub phyla : a.phyla ≡ def.phyla
   pub lists : a.lists ≡ def.lists
-  pub holes : (p : ℕ) (b : Bool) → slice_get a.holes p ≡ Some b → ((b ≡ true) → HasHoles def p) × (HasHoles def p → b ≡ true)
+  pub holes : (p : ℕ) (b : Bool) → slice_get a.holes p ≡ Some b → ((b ≡ true) → HasHoles def (kinds.Phylum p)) × (HasHoles def (kinds.Phylum p) → b ≡ true)
   pub separators : (l n : ℕ) (k : ListKind) → slice_get a.separators l ≡ Some n → slice_get def.lists l ≡ Some k → number_of def words (fixed k.separator) ≡ Some n
   pub opening : number_of def words open_bracket ≡ Some a.opening
   pub closing : number_of def words close_bracket ≡ Some a.closing
@@ -229,7 +231,7 @@ module _ (def : Definition) (words : List Name) (a : Parts) (width : ℕ) (d : D
   inside_of n s j kind o = record { o = o.o; found = o.found; first = o.first; front = o.front; items = o.items }
 
   hole_number : (p : ℕ) (k : Phylum) → slice_get def.phyla p ≡ Some k → number_of def words (a_hole k.name) ≡ Some (3 + p)
-  hole_number p k at = ap (λ o. number_with o) (place_distinct (phylum_names def) k.name p d.distinct (get_map (λ (x : Phylum). x.name) def.phyla p k at)) where
+  hole_number p k at = ap (λ o. number_with o) (place_distinct (phylum_names def) k.name p d.distinct (slice_get-map_some (λ (x : Phylum). x.name) def.phyla p k at)) where
     number_with : Option ℕ → Option ℕ
     number_with None = None
     number_with (Some q) = Some (3 + q)
@@ -260,16 +262,16 @@ module _ (def : Definition) (words : List Name) (a : Parts) (width : ℕ) (d : D
   facts_mean r c (inl (inl (n, lt, (s, at, inr (j, lt', f))))) = slot_fact_means n s j r c at f
   facts_mean r c (inl (inr (p, lt, (k, hole, at, hs, inl (inl (h, (e, f))))))) =
       let at' : slice_get def.phyla p ≡ Some k = ap (λ l. slice_get l p) (sym d.phyla) ∙ at in
-      means_first (kinds.Phylum p) (kind_phylum p (get_inside def.phyla p k at')) r c e (a_hole k.name, hole_number p k at' ∙ ap Some (sym f), first_hole k at' ((d.holes p hole hs).0 h))
+      means_first (kinds.Phylum p) (kind_phylum p (slice_get_within def.phyla p k at')) r c e (a_hole k.name, hole_number p k at' ∙ ap Some (sym f), first_hole k at' ((d.holes p hole hs).0 h))
   facts_mean r c (inl (inr (p, lt, (k, hole, at, hs, inl (inr (h, (e, f))))))) =
       let at' : slice_get def.phyla p ≡ Some k = ap (λ l. slice_get l p) (sym d.phyla) ∙ at in
-      means_first (kinds.Phylum p) (kind_phylum p (get_inside def.phyla p k at')) r c e (open_bracket, d.opening ∙ ap Some (sym f), first_bracket k at' h)
+      means_first (kinds.Phylum p) (kind_phylum p (slice_get_within def.phyla p k at')) r c e (open_bracket, d.opening ∙ ap Some (sym f), first_bracket k at' h)
   facts_mean r c (inl (inr (p, lt, (k, hole, at, hs, inr (h, (e, f)))))) =
       let at' : slice_get def.phyla p ≡ Some k = ap (λ l. slice_get l p) (sym d.phyla) ∙ at in
-      means_follow (kinds.Phylum p) (kind_phylum p (get_inside def.phyla p k at')) r c e (close_bracket, d.closing ∙ ap Some (sym f), by_bracket k at' h refl)
+      means_follow (kinds.Phylum p) (kind_phylum p (slice_get_within def.phyla p k at')) r c e (close_bracket, d.closing ∙ ap Some (sym f), by_bracket k at' h refl)
   facts_mean r c (inr (l, lt, (k, m, at, ms, inl (u, (e, f))))) =
       let at' : slice_get def.lists l ≡ Some k = ap (λ ls. slice_get ls l) (sym d.lists) ∙ at in
-      means_first (kinds.List l) (kind_list l (get_inside def.lists l k at')) r c e (a_more, ap Some (ap (λ n. n + 3) (sym d.sizes.phyla_are) ∙ sym f), first_more k at' u)
+      means_first (kinds.List l) (kind_list l (slice_get_within def.lists l k at')) r c e (a_more, ap Some (ap (λ n. n + 3) (sym d.sizes.phyla_are) ∙ sym f), first_more k at' u)
   facts_mean r c (inr (l, lt, (k, m, at, ms, inr (e, f)))) =
       let at' : slice_get def.lists l ≡ Some k = ap (λ ls. slice_get ls l) (sym d.lists) ∙ at in
       means_follow (kinds.Phylum k.element) (inside.elements l k at) r c e (fixed k.separator, d.separators l m k ms at' ∙ ap Some (sym f), by_separator l k at' refl refl)
@@ -296,10 +298,10 @@ module _ (def : Definition) (words : List Name) (a : Parts) (width : ℕ) (d : D
   links_mean to from c (inr (l, lt, (k, at, inl (e, f)))) m =
       let at' : slice_get def.lists l ≡ Some k = ap (λ ls. slice_get ls l) (sym d.lists) ∙ at in
       let (t, num, x) = m.firsts (kinds.Phylum k.element) (inside.elements l k at) f in
-      means_first (kinds.List l) (kind_list l (get_inside def.lists l k at')) to c e (t, num, first_element k at' x)
+      means_first (kinds.List l) (kind_list l (slice_get_within def.lists l k at')) to c e (t, num, first_element k at' x)
   links_mean to from c (inr (l, lt, (k, at, inr (e, f)))) m =
       let at' : slice_get def.lists l ≡ Some k = ap (λ ls. slice_get ls l) (sym d.lists) ∙ at in
-      let (t, num, x) = m.follows (kinds.List l) (kind_list l (get_inside def.lists l k at')) f in
+      let (t, num, x) = m.follows (kinds.List l) (kind_list l (slice_get_within def.lists l k at')) f in
       means_follow (kinds.Phylum k.element) (inside.elements l k at) to c e (t, num, by_list l k at' refl x)
 
   -- what has grown is in the sets
@@ -313,7 +315,7 @@ module _ (def : Definition) (words : List Name) (a : Parts) (width : ℕ) (d : D
   Has r t = (c : ℕ) × (number_of def words t ≡ Some c) × Grown a r c
 
   shape_found : (n : ℕ) (o : Operator) → slice_get def.operators n ≡ Some o → slice_get a.shapes n ≡ Some (shape_of (length def.phyla + 4) words o)
-  shape_found n o found = ap (λ l. slice_get l n) d.shapes ∙ get_map (shape_of (length def.phyla + 4) words) def.operators n o found
+  shape_found n o found = ap (λ l. slice_get l n) d.shapes ∙ slice_get-map_some (shape_of (length def.phyla + 4) words) def.operators n o found
 
   phylum_found : (p : ℕ) (k : Phylum) → slice_get def.phyla p ≡ Some k → slice_get a.phyla p ≡ Some k
   phylum_found p k at = ap (λ l. slice_get l p) d.phyla ∙ at
@@ -325,40 +327,40 @@ module _ (def : Definition) (words : List Name) (a : Parts) (width : ℕ) (d : D
   has_leads p n t l =
       let (c, num, e) = of_leads def words d.known p n t l in
       let at = shape_found n l.o l.found in
-      (c, num, at_once (inl (inl (n, get_inside a.shapes n _ at, (shape_of (length def.phyla + 4) words l.o, at, inl (inl (e, sym l.phylum)))))))
+      (c, num, at_once (inl (inl (n, slice_get_within a.shapes n _ at, (shape_of (length def.phyla + 4) words l.o, at, inl (inl (e, sym l.phylum)))))))
 
   pub has_led : (p n : ℕ) (t : Terminal) → Led def p n t → Has (led_row a.rows p) t
   has_led p n t l =
       let (c, num, e, f) = of_led def words d.known p n t l in
       let at = shape_found n l.o l.found in
-      (c, num, at_once (inl (inl (n, get_inside a.shapes n _ at, (shape_of (length def.phyla + 4) words l.o, at, inl (inr ((l.slot, e), f, ap (led_row a.rows) (sym l.phylum))))))))
+      (c, num, at_once (inl (inl (n, slice_get_within a.shapes n _ at, (shape_of (length def.phyla + 4) words l.o, at, inl (inr ((l.slot, e), f, ap (led_row a.rows) (sym l.phylum))))))))
 
   hole_at : (p : ℕ) → p < length def.phyla → (b : Bool) × (slice_get a.holes p ≡ Some b)
-  hole_at p h = (get_or a.holes p false, get_at a.holes p false (let e = inside.holes in let f = ap length d.phyla in omega (arith, h, e, f)))
+  hole_at p h = (get_or a.holes p false, slice_get-get_or a.holes p false (let e = inside.holes in let f = ap length d.phyla in omega (arith, h, e, f)))
 
   pub has_first : (p : ℕ) (t : Terminal) → First def p t → Has (first_row a.rows (kinds.Phylum p)) t
   has_first p t (first_operator n l) = has_leads p n t l
   has_first p t (first_hole k at h) =
-      let (b, e) = hole_at p (get_inside def.phyla p k at) in
+      let (b, e) = hole_at p (slice_get_within def.phyla p k at) in
       let at' = phylum_found p k at in
-      (3 + p, hole_number p k at, at_once (inl (inr (p, get_inside a.phyla p k at', (k, b, at', e, inl (inl ((d.holes p b e).1 h, (refl, refl))))))))
+      (3 + p, hole_number p k at, at_once (inl (inr (p, slice_get_within a.phyla p k at', (k, b, at', e, inl (inl ((d.holes p b e).1 h, (refl, refl))))))))
   has_first p t (first_bracket k at b) =
-      let (hole, e) = hole_at p (get_inside def.phyla p k at) in
+      let (hole, e) = hole_at p (slice_get_within def.phyla p k at) in
       let at' = phylum_found p k at in
-      (a.opening, d.opening, at_once (inl (inr (p, get_inside a.phyla p k at', (k, hole, at', e, inl (inr (b, (refl, refl))))))))
+      (a.opening, d.opening, at_once (inl (inr (p, slice_get_within a.phyla p k at', (k, hole, at', e, inl (inr (b, (refl, refl))))))))
 
   separator_at : (l : ℕ) → l < length def.lists → (m : ℕ) × (slice_get a.separators l ≡ Some m)
-  separator_at l h = (get_or a.separators l 0, get_at a.separators l 0 (let e = inside.separators in let f = ap length d.lists in omega (arith, h, e, f)))
+  separator_at l h = (get_or a.separators l 0, slice_get-get_or a.separators l 0 (let e = inside.separators in let f = ap length d.lists in omega (arith, h, e, f)))
 
   pub has_list : (l : ℕ) (t : Terminal) → FirstOfList def l t → Has (first_row a.rows (kinds.List l)) t
   has_list l t (first_element k at f) =
       let (c, num, g) = has_first k.element t f in
       let at' = list_found l k at in
-      (c, num, by_link (a.rows.phyla + l) k.element (inr (l, get_inside a.lists l k at', (k, at', inl (refl, refl)))) g)
+      (c, num, by_link (a.rows.phyla + l) k.element (inr (l, slice_get_within a.lists l k at', (k, at', inl (refl, refl)))) g)
   has_list l t (first_more k at u) =
-      let (m, e) = separator_at l (get_inside def.lists l k at) in
+      let (m, e) = separator_at l (slice_get_within def.lists l k at) in
       let at' = list_found l k at in
-      (length def.phyla + 3, refl, at_once (inr (l, get_inside a.lists l k at', (k, m, at', e, inl (u, (refl, ap (λ n. n + 3) (sym d.sizes.phyla_are)))))))
+      (length def.phyla + 3, refl, at_once (inr (l, slice_get_within a.lists l k at', (k, m, at', e, inl (u, (refl, ap (λ n. n + 3) (sym d.sizes.phyla_are)))))))
 
   has_begin : (is : List Item) (ps : List Part) (t : Terminal) (to : ℕ) → Match (length def.phyla + 4) words is ps → BeginsWith def is t → ((c : ℕ) → TokenIn ps c → Grown a to c) → ((k : Kind) (c : ℕ) → SlotIn ps k → Grown a (first_row a.rows k) c → Grown a to c) → Has to t
   has_begin [] ps t to m b x y = absurd b
@@ -401,7 +403,7 @@ module _ (def : Definition) (words : List Name) (a : Parts) (width : ℕ) (d : D
       record {
         place = length (p.first ∷ p.front);
         slot = record { later = positive (length p.front); slot = here };
-        inner = get_inside (parts_of (length def.phyla + 4) words p.o.items) (length (p.first ∷ p.front)) (parts.Slot kind) here;
+        inner = slice_get_within (parts_of (length def.phyla + 4) words p.o.items) (length (p.first ∷ p.front)) (parts.Slot kind) here;
         match = after;
         own = ap₂ (λ x y. x && y) (ap (is_own p.o.phylum) here ∙ same_own p.o kind) (same_empty (length def.phyla + 4) words rest (drop (length (p.first ∷ p.front) + 1) (parts_of (length def.phyla + 4) words p.o.items)) after);
       } where
@@ -409,14 +411,14 @@ module _ (def : Definition) (words : List Name) (a : Parts) (width : ℕ) (d : D
         positive n = omega arith
 
   slot_link : (n : ℕ) (kind : Kind) (rest : List Item) (p : Inside def n kind rest) (q : PlaceOf n kind rest p.o) (from : ℕ) → SlotLink a.rows (shape_of (length def.phyla + 4) words p.o) q.place (follow_row a.rows kind) from → AllLinks a (follow_row a.rows kind) from
-  slot_link n kind rest p q from l = let at = shape_found n p.o p.found in inl (n, get_inside a.shapes n _ at, (shape_of (length def.phyla + 4) words p.o, at, (q.place, q.inner, l)))
+  slot_link n kind rest p q from l = let at = shape_found n p.o p.found in inl (n, slice_get_within a.shapes n _ at, (shape_of (length def.phyla + 4) words p.o, at, (q.place, q.inner, l)))
 
   pub has_follow : {k : Kind} {t : Terminal} → Follow def k t → Has (follow_row a.rows k) t
   has_follow {k = k} {t = t} (by_rest n rest p b) =
       let q = place_of n k rest p in
       let at = shape_found n p.o p.found in
       has_begin rest (drop (q.place + 1) (parts_of (length def.phyla + 4) words p.o.items)) t (follow_row a.rows k) q.match b
-      (λ c x. at_once (inl (inl (n, get_inside a.shapes n _ at, (shape_of (length def.phyla + 4) words p.o, at, inr (q.place, q.inner, record { kind = k; slot = q.slot; row_is = refl; token = x }))))))
+      (λ c x. at_once (inl (inl (n, slice_get_within a.shapes n _ at, (shape_of (length def.phyla + 4) words p.o, at, inr (q.place, q.inner, record { kind = k; slot = q.slot; row_is = refl; token = x }))))))
       (λ m c x g. by_link (follow_row a.rows k) (first_row a.rows m) (slot_link n k rest p q (first_row a.rows m) (record { kind = k; slot = q.slot; to_is = refl; source = inl (m, x, refl) })) g)
   has_follow {k = k} {t = t} (by_end n rest p e h f) =
       let (c, num, g) = has_follow f in
@@ -443,14 +445,14 @@ module _ (def : Definition) (words : List Name) (a : Parts) (width : ℕ) (d : D
         })) g,
       )
   has_follow {t = t} (by_separator {p = p} l k at e f) =
-      let (m, s) = separator_at l (get_inside def.lists l k at) in
+      let (m, s) = separator_at l (slice_get_within def.lists l k at) in
       let at' = list_found l k at in
-      (m, ap (number_of def words) f ∙ d.separators l m k s at, at_once (inr (l, get_inside a.lists l k at', (k, m, at', s, inr (ap (λ z. a.rows.kinds + z) (sym e), refl)))))
+      (m, ap (number_of def words) f ∙ d.separators l m k s at, at_once (inr (l, slice_get_within a.lists l k at', (k, m, at', s, inr (ap (λ z. a.rows.kinds + z) (sym e), refl)))))
   has_follow {t = t} (by_list {p = p} l k at e f) =
       let (c, num, g) = has_follow f in
       let at' = list_found l k at in
-      (c, num, by_link (a.rows.kinds + p) (a.rows.kinds + (a.rows.phyla + l)) (inr (l, get_inside a.lists l k at', (k, at', inr (ap (λ z. a.rows.kinds + z) (sym e), refl)))) g)
+      (c, num, by_link (a.rows.kinds + p) (a.rows.kinds + (a.rows.phyla + l)) (inr (l, slice_get_within a.lists l k at', (k, at', inr (ap (λ z. a.rows.kinds + z) (sym e), refl)))) g)
   has_follow {t = t} (by_bracket {p = p} k at b f) =
-      let (hole, e) = hole_at p (get_inside def.phyla p k at) in
+      let (hole, e) = hole_at p (slice_get_within def.phyla p k at) in
       let at' = phylum_found p k at in
-      (a.closing, ap (number_of def words) f ∙ d.closing, at_once (inl (inr (p, get_inside a.phyla p k at', (k, hole, at', e, inr (b, (refl, refl)))))))
+      (a.closing, ap (number_of def words) f ∙ d.closing, at_once (inl (inr (p, slice_get_within a.phyla p k at', (k, hole, at', e, inr (b, (refl, refl)))))))

@@ -1,6 +1,7 @@
 -- What one slot of an operator gives.
 use Rattle.std.proofs.lemmas.List.{take_all}
 use Rattle.std.proofs.Common.{◌≡◌, ◌≢◌, inl, inr, ℕ, zero, suc, ◌+◌, ◌-◌, ◌<◌, ◌≤◌, ◌&&◌, length-drop, Bool, true, false, List, [], ◌∷◌, length, take, drop, get_or, Some, slice_get, refl, ap, sym, ◌∙◌, subst, arith, true≢false}
+use Rattle.std.proofs.lemmas.Option.{slice_get-get_or}
 use Rattle.psg_grammar.specs.declared.types.Kind.{Kind}
 use Rattle.psg_grammar.specs.declared.types.Kind.TheVariants as kinds
 use Rattle.psg_class.specs.Forms.{is_own}
@@ -11,7 +12,6 @@ use Rattle.psg_class.specs.declared.sources.Rows.{Rows}
 use Rattle.psg_class.specs.declared.sources.Draft.{Draft}
 use Rattle.psg_class.specs.Sources.{Adds, NoLink, OneCell, Either, IsSlot, SlotFact, SlotLink, is_end, none_behind, behind, can_end, BeginFact, BeginLink, follow_row, led_row, kind_index}
 use Rattle.psg_class.proofs.Drafts.{adds_as, adds_both}
-use Rattle.psg_class.proofs.FormCells.{get_at}
 
 module _ (rows : Rows) (s : Shape) (place : ℕ) (kind : Kind) (later : 1 ≤ place) (at : slice_get s.parts place ≡ Some (parts.Slot kind)) where
   here : IsSlot s place kind
@@ -82,7 +82,7 @@ pub rest_parts : {X : Type 0} (P : X → Type 0) (xs : List X) (k : ℕ) → ((n
 rest_parts P xs k h n x e = h (k + n) x (sym (get_drop xs k n) ∙ e)
 
 pub slot_at : (xs ys : List Part) (place : ℕ) (d p : Part) → xs ≡ ys → place < length ys → get_or xs place d ≡ p → slice_get ys place ≡ Some p
-slot_at xs ys place d p e h is = get_at ys place d h ∙ ap Some (ap (λ l. get_or l place d) (sym e) ∙ is)
+slot_at xs ys place d p e h is = slice_get-get_or ys place d h ∙ ap Some (ap (λ l. get_or l place d) (sym e) ∙ is)
 
 pub ends_with : (s : Shape) (place : ℕ) (kind : Kind) (b : Bool) → slice_get s.parts place ≡ Some (parts.Slot kind) → b ≡ is_own s.phylum (Some (parts.Slot kind)) && none_behind (behind s place) → b ≡ is_end s place
 ends_with s place kind b at e = e ∙ ap (λ o. is_own s.phylum o && none_behind (behind s place)) (sym at)

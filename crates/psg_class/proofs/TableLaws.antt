@@ -1,5 +1,6 @@
 -- The tables of the check say of which terminals a condition fails.
 use Rattle.std.proofs.Common.{◌≡◌, inl, inr, ℕ, suc, ◌+◌, ◌<◌, ◌≤◌, Bool, true, false, List, [], ◌∷◌, ◌++◌, length, map, Option, Some, None, slice_get, refl, ap, sym, ◌∙◌, subst, arith}
+use Rattle.std.proofs.lemmas.Option.{slice_get_within, same_Some}
 use Rattle.std.specs.Prelude.{codes}
 use Rattle.psg_terms.specs.Names.{Name}
 use Rattle.psg_grammar.specs.declared.types.Phylum.{Phylum}
@@ -14,15 +15,11 @@ use Rattle.psg_class.specs.Failing.{lead_cell, led_cell, cells_from, bracket_cel
 use Rattle.psg_class.specs.Checks.{IsRead, IsFirstOf}
 use Rattle.psg_class.specs.declared.grid.Cell.{Cell}
 use Rattle.psg_class.specs.declared.shape.Shape.{Shape}
-use Rattle.psg_class.proofs.FormCells.{get_inside}
 use Rattle.psg_class.proofs.TwiceLaws.{Gives, once_there, once_back, twice_there, twice_back, twice_append, twice_left, twice_each, opens_there, opens_back, opens_never_twice}
 use Rattle.psg_class.proofs.LeadLaws.{leads_there, leads_back, led_there, led_back}
 use Rattle.psg_class.proofs.NumberLaws.{same_terminal, number_small}
 use Rattle.psg_class.proofs.TokenLaws.{IsTableOf, never, first_token, first_inside}
 use Rattle.psg_class.proofs.ReadLaws.{known, phylum_at}
-
-same_number : (n m : ℕ) → Some n ≡ Some m → n ≡ m
-same_number n m e = cc
 
 from_zero : (r p : ℕ) → r ≡ 0 + p → r ≡ p
 from_zero r p e = omega (arith, e)
@@ -138,14 +135,14 @@ module _ (def : Definition) (words : List Name) (shapes : List Shape) (read : Is
   same_first_back opening op r t (two_operators n m d l k) =
       let (c, num, g) = of_leads r n t l in
       let (c', num', h) = of_leads r m t k in
-      let same : c' ≡ c = same_number c' c (sym num' ∙ num) in (
+      let same : c' ≡ c = same_Some c' c (sym num' ∙ num) in (
         subst (λ p. p < length def.phyla) l.phylum (phylum_at def words shapes read n l.o l.found),
         (c, num, small t c num, twice_left r c (cells_from lead_cell shapes) (bracket_cells opening 0 def.phyla) (twice_back lead_cell r c shapes n m d g (subst (λ z. Gives lead_cell shapes r z m) same h))),
       )
   same_first_back opening op r t (with_bracket phylum at b n l) =
       let (c, num, g) = of_leads r n open_bracket l in
-      let same : c ≡ opening = same_number c opening (sym num ∙ op) in (
-        get_inside def.phyla r phylum at,
+      let same : c ≡ opening = same_Some c opening (sym num ∙ op) in (
+        slice_get_within def.phyla r phylum at,
         (
           c,
           num,
@@ -180,7 +177,7 @@ module _ (def : Definition) (words : List Name) (shapes : List Shape) (read : Is
   same_led_back r t (two_led n m d l k) =
       let (c, num, g) = of_led r n t l in
       let (c', num', h) = of_led r m t k in
-      let same : c' ≡ c = same_number c' c (sym num' ∙ num) in (
+      let same : c' ≡ c = same_Some c' c (sym num' ∙ num) in (
         subst (λ p. p < length def.phyla) l.phylum (phylum_at def words shapes read n l.o l.found),
         (c, num, small t c num, twice_back led_cell r c shapes n m d g (subst (λ z. Gives led_cell shapes r z m) same h)),
       )

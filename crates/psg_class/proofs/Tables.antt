@@ -2,6 +2,7 @@
 use Rattle.std.proofs.Common.{◌≡◌, ◌≢◌, ◌⊎◌, inl, inr, ℕ, zero, suc, ◌+◌, ◌*◌, ◌/◌, ◌<◌, ◌&&◌, ◌||◌, Bool, true, false, cond, List, [], ◌∷◌, ◌++◌, take, length, get_or, set, refl, ap, ap₂, sym, ◌∙◌, arith}
 use Rattle.std.proofs.lemmas.Nat.{div-mul-add}
 use Rattle.std.proofs.lemmas.List.{get_or-set_other, take_more}
+use Rattle.std.proofs.Math.Bool.{or_assoc, or-false}
 use Rattle.psg_class.specs.Grids.{unset, is_at, once, twice}
 use Rattle.psg_class.specs.declared.grid.Cell.{Cell}
 
@@ -22,14 +23,6 @@ unset-set [] k d lt e = absurd (omega arith)
 unset-set (m ∷ cells) zero d lt e = let n = unset cells in let h : ◌≡◌ {A = ℕ} (cond m 0 1) 1 = ap (λ b. cond b 0 1) e in omega arith
 unset-set (m ∷ cells) (suc k) d lt e = omega (arith, unset-set cells k d (omega arith) e)
 
-or_assoc : (a b d : Bool) → a || (b || d) ≡ (a || b) || d
-or_assoc true b d = refl
-or_assoc false b d = refl
-
-or_nothing : (a : Bool) → a || false ≡ a
-or_nothing true = refl
-or_nothing false = refl
-
 -- x and (y or z), or t and (y or z)
 spread : (a b d t e : Bool) → (a && (b || d)) || (t || (e && d)) ≡ ((a && b) || t) || ((a || e) && d)
 spread true true true true e = refl
@@ -46,11 +39,11 @@ spread false b d true e = refl
 spread false b d false e = refl
 
 pub once_front : (r c : ℕ) (xs : List Cell) (x : Cell) → once r c (xs ++ x ∷ []) ≡ once r c xs || is_at r c x
-once_front r c [] x = or_nothing (is_at r c x)
-once_front r c (y ∷ xs) x = ap (λ b. is_at r c y || b) (once_front r c xs x) ∙ or_assoc (is_at r c y) (once r c xs) (is_at r c x)
+once_front r c [] x = or-false (is_at r c x)
+once_front r c (y ∷ xs) x = ap (λ b. is_at r c y || b) (once_front r c xs x) ∙ sym (or_assoc (is_at r c y) (once r c xs) (is_at r c x))
 
 pub twice_front : (r c : ℕ) (xs : List Cell) (x : Cell) → twice r c (xs ++ x ∷ []) ≡ twice r c xs || (once r c xs && is_at r c x)
-twice_front r c [] x = or_nothing (is_at r c x && false) ∙ and_nothing (is_at r c x) where
+twice_front r c [] x = or-false (is_at r c x && false) ∙ and_nothing (is_at r c x) where
   and_nothing : (a : Bool) → a && false ≡ false
   and_nothing true = refl
   and_nothing false = refl

@@ -1,5 +1,6 @@
 -- The draft of a whole definition, and the sets that follow from it.
-use Rattle.std.proofs.Common.{◌≡◌, inl, inr, ℕ, ◌+◌, ◌<◌, ◌≤◌, Bool, true, false, List, [], length, Contains, Option, Some, slice_get, sym, ◌∙◌, subst, arith, true≢false}
+use Rattle.std.proofs.Common.{◌≡◌, inl, inr, ℕ, ◌+◌, ◌<◌, ◌≤◌, Bool, true, false, List, [], length, Contains, Some, slice_get, sym, ◌∙◌, subst, arith, true≢false}
+use Rattle.std.proofs.lemmas.Option.{slice_get_within, same_Some}
 use Rattle.std.specs.Prelude.{◌↔◌}
 use Rattle.psg_grammar.specs.declared.types.Phylum.{Phylum}
 use Rattle.psg_grammar.specs.declared.types.ListKind.{ListKind}
@@ -10,29 +11,25 @@ use Rattle.psg_class.specs.declared.sources.Rows.{Rows}
 use Rattle.psg_class.specs.declared.sources.Draft.{Draft}
 use Rattle.psg_class.specs.Sources.{Adds, NoLink, Either, Below, If, AtShape, ShapeFact, ShapeLink, PhylumFact, PhylumFactAt, ListFact, ListFactAt, ListLink, ListLinkAt, AllFacts, AllLinks, Parts, Grown, at_once, by_link, HasLink, link_of}
 use Rattle.psg_class.proofs.Drafts.{adds_as, adds_both, adds_more}
-use Rattle.psg_class.proofs.FormCells.{get_inside}
-
-some_same : {X : Type 0} (x y : X) → Some x ≡ Some y → x ≡ y
-some_same {X = X} x y e = let h : ◌≡◌ {A = Option X} (Some x) (Some y) = e in cc
 
 pub shape_at : (rows : Rows) (shapes : List Shape) (n : ℕ) (s : Shape) (a b : Draft) → slice_get shapes n ≡ Some s → Adds (ShapeFact rows s) (ShapeLink rows s) a b → Adds (AtShape (ShapeFact rows) shapes n) (AtShape (ShapeLink rows) shapes n) a b
 shape_at rows shapes n s a b at h = adds_as (ShapeFact rows s) (ShapeLink rows s) (AtShape (ShapeFact rows) shapes n) (AtShape (ShapeLink rows) shapes n) a b
-    (λ r c f. (s, at, f)) (λ r c (t, e, f). subst (λ z. ShapeFact rows z r c) (some_same t s (sym e ∙ at)) f)
-    (λ r c f. (s, at, f)) (λ r c (t, e, f). subst (λ z. ShapeLink rows z r c) (some_same t s (sym e ∙ at)) f) h
+    (λ r c f. (s, at, f)) (λ r c (t, e, f). subst (λ z. ShapeFact rows z r c) (same_Some t s (sym e ∙ at)) f)
+    (λ r c f. (s, at, f)) (λ r c (t, e, f). subst (λ z. ShapeLink rows z r c) (same_Some t s (sym e ∙ at)) f) h
 
 pub list_at : (rows : Rows) (lists : List ListKind) (separators : List ℕ) (n : ℕ) (k : ListKind) (m : ℕ) (a b : Draft) → slice_get lists n ≡ Some k → slice_get separators n ≡ Some m
     → Adds (ListFact rows n k.element k.unfinished m) (ListLink rows n k.element) a b → Adds (ListFactAt rows lists separators n) (ListLinkAt rows lists n) a b
 list_at rows lists separators n k m a b at ms h = adds_as (ListFact rows n k.element k.unfinished m) (ListLink rows n k.element) (ListFactAt rows lists separators n) (ListLinkAt rows lists n) a b
     (λ r c f. (k, m, at, ms, f))
-    (λ r c (j, i, e, g, f). subst (λ z. ListFact rows n z.element z.unfinished m r c) (some_same j k (sym e ∙ at)) (subst (λ z. ListFact rows n j.element j.unfinished z r c) (some_same i m (sym g ∙ ms)) f))
-    (λ t f l. (k, at, l)) (λ t f (j, e, l). subst (λ z. ListLink rows n z.element t f) (some_same j k (sym e ∙ at)) l) h
+    (λ r c (j, i, e, g, f). subst (λ z. ListFact rows n z.element z.unfinished m r c) (same_Some j k (sym e ∙ at)) (subst (λ z. ListFact rows n j.element j.unfinished z r c) (same_Some i m (sym g ∙ ms)) f))
+    (λ t f l. (k, at, l)) (λ t f (j, e, l). subst (λ z. ListLink rows n z.element t f) (same_Some j k (sym e ∙ at)) l) h
 
 pub phylum_at : (rows : Rows) (opening closing : ℕ) (phyla : List Phylum) (holes : List Bool) (p : ℕ) (k : Phylum) (hole : Bool) (a b c d : Draft) → slice_get phyla p ≡ Some k → slice_get holes p ≡ Some hole
     → Adds (If hole p (3 + p)) NoLink a b → Adds (If k.bracketed p opening) NoLink b c → Adds (If k.bracketed (rows.kinds + p) closing) NoLink c d → Adds (PhylumFactAt rows opening closing phyla holes p) NoLink a d
 phylum_at rows opening closing phyla holes p k hole a b c d at hs x y z =
     adds_as (PhylumFact rows opening closing p hole k.bracketed) (Either (Either NoLink NoLink) NoLink) (PhylumFactAt rows opening closing phyla holes p) NoLink a d
     (λ r m f. (k, hole, at, hs, f))
-    (λ r m (j, i, e, g, f). subst (λ w. PhylumFact rows opening closing p hole w.bracketed r m) (some_same j k (sym e ∙ at)) (subst (λ w. PhylumFact rows opening closing p w j.bracketed r m) (some_same i hole (sym g ∙ hs)) f))
+    (λ r m (j, i, e, g, f). subst (λ w. PhylumFact rows opening closing p hole w.bracketed r m) (same_Some j k (sym e ∙ at)) (subst (λ w. PhylumFact rows opening closing p w j.bracketed r m) (same_Some i hole (sym g ∙ hs)) f))
     (λ t f l. elim l [ inl m ↦ (elim m [ inl n ↦ n | inr n ↦ n ]) | inr m ↦ m ]) (λ t f l. absurd l)
     (adds_both (Either (If hole p (3 + p)) (If k.bracketed p opening)) (Either NoLink NoLink) (If k.bracketed (rows.kinds + p) closing) NoLink a c d
     (adds_both (If hole p (3 + p)) NoLink (If k.bracketed p opening) NoLink a b c x y) z)
@@ -78,10 +75,7 @@ module _ (a : Parts) (none shapes phyla lists : Draft) (dark : (r c : ℕ) → i
   pub grown : (r c : ℕ) → IsCell none.grid r c → Derives lists.grid lists.links.items r c ↔ Grown a r c
   grown r c cell = (λ d. there d cell, λ g. back g)
 
-pub both_ways : {A B C : Type 0} → A ↔ B → B ↔ C → A ↔ C
-both_ways (f, g) (h, k) = (λ a. h (f a), λ c. g (k c))
-
 pub all_shapes : (F E : Shape → ℕ → ℕ → Type 0) (shapes : List Shape) (n : ℕ) (a b : Draft) → length shapes ≤ n → Adds (Below (AtShape F shapes) n) (Below (AtShape E shapes) n) a b → Adds (Below (AtShape F shapes) (length shapes)) (Below (AtShape E shapes) (length shapes)) a b
 all_shapes F E shapes n a b h x = adds_as (Below (AtShape F shapes) n) (Below (AtShape E shapes) n) (Below (AtShape F shapes) (length shapes)) (Below (AtShape E shapes) (length shapes)) a b
-    (λ r c (j, lt, (s, at, f)). (j, get_inside shapes j s at, (s, at, f))) (λ r c (j, lt, f). (j, (omega arith), f))
-    (λ r c (j, lt, (s, at, f)). (j, get_inside shapes j s at, (s, at, f))) (λ r c (j, lt, f). (j, (omega arith), f)) x
+    (λ r c (j, lt, (s, at, f)). (j, slice_get_within shapes j s at, (s, at, f))) (λ r c (j, lt, f). (j, (omega arith), f))
+    (λ r c (j, lt, (s, at, f)). (j, slice_get_within shapes j s at, (s, at, f))) (λ r c (j, lt, f). (j, (omega arith), f)) x

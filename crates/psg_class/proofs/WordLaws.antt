@@ -1,5 +1,5 @@
 -- Words and their places.
-use Rattle.std.proofs.Common.{◌≡◌, ◌⊎◌, inl, inr, ℕ, zero, suc, ◌+◌, ◌||◌, Bool, true, false, cond, List, [], ◌∷◌, ◌++◌, length, Option, Some, None, slice_get, is_some, refl, ap, sym, ◌∙◌, subst, true≢false}
+use Rattle.std.proofs.Common.{◌≡◌, ◌⊎◌, inl, inr, ℕ, zero, suc, ◌+◌, ◌||◌, Bool, true, false, cond, List, [], ◌∷◌, ◌++◌, length, Option, Some, None, slice_get, is_some, refl, ap, sym, ◌∙◌, subst, true≢false, append-nil}
 use Rattle.std.proofs.lemmas.Bool.{cases_Bool, or_cases}
 use Rattle.std.specs.Prelude.{option_map, bytes_eq, codes}
 use Rattle.std.specs.Map.{update}
@@ -108,12 +108,8 @@ append_assoc' : (xs ys zs : List Name) → (xs ++ ys) ++ zs ≡ xs ++ (ys ++ zs)
 append_assoc' [] ys zs = refl
 append_assoc' (x ∷ xs) ys zs = ap (λ l. x ∷ l) (append_assoc' xs ys zs)
 
-append_nil' : (xs : List Name) → xs ++ [] ≡ xs
-append_nil' [] = refl
-append_nil' (x ∷ xs) = ap (λ l. x ∷ l) (append_nil' xs)
-
 pub operators_front : (os : List Operator) (o : Operator) → operator_words (os ++ o ∷ []) ≡ operator_words os ++ words_in o.items
-operators_front [] o = append_nil' (words_in o.items)
+operators_front [] o = append-nil (words_in o.items)
 operators_front (p ∷ os) o = ap (λ ws. words_in p.items ++ ws) (operators_front os o) ∙ sym (append_assoc' (words_in p.items) (operator_words os) (words_in o.items))
 
 pub separators_front : (ls : List ListKind) (l : ListKind) → separators (ls ++ l ∷ []) ≡ separators ls ++ l.separator ∷ []

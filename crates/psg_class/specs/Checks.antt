@@ -3,14 +3,16 @@ use Rattle.std.specs.Prelude.{ℕ, ◌≡◌, ◌⊎◌, ◌+◌, ◌<◌, Bool,
 use Rattle.std.specs.Prelude.{Some, None, MatchOption, Vec, slice_get, ◌==◌}
 use Rattle.std.specs.declared.alloc.Global.{Global}
 use Rattle.psg_terms.specs.Names.{Name, is_among}
+use Rattle.psg_grammar.specs.declared.types.Kind.TheVariants as kinds
 use Rattle.psg_grammar.specs.declared.types.Kind.{Kind}
 use Rattle.psg_grammar.specs.declared.types.ListKind.{ListKind}
 use Rattle.psg_grammar.specs.declared.types.Definition.{Definition}
 use Rattle.psg_grammar.specs.Sound.{IsSound}
 use Rattle.psg_grammar.specs.WellFormed.{fixed_words}
+use Rattle.psg_grammar.specs.Declaring.{HasHoles}
 use Rattle.psg_class.specs.Terminals.{Terminal}
 use Rattle.psg_class.specs.Class.{NeverAny}
-use Rattle.psg_class.specs.Follow.{HasHoles, FirstOfList, Follow}
+use Rattle.psg_class.specs.Follow.{FirstOfList, Follow}
 use Rattle.psg_class.specs.Refusal.{IsFirstToken, IsRefusal, IsOf}
 use Rattle.psg_class.specs.Numbers.{number_of, number_text, word_number}
 use Rattle.psg_class.specs.Shapes.{shape_of}
@@ -69,7 +71,7 @@ pub record AreSets (def : Definition) (words : List Name) (width : ℕ) (s : Set
 pub record AreHoles (def : Definition) (holes : List Bool) : Type 0 where
   pub one_each : length holes ≡ length def.phyla
   pub exact : (p : ℕ) (b : Bool) → slice_get holes p ≡ Some b
-      → ((b ≡ true) → HasHoles def p) × (HasHoles def p → b ≡ true)
+      → ((b ≡ true) → HasHoles def (kinds.Phylum p)) × (HasHoles def (kinds.Phylum p) → b ≡ true)
 
 -- the list has no element
 abbrev pub has_none : Vec ℕ Global → Bool

@@ -8,7 +8,7 @@ use Rattle.psg_grammar.specs.declared.types.Operator.{Operator}
 use Rattle.psg_grammar.specs.declared.types.Phylum.{Phylum}
 use Rattle.psg_grammar.specs.declared.types.ListKind.{ListKind}
 use Rattle.psg_grammar.specs.declared.types.Definition.{Definition}
-use Rattle.psg_grammar.specs.Declaring.{is_declaring}
+use Rattle.psg_grammar.specs.Declaring.{HasHoles}
 use Rattle.psg_class.specs.Terminals.{Terminal, fixed, a_hole, a_more, open_bracket, close_bracket, item_terminal}
 use Rattle.psg_class.specs.Places.{solid, is_own_last}
 
@@ -33,13 +33,9 @@ pub record Led (def : Definition) (p n : ℕ) (terminal : Terminal) : Type 0 whe
   pub items : solid o.items ≡ items.Slot slot ∷ item ∷ more
   pub begins : item_terminal item ≡ Some terminal
 
--- a phylum that declares in no space has placeholders
-abbrev pub HasHoles : Definition → ℕ → Type 0
-HasHoles def p = (s : ℕ) → is_declaring def s (kinds.Phylum p) ≡ false
-
 pub data First (def : Definition) : ℕ → Terminal → Type 0 where
   first_operator : {p : ℕ} {terminal : Terminal} (n : ℕ) → Leads def p n terminal → First def p terminal
-  first_hole : {p : ℕ} (phylum : Phylum) → slice_get def.phyla p ≡ Some phylum → HasHoles def p
+  first_hole : {p : ℕ} (phylum : Phylum) → slice_get def.phyla p ≡ Some phylum → HasHoles def (kinds.Phylum p)
       → First def p (a_hole phylum.name)
   first_bracket : {p : ℕ} (phylum : Phylum) → slice_get def.phyla p ≡ Some phylum → phylum.bracketed ≡ true
       → First def p open_bracket

@@ -1,10 +1,11 @@
 -- The items of an operator without marks for the layout, and the least levels of its slots.
-use Rattle.std.specs.Prelude.{ℕ, ◌&&◌, ◌==◌, max, Bool, true, false, cond, List, [], ◌∷◌}
+use Rattle.std.specs.Prelude.{ℕ, ◌≡◌, ◌&&◌, ◌==◌, max, Bool, true, false, cond, List, [], ◌∷◌, ◌++◌, length}
 use Rattle.psg_grammar.specs.declared.types.Kind.{Kind}
 use Rattle.psg_grammar.specs.declared.types.Kind.TheVariants as kinds
 use Rattle.psg_grammar.specs.declared.types.Item.{Item}
+use Rattle.psg_grammar.specs.declared.types.Item.TheVariants as items
 use Rattle.psg_grammar.specs.declared.types.Operator.{Operator}
-use Rattle.psg_grammar.specs.Levels.{first_level, last_level, is_mark}
+use Rattle.psg_grammar.specs.Levels.{first_level, last_level, least_level_of, is_mark}
 
 -- the items without the marks for the layout
 abbrev pub solid : List Item → List Item
@@ -28,3 +29,10 @@ slot_level o k first behind =
 -- the slot is of the own phylum and at the last place
 abbrev pub is_own_last : Operator → Kind → List Item → Bool
 is_own_last o kind behind = is_own o kind && is_empty behind
+
+-- Of each slot the least level is the same by its place among all items and by the items on both sides of it without
+-- the marks for the layout.
+abbrev pub HasSameLevels : Operator → Type 0
+HasSameLevels o =
+    (front : List Item) (kind : Kind) (behind : List Item) → o.items ≡ front ++ items.Slot kind ∷ behind
+    → least_level_of o (length front) ≡ slot_level o kind (is_empty (solid front)) (solid behind)

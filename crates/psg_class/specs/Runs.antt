@@ -10,10 +10,10 @@ use Rattle.psg_grammar.specs.declared.types.ListKind.{ListKind}
 use Rattle.psg_grammar.specs.declared.types.Definition.{Definition}
 use Rattle.psg_grammar.specs.Fragments.{Fragment, hole, ending, cell, operator, with_child}
 use Rattle.psg_grammar.specs.Fragments.{with_name, with_number, with_text}
-use Rattle.psg_class.specs.Follow.{HasHoles}
 use Rattle.psg_class.specs.Terminals.{open_bracket, close_bracket, Token, word, numeral, quoted, placeholder}
 use Rattle.psg_class.specs.Terminals.{dots, Terminal, fixed, a_name, terminal_of, next_terminal}
 use Rattle.psg_grammar.specs.Levels.{level_number, first_level}
+use Rattle.psg_grammar.specs.Declaring.{HasHoles}
 use Rattle.psg_class.specs.Places.{slot_level}
 use Rattle.psg_class.specs.Follow.{Leads, Led, FirstOfList}
 
@@ -39,7 +39,7 @@ Stops def p least ts = (n : ℕ) (terminal : Terminal) (l : Led def p n terminal
 
 pub data Run (def : Definition) : Task → List Token → Fragment → ℕ → List Token → Type 0 where
   run_hole : {p m d : ℕ} {g : Fragment} {rest s : List Token} {x : List ℕ} (phylum : Phylum)
-      → slice_get def.phyla p ≡ Some phylum → HasHoles def p → phylum.name ≡ x
+      → slice_get def.phyla p ≡ Some phylum → HasHoles def (kinds.Phylum p) → phylum.name ≡ x
       → Run def (grow p m (hole p) 0 None) rest g d s → Run def (start p m) (placeholder x ∷ rest) g d s
   run_bracket : {p m e : ℕ} {g : Fragment} {ts s : List Token} {t : Token} (f : Fragment) (d : ℕ) (rest : List Token)
       (phylum : Phylum) (u : Token) → slice_get def.phyla p ≡ Some phylum → phylum.bracketed ≡ true

@@ -11,10 +11,10 @@ use Rattle.psg_grammar.specs.declared.types.Definition.{Definition}
 use Rattle.psg_grammar.specs.Fragments.{Fragment, hole, ending, cell, operator, with_child}
 use Rattle.psg_grammar.specs.Fragments.{with_name, with_number, with_text}
 use Rattle.psg_grammar.specs.Levels.{level_number}
+use Rattle.psg_grammar.specs.Declaring.{HasHoles}
 use Rattle.psg_class.specs.Terminals.{Token, word, numeral, quoted, placeholder, dots, fixed}
 use Rattle.psg_class.specs.Terminals.{a_name, open_bracket, close_bracket, terminal_of}
 use Rattle.psg_class.specs.Places.{slot_level, solid}
-use Rattle.psg_class.specs.Follow.{HasHoles}
 
 -- TreeYields f p level depth ts: a tree of the phylum p yields the tokens at a level of at least this, with brackets
 -- nested so deep.
@@ -23,7 +23,7 @@ use Rattle.psg_class.specs.Follow.{HasHoles}
 -- ListYields f l depth ts: a list of the kind l. SomeYield: the same for a list with an element.
 mutual
   pub data TreeYields (def : Definition) : Fragment → ℕ → ℕ → ℕ → List Token → Type 0 where
-    of_hole : {p level : ℕ} (phylum : Phylum) → slice_get def.phyla p ≡ Some phylum → HasHoles def p
+    of_hole : {p level : ℕ} (phylum : Phylum) → slice_get def.phyla p ≡ Some phylum → HasHoles def (kinds.Phylum p)
         → TreeYields def (hole p) p level 0 (placeholder phylum.name ∷ [])
     of_operator : {f : Fragment} {p level depth : ℕ} {ts : List Token} (n : ℕ) (o : Operator)
         → slice_get def.operators n ≡ Some o → o.phylum ≡ p → level ≤ level_number o.level

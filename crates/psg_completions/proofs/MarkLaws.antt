@@ -1,5 +1,6 @@
 -- Marks by the open judgement are marks by legal completions.
 use Rattle.std.proofs.Common.{◌≡◌, ◌↔◌, inl, inr, ℕ, ◌+◌, List, [], ◌∷◌, ◌++◌, length, refl}
+use Rattle.psg_terms.proofs.Lists.{each_append, each_joined}
 use Rattle.std.specs.List.{AllByRecursion}
 use Rattle.psg_grammar.specs.declared.types.Kind.{Kind}
 use Rattle.psg_grammar.specs.declared.types.Kind.TheVariants as kinds
@@ -16,16 +17,6 @@ use Rattle.psg_grammar.specs.Sound.{IsSound}
 use Rattle.psg_completions.specs.Conditions.{HasTrueRows}
 use Rattle.psg_completions.specs.Completions.{MarkedByCompletions}
 use Rattle.psg_completions.proofs.Law.{open_or_completable}
-
-all_both : {X : Type 0} (P : X → Type 0) (xs ys : List X) → AllByRecursion P xs → AllByRecursion P ys
-    → AllByRecursion P (xs ++ ys)
-all_both P [] ys a b = b
-all_both P (x ∷ xs) ys (p, a) b = (p, all_both P xs ys a b)
-
-all_change : {X : Type 0} (P Q R : X → Type 0) → ((x : X) → P x → Q x → R x) → (xs : List X) → AllByRecursion P xs
-    → AllByRecursion Q xs → AllByRecursion R xs
-all_change P Q R f [] a b = tt
-all_change P Q R f (x ∷ xs) (p, a) (q, b) = (f x p q, all_change P Q R f xs a b)
 
 -- the same members are chosen where the properties agree
 chosen_change : {X : Type 0} (P Q : X → Type 0) (xs ys : List X) → AllByRecursion (λ x. P x ↔ Q x) xs → Chosen P xs ys
@@ -51,7 +42,7 @@ module _ (def : Definition) where
       ((kinds.Phylum k.element, (we, pe)), children_formed r [] (kinds.List l) wr pr)
   children_formed (operator o) more kind w pl = tt
   children_formed (with_child f t) more kind (k, wf, wt) (pf, pt) =
-      all_both IsFormed (children_of f) (t ∷ []) (children_formed f (items.Slot k ∷ more) kind wf pf)
+      each_append IsFormed (children_of f) (t ∷ []) (children_formed f (items.Slot k ∷ more) kind wf pf)
       ((k, (wt, pt)), tt)
   children_formed (with_name f x) more kind (inl (s, w), name) pl = children_formed f (items.Refers s ∷ more) kind w pl
   children_formed (with_name f x) more kind (inr (s, w), name) pl =
@@ -81,12 +72,12 @@ module _ (def : Definition) where
       let of_r = nodes_formed r [] (kinds.List l) wr pl.1 in
       record {
         below =
-            λ path n. all_both HasFormed (nodes_from (path ++ n ∷ []) e) (nodes_below path (n + 1) r)
+            λ path n. each_append HasFormed (nodes_from (path ++ n ∷ []) e) (nodes_below path (n + 1) r)
             (of_e.from (path ++ n ∷ []) refl) (of_r.below path (n + 1));
         from =
             λ path h. (
               whole (cell l e r) more kind w pl h,
-              all_both HasFormed (nodes_from (path ++ 0 ∷ []) e) (nodes_below path 1 r) (of_e.from (path ++ 0 ∷ []) refl)
+              each_append HasFormed (nodes_from (path ++ 0 ∷ []) e) (nodes_below path 1 r) (of_e.from (path ++ 0 ∷ []) refl)
                   (of_r.below path 1),
             );
       }
@@ -98,11 +89,11 @@ module _ (def : Definition) where
       let of_t = nodes_formed t [] k wt pl.1 in
       record {
         below =
-            λ path n. all_both HasFormed (nodes_below path n f) (nodes_from (path ++ length (children_of f) ∷ []) t)
+            λ path n. each_append HasFormed (nodes_below path n f) (nodes_from (path ++ length (children_of f) ∷ []) t)
             (of_f.below path n) (of_t.from (path ++ length (children_of f) ∷ []) refl);
         from = λ path h. (
           whole (with_child f t) more kind w pl h,
-          all_both HasFormed (nodes_below path 0 f) (nodes_from (path ++ length (children_of f) ∷ []) t)
+          each_append HasFormed (nodes_below path 0 f) (nodes_from (path ++ length (children_of f) ∷ []) t)
               (of_f.below path 0) (of_t.from (path ++ length (children_of f) ∷ []) refl),
         );
       }
@@ -142,12 +133,12 @@ module _ (def : Definition) where
         let children = children_formed l.node [] k w pl in (
           (λ (bad, all). (
             (λ c. bad ((agree l.node (k, (w, pl))).1 c)),
-            all_change IsFormed (IsOpen def) (IsCompletable def) (λ t h o. (agree t h).0 o) (children_of l.node)
+            each_joined IsFormed (IsOpen def) (IsCompletable def) (λ t h o. (agree t h).0 o) (children_of l.node)
                 children all,
           )),
           (λ (bad, all). (
             (λ o. bad ((agree l.node (k, (w, pl))).0 o)),
-            all_change IsFormed (IsCompletable def) (IsOpen def) (λ t h c. (agree t h).1 c) (children_of l.node)
+            each_joined IsFormed (IsCompletable def) (IsOpen def) (λ t h c. (agree t h).1 c) (children_of l.node)
                 children all,
           )),
         )

@@ -1,7 +1,7 @@
 -- A tree whose node at a path is observed is of the tree's kind.
 use Rattle.std.proofs.Common.{◌≡◌, inl, inr, ℕ, zero, suc, ◌+◌, ◌==◌, true, false, cond, List, [], ◌∷◌, ◌++◌, length, slice_get, option_and_then, Option, Some, None, refl, sym, ◌∙◌, subst, arith, length-append, eq-eqb}
 use Rattle.std.proofs.lemmas.Bool.Decides.{eqb_tells}
-use Rattle.std.proofs.lemmas.Option.{none-some}
+use Rattle.std.proofs.lemmas.Option.{none-some, slice_get_past}
 use Rattle.psg_grammar.specs.declared.types.Kind.{Kind}
 use Rattle.psg_grammar.specs.declared.types.Kind.TheVariants as kinds
 use Rattle.psg_grammar.specs.declared.types.Item.{Item}
@@ -10,7 +10,7 @@ use Rattle.psg_grammar.specs.declared.types.Definition.{Definition}
 use Rattle.psg_grammar.specs.Fragments.{Fragment, hole, ending, cell, operator, with_child, with_name, with_number, with_text, anything, observed, children_of}
 use Rattle.psg_grammar.specs.Paths.{Path, node_at, change_child, observe}
 use Rattle.psg_grammar.specs.WellFormed.{Fits, IsUnobserved}
-use Rattle.psg_grammar.proofs.PathLaws.{before, at_end, past, spot, got_front, got_next, got_past}
+use Rattle.psg_grammar.proofs.PathLaws.{before, at_end, past, spot, got_front, got_next}
 
 -- a change of a child does not observe the node above it
 change_unobserved : (g : Fragment → Fragment) (k : ℕ) (f : Fragment) → IsUnobserved f
@@ -62,7 +62,7 @@ module _ (def : Definition) where
     | past lt ↦
         let l : length (children_of f ++ c ∷ []) ≡ length (children_of f) + 1 =
         length-append (children_of f) (c ∷ []) in
-        absurd (none-some t (sym (got_past (children_of f ++ c ∷ []) k (omega (arith, lt, l))) ∙ e))
+        absurd (none-some t (sym (slice_get_past (children_of f ++ c ∷ []) k (omega (arith, lt, l))) ∙ e))
   ]
   child_fits g k (with_name f n) more kind t e keeps (inl (s, h), name) =
       (inl (s, child_fits g k f (items.Refers s ∷ more) kind t e keeps h), name)

@@ -2,6 +2,8 @@
 use Rattle.std.proofs.Common.{◌≡◌, inl, inr, ℕ, zero, suc, ◌+◌, ◌<◌, length, ◌==◌, Bool, true, false, cond, List, [], ◌∷◌, ◌++◌, map, slice_get, Some, refl, ap, ap₂, sym, ◌∙◌, subst, arith, append_assoc, append-nil, eq-eqb}
 use Rattle.std.specs.List.{AllByRecursion}
 use Rattle.std.proofs.lemmas.Option.{none-some}
+use Rattle.psg_terms.proofs.SortTests.{have-push}
+use Rattle.psg_terms.proofs.Applied.{applied-substitute}
 use Rattle.psg_terms.specs.Terms.{Term, variable, symbol, apply, applied}
 use Rattle.psg_terms.specs.Signature.{Signature, Symbol, HasSort, HaveSorts, Takes, constructors_from, constructors_of}
 use Rattle.psg_terms.specs.Instances.{Substitution, substitute, IsGround, IsGrounding}
@@ -32,13 +34,6 @@ record Spelled (sig : Signature) (v : Term) (wanted : List ℕ) (sort : ℕ) : T
 applied_more : (t : Term) (xs : List Term) (a : Term) → apply (applied t xs) a ≡ applied t (xs ++ a ∷ [])
 applied_more t [] a = refl
 applied_more t (x ∷ xs) a = applied_more (apply t x) xs a
-
-sorts_more : (sig : Signature) (xs : List Term) (ss : List ℕ) (a : Term) (s : ℕ) → HaveSorts sig xs ss
-    → HasSort sig a s → HaveSorts sig (xs ++ a ∷ []) (ss ++ s ∷ [])
-sorts_more sig [] [] a s h p = (p, tt)
-sorts_more sig [] (r ∷ ss) a s h p = absurd h
-sorts_more sig (x ∷ xs) [] a s h p = absurd h
-sorts_more sig (x ∷ xs) (r ∷ ss) a s (q, h) p = (q, sorts_more sig xs ss a s h p)
 
 ground_more : (xs : List Term) (a : Term) → AllByRecursion IsGround xs → IsGround a
     → AllByRecursion IsGround (xs ++ a ∷ [])
@@ -71,7 +66,7 @@ spelled sig (apply f a) wanted sort (gf, ga) (s, tf, ta) =
       arguments = r.arguments ++ a ∷ [];
       is = ap (λ t. apply t a) r.is ∙ applied_more (symbol r.number) r.arguments a;
       sorts = r.sorts ++ s ∷ [];
-      sorted = sorts_more sig r.arguments r.sorts a s r.sorted ta;
+      sorted = have-push sig r.arguments r.sorts a s r.sorted ta;
       ground = ground_more r.arguments a r.ground ga;
       takes = r.takes ∙ sym (append_assoc r.sorts (s ∷ []) wanted);
     }
@@ -112,16 +107,11 @@ pub sort_in : (sig : Signature) → IsSound sig → (u : Term) (s : ℕ) → IsG
 sort_in sig sound u s g h = let r = spelled sig u [] s g h in
     subst (λ x. x < length sig.sorts) r.makes (made_in sig sig.symbols r.number r.made sound.closed r.found)
 
-substitute_applied : (f : Substitution) (t : Term) (xs : List Term)
-    → substitute f (applied t xs) ≡ applied (substitute f t) (map (substitute f) xs)
-substitute_applied f t [] = refl
-substitute_applied f t (x ∷ xs) = substitute_applied f (apply t x) xs
-
 -- a constructor over terms is the instance of the constructor over what they are instances of
 spelled_value : (f : Substitution) (n c : ℕ) (xs vs : List Term) (v term : Term) → v ≡ applied (symbol n) vs → n ≡ c
     → map (substitute f) xs ≡ vs → term ≡ applied (symbol c) xs → v ≡ substitute f term
 spelled_value f n c xs vs v term is same made over =
-    is ∙ ap₂ (λ k ys. applied (symbol k) ys) same (sym made) ∙ sym (substitute_applied f (symbol c) xs)
+    is ∙ ap₂ (λ k ys. applied (symbol k) ys) same (sym made) ∙ sym (applied-substitute f (symbol c) xs)
     ∙ ap (substitute f) (sym over)
 
 module _ (sig : Signature) (sound : IsSound sig) where

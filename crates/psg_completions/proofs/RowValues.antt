@@ -1,5 +1,6 @@
 -- What hole rows, hole places and cell rows say of ground terms.
 use Rattle.std.proofs.Common.{◌≡◌, inl, inr, ℕ, [], ◌∷◌, map, slice_get, Some, refl, ap, ap₂, sym, ◌∙◌, subst}
+use Rattle.psg_terms.proofs.Lists.{each_at}
 use Rattle.psg_terms.specs.Terms.{Term, variable, symbol, apply}
 use Rattle.psg_terms.specs.Signature.{Signature, HasSort, HaveSorts}
 use Rattle.psg_terms.specs.Instances.{Substitution, substitute, IsInstance, IsGround, IsGrounding}
@@ -17,7 +18,7 @@ use Rattle.psg_grammar.specs.declared.types.Definition.{Definition}
 use Rattle.psg_grammar.specs.Legal.{IsOfTerm}
 use Rattle.psg_grammar.specs.Open.{IsOfHoleRow, IsOfCellRow}
 use Rattle.psg_grammar.specs.Sound.{IsSound, IsHoleRow, IsHolePlace, IsRow, IsTermOf, HasKindSort}
-use Rattle.psg_grammar.proofs.SoundParts.{each_at, list_sound}
+use Rattle.psg_grammar.proofs.SoundParts.{list_sound}
 use Rattle.psg_completions.specs.Places.{IsOfOneRow}
 use Rattle.psg_completions.specs.Elements.{IsAbsent, IsClear}
 use Rattle.psg_completions.proofs.Override.{override, override_same, override_cases, override_grounding}

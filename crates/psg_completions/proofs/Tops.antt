@@ -1,5 +1,6 @@
 -- The operator at the top of a tree and its items.
 use Rattle.std.proofs.Common.{◌≡◌, inl, inr, ℕ, ◌+◌, false, List, [], ◌∷◌, ◌++◌, length, slice_get, Some, refl, ap, ap₂, sym, ◌∙◌, subst, arith, append_assoc}
+use Rattle.psg_terms.proofs.Lists.{slice_get-middle}
 use Rattle.std.specs.Option.{option_and_then}
 use Rattle.psg_grammar.specs.declared.types.Kind.{Kind}
 use Rattle.psg_grammar.specs.declared.types.Item.{Item}
@@ -10,10 +11,6 @@ use Rattle.psg_grammar.specs.Lookups.{is_scope, operator_at, next_item, items_of
 use Rattle.psg_grammar.specs.WellFormed.{Fits}
 use Rattle.psg_grammar.specs.declared.types.Kind.TheVariants as kinds
 use Rattle.psg_grammar.specs.declared.types.Item.TheVariants as items
-
-slice_behind : (front rest : List Item) (i : Item) → slice_get (front ++ i ∷ rest) (length front) ≡ Some i
-slice_behind [] rest i = refl
-slice_behind (x ∷ front) rest i = slice_behind front rest i
 
 module _ (def : Definition) where
   -- an operator's node, with or without parts
@@ -140,4 +137,4 @@ module _ (def : Definition) where
       let t = top_of f (i ∷ more) kind (node_before f i more kind w) w in
       ap₂ (λ o n. slice_get (items_of (option_and_then (operator_at def) o)) n) t.top (sym t.so_many)
       ∙ ap (λ o. slice_get (items_of o) (length t.front)) t.found ∙ ap (λ l. slice_get l (length t.front)) t.parts
-      ∙ slice_behind t.front more i
+      ∙ slice_get-middle t.front i more

@@ -1,5 +1,6 @@
 -- What true rows give of each case and of each declare row.
 use Rattle.std.proofs.Common.{◌≡◌, ℕ, suc, List, [], ◌∷◌, map, slice_get, Some, sym, ◌∙◌, subst, refl}
+use Rattle.psg_terms.proofs.Lists.{each_at, each_joined}
 use Rattle.std.specs.List.{AllByRecursion}
 use Rattle.psg_terms.specs.Terms.{Term}
 use Rattle.psg_terms.specs.Signature.{HasSort}
@@ -19,7 +20,6 @@ use Rattle.psg_grammar.specs.Open.{Choice, IsOfHoleRow, IsOfCellRow}
 use Rattle.psg_grammar.specs.Specimens.{tree_of, holes_of}
 use Rattle.psg_grammar.specs.Placed.{FitsPlaces}
 use Rattle.psg_grammar.specs.Sound.{IsSound, IsCase, IsDeclareRow, IsHolePlace, kind_of, HasKindSort}
-use Rattle.psg_grammar.proofs.SoundParts.{each_at}
 use Rattle.psg_completions.specs.Counts.{count}
 use Rattle.psg_completions.specs.Places.{IsPart, IsOfOneRow}
 use Rattle.psg_completions.specs.General.{it, terms_at, Shows}
@@ -32,11 +32,6 @@ all_numbers : {X : Type 0} (P : X → Type 0) (xs : List X) → ((k : ℕ) (x : 
     → AllByRecursion P xs
 all_numbers P [] h = tt
 all_numbers P (x ∷ xs) h = (h 0 x refl, all_numbers P xs (λ k y e. h (suc k) y e))
-
-all_with : {X : Type 0} (P Q R : X → Type 0) → ((x : X) → P x → Q x → R x) → (xs : List X) → AllByRecursion P xs
-    → AllByRecursion Q xs → AllByRecursion R xs
-all_with P Q R f [] a b = tt
-all_with P Q R f (x ∷ xs) (p, a) (q, b) = (f x p q, all_with P Q R f xs a b)
 
 module _ (def : Definition) where
   -- each value of the hole place is of one hole row of its kind
@@ -71,7 +66,7 @@ module _ (def : Definition) where
     filled_places : (s : Specimen) → AllByRecursion (IsHolePlace def) (holes_of s)
         → AllByRecursion (IsOfOneRow def) (holes_of s) → AllByRecursion IsFilled (holes_of s)
     filled_places s places open_places =
-        all_with (IsHolePlace def) (IsOfOneRow def) IsFilled
+        each_joined (IsHolePlace def) (IsOfOneRow def) IsFilled
         (λ h place o. (o.number, λ f ground. of_one_row def sound h f ground place o)) (holes_of s) places open_places
 
     pub usable_case : (r : ℕ) (row : HoleRow) → slice_get def.hole_rows r ≡ Some row → (c : ℕ) (one : Case)

@@ -1,17 +1,18 @@
 -- Rows of a front, and what is added to them.
 use Rattle.std.proofs.Common.{◌≡◌, ◌⊎◌, ◌↔◌, ◌<◌, ◌+◌, ◌==◌, inl, inr, ℕ, Bool, eqb-true, arith, IsTrue, List, [], ◌∷◌, ◌++◌, take, length, get_or, Some, slice_get, refl, ap, sym, ◌∙◌, subst}
+use Rattle.std.proofs.lemmas.List.{get_or_default}
+use Rattle.psg_terms.proofs.Lists.{take_item, in_left}
 use Rattle.psg_terms.specs.Terms.{Term}
 use Rattle.psg_terms.specs.Signature.{AreTerms, HaveSorts}
 use Rattle.psg_terms.specs.Relations.{IsIn, first}
-use Rattle.psg_terms.proofs.DeclareLaws.{take-next}
-use Rattle.psg_relation.proofs.Members.{in-left, in-last, in-split, in-next}
+use Rattle.psg_relation.proofs.Members.{in-last, in-split, in-next}
 use Rattle.psg_grammar.specs.declared.types.Kind.{Kind}
 use Rattle.psg_grammar.specs.declared.types.HoleRow.{HoleRow}
 use Rattle.psg_grammar.specs.declared.types.Definition.{Definition}
 use Rattle.psg_grammar.specs.Sound.{IsSound}
 use Rattle.psg_covering.specs.Choices.{Fits, HasCover, HaveKindSorts, IsCovered, IsCoveredFor, IsRowOf}
 use Rattle.psg_covering.specs.Fronts.{Adds, AllCovered, AllFit, AreBare, IsChosen, IsNone}
-use Rattle.psg_covering.proofs.Firsts.{any_default, take_all}
+use Rattle.psg_covering.proofs.Firsts.{take_all}
 use Rattle.psg_covering.proofs.SlotChoices.{choices_covered, cover_covers, covered_choice, covered_made, last_covered, made_covered, none_covered}
 
 module _ (def : Definition) (kind : Kind) where
@@ -34,7 +35,7 @@ module _ (def : Definition) (kind : Kind) where
       | inr e ↦ none (subst (HasCover def kind) (let d : ◌≡◌ {A = List Term} (t ∷ ts) (head ∷ columns) = e in let s : t ≡ head = cc in s) c)
     ];
     covered = (
-      λ h. (λ row i. h row (in-left row rows ((head ∷ columns) ∷ []) i), h (head ∷ columns) (in-last (head ∷ columns) rows)),
+      λ h. (λ row i. h row (in_left row rows ((head ∷ columns) ∷ []) i), h (head ∷ columns) (in-last (head ∷ columns) rows)),
       λ h row i. elim (in-split row (head ∷ columns) rows i) [ inl a ↦ h.0 row a | inr e ↦ subst (IsCovered def kind ks) (sym e) h.1 ],
     );
   }
@@ -112,8 +113,8 @@ module _ (def : Definition) (kind : Kind) where
       | inr e ↦ subst (IsCoveredFor def kind ks row) (same r g e k) now
     ],
     λ all. (
-      λ r j. all r (subst (IsIn r) (sym (take-next numbers i number lt is)) (in-left r (take i numbers) (number ∷ []) j)),
-      all number (subst (IsIn number) (sym (take-next numbers i number lt is)) (in-last number (take i numbers))) h of,
+      λ r j. all r (subst (IsIn r) (sym (take_item numbers i number lt is)) (in_left r (take i numbers) (number ∷ []) j)),
+      all number (subst (IsIn number) (sym (take_item numbers i number lt is)) (in-last number (take i numbers))) h of,
     ),
   ) where
     same : (r : ℕ) (g : HoleRow) → r ≡ number → IsRowOf def slot r g → h ≡ g
@@ -135,8 +136,8 @@ module _ (def : Definition) (kind : Kind) where
   next_more slot ks rows i row lt is = (
     λ (before, now) r j. elim (in-next r rows i row lt is j) [ inl a ↦ before r a | inr e ↦ subst (IsCovered def kind (slot ∷ ks)) (sym e) now ],
     λ all. (
-      λ r j. all r (subst (IsIn r) (sym (take-next rows i row lt is)) (in-left r (take i rows) (row ∷ []) j)),
-      all row (subst (IsIn row) (sym (take-next rows i row lt is)) (in-last row (take i rows))),
+      λ r j. all r (subst (IsIn r) (sym (take_item rows i row lt is)) (in_left r (take i rows) (row ∷ []) j)),
+      all row (subst (IsIn row) (sym (take_item rows i row lt is)) (in-last row (take i rows))),
     ),
   )
 
@@ -152,7 +153,7 @@ module _ (def : Definition) (kind : Kind) where
       let number = get_or numbers i 0 in
       adds_same ks old new (AreCoveredBy slot ks row (take i numbers) × IsCoveredFor def kind ks row h) (AreCoveredBy slot ks row (take (i + 1) numbers))
       (adds_both ks old mid new (AreCoveredBy slot ks row (take i numbers)) (IsCoveredFor def kind ks row h) a b)
-      (by_more slot ks row numbers i number h lt (any_default numbers i 0 number lt) of)
+      (by_more slot ks row numbers i number h lt (get_or_default numbers i 0 number lt) of)
 
   pub choices_end : (slot : Kind) (ks : List Kind) (row : List Term) (old new : List (List Term)) (numbers items : List ℕ) (i : ℕ) → numbers ≡ items → i ≡ length numbers
       → ((r : ℕ) (h : HoleRow) → IsRowOf def slot r h → IsIn r items ⊎ IsNone def row h) → Adds def kind ks old new (AreCoveredBy slot ks row (take i numbers))

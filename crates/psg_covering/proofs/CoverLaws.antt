@@ -1,6 +1,8 @@
 -- Terms that are instances of those of hole rows.
 use Rattle.std.proofs.Common.{◌≡◌, ◌≢◌, ℕ, zero, suc, ◌<◌, ◌+◌, inl, inr, List, [], ◌∷◌, length, take, get_or, map, slice_get, refl, sym, ap, ◌∙◌, subst, arith}
-use Rattle.psg_terms.specs.Terms.{Term, variable, symbol, apply, applied}
+use Rattle.psg_terms.proofs.Applied.{applied-substitute}
+use Rattle.psg_terms.proofs.Lists.{slice_get_once}
+use Rattle.psg_terms.specs.Terms.{Term, variable, symbol, applied}
 use Rattle.psg_terms.specs.Instances.{Substitution, substitute, IsInstance}
 use Rattle.psg_terms.specs.Relations.{IsIn}
 use Rattle.psg_terms.proofs.Nodes.{no_variable, same_arguments, same_constructor}
@@ -9,17 +11,13 @@ use Rattle.psg_grammar.specs.declared.types.Kind.{Kind}
 use Rattle.psg_grammar.specs.declared.types.HoleRow.{HoleRow}
 use Rattle.psg_grammar.specs.declared.types.Definition.{Definition}
 use Rattle.psg_covering.specs.Choices.{HasCover, IsRowOf}
-use Rattle.psg_covering.proofs.Firsts.{get_same, take_all}
-
-pub substitute_applied : (f : Substitution) (t : Term) (xs : List Term) → substitute f (applied t xs) ≡ applied (substitute f t) (map (substitute f) xs)
-substitute_applied f t [] = refl
-substitute_applied f t (x ∷ xs) = substitute_applied f (apply t x) xs
+use Rattle.psg_covering.proofs.Firsts.{take_all}
 
 pub term_of_one : (u v : Term) → u ∷ [] ≡ v ∷ [] → u ≡ v
 term_of_one u v e = let h : ◌≡◌ {A = List Term} (u ∷ []) (v ∷ []) = e in cc
 
 made : (special general : Term) (c : ℕ) (xs : List Term) → general ≡ applied (symbol c) xs → (f : Substitution) → special ≡ substitute f general → special ≡ applied (symbol c) (map (substitute f) xs)
-made special general c xs e f is = is ∙ ap (substitute f) e ∙ substitute_applied f (symbol c) xs
+made special general c xs e f is = is ∙ ap (substitute f) e ∙ applied-substitute f (symbol c) xs
 
 pub other_constructor : (special general : Term) (c d : ℕ) (xs ys : List Term) → general ≡ applied (symbol c) xs → special ≡ applied (symbol d) ys → c ≢ d
     → (f : Substitution) → special ≡ substitute f general → ⊥
@@ -63,7 +61,7 @@ module _ (def : Definition) (kind : Kind) (head : Term) where
       → IsRowOf def kind number h → (IsInstance (head ∷ []) (h.term ∷ []) → ⊥) → NoneCovers (take i numbers) → NoneCovers (take (i + 1) numbers)
   none_more numbers i number h lt is at refuted before r j g of instance = elim (in-next r numbers i number lt is j) [
     | inl a ↦ before r a g of instance
-    | inr e ↦ refuted (subst (λ (x : HoleRow). IsInstance (head ∷ []) (x.term ∷ [])) (get_same def.hole_rows number g h (ap (slice_get def.hole_rows) (sym e) ∙ of.0) at.0) instance)
+    | inr e ↦ refuted (subst (λ (x : HoleRow). IsInstance (head ∷ []) (x.term ∷ [])) (slice_get_once def.hole_rows number g h (ap (slice_get def.hole_rows) (sym e) ∙ of.0) at.0) instance)
   ]
 
   pub none_at_all : (numbers items : List ℕ) (i : ℕ) → numbers ≡ items → i ≡ length numbers

@@ -5,23 +5,25 @@ use Rattle.std.specs.HashMap.{HashMap}
 use Rattle.std.specs.Map.{lookup}
 use Rattle.std.specs.declared.hash.FoldHasher.{FoldHasher}
 use Rattle.std.specs.declared.hash.BuildHasherDefault.{BuildHasherDefault}
-use Rattle.std.proofs.lemmas.Bool.{cases_lt}
+use Rattle.std.proofs.lemmas.Bool.{cases_lt, cases_eq}
 use Rattle.std.proofs.Math.Nat.{min-le_left}
-use Rattle.std.proofs.lemmas.Bool.Decides.{nat_tests}
+use Rattle.std.proofs.lemmas.Option.{slice_get_within}
+use Rattle.psg_terms.proofs.InstanceLaws.{substitute-variable}
+use Rattle.psg_terms.proofs.Applied.{applied-substitute}
+use Rattle.psg_terms.proofs.Lists.{take_item, in_left, slice_get_once, eqb-refl}
 use Rattle.psg_terms.specs.Terms.{Term, variable, symbol, apply, applied}
 use Rattle.psg_terms.specs.Instances.{Substitution, substitute, IsInstance}
 use Rattle.psg_terms.specs.Relations.{IsIn, first, later}
 use Rattle.psg_relation.specs.Heads.{head_of, items_of, places_at}
-use Rattle.psg_terms.proofs.DeclareLaws.{take-next}
-use Rattle.psg_relation.proofs.Members.{in-left, in-last, in-split, in-next, not_cons}
+use Rattle.psg_relation.proofs.Members.{in-last, in-split, in-next, not_cons}
 use Rattle.psg_grammar.specs.declared.types.Kind.{Kind}
 use Rattle.psg_grammar.specs.declared.types.HoleRow.{HoleRow}
 use Rattle.psg_grammar.specs.declared.types.Definition.{Definition}
 use Rattle.psg_covering.specs.Choices.{IsRowOf}
 use Rattle.psg_covering.specs.Fronts.{AreRowsOf, IsNone, IsNoted}
 use Rattle.psg_covering.specs.Index.{AreIndexed, AreMet, Begins, Collects, heads_in, IsFound, IsPut, key_of, kind_key, listed, Meets, next_key, Puts}
-use Rattle.psg_covering.proofs.CoverLaws.{substitute_applied, term_of_one}
-use Rattle.psg_covering.proofs.Firsts.{get_inside, get_same, number_cases, take_all}
+use Rattle.psg_covering.proofs.CoverLaws.{term_of_one}
+use Rattle.psg_covering.proofs.Firsts.{take_all}
 
 -- ---- how a term begins
 
@@ -84,14 +86,14 @@ led_more con args i many a x old new few within is e push (xs, d, h) = (
   xs ++ x ∷ [],
   push ∙ ap (λ l. l ++ x ∷ []) d,
   subst (λ l. AreHeads l (xs ++ x ∷ []))
-      (sym (take-next args i a (let le = min-le_left (length args) 2 in omega (arith, few, within, le)) is)) (heads_push (take i args) xs a x h (sym e)),
+      (sym (take_item args i a (let le = min-le_left (length args) 2 in omega (arith, few, within, le)) is)) (heads_push (take i args) xs a x h (sym e)),
 )
 
 pub led_begins : (con : ℕ) (args : List Term) (i : ℕ) (front : List ℕ) → AreLed con args i front → Begins (applied (symbol con) args) front
 led_begins con args i front (xs, e, h) f =
     let (rest, d) = heads_front f args i xs h in (
       rest,
-      ap heads_in (substitute_applied f (symbol con) args) ∙ heads-applied (symbol con) (map (substitute f) args) ∙ ap (λ l. con ∷ l) d ∙ ap (λ l. l ++ rest) (sym e),
+      ap heads_in (applied-substitute f (symbol con) args) ∙ heads-applied (symbol con) (map (substitute f) args) ∙ ap (λ l. con ∷ l) d ∙ ap (λ l. l ++ rest) (sym e),
     )
 
 pub begins_none : (t : Term) (front : List ℕ) → front ≡ [] → Begins t front
@@ -106,7 +108,7 @@ key_push key (x ∷ xs) c = key_push (next_key key x) xs c
 pub key_more : (base key next : ℕ) (front : List ℕ) (i c : ℕ) → i < length front → c ≡ get_or front i c → next ≡ next_key key c
     → key ≡ key_of base (take i front) → next ≡ key_of base (take (i + 1) front)
 key_more base key next front i c lt is e d =
-    e ∙ ap (λ k. next_key k c) d ∙ sym (key_push base (take i front) c) ∙ ap (key_of base) (sym (take-next front i c lt is))
+    e ∙ ap (λ k. next_key k c) d ∙ sym (key_push base (take i front) c) ∙ ap (key_of base) (sym (take_item front i c lt is))
 
 pub key_whole : (base key : ℕ) (front : List ℕ) (i : ℕ) → i ≡ length front → key ≡ key_of base (take i front) → key ≡ key_of base front
 key_whole base key front i e d = d ∙ ap (key_of base) (take_all front i e)
@@ -126,17 +128,14 @@ front_of_longer (x ∷ xs) (y ∷ ys) a b e le =
 pub places_none : {Z : Type 0} (table : HashMap ℕ (Vec ℕ Z) (BuildHasherDefault FoldHasher)) → table.entries ≡ [] → (c : ℕ) → places_at table c ≡ []
 places_none table e c = ap (λ es. items_of (lookup (λ (b : ℕ). c == b) es)) e
 
-same_number : (c : ℕ) → (c == c) ≡ true
-same_number c = grind (arith, nat_tests)
-
 pub put_one : (key place : ℕ) (old new : ℕ → List ℕ) → ((k : ℕ) → new k ≡ cond (key == k) (old k ++ place ∷ []) (old k)) → Puts key place old new
 put_one key place old new e = record {
   kept = λ k r i. subst (IsIn r) (sym (e k)) (wider k r (key == k) i);
-  put = subst (IsIn place) (sym (e key ∙ ap (λ b. cond b (old key ++ place ∷ []) (old key)) (same_number key))) (in-last place (old key));
+  put = subst (IsIn place) (sym (e key ∙ ap (λ b. cond b (old key ++ place ∷ []) (old key)) (eqb-refl key))) (in-last place (old key));
   only = λ k r i. apart k r (key == k) (subst (IsIn r) (e k) i);
 } where
   wider : (k r : ℕ) (b : Bool) → IsIn r (old k) → IsIn r (cond b (old k ++ place ∷ []) (old k))
-  wider k r true i = in-left r (old k) (place ∷ []) i
+  wider k r true i = in_left r (old k) (place ∷ []) i
   wider k r false i = i
 
   apart : (k r : ℕ) (b : Bool) → IsIn r (cond b (old k ++ place ∷ []) (old k)) → IsIn r (old k) ⊎ (r ≡ place)
@@ -158,7 +157,7 @@ pub put_more : (base key : ℕ) (front : List ℕ) (i place : ℕ) (old mid new 
     → PutUpTo base front i place old mid → PutUpTo base front (i + 1) place old new
 put_more base key front i place old mid new e p u = record {
   kept = λ k r j. p.kept k r (u.kept k r j);
-  put = λ n lt. elim (number_cases n i) [
+  put = λ n lt. elim (cases_eq n i) [
     | inl d ↦ subst (λ k. IsIn place (new k)) (e ∙ ap (λ m. key_of base (take m front)) (sym d)) p.put
     | inr ne ↦ p.kept (key_of base (take n front)) place (u.put n (omega (arith, lt, ne)))
   ];
@@ -200,8 +199,8 @@ module _ (def : Definition) where
   indexed_more n row passing ending more after at p x = record {
     passing_rows = λ k r i. elim (p.only k r i) [ inl a ↦ (let h = x.passing_rows k r a in omega (arith, h)) | inr d ↦ omega (arith, d) ];
     ending_rows = λ k r i. elim (p.alone k r i) [ inl a ↦ (let h = x.ending_rows k r a in omega (arith, h)) | inr d ↦ omega (arith, d) ];
-    found = λ r h there lt. elim (number_cases r n) [
-      | inl d ↦ (let same : row ≡ h = get_same def.hole_rows n row h at (ap (slice_get def.hole_rows) (sym d) ∙ there) in
+    found = λ r h there lt. elim (cases_eq r n) [
+      | inl d ↦ (let same : row ≡ h = slice_get_once def.hole_rows n row h at (ap (slice_get def.hole_rows) (sym d) ∙ there) in
           subst (λ m. IsFound more after m h) (sym d) (subst (IsFound more after n) same p.found))
       | inr ne ↦ wider r h (x.found r h there (omega (arith, lt, ne)))
     ];
@@ -225,9 +224,9 @@ module _ (def : Definition) where
         → Collects def kind (take (i + 1) places) old new
     collect_more places i place row old mid new lt is at (inl (same, e)) c = record {
       rows = λ h r j. elim (in-split r place mid (subst (IsIn r) e j)) [ inl a ↦ c.rows h r a | inr d ↦ (row, (ap (slice_get def.hole_rows) d ∙ at, same)) ];
-      kept = λ r j. subst (IsIn r) (sym e) (in-left r mid (place ∷ []) (c.kept r j));
+      kept = λ r j. subst (IsIn r) (sym e) (in_left r mid (place ∷ []) (c.kept r j));
       all = λ r h j of. elim (in-next r places i place lt is j) [
-        | inl a ↦ subst (IsIn r) (sym e) (in-left r mid (place ∷ []) (c.all r h a of))
+        | inl a ↦ subst (IsIn r) (sym e) (in_left r mid (place ∷ []) (c.all r h a of))
         | inr d ↦ subst (λ m. IsIn m new) (sym d) (subst (IsIn place) (sym e) (in-last place mid))
       ];
     }
@@ -236,7 +235,7 @@ module _ (def : Definition) where
       kept = λ r j. subst (IsIn r) (sym e) (c.kept r j);
       all = λ r h j of. elim (in-next r places i place lt is j) [
         | inl a ↦ subst (IsIn r) (sym e) (c.all r h a of)
-        | inr d ↦ absurd (other (subst (λ (x : HoleRow). x.kind ≡ kind) (get_same def.hole_rows place h row (ap (slice_get def.hole_rows) (sym d) ∙ of.0) at) of.1))
+        | inr d ↦ absurd (other (subst (λ (x : HoleRow). x.kind ≡ kind) (slice_get_once def.hole_rows place h row (ap (slice_get def.hole_rows) (sym d) ∙ of.0) at) of.1))
       ];
     }
 
@@ -255,7 +254,7 @@ module _ (def : Definition) where
         → Collects def kind places old new → AreCollected ending front i old → AreCollected ending front (i + 1) new
     collected_more ending front i key places old new e d c a = record {
       rows = c.rows a.rows;
-      all = λ n r h lt j of. elim (number_cases n i) [
+      all = λ n r h lt j of. elim (cases_eq n i) [
         | inl q ↦ c.all r h (subst (IsIn r) (sym (d ∙ ap ending (e ∙ ap (λ m. key_of (kind_key kind) (take m front)) (sym q)))) j) of
         | inr ne ↦ c.kept r (a.all n r h (omega (arith, lt, ne)) j of)
       ];
@@ -266,7 +265,7 @@ module _ (def : Definition) where
         → Begins t front → i ≡ length front → key ≡ key_of (kind_key kind) (take i front) → places ≡ passing key → Collects def kind places old new
         → AreCollected ending front i old → AreMet def kind t new
     collected_all passing ending t front i key places old new x begins e d at c a r h of (f, g, meet) =
-        let found = x.found r h of.0 (get_inside def.hole_rows r h of.0) in
+        let found = x.found r h of.0 (slice_get_within def.hole_rows r h of.0) in
         let (u, eu) = begins f in
         let (v, ev) = found.begins g in
         let both : front ++ u ≡ found.front ++ v = sym eu ∙ ap heads_in meet ∙ ev in
@@ -284,19 +283,14 @@ module _ (def : Definition) where
 
 -- ---- instances meet
 
-same_term : (t : Term) → substitute variable t ≡ t
-same_term (variable s n) = refl
-same_term (symbol c) = refl
-same_term (apply f a) = ap₂ apply (same_term f) (same_term a)
-
 pub instance_meets : (t u : Term) → IsInstance (t ∷ []) (u ∷ []) → Meets t u
-instance_meets t u (f, e) = (variable, f, same_term t ∙ term_of_one t (substitute f u) e)
+instance_meets t u (f, e) = (variable, f, substitute-variable t ∙ term_of_one t (substitute f u) e)
 
 -- ---- choices
 
 in_or_out : (r : ℕ) (xs : List ℕ) → IsIn r xs ⊎ (IsIn r xs → ⊥)
 in_or_out r [] = inr (λ i. elim i [ ])
-in_or_out r (x ∷ xs) = elim (number_cases r x) [
+in_or_out r (x ∷ xs) = elim (cases_eq r x) [
   | inl e ↦ inl (subst (λ y. IsIn y (x ∷ xs)) (sym e) first)
   | inr ne ↦ (elim (in_or_out r xs) [ inl i ↦ inl (later i) | inr out ↦ inr (not_cons r x xs ne out) ])
 ]

@@ -1,12 +1,12 @@
 -- The join of a row with a hole row leaves the row without its first column.
 use Rattle.std.proofs.Common.{◌≡◌, inl, inr, ◌≤◌, ◌+◌, ◌-◌, ℕ, zero, suc, List, [], ◌∷◌, ◌++◌, length, map, refl, ap, sym, ◌∙◌, subst, Option, Some, slice_get, arith}
+use Rattle.psg_terms.proofs.OneRelation.{sorts_length}
 use Rattle.std.specs.Prelude.{IfSome, MatchOption}
 use Rattle.psg_terms.specs.Terms.{Term}
 use Rattle.psg_terms.specs.Signature.{HasSort, HaveSorts}
 use Rattle.psg_terms.specs.Instances.{substitute, IsGroundInstance}
 use Rattle.psg_unify.specs.Pairs.{AreJoinable}
 use Rattle.psg_relation.specs.Choices.{pick, picked}
-use Rattle.psg_relation.proofs.Meeting.{sorts-many}
 use Rattle.psg_relation.specs.Joining.{Joins, IsJoinOf, IsMore}
 use Rattle.psg_grammar.specs.declared.types.Kind.{Kind}
 use Rattle.psg_grammar.specs.declared.types.HoleRow.{HoleRow}
@@ -170,7 +170,7 @@ module _ (def : Definition) (h : HoleRow) where
       by (s ∷ ss) [] of_slots sorted kept has = absurd sorted
       by (s ∷ ss) (t ∷ []) of_slots sorted kept has = absurd sorted.1
       by (s ∷ ss) (t ∷ u ∷ ts) of_slots sorted kept has =
-          let many : length ts ≡ length ss = sorts-many def.signature ts ss sorted.1.1 in
+          let many : length ts ≡ length ss = sorts_length def.signature ts ss sorted.1.1 in
           let columns : keep ≡ 0 ∷ run 2 (length ss) = kept ∙ ap (λ n. 0 ∷ run 2 n) (long t u ts ∙ many) in
           record {
             head = fits.head;

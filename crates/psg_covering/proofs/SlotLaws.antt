@@ -1,11 +1,12 @@
 -- The slots of an operator's row, item by item.
 use Rattle.std.proofs.Common.{◌≡◌, ℕ, zero, suc, ◌<◌, ◌+◌, List, [], ◌∷◌, ◌++◌, append_assoc, append-nil, drop, take, length, get_or, refl, sym, ap, ◌∙◌, arith}
+use Rattle.psg_terms.proofs.Lists.{drop_item}
 use Rattle.psg_terms.specs.Terms.{Term}
 use Rattle.psg_grammar.specs.declared.types.Kind.{Kind}
 use Rattle.psg_grammar.specs.declared.types.Item.{Item}
 use Rattle.psg_grammar.specs.declared.types.Item.TheVariants as items
 use Rattle.psg_covering.specs.Slots.{IsMoved, kinds_in, slot_kinds, slot_terms, tail_of}
-use Rattle.psg_covering.proofs.Firsts.{drop_all, drop_here}
+use Rattle.psg_covering.proofs.Firsts.{drop_all}
 
 kinds_first : (x : Item) (xs : List Item) → slot_kinds (x ∷ xs) ≡ kinds_in x ++ slot_kinds xs
 kinds_first (items.Slot k) xs = refl
@@ -91,7 +92,7 @@ pub row_more : (xs : List Item) (i : ℕ) (x : Item) (terms left new rest whole 
     → ((more : List Item) → terms ++ slot_terms (x ∷ more) left ≡ new ++ slot_terms more rest) → terms ++ slot_terms (drop i xs) left ≡ whole
     → new ++ slot_terms (drop (i + 1) xs) rest ≡ whole
 row_more xs i x terms left new rest whole lt e step before =
-    sym (step (drop (i + 1) xs)) ∙ ap (λ l. terms ++ slot_terms l left) (sym (drop_here xs i x lt e)) ∙ before
+    sym (step (drop (i + 1) xs)) ∙ ap (λ l. terms ++ slot_terms l left) (sym (drop_item xs i x lt e)) ∙ before
 
 pub row_end : (xs : List Item) (i : ℕ) (terms left whole : List Term) → i ≡ length xs → terms ++ slot_terms (drop i xs) left ≡ whole → terms ≡ whole
 row_end xs i terms left whole e before = sym (append-nil terms) ∙ ap (λ l. terms ++ slot_terms l left) (sym (drop_all xs i e)) ∙ before

@@ -1,9 +1,9 @@
 //! The hole rows of a kind.
-ghost use Rattle.std.specs.Prelude.{◌≡◌, ◌<◌, ◌↔◌, IsTrue, OnOk, Some, length, slice_get, slice_index_or};
+ghost use Rattle.std.specs.Prelude.{◌≡◌, ◌<◌, OnOk, Some, length, slice_get, slice_index_or};
 ghost use Rattle.psg_covering.specs.Choices.{IsRowOf};
 ghost use Rattle.psg_covering.specs.Fronts.{AreRowsOf, IsNoted};
 
-use psg_grammar::{Definition, HoleRow, Kind};
+use psg_grammar::{Definition, HoleRow, Kind, same_kind};
 use std::alloc::AllocError;
 
 /// Answers the hole row with the number at the place.
@@ -42,19 +42,4 @@ pub(crate) fn note_row(
         return Ok(());
     }
     Ok(())
-}
-
-fn same_kind(a: Kind, b: Kind) -> bool
-    ensures { IsTrue result ↔ (a ≡ b) }
-{
-    match a {
-        Kind::Phylum(number) => match b {
-            Kind::Phylum(other) => number == other,
-            Kind::List(_) => false,
-        },
-        Kind::List(number) => match b {
-            Kind::List(other) => number == other,
-            Kind::Phylum(_) => false,
-        },
-    }
 }

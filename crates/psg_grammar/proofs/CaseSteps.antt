@@ -85,10 +85,10 @@ scope_steps = refl
 observed_steps : steps_of spaces [] (observed (block (ending 0 true))) ≡ steps_of spaces [] (block (ending 0 true))
 observed_steps = refl
 
--- above the second element stand the list's first cell and its second one; a node has no step above itself
+-- above the second element are the list's second cell and then its first one; a node has no step above itself
 above_element : steps_above spaces [] (1 ∷ []) (cell 0 mark_a (cell 0 mark_b (cell 0 mark_a (ending 0 true))))
-    ≡ place [] (cell 0 mark_a (cell 0 mark_b (cell 0 mark_a (ending 0 true)))) 0 ∷ place [] (cell 0 mark_a (cell 0 mark_b (cell 0 mark_a (ending 0 true)))) 1 ∷ place [] (cell 0 mark_a (cell 0 mark_b (cell 0 mark_a (ending 0 true)))) 2
-    ∷ place [] (cell 0 mark_b (cell 0 mark_a (ending 0 true))) 0 ∷ place [] (cell 0 mark_b (cell 0 mark_a (ending 0 true))) 1 ∷ place [] (cell 0 mark_b (cell 0 mark_a (ending 0 true))) 2 ∷ []
+    ≡ place [] (cell 0 mark_b (cell 0 mark_a (ending 0 true))) 0 ∷ place [] (cell 0 mark_b (cell 0 mark_a (ending 0 true))) 1 ∷ place [] (cell 0 mark_b (cell 0 mark_a (ending 0 true))) 2
+    ∷ place [] (cell 0 mark_a (cell 0 mark_b (cell 0 mark_a (ending 0 true)))) 0 ∷ place [] (cell 0 mark_a (cell 0 mark_b (cell 0 mark_a (ending 0 true)))) 1 ∷ place [] (cell 0 mark_a (cell 0 mark_b (cell 0 mark_a (ending 0 true)))) 2 ∷ []
 above_element = refl
 
 above_root : steps_above spaces [] [] (block (ending 0 true)) ≡ []

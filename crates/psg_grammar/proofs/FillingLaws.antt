@@ -1,5 +1,6 @@
 -- Paths of a tree stay paths of what fills it.
 use Rattle.std.proofs.Common.{◌≡◌, ◌⊎◌, inl, inr, ℕ, zero, suc, ◌+◌, Bool, true, false, List, [], ◌∷◌, ◌++◌, length, slice_get, option_and_then, Option, Some, None, refl, ap, sym, ◌∙◌, subst, arith, length-append}
+use Rattle.std.proofs.lemmas.Option.{slice_get_past, same_Some}
 use Rattle.psg_grammar.specs.declared.types.Kind.{Kind}
 use Rattle.psg_grammar.specs.declared.types.Kind.TheVariants as kinds
 use Rattle.psg_grammar.specs.declared.types.Item.{Item}
@@ -10,7 +11,7 @@ use Rattle.psg_grammar.specs.Paths.{Path, node_at}
 use Rattle.psg_grammar.specs.WellFormed.{Fits, WellFormed}
 use Rattle.psg_grammar.specs.Fillings.{Fills}
 use Rattle.psg_grammar.specs.Ways.{IsThere, KeepsPaths}
-use Rattle.psg_grammar.proofs.PathLaws.{Spot, before, at_end, past, spot, got_front, got_next, got_past, same_some, step}
+use Rattle.psg_grammar.proofs.PathLaws.{Spot, before, at_end, past, spot, got_front, got_next, step}
 
 more_items : (i : Item) (more : List Item) → i ∷ more ≡ [] → ⊥
 more_items i more e = cc
@@ -60,9 +61,9 @@ module _ (def : Definition) where
       moved t (cell l c' r') 0 s d (record {
         there = c';
         found = refl;
-        fills = subst (λ x. Fills def x c') (same_some c s e) fc;
+        fills = subst (λ x. Fills def x c') (same_Some c s e) fc;
         kind = kinds.Phylum kl.element;
-        fits = subst (λ x. Fits def x [] (kinds.Phylum kl.element)) (same_some c s e) hc;
+        fits = subst (λ x. Fits def x [] (kinds.Phylum kl.element)) (same_Some c s e) hc;
       })
   child_filled (cell l c r) t more kind (n, i, kl, at, hc, hr, un) (c', r', d, fc, fr) (suc k) s e =
       let inner = child_filled r r' [] (kinds.List l) hr fr k s e in
@@ -76,7 +77,7 @@ module _ (def : Definition) where
             lengthened f' c' k s (child_filled f f' (items.Slot kc ∷ more) kind hf ff k s (sym (got_front (children_of f) (c ∷ []) k h) ∙ e))
             (λ x g. got_front (children_of f') (c' ∷ []) k (omega (arith, n, h)) ∙ g)
         | at_end h ↦ (
-            let same : c ≡ s = same_some c s (sym (got_next (children_of f) c k h) ∙ e) in
+            let same : c ≡ s = same_Some c s (sym (got_next (children_of f) c k h) ∙ e) in
             record {
               there = c';
               found = got_next (children_of f') c' k (omega (arith, n, h));
@@ -84,7 +85,7 @@ module _ (def : Definition) where
               kind = kc;
               fits = subst (λ x. Fits def x [] kc) same hc;
             })
-        | past h ↦ absurd (let none : None ≡ Some s = sym (got_past (children_of f ++ c ∷ []) k (omega (arith, h, length-append (children_of f) (c ∷ [])))) ∙ e in cc)
+        | past h ↦ absurd (let none : None ≡ Some s = sym (slice_get_past (children_of f ++ c ∷ []) k (omega (arith, h, length-append (children_of f) (c ∷ [])))) ∙ e in cc)
       ])
   child_filled (with_name f m) t more kind (inl (j, h), name) (f', d, ff) k s e =
       let inner = child_filled f f' (items.Refers j ∷ more) kind h ff k s e in
@@ -105,7 +106,7 @@ module _ (def : Definition) where
 
   path_filled : (path : Path) (f t : Fragment) (kind : Kind) → Fits def f [] kind → Fills def f t → (node : Fragment) → node_at f path ≡ Some node
       → IsThere (Fills def node) (node_at t path)
-  path_filled [] f t kind h fills node e = subst (λ x. Fills def x t) (same_some f node e) fills
+  path_filled [] f t kind h fills node e = subst (λ x. Fills def x t) (same_Some f node e) fills
   path_filled (k ∷ path) f t kind h fills node e =
       let c = step (slice_get (children_of f) k) path node e in
       let inner = child_filled f t [] kind h fills k c.0 c.1 in

@@ -21,3 +21,5 @@ pub mod FillingLaws
 pub mod RelationLaws
 pub mod SameLaws
 pub mod MixedEntities
+pub mod SameKinds
+pub mod Observed

@@ -5,6 +5,7 @@ use Rattle.std.specs.List.{position_from}
 use Rattle.std.proofs.lemmas.Iterator.Adapters.{position_from-zero}
 use Rattle.std.proofs.lemmas.Option.{none-some, slice_get-map, slice_get_within}
 use Rattle.std.proofs.lemmas.Slice.Eq.{bytes_eq-Decides}
+use Rattle.psg_terms.proofs.Lists.{slice_get-front}
 use Rattle.psg_terms.specs.Names.{Name, is_among, has_twice}
 use Rattle.psg_grammar.specs.declared.types.Kind.{Kind}
 use Rattle.psg_grammar.specs.declared.types.Kind.TheVariants as kinds
@@ -87,11 +88,6 @@ once (x ∷ xs) h (suc i) (suc j) n e f = ap suc (once xs (or_parts (is_among xs
 
 -- ---- kinds and operators
 
-get_left : {X : Type 0} (xs ys : List X) (x : X) (k : ℕ) → slice_get xs k ≡ Some x → slice_get (xs ++ ys) k ≡ Some x
-get_left [] ys x k e = absurd (none-some x e)
-get_left (y ∷ xs) ys x zero e = e
-get_left (y ∷ xs) ys x (suc k) e = get_left xs ys x k e
-
 get_right : {X : Type 0} (xs ys : List X) (x : X) (k : ℕ) → slice_get ys k ≡ Some x → slice_get (xs ++ ys) (length xs + k) ≡ Some x
 get_right [] ys x k e = subst (λ j. slice_get ys j ≡ Some x) (sym (zero-add k)) e
 get_right (y ∷ xs) ys x k e = let z : length (y ∷ xs) + k ≡ suc (length xs + k) = omega arith in subst (λ j. slice_get (y ∷ (xs ++ ys)) j ≡ Some x) (sym z) (get_right xs ys x k e)
@@ -109,7 +105,7 @@ place def (kinds.List l) = length (phylum_names def) + l
 
 name_at : (def : Definition) (kind : Kind) (n : Name) → kind_name_of def kind ≡ Some n → slice_get (kind_names def) (place def kind) ≡ Some n
 unfolding place
-name_at def (kinds.Phylum p) n e = get_left (phylum_names def) (list_names def) n p (slice_get-map (λ (p : Phylum). p.name) def.phyla p ∙ e)
+name_at def (kinds.Phylum p) n e = slice_get-front (phylum_names def) (list_names def) p n (slice_get-map (λ (p : Phylum). p.name) def.phyla p ∙ e)
 name_at def (kinds.List l) n e = get_right (phylum_names def) (list_names def) n l (slice_get-map (λ (l : ListKind). l.name) def.lists l ∙ e)
 
 apart : (def : Definition) (p l : ℕ) (n : Name) → kind_name_of def (kinds.Phylum p) ≡ Some n → p ≡ length (phylum_names def) + l → ⊥

@@ -1,7 +1,8 @@
 -- Nodes of a tree after a change of one of them.
-use Rattle.std.proofs.Common.{◌≡◌, ◌≢◌, ◌⊎◌, inl, inr, ℕ, zero, suc, ◌+◌, ◌<◌, ◌≤◌, ◌==◌, Bool, true, false, cond, List, [], ◌∷◌, ◌++◌, length, slice_get, option_and_then, Option, Some, None, refl, ap, sym, ◌∙◌, subst, arith, length-append, append-nil}
+use Rattle.std.proofs.Common.{◌≡◌, ◌≢◌, ◌⊎◌, inl, inr, ℕ, zero, suc, ◌+◌, ◌<◌, ◌==◌, Bool, true, false, cond, List, [], ◌∷◌, ◌++◌, length, slice_get, option_and_then, Option, Some, None, refl, ap, sym, ◌∙◌, subst, arith, length-append, append-nil}
 use Rattle.std.specs.Prelude.{option_map}
 use Rattle.std.proofs.lemmas.Bool.Decides.{eqb_tells}
+use Rattle.std.proofs.lemmas.Option.{slice_get_past, same_Some}
 use Rattle.psg_grammar.specs.Fragments.{Fragment, hole, ending, cell, operator, with_child, with_name, with_number, with_text, anything, observed, children_of}
 use Rattle.psg_grammar.specs.Paths.{Path, node_at, change_child, change_at, replaced}
 use Rattle.psg_grammar.specs.Ways.{ArePathsApart, IsThere, bare, ChangesInPlace}
@@ -18,11 +19,6 @@ got_next [] y zero h = refl
 got_next [] y (suc k) h = absurd (omega (arith, h))
 got_next (x ∷ xs) y zero h = absurd (omega (arith, h))
 got_next (x ∷ xs) y (suc k) h = got_next xs y k (omega (arith, h))
-
-pub got_past : (xs : List Fragment) (k : ℕ) → length xs ≤ k → slice_get xs k ≡ None
-got_past [] k h = refl
-got_past (x ∷ xs) zero h = absurd (omega (arith, h))
-got_past (x ∷ xs) (suc k) h = got_past xs k (omega (arith, h))
 
 -- an element before the last, the last, or none
 pub data Spot (xs : List Fragment) (k : ℕ) : Type 0 where
@@ -83,8 +79,8 @@ module _ (g : Fragment → Fragment) where
                   ∙ ap (option_map g) (sym (got_front (children_of f) (t ∷ []) k h))
               | at_end h ↦ absurd (ne h)
               | past h ↦
-                  got_past (children_of (change_child g k f) ++ t ∷ []) k (omega (arith, n, h, length-append (children_of (change_child g k f)) (t ∷ [])))
-                  ∙ ap (option_map g) (sym (got_past (children_of f ++ t ∷ []) k (omega (arith, h, length-append (children_of f) (t ∷ [])))))
+                  slice_get_past (children_of (change_child g k f) ++ t ∷ []) k (omega (arith, n, h, length-append (children_of (change_child g k f)) (t ∷ [])))
+                  ∙ ap (option_map g) (sym (slice_get_past (children_of f ++ t ∷ []) k (omega (arith, h, length-append (children_of f) (t ∷ [])))))
             ]
   child_changed k (with_name f n) = child_changed k f
   child_changed k (with_number f n) = child_changed k f
@@ -124,8 +120,8 @@ module _ (g : Fragment → Fragment) where
               | before h ↦ got_front (children_of (change_child g k f)) (t ∷ []) j (omega (arith, n, h)) ∙ e ∙ sym (got_front (children_of f) (t ∷ []) j h)
               | at_end h ↦ got_next (children_of (change_child g k f)) t j (omega (arith, n, h)) ∙ sym (got_next (children_of f) t j h)
               | past h ↦
-                  got_past (children_of (change_child g k f) ++ t ∷ []) j (omega (arith, n, h, length-append (children_of (change_child g k f)) (t ∷ [])))
-                  ∙ sym (got_past (children_of f ++ t ∷ []) j (omega (arith, h, length-append (children_of f) (t ∷ []))))
+                  slice_get_past (children_of (change_child g k f) ++ t ∷ []) j (omega (arith, n, h, length-append (children_of (change_child g k f)) (t ∷ [])))
+                  ∙ sym (slice_get_past (children_of f ++ t ∷ []) j (omega (arith, h, length-append (children_of f) (t ∷ []))))
             ]
   child_kept k j (with_name f n) ne = child_kept k j f ne
   child_kept k j (with_number f n) ne = child_kept k j f ne
@@ -159,18 +155,15 @@ pub step : (o : Option Fragment) (path : Path) (x : Fragment) → option_and_the
 step None path x e = absurd (cc)
 step (Some t) path x e = (t, refl, e)
 
-pub same_some : (a b : Fragment) → Some a ≡ Some b → a ≡ b
-same_some a b e = cc
-
 pub change-below : (g : Fragment → Fragment) (path q : Path) (f old : Fragment) → node_at f path ≡ Some old → node_at (change_at g path f) (path ++ q) ≡ node_at (g old) q
-change-below g [] q f old e = ap (λ t. node_at (g t) q) (same_some f old e)
+change-below g [] q f old e = ap (λ t. node_at (g t) q) (same_Some f old e)
 change-below g (k ∷ path) q f old e =
     let c = step (slice_get (children_of f) k) path old e in
     ap (option_and_then (λ t. node_at t (path ++ q))) (child_changed (change_at g path) k f ∙ ap (option_map (change_at g path)) c.1)
     ∙ change-below g path q c.0 old c.2
 
 pub change-above : (g : Fragment → Fragment) (p q : Path) (f t : Fragment) → node_at f p ≡ Some t → node_at (change_at g (p ++ q) f) p ≡ Some (change_at g q t)
-change-above g [] q f t e = ap (λ x. Some (change_at g q x)) (same_some f t e)
+change-above g [] q f t e = ap (λ x. Some (change_at g q x)) (same_Some f t e)
 change-above g (k ∷ p) q f t e =
     let c = step (slice_get (children_of f) k) p t e in
     ap (option_and_then (λ x. node_at x p)) (child_changed (change_at g (p ++ q)) k f ∙ ap (option_map (change_at g (p ++ q))) c.1)

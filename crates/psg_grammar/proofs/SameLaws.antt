@@ -1,15 +1,12 @@
 -- The test tells equality.
-use Rattle.std.proofs.Common.{◌≡◌, inl, inr, ℕ, ◌&&◌, Bool, true, false, List, refl, sym, ◌∙◌, ap}
+use Rattle.std.proofs.Common.{◌≡◌, inl, inr, ℕ, ◌&&◌, true, List, refl, sym, ◌∙◌, ap}
 use Rattle.std.specs.Prelude.{◌==◌, bytes_eq}
 use Rattle.std.specs.Bool.{beq}
 use Rattle.psg_terms.proofs.DeclareLaws.{bytes_eq-refl}
 use Rattle.std.proofs.lemmas.Bool.{and_from, eq-eqb}
+use Rattle.psg_terms.proofs.Lists.{beq-refl}
 use Rattle.psg_grammar.specs.Fragments.{Fragment, hole, ending, cell, operator, with_child, with_name, with_number, with_text, anything, observed}
 use Rattle.psg_grammar.specs.Same.{same_tree}
-
-beq-refl : (b : Bool) → beq b b ≡ true
-beq-refl true = refl
-beq-refl false = refl
 
 pub same-refl : (f : Fragment) → same_tree f f ≡ true
 same-refl (hole p) = eq-eqb p p refl

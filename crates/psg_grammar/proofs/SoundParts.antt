@@ -1,7 +1,8 @@
 -- What a sound definition says of its parts by number.
-use Rattle.std.proofs.Common.{◌≡◌, ℕ, zero, suc, ◌<◌, List, [], ◌∷◌, length, Some, slice_get, subst}
+use Rattle.std.proofs.Common.{◌≡◌, ℕ, ◌<◌, List, [], ◌∷◌, length, Some, slice_get}
 use Rattle.std.specs.List.{AllByRecursion}
-use Rattle.std.proofs.lemmas.Option.{none-some, slice_get_within}
+use Rattle.std.proofs.lemmas.Option.{slice_get_within}
+use Rattle.psg_terms.proofs.Lists.{each_at}
 use Rattle.psg_grammar.specs.declared.types.Kind.{Kind}
 use Rattle.psg_grammar.specs.declared.types.Kind.TheVariants as kinds
 use Rattle.psg_grammar.specs.declared.types.Item.{Item}
@@ -11,12 +12,6 @@ use Rattle.psg_grammar.specs.declared.types.ListKind.{ListKind}
 use Rattle.psg_grammar.specs.declared.types.Definition.{Definition}
 use Rattle.psg_grammar.specs.Kinds.{HasKind, HasSlotKind}
 use Rattle.psg_grammar.specs.Sound.{IsSound, IsOperator, IsListKind, IsItem, HasKindSort}
-
--- what holds of each element holds of that at a place
-pub each_at : {X : Type 0} (P : X → Type 0) (xs : List X) → AllByRecursion P xs → (k : ℕ) (x : X) → slice_get xs k ≡ Some x → P x
-each_at P [] h k x e = absurd (none-some x e)
-each_at P (y ∷ xs) h zero x e = let same : y ≡ x = let f : Some y ≡ Some x = e in cc in subst P same h.0
-each_at P (y ∷ xs) h (suc k) x e = each_at P xs h.1 k x e
 
 pub has_kind : (def : Definition) (kind : Kind) (s : ℕ) → HasKindSort def kind s → HasKind def kind
 has_kind def (kinds.Phylum p) s (k, at, sort) = slice_get_within def.phyla p k at

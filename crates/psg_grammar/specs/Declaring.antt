@@ -59,3 +59,7 @@ declares_within def space (suc n) kind = declares_by def space (declares_within 
 -- as many steps as there are kinds are enough
 abbrev pub is_declaring : Definition → ℕ → Kind → Bool
 is_declaring def space kind = declares_within def space (length def.phyla + length def.lists) kind
+
+-- trees of the kind declare in no space: such a phylum has placeholders
+abbrev pub HasHoles : Definition → Kind → Type 0
+HasHoles def kind = (s : ℕ) → is_declaring def s kind ≡ false

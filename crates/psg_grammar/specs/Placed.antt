@@ -10,7 +10,7 @@ use Rattle.psg_grammar.specs.declared.types.Definition.{Definition}
 use Rattle.psg_grammar.specs.Fragments.{Fragment, hole, ending, cell, operator, with_child, with_name, with_number}
 use Rattle.psg_grammar.specs.Fragments.{with_text, anything, observed}
 use Rattle.psg_grammar.specs.Lookups.{part_items}
-use Rattle.psg_grammar.specs.Declaring.{is_declaring}
+use Rattle.psg_grammar.specs.Declaring.{HasHoles}
 use Rattle.psg_grammar.specs.WellFormed.{IsListEnd}
 
 -- The tree is of the kind, where parts of these items still follow. The places with any value are of the kinds that
@@ -18,7 +18,7 @@ use Rattle.psg_grammar.specs.WellFormed.{IsListEnd}
 module _ (def : Definition) (Allowed : Type 0) where
   abbrev pub FitsPlaces : Fragment → List Item → Kind → List Kind → List Kind → Type 0
   FitsPlaces (hole p) more kind places left = Allowed × (more ≡ []) × (kind ≡ kinds.Phylum p) × (places ≡ left)
-      × (p < length def.phyla) × ((s : ℕ) → is_declaring def s kind ≡ false)
+      × (p < length def.phyla) × HasHoles def kind
   FitsPlaces (ending l true) more kind places left = Allowed × (more ≡ []) × (kind ≡ kinds.List l) × (places ≡ left)
       × IsListEnd def l true
   FitsPlaces (ending l false) more kind places left = (more ≡ []) × (kind ≡ kinds.List l) × (places ≡ left)

@@ -120,11 +120,22 @@ pub record IsFirstWide (def : Definition) (f : Fragment) (place : Place) : Type 
 abbrev pub IsWide : Definition → Fragment → Type 0
 IsWide def f = (place : Place) × IsIn place (steps_of def [] f) × PassesAt def place.part place.step
 
--- The steps of the nodes above the node at the path. Of a list there are the cells from the first to that of the
--- element.
+-- none of the steps passes the limit
+abbrev pub AreWithin : Definition → List Place → Type 0
+AreWithin def places = (place : Place) → IsIn place places → PassesAt def place.part place.step → ⊥
+
+-- the step passes the limit, and none before it does
+pub record IsFirstOf (def : Definition) (places : List Place) (place : Place) : Type 0 where
+  pub front : List Place
+  pub rest : List Place
+  pub split : places ≡ front ++ place ∷ rest
+  pub within : AreWithin def front
+  pub passes : PassesAt def place.part place.step
+
+-- Of a list the cells from that of the element of the number to the first: each has the one after it as its child.
 abbrev pub steps_at : Definition → Path → ℕ → Fragment → List Place
 steps_at def path zero (cell l e r) = own_steps def path (cell l e r)
-steps_at def path (suc k) (cell l e r) = own_steps def path (cell l e r) ++ steps_at def path k r
+steps_at def path (suc k) (cell l e r) = steps_at def path k r ++ own_steps def path (cell l e r)
 steps_at def path k f = own_steps def path f
 
 -- the steps of a child that is there
@@ -132,11 +143,13 @@ abbrev pub steps_of_some : (Fragment → List Place) → Option Fragment → Lis
 steps_of_some steps None = []
 steps_of_some steps (Some t) = steps t
 
--- the places of the steps on the way down to a node, without those below other children
+-- The places of the steps of the nodes above the node at the path, the innermost node first, in the order in which a
+-- climb makes them. Those below other children are not among them.
 abbrev pub steps_above : Definition → Path → Path → Fragment → List Place
 steps_above def above [] f = []
-steps_above def above (k ∷ path) f = steps_at def above k f
-    ++ steps_of_some (λ t. steps_above def (above ++ k ∷ []) path t) (slice_get (children_of f) k)
+steps_above def above (k ∷ path) f =
+    steps_of_some (λ t. steps_above def (above ++ k ∷ []) path t) (slice_get (children_of f) k)
+    ++ steps_at def above k f
 
 -- The own relation of the node at the path with its value repeated passes the limit, or a step of a node above it does
 -- with that value as one more column. The own steps below the last are not looked at again.

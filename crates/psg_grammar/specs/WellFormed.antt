@@ -13,7 +13,7 @@ use Rattle.psg_grammar.specs.declared.types.Definition.{Definition}
 use Rattle.psg_grammar.specs.Fragments.{Fragment, hole, ending, cell, operator, with_child, with_name, with_number}
 use Rattle.psg_grammar.specs.Fragments.{with_text, anything, observed}
 use Rattle.psg_grammar.specs.Lookups.{part_items}
-use Rattle.psg_grammar.specs.Declaring.{is_declaring}
+use Rattle.psg_grammar.specs.Declaring.{HasHoles}
 
 -- the fixed words among the items, in order
 abbrev pub words_in : List Item → List Name
@@ -52,7 +52,7 @@ IsUnobserved _ = Unit {0}
 module _ (def : Definition) where
   abbrev pub Fits : Fragment → List Item → Kind → Type 0
   Fits (hole p) more kind = (more ≡ []) × (kind ≡ kinds.Phylum p) × (p < length def.phyla)
-      × ((s : ℕ) → is_declaring def s kind ≡ false)
+      × HasHoles def kind
   Fits (ending l u) more kind = (more ≡ []) × (kind ≡ kinds.List l) × IsListEnd def l u
   Fits (cell l e r) more kind =
       (more ≡ []) × (kind ≡ kinds.List l) × (k : ListKind) × (slice_get def.lists l ≡ Some k)

@@ -1,5 +1,5 @@
 //! Kinds and operators by name, and their names and sorts by number.
-ghost use Rattle.std.specs.Prelude.{◌≡◌, ◌<◌, ℕ, length, IfSome, Some, position, bytes_eq};
+ghost use Rattle.std.specs.Prelude.{◌≡◌, ◌<◌, ◌↔◌, ℕ, length, IfSome, IsTrue, Some, position, bytes_eq};
 ghost use Rattle.psg_grammar.specs.declared.types.Kind.{Kind};
 ghost use Rattle.psg_grammar.specs.Kinds.{base_phylum_of, HasKind, kind_name_of, kind_sort_of, op_name_of};
 ghost use Rattle.psg_grammar.specs.Sound.{IsSound};
@@ -90,5 +90,21 @@ pub(crate) fn base_phylum(definition: &Definition, kind: Kind) -> u32
     match kind {
         Kind::Phylum(number) => number,
         Kind::List(number) => definition.lists.as_slice()[number as usize].element,
+    }
+}
+
+/// Says whether the two kinds are one phylum or one list.
+pub fn same_kind(a: Kind, b: Kind) -> bool
+    ensures { IsTrue result ↔ (a ≡ b) }
+{
+    match a {
+        Kind::Phylum(number) => match b {
+            Kind::Phylum(other) => number == other,
+            Kind::List(_) => false,
+        },
+        Kind::List(number) => match b {
+            Kind::List(other) => number == other,
+            Kind::Phylum(_) => false,
+        },
     }
 }

@@ -1,11 +1,22 @@
 //! What an operator's form says of its places.
 ghost use Rattle.std.specs.Prelude.{◌≡◌, count_by, Some};
 ghost use Rattle.std.specs.List.{list_all};
+ghost use Rattle.psg_grammar.specs.Lookups.{is_part};
 ghost use Rattle.psg_grammar.specs.Levels.{first_level, is_mark, is_name_position, is_slot, is_slot_of, last_level};
 ghost use Rattle.psg_grammar.specs.Levels.{level_number, least_level_of, IsSlotAt};
 ghost use Rattle.psg_grammar.specs.Sound.{IsLevel};
 
 use crate::types::{Item, Kind, Level, Operator};
+
+/// Says whether the item has a part of the tree: a slot, a name or a literal.
+pub fn is_part(item: &Item) -> bool
+    ensures { result ≡ is_part item.now }
+{
+    matches!(
+        item,
+        Item::Slot(_) | Item::Refers(_) | Item::Declares(_) | Item::Number | Item::Text
+    )
+}
 
 /// Returns how many of the operator's items are slots, in one pass over them.
 pub fn slots(operator: &Operator) -> usize

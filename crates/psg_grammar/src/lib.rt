@@ -17,8 +17,8 @@ pub mod limits;
 pub mod spaces;
 pub mod types;
 
-pub use kinds::{kind_name, kind_named, kind_sort, op_named};
-pub use levels::{least_first, least_last, least_level, name_positions, op_level, slots};
+pub use kinds::{kind_name, kind_named, kind_sort, op_named, same_kind};
+pub use levels::{is_part, least_first, least_last, least_level, name_positions, op_level, slots};
 pub use limits::{MOST_BRACKETS, MOST_DEPTH, MOST_ELEMENTS, MOST_NODES, MOST_WEIGHTS};
 pub use spaces::declaring;
 pub use types::{

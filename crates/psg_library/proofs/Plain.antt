@@ -9,6 +9,7 @@ use Rattle.std.proofs.lemmas.Bool.Decides.{nat_tests}
 use Rattle.std.proofs.lemmas.Str.{IsUtf8-from_ascii}
 use Rattle.std.proofs.lemmas.Str.Ascii.{IsAscii-nil, IsAscii-cons}
 use Rattle.std.proofs.Math.Seq.{take-append_seam}
+use Rattle.std.specs.Cmp.{first_so, second_so}
 use Rattle.psg_grammar.specs.Sound as sound
 use Rattle.psg_grammar.specs.Sound.{IsKindName, is_upper}
 use Rattle.psg_script.specs.Forms.{IsInWord, IsWord, IsName, goes_on_name}
@@ -77,14 +78,6 @@ upper_in_word b h e = let p : false ≡ true = subst (λ c. is_upper c ≡ true)
 kind_byte_in_word : (b : ℕ) → sound.goes_on_name b ≡ true → IsInWord b
 kind_byte_in_word b h e = let p : false ≡ true = subst (λ c. sound.goes_on_name c ≡ true) e h in false≢true p
 
-left : (x y : Bool) → (x && y) ≡ true → x ≡ true
-left true y e = refl
-left false y e = e
-
-right : (x y : Bool) → (x && y) ≡ true → y ≡ true
-right true y e = e
-right false y e = absurd (false≢true e)
-
 pub record IsPlainWord (w : List ℕ) : Type 0 where
   pub plain : AllPlain w
   pub in_word : AllByRecursion IsInWord w
@@ -92,16 +85,16 @@ pub record IsPlainWord (w : List ℕ) : Type 0 where
 kind_bytes : (bs : List ℕ) → list_all sound.goes_on_name bs ≡ true → IsPlainWord bs
 kind_bytes [] h = record { plain = tt; in_word = tt }
 kind_bytes (b ∷ bs) h =
-    let one = left (sound.goes_on_name b) (list_all sound.goes_on_name bs) h in
-    let more = kind_bytes bs (right (sound.goes_on_name b) (list_all sound.goes_on_name bs) h) in
+    let one = first_so (sound.goes_on_name b) (list_all sound.goes_on_name bs) h in
+    let more = kind_bytes bs (second_so (sound.goes_on_name b) (list_all sound.goes_on_name bs) h) in
     record { plain = (kind_byte_plain b one, more.plain); in_word = (kind_byte_in_word b one, more.in_word) }
 
 pub kind_plain : (w : List ℕ) → IsKindName w → AllPlain w × IsWord w
 kind_plain [] h = absurd (false≢true h)
 kind_plain (b ∷ bs) h =
-    let front = left (is_upper b && list_all sound.goes_on_name bs) (nat_le (length bs) 63) h in
-    let one = left (is_upper b) (list_all sound.goes_on_name bs) front in
-    let more = kind_bytes bs (right (is_upper b) (list_all sound.goes_on_name bs) front) in
+    let front = first_so (is_upper b && list_all sound.goes_on_name bs) (nat_le (length bs) 63) h in
+    let one = first_so (is_upper b) (list_all sound.goes_on_name bs) front in
+    let more = kind_bytes bs (second_so (is_upper b) (list_all sound.goes_on_name bs) front) in
     ((upper_plain b one, more.plain), (omega arith, (upper_in_word b one, more.in_word)))
 
 -- ---- head lines
@@ -115,7 +108,7 @@ head_plain n w a b =
 place : (xs ys : List ℕ) → AllPlain xs → position_or_len is_feed (xs ++ 10 ∷ ys) ≡ length xs
 place [] ys h = refl
 place (b ∷ xs) ys h =
-    let e : not (is_feed b) ≡ true = left (not (b == 10)) (not (b == 13)) (right (nat_lt b 128) (not (b == 10) && not (b == 13)) h.0) in
+    let e : not (is_feed b) ≡ true = first_so (not (b == 10)) (not (b == 13)) (second_so (nat_lt b 128) (not (b == 10) && not (b == 13)) h.0) in
     let p : position_or_len is_feed (xs ++ 10 ∷ ys) ≡ length xs = place xs ys h.1 in
     rw e (omega (arith, p))
 

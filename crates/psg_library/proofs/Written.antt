@@ -1,5 +1,5 @@
 -- What is written of a printable fragment keeps it.
-use Rattle.std.proofs.Common.{◌≡◌, ◌⊎◌, inl, inr, ℕ, zero, suc, ◌<◌, ◌≤◌, ◌+◌, ◌*◌, Bool, true, false, cond, ◌&&◌, List, [], ◌∷◌, ◌++◌, length, replicate, Option, Some, None, slice_get, refl, sym, ap, ◌∙◌, subst, arith, append-nil}
+use Rattle.std.proofs.Common.{◌≡◌, ◌⊎◌, inl, inr, ℕ, zero, suc, ◌<◌, ◌≤◌, ◌+◌, ◌*◌, Bool, true, false, cond, ◌&&◌, List, [], ◌∷◌, ◌++◌, replicate, Option, Some, None, refl, sym, ap, ◌∙◌, subst, arith, append-nil}
 use Rattle.std.specs.Prelude.{map, not, codes}
 use Rattle.std.specs.Option.{option_map, unwrap_or}
 use Rattle.std.specs.Str.{chars, IsUtf8}
@@ -8,6 +8,7 @@ use Rattle.std.specs.List.{AllByRecursion, list_any}
 use Rattle.std.proofs.lemmas.Bool.{false≢true}
 use Rattle.std.proofs.lemmas.Option.{slice_get_within}
 use Rattle.std.proofs.lemmas.Str.{chars-append, IsUtf8-append, IsUtf8-nil}
+use Rattle.psg_terms.proofs.Lists.{each_at, slice_get_some}
 use lib.Utf8.{encode}
 use Rattle.unicode_ident.proofs.Computing.{unicode_ident}
 use Rattle.psg_terms.specs.Names.{Name}
@@ -29,7 +30,7 @@ use Rattle.psg_grammar.specs.Printable.{IsPrintable}
 use Rattle.psg_grammar.specs.Sizes.{depth_of}
 use Rattle.psg_grammar.specs.Sound.{IsSound, IsKindName, IsPhylum}
 use Rattle.psg_grammar.specs.WellFormed.{Fits, WellFormed, fixed_words}
-use Rattle.psg_grammar.proofs.SoundParts.{each_at, list_sound, phylum_in}
+use Rattle.psg_grammar.proofs.SoundParts.{list_sound, phylum_in}
 use Rattle.psg_class.specs.Class.{IsClass}
 use Rattle.psg_class.specs.Texts.{ReadsAs}
 use Rattle.psg_class.proofs.ClassFacts.{facts}
@@ -107,11 +108,6 @@ fed_reads def kind text f n u r = record {
 
 -- ---- the name of a kind
 
-element_at : {X : Type 0} (xs : List X) (k : ℕ) → k < length xs → (x : X) × (slice_get xs k ≡ Some x)
-element_at [] k h = absurd (omega (arith, h))
-element_at (x ∷ xs) zero h = (x, refl)
-element_at (x ∷ xs) (suc k) h = element_at xs k (omega (arith, h))
-
 module _ (def : Definition) (sound : IsSound def) where
   pub kind_there : (f : Fragment) (more : List Item) (kind : Kind) → Fits def f more kind → HasKind def kind
   kind_there (hole p) more kind h = subst (HasKind def) (sym h.1) h.2
@@ -134,14 +130,14 @@ module _ (def : Definition) (sound : IsSound def) where
 
   kind_word : (kind : Kind) → HasKind def kind → HasKindWord kind
   kind_word (kinds.Phylum p) h =
-      let k = element_at def.phyla p h in
+      let k = slice_get_some def.phyla p h in
       record {
         word = k.0.name;
         named = ap (option_map (λ (x : Phylum). x.name)) k.1;
         formed = (each_at (IsPhylum def) def.phyla sound.phyla p k.0 k.1).name;
       }
   kind_word (kinds.List l) h =
-      let k = element_at def.lists l h in
+      let k = slice_get_some def.lists l h in
       record {
         word = k.0.name;
         named = ap (option_map (λ (x : ListKind). x.name)) k.1;

@@ -1,5 +1,6 @@
 -- The step of a tree of a phylum that goes on, or is finished.
 use Rattle.std.proofs.Common.{◌≡◌, ◌↔◌, ℕ, suc, max, ◌<◌, ◌≤◌, false, List, [], ◌∷◌, Option, Some, None, length, sym, ap, ◌∙◌, subst, arith}
+use Rattle.psg_terms.proofs.Lists.{iff_then}
 use Rattle.psg_grammar.specs.declared.types.Item.{Item}
 use Rattle.psg_grammar.specs.declared.types.Item.TheVariants as items
 use Rattle.psg_grammar.specs.declared.types.Operator.{Operator}
@@ -19,9 +20,6 @@ use Rattle.psg_class.proofs.Machine.{step_led, step_item}
 use Rattle.psg_class.specs.Texts.{tokens_of}
 use Rattle.psg_parse.specs.Lookups.{IsBare}
 use Rattle.psg_parse.proofs.Items.{bare_solid, none_left}
-
-chain : {A B C : Type 0} → A ↔ B → B ↔ C → A ↔ C
-chain f g = (λ x. g.0 (f.0 x), λ x. f.1 (g.1 x))
 
 module _ (def : Definition) (k : IsClass def) (p m : ℕ) where
   pub stops_end : (rest : List Spanned) → length rest ≡ 0 → Stops def p m (tokens_of rest)
@@ -51,7 +49,7 @@ module _ (def : Definition) (k : IsClass def) (p m : ℕ) where
       let frame : then_grow p m (Some (level_number l.o.level)) ∷ st ≡ then_grow p m (Some (level_number o.level)) ∷ st = ap (λ x. then_grow p m (Some (level_number x.level)) ∷ st) same in
       subst (λ x. Completes def (grow p m tree n level) st (t ∷ ts) F D ↔ Completes def x (then_grow p m (Some (level_number o.level)) ∷ st) ts F D) task
       (subst (λ x. Completes def (grow p m tree n level) st (t ∷ ts) F D ↔ Completes def (parts l.o false (taken l.item t (with_child (operator op) tree)) (max 0 n) l.more) x ts F D) frame
-      (chain (step_led def (facts def k) F D p m tree n level st t ts op l (subst (λ x. m ≤ level_number x.level) (sym same) least) (subst (λ x. Reaches (first_level x.level) level) (sym same) reach))
+      (iff_then (step_led def (facts def k) F D p m tree n level st t ts op l (subst (λ x. m ≤ level_number x.level) (sym same) least) (subst (λ x. Reaches (first_level x.level) level) (sym same) reach))
       (step_item def (facts def k) F D l.o false (with_child (operator op) tree) (max 0 n) l.item l.more (then_grow p m (Some (level_number l.o.level)) ∷ st) t ts l.begins)))
 
 -- the two first solid items

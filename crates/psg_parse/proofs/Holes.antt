@@ -2,13 +2,14 @@
 use Rattle.std.proofs.Common.{IsTrue, ◌≡◌, ◌↔◌, ℕ, Bool, Some, slice_get, bytes_eq, sym, ap, ◌∙◌}
 use Rattle.std.proofs.lemmas.Slice.Eq.{bytes_eq-Decides}
 use Rattle.psg_terms.specs.Names.{Name}
+use Rattle.psg_grammar.specs.declared.types.Kind.TheVariants as kinds
 use Rattle.psg_grammar.specs.declared.types.Phylum.{Phylum}
 use Rattle.psg_grammar.specs.declared.types.Definition.{Definition}
+use Rattle.psg_grammar.specs.Declaring.{HasHoles}
 use Rattle.psg_class.specs.Terminals.{Terminal, a_hole}
-use Rattle.psg_class.specs.Follow.{HasHoles}
 use Rattle.psg_parse.specs.Tables.{OpensHole}
 
-pub hole_iff : (def : Definition) (p : ℕ) (name : Name) (t : Terminal) (kind : Phylum) → t ≡ a_hole name → slice_get def.phyla p ≡ Some kind → HasHoles def p
+pub hole_iff : (def : Definition) (p : ℕ) (name : Name) (t : Terminal) (kind : Phylum) → t ≡ a_hole name → slice_get def.phyla p ≡ Some kind → HasHoles def (kinds.Phylum p)
     → (b : Bool) (x : Name) → b ≡ bytes_eq x name → x ≡ kind.name → IsTrue b ↔ OpensHole def p t
 hole_iff def p name t kind is found holes b x e ex = (there, back) where
   there : IsTrue b → OpensHole def p t

@@ -1,5 +1,6 @@
 -- The steps of a list that begins.
 use Rattle.std.proofs.Common.{◌≡◌, ◌↔◌, ℕ, suc, Bool, true, false, List, [], ◌∷◌, Some, None, slice_get, length, refl, sym, ◌∙◌, subst, arith}
+use Rattle.psg_terms.proofs.Lists.{iff_then}
 use Rattle.psg_terms.specs.Names.{Name, is_among}
 use Rattle.psg_lexis.specs.Classes.{is_solo}
 use Rattle.psg_lexis.specs.declared.token.Spanned.{Spanned}
@@ -34,9 +35,6 @@ more_token def (symbols w) e = absurd (more_fixed (is_run w) w e)
 more_token def (placeholder w) e = absurd (let y : a_hole w ≡ a_more = e in cc)
 more_token def dots e = refl
 
-chain : {A B C : Type 0} → A ↔ B → B ↔ C → A ↔ C
-chain f g = (λ x. g.0 (f.0 x), λ x. f.1 (g.1 x))
-
 module _ (def : Definition) (k : IsClass def) (l : ℕ) (kind : ListKind) (found : slice_get def.lists l ≡ Some kind) (st : List Frame) (F : Fragment) (D : ℕ) where
   kind_is : (other : ListKind) → slice_get def.lists l ≡ Some other → other ≡ kind
   kind_is other e = let x : Some other ≡ Some kind = sym e ∙ found in cc
@@ -49,7 +47,7 @@ module _ (def : Definition) (k : IsClass def) (l : ℕ) (kind : ListKind) (found
   list_more u e ts h = subst (λ y. Completes def (list l) st (y ∷ ts) F D ↔ Ends def st (ending l true) 0 ts F D) (sym e) (step_only_more def (facts def k) F D l kind found h st ts)
 
   pub list_some : (u : Token) (ts : List Token) → First def kind.element (terminal_of def u) → Completes def (list l) st (u ∷ ts) F D ↔ Completes def (start kind.element 0) (then_list l [] 0 ∷ st) (u ∷ ts) F D
-  list_some u ts f = chain (step_first def (facts def k) F D l kind found st u ts f) (step_some def (facts def k) F D l kind found st (u ∷ ts))
+  list_some u ts f = iff_then (step_first def (facts def k) F D l kind found st u ts f) (step_some def (facts def k) F D l kind found st (u ∷ ts))
 
   no_first : (t : Terminal) → FirstOfList def l t → (First def kind.element t → ⊥) → (kind.unfinished ≡ true → t ≡ a_more → ⊥) → ⊥
   no_first t (first_element other e f) h g = h (subst (λ x. First def x.element t) (kind_is other e) f)

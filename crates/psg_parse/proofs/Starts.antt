@@ -1,5 +1,6 @@
 -- The step of a tree of a phylum that begins.
 use Rattle.std.proofs.Common.{◌≡◌, ◌↔◌, ℕ, ◌<◌, ◌≤◌, true, false, List, ◌∷◌, Some, None, refl, sym, ap, ◌∙◌, subst}
+use Rattle.psg_terms.proofs.Lists.{iff_then}
 use Rattle.psg_grammar.specs.declared.types.Item.{Item}
 use Rattle.psg_grammar.specs.declared.types.Operator.{Operator}
 use Rattle.psg_grammar.specs.declared.types.Definition.{Definition}
@@ -15,9 +16,6 @@ use Rattle.psg_class.specs.Machine.{Frame, then_grow, then_close, Completes, tak
 use Rattle.psg_class.proofs.Machine.{step_hole, step_bracket, step_leading, step_no_start, step_low, step_item}
 use Rattle.psg_parse.specs.Tables.{OpensHole, OpensBracket}
 use Rattle.psg_parse.proofs.Opens.{hole_token}
-
-chain : {A B C : Type 0} → A ↔ B → B ↔ C → A ↔ C
-chain f g = (λ x. g.0 (f.0 x), λ x. f.1 (g.1 x))
 
 module _ (def : Definition) (k : IsClass def) (p m : ℕ) (st : List Frame) (t : Token) (ts : List Token) (F : Fragment) (D : ℕ) where
   pub starts_hole : OpensHole def p (terminal_of def t) → Completes def (start p m) st (t ∷ ts) F D ↔ Completes def (grow p m (hole p) 0 None) st ts F D
@@ -44,5 +42,5 @@ module _ (def : Definition) (k : IsClass def) (p m : ℕ) (st : List Frame) (t :
       let frame : then_grow p m (Some (level_number l.o.level)) ∷ st ≡ then_grow p m (Some (level_number o.level)) ∷ st = ap (λ x. then_grow p m (Some (level_number x.level)) ∷ st) same in
       subst (λ x. Completes def (start p m) st (t ∷ ts) F D ↔ Completes def x (then_grow p m (Some (level_number o.level)) ∷ st) ts F D) task
       (subst (λ x. Completes def (start p m) st (t ∷ ts) F D ↔ Completes def (parts l.o false (taken l.item t (operator op)) 0 l.more) x ts F D) frame
-      (chain (step_leading def (facts def k) F D p m st t ts op l (subst (λ x. m ≤ level_number x.level) (sym same) least))
+      (iff_then (step_leading def (facts def k) F D p m st t ts op l (subst (λ x. m ≤ level_number x.level) (sym same) least))
       (step_item def (facts def k) F D l.o true (operator op) 0 l.item l.more (then_grow p m (Some (level_number l.o.level)) ∷ st) t ts l.begins)))

@@ -34,4 +34,4 @@ mod tables;
 
 pub use fault::{Goal, ParseFault};
 pub use parser::{parse, parse_with};
-pub use tables::ParseTable;
+pub use tables::{ParseTable, fixed_words};

@@ -2,15 +2,15 @@
 ghost use Rattle.std.specs.Prelude.{◌≡◌, ◌∷◌, [], chars};
 ghost use Rattle.std.specs.List.{list_all};
 ghost use Rattle.psg_terms.specs.Names.{is_among};
-ghost use Rattle.psg_terms.specs.Words.{starts_word, goes_on_word};
+ghost use Rattle.psg_terms.specs.Words.{goes_on_word};
 ghost use Rattle.psg_lexis.specs.Classes.{is_solo, is_symbol};
 ghost use Rattle.psg_class.specs.Terminals.{fixed_if, is_word, is_run, terminal_of, word_terminal};
 ghost use Rattle.psg_grammar.specs.WellFormed.{fixed_words};
 ghost use Rattle.psg_parse.specs.Seen.{terminal_seen};
 
 use psg_grammar::Definition;
-use psg_lexis::{Lexis, Token};
-use unicode_ident::{is_xid_continue, is_xid_start};
+use psg_lexis::{Lexis, Token, is_symbol};
+use psg_terms::{goes_on_word, starts_word};
 
 /// A token's terminal, with the texts that the token holds.
 #[derive(Clone, Copy)]
@@ -98,18 +98,6 @@ fn all_go_on(text: &str) -> bool
     text.chars().all(|c| goes_on_word(c))
 }
 
-fn starts_word(c: char) -> bool
-    ensures { result ≡ starts_word c }
-{
-    is_xid_start(c) | (c == '_')
-}
-
-fn goes_on_word(c: char) -> bool
-    ensures { result ≡ goes_on_word c }
-{
-    is_xid_continue(c) | (c == '_')
-}
-
 /// Says whether the text is a run of symbols other than `...`.
 fn is_run(text: &str) -> bool
     ensures { result ≡ is_run text.now }
@@ -121,30 +109,11 @@ fn is_run(text: &str) -> bool
 fn all_symbols(bytes: &[u8]) -> bool
     ensures { result ≡ list_all is_symbol bytes.now }
 {
-    bytes.iter().all(|byte| is_symbol(*byte))
+    bytes.iter().all(|byte| is_symbol_byte(*byte))
 }
 
-fn is_symbol(byte: u8) -> bool
+fn is_symbol_byte(byte: u8) -> bool
     ensures { result ≡ is_symbol byte }
 {
-    matches!(
-        byte,
-        b'+' | b'-'
-            | b'*'
-            | b'/'
-            | b'%'
-            | b'<'
-            | b'>'
-            | b'='
-            | b'!'
-            | b'&'
-            | b'|'
-            | b'^'
-            | b'~'
-            | b':'
-            | b'.'
-            | b'@'
-            | b'#'
-            | b'$'
-    )
+    is_symbol(byte as char)
 }

@@ -1,9 +1,10 @@
 //! All that the parser looks up of a definition, made once.
 ghost use Rattle.std.specs.Prelude.{◌≡◌, ◌<◌, ◌↔◌, ◌++◌};
 ghost use Rattle.std.specs.Prelude.{ℕ, Bool, true, IfOk, MatchOption, None, OnOk, Some, length, slice_get, vec_len};
+ghost use Rattle.psg_grammar.specs.declared.types.Kind.TheVariants as kinds;
 ghost use Rattle.psg_grammar.specs.Sound.{IsSound};
 ghost use Rattle.psg_grammar.specs.WellFormed.{fixed_words, separators, words_in};
-ghost use Rattle.psg_class.specs.Follow.{HasHoles};
+ghost use Rattle.psg_grammar.specs.Declaring.{HasHoles};
 ghost use Rattle.psg_class.specs.Terminals.{Terminal, item_terminal};
 ghost use Rattle.psg_parse.specs.Lookups.{Finds, Has, PutsAt, opener_at, terminal_at};
 ghost use Rattle.psg_parse.specs.Tables.{IsParseTable};
@@ -52,8 +53,10 @@ impl ParseTable {
     }
 }
 
-/// Collects the fixed words of the definition. Some may be in the list twice.
-fn fixed_words(alloc: Global, definition: &Definition) -> Result<Vec<Txt>, AllocError>
+/// Collects the fixed words of the definition: the words of the operators in order, and then the separators of the
+/// lists. Some may be in the list twice. It goes over all operators and lists, shares each text, and fails where memory
+/// runs out.
+pub fn fixed_words(alloc: Global, definition: &Definition) -> Result<Vec<Txt>, AllocError>
     ensures { IfOk result (λ words. words.items ≡ fixed_words definition.now) }
 {
     let mut words = Vec::new(alloc);
@@ -89,7 +92,7 @@ fn holes(alloc: Global, definition: &Definition) -> Result<Vec<bool>, AllocError
     requires { IsSound definition.now }
     ensures count { IfOk result (λ holes. vec_len holes ≡ length definition.now.phyla) }
     ensures exact { IfOk result (λ holes. (p : ℕ) (b : Bool) → slice_get holes.items p ≡ Some b
-        → (b ≡ true) ↔ HasHoles definition.now p) }
+        → (b ≡ true) ↔ HasHoles definition.now (kinds.Phylum p)) }
 {
     let declared = declaring(alloc, definition)?;
     let mut holes = Vec::with_capacity(alloc, declared.len())?;

@@ -3,7 +3,7 @@ use Rattle.std.proofs.Common.{◌≡◌, ℕ, suc, zero, ◌+◌, ◌≤◌, Opt
 use Rattle.std.proofs.Math.ListN.{set}
 use Rattle.std.specs.Option.{option_map, unwrap_or}
 use Rattle.std.proofs.Math.Seq.{drop-append_seam}
-use Rattle.std.proofs.lemmas.List.{take-append-le, take_all}
+use Rattle.std.proofs.lemmas.List.{take-append-le, take_all, take-take}
 use Rattle.psg_pool.specs.declared.cells.CellId.{CellId}
 use Rattle.psg_pool.specs.declared.pool.Slot.{Slot}
 use Rattle.psg_pool.specs.declared.pool.Content.{Content}
@@ -41,16 +41,9 @@ laid_set at (s ∷ rest) end zero old new laid got start count =
 laid_set at (s ∷ rest) end (suc i) old new laid got start count =
     (laid.0, laid_set (at + count_in s.content) rest end i old new laid.1 got start count)
 
--- the first elements of the first elements
-pub take_less : {X : Type 0} (xs : List X) (count end : ℕ) → count ≤ end → take count (take end xs) ≡ take count xs
-take_less xs zero end h = refl
-take_less xs (suc count) zero h = absurd (omega (arith, h))
-take_less [] (suc count) (suc end) h = refl
-take_less (x ∷ xs) (suc count) (suc end) h = ap (λ r. x ∷ r) (take_less xs count end (omega (arith, h)))
-
 -- a part that ends by a place needs no more of the list
 pub part_cut : {X : Type 0} (xs : List X) (start count end : ℕ) → start + count ≤ end → take count (drop start (take end xs)) ≡ take count (drop start xs)
-part_cut xs zero count end h = take_less xs count end (omega (arith, h))
+part_cut xs zero count end h = take-take count end xs (omega (arith, h))
 part_cut xs (suc start) count zero h = absurd (omega (arith, h))
 part_cut [] (suc start) count (suc end) h = refl
 part_cut (x ∷ xs) (suc start) count (suc end) h = part_cut xs start count end (omega (arith, h))
@@ -81,7 +74,7 @@ puts_grown arguments more slots laid =
 pub puts_cut : (arguments : List CellId) (slots : List Slot) (end : ℕ) → IsLaid 0 slots end → puts (take end arguments) slots ≡ puts arguments slots
 puts_cut arguments slots end laid =
     let whole : end ≤ end = omega arith in
-    puts_same (take end arguments) arguments 0 slots end laid (take_less arguments end end whole)
+    puts_same (take end arguments) arguments 0 slots end laid (take-take end end arguments whole)
 
 -- a slot over the arguments at the end of the buffer shows a constructor over them
 pub put_of_last : (arguments more : List CellId) (number : ℕ)

@@ -4,7 +4,7 @@ use Rattle.std.proofs.Math.ListN.{set}
 use Rattle.std.proofs.Math.Seq.{map-set_same}
 use Rattle.std.specs.Option.{option_and_then, option_map}
 use Rattle.std.proofs.lemmas.List.{map-append, take-map, length-take, length-map}
-use Rattle.std.proofs.lemmas.List.Elements.{All-nil}
+use Rattle.std.proofs.lemmas.List.Elements.{All-nil, All-weaker}
 use Rattle.std.proofs.lemmas.Option.{slice_get-map, slice_get_read, slice_get_within}
 use Rattle.psg_pool.specs.declared.cells.CellId.{CellId}
 use Rattle.psg_pool.specs.declared.cells.Binding.{Binding}
@@ -18,7 +18,7 @@ use Rattle.psg_pool.specs.Layout.{count_in, place_in, put_in, put_of, puts, boun
 use Rattle.psg_pool.proofs.Places.{slice_get-set_same}
 use Rattle.psg_pool.proofs.Links.{linked_grown, linked_take, linked_cut, linked_set, linked_more}
 use Rattle.psg_pool.proofs.Buffer.{laid_more, laid_set, laid_cut, puts_grown, puts_cut, put_of_last}
-use Rattle.psg_pool.proofs.Soundness.{sound_empty, sound_put, sound_bind, sound_release, All-then}
+use Rattle.psg_pool.proofs.Soundness.{sound_empty, sound_put, sound_bind, sound_release}
 
 pub order_empty : IsInOrder [] [] []
 order_empty = record { laid = refl; linked = tt; sound = sound_empty }
@@ -130,8 +130,7 @@ pub order_release : (slots : List Slot) (arguments : List CellId) (bindings : Li
 order_release slots arguments bindings mark order can = record {
   laid = subst (λ (n : ℕ). IsLaid 0 (take mark.cells slots) n) (sym size) cut.0;
   linked = linked_cut slots mark.cells (take mark.bindings bindings) 0
-      (All-then (λ (b : Binding). (b.bound.0 < mark.cells) × (b.target.0 < mark.cells)) (λ (b : Binding). b.bound.0 < mark.cells)
-      (take mark.bindings bindings) (λ b h. h.0) can.stay)
+      (All-weaker (λ (b : Binding). (b.bound.0 < mark.cells) × (b.target.0 < mark.cells)) (λ (b : Binding). b.bound.0 < mark.cells) (λ b h. h.0) (take mark.bindings bindings) can.stay)
       (linked_take slots bindings 0 mark.bindings order.linked);
   sound = subst (λ (cells : List Put). IsSound (record { cells = cells; bindings = take mark.bindings bindings }))
       (sym (puts_release slots arguments mark.cells order.laid)) (sound_release (shown slots arguments bindings) mark can order.sound);

@@ -1,17 +1,17 @@
 -- Following bindings comes to an end.
 use Rattle.std.proofs.Common.{◌≡◌, inl, inr, ℕ, ◌==◌, Some, None, List, [], ◌∷◌, ◌++◌, take, drop, refl, ap, sym, ◌∙◌, subst}
-use Rattle.std.proofs.lemmas.Bool.{eqb-true}
+use Rattle.std.proofs.lemmas.Bool.{eqb-true, cases_Bool}
 use Rattle.std.proofs.lemmas.List.{take-append-drop}
 use Rattle.psg_pool.specs.declared.cells.CellId.{CellId}
 use Rattle.psg_pool.specs.declared.cells.Binding.{Binding}
 use Rattle.psg_pool.specs.Bindings.{target_of, Leads, arrived, followed, Ends, unbound, bound}
-use Rattle.psg_pool.proofs.Places.{either, some_or_none}
+use Rattle.psg_pool.proofs.Places.{some_or_none}
 use Rattle.psg_pool.proofs.Links.{target_of_here, target_of_there}
 
 -- what is bound stays bound to the same under more bindings
 pub target_of-append : (bs more : List Binding) (id target : CellId) → target_of bs id ≡ Some target → target_of (bs ++ more) id ≡ Some target
 target_of-append [] more id target e = cc
-target_of-append (b ∷ rest) more id target e = elim (either (b.bound.0 == id.0)) [
+target_of-append (b ∷ rest) more id target e = elim (cases_Bool (b.bound.0 == id.0)) [
   | inl t ↦ target_of_here b (rest ++ more) id (eqb-true b.bound.0 id.0 t) ∙ sym (target_of_here b rest id (eqb-true b.bound.0 id.0 t)) ∙ e
   | inr f ↦ target_of_there b (rest ++ more) id f ∙ target_of-append rest more id target (sym (target_of_there b rest id f) ∙ e)
 ]
@@ -19,7 +19,7 @@ target_of-append (b ∷ rest) more id target e = elim (either (b.bound.0 == id.0
 -- for a cell that is not bound the bindings behind count
 pub target_of-append_none : (bs more : List Binding) (id : CellId) → target_of bs id ≡ None → target_of (bs ++ more) id ≡ target_of more id
 target_of-append_none [] more id e = refl
-target_of-append_none (b ∷ rest) more id e = elim (either (b.bound.0 == id.0)) [
+target_of-append_none (b ∷ rest) more id e = elim (cases_Bool (b.bound.0 == id.0)) [
   | inl t ↦ let n : Some b.target ≡ None = sym (target_of_here b rest id (eqb-true b.bound.0 id.0 t)) ∙ e in cc
   | inr f ↦ target_of_there b (rest ++ more) id f ∙ target_of-append_none rest more id (sym (target_of_there b rest id f) ∙ e)
 ]
@@ -43,7 +43,7 @@ ends_take bs m id e = ends_fewer (take m bs) (drop m bs) id (subst (λ (l : List
 
 -- from a cell that does not lead to the newly bound one, nothing changes
 pub ends_apart : (bs : List Binding) (b : Binding) (id : CellId) → Ends bs id → (Leads bs id b.bound → ⊥) → Ends (bs ++ b ∷ []) id
-ends_apart bs b _ (unbound id e) apart = elim (either (b.bound.0 == id.0)) [
+ends_apart bs b _ (unbound id e) apart = elim (cases_Bool (b.bound.0 == id.0)) [
   | inl t ↦
       let same : id ≡ b.bound = sym (ap (λ n. record { 0 = n }) (eqb-true b.bound.0 id.0 t)) in
       absurd (apart (subst (λ (to : CellId). Leads bs id to) same (arrived id)))
@@ -55,7 +55,7 @@ ends_apart bs b _ (bound id next e rest) apart =
 -- a binding whose target does not lead back to the bound cell keeps all ends
 pub ends_bound : (bs : List Binding) (b : Binding) → ((id : CellId) → Ends bs id) → (Leads bs b.target b.bound → ⊥) → (id : CellId) → Ends bs id
     → Ends (bs ++ b ∷ []) id
-ends_bound bs b all apart _ (unbound id e) = elim (either (b.bound.0 == id.0)) [
+ends_bound bs b all apart _ (unbound id e) = elim (cases_Bool (b.bound.0 == id.0)) [
   | inl t ↦
       bound id b.target (target_of-append_none bs (b ∷ []) id e ∙ target_of_here b [] id (eqb-true b.bound.0 id.0 t))
       (ends_apart bs b b.target (all b.target) apart)

@@ -3,13 +3,13 @@ use Rattle.std.proofs.Common.{◌≡◌, ◌≢◌, inl, inr, ℕ, suc, zero, �
 use Rattle.std.proofs.Math.ListN.{set}
 use Rattle.std.specs.Option.{option_and_then}
 use Rattle.std.proofs.lemmas.Option.{option_and_then_some}
-use Rattle.std.proofs.lemmas.Bool.{eq-eqb, eqb-true, eqb-false}
+use Rattle.std.proofs.lemmas.Bool.{eq-eqb, eqb-true, eqb-false, cases_Bool}
 use Rattle.psg_pool.specs.declared.cells.CellId.{CellId}
 use Rattle.psg_pool.specs.declared.cells.Binding.{Binding}
 use Rattle.psg_pool.specs.declared.pool.Slot.{Slot}
 use Rattle.psg_pool.specs.Bindings.{target_of}
 use Rattle.psg_pool.specs.Layout.{place_in, place_at, IsLinked}
-use Rattle.psg_pool.proofs.Places.{either, slice_get-append, slice_get-take, slice_get-set_other}
+use Rattle.psg_pool.proofs.Places.{slice_get-append, slice_get-take, slice_get-set_other}
 
 -- cells with one number have one slot
 pub place_at_same : (slots : List Slot) (a b : CellId) → a.0 ≡ b.0 → place_at slots a ≡ place_at slots b
@@ -29,7 +29,7 @@ found slots [] place j p id b linked at is here same = cc
 found slots (c ∷ rest) place zero p id b linked at is here same =
     let e : c ≡ b = cc in
     target_of_here c rest id (ap (λ (x : Binding). x.bound.0) e ∙ same) ∙ ap (λ (x : Binding). Some x.target) e
-found slots (c ∷ rest) place (suc j) p id b linked at is here same = elim (either (c.bound.0 == id.0)) [
+found slots (c ∷ rest) place (suc j) p id b linked at is here same = elim (cases_Bool (c.bound.0 == id.0)) [
   | inl t ↦
       let e : Some place ≡ Some p = sym linked.0 ∙ place_at_same slots c.bound id (eqb-true c.bound.0 id.0 t) ∙ at in
       let n : place ≡ p = cc in absurd (omega (arith, n, is))
@@ -40,7 +40,7 @@ found slots (c ∷ rest) place (suc j) p id b linked at is here same = elim (eit
 pub not_found : (slots : List Slot) (bs : List Binding) (place p : ℕ) (id : CellId) → IsLinked slots place bs → place_at slots id ≡ Some p
     → ((j : ℕ) (b : Binding) → p ≡ place + j → slice_get bs j ≡ Some b → b.bound.0 ≢ id.0) → target_of bs id ≡ None
 not_found slots [] place p id linked at apart = refl
-not_found slots (c ∷ rest) place p id linked at apart = elim (either (c.bound.0 == id.0)) [
+not_found slots (c ∷ rest) place p id linked at apart = elim (cases_Bool (c.bound.0 == id.0)) [
   | inl t ↦
       let same : c.bound.0 ≡ id.0 = eqb-true c.bound.0 id.0 t in
       let e : Some place ≡ Some p = sym linked.0 ∙ place_at_same slots c.bound id same ∙ at in
@@ -54,7 +54,7 @@ not_found slots (c ∷ rest) place p id linked at apart = elim (either (c.bound.
 pub never_bound : (slots : List Slot) (bs : List Binding) (place : ℕ) (id : CellId) → IsLinked slots place bs → place_at slots id ≡ None
     → target_of bs id ≡ None
 never_bound slots [] place id linked at = refl
-never_bound slots (c ∷ rest) place id linked at = elim (either (c.bound.0 == id.0)) [
+never_bound slots (c ∷ rest) place id linked at = elim (cases_Bool (c.bound.0 == id.0)) [
   | inl t ↦
       let e : Some place ≡ None = sym linked.0 ∙ place_at_same slots c.bound id (eqb-true c.bound.0 id.0 t) ∙ at in
       cc
@@ -90,7 +90,7 @@ linked_cut slots n (b ∷ rest) place below linked =
 pub linked_set : (slots : List Slot) (id : CellId) (slot : Slot) (bs : List Binding) (place : ℕ) → target_of bs id ≡ None → IsLinked slots place bs
     → IsLinked (set slots id.0 slot) place bs
 linked_set slots id slot [] place free linked = tt
-linked_set slots id slot (b ∷ rest) place free linked = elim (either (b.bound.0 == id.0)) [
+linked_set slots id slot (b ∷ rest) place free linked = elim (cases_Bool (b.bound.0 == id.0)) [
   | inl t ↦ let e : Some b.target ≡ None = sym (target_of_here b rest id (eqb-true b.bound.0 id.0 t)) ∙ free in cc
   | inr f ↦ (
     ap (option_and_then (λ (s : Slot). place_in s.content)) (slice_get-set_other slots b.bound.0 id.0 slot (eqb-false b.bound.0 id.0 f)) ∙ linked.0,

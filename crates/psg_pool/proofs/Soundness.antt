@@ -1,25 +1,21 @@
 -- Each change of a pool keeps what is true of every pool.
 use Rattle.std.proofs.Common.{◌≡◌, ◌≢◌, ◌==◌, inl, inr, ℕ, zero, suc, ◌<◌, ◌≤◌, min, Option, Some, None, List, [], ◌∷◌, ◌++◌, length, take, slice_get, All, refl, sym, ◌∙◌, subst, arith, length-append, slice_index_or}
 use Rattle.std.proofs.lemmas.Option.{slice_get_past, slice_get_within}
-use Rattle.std.proofs.lemmas.List.Elements.{All-append, All-take}
+use Rattle.std.proofs.lemmas.List.Elements.{All-append, All-take, All-weaker}
 use Rattle.std.proofs.lemmas.List.{length-take}
 use Rattle.psg_pool.specs.declared.cells.CellId.{CellId}
 use Rattle.psg_pool.specs.declared.cells.Binding.{Binding}
 use Rattle.psg_pool.specs.Cells.{Put, free, IsAmong, arguments_in, arguments_of}
 use Rattle.psg_pool.specs.Bindings.{Kept, IsOver, IsSound, Leads, Ends}
 use Rattle.psg_pool.specs.Marks.{Lengths, IsReleasable}
-use Rattle.std.proofs.lemmas.Bool.{eqb-true, eqb-false}
-use Rattle.psg_pool.proofs.Places.{either, some_or_none, slice_get_none, slice_get-append, slice_get-append_last, slice_get-take}
+use Rattle.std.proofs.lemmas.Bool.{eqb-true, eqb-false, cases_Bool}
+use Rattle.psg_pool.proofs.Places.{some_or_none, slice_get_none, slice_get-append, slice_get-append_last, slice_get-take}
 use Rattle.psg_pool.proofs.Following.{ends_take, ends_bound}
 
 -- what holds of one element
 pub All-one : {X : Type 0} (P : X → Type 0) (x : X) → P x → All P (x ∷ [])
 All-one P x h zero d below = h
 All-one P x h (suc k) d below = absurd (omega (arith, below))
-
--- what follows for each element
-pub All-then : {X : Type 0} (P Q : X → Type 0) (xs : List X) → ((x : X) → P x → Q x) → All P xs → All Q xs
-All-then P Q xs f h k d below = f (slice_index_or xs k d) (h k d below)
 
 -- nothing was put yet
 pub sound_empty : IsSound (record { cells = []; bindings = [] })
@@ -38,7 +34,7 @@ pub sound_put : (kept : Kept) (put : Put) → All (IsAmong kept.cells) (argument
     → IsSound (record { cells = kept.cells ++ put ∷ []; bindings = kept.bindings })
 sound_put kept put among sound = record {
   arguments = before;
-  over = All-then (IsOver kept.cells) (IsOver (kept.cells ++ put ∷ [])) kept.bindings (over_grown kept.cells (put ∷ [])) sound.over;
+  over = All-weaker (IsOver kept.cells) (IsOver (kept.cells ++ put ∷ [])) (over_grown kept.cells (put ∷ [])) kept.bindings sound.over;
   ends = sound.ends;
 } where
   before : (id : CellId) → All (λ a. a.0 < id.0) (arguments_of (kept.cells ++ put ∷ []) id)
@@ -49,11 +45,11 @@ sound_put kept put among sound = record {
         subst (λ (o : Option Put). All (λ (a : CellId). a.0 < id.0) (arguments_in o)) (sym e) (sound.arguments id)
   ] where
     last : slice_get kept.cells id.0 ≡ None → All (λ a. a.0 < id.0) (arguments_of (kept.cells ++ put ∷ []) id)
-    last none = elim (either (id.0 == length kept.cells)) [
+    last none = elim (cases_Bool (id.0 == length kept.cells)) [
       | inl t ↦
           let here : id.0 ≡ length kept.cells = eqb-true id.0 (length kept.cells) t in
           subst (λ (o : Option Put). All (λ (a : CellId). a.0 < id.0) (arguments_in o)) (sym (slice_get-append_last kept.cells put id.0 here))
-          (All-then (IsAmong kept.cells) (λ a. a.0 < id.0) (arguments_in (Some put)) (λ a h. omega (arith, h, here)) among)
+          (All-weaker (IsAmong kept.cells) (λ a. a.0 < id.0) (λ a h. omega (arith, h, here)) (arguments_in (Some put)) among)
       | inr f ↦
           let apart : id.0 ≢ length kept.cells = eqb-false id.0 (length kept.cells) f in
           let past : length (kept.cells ++ put ∷ []) ≤ id.0 =

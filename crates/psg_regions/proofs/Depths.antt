@@ -1,12 +1,12 @@
 -- How deep a tree is with another one in place of a node.
-use Rattle.std.proofs.Common.{◌≡◌, inl, inr, Bool, cond, ℕ, zero, suc, ◌+◌, ◌<◌, ◌≤◌, max, [], ◌∷◌, ◌++◌, length, slice_get, option_and_then, Option, Some, None, refl, ap, sym, ◌∙◌, subst, arith, length-append}
+use Rattle.std.proofs.Common.{◌≡◌, inl, inr, Bool, cond, ℕ, zero, suc, ◌+◌, ◌<◌, ◌≤◌, max, [], ◌∷◌, ◌++◌, length, slice_get, Option, Some, refl, ap, sym, ◌∙◌, subst, arith, length-append}
 use Rattle.std.proofs.lemmas.Bool.Decides.{eqb_tells}
 use Rattle.std.proofs.lemmas.Option.{none-some, slice_get_within}
 use Rattle.psg_grammar.specs.declared.types.Definition.{Definition}
 use Rattle.psg_grammar.specs.Fragments.{Fragment, hole, ending, cell, operator, with_child, with_name, with_number, with_text, anything, observed, children_of}
 use Rattle.psg_grammar.specs.Paths.{Path, node_at, change_at, change_child, replaced}
 use Rattle.psg_grammar.specs.Sizes.{depth_of}
-use Rattle.psg_grammar.proofs.PathLaws.{got_front, got_next}
+use Rattle.psg_grammar.proofs.PathLaws.{got_front, got_next, step}
 use Rattle.psg_regions.specs.Laws.{DepthOfChange}
 
 -- the depth with a child changed is at least that of the child and one, and no more than that or the old depth
@@ -55,12 +55,6 @@ changed g (with_text f n) k t s = changed g f k t s
 changed g anything k t s = absurd (none-some t s)
 changed g (observed f) k t s = changed g f k t s
 
--- the child on the path to a node
-pub step_child : (path : Path) (o : Option Fragment) (x : Fragment) → option_and_then (λ t. node_at t path) o ≡ Some x
-    → (t : Fragment) × (o ≡ Some t) × (node_at t path ≡ Some x)
-step_child path None x e = absurd (none-some x e)
-step_child path (Some t) x e = (t, refl, e)
-
 -- a child is less deep than its parent
 pub child_low : (f : Fragment) (k : ℕ) (t : Fragment) → slice_get (children_of f) k ≡ Some t → depth_of t + 1 ≤ depth_of f
 child_low (hole p) k t s = absurd (none-some t s)
@@ -101,7 +95,7 @@ deep new [] f node e =
     let same : 0 + depth_of new ≡ depth_of new = omega arith in
     record { at_least = omega (arith, same); at_most = omega (arith, same) }
 deep new (k ∷ path) f node e =
-    let (t, at, further) = step_child path (slice_get (children_of f) k) node e in
+    let (t, at, further) = step (slice_get (children_of f) k) path node e in
     let inner = deep new path t node further in
     let outer = changed (change_at (λ old. new) path) f k t at in
     let all : ℕ = depth_of (change_child (change_at (λ old. new) path) k f) in

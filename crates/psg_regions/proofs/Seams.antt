@@ -2,6 +2,7 @@
 use Rattle.std.proofs.Common.{◌≡◌, inl, inr, ℕ, zero, suc, ◌-◌, ◌≤◌, List, [], ◌∷◌, ◌++◌, length, take, drop, refl, ap, sym, ◌∙◌, subst, append_assoc, arith}
 use Rattle.std.specs.Str.{IsUtf8}
 use Rattle.std.proofs.lemmas.Str.{IsUtf8-append, IsUtf8-nil}
+use Rattle.std.proofs.lemmas.List.{drop-append-le}
 use lib.Utf8.{encode}
 use Rattle.std.specs.Prelude.{chars, None}
 use Rattle.psg_terms.specs.Names.{Name}
@@ -22,12 +23,6 @@ take_past (b ∷ a) x zero h = absurd (omega (arith, h))
 take_past (b ∷ a) x (suc n) h =
     let e : n - length a ≡ suc n - length (b ∷ a) = omega arith in
     ap (λ ys. b ∷ ys) (take_past a x n (omega (arith, h)) ∙ ap (λ k. a ++ take k x) e)
-
-drop_within : (w b : List ℕ) (n : ℕ) → n ≤ length w → drop n (w ++ b) ≡ drop n w ++ b
-drop_within [] b zero h = refl
-drop_within [] b (suc n) h = absurd (omega (arith, h))
-drop_within (x ∷ w) b zero h = refl
-drop_within (x ∷ w) b (suc n) h = drop_within w b n (omega (arith, h))
 
 drop_size : (w : List ℕ) (n : ℕ) → n ≤ length w → length (drop n w) ≡ length w - n
 drop_size [] zero h = refl
@@ -57,7 +52,7 @@ module _ (e : Typing) (s : Span) (text a own b : List ℕ) (is : text ≡ a ++ (
   back_part : drop e.end text ≡ part_of e.end s.end text ++ b
   back_part =
       let high : e.end ≤ length (a ++ own) = omega (arith, end, around.1) in
-      let rest : drop e.end text ≡ drop e.end (a ++ own) ++ b = ap (drop e.end) up_to ∙ drop_within (a ++ own) b e.end high
+      let rest : drop e.end text ≡ drop e.end (a ++ own) ++ b = ap (drop e.end) up_to ∙ drop-append-le e.end (a ++ own) b high
       in
       let size : s.end - e.end ≡ length (drop e.end (a ++ own)) =
       ap (λ n. n - e.end) end ∙ sym (drop_size (a ++ own) e.end high) in

@@ -4,6 +4,7 @@ use Rattle.std.specs.Prelude.{decimal}
 use Rattle.std.specs.List.{AllByRecursion}
 use Rattle.std.proofs.lemmas.Bool.Decides.{eqb_tells}
 use Rattle.std.proofs.lemmas.Option.{slice_get_within}
+use Rattle.psg_terms.proofs.Lists.{slice_get-front, slice_get-end}
 use Rattle.psg_grammar.specs.declared.types.Definition.{Definition}
 use Rattle.psg_grammar.specs.declared.types.Kind.{Kind}
 use Rattle.psg_grammar.specs.Fragments.{Fragment, hole, ending, cell, operator, with_child, with_name, with_number, with_text, anything, observed, children_of}
@@ -13,7 +14,7 @@ use Rattle.psg_tree.specs.AbstractText.{quoted}
 use Rattle.psg_reads_back.specs.Rows.{wanted, operator_of}
 use Rattle.psg_reads_back.specs.Spots.{Spot, Placed, IsPlacedAt, top_spot, element_spot, rest_spot, child_spot, front_spot, leaf_spot, placed_from, placed_below, placed_in}
 use Rattle.psg_reads_back.proofs.SlotSteps.{below_zero}
-use Rattle.psg_unparse.proofs.Listed.{IsProper, proper, placed-top, Counts, no-spine, each-append, each-as, each-at, get-front, get-last}
+use Rattle.psg_unparse.proofs.Listed.{IsProper, proper, placed-top, Counts, no-spine, each-append, each-as, each-at}
 use Rattle.psg_regions.specs.Surroundings.{wanted_in, inner_level, more_around, Surrounds, at_top, in_child}
 
 module _ (def : Definition) where
@@ -117,7 +118,7 @@ module _ (def : Definition) where
     rest = b.rest;
     tree = b.tree;
     path_is = b.path_is;
-    got = get-front (children_of f) (t ∷ []) b.child b.tree b.got;
+    got = slice_get-front (children_of f) (t ∷ []) b.child b.tree b.got;
     there = subst (λ w. Surrounds def b.tree (inner_level def b.tree w) (s.around + more_around def b.tree w) b.rest p.node
         p.spot.level p.spot.around)
         (front-wants f t b.child (slice_get_within (children_of f) b.child b.tree b.got)) b.there;
@@ -136,7 +137,7 @@ module _ (def : Definition) where
         rest = a.rest;
         tree = t;
         path_is = a.path_is ∙ append_assoc s.path (length (children_of f) ∷ []) a.rest;
-        got = get-last (children_of f) t;
+        got = slice_get-end (children_of f) t;
         there = subst (λ w. Surrounds def t (inner_level def t w) (s.around + more_around def t w) a.rest p.node p.spot.level
             p.spot.around) (last-wants f t) a.there;
       }

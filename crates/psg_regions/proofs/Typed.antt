@@ -3,6 +3,7 @@ use Rattle.std.proofs.Common.{◌≡◌, ℕ, ◌+◌, ◌≤◌, max, List, [],
 use Rattle.std.specs.Str.{chars, IsUtf8, IsCharBoundary}
 use Rattle.std.specs.List.{AllByRecursion}
 use Rattle.std.proofs.lemmas.Str.{IsUtf8-append, IsUtf8-between, IsCharBoundary-at_seam, IsCharBoundary-from_take}
+use Rattle.psg_terms.proofs.Lists.{each_at}
 use Rattle.psg_grammar.specs.declared.types.Kind.{Kind}
 use Rattle.psg_grammar.specs.declared.types.Kind.TheVariants as kinds
 use Rattle.psg_grammar.specs.declared.types.Definition.{Definition}
@@ -13,7 +14,6 @@ use Rattle.psg_grammar.specs.Paths.{Path, replaced}
 use Rattle.psg_grammar.specs.Printable.{IsPrintable}
 use Rattle.psg_grammar.specs.Sound.{IsSound}
 use Rattle.psg_grammar.specs.WellFormed.{WellFormed, fixed_words}
-use Rattle.psg_grammar.proofs.SoundParts.{each_at}
 use Rattle.psg_lexis.specs.Tokens.{bytes_of, HasTokens, IsBeside, IsFixedWord}
 use Rattle.psg_lexis.specs.declared.token.Spanned.{Spanned}
 use Rattle.psg_class.specs.Class.{IsClass}

@@ -1,10 +1,11 @@
 -- What depends on no names and literals is the same for all new names.
 use Rattle.std.proofs.Common.{◌≡◌, inl, inr, ℕ, suc, true, false, ◌||◌, List, [], ◌∷◌, length, bytes_eq, refl, ap, ap₂, sym, ◌∙◌, subst, true≢false, arith, ◌≤◌, encode_utf8_all}
 use Rattle.std.proofs.lemmas.Str.{length-le-encodes}
+use Rattle.std.proofs.lemmas.Bool.{false_from_ne_true, or_cases, or_right, or_left}
 use Rattle.std.specs.List.{AllByRecursion}
 use Rattle.psg_terms.specs.Names.{Name, is_among}
 use Rattle.psg_terms.specs.Words.{IsWord}
-use Rattle.psg_scope.proofs.KeyLists.{key_is, key_refl, not_true, or_cases, or_left, or_right}
+use Rattle.psg_scope.proofs.KeyLists.{key_is, key_refl}
 use Rattle.psg_grammar.specs.declared.types.Item.{Item}
 use Rattle.psg_grammar.specs.declared.types.Item.TheVariants as items
 use Rattle.psg_grammar.specs.declared.types.Definition.{Definition}
@@ -55,7 +56,7 @@ module _ (def : Definition) where
 -- no name of the one list is among the others
 fresh_away : (used names : List Name) (n : Name) → AllByRecursion (λ m. is_among used m ≡ false) names
     → is_among used n ≡ true → is_among names n ≡ false
-fresh_away used names n h u = not_true (is_among names n) (λ e. away names h e) where
+fresh_away used names n h u = false_from_ne_true (is_among names n) (λ e. away names h e) where
   away : (ns : List Name) → AllByRecursion (λ m. is_among used m ≡ false) ns → is_among ns n ≡ true → ⊥
   away [] a e = true≢false (sym e)
   away (m ∷ ns) (a, as_well) e = elim (or_cases (bytes_eq m n) (is_among ns n) e) [

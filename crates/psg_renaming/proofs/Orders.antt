@@ -1,13 +1,13 @@
 -- Keys in order, before and after they get new names: they are the same keys, and each stands once.
 use Rattle.std.proofs.Common.{◌≡◌, Bool, true, false, cond, ◌||◌, List, [], ◌∷◌, map, bytes_eq, refl, ap, ap₂, sym, ◌∙◌, subst, true≢false}
-use Rattle.std.specs.Cmp.{alike_right}
+use Rattle.std.specs.Cmp.{alike_right, both_ways}
 use Rattle.std.specs.declared.cmp.Ordering.{Ordering}
 use Rattle.std.specs.declared.cmp.Ordering.TheVariants.{Less, Equal, Greater}
 use Rattle.psg_terms.specs.Names.{is_among, has_twice}
 use Rattle.psg_grammar.specs.Keys.{Key, space_of, name_in, key_cmp, insert_key, placed, in_order}
 use Rattle.psg_scope.specs.Headers.{IsBelow, AreRising}
 use Rattle.psg_scope.proofs.KeyOrder.{key_total, key_exact, key_same, key_turned}
-use Rattle.psg_scope.proofs.KeyLists.{below-through, below-absent, or-swap, both_ways}
+use Rattle.psg_scope.proofs.KeyLists.{below-through, below-absent, or-swap}
 use Rattle.psg_renaming.proofs.Permuting.{Permutation}
 use Rattle.psg_renaming.proofs.Turned.{new_key, old_key, undo_key, kept-new, among_old}
 

@@ -1,7 +1,9 @@
 -- Names in place of other names, one for one, and those that take one list of names to another.
 use Rattle.std.proofs.Common.{◌≡◌, inl, inr, true, false, cond, ◌||◌, List, [], ◌∷◌, map, length, bytes_eq, refl, ap, ap₂, sym, ◌∙◌, subst, suc, arith}
+use Rattle.std.proofs.lemmas.Bool.{cases_Bool, or_parts}
+use Rattle.std.specs.Cmp.{both_ways}
 use Rattle.psg_terms.specs.Names.{Name, is_among, has_twice}
-use Rattle.psg_scope.proofs.KeyLists.{key_is, key_refl, either, neither, both_ways}
+use Rattle.psg_scope.proofs.KeyLists.{key_is, key_refl}
 
 -- a name for each name, and back
 pub record Permutation : Type 0 where
@@ -40,7 +42,7 @@ pub swap_first : (x y : Name) → swap x y x ≡ y
 swap_first x y = ap (λ b. cond b y (cond (bytes_eq y x) x x)) (key_refl x)
 
 pub swap_second : (x y : Name) → swap x y y ≡ x
-swap_second x y = elim (either (bytes_eq x y)) [
+swap_second x y = elim (cases_Bool (bytes_eq x y)) [
   | inl a ↦ ap (λ b. cond b y (cond (bytes_eq y y) x y)) a ∙ sym (key_is x y a)
   | inr a ↦ ap (λ b. cond b y (cond (bytes_eq y y) x y)) a ∙ ap (λ b. cond b x y) (key_refl y)
 ]
@@ -49,9 +51,9 @@ pub swap_other : (x y n : Name) → bytes_eq x n ≡ false → bytes_eq y n ≡ 
 swap_other x y n a b = ap (λ c. cond c y (cond (bytes_eq y n) x n)) a ∙ ap (λ c. cond c x n) b
 
 pub swap_back : (x y n : Name) → swap x y (swap x y n) ≡ n
-swap_back x y n = elim (either (bytes_eq x n)) [
+swap_back x y n = elim (cases_Bool (bytes_eq x n)) [
   | inl a ↦ subst (λ k. swap x y (swap x y k) ≡ k) (key_is x n a) (ap (swap x y) (swap_first x y) ∙ swap_second x y)
-  | inr a ↦ elim (either (bytes_eq y n)) [
+  | inr a ↦ elim (cases_Bool (bytes_eq y n)) [
     | inl b ↦ subst (λ k. swap x y (swap x y k) ≡ k) (key_is y n b) (ap (swap x y) (swap_second x y) ∙ swap_first x y)
     | inr b ↦ ap (swap x y) (swap_other x y n a b) ∙ swap_other x y n a b
   ]
@@ -99,8 +101,8 @@ module _ (x y : Name) (xs ys : List Name) (once : is_among xs x ≡ false) (othe
 
   kept : (n : Name) → is_among (x ∷ xs) n ≡ false → is_among (y ∷ ys) n ≡ false → after n ≡ n
   kept n a b =
-      let (ax, axs) = neither (bytes_eq x n) (is_among xs n) a in
-      let (by, bys) = neither (bytes_eq y n) (is_among ys n) b in
+      let (ax, axs) = or_parts (bytes_eq x n) (is_among xs n) a in
+      let (by, bys) = or_parts (bytes_eq y n) (is_among ys n) b in
       let same : swap x y n ≡ n = swap_other x y n ax by in
       ap t.names.to same ∙ t.fixes n (ap (is_among (map (swap x y) xs)) (sym same) ∙ away n ∙ axs) bys
 
@@ -121,8 +123,8 @@ takes [] [] h k l = record {
 takes [] (y ∷ ys) h k l = absurd (omega (arith, l))
 takes (x ∷ xs) [] h k l = absurd (omega (arith, l))
 takes (x ∷ xs) (y ∷ ys) h k l =
-    let (hx, hxs) = neither (is_among xs x) (has_twice xs) h in
-    let (ky, kys) = neither (is_among ys y) (has_twice ys) k in
+    let (hx, hxs) = or_parts (is_among xs x) (has_twice xs) h in
+    let (ky, kys) = or_parts (is_among ys y) (has_twice ys) k in
     takes_both x y xs ys hx ky
     (takes (map (swap x y) xs) ys (twice_image (swap x y) (swap x y) (swap_back x y) xs ∙ hxs) kys
     (same_length xs ∙ (omega (arith, l)))) where

@@ -4,10 +4,11 @@ use Rattle.std.specs.Prelude.{All}
 use Rattle.std.specs.List.{AllByRecursion}
 use Rattle.std.proofs.lemmas.Option.{slice_get-map, slice_get_within}
 use Rattle.std.proofs.lemmas.List.Elements.{All-nil, All-cons}
+use Rattle.std.proofs.lemmas.Bool.{cases_Bool, or_right, or_left}
 use Rattle.psg_terms.specs.Names.{is_among, has_twice}
 use Rattle.psg_grammar.specs.Keys.{Key}
 use Rattle.psg_grammar.proofs.NamePlaces.{once}
-use Rattle.psg_scope.proofs.KeyLists.{key_is, key_refl, either, or_left, or_right}
+use Rattle.psg_scope.proofs.KeyLists.{key_is, key_refl}
 use Rattle.psg_relation.specs.Choices.{pick, picked}
 use Rattle.psg_columns.specs.Fewer.{KeptOnce}
 
@@ -18,7 +19,7 @@ index_of (m ∷ ms) k = cond (bytes_eq m k) 0 (suc (index_of ms k))
 
 at_index : (ms : List Key) (k : Key) → is_among ms k ≡ true → slice_get ms (index_of ms k) ≡ Some k
 at_index [] k e = absurd (true≢false (sym e))
-at_index (m ∷ ms) k e = elim (either (bytes_eq m k)) [
+at_index (m ∷ ms) k e = elim (cases_Bool (bytes_eq m k)) [
   | inl a ↦ ap (λ b. slice_get (m ∷ ms) (cond b 0 (suc (index_of ms k)))) a ∙ ap Some (key_is m k a)
   | inr a ↦ ap (λ b. slice_get (m ∷ ms) (cond b 0 (suc (index_of ms k)))) a
       ∙ at_index ms k (sym (ap (λ b. b || is_among ms k) a) ∙ e)

@@ -1,5 +1,6 @@
 -- A row whose ground instances are all among another row's is an instance of it.
-use Rattle.std.proofs.Common.{◌≡◌, ℕ, ◌<◌, ◌⊎◌, ◌||◌, Bool, true, false, cond, List, [], ◌∷◌, ◌++◌, map, refl, ap, ap₂, sym, ◌∙◌, length, subst, inl, inr, Option, Some, None, unwrap_or}
+use Rattle.std.proofs.Common.{◌≡◌, ℕ, ◌<◌, ◌⊎◌, ◌||◌, true, false, cond, List, [], ◌∷◌, ◌++◌, map, refl, ap, ap₂, sym, ◌∙◌, length, subst, inl, inr, Option, Some, None, unwrap_or}
+use Rattle.std.proofs.Math.Bool.{or-true}
 use Rattle.psg_terms.specs.Terms.{Term, variable, symbol, apply}
 use Rattle.psg_terms.specs.Signature.{Signature, Symbol, HasSort, HaveSorts, Takes, only_constructor}
 use Rattle.psg_terms.specs.Instances.{Substitution, substitute, IsGround, IsSorted, IsGrounding, AllGroundInstancesIn}
@@ -33,10 +34,6 @@ abbrev tail_of : List ℕ → List ℕ
 tail_of [] = []
 tail_of (x ∷ xs) = xs
 
-or_true : (b : Bool) → (b || true) ≡ true
-or_true true = refl
-or_true false = refl
-
 -- a term of some sort, with arguments or without
 pub record IsFine (sig : Signature) (t : Term) : Type 0 where
   pub wanted : List ℕ
@@ -55,7 +52,7 @@ pub among-left : (x : Variable) (xs ys : List Variable) → Has xs x → Has (xs
 among-left x xs ys h = among-append x xs ys ∙ ap (λ b. b || is_noted x ys) h
 
 pub among-right : (x : Variable) (xs ys : List Variable) → Has ys x → Has (xs ++ ys) x
-among-right x xs ys h = among-append x xs ys ∙ ap (λ b. is_noted x xs || b) h ∙ or_true (is_noted x xs)
+among-right x xs ys h = among-append x xs ys ∙ ap (λ b. is_noted x xs || b) h ∙ or-true (is_noted x xs)
 
 -- ground terms have one sort
 pub one_sort : (sig : Signature) (t : Term) (v w : List ℕ) (r s : ℕ) → IsGround t → Takes sig t v r → Takes sig t w s → (v ≡ w) × (r ≡ s)

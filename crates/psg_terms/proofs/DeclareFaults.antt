@@ -1,6 +1,7 @@
 -- What is wrong with the names of written sorts.
 use Rattle.std.proofs.Common.{◌≡◌, ◌≢◌, ℕ, ◌+◌, ◌<◌, ◌≤◌, false, zero, suc, List, [], ◌∷◌, ◌++◌, take, drop, get_or, length, length-append, map, refl, ap, ap₂, sym, ◌∙◌, subst, Option, Some, None, IfSome, IfNone, slice_get, append_assoc, arith}
 use Rattle.std.proofs.lemmas.List.{take-append-drop, take-take, take_all}
+use Rattle.psg_terms.proofs.Lists.{take_item}
 use Rattle.psg_terms.specs.Names.{Name, has_twice}
 use Rattle.psg_terms.specs.Signature.{Signature, Symbol}
 use Rattle.psg_terms.specs.Declarations.{sort_names, Numbered, with_sort, in_order, names_in, constructor_names, AreSpelled, IsFirstRepeat, RepeatsSort, RepeatsConstructor, AreDistinct, IsSpelled}
@@ -8,7 +9,7 @@ use Rattle.psg_terms.specs.Numbered.{places}
 use Rattle.psg_terms.specs.declared.declare.ConDecl.{ConDecl}
 use Rattle.psg_terms.specs.declared.declare.SortDecl.{SortDecl}
 use Rattle.psg_terms.specs.declared.declare.Placed.{Placed}
-use Rattle.psg_terms.proofs.DeclareLaws.{take-next, in_order-push, names_in-append, names_in-at, sort_names-at, sort_names-length, has_twice-front}
+use Rattle.psg_terms.proofs.DeclareLaws.{in_order-push, names_in-append, names_in-at, sort_names-at, sort_names-length, has_twice-front}
 
 pub places-at : (xs : List Placed) (i : ℕ) (x : Placed) → i < length xs → x ≡ get_or xs i x → slice_get (places xs) i ≡ Some (x.sort.0, x.decl.now)
 places-at [] i x h e = absurd (omega arith)
@@ -142,7 +143,7 @@ own-length n (c ∷ own) = omega (arith, own-length n own)
 pub constructors-step : (sorts : List SortDecl) (i : ℕ) (d : SortDecl) (own : List ConDecl) → own ≡ d.constructors → i < length sorts → d ≡ get_or sorts i d → length (constructor_names (take i sorts)) + length own ≡ length (constructor_names (take (i + 1) sorts))
 constructors-step sorts i d own e lt at =
     let n : ℕ = 0 + length (take i sorts) in
-    let parts = ap (λ ds. length (constructor_names ds)) (take-next sorts i d lt at) ∙ ap (λ cs. length (names_in cs)) (in_order-push 0 (take i sorts) d)
+    let parts = ap (λ ds. length (constructor_names ds)) (take_item sorts i d lt at) ∙ ap (λ cs. length (names_in cs)) (in_order-push 0 (take i sorts) d)
     ∙ ap length (names_in-append (in_order 0 (take i sorts)) (with_sort n d.constructors)) in
     let l = length-append (constructor_names (take i sorts)) (names_in (with_sort n d.constructors)) in
     let o = own-length n d.constructors in

@@ -1,9 +1,9 @@
 -- Laws of sorts and constructors as they are written.
 use Rattle.std.proofs.Common.{◌≡◌, ℕ, ◌+◌, ◌<◌, ◌||◌, true, false, cond, zero, suc, List, [], ◌∷◌, ◌++◌, take, drop, get_or, length, refl, ap, sym, ◌∙◌, subst, inl, inr, Option, Some, None, is_some, slice_get, MatchOption, append_assoc, append-nil, arith}
-use Rattle.std.proofs.lemmas.Bool.{or_parts, or_from, or_left, or_right, false≢true}
-use Rattle.std.proofs.lemmas.List.{take_more}
+use Rattle.std.proofs.lemmas.Bool.{or_parts, or_from, or_left, or_right, false≢true, cases_Bool}
 use Rattle.std.proofs.lemmas.Slice.Eq.{bytes_eq-Decides}
 use Rattle.std.proofs.lemmas.Map.Text.{hash_map_updates_str}
+use Rattle.psg_terms.proofs.Lists.{slice_get-end, slice_get-front}
 use Rattle.std.specs.Str.{bytes_eq}
 use Rattle.std.specs.HashMap.{get_by, UpdatesBy}
 use Rattle.std.specs.Map.{lookup}
@@ -17,11 +17,6 @@ use Rattle.psg_terms.specs.declared.declare.SortDecl.{SortDecl}
 use Rattle.psg_terms.specs.declared.declare.Placed.{Placed}
 use Rattle.psg_terms.specs.declared.sorts.SortId.{SortId}
 use Rattle.psg_terms.specs.declared.sorts.Declared.{Declared}
-use Rattle.psg_terms.proofs.Variables.{cases}
-
--- one more element of a list
-pub take-next : {X : Type 0} (xs : List X) (i : ℕ) (x : X) → i < length xs → x ≡ get_or xs i x → take (i + 1) xs ≡ take i xs ++ x ∷ []
-take-next xs i x h e = take_more xs i x h ∙ ap (λ y. take i xs ++ y ∷ []) (sym e)
 
 -- an element, what stands before it and what stands behind it
 pub around : {X : Type 0} (xs : List X) (i : ℕ) (x : X) → i < length xs → x ≡ get_or xs i x → xs ≡ take i xs ++ x ∷ drop (suc i) xs
@@ -87,7 +82,7 @@ pub bytes_eq-refl : (n : Name) → bytes_eq n n ≡ true
 bytes_eq-refl n = (bytes_eq-Decides n n).1 refl
 
 pub bytes_eq-sym : (m n : Name) → bytes_eq m n ≡ false → bytes_eq n m ≡ false
-bytes_eq-sym m n h = elim (cases (bytes_eq n m)) [
+bytes_eq-sym m n h = elim (cases_Bool (bytes_eq n m)) [
   | inl e ↦ absurd (false≢true (sym h ∙ ap (bytes_eq m) (bytes_eq-same n m e) ∙ bytes_eq-refl m))
   | inr e ↦ e
 ]
@@ -117,15 +112,6 @@ has_twice-front (x ∷ xs) ys h =
     let other = or_parts (is_among xs x) (is_among ys x) (sym (is_among-append xs ys x) ∙ both.0) in
     or_from (is_among xs x) (has_twice xs) other.0 (has_twice-front xs ys both.1)
 
-pub slice_get-end : {X : Type 0} (xs : List X) (x : X) → slice_get (xs ++ x ∷ []) (length xs) ≡ Some x
-slice_get-end [] x = refl
-slice_get-end (y ∷ xs) x = slice_get-end xs x
-
-pub slice_get-front : {X : Type 0} (xs ys : List X) (i : ℕ) (x : X) → slice_get xs i ≡ Some x → slice_get (xs ++ ys) i ≡ Some x
-slice_get-front [] ys i x e = absurd (cc)
-slice_get-front (y ∷ xs) ys zero x e = e
-slice_get-front (y ∷ xs) ys (suc i) x e = slice_get-front xs ys i x e
-
 -- what a map knows of names
 abbrev pub Known : List Name → Name → Option ℕ → Type 0
 Known names n o = MatchOption o (is_among names n ≡ false) (λ s. slice_get names s ≡ Some n)
@@ -137,7 +123,7 @@ known-more names n m (Some s) h k = slice_get-front names (n ∷ []) s m k
 pub knows-push : (names : List Name) (n : Name) (i : ℕ) (old new : Numbers) → Knows names old → UpdatesBy (λ x y. bytes_eq x.now y.now) (λ k. bytes_eq n k.now) old new (Some i) → i ≡ length names → Knows (names ++ n ∷ []) new
 knows-push names n i old new h u e m =
     let found = hash_map_updates_str n old new (Some i) u m in
-    elim (cases (bytes_eq n m)) [
+    elim (cases_Bool (bytes_eq n m)) [
       | inl t ↦ subst (Known (names ++ n ∷ []) m) (sym (found ∙ ap (λ b. cond b (Some i) (get_by (λ k. bytes_eq m k.now) old)) t))
           (ap (slice_get (names ++ n ∷ [])) e ∙ slice_get-end names n ∙ ap Some (bytes_eq-same n m t))
       | inr t ↦ subst (Known (names ++ n ∷ []) m) (sym (found ∙ ap (λ b. cond b (Some i) (get_by (λ k. bytes_eq m k.now) old)) t))

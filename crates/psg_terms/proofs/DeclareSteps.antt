@@ -1,9 +1,10 @@
 -- Steps of reading sorts and constructors.
 use Rattle.std.proofs.Common.{◌≡◌, ℕ, ◌+◌, ◌<◌, ◌||◌, Bool, true, false, cond, zero, suc, List, [], ◌∷◌, ◌++◌, take, drop, get_or, length, refl, ap, ap₂, sym, ◌∙◌, subst, inl, inr, Some, None, is_some, slice_get, append_assoc, arith}
-use Rattle.std.proofs.lemmas.Bool.{or_right}
+use Rattle.std.proofs.lemmas.Bool.{or_right, cases_Bool}
 use Rattle.std.proofs.lemmas.List.{length-take-le}
 use Rattle.std.proofs.lemmas.Map.Text.{hash_map_updates_str}
 use Rattle.std.proofs.lemmas.Option.{slice_get_within}
+use Rattle.psg_terms.proofs.Lists.{take_item}
 use Rattle.std.specs.Str.{bytes_eq}
 use Rattle.std.specs.HashMap.{get_by, UpdatesBy}
 use Rattle.psg_terms.specs.Names.{Name, is_among, has_twice}
@@ -17,23 +18,22 @@ use Rattle.psg_terms.specs.declared.declare.SortDecl.{SortDecl}
 use Rattle.psg_terms.specs.declared.declare.Placed.{Placed}
 use Rattle.psg_terms.specs.declared.sorts.SortId.{SortId}
 use Rattle.psg_terms.specs.declared.sorts.Declared.{Declared}
-use Rattle.psg_terms.proofs.Variables.{cases}
-use Rattle.psg_terms.proofs.DeclareLaws.{take-next, around, with_sort-append, in_order-push, places-append, sort_names-append, is_among-append, has_twice-push, knows-push, knows-among, Known, named-push, named-among, numbers_of-append, symbols_of-append, spelled-push, spelled-among, all_among-append, arguments_in-append}
+use Rattle.psg_terms.proofs.DeclareLaws.{around, with_sort-append, in_order-push, places-append, sort_names-append, is_among-append, has_twice-push, knows-push, knows-among, Known, named-push, named-among, numbers_of-append, symbols_of-append, spelled-push, spelled-among, all_among-append, arguments_in-append}
 
 pub placed-step : (before now after : List Placed) (p : Placed) (decls : List ConDecl) (i : ℕ) (d : ConDecl) → after ≡ now ++ p ∷ [] → places now ≡ places before ++ with_sort p.sort.0 (take i decls) → p.decl.now ≡ d → i < length decls → d ≡ get_or decls i d → places after ≡ places before ++ with_sort p.sort.0 (take (i + 1) decls)
 placed-step before now after p decls i d a h e lt at =
     ap places a ∙ places-append now (p ∷ []) ∙ ap₂ (λ xs (c : ConDecl). xs ++ (p.sort.0, c) ∷ []) h e
     ∙ append_assoc (places before) (with_sort p.sort.0 (take i decls)) ((p.sort.0, d) ∷ [])
-    ∙ ap (λ l. places before ++ l) (sym (with_sort-append p.sort.0 (take i decls) (d ∷ [])) ∙ ap (with_sort p.sort.0) (sym (take-next decls i d lt at)))
+    ∙ ap (λ l. places before ++ l) (sym (with_sort-append p.sort.0 (take i decls) (d ∷ [])) ∙ ap (with_sort p.sort.0) (sym (take_item decls i d lt at)))
 
 pub ordered-step : (sorts : List SortDecl) (i : ℕ) (d : SortDecl) (now after : List Placed) (decls : List ConDecl) → decls ≡ d.constructors → places after ≡ places now ++ with_sort i decls → places now ≡ in_order 0 (take i sorts) → i < length sorts → d ≡ get_or sorts i d → places after ≡ in_order 0 (take (i + 1) sorts)
 ordered-step sorts i d now after decls e a h lt at =
     let k : i ≡ 0 + length (take i sorts) = (let l = length-take-le i sorts (omega arith) in omega arith) in
-    a ∙ ap₂ (λ xs ys. xs ++ ys) h (ap₂ with_sort k e) ∙ sym (in_order-push 0 (take i sorts) d) ∙ ap (in_order 0) (sym (take-next sorts i d lt at))
+    a ∙ ap₂ (λ xs ys. xs ++ ys) h (ap₂ with_sort k e) ∙ sym (in_order-push 0 (take i sorts) d) ∙ ap (in_order 0) (sym (take_item sorts i d lt at))
 
 pub named-step : (sorts : List SortDecl) (i : ℕ) (d : SortDecl) (now after : List Name) (n : Name) → after ≡ now ++ n ∷ [] → now ≡ sort_names (take i sorts) → n ≡ d.name → i < length sorts → d ≡ get_or sorts i d → after ≡ sort_names (take (i + 1) sorts)
 named-step sorts i d now after n a h e lt at =
-    a ∙ ap₂ (λ xs x. xs ++ x ∷ []) h e ∙ sym (sort_names-append (take i sorts) (d ∷ [])) ∙ ap sort_names (sym (take-next sorts i d lt at))
+    a ∙ ap₂ (λ xs x. xs ++ x ∷ []) h e ∙ sym (sort_names-append (take i sorts) (d ∷ [])) ∙ ap sort_names (sym (take_item sorts i d lt at))
 
 -- the names that a map has
 abbrev pub Seen : List Name → Numbers → Type 0
@@ -68,7 +68,7 @@ knows-step names i n m old new at h e u =
 pub seen-step : (names : List Name) (i : ℕ) (n m : Name) (old new : Numbers) (v : ℕ) → slice_get names i ≡ Some n → Seen (take i names) old → m ≡ n → UpdatesBy (λ x y. bytes_eq x.now y.now) (λ k. bytes_eq m k.now) old new (Some v) → Seen (take (i + 1) names) new
 seen-step names i n m old new v at h e u q =
     let found = hash_map_updates_str m old new (Some v) u q in
-    ap is_some found ∙ elim (cases (bytes_eq m q)) [
+    ap is_some found ∙ elim (cases_Bool (bytes_eq m q)) [
       | inl t ↦ ap (λ b. is_some (cond b (Some v) (get_by (λ k. bytes_eq q k.now) old))) t ∙ sym (or_right (is_among (take i names) q) (bytes_eq m q || false) (ap (λ b. b || false) t))
       | inr t ↦ ap (λ b. is_some (cond b (Some v) (get_by (λ k. bytes_eq q k.now) old))) t ∙ h q ∙ last (is_among (take i names) q) ∙ ap (λ b. is_among (take i names) q || (b || false)) (sym t)
     ] ∙ sym (is_among-append (take i names) (m ∷ []) q) ∙ ap (λ xs. is_among xs q) (ap (λ x. take i names ++ x ∷ []) e ∙ sym (take-at names i n at)) where
@@ -89,13 +89,13 @@ missing-found sorts args i n m q numbers ss k h lt at e none d = record {
 pub argument-step : (sorts args : List Name) (i : ℕ) (n m : Name) (s : SortId) (numbers : Numbers) (now after : List SortId) → Knows sorts numbers → AreNamed sorts (take i args) (numbers_of now) → i < length args → n ≡ get_or args i n → m ≡ n → Some s.0 ≡ get_by (λ k. bytes_eq m k.now) numbers → after ≡ now ++ s ∷ [] → AreNamed sorts (take (i + 1) args) (numbers_of after)
 argument-step sorts args i n m s numbers now after k h lt at e found a =
     let there : slice_get sorts s.0 ≡ Some m = subst (Known sorts m) (sym found) (k m) in
-    subst (λ xs. AreNamed sorts xs (numbers_of after)) (sym (take-next args i n lt at))
+    subst (λ xs. AreNamed sorts xs (numbers_of after)) (sym (take_item args i n lt at))
     (subst (AreNamed sorts (take i args ++ n ∷ [])) (sym (ap numbers_of a ∙ numbers_of-append now (s ∷ [])))
     (named-push sorts (take i args) (numbers_of now) n s.0 h (there ∙ ap Some e)))
 
 pub spelled-step : (sorts : List Name) (placed : List Placed) (i : ℕ) (p : Placed) (now after : List Declared) (d : Declared) → AreSpelled sorts (places (take i placed)) (symbols_of now) → IsSymbol sorts (p.sort.0, p.decl.now) (symbol_of d) → i < length placed → p ≡ get_or placed i p → after ≡ now ++ d ∷ [] → AreSpelled sorts (places (take (i + 1) placed)) (symbols_of after)
 spelled-step sorts placed i p now after d h k lt at a =
-    subst (λ xs. AreSpelled sorts xs (symbols_of after)) (sym (ap places (take-next placed i p lt at) ∙ places-append (take i placed) (p ∷ [])))
+    subst (λ xs. AreSpelled sorts xs (symbols_of after)) (sym (ap places (take_item placed i p lt at) ∙ places-append (take i placed) (p ∷ [])))
     (subst (AreSpelled sorts (places (take i placed) ++ (p.sort.0, p.decl.now) ∷ [])) (sym (ap symbols_of a ∙ symbols_of-append now (d ∷ [])))
     (spelled-push sorts (places (take i placed)) (symbols_of now) (p.sort.0, p.decl.now) (symbol_of d) h k))
 

@@ -2,6 +2,8 @@
 use Rattle.std.proofs.Common.{◌≡◌, ◌≢◌, ℕ, ◌+◌, ◌<◌, ◌==◌, Bool, true, false, cond, zero, suc, List, [], ◌∷◌, ◌++◌, take, get_or, set, length, refl, ap, ap₂, sym, ◌∙◌, subst, inl, inr, Some, slice_get, MatchBool, append-nil, arith}
 use Rattle.std.proofs.lemmas.Bool.Decides.{nat_tests}
 use Rattle.std.proofs.lemmas.List.{take_more}
+use Rattle.std.proofs.lemmas.Bool.{cases_eq}
+use Rattle.psg_terms.proofs.Lists.{take_item}
 use Rattle.psg_terms.specs.Terms.{Term, variable, symbol, apply, applied}
 use Rattle.psg_terms.specs.Signature.{Signature, Symbol, HaveSorts, Takes, constructors_from}
 use Rattle.psg_terms.specs.Instances.{IsGround}
@@ -11,9 +13,8 @@ use Rattle.psg_terms.specs.Marks.{AreMarked, AreBelow, AllBelow, AreRight, Keeps
 use Rattle.psg_terms.specs.declared.sorts.SortId.{SortId}
 use Rattle.psg_terms.specs.declared.sorts.ConId.{ConId}
 use Rattle.psg_terms.specs.declared.sorts.Declared.{Declared}
-use Rattle.psg_terms.proofs.Variables.{number_cases}
 use Rattle.psg_terms.proofs.Applied.{AllGround, applied-takes, applied-ground}
-use Rattle.psg_terms.proofs.DeclareLaws.{take-next, numbers_of-append, symbols_of-append}
+use Rattle.psg_terms.proofs.DeclareLaws.{numbers_of-append, symbols_of-append}
 
 pub below-at : (n : ℕ) (sorts : List SortId) (i : ℕ) (d : SortId) → AreBelow n (numbers_of sorts) → i < length sorts → (get_or sorts i d).0 < n
 below-at n [] i d h lt = absurd (omega arith)
@@ -71,7 +72,7 @@ ground_row sig marks right (s ∷ ss) (m, h) =
 
 pub right-set : (sig : Signature) (c : ℕ) (x : Symbol) (marks : List Bool) → slice_get sig.symbols c ≡ Some x → AreMarked marks x.arguments → AreRight sig marks → AreRight sig (set marks x.sort true)
 right-set sig c x marks at h right s m =
-    elim (number_cases s x.sort) [
+    elim (cases_eq s x.sort) [
       | inl e ↦ (let row = ground_row sig marks right x.arguments h in
           subst (IsInhabited sig) (sym e) (record {
             term = applied (symbol c) row.0;
@@ -108,7 +109,7 @@ pub round-kept : (more : Bool) (first now after : List Bool) (declared : List De
 round-kept true first now after declared i d h e k lt at = subst (λ m. unmarked m < unmarked first) (sym e) h
 round-kept false first now after declared i d (same, h) e k lt at = (
   e ∙ same,
-  subst (AllKeep after) (sym (ap symbols_of (take-next declared i d lt at) ∙ symbols_of-append (take i declared) (d ∷ [])))
+  subst (AllKeep after) (sym (ap symbols_of (take_item declared i d lt at) ∙ symbols_of-append (take i declared) (d ∷ [])))
       (all_keep-append after (symbols_of (take i declared)) (symbol_of d ∷ []) (subst (λ m. AllKeep m (symbols_of (take i declared))) (sym e) h) (k, tt)),
 )
 
@@ -179,5 +180,5 @@ pub made-step : (made : List (List ConId)) (k : ℕ) (ids new d : List ConId) (c
 made-step made k ids new d c declared i x h lt e g w j l il at =
     let front = symbols_of (take i declared) in
     let n : c.0 ≡ length front = j ∙ sym l ∙ sym (symbols_of-length (take i declared)) in
-    subst (AreMade 0 (set made k new)) (sym (ap symbols_of (take-next declared i x il at) ∙ symbols_of-append (take i declared) (x ∷ [])))
+    subst (AreMade 0 (set made k new)) (sym (ap symbols_of (take_item declared i x il at) ∙ symbols_of-append (take i declared) (x ∷ [])))
     (made-set 0 made k ids new d c front (symbol_of x) h lt (e ∙ omega arith) g w n)

@@ -1,16 +1,18 @@
 -- Rows that are canonical, with the numbers of their variables raised.
 use Rattle.std.proofs.Common.{◌≡◌, ℕ, ◌+◌, ◌<◌, ◌||◌, true, cond, List, [], ◌∷◌, ◌++◌, map, take, get_or, length, refl, ap, ap₂, sym, ◌∙◌, subst, inl, inr, arith}
+use Rattle.std.proofs.lemmas.Bool.{cases_Bool}
+use Rattle.std.proofs.lemmas.List.{map-append}
+use Rattle.psg_terms.proofs.Lists.{take_item}
 use Rattle.psg_terms.specs.Terms.{Term, variable, symbol, apply, applied}
 use Rattle.psg_terms.specs.Signature.{Signature}
 use Rattle.psg_terms.specs.Instances.{substitute}
 use Rattle.psg_terms.specs.Canonical.{Variable, same_variable, variables, variables_of, is_noted, noted_all, IsWrittenOut, AreWrittenOut}
 use Rattle.psg_terms.specs.Renaming.{place, opens, open_first, written, numbering, raised, numbered_from, GoesOn, Renumbered}
 use Rattle.psg_terms.specs.declared.sorts.SortId.{SortId}
-use Rattle.psg_terms.proofs.Variables.{cases, same_variable-true, true_false}
+use Rattle.psg_terms.proofs.Variables.{same_variable-true, true_false}
 use Rattle.psg_terms.proofs.Applied.{applied-substitute}
 use Rattle.psg_terms.proofs.Unique.{Each, each-front}
 use Rattle.psg_terms.proofs.RenamingLaws.{IsAmong, among-noted_all, opens-append}
-use Rattle.psg_terms.proofs.DeclareLaws.{take-next}
 
 pub raised-none : (base : ℕ) (t : Term) → base ≡ 0 → substitute (raised base) t ≡ t
 raised-none base (variable s n) e = ap (variable s) (let k : base + n ≡ n = omega (arith, e) in k)
@@ -24,19 +26,15 @@ raised_open base s n number t u e d k = d ∙ ap (variable s) k ∙ sym (ap (sub
 pub raised_con : (base c : ℕ) (args parts : List Term) (t u : Term) → t ≡ applied (symbol c) args → u ≡ applied (symbol c) parts → parts ≡ map (substitute (raised base)) args → u ≡ substitute (raised base) t
 raised_con base c args parts t u e d h = d ∙ ap (applied (symbol c)) h ∙ sym (applied-substitute (raised base) (symbol c) args) ∙ sym (ap (substitute (raised base)) e)
 
-map-append : (f : Term → Term) (xs ys : List Term) → map f (xs ++ ys) ≡ map f xs ++ map f ys
-map-append f [] ys = refl
-map-append f (x ∷ xs) ys = ap (λ l. f x ∷ l) (map-append f xs ys)
-
 pub raised_step : (base : ℕ) (row now after : List Term) (i : ℕ) (t u : Term) → now ≡ map (substitute (raised base)) (take i row) → u ≡ substitute (raised base) t → after ≡ now ++ u ∷ [] → i < length row → t ≡ get_or row i t → after ≡ map (substitute (raised base)) (take (i + 1) row)
 raised_step base row now after i t u h k e lt at =
-    e ∙ ap₂ (λ xs y. xs ++ y ∷ []) h k ∙ sym (ap (map (substitute (raised base))) (take-next row i t lt at) ∙ map-append (substitute (raised base)) (take i row) (t ∷ []))
+    e ∙ ap₂ (λ xs y. xs ++ y ∷ []) h k ∙ sym (ap (map (substitute (raised base))) (take_item row i t lt at) ∙ map-append (substitute (raised base)) (take i row) (t ∷ []))
 
 -- the place of a variable among those that are numbered from n on
 place-numbered : (n : ℕ) (sorts : List SortId) (s m : ℕ) → is_noted (s, m) (numbered_from n sorts) ≡ true → n + place (s, m) (numbered_from n sorts) ≡ m
 place-numbered n [] s m h = absurd (true_false (sym h))
 place-numbered n (t ∷ sorts) s m h =
-    elim (cases (same_variable (s, m) (t.0, n))) [
+    elim (cases_Bool (same_variable (s, m) (t.0, n))) [
       | inl e ↦ (let k : ◌≡◌ {A = ℕ} m n = ap (λ (x : Variable). x.1) (same_variable-true (s, m) (t.0, n) e) in
           let z = ap (λ b. cond b 0 (place (s, m) (numbered_from (n + 1) sorts) + 1)) e in omega arith)
       | inr e ↦ (let rest = place-numbered (n + 1) sorts s m (ap (λ b. b || is_noted (s, m) (numbered_from (n + 1) sorts)) (sym e) ∙ h) in

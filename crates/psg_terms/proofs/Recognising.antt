@@ -1,5 +1,6 @@
 -- Terms without variables, and rows whose variables are numbered already.
 use Rattle.std.proofs.Common.{◌≡◌, ℕ, ◌+◌, ◌<◌, ◌≤◌, ◌||◌, max, true, false, if◌then◌else◌, zero, suc, List, [], ◌∷◌, ◌++◌, take, get_or, length, refl, ap, ap₂, sym, ◌∙◌, subst, None, arith, append-nil}
+use Rattle.psg_terms.proofs.Lists.{take_item}
 use Rattle.psg_terms.specs.Terms.{Term, variable, symbol, apply, applied}
 use Rattle.psg_terms.specs.Signature.{Signature, only_constructor}
 use Rattle.psg_terms.specs.Instances.{Substitution, substitute}
@@ -10,7 +11,6 @@ use Rattle.psg_terms.specs.declared.sorts.SortId.{SortId}
 use Rattle.psg_terms.proofs.Variables.{same_variable-refl, same_variable-false}
 use Rattle.psg_terms.proofs.Covers.{among-right}
 use Rattle.psg_terms.proofs.RenamingLaws.{variables-applied, variables_of-append, noted-new, noted_all-append}
-use Rattle.psg_terms.proofs.DeclareLaws.{take-next}
 
 pub variables-closed : (t : Term) → above_of t ≡ 0 → variables t ≡ []
 variables-closed (variable s n) e = absurd (omega (arith, e))
@@ -110,7 +110,7 @@ goes_on_append sig old mid new row more h k = record {
 }
 
 pub goes_on_step : (sig : Signature) (old mid new : List SortId) (row : List Term) (i : ℕ) (t : Term) → GoesOn sig old mid (take i row) → GoesOn sig mid new (t ∷ []) → i < length row → t ≡ get_or row i t → GoesOn sig old new (take (i + 1) row)
-goes_on_step sig old mid new row i t h k lt at = subst (GoesOn sig old new) (sym (take-next row i t lt at)) (goes_on_append sig old mid new (take i row) (t ∷ []) h k)
+goes_on_step sig old mid new row i t h k lt at = subst (GoesOn sig old new) (sym (take_item row i t lt at)) (goes_on_append sig old mid new (take i row) (t ∷ []) h k)
 
 -- what goes on from no variable is canonical
 pub goes_on_canonical : (sig : Signature) (none known : List SortId) (row : List Term) → none ≡ [] → GoesOn sig none known row → IsCanonical sig row

@@ -1,16 +1,18 @@
 -- Laws of known variables and their numbers.
 use Rattle.std.proofs.Common.{◌≡◌, ℕ, ◌+◌, ◌||◌, true, false, cond, if◌then◌else◌, List, [], ◌∷◌, ◌++◌, map, take, get_or, ◌<◌, refl, ap, ap₂, sym, ◌∙◌, length, subst, inl, inr, Some, None, arith, append_assoc, append-nil}
+use Rattle.std.proofs.lemmas.Bool.{cases_Bool}
+use Rattle.std.proofs.lemmas.List.{map-append}
+use Rattle.psg_terms.proofs.Lists.{take_item}
 use Rattle.psg_terms.specs.Terms.{Term, variable, symbol, apply, applied}
 use Rattle.psg_terms.specs.Signature.{Signature, only_constructor}
 use Rattle.psg_terms.specs.Instances.{substitute}
 use Rattle.psg_terms.specs.Canonical.{Variable, same_variable, variables, variables_of, is_noted, noted, noted_all}
 use Rattle.psg_terms.specs.Renaming.{key, keys, place, opens, open_first, written, numbering, Renumbered}
 use Rattle.psg_terms.specs.declared.canonical.Key.{Key}
-use Rattle.psg_terms.proofs.Variables.{cases, same_variable-refl, true_false}
+use Rattle.psg_terms.proofs.Variables.{same_variable-refl, true_false}
 use Rattle.psg_terms.proofs.Covers.{among-left, among-right}
 use Rattle.psg_terms.proofs.Applied.{applied-substitute}
 use Rattle.psg_terms.proofs.Unique.{Each, each-front}
-use Rattle.psg_terms.proofs.DeclareLaws.{take-next}
 
 pub keys-append : (xs ys : List Key) → keys (xs ++ ys) ≡ keys xs ++ keys ys
 keys-append [] ys = refl
@@ -23,7 +25,7 @@ keys-length (x ∷ xs) = omega (arith, keys-length xs)
 pub place-end : (x : Variable) (xs : List Variable) → is_noted x xs ≡ false → place x (xs ++ x ∷ []) ≡ length xs
 place-end x [] h = ap (λ b. cond b 0 1) (same_variable-refl x)
 place-end x (y ∷ ys) h =
-    elim (cases (same_variable x y)) [
+    elim (cases_Bool (same_variable x y)) [
       | inl e ↦ absurd (true_false (sym (ap (λ b. b || is_noted x ys) e) ∙ h))
       | inr e ↦ (let later = place-end x ys (ap (λ b. b || is_noted x ys) (sym e) ∙ h) in ap (λ b. cond b 0 (place x (ys ++ x ∷ []) + 1)) e ∙ omega arith)
     ]
@@ -34,7 +36,7 @@ noted-new xs x h = ap (λ b. if b then xs else xs ++ x ∷ []) h
 pub place-append : (x : Variable) (xs ys : List Variable) → is_noted x xs ≡ true → place x (xs ++ ys) ≡ place x xs
 place-append x [] ys h = absurd (true_false (sym h))
 place-append x (y ∷ xs) ys h =
-    elim (cases (same_variable x y)) [
+    elim (cases_Bool (same_variable x y)) [
       | inl e ↦ ap (λ b. cond b 0 (place x (xs ++ ys) + 1)) e ∙ sym (ap (λ b. cond b 0 (place x xs + 1)) e)
       | inr e ↦ ap (λ b. cond b 0 (place x (xs ++ ys) + 1)) e ∙ ap (λ n. n + 1) (place-append x xs ys (ap (λ b. b || is_noted x xs) (sym e) ∙ h)) ∙ sym (ap (λ b. cond b 0 (place x xs + 1)) e)
     ]
@@ -62,7 +64,7 @@ extends-noted_all xs (y ∷ ys) = extends_trans xs (noted xs y) (noted_all (note
 
 pub among-noted : (xs : List Variable) (x : Variable) → is_noted x (noted xs x) ≡ true
 among-noted xs x =
-    elim (cases (is_noted x xs)) [
+    elim (cases_Bool (is_noted x xs)) [
       | inl e ↦ ap (λ b. is_noted x (if b then xs else xs ++ x ∷ [])) e ∙ e
       | inr e ↦ ap (λ b. is_noted x (if b then xs else xs ++ x ∷ [])) e ∙ among-right x xs (x ∷ []) (ap (λ b. b || false) (same_variable-refl x))
     ]
@@ -151,10 +153,6 @@ pub variables_of-append : (xs ys : List Term) → variables_of (xs ++ ys) ≡ va
 variables_of-append [] ys = refl
 variables_of-append (x ∷ xs) ys = ap (λ l. variables x ++ l) (variables_of-append xs ys) ∙ sym (append_assoc (variables x) (variables_of xs) (variables_of ys))
 
-map-append : (f : Term → Term) (xs ys : List Term) → map f (xs ++ ys) ≡ map f xs ++ map f ys
-map-append f [] ys = refl
-map-append f (x ∷ xs) ys = ap (λ l. f x ∷ l) (map-append f xs ys)
-
 pub renumbered_append : (sig : Signature) (base : ℕ) (old mid new : List Variable) (row made more done : List Term) → Renumbered sig base old mid row made → Renumbered sig base mid new more done → Renumbered sig base old new (row ++ more) (made ++ done)
 renumbered_append sig base old mid new row made more done h k = record {
   known = k.known ∙ ap (λ m. noted_all m (opens sig (variables_of more))) h.known
@@ -168,4 +166,4 @@ renumbered_append sig base old mid new row made more done h k = record {
 
 pub renumbered_step : (sig : Signature) (base : ℕ) (old mid new : List Variable) (row now after : List Term) (i : ℕ) (t u : Term) → Renumbered sig base old mid (take i row) now → Renumbered sig base mid new (t ∷ []) (u ∷ []) → after ≡ now ++ u ∷ [] → i < length row → t ≡ get_or row i t → Renumbered sig base old new (take (i + 1) row) after
 renumbered_step sig base old mid new row now after i t u h k e lt at =
-    subst (λ xs. Renumbered sig base old new xs after) (sym (take-next row i t lt at)) (subst (Renumbered sig base old new (take i row ++ t ∷ [])) (sym e) (renumbered_append sig base old mid new (take i row) now (t ∷ []) (u ∷ []) h k))
+    subst (λ xs. Renumbered sig base old new xs after) (sym (take_item row i t lt at)) (subst (Renumbered sig base old new (take i row ++ t ∷ [])) (sym e) (renumbered_append sig base old mid new (take i row) now (t ∷ []) (u ∷ []) h k))

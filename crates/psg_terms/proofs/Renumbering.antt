@@ -1,13 +1,15 @@
 -- A renumbered row has the same ground instances, and is canonical when it is numbered from 1.
 use Rattle.std.proofs.Common.{◌≡◌, ℕ, ◌<◌, ◌≤◌, ◌+◌, ◌-◌, ◌==◌, ◌||◌, true, false, cond, if◌then◌else◌, zero, suc, List, [], ◌∷◌, ◌++◌, map, refl, ap, ap₂, sym, ◌∙◌, length, subst, inl, inr, Some, None, arith}
 use Rattle.std.proofs.lemmas.Bool.Decides.{nat_tests}
+use Rattle.std.proofs.lemmas.Bool.{cases_Bool}
+use Rattle.psg_terms.proofs.Knowing.{place-within}
 use Rattle.psg_terms.specs.Terms.{Term, variable, symbol, apply}
 use Rattle.psg_terms.specs.Signature.{Signature, HasSort, HaveSorts, only_constructor}
 use Rattle.psg_terms.specs.Instances.{Substitution, substitute, IsSorted, IsGrounding, AllGroundInstancesIn}
 use Rattle.psg_terms.specs.Canonical.{Variable, same_variable, variables, variables_of, is_noted, noted, noted_all, first_occurrences, IsNumberedFrom, IsWrittenOut, AreWrittenOut, IsCanonical}
 use Rattle.psg_terms.specs.Sound.{IsSound}
 use Rattle.psg_terms.specs.Renaming.{place, opens, open_first, written, numbering, Renumbered}
-use Rattle.psg_terms.proofs.Variables.{cases, same_variable-refl, same_variable-true, same_variable-sym, true_false}
+use Rattle.psg_terms.proofs.Variables.{same_variable-refl, same_variable-true, same_variable-sym, true_false}
 use Rattle.psg_terms.proofs.InstanceLaws.{after, map-substitute-after, Takes-substitute, instance-ground, grounding-after}
 use Rattle.psg_terms.proofs.Covers.{among-append}
 use Rattle.psg_terms.proofs.OneConstant.{one_constant}
@@ -37,7 +39,7 @@ nth d (x ∷ xs) (suc i) = nth d xs i
 pub nth-place : (d x : Variable) (xs : List Variable) → is_noted x xs ≡ true → nth d xs (place x xs) ≡ x
 nth-place d x [] h = absurd (true_false (sym h))
 nth-place d x (y ∷ ys) h =
-    elim (cases (same_variable x y)) [
+    elim (cases_Bool (same_variable x y)) [
       | inl e ↦ ap (λ b. nth d (y ∷ ys) (cond b 0 (place x ys + 1))) e ∙ sym (same_variable-true x y e)
       | inr e ↦ ap (λ b. nth d (y ∷ ys) (cond b 0 (place x ys + 1))) e ∙ ap (nth d (y ∷ ys)) (step (place x ys)) ∙ nth-place d x ys (ap (λ b. b || is_noted x ys) (sym e) ∙ h)
     ] where
@@ -154,7 +156,7 @@ DiffersFrom y z = same_variable z y ≡ false
 others_differ : (y : Variable) (ys : List Variable) → is_noted y ys ≡ false → Each (DiffersFrom y) ys
 others_differ y [] h = tt
 others_differ y (z ∷ zs) h =
-    elim (cases (same_variable y z)) [
+    elim (cases_Bool (same_variable y z)) [
       | inl e ↦ absurd (true_false (sym (ap (λ b. b || is_noted y zs) e) ∙ h))
       | inr e ↦ (same_variable-sym y z e, others_differ y zs (ap (λ b. b || is_noted y zs) (sym e) ∙ h))
     ]
@@ -162,7 +164,7 @@ others_differ y (z ∷ zs) h =
 distinct-end : (xs : List Variable) (x : Variable) → IsDistinct xs → is_noted x xs ≡ false → IsDistinct (xs ++ x ∷ [])
 distinct-end [] x d h = (refl, tt)
 distinct-end (y ∷ ys) x (o, d) h =
-    elim (cases (same_variable x y)) [
+    elim (cases_Bool (same_variable x y)) [
       | inl e ↦ absurd (true_false (sym (ap (λ b. b || is_noted x ys) e) ∙ h))
       | inr e ↦ (
         among-append y ys (x ∷ []) ∙ ap₂ (λ a b. a || b) o (ap (λ b. b || false) (same_variable-sym x y e)),
@@ -227,14 +229,6 @@ IsAtMost n x = x.1 ≤ n
 abbrev pub IsAbove : ℕ → Variable → Type 0
 IsAbove n x = n < x.1
 
-place-length : (x : Variable) (xs : List Variable) → is_noted x xs ≡ true → place x xs < length xs
-place-length x [] h = absurd (true_false (sym h))
-place-length x (y ∷ ys) h =
-    elim (cases (same_variable x y)) [
-      | inl e ↦ subst (λ b. cond b 0 (place x ys + 1) < length (y ∷ ys)) (sym e) (omega arith)
-      | inr e ↦ subst (λ b. cond b 0 (place x ys + 1) < length (y ∷ ys)) (sym e) (omega (arith, place-length x ys (ap (λ b. b || is_noted x ys) (sym e) ∙ h)))
-    ]
-
 each_renamed : (P : Variable → Type 0) (r : Variable → Variable) (Q : Variable → Type 0) → ((x : Variable) → Q x → P (r x)) → (xs : List Variable) → Each Q xs → Each P (map r xs)
 each_renamed P r Q h [] a = tt
 each_renamed P r Q h (x ∷ xs) (q, a) = (h x q, each_renamed P r Q h xs a)
@@ -245,7 +239,7 @@ renumbered_at_most sig sound base known row copy h =
     let xs = opens sig (variables_of row) in
     let among : Each (IsAmong known) xs = subst (λ k. Each (IsAmong k) xs) (sym h.known) (among-noted_all [] xs) in
     subst (Each (IsAtMost (base + length known))) (sym (ap variables_of h.made ∙ variables_of-numbered sig sound base known row))
-    (each_renamed (IsAtMost (base + length known)) (renamed sig sound base known) (IsAmong known) (λ x i. bounded (place x known) (place-length x known i)) xs among) where
+    (each_renamed (IsAtMost (base + length known)) (renamed sig sound base known) (IsAmong known) (λ x i. bounded (place x known) (place-within x known i)) xs among) where
       bounded : (p : ℕ) → p < length known → base + p + 1 ≤ base + length known
       bounded p l = omega arith
 

@@ -7,6 +7,7 @@ use Rattle.std.specs.declared.cmp.Ordering.{Ordering}
 use Rattle.std.specs.declared.cmp.Ordering.TheVariants.{Less, Equal, Greater}
 use Rattle.std.proofs.lemmas.Bool.{true≢false}
 use Rattle.std.proofs.lemmas.Cmp.{upto, tied_itself}
+use Rattle.psg_terms.proofs.Lists.{in_cases}
 use Rattle.psg_terms.specs.Terms.{Term}
 use Rattle.psg_terms.specs.Signature.{Signature}
 use Rattle.psg_terms.specs.Sound.{IsSound}
@@ -72,10 +73,6 @@ gone x (y ∷ xs) first once k = once.0 k
 gone x (y ∷ xs) (later h) once first = once.0 h
 gone x (y ∷ xs) (later h) once (later k) = gone x xs h once.1 k
 
-head_or_tail : {X : Type 0} (z x : X) (xs : List X) → IsIn z (x ∷ xs) → (z ≡ x) ⊎ IsIn z xs
-head_or_tail z x xs first = inl refl
-head_or_tail z x xs (later k) = inr k
-
 module _ {X : Type 0} (key : X → List ℕ) where
   -- each key is up to those behind it
   abbrev Rises : List X → Type 0
@@ -113,7 +110,7 @@ module _ {X : Type 0} (key : X → List ℕ) where
         | inl e ↦ absurd (once.0 (subst (λ w. IsIn w xs) e k))
         | inr m ↦ m
       ] in
-      let again = λ (z : X) (k : IsIn z (without x ys h)). elim (head_or_tail z x xs (back z (was_in x z ys h k))) as
+      let again = λ (z : X) (k : IsIn z (without x ys h)). elim (in_cases z x xs (back z (was_in x z ys h k))) as
       (λ _. IsIn z xs) [
         | inl e ↦ absurd (gone x ys h other (subst (λ w. IsIn w (without x ys h)) e k))
         | inr m ↦ m

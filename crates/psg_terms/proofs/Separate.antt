@@ -1,10 +1,11 @@
 -- Two different terms have different ground instances, if their one-constant sorts are written out.
 use Rattle.std.proofs.Common.{◌≡◌, ◌≢◌, ℕ, ◌<◌, ◌⊎◌, true, false, cond, List, [], ◌∷◌, refl, ap, ap₂, sym, ◌∙◌, length, subst, inl, inr, None}
+use Rattle.std.proofs.lemmas.Bool.{cases_eq}
 use Rattle.psg_terms.specs.Terms.{Term, variable, symbol, apply}
 use Rattle.psg_terms.specs.Signature.{Signature, HasSort, Takes, only_constructor}
 use Rattle.psg_terms.specs.Instances.{Substitution, substitute, IsGround, IsGrounding}
 use Rattle.psg_terms.specs.Canonical.{Variable, same_variable, IsWrittenOut}
-use Rattle.psg_terms.proofs.Variables.{variable_cases, number_cases, same_variable-refl}
+use Rattle.psg_terms.proofs.Variables.{variable_cases, same_variable-refl}
 
 -- the constructor that a term is made by; at a variable it says nothing
 abbrev pub head : Term → ℕ
@@ -83,7 +84,7 @@ module _ (sig : Signature) (k : Choices sig) where
   separated (variable s n) (apply f b) v w r t (lt, _, _) (x, p, _) o _ = inr (apart_from_head s n (apply f b) lt o (λ g. head-substitute sig g f x t w p))
   separated (symbol c) (variable s n) v w r t _ (lt, _, _) _ o = inr (swapped (variable s n) (symbol c) (apart_from_head s n (symbol c) lt o (λ g. refl)))
   separated (symbol c) (symbol d) v w r t _ _ _ _ =
-      elim (number_cases c d) [ inl e ↦ inl (ap symbol e) | inr n ↦ inr (λ s n. k.some s, grounding, λ e. n (ap head e)) ]
+      elim (cases_eq c d) [ inl e ↦ inl (ap symbol e) | inr n ↦ inr (λ s n. k.some s, grounding, λ e. n (ap head e)) ]
   separated (symbol c) (apply f b) v w r t _ _ _ _ = inr (λ s n. k.some s, grounding, λ e. cc)
   separated (apply f a) (variable s n) v w r t (x, p, _) (lt, _, _) _ o = inr (swapped (variable s n) (apply f a) (apart_from_head s n (apply f a) lt o (λ g. head-substitute sig g f x r v p)))
   separated (apply f a) (symbol c) v w r t _ _ _ _ = inr (λ s n. k.some s, grounding, λ e. cc)

@@ -2,13 +2,15 @@
 use Rattle.std.proofs.Common.{◌≡◌, ◌≢◌, ℕ, ◌+◌, ◌<◌, ◌≤◌, ◌↔◌, IsTrue, Bool, zero, suc, List, [], ◌∷◌, ◌++◌, take, get_or, length, refl, ap, sym, ◌∙◌, subst, Option, Some, slice_get, append-nil, arith}
 use Rattle.std.proofs.lemmas.List.{take_all, take_more}
 use Rattle.std.proofs.lemmas.Option.{slice_get_within}
+use Rattle.psg_terms.proofs.Soundness.{numbers_of-length}
+use Rattle.psg_terms.proofs.Lists.{take_item}
 use Rattle.psg_terms.specs.Terms.{Term, variable, symbol, applied}
 use Rattle.psg_terms.specs.Signature.{Signature, Symbol, HasSort, HaveSorts}
 use Rattle.psg_terms.specs.Kept.{numbers_of}
 use Rattle.psg_terms.specs.declared.sorts.SortId.{SortId}
 use Rattle.psg_terms.proofs.Applied.{applied-sorts, applied-takes}
 use Rattle.psg_terms.proofs.Weights.{symbol_sort}
-use Rattle.psg_terms.proofs.DeclareLaws.{take-next, numbers_of-append}
+use Rattle.psg_terms.proofs.DeclareLaws.{numbers_of-append}
 
 pub variable_has : (sig : Signature) (t : Term) (p n s : ℕ) → t ≡ variable p n → p ≡ s → p < length sig.sorts → HasSort sig t s
 variable_has sig t p n s e d lt = subst (λ u. HasSort sig u s) (sym e) (lt, refl, d)
@@ -47,12 +49,8 @@ have-length sig [] (s ∷ ss) h = absurd h
 have-length sig (t ∷ row) [] h = absurd h
 have-length sig (t ∷ row) (s ∷ ss) (p, h) = omega (arith, have-length sig row ss h)
 
-numbers-length : (xs : List SortId) → length (numbers_of xs) ≡ length xs
-numbers-length [] = refl
-numbers-length (x ∷ xs) = omega (arith, numbers-length xs)
-
 pub lengths_apart : (sig : Signature) (row : List Term) (sorts : List SortId) → length row ≢ length sorts → HaveSorts sig row (numbers_of sorts) → ⊥
-lengths_apart sig row sorts ne h = ne (have-length sig row (numbers_of sorts) h ∙ numbers-length sorts)
+lengths_apart sig row sorts ne h = ne (have-length sig row (numbers_of sorts) h ∙ numbers_of-length sorts)
 
 pub have-at : (sig : Signature) (row : List Term) (sorts : List SortId) (i : ℕ) (d : Term) (e : SortId) → HaveSorts sig row (numbers_of sorts) → i < length row → HasSort sig (get_or row i d) (get_or sorts i e).0
 have-at sig [] sorts i d e h lt = absurd (omega arith)
@@ -60,7 +58,7 @@ have-at sig (t ∷ row) [] i d e h lt = absurd h
 have-at sig (t ∷ row) (s ∷ sorts) zero d e (p, h) lt = p
 have-at sig (t ∷ row) (s ∷ sorts) (suc i) d e (p, h) lt = have-at sig row sorts i d e h (omega arith)
 
-have-push : (sig : Signature) (row : List Term) (ss : List ℕ) (t : Term) (s : ℕ) → HaveSorts sig row ss → HasSort sig t s → HaveSorts sig (row ++ t ∷ []) (ss ++ s ∷ [])
+pub have-push : (sig : Signature) (row : List Term) (ss : List ℕ) (t : Term) (s : ℕ) → HaveSorts sig row ss → HasSort sig t s → HaveSorts sig (row ++ t ∷ []) (ss ++ s ∷ [])
 have-push sig [] [] t s h k = (k, tt)
 have-push sig [] (r ∷ ss) t s h k = absurd h
 have-push sig (u ∷ row) [] t s h k = absurd h
@@ -68,7 +66,7 @@ have-push sig (u ∷ row) (r ∷ ss) t s (p, h) k = (p, have-push sig row ss t s
 
 pub have-step : (sig : Signature) (row : List Term) (sorts : List SortId) (i : ℕ) (t : Term) (e : SortId) → HaveSorts sig (take i row) (numbers_of (take i sorts)) → HasSort sig t (get_or sorts i e).0 → i < length row → i < length sorts → t ≡ get_or row i t → HaveSorts sig (take (i + 1) row) (numbers_of (take (i + 1) sorts))
 have-step sig row sorts i t e h k lr ls at =
-    subst (λ xs. HaveSorts sig xs (numbers_of (take (i + 1) sorts))) (sym (take-next row i t lr at))
+    subst (λ xs. HaveSorts sig xs (numbers_of (take (i + 1) sorts))) (sym (take_item row i t lr at))
     (subst (HaveSorts sig (take i row ++ t ∷ [])) (sym (ap numbers_of (take_more sorts i e ls) ∙ numbers_of-append (take i sorts) (get_or sorts i e ∷ [])))
     (have-push sig (take i row) (numbers_of (take i sorts)) t (get_or sorts i e).0 h k))
 

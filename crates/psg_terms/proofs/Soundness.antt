@@ -21,7 +21,7 @@ sole-many [] h = absurd (omega arith)
 sole-many (c ∷ []) h = absurd (omega arith)
 sole-many (c ∷ d ∷ rest) h = refl
 
-numbers_of-length : (xs : List SortId) → length (numbers_of xs) ≡ length xs
+pub numbers_of-length : (xs : List SortId) → length (numbers_of xs) ≡ length xs
 numbers_of-length [] = refl
 numbers_of-length (x ∷ xs) = omega (arith, numbers_of-length xs)
 

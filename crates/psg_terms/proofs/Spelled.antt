@@ -1,6 +1,6 @@
 -- The signature that is spelled is one alone, and a sound one leaves nothing to refuse.
 use Rattle.std.proofs.Common.{◌≡◌, ℕ, ◌+◌, ◌<◌, ◌≤◌, ◌||◌, true, false, zero, suc, List, [], ◌∷◌, ◌++◌, take, get_or, length, map, refl, ap, ap₂, sym, ◌∙◌, subst, inl, inr, Option, Some, slice_get, arith}
-use Rattle.std.proofs.lemmas.Bool.{or_parts, or_left, or_right, false≢true}
+use Rattle.std.proofs.lemmas.Bool.{or_parts, or_left, or_right, false≢true, cases_Bool}
 use Rattle.std.proofs.lemmas.List.{take_all}
 use Rattle.std.proofs.lemmas.Option.{slice_get_within}
 use Rattle.std.specs.Str.{bytes_eq}
@@ -20,7 +20,6 @@ use Rattle.psg_terms.specs.declared.declare.SigFault.{SigFault}
 use Rattle.psg_terms.specs.declared.declare.SigFault.TheVariants.{Repeated, UnknownSort, NoGround, OneWide, Memory}
 use Rattle.psg_terms.specs.declared.sorts.ConId.{ConId}
 use Rattle.psg_terms.specs.declared.sorts.Declared.{Declared}
-use Rattle.psg_terms.proofs.Variables.{cases}
 use Rattle.psg_terms.proofs.DeclareLaws.{is_among-append, is_among-at, bytes_eq-same, bytes_eq-refl, spelled-among, sort_names-length}
 use Rattle.psg_terms.proofs.DeclareSteps.{take-at}
 use Rattle.psg_terms.proofs.DeclareFaults.{has_twice-take, symbol_names}
@@ -48,7 +47,7 @@ kept_as names n declared d made m e f g h = subst (λ x. IsKept x d m) (sym e) (
 pub has_twice-again : (xs : List Name) (n : Name) → is_among xs n ≡ true → has_twice (xs ++ n ∷ []) ≡ true
 has_twice-again [] n h = absurd (false≢true h)
 has_twice-again (x ∷ xs) n h =
-    elim (cases (bytes_eq x n)) [
+    elim (cases_Bool (bytes_eq x n)) [
       | inl e ↦ or_left (is_among (xs ++ n ∷ []) x) (has_twice (xs ++ n ∷ []))
           (is_among-append xs (n ∷ []) x ∙ or_right (is_among xs x) (bytes_eq n x || false) (or_left (bytes_eq n x) false (ap (bytes_eq n) (bytes_eq-same x n e) ∙ bytes_eq-refl n)))
       | inr e ↦ or_right (is_among (xs ++ n ∷ []) x) (has_twice (xs ++ n ∷ [])) (has_twice-again xs n (ap (λ b. b || is_among xs n) (sym e) ∙ h))

@@ -3,7 +3,7 @@ use Rattle.std.proofs.Common.{◌≡◌, ◌≢◌, ◌⊎◌, inl, inr, ℕ, ze
 use Rattle.std.specs.Prelude.{decimal, bytes_eq, sum_by}
 use Rattle.std.specs.Fmt.{digits, digits_onto, digit_glyph}
 use Rattle.std.specs.List.{AllByRecursion}
-use Rattle.std.proofs.lemmas.Bool.{or_parts, or_right}
+use Rattle.std.proofs.lemmas.Bool.{or_parts, or_right, cases_Bool}
 use Rattle.std.proofs.lemmas.Fmt.{decimal_injective}
 use Rattle.std.proofs.lemmas.List.Sums.{sum_by-cons}
 use Rattle.psg_terms.specs.Terms.{Term, variable, symbol, apply}
@@ -18,7 +18,7 @@ use Rattle.psg_terms.proofs.DeclareLaws.{bytes_eq-refl}
 use Rattle.psg_terms.proofs.OneRelation.{takes_once}
 use Rattle.psg_terms.proofs.RenamingLaws.{IsAmong, among-noted_all}
 use Rattle.psg_terms.proofs.Unique.{Each, each-front, each-map}
-use Rattle.psg_terms.proofs.Variables.{cases, same_variable-true}
+use Rattle.psg_terms.proofs.Variables.{same_variable-true}
 
 -- ---- texts of clear characters
 
@@ -316,7 +316,7 @@ IsBelow n x = x.1 < n
 numbered-below : (n : ℕ) (xs : List Variable) → IsNumberedFrom n xs → (x : Variable) → is_noted x xs ≡ true → x.1 < n + length xs
 numbered-below n [] h x e = absurd (true≢false (sym e))
 numbered-below n (y ∷ xs) h x e =
-    elim (cases (same_variable x y)) [
+    elim (cases_Bool (same_variable x y)) [
       | inl d ↦ (let i : x.1 ≡ y.1 = ap (λ (z : Variable). z.1) (same_variable-true x y d) in omega (arith, i, h.0))
       | inr d ↦ (let l = numbered-below (n + 1) xs h.1 x (ap (λ b. b || is_noted x xs) (sym d) ∙ e) in omega (arith, l))
     ]

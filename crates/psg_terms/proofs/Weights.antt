@@ -1,11 +1,11 @@
 -- How large a constructor with arguments is.
 use Rattle.std.proofs.Common.{◌≡◌, ℕ, ◌+◌, ◌<◌, min, max, zero, suc, List, [], ◌∷◌, ◌++◌, take, get_or, length, refl, ap, ap₂, sym, ◌∙◌, subst, slice_get, Option, Some, arith}
+use Rattle.psg_terms.proofs.Lists.{take_item}
 use Rattle.psg_terms.specs.Terms.{Term, variable, symbol, apply, applied}
 use Rattle.psg_terms.specs.Signature.{Signature, Symbol, HasSort, HaveSorts}
 use Rattle.psg_terms.specs.Weight.{symbols_of, depth_of, above_of}
 use Rattle.psg_terms.specs.Sizes.{size, sizes}
 use Rattle.psg_terms.proofs.Applied.{applied-sorts}
-use Rattle.psg_terms.proofs.DeclareLaws.{take-next}
 
 pub applied-push : (t : Term) (xs : List Term) (a : Term) → applied t (xs ++ a ∷ []) ≡ apply (applied t xs) a
 applied-push t [] a = refl
@@ -38,7 +38,7 @@ pub symbols-step : (m now own after : ℕ) (xs : List Term) (i : ℕ) (x : Term)
 symbols-step m now own after xs i x h o a lt at =
     let t = applied (symbol 0) (take i xs) in
     a ∙ ap₂ (λ p q. min (p + q) m) h o ∙ capped (symbols_of t) (symbols_of x)
-    ∙ ap (λ u. min (symbols_of u) m) (sym (ap (applied (symbol 0)) (take-next xs i x lt at) ∙ applied-push (symbol 0) (take i xs) x))
+    ∙ ap (λ u. min (symbols_of u) m) (sym (ap (applied (symbol 0)) (take_item xs i x lt at) ∙ applied-push (symbol 0) (take i xs) x))
   where
     capped : (p q : ℕ) → min (min p m + min q m) m ≡ min (p + q) m
     capped p q = omega arith
@@ -47,14 +47,14 @@ pub depth-step : (m now own next after : ℕ) (xs : List Term) (i : ℕ) (x : Te
 depth-step m now own next after xs i x h o n a lt at =
     let t = applied (symbol 0) (take i xs) in
     a ∙ ap₂ max h (n ∙ ap (λ q. min (q + 1) m) o) ∙ capped (depth_of t) (depth_of x)
-    ∙ ap (λ u. min (depth_of u) m) (sym (ap (applied (symbol 0)) (take-next xs i x lt at) ∙ applied-push (symbol 0) (take i xs) x))
+    ∙ ap (λ u. min (depth_of u) m) (sym (ap (applied (symbol 0)) (take_item xs i x lt at) ∙ applied-push (symbol 0) (take i xs) x))
   where
     capped : (p q : ℕ) → max (min p m) (min (min q m + 1) m) ≡ min (max p (q + 1)) m
     capped p q = omega arith
 
 pub above-step : (now own after : ℕ) (xs : List Term) (i : ℕ) (x : Term) → now ≡ above_of (applied (symbol 0) (take i xs)) → own ≡ above_of x → after ≡ max now own → i < length xs → x ≡ get_or xs i x → after ≡ above_of (applied (symbol 0) (take (i + 1) xs))
 above-step now own after xs i x h o a lt at =
-    a ∙ ap₂ max h o ∙ ap above_of (sym (ap (applied (symbol 0)) (take-next xs i x lt at) ∙ applied-push (symbol 0) (take i xs) x))
+    a ∙ ap₂ max h o ∙ ap above_of (sym (ap (applied (symbol 0)) (take_item xs i x lt at) ∙ applied-push (symbol 0) (take i xs) x))
 
 -- the sort of a constructor with its arguments is the constructor's
 pub symbol_sort : (sig : Signature) (t : Term) (c : ℕ) (xs : List Term) (s : ℕ) → t ≡ applied (symbol c) xs → HasSort sig t s → (x : Symbol) × (slice_get sig.symbols c ≡ Some x) × (x.sort ≡ s)

@@ -25,6 +25,7 @@ pub mod sorts;
 pub mod steps;
 pub mod term;
 pub mod text;
+pub mod words;
 
 pub use declare::{ConDecl, SigFault, SortDecl};
 pub use seq::{Seq, Txt};
@@ -33,3 +34,4 @@ pub use sorts::{ConId, Constructor, Declared, Signature, SortId};
 pub use steps::Steps;
 pub use term::{Node, Term};
 pub use text::{row_text, term_text};
+pub use words::{goes_on_word, starts_word};

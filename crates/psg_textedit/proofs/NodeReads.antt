@@ -1,9 +1,10 @@
 -- What the new region of a node is read as, and what the node is by that, clean or not.
-use Rattle.std.proofs.Common.{◌≡◌, inl, inr, ℕ, ◌+◌, ◌-◌, ◌≤◌, List, ◌++◌, length, length-append, Some, None, ap, sym, ◌∙◌, subst, arith}
+use Rattle.std.proofs.Common.{◌≡◌, inl, inr, ℕ, ◌+◌, ◌-◌, ◌≤◌, List, ◌++◌, length, length-append, None, ap, sym, ◌∙◌, subst, arith}
 use Rattle.std.specs.Str.{chars, IsCharBoundary}
-use Rattle.std.specs.Prelude.{Option, IfNone, IfSome}
+use Rattle.std.specs.Prelude.{Option, IfNone}
 use Rattle.std.specs.List.{AllByRecursion}
 use Rattle.std.proofs.lemmas.Option.{none-some}
+use Rattle.psg_terms.proofs.Lists.{each_at}
 use Rattle.psg_grammar.specs.declared.types.Kind.{Kind}
 use Rattle.psg_grammar.specs.declared.types.Definition.{Definition}
 use Rattle.psg_grammar.specs.declared.limits.TheConstants.{MOST_BRACKETS}
@@ -24,7 +25,6 @@ use Rattle.psg_reads_back.proofs.FixedTokens.{has_tokens as tokens_known}
 use Rattle.psg_unparse.specs.Spots.{printed_of, span_of}
 use Rattle.psg_unparse.specs.declared.spans.Printed.{Printed}
 use Rattle.psg_unparse.specs.declared.spans.Span.{Span}
-use Rattle.psg_grammar.proofs.SoundParts.{each_at}
 use Rattle.psg_regions.specs.Regions.{CountsText, has_tokens, has_none, Encloses, IsInside, new_text, region, region_of}
 use Rattle.psg_regions.specs.Surroundings.{Surrounds}
 use Rattle.psg_regions.proofs.Fills.{Filled}
@@ -40,10 +40,6 @@ use Rattle.psg_textedit.proofs.JobTokens.{all_tokens, all_are, job_old, job_whol
 use Rattle.psg_textedit.proofs.Roots.{got_mapped, has_span}
 use Rattle.psg_textedit.proofs.Ways.{way_low}
 use Rattle.psg_textedit.proofs.Widening.{listed, one_place}
-
--- what is known of what an option holds
-pub some_in : {X : Type 0} (P : X → Type 0) (o : Option X) (x : X) → o ≡ Some x → IfSome o P → P x
-some_in P o x e h = subst (λ q. IfSome q P) e h
 
 pub none_in : {X : Type 0} (P : Type 0) (o : Option X) → o ≡ None → IfNone o P → P
 none_in P o e h = subst (λ q. IfNone q P) e h

@@ -1,6 +1,8 @@
 -- The level that is wanted at a child, from the items of its operator that are left.
 use Rattle.std.proofs.Common.{◌≡◌, inl, inr, ℕ, zero, suc, ◌+◌, ◌-◌, ◌<◌, ◌≤◌, cond, List, [], ◌∷◌, ◌++◌, length, length-append, take, drop, get_or, Option, Some, None, slice_get, Bool, true, false, option_and_then, refl, ap, sym, ◌∙◌, subst, arith}
 use Rattle.std.proofs.lemmas.Bool.Decides.{eqb_tells}
+use Rattle.std.proofs.lemmas.List.{take_more}
+use Rattle.psg_grammar.proofs.PathLaws.{step}
 use Rattle.std.specs.List.{AllByRecursion}
 use Rattle.std.specs.Prelude.{MatchOption}
 use Rattle.psg_lexis.specs.declared.token.Spanned.{Spanned}
@@ -24,7 +26,7 @@ use Rattle.psg_unparse.specs.Walking.{count_of, level_wanted}
 use Rattle.psg_unparse.proofs.Printing.{wanted-of}
 use Rattle.psg_regions.specs.Surroundings.{wanted_in, inner_level, is_in_brackets, more_around, Surrounds, at_top, in_child}
 use Rattle.psg_regions.proofs.Spots.{one_or_none}
-use Rattle.psg_regions.proofs.Depths.{child_low, step_child}
+use Rattle.psg_regions.proofs.Depths.{child_low}
 use Rattle.psg_textedit.specs.Places.{wanted_among}
 
 abbrev IsOperator : Fragment → Type 0
@@ -129,7 +131,7 @@ node_on f [] n k rest e none =
     ap (λ x. option_and_then (λ t. node_at t rest) (slice_get (children_of x) k)) same
     ∙ ap (option_and_then (λ t. node_at t rest)) none
 node_on f (i ∷ path) n k rest e none =
-    let (t, got, further) = step_child path (slice_get (children_of f) i) n e in
+    let (t, got, further) = step (slice_get (children_of f) i) path n e in
     ap (option_and_then (λ u. node_at u (path ++ k ∷ rest))) got ∙ node_on t path n k rest further none
 
 -- ---- kinds
@@ -181,23 +183,6 @@ no_part (i ∷ rest) all h e = absurd (omega (arith, e))
 
 -- ---- elements by number
 
-pub got_at : {X : Type 0} (xs : List X) (k : ℕ) (d : X) → k < length xs → slice_get xs k ≡ Some (get_or xs k d)
-got_at [] k d h = absurd (omega (arith, h))
-got_at (x ∷ xs) zero d h = refl
-got_at (x ∷ xs) (suc k) d h = got_at xs k d (omega (arith, h))
-
-pub got_item : {X : Type 0} (xs : List X) (k : ℕ) (x : X) → k < length xs → x ≡ get_or xs k x → slice_get xs k ≡ Some x
-got_item xs k x h e = got_at xs k x h ∙ ap Some (sym e)
-
-pub drop_step : {X : Type 0} (xs : List X) (k : ℕ) (x : X) → k < length xs → x ≡ get_or xs k x
-    → drop k xs ≡ x ∷ drop (k + 1) xs
-drop_step [] k x h e = absurd (omega (arith, h))
-drop_step (y ∷ xs) zero x h e = ap (λ z. z ∷ xs) (sym e)
-drop_step (y ∷ xs) (suc k) x h e = drop_step xs k x (omega (arith, h)) e ∙ ap (λ n. x ∷ drop n (y ∷ xs)) (more k)
-  where
-    more : (n : ℕ) → suc (n + 1) ≡ suc n + 1
-    more n = omega arith
-
 -- ---- the loop over an operator's parts
 
 less_none : (k : ℕ) → k ≡ k - 0
@@ -220,18 +205,6 @@ wanted_next o rest (Name n) more k h = ap (wanted_among o (from_part (behind_fir
 wanted_next o rest (Number n) more k h = ap (wanted_among o (from_part (behind_first rest)) more) (less_none k)
 wanted_next o rest (Text t) more k h = ap (wanted_among o (from_part (behind_first rest)) more) (less_none k)
 
-pub drop_all : {X : Type 0} (xs : List X) (n : ℕ) → length xs ≤ n → drop n xs ≡ []
-drop_all [] zero h = refl
-drop_all [] (suc n) h = refl
-drop_all (x ∷ xs) zero h = absurd (omega (arith, h))
-drop_all (x ∷ xs) (suc n) h = drop_all xs n (omega (arith, h))
-
-pub take_all : {X : Type 0} (xs : List X) (n : ℕ) → length xs ≤ n → take n xs ≡ xs
-take_all [] zero h = refl
-take_all [] (suc n) h = refl
-take_all (x ∷ xs) zero h = absurd (omega (arith, h))
-take_all (x ∷ xs) (suc n) h = ap (λ ys. x ∷ ys) (take_all xs n (omega (arith, h)))
-
 pub split_at : {X : Type 0} (xs : List X) (k : ℕ) (d : X) → k < length xs → xs ≡ take k xs ++ get_or xs k d ∷ drop (k + 1) xs
 split_at [] k d h = absurd (omega (arith, h))
 split_at (x ∷ xs) zero d h = refl
@@ -239,13 +212,6 @@ split_at (x ∷ xs) (suc k) d h =
     let more : suc (k + 1) ≡ suc k + 1 = omega arith in
     ap (λ ys. x ∷ ys) (split_at xs k d (omega (arith, h)))
     ∙ ap (λ n. x ∷ (take k xs ++ get_or xs k d ∷ drop n (x ∷ xs))) more
-
-pub take_on : {X : Type 0} (xs : List X) (k : ℕ) (d : X) → k < length xs → take k xs ++ get_or xs k d ∷ [] ≡ take (k + 1) xs
-take_on [] k d h = absurd (omega (arith, h))
-take_on (x ∷ xs) zero d h = refl
-take_on (x ∷ xs) (suc k) d h =
-    let more : suc (k + 1) ≡ suc k + 1 = omega arith in
-    ap (λ ys. x ∷ ys) (take_on xs k d (omega (arith, h))) ∙ ap (λ n. take n (x ∷ xs)) more
 
 module _ (def : Definition) (op : ℕ) (items rest : List Item) (parts more : List Part) (item : Part) (at left number : ℕ) (is : items ≡ items_in (operator_at def op)) (next : drop at parts ≡ item ∷ more) (kept_so : wanted_among (operator_at def op) rest (drop at parts) left ≡ wanted_among (operator_at def op) (from_part (items_in (operator_at def op))) parts number) where
   -- the wanted subtree is this part
@@ -285,7 +251,7 @@ module _ (def : Definition) (f : Fragment) (path : Path) (i : ℕ) (n : Fragment
       let moved : Surrounds def f 0 0 (take (i + 1) path) t (inner_level def t (wanted_in def n (get_or path i d)))
       (a + more_around def t (wanted_in def n (get_or path i d))) =
       subst (λ q. Surrounds def f 0 0 q t (inner_level def t (wanted_in def n (get_or path i d)))
-      (a + more_around def t (wanted_in def n (get_or path i d)))) (take_on path i d lt) there in
+      (a + more_around def t (wanted_in def n (get_or path i d)))) (sym (take_more path i d lt)) there in
       let by_w : Surrounds def f 0 0 (take (i + 1) path) t (inner_level def t w) (a + more_around def t w) =
       subst (λ x. Surrounds def f 0 0 (take (i + 1) path) t (inner_level def t x) (a + more_around def t x)) (sym e) moved in
       subst (λ x. Surrounds def f 0 0 (take (i + 1) path) x level around) (sym same)

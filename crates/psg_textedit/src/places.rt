@@ -13,9 +13,9 @@ ghost use Rattle.psg_unparse.specs.Walking.{count_of};
 ghost use Rattle.psg_regions.specs.Surroundings.{Surrounds, inner_level, more_around, wanted_in};
 ghost use Rattle.psg_textedit.specs.Places.{wanted_among as wanted_among_parts};
 
-use psg_grammar::{Definition, Item, Kind};
+use psg_grammar::{Definition, Item, Kind, is_part};
 use psg_tree::{Part, Shape, Tree, child_at};
-use psg_unparse::nodes::{behind_first, is_below, is_part, items_of, level_wanted};
+use psg_unparse::nodes::{behind_first, is_below, items_of, level_wanted};
 
 /// A node, the least level of a tree in its place, and how many pairs of brackets are written around it.
 #[derive(Clone, Copy)]

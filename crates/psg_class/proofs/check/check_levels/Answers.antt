@@ -1,7 +1,7 @@
 use Rattle.std.proofs.Common.{inr, ◌<◌, length, Some, None, sym, subst, arith}
+use Rattle.std.proofs.lemmas.Option.{slice_get_within}
 use Rattle.psg_class.specs.Forms.{AreInPhyla}
 use Rattle.psg_class.proofs.ReadLaws.{bare_of, mixed_of, in_phyla, have_levels, phylum_at}
-use Rattle.psg_class.proofs.FormCells.{get_inside}
 use Rattle.psg_class.proofs.check.check_levels.Goals as goal
 
 pub first_bare-requires-clause-inside : goal.first_bare-requires-clause-inside
@@ -22,13 +22,13 @@ pub overflow_cast-result : goal.overflow_cast-result
 overflow_cast-result c =
     let (words, read) = c.requires.shapes in
     let f = bare_of c.args.definition.now words c.args.shapes.now read c.as_slice-phyla.result.now c.as_slice-phyla.ensures c.in_ok-phylum.field-0 c.in_ok-phylum.ensures (Some c.in-Some.phylum) c.in-Some.is in
-    let h = get_inside c.args.definition.now.phyla c.in-Some.phylum f.0.phylum f.0.found in let k = read.sound.few_phyla in omega (arith, h, k)
+    let h = slice_get_within c.args.definition.now.phyla c.in-Some.phylum f.0.phylum f.0.found in let k = read.sound.few_phyla in omega (arith, h, k)
 
 pub returns-in-Some-clause-refusal : goal.returns-in-Some-clause-refusal
 returns-in-Some-clause-refusal c =
     let (words, read) = c.requires.shapes in
     let f = bare_of c.args.definition.now words c.args.shapes.now read c.as_slice-phyla.result.now c.as_slice-phyla.ensures c.in_ok-phylum.field-0 c.in_ok-phylum.ensures (Some c.in-Some.phylum) c.in-Some.is in
-    inr ((c.requires.before, f), get_inside c.args.definition.now.phyla c.in-Some.phylum f.0.phylum f.0.found)
+    inr ((c.requires.before, f), slice_get_within c.args.definition.now.phyla c.in-Some.phylum f.0.phylum f.0.found)
 
 pub overflow_cast-result-in-Some-2 : goal.overflow_cast-result-in-Some-2
 overflow_cast-result-in-Some-2 c =

@@ -1,15 +1,15 @@
 use Rattle.std.proofs.Common.{◌<◌, Some, ap, sym, ◌∙◌, subst, arith}
 use Rattle.std.proofs.lemmas.List.{take_more, take_all}
+use Rattle.std.proofs.lemmas.Option.{slice_get-get_or}
 use Rattle.psg_class.specs.declared.shape.Part.TheVariants as parts
 use Rattle.psg_class.specs.Sources.{Adds, NoLink, OneCell, IsPartOf, IsKind, kind_index}
-use Rattle.psg_class.proofs.FormCells.{get_at}
 use Rattle.psg_class.proofs.BeginLaws.{at_token, ends_token, at_phylum, ends_phylum, at_list, at_end, phylum_of, list_of, kind_small}
 use Rattle.psg_class.proofs.sources.note_begin.Goals as goal
 
 pub put-requires-clause-cell : goal.put-requires-clause-cell
 put-requires-clause-cell c =
     let s = c.loop-place.invariant.adds.size in
-    let part : IsPartOf c.args.rows.now c.args.draft.now.grid.width (parts.Token c.in-Token.number) = c.requires.parts c.loop-place.place (parts.Token c.in-Token.number) (get_at c.args.parts.now c.loop-place.place _ c.loop-place-test.true ∙ ap Some c.in-Token.is) in
+    let part : IsPartOf c.args.rows.now c.args.draft.now.grid.width (parts.Token c.in-Token.number) = c.requires.parts c.loop-place.place (parts.Token c.in-Token.number) (slice_get-get_or c.args.parts.now c.loop-place.place _ c.loop-place-test.true ∙ ap Some c.in-Token.is) in
     let e = s.height in let f = s.width in let h = c.requires.draft.table.height_is in
     (omega arith, omega (arith, part))
 
@@ -22,10 +22,10 @@ returns-in-Token-clause-ends c =
     ends_token c.args.rows.now c.args.to c.args.parts.now c.loop-place.place _ c.loop-place-test.true c.args.draft.now c.loop-place.draft c.put.new.self c.loop-place.invariant c.in-Token.number c.in-Token.is
 
 pub kind-requires : goal.kind-requires
-kind-requires c = c.requires.parts c.loop-place.place (parts.Slot c.in-Slot.kind) (get_at c.args.parts.now c.loop-place.place _ c.loop-place-test.true ∙ ap Some c.in-Slot.is)
+kind-requires c = c.requires.parts c.loop-place.place (parts.Slot c.in-Slot.kind) (slice_get-get_or c.args.parts.now c.loop-place.place _ c.loop-place-test.true ∙ ap Some c.in-Slot.is)
 
 kind-inside : (c : goal.After-kind) → IsKind c.args.rows.now c.in-Slot.kind
-kind-inside c = c.requires.parts c.loop-place.place (parts.Slot c.in-Slot.kind) (get_at c.args.parts.now c.loop-place.place _ c.loop-place-test.true ∙ ap Some c.in-Slot.is)
+kind-inside c = c.requires.parts c.loop-place.place (parts.Slot c.in-Slot.kind) (slice_get-get_or c.args.parts.now c.loop-place.place _ c.loop-place-test.true ∙ ap Some c.in-Slot.is)
 
 pub link-requires-clause-from : goal.link-requires-clause-from
 link-requires-clause-from c =

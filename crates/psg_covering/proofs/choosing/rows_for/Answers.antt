@@ -1,4 +1,4 @@
-use Rattle.psg_covering.proofs.Firsts.{got_none_at, got_some}
+use Rattle.psg_terms.proofs.Lists.{got_some, got_none}
 use Rattle.psg_covering.proofs.IndexLaws.{among_met, among_none}
 use Rattle.psg_covering.proofs.choosing.rows_for.Goals as goal
 
@@ -10,4 +10,4 @@ returns-in_ok-numbers-in-Some-clause-among c r h of =
 pub returns-in-None-clause-among : goal.returns-in-None-clause-among
 returns-in-None-clause-among c r h of =
     among_none c.args.definition.now c.args.slot c.args.row.now c.new.result.items
-    (got_none_at c.args.row.now 1 c.get.result c.get.ensures.lookup c.in-None.is) r h of
+    (got_none c.args.row.now 1 c.get.result c.get.ensures.lookup c.in-None.is) r h of

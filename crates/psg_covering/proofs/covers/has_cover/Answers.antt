@@ -1,6 +1,6 @@
 use Rattle.std.proofs.Common.{refl, get_or, sym, ◌∙◌, subst, arith, true≢false}
+use Rattle.std.proofs.lemmas.List.{get_or_default}
 use Rattle.psg_covering.specs.Fronts.{AreRowsOf}
-use Rattle.psg_covering.proofs.Firsts.{any_default}
 use Rattle.psg_covering.proofs.CoverLaws.{none_at_all, none_begin, none_more}
 use Rattle.psg_covering.proofs.IndexLaws.{instance_meets}
 use Rattle.psg_covering.proofs.covers.has_cover.Goals as goal
@@ -15,7 +15,7 @@ pub loop-i-preserved : goal.loop-i-preserved
 loop-i-preserved c =
     let number = get_or c.as_slice-numbers.result.now c.loop-i.i 0 in
     none_more c.args.definition.now c.args.kind c.args.term.now c.as_slice-numbers.result.now c.loop-i.i number c.row_at-row.result.now c.loop-i-test.true
-    (any_default c.as_slice-numbers.result.now c.loop-i.i 0 number c.loop-i-test.true) c.row_at-row.ensures
+    (get_or_default c.as_slice-numbers.result.now c.loop-i.i 0 number c.loop-i-test.true) c.row_at-row.ensures
     (λ h. true≢false (sym (c.in_ok-is_made_of.ensures.1 h) ∙ c.if-branch.false)) c.loop-i.invariant
 
 pub returns-then-branch : goal.returns-then-branch

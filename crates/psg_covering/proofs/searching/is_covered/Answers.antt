@@ -1,7 +1,8 @@
 use Rattle.std.proofs.Common.{◌∷◌, ◌+◌, List, drop, sym, subst, arith}
+use Rattle.psg_terms.proofs.Lists.{drop_there}
 use Rattle.psg_grammar.specs.declared.types.Kind.{Kind}
 use Rattle.psg_covering.specs.Fronts.{AllFit}
-use Rattle.psg_covering.proofs.Firsts.{drop_all, drop_there}
+use Rattle.psg_covering.proofs.Firsts.{drop_all}
 use Rattle.psg_covering.proofs.Adding.{IsLeft, left_begin, left_end, left_more}
 use Rattle.psg_covering.proofs.searching.is_covered.Goals as goal
 

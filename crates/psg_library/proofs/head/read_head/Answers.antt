@@ -1,13 +1,9 @@
-use Rattle.std.proofs.Common.{◌≡◌, Bool, true, false, not, [], ◌∷◌, refl, sym, ap, ◌∙◌}
+use Rattle.std.proofs.Common.{not, [], ◌∷◌, sym, ap, ◌∙◌}
 use Rattle.std.specs.Prelude.{codes}
-use Rattle.std.proofs.lemmas.Bool.{both_ways, true≢false}
+use Rattle.std.proofs.lemmas.Bool.{both_ways, true≢false, not-false}
 use Rattle.std.proofs.lemmas.Slice.Eq.{bytes_eq-Decides}
 use Rattle.psg_library.proofs.HeadWords.{no_first, other_first, no_words, is_head, wrong_words}
 use Rattle.psg_library.proofs.head.read_head.Goals as goal
-
-not_false : (b : Bool) → not b ≡ false → b ≡ true
-not_false true h = refl
-not_false false h = absurd (true≢false h)
 
 pub returns-in_default-clause-none : goal.returns-in_default-clause-none
 returns-in_default-clause-none c = no_first c.args.line.now c.in_default.ensures.none
@@ -27,7 +23,7 @@ returns-then-are_name_and_word-clause-some c =
     let both = c.are_name_and_word.ensures.0 c.if-are_name_and_word.true in
     is_head c.args.line.now c.in-Some.first.now c.in-Some.behind.now c.without_version.result.now c.in-Some.ensures.some.0
     c.without_version.ensures c.in-Some-cut_word.name.now c.in-Some-cut_word.word.now
-    ((bytes_eq-Decides c.in-Some.first.now (codes "fragment")).0 (not_false _ (sym c.ne.ensures ∙ c.if-ne.false)))
+    ((bytes_eq-Decides c.in-Some.first.now (codes "fragment")).0 (not-false _ (sym c.ne.ensures ∙ c.if-ne.false)))
     c.in-Some-cut_word.ensures.some.0 both.0 both.1
 
 pub returns-else-are_name_and_word-clause-none : goal.returns-else-are_name_and_word-clause-none

@@ -1,6 +1,6 @@
 use Rattle.std.proofs.Common.{◌≡◌, Some, slice_get, sym, ap, ◌∙◌}
+use Rattle.psg_terms.proofs.Lists.{got_some}
 use Rattle.psg_class.specs.Terminals.{a_hole}
-use Rattle.psg_tree.proofs.FormLaws.{got_some}
 use Rattle.psg_parse.specs.Seen.{terminal_seen}
 use Rattle.psg_parse.proofs.Holes.{hole_iff}
 use Rattle.psg_parse.proofs.begins.opens_hole.Goals as goal

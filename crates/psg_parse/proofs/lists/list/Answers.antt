@@ -1,11 +1,11 @@
 use Rattle.std.proofs.Common.{◌≡◌, ◌↔◌, ◌∷◌, [], Some, true, false, slice_get, sym, ap, ◌∙◌, subst, true≢false, ◌+◌, length, arith}
 use Rattle.std.proofs.lemmas.Result.{IfOk-weaker}
+use Rattle.psg_terms.proofs.Lists.{got_some}
 use Rattle.psg_grammar.specs.Fragments.{ending}
 use Rattle.psg_class.specs.Terminals.{dots}
 use Rattle.psg_class.specs.Follow.{First}
 use Rattle.psg_class.specs.Runs.{list as listing, start}
 use Rattle.psg_class.specs.Machine.{Completes, Ends, then_list}
-use Rattle.psg_tree.proofs.FormLaws.{got_some}
 use Rattle.psg_class.specs.Texts.{tokens_of}
 use Rattle.psg_parse.specs.States.{giving, running, LeftBy}
 use Rattle.psg_parse.proofs.Leading.{leads_via}

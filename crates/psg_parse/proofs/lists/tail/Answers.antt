@@ -1,12 +1,12 @@
 use Rattle.std.proofs.Common.{◌≡◌, ◌↔◌, ◌∷◌, max, Some, true, false, slice_get, sym, ap, ◌∙◌, subst, true≢false, ◌+◌, length, arith, ◌<◌}
 use Rattle.std.proofs.lemmas.Result.{IfOk-weaker}
+use Rattle.psg_terms.proofs.Lists.{got_some}
 use Rattle.psg_grammar.specs.Fragments.{ending, cell}
 use Rattle.psg_class.specs.Terminals.{dots, fixed, a_more, terminal_of}
 use Rattle.psg_class.proofs.ClassFacts.{facts}
 use Rattle.psg_class.specs.Runs.{start}
 use Rattle.psg_class.specs.Machine.{Completes, Ends, then_list, behind_all}
 use Rattle.psg_class.proofs.Machine.{step_last, step_dots, step_next}
-use Rattle.psg_tree.proofs.FormLaws.{got_some}
 use Rattle.psg_class.specs.Texts.{tokens_of}
 use Rattle.psg_parse.specs.States.{giving, running, LeftBy}
 use Rattle.psg_parse.proofs.Leading.{leads_via}

@@ -4,10 +4,10 @@ use Rattle.psg_terms.specs.Terms.{symbol, applied}
 use Rattle.psg_terms.specs.Shapes.{term_of}
 use Rattle.psg_terms.specs.Sizes.{size, sizes}
 use Rattle.psg_terms.proofs.Nodes.{no_variable, same_constructor, con_alike, size-con}
-use Rattle.psg_terms.proofs.DeclareLaws.{take-next}
 use Rattle.psg_terms.proofs.Weights.{sizes-at, one_at}
 use Rattle.std.proofs.lemmas.Bool.{false≢true}
 use Rattle.std.proofs.lemmas.List.{take_all}
+use Rattle.psg_terms.proofs.Lists.{take_item}
 use Rattle.psg_terms.proofs.matching.+same.Goals as goal
 
 pub same-same_all-requires : goal.same-same_all-requires
@@ -56,9 +56,9 @@ same_all-returns-then-not-same t c = (
 pub same_all-loop-i-preserved : goal.same_all-loop-i-preserved
 same_all-loop-i-preserved t c = (
   c.loop-i.invariant.0,
-  take-next c.args.a.now c.loop-i.i c.index-a-i.result c.loop-i-test.true c.index-a-i.is
+  take_item c.args.a.now c.loop-i.i c.index-a-i.result c.loop-i-test.true c.index-a-i.is
       ∙ ap₂ (λ xs x. xs ++ x ∷ []) c.loop-i.invariant.1 (c.same.ensures.0 c.if-not-same.false)
-      ∙ sym (take-next c.args.b.now c.loop-i.i c.index-b-i.result (let l = c.loop-i.invariant.0 in omega arith) c.index-b-i.is),
+      ∙ sym (take_item c.args.b.now c.loop-i.i c.index-b-i.result (let l = c.loop-i.invariant.0 in omega arith) c.index-b-i.is),
 )
 
 pub same_all-returns : goal.same_all-returns

@@ -1,7 +1,7 @@
-use Rattle.std.proofs.Common.{take, sym, ap, ◌∙◌, subst, arith}
+use Rattle.std.proofs.Common.{take, sym, ap, ◌∙◌, subst, arith, take_all}
 use Rattle.std.specs.Option.{option_copied}
 use Rattle.psg_regions.specs.Surroundings.{Surrounds, at_top}
-use Rattle.psg_textedit.proofs.Ways.{way_kept, way_lost, way_low, take_all}
+use Rattle.psg_textedit.proofs.Ways.{way_kept, way_lost, way_low}
 use Rattle.psg_textedit.proofs.places.place_of.Goals as goal
 
 pub loop-step-init : goal.loop-step-init
@@ -20,7 +20,7 @@ pub returns-clause-some : goal.returns-clause-some
 returns-clause-some c =
     subst (λ q. Surrounds c.args.definition.now c.args.tree.now 0 0 q c.loop-step.place.node.now c.loop-step.place.least
     c.loop-step.place.around)
-    (take_all c.args.path.now c.loop-step.step-index (omega (arith, c.loop-step-test.false))) c.loop-step.invariant
+    (take_all c.loop-step.step-index c.args.path.now (omega (arith, c.loop-step-test.false))) c.loop-step.invariant
 
 pub returns-in_default-clause-none : goal.returns-in_default-clause-none
 returns-in_default-clause-none c =

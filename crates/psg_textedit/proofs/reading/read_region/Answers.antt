@@ -1,8 +1,9 @@
 use Rattle.std.proofs.Common.{Global, Vec, refl, arith}
+use Rattle.psg_terms.proofs.Lists.{IfSome_at}
 use Rattle.psg_class.specs.Texts.{HasNoTokens, TextTokens}
 use Rattle.psg_lexis.specs.declared.token.Spanned.{Spanned}
 use Rattle.psg_textedit.specs.Typing.{definition_of}
-use Rattle.psg_textedit.proofs.NodeReads.{across_end, across_start, answered, counted, counted_none, may_read, none_in, some_in, unread}
+use Rattle.psg_textedit.proofs.NodeReads.{across_end, across_start, answered, counted, counted_none, may_read, none_in, unread}
 use Rattle.psg_textedit.proofs.reading.read_region.Goals as goal
 
 pub returns-in_default-clause-answer : goal.returns-in_default-clause-answer
@@ -24,7 +25,7 @@ returns-then-not-is_apart-clause-answer g c =
 
 pub returns-then-not-is_apart-clause-counted : goal.returns-then-not-is_apart-clause-counted
 returns-then-not-is_apart-clause-counted g c =
-    let are = some_in (λ (v : Vec Spanned Global). TextTokens (definition_of c.args.reader.now) c.args.text.now v.items)
+    let are = IfSome_at (λ (v : Vec Spanned Global). TextTokens (definition_of c.args.reader.now) c.args.text.now v.items)
     c.in_ok-tokens.field-0 c.in-Some.tokens c.in-Some.is c.in_ok-tokens.ensures.some in
     counted (definition_of c.args.reader.now) c.args.goal c.args.text.now c.in-Some.tokens.items c.in-Some.tokens.items are refl
     c.args.steps.now c.args.steps.now (omega arith)
@@ -36,21 +37,21 @@ returns-then-not-is_apart-2-clause-answer g c =
 
 pub returns-then-not-is_apart-2-clause-counted : goal.returns-then-not-is_apart-2-clause-counted
 returns-then-not-is_apart-2-clause-counted g c =
-    let are = some_in (λ (v : Vec Spanned Global). TextTokens (definition_of c.args.reader.now) c.args.text.now v.items)
+    let are = IfSome_at (λ (v : Vec Spanned Global). TextTokens (definition_of c.args.reader.now) c.args.text.now v.items)
     c.in_ok-tokens.field-0 c.in-Some.tokens c.in-Some.is c.in_ok-tokens.ensures.some in
     counted (definition_of c.args.reader.now) c.args.goal c.args.text.now c.in-Some.tokens.items c.in-Some.tokens.items are refl
     c.args.steps.now c.args.steps.now (omega arith)
 
 pub returns-in_err-reading-clause-steps : goal.returns-in_err-reading-clause-steps
 returns-in_err-reading-clause-steps g c =
-    let are = some_in (λ (v : Vec Spanned Global). TextTokens (definition_of c.args.reader.now) c.args.text.now v.items)
+    let are = IfSome_at (λ (v : Vec Spanned Global). TextTokens (definition_of c.args.reader.now) c.args.text.now v.items)
     c.in_ok-tokens.field-0 c.in-Some.tokens c.in-Some.is c.in_ok-tokens.ensures.some in
     may_read (definition_of c.args.reader.now) c.args.goal c.args.text.now c.in-Some.tokens.items c.as_slice.result.now are
     c.as_slice.ensures.value c.args.steps.now c.parsed.new.steps c.in_err-reading.ensures.steps
 
 pub returns-clause-answer : goal.returns-clause-answer
 returns-clause-answer g c =
-    let are = some_in (λ (v : Vec Spanned Global). TextTokens (definition_of c.args.reader.now) c.args.text.now v.items)
+    let are = IfSome_at (λ (v : Vec Spanned Global). TextTokens (definition_of c.args.reader.now) c.args.text.now v.items)
     c.in_ok-tokens.field-0 c.in-Some.tokens c.in-Some.is c.in_ok-tokens.ensures.some in
     answered (definition_of c.args.reader.now) c.args.goal c.args.text.now c.in-Some.tokens.items c.as_slice.result.now are
     c.as_slice.ensures.value c.args.region.now.all.now c.args.region.now.start c.args.region.now.end
@@ -59,14 +60,14 @@ returns-clause-answer g c =
 
 pub returns-clause-counted : goal.returns-clause-counted
 returns-clause-counted g c =
-    let are = some_in (λ (v : Vec Spanned Global). TextTokens (definition_of c.args.reader.now) c.args.text.now v.items)
+    let are = IfSome_at (λ (v : Vec Spanned Global). TextTokens (definition_of c.args.reader.now) c.args.text.now v.items)
     c.in_ok-tokens.field-0 c.in-Some.tokens c.in-Some.is c.in_ok-tokens.ensures.some in
     counted (definition_of c.args.reader.now) c.args.goal c.args.text.now c.in-Some.tokens.items c.as_slice.result.now are
     c.as_slice.ensures.value c.args.steps.now c.parsed.new.steps c.in_ok-reading.ensures.steps
 
 pub returns-clause-steps : goal.returns-clause-steps
 returns-clause-steps g c =
-    let are = some_in (λ (v : Vec Spanned Global). TextTokens (definition_of c.args.reader.now) c.args.text.now v.items)
+    let are = IfSome_at (λ (v : Vec Spanned Global). TextTokens (definition_of c.args.reader.now) c.args.text.now v.items)
     c.in_ok-tokens.field-0 c.in-Some.tokens c.in-Some.is c.in_ok-tokens.ensures.some in
     may_read (definition_of c.args.reader.now) c.args.goal c.args.text.now c.in-Some.tokens.items c.as_slice.result.now are
     c.as_slice.ensures.value c.args.steps.now c.parsed.new.steps c.in_ok-reading.ensures.steps

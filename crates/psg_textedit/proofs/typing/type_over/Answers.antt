@@ -1,6 +1,7 @@
 use Rattle.std.proofs.Common.{Global, Vec, ◌<◌, length, slice_get, ◌≡◌, ◌∙◌, List, Some, IsUtf8, sym, subst, ap}
 use Rattle.std.proofs.lemmas.Option.{slice_get_within}
 use Rattle.std.proofs.lemmas.Result.{err_from_is_err_and}
+use Rattle.psg_terms.proofs.Lists.{IfSome_at, slice_get_item}
 use Rattle.psg_class.specs.Texts.{HasNoTokens, TextTokens}
 use Rattle.psg_lexis.specs.declared.token.Spanned.{Spanned}
 use Rattle.psg_reads_back.specs.Layout.{text_of}
@@ -11,9 +12,8 @@ use Rattle.psg_regions.proofs.Typed.{text_utf8}
 use Rattle.psg_textedit.specs.Lines.{AreLines, lines_with}
 use Rattle.psg_textedit.specs.Typing.{definition_of, typing_of}
 use Rattle.psg_textedit.proofs.Faults.{spoilt}
-use Rattle.psg_textedit.proofs.NodeReads.{none_in, some_in}
+use Rattle.psg_textedit.proofs.NodeReads.{none_in}
 use Rattle.psg_textedit.proofs.Roots.{begins_reading, first_encloses, first_path, job_here, reading_ticks, some_spans}
-use Rattle.psg_textedit.proofs.Ways.{got_item}
 use Rattle.psg_textedit.proofs.Widening.{not_outside}
 use Rattle.psg_textedit.proofs.typing.type_over.Goals as goal
 
@@ -92,7 +92,7 @@ widen-requires-clause-job g c =
           (lines_with (typing_of c.args.typed.now) c.lines_of-lines.result.before.now c.lines_of-lines.result.behind.now) ts)
           (sym c.as_slice-all.ensures.value)
           (subst (λ bs. TextTokens (definition_of c.args.reader.now) bs c.in-Some.tokens.items) (c.as_str-new.ensures.value ∙ c.in_ok-made.ensures)
-          (some_in (λ (v : Vec Spanned Global). TextTokens (definition_of c.args.reader.now) c.as_str-new.result.now v.items) c.in_ok-tokens.field-0 c.in-Some.tokens c.in-Some.is
+          (IfSome_at (λ (v : Vec Spanned Global). TextTokens (definition_of c.args.reader.now) c.as_str-new.result.now v.items) c.in_ok-tokens.field-0 c.in-Some.tokens c.in-Some.is
           c.in_ok-tokens.ensures.some));
     }
 
@@ -102,7 +102,7 @@ widen-requires-clause-here g c =
     job_here _ (widen-requires-clause-job g c) c.as_slice-spans.result.now (c.as_slice-spans.ensures ∙ ap (λ (p : Printed). p.spans) c.requires.printed) c.innermost-best.result c.innermost-best.ensures
     c.steps-first.result.now (first_path (definition_of c.args.reader.now) c.args.tree.now (typing_of c.args.typed.now) (subst (IsInside (typing_of c.args.typed.now)) (c.as_str-text.ensures ∙ ap (λ (p : Printed). p.text) c.requires.printed) (c.is_inside.ensures.inside c.if-not-is_inside.false))
     c.as_slice-spans.result.now (c.as_slice-spans.ensures ∙ ap (λ (p : Printed). p.spans) c.requires.printed) c.innermost-best.result c.innermost-best.ensures
-    c.index-spans-best.result (got_item c.as_slice-spans.result.now c.innermost-best.result c.index-spans-best.result
+    c.index-spans-best.result (slice_get_item c.as_slice-spans.result.now c.innermost-best.result c.index-spans-best.result
     (slice_get_within c.as_slice-spans.result.now c.innermost-best.result c.innermost-best.ensures.span c.innermost-best.ensures.found)
     c.index-spans-best.is) c.steps-first.result.now
     (c.steps-first.ensures ∙ ap (λ (s : Span). s.path) (sym c.index-spans-best.is)))
@@ -118,7 +118,7 @@ returns-in_err-change-clause-ticks g c =
     c.as_slice-spans.result.now (c.as_slice-spans.ensures ∙ ap (λ (p : Printed). p.spans) c.requires.printed) c.innermost-best.result c.innermost-best.ensures
     c.steps-first.result.now (first_path (definition_of c.args.reader.now) c.args.tree.now (typing_of c.args.typed.now) (subst (IsInside (typing_of c.args.typed.now)) (c.as_str-text.ensures ∙ ap (λ (p : Printed). p.text) c.requires.printed) (c.is_inside.ensures.inside c.if-not-is_inside.false))
     c.as_slice-spans.result.now (c.as_slice-spans.ensures ∙ ap (λ (p : Printed). p.spans) c.requires.printed) c.innermost-best.result c.innermost-best.ensures
-    c.index-spans-best.result (got_item c.as_slice-spans.result.now c.innermost-best.result c.index-spans-best.result
+    c.index-spans-best.result (slice_get_item c.as_slice-spans.result.now c.innermost-best.result c.index-spans-best.result
     (slice_get_within c.as_slice-spans.result.now c.innermost-best.result c.innermost-best.ensures.span c.innermost-best.ensures.found)
     c.index-spans-best.is) c.steps-first.result.now
     (c.steps-first.ensures ∙ ap (λ (s : Span). s.path) (sym c.index-spans-best.is))) c.args.steps.now c.widen.new.steps c.in_err-change.ensures.ticks
@@ -136,7 +136,7 @@ returns-clause-path g c =
           c.as_slice-spans.result.now (c.as_slice-spans.ensures ∙ ap (λ (p : Printed). p.spans) c.requires.printed) c.innermost-best.result c.innermost-best.ensures
           c.steps-first.result.now (first_path (definition_of c.args.reader.now) c.args.tree.now (typing_of c.args.typed.now) (subst (IsInside (typing_of c.args.typed.now)) (c.as_str-text.ensures ∙ ap (λ (p : Printed). p.text) c.requires.printed) (c.is_inside.ensures.inside c.if-not-is_inside.false))
           c.as_slice-spans.result.now (c.as_slice-spans.ensures ∙ ap (λ (p : Printed). p.spans) c.requires.printed) c.innermost-best.result c.innermost-best.ensures
-          c.index-spans-best.result (got_item c.as_slice-spans.result.now c.innermost-best.result c.index-spans-best.result
+          c.index-spans-best.result (slice_get_item c.as_slice-spans.result.now c.innermost-best.result c.index-spans-best.result
           (slice_get_within c.as_slice-spans.result.now c.innermost-best.result c.innermost-best.ensures.span c.innermost-best.ensures.found)
           c.index-spans-best.is) c.steps-first.result.now
           (c.steps-first.ensures ∙ ap (λ (s : Span). s.path) (sym c.index-spans-best.is))) (Some c.in_ok-change.change.path) n w,
@@ -148,7 +148,7 @@ returns-clause-ticks g c =
     c.as_slice-spans.result.now (c.as_slice-spans.ensures ∙ ap (λ (p : Printed). p.spans) c.requires.printed) c.innermost-best.result c.innermost-best.ensures
     c.steps-first.result.now (first_path (definition_of c.args.reader.now) c.args.tree.now (typing_of c.args.typed.now) (subst (IsInside (typing_of c.args.typed.now)) (c.as_str-text.ensures ∙ ap (λ (p : Printed). p.text) c.requires.printed) (c.is_inside.ensures.inside c.if-not-is_inside.false))
     c.as_slice-spans.result.now (c.as_slice-spans.ensures ∙ ap (λ (p : Printed). p.spans) c.requires.printed) c.innermost-best.result c.innermost-best.ensures
-    c.index-spans-best.result (got_item c.as_slice-spans.result.now c.innermost-best.result c.index-spans-best.result
+    c.index-spans-best.result (slice_get_item c.as_slice-spans.result.now c.innermost-best.result c.index-spans-best.result
     (slice_get_within c.as_slice-spans.result.now c.innermost-best.result c.innermost-best.ensures.span c.innermost-best.ensures.found)
     c.index-spans-best.is) c.steps-first.result.now
     (c.steps-first.ensures ∙ ap (λ (s : Span). s.path) (sym c.index-spans-best.is))) c.args.steps.now c.widen.new.steps c.in_ok-change.ensures.ticks

@@ -1,7 +1,7 @@
 use Rattle.std.proofs.Common.{length, slice_get, sym, ap, ◌∙◌, subst, arith}
+use Rattle.psg_terms.proofs.Lists.{slice_get_item}
 use Rattle.psg_relation.specs.Heads.{places_at}
 use Rattle.psg_covering.specs.Index.{AreIndexed}
-use Rattle.psg_covering.proofs.Firsts.{read}
 use Rattle.psg_covering.proofs.IndexLaws.{indexed_more, indexed_none}
 use Rattle.psg_covering.proofs.index.Index.of.Goals as goal
 
@@ -13,7 +13,7 @@ pub loop-number-preserved : goal.loop-number-preserved
 loop-number-preserved c =
     indexed_more c.args.definition.now c.loop-number.number c.index-rows-number.result (places_at c.loop-number.index.passing) (places_at c.loop-number.index.ending)
     (places_at c.note.new.index.passing) (places_at c.note.new.index.ending)
-    (ap (λ l. slice_get l c.loop-number.number) (sym c.as_slice-rows.ensures) ∙ read c.as_slice-rows.result.now c.loop-number.number c.index-rows-number.result c.loop-number-test.true c.index-rows-number.is)
+    (ap (λ l. slice_get l c.loop-number.number) (sym c.as_slice-rows.ensures) ∙ slice_get_item c.as_slice-rows.result.now c.loop-number.number c.index-rows-number.result c.loop-number-test.true c.index-rows-number.is)
     c.in_ok-note.ensures c.loop-number.invariant
 
 pub returns : goal.returns

@@ -1,6 +1,6 @@
 use Rattle.std.proofs.Common.{sym, true≢false}
-use Rattle.psg_covering.proofs.KindLaws.{two_phyla, two_lists, list_apart, phylum_apart}
-use Rattle.psg_covering.proofs.numbers.same_kind.Goals as goal
+use Rattle.psg_grammar.proofs.SameKinds.{two_phyla, two_lists, list_apart, phylum_apart}
+use Rattle.psg_grammar.proofs.kinds.same_kind.Goals as goal
 
 pub returns-in-Phylum-b : goal.returns-in-Phylum-b
 returns-in-Phylum-b c = two_phyla c.args.a c.args.b c.in-Phylum.number c.in-Phylum-b.other c.in-Phylum.is c.in-Phylum-b.is
