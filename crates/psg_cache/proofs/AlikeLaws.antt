@@ -1,9 +1,9 @@
 -- Trees that are alike besides their children, and the notes of their children.
 use Rattle.std.proofs.Common.{◌≡◌, inl, inr, ℕ, zero, suc, ◌+◌, ◌<◌, ◌&&◌, Bool, true, false, List, [], ◌∷◌, ◌++◌, length, take, get_or, Option, Some, None, refl, sym, ◌∙◌, ap, ap₂, subst, append_assoc, append-nil, arith}
 use Rattle.std.specs.Prelude.{◌↔◌}
-use Rattle.std.proofs.lemmas.Bool.{false≢true}
+use Rattle.std.proofs.lemmas.Bool.{false≢true, and_parts, and_cases, cases_Bool}
 use Rattle.std.proofs.lemmas.Bool.Decides.{eqb_tells}
-use Rattle.std.proofs.lemmas.Option.{none-some}
+use Rattle.std.proofs.lemmas.Option.{none-some, same_Some}
 use Rattle.psg_terms.specs.Names.{Name}
 use Rattle.psg_grammar.specs.Fragments.{Fragment, hole, operator, with_child, with_name, with_number, with_text, children_of, top_operator}
 use Rattle.psg_tree.specs.declared.tree.Part.{Part}
@@ -16,9 +16,7 @@ use Rattle.psg_eval.specs.Trees.{own_names}
 use Rattle.psg_cache.specs.Alike.{AreAlike, AreOwnAlike, AreUnlike, IsPartAlike, TellsAlike, hole_number}
 use Rattle.psg_cache.specs.Diff.{agree, list_number, same_some}
 use Rattle.psg_cache.specs.Walks.{names_in}
-use Rattle.psg_cache.proofs.Each.{same_some as some_once}
 use Rattle.psg_cache.proofs.Evaluations.{own_parts, top_parts}
-use Rattle.psg_cache.proofs.PairLaws.{both_hold, one_fails, true_or_false}
 use Rattle.psg_cache.proofs.SpliceLaws.{list_self, no_operator, not_list}
 
 -- ---- parts
@@ -220,7 +218,7 @@ operators_alike o ps qs new two h =
       lists = λ l es u is.
           absurd (not_list new o l es u (ap top_operator two ∙ top_parts (operator o) qs) is);
       nodes = λ k top.
-          let same : k ≡ o = some_once k o (sym top ∙ ap top_operator two ∙ top_parts (operator o) qs) in (
+          let same : k ≡ o = same_Some k o (sym top ∙ ap top_operator two ∙ top_parts (operator o) qs) in (
             top_parts (operator o) ps ∙ ap Some (sym same),
             ap own_names two ∙ own_parts (operator o) qs ∙ sym (own_names_in ps qs h) ∙ sym (own_parts (operator o) ps),
           );
@@ -280,7 +278,7 @@ pub operator_operator : (o p : ℕ) (ps qs rs : List Part) (s : Shape) (new : Fr
     → tree_of s ≡ new → (a ≡ true ↔ (o ≡ p)) → (b ≡ true ↔ AreOwnAlike ps rs) → rs ≡ qs → r ≡ (a && b)
     → TellsAlike r (with_parts (operator o) ps) new
 operator_operator o p ps qs rs s new a b true e there same own are told =
-    let h = both_hold a b (sym told) in
+    let h = and_parts a b (sym told) in
     let alike : AreOwnAlike ps qs = subst (AreOwnAlike ps) are (own.0 h.1) in
     operators_alike o ps qs new (sym there ∙ ap tree_of e ∙ ap (λ n. with_parts (operator n) qs) (sym (same.0 h.0))) alike
 operator_operator o p ps qs rs s new a b false e there same own are told =
@@ -288,9 +286,9 @@ operator_operator o p ps qs rs s new a b false e there same own are told =
     unlike (with_parts (operator o) ps) new (no_kind _ _ none_here) (λ is.
     let whole : with_parts (operator o) ps ≡ with_parts (operator p) qs = is ∙ sym there ∙ ap tree_of e in
     let one : o ≡ p =
-    some_once o p (sym (top_parts (operator o) ps) ∙ ap top_operator whole ∙ top_parts (operator p) qs) in
+    same_Some o p (sym (top_parts (operator o) ps) ∙ ap top_operator whole ∙ top_parts (operator p) qs) in
     let two : ps ≡ qs = sym (parts_back (operator o) ps) ∙ ap parts_of whole ∙ parts_back (operator p) qs in
-    elim (one_fails a b (sym told)) [
+    elim (and_cases a b (sym told)) [
       | inl fails ↦ false≢true (sym fails ∙ same.1 one)
       | inr fails ↦ false≢true (sym fails ∙ own.1 (subst (AreOwnAlike ps) (two ∙ sym are) (own_self ps)))
     ])
@@ -346,7 +344,7 @@ pub list_list : (l m : ℕ) (es ds : List Fragment) (u v : Bool) (s : Shape) (ne
     → s ≡ ListOf m ds v → tree_of s ≡ new → (a ≡ true ↔ (l ≡ m)) → (b ≡ true ↔ (u ≡ v)) → r ≡ (a && b)
     → TellsAlike r (list_of l es u) new
 list_list l m es ds u v s new a b true e there same ends told =
-    let h = both_hold a b (sym told) in
+    let h = and_parts a b (sym told) in
     lists_alike l es ds u new
     (sym there ∙ ap tree_of e ∙ ap₂ (λ n w. list_of n ds w) (sym (same.0 h.0)) (sym (ends.0 h.1)))
 list_list l m es ds u v s new a b false e there same ends told =
@@ -354,17 +352,17 @@ list_list l m es ds u v s new a b false e there same ends told =
     record {
       differ = λ equal.
           let both = one_list l m es ds u v (equal ∙ is) in
-          elim (one_fails a b (sym told)) [
+          elim (and_cases a b (sym told)) [
             | inl fails ↦ false≢true (sym fails ∙ same.1 both.0)
             | inr fails ↦ false≢true (sym fails ∙ ends.1 both.1)
           ];
       ends = λ yes.
           let kind : l ≡ m =
           same_kind l m (sym (ap₂ (λ x y. same_some x y) (list_kind l es u) (ap list_number is ∙ list_kind m ds v)) ∙ yes) in
-          elim (true_or_false (agree (list_of l es u) new)) [
+          elim (cases_Bool (agree (list_of l es u) new)) [
             | inl agrees ↦
                 let end : u ≡ v = agree_ends l m es ds u v (sym (ap (agree (list_of l es u)) is) ∙ agrees) in
-                absurd (elim (one_fails a b (sym told)) [
+                absurd (elim (and_cases a b (sym told)) [
                   | inl fails ↦ false≢true (sym fails ∙ same.1 kind)
                   | inr fails ↦ false≢true (sym fails ∙ ends.1 end)
                 ])

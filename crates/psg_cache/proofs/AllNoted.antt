@@ -7,7 +7,7 @@ use Rattle.std.proofs.lemmas.Option.{none-some, slice_get_past, slice_get_read}
 use Rattle.psg_grammar.specs.declared.types.Definition.{Definition}
 use Rattle.psg_grammar.specs.Fragments.{Fragment, hole, ending, cell, operator, with_child, with_name, with_number, with_text, anything, observed, children_of}
 use Rattle.psg_grammar.specs.Paths.{Path, IsList, node_at}
-use Rattle.psg_eval.specs.declared.summary.Known.{Known}
+use Rattle.psg_eval.specs.declared.summary.SummaryParts.{SummaryParts}
 use Rattle.psg_eval.specs.Summaries.{AllSummaries, IsSummary, IsSummaryOf}
 use Rattle.psg_cache.specs.Notes.{IsFormed, IsNoteOf}
 use Rattle.psg_cache.proofs.RealTrees.{IsReal, real}
@@ -35,7 +35,7 @@ suffix_list anything k r h = absurd (none-some r h)
 suffix_list (observed f) k r h = absurd (none-some r h)
 
 module _ (def : Definition) where
-  answered_list : (f : Fragment) → IsList f → (below : List Known) (s : Known) (rests : List Known)
+  answered_list : (f : Fragment) → IsList f → (below : List SummaryParts) (s : SummaryParts) (rests : List SummaryParts)
       → IsAnswered def f below s rests → AreOfSuffixes def f below s rests
   answered_list (cell l e r) list below s rests h = h
   answered_list (ending l u) list below s rests h = h
@@ -48,9 +48,9 @@ module _ (def : Definition) where
   answered_list anything list below s rests h = absurd list
   answered_list (observed f) list below s rests h = absurd list
 
-  suffix_known : (f : Fragment) → IsReal f → IsList f → (below : List Known) (s : Known) (rests : List Known)
+  suffix_known : (f : Fragment) → IsReal f → IsList f → (below : List SummaryParts) (s : SummaryParts) (rests : List SummaryParts)
       → AllSummaries def (children_of f) below → AreOfSuffixes def f below s rests
-      → (k : ℕ) (r : Fragment) (t : Known) → suffix_of f k ≡ Some r → slice_get (s ∷ rests) k ≡ Some t → IsSummaryOf def r t
+      → (k : ℕ) (r : Fragment) (t : SummaryParts) → suffix_of f k ≡ Some r → slice_get (s ∷ rests) k ≡ Some t → IsSummaryOf def r t
   suffix_known (ending l u) real list below s rests are h zero r t suffix at =
       let one : ending l u ≡ r = cc in
       let two : s ≡ t = cc in
@@ -100,7 +100,7 @@ pub got_note : (xs : List Annotated) (i : ℕ) (r : Option (Bor Annotated)) → 
 got_note xs i None h = sym (slice_get_past xs i h.3)
 got_note xs i (Some x) h = sym (slice_get_read xs (length xs) i x.now refl h.3.0 h.1)
 
-pub summary_at : (n : Annotated) (path : Path) (m : Annotated) (s : Known) → note_at n path ≡ Some m → s ≡ whole_in m
+pub summary_at : (n : Annotated) (path : Path) (m : Annotated) (s : SummaryParts) → note_at n path ≡ Some m → s ≡ whole_in m
     → IsSummaryAt n path s
 summary_at n path m s is same def f note =
     let formed : IsFormed def (tree_in n) = subst (IsFormed def) (sym note.tree) note.formed in

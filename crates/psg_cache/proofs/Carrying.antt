@@ -4,7 +4,7 @@ use Rattle.std.proofs.lemmas.Bool.Decides.{eqb_tells}
 use Rattle.psg_grammar.specs.declared.types.Definition.{Definition}
 use Rattle.psg_grammar.specs.Fragments.{Fragment, hole, ending, cell, operator, with_child, with_name, with_number, with_text, anything, observed, children_of, top_operator}
 use Rattle.psg_grammar.specs.Paths.{put_child}
-use Rattle.psg_eval.specs.declared.summary.Known.{Known}
+use Rattle.psg_eval.specs.declared.summary.SummaryParts.{SummaryParts}
 use Rattle.psg_eval.specs.Trees.{IsNode, own_names}
 use Rattle.psg_cache.specs.Noted.{AreOfSuffixes, IsOfNodes}
 use Rattle.psg_cache.specs.Renoting.{AreOfCells, cells_of, first_or}
@@ -40,7 +40,7 @@ names-put new k anything = refl
 names-put new k (observed f) = refl
 
 module _ (def : Definition) where
-  suffixes-put : (new : Fragment) (k : ℕ) (f : Fragment) (below : List Known) (s : Known) (rests : List Known)
+  suffixes-put : (new : Fragment) (k : ℕ) (f : Fragment) (below : List SummaryParts) (s : SummaryParts) (rests : List SummaryParts)
       → AreOfSuffixes def f below s rests → AreOfSuffixes def (put_child new k f) below s rests
   suffixes-put new zero (cell l e r) (b ∷ bs) s (t ∷ ts) h = h
   suffixes-put new (suc k) (cell l e r) (b ∷ bs) s (t ∷ ts) h = (h.0, suffixes-put new k r bs t ts h.1)
@@ -57,18 +57,18 @@ module _ (def : Definition) where
   suffixes-put new k (observed f) below s rests h = absurd h
 
   -- the answers stand for each node with the same top
-  pub nodes-put : (f g : Fragment) (below : List Known) (s : Known) → top_operator g ≡ top_operator f → own_names g ≡ own_names f
+  pub nodes-put : (f g : Fragment) (below : List SummaryParts) (s : SummaryParts) → top_operator g ≡ top_operator f → own_names g ≡ own_names f
       → IsOfNodes def f below s → IsOfNodes def g below s
   nodes-put f g below s top names h o x is node are =
       h o x (sym top ∙ is) (subst (λ ns. IsNode def o ns x) names node) are
 
   -- the summaries behind the first one
-  abbrev front : List Known → Known → List Known → List Known
+  abbrev front : List SummaryParts → SummaryParts → List SummaryParts → List SummaryParts
   front [] behind rests = rests
   front (n ∷ ns) behind rests = first_or behind ns ∷ front ns behind rests
 
   -- a list whose first cells are made anew in front of a suffix that was kept
-  pub cells-front : (l : ℕ) (es : List Fragment) (r : Fragment) (elements below : List Known) (behind : Known) (news rests : List Known)
+  pub cells-front : (l : ℕ) (es : List Fragment) (r : Fragment) (elements below : List SummaryParts) (behind : SummaryParts) (news rests : List SummaryParts)
       → length es ≡ length elements → AreOfCells def l elements behind news → AreOfSuffixes def r below behind rests
       → AreOfSuffixes def (cells_of l es r) (elements ++ below) (first_or behind news) (front news behind rests)
   cells-front l [] r [] below behind [] rests many h k = k

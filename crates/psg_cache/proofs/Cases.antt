@@ -4,7 +4,7 @@ use Rattle.psg_grammar.specs.Fragments.{Fragment, hole, ending, cell, operator, 
 use Rattle.psg_grammar.specs.Paths.{replaced, inserted, removed, ended}
 use Rattle.psg_terms.specs.Terms.{Term}
 use Rattle.psg_grammar.specs.declared.types.Kind.TheVariants as kinds
-use Rattle.psg_eval.specs.declared.summary.Known.{Known}
+use Rattle.psg_eval.specs.declared.summary.SummaryParts.{SummaryParts}
 use Rattle.psg_cache.specs.Annotated.{Annotated, topped, above}
 use Rattle.psg_cache.specs.Blames.{culprits_in}
 use Rattle.psg_cache.specs.Diff.{diff_of}
@@ -63,7 +63,7 @@ other : diff_of (ref (120 ∷ [])) (sum_of (hole 0) (ref (120 ∷ []))) ≡ 3
 other = refl
 
 -- two elements go wrong by themselves, so the list above them is none of the culprits
-abbrev known : List (List Term) → Known
+abbrev known : List (List Term) → SummaryParts
 known rows = record { kind = kinds.List 1; header = record { names = []; unfinished = []; twice = false }; seen = 0; rel = rows }
 
 abbrev leaf : List (List Term) → Annotated

@@ -1,9 +1,11 @@
 -- Notes along the path to a changed node.
-use Rattle.std.proofs.Common.{◌≡◌, ◌⊎◌, inl, inr, ℕ, zero, suc, ◌+◌, ◌-◌, ◌<◌, ◌≤◌, List, [], ◌∷◌, ◌++◌, map, length, take, drop, get_or, slice_get, Option, Some, None, refl, sym, ◌∙◌, ap, ap₂, subst, append_assoc, append-nil, arith}
-use Rattle.std.specs.Prelude.{option_and_then, option_map, unwrap_or, Result, Ok, Err, IfErr}
+use Rattle.std.proofs.Common.{◌≡◌, ◌⊎◌, inl, inr, ℕ, zero, suc, ◌+◌, ◌-◌, ◌<◌, ◌≤◌, List, [], ◌∷◌, ◌++◌, map, length, take, drop, get_or, slice_get, Some, refl, sym, ◌∙◌, ap, ap₂, subst, append_assoc, append-nil, arith}
+use Rattle.std.specs.Prelude.{option_map, unwrap_or, Result, Ok, Err, IfErr}
 use Rattle.std.specs.List.{AllByRecursion}
 use Rattle.std.proofs.lemmas.List.{drop-map, length-map, length-take-le, take-map}
-use Rattle.std.proofs.lemmas.Option.{none-some, slice_get_within}
+use Rattle.std.proofs.lemmas.Option.{none-some, slice_get_within, same_Some}
+use Rattle.psg_grammar.proofs.PathLaws.{step}
+use Rattle.psg_terms.proofs.Lists.{each_take}
 use Rattle.psg_grammar.specs.declared.types.Definition.{Definition}
 use Rattle.psg_grammar.specs.Fragments.{Fragment, hole, ending, cell, operator, with_child, with_name, with_number, with_text, anything, observed, children_of, top_operator}
 use Rattle.psg_grammar.specs.Paths.{Path, node_at, change_at, put_child, inserted, removed, IsList}
@@ -17,7 +19,7 @@ use Rattle.psg_tree.specs.declared.places.TreeFault.TheVariants as trees
 use Rattle.psg_cache.specs.declared.editing.Edit.{Edit}
 use Rattle.psg_cache.specs.declared.editing.Edit.TheVariants as edits
 use Rattle.psg_cache.specs.declared.note.NoteFault.{NoteFault}
-use Rattle.psg_eval.specs.declared.summary.Known.{Known}
+use Rattle.psg_eval.specs.declared.summary.SummaryParts.{SummaryParts}
 use Rattle.psg_eval.specs.Trees.{own_names}
 use Rattle.psg_cache.specs.Annotated.{Annotated, tree_in, whole_in, below_in}
 use Rattle.psg_cache.specs.Changes.{change_of, remade_ticks, IsAdded, IsKept, IsPlace, IsPut, IsTaken, TakesEdit}
@@ -28,7 +30,7 @@ use Rattle.psg_cache.proofs.FormedTrees.{changed_formed, inserted_formed, kind_o
 use Rattle.psg_cache.specs.Walks.{AreNotesOf, IsStepFault}
 use Rattle.psg_cache.proofs.Carrying.{names-put, top-put}
 use Rattle.psg_cache.proofs.ClimbLaws.{change-put}
-use Rattle.psg_cache.proofs.Each.{each_got, same_some}
+use Rattle.psg_cache.proofs.Each.{each_got}
 use Rattle.psg_cache.proofs.NoteParts.{noted_parts}
 use Rattle.psg_cache.proofs.CulpritLaws.{real_children}
 use Rattle.psg_cache.proofs.RealTrees.{IsReal, IsSpine, real}
@@ -36,11 +38,6 @@ use Rattle.psg_grammar.specs.Kinds.{IsOfKind}
 use Rattle.psg_grammar.specs.WellFormed.{WellFormed}
 use Rattle.psg_cache.proofs.SpliceLaws.{children_changed, children_inserted, children_removed, fewer_ticks, kept_behind, list_changed, list_inserted, list_removed, list_self, long_enough, notes_spliced, notes_take, spine_once, spliced_same, taken_front, ticks_changed, ticks_inserted, ticks_removed}
 use Rattle.psg_cache.proofs.WalkLaws.{child_fault, formed_children, notes_clean}
-
-each_take : {X : Type 0} (P : X → Type 0) (k : ℕ) (xs : List X) → AllByRecursion P xs → AllByRecursion P (take k xs)
-each_take P zero xs h = tt
-each_take P (suc k) [] h = tt
-each_take P (suc k) (x ∷ xs) h = (h.0, each_take P k xs h.1)
 
 pub got_behind : (xs : List Fragment) (k : ℕ) (y : Fragment) (ys : List Fragment) → k ≤ length xs
     → slice_get (take k xs ++ y ∷ ys) k ≡ Some y
@@ -60,17 +57,11 @@ noted_there def [] k n h small at = absurd (omega (arith, small))
 noted_there def (m ∷ ns) zero n h small at = subst (IsNoted def) (sym at) h.0
 noted_there def (m ∷ ns) (suc k) n h small at = noted_there def ns k n h.1 (omega (arith, small)) at
 
--- the child at the first step, and the node behind it
-pub first_step : (path : Path) (o : Option Fragment) (x : Fragment) → option_and_then (λ t. node_at t path) o ≡ Some x
-    → (c : Fragment) × (o ≡ Some c) × (node_at c path ≡ Some x)
-first_step path None x e = absurd (none-some x e)
-first_step path (Some c) x e = (c, refl, e)
-
 -- a path by its first step and the others
 pub split_path : (left : Path) (k : ℕ) (rest : Path) → slice_get left 0 ≡ Some k → rest ≡ drop 1 left
     → left ≡ k ∷ rest
 split_path [] k rest e d = absurd (none-some k e)
-split_path (j ∷ left) k rest e d = ap₂ (λ a b. a ∷ b) (same_some j k e) (sym d)
+split_path (j ∷ left) k rest e d = ap₂ (λ a b. a ∷ b) (same_Some j k e) (sym d)
 
 pub shorter : (left : Path) (k : ℕ) (rest : Path) → left ≡ k ∷ rest → length rest + 1 ≡ length left
 shorter left k rest e = let n : length left ≡ suc (length rest) = ap length e in omega (arith, n)
@@ -283,8 +274,8 @@ module _ (def : Definition) where
   put_kept n k front child old made all h is at changed =
       let small = put_within n k child made h in
       let few : k ≤ length (below_in n) = omega (arith, small) in
-      let ws : List Known = map whole_in all in
-      let olds : List Known = map whole_in (below_in n) in
+      let ws : List SummaryParts = map whole_in all in
+      let olds : List SummaryParts = map whole_in (below_in n) in
       let one : k + 1 ≡ suc k = omega arith in
       let put : made ≡ put_child (h.change h.old) k (tree_in n) = h.made_so ∙ change-put h.change (tree_in n) k h.old h.there in
       record {
@@ -346,7 +337,7 @@ module _ (def : Definition) where
 
   here : (n : Annotated) (edit : Edit) (made : Fragment) → (h : IsPlace def n [] edit made)
       → TakesEdit def edit (tree_in n)
-  here n edit made h = let same : tree_in n ≡ h.node = same_some (tree_in n) h.node h.there in
+  here n edit made h = let same : tree_in n ≡ h.node = same_Some (tree_in n) h.node h.there in
       subst (TakesEdit def edit) (sym same) h.takes
 
   pub edit_put : (n : Annotated) (edit : Edit) (new : Annotated) (made : Fragment) → edit ≡ edits.Put new
@@ -390,7 +381,7 @@ module _ (def : Definition) where
   step_there : (n : Annotated) (k : ℕ) (rest : Path) (edit : Edit) (made : Fragment)
       → (h : IsPlace def n (k ∷ rest) edit made)
       → (c : Fragment) × (slice_get (children_of (tree_in n)) k ≡ Some c) × (node_at c rest ≡ Some h.node)
-  step_there n k rest edit made h = first_step rest (slice_get (children_of (tree_in n)) k) h.node h.there
+  step_there n k rest edit made h = step (slice_get (children_of (tree_in n)) k) rest h.node h.there
 
   pub step_within : (n : Annotated) (k : ℕ) (left rest : Path) (edit : Edit) (made : Fragment) → left ≡ k ∷ rest
       → IsPlace def n left edit made → k < length (below_in n)
@@ -412,7 +403,7 @@ module _ (def : Definition) where
       let (c, there, below) = step_there n k rest edit made h in
       let mine : slice_get cs k ≡ Some (tree_in old) =
       ap (λ xs. slice_get xs k) (sym (own_notes n h.noted).0) ∙ got_map (below_in n) k old small at in
-      let same : c ≡ tree_in old = same_some c (tree_in old) (sym there ∙ mine) in
+      let same : c ≡ tree_in old = same_Some c (tree_in old) (sym there ∙ mine) in
       let g : Fragment → Fragment = change_at (change_of edit) rest in
       let few : k ≤ length cs = (let s = slice_get_within cs k c there in omega (arith, s)) in
       let children : children_of made ≡ take k cs ++ g (tree_in old) ∷ drop (suc k) cs =
@@ -421,7 +412,7 @@ module _ (def : Definition) where
       ap (λ xs. slice_get xs k) children ∙ got_behind cs k (g (tree_in old)) (drop (suc k) cs) few in (
         mine,
         subst (λ x. node_at x rest ≡ Some h.node) same below,
-        same_some inner (g (tree_in old)) (sym got ∙ new),
+        same_Some inner (g (tree_in old)) (sym got ∙ new),
       )
 
   -- the changed node has the child too
@@ -508,7 +499,7 @@ module _ (def : Definition) where
       → IsPlace def n path (edits.Add place new) made
   place_add n path place new made note may is =
       let (kind, formed) = note.formed in
-      let same : is.list ≡ may.node = same_some is.list may.node (sym is.is_there ∙ may.there) in
+      let same : is.list ≡ may.node = same_Some is.list may.node (sym is.is_there ∙ may.there) in
       let whole = changed_formed def (inserted place new) (tree_in n) kind path may.node formed may.there
       (λ K h.
       let one : K ≡ kinds.List may.number =
@@ -554,9 +545,9 @@ module _ (def : Definition) where
   memory_put path f new may (Err trees.Memory) h = refl
 
   real_at : (path : Path) (f node : Fragment) → IsReal f → node_at f path ≡ Some node → IsReal node
-  real_at [] f node is at = subst IsReal (same_some f node at) is
+  real_at [] f node is at = subst IsReal (same_Some f node at) is
   real_at (k ∷ path) f node is at =
-      let (c, child, below) = first_step path (slice_get (children_of f) k) node at in
+      let (c, child, below) = step (slice_get (children_of f) k) path node at in
       real_at path c node (each_got IsReal (children_of f) k c (real_children f is) child) below
 
   spine_kind : (f : Fragment) (l : ℕ) → IsSpine f → IsOfKind def f (kinds.List l) → ⊥
@@ -589,12 +580,12 @@ module _ (def : Definition) where
   memory_add path place f new formed may (Err trees.NoNode) h = absurd (none-some may.node (sym h ∙ may.there))
   memory_add path place f new formed may (Err trees.NotList) h =
       let (node, there, never) = h in
-      let same : may.node ≡ node = same_some may.node node (sym may.there ∙ there) in
+      let same : may.node ≡ node = same_Some may.node node (sym may.there ∙ there) in
       absurd (never (list_of_kind node may.number (real_at path f node (real def f formed) there)
       (subst (λ x. IsOfKind def x (kinds.List may.number)) same may.of_kind)))
   memory_add path place f new formed may (Err trees.NoPlace) h =
       let (list, there, is, past) = h in
-      let same : may.node ≡ list = same_some may.node list (sym may.there ∙ there) in
+      let same : may.node ≡ list = same_Some may.node list (sym may.there ∙ there) in
       let many = ap (λ x. length (children_of x)) same in
       let small = may.within in
       absurd (omega (arith, past, many, small))
@@ -606,10 +597,10 @@ module _ (def : Definition) where
   memory_take path place f may (Err trees.NoNode) h = absurd (none-some may.node (sym h ∙ may.there))
   memory_take path place f may (Err trees.NotList) h =
       let (node, there, never) = h in
-      absurd (never (subst IsList (same_some may.node node (sym may.there ∙ there)) may.list))
+      absurd (never (subst IsList (same_Some may.node node (sym may.there ∙ there)) may.list))
   memory_take path place f may (Err trees.NoPlace) h =
       let (list, there, is, past) = h in
-      let same : may.node ≡ list = same_some may.node list (sym may.there ∙ there) in
+      let same : may.node ≡ list = same_Some may.node list (sym may.there ∙ there) in
       let many = ap (λ x. length (children_of x)) same in
       let small = may.within in
       absurd (omega (arith, past, many, small))

@@ -1,8 +1,10 @@
 -- A replaced node and the nodes above it are the whole difference.
-use Rattle.std.proofs.Common.{◌≡◌, inl, inr, ℕ, zero, suc, ◌+◌, Bool, false, cond, [], ◌∷◌, ◌++◌, length, slice_get, Option, Some, None, refl, sym, ◌∙◌, ap, subst, arith}
-use Rattle.std.specs.Prelude.{option_and_then, option_map, unwrap_or}
+use Rattle.std.proofs.Common.{◌≡◌, inl, inr, ℕ, zero, suc, ◌+◌, Bool, false, cond, [], ◌∷◌, ◌++◌, length, slice_get, Some, refl, sym, ◌∙◌, ap, subst, arith}
+use Rattle.std.specs.Prelude.{option_map, unwrap_or}
 use Rattle.std.proofs.lemmas.Bool.Decides.{eqb_tells}
-use Rattle.std.proofs.lemmas.Option.{none-some}
+use Rattle.std.proofs.lemmas.Option.{none-some, same_Some}
+use Rattle.psg_grammar.proofs.PathLaws.{step}
+use Rattle.psg_terms.proofs.Lists.{slice_get-end_is, slice_get-not_end}
 use Rattle.psg_grammar.specs.Fragments.{Fragment, hole, ending, cell, operator, with_child, with_name, with_number, with_text, anything, observed, children_of}
 use Rattle.psg_grammar.specs.Paths.{Path, node_at, change_child, put_child, replaced}
 use Rattle.psg_grammar.specs.Same.{same_tree}
@@ -10,9 +12,8 @@ use Rattle.psg_grammar.specs.Work.{climb_of, leaving}
 use Rattle.psg_cache.specs.Diff.{diff_of}
 use Rattle.psg_cache.proofs.CulpritLaws.{real_children}
 use Rattle.psg_cache.proofs.DiffLaws.{list-diff, node-diff, same-put}
-use Rattle.psg_cache.proofs.Each.{each_got, same_some}
+use Rattle.psg_cache.proofs.Each.{each_got}
 use Rattle.psg_cache.proofs.RealTrees.{IsReal}
-use Rattle.psg_cache.proofs.SpliceLaws.{get_front, get_last}
 
 -- a child that is changed is put
 pub change-put : (g : Fragment → Fragment) (f : Fragment) (k : ℕ) (c : Fragment) → slice_get (children_of f) k ≡ Some c
@@ -29,10 +30,10 @@ change-put g (with_child f t) k c at =
     elim (eqb_tells (length (children_of f)) k) [
       | inl e ↦
           let there = subst (λ n. slice_get (children_of f ++ t ∷ []) n ≡ Some c) (sym e.1) at in
-          let same : c ≡ t = get_last (children_of f) t c there in
+          let same : c ≡ t = slice_get-end_is (children_of f) t c there in
           subst B (sym e.0) (ap (λ x. with_child f (g x)) (sym same))
       | inr e ↦
-          subst B (sym e.0) (ap (λ x. with_child x t) (change-put g f k c (get_front (children_of f) t c k e.1 at)))
+          subst B (sym e.0) (ap (λ x. with_child x t) (change-put g f k c (slice_get-not_end (children_of f) t c k e.1 at)))
     ]
 change-put g (with_name f n) k c at = ap (λ x. with_name x n) (change-put g f k c at)
 change-put g (with_number f n) k c at = ap (λ x. with_number x n) (change-put g f k c at)
@@ -56,23 +57,18 @@ child-diff new c differs (with_text f n) is k at = node-diff new c differs (with
 child-diff new c differs anything is k at = absurd is
 child-diff new c differs (observed f) is k at = absurd is
 
-first_step : (path : Path) (o : Option Fragment) (x : Fragment) → option_and_then (λ t. node_at t path) o ≡ Some x
-    → (c : Fragment) × (o ≡ Some c) × (node_at c path ≡ Some x)
-first_step path None x e = absurd (none-some x e)
-first_step path (Some c) x e = (c, refl, e)
-
 -- the difference is that of the node and the evaluations above it
 pub climb_diff : (path : Path) (f : Fragment) → IsReal f → (node new : Fragment) → node_at f path ≡ Some node
     → same_tree node new ≡ false
     → (diff_of f (replaced path new f) ≡ diff_of node new + climb_of f path)
     × (same_tree f (replaced path new f) ≡ false)
 climb_diff [] f is node new at differs =
-    let same : node ≡ f = sym (same_some f node at) in (
+    let same : node ≡ f = sym (same_Some f node at) in (
       (let z : diff_of node new ≡ diff_of node new + 0 = omega arith in ap (λ x. diff_of x new) (sym same) ∙ z),
       ap (λ x. same_tree x new) (sym same) ∙ differs,
     )
 climb_diff (k ∷ path) f is node new at differs =
-    let (c, child, below) = first_step path (slice_get (children_of f) k) node at in
+    let (c, child, below) = step (slice_get (children_of f) k) path node at in
     let real_child : IsReal c = each_got IsReal (children_of f) k c (real_children f is) child in
     let h = climb_diff path c real_child node new below differs in
     let inner : Fragment = replaced path new c in

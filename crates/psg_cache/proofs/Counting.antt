@@ -3,7 +3,7 @@ use Rattle.std.proofs.Common.{◌≡◌, ℕ, zero, suc, ◌+◌, ◌<◌, ◌�
 use Rattle.std.specs.Prelude.{sum_by}
 use Rattle.std.proofs.lemmas.List.{take_all}
 use Rattle.std.proofs.lemmas.List.Sums.{sum_by-cons, sum_by_push}
-use Rattle.psg_terms.proofs.DeclareLaws.{take-next}
+use Rattle.psg_terms.proofs.Lists.{take_item}
 use Rattle.psg_grammar.specs.declared.types.Definition.{Definition}
 use Rattle.psg_grammar.specs.Fragments.{Fragment, hole, ending, cell, operator, with_child, with_name, with_number, with_text, anything, observed, children_of}
 use Rattle.psg_tree.specs.declared.tree.Part.{Part}
@@ -12,7 +12,7 @@ use Rattle.psg_tree.specs.declared.tree.Shape.{Shape}
 use Rattle.psg_tree.specs.declared.tree.Shape.TheVariants.{Op, List as ListOf, Hole}
 use Rattle.psg_tree.specs.Shapes.{with_parts, list_of, tree_of}
 use Rattle.psg_tree.proofs.Children.{children-shape-list}
-use Rattle.psg_eval.specs.declared.summary.Known.{Known}
+use Rattle.psg_eval.specs.declared.summary.SummaryParts.{SummaryParts}
 use Rattle.psg_eval.specs.Summaries.{AllSummaries, AreSummariesOf}
 use Rattle.psg_grammar.specs.Work.{work_of}
 use Rattle.psg_cache.specs.Walks.{top_evaluations}
@@ -61,7 +61,7 @@ pub operator_once : (s : Shape) (o : ℕ) (ps : List Part) (f : Fragment) → s 
     → top_evaluations f ≡ 1
 operator_once s o ps f e there = ap top_evaluations (sym there ∙ ap tree_of e) ∙ operator_top (operator o) ps
 
-as_many : (def : Definition) (cs : List Fragment) (below : List Known) → AllSummaries def cs below
+as_many : (def : Definition) (cs : List Fragment) (below : List SummaryParts) → AllSummaries def cs below
     → length cs ≡ length below
 as_many def [] [] h = refl
 as_many def [] (s ∷ ss) h = absurd h
@@ -69,7 +69,7 @@ as_many def (c ∷ cs) [] h = absurd h
 as_many def (c ∷ cs) (s ∷ ss) h = let e = as_many def cs ss h.1 in omega (arith, e)
 
 pub list_once : (def : Definition) (s : Shape) (l : ℕ) (es : List Fragment) (u : Bool) (f : Fragment)
-    (below : List Known)
+    (below : List SummaryParts)
     → s ≡ ListOf l es u → tree_of s ≡ f → AreSummariesOf def f below → top_evaluations f ≡ length below + 1
 list_once def s l es u f below e there are =
     let top : top_evaluations f ≡ length es + 1 = ap top_evaluations (sym there ∙ ap tree_of e) ∙ list_top l es u in
@@ -100,7 +100,7 @@ pub within_child : (f : Fragment) (children : List Fragment) (i : ℕ) (child : 
     → after ≤ start + work_of f
 within_child f children i child start before after are small at h k =
     let e : together (take (i + 1) children) ≡ together (take i children) + work_of child =
-    ap together (take-next children i child small at) ∙ sum_by_push work_of (take i children) child in
+    ap together (take_item children i child small at) ∙ sum_by_push work_of (take i children) child in
     let all : together children ≡ together (children_of f) = ap together are in
     let split = work_split f in
     omega (arith, h, k, e, together_front children (i + 1), all, split)
@@ -118,7 +118,7 @@ pub counted_more : (children : List Fragment) (i : ℕ) (child : Fragment) (star
     → after ≡ before + work_of child → after ≡ start + together (take (i + 1) children)
 counted_more children i child start before after small at h k =
     let e : together (take (i + 1) children) ≡ together (take i children) + work_of child =
-    ap together (take-next children i child small at) ∙ sum_by_push work_of (take i children) child in
+    ap together (take_item children i child small at) ∙ sum_by_push work_of (take i children) child in
     omega (arith, h, k, e)
 
 pub counted_tree : (f : Fragment) (children : List Fragment) (i : ℕ) (start before after : ℕ) → children ≡ children_of f

@@ -8,7 +8,7 @@ use Rattle.psg_grammar.specs.Paths.{Path, IsList}
 use Rattle.psg_grammar.specs.Marks.{Located, nodes_from, nodes_below, Chosen, nothing, taken, passed, path_of, IsCulprit, AreCulprits}
 use Rattle.psg_grammar.specs.Open.{IsOpen}
 use Rattle.psg_grammar.specs.Relations.{IsRelationOf}
-use Rattle.psg_eval.specs.declared.summary.Known.{Known}
+use Rattle.psg_eval.specs.declared.summary.SummaryParts.{SummaryParts}
 use Rattle.psg_eval.specs.Summaries.{AllSummaries, IsSummaryOf}
 use Rattle.psg_cache.specs.Walks.{each_nodes, HaveRows, IsBlame}
 use Rattle.psg_cache.proofs.Each.{each_append, each_back, each_front, not_nil}
@@ -181,14 +181,14 @@ module _ (def : Definition) where
   closed_rows f real [] rel h = refl
   closed_rows f real (row ∷ rows) rel h = absurd (h (rows_open def f real (row ∷ rows) rel (not_nil row rows)))
 
-  all_open : (cs : List Fragment) (summaries : List Known) → AllByRecursion IsReal cs → AllSummaries def cs summaries
+  all_open : (cs : List Fragment) (summaries : List SummaryParts) → AllByRecursion IsReal cs → AllSummaries def cs summaries
       → HaveRows summaries → AllByRecursion (IsOpen def) cs
   all_open [] [] real s h = tt
   all_open [] (k ∷ ks) real s h = absurd s
   all_open (c ∷ cs) [] real s h = absurd s
   all_open (c ∷ cs) (k ∷ ks) real s h = (rows_open def c real.0 k.rel s.0.rows h.0, all_open cs ks real.1 s.1 h.1)
 
-  all_rows : (cs : List Fragment) (summaries : List Known) → AllSummaries def cs summaries
+  all_rows : (cs : List Fragment) (summaries : List SummaryParts) → AllSummaries def cs summaries
       → AllByRecursion (IsOpen def) cs → HaveRows summaries
   all_rows [] [] s h = tt
   all_rows [] (k ∷ ks) s h = absurd s
@@ -196,8 +196,8 @@ module _ (def : Definition) where
   all_rows (c ∷ cs) (k ∷ ks) s h = (open_rows def c k.rel s.0.rows h.0, all_rows cs ks s.1 h.1)
 
   -- the culprits of the children and then the top, which is one only where they have none
-  pub tree_culprits : (path : Path) (f : Fragment) → IsReal f → (s : Known) → IsSummaryOf def f s
-      → (below : List Known) → AllSummaries def (children_of f) below
+  pub tree_culprits : (path : Path) (f : Fragment) → IsReal f → (s : SummaryParts) → IsSummaryOf def f s
+      → (below : List SummaryParts) → AllSummaries def (children_of f) below
       → (more pushed : List Path) → AreCulprits def (each_nodes path 0 (children_of f)) more
       → IsBlame s below path pushed
       → AreCulprits def (nodes_from path f) (more ++ pushed)

@@ -1,24 +1,17 @@
 -- The difference that a changed child makes.
-use Rattle.std.proofs.Common.{◌≡◌, inl, inr, ℕ, zero, suc, ◌+◌, Bool, true, false, cond, List, [], ◌∷◌, ◌++◌, length, slice_get, Some, refl, sym, ◌∙◌, ap, subst, arith}
+use Rattle.std.proofs.Common.{◌≡◌, inl, inr, ℕ, zero, suc, ◌+◌, Bool, true, false, cond, [], ◌∷◌, ◌++◌, length, slice_get, Some, refl, sym, ◌∙◌, ap, subst, arith}
 use Rattle.std.specs.Prelude.{◌==◌, ◌&&◌}
 use Rattle.std.proofs.lemmas.Bool.Decides.{eqb_tells}
 use Rattle.std.proofs.lemmas.Option.{none-some}
+use Rattle.psg_terms.proofs.Lists.{eqb-refl, beq-refl, slice_get-end_is, slice_get-not_end}
 use Rattle.psg_grammar.specs.Fragments.{Fragment, hole, ending, cell, operator, with_child, with_name, with_number, with_text, anything, observed, children_of, top_operator}
 use Rattle.psg_grammar.specs.Paths.{put_child, IsList}
 use Rattle.psg_terms.proofs.DeclareLaws.{bytes_eq-refl}
-use Rattle.std.specs.Bool.{beq}
 use Rattle.psg_cache.proofs.RealTrees.{IsReal, IsSpine}
 use Rattle.psg_grammar.specs.Same.{same_tree}
 use Rattle.psg_cache.specs.Diff.{agree, diff_below, diff_cells, diff_of, diff_with, last_differing, list_number, place_before, same_some}
 use Rattle.psg_grammar.specs.Work.{work_of}
 use Rattle.psg_grammar.proofs.SameLaws.{same-refl}
-
-eqb-refl : (n : ℕ) → (n == n) ≡ true
-eqb-refl n = elim (eqb_tells n n) [ inl e ↦ e.0 | inr e ↦ absurd (e.1 refl) ]
-
-beq-refl : (b : Bool) → beq b b ≡ true
-beq-refl true = refl
-beq-refl false = refl
 
 pub diff-same : (f : Fragment) (n : ℕ) → diff_with f f n ≡ 0
 diff-same f n =
@@ -36,17 +29,6 @@ below-same (with_number f n) = below-same f
 below-same (with_text f t) = below-same f
 below-same anything = refl
 below-same (observed f) = refl
-
-get_last : (xs : List Fragment) (t c : Fragment) → slice_get (xs ++ t ∷ []) (length xs) ≡ Some c → c ≡ t
-get_last [] t c e = cc
-get_last (x ∷ xs) t c e = get_last xs t c e
-
-get_front : (xs : List Fragment) (t c : Fragment) (k : ℕ) → (length xs ≡ k → ⊥)
-    → slice_get (xs ++ t ∷ []) k ≡ Some c → slice_get xs k ≡ Some c
-get_front [] t c zero never e = absurd (never refl)
-get_front [] t c (suc k) never e = e
-get_front (x ∷ xs) t c zero never e = e
-get_front (x ∷ xs) t c (suc k) never e = get_front xs t c k (λ q. never (ap suc q)) e
 
 and_true : (a b : Bool) → a ≡ true → (a && b) ≡ b
 and_true true b e = refl
@@ -76,12 +58,12 @@ module _ (new c : Fragment) where
       elim (eqb_tells (length (children_of f)) k) [
         | inl e ↦
             let there = subst (λ n. slice_get (children_of f ++ t ∷ []) n ≡ Some c) (sym e.1) at in
-            let same : c ≡ t = get_last (children_of f) t c there in
+            let same : c ≡ t = slice_get-end_is (children_of f) t c there in
             let z = below-same f in
             let g : diff_below f f + diff_of t new ≡ diff_of t new = omega (arith, z) in
             subst B (sym e.0) (subst (λ x. diff_below f f + diff_of t new ≡ diff_of x new) (sym same) g)
         | inr e ↦
-            let h = below-put f real.0 k (get_front (children_of f) t c k e.1 at) in
+            let h = below-put f real.0 k (slice_get-not_end (children_of f) t c k e.1 at) in
             let z = diff-same t (diff_below t t) in
             let g : diff_below f (put_child new k f) + diff_of t t ≡ diff_of c new = omega (arith, z, h) in
             subst B (sym e.0) g
@@ -111,11 +93,11 @@ module _ (new c : Fragment) where
       elim (eqb_tells (length (children_of f)) k) [
         | inl e ↦
             let there = subst (λ n. slice_get (children_of f ++ t ∷ []) n ≡ Some c) (sym e.1) at in
-            let same : c ≡ t = get_last (children_of f) t c there in
+            let same : c ≡ t = slice_get-end_is (children_of f) t c there in
             subst B (sym e.0) (and_true (same_tree f f) (same_tree t new) (same-refl f) ∙ ap (λ x. same_tree x new) (sym same))
         | inr e ↦
             subst B (sym e.0) (and_last (same_tree f (put_child new k f)) (same_tree t t) (same-refl t)
-            ∙ same-put f real.0 k (get_front (children_of f) t c k e.1 at))
+            ∙ same-put f real.0 k (slice_get-not_end (children_of f) t c k e.1 at))
       ]
   same-put (with_name f n) real k at = and_last (same_tree f (put_child new k f)) _ (bytes_eq-refl n) ∙ same-put f real.0 k at
   same-put (with_number f n) real k at = and_last (same_tree f (put_child new k f)) (n == n) (eqb-refl n) ∙ same-put f real.0 k at

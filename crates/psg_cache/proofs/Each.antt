@@ -1,13 +1,10 @@
 -- What holds of each member of a list, and members that cannot be other than they are.
-use Rattle.std.proofs.Common.{◌≡◌, ℕ, zero, suc, ◌<◌, List, [], ◌∷◌, ◌++◌, length, get_or, slice_get, Some, refl, sym, subst, arith}
+use Rattle.std.proofs.Common.{◌≡◌, ℕ, zero, suc, ◌<◌, List, [], ◌∷◌, ◌++◌, length, get_or, slice_get, Some, sym, subst, arith}
 use Rattle.std.specs.List.{AllByRecursion}
 use Rattle.std.proofs.lemmas.Option.{none-some}
 
 pub not_nil : {X : Type 0} (x : X) (xs : List X) → x ∷ xs ≡ [] → ⊥
 not_nil x xs e = cc
-
-pub same_some : {X : Type 0} (a b : X) → Some a ≡ Some b → a ≡ b
-same_some a b e = cc
 
 module _ {X : Type 0} (P : X → Type 0) where
   pub each_append : (xs ys : List X) → AllByRecursion P xs → AllByRecursion P ys → AllByRecursion P (xs ++ ys)
@@ -34,8 +31,3 @@ module _ {X : Type 0} (P : X → Type 0) where
   each_got [] i x h e = absurd (none-some x e)
   each_got (y ∷ ys) zero x h e = let same : y ≡ x = cc in subst P same h.0
   each_got (y ∷ ys) (suc i) x h e = each_got ys i x h.1 e
-
-pub got_there : {X : Type 0} (xs : List X) (i : ℕ) → i < length xs → (x : X) × (slice_get xs i ≡ Some x)
-got_there [] i h = absurd (omega (arith, h))
-got_there (x ∷ xs) zero h = (x, refl)
-got_there (x ∷ xs) (suc i) h = got_there xs i (omega (arith, h))

@@ -2,6 +2,7 @@
 use Rattle.std.proofs.Common.{◌≡◌, inl, inr, ℕ, ◌+◌, List, [], ◌∷◌, ◌++◌, map, length, slice_get, Some, refl, sym, ◌∙◌, ap, ap₂, subst, append_assoc, append-nil}
 use Rattle.std.specs.List.{AllByRecursion}
 use Rattle.std.proofs.Common.{length-append}
+use Rattle.std.proofs.lemmas.Option.{same_Some}
 use Rattle.psg_grammar.specs.declared.types.Kind.{Kind}
 use Rattle.psg_grammar.specs.declared.types.Kind.TheVariants as kinds
 use Rattle.psg_grammar.specs.declared.types.Item.{Item}
@@ -14,12 +15,11 @@ use Rattle.psg_grammar.specs.WellFormed.{Fits, IsPlain}
 use Rattle.psg_tree.specs.declared.tree.Part.{Part}
 use Rattle.psg_tree.specs.declared.tree.Part.TheVariants.{Sub, Name as Named, Number, Text}
 use Rattle.psg_tree.specs.Shapes.{with_part, with_parts}
-use Rattle.psg_eval.specs.declared.summary.Known.{Known}
+use Rattle.psg_eval.specs.declared.summary.SummaryParts.{SummaryParts}
 use Rattle.psg_eval.specs.Trees.{HasParts, IsNode, own_names}
 use Rattle.psg_grammar.specs.Kinds.{IsOfKind}
 use Rattle.psg_eval.specs.Summaries.{AllSummaries, IsSummary, IsSummaryOf, slot_kinds, are_names, TakesAt}
 use Rattle.psg_cache.specs.Walks.{names_in}
-use Rattle.psg_cache.proofs.Each.{same_some}
 use Rattle.psg_cache.proofs.RealTrees.{IsSpine}
 
 -- the names of a node with parts
@@ -81,7 +81,7 @@ module _ (def : Definition) where
   one_kind (ending l u) j k h i = h ∙ sym i
   one_kind (cell l e r) j k h i = h ∙ sym i
   one_kind (operator o) j k (a, at, e) (b, there, f) =
-      e ∙ ap (λ (z : Operator). kinds.Phylum z.phylum) (same_some a b (sym at ∙ there)) ∙ sym f
+      e ∙ ap (λ (z : Operator). kinds.Phylum z.phylum) (same_Some a b (sym at ∙ there)) ∙ sym f
   one_kind (with_child f t) j k h i = one_kind f j k h i
   one_kind (with_name f n) j k h i = one_kind f j k h i
   one_kind (with_number f n) j k h i = one_kind f j k h i
@@ -90,7 +90,7 @@ module _ (def : Definition) where
   one_kind (observed f) j k h i = one_kind f j k h i
 
   -- the kind of a summary is the one by which the tree is formed
-  pub kind_known : (f : Fragment) (kind : Kind) (s : Known) → Fits def f [] kind → IsPlain f → IsSummaryOf def f s
+  pub kind_known : (f : Fragment) (kind : Kind) (s : SummaryParts) → Fits def f [] kind → IsPlain f → IsSummaryOf def f s
       → s.kind ≡ kind
   kind_known f kind s h plain summary = one_kind f s.kind kind summary.kind (kind_fits f [] kind h plain)
 
@@ -183,8 +183,8 @@ module _ (def : Definition) where
   kinds-push (d ∷ cs) [] c k h f p = absurd h
   kinds-push (d ∷ cs) (j ∷ ks) c k h f p = (h.0, h.1, kinds-push cs ks c k h.2 f p)
 
-  kinds_known : (cs : List Fragment) (ks : List Kind) (summaries : List Known) → AreOfKinds cs ks
-      → AllSummaries def cs summaries → map (λ (s : Known). s.kind) summaries ≡ ks
+  kinds_known : (cs : List Fragment) (ks : List Kind) (summaries : List SummaryParts) → AreOfKinds cs ks
+      → AllSummaries def cs summaries → map (λ (s : SummaryParts). s.kind) summaries ≡ ks
   kinds_known [] [] [] h s = refl
   kinds_known [] [] (x ∷ xs) h s = absurd s
   kinds_known [] (k ∷ ks) xs h s = absurd h
@@ -308,12 +308,12 @@ module _ (def : Definition) where
 
   -- an operator takes the names and children of its node
   pub takes_at : (o : ℕ) (ps : List Part) (f : Fragment) (kind : Kind) → with_parts (operator o) ps ≡ f
-      → Fits def f [] kind → IsPlain f → (summaries : List Known) → AllSummaries def (children_of f) summaries
+      → Fits def f [] kind → IsPlain f → (summaries : List SummaryParts) → AllSummaries def (children_of f) summaries
       → AllByRecursion (IsSummary def) summaries → TakesAt def o (names_in ps) summaries
   takes_at o ps f kind made fits plain summaries are usual =
       let spine : IsSpine f = subst IsSpine made (spine_parts (operator o) ps tt) in
       let h = has_items f [] kind fits plain spine in
-      let number : h.number ≡ o = same_some h.number o
+      let number : h.number ≡ o = same_Some h.number o
       (sym h.top ∙ ap top_operator (sym made) ∙ top_parts (operator o) ps) in
       let whole : part_items h.op.items ≡ h.done = h.all ∙ append-nil h.done in (
         h.op,

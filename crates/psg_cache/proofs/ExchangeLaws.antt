@@ -1,8 +1,9 @@
 -- A node with another tree in its place, and the nodes above it.
 use Rattle.std.proofs.Common.{◌≡◌, inl, inr, suc, ◌+◌, ◌≤◌, [], ◌∷◌, ◌++◌, drop, length, take, slice_get, Option, Some, None, refl, sym, ◌∙◌, ap, subst, append_assoc, append-nil, arith}
 use Rattle.std.specs.Prelude.{option_and_then, option_map}
-use Rattle.std.proofs.lemmas.Bool.{false≢true}
-use Rattle.std.proofs.lemmas.Option.{none-some, slice_get_within}
+use Rattle.std.proofs.lemmas.Bool.{false≢true, cases_Bool}
+use Rattle.std.proofs.lemmas.Option.{none-some, slice_get_within, same_Some}
+use Rattle.psg_grammar.proofs.PathLaws.{step}
 use Rattle.psg_grammar.specs.declared.types.Definition.{Definition}
 use Rattle.psg_grammar.specs.Fragments.{Fragment, children_of}
 use Rattle.psg_grammar.specs.Paths.{Path, node_at, put_child, replaced}
@@ -22,13 +23,13 @@ use Rattle.psg_cache.specs.Notes.{IsFormed, IsNoteOf}
 use Rattle.psg_cache.specs.Renoting.{IsRenoted}
 use Rattle.psg_cache.specs.Walks.{IsStepFault}
 use Rattle.psg_tree.specs.Faults.{IsReplaced}
-use Rattle.psg_cache.proofs.ChangeLaws.{first_step, got_behind, new_fault}
+use Rattle.psg_cache.proofs.ChangeLaws.{got_behind, new_fault}
 use Rattle.psg_cache.proofs.ClimbLaws.{change-put, climb_diff}
 use Rattle.psg_cache.proofs.CulpritLaws.{real_children}
 use Rattle.psg_cache.proofs.DiffLaws.{diff-same, same-put}
-use Rattle.psg_cache.proofs.Each.{each_got, same_some}
+use Rattle.psg_cache.proofs.Each.{each_got}
 use Rattle.psg_cache.proofs.NoteParts.{noted_at}
-use Rattle.psg_cache.proofs.PairLaws.{same_equal, same_false, true_or_false}
+use Rattle.psg_cache.proofs.PairLaws.{same_equal, same_false}
 use Rattle.psg_cache.proofs.RealTrees.{IsReal, real}
 use Rattle.psg_cache.proofs.FormedTrees.{replaced_formed}
 use Rattle.psg_cache.proofs.SpliceLaws.{children_changed}
@@ -41,9 +42,9 @@ found node (Some m) e = (m, refl)
 -- an equal tree in place of a node changes nothing
 pub same_replaced : (path : Path) (f : Fragment) → IsReal f → (node new : Fragment) → node_at f path ≡ Some node → node ≡ new
     → f ≡ replaced path new f
-same_replaced [] f is node new at same = same_some f node at ∙ same
+same_replaced [] f is node new at same = same_Some f node at ∙ same
 same_replaced (k ∷ path) f is node new at same =
-    let (c, child, below) = first_step path (slice_get (children_of f) k) node at in
+    let (c, child, below) = step (slice_get (children_of f) k) path node at in
     let real_child : IsReal c = each_got IsReal (children_of f) k c (real_children f is) child in
     let inner : Fragment = replaced path new c in
     let kept : c ≡ inner = same_replaced path c real_child node new below same in
@@ -72,7 +73,7 @@ module _ (def : Definition) where
       → (tree_in m ≡ node) × IsNoted def m × IsFormed def (tree_in m)
   there_is path n m noted formed node at here =
       let h = noted_at def path n noted formed in
-      (same_some (tree_in m) node (sym (ap (option_map tree_in) here) ∙ sym h.0 ∙ at), (h.1 m here).0, (h.1 m here).1)
+      (same_Some (tree_in m) node (sym (ap (option_map tree_in) here) ∙ sym h.0 ∙ at), (h.1 m here).0, (h.1 m here).1)
 
   -- the first step of the new tree that is too large is the first of the whole one
   put_fault : (left path : Path) (n : Annotated) (new made node : Fragment) (fault : NoteFault) → IsNoted def n
@@ -83,7 +84,7 @@ module _ (def : Definition) where
       subst (λ x. IsStepFault def (steps_of def path x) fault) (sym is)
       (subst (λ q. IsStepFault def (steps_of def q new) fault) (append-nil path) f)
   put_fault (k ∷ left) path n new made node fault noted old formed at is f =
-      let (c, child, below) = first_step left (slice_get (children_of (tree_in n)) k) node at in
+      let (c, child, below) = step (slice_get (children_of (tree_in n)) k) left node at in
       let one : node_at (tree_in n) (k ∷ []) ≡ Some c = ap (option_and_then (λ t. node_at t [])) child in
       let (m, here) = there_at (k ∷ []) n noted old c one in
       let facts = there_is (k ∷ []) n m noted old c one here in
@@ -145,7 +146,7 @@ module _ (def : Definition) where
 
     pub exchange_least : (m : Annotated) → note_at n path ≡ Some m → diff_of (tree_in m) new ≤ diff_of (tree_in n) made
     exchange_least m here =
-        elim (true_or_false (same_tree (tree_in m) new)) [
+        elim (cases_Bool (same_tree (tree_in m) new)) [
           | inl e ↦
               let same : tree_in m ≡ new = same_equal (tree_in m) new e in
               let none : diff_of (tree_in m) new ≡ 0 =

@@ -1,8 +1,10 @@
 -- Trees stay well-formed as commands change them.
-use Rattle.std.proofs.Common.{◌≡◌, inl, inr, ℕ, zero, suc, Bool, true, cond, List, [], ◌∷◌, ◌++◌, length, slice_get, Some, None, Option, refl, sym, ap, subst}
-use Rattle.std.specs.Option.{option_and_then}
+use Rattle.std.proofs.Common.{◌≡◌, inl, inr, ℕ, zero, suc, Bool, true, cond, List, [], ◌∷◌, ◌++◌, length, slice_get, Some, refl, sym, subst}
 use Rattle.std.proofs.lemmas.Option.{none-some}
 use Rattle.std.proofs.lemmas.Bool.Decides.{eqb_tells}
+use Rattle.psg_completions.proofs.Growth.{unobserved}
+use Rattle.psg_grammar.proofs.PathLaws.{step}
+use Rattle.psg_terms.proofs.Lists.{slice_get-end_is, slice_get-not_end}
 use Rattle.psg_grammar.specs.declared.types.Kind.{Kind}
 use Rattle.psg_grammar.specs.declared.types.Kind.TheVariants as kinds
 use Rattle.psg_grammar.specs.declared.types.Item.{Item}
@@ -12,36 +14,14 @@ use Rattle.psg_grammar.specs.declared.types.Definition.{Definition}
 use Rattle.psg_grammar.specs.Fragments.{Fragment, hole, ending, cell, operator, with_child, with_name, with_number, with_text, anything, observed, children_of}
 use Rattle.psg_grammar.specs.Kinds.{IsOfKind}
 use Rattle.psg_grammar.specs.Paths.{Path, node_at, change_child, change_at, replaced, inserted, removed, ended}
-use Rattle.psg_grammar.specs.WellFormed.{Fits, IsPlain, IsUnobserved, WellFormed}
+use Rattle.psg_grammar.specs.WellFormed.{Fits, IsPlain, WellFormed}
 use Rattle.psg_cache.specs.Notes.{IsFormed}
 use Rattle.psg_cache.proofs.Each.{each_got}
 use Rattle.psg_cache.proofs.ChildLaws.{formed_below}
 use Rattle.psg_cache.proofs.Evaluations.{kind_fits, one_kind}
 
--- the top of a tree without observed nodes is not observed
-unobserved : (f : Fragment) → IsPlain f → IsUnobserved f
-unobserved (observed f) plain = absurd plain
-unobserved _ plain = tt
-
 same_list : (l m : ℕ) → kinds.List l ≡ kinds.List m → m ≡ l
 same_list l m e = cc
-
-get_last : (xs : List Fragment) (t c : Fragment) → slice_get (xs ++ t ∷ []) (length xs) ≡ Some c → c ≡ t
-get_last [] t c e = cc
-get_last (x ∷ xs) t c e = get_last xs t c e
-
-get_front : (xs : List Fragment) (t c : Fragment) (k : ℕ) → (length xs ≡ k → ⊥)
-    → slice_get (xs ++ t ∷ []) k ≡ Some c → slice_get xs k ≡ Some c
-get_front [] t c zero never e = absurd (never refl)
-get_front [] t c (suc k) never e = e
-get_front (x ∷ xs) t c zero never e = e
-get_front (x ∷ xs) t c (suc k) never e = get_front xs t c k (λ q. never (ap suc q)) e
-
--- the child at the first step, and the node behind it
-first_step : (path : Path) (o : Option Fragment) (x : Fragment) → option_and_then (λ t. node_at t path) o ≡ Some x
-    → (c : Fragment) × (o ≡ Some c) × (node_at c path ≡ Some x)
-first_step path None x e = absurd (none-some x e)
-first_step path (Some c) x e = (c, refl, e)
 
 module _ (def : Definition) where
   -- ---- kinds
@@ -79,7 +59,7 @@ module _ (def : Definition) where
       elim (eqb_tells (length (children_of f)) k) [
         | inl e ↦
             let there = subst (λ n. slice_get (children_of f ++ t ∷ []) n ≡ Some c) (sym e.1) at in
-            let same : c ≡ t = get_last (children_of f) t c there in
+            let same : c ≡ t = slice_get-end_is (children_of f) t c there in
             let (fits, flat) = keeps K (subst (λ x. WellFormed def x K) (sym same) (ft, plain.1)) in
             subst Keeps (sym e.0) (
               (K, ff, subst (λ x. Fits def (g x) [] K) same fits),
@@ -87,7 +67,7 @@ module _ (def : Definition) where
             )
         | inr e ↦
             let (fits, flat) = child_changed g f (items.Slot K ∷ more) kind k c ff plain.0
-            (get_front (children_of f) t c k e.1 at) keeps in
+            (slice_get-not_end (children_of f) t c k e.1 at) keeps in
             subst Keeps (sym e.0) ((K, fits, ft), (flat, plain.1))
       ]
   child_changed g (with_name f n) more kind k c (inl (s, h), name) plain at keeps =
@@ -111,7 +91,7 @@ module _ (def : Definition) where
       let same : f ≡ node = cc in
       subst (λ x. WellFormed def (g x) kind) (sym same) (keeps kind (subst (λ x. WellFormed def x kind) same h))
   changed_formed g f kind (k ∷ path) node (fits, plain) at keeps =
-      let (c, child, below) = first_step path (slice_get (children_of f) k) node at in
+      let (c, child, below) = step (slice_get (children_of f) k) path node at in
       child_changed (change_at g path) f [] kind k c fits plain child
       (λ K h. changed_formed g c K path node h below keeps)
 
@@ -128,7 +108,7 @@ module _ (def : Definition) where
       → node_at f path ≡ Some node → (K : Kind) × WellFormed def node K
   node_formed f kind [] node h at = let same : f ≡ node = cc in (kind, subst (λ x. WellFormed def x kind) same h)
   node_formed f kind (k ∷ path) node (fits, plain) at =
-      let (c, child, below) = first_step path (slice_get (children_of f) k) node at in
+      let (c, child, below) = step (slice_get (children_of f) k) path node at in
       let (K, formed) = each_got (IsFormed def) (children_of f) k c (formed_below def f [] kind fits plain) child in
       node_formed c K path node formed below
 

@@ -3,7 +3,8 @@ use Rattle.std.proofs.Common.{◌≡◌, ℕ, zero, suc, ◌+◌, ◌<◌, ◌�
 use Rattle.std.specs.List.{AllByRecursion}
 use Rattle.std.specs.Prelude.{MatchOption}
 use Rattle.std.proofs.lemmas.List.{length-map, length-take-le, take-map}
-use Rattle.std.proofs.lemmas.Option.{none-some, slice_get_within}
+use Rattle.std.proofs.lemmas.Option.{none-some, slice_get_within, same_Some}
+use Rattle.psg_terms.proofs.Lists.{slice_get-map_some}
 use Rattle.psg_grammar.specs.declared.types.Kind.{Kind}
 use Rattle.psg_grammar.specs.declared.types.Kind.TheVariants as kinds
 use Rattle.psg_grammar.specs.declared.types.Definition.{Definition}
@@ -19,7 +20,7 @@ use Rattle.psg_tree.specs.Shapes.{with_part, with_parts, list_of, tree_of}
 use Rattle.psg_tree.proofs.Children.{children-list}
 use Rattle.psg_eval.specs.declared.frame.Frame.{Frame}
 use Rattle.psg_eval.specs.declared.frame.Frame.TheVariants as frames
-use Rattle.psg_eval.specs.declared.summary.Known.{Known}
+use Rattle.psg_eval.specs.declared.summary.SummaryParts.{SummaryParts}
 use Rattle.psg_eval.specs.Frames.{AllSummariesBut, AreSilentBut, IsElement, IsSilent, TakesBefore, put_at}
 use Rattle.psg_eval.specs.Summaries.{AllSummaries, IsSummary, IsSummaryOf}
 use Rattle.psg_eval.specs.Trees.{seen_in}
@@ -28,7 +29,7 @@ use Rattle.psg_cache.specs.Noted.{AreOfSuffixes, IsNoted, IsTopped}
 use Rattle.psg_cache.specs.NoteFrames.{IsFrameAround, IsFrameAt, IsNoFrameAt}
 use Rattle.psg_cache.specs.Notes.{IsFormed}
 use Rattle.psg_cache.specs.Walks.{names_in}
-use Rattle.psg_cache.proofs.Each.{each_got, same_some}
+use Rattle.psg_cache.proofs.Each.{each_got}
 use Rattle.psg_cache.proofs.CulpritLaws.{real_children}
 use Rattle.psg_cache.proofs.Evaluations.{is_node, one_kind, spine_parts, takes_at}
 use Rattle.psg_cache.proofs.ListLaws.{list_kind_is}
@@ -39,39 +40,34 @@ use Rattle.psg_cache.proofs.TopLaws.{elements_taken, list_answered}
 
 -- ---- another summary at a place
 
-put_kinds : (k : ℕ) (s x : Known) (xs : List Known) → slice_get xs k ≡ Some x → s.kind ≡ x.kind
-    → map (λ (o : Known). o.kind) (put_at k s xs) ≡ map (λ (o : Known). o.kind) xs
+put_kinds : (k : ℕ) (s x : SummaryParts) (xs : List SummaryParts) → slice_get xs k ≡ Some x → s.kind ≡ x.kind
+    → map (λ (o : SummaryParts). o.kind) (put_at k s xs) ≡ map (λ (o : SummaryParts). o.kind) xs
 put_kinds k s x [] at e = refl
-put_kinds zero s x (o ∷ xs) at e = let same : o ≡ x = same_some o x at in ap (λ j. j ∷ map (λ (o : Known). o.kind) xs) (e ∙ ap (λ (o : Known). o.kind) (sym same))
+put_kinds zero s x (o ∷ xs) at e = let same : o ≡ x = same_Some o x at in ap (λ j. j ∷ map (λ (o : SummaryParts). o.kind) xs) (e ∙ ap (λ (o : SummaryParts). o.kind) (sym same))
 put_kinds (suc k) s x (o ∷ xs) at e = ap (λ l. o.kind ∷ l) (put_kinds k s x xs at e)
 
-put_each : (P : Known → Type 0) (k : ℕ) (s : Known) (xs : List Known) → AllByRecursion P xs → P s → AllByRecursion P (put_at k s xs)
+put_each : (P : SummaryParts → Type 0) (k : ℕ) (s : SummaryParts) (xs : List SummaryParts) → AllByRecursion P xs → P s → AllByRecursion P (put_at k s xs)
 put_each P k s [] all p = tt
 put_each P zero s (o ∷ xs) all p = (p, all.1)
 put_each P (suc k) s (o ∷ xs) all p = (all.0, put_each P k s xs all.1 p)
 
-quiet_but : (k : ℕ) (xs : List Known) → AllByRecursion IsSilent xs → AreSilentBut k xs
+quiet_but : (k : ℕ) (xs : List SummaryParts) → AllByRecursion IsSilent xs → AreSilentBut k xs
 quiet_but k [] all = tt
 quiet_but zero (o ∷ xs) all = all.1
 quiet_but (suc k) (o ∷ xs) all = (all.0, quiet_but k xs all.1)
 
-got_map : {X Y : Type 0} (f : X → Y) (xs : List X) (k : ℕ) (x : X) → slice_get xs k ≡ Some x → slice_get (map f xs) k ≡ Some (f x)
-got_map f [] k x e = absurd (none-some x e)
-got_map f (y ∷ xs) zero x e = let same : y ≡ x = same_some y x e in ap (λ z. Some (f z)) same
-got_map f (y ∷ xs) (suc k) x e = got_map f xs k x e
-
-pub all_front : (P : Known → Type 0) (k : ℕ) (xs : List Known) → AllByRecursion P xs → AllByRecursion P (take k xs)
+pub all_front : (P : SummaryParts → Type 0) (k : ℕ) (xs : List SummaryParts) → AllByRecursion P xs → AllByRecursion P (take k xs)
 all_front P zero xs all = tt
 all_front P (suc k) [] all = tt
 all_front P (suc k) (x ∷ xs) all = (all.0, all_front P k xs all.1)
 
-pub all_three : (P Q R : Known → Type 0) (T : Known → Type 0) (xs : List Known) → ((x : Known) → P x → Q x → R x → T x)
+pub all_three : (P Q R : SummaryParts → Type 0) (T : SummaryParts → Type 0) (xs : List SummaryParts) → ((x : SummaryParts) → P x → Q x → R x → T x)
     → AllByRecursion P xs → AllByRecursion Q xs → AllByRecursion R xs → AllByRecursion T xs
 all_three P Q R T [] f p q r = tt
 all_three P Q R T (x ∷ xs) f p q r = (f x p.0 q.0 r.0, all_three P Q R T xs f p.1 q.1 r.1)
 
-pub all_kind : (j k : Kind) (xs : List Known) → j ≡ k → AllByRecursion (λ (s : Known). s.kind ≡ j) xs → AllByRecursion (λ (s : Known). s.kind ≡ k) xs
-all_kind j k xs e all = subst (λ i. AllByRecursion (λ (s : Known). s.kind ≡ i) xs) e all
+pub all_kind : (j k : Kind) (xs : List SummaryParts) → j ≡ k → AllByRecursion (λ (s : SummaryParts). s.kind ≡ j) xs → AllByRecursion (λ (s : SummaryParts). s.kind ≡ k) xs
+all_kind j k xs e all = subst (λ i. AllByRecursion (λ (s : SummaryParts). s.kind ≡ i) xs) e all
 
 -- nothing is observed in such a tree
 pub quiet : (f : Fragment) → IsReal f → seen_in f ≡ 0
@@ -87,20 +83,20 @@ quiet anything real = absurd real
 quiet (observed f) real = absurd real
 
 module _ (def : Definition) where
-  pub quiet_children : (cs : List Fragment) (summaries : List Known) → AllByRecursion IsReal cs → AllSummaries def cs summaries → AllByRecursion IsSilent summaries
+  pub quiet_children : (cs : List Fragment) (summaries : List SummaryParts) → AllByRecursion IsReal cs → AllSummaries def cs summaries → AllByRecursion IsSilent summaries
   quiet_children [] [] real s = tt
   quiet_children [] (x ∷ xs) real s = absurd s
   quiet_children (c ∷ cs) [] real s = absurd s
   quiet_children (c ∷ cs) (x ∷ xs) real s = (s.0.seen ∙ quiet c real.0, quiet_children cs xs real.1 s.1)
 
-  but_of : (k : ℕ) (fs : List Fragment) (ss : List Known) → k < length fs → AllSummaries def fs ss → AllSummariesBut def k fs ss
+  but_of : (k : ℕ) (fs : List Fragment) (ss : List SummaryParts) → k < length fs → AllSummaries def fs ss → AllSummariesBut def k fs ss
   but_of k [] ss l h = absurd (omega (arith, l))
   but_of zero (f ∷ fs) [] l h = absurd h
   but_of zero (f ∷ fs) (s ∷ ss) l h = h.1
   but_of (suc k) (f ∷ fs) [] l h = absurd h
   but_of (suc k) (f ∷ fs) (s ∷ ss) l h = (h.0, but_of k fs ss (omega (arith, l)) h.1)
 
-  as_many : (cs : List Fragment) (below : List Known) → AllSummaries def cs below → length cs ≡ length below
+  as_many : (cs : List Fragment) (below : List SummaryParts) → AllSummaries def cs below → length cs ≡ length below
   as_many [] [] h = refl
   as_many [] (s ∷ ss) h = absurd h
   as_many (c ∷ cs) [] h = absurd h
@@ -126,7 +122,7 @@ module _ (def : Definition) where
   formed_got : (ns : List Annotated) (k : ℕ) (m : Annotated) → AllByRecursion (IsFormed def) (map tree_in ns) → slice_get ns k ≡ Some m
       → IsFormed def (tree_in m)
   formed_got [] k m h e = absurd (none-some m e)
-  formed_got (n ∷ ns) zero m h e = let same : n ≡ m = same_some n m e in subst (λ x. IsFormed def (tree_in x)) same h.0
+  formed_got (n ∷ ns) zero m h e = let same : n ≡ m = same_Some n m e in subst (λ x. IsFormed def (tree_in x)) same h.0
   formed_got (n ∷ ns) (suc k) m h e = formed_got ns k m h.1 e
 
   around : (n child : Annotated) (k : ℕ) → IsNoted def n → IsFormed def (tree_in n) → slice_get (below_in n) k ≡ Some child → Around n child k
@@ -134,7 +130,7 @@ module _ (def : Definition) where
       let parts = noted_parts def n noted in
       let known = below_known def (tree_in n) (below_in n) formed parts.0.children parts.1 in
       let there : slice_get (children_of (tree_in n)) k ≡ Some (tree_in child) =
-      ap (λ cs. slice_get cs k) (sym parts.0.children) ∙ got_map tree_in (below_in n) k child at in
+      ap (λ cs. slice_get cs k) (sym parts.0.children) ∙ slice_get-map_some tree_in (below_in n) k child at in
       record {
         parts = parts.0;
         are = known.1;
@@ -142,7 +138,7 @@ module _ (def : Definition) where
         silent = quiet_children (children_of (tree_in n)) (map whole_in (below_in n)) (real_children (tree_in n) (real def (tree_in n) formed)) known.1;
         there = there;
         within = slice_get_within (children_of (tree_in n)) k (tree_in child) there;
-        summary = got_map whole_in (below_in n) k child at;
+        summary = slice_get-map_some whole_in (below_in n) k child at;
         of_child = (noted_known def child (each_got (IsNoted def) (below_in n) k child parts.1 at) (formed_got (below_in n) k child known.0 at)).0;
         is_real = real def (tree_in n) formed;
       }
@@ -216,20 +212,20 @@ module _ (def : Definition) where
   is_list l (e ∷ es) u = tt
 
   -- the list after the element, and what is known of it
-  record Behind (l k : ℕ) (below : List Known) (rest : Known) (f t : Fragment) : Type 0 where
+  record Behind (l k : ℕ) (below : List SummaryParts) (rest : SummaryParts) (f t : Fragment) : Type 0 where
     element : IsElement def l (take k below) rest f t
     kind : rest.kind ≡ kinds.List l
     silent : IsSilent rest
 
-  behind : (l : ℕ) (es : List Fragment) (u : Bool) (k : ℕ) (below : List Known) (s : Known) (rests : List Known) (t : Fragment) (rest : Known)
+  behind : (l : ℕ) (es : List Fragment) (u : Bool) (k : ℕ) (below : List SummaryParts) (s : SummaryParts) (rests : List SummaryParts) (t : Fragment) (rest : SummaryParts)
       → IsReal (list_of l es u) → AllSummaries def (children_of (list_of l es u)) below → AreOfSuffixes def (list_of l es u) below s rests
       → slice_get (children_of (list_of l es u)) k ≡ Some t → slice_get rests k ≡ Some rest → Behind l k below rest (list_of l es u) t
   behind l [] u k below s rests t rest real are h at there = absurd (none-some t at)
   behind l (e ∷ es) u k [] s rests t rest real are h at there = absurd are
   behind l (e ∷ es) u k (b ∷ bs) s [] t rest real are h at there = absurd h
   behind l (e ∷ es) u zero (b ∷ bs) s (x ∷ xs) t rest real are h at there =
-      let same : x ≡ rest = same_some x rest there in
-      let one : e ≡ t = same_some e t at in
+      let same : x ≡ rest = same_Some x rest there in
+      let one : e ≡ t = same_Some e t at in
       let of : IsSummaryOf def (list_of l es u) rest =
       subst (IsSummaryOf def (list_of l es u)) same (list_known def (list_of l es u) real.1 real.2 bs x xs are.1 h.1).0 in
       record { element = (refl, one, of); kind = list_kind_is def l es u rest of; silent = of.seen ∙ quiet (list_of l es u) real.1 }
@@ -238,7 +234,7 @@ module _ (def : Definition) where
       record { element = (refl, are.0, r.element); kind = r.kind; silent = r.silent }
 
   list_around : (n child : Annotated) (k l : ℕ) (es : List Fragment) (u : Bool) (s : Shape) → s ≡ ListOf l es u → tree_of s ≡ tree_in n → IsFormed def (tree_in n)
-      → Around n child k → (rest : Known) → slice_get (rests_in n) k ≡ Some rest
+      → Around n child k → (rest : SummaryParts) → slice_get (rests_in n) k ≡ Some rest
       → IsFrameAround def n child k (frames.Elem l (map whole_in (take k (below_in n))) rest)
   list_around n child k l es u s e there formed a rest at =
       let below = map whole_in (below_in n) in
@@ -258,7 +254,7 @@ module _ (def : Definition) where
         takes = λ low above of_low of_above x usual same.
             let child_kind : (whole_in child).kind ≡ low = one_kind def (tree_in child) (whole_in child).kind low a.of_child.kind of_low in
             let element : (whole_in child).kind ≡ kinds.Phylum T.list.element =
-            each_got (λ (z : Known). z.kind ≡ kinds.Phylum T.list.element) below k (whole_in child) T.element_kinds a.summary in
+            each_got (λ (z : SummaryParts). z.kind ≡ kinds.Phylum T.list.element) below k (whole_in child) T.element_kinds a.summary in
             let own : x.kind ≡ kinds.Phylum T.list.element = same ∙ sym child_kind ∙ element in (
               record {
                 list = T.list;
@@ -271,7 +267,7 @@ module _ (def : Definition) where
               list_kind_of l es u above (subst (λ f. IsOfKind def f above) (sym made) of_above),
               subst (AllByRecursion (TakesBefore def x.kind)) front
                   (all_front (TakesBefore def x.kind) k below
-                  (all_three (λ (z : Known). z.kind ≡ x.kind) IsSilent (IsSummary def) (TakesBefore def x.kind) below (λ z p q r. record { same = p; silent = q; usual = r })
+                  (all_three (λ (z : SummaryParts). z.kind ≡ x.kind) IsSilent (IsSummary def) (TakesBefore def x.kind) below (λ z p q r. record { same = p; silent = q; usual = r })
                   (all_kind (kinds.Phylum T.list.element) x.kind below (sym own) T.element_kinds) a.silent a.usual)),
             );
         cost = let m : leaving (tree_in n) k ≡ k + 1 = ap (λ f. leaving f k) (sym made) ∙ leaving_list l es u k in omega (arith, size, m);
@@ -284,7 +280,7 @@ pub operator_frame_at : (n : Annotated) (k o : ℕ) (ps : List Part) (s : Shape)
 operator_frame_at n k o ps s frame e there is def child noted formed at =
     subst (IsFrameAround def n child k) (sym is) (operator_around def n child k o ps (sym (ap tree_of e) ∙ there) formed (around def n child k noted formed at))
 
-pub list_frame_at : (n : Annotated) (k l : ℕ) (es : List Fragment) (u : Bool) (s : Shape) (frame : Frame) (rest : Known) → s ≡ ListOf l es u → tree_of s ≡ tree_in n
+pub list_frame_at : (n : Annotated) (k l : ℕ) (es : List Fragment) (u : Bool) (s : Shape) (frame : Frame) (rest : SummaryParts) → s ≡ ListOf l es u → tree_of s ≡ tree_in n
     → slice_get (rests_in n) k ≡ Some rest → frame ≡ frames.Elem l (map whole_in (take k (below_in n))) rest → IsFrameAt n k frame
 list_frame_at n k l es u s frame rest e there at is def child noted formed here =
     subst (IsFrameAround def n child k) (sym is) (list_around def n child k l es u s e there formed (around def n child k noted formed here) rest at)
@@ -303,7 +299,7 @@ no_frame_hole n k p s e there def noted formed =
     no_children tree_in (below_in n) [] k ((noted_parts def n noted).0.children ∙ ap children_of (sym made)) (omega arith)
 
 -- a list has a suffix after each of its elements
-pub suffixes_many : (def : Definition) (l : ℕ) (es : List Fragment) (u : Bool) (below : List Known) (s : Known) (rests : List Known)
+pub suffixes_many : (def : Definition) (l : ℕ) (es : List Fragment) (u : Bool) (below : List SummaryParts) (s : SummaryParts) (rests : List SummaryParts)
     → AreOfSuffixes def (list_of l es u) below s rests → length rests ≡ length es
 suffixes_many def l [] u [] s [] h = refl
 suffixes_many def l [] u [] s (x ∷ xs) h = absurd h
@@ -331,9 +327,9 @@ no_frame_list n k l es u s e there none def noted formed =
     get_past (below_in n) k (λ l. none l (omega (arith, l, many, rests)))
 
 -- the frame of a list, by its parts
-pub list_frame_of : (n : Annotated) (k l : ℕ) (es : List Fragment) (u : Bool) (s : Shape) (below : List Annotated) (rests : List Known) → s ≡ ListOf l es u → tree_of s ≡ tree_in n
+pub list_frame_of : (n : Annotated) (k l : ℕ) (es : List Fragment) (u : Bool) (s : Shape) (below : List Annotated) (rests : List SummaryParts) → s ≡ ListOf l es u → tree_of s ≡ tree_in n
     → below ≡ below_in n → rests ≡ rests_in n → (o : Option Frame)
-    → MatchOption o (k < length below → k < length rests → ⊥) (λ frame. (rest : Known) × (slice_get rests k ≡ Some rest) × (frame ≡ frames.Elem l (map whole_in (take k below)) rest))
+    → MatchOption o (k < length below → k < length rests → ⊥) (λ frame. (rest : SummaryParts) × (slice_get rests k ≡ Some rest) × (frame ≡ frames.Elem l (map whole_in (take k below)) rest))
     → MatchOption o (IsNoFrameAt n k) (IsFrameAt n k)
 list_frame_of n k l es u s below rests e there b r None h =
     no_frame_list n k l es u s e there (subst (λ xs. k < length xs → k < length (rests_in n) → ⊥) b (subst (λ xs. k < length below → k < length xs → ⊥) r h))

@@ -3,7 +3,7 @@ use Rattle.std.proofs.Common.{◌≡◌, ℕ, zero, suc, ◌≤◌, Bool, List, 
 use Rattle.std.specs.Prelude.{MatchOption, insert, option_map}
 use Rattle.std.specs.List.{AllByRecursion}
 use Rattle.std.proofs.lemmas.List.{length-map, length-take-le, take-map}
-use Rattle.std.proofs.lemmas.Option.{none-some, slice_get_within}
+use Rattle.std.proofs.lemmas.Option.{none-some, slice_get_within, same_Some}
 use Rattle.psg_grammar.specs.declared.types.Kind.TheVariants as kinds
 use Rattle.psg_grammar.specs.declared.types.Definition.{Definition}
 use Rattle.psg_grammar.specs.Fragments.{Fragment, hole, ending, cell, operator, with_child, with_name, with_number, with_text, anything, observed, children_of}
@@ -16,7 +16,7 @@ use Rattle.psg_tree.specs.Shapes.{list_of, tree_of}
 use Rattle.psg_tree.proofs.Children.{children-list}
 use Rattle.psg_eval.specs.declared.frame.Frame.{Frame}
 use Rattle.psg_eval.specs.declared.frame.Frame.TheVariants as frames
-use Rattle.psg_eval.specs.declared.summary.Known.{Known}
+use Rattle.psg_eval.specs.declared.summary.SummaryParts.{SummaryParts}
 use Rattle.psg_eval.specs.Frames.{CanClimb, IsGap, IsSilent, StandAt, StandFor, TakesBefore}
 use Rattle.psg_eval.specs.Summaries.{AllSummaries, IsSummary, IsSummaryOf}
 use Rattle.psg_cache.specs.Annotated.{Annotated, tree_in, whole_in, rests_in, below_in, note_at}
@@ -26,7 +26,7 @@ use Rattle.psg_cache.specs.NoteFrames.{AreElementFramesAt, AreFramesAt, AreFrame
 use Rattle.psg_cache.specs.Notes.{IsFormed}
 use Rattle.psg_cache.proofs.AllNoted.{no_summary_at}
 use Rattle.psg_cache.proofs.CulpritLaws.{real_children}
-use Rattle.psg_cache.proofs.Each.{each_got, same_some}
+use Rattle.psg_cache.proofs.Each.{each_got}
 use Rattle.psg_cache.proofs.Evaluations.{one_kind, spine_parts}
 use Rattle.psg_cache.proofs.FrameParts.{all_front, all_kind, all_three, is_list, quiet, quiet_children, suffixes_many, usual_below}
 use Rattle.psg_cache.proofs.ListLaws.{list_kind_is}
@@ -37,16 +37,16 @@ use Rattle.psg_cache.proofs.TopLaws.{elements_taken, list_answered}
 
 module _ (def : Definition) where
   -- the list from the element of the number on, and what is known of it
-  record From (l k : ℕ) (below : List Known) (rest : Known) (f : Fragment) : Type 0 where
+  record From (l k : ℕ) (below : List SummaryParts) (rest : SummaryParts) (f : Fragment) : Type 0 where
     gap : IsGap def l (take k below) rest f
     kind : rest.kind ≡ kinds.List l
     silent : IsSilent rest
 
-  from : (l : ℕ) (es : List Fragment) (u : Bool) (k : ℕ) (below : List Known) (s : Known) (rests : List Known) (rest : Known)
+  from : (l : ℕ) (es : List Fragment) (u : Bool) (k : ℕ) (below : List SummaryParts) (s : SummaryParts) (rests : List SummaryParts) (rest : SummaryParts)
       → IsReal (list_of l es u) → AllSummaries def (children_of (list_of l es u)) below → AreOfSuffixes def (list_of l es u) below s rests
       → Some rest ≡ slice_get (s ∷ rests) k → k ≤ length below → From l k below rest (list_of l es u)
   from l es u zero below s rests rest real are h at le =
-      let same : s ≡ rest = same_some s rest (sym at) in
+      let same : s ≡ rest = same_Some s rest (sym at) in
       let of : IsSummaryOf def (list_of l es u) rest =
       subst (IsSummaryOf def (list_of l es u)) same (list_known def (list_of l es u) real (is_list def l es u) below s rests are h).0 in
       let kind = list_kind_is def l es u rest of in
@@ -64,7 +64,7 @@ module _ (def : Definition) where
   kind_of_list l (e ∷ es) u = refl
 
   element_frame : (n : Annotated) (k l : ℕ) (es : List Fragment) (u : Bool) (s : Shape) → s ≡ ListOf l es u → tree_of s ≡ tree_in n
-      → IsNoted def n → IsFormed def (tree_in n) → k ≤ length (below_in n) → (rest : Known)
+      → IsNoted def n → IsFormed def (tree_in n) → k ≤ length (below_in n) → (rest : SummaryParts)
       → Some rest ≡ slice_get (whole_in n ∷ rests_in n) k
       → IsElementFrame def n k (frames.Elem l (map whole_in (take k (below_in n))) rest)
   element_frame n k l es u s e there noted formed le rest at =
@@ -108,7 +108,7 @@ module _ (def : Definition) where
           refl,
           subst (AllByRecursion (TakesBefore def x.kind)) front
               (all_front (TakesBefore def x.kind) k below
-              (all_three (λ (z : Known). z.kind ≡ x.kind) IsSilent (IsSummary def) (TakesBefore def x.kind) below (λ z p q w. record { same = p; silent = q; usual = w })
+              (all_three (λ (z : SummaryParts). z.kind ≡ x.kind) IsSilent (IsSummary def) (TakesBefore def x.kind) below (λ z p q w. record { same = p; silent = q; usual = w })
               (all_kind (kinds.Phylum T.list.element) x.kind below (sym same) T.element_kinds) silent usual)),
         );
         cost = omega (arith, size);
@@ -162,7 +162,7 @@ no_place_list n k l es u s e there none def noted formed list le =
 -- the frame of a list, by its parts
 pub gap_frame_of : (n : Annotated) (k l : ℕ) (es : List Fragment) (u : Bool) (s : Shape) → s ≡ ListOf l es u → tree_of s ≡ tree_in n → (o : Option Frame)
     → MatchOption o (k ≤ length (below_in n) → k ≤ length (rests_in n) → ⊥)
-    (λ frame. (rest : Known) × (Some rest ≡ slice_get (whole_in n ∷ rests_in n) k) × (frame ≡ frames.Elem l (map whole_in (take k (below_in n))) rest))
+    (λ frame. (rest : SummaryParts) × (Some rest ≡ slice_get (whole_in n ∷ rests_in n) k) × (frame ≡ frames.Elem l (map whole_in (take k (below_in n))) rest))
     → MatchOption o (IsNoPlaceIn n k) (IsFrameBefore n k)
 gap_frame_of n k l es u s e there None h = no_place_list n k l es u s e there h
 gap_frame_of n k l es u s e there (Some frame) (rest, at, is) =
@@ -199,7 +199,7 @@ no_element_in n m path k at none def f note node there list le =
     let formed : IsFormed def (tree_in n) = subst (IsFormed def) (sym note.tree) note.formed in
     let both = noted_at def path n note.noted formed in
     let h = both.1 m at in
-    let same : node ≡ tree_in m = same_some node (tree_in m) (sym there ∙ ap (λ x. node_at x path) (sym note.tree) ∙ both.0 ∙ ap (option_map tree_in) at) in
+    let same : node ≡ tree_in m = same_Some node (tree_in m) (sym there ∙ ap (λ x. node_at x path) (sym note.tree) ∙ both.0 ∙ ap (option_map tree_in) at) in
     none def h.0 h.1 (subst IsList same list) (subst (λ x. k ≤ length (children_of x)) same le)
 
 -- the frame of the list in front of those of the path
@@ -212,7 +212,7 @@ element_frames_at n m path k frame around all at before above grown def f note =
     let there : node_at f path ≡ Some (tree_in m) = ap (λ x. node_at x path) (sym note.tree) ∙ both.0 ∙ ap (option_map tree_in) at in
     let b = before def h.0 h.1 in
     let a = above def f note in
-    let same : a.node ≡ tree_in m = same_some a.node (tree_in m) (sym a.there ∙ there) in
+    let same : a.node ≡ tree_in m = same_Some a.node (tree_in m) (sym a.there ∙ there) in
     let kind : a.kind ≡ kinds.List b.number = one_kind def (tree_in m) a.kind (kinds.List b.number) (subst (λ x. IsOfKind def x a.kind) same a.of_kind) b.of_kind in
     subst (AreFramesBefore def f path k) (sym grown)
     (record {

@@ -3,10 +3,10 @@ use Rattle.std.proofs.Common.{◌≡◌, ℕ, List, [], ◌∷◌, ◌++◌, ref
 use Rattle.std.specs.List.{AllByRecursion}
 use Rattle.psg_grammar.specs.declared.types.Definition.{Definition}
 use Rattle.psg_grammar.specs.Fragments.{Fragment}
-use Rattle.psg_eval.specs.declared.summary.Known.{Known}
+use Rattle.psg_eval.specs.declared.summary.SummaryParts.{SummaryParts}
 use Rattle.psg_cache.specs.Annotated.{Annotated, topped, above, tree_in, whole_in, rests_in, weight_in, below_in, with_below}
 use Rattle.psg_cache.specs.Noting.{annotated_of}
-use Rattle.psg_cache.specs.declared.note.Noted.{Noted}
+use Rattle.psg_cache.specs.declared.note.NoteNode.{NoteNode}
 use Rattle.psg_cache.specs.Noted.{IsTopped, IsNotedWith, IsNoted}
 
 pub tree-with : (n : Annotated) (cs : List Annotated) → tree_in (with_below n cs) ≡ tree_in n
@@ -30,19 +30,19 @@ weight-with n [] = refl
 weight-with n (c ∷ cs) = weight-with (above n c) cs
 
 -- of the program's notes
-pub noted_tree : (n : Noted) → tree_in (annotated_of n) ≡ n.tree
+pub noted_tree : (n : NoteNode) → tree_in (annotated_of n) ≡ n.tree
 noted_tree n = tree-with (topped n.tree n.whole n.rests n.weight) n.below
 
-pub noted_whole : (n : Noted) → whole_in (annotated_of n) ≡ n.whole
+pub noted_whole : (n : NoteNode) → whole_in (annotated_of n) ≡ n.whole
 noted_whole n = whole-with (topped n.tree n.whole n.rests n.weight) n.below
 
-pub noted_rests : (n : Noted) → rests_in (annotated_of n) ≡ n.rests
+pub noted_rests : (n : NoteNode) → rests_in (annotated_of n) ≡ n.rests
 noted_rests n = rests-with (topped n.tree n.whole n.rests n.weight) n.below
 
-pub noted_weight : (n : Noted) → weight_in (annotated_of n) ≡ n.weight
+pub noted_weight : (n : NoteNode) → weight_in (annotated_of n) ≡ n.weight
 noted_weight n = weight-with (topped n.tree n.whole n.rests n.weight) n.below
 
-pub noted_below : (n : Noted) → below_in (annotated_of n) ≡ n.below
+pub noted_below : (n : NoteNode) → below_in (annotated_of n) ≡ n.below
 noted_below n = below-with (topped n.tree n.whole n.rests n.weight) n.below
 
 module _ (def : Definition) where
@@ -53,7 +53,7 @@ module _ (def : Definition) where
   noted_with n (c ∷ cs) more h k = noted_with (above n c) cs more (h, k.0) k.1
 
   module _ (P : Annotated → Type 0)
-      (step : (tree : Fragment) (whole : Known) (rests : List Known) (weight : ℕ) (below : List Annotated)
+      (step : (tree : Fragment) (whole : SummaryParts) (rests : List SummaryParts) (weight : ℕ) (below : List Annotated)
       → IsTopped def tree whole rests weight below → AllByRecursion (IsNoted def) below → AllByRecursion P below
       → P (with_below (topped tree whole rests weight) below)) where
     noted_along : (n : Annotated) (more : List Annotated) → IsNotedWith def n more → AllByRecursion (IsNoted def) more

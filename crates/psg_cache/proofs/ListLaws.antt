@@ -1,5 +1,6 @@
 -- The summaries of a list: of its end, and of its cells from the last to the first.
 use Rattle.std.proofs.Common.{◌≡◌, ℕ, zero, suc, Bool, true, List, [], ◌∷◌, ◌++◌, length, drop, slice_get, Some, refl, sym, ◌∙◌, ap, subst, append-nil, arith}
+use Rattle.std.proofs.lemmas.Option.{same_Some}
 use Rattle.std.specs.Prelude.{Result, Ok, IfOk}
 use Rattle.std.specs.List.{AllByRecursion}
 use Rattle.psg_grammar.specs.declared.types.Kind.{Kind}
@@ -11,31 +12,30 @@ use Rattle.psg_grammar.specs.Paths.{Path}
 use Rattle.psg_grammar.specs.Steps.{own_steps, list_steps}
 use Rattle.psg_grammar.specs.WellFormed.{Fits, WellFormed}
 use Rattle.psg_tree.specs.Shapes.{list_of}
-use Rattle.psg_eval.specs.declared.summary.Known.{Known}
+use Rattle.psg_eval.specs.declared.summary.SummaryParts.{SummaryParts}
 use Rattle.psg_eval.specs.declared.summary.EvalFault.{EvalFault}
 use Rattle.psg_eval.specs.Summaries.{AllSummaries, Answers, IsSummary, IsSummaryOf, StaysWithin}
 use Rattle.psg_cache.specs.declared.note.NoteFault.{NoteFault}
 use Rattle.psg_cache.specs.Renoting.{AreOfCells, IsCellsFault, TakesCells}
 use Rattle.psg_cache.specs.Walks.{AreListed, IsAnswerFault, IsStepFault, IsListFault, IsListTopped, TakesElements, top_steps}
 use Rattle.psg_cache.proofs.CellLaws.{cells_end, listed_front, usual_front}
-use Rattle.psg_cache.proofs.Each.{same_some}
-use Rattle.psg_cache.proofs.StepLaws.{fault-left, own_clean, own_fault}
+use Rattle.psg_cache.proofs.StepLaws.{fault-left, own_within, own_fault}
 use Rattle.psg_cache.proofs.Evaluations.{kind_known}
 
 module _ (def : Definition) where
-  pub answered_ok : (f : Fragment) (r : Result Known EvalFault) (s : Known) → Answers def f r → r ≡ Ok s
+  pub answered_ok : (f : Fragment) (r : Result SummaryParts EvalFault) (s : SummaryParts) → Answers def f r → r ≡ Ok s
       → IsSummaryOf def f s × StaysWithin def f
   answered_ok f r s h e = subst (Answers def f) e h
 
-  pub usual_ok : (r : Result Known EvalFault) (s : Known) → IfOk r (IsSummary def) → r ≡ Ok s → IsSummary def s
-  usual_ok r s h e = let P : Result Known EvalFault → Type 0 = λ x. IfOk x (IsSummary def) in subst P e h
+  pub usual_ok : (r : Result SummaryParts EvalFault) (s : SummaryParts) → IfOk r (IsSummary def) → r ≡ Ok s → IsSummary def s
+  usual_ok r s h e = let P : Result SummaryParts EvalFault → Type 0 = λ x. IfOk x (IsSummary def) in subst P e h
 
   pub top_list_steps : (path : Path) (l : ℕ) (es : List Fragment) (u : Bool)
       → top_steps def path (list_of l es u) ≡ list_steps def path (list_of l es u)
   top_list_steps path l [] u = refl
   top_list_steps path l (e ∷ es) u = refl
 
-  none_left : (es : List Fragment) (elements : List Known) → AllSummaries def es elements → (i : ℕ)
+  none_left : (es : List Fragment) (elements : List SummaryParts) → AllSummaries def es elements → (i : ℕ)
       → i ≡ length elements → drop i es ≡ []
   none_left [] [] h zero e = refl
   none_left [] [] h (suc i) e = refl
@@ -55,8 +55,8 @@ module _ (def : Definition) where
       fault-left def (list_steps def path (list_of l es u)) (own_steps def path (cell l e (list_of l es u))) fault
       (fault_of_rest path l u fault i es h)
 
-  pub end_fault : (path : Path) (l : ℕ) (u : Bool) (answer : Result Known EvalFault) (fault : NoteFault)
-      (elements : List Known) → Answers def (ending l u) answer → IsAnswerFault path answer fault
+  pub end_fault : (path : Path) (l : ℕ) (u : Bool) (answer : Result SummaryParts EvalFault) (fault : NoteFault)
+      (elements : List SummaryParts) → Answers def (ending l u) answer → IsAnswerFault path answer fault
       → IsListFault def path l u elements fault
   end_fault path l u answer fault elements h f es are =
       fault_of_rest path l u fault (length elements) es
@@ -65,12 +65,12 @@ module _ (def : Definition) where
 
   -- ---- a list of elements whose end is evaluated
 
-  pub list_kind_is : (l : ℕ) (es : List Fragment) (u : Bool) (s : Known) → IsSummaryOf def (list_of l es u) s
+  pub list_kind_is : (l : ℕ) (es : List Fragment) (u : Bool) (s : SummaryParts) → IsSummaryOf def (list_of l es u) s
       → s.kind ≡ kinds.List l
   list_kind_is l [] u s h = h.kind
   list_kind_is l (e ∷ es) u s h = h.kind
 
-  pub end_taken : (l : ℕ) (u : Bool) (elements : List Known) (answer : Result Known EvalFault) (end : Known)
+  pub end_taken : (l : ℕ) (u : Bool) (elements : List SummaryParts) (answer : Result SummaryParts EvalFault) (end : SummaryParts)
       → TakesElements def l u elements → Answers def (ending l u) answer → IfOk answer (IsSummary def)
       → answer ≡ Ok end → TakesCells def l elements end
   end_taken l u elements answer end takes h usual is =
@@ -83,8 +83,8 @@ module _ (def : Definition) where
         usual = (usual_ok answer end usual is, takes.usual);
       }
 
-  pub list_topped : (l : ℕ) (u : Bool) (elements : List Known) (answer : Result Known EvalFault) (end : Known)
-      (news : List Known) (s : Known) (ts none : List Known) → Answers def (ending l u) answer
+  pub list_topped : (l : ℕ) (u : Bool) (elements : List SummaryParts) (answer : Result SummaryParts EvalFault) (end : SummaryParts)
+      (news : List SummaryParts) (s : SummaryParts) (ts none : List SummaryParts) → Answers def (ending l u) answer
       → IfOk answer (IsSummary def) → answer ≡ Ok end → AreOfCells def l elements end news
       → AllByRecursion (IsSummary def) news → none ≡ [] → s ∷ ts ≡ news ++ end ∷ none
       → IsListTopped def l u elements s ts
@@ -96,13 +96,13 @@ module _ (def : Definition) where
         usual_front def end news [] s ts each (usual_ok answer end usual is, tt) whole,
       )
 
-  pub cells_list_fault : (path : Path) (l : ℕ) (u : Bool) (elements : List Known) (answer : Result Known EvalFault)
-      (end : Known) (fault : NoteFault) → Answers def (ending l u) answer → answer ≡ Ok end
+  pub cells_list_fault : (path : Path) (l : ℕ) (u : Bool) (elements : List SummaryParts) (answer : Result SummaryParts EvalFault)
+      (end : SummaryParts) (fault : NoteFault) → Answers def (ending l u) answer → answer ≡ Ok end
       → IsCellsFault def path l elements end fault → IsListFault def path l u elements fault
   cells_list_fault path l u elements answer end fault h is f es are =
       let known = answered_ok (ending l u) answer end h is in
       subst (λ x. IsStepFault def (list_steps def path x) fault) (cells_end l es u)
-      (f es (ending l u) are known.0 (own_clean def path (ending l u) known.1))
+      (f es (ending l u) are known.0 (own_within def path (ending l u) known.1))
 
   -- ---- what a list takes
 
@@ -118,23 +118,23 @@ module _ (def : Definition) where
   list_parts : (l : ℕ) (own : ListKind) (es : List Fragment) (u : Bool) (kind : Kind) → slice_get def.lists l ≡ Some own
       → WellFormed def (list_of l es u) kind → (u ≡ true → own.unfinished ≡ true) × AreElements own.element es
   list_parts l own [] u kind e w =
-      let same : w.0.2.0 ≡ own = same_some w.0.2.0 own (sym w.0.2.1 ∙ e) in
+      let same : w.0.2.0 ≡ own = same_Some w.0.2.0 own (sym w.0.2.1 ∙ e) in
       (λ t. ap (λ (x : ListKind). x.unfinished) (sym same) ∙ w.0.2.2 t, tt)
   list_parts l own (x ∷ es) u kind e w =
       let (nil, same, k, at, fe, fr, un) = w.0 in
       let (may_end, rest) = list_parts l own es u (kinds.List l) e (fr, w.1.1) in
-      let it : k ≡ own = same_some k own (sym at ∙ e) in
+      let it : k ≡ own = same_Some k own (sym at ∙ e) in
       (may_end, ((subst (λ (y : ListKind). Fits def x [] (kinds.Phylum y.element)) it fe, w.1.0), rest))
 
-  element_kinds : (p : ℕ) (es : List Fragment) (elements : List Known) → AreElements p es
-      → AllSummaries def es elements → AllByRecursion (λ (s : Known). s.kind ≡ kinds.Phylum p) elements
+  element_kinds : (p : ℕ) (es : List Fragment) (elements : List SummaryParts) → AreElements p es
+      → AllSummaries def es elements → AllByRecursion (λ (s : SummaryParts). s.kind ≡ kinds.Phylum p) elements
   element_kinds p [] [] h s = tt
   element_kinds p [] (y ∷ ys) h s = absurd s
   element_kinds p (x ∷ xs) [] h s = absurd s
   element_kinds p (x ∷ xs) (y ∷ ys) h s =
       (kind_known def x (kinds.Phylum p) y h.0.0 h.0.1 s.0, element_kinds p xs ys h.1 s.1)
 
-  pub list_takes : (l : ℕ) (es : List Fragment) (u : Bool) (kind : Kind) (elements : List Known)
+  pub list_takes : (l : ℕ) (es : List Fragment) (u : Bool) (kind : Kind) (elements : List SummaryParts)
       → WellFormed def (list_of l es u) kind → AllSummaries def es elements
       → AllByRecursion (IsSummary def) elements → TakesElements def l u elements
   list_takes l es u kind elements w are usual =

@@ -2,11 +2,11 @@
 use Rattle.std.proofs.Common.{◌≡◌, ℕ, suc, ◌+◌, ◌<◌, ◌≤◌, Bool, true, false, List, [], ◌∷◌, ◌++◌, length, take, get_or, refl, sym, ◌∙◌, ap, ap₂, subst, append_assoc, append-nil, true≢false, arith}
 use Rattle.std.specs.List.{AllByRecursion}
 use Rattle.std.proofs.lemmas.List.{length-append, length-take-le, take_all}
-use Rattle.psg_terms.proofs.DeclareLaws.{take-next}
+use Rattle.psg_terms.proofs.Lists.{take_item}
 use Rattle.psg_terms.specs.Terms.{Term}
 use Rattle.psg_grammar.specs.Marks.{nodes_from, AreCulprits, IsMark}
 use Rattle.psg_grammar.specs.Paths.{Path}
-use Rattle.psg_eval.specs.declared.summary.Known.{Known}
+use Rattle.psg_eval.specs.declared.summary.SummaryParts.{SummaryParts}
 use Rattle.psg_cache.specs.Annotated.{Annotated, topped, above, whole_in, below_in, nested}
 use Rattle.psg_cache.specs.Blames.{blamed_at, blamed_below, culprits_in, or_itself}
 use Rattle.psg_cache.specs.Edits.{AreCulpritsIn}
@@ -52,7 +52,7 @@ blamed_more path place below i step c start before after small at same there h k
     let here : List Path = blamed_at (whole_in c) place (blamed_below place c) in
     k ∙ ap (λ l. l ++ here) h ∙ append_assoc start (blamed_each path 0 (take i below)) here
     ∙ ap (λ l. start ++ l)
-    (sym (ap (blamed_each path 0) (take-next below i c small at)
+    (sym (ap (blamed_each path 0) (take_item below i c small at)
     ∙ each-push path 0 (take i below) c place (there ∙ ap (λ j. path ++ j ∷ []) (same ∙ n))))
 
 pub blamed_all : (path : Path) (n : Annotated) (below : List Annotated) (i : ℕ) (start found : List Path)
@@ -97,16 +97,16 @@ marked n paths is def f note =
 
 -- ---- whether the tree itself is one
 
-pub none_at : (s : Known) (path : Path) (below : List Path) → (s.rel ≡ [] → ⊥) → blamed_at s path below ≡ []
+pub none_at : (s : SummaryParts) (path : Path) (below : List Path) → (s.rel ≡ [] → ⊥) → blamed_at s path below ≡ []
 none_at s path below h = blamed-rows s path below h
 
-no_rows : (s : Known) (good : Bool) → ((s.rel ≡ [] → ⊥) → good ≡ true) → good ≡ false → s.rel ≡ []
+no_rows : (s : SummaryParts) (good : Bool) → ((s.rel ≡ [] → ⊥) → good ≡ true) → good ≡ false → s.rel ≡ []
 no_rows s good h e = go s.rel refl where
   go : (rows : List (List Term)) → s.rel ≡ rows → rows ≡ []
   go [] same = refl
   go (row ∷ rows) same = absurd (true≢false (sym (h (λ none. not_nil row rows (sym same ∙ none))) ∙ e))
 
-blamed_empty : (s : Known) (path : Path) (below : List Path) → s.rel ≡ [] → blamed_at s path below ≡ or_itself path below
+blamed_empty : (s : SummaryParts) (path : Path) (below : List Path) → s.rel ≡ [] → blamed_at s path below ≡ or_itself path below
 blamed_empty s path below e =
     ap (λ r. blamed_at (record { kind = s.kind; header = s.header; seen = s.seen; rel = r }) path below) e
 

@@ -7,7 +7,7 @@ use Rattle.psg_grammar.specs.declared.types.Definition.{Definition}
 use Rattle.psg_grammar.specs.Fragments.{Fragment, children_of}
 use Rattle.psg_grammar.specs.Marks.{nodes_from, AreCulprits}
 use Rattle.psg_grammar.specs.Paths.{Path}
-use Rattle.psg_eval.specs.declared.summary.Known.{Known}
+use Rattle.psg_eval.specs.declared.summary.SummaryParts.{SummaryParts}
 use Rattle.psg_eval.specs.Summaries.{AllSummaries, IsSummaryOf}
 use Rattle.psg_grammar.specs.Open.{IsOpen}
 use Rattle.psg_cache.specs.Notes.{IsFormed}
@@ -44,13 +44,13 @@ some_itself path [] e = not_nil path [] e
 some_itself path (p ∷ ps) e = not_nil p ps e
 
 -- no tree is blamed just where each has a row
-pub blamed-rows : (s : Known) (path : Path) (below : List Path) → (s.rel ≡ [] → ⊥) → blamed_at s path below ≡ []
+pub blamed-rows : (s : SummaryParts) (path : Path) (below : List Path) → (s.rel ≡ [] → ⊥) → blamed_at s path below ≡ []
 blamed-rows s path below h = go s.rel refl where
   go : (rows : List (List Term)) → s.rel ≡ rows → blamed_at s path below ≡ []
   go [] e = absurd (h e)
   go (row ∷ rows) e = ap (λ r. blamed_at (record { kind = s.kind; header = s.header; seen = s.seen; rel = r }) path below) e
 
-pub rows-blamed : (s : Known) (path : Path) (below : List Path) → blamed_at s path below ≡ [] → s.rel ≡ [] → ⊥
+pub rows-blamed : (s : SummaryParts) (path : Path) (below : List Path) → blamed_at s path below ≡ [] → s.rel ≡ [] → ⊥
 rows-blamed s path below e empty =
     some_itself path below (sym (ap (λ r. blamed_at (record { kind = s.kind; header = s.header; seen = s.seen; rel = r }) path below) empty) ∙ e)
 
@@ -76,7 +76,7 @@ rows-each path k (c ∷ cs) e =
     (rows-blamed (whole_in c) (path ++ k ∷ []) (blamed_below (path ++ k ∷ []) c) both.0, rows-each path (k + 1) cs both.1)
 
 -- whether this tree is blamed, beside those below
-blame_told : (s : Known) (below : List Known) (path : Path) (more : List Path) → (more ≡ [] → HaveRows below) → (HaveRows below → more ≡ [])
+blame_told : (s : SummaryParts) (below : List SummaryParts) (path : Path) (more : List Path) → (more ≡ [] → HaveRows below) → (HaveRows below → more ≡ [])
     → ((s.rel ≡ [] → ⊥) → more ≡ []) → (pushed : List Path) × IsBlame s below path pushed × (more ++ pushed ≡ blamed_at s path more)
 blame_told s below path more rows none opens = go s.rel refl more refl where
   go : (r : List (List Term)) → s.rel ≡ r → (m : List Path) → more ≡ m
@@ -101,7 +101,7 @@ blame_told s below path more rows none opens = go s.rel refl more refl where
       )
 
 module _ (def : Definition) where
-  all_rows : (cs : List Fragment) (summaries : List Known) → AllSummaries def cs summaries
+  all_rows : (cs : List Fragment) (summaries : List SummaryParts) → AllSummaries def cs summaries
       → AllByRecursion (IsOpen def) cs → HaveRows summaries
   all_rows [] [] s h = tt
   all_rows [] (k ∷ ks) s h = absurd s
@@ -120,7 +120,7 @@ module _ (def : Definition) where
       (blamed_at (whole_in n) (path ++ k ∷ []) (blamed_below (path ++ k ∷ []) n)) (blamed_each path (k + 1) ns)
       (h.0 formed.0 (path ++ k ∷ [])) (each_blames ns formed.1 h.1 path (k + 1))
 
-  step : (tree : Fragment) (whole : Known) (rests : List Known) (weight : ℕ) (below : List Annotated)
+  step : (tree : Fragment) (whole : SummaryParts) (rests : List SummaryParts) (weight : ℕ) (below : List Annotated)
       → IsTopped def tree whole rests weight below → AllByRecursion (IsNoted def) below → AllByRecursion Blames below
       → Blames (with_below (topped tree whole rests weight) below)
   step tree whole rests weight below t noted h formed' path =

@@ -6,7 +6,7 @@ use Rattle.psg_grammar.specs.declared.types.Definition.{Definition}
 use Rattle.psg_grammar.specs.Fragments.{Fragment, hole, ending, cell, operator, with_child, with_name, with_number, with_text, anything, observed, children_of}
 use Rattle.psg_grammar.specs.Paths.{IsList}
 use Rattle.psg_grammar.specs.Steps.{HasWeights}
-use Rattle.psg_eval.specs.declared.summary.Known.{Known}
+use Rattle.psg_eval.specs.declared.summary.SummaryParts.{SummaryParts}
 use Rattle.psg_eval.specs.Summaries.{AllSummaries, IsSummaryOf}
 use Rattle.psg_cache.specs.Notes.{IsFormed}
 use Rattle.psg_cache.specs.Walks.{WeighTogether}
@@ -26,7 +26,7 @@ module _ (def : Definition) where
   together [] formed h = refl
   together (n ∷ ns) formed h = (weight_in n, summed weight_in ns, h.0 formed.0, together ns formed.1 h.1, refl)
 
-  list_weighs : (f : Fragment) → IsReal f → IsList f → (below : List Known) (s : Known) (rests : List Known) (m : ℕ)
+  list_weighs : (f : Fragment) → IsReal f → IsList f → (below : List SummaryParts) (s : SummaryParts) (rests : List SummaryParts) (m : ℕ)
       → AllSummaries def (children_of f) below → AreOfSuffixes def f below s rests → WeighTogether def (children_of f) m
       → HasWeights def f (m + summed own_weight (s ∷ rests))
   list_weighs (ending l u) real list [] s [] m are h w =
@@ -52,15 +52,15 @@ module _ (def : Definition) where
   list_weighs anything real list below s rests m are h w = absurd list
   list_weighs (observed f) real list below s rests m are h w = absurd list
 
-  one : (s : Known) (rests : List Known) (m : ℕ) → rests ≡ [] → m + summed own_weight (s ∷ rests) ≡ m + weight_of s.rel
+  one : (s : SummaryParts) (rests : List SummaryParts) (m : ℕ) → rests ≡ [] → m + summed own_weight (s ∷ rests) ≡ m + weight_of s.rel
   one s rests m e = ap (λ ts. m + (weight_of s.rel + summed own_weight ts)) e ∙ (let g : m + (weight_of s.rel + 0) ≡ m + weight_of s.rel = omega arith in g)
 
-  spine_weighs : (f : Fragment) → IsReal f → IsSpine f → (s : Known) (rests : List Known) (m : ℕ) → IsSummaryOf def f s → rests ≡ []
+  spine_weighs : (f : Fragment) → IsReal f → IsSpine f → (s : SummaryParts) (rests : List SummaryParts) (m : ℕ) → IsSummaryOf def f s → rests ≡ []
       → WeighTogether def (children_of f) m → HasWeights def f (m + summed own_weight (s ∷ rests))
   spine_weighs f is spine s rests m summary none w =
       subst (HasWeights def f) (sym (one s rests m none)) (node_weighs def f is spine s.rel summary.rows m w)
 
-  top_weighs : (f : Fragment) → IsReal f → (below : List Known) (s : Known) (rests : List Known) (m : ℕ)
+  top_weighs : (f : Fragment) → IsReal f → (below : List SummaryParts) (s : SummaryParts) (rests : List SummaryParts) (m : ℕ)
       → AllSummaries def (children_of f) below → IsSummaryOf def f s → IsAnswered def f below s rests → WeighTogether def (children_of f) m
       → HasWeights def f (m + summed own_weight (s ∷ rests))
   top_weighs (hole p) is below s rests m are summary h w =
@@ -75,7 +75,7 @@ module _ (def : Definition) where
   top_weighs anything is below s rests m are summary h w = absurd is
   top_weighs (observed f) is below s rests m are summary h w = absurd is
 
-  step : (tree : Fragment) (whole : Known) (rests : List Known) (weight : ℕ) (below : List Annotated)
+  step : (tree : Fragment) (whole : SummaryParts) (rests : List SummaryParts) (weight : ℕ) (below : List Annotated)
       → IsTopped def tree whole rests weight below → AllByRecursion (IsNoted def) below → AllByRecursion Weighs below
       → Weighs (with_below (topped tree whole rests weight) below)
   step tree whole rests weight below t noted h formed' =

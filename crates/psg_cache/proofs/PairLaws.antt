@@ -1,11 +1,11 @@
 -- What two trees differ in: their tops, and their children one by one.
 use Rattle.std.proofs.Common.{◌≡◌, ◌⊎◌, inl, inr, ℕ, zero, suc, ◌+◌, ◌<◌, ◌≤◌, ◌==◌, ◌&&◌, ◌||◌, Bool, true, false, cond, List, [], ◌∷◌, ◌++◌, length, take, get_or, slice_get, Option, Some, None, refl, sym, ◌∙◌, ap, ap₂, subst, append_assoc, append-nil, arith}
 use Rattle.std.specs.Bool.{beq}
-use Rattle.std.proofs.lemmas.Bool.{false≢true}
-use Rattle.std.proofs.lemmas.Bool.Decides.{eqb_tells}
-use Rattle.std.proofs.lemmas.List.{length-append}
+use Rattle.std.proofs.lemmas.Bool.{false≢true, and_parts, or_cases, or_parts, cases_Bool, eqb-true}
+use Rattle.std.proofs.lemmas.List.{length-append, same_from_push}
 use Rattle.std.proofs.lemmas.List.Sums.{sum_by-cons}
-use Rattle.std.proofs.lemmas.Option.{none-some}
+use Rattle.std.proofs.lemmas.Option.{none-some, same_Some}
+use Rattle.psg_terms.proofs.Lists.{eqb-refl, beq_same}
 use Rattle.psg_terms.proofs.DeclareLaws.{bytes_eq-same}
 use Rattle.psg_grammar.specs.declared.types.Kind.{Kind}
 use Rattle.psg_grammar.specs.declared.types.Item.{Item}
@@ -23,58 +23,28 @@ use Rattle.psg_cache.specs.Diff.{agree, diff_below, diff_cells, diff_of, last_di
 use Rattle.psg_cache.specs.Notes.{IsFormed}
 use Rattle.psg_cache.proofs.Counting.{together}
 use Rattle.psg_cache.proofs.DiffLaws.{diff-same}
-use Rattle.psg_cache.proofs.Each.{same_some as some_once}
 use Rattle.psg_cache.proofs.RealTrees.{IsReal, IsSpine, real}
 
 -- ---- the test tells equality
 
-eqb_same : (m n : ℕ) → (m == n) ≡ true → m ≡ n
-eqb_same m n h = elim (eqb_tells m n) [ inl e ↦ e.1 | inr e ↦ absurd (false≢true (sym e.0 ∙ h)) ]
-
-beq_same : (a b : Bool) → beq a b ≡ true → a ≡ b
-beq_same true true h = refl
-beq_same false false h = refl
-beq_same true false h = absurd (false≢true h)
-beq_same false true h = absurd (false≢true h)
-
-pub both_hold : (a b : Bool) → (a && b) ≡ true → (a ≡ true) × (b ≡ true)
-both_hold true b e = (refl, e)
-both_hold false b e = absurd (false≢true e)
-
-pub one_fails : (a b : Bool) → (a && b) ≡ false → (a ≡ false) ⊎ (b ≡ false)
-one_fails true b e = inr e
-one_fails false b e = inl refl
-
-pub either_holds : (a b : Bool) → (a || b) ≡ true → (a ≡ true) ⊎ (b ≡ true)
-either_holds true b e = inl refl
-either_holds false b e = inr e
-
-pub both_fail : (a b : Bool) → (a || b) ≡ false → (a ≡ false) × (b ≡ false)
-both_fail true b e = absurd (false≢true (sym e))
-both_fail false b e = (refl, e)
-
-pub true_or_false : (b : Bool) → (b ≡ true) ⊎ (b ≡ false)
-true_or_false true = inl refl
-true_or_false false = inr refl
-
 pub same_equal : (f g : Fragment) → same_tree f g ≡ true → f ≡ g
-same_equal (hole p) (hole q) h = ap hole (eqb_same p q h)
+same_equal (hole p) (hole q) h = ap hole (eqb-true p q h)
 same_equal (ending l u) (ending k v) h =
-    let b = both_hold (l == k) (beq u v) h in ap₂ (λ x y. ending x y) (eqb_same l k b.0) (beq_same u v b.1)
+    let b = and_parts (l == k) (beq u v) h in ap₂ (λ x y. ending x y) (eqb-true l k b.0) (beq_same u v b.1)
 same_equal (cell l e r) (cell k d s) h =
-    let b = both_hold (l == k) (same_tree e d && same_tree r s) h in
-    let c = both_hold (same_tree e d) (same_tree r s) b.1 in
-    ap₂ (λ x y. cell x e y) (eqb_same l k b.0) (same_equal r s c.1) ∙ ap (λ x. cell k x s) (same_equal e d c.0)
-same_equal (operator o) (operator p) h = ap operator (eqb_same o p h)
+    let b = and_parts (l == k) (same_tree e d && same_tree r s) h in
+    let c = and_parts (same_tree e d) (same_tree r s) b.1 in
+    ap₂ (λ x y. cell x e y) (eqb-true l k b.0) (same_equal r s c.1) ∙ ap (λ x. cell k x s) (same_equal e d c.0)
+same_equal (operator o) (operator p) h = ap operator (eqb-true o p h)
 same_equal (with_child f t) (with_child g u) h =
-    let b = both_hold (same_tree f g) (same_tree t u) h in
+    let b = and_parts (same_tree f g) (same_tree t u) h in
     ap₂ (λ x y. with_child x y) (same_equal f g b.0) (same_equal t u b.1)
 same_equal (with_name f n) (with_name g m) h =
-    let b = both_hold (same_tree f g) _ h in ap₂ (λ x y. with_name x y) (same_equal f g b.0) (bytes_eq-same n m b.1)
+    let b = and_parts (same_tree f g) _ h in ap₂ (λ x y. with_name x y) (same_equal f g b.0) (bytes_eq-same n m b.1)
 same_equal (with_number f n) (with_number g m) h =
-    let b = both_hold (same_tree f g) (n == m) h in ap₂ (λ x y. with_number x y) (same_equal f g b.0) (eqb_same n m b.1)
+    let b = and_parts (same_tree f g) (n == m) h in ap₂ (λ x y. with_number x y) (same_equal f g b.0) (eqb-true n m b.1)
 same_equal (with_text f t) (with_text g u) h =
-    let b = both_hold (same_tree f g) _ h in ap₂ (λ x y. with_text x y) (same_equal f g b.0) (bytes_eq-same t u b.1)
+    let b = and_parts (same_tree f g) _ h in ap₂ (λ x y. with_text x y) (same_equal f g b.0) (bytes_eq-same t u b.1)
 same_equal anything anything h = refl
 same_equal (observed f) (observed g) h = ap observed (same_equal f g h)
 same_equal (hole p) (ending k v) h = absurd (false≢true h)
@@ -169,7 +139,7 @@ same_equal (observed f) (with_text g x) h = absurd (false≢true h)
 same_equal (observed f) anything h = absurd (false≢true h)
 
 pub same_false : (f g : Fragment) → (f ≡ g → ⊥) → same_tree f g ≡ false
-same_false f g never = elim (true_or_false (same_tree f g)) [ inl e ↦ absurd (never (same_equal f g e)) | inr e ↦ e ]
+same_false f g never = elim (cases_Bool (same_tree f g)) [ inl e ↦ absurd (never (same_equal f g e)) | inr e ↦ e ]
 
 -- ---- the sums for children one by one
 
@@ -247,17 +217,6 @@ item_sorts (items.Number ∷ is) = 2 ∷ item_sorts is
 item_sorts (items.Text ∷ is) = 3 ∷ item_sorts is
 item_sorts (_ ∷ is) = item_sorts is
 
-last_of : (xs ys : List ℕ) (a b : ℕ) → xs ++ a ∷ [] ≡ ys ++ b ∷ [] → (xs ≡ ys) × (a ≡ b)
-last_of [] [] a b e = (refl, cc)
-last_of [] (y ∷ []) a b e = absurd (cc)
-last_of [] (y ∷ z ∷ ys) a b e = absurd (cc)
-last_of (x ∷ []) [] a b e = absurd (cc)
-last_of (x ∷ z ∷ xs) [] a b e = absurd (cc)
-last_of (x ∷ xs) (y ∷ ys) a b e =
-    let rest : xs ++ a ∷ [] ≡ ys ++ b ∷ [] = cc in
-    let first : x ≡ y = cc in
-    let h = last_of xs ys a b rest in (ap₂ (λ m ms. m ∷ ms) first h.0, h.1)
-
 no_end : (xs : List ℕ) (a : ℕ) → xs ++ a ∷ [] ≡ [] → ⊥
 no_end [] a e = cc
 no_end (x ∷ xs) a e = cc
@@ -307,9 +266,9 @@ module _ (def : Definition) where
   same_sorts f g i j hf hg sf sg o tf tg =
       let a = sorted f [] i hf sf in
       let b = sorted g [] j hg sg in
-      let one : a.number ≡ b.number = some_once a.number b.number (sym a.top ∙ tf ∙ sym tg ∙ b.top) in
+      let one : a.number ≡ b.number = same_Some a.number b.number (sym a.top ∙ tf ∙ sym tg ∙ b.top) in
       let op : a.op ≡ b.op =
-      some_once a.op b.op (sym a.found ∙ ap (λ n. slice_get def.operators n) one ∙ b.found) in
+      same_Some a.op b.op (sym a.found ∙ ap (λ n. slice_get def.operators n) one ∙ b.found) in
       sym (append-nil (sorts_of f)) ∙ sym a.sorts ∙ ap (λ (x : Operator). item_sorts (part_items x.items)) op ∙ b.sorts
       ∙ append-nil (sorts_of g)
 
@@ -319,18 +278,18 @@ pairs_parts : (f g : Fragment) → IsSpine f → IsSpine g → sorts_of f ≡ so
     → (length (children_of f) ≡ length (children_of g)) × (pairs (children_of f) (children_of g) ≤ diff_below f g)
 pairs_parts (operator o) (operator p) sf sg e = (refl, omega arith)
 pairs_parts (with_child f t) (with_child g u) sf sg e =
-    let h = pairs_parts f g sf sg (last_of (sorts_of f) (sorts_of g) 0 0 e).0 in
+    let h = pairs_parts f g sf sg (same_from_push (sorts_of f) (sorts_of g) 0 0 e).0 in
     let long = h.0 in
     let less = h.1 in
     let m : length (children_of f ++ t ∷ []) ≡ length (children_of f) + 1 = length-append (children_of f) (t ∷ []) in
     let n : length (children_of g ++ u ∷ []) ≡ length (children_of g) + 1 = length-append (children_of g) (u ∷ []) in
     let sum = pairs_push (children_of f) (children_of g) t u long in (omega (arith, m, n, long), omega (arith, sum, less))
 pairs_parts (with_name f n) (with_name g m) sf sg e =
-    pairs_parts f g sf sg (last_of (sorts_of f) (sorts_of g) 1 1 e).0
+    pairs_parts f g sf sg (same_from_push (sorts_of f) (sorts_of g) 1 1 e).0
 pairs_parts (with_number f n) (with_number g m) sf sg e =
-    pairs_parts f g sf sg (last_of (sorts_of f) (sorts_of g) 2 2 e).0
+    pairs_parts f g sf sg (same_from_push (sorts_of f) (sorts_of g) 2 2 e).0
 pairs_parts (with_text f t) (with_text g u) sf sg e =
-    pairs_parts f g sf sg (last_of (sorts_of f) (sorts_of g) 3 3 e).0
+    pairs_parts f g sf sg (same_from_push (sorts_of f) (sorts_of g) 3 3 e).0
 pairs_parts (operator o) (hole q) sf sg e = absurd sg
 pairs_parts (operator o) (ending k v) sf sg e = absurd sg
 pairs_parts (operator o) (cell k d s) sf sg e = absurd sg
@@ -345,11 +304,11 @@ pairs_parts (with_child f t) (ending k v) sf sg e = absurd sg
 pairs_parts (with_child f t) (cell k d s) sf sg e = absurd sg
 pairs_parts (with_child f t) (operator b) sf sg e = absurd (no_end (sorts_of f) 0 e)
 pairs_parts (with_child f t) (with_name g m) sf sg e =
-    let b : ◌≡◌ {A = ℕ} 0 1 = (last_of (sorts_of f) (sorts_of g) 0 1 e).1 in absurd (omega (arith, b))
+    let b : ◌≡◌ {A = ℕ} 0 1 = (same_from_push (sorts_of f) (sorts_of g) 0 1 e).1 in absurd (omega (arith, b))
 pairs_parts (with_child f t) (with_number g m) sf sg e =
-    let b : ◌≡◌ {A = ℕ} 0 2 = (last_of (sorts_of f) (sorts_of g) 0 2 e).1 in absurd (omega (arith, b))
+    let b : ◌≡◌ {A = ℕ} 0 2 = (same_from_push (sorts_of f) (sorts_of g) 0 2 e).1 in absurd (omega (arith, b))
 pairs_parts (with_child f t) (with_text g x) sf sg e =
-    let b : ◌≡◌ {A = ℕ} 0 3 = (last_of (sorts_of f) (sorts_of g) 0 3 e).1 in absurd (omega (arith, b))
+    let b : ◌≡◌ {A = ℕ} 0 3 = (same_from_push (sorts_of f) (sorts_of g) 0 3 e).1 in absurd (omega (arith, b))
 pairs_parts (with_child f t) anything sf sg e = absurd sg
 pairs_parts (with_child f t) (observed g) sf sg e = absurd sg
 pairs_parts (with_name f n) (hole q) sf sg e = absurd sg
@@ -357,11 +316,11 @@ pairs_parts (with_name f n) (ending k v) sf sg e = absurd sg
 pairs_parts (with_name f n) (cell k d s) sf sg e = absurd sg
 pairs_parts (with_name f n) (operator b) sf sg e = absurd (no_end (sorts_of f) 1 e)
 pairs_parts (with_name f n) (with_child g x) sf sg e =
-    let b : ◌≡◌ {A = ℕ} 1 0 = (last_of (sorts_of f) (sorts_of g) 1 0 e).1 in absurd (omega (arith, b))
+    let b : ◌≡◌ {A = ℕ} 1 0 = (same_from_push (sorts_of f) (sorts_of g) 1 0 e).1 in absurd (omega (arith, b))
 pairs_parts (with_name f n) (with_number g m) sf sg e =
-    let b : ◌≡◌ {A = ℕ} 1 2 = (last_of (sorts_of f) (sorts_of g) 1 2 e).1 in absurd (omega (arith, b))
+    let b : ◌≡◌ {A = ℕ} 1 2 = (same_from_push (sorts_of f) (sorts_of g) 1 2 e).1 in absurd (omega (arith, b))
 pairs_parts (with_name f n) (with_text g x) sf sg e =
-    let b : ◌≡◌ {A = ℕ} 1 3 = (last_of (sorts_of f) (sorts_of g) 1 3 e).1 in absurd (omega (arith, b))
+    let b : ◌≡◌ {A = ℕ} 1 3 = (same_from_push (sorts_of f) (sorts_of g) 1 3 e).1 in absurd (omega (arith, b))
 pairs_parts (with_name f n) anything sf sg e = absurd sg
 pairs_parts (with_name f n) (observed g) sf sg e = absurd sg
 pairs_parts (with_number f n) (hole q) sf sg e = absurd sg
@@ -369,11 +328,11 @@ pairs_parts (with_number f n) (ending k v) sf sg e = absurd sg
 pairs_parts (with_number f n) (cell k d s) sf sg e = absurd sg
 pairs_parts (with_number f n) (operator b) sf sg e = absurd (no_end (sorts_of f) 2 e)
 pairs_parts (with_number f n) (with_child g x) sf sg e =
-    let b : ◌≡◌ {A = ℕ} 2 0 = (last_of (sorts_of f) (sorts_of g) 2 0 e).1 in absurd (omega (arith, b))
+    let b : ◌≡◌ {A = ℕ} 2 0 = (same_from_push (sorts_of f) (sorts_of g) 2 0 e).1 in absurd (omega (arith, b))
 pairs_parts (with_number f n) (with_name g m) sf sg e =
-    let b : ◌≡◌ {A = ℕ} 2 1 = (last_of (sorts_of f) (sorts_of g) 2 1 e).1 in absurd (omega (arith, b))
+    let b : ◌≡◌ {A = ℕ} 2 1 = (same_from_push (sorts_of f) (sorts_of g) 2 1 e).1 in absurd (omega (arith, b))
 pairs_parts (with_number f n) (with_text g x) sf sg e =
-    let b : ◌≡◌ {A = ℕ} 2 3 = (last_of (sorts_of f) (sorts_of g) 2 3 e).1 in absurd (omega (arith, b))
+    let b : ◌≡◌ {A = ℕ} 2 3 = (same_from_push (sorts_of f) (sorts_of g) 2 3 e).1 in absurd (omega (arith, b))
 pairs_parts (with_number f n) anything sf sg e = absurd sg
 pairs_parts (with_number f n) (observed g) sf sg e = absurd sg
 pairs_parts (with_text f t) (hole q) sf sg e = absurd sg
@@ -381,11 +340,11 @@ pairs_parts (with_text f t) (ending k v) sf sg e = absurd sg
 pairs_parts (with_text f t) (cell k d s) sf sg e = absurd sg
 pairs_parts (with_text f t) (operator b) sf sg e = absurd (no_end (sorts_of f) 3 e)
 pairs_parts (with_text f t) (with_child g x) sf sg e =
-    let b : ◌≡◌ {A = ℕ} 3 0 = (last_of (sorts_of f) (sorts_of g) 3 0 e).1 in absurd (omega (arith, b))
+    let b : ◌≡◌ {A = ℕ} 3 0 = (same_from_push (sorts_of f) (sorts_of g) 3 0 e).1 in absurd (omega (arith, b))
 pairs_parts (with_text f t) (with_name g m) sf sg e =
-    let b : ◌≡◌ {A = ℕ} 3 1 = (last_of (sorts_of f) (sorts_of g) 3 1 e).1 in absurd (omega (arith, b))
+    let b : ◌≡◌ {A = ℕ} 3 1 = (same_from_push (sorts_of f) (sorts_of g) 3 1 e).1 in absurd (omega (arith, b))
 pairs_parts (with_text f t) (with_number g m) sf sg e =
-    let b : ◌≡◌ {A = ℕ} 3 2 = (last_of (sorts_of f) (sorts_of g) 3 2 e).1 in absurd (omega (arith, b))
+    let b : ◌≡◌ {A = ℕ} 3 2 = (same_from_push (sorts_of f) (sorts_of g) 3 2 e).1 in absurd (omega (arith, b))
 pairs_parts (with_text f t) anything sf sg e = absurd sg
 pairs_parts (with_text f t) (observed g) sf sg e = absurd sg
 pairs_parts (hole p) g sf sg e = absurd sf
@@ -485,8 +444,8 @@ pub last_reaches : (f g : Fragment) → agree f g ≡ true → (k : ℕ) (c d : 
     → slice_get (children_of g) k ≡ Some d → (c ≡ d → ⊥) → suc k ≤ last_differing f g
 last_reaches (ending l u) g h k c d at to never = absurd (none-some c at)
 last_reaches (cell l e r) (cell j x s) h zero c d at to never =
-    let one : e ≡ c = some_once e c at in
-    let two : x ≡ d = some_once x d to in
+    let one : e ≡ c = same_Some e c at in
+    let two : x ≡ d = same_Some x d to in
     let differ : same_tree e x ≡ false = same_false e x (λ q. never (sym one ∙ q ∙ two)) in
     let put = ap (λ b. place_before b (last_differing r s)) differ in
     omega (arith, put, place_some (last_differing r s))
@@ -513,7 +472,7 @@ last_reaches (observed f) g h k c d at to never = absurd (false≢true h)
 -- ---- the same operator, or lists of one kind
 
 pub same_both : (a b : Option ℕ) → same_some a b ≡ true → (o : ℕ) × (a ≡ Some o) × (b ≡ Some o)
-same_both (Some a) (Some b) h = (a, refl, ap Some (sym (eqb_same a b h)))
+same_both (Some a) (Some b) h = (a, refl, ap Some (sym (eqb-true a b h)))
 same_both (Some a) None h = absurd (false≢true h)
 same_both None (Some b) h = absurd (false≢true h)
 same_both None None h = absurd (false≢true h)
@@ -560,7 +519,7 @@ module _ (def : Definition) where
   below_most f g (i, (hf, pf)) (j, (hg, pg)) paired =
       let rf = real def f (i, (hf, pf)) in
       let rg = real def g (j, (hg, pg)) in
-      elim (either_holds (same_some (top_operator f) (top_operator g)) (same_some (list_number f) (list_number g)) paired) [
+      elim (or_cases (same_some (top_operator f) (top_operator g)) (same_some (list_number f) (list_number g)) paired) [
         | inl e ↦
             let (o, one, two) = same_both (top_operator f) (top_operator g) e in
             let sf = spine_of f o rf one in
@@ -576,7 +535,7 @@ module _ (def : Definition) where
       let tops : Bool = same_some (top_operator f) (top_operator g) in
       let lists : Bool = same_some (list_number f) (list_number g) in
       let list : ℕ = cond lists (diff_below f g + diff_cells f g) (work_of g) in
-      elim (true_or_false (same_tree f g)) [
+      elim (cases_Bool (same_tree f g)) [
         | inl e ↦
             let none : pairs (children_of f) (children_of g) ≡ 0 =
             ap (λ x. pairs (children_of f) (children_of x)) (sym (same_equal f g e)) ∙ pairs_same (children_of f) in
@@ -587,7 +546,7 @@ module _ (def : Definition) where
             ap (λ b. cond b 0 (cond tops 1 (diff_cells f g))) e in
             let whole : diff_of f g ≡ cond tops (diff_below f g + 1) list =
             ap (λ b. cond b 0 (cond tops (diff_below f g + 1) list)) e in
-            elim (true_or_false tops) [
+            elim (cases_Bool tops) [
               | inl o ↦
                   let top_one : cond tops 1 (diff_cells f g) ≡ 1 = ap (λ b. cond b 1 (diff_cells f g)) o in
                   let whole_one : cond tops (diff_below f g + 1) list ≡ diff_below f g + 1 =
@@ -595,7 +554,7 @@ module _ (def : Definition) where
                   omega (arith, top, whole, top_one, whole_one, below)
               | inr o ↦
                   let kind : lists ≡ true =
-                  elim (either_holds tops lists paired) [ inl x ↦ absurd (false≢true (sym o ∙ x)) | inr x ↦ x ] in
+                  elim (or_cases tops lists paired) [ inl x ↦ absurd (false≢true (sym o ∙ x)) | inr x ↦ x ] in
                   let top_two : cond tops 1 (diff_cells f g) ≡ diff_cells f g = ap (λ b. cond b 1 (diff_cells f g)) o in
                   let whole_two : cond tops (diff_below f g + 1) list ≡ diff_below f g + diff_cells f g =
                   ap (λ b. cond b (diff_below f g + 1) list) o ∙ ap (λ b. cond b (diff_below f g + diff_cells f g) (work_of g)) kind in
@@ -608,7 +567,7 @@ pub other_whole : (f g : Fragment) → is_paired f g ≡ false → (f ≡ g → 
 other_whole f g apart never =
     let tops : Bool = same_some (top_operator f) (top_operator g) in
     let lists : Bool = same_some (list_number f) (list_number g) in
-    let b = both_fail tops lists apart in
+    let b = or_parts tops lists apart in
     let list : ℕ = cond lists (diff_below f g + diff_cells f g) (work_of g) in
     ap (λ x. cond x 0 (cond tops (diff_below f g + 1) list)) (same_false f g never)
     ∙ ap (λ x. cond x (diff_below f g + 1) list) b.0
@@ -617,7 +576,7 @@ other_whole f g apart never =
 -- ---- placeholders
 
 hole_of_number : (f : Fragment) (p : ℕ) → hole_number f ≡ Some p → f ≡ hole p
-hole_of_number (hole q) p e = ap hole (some_once q p e)
+hole_of_number (hole q) p e = ap hole (same_Some q p e)
 hole_of_number (ending l u) q e = absurd (none-some q e)
 hole_of_number (cell l c r) q e = absurd (none-some q e)
 hole_of_number (operator o) q e = absurd (none-some q e)
@@ -632,9 +591,6 @@ pub same_hole : (f g : Fragment) → same_some (hole_number f) (hole_number g) �
 same_hole f g h =
     let (p, one, two) = same_both (hole_number f) (hole_number g) h in
     hole_of_number f p one ∙ sym (hole_of_number g p two)
-
-eqb_refl : (n : ℕ) → (n == n) ≡ true
-eqb_refl n = elim (eqb_tells n n) [ inl e ↦ e.0 | inr e ↦ absurd (e.1 refl) ]
 
 spine_top : (f : Fragment) → IsSpine f → (o : ℕ) × (top_operator f ≡ Some o)
 spine_top (operator o) s = (o, refl)
@@ -652,13 +608,13 @@ spine_paired : (f : Fragment) → IsSpine f → is_paired f f ≡ true
 spine_paired f s =
     let (o, top) = spine_top f s in
     ap (λ x. same_some x x || same_some (list_number f) (list_number f)) top
-    ∙ ap (λ b. b || same_some (list_number f) (list_number f)) (eqb_refl o)
+    ∙ ap (λ b. b || same_some (list_number f) (list_number f)) (eqb-refl o)
 
 -- a tree that is not paired with itself is a placeholder
 alone : (f : Fragment) → IsReal f → is_paired f f ≡ false → same_some (hole_number f) (hole_number f) ≡ true
-alone (hole p) is h = eqb_refl p
-alone (ending l u) is h = absurd (false≢true (sym h ∙ eqb_refl l))
-alone (cell l e r) is h = absurd (false≢true (sym h ∙ eqb_refl l))
+alone (hole p) is h = eqb-refl p
+alone (ending l u) is h = absurd (false≢true (sym h ∙ eqb-refl l))
+alone (cell l e r) is h = absurd (false≢true (sym h ∙ eqb-refl l))
 alone (operator o) is h = absurd (false≢true (sym h ∙ spine_paired (operator o) tt))
 alone (with_child f t) is h = absurd (false≢true (sym h ∙ spine_paired (with_child f t) is.2))
 alone (with_name f n) is h = absurd (false≢true (sym h ∙ spine_paired (with_name f n) is.1))

@@ -2,15 +2,16 @@
 use Rattle.std.proofs.Common.{◌≡◌, ℕ, zero, suc, ◌≤◌, Bool, List, [], ◌∷◌, ◌++◌, map, length, take, drop, slice_get, Some, refl, sym, ◌∙◌, ap, subst, arith}
 use Rattle.std.specs.List.{AllByRecursion}
 use Rattle.std.proofs.lemmas.List.{length-map, take-append-drop}
-use Rattle.std.proofs.lemmas.Option.{none-some}
+use Rattle.std.proofs.lemmas.Option.{none-some, same_Some}
+use Rattle.psg_terms.proofs.Lists.{each_take}
 use Rattle.psg_grammar.specs.declared.types.Definition.{Definition}
 use Rattle.psg_grammar.specs.declared.types.Kind.TheVariants as kinds
 use Rattle.psg_grammar.specs.Fragments.{Fragment, children_of, top_operator}
 use Rattle.psg_grammar.specs.Paths.{Path, IsList}
-use Rattle.psg_grammar.specs.Steps.{list_steps}
+use Rattle.psg_grammar.specs.Steps.{AreWithin, list_steps}
 use Rattle.psg_tree.specs.Shapes.{list_of}
 use Rattle.psg_tree.proofs.Children.{children-list}
-use Rattle.psg_eval.specs.declared.summary.Known.{Known}
+use Rattle.psg_eval.specs.declared.summary.SummaryParts.{SummaryParts}
 use Rattle.psg_eval.specs.Summaries.{AllSummaries, IsSummary, IsSummaryOf}
 use Rattle.psg_cache.specs.declared.note.NoteFault.{NoteFault}
 use Rattle.psg_cache.specs.Annotated.{Annotated, tree_in, whole_in, rests_in, below_in}
@@ -18,21 +19,16 @@ use Rattle.psg_cache.specs.Changes.{IsKept}
 use Rattle.psg_cache.specs.Noted.{IsAnswered, IsNoted, IsNotedAs, IsOfCells, IsOfNodes}
 use Rattle.psg_cache.specs.Notes.{IsFormed}
 use Rattle.psg_cache.specs.Renoting.{AreOfCells, cells_of, first_or, IsCellsFault, TakesCells}
-use Rattle.psg_cache.specs.Walks.{AreListed, AreNotesOf, IsClean, IsMadeOf, IsNumbered, IsStepFault, IsTop, TakesElements, top_steps}
+use Rattle.psg_cache.specs.Walks.{AreListed, AreNotesOf, IsMadeOf, IsNumbered, IsStepFault, IsTop, TakesElements, top_steps}
 use Rattle.psg_cache.proofs.Carrying.{nodes-put}
 use Rattle.psg_cache.proofs.CellLaws.{all_behind, answers_listed, cells_split, listed_answers, listed_front, usual_front}
-use Rattle.psg_cache.proofs.Each.{each_got, same_some}
+use Rattle.psg_cache.proofs.Each.{each_got}
 use Rattle.psg_cache.proofs.ListLaws.{list_kind_is, list_takes, top_list_steps}
 use Rattle.psg_cache.proofs.NoteLaws.{list_known}
 use Rattle.psg_cache.proofs.NoteParts.{noted_parts}
 use Rattle.psg_cache.proofs.RealTrees.{IsReal, real}
 use Rattle.psg_cache.proofs.TopLaws.{answered_nodes, list_answered, listed_top, nodes_answered}
 use Rattle.psg_cache.proofs.WalkLaws.{formed_children, made_noted, notes_summaries, notes_usual}
-
-each_front : {X : Type 0} (P : X → Type 0) (k : ℕ) (xs : List X) → AllByRecursion P xs → AllByRecursion P (take k xs)
-each_front P zero xs h = tt
-each_front P (suc k) [] h = tt
-each_front P (suc k) (x ∷ xs) h = (h.0, each_front P k xs h.1)
 
 each_behind : {X : Type 0} (P : X → Type 0) (k : ℕ) (xs : List X) → AllByRecursion P xs → AllByRecursion P (drop k xs)
 each_behind P zero xs h = h
@@ -50,7 +46,7 @@ real_behind l [] u (suc k) h = h
 real_behind l (e ∷ es) u (suc k) h = real_behind l es u k h.1
 
 module _ (def : Definition) where
-  all_front : (es : List Fragment) (elements : List Known) → AllSummaries def es elements → (i : ℕ)
+  all_front : (es : List Fragment) (elements : List SummaryParts) → AllSummaries def es elements → (i : ℕ)
       → AllSummaries def (take i es) (take i elements)
   all_front es elements h zero = tt
   all_front [] [] h (suc i) = tt
@@ -58,23 +54,23 @@ module _ (def : Definition) where
   all_front (f ∷ fs) [] h (suc i) = absurd h
   all_front (f ∷ fs) (y ∷ ys) h (suc i) = (h.0, all_front fs ys h.1 i)
 
-  pub as_many : (cs : List Fragment) (below : List Known) → AllSummaries def cs below → length cs ≡ length below
+  pub as_many : (cs : List Fragment) (below : List SummaryParts) → AllSummaries def cs below → length cs ≡ length below
   as_many [] [] h = refl
   as_many [] (s ∷ ss) h = absurd h
   as_many (c ∷ cs) [] h = absurd h
   as_many (c ∷ cs) (s ∷ ss) h = let e = as_many cs ss h.1 in omega (arith, e)
 
-  listed_length : (l : ℕ) (u : Bool) (bs : List Known) (s : Known) (ts : List Known) → AreListed def l u bs s ts
+  listed_length : (l : ℕ) (u : Bool) (bs : List SummaryParts) (s : SummaryParts) (ts : List SummaryParts) → AreListed def l u bs s ts
       → length ts ≡ length bs
   listed_length l u [] s [] h = refl
   listed_length l u [] s (t ∷ ts) h = absurd h
   listed_length l u (b ∷ bs) s [] h = absurd h
   listed_length l u (b ∷ bs) s (t ∷ ts) h = let e = listed_length l u bs t ts h.1 in omega (arith, e)
 
-  listed_drop : (l : ℕ) (u : Bool) (bs : List Known) (s : Known) (ts : List Known) → AreListed def l u bs s ts
-      → (k : ℕ) (x : Known) → Some x ≡ slice_get (s ∷ ts) k → AreListed def l u (drop k bs) x (drop k ts)
+  listed_drop : (l : ℕ) (u : Bool) (bs : List SummaryParts) (s : SummaryParts) (ts : List SummaryParts) → AreListed def l u bs s ts
+      → (k : ℕ) (x : SummaryParts) → Some x ≡ slice_get (s ∷ ts) k → AreListed def l u (drop k bs) x (drop k ts)
   listed_drop l u bs s ts h zero x e =
-      subst (λ y. AreListed def l u bs y ts) (same_some s x (sym e)) h
+      subst (λ y. AreListed def l u bs y ts) (same_Some s x (sym e)) h
   listed_drop l u [] s [] h (suc k) x e = absurd (none-some x (sym e))
   listed_drop l u [] s (t ∷ ts) h (suc k) x e = absurd h
   listed_drop l u (b ∷ bs) s [] h (suc k) x e = absurd h
@@ -86,7 +82,7 @@ module _ (def : Definition) where
   noted_list n l u noted same =
       let top = (noted_parts def n noted).0 in
       let es : List Fragment = children_of (tree_in n) in
-      let below : List Known = map whole_in (below_in n) in
+      let below : List SummaryParts = map whole_in (below_in n) in
       listed_answers def l u es below (whole_in n) (rests_in n)
       (list_answered def l es u below (whole_in n) (rests_in n)
       (subst (λ f. IsAnswered def f below (whole_in n) (rests_in n)) same top.answered))
@@ -100,17 +96,17 @@ module _ (def : Definition) where
 
   -- what is known where so many cells are made anew
   record IsRemade (l : ℕ) (es : List Fragment) (u : Bool) (front behind : ℕ) (n : Annotated) (below : List Annotated)
-      (kept : Known) : Type 0 where
+      (kept : SummaryParts) : Type 0 where
     formed : IsFormed def (list_of l es u)
     summaries : AllSummaries def es (map whole_in below)
     usual : AllByRecursion (IsSummary def) (map whole_in below)
     listed : AreListed def l u (drop front (map whole_in below)) kept (drop behind (rests_in n))
     known : IsSummaryOf def (list_of l (drop front es) u) kept
-        × ((path : Path) → IsClean def (list_steps def path (list_of l (drop front es) u)))
+        × ((path : Path) → AreWithin def (list_steps def path (list_of l (drop front es) u)))
     suffixes : AllByRecursion (IsSummary def) (kept ∷ drop behind (rests_in n))
 
   remade : (made : Fragment) (l : ℕ) (es : List Fragment) (u : Bool) (first front behind : ℕ) (n : Annotated)
-      (below : List Annotated) (kept : Known) → made ≡ list_of l es u → IsFormed def made
+      (below : List Annotated) (kept : SummaryParts) → made ≡ list_of l es u → IsFormed def made
       → AreNotesOf def (children_of made) below → IsKept def n first behind front made below
       → Some kept ≡ slice_get (whole_in n ∷ rests_in n) behind → IsRemade l es u front behind n below kept
   remade made l es u first front behind n below kept same formed notes is at =
@@ -148,7 +144,7 @@ module _ (def : Definition) where
       }
 
   pub remade_takes : (made : Fragment) (l : ℕ) (es : List Fragment) (u : Bool) (first front behind : ℕ) (n : Annotated)
-      (below : List Annotated) (kept : Known) → made ≡ list_of l es u → IsFormed def made
+      (below : List Annotated) (kept : SummaryParts) → made ≡ list_of l es u → IsFormed def made
       → AreNotesOf def (children_of made) below → IsKept def n first behind front made below
       → Some kept ≡ slice_get (whole_in n ∷ rests_in n) behind
       → TakesCells def l (take front (map whole_in below)) kept
@@ -160,14 +156,14 @@ module _ (def : Definition) where
         list = takes.list;
         found = takes.found;
         element_kinds =
-            each_front (λ (s : Known). s.kind ≡ kinds.Phylum takes.list.element) front (map whole_in below)
+            each_take (λ (s : SummaryParts). s.kind ≡ kinds.Phylum takes.list.element) front (map whole_in below)
             takes.element_kinds;
         rest_kind = list_kind_is def l (drop front es) u kept h.known.0;
-        usual = (h.suffixes.0, each_front (IsSummary def) front (map whole_in below) takes.usual);
+        usual = (h.suffixes.0, each_take (IsSummary def) front (map whole_in below) takes.usual);
       }
 
   pub remade_fault : (path : Path) (made : Fragment) (l : ℕ) (es : List Fragment) (u : Bool) (first front behind : ℕ)
-      (n : Annotated) (below : List Annotated) (kept : Known) (fault : NoteFault) → made ≡ list_of l es u
+      (n : Annotated) (below : List Annotated) (kept : SummaryParts) (fault : NoteFault) → made ≡ list_of l es u
       → IsFormed def made → AreNotesOf def (children_of made) below → IsKept def n first behind front made below
       → Some kept ≡ slice_get (whole_in n ∷ rests_in n) behind
       → IsCellsFault def path l (take front (map whole_in below)) kept fault
@@ -183,14 +179,14 @@ module _ (def : Definition) where
       (h.known.1 path))))
 
   pub remade_noted : (made : Fragment) (l : ℕ) (es : List Fragment) (u : Bool) (first front behind : ℕ) (n : Annotated)
-      (below : List Annotated) (kept : Known) (news : List Known) (s : Known) (ts : List Known) (note : Annotated)
+      (below : List Annotated) (kept : SummaryParts) (news : List SummaryParts) (s : SummaryParts) (ts : List SummaryParts) (note : Annotated)
       → made ≡ list_of l es u → IsFormed def made → AreNotesOf def (children_of made) below
       → IsKept def n first behind front made below → Some kept ≡ slice_get (whole_in n ∷ rests_in n) behind
       → AreOfCells def l (take front (map whole_in below)) kept news → AllByRecursion (IsSummary def) news
       → s ∷ ts ≡ news ++ kept ∷ drop behind (rests_in n) → IsMadeOf made s ts below note → IsNotedAs def made note
   remade_noted made l es u first front behind n below kept news s ts note same formed notes is at cells usual all make =
       let h = remade made l es u first front behind n below kept same formed notes is at in
-      let wholes : List Known = map whole_in below in
+      let wholes : List SummaryParts = map whole_in below in
       let listed : AreListed def l u wholes s ts =
       subst (λ bs. AreListed def l u bs s ts) (take-append-drop front wholes)
       (listed_front def l u (take front wholes) kept news (drop front wholes) (drop behind (rests_in n)) s ts cells
@@ -218,13 +214,13 @@ module _ (def : Definition) where
 
   -- ---- the old cells of the first elements
 
-  first_there : (t : Known) (ts : List Known) (k : ℕ) (x : Known) → Some x ≡ slice_get (t ∷ ts) k
+  first_there : (t : SummaryParts) (ts : List SummaryParts) (k : ℕ) (x : SummaryParts) → Some x ≡ slice_get (t ∷ ts) k
       → t ≡ first_or x (take k (t ∷ ts))
-  first_there t ts zero x e = same_some t x (sym e)
+  first_there t ts zero x e = same_Some t x (sym e)
   first_there t ts (suc k) x e = refl
 
-  listed_take : (l : ℕ) (u : Bool) (bs : List Known) (s : Known) (ts : List Known) → AreListed def l u bs s ts
-      → (k : ℕ) (x : Known) → Some x ≡ slice_get (s ∷ ts) k → AreOfCells def l (take k bs) x (take k (s ∷ ts))
+  listed_take : (l : ℕ) (u : Bool) (bs : List SummaryParts) (s : SummaryParts) (ts : List SummaryParts) → AreListed def l u bs s ts
+      → (k : ℕ) (x : SummaryParts) → Some x ≡ slice_get (s ∷ ts) k → AreOfCells def l (take k bs) x (take k (s ∷ ts))
   listed_take l u bs s ts h zero x e = tt
   listed_take l u [] s [] h (suc k) x e = absurd (none-some x (sym e))
   listed_take l u [] s (t ∷ ts) h (suc k) x e = absurd h
@@ -232,14 +228,14 @@ module _ (def : Definition) where
   listed_take l u (b ∷ bs) s (t ∷ ts) h (suc k) x e =
       (subst (λ r. IsOfCells def l b r s) (first_there t ts k x e) h.0, listed_take l u bs t ts h.1 k x e)
 
-  fewer_taken : (k m : ℕ) (xs : List Known) → k ≤ m → take k (take m xs) ≡ take k xs
+  fewer_taken : (k m : ℕ) (xs : List SummaryParts) → k ≤ m → take k (take m xs) ≡ take k xs
   fewer_taken zero m xs small = refl
   fewer_taken (suc k) zero xs small = absurd (omega (arith, small))
   fewer_taken (suc k) (suc m) [] small = refl
   fewer_taken (suc k) (suc m) (x ∷ xs) small = ap (λ ys. x ∷ ys) (fewer_taken k m xs (omega (arith, small)))
 
   pub remade_olds : (made : Fragment) (l : ℕ) (es : List Fragment) (u : Bool) (first front behind : ℕ) (n : Annotated)
-      (below : List Annotated) (was : Known) → made ≡ list_of l es u → IsKept def n first behind front made below
+      (below : List Annotated) (was : SummaryParts) → made ≡ list_of l es u → IsKept def n first behind front made below
       → Some was ≡ slice_get (whole_in n ∷ rests_in n) first
       → AreOfCells def l (take first (take front (map whole_in below))) was (take first (whole_in n ∷ rests_in n))
   remade_olds made l es u first front behind n below was same is at =
@@ -253,7 +249,7 @@ module _ (def : Definition) where
       → IsKept def n first behind front made below
       → AllByRecursion (IsSummary def) (take first (whole_in n ∷ rests_in n))
   olds_usual made first front behind n below is =
-      each_front (IsSummary def) first (whole_in n ∷ rests_in n) (noted_parts def n is.noted).0.usual
+      each_take (IsSummary def) first (whole_in n ∷ rests_in n) (noted_parts def n is.noted).0.usual
 
   -- ---- a node whose children have the old summaries
 
@@ -263,8 +259,8 @@ module _ (def : Definition) where
       → IsNotedAs def made note
   unchanged_noted made o first front behind n below note at formed notes is empty make =
       let (none, top, names) = is.nodes o at empty in
-      let ws : List Known = map whole_in below in
-      let olds : List Known = map whole_in (below_in n) in
+      let ws : List SummaryParts = map whole_in below in
+      let olds : List SummaryParts = map whole_in (below_in n) in
       let wholes : ws ≡ olds = sym (ap (λ k. drop k ws) empty) ∙ is.kept ∙ ap (λ k. drop k olds) none in
       let parts = noted_parts def n is.noted in
       let old : IsOfNodes def (tree_in n) olds (whole_in n) =

@@ -1,10 +1,11 @@
 -- The notes of children beside those of an old tree, and what a changed top takes.
 use Rattle.std.proofs.Common.{◌≡◌, ◌⊎◌, inl, inr, ℕ, zero, suc, ◌+◌, ◌-◌, ◌<◌, ◌≤◌, ◌&&◌, Bool, true, false, cond, List, [], ◌∷◌, ◌++◌, length, map, take, drop, get_or, slice_get, Option, Some, None, refl, sym, ◌∙◌, ap, ap₂, subst, append-nil, arith}
 use Rattle.std.specs.Prelude.{◌↔◌}
-use Rattle.std.proofs.lemmas.Bool.{false≢true}
-use Rattle.std.proofs.lemmas.List.{drop_all, length-append, length-map, length-take-le, take_all}
+use Rattle.std.proofs.lemmas.Bool.{false≢true, or_cases, cases_Bool}
+use Rattle.std.proofs.lemmas.List.{drop_all, length-append, length-map, length-take-le, take_all, drop-append-le}
 use Rattle.std.proofs.lemmas.List.Sums.{sum_by_push}
-use Rattle.psg_terms.proofs.DeclareLaws.{take-next}
+use Rattle.std.proofs.lemmas.Option.{same_Some}
+use Rattle.psg_terms.proofs.Lists.{take_item, slice_get_item}
 use Rattle.psg_grammar.specs.Work.{work_of}
 use Rattle.psg_grammar.specs.Fragments.{Fragment, hole, ending, cell, operator, with_child, with_name, with_number, with_text, anything, observed, children_of, top_operator}
 use Rattle.psg_grammar.specs.Paths.{IsList}
@@ -19,8 +20,7 @@ use Rattle.psg_cache.specs.Renoting.{IsKeptOr, IsRenoted}
 use Rattle.psg_cache.specs.Walks.{AreNotesOf, top_evaluations}
 use Rattle.psg_cache.proofs.ChangeLaws.{own_trees}
 use Rattle.psg_cache.proofs.Counting.{together}
-use Rattle.psg_cache.proofs.Each.{same_some as some_once}
-use Rattle.psg_cache.proofs.PairLaws.{agree_long, either_holds, last_reaches, lists_paired, pairs, pairs_front, pairs_next, pairs_rest, same_both, same_false, spine_of, true_or_false, whole_most}
+use Rattle.psg_cache.proofs.PairLaws.{agree_long, last_reaches, lists_paired, pairs, pairs_front, pairs_next, pairs_rest, same_both, same_false, spine_of, whole_most}
 use Rattle.psg_cache.proofs.RealTrees.{IsReal, IsSpine}
 use Rattle.psg_cache.proofs.SpliceLaws.{spine_once}
 
@@ -39,11 +39,6 @@ wholes_less (suc k) (n ∷ ns) (m ∷ ms) x y a b c d e h =
 
 -- ---- the last child that differs
 
-drop-front : {X : Type 0} (k : ℕ) (xs ys : List X) → k ≤ length xs → drop k (xs ++ ys) ≡ drop k xs ++ ys
-drop-front zero xs ys h = refl
-drop-front (suc k) [] ys h = absurd (omega (arith, h))
-drop-front (suc k) (x ∷ xs) ys h = drop-front k xs ys (omega (arith, h))
-
 -- with one more child
 pub behind_next : (notes below longer : List Annotated) (i last now : ℕ) (old note : Annotated) (made : Option Annotated)
     (alike : Bool) → i < length notes → old ≡ get_or notes i old → longer ≡ below ++ note ∷ [] → length below ≡ i
@@ -52,13 +47,13 @@ pub behind_next : (notes below longer : List Annotated) (i last now : ℕ) (old 
     → (now ≤ i + 1) × (drop now longer ≡ drop now (take (i + 1) notes))
 behind_next notes below longer i last now old note None alike small at more long within told kept before =
     let same : now ≡ last = told ∙ ap (λ b. cond b last (i + 1)) kept.1 in
-    let next : take (i + 1) notes ≡ take i notes ++ old ∷ [] = take-next notes i old small at in
+    let next : take (i + 1) notes ≡ take i notes ++ old ∷ [] = take_item notes i old small at in
     let count : length (take i notes) ≡ i = length-take-le i notes (omega (arith, small)) in
     let one : drop last longer ≡ drop last below ++ old ∷ [] =
-    ap (drop last) more ∙ drop-front last below (note ∷ []) (omega (arith, long, within))
+    ap (drop last) more ∙ drop-append-le last below (note ∷ []) (omega (arith, long, within))
     ∙ ap (λ x. drop last below ++ x ∷ []) kept.0 in
     let two : drop last (take (i + 1) notes) ≡ drop last (take i notes) ++ old ∷ [] =
-    ap (drop last) next ∙ drop-front last (take i notes) (old ∷ []) (omega (arith, count, within)) in (
+    ap (drop last) next ∙ drop-append-le last (take i notes) (old ∷ []) (omega (arith, count, within)) in (
       omega (arith, same, within),
       ap (λ k. drop k longer) same ∙ one ∙ ap (λ xs. xs ++ old ∷ []) before ∙ sym two
           ∙ sym (ap (λ k. drop k (take (i + 1) notes)) same),
@@ -78,11 +73,6 @@ got_tree [] k n small at = absurd (omega (arith, small))
 got_tree (m ∷ ns) zero n small at = ap (λ x. Some (tree_in x)) (sym at)
 got_tree (m ∷ ns) (suc k) n small at = got_tree ns k n (omega (arith, small)) at
 
-got_child : (ns : List Fragment) (k : ℕ) (n : Fragment) → k < length ns → n ≡ get_or ns k n → slice_get ns k ≡ Some n
-got_child [] k n small at = absurd (omega (arith, small))
-got_child (m ∷ ns) zero n small at = ap Some (sym at)
-got_child (m ∷ ns) (suc k) n small at = got_child ns k n (omega (arith, small)) at
-
 pub apart_next : (def : Definition) (notes : List Annotated) (cs ds : List Fragment) (i last now : ℕ)
     (old note : Annotated) (new : Fragment) (made : Option Annotated) (alike : Bool) → i < length notes
     → i < length ds → old ≡ get_or notes i old → new ≡ get_or ds i new → map tree_in notes ≡ cs
@@ -96,7 +86,7 @@ apart_next def notes cs ds i last now old note new (Some m) alike small there at
       tree_in old,
       new,
       ap (λ xs. slice_get xs i) (sym trees) ∙ got_tree notes i old small at,
-      got_child ds i new there to,
+      slice_get_item ds i new there to,
       is.0,
     ) in
     subst (λ k. DifferBefore k cs ds) (sym (told ∙ ap (λ b. cond b last (i + 1)) kept.1 ∙ next)) it
@@ -122,7 +112,7 @@ all_behind notes first below rest many last count front grown either long =
 pub apart_differ : (last : ℕ) (cs ds : List Fragment) → 0 < last → DifferBefore last cs ds → cs ≡ ds → ⊥
 apart_differ zero cs ds some h same = omega (arith, some)
 apart_differ (suc k) cs ds some (c, d, one, two, never) same =
-    never (some_once c d (sym one ∙ ap (λ xs. slice_get xs k) same ∙ two))
+    never (same_Some c d (sym one ∙ ap (λ xs. slice_get xs k) same ∙ two))
 
 -- ---- at the top
 
@@ -136,7 +126,7 @@ apart_told old new true many alike told count both fails =
     λ n. false≢true (sym few ∙ count.1 n) in
     record {
       differ = λ same. other (ap (λ f. length (children_of f)) same);
-      ends = λ yes. elim (true_or_false (agree old new)) [ inl e ↦ absurd (other (agree_long old new e)) | inr e ↦ e ];
+      ends = λ yes. elim (cases_Bool (agree old new)) [ inl e ↦ absurd (other (agree_long old new e)) | inr e ↦ e ];
     }
 apart_told old new false many alike told count both fails = told
 
@@ -189,7 +179,7 @@ unlike_most old new is paired h =
     let cost = top_cost old new h.differ in
     let tops : Bool = same_some (top_operator old) (top_operator new) in
     let lists : Bool = same_some (list_number old) (list_number new) in
-    elim (either_holds tops lists paired) [
+    elim (or_cases tops lists paired) [
       | inl e ↦
           let (o, one, two) = same_both (top_operator old) (top_operator new) e in
           let once = once_most old new is o two in
@@ -230,7 +220,7 @@ remade_apart old new last front paired alike long never apart small =
     let cost = top_cost old new never in
     let tops : Bool = same_some (top_operator old) (top_operator new) in
     let lists : Bool = same_some (list_number old) (list_number new) in
-    elim (either_holds tops lists paired) [
+    elim (or_cases tops lists paired) [
       | inl e ↦
           let (o, one, two) = same_both (top_operator old) (top_operator new) e in
           let once = spine_once new o front two in
@@ -268,7 +258,7 @@ pair_next ns ds i n d small within at to =
 pub next_most : (children : List Fragment) (i : ℕ) (child : Fragment) → i < length children
     → child ≡ get_or children i child → together (take (i + 1) children) ≡ together (take i children) + work_of child
 next_most children i child small at =
-    ap together (take-next children i child small at) ∙ sum_by_push work_of (take i children) child
+    ap together (take_item children i child small at) ∙ sum_by_push work_of (take i children) child
 
 -- ---- from the last child to the first
 

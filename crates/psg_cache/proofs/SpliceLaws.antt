@@ -4,6 +4,7 @@ use Rattle.std.specs.List.{AllByRecursion}
 use Rattle.std.proofs.lemmas.Bool.Decides.{eqb_tells}
 use Rattle.std.proofs.lemmas.List.{drop_all, drop_at, drop-append-le, drop-map, length-append, length-take-le, map-append, take_at, take-append-le, take-map}
 use Rattle.std.proofs.lemmas.Option.{none-some, slice_get_within}
+use Rattle.psg_terms.proofs.Lists.{slice_get-end_is, slice_get-not_end}
 use Rattle.psg_grammar.specs.declared.types.Definition.{Definition}
 use Rattle.psg_grammar.specs.declared.types.Kind.{Kind}
 use Rattle.psg_grammar.specs.declared.types.Kind.TheVariants as kinds
@@ -26,17 +27,6 @@ use Rattle.psg_cache.proofs.Each.{each_append}
 
 -- ---- a changed child
 
-pub get_last : (xs : List Fragment) (t c : Fragment) → slice_get (xs ++ t ∷ []) (length xs) ≡ Some c → c ≡ t
-get_last [] t c e = cc
-get_last (x ∷ xs) t c e = get_last xs t c e
-
-pub get_front : (xs : List Fragment) (t c : Fragment) (k : ℕ) → (length xs ≡ k → ⊥)
-    → slice_get (xs ++ t ∷ []) k ≡ Some c → slice_get xs k ≡ Some c
-get_front [] t c zero never e = absurd (never refl)
-get_front [] t c (suc k) never e = e
-get_front (x ∷ xs) t c zero never e = e
-get_front (x ∷ xs) t c (suc k) never e = get_front xs t c k (λ q. never (ap suc q)) e
-
 module _ (g : Fragment → Fragment) where
   pub children_changed : (f : Fragment) (k : ℕ) (c : Fragment) → slice_get (children_of f) k ≡ Some c
       → children_of (change_child g k f) ≡ take k (children_of f) ++ g c ∷ drop (suc k) (children_of f)
@@ -55,14 +45,14 @@ module _ (g : Fragment → Fragment) where
       elim (eqb_tells (length (children_of f)) k) [
         | inl e ↦
             let there = subst (λ n. slice_get (children_of f ++ t ∷ []) n ≡ Some c) (sym e.1) at in
-            let same : c ≡ t = get_last (children_of f) t c there in
+            let same : c ≡ t = slice_get-end_is (children_of f) t c there in
             let front : take k (cs ++ t ∷ []) ≡ cs = take_at cs (t ∷ []) k e.1 in
             let back : drop (suc k) (cs ++ t ∷ []) ≡ [] =
             drop_all (suc k) (cs ++ t ∷ []) (let q = e.1 in omega (arith, many, q)) in
             subst B (sym e.0)
             (ap (λ x. cs ++ g x ∷ []) (sym same) ∙ sym (ap₂ (λ a b. a ++ g c ∷ b) front back))
         | inr e ↦
-            let inside = get_front (children_of f) t c k e.1 at in
+            let inside = slice_get-not_end (children_of f) t c k e.1 at in
             let small : k < length cs = slice_get_within cs k c inside in
             let front : take k (cs ++ t ∷ []) ≡ take k cs = take-append-le k cs (t ∷ []) (omega (arith, small)) in
             let back : drop (suc k) (cs ++ t ∷ []) ≡ drop (suc k) cs ++ t ∷ [] =

@@ -1,33 +1,26 @@
 -- The steps of a tree in their order, and the first of them that passes the limit.
 use Rattle.std.proofs.Common.{◌≡◌, ◌⊎◌, inl, inr, ℕ, zero, suc, ◌+◌, ◌<◌, ◌≤◌, List, [], ◌∷◌, ◌++◌, length, slice_get, Some, refl, sym, ◌∙◌, ap, ap₂, subst, append_assoc, append-nil, arith}
+use Rattle.std.proofs.lemmas.Option.{same_Some}
+use Rattle.psg_terms.proofs.Lists.{in_either, slice_get-middle}
 use Rattle.std.specs.Prelude.{Result}
 use Rattle.psg_terms.specs.Relations.{IsIn, first, later}
 use Rattle.psg_grammar.specs.declared.types.Definition.{Definition}
 use Rattle.psg_grammar.specs.Fragments.{Fragment, hole, ending, cell, operator, with_child, with_name, with_number, with_text, anything, observed, children_of}
 use Rattle.psg_grammar.specs.Paths.{Path, IsList}
-use Rattle.psg_grammar.specs.Steps.{Place, PassesAt, last_step, steps_up_to, own_steps, list_steps, steps_of, steps_below, IsFirstWide, IsWide}
-use Rattle.psg_eval.specs.declared.summary.Known.{Known}
+use Rattle.psg_grammar.specs.Steps.{AreWithin, IsFirstOf, Place, PassesAt, last_step, steps_up_to, own_steps}
+use Rattle.psg_grammar.specs.Steps.{list_steps, steps_of, steps_below, IsFirstWide, IsWide}
+use Rattle.psg_eval.specs.declared.summary.SummaryParts.{SummaryParts}
 use Rattle.psg_eval.specs.declared.summary.EvalFault.{EvalFault}
 use Rattle.psg_eval.specs.Summaries.{IsFirstPassing, StaysWithin, Answers}
 use Rattle.psg_cache.specs.declared.note.NoteFault.{NoteFault}
 use Rattle.psg_cache.specs.declared.note.NoteFault.TheVariants as faults
-use Rattle.psg_cache.specs.Walks.{each_steps, top_steps, IsClean, IsFirstOf, IsStepFault, IsAnswerFault}
-use Rattle.psg_cache.proofs.Each.{same_some}
+use Rattle.psg_cache.specs.Walks.{each_steps, top_steps, IsStepFault, IsAnswerFault}
 use Rattle.psg_cache.proofs.RealTrees.{IsReal, IsSpine}
-
-in_either : {X : Type 0} (x : X) (xs ys : List X) → IsIn x (xs ++ ys) → IsIn x xs ⊎ IsIn x ys
-in_either x [] ys h = inr h
-in_either x (y ∷ xs) ys first = inl first
-in_either x (y ∷ xs) ys (later h) = elim (in_either x xs ys h) [ inl a ↦ inl (later a) | inr b ↦ inr b ]
 
 got_in : {X : Type 0} (x : X) (xs ys : List X) (k : ℕ) → k < length xs → slice_get (xs ++ ys) k ≡ Some x → IsIn x xs
 got_in x [] ys k h e = absurd (omega (arith, h))
-got_in x (y ∷ xs) ys zero h e = let same : y ≡ x = same_some y x e in subst (λ z. IsIn z (y ∷ xs)) same first
+got_in x (y ∷ xs) ys zero h e = let same : y ≡ x = same_Some y x e in subst (λ z. IsIn z (y ∷ xs)) same first
 got_in x (y ∷ xs) ys (suc k) h e = later (got_in x xs ys k (omega (arith, h)) e)
-
-got_there : {X : Type 0} (x : X) (xs ys : List X) → slice_get (xs ++ x ∷ ys) (length xs) ≡ Some x
-got_there x [] ys = refl
-got_there x (y ∷ xs) ys = got_there x xs ys
 
 pub each_steps-push : (def : Definition) (path : Path) (n : ℕ) (cs : List Fragment) (c : Fragment)
     → each_steps def path n (cs ++ c ∷ []) ≡ each_steps def path n cs ++ steps_of def (path ++ (n + length cs) ∷ []) c
@@ -50,11 +43,11 @@ each_steps-append def path n (c ∷ cs) ds m e =
     ∙ sym (append_assoc (steps_of def (path ++ n ∷ []) c) (each_steps def path (n + 1) cs) (each_steps def path m ds))
 
 module _ (def : Definition) where
-  pub clean-none : IsClean def []
-  clean-none place h = elim h [ ]
+  pub within-none : AreWithin def []
+  within-none place h = elim h [ ]
 
-  pub clean-append : (xs ys : List Place) → IsClean def xs → IsClean def ys → IsClean def (xs ++ ys)
-  clean-append xs ys h k place i = elim (in_either place xs ys i) [ inl a ↦ h place a | inr b ↦ k place b ]
+  pub within-append : (xs ys : List Place) → AreWithin def xs → AreWithin def ys → AreWithin def (xs ++ ys)
+  within-append xs ys h k place i = elim (in_either place xs ys i) [ inl a ↦ h place a | inr b ↦ k place b ]
 
   first-left : (xs ys : List Place) (place : Place) → IsFirstOf def xs place → IsFirstOf def (xs ++ ys) place
   first-left xs ys place h = record {
@@ -63,17 +56,17 @@ module _ (def : Definition) where
     rest = h.rest ++ ys;
     split =
         ap (λ l. l ++ ys) h.split ∙ append_assoc h.front (place ∷ h.rest) ys;
-    clean = h.clean;
+    within = h.within;
     passes = h.passes;
   }
 
-  first-behind : (xs ys : List Place) (place : Place) → IsClean def xs → IsFirstOf def ys place
+  first-behind : (xs ys : List Place) (place : Place) → AreWithin def xs → IsFirstOf def ys place
       → IsFirstOf def (xs ++ ys) place
   first-behind xs ys place c h = record {
     front = xs ++ h.front;
     rest = h.rest;
     split = ap (λ l. xs ++ l) h.split ∙ sym (append_assoc xs h.front (place ∷ h.rest));
-    clean = clean-append xs h.front c h.clean;
+    within = within-append xs h.front c h.within;
     passes = h.passes;
   }
 
@@ -86,7 +79,7 @@ module _ (def : Definition) where
   fault-left xs ys faults.Big h = absurd h
   fault-left xs ys faults.Heavy h = absurd h
 
-  pub fault-behind : (xs ys : List Place) (fault : NoteFault) → IsClean def xs → IsStepFault def ys fault
+  pub fault-behind : (xs ys : List Place) (fault : NoteFault) → AreWithin def xs → IsStepFault def ys fault
       → IsStepFault def (xs ++ ys) fault
   fault-behind xs ys (faults.Wide path step) c (part, h) =
       (part, first-behind xs ys (record { path = path; part = part; step = step }) c h)
@@ -95,21 +88,21 @@ module _ (def : Definition) where
   fault-behind xs ys faults.Big c h = absurd h
   fault-behind xs ys faults.Heavy c h = absurd h
 
-  clean-one : (place : Place) → (PassesAt def place.part place.step → ⊥) → IsClean def (place ∷ [])
-  clean-one place h other first = h
-  clean-one place h other (later i) = elim i [ ]
+  within-one : (place : Place) → (PassesAt def place.part place.step → ⊥) → AreWithin def (place ∷ [])
+  within-one place h other first = h
+  within-one place h other (later i) = elim i [ ]
 
-  up_clean : (path : Path) (f : Fragment) (n : ℕ) → ((k : ℕ) → k ≤ n → PassesAt def f k → ⊥)
-      → IsClean def (steps_up_to path f n)
-  up_clean path f zero h = clean-one (record { path = path; part = f; step = 0 }) (h 0 (omega arith))
-  up_clean path f (suc n) h =
-      clean-append (steps_up_to path f n) (record {
+  up_within : (path : Path) (f : Fragment) (n : ℕ) → ((k : ℕ) → k ≤ n → PassesAt def f k → ⊥)
+      → AreWithin def (steps_up_to path f n)
+  up_within path f zero h = within-one (record { path = path; part = f; step = 0 }) (h 0 (omega arith))
+  up_within path f (suc n) h =
+      within-append (steps_up_to path f n) (record {
         path =
             path;
         part = f;
         step = suc n;
-      } ∷ []) (up_clean path f n (λ k l. h k (omega (arith, l))))
-      (clean-one (record { path = path; part = f; step = suc n }) (h (suc n) (omega arith)))
+      } ∷ []) (up_within path f n (λ k l. h k (omega (arith, l))))
+      (within-one (record { path = path; part = f; step = suc n }) (h (suc n) (omega arith)))
 
   up_first : (path : Path) (f : Fragment) (n step : ℕ) → step ≤ n → PassesAt def f step
       → ((k : ℕ) → k < step → PassesAt def f k → ⊥) → IsFirstOf def (steps_up_to path f n)
@@ -121,20 +114,20 @@ module _ (def : Definition) where
             [];
         rest = [];
         split = ap (λ k. record { path = path; part = f; step = k } ∷ []) e;
-        clean =
-            clean-none;
+        within =
+            within-none;
         passes = p;
       }
   up_first path f (suc n) step l p h = elim (last step n l) [
     | inl small ↦ first-left (steps_up_to path f n) (record { path = path; part = f; step = suc n } ∷ [])
         (record { path = path; part = f; step = step }) (up_first path f n step small p h)
     | inr same ↦ first-behind (steps_up_to path f n) (record { path = path; part = f; step = suc n } ∷ [])
-        (record { path = path; part = f; step = step }) (up_clean path f n (λ k m. h k (omega (arith, m, same))))
+        (record { path = path; part = f; step = step }) (up_within path f n (λ k m. h k (omega (arith, m, same))))
         (record {
           front = [];
           rest = [];
           split = ap (λ k. record { path = path; part = f; step = k } ∷ []) (sym same);
-          clean = clean-none;
+          within = within-none;
           passes = p;
         })
   ] where
@@ -147,10 +140,10 @@ module _ (def : Definition) where
           (omega (arith, b))
     ]
 
-  pub own_clean : (path : Path) (f : Fragment) → StaysWithin def f → IsClean def (own_steps def path f)
-  own_clean path f h = up_clean path f (last_step def f) h
+  pub own_within : (path : Path) (f : Fragment) → StaysWithin def f → AreWithin def (own_steps def path f)
+  own_within path f h = up_within path f (last_step def f) h
 
-  pub own_fault : (path : Path) (f : Fragment) (answer : Result Known EvalFault) (fault : NoteFault)
+  pub own_fault : (path : Path) (f : Fragment) (answer : Result SummaryParts EvalFault) (fault : NoteFault)
       → Answers def f answer → IsAnswerFault path answer fault → IsStepFault def (own_steps def path f) fault
   own_fault path f answer fault h (inl memory) = subst (IsStepFault def (own_steps def path f)) (sym memory) tt
   own_fault path f answer fault h (inr (step, wide, is)) =
@@ -214,12 +207,12 @@ module _ (def : Definition) where
   pub first_wide : (f : Fragment) (place : Place) → IsFirstOf def (steps_of def [] f) place → IsFirstWide def f place
   first_wide f place h = record {
     number = length h.front;
-    found = subst (λ l. slice_get l (length h.front) ≡ Some place) (sym h.split) (got_there place h.front h.rest);
+    found = subst (λ l. slice_get l (length h.front) ≡ Some place) (sym h.split) (slice_get-middle h.front place h.rest);
     passes = h.passes;
     first =
-        λ k earlier l e. h.clean earlier (got_in earlier h.front (place ∷ h.rest) k l
+        λ k earlier l e. h.within earlier (got_in earlier h.front (place ∷ h.rest) k l
         (subst (λ x. slice_get x k ≡ Some earlier) h.split e));
   }
 
-  pub not_wide : (f : Fragment) → IsClean def (steps_of def [] f) → IsWide def f → ⊥
+  pub not_wide : (f : Fragment) → AreWithin def (steps_of def [] f) → IsWide def f → ⊥
   not_wide f c (place, h, p) = c place h p

@@ -2,26 +2,26 @@
 use Rattle.std.proofs.Common.{◌≡◌, inl, inr, ℕ, zero, suc, ◌+◌, ◌<◌, ◌≤◌, List, [], ◌∷◌, ◌++◌, map, length, take, drop, get_or, refl, sym, ◌∙◌, ap, ap₂, subst, append-nil, drop-cons, arith}
 use Rattle.std.specs.List.{AllByRecursion}
 use Rattle.std.proofs.lemmas.List.{map-append, take_all, take-append-drop, length-take-le}
-use Rattle.psg_terms.proofs.DeclareLaws.{take-next}
+use Rattle.psg_terms.proofs.Lists.{take_item}
 use Rattle.psg_grammar.specs.declared.types.Definition.{Definition}
 use Rattle.psg_grammar.specs.declared.limits.TheConstants.{MOST_WEIGHTS}
 use Rattle.psg_grammar.specs.Fragments.{Fragment, children_of}
 use Rattle.psg_grammar.specs.Paths.{Path}
 use Rattle.psg_grammar.specs.Sizes.{IsBig, IsDeep}
 use Rattle.psg_grammar.specs.Sound.{IsSound}
-use Rattle.psg_grammar.specs.Steps.{HasWeights, steps_of}
-use Rattle.psg_eval.specs.declared.summary.Known.{Known}
+use Rattle.psg_grammar.specs.Steps.{AreWithin, HasWeights, steps_of}
+use Rattle.psg_eval.specs.declared.summary.SummaryParts.{SummaryParts}
 use Rattle.psg_eval.specs.Summaries.{AllSummaries, IsSummary}
 use Rattle.psg_cache.specs.declared.note.NoteFault.{NoteFault}
 use Rattle.psg_cache.specs.declared.note.NoteFault.TheVariants as faults
 use Rattle.psg_cache.specs.Annotated.{Annotated, topped, tree_in, whole_in, weight_in, with_below}
 use Rattle.psg_cache.specs.Noted.{IsNoted, IsNotedAs, IsTopped, own_weight, summed}
 use Rattle.psg_cache.specs.Notes.{IsFormed, IsNoteFault, IsNoteOf}
-use Rattle.psg_cache.specs.Walks.{AreNotesOf, each_steps, top_steps, IsClean, IsMadeOf, IsSizeFault, IsSmall, IsStepFault, IsTop}
+use Rattle.psg_cache.specs.Walks.{AreNotesOf, each_steps, top_steps, IsMadeOf, IsSizeFault, IsSmall, IsStepFault, IsTop}
 use Rattle.psg_cache.proofs.ChildLaws.{formed_below}
 use Rattle.psg_cache.proofs.Each.{each_push}
 use Rattle.psg_cache.proofs.Inducting.{noted_with, tree-with}
-use Rattle.psg_cache.proofs.NoteLaws.{children_clean, children_known, holds, noted_known}
+use Rattle.psg_cache.proofs.NoteLaws.{children_within, children_known, holds, noted_known}
 use Rattle.psg_cache.proofs.NoteParts.{noted_parts}
 use Rattle.psg_cache.proofs.NoteWeights.{noted_weighs}
 use Rattle.psg_cache.proofs.RealTrees.{IsReal, real}
@@ -45,7 +45,7 @@ module _ (def : Definition) where
       → AreNotesOf def (take i children) below → IsNotedAs def child n
       → AreNotesOf def (take (i + 1) children) longer
   notes_more children i child below longer n small at made h k =
-      subst (λ l. AreNotesOf def l longer) (sym (take-next children i child small at))
+      subst (λ l. AreNotesOf def l longer) (sym (take_item children i child small at))
       (subst (AreNotesOf def (take i children ++ child ∷ [])) (sym made)
       (notes-push (take i children) below child n h k))
 
@@ -67,10 +67,10 @@ module _ (def : Definition) where
       (children_known def notes (subst (AllByRecursion (IsFormed def)) (sym h.0) formed) (holds def notes h.1))
 
   pub notes_clean : (path : Path) (k : ℕ) (cs : List Fragment) (notes : List Annotated)
-      → AllByRecursion (IsFormed def) cs → AreNotesOf def cs notes → IsClean def (each_steps def path k cs)
+      → AllByRecursion (IsFormed def) cs → AreNotesOf def cs notes → AreWithin def (each_steps def path k cs)
   notes_clean path k cs notes formed h =
-      subst (λ l. IsClean def (each_steps def path k l)) h.0
-      (children_clean def notes (subst (AllByRecursion (IsFormed def)) (sym h.0) formed) (holds def notes h.1) path k)
+      subst (λ l. AreWithin def (each_steps def path k l)) h.0
+      (children_within def notes (subst (AllByRecursion (IsFormed def)) (sym h.0) formed) (holds def notes h.1) path k)
 
   pub notes_usual : (notes : List Annotated) → AllByRecursion (IsNoted def) notes
       → AllByRecursion (IsSummary def) (map whole_in notes)
@@ -87,7 +87,7 @@ module _ (def : Definition) where
 
   pub child_fault : (path pushed : Path) (f : Fragment) → IsReal f → (front back : List Fragment) (child : Fragment)
       (fault : NoteFault) → children_of f ≡ front ++ child ∷ back → pushed ≡ path ++ length front ∷ []
-      → IsClean def (each_steps def path 0 front) → IsStepFault def (steps_of def pushed child) fault
+      → AreWithin def (each_steps def path 0 front) → IsStepFault def (steps_of def pushed child) fault
       → IsStepFault def (steps_of def path f) fault
   child_fault path pushed f is front back child fault split place clean k =
       let n : length front ≡ 0 + length front = omega arith in
@@ -131,7 +131,7 @@ module _ (def : Definition) where
 
   -- ---- the note of a tree
 
-  pub made_noted : (f : Fragment) (below : List Annotated) (s : Known) (rests : List Known) (n : Annotated)
+  pub made_noted : (f : Fragment) (below : List Annotated) (s : SummaryParts) (rests : List SummaryParts) (n : Annotated)
       → AreNotesOf def (children_of f) below → IsTop def f (map whole_in below) s rests → IsMadeOf f s rests below n
       → IsNotedAs def f n
   made_noted f below s rests n notes top made =
@@ -159,10 +159,10 @@ module _ (def : Definition) where
   size_fault f fault (inr (is, shallow, big)) = subst (IsNoteFault def f) (sym is) (shallow, big)
 
   clean_whole : (f : Fragment) (n : Annotated) → IsFormed def f → IsNotedAs def f n
-      → IsClean def (steps_of def [] f)
+      → AreWithin def (steps_of def [] f)
   clean_whole f n formed h =
       let known = noted_known def n h.1 (subst (IsFormed def) (sym h.0) formed) in
-      subst (λ x. IsClean def (steps_of def [] x)) h.0 (known.1 [])
+      subst (λ x. AreWithin def (steps_of def [] x)) h.0 (known.1 [])
 
   pub note_of : IsSound def → (f : Fragment) (n : Annotated) (weight : ℕ) → IsFormed def f → IsNotedAs def f n
       → IsSmall f → weight ≡ weight_in n → weight ≤ MOST_WEIGHTS → IsNoteOf def f n

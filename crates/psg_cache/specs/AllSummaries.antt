@@ -3,7 +3,7 @@ use Rattle.std.specs.Prelude.{ℕ, zero, suc, ◌≡◌, ◌∷◌, slice_get, O
 use Rattle.psg_grammar.specs.declared.types.Definition.{Definition}
 use Rattle.psg_grammar.specs.Fragments.{Fragment, ending, cell}
 use Rattle.psg_grammar.specs.Paths.{Path, node_at}
-use Rattle.psg_eval.specs.declared.summary.Known.{Known}
+use Rattle.psg_eval.specs.declared.summary.SummaryParts.{SummaryParts}
 use Rattle.psg_eval.specs.Summaries.{IsSummaryOf}
 use Rattle.psg_cache.specs.Annotated.{Annotated, tree_in, whole_in, rests_in, note_at}
 
@@ -17,6 +17,6 @@ suffix_of f k = None
 pub record HasAllSummaries (def : Definition) (f : Fragment) (n : Annotated) : Type 0 where
   pub nodes : (path : Path) (node : Fragment) → node_at f path ≡ Some node
       → (m : Annotated) × (note_at n path ≡ Some m) × (tree_in m ≡ node) × IsSummaryOf def node (whole_in m)
-  pub suffixes : (path : Path) (m : Annotated) (k : ℕ) (suffix : Fragment) (s : Known) → note_at n path ≡ Some m
+  pub suffixes : (path : Path) (m : Annotated) (k : ℕ) (suffix : Fragment) (s : SummaryParts) → note_at n path ≡ Some m
       → suffix_of (tree_in m) k ≡ Some suffix → slice_get (whole_in m ∷ rests_in m) k ≡ Some s
       → IsSummaryOf def suffix s

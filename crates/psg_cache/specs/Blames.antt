@@ -1,7 +1,7 @@
 -- The nodes at which an annotated tree goes wrong, found by descending where a relation has no row.
 use Rattle.std.specs.Prelude.{Bool, true, false, cond, List, [], ◌∷◌, ◌++◌, length}
 use Rattle.psg_grammar.specs.Paths.{Path}
-use Rattle.psg_eval.specs.declared.summary.Known.{Known}
+use Rattle.psg_eval.specs.declared.summary.SummaryParts.{SummaryParts}
 use Rattle.psg_cache.specs.Annotated.{Annotated, topped, above, whole_in, below_in}
 
 abbrev pub is_nil : {X : Type 0} → List X → Bool
@@ -14,7 +14,7 @@ abbrev pub or_itself : Path → List Path → List Path
 or_itself path [] = path ∷ []
 or_itself path (p ∷ ps) = p ∷ ps
 
-abbrev pub blamed_at : Known → Path → List Path → List Path
+abbrev pub blamed_at : SummaryParts → Path → List Path → List Path
 blamed_at s path below = cond (is_nil s.rel) (or_itself path below) []
 
 -- the culprits of the children

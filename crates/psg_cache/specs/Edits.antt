@@ -7,7 +7,7 @@ use Rattle.psg_grammar.specs.declared.types.Definition.{Definition}
 use Rattle.psg_grammar.specs.Fragments.{Fragment, children_of}
 use Rattle.psg_grammar.specs.Paths.{Path, node_at, IsList}
 use Rattle.psg_grammar.specs.Kinds.{IsOfKind}
-use Rattle.psg_eval.specs.declared.summary.Known.{Known}
+use Rattle.psg_eval.specs.declared.summary.SummaryParts.{SummaryParts}
 use Rattle.psg_eval.specs.Summaries.{IsSummary, IsSummaryOf}
 use Rattle.psg_grammar.specs.Marks.{IsMark}
 use Rattle.psg_grammar.specs.WellFormed.{WellFormed}
@@ -42,7 +42,7 @@ module _ (def : Definition) (f : Fragment) (path : Path) where
     pub within : place < length (children_of node)
 
 -- for each tree of which this is the note: the summary is that of the node at the path
-abbrev pub IsSummaryAt : Annotated → Path → Known → Type 0
+abbrev pub IsSummaryAt : Annotated → Path → SummaryParts → Type 0
 IsSummaryAt n path s = (def : Definition) (f : Fragment) → IsNoteOf def f n
     → (node : Fragment) × (node_at f path ≡ Some node) × IsSummaryOf def node s × IsSummary def s
 

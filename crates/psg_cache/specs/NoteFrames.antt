@@ -9,7 +9,7 @@ use Rattle.psg_grammar.specs.Kinds.{IsOfKind}
 use Rattle.psg_grammar.specs.Paths.{Path, node_at, IsList}
 use Rattle.psg_grammar.specs.Work.{climb_of, leaving}
 use Rattle.psg_eval.specs.declared.frame.Frame.{Frame}
-use Rattle.psg_eval.specs.declared.summary.Known.{Known}
+use Rattle.psg_eval.specs.declared.summary.SummaryParts.{SummaryParts}
 use Rattle.psg_eval.specs.Frames.{CanClimb, IsFrame, StandAt, StandFor, TakesInFrame, rungs, rungs_in}
 use Rattle.psg_eval.specs.Summaries.{IsSummary}
 use Rattle.psg_cache.specs.Annotated.{Annotated, tree_in, below_in}
@@ -42,7 +42,7 @@ module _ (def : Definition) where
 
   -- any summary of the kind is taken at the place of the frame of a node of the other kind
   abbrev pub TakesAny : Frame → Kind → Kind → Type 0
-  TakesAny frame kind above = (s : Known) → IsSummary def s → s.kind ≡ kind → TakesInFrame def frame s above
+  TakesAny frame kind above = (s : SummaryParts) → IsSummary def s → s.kind ≡ kind → TakesInFrame def frame s above
 
   -- the node's frame around its child
   pub record IsFrameAround (n child : Annotated) (k : ℕ) (frame : Frame) : Type 0 where

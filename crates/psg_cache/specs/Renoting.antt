@@ -6,16 +6,16 @@ use Rattle.psg_grammar.specs.declared.types.ListKind.{ListKind}
 use Rattle.psg_grammar.specs.declared.types.Definition.{Definition}
 use Rattle.psg_grammar.specs.Fragments.{Fragment, cell}
 use Rattle.psg_grammar.specs.Paths.{Path}
-use Rattle.psg_grammar.specs.Steps.{list_steps}
-use Rattle.psg_eval.specs.declared.summary.Known.{Known}
+use Rattle.psg_grammar.specs.Steps.{AreWithin, list_steps}
+use Rattle.psg_eval.specs.declared.summary.SummaryParts.{SummaryParts}
 use Rattle.psg_eval.specs.Summaries.{AllSummaries, IsSummary, IsSummaryOf}
-use Rattle.psg_cache.specs.Walks.{IsClean, IsStepFault}
+use Rattle.psg_cache.specs.Walks.{IsStepFault}
 use Rattle.psg_cache.specs.declared.note.NoteFault.{NoteFault}
 use Rattle.psg_cache.specs.Annotated.{Annotated}
 use Rattle.psg_cache.specs.Noted.{IsNotedAs, IsOfCells}
 
 -- the first of the summaries, or the other one where there is none
-abbrev pub first_or : Known → List Known → Known
+abbrev pub first_or : SummaryParts → List SummaryParts → SummaryParts
 first_or behind [] = behind
 first_or behind (s ∷ ss) = s
 
@@ -36,30 +36,30 @@ module _ (def : Definition) where
   IsRenoted old new (Some n) = (old ≡ new → ⊥) × IsNotedAs def new n
 
   -- the summaries of the suffixes that begin with these elements, before the suffix after them
-  abbrev pub AreOfCells : ℕ → List Known → Known → List Known → Type 0
+  abbrev pub AreOfCells : ℕ → List SummaryParts → SummaryParts → List SummaryParts → Type 0
   AreOfCells l [] behind [] = Unit {0}
   AreOfCells l (b ∷ bs) behind (s ∷ ss) = IsOfCells def l b (first_or behind ss) s × AreOfCells l bs behind ss
   AreOfCells _ _ _ _ = ⊥
 
   -- what was kept of the same places, for the elements whose summaries did not change
-  abbrev pub AreOldCells : ℕ → List Bool → List Known → Known → List Known → Type 0
+  abbrev pub AreOldCells : ℕ → List Bool → List SummaryParts → SummaryParts → List SummaryParts → Type 0
   AreOldCells l [] [] was [] = Unit {0}
   AreOldCells l (c ∷ cs) (b ∷ bs) was (s ∷ ss) =
       (c ≡ false → IsOfCells def l b (first_or was ss) s) × AreOldCells l cs bs was ss
   AreOldCells _ _ _ _ _ = ⊥
 
   -- elements of the list, and a suffix of it
-  pub record TakesCells (l : ℕ) (elements : List Known) (behind : Known) : Type 0 where
+  pub record TakesCells (l : ℕ) (elements : List SummaryParts) (behind : SummaryParts) : Type 0 where
     pub list : ListKind
     pub found : slice_get def.lists l ≡ Some list
-    pub element_kinds : AllByRecursion (λ (s : Known). s.kind ≡ kinds.Phylum list.element) elements
+    pub element_kinds : AllByRecursion (λ (s : SummaryParts). s.kind ≡ kinds.Phylum list.element) elements
     pub rest_kind : behind.kind ≡ kinds.List l
     pub usual : AllByRecursion (IsSummary def) (behind ∷ elements)
 
-  -- one of the cells' steps is the first that passes the limit, whatever the elements and the suffix are, where its own
-  -- are clean
-  abbrev pub IsCellsFault : Path → ℕ → List Known → Known → NoteFault → Type 0
+  -- one of the cells' steps is the first that passes the limit, whatever the elements and the suffix are, where none of
+  -- its own does
+  abbrev pub IsCellsFault : Path → ℕ → List SummaryParts → SummaryParts → NoteFault → Type 0
   IsCellsFault path l elements behind fault =
       (es : List Fragment) (r : Fragment) → AllSummaries def es elements → IsSummaryOf def r behind
-      → IsClean def (list_steps def path r)
+      → AreWithin def (list_steps def path r)
       → IsStepFault def (list_steps def path (cells_of l es r)) fault

@@ -1,7 +1,6 @@
 -- What a walk over a tree finds: the first step that passes the limit, the weight, and where the tree goes wrong.
 use Rattle.std.specs.Prelude.{ℕ, ◌≡◌, ◌⊎◌, ◌+◌, Bool, true, List, [], ◌∷◌, ◌++◌, map, slice_get, Some, Result, Ok, Err}
 use Rattle.std.specs.List.{AllByRecursion}
-use Rattle.psg_terms.specs.Relations.{IsIn}
 use Rattle.psg_grammar.specs.declared.types.Kind.TheVariants as kinds
 use Rattle.psg_grammar.specs.declared.types.ListKind.{ListKind}
 use Rattle.psg_grammar.specs.declared.types.Definition.{Definition}
@@ -11,12 +10,12 @@ use Rattle.psg_grammar.specs.Marks.{Located, nodes_from}
 use Rattle.psg_grammar.specs.Paths.{Path}
 use Rattle.psg_grammar.specs.Sizes.{IsBig, IsDeep}
 use Rattle.psg_grammar.specs.Sound.{IsSound}
-use Rattle.psg_grammar.specs.Steps.{Place, own_steps, list_steps, steps_of, HasWeights, PassesAt}
+use Rattle.psg_grammar.specs.Steps.{IsFirstOf, Place, own_steps, list_steps, steps_of, HasWeights}
 use Rattle.psg_tree.specs.Shapes.{list_of}
 use Rattle.psg_terms.specs.Names.{Name}
 use Rattle.psg_tree.specs.declared.tree.Part.{Part}
 use Rattle.psg_tree.specs.declared.tree.Part.TheVariants.{Sub, Name as Named, Number, Text}
-use Rattle.psg_eval.specs.declared.summary.Known.{Known}
+use Rattle.psg_eval.specs.declared.summary.SummaryParts.{SummaryParts}
 use Rattle.psg_eval.specs.declared.summary.EvalFault.{EvalFault}
 use Rattle.psg_eval.specs.declared.summary.EvalFault.TheVariants as evals
 use Rattle.psg_eval.specs.Starts.{AreTables}
@@ -48,12 +47,12 @@ abbrev pub IsSizeFault : Fragment → NoteFault → Type 0
 IsSizeFault f fault = ((fault ≡ faults.Deep) × IsDeep f) ⊎ ((fault ≡ faults.Big) × (IsDeep f → ⊥) × IsBig f)
 
 -- the note is made of the tree, its summaries and the notes of its children
-abbrev pub IsMadeOf : Fragment → Known → List Known → List Annotated → Annotated → Type 0
+abbrev pub IsMadeOf : Fragment → SummaryParts → List SummaryParts → List Annotated → Annotated → Type 0
 IsMadeOf f s rests below n =
     n ≡ with_below (topped f s rests (summed weight_in below + summed own_weight (s ∷ rests))) below
 
 -- the fault of the step that the answer names, for the part at the path, or that memory ran out
-abbrev pub IsAnswerFault : Path → Result Known EvalFault → NoteFault → Type 0
+abbrev pub IsAnswerFault : Path → Result SummaryParts EvalFault → NoteFault → Type 0
 IsAnswerFault path answer fault =
     (fault ≡ faults.Memory) ⊎ ((step : ℕ) × (answer ≡ Err (evals.Wide step)) × (fault ≡ faults.Wide path step))
 
@@ -75,15 +74,15 @@ abbrev pub IsNumbered : ℕ → Fragment → Type 0
 IsNumbered l f = (es : List Fragment) × (u : Bool) × (f ≡ list_of l es u)
 
 -- each of the relations has a row
-abbrev pub HaveRows : List Known → Type 0
-HaveRows summaries = AllByRecursion (λ (s : Known). s.rel ≡ [] → ⊥) summaries
+abbrev pub HaveRows : List SummaryParts → Type 0
+HaveRows summaries = AllByRecursion (λ (s : SummaryParts). s.rel ≡ [] → ⊥) summaries
 
 -- a tree goes wrong by itself: its relation has no row, and those of its children have
-abbrev pub GoesWrong : Known → List Known → Type 0
+abbrev pub GoesWrong : SummaryParts → List SummaryParts → Type 0
 GoesWrong s below = (s.rel ≡ []) × HaveRows below
 
 -- the path where the tree goes wrong by itself, and no path otherwise
-abbrev pub IsBlame : Known → List Known → Path → List Path → Type 0
+abbrev pub IsBlame : SummaryParts → List SummaryParts → Path → List Path → Type 0
 IsBlame s below path pushed = (GoesWrong s below × (pushed ≡ path ∷ [])) ⊎ ((GoesWrong s below → ⊥) × (pushed ≡ []))
 
 -- the nodes of trees that follow one another, the first of which has the number n
@@ -110,21 +109,9 @@ module _ (def : Definition) where
   top_steps path anything = []
   top_steps path (observed f) = []
 
-  -- none of the steps passes the limit
-  abbrev pub IsClean : List Place → Type 0
-  IsClean places = (place : Place) → IsIn place places → PassesAt def place.part place.step → ⊥
-
-  -- the step passes the limit, and none in front of it does
-  pub record IsFirstOf (places : List Place) (place : Place) : Type 0 where
-    pub front : List Place
-    pub rest : List Place
-    pub split : places ≡ front ++ place ∷ rest
-    pub clean : IsClean front
-    pub passes : PassesAt def place.part place.step
-
   abbrev pub IsStepFault : List Place → NoteFault → Type 0
   IsStepFault places (faults.Wide path step) =
-      (part : Fragment) × IsFirstOf places (record { path = path; part = part; step = step })
+      (part : Fragment) × IsFirstOf def places (record { path = path; part = part; step = step })
   IsStepFault places faults.Memory = Unit {0}
   IsStepFault places faults.Deep = ⊥
   IsStepFault places faults.Big = ⊥
@@ -136,16 +123,16 @@ module _ (def : Definition) where
   WeighTogether (c ∷ cs) n = (m : ℕ) × (k : ℕ) × HasWeights def c m × WeighTogether cs k × (n ≡ m + k)
 
   -- a list takes these elements, which are those of some trees
-  pub record TakesElements (l : ℕ) (unfinished : Bool) (elements : List Known) : Type 0 where
+  pub record TakesElements (l : ℕ) (unfinished : Bool) (elements : List SummaryParts) : Type 0 where
     pub list : ListKind
     pub found : slice_get def.lists l ≡ Some list
     pub may_end : unfinished ≡ true → list.unfinished ≡ true
     pub trees : List Fragment
     pub summaries_of : AllSummaries def trees elements
-    pub element_kinds : AllByRecursion (λ (s : Known). s.kind ≡ kinds.Phylum list.element) elements
+    pub element_kinds : AllByRecursion (λ (s : SummaryParts). s.kind ≡ kinds.Phylum list.element) elements
     pub usual : AllByRecursion (IsSummary def) elements
 
-  abbrev pub IsListFault : Path → ℕ → Bool → List Known → NoteFault → Type 0
+  abbrev pub IsListFault : Path → ℕ → Bool → List SummaryParts → NoteFault → Type 0
   IsListFault path l u elements fault =
       (es : List Fragment) → AllSummaries def es elements → IsStepFault (list_steps def path (list_of l es u)) fault
 
@@ -154,15 +141,15 @@ module _ (def : Definition) where
   AreNotesOf cs notes = (map tree_in notes ≡ cs) × AllByRecursion (IsNoted def) notes
 
   -- the answers for a list and for its suffixes, by those of its elements
-  abbrev pub AreListed : ℕ → Bool → List Known → Known → List Known → Type 0
+  abbrev pub AreListed : ℕ → Bool → List SummaryParts → SummaryParts → List SummaryParts → Type 0
   AreListed l u [] s [] = Answers def (ending l u) (Ok s)
   AreListed l u (b ∷ bs) s (t ∷ ts) = IsOfCells def l b t s × AreListed l u bs t ts
   AreListed _ _ _ _ _ = ⊥
 
-  abbrev pub IsListTopped : ℕ → Bool → List Known → Known → List Known → Type 0
+  abbrev pub IsListTopped : ℕ → Bool → List SummaryParts → SummaryParts → List SummaryParts → Type 0
   IsListTopped l u elements s rests =
       AreListed l u elements s rests × AllByRecursion (IsSummary def) (s ∷ rests)
 
   -- the answers for a tree whose children have these summaries, and of a list those for its suffixes
-  abbrev pub IsTop : Fragment → List Known → Known → List Known → Type 0
+  abbrev pub IsTop : Fragment → List SummaryParts → SummaryParts → List SummaryParts → Type 0
   IsTop f below s rests = IsAnswered def f below s rests × AllByRecursion (IsSummary def) (s ∷ rests)

@@ -2,7 +2,7 @@
 ghost use Rattle.std.specs.Prelude.{◌≡◌, ◌<◌, ◌≤◌, ◌∷◌, ℕ, List, length, map, slice_get, take, IfOk, MatchOption, Some};
 ghost use Rattle.psg_tree.specs.declared.tree.Part.{Part as PlainPart};
 ghost use Rattle.psg_eval.specs.declared.frame.Frame.TheVariants as frames;
-ghost use Rattle.psg_eval.specs.declared.summary.Known.{Known};
+ghost use Rattle.psg_eval.specs.declared.summary.SummaryParts.{SummaryParts};
 ghost use Rattle.psg_cache.specs.Annotated.{rests_in, below_in, whole_in};
 ghost use Rattle.psg_cache.specs.Edits.{IsNoSummaryAt};
 ghost use Rattle.psg_cache.specs.NoteFrames.{AreElementFramesAt, AreFramesAt, IsFrameAt, IsFrameBefore};
@@ -46,7 +46,7 @@ fn list_frame(
     number: u32,
 ) -> Result<Option<Frame>, AllocError>
     ensures { IfOk result (λ o. MatchOption o (number < length below.now → number < length rests.now → ⊥)
-        (λ frame. (rest : Known) × (slice_get rests.now number ≡ Some rest)
+        (λ frame. (rest : SummaryParts) × (slice_get rests.now number ≡ Some rest)
         × (frame ≡ frames.Elem list (map whole_in (take number below.now)) rest))) }
 {
     let place = number as usize;
@@ -94,7 +94,7 @@ fn frame_of(alloc: Global, note: &Note, number: u32) -> Result<Option<Frame>, Al
 fn gap_frame(alloc: Global, list: u32, note: &Note, place: u32) -> Result<Option<Frame>, AllocError>
     ensures { IfOk result (λ o. MatchOption o
         (place ≤ length (below_in note.now) → place ≤ length (rests_in note.now) → ⊥)
-        (λ frame. (rest : Known) × (Some rest ≡ slice_get (whole_in note.now ∷ rests_in note.now) place)
+        (λ frame. (rest : SummaryParts) × (Some rest ≡ slice_get (whole_in note.now ∷ rests_in note.now) place)
         × (frame ≡ frames.Elem list (map whole_in (take place (below_in note.now))) rest))) }
 {
     let number = place as usize;

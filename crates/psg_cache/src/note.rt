@@ -1,4 +1,4 @@
-//! What is known of a tree.
+//! Trees with a summary of each node.
 ghost use Rattle.std.specs.Prelude.{◌≡◌, ◌↔◌, ◌≤◌, ◌∷◌, [], drop, length, option_copied};
 ghost use Rattle.std.specs.Prelude.{slice_get, None, Some, IfOk, IfSome, IfNone, IsTrue};
 ghost use Rattle.psg_cache.specs.Annotated.{Annotated, tree_in, whole_in, rests_in, weight_in, below_in, note_at};
@@ -14,10 +14,10 @@ use std::marker::Model;
 use std::rc::Rc;
 use thiserror::Error;
 
-/// A tree with what is known of it.
+/// The root of a note, with the notes below it. The owners of the note share it.
 #[cycle(note)]
 #[derive(Drop)]
-pub struct Noted {
+pub struct NoteNode {
     /// The tree.
     pub tree: Tree,
     /// The summary of the tree; of a list that of its first suffix.
@@ -32,9 +32,17 @@ pub struct Noted {
 
 /// A tree with a summary for each node and list suffix, shared by its owners.
 #[cycle(note)]
-#[derive(Drop)]
 pub struct Note {
-    shared: Rc<Noted>,
+    shared: Rc<NoteNode>,
+}
+
+// written out, so that it is proved once, and not anew in each crate where such a value is let go
+impl Drop for Note {
+    #[cycle(note)]
+    fn drop(self) {
+        let Note { shared } = self;
+        let _ = shared;
+    }
 }
 
 impl Model for Note {
@@ -56,7 +64,7 @@ impl Model for Note {
 }
 
 impl Note {
-    pub(crate) fn new(alloc: Global, noted: Noted) -> Result<Note, AllocError>
+    pub(crate) fn new(alloc: Global, noted: NoteNode) -> Result<Note, AllocError>
         ensures { IfOk result (λ n. n ≡ annotated_of noted) }
     {
         Ok(Note {

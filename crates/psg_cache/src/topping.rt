@@ -9,7 +9,7 @@ ghost use Rattle.psg_cache.specs.Notes.{IsFormed};
 ghost use Rattle.psg_cache.specs.Walks.{AreNotesOf, IsKnown, IsMadeOf, IsStepFault, IsTop, top_evaluations, top_steps};
 
 use crate::listing::{Suffixes, answered, top_list};
-use crate::note::{Note, NoteFault, Noted};
+use crate::note::{Note, NoteFault, NoteNode};
 use crate::parts::{Language, names_of};
 use psg_eval::Summary;
 use psg_terms::{Seq, Steps};
@@ -140,7 +140,7 @@ pub(crate) fn made_of(
     ensures { IfOk result (IsMadeOf tree.now suffixes.whole suffixes.rests below.items) }
 {
     let weight = weight_over(&suffixes, below.as_slice())?;
-    let noted = Noted {
+    let noted = NoteNode {
         tree: tree.share()?,
         whole: suffixes.whole,
         below: Seq::of(below),

@@ -2,6 +2,7 @@
 use Rattle.std.proofs.Common.{◌≡◌, inl, inr, ℕ, ◌+◌, true, false, cond, ◌||◌, List, [], ◌∷◌, ◌++◌, map, length, refl, ap, ap₂, sym, ◌∙◌, subst, append_assoc, arith, length-append, true≢false}
 use Rattle.std.specs.List.{AllByRecursion}
 use Rattle.std.proofs.lemmas.List.{length-map}
+use Rattle.std.proofs.lemmas.Bool.{cases_Bool, or_cases}
 use Rattle.psg_terms.specs.Names.{is_among, has_twice}
 use Rattle.psg_terms.specs.Terms.{Term}
 use Rattle.psg_terms.specs.Relations.{IsRelation, IsGlued}
@@ -14,7 +15,7 @@ use Rattle.psg_grammar.specs.Open.{Choice, Holds}
 use Rattle.psg_grammar.specs.Relations.{IsPossible, IsPossibleInside}
 use Rattle.psg_relation.proofs.Relating.{carried}
 use Rattle.psg_scope.specs.Headers.{IsKey}
-use Rattle.psg_scope.proofs.KeyLists.{either, or_cases, in_order-among}
+use Rattle.psg_scope.proofs.KeyLists.{in_order-among}
 use Rattle.psg_eval.specs.Glues.{outer_names, NextGlue}
 use Rattle.psg_eval.proofs.Columns.{front_same, end_same, map_same, map_same_back}
 use Rattle.psg_grammar.proofs.MixedEntities.{SameOn, mixed, mixed_entities}
@@ -104,7 +105,7 @@ module _ (def : Definition) (t a b : Fragment) (r : Replaces def t a b) (before 
       let two_is : (n : Key) → is_among (outer_names def t) n ≡ true → gl.entity n ≡ g2 n = λ n i. map_same_back gl.entity g2 (names_of def t) right.1 n (in_order-among (outer_names def t) n whole_child ∙ i) in
       let g : Entities = mixed (names_inside def a) g1 g2 in
       let same1 : SameOn (names_inside def a) g1 g = λ n i. sym (ap (λ b. cond b (g1 n) (g2 n)) i) in
-      let same2 : SameOn (outer_names def t) g2 g = λ n i. elim (either (is_among (names_inside def a) n)) [
+      let same2 : SameOn (outer_names def t) g2 g = λ n i. elim (cases_Bool (is_among (names_inside def a) n)) [
         | inl k ↦ sym (ap (λ b. cond b (g1 n) (g2 n)) k ∙ sym (one_is n k) ∙ two_is n i)
         | inr k ↦ sym (ap (λ b. cond b (g1 n) (g2 n)) k)
       ] in
@@ -121,7 +122,7 @@ module _ (def : Definition) (t a b : Fragment) (r : Replaces def t a b) (before 
       let others_is : gl.others ≡ s.others = let d = split.1 in cc in
       let more_is : gl.more ≡ qp.seen = let e = right.0 in cc in
       let entity_is : (n : Key) → is_among made_keys n ≡ true → gl.entity n ≡ g n = λ n i.
-      elim (either (is_among (names_inside def a) n)) [
+      elim (cases_Bool (is_among (names_inside def a) n)) [
         | inl k ↦ one_is n k ∙ sym (ap (λ b. cond b (g1 n) (g2 n)) k)
         | inr k ↦ two_is n (child_key n i k) ∙ sym (ap (λ b. cond b (g1 n) (g2 n)) k)
       ] in

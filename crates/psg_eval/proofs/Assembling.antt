@@ -13,7 +13,7 @@ use Rattle.psg_grammar.specs.Steps.{children_count, PassesAt}
 use Rattle.psg_scope.specs.Headers.{keys}
 use Rattle.psg_scope.specs.declared.header.Header.{Header}
 use Rattle.psg_eval.specs.declared.partial.Partial.{Partial}
-use Rattle.psg_eval.specs.declared.summary.Known.{Known}
+use Rattle.psg_eval.specs.declared.summary.SummaryParts.{SummaryParts}
 use Rattle.psg_eval.specs.Outside.{IsClosed}
 use Rattle.psg_eval.specs.Partials.{IsAdded, IsPartial}
 use Rattle.psg_eval.specs.Summaries.{IsFirstPassing, IsSummaryOf, StaysWithin}
@@ -66,7 +66,7 @@ module _ (def : Definition) (f : Fragment) (sound : IsSoundSignature def.signatu
 
 module _ (def : Definition) (f : Fragment) (parts : HasParts def f []) where
   module _ (sound : IsSoundSignature def.signature) where
-    module _ (n : ℕ) (t : Fragment) (at : slice_get (children_of f) n ≡ Some t) (kind : Kind) (kinds : List Kind) (p : Partial) (s : Known)
+    module _ (n : ℕ) (t : Fragment) (at : slice_get (children_of f) n ≡ Some t) (kind : Kind) (kinds : List Kind) (p : Partial) (s : SummaryParts)
         (many : length (s.kind ∷ kinds) ≡ length (children_of f) - n) (part : IsPartial def kind (s.kind ∷ kinds) p) (summary : IsSummaryOf def t s) (made : IsMade def f n p) where
       -- one child more
       pub added_step : (h : Header) (rows : List (List Term)) → IsAdded def p s h rows → IsStep def f (n + 1) h rows

@@ -1,10 +1,10 @@
 -- The cell rows of a list, and the answer for a cell.
 use Rattle.std.proofs.Common.{◌≡◌, ℕ, ◌+◌, false, List, [], ◌∷◌, ◌++◌, map, refl, ap, ap₂, sym, ◌∙◌, subst, Some, slice_get, append-nil, arith}
+use Rattle.psg_terms.proofs.Lists.{each_in}
 use Rattle.std.specs.Prelude.{Result, Ok, IfOk}
 use Rattle.std.specs.List.{AllByRecursion}
 use Rattle.psg_terms.specs.Terms.{Term}
 use Rattle.psg_terms.specs.Signature.{HaveSorts}
-use Rattle.psg_terms.specs.Relations.{IsIn, first, later}
 use Rattle.psg_terms.specs.Weight.{PassesLimit}
 use Rattle.psg_grammar.specs.declared.types.Definition.{Definition}
 use Rattle.psg_grammar.specs.declared.types.Kind.{Kind}
@@ -20,7 +20,7 @@ use Rattle.psg_relation.specs.declared.relation.RelFault.{RelFault}
 use Rattle.psg_scope.specs.declared.header.Header.{Header}
 use Rattle.psg_scope.proofs.HeaderLaws.{ordered-of}
 use Rattle.psg_eval.specs.declared.partial.Partial.{Partial}
-use Rattle.psg_eval.specs.declared.summary.Known.{Known}
+use Rattle.psg_eval.specs.declared.summary.SummaryParts.{SummaryParts}
 use Rattle.psg_eval.specs.OwnRows.{whole_row}
 use Rattle.psg_eval.specs.Partials.{IsAdded, IsPartial, MatchStep}
 use Rattle.psg_eval.specs.Starts.{IsCellBegun}
@@ -32,11 +32,6 @@ use Rattle.psg_eval.proofs.Cells.{list_no_scope}
 use Rattle.psg_eval.proofs.LeafAnswers.{no_header}
 use Rattle.psg_eval.proofs.Numbers.{numbered_if, numbered_step}
 use Rattle.psg_eval.proofs.Stepping.{open_ok}
-
-pub each_in : {X : Type 0} (P : X → Type 0) (x : X) (xs : List X) → AllByRecursion P xs → IsIn x xs → P x
-each_in P x [] all j = elim j [ ]
-each_in P x (y ∷ xs) all first = all.0
-each_in P x (y ∷ xs) all (later j) = each_in P x xs all.1 j
 
 -- rows of the definition have the sorts of their heads and columns
 pub rows_sorted : (def : Definition) (head : ℕ) (columns : List ℕ) (rows : List Row) → AllByRecursion (IsRow def head columns) rows
@@ -88,7 +83,7 @@ module _ (def : Definition) (sound : IsSound def) (l : ℕ) (list : ListKind) (f
   }
 
 -- what the steps keep, by the kinds that a cell takes
-module _ (def : Definition) (l : ℕ) (element rest : Known) (t : TakesCell def l element rest) where
+module _ (def : Definition) (l : ℕ) (element rest : SummaryParts) (t : TakesCell def l element rest) where
   pub start_partial : (made : Result Partial RelFault) (begin : Partial) → IsNumbered made 0 (Ok begin)
       → IfOk made (λ (p : Partial). (kind : ListKind) → slice_get def.lists l ≡ Some kind → IsPartial def (kinds.List l) (kinds.Phylum kind.element ∷ kinds.List l ∷ []) p)
       → IsPartial def (kinds.List l) (element.kind ∷ rest.kind ∷ []) begin
@@ -121,7 +116,7 @@ next_step def kind child others before made n after e h part =
 pub next_seen : (b c : ℕ) (made : Result Partial RelFault) (n : ℕ) (after : Partial) → IsNumbered made n (Ok after) → IfOk made (λ (p : Partial). p.seen ≡ b + c) → b ≡ 0 → after.seen ≡ c
 next_seen b c made n after e h silent = numbered_if (λ (p : Partial). p.seen ≡ b + c) made n after e h ∙ (let z : b + c ≡ c = omega arith in z)
 
-module _ (def : Definition) (sound : IsSound def) (l : ℕ) (e r : Fragment) (element rest : Known) (one : IsSummaryOf def e element) (two : IsSummaryOf def r rest) where
+module _ (def : Definition) (sound : IsSound def) (l : ℕ) (e r : Fragment) (element rest : SummaryParts) (one : IsSummaryOf def e element) (two : IsSummaryOf def r rest) where
   -- ---- the steps
 
   pub start_made : (p : Partial) → IsCellStart def l p.header p.rel → (PassesLimit p.rel → ⊥) → IsMade def (cell l e r) 0 p

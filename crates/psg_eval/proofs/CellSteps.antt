@@ -12,7 +12,7 @@ use Rattle.psg_grammar.specs.Relations.{IsPossibleInside}
 use Rattle.psg_scope.specs.Headers.{IsHeader, keys}
 use Rattle.psg_scope.specs.declared.header.Header.{Header}
 use Rattle.psg_eval.specs.declared.partial.Partial.{Partial}
-use Rattle.psg_eval.specs.declared.summary.Known.{Known}
+use Rattle.psg_eval.specs.declared.summary.SummaryParts.{SummaryParts}
 use Rattle.psg_eval.specs.Glues.{outer_names, NextGlue}
 use Rattle.psg_eval.specs.Partials.{IsAdded, IsPartial}
 use Rattle.psg_eval.specs.Stages.{IsInside, IsInsideHeader, IsStep}
@@ -24,7 +24,7 @@ use Rattle.psg_eval.proofs.RegionSteps.{replaced_header}
 use Rattle.psg_eval.proofs.Replacing.{Replaces, behind, element, rest}
 use Rattle.psg_eval.proofs.Uniqueness.{with_sorts}
 
-module _ (def : Definition) (t a b : Fragment) (r : Replaces def t a b) (kind : Kind) (kinds : List Kind) (p : Partial) (s : Known)
+module _ (def : Definition) (t a b : Fragment) (r : Replaces def t a b) (kind : Kind) (kinds : List Kind) (p : Partial) (s : SummaryParts)
     (many : length kinds ≡ behind def t r) (part : IsPartial def kind (s.kind ∷ kinds) p) (summary : IsSummaryOf def t s) (is : IsInside def a p.header p.rel) where
   -- a child in place of a free value
   pub added_inside : (h : Header) (rows : List (List Term)) → IsAdded def p s h rows → IsInside def b h rows
@@ -62,7 +62,7 @@ module _ (def : Definition) (t a b : Fragment) (r : Replaces def t a b) (kind : 
               (subst (λ l. IsRelation def.signature ss (IsGlued def.signature (NextGlue before (keys p.header.names) (keys s.header.names) l) p.rel s.rel) rows) header.keys_are rel)));
         }
 
-module _ (def : Definition) (l : ℕ) (e r : Fragment) (kind : Kind) (p : Partial) (s : Known) where
+module _ (def : Definition) (l : ℕ) (e r : Fragment) (kind : Kind) (p : Partial) (s : SummaryParts) where
   -- the element of a cell
   pub cell_one : (other : Kind) → IsPartial def kind (s.kind ∷ other ∷ []) p → IsSummaryOf def e s → IsStep def (cell l e r) 0 p.header p.rel
       → (h : Header) (rows : List (List Term)) → IsAdded def p s h rows → IsStep def (cell l e r) 1 h rows

@@ -1,5 +1,6 @@
 -- The steps of a list's first cell.
 use Rattle.std.proofs.Common.{◌≡◌, ◌↔◌, ℕ, ◌+◌, false, List, [], ◌∷◌, ◌++◌, length, map, Some, refl, sym, ap, ap₂, ◌∙◌, subst}
+use Rattle.psg_terms.proofs.Lists.{each_at, in_at}
 use Rattle.std.specs.List.{AllByRecursion, slice_get}
 use Rattle.psg_terms.specs.Terms.{Term}
 use Rattle.psg_terms.specs.Names.{has_twice}
@@ -18,7 +19,7 @@ use Rattle.psg_grammar.specs.Regions.{declared_inside, names_inside, names_of}
 use Rattle.psg_grammar.specs.Relations.{IsPossible, IsPossibleInside}
 use Rattle.psg_grammar.specs.Sound.{IsSound, IsRow}
 use Rattle.psg_grammar.specs.Steps.{first_children}
-use Rattle.psg_grammar.proofs.SoundParts.{each_at, list_sound}
+use Rattle.psg_grammar.proofs.SoundParts.{list_sound}
 use Rattle.psg_relation.specs.Choices.{IsOfRow}
 use Rattle.psg_relation.proofs.Members.{in-map, map-in}
 use Rattle.psg_scope.specs.Headers.{IsKey}
@@ -28,7 +29,7 @@ use Rattle.psg_eval.specs.OwnRows.{whole_row}
 use Rattle.psg_eval.proofs.Adding.{added_relation}
 use Rattle.psg_eval.proofs.NextChild.{first_keys}
 use Rattle.psg_eval.proofs.Replacing.{element, rest}
-use Rattle.psg_eval.proofs.Usual.{usual, usual_entities, member_at, place_of_member, of_rows}
+use Rattle.psg_eval.proofs.Usual.{usual, usual_entities, place_of_member, of_rows}
 
 -- a row of two sorts has two terms
 two_terms : (sig : Signature) (row : List Term) (s r : ℕ) → HaveSorts sig row (s ∷ r ∷ []) → (a : Term) × (b : Term) × (row ≡ a ∷ b ∷ [])
@@ -101,7 +102,7 @@ module _ (def : Definition) where
         let (none, one, two, mid, inner, of, ei, agr, first, others) = p.holds in
         let d : of.kind ≡ list = let d : Some of.kind ≡ Some list = sym of.list ∙ found in cc in
         let at : slice_get list.cell_rows c.0 ≡ Some of.row = sym (ap (λ (k : ListKind). slice_get k.cell_rows c.0) d) ∙ of.chosen in
-        (whole_row of.row, in-map whole_row of.row list.cell_rows (member_at list.cell_rows c.0 of.row at), of_cell_row sound list c.0 of.row found at))
+        (whole_row of.row, in-map whole_row of.row list.cell_rows (in_at list.cell_rows c.0 of.row at), of_cell_row sound list c.0 of.row found at))
         made rel
 
     pub cell_element : (ls rs ss : List ℕ) (rows others made : List (List Term)) → AllByRecursion IsKey (outer_names def e)

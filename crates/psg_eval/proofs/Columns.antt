@@ -1,10 +1,11 @@
 -- Columns of rows: lists put together, and the entities of keys.
 use Rattle.std.proofs.Common.{◌≡◌, inl, inr, true, List, [], ◌∷◌, ◌++◌, map, length, take, drop, refl, ap, ap₂, sym, ◌∙◌, subst, arith, length-append, true≢false, bytes_eq}
 use Rattle.std.proofs.Math.Seq.{take-append_seam, drop-append_seam}
+use Rattle.std.proofs.lemmas.Bool.{or_cases}
 use Rattle.psg_terms.specs.Names.{is_among}
 use Rattle.psg_grammar.specs.Keys.{Key}
 use Rattle.psg_grammar.specs.Legal.{Entities}
-use Rattle.psg_scope.proofs.KeyLists.{key_is, or_cases}
+use Rattle.psg_scope.proofs.KeyLists.{key_is}
 use Rattle.psg_eval.proofs.Frames.{among_left, among_right, among_one}
 
 -- lists with equally long fronts are equal part by part

@@ -1,5 +1,6 @@
 -- The relations of placeholders and of the ends of lists are those of their rows.
 use Rattle.std.proofs.Common.{◌≡◌, ◌↔◌, ℕ, true, false, List, [], ◌∷◌, ◌++◌, map, Some, refl, sym, ap, ◌∙◌, subst}
+use Rattle.psg_terms.proofs.Lists.{in_at}
 use Rattle.std.specs.List.{slice_get}
 use Rattle.psg_terms.specs.Terms.{Term}
 use Rattle.psg_terms.specs.Instances.{substitute, IsGroundInstance}
@@ -17,7 +18,7 @@ use Rattle.psg_grammar.specs.Sound.{IsSound}
 use Rattle.psg_relation.specs.Choices.{IsOfRow}
 use Rattle.psg_relation.proofs.Members.{in-map, map-in}
 use Rattle.psg_eval.specs.OwnRows.{AreHoleRows}
-use Rattle.psg_eval.proofs.Usual.{usual, usual_entities, member_at, place_of_member, of_rows}
+use Rattle.psg_eval.proofs.Usual.{usual, usual_entities, place_of_member, of_rows}
 
 module _ (def : Definition) (sound : IsSound def) where
   -- ---- what is possible for a tree without children: one value of a row
@@ -136,7 +137,7 @@ module _ (def : Definition) (sound : IsSound def) where
         let d : h.kind ≡ list = let d : Some h.kind ≡ Some list = sym h.list ∙ found in cc in
         let at : slice_get list.nil_rows r ≡ Some h.row = sym (ap (λ (k : ListKind). slice_get k.nil_rows r) d) ∙ h.chosen in (
           h.row ∷ [],
-          in-map (λ t. t ∷ []) h.row list.nil_rows (member_at list.nil_rows r h.row at),
+          in-map (λ t. t ∷ []) h.row list.nil_rows (in_at list.nil_rows r h.row at),
           of_term (IsPossible def (ending l false)) (IsOfNilRow def l) (nil_values l) (nil_value l) r h.row (nil_terms l r list h.row found at),
         ))
         made rel

@@ -1,5 +1,7 @@
 -- The first step of an operator: its own rows and keys.
 use Rattle.std.proofs.Common.{◌≡◌, inl, inr, ℕ, true, false, cond, List, [], ◌∷◌, ◌++◌, map, Some, refl, sym, ap, ap₂, ◌∙◌, subst, append-nil}
+use Rattle.std.proofs.lemmas.Bool.{cases_Bool}
+use Rattle.psg_terms.proofs.Lists.{each_at}
 use Rattle.std.specs.List.{slice_get, AllByRecursion}
 use Rattle.psg_terms.specs.Terms.{Term}
 use Rattle.psg_terms.specs.Names.{Name, is_among, has_twice}
@@ -21,12 +23,12 @@ use Rattle.psg_grammar.specs.Regions.{declared_inside, names_inside, unfinished_
 use Rattle.psg_grammar.specs.Relations.{IsPossibleInside}
 use Rattle.psg_grammar.specs.Sound.{IsSound, IsRow}
 use Rattle.psg_grammar.specs.Steps.{first_children}
-use Rattle.psg_grammar.proofs.SoundParts.{each_at, operator_sound}
+use Rattle.psg_grammar.proofs.SoundParts.{operator_sound}
 use Rattle.psg_relation.proofs.Relating.{carried}
 use Rattle.psg_scope.specs.Headers.{keys, declared_keys, IsKey, IsHeader}
 use Rattle.psg_scope.specs.declared.header.Header.{Header}
 use Rattle.psg_scope.proofs.HeaderLaws.{keys-whole}
-use Rattle.psg_scope.proofs.KeyLists.{either, in_order-among}
+use Rattle.psg_scope.proofs.KeyLists.{in_order-among}
 use Rattle.psg_eval.specs.Trees.{IsNode}
 use Rattle.psg_eval.specs.OwnRows.{positions, slot_terms, name_terms, OwnRow}
 use Rattle.psg_eval.proofs.Columns.{map_same}
@@ -116,11 +118,11 @@ module _ (def : Definition) (o : ℕ) (op : Operator) (found : slice_get def.ope
         let own : (n : Key) → is_among ks n ≡ true → IsEntity def o op found n (it.entity n) = entity_among def o op found ks w.terms it.entity w.entities kept in
         let others = usual_entities def sound in
         let eg : AreEntities def g = record {
-          ground = λ n. elim (either (is_among ks n)) [
+          ground = λ n. elim (cases_Bool (is_among ks n)) [
             | inl i ↦ subst (λ b. IsGround (cond b (it.entity n) (usual def sound n))) (sym i) (own n i).ground
             | inr i ↦ subst (λ b. IsGround (cond b (it.entity n) (usual def sound n))) (sym i) (others.ground n)
           ];
-          sorted = λ n e at. elim (either (is_among ks n)) [
+          sorted = λ n e at. elim (cases_Bool (is_among ks n)) [
             | inl i ↦ subst (λ b. HasSort def.signature (cond b (it.entity n) (usual def sound n)) e.sort.0) (sym i) ((own n i).sorted e at)
             | inr i ↦ subst (λ b. HasSort def.signature (cond b (it.entity n) (usual def sound n)) e.sort.0) (sym i) (others.sorted n e at)
           ];

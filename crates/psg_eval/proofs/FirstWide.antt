@@ -1,22 +1,17 @@
 -- The first of some steps that passes the limit.
 use Rattle.std.proofs.Common.{◌≡◌, ◌⊎◌, inl, inr, ℕ, zero, suc, ◌+◌, ◌<◌, ◌≤◌, List, [], ◌∷◌, ◌++◌, refl, sym, ◌∙◌, ap, subst, append_assoc, arith}
+use Rattle.psg_terms.proofs.Lists.{in_either}
 use Rattle.std.specs.Prelude.{Result, Ok, Err}
-use Rattle.psg_terms.specs.Relations.{IsIn, first, later}
+use Rattle.psg_terms.specs.Relations.{first, later}
 use Rattle.psg_grammar.specs.declared.types.Definition.{Definition}
 use Rattle.psg_grammar.specs.Fragments.{Fragment}
 use Rattle.psg_grammar.specs.Paths.{Path}
-use Rattle.psg_grammar.specs.Steps.{Place, PassesAt, last_step, steps_up_to, own_steps}
+use Rattle.psg_grammar.specs.Steps.{Place, PassesAt, last_step, steps_up_to, own_steps, AreWithin, IsFirstOf}
 use Rattle.psg_eval.specs.declared.summary.EvalFault.{EvalFault}
 use Rattle.psg_eval.specs.declared.summary.EvalFault.TheVariants as faults
-use Rattle.psg_eval.specs.declared.summary.Known.{Known}
-use Rattle.psg_eval.specs.ClimbSteps.{AreWithin, IsFirstOf}
+use Rattle.psg_eval.specs.declared.summary.SummaryParts.{SummaryParts}
 use Rattle.psg_eval.specs.Climbing.{IsReached}
 use Rattle.psg_eval.specs.Summaries.{Answers, IsFirstPassing, StaysWithin}
-
-in_either : {X : Type 0} (x : X) (xs ys : List X) → IsIn x (xs ++ ys) → IsIn x xs ⊎ IsIn x ys
-in_either x [] ys h = inr h
-in_either x (y ∷ xs) ys first = inl first
-in_either x (y ∷ xs) ys (later h) = elim (in_either x xs ys h) [ inl a ↦ inl (later a) | inr b ↦ inr b ]
 
 module _ (def : Definition) where
   pub within-none : AreWithin def []
@@ -77,7 +72,7 @@ module _ (def : Definition) where
   own_first path f step p = up_first path f (last_step def f) step p.there p.passes p.first
 
   -- an answer for a node is one for its own steps
-  pub own_reached : (path : Path) (f : Fragment) (result : Result Known EvalFault) → Answers def f result → IsReached def (own_steps def path f) f result
+  pub own_reached : (path : Path) (f : Fragment) (result : Result SummaryParts EvalFault) → Answers def f result → IsReached def (own_steps def path f) f result
   own_reached path f (Ok s) (is, stays) = (is, own_within path f stays)
   own_reached path f (Err (faults.Wide step)) p = (record { path = path; part = f; step = step }, own_first path f step p, refl)
   own_reached path f (Err faults.Memory) p = tt

@@ -1,5 +1,6 @@
 -- The judgement depends on the entities of a node's own keys alone.
 use Rattle.std.proofs.Common.{◌≡◌, inl, inr, ℕ, Bool, true, false, cond, ◌||◌, ◌&&◌, not, List, [], ◌∷◌, ◌++◌, refl, ap, ap₂, sym, ◌∙◌, subst}
+use Rattle.std.proofs.lemmas.Bool.{cases_Bool, or_right, or_parts, or_left}
 use Rattle.psg_terms.specs.Names.{is_among}
 use Rattle.psg_terms.specs.Terms.{Term}
 use Rattle.psg_terms.specs.Signature.{HasSort}
@@ -13,7 +14,7 @@ use Rattle.psg_grammar.specs.Regions.{declared_inside, unfinished_inside, names_
 use Rattle.psg_grammar.specs.Legal.{Entities, AreEntities, Within}
 use Rattle.psg_grammar.specs.Open.{Choice, Holds, Agrees, AgreeOpen}
 use Rattle.psg_grammar.proofs.MixedEntities.{SameOn}
-use Rattle.psg_scope.proofs.KeyLists.{either, neither, or_left, or_right, key_refl}
+use Rattle.psg_scope.proofs.KeyLists.{key_refl}
 use Rattle.psg_scope.proofs.HeaderLaws.{outward-among}
 
 pub among_left : (xs ys : List Key) (n : Key) → is_among xs n ≡ true → is_among (xs ++ ys) n ≡ true
@@ -49,11 +50,11 @@ module _ (def : Definition) where
 
   theirs_entities : (unfinished : ℕ → Bool) (declared : List Key) (g h : Entities) → AreEntities def g → AreEntities def h → AreEntities def (theirs unfinished declared g h)
   theirs_entities unfinished declared g h p q = record {
-    ground = λ n. elim (either (unfinished (space_of n) || is_among declared n)) [
+    ground = λ n. elim (cases_Bool (unfinished (space_of n) || is_among declared n)) [
       | inl e ↦ subst (λ b. IsGround (cond b (g n) (h n))) (sym e) (p.ground n)
       | inr e ↦ subst (λ b. IsGround (cond b (g n) (h n))) (sym e) (q.ground n)
     ];
-    sorted = λ n s at. elim (either (unfinished (space_of n) || is_among declared n)) [
+    sorted = λ n s at. elim (cases_Bool (unfinished (space_of n) || is_among declared n)) [
       | inl e ↦ subst (λ b. HasSort def.signature (cond b (g n) (h n)) s.sort.0) (sym e) (p.sorted n s at)
       | inr e ↦ subst (λ b. HasSort def.signature (cond b (g n) (h n)) s.sort.0) (sym e) (q.sorted n s at)
     ];
@@ -67,10 +68,10 @@ module _ (def : Definition) where
     theirs unfinished (declared_inside def t) inner h,
     theirs_entities unfinished (declared_inside def t) inner h ei eh,
     (λ n u e. ap (λ b. cond b (inner n) (h n)) (ap₂ (λ a b. a || b) u e)),
-    λ n e. elim (either (unfinished (space_of n) || is_among (declared_inside def t) n)) [
+    λ n e. elim (cases_Bool (unfinished (space_of n) || is_among (declared_inside def t) n)) [
       | inl d ↦ sym (ap (λ b. cond b (inner n) (h n)) d)
       | inr d ↦
-          let (u, k) = neither (unfinished (space_of n)) (is_among (declared_inside def t) n) d in
+          let (u, k) = or_parts (unfinished (space_of n)) (is_among (declared_inside def t) n) d in
           agr n u k ∙ same n (among_outward unfinished (declared_inside def t) (names_inside def t) n e u k) ∙ sym (ap (λ b. cond b (inner n) (h n)) d)
     ],
   )

@@ -8,12 +8,11 @@ use Rattle.psg_terms.specs.Relations.{IsIn, IsGlued, IsRelation}
 use Rattle.psg_grammar.specs.Keys.{Key}
 use Rattle.psg_unify.specs.Pairs.{Pair as Columns, AgreeOn}
 use Rattle.psg_relation.specs.Choices.{AllHaveSorts, Agrees, picked}
-use Rattle.psg_relation.proofs.Meeting.{sorts-many}
 use Rattle.psg_relation.proofs.Relating.{carried}
 use Rattle.psg_scope.specs.Headers.{AreRising}
 use Rattle.psg_eval.specs.Glues.{NextGlue}
 use Rattle.psg_eval.specs.Walks.{IsLayout}
-use Rattle.psg_terms.proofs.OneRelation.{instance_sorts}
+use Rattle.psg_terms.proofs.OneRelation.{instance_sorts, sorts_length}
 use Rattle.psg_eval.proofs.Walking.{Along, IsEntity, IsThere, along_any, along_length, along_map, entities, map_along, matches_agree, picks_picked, walk_back}
 use Rattle.psg_eval.proofs.Layouts.{cut, some_first, left_row, right_row, both_rows, layout_pairs, layout_picks, left_in, left_picks, offset_is, right_in, right_picks, wanted_at}
 
@@ -98,10 +97,10 @@ module _ (s n m : ℕ) (K L M : List Key) (pairs : List Columns) (keep : List �
   module _ (sig : Signature) (left right : List (List Term)) (ls rs : List ℕ) (hl : AllHaveSorts sig left ls) (hr : AllHaveSorts sig right rs)
       (nl : length ls ≡ 1 + s + n + length K) (nr : length rs ≡ 1 + m + length L) (some : 0 < n) where
     left_width : (row x : List Term) → IsIn row left → IsGroundInstance sig row x → length x ≡ 1 + s + n + length K
-    left_width row x i g = sorts-many sig x ls (instance_sorts sig row x ls (hl row i) g) ∙ nl
+    left_width row x i g = sorts_length sig x ls (instance_sorts sig row x ls (hl row i) g) ∙ nl
 
     right_width : (row x : List Term) → IsIn row right → IsGroundInstance sig row x → length x ≡ 1 + m + length L
-    right_width row x i g = sorts-many sig x rs (instance_sorts sig row x rs (hr row i) g) ∙ nr
+    right_width row x i g = sorts_length sig x rs (instance_sorts sig row x rs (hr row i) g) ∙ nr
 
     both_ways : (one two : List Term) (i : IsIn one left) (j : IsIn two right) (x : List Term)
         → IsGlued sig (Agrees pairs keep) left right (record { one = one; from_left = i; two = two; from_right = j }) x

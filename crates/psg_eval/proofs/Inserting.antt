@@ -1,11 +1,12 @@
 -- Lists of keys with further keys somewhere inside.
 use Rattle.std.proofs.Common.{◌≡◌, Bool, true, false, ◌||◌, List, [], ◌∷◌, ◌++◌, bytes_eq, refl, sym, ap, ap₂, ◌∙◌, subst, append_assoc, append-nil}
+use Rattle.std.specs.Cmp.{both_ways}
 use Rattle.std.specs.List.{AllByRecursion}
 use Rattle.psg_terms.specs.Names.{is_among, has_twice}
 use Rattle.psg_terms.proofs.DeclareLaws.{is_among-append}
 use Rattle.psg_grammar.specs.Keys.{Key, in_order}
 use Rattle.psg_scope.specs.Headers.{IsKey}
-use Rattle.psg_scope.proofs.KeyLists.{key_is, key_refl, both_ways, in_order-rising, in_order-whole, in_order-among, rising-same}
+use Rattle.psg_scope.proofs.KeyLists.{key_is, key_refl, in_order-rising, in_order-whole, in_order-among, rising-same}
 use Rattle.psg_scope.proofs.MergeLaws.{has_twice-append, meets}
 use Rattle.psg_scope.proofs.HeaderLaws.{whole-append}
 

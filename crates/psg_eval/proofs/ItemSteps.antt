@@ -1,6 +1,7 @@
 -- The walk over an operator's items, item by item: what remains of them completes what is found.
-use Rattle.std.proofs.Common.{◌≡◌, ℕ, ◌+◌, ◌<◌, ◌≤◌, zero, suc, Bool, true, false, List, [], ◌∷◌, ◌++◌, length, drop, get_or, refl, ap, ap₂, sym, subst, ◌∙◌, append_assoc, length-drop, arith}
+use Rattle.std.proofs.Common.{◌≡◌, ℕ, ◌+◌, ◌<◌, ◌≤◌, suc, Bool, true, false, List, [], ◌∷◌, ◌++◌, length, drop, get_or, refl, ap, ap₂, sym, subst, ◌∙◌, append_assoc, length-drop, arith}
 use Rattle.std.proofs.lemmas.List.{append-nil}
+use Rattle.psg_terms.proofs.Lists.{drop_item}
 use Rattle.psg_terms.specs.Names.{Name}
 use Rattle.psg_grammar.specs.declared.types.Definition.{Definition}
 use Rattle.psg_grammar.specs.declared.types.Item.{Item}
@@ -10,11 +11,6 @@ use Rattle.psg_scope.specs.declared.header.NameCol.{NameCol}
 use Rattle.psg_eval.specs.Own.{name_columns, slot_columns}
 use Rattle.psg_eval.specs.OwnRows.{positions}
 use Rattle.psg_eval.specs.Summaries.{are_names}
-
-taken : {X : Type 0} (xs : List X) (i : ℕ) (x : X) → i < length xs → x ≡ get_or xs i x → drop i xs ≡ x ∷ drop (i + 1) xs
-taken [] i x l e = absurd (omega arith)
-taken (y ∷ xs) zero x l e = let z : zero + 1 ≡ suc zero = omega arith in ap₂ (λ a b. a ∷ b) (sym e) (ap (λ n. drop n (y ∷ xs)) (sym z))
-taken (y ∷ xs) (suc i) x l e = let z : suc i + 1 ≡ suc (i + 1) = omega arith in taken xs i x (omega arith) e ∙ ap (λ n. x ∷ drop n (y ∷ xs)) (sym z)
 
 -- how many names the items have, in any definition
 abbrev pub names_count : List Item → ℕ
@@ -148,10 +144,7 @@ module _ (xs : List Item) (names : List Name) (i column next : ℕ) (ps : List N
 
 -- the item and the name that the loop is at
 pub item_at : (xs : List Item) (i : ℕ) (x y : Item) → i < length xs → x ≡ get_or xs i x → x ≡ y → drop i xs ≡ y ∷ drop (i + 1) xs
-item_at xs i x y l e d = taken xs i x l e ∙ ap (λ z. z ∷ drop (i + 1) xs) d
-
-pub name_at : (names : List Name) (i : ℕ) (x : Name) → i < length names → x ≡ get_or names i x → drop i names ≡ x ∷ drop (i + 1) names
-name_at names i x l e = taken names i x l e
+item_at xs i x y l e d = drop_item xs i x l e ∙ ap (λ z. z ∷ drop (i + 1) xs) d
 
 pub settled : (xs : List Item) (names : List Name) (i column next c n : ℕ) (ps : List NameCol) (ns ss : List ℕ) → c ≡ column → n ≡ next → IsFoundUpTo xs names i column next ps ns ss → IsFoundUpTo xs names i c n ps ns ss
 settled xs names i column next c n ps ns ss ec en f = subst (λ k. IsFoundUpTo xs names i k n ps ns ss) (sym ec) (subst (λ k. IsFoundUpTo xs names i column k ps ns ss) (sym en) f)

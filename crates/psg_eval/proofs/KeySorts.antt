@@ -1,5 +1,7 @@
 -- The sort of a key is that of its space, so headers tell the sorts of the columns of their keys.
 use Rattle.std.proofs.Common.{◌≡◌, inl, inr, ℕ, ◌||◌, true, false, List, [], ◌∷◌, ◌++◌, map, Option, Some, None, refl, ap, ap₂, sym, ◌∙◌, subst, true≢false, bytes_eq}
+use Rattle.std.proofs.lemmas.Bool.{or_cases, or_right, or_left}
+use Rattle.std.specs.Cmp.{first_so}
 use Rattle.std.specs.List.{slice_get, AllByRecursion}
 use Rattle.psg_terms.specs.Names.{Name, is_among}
 use Rattle.psg_terms.proofs.DeclareLaws.{is_among-append}
@@ -13,7 +15,7 @@ use Rattle.psg_scope.specs.declared.header.NameCol.{NameCol}
 use Rattle.psg_scope.specs.declared.header.Header.{Header}
 use Rattle.psg_scope.specs.Headers.{key_of, keys, declared_keys, has_space, IsHeader, PassesOutward}
 use Rattle.psg_scope.proofs.HeaderLaws.{header-among, keys-whole, outward-among, whole-append}
-use Rattle.psg_scope.proofs.KeyLists.{key_is, key_refl, in_order-among, or_cases, or_left, or_right, and_left}
+use Rattle.psg_scope.proofs.KeyLists.{key_is, key_refl, in_order-among}
 use Rattle.psg_eval.specs.OwnRows.{positions}
 use Rattle.psg_eval.specs.Summaries.{AreKeySorts}
 
@@ -74,7 +76,7 @@ module _ (def : Definition) where
       from_spaces outside.names (all_among HasSpace (keys outside.names) (λ k i.
       let u = has_space inside.unfinished in
       let passes = sym (outward-among k (keys inside.names) (declared_keys inside.names) u) ∙ sym (ap (λ ks. is_among ks k) close.keys_are) ∙ i in
-      among_all HasSpace (keys inside.names) (have_spaces inside.names ls h) k (and_left (is_among (keys inside.names) k) _ passes)))
+      among_all HasSpace (keys inside.names) (have_spaces inside.names ls h) k (first_so (is_among (keys inside.names) k) _ passes)))
 
   position_spaces : (xs : List Item) (names : List Name) → AllByRecursion (IsItem def) xs → AllByRecursion HasSpace (keys (positions xs names))
   position_spaces [] names h = tt

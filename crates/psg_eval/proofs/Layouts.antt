@@ -1,11 +1,11 @@
 -- What the pairs and kept columns of a layout make of two rows.
 use Rattle.std.proofs.Common.{◌≡◌, ℕ, ◌+◌, ◌-◌, zero, suc, List, [], ◌∷◌, ◌++◌, length, refl, ap, ap₂, sym, ◌∙◌, subst, Some, slice_get, append_assoc, length-append, arith}
 use Rattle.std.proofs.lemmas.List.{append-nil}
-use Rattle.psg_terms.proofs.DeclareLaws.{slice_get-front}
+use Rattle.psg_terms.proofs.Lists.{slice_get-front, slice_get-middle}
 use Rattle.psg_grammar.specs.Keys.{Key}
 use Rattle.psg_unify.specs.Pairs.{Pair as Columns}
 use Rattle.psg_eval.specs.Walks.{IsLayout, IsWalk, run}
-use Rattle.psg_eval.proofs.Walking.{Along, Matches, Picks, get-middle, picks_append, picks_run, walk_pairs, walk_to}
+use Rattle.psg_eval.proofs.Walking.{Along, Matches, Picks, picks_append, picks_run, walk_pairs, walk_to}
 
 pub layout_of : (seen wanted more : ℕ) (K L M : List Key) (s m a b : ℕ) (left right keep : List ℕ) (ps pairs : List Columns) (ks : List ℕ)
     → s ≡ seen → m ≡ more → a ≡ length K → b ≡ length L → left ≡ run (1 + s + wanted) a → right ≡ run (1 + m) b → IsWalk (1 + s + wanted + a) left right K L M ps ks
@@ -87,7 +87,7 @@ module _ {X : Type 0} (v : X) (seen : List X) (u : X) (others P : List X) (w : X
   wanted_at s es =
       let e : left_row ≡ (v ∷ seen) ++ (u ∷ (others ++ P)) = append_assoc (v ∷ seen) (u ∷ others) P in
       let d : 1 + s ≡ length (v ∷ seen) = omega arith in
-      ap₂ slice_get e d ∙ get-middle (v ∷ seen) u (others ++ P)
+      ap₂ slice_get e d ∙ slice_get-middle (v ∷ seen) u (others ++ P)
 
   pub left_in : (a : ℕ) (x : X) → slice_get left_row a ≡ Some x → slice_get both_rows a ≡ Some x
   left_in a x e = slice_get-front left_row right_row a x e

@@ -1,5 +1,6 @@
 -- From the relation of its rows to the answer for a tree without children.
-use Rattle.std.proofs.Common.{◌≡◌, ℕ, ◌<◌, ◌≤◌, zero, suc, Bool, true, false, List, [], ◌∷◌, map, length, get_or, refl, ap, sym, ◌∙◌, subst, Some, slice_get, arith}
+use Rattle.std.proofs.Common.{◌≡◌, ℕ, ◌<◌, ◌≤◌, zero, suc, Bool, true, false, List, [], ◌∷◌, map, length, refl, ap, sym, ◌∙◌, subst, Some, slice_get, arith}
+use Rattle.psg_terms.proofs.Lists.{each_at}
 use Rattle.std.specs.Prelude.{Result, Ok, Err, IfOk}
 use Rattle.std.specs.List.{AllByRecursion}
 use Rattle.psg_terms.specs.Terms.{Term}
@@ -16,7 +17,6 @@ use Rattle.psg_grammar.specs.Fragments.{Fragment, hole, ending}
 use Rattle.psg_grammar.specs.Relations.{IsPossible, IsPossibleInside}
 use Rattle.psg_grammar.specs.Sound.{HasKindSort, IsSound}
 use Rattle.psg_grammar.specs.Steps.{children_count, first_children, last_step, PassesAt}
-use Rattle.psg_grammar.proofs.SoundParts.{each_at}
 use Rattle.psg_relation.specs.Choices.{AllHaveSorts, IsOfRow}
 use Rattle.psg_relation.proofs.Members.{map-in}
 use Rattle.psg_scope.specs.declared.header.Header.{Header}
@@ -24,7 +24,7 @@ use Rattle.psg_scope.proofs.HeaderLaws.{ordered-of}
 use Rattle.psg_scope.specs.Headers.{AreAscending, IsHeader, has_space}
 use Rattle.psg_eval.specs.declared.summary.EvalFault.{EvalFault}
 use Rattle.psg_eval.specs.declared.summary.EvalFault.TheVariants as faults
-use Rattle.psg_eval.specs.declared.summary.Known.{Known}
+use Rattle.psg_eval.specs.declared.summary.SummaryParts.{SummaryParts}
 use Rattle.psg_eval.specs.Leaves.{IsLeafOf}
 use Rattle.psg_eval.specs.OwnRows.{AreHoleRows}
 use Rattle.psg_eval.specs.Summaries.{Answers, AreSpacesOfList, IsHeaderOf, IsSummary}
@@ -49,7 +49,7 @@ module _ (def : Definition) (sound : IsSound def) (f : Fragment) (kind : Kind) (
   light made rel none k le passes =
       step_stays def f sound.signature 0 (sort ∷ []) made (omega arith) (inside made (family made rel)) none (subst (PassesAt def f) (only_zero k (last_step def f) le last) passes)
 
-  pub leaf_answers : (result : Result Known EvalFault) → IsLeafOf def.signature kind h rows (sort ∷ []) result → Answers def f result
+  pub leaf_answers : (result : Result SummaryParts EvalFault) → IsLeafOf def.signature kind h rows (sort ∷ []) result → Answers def f result
   leaf_answers (Ok s) (ek, eh, er, rel, none) = (
     record {
       kind = subst (IsOfKind def f) (sym ek) of_kind;
@@ -68,7 +68,7 @@ module _ (def : Definition) (sound : IsSound def) (f : Fragment) (kind : Kind) (
 
 -- whatever the tree is
 pub leaf_summary : (def : Definition) (kind : Kind) (h : Header) (unfinished : ℕ → Bool) (rows : List (List Term)) (sort : ℕ) → HasKindSort def kind sort → h.names ≡ [] → IsHeader [] [] unfinished h
-    → (result : Result Known EvalFault) → IsLeafOf def.signature kind h rows (sort ∷ []) result → IfOk result (IsSummary def)
+    → (result : Result SummaryParts EvalFault) → IsLeafOf def.signature kind h rows (sort ∷ []) result → IfOk result (IsSummary def)
 leaf_summary def kind h unfinished rows sort has none is (Ok s) (ek, eh, er, rel, light) = record {
   header = ordered-of (subst (IsHeader [] [] unfinished) (sym eh) is);
   sort = sort;
@@ -128,7 +128,7 @@ nil_sorts def sound l k e row i =
 -- ---- the three kinds of leaves
 
 module _ (def : Definition) (sound : IsSound def) (p : ℕ) (h : Header) (rows : List (List Term)) (are : AreHoleRows def (kinds.Phylum p) rows) (none : h ≡ record { names = []; unfinished = []; twice = false })
-    (result : Result Known EvalFault) (s : ℕ) (told : IsLeafOf def.signature (kinds.Phylum p) h rows (s ∷ []) result) where
+    (result : Result SummaryParts EvalFault) (s : ℕ) (told : IsLeafOf def.signature (kinds.Phylum p) h rows (s ∷ []) result) where
   pub hole_answers : Answers def (hole p) result
   hole_answers = leaf_answers def sound (hole p) (kinds.Phylum p) h rows s refl (no_header (λ n. false) [] tt (λ n. refl) h none) refl refl refl
       (λ made rel. hole_relation def sound (s ∷ []) p rows made are rel) (λ made rel. inside_relation def (hole p) (s ∷ []) made refl rel) result told
@@ -138,7 +138,7 @@ module _ (def : Definition) (sound : IsSound def) (p : ℕ) (h : Header) (rows :
 
 module _ (def : Definition) (sound : IsSound def) (l : ℕ) (h : Header) (rows : List (List Term)) (spaces : List ℕ) (known : AreSpacesOfList def l spaces)
     (are : AreHoleRows def (kinds.List l) rows) (none : h ≡ record { names = []; unfinished = spaces; twice = false })
-    (result : Result Known EvalFault) (s : ℕ) (told : IsLeafOf def.signature (kinds.List l) h rows (s ∷ []) result) where
+    (result : Result SummaryParts EvalFault) (s : ℕ) (told : IsLeafOf def.signature (kinds.List l) h rows (s ∷ []) result) where
   pub open_answers : Answers def (ending l true) result
   open_answers = leaf_answers def sound (ending l true) (kinds.List l) h rows s refl (no_header (λ n. is_declaring def n (kinds.List l)) spaces known.ascending known.exact h none) refl refl refl
       (λ made rel. open_end_relation def sound (s ∷ []) l rows made are rel) (λ made rel. inside_relation def (ending l true) (s ∷ []) made refl rel) result told
@@ -148,15 +148,10 @@ module _ (def : Definition) (sound : IsSound def) (l : ℕ) (h : Header) (rows :
       (no_header (λ n. is_declaring def n (kinds.List l)) spaces known.ascending known.exact h none) result told
 
 module _ (def : Definition) (sound : IsSound def) (l : ℕ) (list : ListKind) (at : slice_get def.lists l ≡ Some list) (h : Header) (none : h ≡ record { names = []; unfinished = []; twice = false })
-    (result : Result Known EvalFault) (told : IsLeafOf def.signature (kinds.List l) h (map (λ t. t ∷ []) list.nil_rows) (list.sort.0 ∷ []) result) where
+    (result : Result SummaryParts EvalFault) (told : IsLeafOf def.signature (kinds.List l) h (map (λ t. t ∷ []) list.nil_rows) (list.sort.0 ∷ []) result) where
   pub closed_answers : Answers def (ending l false) result
   closed_answers = leaf_answers def sound (ending l false) (kinds.List l) h (map (λ t. t ∷ []) list.nil_rows) list.sort.0 refl (no_header (λ n. false) [] tt (λ n. refl) h none) refl refl refl
       (λ made rel. end_relation def sound (list.sort.0 ∷ []) l list made at rel) (λ made rel. inside_relation def (ending l false) (list.sort.0 ∷ []) made refl rel) result told
 
   pub closed_summary : IfOk result (IsSummary def)
   closed_summary = leaf_summary def (kinds.List l) h (λ n. false) (map (λ t. t ∷ []) list.nil_rows) list.sort.0 (list, at, refl) (ap (λ (x : Header). x.names) none) (no_header (λ n. false) [] tt (λ n. refl) h none) result told
-
-pub at_place : {X : Type 0} (xs : List X) (i : ℕ) (x : X) → i < length xs → x ≡ get_or xs i x → slice_get xs i ≡ Some x
-at_place [] i x h e = absurd (omega arith)
-at_place (y ∷ xs) zero x h e = ap Some (sym e)
-at_place (y ∷ xs) (suc i) x h e = at_place xs i x (omega arith) e

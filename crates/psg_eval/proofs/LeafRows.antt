@@ -1,19 +1,19 @@
 -- Rows of the definition made one after the other.
 use Rattle.std.proofs.Common.{◌≡◌, ℕ, ◌+◌, ◌<◌, ◌⊎◌, inl, inr, zero, suc, List, [], ◌∷◌, ◌++◌, map, length, take, get_or, ap, sym, ◌∙◌, subst, Some, slice_get}
 use Rattle.std.proofs.lemmas.List.{map-append}
+use Rattle.psg_terms.proofs.Lists.{take_item, slice_get-end, slice_get-front, in_left}
 use Rattle.psg_terms.specs.Terms.{Term}
 use Rattle.psg_terms.specs.Relations.{IsIn}
-use Rattle.psg_terms.proofs.DeclareLaws.{slice_get-end, slice_get-front, take-next}
 use Rattle.psg_grammar.specs.declared.types.HoleRow.{HoleRow}
 use Rattle.psg_grammar.specs.declared.types.Kind.{Kind}
 use Rattle.psg_grammar.specs.declared.types.Definition.{Definition}
-use Rattle.psg_relation.proofs.Members.{in-left, in-last, in-split}
+use Rattle.psg_relation.proofs.Members.{in-last, in-split}
 use Rattle.psg_eval.specs.OwnRows.{AreHoleRows}
 
 -- an element more of a mapped list
 pub map_more : {X Y : Type 0} (f : X → Y) (xs : List X) (i : ℕ) (x : X) (now more : List Y) → i < length xs → x ≡ get_or xs i x → now ≡ map f (take i xs) → more ≡ now ++ f x ∷ [] → more ≡ map f (take (i + 1) xs)
 map_more f xs i x now more l e n m =
-    m ∙ ap (λ ys. ys ++ f x ∷ []) n ∙ sym (map-append f (take i xs) (x ∷ [])) ∙ ap (map f) (sym (take-next xs i x l e))
+    m ∙ ap (λ ys. ys ++ f x ∷ []) n ∙ sym (map-append f (take i xs) (x ∷ [])) ∙ ap (map f) (sym (take_item xs i x l e))
 
 get-split : {X : Type 0} (xs : List X) (y : X) (i : ℕ) (x : X) → slice_get (xs ++ y ∷ []) i ≡ Some x → (slice_get xs i ≡ Some x) ⊎ (y ≡ x)
 get-split [] y zero x e = inr cc
@@ -38,7 +38,7 @@ of_push hs kind rows h a k = record {
     | inr e ↦ (length hs, h, slice_get-end hs h, k, e)
   ];
   to = λ r g e same. elim (get-split hs h r g e) [
-    | inl d ↦ in-left (g.term ∷ []) rows ((h.term ∷ []) ∷ []) (a.to r g d same)
+    | inl d ↦ in_left (g.term ∷ []) rows ((h.term ∷ []) ∷ []) (a.to r g d same)
     | inr d ↦ subst (λ (x : HoleRow). IsIn (x.term ∷ []) (rows ++ (h.term ∷ []) ∷ [])) d (in-last (h.term ∷ []) rows)
   ];
 }
@@ -55,11 +55,11 @@ of_skip hs kind rows h a n = record {
 pub of_more : (hs : List HoleRow) (kind : Kind) (rows more : List (List Term)) (i : ℕ) (h : HoleRow) (row : List Term) → i < length hs → h ≡ get_or hs i h → AreOfKind (take i hs) kind rows → h.kind ≡ kind → row ≡ h.term ∷ [] → more ≡ rows ++ row ∷ []
     → AreOfKind (take (i + 1) hs) kind more
 of_more hs kind rows more i h row l e a k er em =
-    subst (λ x. AreOfKind x kind more) (sym (take-next hs i h l e))
+    subst (λ x. AreOfKind x kind more) (sym (take_item hs i h l e))
     (subst (AreOfKind (take i hs ++ h ∷ []) kind) (sym (em ∙ ap (λ r. rows ++ r ∷ []) er)) (of_push (take i hs) kind rows h a k))
 
 pub of_less : (hs : List HoleRow) (kind : Kind) (rows : List (List Term)) (i : ℕ) (h : HoleRow) → i < length hs → h ≡ get_or hs i h → AreOfKind (take i hs) kind rows → (h.kind ≡ kind → ⊥) → AreOfKind (take (i + 1) hs) kind rows
-of_less hs kind rows i h l e a n = subst (λ x. AreOfKind x kind rows) (sym (take-next hs i h l e)) (of_skip (take i hs) kind rows h a n)
+of_less hs kind rows i h l e a n = subst (λ x. AreOfKind x kind rows) (sym (take_item hs i h l e)) (of_skip (take i hs) kind rows h a n)
 
 pub of_all : (def : Definition) (hs : List HoleRow) (kind : Kind) (rows : List (List Term)) → hs ≡ def.hole_rows → AreOfKind hs kind rows → AreHoleRows def kind rows
 of_all def hs kind rows e a = record {

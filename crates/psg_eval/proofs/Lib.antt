@@ -1,6 +1,5 @@
 pub mod Uniqueness
 pub mod Frames
-pub mod Observed
 pub mod Inserting
 pub mod Replacing
 pub mod Gluing

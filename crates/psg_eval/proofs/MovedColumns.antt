@@ -1,5 +1,7 @@
 -- The columns of keys that are made of two parts: their sorts, and that each is kept once.
 use Rattle.std.proofs.Common.{◌≡◌, ℕ, zero, suc, ◌+◌, Bool, true, false, cond, not, List, [], ◌∷◌, ◌++◌, length, bytes_eq, slice_get, Option, Some, refl, ap, sym, ◌∙◌, subst, true≢false, arith}
+use Rattle.std.proofs.lemmas.Bool.{or_right, or_left, not-true}
+use Rattle.std.proofs.lemmas.List.{nil_from_length}
 use Rattle.std.specs.List.{AllByRecursion}
 use Rattle.std.specs.Prelude.{IfErr, Result, Err}
 use Rattle.psg_terms.specs.Names.{Name, is_among}
@@ -18,9 +20,9 @@ use Rattle.psg_scope.specs.declared.header.NameCol.{NameCol}
 use Rattle.psg_scope.specs.declared.header.Header.{Header}
 use Rattle.psg_scope.specs.Headers.{ArePlaces, AreRising, IsKey, IsOrdered, IsUnion, keep_if, key_of, keys}
 use Rattle.psg_scope.proofs.HeaderLaws.{keys-whole}
-use Rattle.psg_scope.proofs.KeyLists.{below-absent, key_refl, or_left, or_right}
+use Rattle.psg_scope.proofs.KeyLists.{below-absent, key_refl}
 use Rattle.psg_unify.specs.Pairs.{Pair as Columns}
-use Rattle.psg_eval.specs.declared.summary.Known.{Known}
+use Rattle.psg_eval.specs.declared.summary.SummaryParts.{SummaryParts}
 use Rattle.psg_eval.specs.Renamed.{IsRenamed, moved_header, moved_names, moved_places, other_header, other_names, other_places}
 use Rattle.psg_eval.specs.Summaries.{AreKeySorts, IsSummary}
 use Rattle.psg_eval.specs.Walks.{IsWalk}
@@ -28,10 +30,6 @@ use Rattle.psg_eval.proofs.MovedKeys.{moved_many, other_many}
 use Rattle.psg_eval.proofs.PartialSorts.{IsKeySort, sorts_along}
 use Rattle.psg_eval.proofs.WalkSteps.{places_many}
 use Rattle.psg_eval.proofs.Walking.{Along, Picks, picks_picked, picks_within, walk_to}
-
-is_false : (b : Bool) → not b ≡ true → b ≡ false
-is_false true e = sym e
-is_false false e = refl
 
 -- ---- what is along the keys is along those of both parts
 
@@ -77,7 +75,7 @@ module _ {X : Type 0} (R : Key → X → Type 0) (row : List X) (from to : Name)
   other_picks i (c ∷ cols) [] s at = absurd s
   other_picks i (c ∷ cols) (x ∷ xs) (m, o, s) at =
       let (E, h, a) = other_picks (suc i) cols xs s (rest_at i x xs at) in
-      kept (not (bytes_eq c.name from)) i (other_places from (suc i) cols) c (other_names from cols) x E (first_at i x xs at) (λ e. o (is_false (bytes_eq c.name from) e)) h a
+      kept (not (bytes_eq c.name from)) i (other_places from (suc i) cols) c (other_names from cols) x E (first_at i x xs at) (λ e. o (not-true (bytes_eq c.name from) e)) h a
 
   in_row : (b : ℕ) (x : X) → slice_get row b ≡ Some x → slice_get row (0 + b) ≡ Some x
   in_row b x h =
@@ -181,17 +179,13 @@ kept_once row keep ms s w h i j k e f =
 
 -- ---- the summary
 
-empty_list : {X : Type 0} (xs : List X) → length xs ≡ 0 → xs ≡ []
-empty_list [] e = refl
-empty_list (x ∷ xs) e = absurd (omega (arith, e))
-
 stand_sorts : (def : Definition) (row : List ℕ) (from to : Name) (cols : List NameCol) (ss : List ℕ) → AreKeySorts def cols ss → Stand (IsKeySort def) row from to cols ss
 stand_sorts def row from to [] [] h = tt
 stand_sorts def row from to [] (s ∷ ss) h = absurd (cc)
 stand_sorts def row from to (c ∷ cols) ss (s, rest, e, h, more) =
     subst (Stand (IsKeySort def) row from to (c ∷ cols)) (sym e) ((λ _. h), (λ _. h), stand_sorts def row from to cols rest more)
 
-module _ (def : Definition) (old : Known) (from to : Name) (sum : IsSummary def old) (silent : old.seen ≡ 0) (h : Header) (pairs : List Columns) (columns : List ℕ)
+module _ (def : Definition) (old : SummaryParts) (from to : Name) (sum : IsSummary def old) (silent : old.seen ≡ 0) (h : Header) (pairs : List Columns) (columns : List ℕ)
     (w : IsWalk 0 (moved_places from 1 old.header.names) (other_places from 1 old.header.names) (keys (moved_names from to old.header.names)) (keys (other_names from old.header.names)) (keys h.names) pairs columns) where
   abbrev pub old_sorts : List ℕ
   old_sorts = (sum.sort ∷ sum.seen) ++ sum.key_sorts
@@ -200,7 +194,7 @@ module _ (def : Definition) (old : Known) (from to : Name) (sum : IsSummary def 
   sorts = sum.sort ∷ sum.key_sorts
 
   sorts_are : old_sorts ≡ sorts
-  sorts_are = ap (λ l. (sum.sort ∷ l) ++ sum.key_sorts) (empty_list sum.seen (sum.reported ∙ silent))
+  sorts_are = ap (λ l. (sum.sort ∷ l) ++ sum.key_sorts) (nil_from_length sum.seen (sum.reported ∙ silent))
 
   sorted : AllHaveSorts def.signature old.rel sorts
   sorted = subst (AllHaveSorts def.signature old.rel) sorts_are sum.sorted
@@ -224,7 +218,7 @@ module _ (def : Definition) (old : Known) (from to : Name) (sum : IsSummary def 
 
   pub renamed_usual : IsOrdered h → (rows : List (List Term)) → ((ss : List ℕ) → AllHaveSorts def.signature old.rel ss
       → IsRelation def.signature (picked ss (0 ∷ columns)) (IsProjected def.signature old.rel (0 ∷ columns)) rows)
-      → (new : Known) → new.kind ≡ old.kind → new.header ≡ h → new.seen ≡ old.seen → new.rel ≡ rows → IsSummary def new
+      → (new : SummaryParts) → new.kind ≡ old.kind → new.header ≡ h → new.seen ≡ old.seen → new.rel ≡ rows → IsSummary def new
   renamed_usual ordered rows made new ek eh es er =
       let known = made sorts sorted in
       let is : picked sorts (0 ∷ columns) ≡ sum.sort ∷ picks.0 = picks_picked sorts (0 ∷ columns) (sum.sort ∷ picks.0) (refl, picks.1) in
@@ -242,7 +236,7 @@ module _ (def : Definition) (old : Known) (from to : Name) (sum : IsSummary def 
 
   pub is_renamed : IsUnion (moved_header from to old.header) (other_header from old.header) h → IsOrdered h → (rows : List (List Term)) → ((ss : List ℕ) → AllHaveSorts def.signature old.rel ss
       → IsRelation def.signature (picked ss (0 ∷ columns)) (IsProjected def.signature old.rel (0 ∷ columns)) rows)
-      → (new : Known) → new.kind ≡ old.kind → new.header ≡ h → new.seen ≡ old.seen → new.rel ≡ rows → IsRenamed def from to old new
+      → (new : SummaryParts) → new.kind ≡ old.kind → new.header ≡ h → new.seen ≡ old.seen → new.rel ≡ rows → IsRenamed def from to old new
   is_renamed union ordered rows made new ek eh es er = record {
     kind = ek;
     seen = es;
@@ -256,7 +250,7 @@ module _ (def : Definition) (old : Known) (from to : Name) (sum : IsSummary def 
 
 -- ---- the parts as they are made
 
-module _ (from to : Name) (k : Known) (lefts rights : List ℕ) (moved others : Header) (a : lefts ≡ moved_places from 1 k.header.names) (b : rights ≡ other_places from 1 k.header.names)
+module _ (from to : Name) (k : SummaryParts) (lefts rights : List ℕ) (moved others : Header) (a : lefts ≡ moved_places from 1 k.header.names) (b : rights ≡ other_places from 1 k.header.names)
     (m : moved ≡ moved_header from to k.header) (o : others ≡ other_header from k.header) where
   pub walk_of : (M : List Key) (pairs : List Columns) (columns : List ℕ) → IsWalk 0 lefts rights (keys moved.names) (keys others.names) M pairs columns
       → IsWalk 0 (moved_places from 1 k.header.names) (other_places from 1 k.header.names) (keys (moved_names from to k.header.names)) (keys (other_names from k.header.names)) M pairs columns

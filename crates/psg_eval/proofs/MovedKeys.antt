@@ -1,12 +1,12 @@
 -- The two parts of a header's keys by a name, with their columns.
 use Rattle.std.proofs.Common.{◌≡◌, ℕ, suc, ◌+◌, ◌≤◌, Bool, true, false, not, List, [], ◌∷◌, ◌++◌, length, drop, bytes_eq, slice_get, Some, refl, ap, ap₂, sym, ◌∙◌, append_assoc, arith}
-use Rattle.std.proofs.lemmas.List.{append-nil}
+use Rattle.std.proofs.lemmas.List.{append-nil, drop_all}
+use Rattle.psg_terms.proofs.Lists.{drop_there}
 use Rattle.psg_terms.specs.Names.{Name}
 use Rattle.psg_scope.specs.declared.header.NameCol.{NameCol}
 use Rattle.psg_scope.specs.Headers.{keep_if, keys}
 use Rattle.psg_eval.specs.declared.renaming.Apart.{Apart}
 use Rattle.psg_eval.specs.Renamed.{GrowsBy, moved_names, moved_places, other_names, other_places}
-use Rattle.psg_eval.proofs.WalkSteps.{drop_at, drop_end}
 
 kept_append : {X : Type 0} (b : Bool) (x : X) (xs : List X) → keep_if b x [] ++ xs ≡ keep_if b x xs
 kept_append true x xs = refl
@@ -63,7 +63,7 @@ module _ (from to : Name) where
       next = omega arith
 
       whole : key ∷ rest ≡ drop i names
-      whole = sym (drop_at names i key at)
+      whole = sym (drop_there names i key at)
 
       pub one_apart : IsApartUpTo new (i + 1)
       one_apart = record {
@@ -81,7 +81,7 @@ module _ (from to : Name) where
 
     module _ (made : Apart) (i : ℕ) (h : length names ≤ i) (s : IsApartUpTo made i) where
       gone : [] ≡ drop i names
-      gone = sym (drop_end names i h)
+      gone = sym (drop_all i names h)
 
       pub all_moved : made.moved.items ≡ moved_names from to names
       all_moved = sym (append-nil made.moved.items) ∙ ap (λ l. made.moved.items ++ moved_names from to l) gone ∙ s.moved

@@ -3,12 +3,12 @@ use Rattle.std.proofs.Common.{◌≡◌, ℕ, zero, suc, ◌+◌, ◌-◌, ◌<�
 use Rattle.std.specs.Prelude.{Result, Ok, Err}
 use Rattle.std.specs.List.{slice_get, sum_by}
 use Rattle.std.proofs.lemmas.List.Sums.{sum_by-append}
-use Rattle.std.proofs.lemmas.List.{length-drop, length-map, take_all}
+use Rattle.std.proofs.lemmas.List.{length-drop, length-map, take_all, drop_all}
 use Rattle.psg_terms.specs.Terms.{Term}
 use Rattle.psg_terms.specs.Names.{Name}
 use Rattle.psg_terms.specs.Weight.{PassesLimit}
-use Rattle.psg_terms.proofs.DeclareLaws.{take-next}
 use Rattle.std.proofs.lemmas.Option.{slice_get_within}
+use Rattle.psg_terms.proofs.Lists.{take_item, slice_get_item, drop_there}
 use Rattle.psg_grammar.specs.declared.types.Item.{Item}
 use Rattle.psg_grammar.specs.declared.types.Item.TheVariants as items
 use Rattle.psg_grammar.specs.declared.types.Kind.{Kind}
@@ -23,7 +23,7 @@ use Rattle.psg_scope.specs.declared.header.Header.{Header}
 use Rattle.psg_eval.specs.declared.partial.Partial.{Partial}
 use Rattle.psg_eval.specs.declared.summary.EvalFault.{EvalFault}
 use Rattle.psg_eval.specs.declared.summary.EvalFault.TheVariants as faults
-use Rattle.psg_eval.specs.declared.summary.Known.{Known}
+use Rattle.psg_eval.specs.declared.summary.SummaryParts.{SummaryParts}
 use Rattle.psg_eval.specs.Outside.{IsClosed}
 use Rattle.psg_eval.specs.Own.{IsOwnStep}
 use Rattle.psg_eval.specs.Partials.{IsAdded, IsPartial}
@@ -32,35 +32,33 @@ use Rattle.psg_eval.specs.Summaries.{Answers, AreSummariesOf, IsFirstPassing, sl
 use Rattle.psg_eval.specs.Trees.{HasParts, IsNode, seen_in}
 use Rattle.psg_grammar.specs.Kinds.{IsOfKind}
 use Rattle.psg_eval.proofs.Assembling.{made_first, made_next, wide_first, wide_next, open_answer, closed_answer, closed_wide}
-use Rattle.psg_eval.proofs.LeafAnswers.{at_place}
 use Rattle.psg_eval.proofs.Nodes.{as_many, child_at, node_count, node_kind, node_scope, node_seen}
 use Rattle.psg_eval.proofs.Stepping.{first_ok, first_twice}
-use Rattle.psg_eval.proofs.WalkSteps.{drop_at, drop_end}
 
 -- ---- how many values are seen in the first children
 
-abbrev pub seen_by : List Known → ℕ
-seen_by xs = sum_by (λ (s : Known). s.seen) xs
+abbrev pub seen_by : List SummaryParts → ℕ
+seen_by xs = sum_by (λ (s : SummaryParts). s.seen) xs
 
-seen_push : (xs : List Known) (s : Known) → seen_by (xs ++ s ∷ []) ≡ seen_by xs + s.seen
+seen_push : (xs : List SummaryParts) (s : SummaryParts) → seen_by (xs ++ s ∷ []) ≡ seen_by xs + s.seen
 seen_push xs s =
     let one : seen_by (s ∷ []) ≡ s.seen = (let z : 0 + s.seen ≡ s.seen = omega arith in z) in
-    sum_by-append (λ (x : Known). x.seen) xs (s ∷ []) ∙ ap (λ n. seen_by xs + n) one
+    sum_by-append (λ (x : SummaryParts). x.seen) xs (s ∷ []) ∙ ap (λ n. seen_by xs + n) one
 
 -- ---- the first children
 
 -- what is known of the node with the first i children, by what is known of it with fewer
-pub record IsGoneUpTo (def : Definition) (children : List Known) (from : ℕ) (begin now : Partial) (i : ℕ) : Type 0 where
+pub record IsGoneUpTo (def : Definition) (children : List SummaryParts) (from : ℕ) (begin now : Partial) (i : ℕ) : Type 0 where
   pub made : (f : Fragment) → HasParts def f [] → AreSummariesOf def f children → IsMade def f from begin → IsMade def f i now
   pub partial : (kind : Kind) → IsPartial def kind (kinds_of (drop from children)) begin → IsPartial def kind (kinds_of (drop i children)) now
   pub seen : now.seen + seen_by (take from children) ≡ begin.seen + seen_by (take i children)
 
-pub gone_none : (def : Definition) (children : List Known) (from : ℕ) (begin : Partial) → IsGoneUpTo def children from begin begin from
+pub gone_none : (def : Definition) (children : List SummaryParts) (from : ℕ) (begin : Partial) → IsGoneUpTo def children from begin begin from
 gone_none def children from begin = record { made = λ f parts all is. is; partial = λ kind part. part; seen = refl }
 
-module _ (def : Definition) (children : List Known) (from : ℕ) (begin now : Partial) (i : ℕ) (s : Known) (at : slice_get children i ≡ Some s) (gone : IsGoneUpTo def children from begin now i) where
+module _ (def : Definition) (children : List SummaryParts) (from : ℕ) (begin now : Partial) (i : ℕ) (s : SummaryParts) (at : slice_get children i ≡ Some s) (gone : IsGoneUpTo def children from begin now i) where
   pub now_partial : (kind : Kind) → IsPartial def kind (kinds_of (drop from children)) begin → IsPartial def kind (s.kind ∷ kinds_of (drop (i + 1) children)) now
-  now_partial kind part = subst (λ l. IsPartial def kind (kinds_of l) now) (drop_at children i s at) (gone.partial kind part)
+  now_partial kind part = subst (λ l. IsPartial def kind (kinds_of l) now) (drop_there children i s at) (gone.partial kind part)
 
   module _ (sound : IsSound def) (kind : Kind) (part : IsPartial def kind (kinds_of (drop from children)) begin) (f : Fragment) (parts : HasParts def f []) (all : AreSummariesOf def f children) (is : IsMade def f from begin) where
     abbrev child : Fragment
@@ -69,12 +67,12 @@ module _ (def : Definition) (children : List Known) (from : ℕ) (begin now : Pa
     many : length (s.kind ∷ kinds_of (drop (i + 1) children)) ≡ length (children_of f) - i
     many =
         let a = as_many def (children_of f) children all in
-        let b = length-map (drop (i + 1) children) (λ (x : Known). x.kind) in
+        let b = length-map (drop (i + 1) children) (λ (x : SummaryParts). x.kind) in
         let d = length-drop (i + 1) children in
         let w = within children i s at in
         omega arith
       where
-        within : (xs : List Known) (k : ℕ) (x : Known) → slice_get xs k ≡ Some x → k < length xs
+        within : (xs : List SummaryParts) (k : ℕ) (x : SummaryParts) → slice_get xs k ≡ Some x → k < length xs
         within [] k x e = absurd (cc)
         within (y ∷ xs) zero x e = omega arith
         within (y ∷ xs) (suc k) x e = omega (arith, within xs k x e)
@@ -90,22 +88,22 @@ module _ (def : Definition) (children : List Known) (from : ℕ) (begin now : Pa
         wide_next def f parts sound.signature i found.0 found.1 kind (kinds_of (drop (i + 1) children)) now s many (now_partial kind part) found.2 (gone.made f parts all is) h rows added passes
 
 -- with one child more
-pub seen_more : (children : List Known) (i : ℕ) (s : Known) (n before begin t : ℕ) → i < length children → s ≡ get_or children i s → n ≡ before + s.seen
+pub seen_more : (children : List SummaryParts) (i : ℕ) (s : SummaryParts) (n before begin t : ℕ) → i < length children → s ≡ get_or children i s → n ≡ before + s.seen
     → before + t ≡ begin + seen_by (take i children) → n + t ≡ begin + seen_by (take (i + 1) children)
-seen_more children i s n before begin t l e h g = omega (arith, h, g, seen_push (take i children) s, ap seen_by (take-next children i s l e))
+seen_more children i s n before begin t l e h g = omega (arith, h, g, seen_push (take i children) s, ap seen_by (take_item children i s l e))
 
-pub seen_all : (children : List Known) (i : ℕ) (n begin t : ℕ) → i ≡ length children → n + t ≡ begin + seen_by (take i children) → n + t ≡ begin + seen_by children
+pub seen_all : (children : List SummaryParts) (i : ℕ) (n begin t : ℕ) → i ≡ length children → n + t ≡ begin + seen_by (take i children) → n + t ≡ begin + seen_by children
 seen_all children i n begin t e h = h ∙ ap (λ xs. begin + seen_by xs) (take_all i children (omega arith))
 
 -- of the first child alone
-pub seen_one : (children : List Known) (s : Known) → slice_get children 0 ≡ Some s → seen_by (take 1 children) ≡ s.seen
+pub seen_one : (children : List SummaryParts) (s : SummaryParts) → slice_get children 0 ≡ Some s → seen_by (take 1 children) ≡ s.seen
 seen_one [] s e = absurd (cc)
 seen_one (x ∷ xs) s e =
     let same : x ≡ s = (let f : Some x ≡ Some s = e in cc) in
-    let one : seen_by (x ∷ []) ≡ x.seen = omega arith in one ∙ ap (λ (k : Known). k.seen) same
+    let one : seen_by (x ∷ []) ≡ x.seen = omega arith in one ∙ ap (λ (k : SummaryParts). k.seen) same
 
-pub all_gone : (def : Definition) (children : List Known) (from : ℕ) (begin now : Partial) (i : ℕ) → i ≡ length children → IsGoneUpTo def children from begin now i → (kind : Kind) → IsPartial def kind (kinds_of (drop from children)) begin → IsPartial def kind [] now
-all_gone def children from begin now i e gone kind part = subst (λ l. IsPartial def kind (kinds_of l) now) (drop_end children i (omega arith)) (gone.partial kind part)
+pub all_gone : (def : Definition) (children : List SummaryParts) (from : ℕ) (begin now : Partial) (i : ℕ) → i ≡ length children → IsGoneUpTo def children from begin now i → (kind : Kind) → IsPartial def kind (kinds_of (drop from children)) begin → IsPartial def kind [] now
+all_gone def children from begin now i e gone kind part = subst (λ l. IsPartial def kind (kinds_of l) now) (drop_all i children (omega arith)) (gone.partial kind part)
 
 -- ---- the operator
 
@@ -123,7 +121,7 @@ module _ (def : Definition) (sound : IsSound def) (o : ℕ) (op : Operator) (fou
   own_wide h rows is passes = wide_first def f sound.signature h rows (own_step h rows is) passes
 
   -- from the answer for the operator to that for the tree
-  module _ (children : List Known) (all : AreSummariesOf def f children) (whole : Partial) (seen : whole.seen ≡ seen_by children) where
+  module _ (children : List SummaryParts) (all : AreSummariesOf def f children) (whole : Partial) (seen : whole.seen ≡ seen_by children) where
     pub whole_answer : (result : Result Partial EvalFault) → MatchWhole def op whole (length children) result → IsMade def f (length children) whole → MatchOuter def f (kinds.Phylum op.phylum) result
     whole_answer result h made =
         h f node.parts (node_kind def o op found names f node) (node_scope def o op found names f node) (node_count def o op found names f children node all)
@@ -162,7 +160,4 @@ slot_count def (_ ∷ xs) = let h = slot_count def xs in omega arith
 
 -- what is read at a place that is there
 pub place_there : {X : Type 0} (xs : List X) (i : ℕ) (x y : X) → slice_get xs i ≡ Some x → y ≡ get_or xs i y → slice_get xs i ≡ Some y
-place_there xs i x y e d = at_place xs i y (slice_get_within xs i x e) d
-
-pub same_there : {X : Type 0} (xs : List X) (i : ℕ) (x y : X) → slice_get xs i ≡ Some x → slice_get xs i ≡ Some y → x ≡ y
-same_there xs i x y e d = let q : Some x ≡ Some y = sym e ∙ d in cc
+place_there xs i x y e d = slice_get_item xs i y (slice_get_within xs i x e) d

@@ -12,7 +12,7 @@ use Rattle.psg_grammar.specs.declared.types.Definition.{Definition}
 use Rattle.psg_grammar.specs.Fragments.{Fragment, hole, ending, cell, operator, with_child, with_name, with_number, with_text, anything, observed, top_operator, children_of}
 use Rattle.psg_grammar.specs.Lookups.{is_scope, operator_at, scopes}
 use Rattle.psg_grammar.specs.Steps.{children_count, last_step}
-use Rattle.psg_eval.specs.declared.summary.Known.{Known}
+use Rattle.psg_eval.specs.declared.summary.SummaryParts.{SummaryParts}
 use Rattle.psg_eval.specs.Trees.{seen_in, HasParts, IsNode}
 use Rattle.psg_grammar.specs.Kinds.{IsOfKind}
 use Rattle.psg_eval.specs.Summaries.{IsSummaryOf, AllSummaries}
@@ -21,13 +21,13 @@ use Rattle.psg_eval.proofs.RegionSteps.{count_is}
 module _ (def : Definition) where
   -- ---- children and their summaries
 
-  pub as_many : (fs : List Fragment) (ss : List Known) → AllSummaries def fs ss → length fs ≡ length ss
+  pub as_many : (fs : List Fragment) (ss : List SummaryParts) → AllSummaries def fs ss → length fs ≡ length ss
   as_many [] [] h = refl
   as_many [] (s ∷ ss) h = absurd h
   as_many (f ∷ fs) [] h = absurd h
   as_many (f ∷ fs) (s ∷ ss) h = ap suc (as_many fs ss h.1)
 
-  pub child_at : (fs : List Fragment) (ss : List Known) → AllSummaries def fs ss → (n : ℕ) (s : Known) → slice_get ss n ≡ Some s → (t : Fragment) × (slice_get fs n ≡ Some t) × IsSummaryOf def t s
+  pub child_at : (fs : List Fragment) (ss : List SummaryParts) → AllSummaries def fs ss → (n : ℕ) (s : SummaryParts) → slice_get ss n ≡ Some s → (t : Fragment) × (slice_get fs n ≡ Some t) × IsSummaryOf def t s
   child_at [] [] h n s e = absurd (cc)
   child_at [] (r ∷ ss) h n s e = absurd h
   child_at (f ∷ fs) [] h n s e = absurd h
@@ -49,15 +49,15 @@ module _ (def : Definition) where
   seen-children anything more h = absurd h
   seen-children (observed f) more h = absurd h
 
-  seen-summaries : (fs : List Fragment) (ss : List Known) → AllSummaries def fs ss → sum_by seen_in fs ≡ sum_by (λ (s : Known). s.seen) ss
+  seen-summaries : (fs : List Fragment) (ss : List SummaryParts) → AllSummaries def fs ss → sum_by seen_in fs ≡ sum_by (λ (s : SummaryParts). s.seen) ss
   seen-summaries [] [] h = refl
   seen-summaries [] (s ∷ ss) h = absurd h
   seen-summaries (f ∷ fs) [] h = absurd h
   seen-summaries (f ∷ fs) (s ∷ ss) (h, hs) =
-      sum_by-cons seen_in f fs ∙ ap₂ (λ m n. m + n) (sym h.seen) (seen-summaries fs ss hs) ∙ sym (sum_by-cons (λ (x : Known). x.seen) s ss)
+      sum_by-cons seen_in f fs ∙ ap₂ (λ m n. m + n) (sym h.seen) (seen-summaries fs ss hs) ∙ sym (sum_by-cons (λ (x : SummaryParts). x.seen) s ss)
 
   -- in a node those values are seen that are seen in its children
-  pub node_seen : (f : Fragment) (ss : List Known) → HasParts def f [] → AllSummaries def (children_of f) ss → sum_by (λ (s : Known). s.seen) ss ≡ seen_in f
+  pub node_seen : (f : Fragment) (ss : List SummaryParts) → HasParts def f [] → AllSummaries def (children_of f) ss → sum_by (λ (s : SummaryParts). s.seen) ss ≡ seen_in f
   node_seen f ss h all = sym (seen-children f [] h ∙ seen-summaries (children_of f) ss all)
 
   -- ---- the operator
@@ -85,9 +85,9 @@ module _ (def : Definition) where
     node_scope names f node =
         ap (λ (t : Option ℕ). scopes (option_and_then (operator_at def) t)) node.top ∙ ap (λ (x : Option Operator). scopes x) found
 
-    pub node_count : (names : List Name) (f : Fragment) (ss : List Known) → IsNode def o names f → AllSummaries def (children_of f) ss → children_count f ≡ length ss
+    pub node_count : (names : List Name) (f : Fragment) (ss : List SummaryParts) → IsNode def o names f → AllSummaries def (children_of f) ss → children_count f ≡ length ss
     node_count names f ss node all = count_is def f [] node.parts ∙ as_many (children_of f) ss all
 
-    pub node_last : (names : List Name) (f : Fragment) (ss : List Known) → IsNode def o names f → AllSummaries def (children_of f) ss → last_step def f ≡ cond op.scope (length ss + 1) (length ss)
+    pub node_last : (names : List Name) (f : Fragment) (ss : List SummaryParts) → IsNode def o names f → AllSummaries def (children_of f) ss → last_step def f ≡ cond op.scope (length ss + 1) (length ss)
     node_last names f ss node all =
         ap (λ b. cond b (children_count f + 1) (children_count f)) (node_scope names f node) ∙ ap (λ n. cond op.scope (n + 1) n) (node_count names f ss node all)

@@ -1,5 +1,6 @@
 -- What stands in the columns of an operator's slots and name positions.
 use Rattle.std.proofs.Common.{◌≡◌, ℕ, suc, List, [], ◌∷◌, ◌++◌, length, refl, ap, sym, subst, Some, slice_get, append_assoc, length-append, arith}
+use Rattle.psg_terms.proofs.Lists.{slice_get-middle}
 use Rattle.psg_terms.specs.Names.{Name}
 use Rattle.psg_terms.specs.Terms.{Term}
 use Rattle.psg_grammar.specs.Lookups.{part_items}
@@ -13,13 +14,13 @@ use Rattle.psg_eval.specs.OwnRows.{name_terms, positions, slot_terms}
 use Rattle.psg_eval.specs.Partials.{AreKindSorts}
 use Rattle.psg_eval.specs.Summaries.{are_names, slot_kinds}
 use Rattle.psg_eval.proofs.PartialSorts.{IsKeySort}
-use Rattle.psg_eval.proofs.Walking.{Along, Picks, get-middle}
+use Rattle.psg_eval.proofs.Walking.{Along, Picks}
 
 next_place : {X : Type 0} (front : List X) (x : X) (n : ℕ) → n ≡ length front → suc n ≡ length (front ++ x ∷ [])
 next_place front x n e = omega (arith, length-append front (x ∷ []))
 
 at_place : {X : Type 0} (front : List X) (x : X) (back : List X) (n : ℕ) → n ≡ length front → slice_get (front ++ x ∷ back) n ≡ Some x
-at_place front x back n e = subst (λ k. slice_get (front ++ x ∷ back) k ≡ Some x) (sym e) (get-middle front x back)
+at_place front x back n e = subst (λ k. slice_get (front ++ x ∷ back) k ≡ Some x) (sym e) (slice_get-middle front x back)
 
 module _ (def : Definition) where
   -- the words among the items have no columns

@@ -1,6 +1,7 @@
 -- The rows of an operator in which positions with one key agree are the own rows of its nodes.
 use Rattle.std.proofs.Common.{◌≡◌, ℕ, ◌<◌, ◌≤◌, suc, zero, List, [], ◌∷◌, ◌++◌, map, length, All, refl, ap, sym, ◌∙◌, subst, Option, Some, slice_get, arith}
 use Rattle.std.proofs.lemmas.List.{length-map}
+use Rattle.psg_terms.proofs.Lists.{each_at}
 use Rattle.psg_terms.specs.Names.{Name}
 use Rattle.psg_terms.specs.Terms.{Term}
 use Rattle.psg_terms.specs.Signature.{HaveSorts}
@@ -14,7 +15,6 @@ use Rattle.psg_grammar.specs.declared.types.Item.TheVariants as items
 use Rattle.psg_grammar.specs.declared.types.Kind.TheVariants as kinds
 use Rattle.psg_grammar.specs.declared.types.Operator.{Operator}
 use Rattle.psg_grammar.specs.declared.types.Row.{Row}
-use Rattle.psg_grammar.proofs.SoundParts.{each_at}
 use Rattle.psg_unify.specs.Pairs.{Pair as Columns, AgreeOn, AreOfEqualSort}
 use Rattle.psg_relation.specs.Choices.{AllHaveSorts, AllWithin, IsSelected, picked}
 use Rattle.psg_relation.proofs.Relating.{carried}
@@ -47,7 +47,7 @@ at_row [] r w e = absurd (cc)
 at_row (v ∷ rows) zero w e = let d : v ≡ w = cc in subst (λ z. IsIn (whole_row z) (map whole_row (v ∷ rows))) d first
 at_row (v ∷ rows) (suc r) w e = later (at_row rows r w e)
 
-slot_count : (def : Definition) (xs : List Item) (n : ℕ) → length (slot_columns n xs) ≡ length (slot_kinds def xs)
+pub slot_count : (def : Definition) (xs : List Item) (n : ℕ) → length (slot_columns n xs) ≡ length (slot_kinds def xs)
 slot_count def [] n = refl
 slot_count def (items.Slot k ∷ xs) n = ap suc (slot_count def xs (suc n))
 slot_count def (items.Refers k ∷ xs) n = slot_count def xs (suc n)

@@ -25,7 +25,7 @@ use Rattle.psg_eval.specs.Partials.{AreKindSorts, IsPartial, MatchStep}
 use Rattle.psg_eval.specs.Summaries.{AreKeySorts, IsSummary}
 use Rattle.psg_eval.specs.Walks.{IsLayout}
 use Rattle.psg_eval.specs.declared.partial.Partial.{Partial}
-use Rattle.psg_eval.specs.declared.summary.Known.{Known}
+use Rattle.psg_eval.specs.declared.summary.SummaryParts.{SummaryParts}
 use Rattle.psg_eval.proofs.GlueLayouts.{as_glued}
 use Rattle.psg_eval.proofs.Layouts.{layout_pairs, layout_picks}
 use Rattle.psg_terms.specs.Weight.{PassesLimit}
@@ -66,7 +66,7 @@ module _ (def : Definition) where
   equal_sorts ls rs [] h = tt
   equal_sorts ls rs (c ∷ pairs) h = (h.0, equal_sorts ls rs pairs h.1)
 
-  module _ (kind : Kind) (kinds : List Kind) (p : Partial) (c : Known) (h : Header) (pairs : List Columns) (keep : List ℕ) (part : IsPartial def kind (c.kind ∷ kinds) p) (sum : IsSummary def c)
+  module _ (kind : Kind) (kinds : List Kind) (p : Partial) (c : SummaryParts) (h : Header) (pairs : List Columns) (keep : List ℕ) (part : IsPartial def kind (c.kind ∷ kinds) p) (sum : IsSummary def c)
       (l : IsLayout p.seen p.wanted c.seen (keys p.header.names) (keys c.header.names) (keys h.names) pairs keep) where
     abbrev pub first_sort : ℕ
     first_sort = part.wanted_sorts.0
@@ -165,7 +165,7 @@ module _ (def : Definition) where
         def.signature p.rel c.rel left_sorts right_sorts left_sorted right_sorted left_length right_length (let m = many_left in omega arith) ss rows
 
   -- a region that declares a key twice has no rows
-  module _ (kind : Kind) (kinds : List Kind) (p : Partial) (c : Known) (h : Header) (part : IsPartial def kind (c.kind ∷ kinds) p) (sum : IsSummary def c) where
+  module _ (kind : Kind) (kinds : List Kind) (p : Partial) (c : SummaryParts) (h : Header) (part : IsPartial def kind (c.kind ∷ kinds) p) (sum : IsSummary def c) where
     pub empty_partial : IsOrdered h → IsUnion p.header c.header h → (more : ℕ) → more + 1 ≡ p.wanted
         → (q : Partial) → q.header ≡ h → q.seen ≡ p.seen + c.seen → q.wanted ≡ more → q.rel ≡ [] → IsPartial def kind kinds q
     empty_partial region join more em q eh er ew el = record {

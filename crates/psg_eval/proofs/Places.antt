@@ -1,7 +1,8 @@
 -- Frames stand for a place, whatever tree is there.
 use Rattle.std.proofs.Common.{◌≡◌, inl, inr, ℕ, zero, suc, ◌+◌, ◌<◌, ◌==◌, Bool, true, false, cond, List, [], ◌∷◌, ◌++◌, length, Some, slice_get, refl, ap, sym, ◌∙◌, subst, arith, length-append}
 use Rattle.std.proofs.lemmas.Bool.Decides.{eqb_tells}
-use Rattle.std.proofs.lemmas.Option.{slice_get_within}
+use Rattle.std.proofs.lemmas.Option.{slice_get_within, same_Some}
+use Rattle.psg_terms.proofs.Lists.{slice_get-end}
 use Rattle.psg_grammar.specs.declared.types.Item.{Item}
 use Rattle.psg_grammar.specs.declared.types.Item.TheVariants as items
 use Rattle.psg_grammar.specs.declared.types.Definition.{Definition}
@@ -9,13 +10,10 @@ use Rattle.psg_grammar.specs.Fragments.{Fragment, hole, ending, cell, operator, 
 use Rattle.psg_grammar.specs.Paths.{Path, change_child, change_at, observe}
 use Rattle.psg_eval.specs.declared.frame.Frame.{Frame}
 use Rattle.psg_eval.specs.declared.frame.Frame.TheVariants as frames
-use Rattle.psg_eval.specs.declared.summary.Known.{Known}
+use Rattle.psg_eval.specs.declared.summary.SummaryParts.{SummaryParts}
 use Rattle.psg_eval.specs.Trees.{IsNode, HasParts, own_names}
 use Rattle.psg_eval.specs.Frames.{AllSummariesBut, IsElement, IsFrame, StandFor}
 use Rattle.psg_eval.proofs.FrameLaws.{frame_child}
-
-same_some : (a b : Fragment) → Some a ≡ Some b → a ≡ b
-same_some a b e = cc
 
 -- ---- one child of a node
 
@@ -37,10 +35,6 @@ got_put : (x : Fragment) (k : ℕ) (cs : List Fragment) → k < length cs → sl
 got_put x k [] h = absurd (omega (arith, h))
 got_put x zero (c ∷ cs) h = refl
 got_put x (suc k) (c ∷ cs) h = got_put x k cs (omega (arith, h))
-
-got_last : (c : Fragment) (cs : List Fragment) → slice_get (cs ++ c ∷ []) (length cs) ≡ Some c
-got_last c [] = refl
-got_last c (d ∷ cs) = got_last c cs
 
 got_front : (k : ℕ) (cs ds : List Fragment) → k < length cs → slice_get (cs ++ ds) k ≡ slice_get cs k
 got_front k [] ds h = absurd (omega (arith, h))
@@ -96,7 +90,7 @@ module _ (def : Definition) (g : Fragment → Fragment) where
     children_new : (k : ℕ) (u : Fragment) → slice_get (children_of u) k ≡ Some t → children_of (change_child g k u) ≡ put k (g t) (children_of u)
     children_new k (hole p) s = absurd (cc)
     children_new k (ending l u) s = absurd (cc)
-    children_new zero (cell l e r) s = ap (λ z. g z ∷ children_of r) (same_some e t s)
+    children_new zero (cell l e r) s = ap (λ z. g z ∷ children_of r) (same_Some e t s)
     children_new (suc k) (cell l e r) s = ap (λ cs. e ∷ cs) (children_new k r s)
     children_new k (operator o) s = absurd (cc)
     children_new k (with_child f c) s =
@@ -104,7 +98,7 @@ module _ (def : Definition) (g : Fragment → Fragment) where
         let w : k < length (children_of f ++ c ∷ []) = slice_get_within (children_of f ++ c ∷ []) k t s in
         elim (eqb_tells (length (children_of f)) k) [
           | inl q ↦
-              let d : c ≡ t = same_some c t (sym (got_last c (children_of f)) ∙ ap (slice_get (children_of f ++ c ∷ [])) q.1 ∙ s) in
+              let d : c ≡ t = same_Some c t (sym (slice_get-end (children_of f) c) ∙ ap (slice_get (children_of f ++ c ∷ [])) q.1 ∙ s) in
               ap (λ b. children_of (cond b (with_child f (g c)) (with_child (change_child g k f) c))) q.0
               ∙ ap (λ z. children_of f ++ g z ∷ []) d ∙ sym (put_last (g t) c (children_of f)) ∙ ap (λ m. put m (g t) (children_of f ++ c ∷ [])) q.1
           | inr q ↦
@@ -118,14 +112,14 @@ module _ (def : Definition) (g : Fragment → Fragment) where
     children_new k anything s = absurd (cc)
     children_new k (observed f) s = children_new k f s
 
-    but_new : (x : Fragment) (k : ℕ) (cs : List Fragment) (ss : List Known) → AllSummariesBut def k cs ss → AllSummariesBut def k (put k x cs) ss
+    but_new : (x : Fragment) (k : ℕ) (cs : List Fragment) (ss : List SummaryParts) → AllSummariesBut def k cs ss → AllSummariesBut def k (put k x cs) ss
     but_new x k [] ss h = h
     but_new x zero (c ∷ cs) [] h = h
     but_new x zero (c ∷ cs) (s ∷ ss) h = h
     but_new x (suc k) (c ∷ cs) [] h = h
     but_new x (suc k) (c ∷ cs) (s ∷ ss) (one, rest) = (one, but_new x k cs ss rest)
 
-    element_new : (l : ℕ) (before : List Known) (behind : Known) (u : Fragment) → IsElement def l before behind u t → IsElement def l before behind (change_child g (length before) u) (g t)
+    element_new : (l : ℕ) (before : List SummaryParts) (behind : SummaryParts) (u : Fragment) → IsElement def l before behind u t → IsElement def l before behind (change_child g (length before) u) (g t)
     element_new l [] behind (cell m e r) (a, b, c) = (a, ap g b, c)
     element_new l (s ∷ before) behind (cell m e r) (a, b, c) = (a, b, element_new l before behind r c)
     element_new l [] behind (hole p) h = absurd h

@@ -1,5 +1,7 @@
 -- A child in place of a free value: keys, regions, choices, and what holds.
 use Rattle.std.proofs.Common.{◌≡◌, inl, inr, ℕ, suc, ◌+◌, false, cond, not, ◌&&◌, ◌||◌, List, [], ◌∷◌, ◌++◌, length, refl, ap, ap₂, sym, ◌∙◌, subst, append-nil, arith, true≢false}
+use Rattle.std.proofs.lemmas.Bool.{cases_Bool, or_parts}
+use Rattle.std.proofs.Math.Bool.{or-false}
 use Rattle.psg_terms.specs.Terms.{Term}
 use Rattle.psg_terms.specs.Names.{has_twice}
 use Rattle.psg_grammar.specs.declared.types.Definition.{Definition}
@@ -9,11 +11,10 @@ use Rattle.psg_grammar.specs.Lookups.{is_scope, next_item, is_declares, key_at}
 use Rattle.psg_grammar.specs.Regions.{declared_inside, declared_in, unfinished_inside, names_inside, passing, IsDistinct, DistinctBelow, AreDistinct}
 use Rattle.psg_grammar.specs.Legal.{Entities, AreEntities, Within}
 use Rattle.psg_grammar.specs.Open.{Choice, Holds, Agrees, AgreeOpen}
-use Rattle.psg_scope.proofs.KeyLists.{or-false, neither, either}
 use Rattle.psg_scope.proofs.MergeLaws.{has_twice-append}
 use Rattle.psg_eval.specs.Glues.{outer_names}
 use Rattle.psg_eval.proofs.Inserting.{Inserted, inserted_front, inserted_last, inserted-twice}
-use Rattle.psg_eval.proofs.Observed.{holds_more, own_of}
+use Rattle.psg_grammar.proofs.Observed.{holds_more, own_of}
 
 module _ (def : Definition) (t : Fragment) where
   -- b is a with the tree t in place of the first free value; what is no scope operator may be the rest of a list
@@ -117,9 +118,9 @@ module _ (def : Definition) (t : Fragment) where
   distinct_apart {a} {b} r (once, below) =
       let (i, d, s) = below_apart r below in
       let joined : has_twice (declared_inside def a ++ declared_in def t) ≡ false = sym (inserted-twice (declared_in def t) (declared_inside def a) (declared_inside def b) (declared_more r)) ∙ once in
-      let parts = neither (has_twice (declared_inside def a) || has_twice (declared_in def t)) _ (sym (has_twice-append (declared_inside def a) (declared_in def t)) ∙ joined) in
-      let (one, other) = neither (has_twice (declared_inside def a)) (has_twice (declared_in def t)) parts.0 in
-      let child : has_twice (declared_inside def t) ≡ false = elim (either (is_scope def t)) [
+      let parts = or_parts (has_twice (declared_inside def a) || has_twice (declared_in def t)) _ (sym (has_twice-append (declared_inside def a) (declared_in def t)) ∙ joined) in
+      let (one, other) = or_parts (has_twice (declared_inside def a)) (has_twice (declared_in def t)) parts.0 in
+      let child : has_twice (declared_inside def t) ≡ false = elim (cases_Bool (is_scope def t)) [
         | inl h ↦ s h
         | inr h ↦ subst (λ p. has_twice (cond p [] (declared_inside def t)) ≡ false) h other
       ] in

@@ -19,7 +19,7 @@ use Rattle.psg_scope.specs.Headers.{keys, key_of}
 use Rattle.psg_scope.specs.declared.header.NameCol.{NameCol}
 use Rattle.psg_eval.specs.declared.summary.EvalFault.{EvalFault}
 use Rattle.psg_eval.specs.declared.summary.EvalFault.TheVariants as faults
-use Rattle.psg_eval.specs.declared.summary.Known.{Known}
+use Rattle.psg_eval.specs.declared.summary.SummaryParts.{SummaryParts}
 use Rattle.psg_eval.specs.Climbing.{IsObserved}
 use Rattle.psg_eval.specs.Frames.{IsSilent}
 use Rattle.psg_eval.specs.Glues.{IsCut}
@@ -99,10 +99,10 @@ twice_same n p x w = (
       ∙ sym (picks_picked p (0 ∷ run 0 (1 + n)) (cut.value ∷ p) (twice_picks p cut.value cut.others n cut.row_is w))),
 )
 
-abbrev pub twice_columns : Known → List ℕ
+abbrev pub twice_columns : SummaryParts → List ℕ
 twice_columns s = 0 ∷ run 0 (1 + length s.header.names)
 
-module _ (def : Definition) (s : Known) (usual : IsSummary def s) (silent : IsSilent s) where
+module _ (def : Definition) (s : SummaryParts) (usual : IsSummary def s) (silent : IsSilent s) where
   abbrev pub row_sorts : List ℕ
   row_sorts = (usual.sort ∷ usual.seen) ++ usual.key_sorts
 
@@ -130,7 +130,7 @@ module _ (def : Definition) (s : Known) (usual : IsSummary def s) (silent : IsSi
       picks_picked row_sorts (twice_columns s) (usual.sort ∷ row_sorts)
       (twice_picks row_sorts usual.sort (usual.seen ++ usual.key_sorts) (length s.header.names) refl row_width)
 
-  abbrev pub reported : List (List Term) → Known
+  abbrev pub reported : List (List Term) → SummaryParts
   reported made = record { kind = s.kind; header = s.header; seen = 1; rel = made }
 
   abbrev pub IsMadeRel : List (List Term) → Type 0

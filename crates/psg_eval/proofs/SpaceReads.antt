@@ -1,5 +1,5 @@
 -- The spaces in which a list declares are those of its elements.
-use Rattle.std.proofs.Common.{◌≡◌, inl, inr, ℕ, zero, suc, ◌+◌, ◌<◌, ◌==◌, Bool, true, false, List, [], ◌∷◌, length, get_or, slice_get, Some, refl, sym, ◌∙◌, ap, subst, true≢false, arith}
+use Rattle.std.proofs.Common.{◌≡◌, inl, inr, ℕ, zero, suc, ◌+◌, ◌<◌, ◌==◌, true, List, [], ◌∷◌, length, get_or, slice_get, Some, refl, sym, ◌∙◌, ap, subst, true≢false, arith}
 use Rattle.std.proofs.lemmas.Bool.{or_cases, or_left, or_right}
 use Rattle.std.specs.Prelude.{IfSome, Vec}
 use Rattle.std.specs.declared.alloc.Global.{Global}
@@ -12,16 +12,14 @@ use Rattle.psg_grammar.specs.declared.types.ListKind.{ListKind}
 use Rattle.psg_grammar.specs.declared.types.Definition.{Definition}
 use Rattle.psg_grammar.specs.Sound.{IsSound}
 use Rattle.psg_grammar.proofs.SoundParts.{elements_in}
-use Rattle.std.proofs.lemmas.Option.{get_or_from_slice_get, slice_get_read}
+use Rattle.std.proofs.lemmas.Option.{get_or_from_slice_get, slice_get_read, same_Some}
+use Rattle.std.specs.Cmp.{both_ways}
 use Rattle.psg_grammar.specs.Declaring.{Declares, by_list, is_declaring}
 use Rattle.psg_grammar.specs.DeclaringTables.{AreSpacesOf}
 use Rattle.psg_grammar.proofs.DeclaringLaws.{eqb_true, eqb_same, found_declares, declares_found}
 use Rattle.psg_scope.specs.Headers.{has_space, AreAscending}
 use Rattle.psg_eval.specs.Summaries.{AreSpacesOfList}
 use Rattle.psg_eval.specs.SpaceTables.{AreDeclaringSpaces}
-
-same_some : {X : Type 0} (a b : X) → Some a ≡ Some b → a ≡ b
-same_some a b e = cc
 
 tail : (x : ℕ) (xs : List ℕ) → IsStrictlyIncreasing (x ∷ xs) → IsStrictlyIncreasing xs
 tail x xs h k l =
@@ -52,16 +50,11 @@ in_has [] s h = elim h [ ]
 in_has (x ∷ xs) s first = or_left (s == s) (has_space xs s) (eqb_same s s refl)
 in_has (x ∷ xs) s (later h) = or_right (x == s) (has_space xs s) (in_has xs s h)
 
-same_tests : (a b : Bool) → (a ≡ true → b ≡ true) → (b ≡ true → a ≡ true) → a ≡ b
-same_tests true b h k = sym (h refl)
-same_tests false true h k = k refl
-same_tests false false h k = refl
-
 module _ (def : Definition) where
   of_elements : (s l : ℕ) (list : ListKind) → slice_get def.lists l ≡ Some list → Declares def s (kinds.List l)
       → Declares def s (kinds.Phylum list.element)
   of_elements s l list found (by_list k at d) =
-      let same : k ≡ list = same_some k list (sym at ∙ found) in
+      let same : k ≡ list = same_Some k list (sym at ∙ found) in
       subst (λ (z : ListKind). Declares def s (kinds.Phylum z.element)) same d
 
   pub spaces_of_list : IsSound def → (table : List (Vec ℕ Global)) → AreDeclaringSpaces def table
@@ -71,7 +64,7 @@ module _ (def : Definition) where
       let own = are.exact list.element spaces at in
       record {
         ascending = ascending spaces.items own.increasing;
-        exact = λ s. same_tests (has_space spaces.items s) (is_declaring def s (kinds.List l))
+        exact = λ s. both_ways (has_space spaces.items s) (is_declaring def s (kinds.List l))
             (λ h. declares_found def sound s (kinds.List l)
             (by_list list found ((own.exact s).0 (in-contains s spaces.items (has_in spaces.items s h)))))
             (λ h. in_has spaces.items s (contains-in s spaces.items

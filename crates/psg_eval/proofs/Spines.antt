@@ -3,6 +3,8 @@ use Rattle.std.proofs.Common.{◌≡◌, inl, inr, ℕ, ◌+◌, true, false, co
 use Rattle.std.specs.List.{slice_get}
 use Rattle.std.specs.Option.{option_and_then}
 use Rattle.std.proofs.lemmas.Bool.{le-ltb}
+use Rattle.std.proofs.Math.Bool.{or-false}
+use Rattle.psg_terms.proofs.Lists.{slice_get-middle}
 use Rattle.psg_terms.specs.Names.{Name}
 use Rattle.psg_grammar.specs.declared.types.Item.{Item}
 use Rattle.psg_grammar.specs.declared.types.Item.TheVariants as items
@@ -14,7 +16,6 @@ use Rattle.psg_grammar.specs.Open.{Choice}
 use Rattle.psg_grammar.specs.Regions.{declared_inside, names_inside, unfinished_inside, DistinctBelow}
 use Rattle.psg_grammar.specs.Steps.{first_children}
 use Rattle.psg_scope.specs.Headers.{keys, declared_keys}
-use Rattle.psg_scope.proofs.KeyLists.{or-false}
 use Rattle.psg_eval.specs.Trees.{HasParts, own_names}
 use Rattle.psg_eval.specs.OwnRows.{positions}
 
@@ -78,10 +79,6 @@ row-choice (ending l u) r = refl
 row-choice (cell l e v) r = refl
 row-choice anything r = refl
 row-choice (observed f) r = refl
-
-slice_get-seam : {X : Type 0} (xs : List X) (x : X) (ys : List X) → slice_get (xs ++ x ∷ ys) (length xs) ≡ Some x
-slice_get-seam [] x ys = refl
-slice_get-seam (y ∷ xs) x ys = slice_get-seam xs x ys
 
 module _ (def : Definition) where
   pub first_bare : (f : Fragment) (more : List Item) → HasParts def f more → first_children 0 f ≡ bare f
@@ -166,7 +163,7 @@ module _ (def : Definition) where
     pub item_is : (f : Fragment) (i : Item) (more : List Item) → Done f (i ∷ more) → next_item def (bare f) ≡ Some i
     item_is f i more d =
         let there : operator_at def o ≡ Some op = found in
-        let item : slice_get parts (length d.done) ≡ Some i = ap (λ l. slice_get l (length d.done)) d.split ∙ slice_get-seam d.done i more in
+        let item : slice_get parts (length d.done) ≡ Some i = ap (λ l. slice_get l (length d.done)) d.split ∙ slice_get-middle d.done i more in
         ap (λ (t : Option ℕ). slice_get (items_of (option_and_then (operator_at def) t)) (parts_count (bare f))) d.top
         ∙ ap (λ (x : Option Operator). slice_get (items_of x) (parts_count (bare f))) there ∙ ap (slice_get parts) (sym d.count) ∙ item
 

@@ -2,6 +2,7 @@
 use Rattle.std.proofs.Common.{◌≡◌, ℕ, zero, suc, ◌+◌, ◌<◌, get_or, Bool, true, false, List, [], ◌∷◌, ◌++◌, length, map, Option, Some, slice_get, refl, ap, sym, ◌∙◌, subst, true≢false, arith}
 use Rattle.std.specs.Prelude.{IfOk, IfSome, None, Ok, Result, cond, count_by, sum_by}
 use Rattle.std.proofs.lemmas.List.Recursion.{is_count_by}
+use Rattle.std.proofs.lemmas.List.{nil_from_length}
 use Rattle.psg_terms.specs.Names.{Name, has_twice, is_among}
 use Rattle.psg_terms.specs.Terms.{Term}
 use Rattle.psg_terms.specs.Instances.{substitute}
@@ -28,7 +29,7 @@ use Rattle.psg_eval.specs.declared.partial.Partial.{Partial}
 use Rattle.psg_eval.specs.declared.starts.ListStart.{ListStart}
 use Rattle.psg_eval.specs.declared.starts.NamedStart.{NamedStart}
 use Rattle.psg_eval.specs.declared.summary.EvalFault.{EvalFault}
-use Rattle.psg_eval.specs.declared.summary.Known.{Known}
+use Rattle.psg_eval.specs.declared.summary.SummaryParts.{SummaryParts}
 use Rattle.psg_eval.specs.Own.{IsOwnStep}
 use Rattle.psg_eval.specs.OwnRows.{OwnRow, positions, slot_terms}
 use Rattle.psg_eval.specs.Partials.{IsPartial, MatchStep}
@@ -54,12 +55,12 @@ at_none P [] e i x h = absurd (cc)
 at_none P (y ∷ ys) e i x h = absurd (cc)
 
 -- a summary that is kept
-pub kept_start : (def : Definition) (f : Fragment) (made : Result Known EvalFault) (o : Option Known) → IfSome o (λ s. made ≡ Ok s) → Answers def f made → IfOk made (IsSummary def)
+pub kept_start : (def : Definition) (f : Fragment) (made : Result SummaryParts EvalFault) (o : Option SummaryParts) → IfSome o (λ s. made ≡ Ok s) → Answers def f made → IfOk made (IsSummary def)
     → IfSome o (IsTreeStart def f)
 kept_start def f made None e answer usual = tt
 kept_start def f made (Some s) e answer usual = record {
   answer = subst (Answers def f) e answer;
-  usual = subst (λ (r : Result Known EvalFault). IfOk r (IsSummary def)) e usual;
+  usual = subst (λ (r : Result SummaryParts EvalFault). IfOk r (IsSummary def)) e usual;
 }
 
 -- a cell without children that is kept
@@ -88,35 +89,31 @@ kept_own def op names made o p d e fits step part seen =
     }
 
 -- the summary of an operator's node that is kept
-pub kept_whole : (def : Definition) (op : Operator) (made : Result Known EvalFault) (o : Option Known) (s : Known) → o ≡ Some s → IfSome o (λ s. made ≡ Ok s)
+pub kept_whole : (def : Definition) (op : Operator) (made : Result SummaryParts EvalFault) (o : Option SummaryParts) (s : SummaryParts) → o ≡ Some s → IfSome o (λ s. made ≡ Ok s)
     → length (are_names def op.items) ≡ 0 → slot_kinds def op.items ≡ []
     → ((o : ℕ) (f : Fragment) → slice_get def.operators o ≡ Some op → IsNode def o [] f → AreSummariesOf def f [] → Answers def f made)
-    → IfOk made (IsSummary def) → IfOk made (λ (s : Known). s.kind ≡ kinds.Phylum op.phylum) → IfOk made (λ (s : Known). s.seen ≡ 0) → IsWhole def op s
+    → IfOk made (IsSummary def) → IfOk made (λ (s : SummaryParts). s.kind ≡ kinds.Phylum op.phylum) → IfOk made (λ (s : SummaryParts). s.seen ≡ 0) → IsWhole def op s
 kept_whole def op made o s d e nameless slotless answer usual kind seen =
-    let is : made ≡ Ok s = subst (λ (x : Option Known). IfSome x (λ s. made ≡ Ok s)) d e in
+    let is : made ≡ Ok s = subst (λ (x : Option SummaryParts). IfSome x (λ s. made ≡ Ok s)) d e in
     record {
       nameless = nameless;
       slotless = slotless;
       answer = λ o f found node all. subst (Answers def f) is (answer o f found node all);
-      usual = subst (λ (r : Result Known EvalFault). IfOk r (IsSummary def)) is usual;
-      kind = subst (λ (r : Result Known EvalFault). IfOk r (λ (s : Known). s.kind ≡ kinds.Phylum op.phylum)) is kind;
-      seen = subst (λ (r : Result Known EvalFault). IfOk r (λ (s : Known). s.seen ≡ 0)) is seen;
+      usual = subst (λ (r : Result SummaryParts EvalFault). IfOk r (IsSummary def)) is usual;
+      kind = subst (λ (r : Result SummaryParts EvalFault). IfOk r (λ (s : SummaryParts). s.kind ≡ kinds.Phylum op.phylum)) is kind;
+      seen = subst (λ (r : Result SummaryParts EvalFault). IfOk r (λ (s : SummaryParts). s.seen ≡ 0)) is seen;
     }
 
 -- ---- what is read
-
-pub some_map : {X : Type 0} (P Q : X → Type 0) (o : Option X) → ((x : X) → P x → Q x) → IfSome o P → IfSome o Q
-some_map P Q None f h = tt
-some_map P Q (Some x) f h = f x h
 
 pub some_there : {X : Type 0} (read : Option (Option X)) (o : Option X) → read ≡ Some o → IfSome o (λ s. read ≡ Some (Some s))
 some_there read None e = tt
 some_there read (Some x) e = e
 
-pub end_start : (def : Definition) (l : ℕ) (s : ListStart) (u : Bool) (o : Option Known) → IsListStart def l s → (u ≡ true → o ≡ s.unfinished) → (u ≡ false → o ≡ s.finished)
+pub end_start : (def : Definition) (l : ℕ) (s : ListStart) (u : Bool) (o : Option SummaryParts) → IsListStart def l s → (u ≡ true → o ≡ s.unfinished) → (u ≡ false → o ≡ s.finished)
     → IfSome o (IsTreeStart def (ending l u))
-end_start def l s true o is begun ended = subst (λ (x : Option Known). IfSome x (IsTreeStart def (ending l true))) (sym (begun refl)) is.unfinished
-end_start def l s false o is begun ended = subst (λ (x : Option Known). IfSome x (IsTreeStart def (ending l false))) (sym (ended refl)) is.finished
+end_start def l s true o is begun ended = subst (λ (x : Option SummaryParts). IfSome x (IsTreeStart def (ending l true))) (sym (begun refl)) is.unfinished
+end_start def l s false o is begun ended = subst (λ (x : Option SummaryParts). IfSome x (IsTreeStart def (ending l false))) (sym (ended refl)) is.finished
 
 pub only_one : {X : Type 0} (xs : List X) → length xs ≡ 1 → (x : X) × (xs ≡ x ∷ [])
 only_one [] e = absurd (omega (arith, e))
@@ -129,11 +126,7 @@ first_is (y ∷ ys) x some e = (ys, ap (λ z. z ∷ ys) (sym e))
 
 -- ---- names and children
 
-no_names : (names : List Name) → length names ≡ 0 → names ≡ []
-no_names [] e = refl
-no_names (n ∷ names) e = absurd (omega (arith, e))
-
-no_children : (children : List Known) → map (λ (s : Known). s.kind) children ≡ [] → children ≡ []
+no_children : (children : List SummaryParts) → map (λ (s : SummaryParts). s.kind) children ≡ [] → children ≡ []
 no_children [] e = refl
 no_children (c ∷ children) e = absurd (cc)
 
@@ -145,7 +138,7 @@ one_name (m ∷ k ∷ names) n many e = absurd (omega (arith, many))
 module _ (def : Definition) (op : Operator) where
   -- an operator without names begins so under the names that it has
   pub bare_for : (names : List Name) → length (are_names def op.items) ≡ length names → (p : Partial) → IsOwnBegun def op [] p → IsOwnBegun def op names p
-  bare_for names fits p begun = subst (λ ns. IsOwnBegun def op ns p) (sym (no_names names (sym fits ∙ begun.fits))) begun
+  bare_for names fits p begun = subst (λ ns. IsOwnBegun def op ns p) (sym (nil_from_length names (sym fits ∙ begun.fits))) begun
 
   -- and one with one name so under its name
   pub named_for : (n : NamedStart) → IsNamed def op n → (names : List Name) → length (are_names def op.items) ≡ length names → (name : Name) → slice_get names 0 ≡ Some name
@@ -156,9 +149,9 @@ module _ (def : Definition) (op : Operator) where
   pub some_names : (n : NamedStart) → IsNamed def op n → (names : List Name) → length (are_names def op.items) ≡ length names → length names ≡ 1
   some_names n named names fits = sym fits ∙ named.begun.fits
 
-  module _ (s : Known) (whole : IsWhole def op s) (names : List Name) (children : List Known) (takes : Takes def op names children) where
+  module _ (s : SummaryParts) (whole : IsWhole def op s) (names : List Name) (children : List SummaryParts) (takes : Takes def op names children) where
     nameless : names ≡ []
-    nameless = no_names names (sym takes.names_fit ∙ whole.nameless)
+    nameless = nil_from_length names (sym takes.names_fit ∙ whole.nameless)
 
     childless : children ≡ []
     childless = no_children children (takes.kinds_fit ∙ whole.slotless)
@@ -167,8 +160,8 @@ module _ (def : Definition) (op : Operator) where
     whole_answers o f found node all =
         whole.answer o f found (subst (λ ns. IsNode def o ns f) nameless node) (subst (λ cs. AreSummariesOf def f cs) childless all)
 
-    pub whole_seen : s.seen ≡ sum_by (λ (c : Known). c.seen) children
-    whole_seen = whole.seen ∙ sym (ap (λ cs. sum_by (λ (c : Known). c.seen) cs) childless)
+    pub whole_seen : s.seen ≡ sum_by (λ (c : SummaryParts). c.seen) children
+    whole_seen = whole.seen ∙ sym (ap (λ cs. sum_by (λ (c : SummaryParts). c.seen) cs) childless)
 
 -- ---- how many names and slots an operator has
 

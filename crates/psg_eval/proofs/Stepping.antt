@@ -18,7 +18,7 @@ use Rattle.psg_grammar.specs.Steps.{first_children, children_count, PassesAt}
 use Rattle.psg_relation.specs.Choices.{AllHaveSorts}
 use Rattle.psg_scope.specs.Headers.{keys, declared_keys, IsHeader}
 use Rattle.psg_scope.specs.declared.header.Header.{Header}
-use Rattle.psg_eval.specs.declared.summary.Known.{Known}
+use Rattle.psg_eval.specs.declared.summary.SummaryParts.{SummaryParts}
 use Rattle.psg_eval.specs.Stages.{IsInside, IsInsideHeader, IsStep}
 use Rattle.psg_eval.specs.Trees.{HasParts, IsNode}
 use Rattle.psg_eval.specs.Summaries.{IsHeaderOf, IsSummaryOf}
@@ -61,7 +61,7 @@ module _ (def : Definition) where
 
     -- ---- one child more
 
-    module _ (parts : HasParts def f []) (t : Fragment) (s : Known) (n : ℕ) (at : slice_get (children_of f) n ≡ Some t) (summary : IsSummaryOf def t s)
+    module _ (parts : HasParts def f []) (t : Fragment) (s : SummaryParts) (n : ℕ) (at : slice_get (children_of f) n ≡ Some t) (summary : IsSummaryOf def t s)
         (h j : Header) (rows : List (List Term)) (step : IsStep def f n h rows) (join : JoinsHeaders h s.header j) where
       joined_header : IsInsideHeader def (first_children (n + 1) f) j
       joined_header =
@@ -123,7 +123,7 @@ module _ (def : Definition) where
   -- ---- a cell
 
   module _ (l : ℕ) (e r : Fragment) where
-    module _ (s : Known) (summary : IsSummaryOf def e s) where
+    module _ (s : SummaryParts) (summary : IsSummaryOf def e s) where
       pub element_ok : (ls fs ss : List ℕ) (rows made : List (List Term)) → AllHaveSorts def.signature rows ls → length ls ≡ 3
           → IsRelation def.signature fs (IsPossibleInside def (first_children 0 (cell l e r))) rows → s.header.twice ≡ false
           → IsRelation def.signature ss (IsGlued def.signature (NextGlue 0 [] (keys s.header.names) (keys s.header.names)) rows s.rel) made
@@ -142,7 +142,7 @@ module _ (def : Definition) where
       pub element_twice : s.header.twice ≡ true → IsStep def (cell l e r) 1 s.header []
       element_twice twice = inside_twice (first_children 1 (cell l e r)) s.header (element_header def l e r s.header summary.header) twice
 
-    module _ (s : Known) (summary : IsSummaryOf def r s) (scope : is_scope def r ≡ false) (h j : Header) (rows : List (List Term)) (step : IsStep def (cell l e r) 1 h rows) (join : JoinsHeaders h s.header j) where
+    module _ (s : SummaryParts) (summary : IsSummaryOf def r s) (scope : is_scope def r ≡ false) (h j : Header) (rows : List (List Term)) (step : IsStep def (cell l e r) 1 h rows) (join : JoinsHeaders h s.header j) where
       cell_header : IsInsideHeader def (cell l e r) j
       cell_header =
           rest_header def l e r j scope

@@ -1,5 +1,6 @@
 -- Some entities for all keys, and families that are those of rows.
-use Rattle.std.proofs.Common.{◌≡◌, ◌↔◌, ℕ, zero, suc, ◌<◌, List, [], ◌∷◌, length, Option, Some, None, refl, sym, subst}
+use Rattle.std.proofs.Common.{◌≡◌, ◌↔◌, ℕ, suc, ◌<◌, List, [], ◌∷◌, length, Option, Some, None, refl, sym, subst}
+use Rattle.psg_terms.proofs.Lists.{each_at}
 use Rattle.std.specs.List.{slice_get}
 use Rattle.psg_terms.specs.Terms.{Term, symbol}
 use Rattle.psg_terms.specs.Signature.{Signature, HasSort}
@@ -11,7 +12,6 @@ use Rattle.psg_grammar.specs.declared.types.Definition.{Definition}
 use Rattle.psg_grammar.specs.Keys.{space_of}
 use Rattle.psg_grammar.specs.Legal.{Entities, AreEntities}
 use Rattle.psg_grammar.specs.Sound.{IsSound}
-use Rattle.psg_grammar.proofs.SoundParts.{each_at}
 use Rattle.psg_relation.specs.Choices.{IsOfRow}
 use Rattle.psg_relation.proofs.Relating.{carried}
 
@@ -38,12 +38,6 @@ module _ (def : Definition) (sound : IsSound def) where
     ] refl;
     sorted = λ n e at. subst (λ o. HasSort def.signature (entity_of o) e.sort.0) (sym at) ((choices def.signature sound.signature).some_sorted e.sort.0 (space_sort (space_of n) e at));
   }
-
--- the member at a place
-pub member_at : {X : Type 0} (xs : List X) (r : ℕ) (x : X) → slice_get xs r ≡ Some x → IsIn x xs
-member_at [] r x e = absurd (cc)
-member_at (y ∷ xs) zero x e = let same : y ≡ x = let f : Some y ≡ Some x = e in cc in subst (λ z. IsIn z (y ∷ xs)) same first
-member_at (y ∷ xs) (suc r) x e = later (member_at xs r x e)
 
 pub place_of_member : {X : Type 0} (xs : List X) (x : X) → IsIn x xs → (r : ℕ) × (slice_get xs r ≡ Some x)
 place_of_member [] x h = elim h [ ]

@@ -1,6 +1,8 @@
 -- The walk over the keys of a joined header, key by key.
-use Rattle.std.proofs.Common.{◌≡◌, ℕ, ◌+◌, ◌<◌, ◌≤◌, zero, suc, List, [], ◌∷◌, ◌++◌, map, length, drop, get_or, refl, ap, ap₂, sym, ◌∙◌, subst, Option, Some, slice_get, append_assoc, arith}
-use Rattle.std.proofs.lemmas.List.{append-nil}
+use Rattle.std.proofs.Common.{◌≡◌, ℕ, ◌+◌, ◌<◌, ◌≤◌, zero, suc, List, [], ◌∷◌, ◌++◌, map, length, drop, get_or, refl, ap, sym, ◌∙◌, subst, Option, Some, slice_get, append_assoc, arith}
+use Rattle.std.proofs.lemmas.List.{append-nil, drop_all}
+use Rattle.std.proofs.lemmas.Option.{slice_get_within}
+use Rattle.psg_terms.proofs.Lists.{drop_there}
 use Rattle.psg_grammar.specs.Keys.{Key}
 use Rattle.psg_scope.specs.Headers.{ArePlaces, keys}
 use Rattle.psg_scope.specs.declared.header.NameCol.{NameCol}
@@ -8,26 +10,10 @@ use Rattle.psg_unify.specs.Pairs.{Pair as Columns}
 use Rattle.psg_eval.specs.Walks.{GrowsBy, IsWalk, walk_none, walk_left, walk_right, walk_both}
 use Rattle.psg_eval.specs.declared.placing.Placed.{Placed}
 
-pub drop_at : {X : Type 0} (xs : List X) (i : ℕ) (x : X) → slice_get xs i ≡ Some x → drop i xs ≡ x ∷ drop (i + 1) xs
-drop_at [] i x e = absurd (cc)
-drop_at (y ∷ xs) zero x e = let d : y ≡ x = cc in let z : zero + 1 ≡ suc zero = omega arith in ap₂ (λ a as_. a ∷ as_) d (ap (λ n. drop n (y ∷ xs)) (sym z))
-drop_at (y ∷ xs) (suc i) x e = let z : suc i + 1 ≡ suc (i + 1) = omega arith in drop_at xs i x e ∙ ap (λ l. x ∷ l) (ap (λ n. drop n (y ∷ xs)) (sym z))
-
-pub drop_end : {X : Type 0} (xs : List X) (i : ℕ) → length xs ≤ i → drop i xs ≡ []
-drop_end [] zero h = refl
-drop_end [] (suc i) h = refl
-drop_end (x ∷ xs) zero h = absurd (omega arith)
-drop_end (x ∷ xs) (suc i) h = drop_end xs i (omega arith)
-
 read : (xs : List ℕ) (i : ℕ) → i < length xs → slice_get xs i ≡ Some (get_or xs i 0)
 read [] i h = absurd (omega arith)
 read (x ∷ xs) zero h = refl
 read (x ∷ xs) (suc i) h = read xs i (omega arith)
-
-within : {X : Type 0} (xs : List X) (i : ℕ) (x : X) → slice_get xs i ≡ Some x → i < length xs
-within [] i x e = absurd (cc)
-within (y ∷ xs) zero x e = omega arith
-within (y ∷ xs) (suc i) x e = omega (arith, within xs i x e)
 
 -- the key at a place of the joined header
 placed_key : (ms : List Key) (places : List ℕ) (ks : List Key) (i place : ℕ) → map (λ p. slice_get ms p) places ≡ map Some ks → slice_get places i ≡ Some place
@@ -57,12 +43,11 @@ module _ (cols : List NameCol) (lefts rights left right : List ℕ) (offset : �
       → IsWalk offset (drop made.lefts left) (drop made.rights right) (drop made.lefts K) (drop made.rights L) (drop place (keys cols)) ps ks
       → IsWalk offset left right K L (keys cols) (made.pairs.items ++ ps) (made.columns.items ++ ks)
 
-  pub none_placed : (made : Placed) → made.columns.items ≡ [] → made.pairs.items ≡ [] → made.lefts ≡ 0 → made.rights ≡ 0 → IsPlacedUpTo made 0
-  none_placed made c p l r K L hk hl ps ks w =
-      subst (λ xs. IsWalk offset left right K L (keys cols) (xs ++ ps) (made.columns.items ++ ks)) (sym p)
-      (subst (λ xs. IsWalk offset left right K L (keys cols) ps (xs ++ ks)) (sym c)
-      (subst (λ n. IsWalk offset left (drop n right) K (drop n L) (keys cols) ps ks) r
-      (subst (λ n. IsWalk offset (drop n left) (drop made.rights right) (drop n K) (drop made.rights L) (keys cols) ps ks) l w)))
+  pub none_placed : (columns : List ℕ) (pairs : List Columns) → columns ≡ [] → pairs ≡ [] → (K L : List Key) → ArePlaces cols lefts K → ArePlaces cols rights L → (ps : List Columns) (ks : List ℕ)
+      → IsWalk offset left right K L (keys cols) ps ks → IsWalk offset left right K L (keys cols) (pairs ++ ps) (columns ++ ks)
+  none_placed columns pairs c p K L hk hl ps ks w =
+      subst (λ xs. IsWalk offset left right K L (keys cols) (xs ++ ps) (columns ++ ks)) (sym p)
+      (subst (λ xs. IsWalk offset left right K L (keys cols) ps (xs ++ ks)) (sym c) w)
 
   module _ (old new : Placed) (place : ℕ) (many : length left ≡ length lefts) (manys : length right ≡ length rights) (s : IsPlacedUpTo old place) where
     moved : (ps qs : List Columns) (c : ℕ) (i j : ℕ) → GrowsBy old new qs c i j → (K L : List Key) (ks : List ℕ)
@@ -78,9 +63,9 @@ module _ (cols : List NameCol) (lefts rights left right : List ℕ) (offset : �
     left_placed at g K L hk hl ps ks w =
         let a = get_or left old.lefts 0 in
         let (k, ek, em) = placed_key (keys cols) lefts K old.lefts place hk at in
-        let dl = drop_at left old.lefts a (read left old.lefts (let h = within lefts old.lefts place at in omega arith)) in
-        let dk = drop_at K old.lefts k ek in
-        let dm = drop_at (keys cols) place k em in
+        let dl = drop_there left old.lefts a (read left old.lefts (let h = slice_get_within lefts old.lefts place at in omega arith)) in
+        let dk = drop_there K old.lefts k ek in
+        let dm = drop_there (keys cols) place k em in
         let w1 = subst (λ n. IsWalk offset (drop n left) (drop new.rights right) (drop n K) (drop new.rights L) (drop (place + 1) (keys cols)) ps ks) g.lefts w in
         let w2 = subst (λ n. IsWalk offset (drop (old.lefts + 1) left) (drop n right) (drop (old.lefts + 1) K) (drop n L) (drop (place + 1) (keys cols)) ps ks) (g.rights ∙ same old.rights) w1 in
         let v = walk_left a k w2 in
@@ -93,9 +78,9 @@ module _ (cols : List NameCol) (lefts rights left right : List ℕ) (offset : �
     right_placed at g K L hk hl ps ks w =
         let b = get_or right old.rights 0 in
         let (k, ek, em) = placed_key (keys cols) rights L old.rights place hl at in
-        let dr = drop_at right old.rights b (read right old.rights (let h = within rights old.rights place at in omega arith)) in
-        let dk = drop_at L old.rights k ek in
-        let dm = drop_at (keys cols) place k em in
+        let dr = drop_there right old.rights b (read right old.rights (let h = slice_get_within rights old.rights place at in omega arith)) in
+        let dk = drop_there L old.rights k ek in
+        let dm = drop_there (keys cols) place k em in
         let w1 = subst (λ n. IsWalk offset (drop n left) (drop new.rights right) (drop n K) (drop new.rights L) (drop (place + 1) (keys cols)) ps ks) (g.lefts ∙ same old.lefts) w in
         let w2 = subst (λ n. IsWalk offset (drop old.lefts left) (drop n right) (drop old.lefts K) (drop n L) (drop (place + 1) (keys cols)) ps ks) g.rights w1 in
         let v = walk_right b k w2 in
@@ -112,11 +97,11 @@ module _ (cols : List NameCol) (lefts rights left right : List ℕ) (offset : �
         let (k, ek, em) = placed_key (keys cols) lefts K old.lefts place hk at in
         let (l, el, en) = placed_key (keys cols) rights L old.rights place hl too in
         let e : k ≡ l = let q : ◌≡◌ {A = Option Key} (Some k) (Some l) = sym em ∙ en in cc in
-        let da = drop_at left old.lefts a (read left old.lefts (let h = within lefts old.lefts place at in omega arith)) in
-        let db = drop_at right old.rights b (read right old.rights (let h = within rights old.rights place too in omega arith)) in
-        let dk = drop_at K old.lefts k ek in
-        let dl = drop_at L old.rights k (el ∙ ap Some (sym e)) in
-        let dm = drop_at (keys cols) place k em in
+        let da = drop_there left old.lefts a (read left old.lefts (let h = slice_get_within lefts old.lefts place at in omega arith)) in
+        let db = drop_there right old.rights b (read right old.rights (let h = slice_get_within rights old.rights place too in omega arith)) in
+        let dk = drop_there K old.lefts k ek in
+        let dl = drop_there L old.rights k (el ∙ ap Some (sym e)) in
+        let dm = drop_there (keys cols) place k em in
         let w1 = subst (λ n. IsWalk offset (drop n left) (drop new.rights right) (drop n K) (drop new.rights L) (drop (place + 1) (keys cols)) ps ks) g.lefts w in
         let w2 = subst (λ n. IsWalk offset (drop (old.lefts + 1) left) (drop n right) (drop (old.lefts + 1) K) (drop n L) (drop (place + 1) (keys cols)) ps ks) g.rights w1 in
         let v = walk_both a b k w2 in
@@ -134,10 +119,10 @@ module _ (cols : List NameCol) (lefts rights left right : List ℕ) (offset : �
       let mk = places_many (keys cols) lefts K hk in
       let ml = places_many (keys cols) rights L hj in
       let w : IsWalk offset (drop made.lefts left) (drop made.rights right) (drop made.lefts K) (drop made.rights L) (drop place (keys cols)) [] [] =
-      subst (λ xs. IsWalk offset xs (drop made.rights right) (drop made.lefts K) (drop made.rights L) (drop place (keys cols)) [] []) (sym (drop_end left made.lefts (omega arith)))
-      (subst (λ xs. IsWalk offset [] xs (drop made.lefts K) (drop made.rights L) (drop place (keys cols)) [] []) (sym (drop_end right made.rights (omega arith)))
-      (subst (λ xs. IsWalk offset [] [] xs (drop made.rights L) (drop place (keys cols)) [] []) (sym (drop_end K made.lefts (omega arith)))
-      (subst (λ xs. IsWalk offset [] [] [] xs (drop place (keys cols)) [] []) (sym (drop_end L made.rights (omega arith)))
-      (subst (λ xs. IsWalk offset [] [] [] [] xs [] []) (sym (drop_end (keys cols) place hp)) walk_none)))) in
+      subst (λ xs. IsWalk offset xs (drop made.rights right) (drop made.lefts K) (drop made.rights L) (drop place (keys cols)) [] []) (sym (drop_all made.lefts left (omega arith)))
+      (subst (λ xs. IsWalk offset [] xs (drop made.lefts K) (drop made.rights L) (drop place (keys cols)) [] []) (sym (drop_all made.rights right (omega arith)))
+      (subst (λ xs. IsWalk offset [] [] xs (drop made.rights L) (drop place (keys cols)) [] []) (sym (drop_all made.lefts K (omega arith)))
+      (subst (λ xs. IsWalk offset [] [] [] xs (drop place (keys cols)) [] []) (sym (drop_all made.rights L (omega arith)))
+      (subst (λ xs. IsWalk offset [] [] [] [] xs [] []) (sym (drop_all place (keys cols) hp)) walk_none)))) in
       subst (λ xs. IsWalk offset left right K L (keys cols) xs made.columns.items) (append-nil made.pairs.items)
       (subst (λ xs. IsWalk offset left right K L (keys cols) (made.pairs.items ++ []) xs) (append-nil made.columns.items) (s K L hk hj [] [] w))

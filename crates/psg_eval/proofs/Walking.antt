@@ -1,11 +1,14 @@
 -- What columns say that are picked by their numbers, and what a walk over the keys of two rows gives.
-use Rattle.std.proofs.Common.{◌≡◌, ℕ, ◌+◌, ◌<◌, ◌≤◌, zero, suc, true, false, cond, bytes_eq, List, [], ◌∷◌, ◌++◌, map, length, All, refl, ap, ap₂, sym, ◌∙◌, subst, Option, Some, slice_get, append_assoc, length-append, true≢false, arith}
+use Rattle.std.proofs.Common.{◌≡◌, ℕ, ◌+◌, ◌<◌, ◌≤◌, zero, suc, true, false, cond, bytes_eq, List, [], ◌∷◌, ◌++◌, map, length, All, refl, ap, ap₂, sym, ◌∙◌, subst, Some, slice_get, append_assoc, length-append, true≢false, arith}
+use Rattle.std.proofs.lemmas.Bool.{false_from_ne_true, or_right, or_left}
+use Rattle.std.proofs.lemmas.Option.{slice_get_within, same_Some}
+use Rattle.psg_terms.proofs.Lists.{slice_get-middle}
 use Rattle.std.specs.Prelude.{slice_index_or}
 use Rattle.psg_terms.specs.Names.{is_among}
 use Rattle.psg_terms.specs.Terms.{Term, symbol}
 use Rattle.psg_grammar.specs.Keys.{Key}
 use Rattle.psg_scope.specs.Headers.{AreRising}
-use Rattle.psg_scope.proofs.KeyLists.{below-absent, key_is, key_refl, or_left, or_right, not_true}
+use Rattle.psg_scope.proofs.KeyLists.{below-absent, key_is, key_refl}
 use Rattle.psg_unify.specs.Pairs.{Pair as Columns, AgreeOn}
 use Rattle.psg_relation.specs.Choices.{pick, picked}
 use Rattle.psg_eval.specs.Walks.{run, IsWalk, walk_none, walk_left, walk_right, walk_both}
@@ -29,27 +32,18 @@ picks_append row [] ls (x ∷ xs) ys h k = absurd h
 picks_append row (n ∷ ks) ls [] ys h k = absurd h
 picks_append row (n ∷ ks) ls (x ∷ xs) ys h k = (h.0, picks_append row ks ls xs ys h.1 k)
 
-get-within : {X : Type 0} (row : List X) (k : ℕ) (x : X) → slice_get row k ≡ Some x → k < length row
-get-within [] k x e = absurd (cc)
-get-within (y ∷ row) zero x e = omega arith
-get-within (y ∷ row) (suc k) x e = omega (arith, get-within row k x e)
-
 pub picks_within : {X : Type 0} (row : List X) (keep : List ℕ) (xs : List X) → Picks row keep xs → All (λ (k : ℕ). k < length row) keep
 picks_within row [] xs h = λ k d l. absurd (omega arith)
 picks_within row (n ∷ keep) [] h = absurd h
 picks_within row (n ∷ keep) (x ∷ xs) h = by (picks_within row keep xs h.1) where
   by : All (λ (k : ℕ). k < length row) keep → (k : ℕ) (d : ℕ) → k < length (n ∷ keep) → slice_index_or (n ∷ keep) k d < length row
-  by rest zero d l = get-within row n x h.0
+  by rest zero d l = slice_get_within row n x h.0
   by rest (suc k) d l = rest k d (omega arith)
-
-pub get-middle : {X : Type 0} (front : List X) (x : X) (back : List X) → slice_get (front ++ x ∷ back) (length front) ≡ Some x
-get-middle [] x back = refl
-get-middle (y ∷ front) x back = get-middle front x back
 
 picks-run : {X : Type 0} (front mid back : List X) → Picks (front ++ (mid ++ back)) (run (length front) (length mid)) mid
 picks-run front [] back = tt
 picks-run front (x ∷ mid) back = (
-  get-middle front x (mid ++ back),
+  slice_get-middle front x (mid ++ back),
   let e : length (front ++ x ∷ []) ≡ suc (length front) = omega (arith, length-append front (x ∷ [])) in
       subst (λ row. Picks row (run (suc (length front)) (length mid)) mid) (append_assoc front (x ∷ []) (mid ++ back))
       (subst (λ n. Picks ((front ++ x ∷ []) ++ (mid ++ back)) (run n (length mid)) mid) e (picks-run (front ++ x ∷ []) mid back)),
@@ -114,7 +108,7 @@ looked (k ∷ ks) (x ∷ xs) r e =
     (looked ks xs r.1 (omega arith) ∙ map-among (look ks xs) (look (k ∷ ks) (x ∷ xs)) ks (λ m a. ap (λ b. cond b x (look ks xs m)) (sym (other m a))))
   where
     other : (m : Key) → is_among ks m ≡ true → bytes_eq k m ≡ false
-    other m a = not_true (bytes_eq k m) (λ e. true≢false (sym (subst (λ n. is_among ks n ≡ true) (sym (key_is k m e)) a) ∙ below-absent k ks r.0))
+    other m a = false_from_ne_true (bytes_eq k m) (λ e. true≢false (sym (subst (λ n. is_among ks n ≡ true) (sym (key_is k m e)) a) ∙ below-absent k ks r.0))
 
 pub entities : (ks : List Key) (xs : List Term) → AreRising ks → length xs ≡ length ks → (g : Key → Term) × (xs ≡ map g ks)
 entities ks xs r e = (look ks xs, looked ks xs r e)
@@ -129,9 +123,6 @@ Matches {X} p q (c ∷ pairs) = ((x : X) × (slice_get p c.0 ≡ Some x) × (sli
 pub matches_agree : (p q : List Term) (pairs : List Columns) → Matches p q pairs → AgreeOn pairs p q
 matches_agree p q [] h = tt
 matches_agree p q (c ∷ pairs) h = (h.0.1 ∙ sym h.0.2, matches_agree p q pairs h.1)
-
-some_same : {X : Type 0} (x y : X) → ◌≡◌ {A = Option X} (Some x) (Some y) → x ≡ y
-some_same x y e = cc
 
 module _ {X : Type 0} (R : Key → X → Type 0) (offset : ℕ) (p q row : List X)
     (lefts : (a : ℕ) (x : X) → slice_get p a ≡ Some x → slice_get row a ≡ Some x) (rights : (b : ℕ) (x : X) → slice_get q b ≡ Some x → slice_get row (offset + b) ≡ Some x) where
@@ -174,19 +165,19 @@ module _ (R : Key → Term → Type 0) (offset : ℕ) (p q row : List Term)
   walk_back (x ∷ P) Q [] (walk_left a k w) agree pp qq h m = absurd h
   walk_back (x ∷ P) Q (z ∷ E) (walk_left a k w) agree pp qq h m =
       let r = walk_back P Q E w agree pp.1 qq h.1 m.1 in
-      ((subst (R k) (some_same z x (sym h.0 ∙ lefts a x pp.0)) m.0, r.0), r.1)
+      ((subst (R k) (same_Some z x (sym h.0 ∙ lefts a x pp.0)) m.0, r.0), r.1)
   walk_back P [] E (walk_right b k w) agree pp qq h m = absurd qq
   walk_back P (y ∷ Q) [] (walk_right b k w) agree pp qq h m = absurd h
   walk_back P (y ∷ Q) (z ∷ E) (walk_right b k w) agree pp qq h m =
       let r = walk_back P Q E w agree pp qq.1 h.1 m.1 in
-      (r.0, (subst (R k) (some_same z y (sym h.0 ∙ rights b y qq.0)) m.0, r.1))
+      (r.0, (subst (R k) (same_Some z y (sym h.0 ∙ rights b y qq.0)) m.0, r.1))
   walk_back [] Q E (walk_both a b k w) agree pp qq h m = absurd pp
   walk_back (x ∷ P) [] E (walk_both a b k w) agree pp qq h m = absurd qq
   walk_back (x ∷ P) (y ∷ Q) [] (walk_both a b k w) agree pp qq h m = absurd h
   walk_back (x ∷ P) (y ∷ Q) (z ∷ E) (walk_both a b k w) agree pp qq h m =
       let r = walk_back P Q E w agree.1 pp.1 qq.1 h.1 m.1 in
-      let e : z ≡ x = some_same z x (sym h.0 ∙ lefts a x pp.0) in
-      let d : x ≡ y = some_same x y (sym pp.0 ∙ agree.0 ∙ qq.0) in
+      let e : z ≡ x = same_Some z x (sym h.0 ∙ lefts a x pp.0) in
+      let d : x ≡ y = same_Some x y (sym pp.0 ∙ agree.0 ∙ qq.0) in
       ((subst (R k) e m.0, r.0), (subst (R k) (e ∙ d) m.0, r.1))
 
 -- ---- numbers one after the other

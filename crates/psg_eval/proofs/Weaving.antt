@@ -2,6 +2,7 @@
 use Rattle.std.proofs.Common.{◌≡◌, inl, inr, ℕ, true, List, [], ◌∷◌, ◌++◌, map, Some, refl, ap, ap₂, sym, ◌∙◌, subst, append_assoc, append-nil, true≢false, bytes_eq}
 use Rattle.std.specs.List.{slice_get, AllByRecursion}
 use Rattle.std.proofs.lemmas.List.{map-append}
+use Rattle.std.proofs.lemmas.Bool.{or_cases}
 use Rattle.psg_terms.specs.Names.{Name, is_among}
 use Rattle.psg_terms.specs.Terms.{Term}
 use Rattle.psg_terms.specs.Signature.{HasSort, HaveSorts}
@@ -19,7 +20,7 @@ use Rattle.psg_grammar.specs.Lookups.{part_items, key_at}
 use Rattle.psg_grammar.specs.Open.{Choice, Holds, IsOfOperatorRow}
 use Rattle.psg_grammar.specs.Regions.{names_inside}
 use Rattle.psg_grammar.specs.Sound.{AreColumns, HasSpaceSort}
-use Rattle.psg_scope.proofs.KeyLists.{or_cases, key_is}
+use Rattle.psg_scope.proofs.KeyLists.{key_is}
 use Rattle.psg_eval.specs.Trees.{HasParts}
 use Rattle.psg_eval.specs.OwnRows.{slot_terms, name_terms}
 use Rattle.psg_eval.proofs.Columns.{end_same}

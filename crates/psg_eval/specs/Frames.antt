@@ -8,24 +8,24 @@ use Rattle.psg_grammar.specs.declared.types.Definition.{Definition}
 use Rattle.psg_grammar.specs.Fragments.{Fragment, hole, ending, cell, operator, with_child, with_name}
 use Rattle.psg_grammar.specs.Fragments.{with_number, with_text, anything, observed, children_of}
 use Rattle.psg_grammar.specs.Paths.{Path, IsList}
-use Rattle.psg_eval.specs.declared.summary.Known.{Known}
+use Rattle.psg_eval.specs.declared.summary.SummaryParts.{SummaryParts}
 use Rattle.psg_eval.specs.declared.frame.Frame.{Frame}
 use Rattle.psg_eval.specs.declared.frame.Frame.TheVariants as frames
 use Rattle.psg_eval.specs.Summaries.{AllSummaries, IsSummary, IsSummaryOf, TakesAt, TakesCell}
 use Rattle.psg_eval.specs.Trees.{IsNode}
 
 -- no value in the tree is observed
-abbrev pub IsSilent : Known → Type 0
+abbrev pub IsSilent : SummaryParts → Type 0
 IsSilent s = s.seen ≡ 0
 
 -- all summaries except that of the number are silent
-abbrev pub AreSilentBut : ℕ → List Known → Type 0
+abbrev pub AreSilentBut : ℕ → List SummaryParts → Type 0
 AreSilentBut k [] = Unit {0}
 AreSilentBut zero (s ∷ rest) = AllByRecursion IsSilent rest
 AreSilentBut (suc k) (s ∷ rest) = IsSilent s × AreSilentBut k rest
 
 -- another summary at the place of the number
-abbrev pub put_at : ℕ → Known → List Known → List Known
+abbrev pub put_at : ℕ → SummaryParts → List SummaryParts → List SummaryParts
 put_at k s [] = []
 put_at zero s (old ∷ rest) = s ∷ rest
 put_at (suc k) s (old ∷ rest) = old ∷ put_at k s rest
@@ -43,14 +43,14 @@ rungs (frame ∷ more) = rungs_in frame + rungs more
 
 module _ (def : Definition) where
   -- the summaries of the trees in order, except that of the number: there any summary may be
-  abbrev pub AllSummariesBut : ℕ → List Fragment → List Known → Type 0
+  abbrev pub AllSummariesBut : ℕ → List Fragment → List SummaryParts → Type 0
   AllSummariesBut zero (f ∷ fs) (s ∷ rest) = AllSummaries def fs rest
   AllSummariesBut (suc k) (f ∷ fs) (s ∷ rest) = IsSummaryOf def f s × AllSummariesBut k fs rest
   AllSummariesBut k [] summaries = ⊥
   AllSummariesBut k (f ∷ fs) [] = ⊥
 
   -- t is an element of the list u, after elements with these summaries and before a list with the other one
-  abbrev pub IsElement : ℕ → List Known → Known → Fragment → Fragment → Type 0
+  abbrev pub IsElement : ℕ → List SummaryParts → SummaryParts → Fragment → Fragment → Type 0
   IsElement l [] rest (cell m e r) t = (m ≡ l) × (e ≡ t) × IsSummaryOf def r rest
   IsElement l (s ∷ before) rest (cell m e r) t = (m ≡ l) × IsSummaryOf def e s × IsElement l before rest r t
   IsElement l before rest u t = ⊥
@@ -70,7 +70,7 @@ module _ (def : Definition) where
       × StandFor more above f u
 
   -- a list whose first elements have these summaries, and the list after them the other one
-  abbrev pub IsGap : ℕ → List Known → Known → Fragment → Type 0
+  abbrev pub IsGap : ℕ → List SummaryParts → SummaryParts → Fragment → Type 0
   IsGap l [] rest u = IsList u × (rest.kind ≡ kinds.List l) × IsSummaryOf def u rest
   IsGap l (s ∷ before) rest (cell m e r) = (m ≡ l) × IsSummaryOf def e s × IsGap l before rest r
   IsGap l (s ∷ before) rest u = ⊥
@@ -85,13 +85,13 @@ module _ (def : Definition) where
       (u : Fragment) × StandFor more path f u × (k ≡ length before) × IsGap list before rest u
 
   -- an element of the list before, which is silent
-  pub record TakesBefore (kind : Kind) (b : Known) : Type 0 where
+  pub record TakesBefore (kind : Kind) (b : SummaryParts) : Type 0 where
     pub same : b.kind ≡ kind
     pub silent : IsSilent b
     pub usual : IsSummary def b
 
   -- with this summary at its place the frame is that of a node of the kind, and all others are silent
-  abbrev pub TakesInFrame : Frame → Known → Kind → Type 0
+  abbrev pub TakesInFrame : Frame → SummaryParts → Kind → Type 0
   TakesInFrame (frames.Op op names children hot) s above =
       (hot < length children) × AreSilentBut hot children × TakesAt def op names (put_at hot s children)
       × (o : Operator) × (slice_get def.operators op ≡ Some o) × (above ≡ kinds.Phylum o.phylum)
@@ -102,5 +102,5 @@ module _ (def : Definition) where
   abbrev pub CanClimb : List Frame → Kind → Type 0
   CanClimb [] kind = Unit {0}
   CanClimb (frame ∷ more) kind =
-      (above : Kind) × ((s : Known) → IsSummary def s → s.kind ≡ kind → TakesInFrame frame s above)
+      (above : Kind) × ((s : SummaryParts) → IsSummary def s → s.kind ≡ kind → TakesInFrame frame s above)
       × CanClimb more above

@@ -9,7 +9,7 @@ use Rattle.psg_relation.specs.Choices.{HasWide, IsOfRow}
 use Rattle.psg_relation.specs.declared.relation.RelFault.{RelFault}
 use Rattle.psg_relation.specs.declared.relation.RelFault.TheVariants as rel
 use Rattle.psg_scope.specs.declared.header.Header.{Header}
-use Rattle.psg_eval.specs.declared.summary.Known.{Known}
+use Rattle.psg_eval.specs.declared.summary.SummaryParts.{SummaryParts}
 use Rattle.psg_eval.specs.declared.summary.EvalFault.{EvalFault}
 use Rattle.psg_eval.specs.declared.summary.EvalFault.TheVariants as faults
 
@@ -21,7 +21,7 @@ IsFaultAt fault n faults.Memory = Unit {0}
 
 -- the summary has this kind and header and the relation of the rows, within the limit; or that relation is the wide one
 -- of step 0
-abbrev pub IsLeafOf : Signature → Kind → Header → List (List Term) → List ℕ → Result Known EvalFault → Type 0
+abbrev pub IsLeafOf : Signature → Kind → Header → List (List Term) → List ℕ → Result SummaryParts EvalFault → Type 0
 IsLeafOf sig kind header rows sorts (Ok s) =
     (s.kind ≡ kind) × (s.header ≡ header) × (s.seen ≡ 0) × IsRelation sig sorts (IsOfRow sig rows) s.rel
     × (PassesLimit s.rel → ⊥)

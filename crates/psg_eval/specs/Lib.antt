@@ -8,7 +8,6 @@ pub mod Partials
 pub mod Outside
 pub mod Leaves
 pub mod Stages
-pub mod ClimbSteps
 pub mod Frames
 pub mod Climbing
 pub mod Reporting

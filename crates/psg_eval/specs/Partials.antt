@@ -12,7 +12,7 @@ use Rattle.psg_relation.specs.declared.relation.RelFault.{RelFault}
 use Rattle.psg_relation.specs.declared.relation.RelFault.TheVariants.{Wide, Memory}
 use Rattle.psg_scope.specs.declared.header.Header.{Header}
 use Rattle.psg_scope.specs.Headers.{IsHeader, IsOrdered, keys}
-use Rattle.psg_eval.specs.declared.summary.Known.{Known}
+use Rattle.psg_eval.specs.declared.summary.SummaryParts.{SummaryParts}
 use Rattle.psg_eval.specs.declared.partial.Partial.{Partial}
 use Rattle.psg_eval.specs.Glues.{NextGlue}
 use Rattle.psg_eval.specs.Summaries.{AreKeySorts}
@@ -41,7 +41,7 @@ module _ (def : Definition) where
     pub sorted : AllHaveSorts def.signature p.rel ((sort ∷ seen ++ wanted) ++ key_sorts)
 
   -- header and rows of a node with one more child
-  pub record IsAdded (p : Partial) (child : Known) (header : Header) (rows : List (List Term)) : Type 0 where
+  pub record IsAdded (p : Partial) (child : SummaryParts) (header : Header) (rows : List (List Term)) : Type 0 where
     pub region : (names others declared others_declared : List Key) (unfinished others_unfinished : ℕ → Bool)
         → IsHeader names declared unfinished p.header → IsHeader others others_declared others_unfinished child.header
         → IsHeader (names ++ others) (declared ++ others_declared) (λ s. unfinished s || others_unfinished s) header

@@ -10,7 +10,7 @@ use Rattle.psg_scope.specs.declared.header.Header.{Header}
 use Rattle.psg_scope.specs.Headers.{IsOrdered, IsUnion, keep_if, keys}
 use Rattle.psg_unify.specs.Pairs.{Pair as Columns}
 use Rattle.psg_eval.specs.declared.renaming.Apart.{Apart}
-use Rattle.psg_eval.specs.declared.summary.Known.{Known}
+use Rattle.psg_eval.specs.declared.summary.SummaryParts.{SummaryParts}
 use Rattle.psg_eval.specs.Walks.{IsWalk}
 
 -- whether a key has the name
@@ -50,7 +50,7 @@ other_header from h = record { names = other_names from h.names; unfinished = h.
 
 -- The keys that are made of the two lists, each with its column, and the rows of these columns. No value is seen, so
 -- the keys have the columns from 1 on.
-pub record IsRenamed (def : Definition) (from to : Name) (old new : Known) : Type 0 where
+pub record IsRenamed (def : Definition) (from to : Name) (old new : SummaryParts) : Type 0 where
   pub kind : new.kind ≡ old.kind
   pub seen : new.seen ≡ old.seen
   pub union : IsUnion (moved_header from to old.header) (other_header from old.header) new.header

@@ -15,7 +15,7 @@ use Rattle.psg_relation.specs.declared.relation.RelFault.{RelFault}
 use Rattle.psg_scope.specs.Headers.{IsHeader}
 use Rattle.psg_scope.specs.declared.header.Header.{Header}
 use Rattle.psg_eval.specs.declared.partial.Partial.{Partial}
-use Rattle.psg_eval.specs.declared.summary.Known.{Known}
+use Rattle.psg_eval.specs.declared.summary.SummaryParts.{SummaryParts}
 use Rattle.psg_eval.specs.declared.summary.EvalFault.{EvalFault}
 use Rattle.psg_eval.specs.declared.summary.EvalFault.TheVariants as faults
 use Rattle.psg_eval.specs.Leaves.{IsFaultAt}
@@ -68,8 +68,8 @@ module _ (def : Definition) where
     pub sorts : List ℕ
     pub made : IsRelation def.signature sorts (IsPossibleInside def (cell l anything anything)) rows
 
-abbrev pub kinds_of : List Known → List Kind
-kinds_of children = map (λ (s : Known). s.kind) children
+abbrev pub kinds_of : List SummaryParts → List Kind
+kinds_of children = map (λ (s : SummaryParts). s.kind) children
 
 -- the same partial node, or the fault as one of the step
 abbrev pub IsNumbered : Result Partial RelFault → ℕ → Result Partial EvalFault → Type 0

@@ -20,7 +20,7 @@ use Rattle.psg_eval.specs.declared.starts.NamedStart.{NamedStart}
 use Rattle.psg_eval.specs.declared.starts.OperatorStart.{OperatorStart}
 use Rattle.psg_eval.specs.declared.starts.OperatorStart.TheVariants as begins
 use Rattle.psg_eval.specs.declared.starts.Starts.{Starts}
-use Rattle.psg_eval.specs.declared.summary.Known.{Known}
+use Rattle.psg_eval.specs.declared.summary.SummaryParts.{SummaryParts}
 use Rattle.psg_eval.specs.declared.tables.Tables.{Tables}
 
 -- each holds of its place
@@ -29,7 +29,7 @@ AreAt {X} P xs = (i : ℕ) (x : X) → slice_get xs i ≡ Some x → P i x
 
 module _ (def : Definition) where
   -- the summary of the tree, none of whose steps passes the limit
-  pub record IsTreeStart (f : Fragment) (s : Known) : Type 0 where
+  pub record IsTreeStart (f : Fragment) (s : SummaryParts) : Type 0 where
     pub answer : Answers def f (Ok s)
     pub usual : IsSummary def s
 
@@ -55,7 +55,7 @@ module _ (def : Definition) where
     pub begun : IsOwnBegun op (some ∷ []) n.bare
 
   -- the summary of the nodes of an operator without names and slots
-  pub record IsWhole (op : Operator) (s : Known) : Type 0 where
+  pub record IsWhole (op : Operator) (s : SummaryParts) : Type 0 where
     pub nameless : length (are_names def op.items) ≡ 0
     pub slotless : slot_kinds def op.items ≡ []
     pub answer : (o : ℕ) (f : Fragment) → slice_get def.operators o ≡ Some op → IsNode def o [] f
@@ -76,7 +76,7 @@ module _ (def : Definition) where
     pub cell : IfSome s.cell (IsCellBegun l)
 
   -- of each kind of node what is there
-  abbrev pub AreHoleStarts : List (Option Known) → Type 0
+  abbrev pub AreHoleStarts : List (Option SummaryParts) → Type 0
   AreHoleStarts made = AreAt (λ p o. IfSome o (IsTreeStart (hole p))) made
 
   abbrev pub AreListStarts : List ListStart → Type 0

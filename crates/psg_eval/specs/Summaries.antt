@@ -21,7 +21,7 @@ use Rattle.psg_relation.specs.Choices.{AllHaveSorts}
 use Rattle.psg_scope.specs.declared.header.NameCol.{NameCol}
 use Rattle.psg_scope.specs.declared.header.Header.{Header}
 use Rattle.psg_scope.specs.Headers.{AreAscending, has_space, IsHeader, IsOrdered}
-use Rattle.psg_eval.specs.declared.summary.Known.{Known}
+use Rattle.psg_eval.specs.declared.summary.SummaryParts.{SummaryParts}
 use Rattle.psg_eval.specs.declared.summary.EvalFault.{EvalFault}
 use Rattle.psg_eval.specs.declared.summary.EvalFault.TheVariants as faults
 use Rattle.psg_eval.specs.Trees.{seen_in}
@@ -35,20 +35,20 @@ module _ (def : Definition) where
       (declared_in def f) (λ s. not (is_scope def f) && unfinished_inside def s f) h
 
   -- the summary is that of the tree
-  pub record IsSummaryOf (f : Fragment) (s : Known) : Type 0 where
+  pub record IsSummaryOf (f : Fragment) (s : SummaryParts) : Type 0 where
     pub kind : IsOfKind def f s.kind
     pub header : IsHeaderOf f s.header
     pub seen : s.seen ≡ seen_in f
     pub rows : IsRelationOf def f s.rel
 
-  abbrev pub AllSummaries : List Fragment → List Known → Type 0
+  abbrev pub AllSummaries : List Fragment → List SummaryParts → Type 0
   AllSummaries [] [] = Unit {0}
   AllSummaries [] (s ∷ rest) = ⊥
   AllSummaries (f ∷ fs) [] = ⊥
   AllSummaries (f ∷ fs) (s ∷ rest) = IsSummaryOf f s × AllSummaries fs rest
 
   -- the summaries of the children, in order
-  abbrev pub AreSummariesOf : Fragment → List Known → Type 0
+  abbrev pub AreSummariesOf : Fragment → List SummaryParts → Type 0
   AreSummariesOf f summaries = AllSummaries (children_of f) summaries
 
   -- the sort of each key is that of its space
@@ -59,7 +59,7 @@ module _ (def : Definition) where
 
   -- what every summary is, whatever its tree: an ordered header, and rows of the sorts of the kind, of the seen values
   -- and of the spaces
-  pub record IsSummary (s : Known) : Type 0 where
+  pub record IsSummary (s : SummaryParts) : Type 0 where
     pub header : IsOrdered s.header
     pub sort : ℕ
     pub kind_sort : HasKindSort def s.kind sort
@@ -83,16 +83,16 @@ module _ (def : Definition) where
   are_names (_ ∷ rest) = are_names rest
 
   -- an operator takes these names and children: one of each position and slot, of the slots' kinds
-  pub record Takes (op : Operator) (names : List Name) (children : List Known) : Type 0 where
+  pub record Takes (op : Operator) (names : List Name) (children : List SummaryParts) : Type 0 where
     pub names_fit : length (are_names op.items) ≡ length names
-    pub kinds_fit : map (λ (s : Known). s.kind) children ≡ slot_kinds op.items
+    pub kinds_fit : map (λ (s : SummaryParts). s.kind) children ≡ slot_kinds op.items
     pub summaries : AllByRecursion IsSummary children
 
-  abbrev pub TakesAt : ℕ → List Name → List Known → Type 0
+  abbrev pub TakesAt : ℕ → List Name → List SummaryParts → Type 0
   TakesAt o names children = (op : Operator) × (slice_get def.operators o ≡ Some op) × Takes op names children
 
   -- a cell of the list takes these
-  pub record TakesCell (l : ℕ) (element rest : Known) : Type 0 where
+  pub record TakesCell (l : ℕ) (element rest : SummaryParts) : Type 0 where
     pub list : ListKind
     pub found : slice_get def.lists l ≡ Some list
     pub element_kind : element.kind ≡ kinds.Phylum list.element
@@ -114,7 +114,7 @@ module _ (def : Definition) where
   StaysWithin f = (k : ℕ) → k ≤ last_step def f → PassesAt def f k → ⊥
 
   -- the tree's summary, where no step passes the limit; the first step that does; or that memory ran out
-  abbrev pub Answers : Fragment → Result Known EvalFault → Type 0
+  abbrev pub Answers : Fragment → Result SummaryParts EvalFault → Type 0
   Answers f (Ok s) = IsSummaryOf f s × StaysWithin f
   Answers f (Err (faults.Wide step)) = IsFirstPassing f step
   Answers f (Err faults.Memory) = Unit {0}

@@ -11,7 +11,7 @@ ghost use Rattle.psg_eval.specs.Summaries.{IsSummaryOf, TakesCell};
 
 use crate::leaves::{no_keys, whole_rows};
 use crate::partial::{Partial, numbered, with_child};
-use crate::summary::{EvalFault, Known};
+use crate::summary::{EvalFault, SummaryParts};
 use psg_grammar::Definition;
 use psg_relation::{Rel, RelFault};
 use std::alloc::Global;
@@ -30,7 +30,7 @@ pub(crate) fn cell_start(
     ensures seen { IfOk result (λ p. p.seen ≡ 0) }
 {
     let this = &definition.lists.as_slice()[list as usize];
-    let header = no_keys(alloc, Vec::new(alloc));
+    let header = no_keys(Vec::new(alloc));
     let rows = whole_rows(alloc, this.cell_rows.as_slice())?;
     let rel = Rel::of(alloc, &definition.signature, rows.as_slice())?;
     Ok(Partial {
@@ -47,8 +47,8 @@ pub(crate) fn with_both(
     definition: &Definition,
     list: u32,
     first: &Partial,
-    element: &Known,
-    rest: &Known,
+    element: &SummaryParts,
+    rest: &SummaryParts,
 ) -> Result<Partial, EvalFault>
     requires sound { IsSound definition.now }
     requires first { IsCellBegun definition.now list first.now }
@@ -69,8 +69,8 @@ pub(crate) fn cell_parts(
     definition: &Definition,
     list: u32,
     start: Option<&Partial>,
-    element: &Known,
-    rest: &Known,
+    element: &SummaryParts,
+    rest: &SummaryParts,
 ) -> Result<Partial, EvalFault>
     requires sound { IsSound definition.now }
     requires start { IfSome (option_copied start) (IsCellBegun definition.now list) }

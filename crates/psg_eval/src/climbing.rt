@@ -7,7 +7,7 @@ ghost use Rattle.psg_grammar.specs.Sound.{IsSound};
 ghost use Rattle.psg_grammar.specs.declared.types.Kind.{Kind as PlainKind};
 ghost use Rattle.psg_grammar.specs.declared.types.Kind.TheVariants.{List as OfList, Phylum as OfPhylum};
 ghost use Rattle.psg_grammar.specs.declared.types.Operator.{Operator};
-ghost use Rattle.psg_eval.specs.ClimbSteps.{climb_steps_at};
+ghost use Rattle.psg_grammar.specs.Steps.{steps_at};
 ghost use Rattle.psg_eval.specs.Climbing.{IsClimbed, IsReached};
 ghost use Rattle.psg_eval.specs.Frames.{AllSummariesBut, AreSilentBut, CanClimb, IsElement};
 ghost use Rattle.psg_eval.specs.Frames.{IsFrame, IsSilent, StandFor, TakesBefore};
@@ -66,7 +66,7 @@ fn raised_in_list<L: Ledger>(
     requires before { AllByRecursion (TakesBefore definition.now own.now.kind) before.now }
     ensures answer { (u t : Fragment) (path : Path) → IsElement definition.now list before.now rest.now u t
         → IsSummaryOf definition.now t own.now
-        → IsReached definition.now (climb_steps_at definition.now path (length before.now) u) u result }
+        → IsReached definition.now (steps_at definition.now path (length before.now) u) u result }
     ensures summary { IfOk result (IsSummary definition.now) }
     ensures kind { IfOk result (λ s. s.kind ≡ OfList list) }
     ensures seen { IfOk result (λ s. s.seen ≡ own.now.seen) }
@@ -106,7 +106,7 @@ pub fn raised_operator<L: Ledger>(
     ensures answer { (u t : Fragment) (path : Path) (k : ℕ) → IsNode definition.now op names.now u → k ≡ hot
         → slice_get (children_of u) k ≡ Some t → AllSummariesBut definition.now k (children_of u) children.now
         → IsSummaryOf definition.now t own.now
-        → IsReached definition.now (climb_steps_at definition.now path k u) u result }
+        → IsReached definition.now (steps_at definition.now path k u) u result }
     ensures summary { IfOk result (IsSummary definition.now) }
     ensures kind { IfOk result (λ s. (o : Operator) → slice_get definition.now.operators op ≡ Some o
         → s.kind ≡ OfPhylum o.phylum) }
@@ -132,7 +132,7 @@ fn raised<L: Ledger>(
     requires takes { (above : PlainKind) × TakesInFrame definition.now frame.now own.now above }
     ensures answer { (u t : Fragment) (path : Path) (k : ℕ) → IsFrame definition.now frame.now k u t
         → IsSummaryOf definition.now t own.now
-        → IsReached definition.now (climb_steps_at definition.now path k u) u result }
+        → IsReached definition.now (steps_at definition.now path k u) u result }
     ensures summary { IfOk result (IsSummary definition.now) }
     ensures kind { IfOk result (λ s. (above : PlainKind) → TakesInFrame definition.now frame.now own.now above
         → s.kind ≡ above) }

@@ -3,7 +3,7 @@ ghost use Rattle.std.specs.Prelude.{◌≡◌, ◌+◌, ◌<◌, ℕ, true, leng
 ghost use Rattle.psg_grammar.specs.Fragments.{Fragment, hole, ending, cell};
 ghost use Rattle.psg_grammar.specs.declared.types.Kind.TheVariants.{List as OfList, Phylum as OfPhylum};
 ghost use Rattle.psg_grammar.specs.declared.types.Operator.{Operator};
-ghost use Rattle.psg_eval.specs.declared.summary.Known.{Known as Kept};
+ghost use Rattle.psg_eval.specs.declared.summary.SummaryParts.{SummaryParts as PlainParts};
 ghost use Rattle.psg_grammar.specs.Sound.{IsSound};
 ghost use Rattle.psg_grammar.specs.WellFormed.{IsListEnd};
 ghost use Rattle.psg_eval.specs.Starts.{AreStarts};
@@ -62,7 +62,7 @@ pub fn eval_op<L: Ledger>(
     ensures summary { IfOk result (IsSummary definition.now) }
     ensures kind { IfOk result (λ s. (o : Operator) → slice_get definition.now.operators op ≡ Some o
         → s.kind ≡ OfPhylum o.phylum) }
-    ensures seen { IfOk result (λ s. s.seen ≡ sum_by (λ (c : Kept). c.seen) children.now) }
+    ensures seen { IfOk result (λ s. s.seen ≡ sum_by (λ (c : PlainParts). c.seen) children.now) }
     ensures ticks { steps.new ≡ steps.old + 1 }
 {
     let starts = Starts::none(alloc);
@@ -162,7 +162,7 @@ pub(crate) fn op_from<L: Ledger>(
     ensures summary { IfOk result (IsSummary definition.now) }
     ensures kind { IfOk result (λ s. (o : Operator) → slice_get definition.now.operators op ≡ Some o
         → s.kind ≡ OfPhylum o.phylum) }
-    ensures seen { IfOk result (λ s. s.seen ≡ sum_by (λ (c : Kept). c.seen) children.now) }
+    ensures seen { IfOk result (λ s. s.seen ≡ sum_by (λ (c : PlainParts). c.seen) children.now) }
     ensures ticks { steps.new ≡ steps.old + 1 }
 {
     steps.tick();

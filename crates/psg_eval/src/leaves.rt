@@ -8,10 +8,10 @@ ghost use Rattle.psg_relation.specs.Choices.{AllHaveSorts};
 ghost use Rattle.psg_eval.specs.Leaves.{IsLeafOf};
 ghost use Rattle.psg_eval.specs.OwnRows.{AreHoleRows, whole_row};
 
-use crate::summary::{EvalFault, Known, Summary, at_step};
+use crate::summary::{EvalFault, Summary, SummaryParts, at_step};
 use psg_grammar::{Definition, Kind, Row};
 use psg_relation::{Rel, RelRow};
-use psg_scope::Header;
+use psg_scope::{Header, Names};
 use psg_terms::{Seq, Term};
 use std::alloc::{AllocError, Global};
 
@@ -78,11 +78,11 @@ pub(crate) fn whole_rows(alloc: Global, rows: &[Row]) -> Result<Vec<RelRow>, All
 }
 
 /// Returns the header of a region without keys.
-pub(crate) fn no_keys(alloc: Global, unfinished: Vec<u32>) -> Header
+pub(crate) fn no_keys(unfinished: Vec<u32>) -> Header
     ensures { result ≡ record { names = []; unfinished = unfinished.items; twice = false } }
 {
     Header {
-        names: Seq::of(Vec::new(alloc)),
+        names: Names::none(),
         unfinished: Seq::of(unfinished),
         twice: false,
     }
@@ -102,7 +102,7 @@ fn leaf(
 {
     match Rel::of(alloc, &definition.signature, rows) {
         Ok(rel) => {
-            let known = Known {
+            let known = SummaryParts {
                 kind,
                 header,
                 seen: 0,
@@ -127,7 +127,7 @@ pub(crate) fn placeholder(
 {
     let kind = Kind::Phylum(phylum);
     let rows = hole_rows(alloc, definition, kind)?;
-    let header = no_keys(alloc, Vec::new(alloc));
+    let header = no_keys(Vec::new(alloc));
     leaf(alloc, definition, kind, header, rows.as_slice())
 }
 
@@ -146,7 +146,7 @@ pub(crate) fn open_end(
 {
     let kind = Kind::List(list);
     let rows = hole_rows(alloc, definition, kind)?;
-    let header = no_keys(alloc, Vec::from_slice(alloc, spaces)?);
+    let header = no_keys(Vec::from_slice(alloc, spaces)?);
     leaf(alloc, definition, kind, header, rows.as_slice())
 }
 
@@ -163,6 +163,6 @@ pub(crate) fn closed_end(
 {
     let this = &definition.lists.as_slice()[list as usize];
     let rows = rows_of_terms(alloc, this.nil_rows.as_slice())?;
-    let header = no_keys(alloc, Vec::new(alloc));
+    let header = no_keys(Vec::new(alloc));
     leaf(alloc, definition, Kind::List(list), header, rows.as_slice())
 }

@@ -6,7 +6,7 @@ ghost use Rattle.psg_grammar.specs.Fragments.{Fragment};
 ghost use Rattle.psg_grammar.specs.Sound.{IsOperator, IsSound};
 ghost use Rattle.psg_grammar.specs.declared.types.Kind.{Kind as PlainKind};
 ghost use Rattle.psg_grammar.specs.declared.types.Kind.TheVariants.{Phylum as OfPhylum};
-ghost use Rattle.psg_eval.specs.declared.summary.Known.{Known as Kept};
+ghost use Rattle.psg_eval.specs.declared.summary.SummaryParts.{SummaryParts as PlainParts};
 ghost use Rattle.psg_eval.specs.Partials.{IsPartial};
 ghost use Rattle.psg_eval.specs.Starts.{IsNamed, IsOperatorStart, IsOwnBegun};
 ghost use Rattle.psg_eval.specs.Stages.{kinds_of, IsMade, MatchMade, MatchWhole};
@@ -17,7 +17,7 @@ use crate::outside::closed;
 use crate::own::first_step;
 use crate::partial::{Partial, numbered, summary_of, with_child};
 use crate::starts::{NamedStart, OperatorStart};
-use crate::summary::{EvalFault, Known, Summary};
+use crate::summary::{EvalFault, Summary, SummaryParts};
 use psg_grammar::{Definition, Kind, Operator};
 use psg_terms::Txt;
 use std::alloc::Global;
@@ -41,8 +41,8 @@ fn with_children(
     ensures partial { IfOk result (λ p. (kind : PlainKind)
         → IsPartial definition.now kind (kinds_of (drop from children.now)) first
         → IsPartial definition.now kind [] p) }
-    ensures seen { IfOk result (λ p. p.seen + sum_by (λ (s : Kept). s.seen) (take from children.now)
-        ≡ first.seen + sum_by (λ (s : Kept). s.seen) children.now) }
+    ensures seen { IfOk result (λ p. p.seen + sum_by (λ (s : PlainParts). s.seen) (take from children.now)
+        ≡ first.seen + sum_by (λ (s : PlainParts). s.seen) children.now) }
 {
     let mut partial = first;
     for i in from..children.len() {
@@ -54,7 +54,7 @@ fn with_children(
 }
 
 /// Returns what is known of the first child.
-fn first_of(children: &[Summary]) -> &Known
+fn first_of(children: &[Summary]) -> &SummaryParts
     requires { 0 < length children.now }
     ensures { slice_get children.now 0 ≡ Some result.now }
 {
@@ -87,7 +87,7 @@ fn with_all(
     ensures partial { IfOk result (λ p. (kind : PlainKind)
         → IsPartial definition.now kind (kinds_of children.now) bare.now
         → IsPartial definition.now kind [] p) }
-    ensures seen { IfOk result (λ p. p.seen ≡ bare.now.seen + sum_by (λ (s : Kept). s.seen) children.now) }
+    ensures seen { IfOk result (λ p. p.seen ≡ bare.now.seen + sum_by (λ (s : PlainParts). s.seen) children.now) }
 {
     let child = first_of(children);
     let first = numbered(with_child(alloc, definition, bare, child), 1)?;
@@ -110,7 +110,7 @@ fn all_children(
         → IsNode definition.now o names.now f
         → AreSummariesOf definition.now f children.now → MatchMade definition.now f (length children.now) result }
     ensures partial { IfOk result (IsPartial definition.now (OfPhylum operator.now.phylum) []) }
-    ensures seen { IfOk result (λ p. p.seen ≡ sum_by (λ (s : Kept). s.seen) children.now) }
+    ensures seen { IfOk result (λ p. p.seen ≡ sum_by (λ (s : PlainParts). s.seen) children.now) }
 {
     let first = numbered(first_step(alloc, definition, operator, names), 0)?;
     let whole = with_children(alloc, definition, first, children, 0)?;
@@ -135,7 +135,7 @@ fn bare_children(
         → IsNode definition.now o names.now f
         → AreSummariesOf definition.now f children.now → MatchMade definition.now f (length children.now) result }
     ensures partial { IfOk result (IsPartial definition.now (OfPhylum operator.now.phylum) []) }
-    ensures seen { IfOk result (λ p. p.seen ≡ sum_by (λ (s : Kept). s.seen) children.now) }
+    ensures seen { IfOk result (λ p. p.seen ≡ sum_by (λ (s : PlainParts). s.seen) children.now) }
 {
     if children.is_empty() {
         return all_children(alloc, definition, operator, names, children);
@@ -162,7 +162,7 @@ fn named_children(
         → IsNode definition.now o names.now f
         → AreSummariesOf definition.now f children.now → MatchMade definition.now f (length children.now) result }
     ensures partial { IfOk result (IsPartial definition.now (OfPhylum operator.now.phylum) []) }
-    ensures seen { IfOk result (λ p. p.seen ≡ sum_by (λ (s : Kept). s.seen) children.now) }
+    ensures seen { IfOk result (λ p. p.seen ≡ sum_by (λ (s : PlainParts). s.seen) children.now) }
 {
     let name = first_name(names);
     let first = named.under(alloc, name)?;
@@ -187,7 +187,7 @@ fn started(
         → IsNode definition.now o names.now f
         → AreSummariesOf definition.now f children.now → MatchMade definition.now f (length children.now) result }
     ensures partial { IfOk result (IsPartial definition.now (OfPhylum operator.now.phylum) []) }
-    ensures seen { IfOk result (λ p. p.seen ≡ sum_by (λ (s : Kept). s.seen) children.now) }
+    ensures seen { IfOk result (λ p. p.seen ≡ sum_by (λ (s : PlainParts). s.seen) children.now) }
 {
     match start {
         OperatorStart::Bare(bare) => {
@@ -241,7 +241,7 @@ fn stepped(
         → AreSummariesOf definition.now f children.now → Answers definition.now f result }
     ensures summary { IfOk result (IsSummary definition.now) }
     ensures kind { IfOk result (λ s. s.kind ≡ OfPhylum operator.now.phylum) }
-    ensures seen { IfOk result (λ s. s.seen ≡ sum_by (λ (c : Kept). c.seen) children.now) }
+    ensures seen { IfOk result (λ s. s.seen ≡ sum_by (λ (c : PlainParts). c.seen) children.now) }
 {
     let whole = started(alloc, definition, start, operator, names, children)?;
     let outside = outer(alloc, definition, operator, children.len(), whole)?;
@@ -267,7 +267,7 @@ pub(crate) fn node(
         → AreSummariesOf definition.now f children.now → Answers definition.now f result }
     ensures summary { IfOk result (IsSummary definition.now) }
     ensures kind { IfOk result (λ s. s.kind ≡ OfPhylum operator.now.phylum) }
-    ensures seen { IfOk result (λ s. s.seen ≡ sum_by (λ (c : Kept). c.seen) children.now) }
+    ensures seen { IfOk result (λ s. s.seen ≡ sum_by (λ (c : PlainParts). c.seen) children.now) }
 {
     let OperatorStart::Whole(given) = start else {
         return stepped(alloc, definition, start, operator, names, children);

@@ -13,7 +13,7 @@ ghost use Rattle.psg_eval.specs.Summaries.{IsSummary};
 ghost use Rattle.psg_eval.specs.Walks.{IsLayout, run};
 
 use crate::placing::key_columns;
-use crate::summary::{EvalFault, Known, Summary, at_step};
+use crate::summary::{EvalFault, Summary, SummaryParts, at_step};
 use psg_grammar::{Definition, Kind};
 use psg_relation::{Rel, RelFault};
 use psg_scope::{Header, Joined};
@@ -75,11 +75,16 @@ pub(crate) fn numbers(alloc: Global, from: usize, count: usize) -> Result<Vec<us
     Ok(made)
 }
 
+/// Returns how many columns are kept: so many of the node and of the child, and those of the keys.
+fn kept_count(of_node: usize, of_child: usize, keys: &[usize]) -> usize {
+    keys.len().saturating_add(of_node).saturating_add(of_child)
+}
+
 /// Returns the columns of the next child's rows, by one walk over the keys.
 fn child_layout(
     alloc: Global,
     before: &Partial,
-    child: &Known,
+    child: &SummaryParts,
     joined: &Joined,
 ) -> Result<Layout, AllocError>
     requires some { 0 < before.now.wanted }
@@ -98,12 +103,17 @@ fn child_layout(
     let left = numbers(alloc, first + wanted, lefts)?;
     let right = numbers(alloc, 1 + more, rights)?;
     let placed = key_columns(alloc, joined, left.as_slice(), right.as_slice(), width)?;
-    let mut keep = numbers(alloc, 0, first)?;
+    let columns = placed.columns.as_slice();
+    let shared = placed.pairs.as_slice();
+    let count = kept_count(first + wanted - 1, more, columns);
+    let mut keep = Vec::with_capacity(alloc, count)?;
+    push_run(&mut keep, 0, first)?;
     push_run(&mut keep, width + 1, more)?;
     push_run(&mut keep, first + 1, wanted - 1)?;
-    keep.extend_from_slice(placed.columns.as_slice())?;
-    let mut pairs = vec![in alloc; (first, 0)]?;
-    pairs.extend_from_slice(placed.pairs.as_slice())?;
+    keep.extend_from_slice(columns)?;
+    let mut pairs = Vec::with_capacity(alloc, shared.len() + 1)?;
+    pairs.push((first, 0))?;
+    pairs.extend_from_slice(shared)?;
     Ok(Layout { pairs, keep })
 }
 
@@ -112,7 +122,7 @@ fn joined_rows(
     alloc: Global,
     definition: &Definition,
     before: &Partial,
-    child: &Known,
+    child: &SummaryParts,
     joined: &Joined,
 ) -> Result<Rel, RelFault>
     requires partial { (kind : PlainKind) × (kinds : List PlainKind)
@@ -150,7 +160,7 @@ pub(crate) fn with_child(
     alloc: Global,
     definition: &Definition,
     before: &Partial,
-    child: &Known,
+    child: &SummaryParts,
 ) -> Result<Partial, RelFault>
     requires partial { (kind : PlainKind) × (kinds : List PlainKind)
         × IsPartial definition.now kind (child.now.kind ∷ kinds) before.now }
@@ -190,7 +200,7 @@ pub(crate) fn numbered(made: Result<Partial, RelFault>, step: usize) -> Result<P
 pub(crate) fn summary_of(alloc: Global, kind: Kind, whole: Partial) -> Result<Summary, AllocError>
     ensures { IfOk result (λ s. s ≡ record { kind = kind; header = whole.header; seen = whole.seen; rel = whole.rel }) }
 {
-    let known = Known {
+    let known = SummaryParts {
         kind,
         header: whole.header,
         seen: whole.seen,

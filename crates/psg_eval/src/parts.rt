@@ -16,7 +16,7 @@ use crate::node::outer;
 use crate::own::first_step;
 use crate::partial::{Partial, numbered, summary_of, with_child, with_place};
 use crate::pattern::Pattern;
-use crate::summary::{EvalFault, Known, Summary};
+use crate::summary::{EvalFault, Summary, SummaryParts};
 use psg_grammar::{Definition, Kind, Operator};
 use psg_relation::{Rel, RelFault};
 use psg_terms::Txt;
@@ -55,7 +55,7 @@ fn with_known(
     alloc: Global,
     definition: &Definition,
     before: &Partial,
-    child: &Known,
+    child: &SummaryParts,
     room: &mut u64,
 ) -> Result<Partial, RelFault>
     requires partial { (kind : PlainKind) × (kinds : List PlainKind)

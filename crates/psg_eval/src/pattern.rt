@@ -1,7 +1,7 @@
 //! What is known of a tree some of whose nodes may be places with any value.
 ghost use Rattle.std.specs.Prelude.{◌≡◌};
 
-use crate::summary::{Known, Summary};
+use crate::summary::{Summary, SummaryParts};
 use psg_grammar::Kind;
 use psg_relation::Rel;
 use psg_scope::Header;
@@ -16,10 +16,10 @@ pub struct Pattern {
 }
 
 impl Model for Pattern {
-    ghost use Rattle.psg_eval.specs.declared.summary.Known.{Known as Kept};
-    ghost use Rattle.psg_eval.specs.contracts.summary.Known as kept;
+    ghost use Rattle.psg_eval.specs.declared.summary.SummaryParts.{SummaryParts as PlainParts};
+    ghost use Rattle.psg_eval.specs.contracts.summary.SummaryParts as kept;
 
-    ghost Value = { Kept };
+    ghost Value = { PlainParts };
 
     ghost coded = { kept.the_row.coded };
 
@@ -62,7 +62,7 @@ impl Pattern {
     }
 
     /// Returns what is kept, as the steps of a node take it.
-    pub(crate) fn known(&self) -> &Known
+    pub(crate) fn known(&self) -> &SummaryParts
         ensures { result.now ≡ self.now }
     {
         self.inner.known()

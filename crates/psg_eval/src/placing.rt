@@ -57,6 +57,20 @@ impl Placed {
     }
 }
 
+/// Returns how many joined keys there are.
+fn all_keys(joined: &Joined) -> usize {
+    joined.header.names.as_slice().len()
+}
+
+/// Returns how many of the joined keys both sides have.
+fn shared_keys(joined: &Joined) -> usize {
+    let lefts = joined.left.as_slice().len();
+    let rights = joined.right.as_slice().len();
+    lefts
+        .saturating_add(rights)
+        .saturating_sub(all_keys(joined))
+}
+
 /// Says whether the next of the places is this one.
 fn is_next(places: &[usize], number: usize, place: usize) -> bool
     ensures { IsTrue result ↔ (slice_get places.now number ≡ Some place) }
@@ -87,8 +101,8 @@ pub(crate) fn key_columns(
     let lefts = joined.left.as_slice();
     let rights = joined.right.as_slice();
     let mut made = Placed {
-        columns: Vec::new(alloc),
-        pairs: Vec::new(alloc),
+        columns: Vec::with_capacity(alloc, all_keys(joined))?,
+        pairs: Vec::with_capacity(alloc, shared_keys(joined))?,
         lefts: 0,
         rights: 0,
     };

@@ -12,11 +12,11 @@ ghost use Rattle.psg_eval.specs.Summaries.{IsSummary};
 ghost use Rattle.psg_eval.specs.Walks.{IsWalk};
 
 use crate::placing::{Placed, key_columns};
-use crate::summary::{Known, Summary};
+use crate::summary::{Summary, SummaryParts};
 use psg_columns::laws::fewer_columns;
 use psg_grammar::Definition;
 use psg_relation::{Rel, RelFault, project};
-use psg_scope::{Header, Joined, NameCol, join};
+use psg_scope::{Header, Joined, NameCol, Names, join};
 use psg_terms::{Seq, Txt};
 use std::alloc::{AllocError, Global};
 
@@ -118,13 +118,13 @@ fn halves(alloc: Global, header: &Header, from: &Txt, to: &Txt) -> Result<Parts,
     unfinished.extend_from_slice(header.unfinished.as_slice())?;
     Ok(Parts {
         moved: Header {
-            names: Seq::of(apart.moved),
+            names: Names::of(alloc, apart.moved)?,
             unfinished: Seq::of(Vec::new(alloc)),
             twice: false,
         },
         moved_columns: apart.moved_columns,
         others: Header {
-            names: Seq::of(apart.others),
+            names: Names::of(alloc, apart.others)?,
             unfinished: Seq::of(unfinished),
             twice: header.twice,
         },
@@ -211,7 +211,7 @@ pub fn renamed(
     let rel = kept_rows(alloc, definition, &known.rel, keep.as_slice())?;
     let made = Summary::new(
         alloc,
-        Known {
+        SummaryParts {
             kind: known.kind,
             header: joined.header,
             seen: known.seen,

@@ -8,38 +8,22 @@ ghost use Rattle.psg_eval.specs.Summaries.{IsSummary, IsSummaryOf};
 ghost use Rattle.psg_eval.specs.Walks.{run};
 
 use crate::partial::push_run;
-use crate::summary::{EvalFault, Known, Summary, at_step};
+use crate::summary::{EvalFault, Summary, SummaryParts, at_step};
 use psg_grammar::Definition;
 use psg_relation::project;
-use psg_scope::{Header, NameCol};
+use psg_scope::Header;
 use psg_terms::{Seq, Steps};
 use std::alloc::{AllocError, Global};
 use std::sync::ledger::Ledger;
 
-/// Gives each of the keys one more owner of its name.
-fn keys_again(alloc: Global, names: &[NameCol]) -> Result<Vec<NameCol>, AllocError>
-    ensures { IfOk result (λ made. made.items ≡ names.now) }
-{
-    let mut made = Vec::with_capacity(alloc, names.len())?;
-    for name in names {
-        let next = NameCol {
-            space: name.space,
-            name: name.name.share()?,
-            declared: name.declared,
-        };
-        made.push(next)?;
-    }
-    Ok(made)
-}
-
-/// Makes the header once more, with one more owner of each name.
+/// Makes the header once more, with one more owner of its list of keys.
 fn header_again(alloc: Global, header: &Header) -> Result<Header, AllocError>
     ensures { IfOk result (λ h. h ≡ header.now) }
 {
-    let names = keys_again(alloc, header.names.as_slice())?;
+    let names = header.names.share()?;
     let unfinished = Vec::from_slice(alloc, header.unfinished.as_slice())?;
     Ok(Header {
-        names: Seq::of(names),
+        names,
         unfinished: Seq::of(unfinished),
         twice: header.twice,
     })
@@ -85,7 +69,7 @@ pub fn with_report<L: Ledger>(
     let columns = keep.as_slice();
     match project(alloc, &definition.signature, summary.rel(), columns) {
         Ok(rel) => {
-            let known = Known {
+            let known = SummaryParts {
                 kind: summary.kind(),
                 header,
                 seen: 1,

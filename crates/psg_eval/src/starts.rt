@@ -18,7 +18,7 @@ use crate::partial::Partial;
 use crate::summary::{EvalFault, Summary};
 use psg_grammar::{Definition, Operator, name_positions, slots};
 use psg_relation::RelFault;
-use psg_scope::{Header, NameCol};
+use psg_scope::{Header, NameCol, Names};
 use psg_terms::{Seq, Txt};
 use std::alloc::{AllocError, Global};
 
@@ -314,7 +314,7 @@ fn header_of_name(
         declared,
     })?;
     Ok(Header {
-        names: Seq::of(names),
+        names: Names::of(alloc, names)?,
         unfinished: Seq::of(Vec::new(alloc)),
         twice: false,
     })

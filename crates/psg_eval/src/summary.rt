@@ -1,4 +1,4 @@
-//! What is known of a tree.
+//! Summaries of trees.
 ghost use Rattle.std.specs.Prelude.{◌≡◌, ◌↔◌, ◌<◌, IfOk, IsTrue};
 ghost use Rattle.psg_eval.specs.Leaves.{IsFaultAt};
 
@@ -10,9 +10,9 @@ use std::marker::Model;
 use std::rc::Rc;
 use thiserror::Error;
 
-/// What a summary keeps.
+/// The parts of a summary, which its owners share.
 #[derive(Drop)]
-pub struct Known {
+pub struct SummaryParts {
     /// The phylum or list of the tree.
     pub kind: Kind,
     /// The keys of its region, or those that pass outward from it where it is a scope operator.
@@ -25,16 +25,23 @@ pub struct Known {
 }
 
 /// The kind, header and relation of a tree, shared by its owners. Only the calls of this crate make one.
-#[derive(Drop)]
 pub struct Summary {
-    shared: Rc<Known>,
+    shared: Rc<SummaryParts>,
+}
+
+// written out, so that it is proved once, and not anew in each crate where such a value is let go
+impl Drop for Summary {
+    fn drop(self) {
+        let Summary { shared } = self;
+        let _ = shared;
+    }
 }
 
 impl Model for Summary {
-    ghost use Rattle.psg_eval.specs.declared.summary.Known.{Known as Kept};
-    ghost use Rattle.psg_eval.specs.contracts.summary.Known as known;
+    ghost use Rattle.psg_eval.specs.declared.summary.SummaryParts.{SummaryParts as PlainParts};
+    ghost use Rattle.psg_eval.specs.contracts.summary.SummaryParts as known;
 
-    ghost Value = { Kept };
+    ghost Value = { PlainParts };
 
     ghost coded = { known.the_row.coded };
 
@@ -42,7 +49,7 @@ impl Model for Summary {
 }
 
 impl Summary {
-    pub(crate) fn new(alloc: Global, known: Known) -> Result<Summary, AllocError>
+    pub(crate) fn new(alloc: Global, known: SummaryParts) -> Result<Summary, AllocError>
         ensures { IfOk result (λ s. s ≡ known) }
     {
         Ok(Summary {
@@ -98,7 +105,7 @@ impl Summary {
     }
 
     /// Returns what is kept, as the steps of a node take it.
-    pub(crate) fn known(&self) -> &Known
+    pub(crate) fn known(&self) -> &SummaryParts
         ensures { result.now ≡ self.now }
     {
         self.shared.as_ref()

@@ -10,7 +10,7 @@ ghost use Rattle.psg_eval.specs.SpaceTables.{AreDeclaringSpaces};
 ghost use Rattle.psg_eval.specs.Starts.{AreTables};
 ghost use Rattle.psg_eval.specs.Summaries.{Answers, AreSummariesOf, IsSummary, IsSummaryOf, TakesAt, TakesCell};
 ghost use Rattle.psg_eval.specs.Trees.{IsNode};
-ghost use Rattle.psg_eval.specs.declared.summary.Known.{Known as Kept};
+ghost use Rattle.psg_eval.specs.declared.summary.SummaryParts.{SummaryParts as PlainParts};
 
 use crate::evaluating::{cell_from, end_from, hole_from, op_from};
 use crate::starts::{Starts, spaces_of};
@@ -88,7 +88,7 @@ impl Tables {
         ensures summary { IfOk result (IsSummary definition.now) }
         ensures kind { IfOk result (λ s. (o : Operator) → slice_get definition.now.operators op ≡ Some o
             → s.kind ≡ OfPhylum o.phylum) }
-        ensures seen { IfOk result (λ s. s.seen ≡ sum_by (λ (c : Kept). c.seen) children.now) }
+        ensures seen { IfOk result (λ s. s.seen ≡ sum_by (λ (c : PlainParts). c.seen) children.now) }
         ensures ticks { steps.new ≡ steps.old + 1 }
     {
         op_from(alloc, definition, &self.starts, op, names, children, steps)

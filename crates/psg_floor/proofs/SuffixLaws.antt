@@ -4,6 +4,7 @@ use Rattle.std.specs.List.{AllByRecursion}
 use Rattle.std.proofs.lemmas.Bool.{cases_lt}
 use Rattle.std.proofs.lemmas.List.{get_or_append_left, length-map, map-append, nil_from_length}
 use Rattle.std.proofs.Math.Seq.{get_or-append_seam}
+use Rattle.psg_terms.proofs.Lists.{each_push, slice_get-end}
 use Rattle.psg_grammar.specs.Keys.{Key}
 use Rattle.psg_scope.specs.declared.header.NameCol.{NameCol}
 use Rattle.psg_scope.specs.declared.header.Header.{Header}
@@ -35,10 +36,6 @@ behind_element element behind h is =
 pub key_count-header : (elements : List (List NameCol)) (h : Header) → IsHeaderOf (all_positions elements) h → length h.names ≡ key_count elements
 key_count-header elements h is = sym (length-map h.names key_of) ∙ ap length is.keys_are
 
-pub all-push : {X : Type 0} (P : X → Type 0) (xs : List X) (x : X) → AllByRecursion P xs → P x → AllByRecursion P (xs ++ x ∷ [])
-all-push P [] x all is = (is, tt)
-all-push P (y ∷ xs) x all is = (all.0, all-push P xs x all.1 is)
-
 pub length_push : {X : Type 0} (xs : List X) (x : X) → length (xs ++ x ∷ []) ≡ suc (length xs)
 length_push [] x = refl
 length_push (y ∷ xs) x = ap suc (length_push xs x)
@@ -48,10 +45,6 @@ get_front [] ys k lt = absurd (omega (arith, lt))
 get_front (x ∷ xs) ys zero lt = refl
 get_front (x ∷ xs) ys (suc k) lt = get_front xs ys k (omega (arith, lt))
 
-get_end : {X : Type 0} (xs : List X) (x : X) → slice_get (xs ++ x ∷ []) (length xs) ≡ Some x
-get_end [] x = refl
-get_end (y ∷ xs) x = get_end xs x
-
 -- elements that a function gives, and the next one
 pub made_more : {X : Type 0} (f : ℕ → X) (xs : List X) (x : X) (n : ℕ) → length xs ≡ n
     → ((k : ℕ) → k < n → slice_get xs k ≡ Some (f k)) → x ≡ f n
@@ -60,7 +53,7 @@ made_more f xs x n len old is k lt = elim (cases_lt k n) [
   | inl below ↦ get_front xs (x ∷ []) k (omega (arith, len, below)) ∙ old k below
   | inr above ↦
       let at : k ≡ n = omega (arith, lt, above) in
-      ap (slice_get (xs ++ x ∷ [])) (at ∙ sym len) ∙ get_end xs x ∙ ap Some (is ∙ ap f (sym at))
+      ap (slice_get (xs ++ x ∷ [])) (at ∙ sym len) ∙ slice_get-end xs x ∙ ap Some (is ∙ ap f (sym at))
 ]
 
 -- a row that shares the terms of another one, and the next term
@@ -97,7 +90,7 @@ walked_next elements left front element whole next rests split old is ordered = 
   is = is old.behind old.is;
   ordered = ordered;
   count = length_push rests whole ∙ ap suc old.count;
-  all = all-push (IsSomeSuffix elements) rests whole old.all (record { before = left; behind = old.behind; split = old.split; is = old.is });
+  all = each_push (IsSomeSuffix elements) rests whole old.all (record { before = left; behind = old.behind; split = old.split; is = old.is });
 }
 
 pub walked_all : (elements left : List (List NameCol)) (whole : Suffix) (rests : List Suffix) → length left ≡ 0 → IsWalked elements left whole rests

@@ -10,7 +10,7 @@ use psg_scope::{Header, header_of, join};
 use psg_terms::{Seq, Term};
 use std::alloc::{AllocError, Global};
 
-/// What is known of a suffix: its header, and a row with a term for each key.
+/// A suffix of a list: its header, and a row with a term for each key.
 #[derive(Drop)]
 pub struct Suffix {
     /// The keys of its elements.
@@ -19,9 +19,9 @@ pub struct Suffix {
     pub row: Seq<Term>,
 }
 
-/// What is known of a list: of the whole one, and of the rest after each element, the end first.
+/// The suffixes of a list: that of all elements, and those after each element, the end first.
 #[derive(Drop)]
-pub struct Known {
+pub struct ListSuffixes {
     /// The suffix of all elements.
     pub whole: Suffix,
     /// The suffix after each element, that of the last element first.
@@ -76,7 +76,7 @@ fn longer(
 
 /// Walks over the list from its end. For each element it joins the element's header with that of the rest after it, and
 /// shares a row with a term for each key. It fails where memory runs out.
-pub fn walked(alloc: Global, elements: &[Element], term: &Term) -> Result<Known, AllocError>
+pub fn walked(alloc: Global, elements: &[Element], term: &Term) -> Result<ListSuffixes, AllocError>
     ensures whole { IfOk result (λ s. IsSuffix elements.now s.whole) }
     ensures count { IfOk result (λ s. length s.rests.items ≡ length elements.now) }
     ensures rests { IfOk result (λ s. AllByRecursion (IsSomeSuffix elements.now) s.rests.items) }
@@ -90,7 +90,7 @@ pub fn walked(alloc: Global, elements: &[Element], term: &Term) -> Result<Known,
         whole = next;
         left = front;
     }
-    Ok(Known { whole, rests })
+    Ok(ListSuffixes { whole, rests })
 }
 
 /// Counts the keys of the list by one walk over its suffixes.

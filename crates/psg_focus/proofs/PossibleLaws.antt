@@ -16,7 +16,7 @@ use Rattle.psg_completions.specs.Conditions.{HasTrueRows}
 use Rattle.psg_completions.proofs.Relating.{shown_by_rows}
 use Rattle.psg_relation.proofs.Members.{in-map, map-in}
 use Rattle.psg_eval.specs.declared.frame.Frame.{Frame}
-use Rattle.psg_eval.specs.declared.summary.Known.{Known}
+use Rattle.psg_eval.specs.declared.summary.SummaryParts.{SummaryParts}
 use Rattle.psg_eval.specs.declared.question.FocusFault.{FocusFault}
 use Rattle.psg_eval.specs.Frames.{StandFor}
 use Rattle.psg_eval.specs.Summaries.{IsSummaryOf}
@@ -32,7 +32,7 @@ module _ (def : Definition) where
     λ (row, i, g). let (t, there, e) = map-in (λ x. x ∷ []) row terms i in (t, there, subst (λ r. IsGroundInstance def.signature r (u ∷ [])) e g),
   )
 
-  module _ (sound : IsSound def) (around : List Frame) (own : Known) where
+  module _ (sound : IsSound def) (around : List Frame) (own : SummaryParts) where
     abbrev pub ArePossible : Vec Term Global → Type 0
     ArePossible terms = (f node : Fragment) (path : Path) (kind : Kind) → WellFormed def f kind → StandFor def around path f node → IsSummaryOf def node own
         → (u : Term) → IsOfSome def terms.items u ↔ IsPossibleAt def f path u

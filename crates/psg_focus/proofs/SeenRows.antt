@@ -2,6 +2,7 @@
 use Rattle.std.proofs.Common.{◌≡◌, ◌↔◌, ℕ, ◌+◌, ◌<◌, zero, suc, All, List, [], ◌∷◌, ◌++◌, map, take, get_or, length, refl, ap, sym, ◌∙◌, subst, length-append, arith}
 use Rattle.std.specs.Prelude.{slice_index_or, IfErr, Result, Err}
 use Rattle.std.proofs.lemmas.List.{length-map}
+use Rattle.psg_terms.proofs.Lists.{take_item}
 use Rattle.psg_terms.specs.Terms.{Term}
 use Rattle.psg_terms.specs.Signature.{HaveSorts}
 use Rattle.psg_terms.specs.Relations.{IsRelation}
@@ -18,11 +19,10 @@ use Rattle.psg_relation.specs.declared.relation.RelFault.{RelFault}
 use Rattle.psg_relation.specs.declared.relation.RelFault.TheVariants.{Wide}
 use Rattle.psg_relation.proofs.Relating.{carried}
 use Rattle.psg_scope.specs.Headers.{key_of}
-use Rattle.psg_eval.specs.declared.summary.Known.{Known}
+use Rattle.psg_eval.specs.declared.summary.SummaryParts.{SummaryParts}
 use Rattle.psg_eval.specs.Summaries.{IsSummary, IsSummaryOf}
 use Rattle.psg_eval.proofs.Gluing.{CutOf, cut_relation, cut_same}
 use Rattle.psg_eval.proofs.PartialSorts.{key_sorts_many}
-use Rattle.psg_terms.proofs.DeclareLaws.{take-next}
 use Rattle.psg_focus.specs.Shown.{rows_of, Second}
 
 two_of : {X : Type 0} (xs : List X) (n : ℕ) → length xs ≡ 2 + n → (a b : X) × (rest : List X) × (xs ≡ a ∷ b ∷ rest)
@@ -59,7 +59,7 @@ second_once zero zero k a b = refl
 second_once zero (suc j) k a b = absurd (cc)
 second_once (suc i) j k a b = absurd (cc)
 
-module _ (def : Definition) (s : Known) (usual : IsSummary def s) (reported : s.seen ≡ 1) where
+module _ (def : Definition) (s : SummaryParts) (usual : IsSummary def s) (reported : s.seen ≡ 1) where
   abbrev pub whole_sorts : List ℕ
   whole_sorts = (usual.sort ∷ usual.seen) ++ usual.key_sorts
 
@@ -168,4 +168,4 @@ terms_more found more rows i row terms read copy l at before one same first_is c
     let (a, is) = one_of row one in
     let reads : read ≡ a = first_is ∙ ap (λ xs. get_or xs 0 read) (same ∙ is) in
     ap rows_of grown ∙ rows_push found copy ∙ ap (λ l. l ++ (copy ∷ []) ∷ []) before
-    ∙ ap (λ x. take i rows ++ x ∷ []) (ap (λ t. t ∷ []) (copied ∙ reads) ∙ sym is) ∙ sym (take-next rows i row l at)
+    ∙ ap (λ x. take i rows ++ x ∷ []) (ap (λ t. t ∷ []) (copied ∙ reads) ∙ sym is) ∙ sym (take_item rows i row l at)

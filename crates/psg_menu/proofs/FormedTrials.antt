@@ -1,9 +1,11 @@
 -- Trials of well-formed fragments are well-formed.
 use Rattle.std.proofs.Common.{◌≡◌, ◌↔◌, inl, inr, ℕ, zero, suc, ◌<◌, Bool, false, cond, List, [], ◌∷◌, ◌++◌, map, length, slice_get, Some, None, Option, refl, sym, ◌∙◌, ap, subst, append_assoc, append-nil, arith}
 use Rattle.std.specs.List.{AllByRecursion}
-use Rattle.std.specs.Option.{option_and_then}
 use Rattle.std.proofs.lemmas.Option.{none-some}
 use Rattle.std.proofs.lemmas.Bool.Decides.{eqb_tells}
+use Rattle.psg_completions.proofs.Growth.{unobserved}
+use Rattle.psg_grammar.proofs.PathLaws.{step}
+use Rattle.psg_terms.proofs.Lists.{slice_get-end_is, slice_get-not_end}
 use Rattle.std.specs.Prelude.{Result, Ok, Err, Vec}
 use Rattle.std.specs.declared.alloc.Global.{Global}
 use Rattle.psg_terms.specs.Terms.{Term}
@@ -30,10 +32,10 @@ use Rattle.psg_grammar.specs.Kinds.{HasKind, IsOfKind}
 use Rattle.psg_grammar.specs.Lookups.{part_items, items_of, operator_at}
 use Rattle.psg_grammar.specs.Paths.{Path, node_at, change_child, change_at, inserted}
 use Rattle.psg_grammar.specs.Sound.{IsSound}
-use Rattle.psg_grammar.specs.WellFormed.{Fits, IsPlain, IsUnobserved, WellFormed}
+use Rattle.psg_grammar.specs.WellFormed.{Fits, IsPlain, WellFormed}
 use Rattle.psg_eval.specs.declared.frame.Frame.{Frame}
 use Rattle.psg_eval.specs.declared.frame.Frame.TheVariants as frames
-use Rattle.psg_eval.specs.declared.summary.Known.{Known}
+use Rattle.psg_eval.specs.declared.summary.SummaryParts.{SummaryParts}
 use Rattle.psg_eval.specs.Frames.{CanClimb, IsElement, IsFrame, IsGap, StandAt, StandFor, put_at}
 use Rattle.psg_eval.specs.Summaries.{IsSummary, slot_kinds}
 use Rattle.psg_eval.proofs.FrameLaws.{frame_child, stands-node}
@@ -41,30 +43,8 @@ use Rattle.psg_menu.specs.Menus.{HasQuietSlots, IsChoosable, IsFreshTrial, IsQui
 use Rattle.psg_menu.proofs.MenuLaws.{op_slots, op_there}
 use Rattle.psg_menu.proofs.TrialPlaces.{change_here}
 
--- the top of a tree without observed nodes is not observed
-unobserved : (f : Fragment) → IsPlain f → IsUnobserved f
-unobserved (observed f) plain = absurd plain
-unobserved _ plain = tt
-
 same_list : (l m : ℕ) → kinds.List l ≡ kinds.List m → m ≡ l
 same_list l m e = cc
-
-get_last : (xs : List Fragment) (t c : Fragment) → slice_get (xs ++ t ∷ []) (length xs) ≡ Some c → c ≡ t
-get_last [] t c e = cc
-get_last (x ∷ xs) t c e = get_last xs t c e
-
-get_front : (xs : List Fragment) (t c : Fragment) (k : ℕ) → (length xs ≡ k → ⊥)
-    → slice_get (xs ++ t ∷ []) k ≡ Some c → slice_get xs k ≡ Some c
-get_front [] t c zero never e = absurd (never refl)
-get_front [] t c (suc k) never e = e
-get_front (x ∷ xs) t c zero never e = e
-get_front (x ∷ xs) t c (suc k) never e = get_front xs t c k (λ q. never (ap suc q)) e
-
--- the child at the first step, and the node behind it
-first_step : (path : Path) (o : Option Fragment) (x : Fragment) → option_and_then (λ t. node_at t path) o ≡ Some x
-    → (c : Fragment) × (o ≡ Some c) × (node_at c path ≡ Some x)
-first_step path None x e = absurd (none-some x e)
-first_step path (Some c) x e = (c, refl, e)
 
 module _ (def : Definition) where
   child_changed : (g : Fragment → Fragment) (f : Fragment) (more : List Item) (kind : Kind) (k : ℕ) (c : Fragment)
@@ -91,7 +71,7 @@ module _ (def : Definition) where
       elim (eqb_tells (length (children_of f)) k) [
         | inl e ↦
             let there = subst (λ n. slice_get (children_of f ++ t ∷ []) n ≡ Some c) (sym e.1) at in
-            let same : c ≡ t = get_last (children_of f) t c there in
+            let same : c ≡ t = slice_get-end_is (children_of f) t c there in
             let (fits, flat) = keeps K (subst (λ x. WellFormed def x K) (sym same) (ft, plain.1)) in
             subst Keeps (sym e.0) (
               (K, ff, subst (λ x. Fits def (g x) [] K) same fits),
@@ -99,7 +79,7 @@ module _ (def : Definition) where
             )
         | inr e ↦
             let (fits, flat) = child_changed g f (items.Slot K ∷ more) kind k c ff plain.0
-            (get_front (children_of f) t c k e.1 at) keeps in
+            (slice_get-not_end (children_of f) t c k e.1 at) keeps in
             subst Keeps (sym e.0) ((K, fits, ft), (flat, plain.1))
       ]
   child_changed g (with_name f n) more kind k c (inl (s, h), name) plain at keeps =
@@ -123,7 +103,7 @@ module _ (def : Definition) where
       let same : f ≡ node = cc in
       subst (λ x. WellFormed def (g x) kind) (sym same) (keeps kind (subst (λ x. WellFormed def x kind) same h))
   changed_formed g f kind (k ∷ path) node (fits, plain) at keeps =
-      let (c, child, below) = first_step path (slice_get (children_of f) k) node at in
+      let (c, child, below) = step (slice_get (children_of f) k) path node at in
       child_changed (change_at g path) f [] kind k c fits plain child
       (λ K h. changed_formed g c K path node h below keeps)
 
@@ -254,7 +234,7 @@ module _ (def : Definition) where
   phylum_found (x ∷ xs) zero h = (x, refl)
   phylum_found (x ∷ xs) (suc n) h = phylum_found xs n (omega (arith, h))
 
-  abbrev pub empty : ℕ → Known
+  abbrev pub empty : ℕ → SummaryParts
   empty p = record { kind = kinds.Phylum p; header = record { names = []; unfinished = []; twice = false }; seen = 0; rel = [] }
 
   -- the children of an operator's node are of the kinds of its slots
@@ -312,13 +292,13 @@ module _ (def : Definition) where
   children_fit o op found anything more kind top plain h = absurd h
   children_fit o op found (observed f) more kind top plain h = absurd plain
 
-  put_kind : (n : ℕ) (s : Known) (ss : List Known) (ks : List Kind) → n < length ss → map (λ (x : Known). x.kind) (put_at n s ss) ≡ ks → slice_get ks n ≡ Some s.kind
+  put_kind : (n : ℕ) (s : SummaryParts) (ss : List SummaryParts) (ks : List Kind) → n < length ss → map (λ (x : SummaryParts). x.kind) (put_at n s ss) ≡ ks → slice_get ks n ≡ Some s.kind
   put_kind n s [] ks l e = absurd (omega (arith, l))
   put_kind zero s (r ∷ ss) ks l e = ap (λ xs. slice_get xs 0) (sym e)
-  put_kind (suc n) s (r ∷ ss) ks l e = ap (λ xs. slice_get xs (suc n)) (sym e) ∙ put_kind n s ss (map (λ (x : Known). x.kind) (put_at n s ss)) (omega (arith, l)) refl
+  put_kind (suc n) s (r ∷ ss) ks l e = ap (λ xs. slice_get xs (suc n)) (sym e) ∙ put_kind n s ss (map (λ (x : SummaryParts). x.kind) (put_at n s ss)) (omega (arith, l)) refl
 
   -- an element of a list is of the list's phylum
-  element_fits : (l : ℕ) (before : List Known) (rest : Known) (u t : Fragment) (K : Kind) (list : ListKind) → slice_get def.lists l ≡ Some list → IsElement def l before rest u t → Fits def u [] K
+  element_fits : (l : ℕ) (before : List SummaryParts) (rest : SummaryParts) (u t : Fragment) (K : Kind) (list : ListKind) → slice_get def.lists l ≡ Some list → IsElement def l before rest u t → Fits def u [] K
       → Fits def t [] (kinds.Phylum list.element)
   element_fits l [] rest (cell m e r) t K list found (a, b, c) (none, same, own, at, fe, fr, z) =
       let d : own ≡ list = one_list own list (slice_get def.lists m) at (ap (slice_get def.lists) a ∙ found) in
@@ -346,7 +326,7 @@ module _ (def : Definition) where
   element_fits l (s ∷ before) rest anything t K list found h w = absurd h
   element_fits l (s ∷ before) rest (observed f) t K list found h w = absurd h
 
-  in_list : (l : ℕ) (before : List Known) (rest : Known) (u : Fragment) → IsGap def l before rest u → IsOfKind def u (kinds.List l)
+  in_list : (l : ℕ) (before : List SummaryParts) (rest : SummaryParts) (u : Fragment) → IsGap def l before rest u → IsOfKind def u (kinds.List l)
   in_list l [] rest u (is, same, of) = subst (IsOfKind def u) same of.kind
   in_list l (s ∷ before) rest (cell m e r) (a, b, c) = ap kinds.List (sym a)
   in_list l (s ∷ before) rest (hole p) h = absurd h
@@ -404,7 +384,7 @@ module _ (def : Definition) where
                 (λ J ht. subst (WellFormed def x) (formed_once t (kinds.Phylum p) J (frame_fits frame more k u t K at can hu) ht.0) fresh))),
           )
 
-      add_formed : (list : ℕ) (before : List Known) (rest : Known) (more : List Frame) (f : Fragment) (path : Path) (k : ℕ) (kind : Kind) (u : Fragment)
+      add_formed : (list : ℕ) (before : List SummaryParts) (rest : SummaryParts) (more : List Frame) (f : Fragment) (path : Path) (k : ℕ) (kind : Kind) (u : Fragment)
           → CanClimb def (frames.Elem list before rest ∷ more) (kinds.Phylum p) → WellFormed def f kind → StandFor def more path f u → IsGap def list before rest u
           → WellFormed def (change_at (inserted k x) path f) kind
       add_formed list before rest more f path k kind u (above, takes, others) h up gap =

@@ -1,25 +1,18 @@
 -- A changed child of a node: which step passes the limit.
 use Rattle.std.proofs.Common.{◌≡◌, ◌⊎◌, inl, inr, ℕ, zero, suc, ◌+◌, ◌<◌, cond, List, [], ◌∷◌, ◌++◌, length, Some, slice_get, refl, ap, sym, ◌∙◌, subst, arith, length-append}
 use Rattle.std.proofs.lemmas.Bool.Decides.{eqb_tells}
-use Rattle.std.proofs.lemmas.Option.{slice_get_within}
+use Rattle.std.proofs.lemmas.Option.{slice_get_within, same_Some}
+use Rattle.psg_terms.proofs.Lists.{slice_get-end}
 use Rattle.psg_grammar.specs.declared.types.Definition.{Definition}
 use Rattle.psg_grammar.specs.Fragments.{Fragment, hole, ending, cell, operator, with_child, with_name, with_number, with_text, anything, observed, children_of, top_operator}
 use Rattle.psg_grammar.specs.Paths.{Path, change_child}
-use Rattle.psg_grammar.specs.Steps.{own_steps}
+use Rattle.psg_grammar.specs.Steps.{own_steps, steps_at}
 use Rattle.psg_eval.specs.declared.frame.Frame.{Frame}
 use Rattle.psg_eval.specs.declared.frame.Frame.TheVariants as frames
-use Rattle.psg_eval.specs.declared.summary.Known.{Known}
-use Rattle.psg_eval.specs.ClimbSteps.{climb_steps_at}
+use Rattle.psg_eval.specs.declared.summary.SummaryParts.{SummaryParts}
 use Rattle.psg_eval.specs.Frames.{IsElement, IsFrame}
 use Rattle.psg_eval.proofs.Places.{stands-changed}
 use Rattle.psg_menu.proofs.WideTrees.{Passing, passing_either, passing_left, passing_right, own_from, own_to, ListPasses, WideTree, WideBelow, node_parts, node_wide}
-
-same_some : (a b : Fragment) → Some a ≡ Some b → a ≡ b
-same_some a b e = cc
-
-got_last : (c : Fragment) (cs : List Fragment) → slice_get (cs ++ c ∷ []) (length cs) ≡ Some c
-got_last c [] = refl
-got_last c (d ∷ cs) = got_last c cs
 
 got_front : (k : ℕ) (cs ds : List Fragment) → k < length cs → slice_get (cs ++ ds) k ≡ slice_get cs k
 got_front k [] ds h = absurd (omega (arith, h))
@@ -27,7 +20,7 @@ got_front zero (c ∷ cs) ds h = refl
 got_front (suc k) (c ∷ cs) ds h = got_front k cs ds (omega (arith, h))
 
 module _ (def : Definition) where
-  node_steps : (path : Path) (k op : ℕ) (u : Fragment) → top_operator u ≡ Some op → climb_steps_at def path k u ≡ own_steps def path u
+  node_steps : (path : Path) (k op : ℕ) (u : Fragment) → top_operator u ≡ Some op → steps_at def path k u ≡ own_steps def path u
   node_steps path zero op (operator o) e = refl
   node_steps path zero op (with_child f t) e = refl
   node_steps path zero op (with_name f n) e = refl
@@ -54,7 +47,7 @@ module _ (def : Definition) where
   below_at : (t : Fragment) (k : ℕ) (u : Fragment) → slice_get (children_of u) k ≡ Some t → WideTree def t → WideBelow def u
   below_at t k (hole p) s w = absurd (cc)
   below_at t k (ending l u) s w = absurd (cc)
-  below_at t zero (cell l e r) s w = inl (subst (WideTree def) (sym (same_some e t s)) w)
+  below_at t zero (cell l e r) s w = inl (subst (WideTree def) (sym (same_Some e t s)) w)
   below_at t (suc k) (cell l e r) s w = inr (below_at t k r s w)
   below_at t k (operator o) s w = absurd (cc)
   below_at t k (with_child f c) s w =
@@ -62,7 +55,7 @@ module _ (def : Definition) where
       let l : k < length (children_of f ++ c ∷ []) = slice_get_within (children_of f ++ c ∷ []) k t s in
       elim (eqb_tells (length (children_of f)) k) [
         | inl q ↦
-            let d : c ≡ t = same_some c t (sym (got_last c (children_of f)) ∙ ap (slice_get (children_of f ++ c ∷ [])) q.1 ∙ s) in
+            let d : c ≡ t = same_Some c t (sym (slice_get-end (children_of f) c) ∙ ap (slice_get (children_of f ++ c ∷ [])) q.1 ∙ s) in
             inr (subst (WideTree def) (sym d) w)
         | inr q ↦
             let m : k < length (children_of f) = omega (arith, n, l, q.1) in
@@ -80,7 +73,7 @@ module _ (def : Definition) where
     below_split : (k : ℕ) (u : Fragment) → slice_get (children_of u) k ≡ Some t → WideBelow def (change_child g k u) → WideTree def (g t) ⊎ WideBelow def u
     below_split k (hole p) s w = absurd w
     below_split k (ending l u) s w = absurd w
-    below_split zero (cell l e r) s (inl a) = inl (subst (λ z. WideTree def (g z)) (same_some e t s) a)
+    below_split zero (cell l e r) s (inl a) = inl (subst (λ z. WideTree def (g z)) (same_Some e t s) a)
     below_split zero (cell l e r) s (inr b) = inr (inr b)
     below_split (suc k) (cell l e r) s (inl a) = inr (inl a)
     below_split (suc k) (cell l e r) s (inr b) = elim (below_split k r s b) [ inl x ↦ inl x | inr y ↦ inr (inr y) ]
@@ -90,7 +83,7 @@ module _ (def : Definition) where
         let l : k < length (children_of f ++ c ∷ []) = slice_get_within (children_of f ++ c ∷ []) k t s in
         elim (eqb_tells (length (children_of f)) k) [
           | inl q ↦
-              let d : c ≡ t = same_some c t (sym (got_last c (children_of f)) ∙ ap (slice_get (children_of f ++ c ∷ [])) q.1 ∙ s) in
+              let d : c ≡ t = same_Some c t (sym (slice_get-end (children_of f) c) ∙ ap (slice_get (children_of f ++ c ∷ [])) q.1 ∙ s) in
               let v : WideBelow def f ⊎ WideTree def (g c) = subst (λ b. WideBelow def (cond b (with_child f (g c)) (with_child (change_child g k f) c))) q.0 w in
               elim v [ inl x ↦ inr (inl x) | inr y ↦ inl (subst (λ z. WideTree def (g z)) d y) ]
           | inr q ↦
@@ -109,19 +102,19 @@ module _ (def : Definition) where
 
   -- ---- an element of a list
 
-  module _ (l : ℕ) (rest : Known) (path : Path) where
+  module _ (l : ℕ) (rest : SummaryParts) (path : Path) where
     -- the cells up to an element, and the list after it
-    lists_split : (g : Fragment → Fragment) (t : Fragment) (before : List Known) (u : Fragment) → IsElement def l before rest u t
-        → ListPasses def (change_child g (length before) u) → Passing def (climb_steps_at def path (length before) (change_child g (length before) u)) ⊎ ListPasses def u
+    lists_split : (g : Fragment → Fragment) (t : Fragment) (before : List SummaryParts) (u : Fragment) → IsElement def l before rest u t
+        → ListPasses def (change_child g (length before) u) → Passing def (steps_at def path (length before) (change_child g (length before) u)) ⊎ ListPasses def u
     lists_split g t [] (cell m e r) h (inl a) = inr (inl a)
     lists_split g t [] (cell m e r) h (inr b) = inl (own_to def path (cell m (g e) r) b)
     lists_split g t (s ∷ before) (cell m e r) (a, b, c) (inl x) = elim (lists_split g t before r c x) [
-      | inl y ↦ inl (passing_left def (climb_steps_at def path (length before) (change_child g (length before) r))
+      | inl y ↦ inl (passing_left def (steps_at def path (length before) (change_child g (length before) r))
           (own_steps def path (cell m e (change_child g (length before) r))) y)
       | inr z ↦ inr (inl z)
     ]
     lists_split g t (s ∷ before) (cell m e r) (a, b, c) (inr x) =
-        inl (passing_right def (climb_steps_at def path (length before) (change_child g (length before) r))
+        inl (passing_right def (steps_at def path (length before) (change_child g (length before) r))
         (own_steps def path (cell m e (change_child g (length before) r))) (own_to def path (cell m e (change_child g (length before) r)) x))
     lists_split g t [] (hole p) h w = absurd h
     lists_split g t [] (ending m u) h w = absurd h
@@ -143,10 +136,10 @@ module _ (def : Definition) where
     lists_split g t (s ∷ before) (observed f) h w = absurd h
 
     -- a step of a climb from the element is one of the list's cells
-    lists_climb : (t : Fragment) (before : List Known) (u : Fragment) → IsElement def l before rest u t → Passing def (climb_steps_at def path (length before) u) → ListPasses def u
+    lists_climb : (t : Fragment) (before : List SummaryParts) (u : Fragment) → IsElement def l before rest u t → Passing def (steps_at def path (length before) u) → ListPasses def u
     lists_climb t [] (cell m e r) h w = inr (own_from def path (cell m e r) w)
     lists_climb t (s ∷ before) (cell m e r) (a, b, c) w =
-        elim (passing_either def (climb_steps_at def path (length before) r) (own_steps def path (cell m e r)) w) [
+        elim (passing_either def (steps_at def path (length before) r) (own_steps def path (cell m e r)) w) [
           | inl x ↦ inl (lists_climb t before r c x)
           | inr y ↦ inr (own_from def path (cell m e r) y)
         ]
@@ -174,7 +167,7 @@ module _ (def : Definition) where
   IsCell (cell l e r) = Unit {0}
   IsCell _ = ⊥
 
-  element_cell : (l : ℕ) (before : List Known) (rest : Known) (u t : Fragment) → IsElement def l before rest u t → IsCell u
+  element_cell : (l : ℕ) (before : List SummaryParts) (rest : SummaryParts) (u t : Fragment) → IsElement def l before rest u t → IsCell u
   element_cell l [] rest (cell m e r) t h = tt
   element_cell l (s ∷ before) rest (cell m e r) t h = tt
   element_cell l [] rest (hole p) t h = absurd h
@@ -237,7 +230,7 @@ module _ (def : Definition) where
   changed_cell g k anything h = absurd h
   changed_cell g k (observed f) h = absurd h
 
-  element_child : (l : ℕ) (before : List Known) (rest : Known) (t u : Fragment) → IsElement def l before rest u t → slice_get (children_of u) (length before) ≡ Some t
+  element_child : (l : ℕ) (before : List SummaryParts) (rest : SummaryParts) (t u : Fragment) → IsElement def l before rest u t → slice_get (children_of u) (length before) ≡ Some t
   element_child l [] rest t (cell m e r) (a, b, c) = ap Some b
   element_child l (s ∷ before) rest t (cell m e r) (a, b, c) = element_child l before rest t r c
   element_child l [] rest t (hole p) h = absurd h
@@ -281,16 +274,16 @@ module _ (def : Definition) where
       cell_wide u (element_cell list before rest u t element) (inl (below_at t (length before) u (element_child list before rest t u element) w))
 
   -- a step of a climb is one of the node
-  pub frame_climb : (path : Path) (frame : Frame) (k : ℕ) (u t : Fragment) → IsFrame def frame k u t → Passing def (climb_steps_at def path k u) → WideTree def u
+  pub frame_climb : (path : Path) (frame : Frame) (k : ℕ) (u t : Fragment) → IsFrame def frame k u t → Passing def (steps_at def path k u) → WideTree def u
   frame_climb path (frames.Op op names children hot) k u t (node, at, child, but) w =
       node_wide def u [] node.parts (inr (own_from def path u (subst (Passing def) (node_steps path k op u node.top) w)))
   frame_climb path (frames.Elem list before rest) k u t (at, element) w =
       cell_wide u (element_cell list before rest u t element)
-      (inr (lists_climb list rest path t before u element (subst (λ n. Passing def (climb_steps_at def path n u)) at w)))
+      (inr (lists_climb list rest path t before u element (subst (λ n. Passing def (steps_at def path n u)) at w)))
 
   -- with another child, a step of the child passes, or one of the climb, or one that was there before
   pub frame_split : (path : Path) (g : Fragment → Fragment) (frame : Frame) (k : ℕ) (u t : Fragment) → IsFrame def frame k u t → WideTree def (change_child g k u)
-      → WideTree def (g t) ⊎ (Passing def (climb_steps_at def path k (change_child g k u)) ⊎ WideTree def u)
+      → WideTree def (g t) ⊎ (Passing def (steps_at def path k (change_child g k u)) ⊎ WideTree def u)
   frame_split path g (frames.Op op names children hot) k u t (node, at, child, but) w =
       let (new, at2, child2, but2) = frame_new g (frames.Op op names children hot) k u t (node, at, child, but) in
       elim (node_parts def (change_child g k u) [] new.parts w) [
@@ -306,7 +299,7 @@ module _ (def : Definition) where
           | inr b ↦ inr (inr (cell_wide u is (inl b)))
         ]
         | inr y ↦ elim (lists_split list rest path g t before u element y) [
-          | inl a ↦ inr (inl (subst (λ n. Passing def (climb_steps_at def path n (change_child g n u))) (sym at) a))
+          | inl a ↦ inr (inl (subst (λ n. Passing def (steps_at def path n (change_child g n u))) (sym at) a))
           | inr b ↦ inr (inr (cell_wide u is (inr b)))
         ]
       ]

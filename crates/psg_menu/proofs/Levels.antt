@@ -1,10 +1,11 @@
 -- The summaries at a node of the way, one for each candidate, and those of the node above it.
 use Rattle.std.proofs.Common.{◌≡◌, ℕ, zero, suc, ◌+◌, ◌<◌, Bool, true, false, List, [], ◌∷◌, ◌++◌, take, get_or, length, bytes_eq, Some, slice_get, refl, ap, sym, ◌∙◌, subst, true≢false, arith}
+use Rattle.std.proofs.lemmas.Option.{slice_get_within}
+use Rattle.psg_terms.proofs.Lists.{take_item, each_at}
 use Rattle.std.specs.List.{list_any, AllByRecursion}
 use Rattle.std.specs.Prelude.{Result, Ok, Err}
 use Rattle.psg_terms.specs.Names.{Name}
 use Rattle.psg_terms.specs.Relations.{IsIn, first, later}
-use Rattle.psg_terms.proofs.DeclareLaws.{take-next}
 use Rattle.psg_grammar.specs.declared.types.Kind.{Kind}
 use Rattle.psg_grammar.specs.declared.types.Kind.TheVariants as kinds
 use Rattle.psg_grammar.specs.declared.types.Definition.{Definition}
@@ -20,7 +21,7 @@ use Rattle.psg_eval.specs.declared.question.FocusFault.{FocusFault}
 use Rattle.psg_eval.specs.declared.question.FocusFault.TheVariants as questions
 use Rattle.psg_eval.specs.declared.summary.EvalFault.{EvalFault}
 use Rattle.psg_eval.specs.declared.summary.EvalFault.TheVariants as faults
-use Rattle.psg_eval.specs.declared.summary.Known.{Known}
+use Rattle.psg_eval.specs.declared.summary.SummaryParts.{SummaryParts}
 use Rattle.psg_eval.specs.Renamed.{IsRenamed}
 use Rattle.psg_menu.specs.declared.sharing.Entry.{Entry}
 use Rattle.psg_menu.specs.declared.sharing.Level.{Level}
@@ -29,18 +30,6 @@ use Rattle.psg_menu.proofs.FormedTrials.{empty, empty_usual}
 use Rattle.psg_menu.proofs.SharedWay.{parted, stands_fail, stands_next}
 
 -- ---- lists
-
-pub each_got : {X : Type 0} (P : X → Type 0) (xs : List X) (k : ℕ) (x : X) → AllByRecursion P xs → slice_get xs k ≡ Some x → P x
-each_got P [] k x h e = absurd (cc)
-each_got P (y ∷ xs) zero x h e =
-    let d : y ≡ x = cc in
-    subst P d h.0
-each_got P (y ∷ xs) (suc k) x h e = each_got P xs k x h.1 e
-
-pub got_within : {X : Type 0} (xs : List X) (k : ℕ) (x : X) → slice_get xs k ≡ Some x → k < length xs
-got_within [] k x e = absurd (cc)
-got_within (y ∷ xs) zero x e = omega arith
-got_within (y ∷ xs) (suc k) x e = let h = got_within xs k x e in omega (arith, h)
 
 pub name_got : (P : Name → Type 0) (ns : List Name) (i : ℕ) (n : Name) → i < length ns → n ≡ get_or ns i n → AllByRecursion P ns → P n
 name_got P [] i n l e h = absurd (omega (arith, l))
@@ -58,7 +47,7 @@ Grows old new = (k : ℕ) (e : Entry) → slice_get old k ≡ Some e → slice_g
 
 -- ---- a place for each candidate
 
-module _ (def : Definition) (o : ℕ) (below : List Known) (star : Name) (done : List Rise) where
+module _ (def : Definition) (o : ℕ) (below : List SummaryParts) (star : Name) (done : List Rise) where
   placed_grow : (old new : List Entry) → Grows old new → (ns : List Name) (ks : List ℕ) → ArePlaced def o below star done old ns ks → ArePlaced def o below star done new ns ks
   placed_grow old new grows [] [] h = tt
   placed_grow old new grows [] (k ∷ ks) h = absurd h
@@ -88,7 +77,7 @@ module _ (def : Definition) (o : ℕ) (below : List Known) (star : Name) (done :
   pub place_within : (entries : List Entry) (ns : List Name) (ks : List ℕ) (i : ℕ) → i < length ns → ArePlaced def o below star done entries ns ks → get_or ks i 0 < length entries
   place_within entries [] ks i l h = absurd (omega (arith, l))
   place_within entries (m ∷ ns) [] i l h = absurd h
-  place_within entries (m ∷ ns) (k ∷ ks) zero l ((e, at, stands), h) = got_within entries k e at
+  place_within entries (m ∷ ns) (k ∷ ks) zero l ((e, at, stands), h) = slice_get_within entries k e at
   place_within entries (m ∷ ns) (k ∷ ks) (suc i) l (one, h) = place_within entries ns ks i (omega (arith, l)) h
 
 -- ---- the candidates one after another
@@ -96,7 +85,7 @@ module _ (def : Definition) (o : ℕ) (below : List Known) (star : Name) (done :
 module _ (def : Definition) (rise : Rise) (star : Name) (candidates : List Name) (level : Level) where
   -- the entries above, with a place for each of these candidates
   abbrev pub AreSoFar : List Entry → List Name → List ℕ → Type 0
-  AreSoFar entries ns ks = (o : ℕ) (below : List Known) (done : List Rise) (kind up : Kind) → AreApart below star candidates → CanRise def rise kind up
+  AreSoFar entries ns ks = (o : ℕ) (below : List SummaryParts) (done : List Rise) (kind up : Kind) → AreApart below star candidates → CanRise def rise kind up
       → IsLevel def o below star done kind candidates level
       → AllByRecursion (λ (e : Entry). IsUsual def up e.own) entries × ArePlaced def o below star (rise ∷ done) entries ns ks
 
@@ -121,7 +110,7 @@ module _ (def : Definition) (sound : IsSound def) where
 
   -- ---- a kind with a summary
 
-  some_above : (rise : Rise) (kind up : Kind) → CanRise def rise kind up → (s : Known) × IsUsual def kind s → (s : Known) × IsUsual def up s
+  some_above : (rise : Rise) (kind up : Kind) → CanRise def rise kind up → (s : SummaryParts) × IsUsual def kind s → (s : SummaryParts) × IsUsual def up s
   some_above (of_node op names children hot) kind up can (s, is) =
       let (inside, silent, takes, o, found, same) = can s is.usual is.of_kind in
       (empty def o.phylum, record { usual = empty_usual def o.phylum (phylum_in def sound op o found); of_kind = sym same; silent = refl })
@@ -137,20 +126,20 @@ module _ (def : Definition) (sound : IsSound def) where
   no_key : (h : Header) (n : Name) → h.names ≡ [] → has_key h n ≡ false
   no_key h n e = ap (list_any (λ (c : NameCol). bytes_eq c.name n)) e
 
-  pub no_keys : (n star : Name) (ss : List Known) → AllByRecursion (λ (s : Known). s.header.names ≡ []) ss
-      → AllByRecursion (λ (s : Known). (has_key s.header n ≡ false) × (has_key s.header star ≡ false)) ss
+  pub no_keys : (n star : Name) (ss : List SummaryParts) → AllByRecursion (λ (s : SummaryParts). s.header.names ≡ []) ss
+      → AllByRecursion (λ (s : SummaryParts). (has_key s.header n ≡ false) × (has_key s.header star ≡ false)) ss
   no_keys n star [] h = tt
   no_keys n star (s ∷ ss) (one, h) = ((no_key s.header n one, no_key s.header star one), no_keys n star ss h)
 
-  module _ (o : ℕ) (below : List Known) (star : Name) (candidates : List Name) (apart : AreApart below star candidates) (done : List Rise) (rise : Rise) where
+  module _ (o : ℕ) (below : List SummaryParts) (star : Name) (candidates : List Name) (apart : AreApart below star candidates) (done : List Rise) (rise : Rise) where
     module _ (n : Name) (other : bytes_eq n star ≡ false) (some_n : bytes_eq n [] ≡ false) (old : Entry) (silent : old.own.seen ≡ 0)
         (stands : StandsAs def o below star n done old.shared old.own) where
-      abbrev After : Bool → Result Known EvalFault → Type 0
+      abbrev After : Bool → Result SummaryParts EvalFault → Type 0
       After b (Ok s) = StandsAs def o below star n (rise ∷ done) b s
       After b (Err (faults.Wide step)) = (u t : Fragment) → Leads def (rise ∷ done) u t → IsNamed def o below n t → OwnFails def u
       After b (Err faults.Memory) = Unit {0}
 
-      after_straight : (result : Result Known EvalFault) → (old.shared ≡ true → (meets rise n ≡ false) × (meets rise star ≡ false)) → IsRaised def rise old.own result → After old.shared result
+      after_straight : (result : Result SummaryParts EvalFault) → (old.shared ≡ true → (meets rise n ≡ false) × (meets rise star ≡ false)) → IsRaised def rise old.own result → After old.shared result
       after_straight (Ok s) unmet raised =
           stands_next def sound light n star other some_n apart.some o below (no_keys n star below apart.quiet) old.shared done rise old.own s unmet raised stands
       after_straight (Err (faults.Wide step)) unmet raised =
@@ -160,7 +149,7 @@ module _ (def : Definition) (sound : IsSound def) where
       never : {X : Type 0} → ◌≡◌ {A = Bool} false true → X
       never e = absurd (true≢false (sym e))
 
-      after_parting : (own : Known) (result : Result Known EvalFault) → old.shared ≡ true → has_key old.own.header n ≡ false → IsRenamed def star n old.own own → IsRaised def rise own result → After false result
+      after_parting : (own : SummaryParts) (result : Result SummaryParts EvalFault) → old.shared ≡ true → has_key old.own.header n ≡ false → IsRenamed def star n old.own own → IsRaised def rise own result → After false result
       after_parting own (Ok s) shared fresh made raised =
           stands_next def sound light n star other some_n apart.some o below (no_keys n star below apart.quiet) false done rise own s never raised
           (parted def sound light n star other some_n apart.some o below (no_keys n star below apart.quiet) done old.own own silent fresh made
@@ -171,7 +160,7 @@ module _ (def : Definition) (sound : IsSound def) where
           (subst (λ b. StandsAs def o below star n done b old.own) shared stands))
       after_parting own (Err faults.Memory) shared fresh made raised = tt
 
-      after : {b : Bool} {result : Result Known EvalFault} → GoesOn def rise star n old b result → After b result
+      after : {b : Bool} {result : Result SummaryParts EvalFault} → GoesOn def rise star n old b result → After b result
       after (straight result unmet raised) = after_straight result unmet raised
       after (parting own result shared fresh made raised) = after_parting own result shared fresh made raised
 
@@ -193,20 +182,20 @@ module _ (def : Definition) (sound : IsSound def) where
       more_so_far old new ks grown to h grows usual said more o below done kind up apart can is =
           let (all, placed) = h o below done kind up apart can is in
           let (e, here, stands) = placed_at def o below star done level.entries.items candidates level.places.items i n l at is.placed in
-          let mine = each_got (λ (x : Entry). IsUsual def kind x.own) level.entries.items (get_or level.places.items i 0) e is.usual here in
+          let mine = each_at (λ (x : Entry). IsUsual def kind x.own) level.entries.items is.usual (get_or level.places.items i 0) e here in
           let (other, some_n) = name_got (λ m. (bytes_eq m star ≡ false) × (bytes_eq m [] ≡ false)) candidates i n l at apart.others in
           let next = placed_next o below star candidates apart done rise n other some_n e mine.silent stands new to (said e here) in (
             usual kind up can is.usual all,
-            subst (λ ns. ArePlaced def o below star (rise ∷ done) new ns grown) (sym (take-next candidates i n l at))
+            subst (λ ns. ArePlaced def o below star (rise ∷ done) new ns grown) (sym (take_item candidates i n l at))
                 (subst (ArePlaced def o below star (rise ∷ done) new (take i candidates ++ n ∷ [])) (sym more)
                 (placed_more def o below star (rise ∷ done) new (take i candidates) ks n to (placed_grow def o below star (rise ∷ done) old new grows (take i candidates) ks placed) next)),
           )
 
-      pub said_fault : (new : List Entry) (fault : FocusFault) → IsSaid def rise star candidates level i n new (Err fault) → (o : ℕ) (below : List Known) (done : List Rise) (kind up : Kind) → AreApart below star candidates
+      pub said_fault : (new : List Entry) (fault : FocusFault) → IsSaid def rise star candidates level i n new (Err fault) → (o : ℕ) (below : List SummaryParts) (done : List Rise) (kind up : Kind) → AreApart below star candidates
           → CanRise def rise kind up → IsLevel def o below star done kind candidates level → IsLevelAnswer def o below star candidates (rise ∷ done) up (Err fault)
       said_fault new fault said o below done kind up apart can is =
           let (e, here, stands) = placed_at def o below star done level.entries.items candidates level.places.items i n l at is.placed in
-          let mine = each_got (λ (x : Entry). IsUsual def kind x.own) level.entries.items (get_or level.places.items i 0) e is.usual here in
+          let mine = each_at (λ (x : Entry). IsUsual def kind x.own) level.entries.items is.usual (get_or level.places.items i 0) e here in
           let (other, some_n) = name_got (λ m. (bytes_eq m star ≡ false) × (bytes_eq m [] ≡ false)) candidates i n l at apart.others in
           fault_next o below star candidates apart done rise n other some_n e mine.silent stands new up fault (name_in candidates i n l at) (said e here)
 
@@ -216,7 +205,7 @@ module _ (def : Definition) (sound : IsSound def) where
     take_all (x ∷ xs) zero e = absurd (omega (arith, e))
     take_all (x ∷ xs) (suc i) e = ap (λ ys. x ∷ ys) (take_all xs i (omega (arith, e)))
 
-    pub all_so_far : (new : Level) (i : ℕ) → i ≡ length candidates → AreSoFar def rise star candidates level new.entries.items (take i candidates) new.places.items → (o : ℕ) (below : List Known) (done : List Rise) (kind up : Kind)
+    pub all_so_far : (new : Level) (i : ℕ) → i ≡ length candidates → AreSoFar def rise star candidates level new.entries.items (take i candidates) new.places.items → (o : ℕ) (below : List SummaryParts) (done : List Rise) (kind up : Kind)
         → AreApart below star candidates → CanRise def rise kind up → IsLevel def o below star done kind candidates level → IsLevel def o below star (rise ∷ done) up candidates new
     all_so_far new i end h o below done kind up apart can is =
         let (all, placed) = h o below done kind up apart can is in

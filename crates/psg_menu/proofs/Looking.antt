@@ -1,8 +1,9 @@
 -- Whether something of a list passes a test, by a walk.
 use Rattle.std.proofs.Common.{◌≡◌, ◌↔◌, ℕ, zero, suc, ◌+◌, ◌<◌, Bool, true, false, ◌||◌, List, [], ◌∷◌, drop, get_or, length, bytes_eq, refl, ap, sym, ◌∙◌, subst, IsTrue, arith}
+use Rattle.std.specs.Cmp.{both_ways}
 use Rattle.std.specs.List.{list_any}
 use Rattle.psg_terms.specs.Names.{Name, is_among}
-use Rattle.psg_scope.proofs.KeyLists.{both_ways, key_is, key_refl}
+use Rattle.psg_scope.proofs.KeyLists.{key_is, key_refl}
 
 pub same_name : (b : Bool) (m n : Name) → (IsTrue b ↔ (m ≡ n)) → bytes_eq m n ≡ b
 same_name b m n tells = both_ways (bytes_eq m n) b (λ e. tells.1 (key_is m n e)) (λ e. subst (λ k. bytes_eq m k ≡ true) (tells.0 e) (key_refl m))

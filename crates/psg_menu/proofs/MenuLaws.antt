@@ -7,9 +7,10 @@ use Rattle.std.specs.declared.alloc.Global.{Global}
 use Rattle.std.proofs.lemmas.Bool.{cases_Bool}
 use Rattle.std.proofs.lemmas.Bool.Decides.{eqb_tells}
 use Rattle.std.proofs.lemmas.List.Sums.{sum_by-cons}
+use Rattle.psg_terms.proofs.Lists.{take_item, in_either}
 use Rattle.psg_terms.specs.Names.{Name, is_among}
 use Rattle.psg_terms.specs.Relations.{IsIn, first, later}
-use Rattle.psg_terms.proofs.DeclareLaws.{bytes_eq-same, take-next}
+use Rattle.psg_terms.proofs.DeclareLaws.{bytes_eq-same}
 use Rattle.psg_grammar.specs.declared.types.Kind.{Kind}
 use Rattle.psg_grammar.specs.declared.types.Kind.TheVariants as kinds
 use Rattle.psg_grammar.specs.declared.types.Item.{Item}
@@ -40,7 +41,7 @@ use Rattle.psg_menu.specs.Menus.{AreUsed, IsChoosable, IsFreshTrial, operators_f
 use Rattle.psg_menu.specs.Trials.{AreNamedLeaves, AreNewWords, IsBlanksAnswer, IsOffered, IsTried}
 use Rattle.psg_menu.proofs.NewTrees.{blank_wide, leaves_there, new_blank}
 use Rattle.psg_menu.proofs.TrialPlaces.{placed}
-use Rattle.psg_menu.proofs.WideTrees.{in_either, wide_to}
+use Rattle.psg_menu.proofs.WideTrees.{wide_to}
 
 -- ---- new names
 
@@ -159,7 +160,7 @@ module _ (def : Definition) where
     chooses_taken ops i o found new l at h offered grown f path k stand all =
         let (so_far, narrow) = h f path k stand all in
         let (same, thin) = offered f path k stand all in
-        subst (λ os. Chosen (IsChoosable def f path k (IsOpen def)) os new × ((IsWide def f → ⊥) → HasWideTrialOf def (IsOpen def) f path k os → ⊥)) (sym (take-next ops i o l at)) (
+        subst (λ os. Chosen (IsChoosable def f path k (IsOpen def)) os new × ((IsWide def f → ⊥) → HasWideTrialOf def (IsOpen def) f path k os → ⊥)) (sym (take_item ops i o l at)) (
           subst (Chosen (IsChoosable def f path k (IsOpen def)) (take i ops ++ o ∷ [])) (sym grown)
               (chosen_taken (IsChoosable def f path k (IsOpen def)) (take i ops) found o so_far (same.0 refl)),
           still f path k (take i ops) o narrow thin,
@@ -170,7 +171,7 @@ module _ (def : Definition) where
     chooses_passed ops i o found l at h offered f path k stand all =
         let (so_far, narrow) = h f path k stand all in
         let (same, thin) = offered f path k stand all in
-        subst (λ os. Chosen (IsChoosable def f path k (IsOpen def)) os found × ((IsWide def f → ⊥) → HasWideTrialOf def (IsOpen def) f path k os → ⊥)) (sym (take-next ops i o l at)) (
+        subst (λ os. Chosen (IsChoosable def f path k (IsOpen def)) os found × ((IsWide def f → ⊥) → HasWideTrialOf def (IsOpen def) f path k os → ⊥)) (sym (take_item ops i o l at)) (
           chosen_passed (IsChoosable def f path k (IsOpen def)) (take i ops) found o so_far (λ c. true≢false (sym (same.1 c))),
           still f path k (take i ops) o narrow thin,
         )

@@ -1,5 +1,6 @@
 -- How a candidate's summary goes on over a rung.
 use Rattle.std.proofs.Common.{◌≡◌, ℕ, zero, suc, ◌+◌, ◌<◌, Bool, true, false, List, [], ◌∷◌, ◌++◌, get_or, length, Option, Some, slice_get, refl, ap, sym, ◌∙◌, subst, arith}
+use Rattle.psg_terms.proofs.Lists.{each_in}
 use Rattle.std.specs.List.{AllByRecursion}
 use Rattle.std.specs.Prelude.{IfOk, Result, Ok, Err}
 use Rattle.psg_terms.specs.Names.{Name}
@@ -10,7 +11,7 @@ use Rattle.psg_eval.specs.declared.question.FocusFault.{FocusFault}
 use Rattle.psg_eval.specs.declared.question.FocusFault.TheVariants as questions
 use Rattle.psg_eval.specs.declared.summary.EvalFault.{EvalFault}
 use Rattle.psg_eval.specs.declared.summary.EvalFault.TheVariants as faults
-use Rattle.psg_eval.specs.declared.summary.Known.{Known}
+use Rattle.psg_eval.specs.declared.summary.SummaryParts.{SummaryParts}
 use Rattle.psg_eval.specs.Questions.{IsAsked}
 use Rattle.psg_eval.specs.Renamed.{IsRenamed}
 use Rattle.psg_menu.specs.declared.sharing.Entry.{Entry}
@@ -18,7 +19,7 @@ use Rattle.psg_menu.specs.declared.sharing.Move.{Move}
 use Rattle.psg_scope.specs.declared.header.Header.{Header}
 use Rattle.psg_eval.specs.Summaries.{IsSummary}
 use Rattle.psg_menu.specs.Sharing.{Rise, CanRise, GoesOn, straight, parting, IsMove, IsPut, IsRaised, IsRaisedFrom, IsUsual, TakesRise, has_key, meets}
-use Rattle.psg_menu.proofs.TrialLaws.{asked_if, asked_ok, asked_wide, each_in}
+use Rattle.psg_menu.proofs.TrialLaws.{asked_if, asked_ok, asked_wide}
 
 pub same_entry : (xs : List Entry) (i : ℕ) (x y : Entry) → slice_get xs i ≡ Some x → y ≡ get_or xs i y → y ≡ x
 same_entry [] i x y e d = absurd (cc)
@@ -47,30 +48,30 @@ move_found (m ∷ moves) (suc i) from d l e =
     (x, later there, a, b)
 
 -- no key has the name
-pub key_free : (h : Header) (own : Known) (n : Name) (b : Bool) → h ≡ own.header → b ≡ has_key h n → b ≡ false → has_key own.header n ≡ false
+pub key_free : (h : Header) (own : SummaryParts) (n : Name) (b : Bool) → h ≡ own.header → b ≡ has_key h n → b ≡ false → has_key own.header n ≡ false
 key_free h own n b e r f = ap (λ x. has_key x n) (sym e) ∙ sym r ∙ f
 
 -- a summary under another name is as usual as the old one
-pub renamed_usual : (def : Definition) (kind : Kind) (star n : Name) (old own : Known) → IsUsual def kind old → IsRenamed def star n old own → IsSummary def own → IsUsual def kind own
+pub renamed_usual : (def : Definition) (kind : Kind) (star n : Name) (old own : SummaryParts) → IsUsual def kind old → IsRenamed def star n old own → IsSummary def own → IsUsual def kind own
 renamed_usual def kind star n old own u r s = record { usual = s; of_kind = r.kind ∙ u.of_kind; silent = r.seen ∙ u.silent }
 
 module _ (def : Definition) (rise : Rise) where
   -- ---- one summary
 
-  pub raised_usual : (kind up : Kind) (own next : Known) (made : Result Known EvalFault) → CanRise def rise kind up → IsUsual def kind own → IfOk made (IsSummary def)
-      → IfOk made (λ (s : Known). (above : Kind) → TakesRise def rise own above → s.kind ≡ above) → IfOk made (λ (s : Known). s.seen ≡ own.seen) → IsAsked made (Ok next) → IsUsual def up next
+  pub raised_usual : (kind up : Kind) (own next : SummaryParts) (made : Result SummaryParts EvalFault) → CanRise def rise kind up → IsUsual def kind own → IfOk made (IsSummary def)
+      → IfOk made (λ (s : SummaryParts). (above : Kind) → TakesRise def rise own above → s.kind ≡ above) → IfOk made (λ (s : SummaryParts). s.seen ≡ own.seen) → IsAsked made (Ok next) → IsUsual def up next
   raised_usual kind up own next made can u summary kinds seen asked = record {
     usual = asked_if made next (IsSummary def) summary asked;
-    of_kind = asked_if made next (λ (s : Known). (above : Kind) → TakesRise def rise own above → s.kind ≡ above) kinds asked up (can own u.usual u.of_kind);
-    silent = asked_if made next (λ (s : Known). s.seen ≡ own.seen) seen asked ∙ u.silent;
+    of_kind = asked_if made next (λ (s : SummaryParts). (above : Kind) → TakesRise def rise own above → s.kind ≡ above) kinds asked up (can own u.usual u.of_kind);
+    silent = asked_if made next (λ (s : SummaryParts). s.seen ≡ own.seen) seen asked ∙ u.silent;
   }
 
-  pub put_ok : (own next : Known) (shared : Bool) (above : List Entry) (to : ℕ) (made : Result Known EvalFault) → IsRaised def rise own made → IsAsked made (Ok next)
+  pub put_ok : (own next : SummaryParts) (shared : Bool) (above : List Entry) (to : ℕ) (made : Result SummaryParts EvalFault) → IsRaised def rise own made → IsAsked made (Ok next)
       → slice_get above to ≡ Some (record { own = next; shared = shared }) → IsPut def rise own shared above (Ok to)
   put_ok own next shared above to made raised asked at =
       (record { own = next; shared = shared }, at, refl, asked_ok made next (λ r. IsRaised def rise own r) raised asked)
 
-  pub put_fault : (own : Known) (shared : Bool) (above : List Entry) (fault : FocusFault) (made : Result Known EvalFault) → IsRaised def rise own made → IsAsked made (Err fault)
+  pub put_fault : (own : SummaryParts) (shared : Bool) (above : List Entry) (fault : FocusFault) (made : Result SummaryParts EvalFault) → IsRaised def rise own made → IsAsked made (Err fault)
       → IsPut def rise own shared above (Err fault)
   put_fault own shared above questions.Memory made raised asked = tt
   put_fault own shared above questions.Wide made raised asked = asked_wide made (λ r. IsRaised def rise own r) raised asked
@@ -78,7 +79,7 @@ module _ (def : Definition) (rise : Rise) where
   -- ---- one candidate
 
   module _ (star n : Name) (old : Entry) where
-    pub part_put : (own : Known) (above : List Entry) (result : Result ℕ FocusFault) → old.shared ≡ true → has_key old.own.header n ≡ false → IsRenamed def star n old.own own
+    pub part_put : (own : SummaryParts) (above : List Entry) (result : Result ℕ FocusFault) → old.shared ≡ true → has_key old.own.header n ≡ false → IsRenamed def star n old.own own
         → IsPut def rise own false above result → IsRaisedFrom def rise star n old above result
     part_put own above (Ok to) shared fresh made (b, at, same, raised) =
         (b, at, subst (λ x. GoesOn def rise star n old x (Ok b.own)) (sym same) (parting own (Ok b.own) shared fresh made raised))
@@ -112,7 +113,7 @@ module _ (def : Definition) (rise : Rise) where
         → IsRaisedFrom def rise star n old above result
     at_place above result h old here = subst (λ (x : Entry). IsRaisedFrom def rise star n x above result) (same_entry below place old e here at) h
 
-    pub part_at : (own : Known) (above : List Entry) (result : Result ℕ FocusFault) → e.shared ≡ true → has_key e.own.header n ≡ false → IsRenamed def star n e.own own
+    pub part_at : (own : SummaryParts) (above : List Entry) (result : Result ℕ FocusFault) → e.shared ≡ true → has_key e.own.header n ≡ false → IsRenamed def star n e.own own
         → IsPut def rise own false above result → (old : Entry) → slice_get below place ≡ Some old → IsRaisedFrom def rise star n old above result
     part_at own above result shared fresh made put = at_place above result (part_put star n e own above result shared fresh made put)
 

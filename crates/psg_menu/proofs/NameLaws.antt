@@ -4,9 +4,9 @@ use Rattle.std.specs.List.{AllByRecursion}
 use Rattle.std.specs.Prelude.{Result, Ok, Err, Vec}
 use Rattle.std.specs.declared.alloc.Global.{Global}
 use Rattle.std.proofs.lemmas.Bool.{eqb-true, eqb-false}
+use Rattle.psg_terms.proofs.Lists.{take_item, in_either}
 use Rattle.psg_terms.specs.Names.{Name}
 use Rattle.psg_terms.specs.Relations.{IsIn, first, later}
-use Rattle.psg_terms.proofs.DeclareLaws.{take-next}
 use Rattle.psg_grammar.specs.declared.types.Kind.{Kind}
 use Rattle.psg_grammar.specs.declared.types.Kind.TheVariants as kinds
 use Rattle.psg_grammar.specs.declared.types.Operator.{Operator}
@@ -30,7 +30,7 @@ use Rattle.psg_menu.specs.Menus.{HasWideNaming, IsNameable, IsNamedTrial}
 use Rattle.psg_menu.specs.Trials.{AreNamedLeaves, IsBlanksAnswer, IsTried}
 use Rattle.psg_menu.proofs.NewTrees.{blank_wide, leaves_there, new_blank}
 use Rattle.psg_menu.proofs.TrialPlaces.{placed}
-use Rattle.psg_menu.proofs.WideTrees.{in_either, wide_to}
+use Rattle.psg_menu.proofs.WideTrees.{wide_to}
 use Rattle.psg_grammar.specs.Legal.{IsCompletable}
 use Rattle.psg_grammar.specs.WellFormed.{WellFormed}
 use Rattle.psg_completions.specs.Conditions.{HasTrueRows}
@@ -104,7 +104,7 @@ module _ (def : Definition) (around : List Frame) (o : ℕ) where
     names_taken names new copy h tried same grown f path k stand =
         let (so_far, narrow) = h f path k stand in
         let (both, thin) = name_good op found one n is_name f path k stand true tried in
-        subst (λ ns. Chosen (IsNameable def f path k (IsOpen def) o) ns new × ((IsWide def f → ⊥) → HasWideNaming def f path k o ns → ⊥)) (sym (take-next candidates i n l at)) (
+        subst (λ ns. Chosen (IsNameable def f path k (IsOpen def) o) ns new × ((IsWide def f → ⊥) → HasWideNaming def f path k o ns → ⊥)) (sym (take_item candidates i n l at)) (
           subst (Chosen (IsNameable def f path k (IsOpen def) o) (take i candidates ++ n ∷ [])) (sym (grown ∙ ap (λ x. names ++ x ∷ []) same))
               (chosen_taken def (IsNameable def f path k (IsOpen def) o) (take i candidates) names n so_far (both.0 refl)),
           still f path k (take i candidates) n narrow thin,
@@ -114,7 +114,7 @@ module _ (def : Definition) (around : List Frame) (o : ℕ) where
     names_passed names h tried f path k stand =
         let (so_far, narrow) = h f path k stand in
         let (both, thin) = name_good op found one n is_name f path k stand false tried in
-        subst (λ ns. Chosen (IsNameable def f path k (IsOpen def) o) ns names × ((IsWide def f → ⊥) → HasWideNaming def f path k o ns → ⊥)) (sym (take-next candidates i n l at)) (
+        subst (λ ns. Chosen (IsNameable def f path k (IsOpen def) o) ns names × ((IsWide def f → ⊥) → HasWideNaming def f path k o ns → ⊥)) (sym (take_item candidates i n l at)) (
           chosen_passed def (IsNameable def f path k (IsOpen def) o) (take i candidates) names n so_far (λ c. true≢false (sym (both.1 c))),
           still f path k (take i candidates) n narrow thin,
         )

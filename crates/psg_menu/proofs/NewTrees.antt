@@ -15,7 +15,7 @@ use Rattle.psg_grammar.specs.Insertion.{Leaf, a_name, a_number, a_text, AreLeave
 use Rattle.psg_grammar.specs.Kinds.{IsOfKind}
 use Rattle.psg_grammar.specs.Lookups.{items_of, operator_at, part_items}
 use Rattle.psg_grammar.specs.WellFormed.{IsName}
-use Rattle.psg_eval.specs.declared.summary.Known.{Known}
+use Rattle.psg_eval.specs.declared.summary.SummaryParts.{SummaryParts}
 use Rattle.psg_eval.specs.Summaries.{AllSummaries, AreSummariesOf, IsSummary, StaysWithin, TakesAt, are_names, slot_kinds}
 use Rattle.psg_eval.specs.Trees.{HasParts, IsNode, own_names, seen_in}
 use Rattle.psg_renaming.specs.Occurring.{leaf_names}
@@ -150,7 +150,7 @@ module _ (def : Definition) where
 
   -- ---- summaries of blanks
 
-  blank_kind : (k : Kind) (s : Known) → IsOfKind def (blank def k) s.kind → s.kind ≡ k
+  blank_kind : (k : Kind) (s : SummaryParts) → IsOfKind def (blank def k) s.kind → s.kind ≡ k
   blank_kind (kinds.Phylum p) s h = h
   blank_kind (kinds.List l) s h = h
 
@@ -158,25 +158,25 @@ module _ (def : Definition) where
   blank_seen (kinds.Phylum p) = refl
   blank_seen (kinds.List l) = refl
 
-  pub blanks_kinds : (ks : List Kind) (ss : List Known) → AreBlanks def ks ss → map (λ (s : Known). s.kind) ss ≡ ks
+  pub blanks_kinds : (ks : List Kind) (ss : List SummaryParts) → AreBlanks def ks ss → map (λ (s : SummaryParts). s.kind) ss ≡ ks
   blanks_kinds [] [] h = refl
   blanks_kinds [] (s ∷ ss) h = absurd h
   blanks_kinds (k ∷ ks) [] h = absurd h
   blanks_kinds (k ∷ ks) (s ∷ ss) (one, more) = ap₂ (λ a b. a ∷ b) (blank_kind k s one.of.kind) (blanks_kinds ks ss more)
 
-  pub blanks_usual : (ks : List Kind) (ss : List Known) → AreBlanks def ks ss → AllByRecursion (IsSummary def) ss
+  pub blanks_usual : (ks : List Kind) (ss : List SummaryParts) → AreBlanks def ks ss → AllByRecursion (IsSummary def) ss
   blanks_usual [] [] h = tt
   blanks_usual [] (s ∷ ss) h = absurd h
   blanks_usual (k ∷ ks) [] h = absurd h
   blanks_usual (k ∷ ks) (s ∷ ss) (one, more) = (one.usual, blanks_usual ks ss more)
 
-  pub blanks_all : (ks : List Kind) (ss : List Known) → AreBlanks def ks ss → AllSummaries def (blanks ks) ss
+  pub blanks_all : (ks : List Kind) (ss : List SummaryParts) → AreBlanks def ks ss → AllSummaries def (blanks ks) ss
   blanks_all [] [] h = tt
   blanks_all [] (s ∷ ss) h = absurd h
   blanks_all (k ∷ ks) [] h = absurd h
   blanks_all (k ∷ ks) (s ∷ ss) (one, more) = (one.of, blanks_all ks ss more)
 
-  pub blanks_silent : (ks : List Kind) (ss : List Known) → AreBlanks def ks ss → AllByRecursion (λ (s : Known). s.seen ≡ 0) ss
+  pub blanks_silent : (ks : List Kind) (ss : List SummaryParts) → AreBlanks def ks ss → AllByRecursion (λ (s : SummaryParts). s.seen ≡ 0) ss
   blanks_silent [] [] h = tt
   blanks_silent [] (s ∷ ss) h = absurd h
   blanks_silent (k ∷ ks) [] h = absurd h
@@ -186,7 +186,7 @@ module _ (def : Definition) where
   blank_within (kinds.Phylum p) h (n, l, passes) = h n l passes
   blank_within (kinds.List l) h (n, m, passes) = h n m passes
 
-  blanks_within : (ks : List Kind) (ss : List Known) → AreBlanks def ks ss → WideBlank ks → ⊥
+  blanks_within : (ks : List Kind) (ss : List SummaryParts) → AreBlanks def ks ss → WideBlank ks → ⊥
   blanks_within [] [] h (k, i, w) = elim i [ ]
   blanks_within [] (s ∷ ss) h w = absurd h
   blanks_within (k ∷ ks) [] h w = absurd h
@@ -222,11 +222,11 @@ module _ (def : Definition) where
       own = whole.names ∙ named.named;
     }
 
-    pub new_children : (ss : List Known) → AreBlanks def (slots op.items) ss → AreSummariesOf def fresh ss
+    pub new_children : (ss : List SummaryParts) → AreBlanks def (slots op.items) ss → AreSummariesOf def fresh ss
     new_children ss h = subst (λ cs. AllSummaries def cs ss) (sym (whole.children ∙ ap blanks slots_are)) (blanks_all (slots op.items) ss h)
 
     -- where no step of a blank passes the limit, a step of the node itself does
-    pub new_own : (ss : List Known) → AreBlanks def (slots op.items) ss → WideTree def fresh → OwnPasses def fresh
+    pub new_own : (ss : List SummaryParts) → AreBlanks def (slots op.items) ss → WideTree def fresh → OwnPasses def fresh
     new_own ss h w = elim (node_parts def fresh [] new_node.parts w) [
       | inl a ↦ elim (whole.below a) [
         | inl b ↦ absurd b
@@ -241,7 +241,7 @@ module _ (def : Definition) where
     pub new_blank : WideBlank (slots op.items) → WideTree def fresh
     new_blank h = node_wide def fresh [] new_node.parts (inl (whole.wide (subst WideBlank (sym slots_are) h)))
 
-  pub new_takes : (o : ℕ) (op : Operator) (names : List Name) (ss : List Known) → slice_get def.operators o ≡ Some op → length (are_names def op.items) ≡ length names → AreBlanks def (slots op.items) ss
+  pub new_takes : (o : ℕ) (op : Operator) (names : List Name) (ss : List SummaryParts) → slice_get def.operators o ≡ Some op → length (are_names def op.items) ≡ length names → AreBlanks def (slots op.items) ss
       → TakesAt def o names ss
   new_takes o op names ss found many h =
       (op, found, record { names_fit = many; kinds_fit = blanks_kinds (slots op.items) ss h; summaries = blanks_usual (slots op.items) ss h })

@@ -1,6 +1,6 @@
 -- Where no value is seen, a fragment is open exactly where its relation has a row.
 use Rattle.std.proofs.Common.{◌≡◌, ℕ, ◌+◌, List, [], ◌∷◌, ◌++◌, map, length, refl, sym, ◌∙◌, ap, subst, arith, length-append}
-use Rattle.std.proofs.lemmas.List.{length-map}
+use Rattle.std.proofs.lemmas.List.{length-map, nil_from_length}
 use Rattle.psg_terms.specs.Terms.{Term}
 use Rattle.psg_terms.specs.Relations.{IsIn, first}
 use Rattle.psg_terms.proofs.OneRelation.{instance_sorts, sorts_length}
@@ -10,15 +10,11 @@ use Rattle.psg_grammar.specs.Open.{Choice, IsOpen, Judged}
 use Rattle.psg_grammar.specs.Regions.{names_of}
 use Rattle.psg_grammar.specs.Relations.{IsPossible}
 use Rattle.psg_scope.specs.Headers.{key_of}
-use Rattle.psg_eval.specs.declared.summary.Known.{Known}
+use Rattle.psg_eval.specs.declared.summary.SummaryParts.{SummaryParts}
 use Rattle.psg_eval.specs.Summaries.{IsSummary, IsSummaryOf}
 use Rattle.psg_eval.proofs.PartialSorts.{key_sorts_many}
 
-no_items : {X : Type 0} (xs : List X) → length xs ≡ 0 → xs ≡ []
-no_items [] h = refl
-no_items (x ∷ xs) h = absurd (omega (arith, h))
-
-module _ (def : Definition) (s : Known) (usual : IsSummary def s) (silent : s.seen ≡ 0) (f : Fragment) (is : IsSummaryOf def f s) where
+module _ (def : Definition) (s : SummaryParts) (usual : IsSummary def s) (silent : s.seen ≡ 0) (f : Fragment) (is : IsSummaryOf def f s) where
   abbrev whole_sorts : List ℕ
   whole_sorts = (usual.sort ∷ usual.seen) ++ usual.key_sorts
 
@@ -36,7 +32,7 @@ module _ (def : Definition) (s : Known) (usual : IsSummary def s) (silent : s.se
       let (row, i, all) = is.rows.1.covers c x it in
       let long : length x ≡ length whole_sorts = sorts_length def.signature x whole_sorts (instance_sorts def.signature row x whole_sorts (usual.sorted row i) (all x it)) in
       let parts : length x ≡ length ((it.value ∷ it.seen) ++ map it.outside (names_of def f)) = ap length it.columns_are in
-      no_items it.seen (omega (arith, long, width, parts, length-append (it.value ∷ it.seen) (map it.outside (names_of def f)), length-map (names_of def f) it.outside, names_many))
+      nil_from_length it.seen (omega (arith, long, width, parts, length-append (it.value ∷ it.seen) (map it.outside (names_of def f)), length-map (names_of def f) it.outside, names_many))
 
   open_by_row : (row : List Term) → IsIn row s.rel → IsOpen def f
   open_by_row row i =

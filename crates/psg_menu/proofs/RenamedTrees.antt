@@ -2,6 +2,8 @@
 use Rattle.std.proofs.Common.{◌≡◌, ℕ, zero, suc, ◌+◌, Bool, true, false, cond, not, ◌&&◌, ◌||◌, List, [], ◌∷◌, ◌++◌, map, bytes_eq, slice_get, option_map, Some, refl, ap, ap₂, sym, ◌∙◌, subst, true≢false, arith}
 use Rattle.std.specs.List.{AllByRecursion}
 use Rattle.std.proofs.lemmas.Option.{slice_get-map}
+use Rattle.std.proofs.lemmas.Bool.{false_from_ne_true, or_right, or_left}
+use Rattle.std.proofs.Math.Bool.{or-false, and-false, or_assoc}
 use Rattle.psg_terms.specs.Names.{Name, is_among, has_twice}
 use Rattle.psg_terms.specs.Relations.{IsRelation}
 use Rattle.psg_terms.proofs.DeclareLaws.{is_among-append}
@@ -15,10 +17,10 @@ use Rattle.psg_relation.specs.Choices.{AllHaveSorts, IsProjected, picked}
 use Rattle.psg_scope.specs.declared.header.NameCol.{NameCol}
 use Rattle.psg_scope.specs.Headers.{AreRising, IsKey, declare_one, is_declared, keep_if, key_of, keys}
 use Rattle.psg_scope.proofs.HeaderLaws.{header-among, header-rising, keys-whole, whole-append}
-use Rattle.psg_scope.proofs.KeyLists.{and-false, below-among, in_order-among, in_order-rising, in_order-whole, key_is, key_refl, less-differs, not_true, or-assoc, or-false, or-swap, or_left, or_right, rising-same}
+use Rattle.psg_scope.proofs.KeyLists.{below-among, in_order-among, in_order-rising, in_order-whole, key_is, key_refl, less-differs, or-swap, rising-same}
 use Rattle.psg_columns.specs.Fewer.{FewerColumns}
 use Rattle.psg_unify.specs.Pairs.{Pair as Columns}
-use Rattle.psg_eval.specs.declared.summary.Known.{Known}
+use Rattle.psg_eval.specs.declared.summary.SummaryParts.{SummaryParts}
 use Rattle.psg_eval.specs.Renamed.{IsRenamed, moved_names, moved_places, other_names, other_places}
 use Rattle.psg_eval.specs.Summaries.{IsHeaderOf, IsSummaryOf}
 use Rattle.psg_eval.specs.Trees.{seen_in}
@@ -81,7 +83,7 @@ module _ (to from : Name) (other : bytes_eq to from ≡ false) where
   back : (c : NameCol) → bytes_eq c.name to ≡ false → new_key p (old c) ≡ key_of c
   back c free = by (bytes_eq c.name from) refl where
     turn : (m n : Name) → bytes_eq m n ≡ false → bytes_eq n m ≡ false
-    turn m n e = not_true (bytes_eq n m) (λ h. true≢false (sym (subst (λ x. bytes_eq x n ≡ true) (key_is n m h) (key_refl n)) ∙ e))
+    turn m n e = false_from_ne_true (bytes_eq n m) (λ h. true≢false (sym (subst (λ x. bytes_eq x n ≡ true) (key_is n m h) (key_refl n)) ∙ e))
 
     by : (b : Bool) → bytes_eq c.name from ≡ b → new_key p (cond b (c.space ∷ to) (key_of c)) ≡ key_of c
     by true e = ap (λ n. c.space ∷ n) (swap_first to from ∙ sym (key_is c.name from e))
@@ -94,7 +96,7 @@ module _ (to from : Name) (other : bytes_eq to from ≡ false) where
   kept_among : (b : Bool) (m o : NameCol) (ms os : List NameCol) (k : Key) (t r : Bool) → bytes_eq (cond b (key_of m) (key_of o)) k ≡ t
       → (is_among (keys ms) k || is_among (keys os) k) ≡ r
       → (is_among (keys (keep_if b m ms)) k || is_among (keys (keep_if (not b) o os)) k) ≡ (t || r)
-  kept_among true m o ms os k t r e h = or-assoc (bytes_eq (key_of m) k) (is_among (keys ms) k) (is_among (keys os) k) ∙ ap₂ (λ x y. x || y) e h
+  kept_among true m o ms os k t r e h = or_assoc (bytes_eq (key_of m) k) (is_among (keys ms) k) (is_among (keys os) k) ∙ ap₂ (λ x y. x || y) e h
   kept_among false m o ms os k t r e h = or-swap (is_among (keys ms) k) (bytes_eq (key_of o) k) (is_among (keys os) k) ∙ ap₂ (λ x y. x || y) e h
 
   pub parts_among : (cols : List NameCol) (k : Key) → AreFree cols
@@ -110,7 +112,7 @@ module _ (to from : Name) (other : bytes_eq to from ≡ false) where
       → bytes_eq (cond b (key_of m) (key_of o)) k ≡ t → (is_declared ms k || is_declared os k) ≡ r
       → (is_declared (keep_if b m ms) k || is_declared (keep_if (not b) o os) k) ≡ ((d && t) || r)
   kept_declared true d m o ms os k t r x y e h =
-      or-assoc (m.declared && bytes_eq (key_of m) k) (is_declared ms k) (is_declared os k) ∙ ap₂ (λ a b. a || b) (ap₂ (λ a b. a && b) x e) h
+      or_assoc (m.declared && bytes_eq (key_of m) k) (is_declared ms k) (is_declared os k) ∙ ap₂ (λ a b. a || b) (ap₂ (λ a b. a && b) x e) h
   kept_declared false d m o ms os k t r x y e h =
       or-swap (is_declared ms k) (o.declared && bytes_eq (key_of o) k) (is_declared os k) ∙ ap₂ (λ a b. a || b) (ap₂ (λ a b. a && b) y e) h
 
@@ -147,7 +149,7 @@ module _ (to from : Name) (other : bytes_eq to from ≡ false) where
   not_declared (c ∷ cols) space name e (one, free) =
       ap₂ (λ a b. a || b) (ap (λ b. c.declared && b) differs ∙ and-false c.declared) (not_declared cols space name e free) where
         differs : bytes_eq (key_of c) (space ∷ name) ≡ false
-        differs = not_true (bytes_eq (key_of c) (space ∷ name)) clash where
+        differs = false_from_ne_true (bytes_eq (key_of c) (space ∷ name)) clash where
           clash : bytes_eq (key_of c) (space ∷ name) ≡ true → ⊥
           clash h =
               let same : ◌≡◌ {A = Key} (c.space ∷ c.name) (space ∷ name) = key_is (key_of c) (space ∷ name) h in
@@ -219,7 +221,7 @@ module _ (to from : Name) (other : bytes_eq to from ≡ false) where
   seen_same anything = refl
   seen_same (observed f) = let h = seen_same f in omega (arith, h)
 
-  module _ (def : Definition) (f : Fragment) (s new : Known) (is : IsSummaryOf def (turned p f) s) (made : IsRenamed def from to s new) (free : AreFree s.header.names) where
+  module _ (def : Definition) (f : Fragment) (s new : SummaryParts) (is : IsSummaryOf def (turned p f) s) (made : IsRenamed def from to s new) (free : AreFree s.header.names) where
     abbrev ns : List Key
     ns = region_keys p def f
 

@@ -2,6 +2,7 @@
 use Rattle.std.proofs.Common.{◌≡◌, ◌↔◌, inl, inr, ℕ, zero, suc, ◌+◌, ◌≤◌, Bool, true, false, List, [], ◌∷◌, ◌++◌, map, bytes_eq, option_map, slice_get, refl, ap, ap₂, sym, ◌∙◌, subst, true≢false, IsTrue}
 use Rattle.std.proofs.lemmas.Option.{slice_get-map}
 use Rattle.std.proofs.lemmas.List.{map-append}
+use Rattle.std.proofs.lemmas.Bool.{false_from_ne_true, or_cases, or_parts}
 use Rattle.std.specs.List.{list_any, AllByRecursion}
 use Rattle.std.specs.Prelude.{Ok, Err}
 use Rattle.psg_terms.specs.Names.{Name, is_among}
@@ -16,10 +17,10 @@ use Rattle.psg_grammar.specs.Steps.{PassesAt, last_step}
 use Rattle.psg_scope.specs.declared.header.NameCol.{NameCol}
 use Rattle.psg_scope.specs.declared.header.Header.{Header}
 use Rattle.psg_scope.specs.Headers.{key_of, keys}
-use Rattle.psg_scope.proofs.KeyLists.{key_is, key_refl, neither, not_true, or_cases}
+use Rattle.psg_scope.proofs.KeyLists.{key_is, key_refl}
 use Rattle.psg_columns.specs.Fewer.{FewerColumns}
 use Rattle.psg_eval.specs.declared.summary.EvalFault.TheVariants as faults
-use Rattle.psg_eval.specs.declared.summary.Known.{Known}
+use Rattle.psg_eval.specs.declared.summary.SummaryParts.{SummaryParts}
 use Rattle.psg_eval.specs.Frames.{AllSummariesBut}
 use Rattle.psg_eval.specs.Renamed.{IsRenamed}
 use Rattle.psg_eval.specs.Summaries.{AllSummaries, IsSummaryOf, StaysWithin}
@@ -89,17 +90,17 @@ module _ (def : Definition) (sound : IsSound def) (fewer : FewerColumns def.sign
   empty : p.to [] ≡ []
   empty = swap_other n star [] some_n some_star
 
-  -- the name is neither
+  -- the name is or_parts
   name_stays : (m : Name) → bytes_eq m n ≡ false → bytes_eq m star ≡ false → p.to m ≡ m
   name_stays m a b = swap_other n star m (turn m n a) (turn m star b) where
     turn : (x y : Name) → bytes_eq x y ≡ false → bytes_eq y x ≡ false
-    turn x y e = not_true (bytes_eq y x) (λ h. true≢false (sym (subst (λ z. bytes_eq z y ≡ true) (key_is y x h) (key_refl y)) ∙ e))
+    turn x y e = false_from_ne_true (bytes_eq y x) (λ h. true≢false (sym (subst (λ z. bytes_eq z y ≡ true) (key_is y x h) (key_refl y)) ∙ e))
 
   names_stay : (ms : List Name) → is_among ms n ≡ false → is_among ms star ≡ false → map p.to ms ≡ ms
   names_stay [] a b = refl
   names_stay (m ∷ ms) a b =
-      let (a1, a2) = neither (bytes_eq m n) (is_among ms n) a in
-      let (b1, b2) = neither (bytes_eq m star) (is_among ms star) b in
+      let (a1, a2) = or_parts (bytes_eq m n) (is_among ms n) a in
+      let (b1, b2) = or_parts (bytes_eq m star) (is_among ms star) b in
       ap₂ (λ x xs. x ∷ xs) (name_stays m a1 b1) (names_stay ms a2 b2)
 
   abbrev Unmet : Header → Type 0
@@ -109,26 +110,26 @@ module _ (def : Definition) (sound : IsSound def) (fewer : FewerColumns def.sign
       → (k : Key) → is_among (keys cols) k ≡ true → new_key p k ≡ k
   keys_stay [] a b k e = absurd (true≢false (sym e))
   keys_stay (c ∷ cols) a b k e =
-      let (a1, a2) = neither (bytes_eq c.name n) (list_any (λ (c : NameCol). bytes_eq c.name n) cols) a in
-      let (b1, b2) = neither (bytes_eq c.name star) (list_any (λ (c : NameCol). bytes_eq c.name star) cols) b in
+      let (a1, a2) = or_parts (bytes_eq c.name n) (list_any (λ (c : NameCol). bytes_eq c.name n) cols) a in
+      let (b1, b2) = or_parts (bytes_eq c.name star) (list_any (λ (c : NameCol). bytes_eq c.name star) cols) b in
       elim (or_cases (bytes_eq (key_of c) k) (is_among (keys cols) k) e) [
         | inl same ↦ subst (λ x. new_key p x ≡ x) (key_is (key_of c) k same) (ap (λ m. c.space ∷ m) (name_stays c.name a1 b1))
         | inr later ↦ keys_stay cols a2 b2 k later
       ]
 
-  stays : (f : Fragment) (s : Known) → Unmet s.header → IsSummaryOf def f s → IsSummaryOf def (turned p f) s
+  stays : (f : Fragment) (s : SummaryParts) → Unmet s.header → IsSummaryOf def f s → IsSummaryOf def (turned p f) s
   stays f s (a, b) is = summary_stays p def f s is (keys_stay s.header.names a b) empty sound fewer
 
-  abbrev AllUnmet : List Known → Type 0
-  AllUnmet ss = AllByRecursion (λ (s : Known). Unmet s.header) ss
+  abbrev AllUnmet : List SummaryParts → Type 0
+  AllUnmet ss = AllByRecursion (λ (s : SummaryParts). Unmet s.header) ss
 
-  all_stay : (fs : List Fragment) (ss : List Known) → AllUnmet ss → AllSummaries def fs ss → AllSummaries def (map (turned p) fs) ss
+  all_stay : (fs : List Fragment) (ss : List SummaryParts) → AllUnmet ss → AllSummaries def fs ss → AllSummaries def (map (turned p) fs) ss
   all_stay [] [] h a = tt
   all_stay [] (s ∷ ss) h a = absurd a
   all_stay (f ∷ fs) [] h a = absurd a
   all_stay (f ∷ fs) (s ∷ ss) (one, h) (a, as_well) = (stays f s one a, all_stay fs ss h as_well)
 
-  all_but : (k : ℕ) (fs : List Fragment) (ss : List Known) → AllUnmet ss → AllSummariesBut def k fs ss → AllSummariesBut def k (map (turned p) fs) ss
+  all_but : (k : ℕ) (fs : List Fragment) (ss : List SummaryParts) → AllUnmet ss → AllSummariesBut def k fs ss → AllSummariesBut def k (map (turned p) fs) ss
   all_but zero (f ∷ fs) (s ∷ ss) (one, h) a = all_stay fs ss h a
   all_but (suc k) (f ∷ fs) (s ∷ ss) (one, h) (a, as_well) = (stays f s one a, all_but k fs ss h as_well)
   all_but zero [] ss h a = absurd a
@@ -136,19 +137,19 @@ module _ (def : Definition) (sound : IsSound def) (fewer : FewerColumns def.sign
   all_but zero (f ∷ fs) [] h a = absurd a
   all_but (suc k) (f ∷ fs) [] h a = absurd a
 
-  children_unmet : (ss : List Known) → list_any (λ (s : Known). has_key s.header n) ss ≡ false → list_any (λ (s : Known). has_key s.header star) ss ≡ false → AllUnmet ss
+  children_unmet : (ss : List SummaryParts) → list_any (λ (s : SummaryParts). has_key s.header n) ss ≡ false → list_any (λ (s : SummaryParts). has_key s.header star) ss ≡ false → AllUnmet ss
   children_unmet [] a b = tt
   children_unmet (s ∷ ss) a b =
-      let (a1, a2) = neither (has_key s.header n) (list_any (λ (t : Known). has_key t.header n) ss) a in
-      let (b1, b2) = neither (has_key s.header star) (list_any (λ (t : Known). has_key t.header star) ss) b in
+      let (a1, a2) = or_parts (has_key s.header n) (list_any (λ (t : SummaryParts). has_key t.header n) ss) a in
+      let (b1, b2) = or_parts (has_key s.header star) (list_any (λ (t : SummaryParts). has_key t.header star) ss) b in
       ((a1, b1), children_unmet ss a2 b2)
 
   -- ---- the way
 
   pub rise_turned : (rise : Rise) (u v : Fragment) → meets rise n ≡ false → meets rise star ≡ false → IsRise def rise u v → IsRise def rise (turned p u) (turned p v)
   rise_turned (of_node op names children hot) u v a b (node, at, but) =
-      let (a1, a2) = neither (is_among names n) (list_any (λ (s : Known). has_key s.header n) children) a in
-      let (b1, b2) = neither (is_among names star) (list_any (λ (s : Known). has_key s.header star) children) b in (
+      let (a1, a2) = or_parts (is_among names n) (list_any (λ (s : SummaryParts). has_key s.header n) children) a in
+      let (b1, b2) = or_parts (is_among names star) (list_any (λ (s : SummaryParts). has_key s.header star) children) b in (
         node_turned p def op names names u (names_stay names a1 b1) node,
         ap (λ l. slice_get l hot) (children_turned p u) ∙ slice_get-map (turned p) (children_of u) hot ∙ ap (option_map (turned p)) at,
         subst (λ l. AllSummariesBut def hot l children) (sym (children_turned p u)) (all_but hot (children_of u) children (children_unmet children a2 b2) but),
@@ -160,7 +161,7 @@ module _ (def : Definition) (sound : IsSound def) (fewer : FewerColumns def.sign
   leads_turned [] u t a b e = ap (turned p) e
   leads_turned (rise ∷ done) u t (a1, a) (b1, b) (v, is, lead) = (turned p v, rise_turned rise u v a1 b1 is, leads_turned done v t a b lead)
 
-  module _ (o : ℕ) (below : List Known) (quiet : AllUnmet below) where
+  module _ (o : ℕ) (below : List SummaryParts) (quiet : AllUnmet below) where
     pub named_turned : (t : Fragment) → IsNamed def o below n t → IsNamed def o below star (turned p t)
     named_turned t is = record {
       node = node_turned p def o (n ∷ []) (star ∷ []) t (ap (λ m. m ∷ []) (swap_first n star)) is.node;
@@ -180,11 +181,11 @@ module _ (def : Definition) (sound : IsSound def) (fewer : FewerColumns def.sign
     free_keys : (cols : List NameCol) → list_any (λ (c : NameCol). bytes_eq c.name n) cols ≡ false → AllByRecursion (λ (c : NameCol). bytes_eq c.name n ≡ false) cols
     free_keys [] e = tt
     free_keys (c ∷ cols) e =
-        let (one, rest) = neither (bytes_eq c.name n) (list_any (λ (d : NameCol). bytes_eq d.name n) cols) e in
+        let (one, rest) = or_parts (bytes_eq c.name n) (list_any (λ (d : NameCol). bytes_eq d.name n) cols) e in
         (one, free_keys cols rest)
 
     -- the candidate goes on under its own name
-    pub parted : (done : List Rise) (s new : Known) → s.seen ≡ 0 → has_key s.header n ≡ false → IsRenamed def star n s new → StandsAs def o below star n done true s → StandsAs def o below star n done false new
+    pub parted : (done : List Rise) (s new : SummaryParts) → s.seen ≡ 0 → has_key s.header n ≡ false → IsRenamed def star n s new → StandsAs def o below star n done true s → StandsAs def o below star n done false new
     parted done s new silent fresh made (reach, within, a, b) = (
       (λ u t lead named. renamed_summary n star other def u s new (reach (turned p u) (turned p t) (leads_turned done u t a b lead) (named_turned t named)) made (free_keys s.header.names fresh) empty sound fewer silent),
       within_all done a b within,
@@ -192,13 +193,13 @@ module _ (def : Definition) (sound : IsSound def) (fewer : FewerColumns def.sign
 
     -- ---- one evaluation
 
-    reach_next : (m : Name) (done : List Rise) (rise : Rise) (s new : Known) → IsRaised def rise s (Ok new) → Reaches def o below m done s → Reaches def o below m (rise ∷ done) new
+    reach_next : (m : Name) (done : List Rise) (rise : Rise) (s new : SummaryParts) → IsRaised def rise s (Ok new) → Reaches def o below m done s → Reaches def o below m (rise ∷ done) new
     reach_next m done rise s new raised reach u t (v, is, lead) named = (raised u v is (reach v t lead named)).0
 
-    within_next : (m : Name) (done : List Rise) (rise : Rise) (s new : Known) → IsRaised def rise s (Ok new) → Reaches def o below m done s → IsWithinAt def o below m (rise ∷ done)
+    within_next : (m : Name) (done : List Rise) (rise : Rise) (s new : SummaryParts) → IsRaised def rise s (Ok new) → Reaches def o below m done s → IsWithinAt def o below m (rise ∷ done)
     within_next m done rise s new raised reach u t (v, is, lead) named = (raised u v is (reach v t lead named)).1
 
-    pub stands_next : (b : Bool) (done : List Rise) (rise : Rise) (s new : Known) → (b ≡ true → (meets rise n ≡ false) × (meets rise star ≡ false)) → IsRaised def rise s (Ok new)
+    pub stands_next : (b : Bool) (done : List Rise) (rise : Rise) (s new : SummaryParts) → (b ≡ true → (meets rise n ≡ false) × (meets rise star ≡ false)) → IsRaised def rise s (Ok new)
         → StandsAs def o below star n done b s → StandsAs def o below star n (rise ∷ done) b new
     stands_next true done rise s new unmet raised (reach, within, a, b) =
         let (a1, b1) = unmet refl in
@@ -210,7 +211,7 @@ module _ (def : Definition) (sound : IsSound def) (fewer : FewerColumns def.sign
     abbrev pub FailsAt : List Rise → Type 0
     FailsAt done = (u t : Fragment) → Leads def done u t → IsNamed def o below n t → (k : ℕ) × (k ≤ last_step def u) × PassesAt def u k
 
-    pub stands_fail : (b : Bool) (done : List Rise) (rise : Rise) (s : Known) (step : ℕ) → (b ≡ true → (meets rise n ≡ false) × (meets rise star ≡ false))
+    pub stands_fail : (b : Bool) (done : List Rise) (rise : Rise) (s : SummaryParts) (step : ℕ) → (b ≡ true → (meets rise n ≡ false) × (meets rise star ≡ false))
         → IsRaised def rise s (Err (faults.Wide step)) → StandsAs def o below star n done b s → FailsAt (rise ∷ done)
     stands_fail true done rise s step unmet raised (reach, within, a, b) u t (v, is, lead) named =
         let (a1, b1) = unmet refl in
@@ -227,13 +228,13 @@ module _ (def : Definition) (sound : IsSound def) (fewer : FewerColumns def.sign
 
     -- ---- the whole
 
-    pub open_as : (b : Bool) (done : List Rise) (s : Known) (good : Bool) → ((f : Fragment) → IsSummaryOf def f s → IsTrue good ↔ IsOpen def f) → StandsAs def o below star n done b s
+    pub open_as : (b : Bool) (done : List Rise) (s : SummaryParts) (good : Bool) → ((f : Fragment) → IsSummaryOf def f s → IsTrue good ↔ IsOpen def f) → StandsAs def o below star n done b s
         → (u t : Fragment) → Leads def done u t → IsNamed def o below n t → IsTrue good ↔ IsOpen def u
     open_as true done s good tells (reach, within, a, b) u t lead named =
         let h = tells (turned p u) (reach (turned p u) (turned p t) (leads_turned done u t a b lead) (named_turned t named)) in
         ((λ g. open_from p def u (h.0 g)), (λ is. h.1 (open_to p def u is)))
     open_as false done s good tells (reach, within) u t lead named = tells u (reach u t lead named)
 
-    pub within_as : (b : Bool) (done : List Rise) (s : Known) → StandsAs def o below star n done b s → IsWithin def o below n done
+    pub within_as : (b : Bool) (done : List Rise) (s : SummaryParts) → StandsAs def o below star n done b s → IsWithin def o below n done
     within_as true done s (reach, within, a, b) = within_all done a b within
     within_as false done s (reach, within) = within

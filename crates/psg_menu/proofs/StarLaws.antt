@@ -1,7 +1,8 @@
 -- The name that stands for all candidates, and what the level at the top says of each of them.
 use Rattle.std.proofs.Common.{◌≡◌, ◌↔◌, ℕ, zero, suc, ◌+◌, ◌*◌, ◌<◌, ◌≤◌, ◌==◌, Bool, false, List, [], ◌∷◌, get_or, length, bytes_eq, Option, Some, slice_get, refl, ap, sym, ◌∙◌, subst, IsTrue, arith}
-use Rattle.std.proofs.lemmas.Bool.{eqb-false}
+use Rattle.std.proofs.lemmas.Bool.{eqb-false, or_parts}
 use Rattle.std.proofs.lemmas.List.{append-nil}
+use Rattle.psg_terms.proofs.Lists.{each_at}
 use Rattle.std.specs.List.{AllByRecursion}
 use Rattle.std.specs.Prelude.{IfOk, Result, Ok, Err, sum_by}
 use Rattle.psg_terms.specs.Names.{Name, is_among}
@@ -18,7 +19,6 @@ use Rattle.psg_grammar.specs.Steps.{PassesAt, last_step}
 use Rattle.psg_grammar.specs.WellFormed.{IsName}
 use Rattle.psg_scope.specs.declared.header.NameCol.{NameCol}
 use Rattle.psg_scope.specs.Headers.{keys}
-use Rattle.psg_scope.proofs.KeyLists.{neither}
 use Rattle.psg_columns.specs.Fewer.{FewerColumns}
 use Rattle.psg_columns.proofs.FewerLaws.{fewer}
 use Rattle.psg_eval.specs.declared.frame.Frame.{Frame}
@@ -26,7 +26,7 @@ use Rattle.psg_eval.specs.declared.question.FocusFault.{FocusFault}
 use Rattle.psg_eval.specs.declared.question.FocusFault.TheVariants as questions
 use Rattle.psg_eval.specs.declared.summary.EvalFault.{EvalFault}
 use Rattle.psg_eval.specs.declared.summary.EvalFault.TheVariants as faults
-use Rattle.psg_eval.specs.declared.summary.Known.{Known}
+use Rattle.psg_eval.specs.declared.summary.SummaryParts.{SummaryParts}
 use Rattle.psg_eval.specs.Frames.{StandAt}
 use Rattle.psg_eval.specs.Questions.{IsAsked}
 use Rattle.psg_eval.specs.Summaries.{Answers, AreSummariesOf, IsSummary, IsSummaryOf, StaysWithin, are_names, slot_kinds}
@@ -37,7 +37,7 @@ use Rattle.psg_menu.specs.declared.sharing.Level.{Level}
 use Rattle.psg_menu.specs.Answers.{IsNamesAnswer}
 use Rattle.psg_menu.specs.Sharing.{AreApart, FailsOn, IsLevel, IsLevelAnswer, IsNamed, IsUsual, IsWholeAnswer, IsWithin, Reaches, rises_of}
 use Rattle.psg_menu.specs.Trials.{AreBlanks, AreNewWords, IsBlank, IsTried}
-use Rattle.psg_menu.proofs.Levels.{each_got, name_got, no_keys, placed_at}
+use Rattle.psg_menu.proofs.Levels.{name_got, no_keys, placed_at}
 use Rattle.psg_menu.proofs.NameLaws.{names_fault}
 use Rattle.psg_menu.proofs.OpenRows.{open_rows, rows_open}
 use Rattle.psg_menu.proofs.SharedWay.{open_as, own_fails, within_as}
@@ -51,22 +51,22 @@ no_names [] e = refl
 no_names (c ∷ cols) e = absurd (cc)
 
 -- the answer for the operator's node with these names, whose slots have these trees
-abbrev pub IsAnswered : Definition → ℕ → List Name → List Known → Result Known EvalFault → Type 0
+abbrev pub IsAnswered : Definition → ℕ → List Name → List SummaryParts → Result SummaryParts EvalFault → Type 0
 IsAnswered def o names below made = (f : Fragment) → IsNode def o names f → AreSummariesOf def f below → Answers def f made
 
 -- what the climb begins with
-pub record IsStart (def : Definition) (o : ℕ) (below : List Known) (star : Name) (candidates : List Name) (kind : Kind) (own : Known) : Type 0 where
+pub record IsStart (def : Definition) (o : ℕ) (below : List SummaryParts) (star : Name) (candidates : List Name) (kind : Kind) (own : SummaryParts) : Type 0 where
   pub apart : AreApart below star candidates
   pub usual : IsUsual def kind own
   pub reach : Reaches def o below star [] own
   pub within : IsWithin def o below star []
 
 module _ (def : Definition) where
-  blank_keys : (kind : Kind) (s : Known) → IsBlank def kind s → s.header.names ≡ []
+  blank_keys : (kind : Kind) (s : SummaryParts) → IsBlank def kind s → s.header.names ≡ []
   blank_keys (kinds.Phylum p) s h = no_names s.header.names h.of.header.keys_are
   blank_keys (kinds.List l) s h = no_names s.header.names h.of.header.keys_are
 
-  quiet_blanks : (ks : List Kind) (ss : List Known) → AreBlanks def ks ss → AllByRecursion (λ (s : Known). s.header.names ≡ []) ss
+  quiet_blanks : (ks : List Kind) (ss : List SummaryParts) → AreBlanks def ks ss → AllByRecursion (λ (s : SummaryParts). s.header.names ≡ []) ss
   quiet_blanks [] [] h = tt
   quiet_blanks [] (s ∷ ss) h = absurd h
   quiet_blanks (k ∷ ks) [] h = absurd h
@@ -75,10 +75,10 @@ module _ (def : Definition) where
   other_words : (star : Name) (ns : List Name) → AllByRecursion (IsName def) ns → is_among ns star ≡ false → AllByRecursion (λ n. (bytes_eq n star ≡ false) × (bytes_eq n [] ≡ false)) ns
   other_words star [] h e = tt
   other_words star (n ∷ ns) (word, h) e =
-      let (one, rest) = neither (bytes_eq n star) (is_among ns star) e in
+      let (one, rest) = or_parts (bytes_eq n star) (is_among ns star) e in
       ((one, no_word def n word), other_words star ns h rest)
 
-  pub star_apart : (op : Operator) (below : List Known) (star : Name) (candidates words : List Name) → AreBlanks def (slot_kinds def op.items) below → AllByRecursion (IsName def) candidates
+  pub star_apart : (op : Operator) (below : List SummaryParts) (star : Name) (candidates words : List Name) → AreBlanks def (slot_kinds def op.items) below → AllByRecursion (IsName def) candidates
       → length words ≡ 1 → star ≡ get_or words 0 star → AreNewWords def candidates words → AreApart below star candidates
   star_apart op below star candidates [] blanks names one is new = absurd (omega (arith, one))
   star_apart op below star candidates (w ∷ words) blanks names one is new =
@@ -96,31 +96,31 @@ module _ (def : Definition) where
 
   -- ---- its own summary
 
-  module _ (around : List Frame) (o : ℕ) (op : Operator) (found : slice_get def.operators o ≡ Some op) (below : List Known) (blanks : AreBlanks def (slot_kinds def op.items) below) where
-    abbrev pub IsMade : Name → Result Known EvalFault → Type 0
+  module _ (around : List Frame) (o : ℕ) (op : Operator) (found : slice_get def.operators o ≡ Some op) (below : List SummaryParts) (blanks : AreBlanks def (slot_kinds def op.items) below) where
+    abbrev pub IsMade : Name → Result SummaryParts EvalFault → Type 0
     IsMade star made = IsAnswered def o (star ∷ []) below made
 
-    pub star_reaches : (star : Name) (made : Result Known EvalFault) (own : Known) → IsMade star made → IsAsked made (Ok own) → Reaches def o below star [] own
+    pub star_reaches : (star : Name) (made : Result SummaryParts EvalFault) (own : SummaryParts) → IsMade star made → IsAsked made (Ok own) → Reaches def o below star [] own
     star_reaches star made own answer asked u t e named =
         subst (λ x. IsSummaryOf def x own) (sym e) (asked_ok made own (Answers def t) (answer t named.node named.children) asked).0
 
-    pub star_within : (star : Name) (made : Result Known EvalFault) (own : Known) → IsMade star made → IsAsked made (Ok own) → IsWithin def o below star []
+    pub star_within : (star : Name) (made : Result SummaryParts EvalFault) (own : SummaryParts) → IsMade star made → IsAsked made (Ok own) → IsWithin def o below star []
     star_within star made own answer asked u t e named =
         subst (StaysWithin def) (sym e) (asked_ok made own (Answers def t) (answer t named.node named.children) asked).1
 
-    pub star_usual : (made : Result Known EvalFault) (own : Known) → IfOk made (IsSummary def)
-        → IfOk made (λ (s : Known). (p : Operator) → slice_get def.operators o ≡ Some p → s.kind ≡ kinds.Phylum p.phylum)
-        → IfOk made (λ (s : Known). s.seen ≡ sum_by (λ (c : Known). c.seen) below) → IsAsked made (Ok own) → IsUsual def (kinds.Phylum op.phylum) own
+    pub star_usual : (made : Result SummaryParts EvalFault) (own : SummaryParts) → IfOk made (IsSummary def)
+        → IfOk made (λ (s : SummaryParts). (p : Operator) → slice_get def.operators o ≡ Some p → s.kind ≡ kinds.Phylum p.phylum)
+        → IfOk made (λ (s : SummaryParts). s.seen ≡ sum_by (λ (c : SummaryParts). c.seen) below) → IsAsked made (Ok own) → IsUsual def (kinds.Phylum op.phylum) own
     star_usual made own usual kind seen asked = record {
       usual = asked_if made own (IsSummary def) usual asked;
-      of_kind = asked_if made own (λ (s : Known). (p : Operator) → slice_get def.operators o ≡ Some p → s.kind ≡ kinds.Phylum p.phylum) kind asked op found;
-      silent = asked_if made own (λ (s : Known). s.seen ≡ sum_by (λ (c : Known). c.seen) below) seen asked ∙ silent_below def around o op found [] below blanks;
+      of_kind = asked_if made own (λ (s : SummaryParts). (p : Operator) → slice_get def.operators o ≡ Some p → s.kind ≡ kinds.Phylum p.phylum) kind asked op found;
+      silent = asked_if made own (λ (s : SummaryParts). s.seen ≡ sum_by (λ (c : SummaryParts). c.seen) below) seen asked ∙ silent_below def around o op found [] below blanks;
     }
 
-    pub star_start : (star : Name) (candidates words : List Name) (made : Result Known EvalFault) (own : Known) → length words ≡ 1 → star ≡ get_or words 0 star → AreNewWords def candidates words
+    pub star_start : (star : Name) (candidates words : List Name) (made : Result SummaryParts EvalFault) (own : SummaryParts) → length words ≡ 1 → star ≡ get_or words 0 star → AreNewWords def candidates words
         → AllByRecursion (IsName def) candidates → IsAnswered def o words below made → IfOk made (IsSummary def)
-        → IfOk made (λ (s : Known). (p : Operator) → slice_get def.operators o ≡ Some p → s.kind ≡ kinds.Phylum p.phylum)
-        → IfOk made (λ (s : Known). s.seen ≡ sum_by (λ (c : Known). c.seen) below) → IsAsked made (Ok own) → IsStart def o below star candidates (kinds.Phylum op.phylum) own
+        → IfOk made (λ (s : SummaryParts). (p : Operator) → slice_get def.operators o ≡ Some p → s.kind ≡ kinds.Phylum p.phylum)
+        → IfOk made (λ (s : SummaryParts). s.seen ≡ sum_by (λ (c : SummaryParts). c.seen) below) → IsAsked made (Ok own) → IsStart def o below star candidates (kinds.Phylum op.phylum) own
     star_start star candidates words made own one at new names answer usual kind seen asked =
         let mine = subst (λ (ns : List Name). IsAnswered def o ns below made) (only_star star words one at) answer in
         record {
@@ -135,7 +135,7 @@ module _ (def : Definition) where
       light = fewer def.signature sound.signature
 
       -- the operator's own node passes the limit
-      pub star_fault : (star : Name) (made : Result Known EvalFault) (fault : FocusFault) → AreApart below star candidates → (length candidates == 0) ≡ false → IsMade star made
+      pub star_fault : (star : Name) (made : Result SummaryParts EvalFault) (fault : FocusFault) → AreApart below star candidates → (length candidates == 0) ≡ false → IsMade star made
           → IsAsked made (Err fault) → IsWholeAnswer def o below candidates (rises_of around) (Err fault)
       star_fault star made questions.Memory apart some answer asked = tt
       star_fault star made questions.Wide apart some answer asked = at_first candidates apart some where
@@ -161,7 +161,7 @@ module _ (def : Definition) where
           → ((e : Entry) → slice_get level.entries.items (get_or level.places.items i 0) ≡ Some e → IsTrue good ↔ ((e.own.rel ≡ []) → ⊥)) → IsTried def around o (n ∷ []) (Ok good)
       candidate_tried star top level i n good apart is l at tells =
           let (e, here, stands) = placed_at def o below star (rises_of around) level.entries.items candidates level.places.items i n l at is.placed in
-          let mine = each_got (λ (x : Entry). IsUsual def top x.own) level.entries.items (get_or level.places.items i 0) e is.usual here in
+          let mine = each_at (λ (x : Entry). IsUsual def top x.own) level.entries.items is.usual (get_or level.places.items i 0) e here in
           let (other, some_n) = name_got (λ m. (bytes_eq m star ≡ false) × (bytes_eq m [] ≡ false)) candidates i n l at apart.others in
           let quiet = no_keys def sound n star below apart.quiet in
           let judged : (f : Fragment) → IsSummaryOf def f e.own → IsTrue good ↔ IsOpen def f = λ f of. (

@@ -3,8 +3,9 @@ use Rattle.std.proofs.Common.{◌≡◌, ◌↔◌, inl, inr, ℕ, ◌+◌, Bool
 use Rattle.std.specs.List.{AllByRecursion}
 use Rattle.std.specs.Prelude.{IfOk, Result, Ok, Err, sum_by}
 use Rattle.std.proofs.lemmas.List.Sums.{sum_by-cons}
+use Rattle.psg_terms.proofs.Lists.{each_in, in_right}
 use Rattle.psg_terms.specs.Names.{Name}
-use Rattle.psg_terms.specs.Relations.{IsIn, first, later}
+use Rattle.psg_terms.specs.Relations.{IsIn, first}
 use Rattle.psg_grammar.specs.declared.types.Operator.{Operator}
 use Rattle.psg_grammar.specs.declared.types.Definition.{Definition}
 use Rattle.psg_grammar.specs.Fragments.{Fragment}
@@ -17,7 +18,7 @@ use Rattle.psg_eval.specs.declared.question.FocusFault.{FocusFault}
 use Rattle.psg_eval.specs.declared.question.FocusFault.TheVariants as questions
 use Rattle.psg_eval.specs.declared.summary.EvalFault.{EvalFault}
 use Rattle.psg_eval.specs.declared.summary.EvalFault.TheVariants as faults
-use Rattle.psg_eval.specs.declared.summary.Known.{Known}
+use Rattle.psg_eval.specs.declared.summary.SummaryParts.{SummaryParts}
 use Rattle.psg_eval.specs.Climbing.{IsClimbed}
 use Rattle.psg_eval.specs.Frames.{StandAt, StandFor}
 use Rattle.psg_eval.specs.Questions.{IsAsked}
@@ -28,31 +29,26 @@ use Rattle.psg_menu.specs.Trials.{AreBlanks, AreNamedLeaves, IsClass, IsJudged, 
 use Rattle.psg_menu.proofs.NewTrees.{blanks_silent, new_children, new_node, new_own, new_wide}
 use Rattle.psg_menu.proofs.OpenRows.{open_rows, rows_open}
 use Rattle.psg_menu.proofs.TrialPlaces.{IsPlaced, placed}
-use Rattle.psg_menu.proofs.WideTrees.{in_right, wide_from, wide_to}
+use Rattle.psg_menu.proofs.WideTrees.{wide_from, wide_to}
 
 -- ---- an answer without its step
 
-pub asked_ok : (made : Result Known EvalFault) (s : Known) (P : Result Known EvalFault → Type 0) → P made → IsAsked made (Ok s) → P (Ok s)
+pub asked_ok : (made : Result SummaryParts EvalFault) (s : SummaryParts) (P : Result SummaryParts EvalFault → Type 0) → P made → IsAsked made (Ok s) → P (Ok s)
 asked_ok (Ok t) s P p same = subst (λ x. P (Ok x)) (sym same) p
 asked_ok (Err (faults.Wide step)) s P p asked = absurd asked
 asked_ok (Err faults.Memory) s P p asked = absurd asked
 
-pub asked_if : (made : Result Known EvalFault) (s : Known) (P : Known → Type 0) → IfOk made P → IsAsked made (Ok s) → P s
+pub asked_if : (made : Result SummaryParts EvalFault) (s : SummaryParts) (P : SummaryParts → Type 0) → IfOk made P → IsAsked made (Ok s) → P s
 asked_if (Ok t) s P p same = subst P (sym same) p
 asked_if (Err (faults.Wide step)) s P p asked = absurd asked
 asked_if (Err faults.Memory) s P p asked = absurd asked
 
-pub asked_wide : (made : Result Known EvalFault) (P : Result Known EvalFault → Type 0) → P made → IsAsked made (Err questions.Wide) → (step : ℕ) × P (Err (faults.Wide step))
+pub asked_wide : (made : Result SummaryParts EvalFault) (P : Result SummaryParts EvalFault → Type 0) → P made → IsAsked made (Err questions.Wide) → (step : ℕ) × P (Err (faults.Wide step))
 asked_wide (Ok t) P p asked = absurd asked
 asked_wide (Err (faults.Wide step)) P p asked = (step, p)
 asked_wide (Err faults.Memory) P p asked = absurd asked
 
 -- ---- lists
-
-pub each_in : {X : Type 0} (P : X → Type 0) (x : X) (xs : List X) → AllByRecursion P xs → IsIn x xs → P x
-each_in P x [] h i = elim i [ ]
-each_in P x (y ∷ xs) h first = h.0
-each_in P x (y ∷ xs) h (later i) = each_in P x xs h.1 i
 
 pub each_more : {X : Type 0} (P : X → Type 0) (xs ys : List X) (x : X) → AllByRecursion P xs → ys ≡ xs ++ x ∷ [] → P x → AllByRecursion P ys
 each_more {X = X} P xs ys x h e p = subst (AllByRecursion P) (sym e) (push xs h) where
@@ -60,29 +56,29 @@ each_more {X = X} P xs ys x h e p = subst (AllByRecursion P) (sym e) (push xs h)
   push [] h = (p, tt)
   push (z ∷ zs) h = (h.0, push zs h.1)
 
-none_seen : (ss : List Known) → AllByRecursion (λ (s : Known). s.seen ≡ 0) ss → sum_by (λ (c : Known). c.seen) ss ≡ 0
+none_seen : (ss : List SummaryParts) → AllByRecursion (λ (s : SummaryParts). s.seen ≡ 0) ss → sum_by (λ (c : SummaryParts). c.seen) ss ≡ 0
 none_seen [] h = refl
-none_seen (s ∷ ss) (one, all) = sum_by-cons (λ (c : Known). c.seen) s ss ∙ ap₂ (λ m n. m + n) one (none_seen ss all)
+none_seen (s ∷ ss) (one, all) = sum_by-cons (λ (c : SummaryParts). c.seen) s ss ∙ ap₂ (λ m n. m + n) one (none_seen ss all)
 
 module _ (def : Definition) (around : List Frame) where
   -- ---- the climb
 
-  abbrev pub Climbs : Known → Result Known EvalFault → Type 0
+  abbrev pub Climbs : SummaryParts → Result SummaryParts EvalFault → Type 0
   Climbs own made = (f t : Fragment) (path : Path) → StandFor def around path f t → IsSummaryOf def t own → IsClimbed def path f made
 
   good_or : (b : Bool) (rel : Type 0) (Goal : Type 0) → (IsTrue b ↔ rel) → ((rel → ⊥) → Goal) → (Goal → rel → ⊥) → IsTrue (not b) ↔ Goal
   good_or true rel Goal e to from = ((λ h. absurd (true≢false (sym h))), (λ g. absurd (from g (e.0 refl))))
   good_or false rel Goal e to from = ((λ h. to (λ r. true≢false (sym (e.1 r)))), (λ g. refl))
 
-  pub judged_good : (own whole : Known) (made : Result Known EvalFault) (b : Bool) → own.seen ≡ 0 → Climbs own made → IfOk made (IsSummary def) → IfOk made (λ (s : Known). s.seen ≡ own.seen)
+  pub judged_good : (own whole : SummaryParts) (made : Result SummaryParts EvalFault) (b : Bool) → own.seen ≡ 0 → Climbs own made → IfOk made (IsSummary def) → IfOk made (λ (s : SummaryParts). s.seen ≡ own.seen)
       → IsAsked made (Ok whole) → (IsTrue b ↔ (whole.rel ≡ [])) → IsJudged def around own (Ok (not b))
   judged_good own whole made b silent climbs usual seen asked empty f t path stand of =
       let (is, within) = asked_ok made whole (λ r. IsClimbed def path f r) (climbs f t path stand of) asked in
       let u : IsSummary def whole = asked_if made whole (IsSummary def) usual asked in
-      let z : whole.seen ≡ 0 = asked_if made whole (λ (s : Known). s.seen ≡ own.seen) seen asked ∙ silent in
+      let z : whole.seen ≡ 0 = asked_if made whole (λ (s : SummaryParts). s.seen ≡ own.seen) seen asked ∙ silent in
       (good_or b (whole.rel ≡ []) (IsOpen def f) empty (rows_open def whole u z f is) (open_rows def whole u z f is), within)
 
-  pub judged_fault : (own : Known) (made : Result Known EvalFault) (fault : FocusFault) → Climbs own made → IsAsked made (Err fault) → IsJudged def around own (Err fault)
+  pub judged_fault : (own : SummaryParts) (made : Result SummaryParts EvalFault) (fault : FocusFault) → Climbs own made → IsAsked made (Err fault) → IsJudged def around own (Err fault)
   judged_fault own made questions.Memory climbs asked = tt
   judged_fault own made questions.Wide climbs asked = λ f t path stand of.
       let (step, rest) = asked_wide made (λ r. IsClimbed def path f r) (climbs f t path stand of) asked in
@@ -91,18 +87,18 @@ module _ (def : Definition) (around : List Frame) where
 
   -- ---- classes
 
-  pub class_judged : (classes : List Class) (own : Known) (good : Bool) → AllByRecursion (IsClass def around) classes
+  pub class_judged : (classes : List Class) (own : SummaryParts) (good : Bool) → AllByRecursion (IsClass def around) classes
       → (c : Class) × IsIn c classes × (c.own ≡ own) × (c.good ≡ good) → IsJudged def around own (Ok good)
   class_judged classes own good all (c, i, same, as_well) =
       subst (λ s. IsJudged def around s (Ok good)) same (subst (λ b. IsJudged def around c.own (Ok b)) as_well (each_in (IsClass def around) c classes all i))
 
   -- ---- the trial
 
-  module _ (o : ℕ) (op : Operator) (found : slice_get def.operators o ≡ Some op) (names : List Name) (below : List Known) (blanks : AreBlanks def (slot_kinds def op.items) below) where
-    abbrev pub Evaluates : Result Known EvalFault → Type 0
+  module _ (o : ℕ) (op : Operator) (found : slice_get def.operators o ≡ Some op) (names : List Name) (below : List SummaryParts) (blanks : AreBlanks def (slot_kinds def op.items) below) where
+    abbrev pub Evaluates : Result SummaryParts EvalFault → Type 0
     Evaluates made = (f : Fragment) → IsNode def o names f → AreSummariesOf def f below → Answers def f made
 
-    pub silent_below : sum_by (λ (c : Known). c.seen) below ≡ 0
+    pub silent_below : sum_by (λ (c : SummaryParts). c.seen) below ≡ 0
     silent_below = none_seen below (blanks_silent def (slot_kinds def op.items) below blanks)
 
     module _ (f : Fragment) (path : Path) (k : Option ℕ) (stand : StandAt def around path k f) (leaves : List Leaf) (named : AreNamedLeaves def o names leaves) where
@@ -115,20 +111,20 @@ module _ (def : Definition) (around : List Frame) where
       at : IsPlaced def around f x new
       at = placed def o leaves around f path k stand
 
-      answered : (made : Result Known EvalFault) → Evaluates made → Answers def x made
+      answered : (made : Result SummaryParts EvalFault) → Evaluates made → Answers def x made
       answered made answer = answer x (new_node def o op found names leaves named) (new_children def o op found names leaves named below blanks)
 
-      pub own_wide : (made : Result Known EvalFault) → Evaluates made → IsAsked made (Err questions.Wide) → IsWide def new
+      pub own_wide : (made : Result SummaryParts EvalFault) → Evaluates made → IsAsked made (Err questions.Wide) → IsWide def new
       own_wide made answer asked =
           let (step, h) = asked_wide made (Answers def x) (answered made answer) asked in
           wide_to def new (at.inner (new_wide def o op found names leaves named (step, h.there, h.passes)))
 
-      pub above_wide : (made : Result Known EvalFault) (own : Known) → Evaluates made → IsAsked made (Ok own) → IsJudged def around own (Err questions.Wide) → IsWide def new
+      pub above_wide : (made : Result SummaryParts EvalFault) (own : SummaryParts) → Evaluates made → IsAsked made (Ok own) → IsJudged def around own (Err questions.Wide) → IsWide def new
       above_wide made own answer asked judged =
           let (is, stays) = asked_ok made own (Answers def x) (answered made answer) asked in
           wide_to def new (at.above (judged new x at.path at.stand is))
 
-      pub trial_good : (made : Result Known EvalFault) (own : Known) (good : Bool) → Evaluates made → IsAsked made (Ok own) → IsJudged def around own (Ok good)
+      pub trial_good : (made : Result SummaryParts EvalFault) (own : SummaryParts) (good : Bool) → Evaluates made → IsAsked made (Ok own) → IsJudged def around own (Ok good)
           → (IsTrue good ↔ IsOpen def new) × ((IsWide def f → ⊥) → IsWide def new → ⊥)
       trial_good made own good answer asked judged =
           let (is, stays) = asked_ok made own (Answers def x) (answered made answer) asked in
@@ -143,13 +139,13 @@ module _ (def : Definition) (around : List Frame) where
             ]),
           )
 
-    pub tried_fault : (made : Result Known EvalFault) (fault : FocusFault) → Evaluates made → IsAsked made (Err fault) → IsTried def around o names (Err fault)
+    pub tried_fault : (made : Result SummaryParts EvalFault) (fault : FocusFault) → Evaluates made → IsAsked made (Err fault) → IsTried def around o names (Err fault)
     tried_fault made questions.Memory answer asked = tt
     tried_fault made questions.Wide answer asked = λ f path k stand leaves named. own_wide f path k stand leaves named made answer asked
 
-    pub tried_above : (made : Result Known EvalFault) (own : Known) (fault : FocusFault) → Evaluates made → IsAsked made (Ok own) → IsJudged def around own (Err fault) → IsTried def around o names (Err fault)
+    pub tried_above : (made : Result SummaryParts EvalFault) (own : SummaryParts) (fault : FocusFault) → Evaluates made → IsAsked made (Ok own) → IsJudged def around own (Err fault) → IsTried def around o names (Err fault)
     tried_above made own questions.Memory answer asked judged = tt
     tried_above made own questions.Wide answer asked judged = λ f path k stand leaves named. above_wide f path k stand leaves named made own answer asked judged
 
-    pub tried_good : (made : Result Known EvalFault) (own : Known) (good : Bool) → Evaluates made → IsAsked made (Ok own) → IsJudged def around own (Ok good) → IsTried def around o names (Ok good)
+    pub tried_good : (made : Result SummaryParts EvalFault) (own : SummaryParts) (good : Bool) → Evaluates made → IsAsked made (Ok own) → IsJudged def around own (Ok good) → IsTried def around o names (Ok good)
     tried_good made own good answer asked judged = λ f path k stand leaves named. trial_good f path k stand leaves named made own good answer asked judged

@@ -1,5 +1,7 @@
 -- Summaries of trees with other names: of a tree whose keys stay it is the same one.
 use Rattle.std.proofs.Common.{◌≡◌, inl, inr, ℕ, ◌+◌, Bool, true, false, cond, not, ◌&&◌, List, [], ◌∷◌, map, bytes_eq, refl, ap, ap₂, sym, ◌∙◌, subst, true≢false}
+use Rattle.std.proofs.lemmas.Bool.{or_cases, or_right, or_left}
+use Rattle.std.specs.Cmp.{second_so}
 use Rattle.std.specs.List.{AllByRecursion}
 use Rattle.psg_terms.specs.Names.{Name, is_among, has_twice}
 use Rattle.psg_grammar.specs.declared.types.Kind.{Kind}
@@ -13,9 +15,9 @@ use Rattle.psg_grammar.specs.Sound.{IsSound}
 use Rattle.psg_scope.specs.declared.header.NameCol.{NameCol}
 use Rattle.psg_scope.specs.Headers.{IsKey, is_declared, key_of, keys}
 use Rattle.psg_scope.proofs.HeaderLaws.{header-among}
-use Rattle.psg_scope.proofs.KeyLists.{and_right, key_refl, or_cases, or_left, or_right}
+use Rattle.psg_scope.proofs.KeyLists.{key_refl}
 use Rattle.psg_columns.specs.Fewer.{FewerColumns}
-use Rattle.psg_eval.specs.declared.summary.Known.{Known}
+use Rattle.psg_eval.specs.declared.summary.SummaryParts.{SummaryParts}
 use Rattle.psg_eval.specs.Summaries.{IsHeaderOf, IsSummaryOf}
 use Rattle.psg_eval.specs.Trees.{seen_in}
 use Rattle.psg_renaming.proofs.Permuting.{Permutation}
@@ -35,7 +37,7 @@ each_of P (m ∷ ms) k = (
 pub declared_key : (cols : List NameCol) (k : Key) → is_declared cols k ≡ true → is_among (keys cols) k ≡ true
 declared_key [] k e = absurd (true≢false (sym e))
 declared_key (c ∷ cols) k e = elim (or_cases (c.declared && bytes_eq (key_of c) k) (is_declared cols k) e) [
-  | inl a ↦ or_left (bytes_eq (key_of c) k) (is_among (keys cols) k) (and_right c.declared (bytes_eq (key_of c) k) a)
+  | inl a ↦ or_left (bytes_eq (key_of c) k) (is_among (keys cols) k) (second_so c.declared (bytes_eq (key_of c) k) a)
   | inr b ↦ or_right (bytes_eq (key_of c) k) (is_among (keys cols) k) (declared_key cols k b)
 ]
 
@@ -100,7 +102,7 @@ module _ (p : Permutation) where
 
     -- ---- where the keys stay
 
-    module _ (f : Fragment) (s : Known) (is : IsSummaryOf def f s) (stay : (k : Key) → is_among (keys s.header.names) k ≡ true → new_key p k ≡ k) where
+    module _ (f : Fragment) (s : SummaryParts) (is : IsSummaryOf def f s) (stay : (k : Key) → is_among (keys s.header.names) k ≡ true → new_key p k ≡ k) where
       names_stay : map (new_key p) (region_keys f) ≡ region_keys f
       names_stay = all_stay (region_keys f) (each_of (λ k. new_key p k ≡ k) (region_keys f) (λ k e. stay k (header-among is.header k ∙ e)))
 

@@ -9,12 +9,11 @@ use Rattle.psg_grammar.specs.Fragments.{Fragment, hole, ending, cell, operator, 
 use Rattle.psg_grammar.specs.Insertion.{Leaf, fresh_operator, with_operator}
 use Rattle.psg_grammar.specs.Open.{IsOpen}
 use Rattle.psg_grammar.specs.Paths.{Path}
-use Rattle.psg_grammar.specs.Steps.{own_steps}
+use Rattle.psg_grammar.specs.Steps.{own_steps, steps_above, steps_at, AreWithin}
 use Rattle.psg_eval.specs.declared.frame.Frame.{Frame}
 use Rattle.psg_eval.specs.declared.frame.Frame.TheVariants as frames
 use Rattle.psg_eval.specs.declared.question.FocusFault.TheVariants as questions
-use Rattle.psg_eval.specs.declared.summary.Known.{Known}
-use Rattle.psg_eval.specs.ClimbSteps.{climb_steps, climb_steps_at, AreWithin}
+use Rattle.psg_eval.specs.declared.summary.SummaryParts.{SummaryParts}
 use Rattle.psg_eval.specs.Frames.{IsElement, IsFrame, StandFor}
 use Rattle.psg_eval.specs.Summaries.{IsSummaryOf, StaysWithin, slot_kinds}
 use Rattle.psg_eval.proofs.FirstWide.{own_within, within-append, within-none}
@@ -37,7 +36,7 @@ module _ (def : Definition) where
   leads_split [] ys f t lead = (f, refl, lead)
   leads_split (x ∷ xs) ys f t (v, is, up) = let (u, a, b) = leads_split xs ys v t up in (u, (v, is, a), b)
 
-  element_cell : (l : ℕ) (before : List Known) (rest : Known) (u t : Fragment) → IsElement def l before rest u t → IsCell u
+  element_cell : (l : ℕ) (before : List SummaryParts) (rest : SummaryParts) (u t : Fragment) → IsElement def l before rest u t → IsCell u
   element_cell l [] rest (cell m e r) t h = tt
   element_cell l (s ∷ before) rest (cell m e r) t h = tt
   element_cell l [] rest (hole q) t h = absurd h
@@ -59,17 +58,17 @@ module _ (def : Definition) where
   element_cell l (s ∷ before) rest anything t h = absurd h
   element_cell l (s ∷ before) rest (observed f) t h = absurd h
 
-  abbrev pub list_rises : ℕ → List Known → Known → List Rise
+  abbrev pub list_rises : ℕ → List SummaryParts → SummaryParts → List Rise
   list_rises l before rest = map (of_before l) before ++ of_first l rest ∷ []
 
-  first_is : (l m : ℕ) (rest : Known) (e r t : Fragment) → m ≡ l → e ≡ t → IsSummaryOf def r rest → IsRise def (of_first l rest) (cell m e r) t
+  first_is : (l m : ℕ) (rest : SummaryParts) (e r t : Fragment) → m ≡ l → e ≡ t → IsSummaryOf def r rest → IsRise def (of_first l rest) (cell m e r) t
   first_is l m rest e r t a b c = (r, ap₂ (λ x y. cell x y r) a b, c)
 
-  before_is : (l m : ℕ) (before : List Known) (s rest : Known) (e r t : Fragment) → m ≡ l → IsSummaryOf def e s → IsElement def l before rest r t
+  before_is : (l m : ℕ) (before : List SummaryParts) (s rest : SummaryParts) (e r t : Fragment) → m ≡ l → IsSummaryOf def e s → IsElement def l before rest r t
       → IsRise def (of_before l s) (cell m e r) r
   before_is l m before s rest e r t a b c = (e, ap (λ x. cell x e r) a, b, element_cell l before rest r t c)
 
-  element_leads : (l : ℕ) (before : List Known) (rest : Known) (u t : Fragment) → IsElement def l before rest u t → Leads def (list_rises l before rest) u t
+  element_leads : (l : ℕ) (before : List SummaryParts) (rest : SummaryParts) (u t : Fragment) → IsElement def l before rest u t → Leads def (list_rises l before rest) u t
   element_leads l [] rest (cell m e r) t (a, b, c) = (t, first_is l m rest e r t a b c, refl)
   element_leads l (s ∷ before) rest (cell m e r) t (a, b, c) = (r, before_is l m before s rest e r t a b c, element_leads l before rest r t c)
   element_leads l [] rest (hole q) t h = absurd h
@@ -134,7 +133,7 @@ module _ (def : Definition) where
 
   -- ---- steps within the limit
 
-  pub node_steps : (path : Path) (k op : ℕ) (u : Fragment) → top_operator u ≡ Some op → climb_steps_at def path k u ≡ own_steps def path u
+  pub node_steps : (path : Path) (k op : ℕ) (u : Fragment) → top_operator u ≡ Some op → steps_at def path k u ≡ own_steps def path u
   node_steps path zero op (operator o) e = refl
   node_steps path zero op (with_child f t) e = refl
   node_steps path zero op (with_name f n) e = refl
@@ -156,7 +155,7 @@ module _ (def : Definition) where
   node_steps path (suc k) op (cell l h r) e = absurd (cc)
   node_steps path (suc k) op anything e = absurd (cc)
 
-  module _ (o : ℕ) (below : List Known) (n : Name) where
+  module _ (o : ℕ) (below : List SummaryParts) (n : Name) where
     within_rest : (xs ys : List Rise) → IsWithin def o below n (xs ++ ys) → IsWithin def o below n ys
     within_rest [] ys h = h
     within_rest (x ∷ xs) ys (one, h) = within_rest xs ys h
@@ -166,12 +165,12 @@ module _ (def : Definition) where
     within_base (x ∷ xs) (one, h) = within_base xs h
 
     module _ (x : Fragment) (named : IsNamed def o below n x) where
-      elements_within : (path : Path) (l : ℕ) (before : List Known) (rest : Known) (u t : Fragment) (done : List Rise) → IsElement def l before rest u t → Leads def done t x
-          → IsWithin def o below n (list_rises l before rest ++ done) → AreWithin def (climb_steps_at def path (length before) u)
+      elements_within : (path : Path) (l : ℕ) (before : List SummaryParts) (rest : SummaryParts) (u t : Fragment) (done : List Rise) → IsElement def l before rest u t → Leads def done t x
+          → IsWithin def o below n (list_rises l before rest ++ done) → AreWithin def (steps_at def path (length before) u)
       elements_within path l [] rest (cell m e r) t done (a, b, c) lead (one, h) =
           own_within def path (cell m e r) (one (cell m e r) x (t, first_is l m rest e r t a b c, lead) named)
       elements_within path l (s ∷ before) rest (cell m e r) t done (a, b, c) lead (one, h) =
-          within-append def (climb_steps_at def path (length before) r) (own_steps def path (cell m e r))
+          within-append def (steps_at def path (length before) r) (own_steps def path (cell m e r))
           (elements_within path l before rest r t done c lead h)
           (own_within def path (cell m e r)
           (one (cell m e r) x (r, before_is l m before s rest e r t a b c, leads_append (list_rises l before rest) done r t x (element_leads l before rest r t c) lead) named))
@@ -195,29 +194,29 @@ module _ (def : Definition) where
       elements_within path l (s ∷ before) rest (observed f) t done h lead w = absurd h
 
       frame_within : (path : Path) (frame : Frame) (k : ℕ) (u t : Fragment) (done : List Rise) → IsFrame def frame k u t → Leads def done t x
-          → IsWithin def o below n (rises_in frame ++ done) → AreWithin def (climb_steps_at def path k u)
+          → IsWithin def o below n (rises_in frame ++ done) → AreWithin def (steps_at def path k u)
       frame_within path (frames.Op op names children hot) k u t done at lead (one, h) =
           let (v, is, same) = frame_leads (frames.Op op names children hot) k u t at in
           subst (AreWithin def) (sym (node_steps path k op u at.0.top))
           (own_within def path u (one u x (v, is, subst (λ y. Leads def done y x) (sym same) lead) named))
       frame_within path (frames.Elem list before rest) k u t done (same, at) lead h =
-          subst (λ i. AreWithin def (climb_steps_at def path i u)) (sym same) (elements_within path list before rest u t done at lead h)
+          subst (λ i. AreWithin def (steps_at def path i u)) (sym same) (elements_within path list before rest u t done at lead h)
 
       pub climb_within : (around : List Frame) (done : List Rise) (path : Path) (f t : Fragment) → StandFor def around path f t → Leads def done t x
-          → IsWithin def o below n (rises_of around ++ done) → AreWithin def (climb_steps def [] path f)
-      climb_within [] done path f t (p, e) lead h = subst (λ q. AreWithin def (climb_steps def [] q f)) (sym p) (within-none def)
+          → IsWithin def o below n (rises_of around ++ done) → AreWithin def (steps_above def [] path f)
+      climb_within [] done path f t (p, e) lead h = subst (λ q. AreWithin def (steps_above def [] q f)) (sym p) (within-none def)
       climb_within (frame ∷ more) done path f t (above, k, u, p, at, up) lead h =
           let all = subst (IsWithin def o below n) (append_assoc (rises_of more) (rises_in frame) done) h in
           let rest = within_rest (rises_of more) (rises_in frame ++ done) all in
           let here = leads_append (rises_in frame) done u t x (frame_leads frame k u t at) lead in
-          subst (λ q. AreWithin def (climb_steps def [] q f)) (sym p)
+          subst (λ q. AreWithin def (steps_above def [] q f)) (sym p)
           (subst (AreWithin def) (sym (climb_last def [] k above f u (stands-node def more above f u up)))
-          (within-append def (climb_steps_at def above k u) (climb_steps def [] above f) (frame_within above frame k u t done at lead rest)
+          (within-append def (steps_at def above k u) (steps_above def [] above f) (frame_within above frame k u t done at lead rest)
           (climb_within more (rises_in frame ++ done) above f u up here all)))
 
   -- ---- a trial
 
-  module _ (around : List Frame) (o : ℕ) (op : Operator) (found : slice_get def.operators o ≡ Some op) (n : Name) (below : List Known) (blanks : AreBlanks def (slot_kinds def op.items) below) where
+  module _ (around : List Frame) (o : ℕ) (op : Operator) (found : slice_get def.operators o ≡ Some op) (n : Name) (below : List SummaryParts) (blanks : AreBlanks def (slot_kinds def op.items) below) where
     -- a step of the node to which these evaluations lead passes the limit
     abbrev pub FailsAfter : List Rise → Type 0
     FailsAfter done = (u t : Fragment) → Leads def done u t → IsNamed def o below n t → OwnPasses def u

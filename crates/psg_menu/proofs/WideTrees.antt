@@ -1,25 +1,12 @@
 -- Trees with a step that passes the limit, wherever they stand.
 use Rattle.std.proofs.Common.{◌≡◌, ◌⊎◌, inl, inr, ℕ, zero, suc, ◌+◌, ◌≤◌, List, [], ◌∷◌, ◌++◌, length, subst, arith}
+use Rattle.psg_terms.proofs.Lists.{in_either, in_left, in_right}
 use Rattle.psg_terms.specs.Relations.{IsIn, first, later}
 use Rattle.psg_grammar.specs.declared.types.Item.{Item}
 use Rattle.psg_grammar.specs.declared.types.Definition.{Definition}
 use Rattle.psg_grammar.specs.Fragments.{Fragment, hole, ending, cell, operator, with_child, with_name, with_number, with_text, anything, observed, children_of}
 use Rattle.psg_grammar.specs.Steps.{IsWide, Place, PassesAt, last_step, list_steps, own_steps, steps_below, steps_of, steps_up_to}
 use Rattle.psg_eval.specs.Trees.{HasParts}
-
-pub in_either : {X : Type 0} (x : X) (xs ys : List X) → IsIn x (xs ++ ys) → IsIn x xs ⊎ IsIn x ys
-in_either x [] ys h = inr h
-in_either x (y ∷ xs) ys first = inl first
-in_either x (y ∷ xs) ys (later h) = elim (in_either x xs ys h) [ inl a ↦ inl (later a) | inr b ↦ inr b ]
-
-pub in_left : {X : Type 0} (x : X) (xs ys : List X) → IsIn x xs → IsIn x (xs ++ ys)
-in_left x [] ys h = elim h [ ]
-in_left x (y ∷ xs) ys first = first
-in_left x (y ∷ xs) ys (later h) = later (in_left x xs ys h)
-
-pub in_right : {X : Type 0} (x : X) (xs ys : List X) → IsIn x ys → IsIn x (xs ++ ys)
-in_right x [] ys h = h
-in_right x (y ∷ xs) ys h = later (in_right x xs ys h)
 
 module _ (def : Definition) where
   -- one of the steps passes the limit

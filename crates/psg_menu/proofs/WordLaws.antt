@@ -1,22 +1,20 @@
 -- Runs of a letter as new names.
-use Rattle.std.proofs.Common.{◌≡◌, inl, inr, ℕ, zero, suc, ◌+◌, ◌<◌, ◌≤◌, Bool, true, false, cond, ◌||◌, List, [], ◌∷◌, ◌++◌, take, get_or, length, bytes_eq, refl, ap, sym, ◌∙◌, subst, arith, true≢false, length-append}
-use Rattle.std.specs.Prelude.{encode_utf8_all, IsTrue, count_by}
+use Rattle.std.proofs.Common.{◌≡◌, inl, inr, ℕ, zero, suc, ◌+◌, ◌<◌, ◌≤◌, Bool, true, false, ◌||◌, List, [], ◌∷◌, ◌++◌, take, get_or, length, bytes_eq, refl, ap, sym, ◌∙◌, subst, arith, true≢false, length-append}
+use Rattle.std.specs.Prelude.{encode_utf8_all, IsTrue}
 use Rattle.std.specs.List.{AllByRecursion}
 use Rattle.std.proofs.lemmas.Str.{encode_ascii}
 use Rattle.std.proofs.lemmas.Bool.{cases_Bool}
-use Rattle.std.proofs.lemmas.List.Recursion.{is_count_by}
-use Rattle.psg_terms.proofs.DeclareLaws.{bytes_eq-same, take-next}
+use Rattle.psg_terms.proofs.Lists.{take_item}
+use Rattle.psg_terms.proofs.DeclareLaws.{bytes_eq-same}
 use Rattle.unicode_ident.proofs.IdentLemmas.{is_xid_start-ascii, is_xid_continue-ascii}
 use Rattle.psg_grammar.specs.declared.types.Definition.{Definition}
 use Rattle.psg_grammar.specs.declared.types.Item.{Item}
 use Rattle.psg_grammar.specs.declared.types.Item.TheVariants as items
 use Rattle.psg_grammar.specs.declared.types.Operator.{Operator}
 use Rattle.psg_grammar.specs.declared.types.ListKind.{ListKind}
-use Rattle.psg_grammar.specs.Levels.{is_name_position}
 use Rattle.psg_grammar.specs.WellFormed.{IsName, fixed_words, operator_words, separators, words_in}
 use Rattle.psg_terms.specs.Names.{Name, is_among, has_twice}
 use Rattle.psg_terms.specs.Words.{starts_word, goes_on_word}
-use Rattle.psg_eval.specs.Summaries.{are_names}
 use Rattle.psg_menu.specs.Trials.{AreNewWords, run}
 
 abbrev pub AreBounded : ℕ → List Name → Type 0
@@ -43,7 +41,7 @@ module _ {X : Type 0} (words : List X → List Name) (push : (xs : List X) (x : 
   pub bounded_next : (all : List X) (i a b : ℕ) (x : X) → i < length all → x ≡ get_or all i x → a ≤ b → AreBounded a (words (take i all)) → AreBounded b (words (x ∷ []))
       → AreBounded b (words (take (i + 1) all))
   bounded_next all i a b x l at up h one =
-      subst (λ ns. AreBounded b ns) (sym (ap words (take-next all i x l at) ∙ push (take i all) x))
+      subst (λ ns. AreBounded b ns) (sym (ap words (take_item all i x l at) ∙ push (take i all) x))
       (bounded_both b (words (take i all)) (words (x ∷ [])) (bounded_up a b (words (take i all)) up h) one)
 
   pub bounded_whole : (all : List X) (i m : ℕ) → i ≡ length all → AreBounded m (words (take i all)) → AreBounded m (words all)
@@ -82,22 +80,7 @@ separators_push (l ∷ xs) x = ap (λ ns. l.separator ∷ ns) (separators_push x
 pub one_operator : (m : ℕ) (o : Operator) → AreBounded m (words_in o.items) → AreBounded m (operator_words (o ∷ []))
 one_operator m o h = bounded_both m (words_in o.items) [] h tt
 
--- ---- name positions
-
-pub positions : (def : Definition) (is : List Item) → length (are_names def is) ≡ count_by is_name_position is
-positions def is = is_count_by (λ (xs : List Item). length (are_names def xs)) is_name_position refl step is where
-  step : (x : Item) (xs : List Item) → length (are_names def (x ∷ xs)) ≡ cond (is_name_position x) (1 + length (are_names def xs)) (length (are_names def xs))
-  step (items.Refers s) xs = omega arith
-  step (items.Declares s) xs = omega arith
-  step (items.Slot k) xs = refl
-  step (items.Word w) xs = refl
-  step items.Number xs = refl
-  step items.Text xs = refl
-  step items.Space xs = refl
-  step items.Tight xs = refl
-  step items.Line xs = refl
-  step items.In xs = refl
-  step items.Out xs = refl
+-- ---- name names_in_count
 
 -- ---- runs
 

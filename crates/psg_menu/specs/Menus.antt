@@ -1,5 +1,5 @@
 -- Which operators and names may be put at a place of a fragment.
-use Rattle.std.specs.Prelude.{ℕ, ◌≡◌, ◌+◌, ◌==◌, true, false, cond, List, [], ◌∷◌, Option, Some, slice_get}
+use Rattle.std.specs.Prelude.{ℕ, ◌≡◌, ◌+◌, ◌==◌, true, cond, List, [], ◌∷◌, Option, Some, slice_get}
 use Rattle.std.specs.Cmp.Lexicographic.{slice_cmp}
 use Rattle.std.specs.List.{AllByRecursion}
 use Rattle.std.specs.Ordering.{nat_cmp}
@@ -9,7 +9,7 @@ use Rattle.psg_grammar.specs.declared.types.Kind.{Kind}
 use Rattle.psg_grammar.specs.declared.types.Kind.TheVariants as kinds
 use Rattle.psg_grammar.specs.declared.types.Operator.{Operator}
 use Rattle.psg_grammar.specs.declared.types.Definition.{Definition}
-use Rattle.psg_grammar.specs.Declaring.{is_declaring}
+use Rattle.psg_grammar.specs.Declaring.{HasHoles}
 use Rattle.psg_grammar.specs.Fragments.{Fragment}
 use Rattle.psg_grammar.specs.Insertion.{Leaf, AreLeaves, with_operator}
 use Rattle.psg_grammar.specs.Keys.{placed}
@@ -40,7 +40,7 @@ operators_of def p = operators_from 0 p def.operators
 
 -- a list may declare, and a phylum in no space
 abbrev pub IsQuiet : Definition → Kind → Type 0
-IsQuiet def (kinds.Phylum p) = (s : ℕ) → is_declaring def s (kinds.Phylum p) ≡ false
+IsQuiet def (kinds.Phylum p) = HasHoles def (kinds.Phylum p)
 IsQuiet def (kinds.List l) = Unit {0}
 
 -- no slot is for a phylum that declares names, so that each slot may have a placeholder

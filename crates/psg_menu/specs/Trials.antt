@@ -12,13 +12,12 @@ use Rattle.psg_grammar.specs.Insertion.{Leaf, AreLeaves, blank, with_operator}
 use Rattle.psg_grammar.specs.Lookups.{operator_at, items_of}
 use Rattle.psg_grammar.specs.Open.{IsOpen}
 use Rattle.psg_grammar.specs.Paths.{Path}
-use Rattle.psg_grammar.specs.Steps.{IsWide, PassesAt, Place}
+use Rattle.psg_grammar.specs.Steps.{IsWide, PassesAt, Place, steps_above, AreWithin}
 use Rattle.psg_grammar.specs.WellFormed.{IsName}
 use Rattle.psg_eval.specs.declared.frame.Frame.{Frame}
 use Rattle.psg_eval.specs.declared.question.FocusFault.{FocusFault}
 use Rattle.psg_eval.specs.declared.question.FocusFault.TheVariants as questions
-use Rattle.psg_eval.specs.declared.summary.Known.{Known}
-use Rattle.psg_eval.specs.ClimbSteps.{climb_steps, AreWithin}
+use Rattle.psg_eval.specs.declared.summary.SummaryParts.{SummaryParts}
 use Rattle.psg_eval.specs.Frames.{StandAt, StandFor}
 use Rattle.psg_eval.specs.Summaries.{IsFirstPassing, IsSummary, IsSummaryOf, StaysWithin}
 use Rattle.psg_renaming.specs.Occurring.{leaf_names}
@@ -32,19 +31,19 @@ run (suc n) = 97 ∷ run n
 
 module _ (def : Definition) where
   -- the summary of a new tree of the kind, no step of which passes the limit
-  pub record IsBlank (kind : Kind) (s : Known) : Type 0 where
+  pub record IsBlank (kind : Kind) (s : SummaryParts) : Type 0 where
     pub of : IsSummaryOf def (blank def kind) s
     pub within : StaysWithin def (blank def kind)
     pub usual : IsSummary def s
 
-  abbrev pub AreBlanks : List Kind → List Known → Type 0
+  abbrev pub AreBlanks : List Kind → List SummaryParts → Type 0
   AreBlanks [] [] = Unit {0}
   AreBlanks (kind ∷ kinds) (s ∷ rest) = IsBlank kind s × AreBlanks kinds rest
   AreBlanks [] (s ∷ rest) = ⊥
   AreBlanks (kind ∷ kinds) [] = ⊥
 
   -- the summaries of new trees of the kinds, or a step of one of these trees passes the limit
-  abbrev pub IsBlanksAnswer : List Kind → Result (Vec Known Global) FocusFault → Type 0
+  abbrev pub IsBlanksAnswer : List Kind → Result (Vec SummaryParts Global) FocusFault → Type 0
   IsBlanksAnswer kinds (Ok made) = AreBlanks kinds made.items
   IsBlanksAnswer kinds (Err questions.Wide) =
       (kind : Kind) × IsIn kind kinds × (step : ℕ) × IsFirstPassing def (blank def kind) step
@@ -57,12 +56,12 @@ module _ (def : Definition) where
 
   -- whether every whole tree is open in which a tree with the summary is at the place of the frames; or a step of a
   -- climb passes the limit
-  abbrev pub IsJudged : List Frame → Known → Result Bool FocusFault → Type 0
+  abbrev pub IsJudged : List Frame → SummaryParts → Result Bool FocusFault → Type 0
   IsJudged around own (Ok good) = (f t : Fragment) (path : Path) → StandFor def around path f t → IsSummaryOf def t own
-      → (IsTrue good ↔ IsOpen def f) × AreWithin def (climb_steps def [] path f)
+      → (IsTrue good ↔ IsOpen def f) × AreWithin def (steps_above def [] path f)
   IsJudged around own (Err questions.Wide) =
       (f t : Fragment) (path : Path) → StandFor def around path f t → IsSummaryOf def t own
-      → (place : Place) × IsIn place (climb_steps def [] path f) × PassesAt def place.part place.step
+      → (place : Place) × IsIn place (steps_above def [] path f) × PassesAt def place.part place.step
   IsJudged around own (Err questions.Memory) = Unit {0}
 
   -- a summary with what is known of it at the place

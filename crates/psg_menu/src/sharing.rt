@@ -9,7 +9,7 @@ ghost use Rattle.psg_grammar.specs.declared.types.Kind.{Kind as PlainKind};
 ghost use Rattle.psg_grammar.specs.Sound.{IsSound};
 ghost use Rattle.psg_grammar.specs.declared.types.Kind.TheVariants.{List as OfList};
 ghost use Rattle.psg_eval.specs.declared.frame.Frame.TheVariants.{Elem as InList};
-ghost use Rattle.psg_eval.specs.declared.summary.Known.{Known};
+ghost use Rattle.psg_eval.specs.declared.summary.SummaryParts.{SummaryParts};
 ghost use Rattle.psg_eval.specs.Frames.{CanClimb, rungs, rungs_in};
 ghost use Rattle.psg_eval.specs.Summaries.{IsSummary};
 ghost use Rattle.psg_menu.specs.Sharing.{AreApart, CanRaise, CanRise, IsLevel, IsLevelAnswer, IsMove};
@@ -335,11 +335,11 @@ fn next_level<L: Ledger>(
 ) -> Result<Level, FocusFault>
     requires sound { IsSound way.definition.now }
     requires met { way.met ≡ meets (rise_of way.rung) way.star.now }
-    requires level { (o : ℕ) × (below : List Known) × (done : List Rise) × (kind up : PlainKind)
+    requires level { (o : ℕ) × (below : List SummaryParts) × (done : List Rise) × (kind up : PlainKind)
         × AreApart below way.star.now candidates.now
         × CanRise way.definition.now (rise_of way.rung) kind up
         × IsLevel way.definition.now o below way.star.now done kind candidates.now level.now }
-    ensures level { (o : ℕ) (below : List Known) (done : List Rise) (kind up : PlainKind)
+    ensures level { (o : ℕ) (below : List SummaryParts) (done : List Rise) (kind up : PlainKind)
         → AreApart below way.entry.star.now candidates.now
         → CanRise way.entry.definition.now (rise_of way.entry.rung) kind up
         → IsLevel way.entry.definition.now o below way.entry.star.now done kind candidates.now level.now
@@ -381,11 +381,11 @@ fn over_rung<L: Ledger>(
     steps: &mut Steps<L>,
 ) -> Result<Level, FocusFault>
     requires sound { IsSound definition.now }
-    requires level { (o : ℕ) × (below : List Known) × (done : List Rise) × (kind up : PlainKind)
+    requires level { (o : ℕ) × (below : List SummaryParts) × (done : List Rise) × (kind up : PlainKind)
         × AreApart below star.now candidates.now
         × CanRise definition.now (rise_of rung) kind up
         × IsLevel definition.now o below star.now done kind candidates.now level.now }
-    ensures level { (o : ℕ) (below : List Known) (done : List Rise) (kind up : PlainKind)
+    ensures level { (o : ℕ) (below : List SummaryParts) (done : List Rise) (kind up : PlainKind)
         → AreApart below star.now candidates.now
         → CanRise definition.now (rise_of rung.entry) kind up
         → IsLevel definition.now o below star.now done kind candidates.now level.now
@@ -415,11 +415,11 @@ fn over_list<L: Ledger>(
     steps: &mut Steps<L>,
 ) -> Result<Level, FocusFault>
     requires sound { IsSound definition.now }
-    requires level { (o : ℕ) × (below : List Known) × (done : List Rise) × (kind : PlainKind)
+    requires level { (o : ℕ) × (below : List SummaryParts) × (done : List Rise) × (kind : PlainKind)
         × AreApart below star.now candidates.now
         × CanRaise definition.now (InList list before.now rest.now) kind (OfList list)
         × IsLevel definition.now o below star.now done kind candidates.now level.now }
-    ensures level { (o : ℕ) (below : List Known) (done : List Rise) (kind : PlainKind)
+    ensures level { (o : ℕ) (below : List SummaryParts) (done : List Rise) (kind : PlainKind)
         → AreApart below star.now candidates.now
         → CanRaise definition.now (InList list before.now rest.now) kind (OfList list)
         → IsLevel definition.now o below star.now done kind candidates.now level.now
@@ -451,11 +451,11 @@ fn over_frame<L: Ledger>(
     steps: &mut Steps<L>,
 ) -> Result<Level, FocusFault>
     requires sound { IsSound definition.now }
-    requires level { (o : ℕ) × (below : List Known) × (done : List Rise) × (kind up : PlainKind)
+    requires level { (o : ℕ) × (below : List SummaryParts) × (done : List Rise) × (kind up : PlainKind)
         × AreApart below star.now candidates.now
         × CanRaise definition.now frame.now kind up
         × IsLevel definition.now o below star.now done kind candidates.now level.now }
-    ensures level { (o : ℕ) (below : List Known) (done : List Rise) (kind up : PlainKind)
+    ensures level { (o : ℕ) (below : List SummaryParts) (done : List Rise) (kind up : PlainKind)
         → AreApart below star.now candidates.now
         → CanRaise definition.now frame.now kind up
         → IsLevel definition.now o below star.now done kind candidates.now level.now
@@ -513,11 +513,11 @@ pub(crate) fn climbed_together<L: Ledger>(
     steps: &mut Steps<L>,
 ) -> Result<Level, FocusFault>
     requires sound { IsSound definition.now }
-    requires own { (o : ℕ) × (below : List Known) × (kind : PlainKind) × AreApart below star.now candidates.now
+    requires own { (o : ℕ) × (below : List SummaryParts) × (kind : PlainKind) × AreApart below star.now candidates.now
         × CanClimb definition.now frames.now kind
         × IsUsual definition.now kind own × Reaches definition.now o below star.now [] own
         × IsWithin definition.now o below star.now [] }
-    ensures level { (o : ℕ) (below : List Known) (kind : PlainKind) → AreApart below star.now candidates.now
+    ensures level { (o : ℕ) (below : List SummaryParts) (kind : PlainKind) → AreApart below star.now candidates.now
         → CanClimb definition.now frames.now kind
         → IsUsual definition.now kind own → Reaches definition.now o below star.now [] own
         → IsWithin definition.now o below star.now []

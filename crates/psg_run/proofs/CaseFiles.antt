@@ -5,7 +5,8 @@ use Rattle.std.specs.FinMap as map
 use Rattle.psg_world.specs.Files.{writing}
 use Rattle.psg_session.specs.Exchanges.{keeping, fetching}
 use Rattle.psg_session.specs.PlainState.{not_asked, stored, got, lost}
-use Rattle.psg_run.specs.Told.{Exchange, Known, sets, forgets, nothing, keeps, keep_lost, fetches, Told, Loses, none, stores, loses_keep, gets}
+use Rattle.psg_run.specs.Told.{Exchange, FileView, sets, forgets, nothing, keeps, keep_lost, fetches, Told, Loses, none}
+use Rattle.psg_run.specs.Told.{stores, loses_keep, gets}
 
 exchanges : List Exchange
 exchanges =
@@ -14,10 +15,10 @@ exchanges =
     ∷ record { asked = fetching (codes "g"); answer = got (9 ∷ []) }
     ∷ []
 
-before : Known
+before : FileView
 before = record { held = map.empty; unknown = [] }
 
-after : Known
+after : FileView
 after = forgets (sets before (codes "f") (1 ∷ [])) (codes "g")
 
 three_answers : Told exchanges None not_asked map.empty after.held (writing (codes "g") ∷ [])

@@ -14,4 +14,3 @@ pub mod OutputsThere
 pub mod OneRun
 pub mod CaseOutput
 pub mod CaseFiles
-pub mod FixedWordLaws

@@ -29,7 +29,7 @@ use Rattle.psg_session.proofs.FormedSteps.{keeps_form}
 use Rattle.psg_session.proofs.NextSteps.{has_some_step}
 use Rattle.psg_run.specs.Output.{asks as asks_files, ends, no_command, Prints, step as steps_on}
 use Rattle.psg_run.specs.SomeOutput.{HasSomeOutput}
-use Rattle.psg_run.specs.Told.{Exchange, fetches, keeps, Known, nothing, Replays, sets}
+use Rattle.psg_run.specs.Told.{Exchange, fetches, keeps, FileView, nothing, Replays, sets}
 
 -- ---- the text at the end of a line is UTF-8
 
@@ -97,17 +97,17 @@ start_formed def = record {
 
 module _ (def : Definition) (IsGood : Fragment → Type 0) (some : HasSomeStep def IsGood) (keeps_forms : KeepsForm def IsGood) where
   -- there is no output of the lines from the state, over files of which this is known
-  abbrev HasNone : List (List ℕ) → State → Known → Type 0
-  HasNone lines s k = (exchanges : List Exchange) (output : List ℕ) (t : State) (last : Known)
+  abbrev HasNone : List (List ℕ) → State → FileView → Type 0
+  HasNone lines s k = (exchanges : List Exchange) (output : List ℕ) (t : State) (last : FileView)
       → Prints def IsGood s lines exchanges None output t → Replays k exchanges [] last → ⊥
 
   abbrev Goes : List (List ℕ) → Type 0
-  Goes lines = (s : State) (k : Known) → IsFormedState def s → HasNone lines s k → ⊥
+  Goes lines = (s : State) (k : FileView) → IsFormedState def s → HasNone lines s k → ⊥
 
   outside : Held → Outside
   outside held = record { held = Some held; entries = [] }
 
-  module _ (line : List ℕ) (rest : List (List ℕ)) (s : State) (k : Known) (formed : IsFormedState def s) (more : Goes rest)
+  module _ (line : List ℕ) (rest : List (List ℕ)) (s : State) (k : FileView) (formed : IsFormedState def s) (more : Goes rest)
       (none : HasNone (line ∷ rest) s k) (command : Command) (spells : Spells line command) where
     -- a command that asks the files, which answer
     answered : (asked : Asked) → Asks def s command asked → ⊥

@@ -1,5 +1,5 @@
 -- The lines of a made script are those of its bytes, and they ask nothing of the files.
-use Rattle.std.proofs.Common.{◌≡◌, inl, inr, ℕ, ◌-◌, zero, suc, ◌<◌, ◌≤◌, ◌^◌, ◌==◌, ◌&&◌, nat_lt, Bool, true, false, cond, if◌then◌else◌, List, [], ◌∷◌, ◌++◌, length, take, get_or, true≢false, refl, sym, ◌∙◌, ap, subst, arith, lit<}
+use Rattle.std.proofs.Common.{◌≡◌, inl, inr, ℕ, ◌-◌, zero, suc, ◌<◌, ◌≤◌, ◌^◌, ◌==◌, nat_lt, Bool, true, false, cond, if◌then◌else◌, List, [], ◌∷◌, ◌++◌, length, take, get_or, true≢false, refl, sym, ◌∙◌, ap, subst, arith, lit<}
 use Rattle.std.specs.Prelude.{codes, decimal, slice_index}
 use Rattle.std.specs.List.{All, AllByRecursion, flat_map, list_all, slice_split}
 use Rattle.std.specs.Str.Lines.{strip_carriage_return}
@@ -10,6 +10,7 @@ use Rattle.std.proofs.lemmas.List.Folds.{list_all-append}
 use Rattle.std.proofs.lemmas.List.Splits.{slice_split_at}
 use Rattle.std.proofs.lemmas.List.Sums.{AllPass-from_list_all}
 use Rattle.std.proofs.lemmas.Str.Parse.{digit_from_value}
+use Rattle.std.proofs.lemmas.Bool.{and_from}
 use Rattle.psg_script.specs.declared.command.Command.TheVariants.{Keep, Fetch}
 use Rattle.psg_script.specs.Script.{numbers_down, declare_lines, assign_lines, with_feeds, script_lines as made_lines}
 use Rattle.psg_run.specs.Output.{is_empty, is_feed, kept_lines, script_lines}
@@ -54,22 +55,18 @@ plain_other b c low h = elim (eqb_tells b c) as (λ _. (b == c) ≡ false) [
   | inr p ↦ p.0
 ]
 
-both : (a b : Bool) → a ≡ true → b ≡ true → (a && b) ≡ true
-both true b p q = q
-both false b p q = p
-
 digits_plain : (ds : List ℕ) → AllDigits 10 ds → list_all is_plain ds ≡ true
 digits_plain [] h = refl
 digits_plain (d ∷ ds) h =
     let r = digit_from_value d h.0 in
-    both (is_plain d) (list_all is_plain ds) (above_plain d (let p : 13 < d = omega arith in p)) (digits_plain ds h.1)
+    and_from (is_plain d) (list_all is_plain ds) (above_plain d (let p : 13 < d = omega arith in p)) (digits_plain ds h.1)
 
 pub with_number : (text : List ℕ) (n : ℕ) → list_all is_plain text ≡ true → n ≤ 1000
     → list_all is_plain (text ++ decimal n) ≡ true
 with_number text n plain few =
     let d = decimal_is_IsNumeral n (let p : n < 2 ^ 64 = omega (arith, few) in p) in
     list_all-append is_plain text (decimal n)
-    ∙ both (list_all is_plain text) (list_all is_plain (decimal n)) plain (digits_plain (decimal n) d.0.1)
+    ∙ and_from (list_all is_plain text) (list_all is_plain (decimal n)) plain (digits_plain (decimal n) d.0.1)
 
 no_feeds : (line : List ℕ) → list_all is_plain line ≡ true → All (λ b. is_feed b ≡ false) line
 no_feeds line plain k d less =

@@ -5,7 +5,7 @@ use Rattle.std.specs.FinMap as map
 use Rattle.std.specs.Option.{unwrap_or}
 use Rattle.std.specs.Cmp.Lexicographic.{nat_list_cmp_total}
 use Rattle.std.proofs.lemmas.Option.{none-some}
-use Rattle.std.proofs.lemmas.Bool.{false≢true}
+use Rattle.std.proofs.lemmas.Bool.{false≢true, or_parts, or_from}
 use Rattle.std.proofs.lemmas.Map.Text.{is_eq-slice_cmp}
 use Rattle.psg_terms.specs.Names.{Name, is_among}
 use Rattle.psg_terms.proofs.DeclareLaws.{bytes_eq-refl, bytes_eq-same, bytes_eq-sym}
@@ -14,7 +14,9 @@ use Rattle.psg_session.specs.Exchanges.{Asked, fetching, gets as gets_bytes, IsA
 use Rattle.psg_session.specs.PlainState.{Answer, got, lost, not_asked, stored}
 use Rattle.psg_run.specs.Causes.{HasAsked, IsToldOf}
 use Rattle.psg_run.specs.Played.{Happened, no_question, question}
-use Rattle.psg_run.specs.Told.{Exchange, Known, IsGivenBy, IsGot, Loses, MayGive, Replays, Told, after_last, fetch_lost, fetches, forgets, gets, keep_lost, keeps, loses_fetch, loses_keep, none, nothing, sets, stores, without}
+use Rattle.psg_run.specs.Told.{Exchange, FileView, IsGivenBy, IsGot, Loses, MayGive, Replays, Told, after_last}
+use Rattle.psg_run.specs.Told.{fetch_lost, fetches, forgets, gets, keep_lost, keeps, loses_fetch, loses_keep, none}
+use Rattle.psg_run.specs.Told.{nothing, sets, stores, without}
 use Rattle.psg_run.specs.Worlds.{World}
 
 -- ---- maps and names
@@ -23,14 +25,6 @@ get_put : (m : Held) (k : Name) (v : List ℕ) (q : Name)
     → map.get (map.insert m k v) q ≡ cond (bytes_eq q k) (Some v) (map.get m q)
 get_put m k v q =
     map.get-insert nat_list_cmp_total m k v q ∙ ap (λ b. cond b (Some v) (map.get m q)) (is_eq-slice_cmp q k)
-
-both_false : (x y : Bool) → (x || y) ≡ false → (x ≡ false) × (y ≡ false)
-both_false true y e = absurd (false≢true (sym e))
-both_false false y e = (refl, e)
-
-or_false : (x y : Bool) → x ≡ false → y ≡ false → (x || y) ≡ false
-or_false true y e f = e
-or_false false y e f = f
 
 -- a name that is known apart from another one is known
 known_apart : (name q : Name) (ns : List Name) → bytes_eq q name ≡ false → is_among (without name ns) q ≡ false
@@ -42,18 +36,18 @@ known_apart name q (n ∷ ns) other h = go (bytes_eq n name) refl h (known_apart
       → (bytes_eq n q || is_among ns q) ≡ false
   go true same k known =
       let one : n ≡ name = bytes_eq-same n name same in
-      or_false (bytes_eq n q) (is_among ns q) (ap (λ x. bytes_eq x q) one ∙ bytes_eq-sym q name other) (known k)
+      or_from (bytes_eq n q) (is_among ns q) (ap (λ x. bytes_eq x q) one ∙ bytes_eq-sym q name other) (known k)
   go false same k known =
-      let both = both_false (bytes_eq n q) (is_among (without name ns) q) k in
-      or_false (bytes_eq n q) (is_among ns q) both.0 (known both.1)
+      let both = or_parts (bytes_eq n q) (is_among (without name ns) q) k in
+      or_from (bytes_eq n q) (is_among ns q) both.0 (known both.1)
 
 -- ---- what is known, and what the files hold
 
 -- the files hold what is known
-abbrev pub Agrees : Known → Held → Type 0
+abbrev pub Agrees : FileView → Held → Type 0
 Agrees k held = (name : Name) → is_among k.unknown name ≡ false → map.get held name ≡ map.get k.held name
 
-agrees_set : (k : Known) (held : Held) (name : Name) (bytes : List ℕ) → Agrees k held
+agrees_set : (k : FileView) (held : Held) (name : Name) (bytes : List ℕ) → Agrees k held
     → Agrees (sets k name bytes) (map.insert held name bytes)
 agrees_set k held name bytes agrees q known =
     get_put held name bytes q ∙ go (bytes_eq q name) refl ∙ sym (get_put k.held name bytes q) where
@@ -63,19 +57,19 @@ agrees_set k held name bytes agrees q known =
           ap (λ b. cond b (Some bytes) (map.get held q)) e ∙ sym (ap (λ b. cond b (Some bytes) (map.get k.held q)) e)
       go false e = ap (cond (bytes_eq q name) (Some bytes)) (agrees q (known_apart name q k.unknown e known))
 
-agrees_without : (k : Known) (held other : Held) (name : Name) → AgreesOutside name held other → Agrees k held
+agrees_without : (k : FileView) (held other : Held) (name : Name) → AgreesOutside name held other → Agrees k held
     → Agrees (forgets k name) other
 agrees_without k held other name outside agrees q known =
-    let both = both_false (bytes_eq name q) (is_among k.unknown q) known in
+    let both = or_parts (bytes_eq name q) (is_among k.unknown q) known in
     outside q (λ same. absurd (false≢true (sym both.0 ∙ ap (bytes_eq name) same ∙ bytes_eq-refl name))) ∙ agrees q both.1
 
-got_known : (k : Known) (held : Held) (name : Name) (bytes : List ℕ) → Agrees k held
+got_known : (k : FileView) (held : Held) (name : Name) (bytes : List ℕ) → Agrees k held
     → bytes ≡ front_of most_kept_bytes (bytes_of held name) → IsGot k name bytes
 got_known k held name bytes agrees are known =
     are ∙ ap (λ o. front_of most_kept_bytes (unwrap_or o [])) (agrees name known)
 
 -- the files tell what they hold, and it is known
-record Tells (k : Known) (outside : Outside) : Type 0 where
+record Tells (k : FileView) (outside : Outside) : Type 0 where
   held : Held
   is : outside.held ≡ Some held
   agrees : Agrees k held
@@ -89,8 +83,8 @@ others_told name held (Some other) h = (other, refl, h)
 -- ---- one question after the other
 
 -- The exchanges are replayed, and these calls failed.
-record IsReplayed (k : Known) (before : Outside) (exchanges : List Exchange) (after : Outside) : Type 0 where
-  last : Known
+record IsReplayed (k : FileView) (before : Outside) (exchanges : List Exchange) (after : Outside) : Type 0 where
+  last : FileView
   fresh : List Entry
   replays : Replays k exchanges fresh last
   tells : Tells last after
@@ -101,8 +95,8 @@ put_first : (before mid after : List Entry) (entry : Entry) (fresh : List Entry)
 put_first before mid after entry fresh one more = more ∙ ap (λ es. es ++ fresh) one ∙ append_assoc before (entry ∷ []) fresh
 
 module _ (before mid after : Outside) (rest : List Exchange) where
-  one_more : (asked : Asked) (answer : Answer) (k : Known) → Tells k before → IsAnswered before mid (Some asked) answer
-      → ((next : Known) → Tells next mid → IsReplayed next mid rest after)
+  one_more : (asked : Asked) (answer : Answer) (k : FileView) → Tells k before → IsAnswered before mid (Some asked) answer
+      → ((next : FileView) → Tells next mid → IsReplayed next mid rest after)
       → IsReplayed k before (record { asked = asked; answer = answer } ∷ rest) after
   one_more (keeping name bytes) stored k tells (stores_bytes held entries) behind =
       let is : mid.held ≡ Some (map.insert tells.held name bytes) =
@@ -161,7 +155,7 @@ module _ (before mid after : Outside) (rest : List Exchange) where
   one_more (fetching name) not_asked k tells answered behind = elim answered [ ]
   one_more (fetching name) stored k tells answered behind = elim answered [ ]
 
-replayed : (k : Known) {before after : Outside} {exchanges : List Exchange} → Tells k before
+replayed : (k : FileView) {before after : Outside} {exchanges : List Exchange} → Tells k before
     → Happened before exchanges after → IsReplayed k before exchanges after
 replayed k {before = before} tells (no_question same) = record {
   last = k;
@@ -252,7 +246,7 @@ module _ (mid after : Outside) where
   cut_untold (Some (keeping name bytes)) cut e = untold_others name mid.held after.held cut.0 e
   cut_untold (Some (fetching name)) cut e = ap (λ (o : Outside). o.held) cut ∙ e
 
-  cut_told : (k : Known) (unanswered : Option Asked) → Tells k mid → IsCutOff mid after unanswered
+  cut_told : (k : FileView) (unanswered : Option Asked) → Tells k mid → IsCutOff mid after unanswered
       → Tells (after_last k unanswered) after
   cut_told k None tells cut =
       record { held = tells.held; is = ap (λ (o : Outside). o.held) cut ∙ tells.is; agrees = tells.agrees }
@@ -272,7 +266,7 @@ given_length mid (Some (fetching name)) stored gives = gives
 given_length mid (Some (fetching name)) (got bytes) gives = gives.0
 given_length mid (Some (fetching name)) lost gives = gives
 
-given_bytes : (k : Known) (mid : Outside) (unanswered : Option Asked) (given : Answer) → Tells k mid
+given_bytes : (k : FileView) (mid : Outside) (unanswered : Option Asked) (given : Answer) → Tells k mid
     → MayGet mid unanswered given → IsGivenBy k unanswered given
 given_bytes k mid None given tells gives = tt
 given_bytes k mid (Some (keeping name bytes)) given tells gives = tt
@@ -314,7 +308,7 @@ module _ (old new : World) (exchanges : List Exchange) (mid : Outside) (unanswer
         quiet = quiet;
       }
   asked_by (Some held) is =
-      let k : Known = record { held = held; unknown = [] } in
+      let k : FileView = record { held = held; unknown = [] } in
       let start : Tells k (files_of old) = record { held = held; is = is; agrees = λ name known. refl } in
       let r = replayed k start happened in
       let last = cut_told mid (files_of new) r.last unanswered r.tells cut in

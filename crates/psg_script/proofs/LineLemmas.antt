@@ -1,5 +1,5 @@
 -- Laws of lines that are made word by word, and of the lines of the large script.
-use Rattle.std.proofs.Common.{◌≡◌, ℕ, zero, suc, ◌+◌, ◌<◌, ◌≤◌, length, get_or, take, List, [], ◌∷◌, ◌++◌, Option, Some, None, refl, sym, ap, subst, ◌∙◌, arith, append_assoc}
+use Rattle.std.proofs.Common.{◌≡◌, ℕ, suc, ◌+◌, ◌<◌, ◌≤◌, length, get_or, take, List, [], ◌∷◌, ◌++◌, Option, Some, None, refl, sym, ap, subst, ◌∙◌, arith, append_assoc, take_all}
 use Rattle.std.specs.Str.{IsUtf8}
 use Rattle.psg_script.specs.Forms.{Text, IsCommand, Follow, IsLineOf, Spells, tail_of}
 use Rattle.psg_script.specs.Keywords.{keyword_of, keyword_text, fields_of}
@@ -40,14 +40,8 @@ more_steps old line new ks i l e f =
     let last : steps_text (take (i + 1) ks) ≡ steps_text (take i ks) ++ (47 ∷ decimal (get_or ks i 0)) = ap steps_text (take_more ks i 0 l) ∙ steps_text_push (take i ks) (get_or ks i 0) in
     f ∙ (ap (λ t. t ++ (47 ∷ decimal (get_or ks i 0))) e ∙ (append_assoc old (steps_text (take i ks)) (47 ∷ decimal (get_or ks i 0)) ∙ ap (λ t. old ++ t) (sym last)))
 
-take_all : (ks : List ℕ) (i : ℕ) → length ks ≤ i → take i ks ≡ ks
-take_all [] zero l = refl
-take_all [] (suc i) l = refl
-take_all (k ∷ ks) zero l = absurd (let p : ⊥ = omega arith in p)
-take_all (k ∷ ks) (suc i) l = ap (λ t. k ∷ t) (take_all ks i (omega arith))
-
 pub all_steps : (old line : Text) (ks : List ℕ) (i : ℕ) → length ks ≤ i → line ≡ old ++ steps_text (take i ks) → line ≡ old ++ steps_text ks
-all_steps old line ks i l e = e ∙ ap (λ t. old ++ steps_text t) (take_all ks i l)
+all_steps old line ks i l e = e ∙ ap (λ t. old ++ steps_text t) (take_all i ks l)
 
 pub no_steps_yet : (line : Text) → line ≡ line ++ []
 no_steps_yet = append_nil

@@ -12,7 +12,7 @@ use Rattle.psg_cache.specs.Annotated.{tree_in, whole_in}
 use Rattle.psg_cache.specs.Edits.{IsSummaryAt, IsNoSummaryAt}
 use Rattle.psg_cache.specs.Notes.{IsFormed}
 use Rattle.psg_eval.specs.Summaries.{IsSummaryOf}
-use Rattle.psg_eval.specs.declared.summary.Known.{Known}
+use Rattle.psg_eval.specs.declared.summary.SummaryParts.{SummaryParts}
 use Rattle.psg_session.proofs.Verdicts.{root_is}
 use Rattle.std.proofs.lemmas.Option.{none-some}
 use Rattle.psg_grammar.specs.Paths.{node_at}
@@ -22,14 +22,14 @@ use Rattle.psg_script.specs.declared.command.Command.{Command}
 use Rattle.psg_script.specs.declared.command.Command.TheVariants.{Own, Free}
 use Rattle.psg_session.specs.declared.editor.Editor.{Editor}
 use Rattle.psg_session.specs.declared.editor.OpenedTree.{OpenedTree}
-use Rattle.psg_session.specs.declared.finding.Found.{Found}
+use Rattle.psg_session.specs.declared.finding.Target.{Target}
 use Rattle.psg_session.specs.Answers.{key_text, names_line, rows_lines}
 use Rattle.psg_session.specs.Good.{IsGoodIn}
 use Rattle.psg_session.specs.declared.editor.Outcome.TheVariants.{Stays}
 use Rattle.psg_session.specs.declared.refusal.Refusal.{Refusal}
 use Rattle.psg_session.specs.declared.refusal.Refusal.TheVariants.{NothingOpened}
 use Rattle.psg_session.specs.declared.replies.Reply.{Reply as Given}
-use Rattle.psg_session.specs.Outcomes.{IsFound, IsNotFound, IsOutcome}
+use Rattle.psg_session.specs.Outcomes.{IsTarget, HasNoTarget, IsOutcome}
 use Rattle.psg_session.specs.PlainState.{not_asked}
 use Rattle.psg_session.specs.PlainStep.{Steps, refuses, owns, frees}
 use Rattle.psg_session.specs.Sessions.{IsEditor, plain, state_of}
@@ -55,7 +55,7 @@ pub row_terms : (def : Definition) (f : Fragment) (rows : List (List Term)) → 
 row_terms def f rows (sorts, rel) row h = (sorts, (rel.shapes row h).sorted)
 
 module _ (def : Definition) (e : Editor) where
-  pub node_formed : IsEditor def e → (place : Where) (f : Found) → IsFound e place f → IsFormed def f.node.now
+  pub node_formed : IsEditor def e → (place : Where) (f : Target) → IsTarget e place f → IsFormed def f.node.now
   node_formed editor place f found =
       formed_below def (tree_in f.held.now.note) f.held.now.kind f.path.now f.node.now
       (opened_version def e f.held.now editor found.held).formed found.node
@@ -74,10 +74,10 @@ module _ (def : Definition) (e : Editor) where
         (frees (plain held) (is_opened_by def e held opened, tt) (opened_plain def e held opened))
 
   module _ (place : Where) where
-    pub own_not_found : (r : Refusal) → IsNotFound e place r → Answers def e (Own place) (refused r)
+    pub own_not_found : (r : Refusal) → HasNoTarget e place r → Answers def e (Own place) (refused r)
     own_not_found r missing = refuses (nowhere def e place r missing)
 
-    pub own_found : (f : Found) → IsFound e place f → (known : Known) → IsSummaryOf def f.node.now known
+    pub own_found : (f : Target) → IsTarget e place f → (known : SummaryParts) → IsSummaryOf def f.node.now known
         → (lines : List (List ℕ)) → lines ≡ rows_lines def.signature (map (key_text def) (keys known.header.names)) known.rel
         → Answers def e (Own place) (answered lines)
     own_found f found known is lines written =
@@ -91,7 +91,7 @@ module _ (def : Definition) (e : Editor) where
         subst (λ l. Answers def e (Own place) (answered l)) (sym told) step
 
     -- the summary at the path is that of the node that was found
-    pub own_known : IsEditor def e → (f : Found) → IsFound e place f → (known : Known)
+    pub own_known : IsEditor def e → (f : Target) → IsTarget e place f → (known : SummaryParts)
         → IsSummaryAt f.held.now.note f.path.now known → IsSummaryOf def f.node.now known
     own_known editor f found known at =
         let version = opened_version def e f.held.now editor found.held in
@@ -99,7 +99,7 @@ module _ (def : Definition) (e : Editor) where
         subst (λ x. IsSummaryOf def x known) (some_once node f.node.now (node_at (tree_in f.held.now.note) f.path.now) there found.node) is
 
     -- there is one
-    pub own_some : IsEditor def e → (f : Found) → IsFound e place f → IsNoSummaryAt f.held.now.note f.path.now → ⊥
+    pub own_some : IsEditor def e → (f : Target) → IsTarget e place f → IsNoSummaryAt f.held.now.note f.path.now → ⊥
     own_some editor f found none =
         let version = opened_version def e f.held.now editor found.held in
         none-some f.node.now (sym (none def (tree_in f.held.now.note) version.noted) ∙ found.node)

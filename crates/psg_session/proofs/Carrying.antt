@@ -13,7 +13,7 @@ use Rattle.psg_cache.specs.Notes.{IsNoteOf, mark_by}
 use Rattle.psg_cache.specs.Annotated.{Annotated, tree_in}
 use Rattle.psg_script.specs.declared.command.Command.{Command}
 use Rattle.psg_script.specs.declared.command.Command.TheVariants.{New}
-use Rattle.psg_session.specs.declared.changes.Made.{Made}
+use Rattle.psg_session.specs.declared.changes.Proposal.{Proposal}
 use Rattle.psg_session.specs.declared.editor.Editor.{Editor}
 use Rattle.psg_session.specs.declared.editor.OpenedTree.{OpenedTree}
 use Rattle.psg_session.specs.declared.editor.Outcome.{Outcome}
@@ -27,7 +27,7 @@ use Rattle.psg_library.specs.declared.fragment.SavedFragment.{SavedFragment as S
 use Rattle.psg_session.specs.declared.replies.Reply.TheVariants.{Refused}
 use Rattle.psg_session.specs.Edits.{cost_of, edited, MayEdit}
 use Rattle.psg_session.specs.Good.{IsGoodIn}
-use Rattle.psg_session.specs.Outcomes.{changed, IsFit, IsJudged, IsMade, IsOutcome, tree_tests}
+use Rattle.psg_session.specs.Outcomes.{changed, IsFit, IsJudged, IsProposal, IsOutcome, tree_tests}
 use Rattle.psg_session.specs.PlainState.{Opened, State, not_asked, with_change, with_new}
 use Rattle.psg_session.specs.PlainStep.{by_change, by_new, changes, closing, Gives, growing, HasName, IsDeclaringPhylum, IsRefused, loosening, OfResult, opening, opens, refuses, Steps}
 use Rattle.psg_session.specs.Refusals.{Passes, Refuses}
@@ -74,7 +74,7 @@ module _ (def : Definition) (Of To : (Fragment → Type 0) → Type 0)
 
 -- ---- a planned change
 
-module _ (def : Definition) (e : Editor) (command : Command) (m : Made) (made : IsMade def e command m) where
+module _ (def : Definition) (e : Editor) (command : Command) (m : Proposal) (made : IsProposal def e command m) where
   abbrev tree : Fragment
   tree = edited m.edit (tree_in made.held.note)
 

@@ -8,13 +8,13 @@ use Rattle.psg_script.specs.declared.command.Command.TheVariants.{Close}
 use Rattle.psg_session.specs.declared.changes.Plan.TheVariants.{RefusedBy}
 use Rattle.psg_session.specs.declared.edits.Edit.TheVariants.{Put}
 use Rattle.psg_session.specs.declared.editor.Editor.{Editor}
-use Rattle.psg_session.specs.declared.finding.Found.{Found}
+use Rattle.psg_session.specs.declared.finding.Target.{Target}
 use Rattle.psg_session.specs.declared.judging.Trial.TheVariants.{Closes}
 use Rattle.psg_session.specs.declared.refusal.Refusal.{Refusal}
 use Rattle.psg_session.specs.declared.refusal.Refusal.TheVariants.{NoPlace}
 use Rattle.psg_session.specs.PlainState.{Opened, named_path}
 use Rattle.psg_session.specs.PlainStep.{Gives, by_change, by_close, Makes, end_of}
-use Rattle.psg_session.specs.Outcomes.{IsFound, IsMade, IsNotFound, IsPlan, made_of}
+use Rattle.psg_session.specs.Outcomes.{IsTarget, IsProposal, HasNoTarget, IsPlan, proposal_of}
 use Rattle.psg_session.specs.Ticks.{above}
 use Rattle.psg_grammar.specs.Work.{work_of, climb_of}
 use Rattle.psg_grammar.specs.WellFormed.{WellFormed}
@@ -30,10 +30,10 @@ IsNotUnfinished old node = end_of node ≡ Some true → ⊥
 
 module _ (def : Definition) (e : Editor) (place : Where) where
   -- nothing is opened, or there is no node
-  pub close_nowhere : (r : Refusal) → IsNotFound e place r → IsPlan def e (Close place) (RefusedBy r)
+  pub close_nowhere : (r : Refusal) → HasNoTarget e place r → IsPlan def e (Close place) (RefusedBy r)
   close_nowhere r none = nowhere def e place r none
 
-  module _ (f : Found) (found : IsFound e place f) where
+  module _ (f : Target) (found : IsTarget e place f) where
     -- the node is no unfinished list
     pub close_refused : (end_of f.node.now ≡ Some true → ⊥) → IsPlan def e (Close place) (RefusedBy NoPlace)
     close_refused never = inr (
@@ -51,7 +51,7 @@ module _ (def : Definition) (e : Editor) (place : Where) where
 
     -- the list is finished
     pub close_made : IsEditor def e → end_of f.node.now ≡ Some true → (new : Fragment) → new ≡ ended false f.node.now
-        → IsMade def e (Close place) (made_of Closes (Put f.path.now new) f.path.now)
+        → IsProposal def e (Close place) (proposal_of Closes (Put f.path.now new) f.path.now)
     close_made editor ends new is =
         let result = put_is e def place f found (ended false) new is in
         let tree : Fragment = replaced f.path.now new (tree_in f.held.now.note) in

@@ -13,13 +13,13 @@ use Rattle.psg_script.specs.declared.command.Command.TheVariants.{Cut}
 use Rattle.psg_session.specs.declared.changes.Plan.TheVariants.{RefusedBy}
 use Rattle.psg_session.specs.declared.edits.Edit.TheVariants.{Put}
 use Rattle.psg_session.specs.declared.editor.Editor.{Editor}
-use Rattle.psg_session.specs.declared.finding.Found.{Found}
+use Rattle.psg_session.specs.declared.finding.Target.{Target}
 use Rattle.psg_session.specs.declared.judging.Trial.TheVariants.{Loosens}
 use Rattle.psg_session.specs.declared.refusal.Refusal.{Refusal}
 use Rattle.psg_session.specs.declared.refusal.Refusal.TheVariants.{NoPlaceholder}
 use Rattle.psg_session.specs.PlainState.{Opened, named_path}
 use Rattle.psg_session.specs.PlainStep.{AtNode, Gives, by_change, by_cut, IsDeclaringPhylum, Makes}
-use Rattle.psg_session.specs.Outcomes.{IsFound, IsMade, IsNotFound, IsPlan, made_of}
+use Rattle.psg_session.specs.Outcomes.{IsTarget, IsProposal, HasNoTarget, IsPlan, proposal_of}
 use Rattle.psg_session.specs.Ticks.{above}
 use Rattle.psg_grammar.specs.Work.{work_of, climb_of}
 use Rattle.psg_grammar.specs.WellFormed.{WellFormed}
@@ -32,7 +32,7 @@ use Rattle.psg_session.proofs.ChangeLaws.{kind_is, may_put, put_is, cost_here}
 
 module _ (def : Definition) (e : Editor) (place : Where) where
   -- nothing is opened, or there is no node
-  pub cut_nowhere : (r : Refusal) → IsNotFound e place r → IsPlan def e (Cut place) (RefusedBy r)
+  pub cut_nowhere : (r : Refusal) → HasNoTarget e place r → IsPlan def e (Cut place) (RefusedBy r)
   cut_nowhere r none = nowhere def e place r none
 
   abbrev Declares : Opened → Fragment → Type 0
@@ -45,7 +45,7 @@ module _ (def : Definition) (e : Editor) (place : Where) where
       subst (λ t. WellFormed def t K) (sym fresh)
       (subst (WellFormed def (blank def kind)) (sym (kind_is def node K kind formed is)) (blank_formed def kind there never))
 
-  module _ (f : Found) (found : IsFound e place f) (kind : Kind) (is : IsOfKind def f.node.now kind) where
+  module _ (f : Target) (found : IsTarget e place f) (kind : Kind) (is : IsOfKind def f.node.now kind) where
     -- a placeholder would not say which names it declares
     pub cut_declares : IsDeclaringPhylum def kind → IsPlan def e (Cut place) (RefusedBy NoPlaceholder)
     cut_declares declares = inr (
@@ -73,7 +73,7 @@ module _ (def : Definition) (e : Editor) (place : Where) where
 
     -- a new tree is in place of the node
     pub cut_made : IsEditor def e → HasKind def kind → (IsDeclaringPhylum def kind → ⊥) → (new : Fragment)
-        → new ≡ blank def kind → IsMade def e (Cut place) (made_of Loosens (Put f.path.now new) f.path.now)
+        → new ≡ blank def kind → IsProposal def e (Cut place) (proposal_of Loosens (Put f.path.now new) f.path.now)
     cut_made editor there never new fresh =
         let result = put_is e def place f found (λ old. blank def kind) new fresh in
         let tree : Fragment = replaced f.path.now new (tree_in f.held.now.note) in

@@ -13,13 +13,13 @@ use Rattle.psg_session.specs.declared.changes.Listed.{Listed}
 use Rattle.psg_session.specs.declared.changes.Plan.TheVariants.{RefusedBy}
 use Rattle.psg_session.specs.declared.edits.Edit.TheVariants.{Add}
 use Rattle.psg_session.specs.declared.editor.Editor.{Editor}
-use Rattle.psg_session.specs.declared.finding.Found.{Found}
+use Rattle.psg_session.specs.declared.finding.Target.{Target}
 use Rattle.psg_session.specs.declared.judging.Trial.TheVariants.{Grows}
 use Rattle.psg_session.specs.declared.refusal.Refusal.{Refusal}
 use Rattle.psg_session.specs.declared.refusal.Refusal.TheVariants.{NoPlace}
 use Rattle.psg_session.specs.PlainState.{Opened, named_path}
 use Rattle.psg_session.specs.PlainStep.{AtNode, Gives, by_change, by_insert, IsOfPhylum, IsOperator, IsOther, IsWanted, Makes}
-use Rattle.psg_session.specs.Outcomes.{IsFound, IsFreshAnswer, IsListed, IsMade, IsNotFound, IsPlan, made_of}
+use Rattle.psg_session.specs.Outcomes.{IsTarget, IsFreshAnswer, IsListed, IsProposal, HasNoTarget, IsPlan, proposal_of}
 use Rattle.psg_session.specs.Ticks.{above, OfFresh}
 use Rattle.psg_grammar.specs.Work.{work_of, climb_of}
 use Rattle.psg_session.specs.Sessions.{plain, state_of}
@@ -36,10 +36,10 @@ HasNoPlace k old node = (IsList node → ⊥) ⊎ (length (children_of node) < k
 
 module _ (def : Definition) (e : Editor) (place : Where) (k : ℕ) (name : Name) (args : List ℕ) where
   -- nothing is opened, or there is no node
-  pub insert_nowhere : (r : Refusal) → IsNotFound e place r → IsPlan def e (Insert place k name args) (RefusedBy r)
+  pub insert_nowhere : (r : Refusal) → HasNoTarget e place r → IsPlan def e (Insert place k name args) (RefusedBy r)
   insert_nowhere r none = nowhere def e place r none
 
-  module _ (f : Found) (found : IsFound e place f) where
+  module _ (f : Target) (found : IsTarget e place f) where
     insert_no_place : HasNoPlace k (plain f.held.now) f.node.now
         → IsPlan def e (Insert place k name args) (RefusedBy NoPlace)
     insert_no_place none = inr (
@@ -143,7 +143,7 @@ module _ (def : Definition) (e : Editor) (place : Where) (k : ℕ) (name : Name)
 
           -- the operator is a new element
           pub insert_made : HasQuietSlots def → (fresh : Fragment) → fresh ≡ fresh_operator def o leaves
-              → IsMade def e (Insert place k name args) (made_of Grows (Add f.path.now k fresh) (f.path.now ++ k ∷ []))
+              → IsProposal def e (Insert place k name args) (proposal_of Grows (Add f.path.now k fresh) (f.path.now ++ k ∷ []))
           insert_made slots fresh is_fresh =
               let (l, of_list, at) = listed.kind in
               let here = path_is def e place f found in

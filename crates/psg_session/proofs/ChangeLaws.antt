@@ -1,5 +1,5 @@
 -- What the changes of a found node have in common.
-use Rattle.std.proofs.Common.{◌≡◌, ℕ, ◌<◌, Bool, false, true≢false, List, [], length, slice_get, Some, None, Option, Result, Ok, IfOk, option_map, refl, sym, subst, ◌≤◌, ◌+◌, ap, arith}
+use Rattle.std.proofs.Common.{◌≡◌, ℕ, ◌<◌, Bool, false, true≢false, List, [], length, slice_get, Some, None, Option, Ok, option_map, refl, sym, subst, ◌≤◌, ◌+◌, ap, arith}
 use Rattle.std.proofs.lemmas.Option.{none-some, slice_get_within}
 use Rattle.psg_terms.specs.Names.{Name}
 use Rattle.psg_grammar.specs.declared.types.Kind.{Kind}
@@ -22,9 +22,9 @@ use Rattle.psg_tree.proofs.Walks.{change_at-agree}
 use Rattle.psg_cache.proofs.FormedTrees.{ended_formed, formed_is_kind, kind_once, node_formed}
 use Rattle.psg_session.specs.declared.edits.Edit.TheVariants.{Put}
 use Rattle.psg_session.specs.declared.editor.Editor.{Editor}
-use Rattle.psg_session.specs.declared.finding.Found.{Found}
+use Rattle.psg_session.specs.declared.finding.Target.{Target}
 use Rattle.psg_session.specs.Edits.{MayEdit}
-use Rattle.psg_session.specs.Outcomes.{IsFound, IsFreshAnswer}
+use Rattle.psg_session.specs.Outcomes.{IsTarget, IsFreshAnswer}
 use Rattle.psg_session.specs.PlainState.{Opened, named_path}
 use Rattle.psg_session.specs.PlainStep.{GivesNone, IsListOf, IsOfPhylum, IsOperator, IsOther, IsWanted, end_of}
 use Rattle.psg_grammar.specs.Work.{climb_of}
@@ -33,10 +33,6 @@ use Rattle.psg_session.specs.Sessions.{IsEditor, state_of}
 use Rattle.psg_cache.specs.Annotated.{tree_in}
 use Rattle.psg_session.proofs.EditLaws.{opened_version}
 use Rattle.psg_session.proofs.StepLaws.{at_node, has_node, path_is, some_once}
-
--- what is known of the value of a call that went well
-pub ok_at : {X E : Type 0} (P : X → Type 0) (r : Result X E) (x : X) → r ≡ Ok x → IfOk r P → P x
-ok_at P r x e h = subst (λ q. IfOk q P) e h
 
 -- an operator with a name is there
 pub operator_there : (def : Definition) (o : ℕ) (name : Name) → IsOperator def o name → o < length def.operators
@@ -110,8 +106,8 @@ module _ (def : Definition) where
 
 -- ---- the found node
 
-module _ (def : Definition) (e : Editor) (place : Where) (f : Found) (editor : IsEditor def e)
-    (found : IsFound e place f) where
+module _ (def : Definition) (e : Editor) (place : Where) (f : Target) (editor : IsEditor def e)
+    (found : IsTarget e place f) where
   pub found_formed : (K : Kind) × WellFormed def f.node.now K
   found_formed =
       node_formed def (tree_in f.held.now.note) f.held.now.kind f.path.now f.node.now
@@ -129,7 +125,7 @@ module _ (def : Definition) (e : Editor) (place : Where) (f : Found) (editor : I
   }
 
 -- what a change at the found node costs, said by the place
-module _ (e : Editor) (place : Where) (f : Found) (found : IsFound e place f) where
+module _ (e : Editor) (place : Where) (f : Target) (found : IsTarget e place f) where
   pub cost_here : (n m : ℕ) → n ≡ m → n + climb_of (tree_in f.held.now.note) f.path.now
       ≤ m + climb_of (tree_in f.held.now.note) (named_path place e.cursor)
   cost_here n m same =
@@ -139,7 +135,7 @@ module _ (e : Editor) (place : Where) (f : Found) (found : IsFound e place f) wh
       omega (arith, same, same_path)
 
 -- a change of the found node is another tree in its place
-module _ (e : Editor) (def : Definition) (place : Where) (f : Found) (found : IsFound e place f)
+module _ (e : Editor) (def : Definition) (place : Where) (f : Target) (found : IsTarget e place f)
     (g : Fragment → Fragment) (new : Fragment) (is : new ≡ g f.node.now) where
   pub put_is : change_at g (named_path place e.cursor) (tree_in f.held.now.note)
       ≡ replaced f.path.now new (tree_in f.held.now.note)
@@ -151,7 +147,7 @@ module _ (e : Editor) (def : Definition) (place : Where) (f : Found) (found : Is
 -- ---- the tests before the tree
 
 -- the tests of an operator that is to be where one of the phylum is wanted
-module _ (def : Definition) (e : Editor) (place : Where) (f : Found) (found : IsFound e place f)
+module _ (def : Definition) (e : Editor) (place : Where) (f : Target) (found : IsTarget e place f)
     (sound : IsSound def) (k : Option ℕ) (p : ℕ) (wanted : IsWanted def k f.node.now p)
     (only : (q : ℕ) → IsWanted def k f.node.now q → q ≡ p)
     (name : Name) (args : List ℕ) (o : ℕ) (named : IsOperator def o name) where

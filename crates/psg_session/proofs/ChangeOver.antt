@@ -13,18 +13,18 @@ use Rattle.psg_class.specs.Texts.{ReadsAs, TextTokens}
 use Rattle.psg_lexis.specs.declared.token.Spanned.{Spanned}
 use Rattle.psg_script.specs.declared.command.Where.{Where}
 use Rattle.psg_script.specs.declared.command.Command.TheVariants.{Over}
-use Rattle.psg_session.specs.declared.changes.Made.{Made}
+use Rattle.psg_session.specs.declared.changes.Proposal.{Proposal}
 use Rattle.psg_session.specs.declared.changes.Plan.TheVariants.{RefusedBy, Makes as Plans}
 use Rattle.psg_session.specs.declared.edits.Edit.TheVariants.{Put}
 use Rattle.psg_session.specs.declared.editor.Editor.{Editor}
 use Rattle.psg_session.specs.declared.editor.OpenedTree.{OpenedTree}
-use Rattle.psg_session.specs.declared.finding.Found.{Found}
+use Rattle.psg_session.specs.declared.finding.Target.{Target}
 use Rattle.psg_session.specs.declared.judging.Trial.TheVariants.{Types}
 use Rattle.psg_session.specs.declared.refusal.Refusal.{Refusal}
 use Rattle.psg_cache.specs.Diff.{diff_of}
 use Rattle.psg_session.specs.Edits.{cost_of}
 use Rattle.psg_session.specs.Good.{IsGoodIn}
-use Rattle.psg_session.specs.Outcomes.{IsFound, IsMade, IsNotFound, IsPlan, made_of, MaySpend, tree_tests}
+use Rattle.psg_session.specs.Outcomes.{IsTarget, IsProposal, HasNoTarget, IsPlan, proposal_of, MaySpend, tree_tests}
 use Rattle.psg_session.specs.PlainState.{Opened, named_path, not_asked}
 use Rattle.psg_session.specs.PlainStep.{AtNode, Gives, by_change, by_over, IsRefused, IsTaken, Makes, OfResult}
 use Rattle.psg_session.specs.Refusals.{Passes, Refuses}
@@ -47,7 +47,7 @@ or_nests never (inr (shallow, x)) = inr (neither never shallow, x)
 
 module _ (def : Definition) (e : Editor) (place : Where) (text : List ℕ) where
   -- nothing is opened, or there is no node
-  pub over_nowhere : (r : Refusal) → IsNotFound e place r → IsPlan def e (Over place text) (RefusedBy r)
+  pub over_nowhere : (r : Refusal) → HasNoTarget e place r → IsPlan def e (Over place text) (RefusedBy r)
   over_nowhere r none = nowhere def e place r none
 
   abbrev Fails : Opened → Fragment → Type 0
@@ -56,7 +56,7 @@ module _ (def : Definition) (e : Editor) (place : Where) (text : List ℕ) where
   abbrev Nests : Opened → Fragment → Type 0
   Nests old node = NestsTooDeep def node text
 
-  module _ (f : Found) (found : IsFound e place f) where
+  module _ (f : Target) (found : IsTarget e place f) where
     -- ---- ticks
 
     -- the text alone was read
@@ -220,7 +220,7 @@ module _ (def : Definition) (e : Editor) (place : Where) (text : List ℕ) where
 
         -- the tree is in place of the node
         pub over_made : IsEditor def e
-            → IsMade def e (Over place text) (made_of Types (Put f.path.now new) f.path.now)
+            → IsProposal def e (Over place text) (proposal_of Types (Put f.path.now new) f.path.now)
         over_made editor =
             let result = put_is e def place f found (λ old. new) new refl in
             record {
@@ -253,17 +253,17 @@ module _ (def : Definition) (e : Editor) (place : Where) (text : List ℕ) where
               (omega arith);
         }
 
-        pub made_spends : (made : Made) → made ≡ made_of Types (Put f.path.now new) f.path.now → (from so_far : ℕ)
+        pub made_spends : (made : Proposal) → made ≡ proposal_of Types (Put f.path.now new) f.path.now → (from so_far : ℕ)
             → HasRead def text from so_far → MaySpend def e (Over place text) from so_far (Plans made)
         made_spends made is_made from so_far read to (inl same) =
             both_ticks from so_far to read (omega (arith, same))
         made_spends made is_made from so_far read to (inr (m, is_plan, held, opened, le)) =
-            let one : m ≡ made_of Types (Put f.path.now new) f.path.now = plan_once m made is_plan ∙ is_made in
+            let one : m ≡ proposal_of Types (Put f.path.now new) f.path.now = plan_once m made is_plan ∙ is_made in
             let two : held ≡ f.held.now = some_once held f.held.now e.opened opened found.held in
             both_ticks from so_far to read
             (subst (λ (h : OpenedTree). to ≤ so_far + cost_of (Put f.path.now new) (tree_in h.note)) two
-            (subst (λ (x : Made). to ≤ so_far + cost_of x.edit (tree_in held.note)) one le)) where
-              plan_once : (a b : Made) → Plans b ≡ Plans a → a ≡ b
+            (subst (λ (x : Proposal). to ≤ so_far + cost_of x.edit (tree_in held.note)) one le)) where
+              plan_once : (a b : Proposal) → Plans b ≡ Plans a → a ≡ b
               plan_once a b same = cc
 
   -- a plan that refuses spends nothing more
@@ -275,7 +275,7 @@ module _ (def : Definition) (e : Editor) (place : Where) (text : List ℕ) where
     within = ticked.within;
   }
   refused_spends r from so_far ticked to (inr (m, is_plan, held, opened, le)) = absurd (apart m is_plan) where
-    apart : (m : Made) → RefusedBy r ≡ Plans m → ⊥
+    apart : (m : Proposal) → RefusedBy r ≡ Plans m → ⊥
     apart m same = cc
 
   -- nothing is opened or no node is there, and nothing was counted

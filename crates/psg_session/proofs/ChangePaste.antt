@@ -25,7 +25,7 @@ use Rattle.psg_session.specs.declared.refusal.Refusal.{Refusal}
 use Rattle.psg_session.specs.declared.refusal.Refusal.TheVariants.{NotHole, NoPlace, OtherPhylum}
 use Rattle.psg_library.specs.declared.fragment.SavedFragment.{SavedFragment as Saved}
 use Rattle.psg_session.specs.declared.editor.OpenedTree.{OpenedTree}
-use Rattle.psg_session.specs.Outcomes.{IsListed, IsMade, IsNotFound, IsNoSource, IsPlan, IsSource, made_of}
+use Rattle.psg_session.specs.Outcomes.{IsListed, IsProposal, HasNoTarget, IsNoSource, IsPlan, IsSource, proposal_of}
 use Rattle.psg_session.specs.PlainState.{Opened, named_path}
 use Rattle.psg_session.specs.PlainStep.{AtNode, by_change, by_paste, by_paste_in, Gives, HasNoRoom, IsEmptyPlace, IsOtherSaved, Makes, MayTake}
 use Rattle.psg_session.specs.Sessions.{IsEditor, plain, state_of}
@@ -38,7 +38,7 @@ use Rattle.psg_session.proofs.StepLaws.{at_node, has_node, is_opened, is_opened_
 
 -- there is such a fragment, and no node
 pub no_source : (e : Editor) (place : Where) (name : Name) (held : OpenedTree) → e.opened ≡ Some held → (x : Saved)
-    → saved_at e.saved name ≡ Some x → (r : Refusal) → IsNotFound e place r → IsNoSource e place name r
+    → saved_at e.saved name ≡ Some x → (r : Refusal) → HasNoTarget e place r → IsNoSource e place name r
 no_source e place name held opened x at r (inl (is, none)) = absurd (none-some held (sym none ∙ opened))
 no_source e place name held opened x at r (inr (is, other, also, none)) = inr (other, also, inr (is, x, at, none))
 
@@ -152,7 +152,7 @@ module _ (def : Definition) (e : Editor) (place : Where) (name : Name) (x : Sour
     -- the fragment is in place of the node
     pub paste_made : IsEditor def e → IsOfKind def x.found.node.now x.saved.now.kind → (new : Fragment)
         → new ≡ x.saved.now.tree
-        → IsMade def e (Paste place None name) (made_of Grows (Put x.found.path.now new) x.found.path.now)
+        → IsProposal def e (Paste place None name) (proposal_of Grows (Put x.found.path.now new) x.found.path.now)
     paste_made editor takes new is =
         let f = x.found in
         let found = source.found in
@@ -265,8 +265,8 @@ module _ (def : Definition) (e : Editor) (place : Where) (name : Name) (x : Sour
         -- the fragment is a new element
         pub paste_in_made : IsEditor def e → x.saved.now.kind ≡ kinds.Phylum list.kind.now.element → (new : Fragment)
             → new ≡ x.saved.now.tree
-            → IsMade def e (Paste place (Some k) name)
-            (made_of Grows (Add x.found.path.now k new) (x.found.path.now ++ k ∷ []))
+            → IsProposal def e (Paste place (Some k) name)
+            (proposal_of Grows (Add x.found.path.now k new) (x.found.path.now ++ k ∷ []))
         paste_in_made editor same_kind new is =
             let f = x.found in
             let found = source.found in

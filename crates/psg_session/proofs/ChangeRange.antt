@@ -18,7 +18,7 @@ use Rattle.psg_script.specs.declared.command.Command.TheVariants.{Range}
 use Rattle.psg_textedit.specs.declared.change.Change.{Change}
 use Rattle.psg_textedit.specs.declared.change.TextFault.{TextFault}
 use Rattle.psg_textedit.specs.declared.change.TextFault.TheVariants as faults
-use Rattle.psg_session.specs.declared.changes.Made.{Made}
+use Rattle.psg_session.specs.declared.changes.Proposal.{Proposal}
 use Rattle.psg_session.specs.declared.changes.Plan.TheVariants.{RefusedBy, Makes as Plans}
 use Rattle.psg_session.specs.declared.edits.Edit.TheVariants.{Put}
 use Rattle.psg_session.specs.declared.editor.Editor.{Editor}
@@ -29,7 +29,7 @@ use Rattle.psg_session.specs.declared.refusal.Refusal.TheVariants.{NothingOpened
 use Rattle.psg_session.specs.Edits.{cost_of}
 use Rattle.psg_session.specs.Formed.{IsFormedState}
 use Rattle.psg_session.specs.Good.{IsGoodIn}
-use Rattle.psg_session.specs.Outcomes.{IsMade, IsPlan, made_of, MaySpend, tree_tests}
+use Rattle.psg_session.specs.Outcomes.{IsProposal, IsPlan, proposal_of, MaySpend, tree_tests}
 use Rattle.psg_session.specs.PlainState.{Opened, not_asked}
 use Rattle.psg_session.specs.PlainStep.{Gives, by_change, by_range, IsRefused, IsTaken, Makes, OfResult}
 use Rattle.psg_session.specs.RangeAnswers.{HasChange, HasNoChange, IsRangeRefusal}
@@ -42,10 +42,10 @@ use Rattle.psg_session.proofs.EditLaws.{opened_version}
 use Rattle.psg_session.proofs.StepLaws.{is_opened_by, not_opened, opened_plain, some_once}
 use Rattle.psg_session.proofs.TypedLaws.{has_tree, no_fault, one_tree, read_tokens}
 
-plan_once : (a b : Made) → Plans b ≡ Plans a → a ≡ b
+plan_once : (a b : Proposal) → Plans b ≡ Plans a → a ≡ b
 plan_once a b same = cc
 
-apart : (r : Refusal) (m : Made) → RefusedBy r ≡ Plans m → ⊥
+apart : (r : Refusal) (m : Proposal) → RefusedBy r ≡ Plans m → ⊥
 apart r m same = cc
 
 module _ (def : Definition) (e : Editor) (start end : ℕ) (text : List ℕ) where
@@ -244,7 +244,7 @@ module _ (def : Definition) (e : Editor) (start end : ℕ) (text : List ℕ) whe
             )));
       }
 
-      pub range_made : IsMade def e (Range start end text) (made_of Types (Put change.path change.tree) [])
+      pub range_made : IsProposal def e (Range start end text) (proposal_of Types (Put change.path change.tree) [])
       range_made = record {
         held = held;
         opened = is;
@@ -264,14 +264,14 @@ module _ (def : Definition) (e : Editor) (start end : ℕ) (text : List ℕ) whe
             (λ found n reading. inr (whole, [], makes_whole, omega arith)));
       }
 
-      pub range_spends : (made : Made) → made ≡ made_of Types (Put change.path change.tree) [] → (from so_far : ℕ)
+      pub range_spends : (made : Proposal) → made ≡ proposal_of Types (Put change.path change.tree) [] → (from so_far : ℕ)
           → ((found : Option Path) (n : ℕ) → IsReading def (tree_in held.note) here found n → so_far ≤ from + n)
           → MaySpend def e (Range start end text) from so_far (Plans made)
       range_spends made is_made from so_far read to (inl same) =
           both_ticks from so_far to read (omega (arith, same))
       range_spends made is_made from so_far read to (inr (m, is_plan, other, opened, le)) =
-          let one : m ≡ made_of Types (Put change.path change.tree) [] = plan_once m made is_plan ∙ is_made in
+          let one : m ≡ proposal_of Types (Put change.path change.tree) [] = plan_once m made is_plan ∙ is_made in
           let two : other ≡ held = some_once other held e.opened opened is in
           both_ticks from so_far to read
           (subst (λ (x : OpenedTree). to ≤ so_far + cost_of (Put change.path change.tree) (tree_in x.note)) two
-          (subst (λ (x : Made). to ≤ so_far + cost_of x.edit (tree_in other.note)) one le))
+          (subst (λ (x : Proposal). to ≤ so_far + cost_of x.edit (tree_in other.note)) one le))

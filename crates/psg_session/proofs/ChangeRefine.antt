@@ -12,13 +12,13 @@ use Rattle.psg_script.specs.declared.command.Command.TheVariants.{Refine}
 use Rattle.psg_session.specs.declared.changes.Plan.TheVariants.{RefusedBy}
 use Rattle.psg_session.specs.declared.edits.Edit.TheVariants.{Put}
 use Rattle.psg_session.specs.declared.editor.Editor.{Editor}
-use Rattle.psg_session.specs.declared.finding.Found.{Found}
+use Rattle.psg_session.specs.declared.finding.Target.{Target}
 use Rattle.psg_session.specs.declared.judging.Trial.TheVariants.{Grows}
 use Rattle.psg_session.specs.declared.refusal.Refusal.{Refusal}
 use Rattle.psg_session.specs.declared.refusal.Refusal.TheVariants.{NotHole}
 use Rattle.psg_session.specs.PlainState.{Opened, named_path}
 use Rattle.psg_session.specs.PlainStep.{AtNode, Gives, by_change, by_refine, IsOfPhylum, IsOperator, IsOther, IsWanted, Makes}
-use Rattle.psg_session.specs.Outcomes.{IsFound, IsFreshAnswer, IsMade, IsNotFound, IsPlan, made_of}
+use Rattle.psg_session.specs.Outcomes.{IsTarget, IsFreshAnswer, IsProposal, HasNoTarget, IsPlan, proposal_of}
 use Rattle.psg_session.specs.Ticks.{above, OfFresh}
 use Rattle.psg_grammar.specs.Work.{work_of, climb_of}
 use Rattle.psg_grammar.specs.WellFormed.{WellFormed}
@@ -35,7 +35,7 @@ IsNoHole old node = (p : ℕ) → node ≡ hole p → ⊥
 
 module _ (def : Definition) (e : Editor) (place : Where) (name : Name) (args : List ℕ) where
   -- nothing is opened, or there is no node
-  pub refine_nowhere : (r : Refusal) → IsNotFound e place r → IsPlan def e (Refine place name args) (RefusedBy r)
+  pub refine_nowhere : (r : Refusal) → HasNoTarget e place r → IsPlan def e (Refine place name args) (RefusedBy r)
   refine_nowhere r none = nowhere def e place r none
 
   -- the tree stays of the node's kind
@@ -45,7 +45,7 @@ module _ (def : Definition) (e : Editor) (place : Where) (name : Name) (args : L
       let it : WellFormed def (hole p) K = subst (λ x. WellFormed def x K) is formed in
       subst (WellFormed def fresh) (sym it.0.1) (answer_formed def sound slots p name args fresh answer)
 
-  module _ (f : Found) (found : IsFound e place f) where
+  module _ (f : Target) (found : IsTarget e place f) where
     -- the node is no placeholder
     pub refine_no_hole : ((p : ℕ) → f.node.now ≡ hole p → ⊥)
         → IsPlan def e (Refine place name args) (RefusedBy NotHole)
@@ -123,7 +123,7 @@ module _ (def : Definition) (e : Editor) (place : Where) (name : Name) (args : L
 
         -- the operator is in place of the placeholder
         pub refine_made : HasQuietSlots def → IsEditor def e → (fresh : Fragment) → fresh ≡ fresh_operator def o leaves
-            → IsMade def e (Refine place name args) (made_of Grows (Put f.path.now fresh) f.path.now)
+            → IsProposal def e (Refine place name args) (proposal_of Grows (Put f.path.now fresh) f.path.now)
         refine_made slots editor fresh is_fresh =
             let result = put_is e def place f found (λ old. fresh_operator def o leaves) fresh is_fresh in
             let tree : Fragment = replaced f.path.now fresh (tree_in f.held.now.note) in

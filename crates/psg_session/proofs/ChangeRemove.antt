@@ -9,13 +9,13 @@ use Rattle.psg_session.specs.declared.changes.Listed.{Listed}
 use Rattle.psg_session.specs.declared.changes.Plan.TheVariants.{RefusedBy}
 use Rattle.psg_session.specs.declared.edits.Edit.TheVariants.{Take}
 use Rattle.psg_session.specs.declared.editor.Editor.{Editor}
-use Rattle.psg_session.specs.declared.finding.Found.{Found}
+use Rattle.psg_session.specs.declared.finding.Target.{Target}
 use Rattle.psg_session.specs.declared.judging.Trial.TheVariants.{Loosens}
 use Rattle.psg_session.specs.declared.refusal.Refusal.{Refusal}
 use Rattle.psg_session.specs.declared.refusal.Refusal.TheVariants.{NoPlace}
 use Rattle.psg_session.specs.PlainState.{Opened, named_path}
 use Rattle.psg_session.specs.PlainStep.{AtNode, Gives, by_change, by_remove, Makes}
-use Rattle.psg_session.specs.Outcomes.{IsFound, IsListed, IsMade, IsNotFound, IsPlan, made_of}
+use Rattle.psg_session.specs.Outcomes.{IsTarget, IsListed, IsProposal, HasNoTarget, IsPlan, proposal_of}
 use Rattle.psg_session.specs.Ticks.{above}
 use Rattle.psg_grammar.specs.Work.{climb_of}
 use Rattle.psg_session.proofs.ChangeLaws.{cost_here}
@@ -30,10 +30,10 @@ HasNoElement k old node = (IsList node → ⊥) ⊎ (length (children_of node) �
 
 module _ (def : Definition) (e : Editor) (place : Where) (k : ℕ) where
   -- nothing is opened, or there is no node
-  pub remove_nowhere : (r : Refusal) → IsNotFound e place r → IsPlan def e (Remove place k) (RefusedBy r)
+  pub remove_nowhere : (r : Refusal) → HasNoTarget e place r → IsPlan def e (Remove place k) (RefusedBy r)
   remove_nowhere r none = nowhere def e place r none
 
-  module _ (f : Found) (found : IsFound e place f) where
+  module _ (f : Target) (found : IsTarget e place f) where
     remove_no_element : HasNoElement k (plain f.held.now) f.node.now → IsPlan def e (Remove place k) (RefusedBy NoPlace)
     remove_no_element none = inr (
       is_opened def e place f found,
@@ -66,7 +66,7 @@ module _ (def : Definition) (e : Editor) (place : Where) (k : ℕ) where
         usual h = no_bad_place (at_node def e place f found (HasNoElement k) h)
 
         -- the list is without the element
-        pub remove_made : IsMade def e (Remove place k) (made_of Loosens (Take f.path.now k) f.path.now)
+        pub remove_made : IsProposal def e (Remove place k) (proposal_of Loosens (Take f.path.now k) f.path.now)
         remove_made =
             let here = path_is def e place f found in
             let result : change_at (removed k) (named_path place e.cursor) (tree_in f.held.now.note)

@@ -13,13 +13,13 @@ use Rattle.psg_session.specs.declared.changes.Listed.{Listed}
 use Rattle.psg_session.specs.declared.changes.Plan.TheVariants.{RefusedBy}
 use Rattle.psg_session.specs.declared.edits.Edit.TheVariants.{Put}
 use Rattle.psg_session.specs.declared.editor.Editor.{Editor}
-use Rattle.psg_session.specs.declared.finding.Found.{Found}
+use Rattle.psg_session.specs.declared.finding.Target.{Target}
 use Rattle.psg_session.specs.declared.judging.Trial.TheVariants.{Loosens}
 use Rattle.psg_session.specs.declared.refusal.Refusal.{Refusal}
 use Rattle.psg_session.specs.declared.refusal.Refusal.TheVariants.{NoPlace}
 use Rattle.psg_session.specs.PlainState.{Opened, named_path}
 use Rattle.psg_session.specs.PlainStep.{Gives, by_change, by_reopen, Makes, MayReopen, end_of}
-use Rattle.psg_session.specs.Outcomes.{IsFound, IsListed, IsMade, IsNotFound, IsPlan, made_of}
+use Rattle.psg_session.specs.Outcomes.{IsTarget, IsListed, IsProposal, HasNoTarget, IsPlan, proposal_of}
 use Rattle.psg_session.specs.Ticks.{above}
 use Rattle.psg_grammar.specs.Work.{work_of, climb_of}
 use Rattle.psg_grammar.specs.WellFormed.{WellFormed}
@@ -40,13 +40,13 @@ reopen_keeps def node (own, (l, of, at), may, ends) K formed =
 
 module _ (def : Definition) (e : Editor) (place : Where) where
   -- nothing is opened, or there is no node
-  pub reopen_nowhere : (r : Refusal) → IsNotFound e place r → IsPlan def e (Reopen place) (RefusedBy r)
+  pub reopen_nowhere : (r : Refusal) → HasNoTarget e place r → IsPlan def e (Reopen place) (RefusedBy r)
   reopen_nowhere r none = nowhere def e place r none
 
   abbrev MayNot : Opened → Fragment → Type 0
   MayNot old node = MayReopen def node → ⊥
 
-  module _ (f : Found) (found : IsFound e place f) where
+  module _ (f : Target) (found : IsTarget e place f) where
     -- the node is no finished list that may be unfinished
     pub reopen_refused : (MayReopen def f.node.now → ⊥) → IsPlan def e (Reopen place) (RefusedBy NoPlace)
     reopen_refused never = inr (
@@ -64,7 +64,7 @@ module _ (def : Definition) (e : Editor) (place : Where) where
 
     -- the list is unfinished
     pub reopen_made : IsEditor def e → MayReopen def f.node.now → (new : Fragment) → new ≡ ended true f.node.now
-        → IsMade def e (Reopen place) (made_of Loosens (Put f.path.now new) f.path.now)
+        → IsProposal def e (Reopen place) (proposal_of Loosens (Put f.path.now new) f.path.now)
     reopen_made editor may new is =
         let result = put_is e def place f found (ended true) new is in
         let tree : Fragment = replaced f.path.now new (tree_in f.held.now.note) in

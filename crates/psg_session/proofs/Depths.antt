@@ -1,11 +1,11 @@
 -- A tree in place of a node is no deeper than the whole.
-use Rattle.std.proofs.Common.{◌≡◌, inl, inr, Bool, cond, ℕ, zero, suc, ◌+◌, ◌<◌, ◌≤◌, [], ◌∷◌, ◌++◌, length, slice_get, option_and_then, Option, Some, None, refl, ap, sym, ◌∙◌, subst, arith, length-append}
+use Rattle.std.proofs.Common.{◌≡◌, inl, inr, Bool, cond, ℕ, zero, suc, ◌+◌, ◌<◌, ◌≤◌, [], ◌∷◌, ◌++◌, length, slice_get, Some, refl, ap, sym, ◌∙◌, subst, arith, length-append}
 use Rattle.std.proofs.lemmas.Bool.Decides.{eqb_tells}
 use Rattle.std.proofs.lemmas.Option.{none-some, slice_get_within}
 use Rattle.psg_grammar.specs.Fragments.{Fragment, hole, ending, cell, operator, with_child, with_name, with_number, with_text, anything, observed, children_of}
 use Rattle.psg_grammar.specs.Paths.{Path, node_at, change_at, change_child, replaced}
 use Rattle.psg_grammar.specs.Sizes.{depth_of}
-use Rattle.psg_grammar.proofs.PathLaws.{got_front, got_next}
+use Rattle.psg_grammar.proofs.PathLaws.{got_front, got_next, step}
 use Rattle.psg_session.proofs.StepLaws.{some_once}
 
 -- a child that is put in is less deep
@@ -44,17 +44,11 @@ changed_deep g (with_text f n) k t s = changed_deep g f k t s
 changed_deep g anything k t s = absurd (none-some t s)
 changed_deep g (observed f) k t s = changed_deep g f k t s
 
--- the child on the path to a node
-step_child : (path : Path) (o : Option Fragment) (x : Fragment) → option_and_then (λ t. node_at t path) o ≡ Some x
-    → (t : Fragment) × (o ≡ Some t) × (node_at t path ≡ Some x)
-step_child path None x e = absurd (none-some x e)
-step_child path (Some t) x e = (t, refl, e)
-
 pub replaced_deep : (new : Fragment) (path : Path) (f node : Fragment) → node_at f path ≡ Some node
     → depth_of new ≤ depth_of (replaced path new f)
 replaced_deep new [] f node e = omega arith
 replaced_deep new (k ∷ path) f node e =
-    let (t, at, further) = step_child path (slice_get (children_of f) k) node e in
+    let (t, at, further) = step (slice_get (children_of f) k) path node e in
     let inner : depth_of new ≤ depth_of (replaced path new t) = replaced_deep new path t node further in
     let outer : depth_of (replaced path new t) + 1 ≤ depth_of (change_child (change_at (λ old. new) path) k f) =
     changed_deep (change_at (λ old. new) path) f k t at in

@@ -1,7 +1,8 @@
 -- The parts of a new operator, item by item.
-use Rattle.std.proofs.Common.{◌≡◌, ◌<◌, ℕ, ◌+◌, suc, true, false, true≢false, List, [], ◌∷◌, ◌++◌, length, drop, get_or, map, Some, None, slice_get, refl, sym, ◌∙◌, ap, subst, drop-cons, add-one}
+use Rattle.std.proofs.Common.{◌≡◌, ◌<◌, ℕ, ◌+◌, true, false, true≢false, List, [], ◌∷◌, ◌++◌, length, drop, get_or, map, Some, None, slice_get, refl, sym, ◌∙◌, ap, subst}
 use Rattle.std.specs.List.{AllByRecursion}
 use Rattle.std.proofs.lemmas.Option.{slice_get-get_or}
+use Rattle.psg_terms.proofs.Lists.{each_at, drop_there}
 use Rattle.psg_grammar.specs.declared.types.Kind.{Kind}
 use Rattle.psg_grammar.specs.declared.types.Item.{Item}
 use Rattle.psg_grammar.specs.declared.types.Item.TheVariants as items
@@ -12,24 +13,18 @@ use Rattle.psg_grammar.specs.Kinds.{HasSlotKind}
 use Rattle.psg_grammar.specs.Lookups.{part_items}
 use Rattle.psg_grammar.specs.Insertion.{Leaf as PlainLeaf, blank, filled, with_leaf}
 use Rattle.psg_grammar.specs.Sound.{IsSound}
-use Rattle.psg_grammar.proofs.SoundParts.{each_at, items_in}
+use Rattle.psg_grammar.proofs.SoundParts.{items_in}
 use Rattle.psg_tree.specs.declared.tree.Part.{Part}
 use Rattle.psg_tree.specs.declared.tree.Part.TheVariants.{Sub}
 use Rattle.psg_tree.specs.Shapes.{with_part, with_parts}
 use Rattle.psg_session.specs.declared.leaves.Leaf.{Leaf}
 use Rattle.psg_session.specs.LeafItems.{has_leaf}
 use Rattle.psg_session.specs.Views.{plain_leaf}
-use Rattle.psg_session.proofs.LeafLaws.{drop_past, drop_here}
+use Rattle.psg_session.proofs.LeafLaws.{drop_past}
 
 with_parts-append : (f : Fragment) (xs ys : List Part) → with_parts f (xs ++ ys) ≡ with_parts (with_parts f xs) ys
 with_parts-append f [] ys = refl
 with_parts-append f (x ∷ xs) ys = with_parts-append (with_part f x) xs ys
-
--- the item at a place, and those behind it
-pub next_items : (its : List Item) (i : ℕ) (item : Item) → i < length its → item ≡ get_or its i item
-    → drop i its ≡ item ∷ drop (i + 1) its
-next_items its i item h e = drop-cons its i item h ∙ ap (λ y. y ∷ drop (suc i) its) (sym e)
-    ∙ ap (λ j. item ∷ drop j its) (sym (add-one i))
 
 -- a slot among the items of a sound operator is of a kind that is there
 pub slot_there : (def : Definition) → IsSound def → (o : ℕ) (op : Operator) (its : List Item)
@@ -119,5 +114,5 @@ module _ (def : Definition) where
       ap (λ g. filled def g (part_items rest) (map plain_leaf (drop (n + 1) leaves)))
       (ap (with_parts f) more ∙ with_parts-append f parts (part ∷ []) ∙ is (with_parts f parts))
       ∙ sym (ap (λ xs. filled def (with_parts f parts) (part_items (i ∷ rest)) (map plain_leaf xs))
-      (drop_here leaves n x at)
+      (drop_there leaves n x at)
       ∙ leaf_item i rest (with_parts f parts) (plain_leaf x) (map plain_leaf (drop (n + 1) leaves)) e)

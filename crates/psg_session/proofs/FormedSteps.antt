@@ -3,6 +3,7 @@ use Rattle.std.proofs.Common.{◌≡◌, inl, inr, ℕ, zero, suc, Bool, true, f
 use Rattle.std.specs.List.{AllByRecursion}
 use Rattle.std.proofs.lemmas.Bool.{cases_Bool}
 use Rattle.std.proofs.lemmas.Option.{none-some}
+use Rattle.psg_terms.proofs.Lists.{each_push, each_take}
 use Rattle.psg_terms.specs.Names.{Name}
 use Rattle.psg_grammar.specs.declared.types.Kind.{Kind}
 use Rattle.psg_grammar.specs.declared.types.Kind.TheVariants as kinds
@@ -23,7 +24,7 @@ use Rattle.psg_session.specs.PlainState.{State, Opened, Answer, most_versions, n
 use Rattle.psg_session.specs.PlainStep.{HasName, IsDeclaringPhylum, IsTaken, Makes, by_refine, by_insert, by_cut, by_remove, by_close, by_reopen, by_paste, by_paste_in, by_over, by_range, Steps, refuses, opens, changes, undoes, redoes, saves, keeps, fetches, shows, goes, screens, owns, relates, frees, offers, suggests}
 use Rattle.psg_session.specs.Replies.{Reply}
 use Rattle.psg_session.specs.Shelf.{others, saved_with}
-use Rattle.psg_session.proofs.AllOf.{all_end, all_others, all_taken}
+use Rattle.psg_session.proofs.AllOf.{all_others}
 use Rattle.psg_session.proofs.ChangeLaws.{kind_is}
 use Rattle.psg_session.proofs.FetchedTrees.{fetched_formed}
 use Rattle.psg_session.proofs.FormedMakes.{IsGiven, refined, put_in, cut_given, removed_given, closed_given, reopened_given, pasted, pasted_in, typed_given}
@@ -121,7 +122,7 @@ module _ (def : Definition) where
         let (whole, node, at) = makes_given text taken old opened makes in
         turned s formed (record { kind = old.kind; tree = tree }) path (take most_versions (old.tree ∷ s.earlier)) []
         whole node at
-        (all_taken (λ f. WellFormed def f old.kind) most_versions (old.tree ∷ s.earlier)
+        (each_take (λ f. WellFormed def f old.kind) most_versions (old.tree ∷ s.earlier)
         (formed.opened old opened, formed.earlier old opened)) tt
         (changed_state def s formed.printable text old tree path opened makes)
     step_formed text (undoes old tree rest mark taken opened is is_mark) =
@@ -139,7 +140,7 @@ module _ (def : Definition) where
       cursor = formed.cursor;
       earlier = formed.earlier;
       later = formed.later;
-      saved = all_end (IsFormedSaved def) (others name s.saved) (record { name = name; kind = kind; tree = node })
+      saved = each_push (IsFormedSaved def) (others name s.saved) (record { name = name; kind = kind; tree = node })
           (all_others (IsFormedSaved def) name s.saved formed.saved)
           (node_of_kind old.tree old.kind (named_path place s.cursor) node kind (formed.opened old opened) at of);
       printable = saved_printable s formed.printable (record { name = name; kind = kind; tree = node })
@@ -151,7 +152,7 @@ module _ (def : Definition) where
       cursor = formed.cursor;
       earlier = formed.earlier;
       later = formed.later;
-      saved = all_end (IsFormedSaved def) (others x.name s.saved) x
+      saved = each_push (IsFormedSaved def) (others x.name s.saved) x
           (all_others (IsFormedSaved def) x.name s.saved formed.saved) (fetched_formed def bytes x kept);
       printable = saved_printable s formed.printable x (fetched_printable def bytes x kept);
     }

@@ -1,8 +1,9 @@
 -- The trees of the trials of a menu are of the opened kind.
 use Rattle.std.proofs.Common.{◌≡◌, ◌⊎◌, inl, inr, ℕ, zero, suc, ◌+◌, ◌<◌, ◌==◌, Bool, true, false, List, [], ◌∷◌, length, cond, slice_get, Option, Some, None, refl, sym, ◌∙◌, ap, subst, arith}
 use Rattle.std.proofs.lemmas.Bool.Decides.{eqb_tells}
+use Rattle.psg_terms.proofs.Lists.{in_cases}
 use Rattle.psg_terms.specs.Names.{Name}
-use Rattle.psg_terms.specs.Relations.{IsIn, first, later}
+use Rattle.psg_terms.specs.Relations.{IsIn}
 use Rattle.psg_grammar.specs.declared.types.Kind.TheVariants as kinds
 use Rattle.psg_grammar.specs.declared.types.ListKind.{ListKind}
 use Rattle.psg_grammar.specs.declared.types.Operator.{Operator}
@@ -27,11 +28,6 @@ use Rattle.psg_session.proofs.StepLaws.{some_once}
 -- an operator of the phylum with this number
 abbrev pub HasOperator : List Operator → ℕ → ℕ → Type 0
 HasOperator ops p o = (op : Operator) × (slice_get ops o ≡ Some op) × (op.phylum ≡ p)
-
--- a member is the first one or one of the others
-in_cases : {X : Type 0} (x y : X) (ys : List X) → IsIn x (y ∷ ys) → (x ≡ y) ⊎ IsIn x ys
-in_cases x y ys first = inl refl
-in_cases x y ys (later i) = inr i
 
 -- each number that is listed is that of an operator of the phylum, counted from n
 operator_from : (n p o : ℕ) (ops : List Operator) → IsIn o (operators_from n p ops)

@@ -1,5 +1,6 @@
 -- The columns of a header that are not declared are the keys of the region that are not.
 use Rattle.std.proofs.Common.{◌≡◌, Bool, true, false, cond, ◌||◌, ◌&&◌, List, [], ◌∷◌, map, bytes_eq, refl, sym, ◌∙◌, ap}
+use Rattle.std.proofs.Math.Bool.{or-false, and-false, and-true}
 use Rattle.psg_terms.specs.Names.{is_among}
 use Rattle.psg_terms.specs.Relations.{IsIn, first, later}
 use Rattle.psg_grammar.specs.declared.types.Definition.{Definition}
@@ -9,7 +10,7 @@ use Rattle.psg_grammar.specs.Regions.{declared_in}
 use Rattle.psg_scope.specs.declared.header.NameCol.{NameCol}
 use Rattle.psg_scope.specs.declared.header.Header.{Header}
 use Rattle.psg_scope.specs.Headers.{key_of, keys, is_declared, AreRising, IsBelow}
-use Rattle.psg_scope.proofs.KeyLists.{key_refl, and-false, and-true, or-false, less-differs, below-absent}
+use Rattle.psg_scope.proofs.KeyLists.{key_refl, less-differs, below-absent}
 use Rattle.psg_scope.proofs.MergeLaws.{undeclared as no_mark}
 use Rattle.psg_scope.proofs.HeaderLaws.{header-rising}
 use Rattle.psg_eval.specs.Summaries.{IsHeaderOf}

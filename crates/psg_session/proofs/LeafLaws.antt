@@ -1,9 +1,10 @@
 -- Which leaves an operator's items take, leaf by leaf.
-use Rattle.std.proofs.Common.{◌≡◌, ◌↔◌, inl, inr, ℕ, zero, suc, ◌+◌, ◌<◌, ◌≤◌, ◌==◌, true, false, true≢false, List, [], ◌∷◌, length, drop, map, Option, Some, None, IfSome, IfNone, slice_get, refl, sym, ◌∙◌, ap, subst, arith, add-one}
+use Rattle.std.proofs.Common.{◌≡◌, ◌↔◌, inl, inr, ℕ, zero, suc, ◌+◌, ◌<◌, ◌≤◌, ◌==◌, true, false, true≢false, List, [], ◌∷◌, length, drop, map, Option, Some, None, IfNone, slice_get, refl, sym, ◌∙◌, ap, subst, arith}
 use Rattle.std.specs.List.{AllByRecursion}
 use Rattle.std.proofs.lemmas.Bool.Decides.{eqb_tells}
 use Rattle.std.proofs.lemmas.List.{drop_all, length-drop}
 use Rattle.std.proofs.lemmas.Option.{none-some, slice_get_within}
+use Rattle.psg_terms.proofs.Lists.{drop_there}
 use Rattle.psg_grammar.specs.declared.types.Item.{Item}
 use Rattle.psg_grammar.specs.declared.types.Item.TheVariants as items
 use Rattle.psg_grammar.specs.declared.types.Definition.{Definition}
@@ -13,10 +14,6 @@ use Rattle.psg_session.specs.declared.leaves.Leaf.{Leaf}
 use Rattle.psg_session.specs.Leaves.{HasWord}
 use Rattle.psg_session.specs.LeafItems.{has_leaf, Suits, IsNextLeaf}
 use Rattle.psg_session.specs.Views.{plain_leaf}
-
--- what is known of the value of an option, or of there being none
-pub some_in : {X : Type 0} (P : X → Type 0) (o : Option X) (x : X) → o ≡ Some x → IfSome o P → P x
-some_in P o x is h = subst (λ q. IfSome q P) is h
 
 pub none_in : {X : Type 0} (P : Type 0) (o : Option X) → o ≡ None → IfNone o P → P
 none_in P o is h = subst (λ q. IfNone q P) is h
@@ -32,10 +29,6 @@ drop_from : {X : Type 0} (xs : List X) (n : ℕ) (x : X) → slice_get xs n ≡ 
 drop_from [] n x e = absurd (none-some x e)
 drop_from (y ∷ xs) zero x e = let d : Some y ≡ Some x = e in let same : y ≡ x = cc in ap (λ z. z ∷ xs) same
 drop_from (y ∷ xs) (suc n) x e = drop_from xs n x e
-
--- an element, and what is left behind it
-pub drop_here : {X : Type 0} (xs : List X) (n : ℕ) (x : X) → slice_get xs n ≡ Some x → drop n xs ≡ x ∷ drop (n + 1) xs
-drop_here xs n x e = drop_from xs n x e ∙ ap (λ k. x ∷ drop k xs) (sym (add-one n))
 
 -- the word of the leaf at a place
 pub word_at : (leaves : List Leaf) (n : ℕ) (x : Leaf) → slice_get leaves n ≡ Some x
@@ -116,7 +109,7 @@ module _ (def : Definition) where
         ↔ (Suits def i (plain_leaf x) × AreLeaves def (part_items rest) (map plain_leaf (drop (n + 1) leaves)))
     at_leaf rest =
         let more = leaf_more i rest (plain_leaf x) (map plain_leaf (drop (n + 1) leaves)) e in
-        let same : drop n leaves ≡ x ∷ drop (n + 1) leaves = drop_here leaves n x at in (
+        let same : drop n leaves ≡ x ∷ drop (n + 1) leaves = drop_there leaves n x at in (
           λ h. more.0 (subst (λ xs. AreLeaves def (part_items (i ∷ rest)) (map plain_leaf xs)) same h),
           λ h. subst (λ xs. AreLeaves def (part_items (i ∷ rest)) (map plain_leaf xs)) (sym same) (more.1 h),
         )

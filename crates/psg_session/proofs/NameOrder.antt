@@ -1,5 +1,5 @@
 -- Names in the order of bytes, each once: what they are does not depend on the order in which they were found.
-use Rattle.std.proofs.Common.{◌≡◌, ◌⊎◌, inl, inr, ℕ, zero, suc, ◌+◌, ◌≤◌, ◌<◌, ◌||◌, Bool, true, false, true≢false, List, [], ◌∷◌, ◌++◌, reverse, take, length, get_or, cond, refl, sym, ◌∙◌, ap, ap₂, subst, arith}
+use Rattle.std.proofs.Common.{◌≡◌, ◌⊎◌, inl, inr, ℕ, ◌+◌, ◌≤◌, ◌<◌, ◌||◌, Bool, true, false, true≢false, List, [], ◌∷◌, ◌++◌, reverse, take, length, get_or, cond, refl, sym, ◌∙◌, ap, ap₂, subst, arith}
 use Rattle.std.specs.List.{AllByRecursion}
 use Rattle.std.specs.List.Sorted.{IsPermutation, IsSortedByClosure}
 use Rattle.std.specs.Fn.{Called}
@@ -14,7 +14,7 @@ use Rattle.std.proofs.lemmas.Bool.{cases_Bool, false≢true}
 use Rattle.std.proofs.lemmas.Cmp.{nat_list_cmp_total}
 use Rattle.std.proofs.lemmas.List.Elements.{All-from_recursion, recursion_from_All}
 use Rattle.std.proofs.lemmas.Fn.{always_returns_same}
-use Rattle.std.proofs.lemmas.List.{get_or-take, length-take-le}
+use Rattle.std.proofs.lemmas.List.{get_or-take, length-take-le, get_or_default}
 use Rattle.std.proofs.lemmas.List.Sorted.{All-permutation, IsPermutation-reverse, IsPermutation-sym, IsStrictWeakOrder-flip, ranks_by, sorted_far}
 use Rattle.std.proofs.lemmas.Map.Lookups.{exact_bytes}
 use Rattle.std.proofs.lemmas.Slice.Eq.{bytes_eq-Decides}
@@ -149,11 +149,6 @@ put_first n (m ∷ ms) all = by_order (slice_cmp nat_cmp n m) refl where
 
 -- ---- names from the last to the first
 
-same_place : (ns : List Name) (i : ℕ) (d e : Name) → i < length ns → get_or ns i d ≡ get_or ns i e
-same_place [] i d e small = absurd (omega (arith, small))
-same_place (n ∷ ns) zero d e small = refl
-same_place (n ∷ ns) (suc i) d e small = same_place ns i d e (omega (arith, small))
-
 -- one more of them
 pub next_once : (ns : List Name) (i : ℕ) (n : Name) (old new : List Name) → IsFalling ns → i < length ns → n ≡ get_or ns i n
     → old ≡ in_byte_order (reverse (take i ns)) → new ≡ cond (is_first old n) old (n ∷ old)
@@ -170,7 +165,7 @@ next_once ns i n old new falling small is so_far more =
         (λ k d within.
         let long = length-take-le i ns (omega (arith, small)) in
         let low : k < i = omega (arith, within, long) in
-        let here : get_or ns i d ≡ n = same_place ns i d n small ∙ sym is in
+        let here : get_or ns i d ≡ n = get_or_default ns i d n small ∙ sym is in
         subst (λ m. is_lt (slice_cmp nat_cmp m n) ≡ false) (sym (get_or-take i ns k d low))
         (subst (λ m. is_lt (slice_cmp nat_cmp (get_or ns k d) m) ≡ false) here (falling k i d low small))))
 

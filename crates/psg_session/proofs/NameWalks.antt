@@ -5,10 +5,11 @@ use Rattle.std.specs.Cmp.Lexicographic.{slice_cmp}
 use Rattle.std.specs.Ordering.{nat_cmp}
 use Rattle.std.specs.declared.cmp.Ordering.{Ordering}
 use Rattle.std.specs.declared.cmp.Ordering.TheVariants.{Less, Equal, Greater}
-use Rattle.std.proofs.lemmas.Bool.{cases_Bool, or_right}
+use Rattle.std.proofs.lemmas.Bool.{cases_Bool, or_right, or_left}
 use Rattle.std.proofs.lemmas.List.{drop_more, take_more, take-append-drop, drop_all, reverse-append, reverse-reverse, take_all}
 use Rattle.std.proofs.lemmas.Map.Lookups.{exact_bytes}
 use Rattle.std.proofs.lemmas.Slice.Eq.{bytes_eq-Decides}
+use Rattle.psg_terms.proofs.Lists.{each_append}
 use Rattle.psg_terms.specs.Names.{Name, is_among}
 use Rattle.psg_grammar.specs.declared.types.Kind.{Kind}
 use Rattle.psg_grammar.specs.declared.types.Item.{Item}
@@ -140,17 +141,14 @@ after_all n ms i end so_far =
 same_name : (n : Name) → bytes_eq n n ≡ true
 same_name n = (bytes_eq-Decides n n).1 refl
 
-or_first : (a b : Bool) → a ≡ true → (a || b) ≡ true
-or_first a b e = ap (λ x. x || b) e
-
 inserted_itself : (n : Name) (ms : List Name) → is_among (insert_name n ms) n ≡ true
-inserted_itself n [] = or_first (bytes_eq n n) false (same_name n)
+inserted_itself n [] = or_left (bytes_eq n n) false (same_name n)
 inserted_itself n (m ∷ ms) = by_order (slice_cmp nat_cmp n m) refl (inserted_itself n ms) where
   by_order : (r : Ordering) → slice_cmp nat_cmp n m ≡ r → is_among (insert_name n ms) n ≡ true
       → is_among (placed r n m ms (insert_name n ms)) n ≡ true
-  by_order Less e more = or_first (bytes_eq n n) (is_among (m ∷ ms) n) (same_name n)
+  by_order Less e more = or_left (bytes_eq n n) (is_among (m ∷ ms) n) (same_name n)
   by_order Equal e more =
-      or_first (bytes_eq m n) (is_among ms n) (subst (λ x. bytes_eq x n ≡ true) (exact_bytes n m e) (same_name n))
+      or_left (bytes_eq m n) (is_among ms n) (subst (λ x. bytes_eq x n ≡ true) (exact_bytes n m e) (same_name n))
   by_order Greater e more = or_right (bytes_eq m n) (is_among (insert_name n ms) n) more
 
 inserted_others : (n k : Name) (ms : List Name) → is_among ms k ≡ true → is_among (insert_name n ms) k ≡ true
@@ -161,7 +159,7 @@ inserted_others n k (m ∷ ms) h = by_order (slice_cmp nat_cmp n m) (inserted_ot
   by_order Less more = or_right (bytes_eq n k) (is_among (m ∷ ms) k) h
   by_order Equal more = h
   by_order Greater more = elim (cases_Bool (bytes_eq m k)) [
-    | inl e ↦ or_first (bytes_eq m k) (is_among (insert_name n ms) k) e
+    | inl e ↦ or_left (bytes_eq m k) (is_among (insert_name n ms) k) e
     | inr e ↦
         or_right (bytes_eq m k) (is_among (insert_name n ms) k) (more (sym (ap (λ x. x || is_among ms k) e) ∙ h))
   ]
@@ -180,10 +178,6 @@ pub are_used : (f : Fragment) → AreUsed (in_byte_order (occurring f)) f
 are_used f = used_in_order (occurring f)
 
 -- ---- they are names
-
-all_joined : (P : Name → Type 0) (xs ys : List Name) → AllByRecursion P xs → AllByRecursion P ys → AllByRecursion P (xs ++ ys)
-all_joined P [] ys all more = more
-all_joined P (x ∷ xs) ys all more = (all.0, all_joined P xs ys all.1 more)
 
 all_placed : (P : Name → Type 0) (r : Ordering) (n m : Name) (rest more : List Name) → P n → P m → AllByRecursion P rest → AllByRecursion P more
     → AllByRecursion P (placed r n m rest more)
@@ -205,14 +199,14 @@ module _ (def : Definition) where
   all_names (hole p) more kind h = tt
   all_names (ending l u) more kind h = tt
   all_names (cell l e r) more kind (none, is, k, found, fe, fr, z) =
-      all_joined (IsName def) (occurring e) (occurring r) (all_names e [] _ fe) (all_names r [] _ fr)
+      each_append (IsName def) (occurring e) (occurring r) (all_names e [] _ fe) (all_names r [] _ fr)
   all_names (operator o) more kind h = tt
   all_names (with_child f t) more kind (k, hf, ht) =
-      all_joined (IsName def) (occurring f) (occurring t) (all_names f (items.Slot k ∷ more) kind hf) (all_names t [] k ht)
+      each_append (IsName def) (occurring f) (occurring t) (all_names f (items.Slot k ∷ more) kind hf) (all_names t [] k ht)
   all_names (with_name f n) more kind (inl (s, h), name) =
-      all_joined (IsName def) (occurring f) (n ∷ []) (all_names f (items.Refers s ∷ more) kind h) (name, tt)
+      each_append (IsName def) (occurring f) (n ∷ []) (all_names f (items.Refers s ∷ more) kind h) (name, tt)
   all_names (with_name f n) more kind (inr (s, h), name) =
-      all_joined (IsName def) (occurring f) (n ∷ []) (all_names f (items.Declares s ∷ more) kind h) (name, tt)
+      each_append (IsName def) (occurring f) (n ∷ []) (all_names f (items.Declares s ∷ more) kind h) (name, tt)
   all_names (with_number f n) more kind (h, small) = all_names f (items.Number ∷ more) kind h
   all_names (with_text f t) more kind (h, text) = all_names f (items.Text ∷ more) kind h
   all_names anything more kind h = absurd h

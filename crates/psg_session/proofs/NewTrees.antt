@@ -2,6 +2,7 @@
 use Rattle.std.proofs.Common.{◌≡◌, inl, inr, ℕ, suc, Bool, true, false, List, [], ◌∷◌, slice_get, Some, refl, sym, ◌∙◌, ap, subst}
 use Rattle.std.specs.List.{AllByRecursion}
 use Rattle.std.proofs.lemmas.Bool.{cases_Bool}
+use Rattle.psg_terms.proofs.Lists.{slice_get_some}
 use Rattle.psg_grammar.specs.declared.types.Kind.{Kind}
 use Rattle.psg_grammar.specs.declared.types.Kind.TheVariants as kinds
 use Rattle.psg_grammar.specs.declared.types.Item.{Item}
@@ -13,7 +14,6 @@ use Rattle.psg_grammar.specs.Insertion.{blank, may_be_unfinished}
 use Rattle.psg_grammar.specs.Kinds.{HasKind}
 use Rattle.psg_grammar.specs.WellFormed.{WellFormed}
 use Rattle.psg_eval.specs.Summaries.{slot_kinds as slots_among}
-use Rattle.psg_cache.proofs.Each.{got_there}
 use Rattle.psg_menu.specs.Menus.{HasQuietSlots, IsQuiet as MayBeBlank}
 use Rattle.psg_specimen.specs.Conditions.{IsQuiet, slot_kinds}
 use Rattle.psg_specimen.specs.Refusal.{IsAccepted}
@@ -31,7 +31,7 @@ module _ (def : Definition) where
   pub blank_formed : (kind : Kind) → HasKind def kind → (IsDeclaringPhylum def kind → ⊥) → WellFormed def (blank def kind) kind
   blank_formed (kinds.Phylum p) h never = ((refl, refl, h, quiet_phylum p never), tt)
   blank_formed (kinds.List l) h never =
-      let (k, found) = got_there def.lists l h in
+      let (k, found) = slice_get_some def.lists l h in
       ((refl, refl, (k, found, λ e. sym (ap may_be_unfinished found) ∙ e)), tt)
 
   -- ---- the slots of an accepted definition

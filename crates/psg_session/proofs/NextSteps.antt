@@ -1,10 +1,11 @@
 -- A command has a step: where no test holds there is what it makes, or what it is answered.
-use Rattle.std.proofs.Common.{◌≡◌, ◌⊎◌, inl, inr, ℕ, ◌<◌, ◌≤◌, List, [], ◌∷◌, ◌++◌, length, map, slice_get, Option, Some, None, IsUtf8, refl, sym, ◌∙◌, ap, ap₂, subst, arith}
+use Rattle.std.proofs.Common.{◌≡◌, ◌⊎◌, inl, inr, ℕ, ◌≤◌, List, [], ◌∷◌, ◌++◌, length, map, slice_get, Option, Some, None, IsUtf8, refl, sym, ◌∙◌, ap, ap₂, subst, arith}
 use Rattle.std.specs.Option.{option_map}
 use Rattle.std.specs.List.{AllByRecursion}
 use Rattle.std.specs.Prelude.{chars, codes}
 use Rattle.std.proofs.lemmas.Bool.{cases_lt}
-use Rattle.std.proofs.lemmas.Option.{none-some, slice_get_cases}
+use Rattle.std.proofs.lemmas.Option.{none-some}
+use Rattle.psg_terms.proofs.Lists.{slice_get_some}
 use Rattle.psg_terms.specs.Names.{Name}
 use Rattle.psg_terms.specs.Relations.{IsIn, first, later}
 use Rattle.psg_terms.specs.Terms.{Term}
@@ -110,18 +111,12 @@ fetched_answer (keeping f b) file e h never = absurd (cc)
 
 -- ---- kinds and operators
 
-inside : {X : Type 0} (xs : List X) (i : ℕ) → i < length xs → (x : X) × (slice_get xs i ≡ Some x)
-inside xs i lt = elim (slice_get_cases xs i).1 [
-  | inl h ↦ (h.0, h.2)
-  | inr h ↦ let le = h.0 in absurd (omega (arith, lt, le))
-]
-
 module _ (def : Definition) where
   named_kind : (K : Kind) → HasKind def K → (name : Name) × HasName def K name
   named_kind (kinds.Phylum p) has =
-      let (x, at) = inside def.phyla p has in (x.name, ap (option_map (λ (k : Phylum). k.name)) at)
+      let (x, at) = slice_get_some def.phyla p has in (x.name, ap (option_map (λ (k : Phylum). k.name)) at)
   named_kind (kinds.List l) has =
-      let (x, at) = inside def.lists l has in (x.name, ap (option_map (λ (k : ListKind). k.name)) at)
+      let (x, at) = slice_get_some def.lists l has in (x.name, ap (option_map (λ (k : ListKind). k.name)) at)
 
   named_operators : (ops : List ℕ)
       → ((o : ℕ) → IsIn o ops → (op : Operator) × (slice_get def.operators o ≡ Some op))

@@ -5,8 +5,8 @@ use Rattle.psg_grammar.specs.Levels.{is_name_position}
 use Rattle.psg_eval.specs.Summaries.{are_names}
 use Rattle.std.specs.Prelude.{IfOk, MatchOption, Result, Ok, Err, Vec}
 use Rattle.std.specs.declared.alloc.Global.{Global}
-use Rattle.std.proofs.lemmas.List.Recursion.{is_count_by}
 use Rattle.std.proofs.lemmas.Option.{none-some, slice_get_within}
+use Rattle.psg_eval.proofs.StartLaws.{names_in_count}
 use Rattle.psg_terms.specs.Names.{Name}
 use Rattle.psg_terms.specs.Relations.{IsIn}
 use Rattle.psg_grammar.specs.declared.types.Kind.{Kind}
@@ -40,14 +40,14 @@ use Rattle.psg_script.specs.declared.command.Where.{Where}
 use Rattle.psg_script.specs.declared.command.Command.TheVariants.{Menu, Names}
 use Rattle.psg_session.specs.declared.changes.Listed.{Listed}
 use Rattle.psg_session.specs.declared.editor.Editor.{Editor}
-use Rattle.psg_session.specs.declared.finding.Found.{Found}
+use Rattle.psg_session.specs.declared.finding.Target.{Target}
 use Rattle.psg_session.specs.declared.menus.Site.{Site}
 use Rattle.psg_session.specs.declared.refusal.Refusal.{Refusal}
 use Rattle.psg_session.specs.declared.refusal.Refusal.TheVariants.{Unknown, OtherPhylum, BadArguments, TooWide}
 use Rattle.psg_session.specs.declared.replies.Reply.{Reply as Given}
 use Rattle.psg_session.specs.Answers.{names_line}
 use Rattle.psg_session.specs.Offering.{IsNamingAnswer, IsOffered, IsSite, IsSuggested, climb_before}
-use Rattle.psg_session.specs.Outcomes.{IsFound, IsListed, IsNotFound}
+use Rattle.psg_session.specs.Outcomes.{IsTarget, IsListed, HasNoTarget}
 use Rattle.psg_session.specs.PlainState.{Opened, named_path}
 use Rattle.psg_session.specs.PlainStep.{AtNode, HasNoPlace, HasNotOneName, IsListOf, IsMenuTooWide, IsNamesTooWide, IsOfPhylum, IsOperator, IsOther, IsWanted, refuses, offers, suggests}
 use Rattle.psg_session.specs.Refusals.{place_test}
@@ -117,13 +117,13 @@ module _ (def : Definition) (kind : Kind) (n : Annotated) (version : IsVersion d
 -- ---- steps
 
 module _ (def : Definition) (e : Editor) (place : Where) (k : Option ℕ) where
-  pub menu_not_found : (r : Refusal) → IsNotFound e place r → Answers def e (Menu place k) (refused r)
+  pub menu_not_found : (r : Refusal) → HasNoTarget e place r → Answers def e (Menu place k) (refused r)
   menu_not_found r missing = refuses (nowhere def e place r missing)
 
-  pub names_not_found : (name : Name) (r : Refusal) → IsNotFound e place r → Answers def e (Names place k name) (refused r)
+  pub names_not_found : (name : Name) (r : Refusal) → HasNoTarget e place r → Answers def e (Names place k name) (refused r)
   names_not_found name r missing = refuses (nowhere def e place r missing)
 
-  module _ (f : Found) (found : IsFound e place f) where
+  module _ (f : Target) (found : IsTarget e place f) where
     abbrev tree : Fragment
     tree = tree_in f.held.now.note
 
@@ -408,9 +408,6 @@ one_counted def items.Line xs = refl
 one_counted def items.In xs = refl
 one_counted def items.Out xs = refl
 
-names_counted : (def : Definition) (xs : List Item) → length (are_names def xs) ≡ count_by is_name_position xs
-names_counted def xs = is_count_by (λ ys. length (are_names def ys)) is_name_position refl (one_counted def) xs
-
 module _ (def : Definition) (p : ℕ) (name : Name) (o : ℕ) (named : IsOperator def o name) (op : Operator) (found : slice_get def.operators o ≡ Some op) where
   same_op : (other : Operator) → slice_get def.operators o ≡ Some other → other ≡ op
   same_op other at = some_once other op (slice_get def.operators o) at found
@@ -427,11 +424,11 @@ module _ (def : Definition) (p : ℕ) (name : Name) (o : ℕ) (named : IsOperato
         named,
         (op, found, is),
         λ (has : HasOneName def o p).
-            never (counted ∙ sym (names_counted def op.items) ∙ ap (λ (x : Operator). length (are_names def x.items)) (sym (same_op has.op has.found)) ∙ has.one),
+            never (counted ∙ sym (names_in_count def op.items) ∙ ap (λ (x : Operator). length (are_names def x.items)) (sym (same_op has.op has.found)) ∙ has.one),
       ))
 
   pub one_named : (n : ℕ) → n ≡ count_by is_name_position op.items → n ≡ 1 → op.phylum ≡ p → IsNamingAnswer def p name (Ok o)
-  one_named n counted one is = (named, record { op = op; found = found; phylum = is; one = names_counted def op.items ∙ sym counted ∙ one })
+  one_named n counted one is = (named, record { op = op; found = found; phylum = is; one = names_in_count def op.items ∙ sym counted ∙ one })
 
 pub no_operator : (def : Definition) (p : ℕ) (name : Name) → ((o : ℕ) → IsOperator def o name → None ≡ Some o) → IsNamingAnswer def p name (Err Unknown)
 no_operator def p name only = inl (refl, λ o named. none-some o (only o named))

@@ -1,5 +1,6 @@
 -- A command keeps the trees of a state printable.
 use Rattle.std.proofs.Common.{◌≡◌, ℕ, List, [], ◌∷◌, take, Some, true, false, subst}
+use Rattle.psg_terms.proofs.Lists.{each_push, each_take}
 use Rattle.std.specs.List.{AllByRecursion}
 use Rattle.psg_grammar.specs.declared.types.Kind.{Kind}
 use Rattle.psg_grammar.specs.declared.types.Definition.{Definition}
@@ -20,7 +21,7 @@ use Rattle.psg_session.specs.PlainState.{State, Opened, most_versions, named_pat
 use Rattle.psg_session.specs.PlainStep.{Makes, by_refine, by_insert, by_cut, by_remove, by_close, by_reopen, by_paste, by_paste_in, by_over, by_range}
 use Rattle.psg_session.specs.Ranged.{ReadsWith, replacing, text_with}
 use Rattle.psg_session.specs.Shelf.{others, saved_with}
-use Rattle.psg_session.proofs.AllOf.{all_end, all_others, all_taken}
+use Rattle.psg_session.proofs.AllOf.{all_others}
 use Rattle.psg_session.proofs.FetchedTrees.{rest_utf8}
 use Rattle.psg_session.proofs.FormedMakes.{found_has}
 use Rattle.psg_session.proofs.PrintableTrees.{blank_printable, changed_printable, ended_printable, fresh_printable, inserted_printable, removed_printable, replaced_printable}
@@ -79,7 +80,7 @@ module _ (s : State) (h : IsPrintableState s) where
     opened = h.opened;
     earlier = h.earlier;
     later = h.later;
-    saved = all_end HasPrintable (others x.name s.saved) x (all_others HasPrintable x.name s.saved h.saved) is;
+    saved = each_push HasPrintable (others x.name s.saved) x (all_others HasPrintable x.name s.saved h.saved) is;
   }
 
 module _ (def : Definition) where
@@ -152,4 +153,4 @@ module _ (def : Definition) where
     changed_state text old tree path opened makes =
         turned s h (record { kind = old.kind; tree = tree }) path (take most_versions (old.tree ∷ s.earlier)) []
         (made_printable text makes)
-        (all_taken IsPrintable most_versions (old.tree ∷ s.earlier) (h.opened old opened, h.earlier)) tt
+        (each_take IsPrintable most_versions (old.tree ∷ s.earlier) (h.opened old opened, h.earlier)) tt

@@ -1,5 +1,6 @@
 -- What a change of printable trees gives is printable.
 use Rattle.std.proofs.Common.{◌≡◌, ℕ, zero, suc, ◌==◌, Bool, true, false, cond, List, [], ◌∷◌, ◌++◌, length, slice_get, Some, chars, subst}
+use Rattle.psg_terms.proofs.Lists.{each_push}
 use Rattle.std.specs.List.{AllByRecursion}
 use Rattle.psg_grammar.specs.declared.types.Kind.{Kind}
 use Rattle.psg_grammar.specs.declared.types.Kind.TheVariants as kinds
@@ -15,7 +16,6 @@ use Rattle.psg_grammar.proofs.PathLaws.{step}
 use Rattle.psg_grammar.specs.WellFormed.{fixed_words}
 use Rattle.psg_cache.proofs.Each.{each_got}
 use Rattle.psg_session.specs.Leaves.{GivesLeaves}
-use Rattle.psg_session.proofs.AllOf.{all_end}
 use Rattle.psg_session.proofs.ShortTokens.{IsShortLeaf, short_leaves, short_tokens}
 
 -- ---- nodes
@@ -25,7 +25,7 @@ children_printable (hole p) h = tt
 children_printable (ending l u) h = tt
 children_printable (cell l e r) h = (h.0, children_printable r h.1)
 children_printable (operator o) h = tt
-children_printable (with_child f t) h = all_end IsPrintable (children_of f) t (children_printable f h.0) h.1
+children_printable (with_child f t) h = each_push IsPrintable (children_of f) t (children_printable f h.0) h.1
 children_printable (with_name f n) h = children_printable f h.0
 children_printable (with_number f n) h = children_printable f h
 children_printable (with_text f t) h = children_printable f h.0

@@ -11,7 +11,7 @@ use Rattle.psg_session.specs.declared.editor.Editor.{Editor}
 use Rattle.psg_session.specs.declared.editor.OpenedTree.{OpenedTree}
 use Rattle.psg_session.specs.declared.editor.Outcome.{Outcome}
 use Rattle.psg_cache.specs.Annotated.{Annotated}
-use Rattle.psg_session.specs.declared.changes.Made.{Made}
+use Rattle.psg_session.specs.declared.changes.Proposal.{Proposal}
 use Rattle.psg_session.specs.declared.changes.Plan.{Plan}
 use Rattle.psg_session.specs.declared.changes.Plan.TheVariants.{Makes}
 use Rattle.psg_session.specs.declared.editor.Outcome.TheVariants.{Changes}
@@ -88,14 +88,14 @@ module _ (def : Definition) where
       → IsKeptText def (after old outcome).opened q → IsKeptText def (opened_of new.opened) q
   kept_settled old new outcome q state kept = subst (λ (s : State). IsKeptText def s.opened q) (sym state) kept
 
-pub one_made : (p : Plan) (a b : Made) → p ≡ Makes a → p ≡ Makes b → a ≡ b
+pub one_made : (p : Plan) (a b : Proposal) → p ≡ Makes a → p ≡ Makes b → a ≡ b
 one_made p a b e f = let z : Makes a ≡ Makes b = sym e ∙ f in cc
 
 pub nothing_planned : (def : Definition) (e : Editor) (plan : Plan) → IsPlannedText def e plan None
 nothing_planned def e plan = unknown
 
 -- what is spliced is the text of the planned tree
-pub planned_by : (def : Definition) (e : Editor) (plan : Plan) (held : OpenedTree) (made : Made) (place : List ℕ)
+pub planned_by : (def : Definition) (e : Editor) (plan : Plan) (held : OpenedTree) (made : Proposal) (place : List ℕ)
     (new : Fragment) (before : Printed) (q : Option Printed)
     → e.opened ≡ Some held → plan ≡ Makes made → made.edit ≡ Put place new
     → WellFormed def (tree_in held.note) held.kind → before ≡ printed_of def (tree_in held.note)
@@ -114,7 +114,7 @@ no_text def e outcome q none = inl none
 -- the text of the new version
 pub next_text : (def : Definition) (e : Editor) (plan : Plan) (note : Annotated) (cursor : List ℕ) (mark : Mark)
     (q : Option Printed) → IsPlannedText def e plan q → IsFit def e.opened (Changes note cursor mark)
-    → ((held : OpenedTree) (made : Made) → e.opened ≡ Some held → plan ≡ Makes made
+    → ((held : OpenedTree) (made : Proposal) → e.opened ≡ Some held → plan ≡ Makes made
     → tree_in note ≡ edited made.edit (tree_in held.note))
     → IsNextText def e (Changes note cursor mark) q
 next_text def e plan note cursor mark None unknown fit version = inl refl

@@ -22,19 +22,19 @@ use Rattle.psg_cache.proofs.RealTrees.{real}
 use Rattle.psg_eval.specs.declared.frame.Frame.{Frame}
 use Rattle.psg_eval.specs.declared.question.FocusFault.{FocusFault}
 use Rattle.psg_eval.specs.declared.question.FocusFault.TheVariants as questions
-use Rattle.psg_eval.specs.declared.summary.Known.{Known}
+use Rattle.psg_eval.specs.declared.summary.SummaryParts.{SummaryParts}
 use Rattle.psg_eval.specs.Frames.{CanClimb, IsSilent, StandFor, rungs}
 use Rattle.psg_eval.specs.Summaries.{IsSummary, IsSummaryOf}
 use Rattle.psg_focus.specs.Shown.{IsShown, rows_of}
 use Rattle.psg_script.specs.declared.command.Where.{Where}
 use Rattle.psg_script.specs.declared.command.Command.TheVariants.{Relation}
 use Rattle.psg_session.specs.declared.editor.Editor.{Editor}
-use Rattle.psg_session.specs.declared.finding.Found.{Found}
+use Rattle.psg_session.specs.declared.finding.Target.{Target}
 use Rattle.psg_session.specs.declared.refusal.Refusal.{Refusal}
 use Rattle.psg_session.specs.declared.refusal.Refusal.TheVariants.{TooWide}
 use Rattle.psg_session.specs.declared.replies.Reply.{Reply as Given}
 use Rattle.psg_session.specs.Answers.{row_line, rows_lines}
-use Rattle.psg_session.specs.Outcomes.{IsFound, IsNotFound}
+use Rattle.psg_session.specs.Outcomes.{IsTarget, HasNoTarget}
 use Rattle.psg_session.specs.PlainState.{Opened, named_path}
 use Rattle.psg_session.specs.PlainStep.{refuses, relates}
 use Rattle.psg_session.specs.Relating.{IsRelated}
@@ -86,10 +86,10 @@ shown_sorted sig (Err fault) h = tt
 -- ---- steps
 
 module _ (def : Definition) (e : Editor) (place : Where) where
-  pub relation_not_found : (r : Refusal) → IsNotFound e place r → Answers def e (Relation place) (refused r)
+  pub relation_not_found : (r : Refusal) → HasNoTarget e place r → Answers def e (Relation place) (refused r)
   relation_not_found r missing = refuses (nowhere def e place r missing)
 
-  module _ (f : Found) (found : IsFound e place f) where
+  module _ (f : Target) (found : IsTarget e place f) where
     abbrev IsWideHere : Opened → Fragment → Type 0
     IsWideHere old node = IsWideAt def old.tree (named_path place (state_of e).cursor)
 
@@ -124,7 +124,7 @@ module _ (def : Definition) (e : Editor) (place : Where) where
 
     -- ---- what the question is asked with
 
-    module _ (editor : IsEditor def e) (own : Known) (at : IsSummaryAt f.held.now.note f.path.now own) (around : List Frame) (are : AreFramesAt f.held.now.note f.path.now around) where
+    module _ (editor : IsEditor def e) (own : SummaryParts) (at : IsSummaryAt f.held.now.note f.path.now own) (around : List Frame) (are : AreFramesAt f.held.now.note f.path.now around) where
       pub own_usual : IsSummary def own
       own_usual = (at def (tree_in f.held.now.note) (opened_version def e f.held.now editor found.held).noted).3
 

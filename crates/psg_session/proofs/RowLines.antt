@@ -5,6 +5,7 @@ use Rattle.std.specs.Prelude.{codes, decimal}
 use Rattle.std.specs.Fmt.{digits, digits_onto, digit_glyph}
 use Rattle.std.specs.List.{AllByRecursion, list_all}
 use Rattle.std.proofs.lemmas.Bool.{true≢false}
+use Rattle.std.specs.Cmp.{first_so, second_so}
 use Rattle.psg_terms.specs.Terms.{Term, variable, symbol, apply}
 use Rattle.psg_terms.specs.Names.{Name}
 use Rattle.psg_terms.specs.Signature.{Signature, Symbol}
@@ -15,7 +16,6 @@ use Rattle.psg_grammar.specs.Fragments.{Fragment}
 use Rattle.psg_grammar.specs.Paths.{Path, observe}
 use Rattle.psg_grammar.specs.Relations.{IsPossible, IsRelationOf, IsSeen, IsShownRelation}
 use Rattle.psg_grammar.specs.Sound.{IsSound, IsOwnName, goes_on_name, is_lower}
-use Rattle.psg_scope.proofs.KeyLists.{and_left, and_right}
 use Rattle.psg_terms.proofs.OneRelation.{sorts_length, same_rows}
 use Rattle.psg_session.specs.Answers.{entities_text, row_line, rows_lines}
 use Rattle.psg_terms.proofs.RowOrder.{same_row_texts}
@@ -53,16 +53,16 @@ clear_decimal n = clear_digits 64 n [] tt
 clear_rest : (cs : Name) → list_all goes_on_name cs ≡ true → IsClear cs
 clear_rest [] h = tt
 clear_rest (c ∷ cs) h = (
-  (λ e. true≢false (sym (and_left (goes_on_name c) (list_all goes_on_name cs) h) ∙ ap goes_on_name e)),
-  clear_rest cs (and_right (goes_on_name c) (list_all goes_on_name cs) h),
+  (λ e. true≢false (sym (first_so (goes_on_name c) (list_all goes_on_name cs) h) ∙ ap goes_on_name e)),
+  clear_rest cs (second_so (goes_on_name c) (list_all goes_on_name cs) h),
 )
 
 clear_name : (n : Name) → IsOwnName n → IsClear n
 clear_name [] h = absurd (true≢false (sym h))
 clear_name (c ∷ cs) h =
-    let front = and_left (is_lower c && list_all goes_on_name cs) (nat_le (length cs) 63) h in (
-      (λ e. true≢false (sym (and_left (is_lower c) (list_all goes_on_name cs) front) ∙ ap is_lower e)),
-      clear_rest cs (and_right (is_lower c) (list_all goes_on_name cs) front),
+    let front = first_so (is_lower c && list_all goes_on_name cs) (nat_le (length cs) 63) h in (
+      (λ e. true≢false (sym (first_so (is_lower c) (list_all goes_on_name cs) front) ∙ ap is_lower e)),
+      clear_rest cs (second_so (is_lower c) (list_all goes_on_name cs) front),
     )
 
 abbrev HaveOwnNames : List Symbol → Type 0

@@ -1,5 +1,7 @@
 -- The plain state after an outcome is settled.
-use Rattle.std.proofs.Common.{◌≡◌, inl, inr, ℕ, suc, zero, List, [], ◌∷◌, map, take, Some, None, Option, refl, sym, ◌∙◌, ap, subst}
+use Rattle.std.proofs.Common.{◌≡◌, inl, inr, List, [], ◌∷◌, map, take, Some, None, Option, sym, ◌∙◌, ap, subst}
+use Rattle.std.proofs.lemmas.List.{take-map}
+use Rattle.psg_terms.proofs.Lists.{each_take}
 use Rattle.std.specs.List.{AllByRecursion}
 use Rattle.psg_grammar.specs.declared.types.Definition.{Definition}
 use Rattle.psg_grammar.specs.Fragments.{Fragment}
@@ -16,17 +18,6 @@ use Rattle.psg_session.specs.Outcomes.{after, changed, shelved, IsFit, IsGoneOn}
 use Rattle.psg_session.specs.PlainState.{Opened, State, most_versions}
 use Rattle.psg_session.specs.Formed.{IsFormedSaved}
 use Rattle.psg_session.specs.Sessions.{AreVersions, IsEditor, IsVersion, opened_of, plain, state_of}
-
--- the first of a list, of which something is made
-take_map : {X Y : Type 0} (f : X → Y) (n : ℕ) (xs : List X) → map f (take n xs) ≡ take n (map f xs)
-take_map f zero xs = refl
-take_map f (suc n) [] = refl
-take_map f (suc n) (x ∷ xs) = ap (λ ys. f x ∷ ys) (take_map f n xs)
-
-all_take : {X : Type 0} (P : X → Type 0) (n : ℕ) (xs : List X) → AllByRecursion P xs → AllByRecursion P (take n xs)
-all_take P zero xs h = tt
-all_take P (suc n) [] h = tt
-all_take P (suc n) (x ∷ xs) h = (h.0, all_take P n xs h.1)
 
 abbrev plain_state : Option Opened → Path → List Fragment → List Fragment → List Saved → State
 plain_state opened cursor earlier later saved =
@@ -72,7 +63,7 @@ module _ (old new : Editor) (note : Annotated) (cursor : Path) (mark : Mark) whe
   gone_state (inr (held, was, opened, there, earlier, later, kept)) =
       same_state new (Some (record { kind = held.kind; tree = tree_in note })) cursor
       (take most_versions (tree_in held.note ∷ map tree_in old.history.earlier)) [] old.saved (ap opened_of opened) there
-      (ap (map tree_in) earlier ∙ take_map tree_in VERSIONS (held.note ∷ old.history.earlier))
+      (ap (map tree_in) earlier ∙ sym (take-map tree_in VERSIONS (held.note ∷ old.history.earlier)))
       (ap (map tree_in) later) kept
       ∙ ap (λ (o : Option OpenedTree). changed (state_of old) (opened_of o) (tree_in note) cursor) (sym was)
 
@@ -86,7 +77,7 @@ module _ (old new : Editor) (note : Annotated) (cursor : Path) (mark : Mark) whe
         earlier = subst (λ o. AreVersions def o new.history.earlier) (sym opened) (
           is,
           subst (AllByRecursion (IsVersion def held.kind)) (sym earlier)
-              (all_take (IsVersion def held.kind) VERSIONS (held.note ∷ old.history.earlier) old_versions),
+              (each_take (IsVersion def held.kind) VERSIONS (held.note ∷ old.history.earlier) old_versions),
         );
         later = subst (λ o. AreVersions def o new.history.later) (sym opened)
             (is, subst (AllByRecursion (IsVersion def held.kind)) (sym later) tt);

@@ -1,6 +1,7 @@
 -- Nodes by their shapes.
 use Rattle.std.proofs.Common.{◌≡◌, inl, inr, ℕ, ◌<◌, Bool, List, [], ◌∷◌, length, get_or, Some, None, slice_get, refl, sym, ◌∙◌, ap, subst}
 use Rattle.std.proofs.lemmas.Option.{none-some, slice_get_within, slice_get_read}
+use Rattle.psg_unparse.proofs.Items.{top-part, top-parts}
 use Rattle.psg_grammar.specs.declared.types.Kind.{Kind}
 use Rattle.psg_grammar.specs.declared.types.Kind.TheVariants as kinds
 use Rattle.psg_grammar.specs.declared.types.Item.{Item}
@@ -25,16 +26,6 @@ pub read_at : {X : Type 0} (xs ys : List X) (i : ℕ) (x : X) → xs ≡ ys → 
     → slice_get ys i ≡ Some x
 read_at xs ys i x same lt at = slice_get_read ys (length ys) i x refl lt (at ∙ ap (λ zs. get_or zs i x) same)
 
-top_part : (f : Fragment) (p : Part) → top_operator (with_part f p) ≡ top_operator f
-top_part f (Sub t) = refl
-top_part f (Name n) = refl
-top_part f (Number n) = refl
-top_part f (Text t) = refl
-
-top_parts : (f : Fragment) (ps : List Part) → top_operator (with_parts f ps) ≡ top_operator f
-top_parts f [] = refl
-top_parts f (p ∷ ps) = top_parts (with_part f p) ps ∙ top_part f p
-
 -- ---- placeholders
 
 no_hole : (l : ℕ) (es : List Fragment) (u : Bool) (p : ℕ) → list_of l es u ≡ hole p → ⊥
@@ -43,7 +34,7 @@ no_hole l (x ∷ es) u p e = cc
 
 -- a node that is a placeholder has the shape of one
 pub hole_shape : (s : Shape) (p : ℕ) → tree_of s ≡ hole p → (q : ℕ) × (s ≡ Hole q)
-hole_shape (Op o parts) p e = absurd (none-some o (sym (sym (top_parts (operator o) parts) ∙ ap top_operator e)))
+hole_shape (Op o parts) p e = absurd (none-some o (sym (sym (top-parts (operator o) parts) ∙ ap top_operator e)))
 hole_shape (ListOf l es u) p e = absurd (no_hole l es u p e)
 hole_shape (Hole q) p e = (q, refl)
 
@@ -64,7 +55,7 @@ no_top (observed f) h = absurd h
 -- a node that is a list has the shape of one
 pub list_shape : (s : Shape) → IsList (tree_of s) → (l : ℕ) × (es : List Fragment) × (u : Bool) × (s ≡ ListOf l es u)
 list_shape (Op o parts) h =
-    absurd (none-some o (sym (no_top (with_parts (operator o) parts) h) ∙ top_parts (operator o) parts))
+    absurd (none-some o (sym (no_top (with_parts (operator o) parts) h) ∙ top-parts (operator o) parts))
 list_shape (ListOf l es u) h = (l, es, u, refl)
 list_shape (Hole p) h = absurd h
 

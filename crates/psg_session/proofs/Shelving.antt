@@ -12,13 +12,13 @@ use Rattle.psg_script.specs.declared.command.Where.{Where}
 use Rattle.psg_script.specs.declared.command.Command.TheVariants.{Save}
 use Rattle.psg_session.specs.declared.editor.Editor.{Editor}
 use Rattle.psg_session.specs.declared.editor.Outcome.TheVariants.{Stays}
-use Rattle.psg_session.specs.declared.finding.Found.{Found}
+use Rattle.psg_session.specs.declared.finding.Target.{Target}
 use Rattle.psg_session.specs.declared.refusal.Refusal.{Refusal}
 use Rattle.psg_session.specs.declared.refusal.Refusal.TheVariants.{ShelfFull}
 use Rattle.psg_session.specs.declared.replies.Reply.TheVariants.{Refused}
 use Rattle.psg_library.specs.declared.fragment.SavedFragment.{SavedFragment as Saved}
 use Rattle.psg_session.specs.Good.{IsGoodIn}
-use Rattle.psg_session.specs.Outcomes.{IsFound, IsNotFound, IsOutcome, shelved}
+use Rattle.psg_session.specs.Outcomes.{IsTarget, HasNoTarget, IsOutcome, shelved}
 use Rattle.psg_session.specs.PlainState.{not_asked, with_saved}
 use Rattle.psg_session.specs.PlainStep.{refuses, saves, Steps}
 use Rattle.psg_session.specs.Replies.{answered}
@@ -55,10 +55,10 @@ pub kept_at : (def : Definition) (xs : List Saved) (name : Name) (x : Saved) →
 kept_at def xs name x e h = all_at (IsFormedSaved def) xs name x e h
 
 module _ (def : Definition) (e : Editor) (place : Where) (name : Name) where
-  pub save_nowhere : (r : Refusal) → IsNotFound e place r → IsOutcome def e not_asked (Save name place) (Stays (Refused r))
+  pub save_nowhere : (r : Refusal) → HasNoTarget e place r → IsOutcome def e not_asked (Save name place) (Stays (Refused r))
   save_nowhere r none = record { steps = refuses (nowhere def e place r none); fit = tt }
 
-  module _ (f : Found) (found : IsFound e place f) where
+  module _ (f : Target) (found : IsTarget e place f) where
     -- there is no room for the name
     pub save_full : IsFull e.saved name → IsOutcome def e not_asked (Save name place) (Stays (Refused ShelfFull))
     save_full full = record {

@@ -24,11 +24,11 @@ use Rattle.psg_unparse.specs.declared.spans.Span.{Span}
 use Rattle.psg_session.specs.declared.editor.Editor.{Editor}
 use Rattle.psg_session.specs.declared.editor.OpenedTree.{OpenedTree}
 use Rattle.psg_session.specs.declared.editor.Outcome.TheVariants.{Goes}
-use Rattle.psg_session.specs.declared.finding.Found.{Found}
+use Rattle.psg_session.specs.declared.finding.Target.{Target}
 use Rattle.psg_session.specs.declared.refusal.Refusal.{Refusal}
 use Rattle.psg_session.specs.declared.refusal.Refusal.TheVariants.{NothingOpened}
 use Rattle.psg_session.specs.Good.{IsGoodIn}
-use Rattle.psg_session.specs.Outcomes.{IsFound, IsNotFound, IsOutcome}
+use Rattle.psg_session.specs.Outcomes.{IsTarget, HasNoTarget, IsOutcome}
 use Rattle.psg_session.specs.PlainState.{named_path, not_asked, with_cursor}
 use Rattle.psg_session.specs.PlainStep.{Steps, goes, refuses, screens, shows}
 use Rattle.psg_session.specs.Printing.{goto_line, lines_in, view_of, what_is, HasNoSpan, IsFirstSpan, IsWrittenAt}
@@ -71,10 +71,10 @@ module _ (def : Definition) (e : Editor) where
         (sym written) step)
 
   module _ (place : Where) where
-    pub go_not_found : (r : Refusal) → IsNotFound e place r → Answers def e (Goto place) (refused r)
+    pub go_not_found : (r : Refusal) → HasNoTarget e place r → Answers def e (Goto place) (refused r)
     go_not_found r missing = refuses (nowhere def e place r missing)
 
-    module _ (editor : IsEditor def e) (f : Found) (found : IsFound e place f) where
+    module _ (editor : IsEditor def e) (f : Target) (found : IsTarget e place f) where
       listed : IsListing def (tree_in f.held.now.note)
       listed = listing def (tree_in f.held.now.note) f.held.now.kind
           (opened_version def e f.held.now editor found.held).formed

@@ -11,12 +11,11 @@ use Rattle.psg_grammar.specs.Insertion.{blank}
 use Rattle.psg_grammar.specs.Paths.{Path, node_at, change_at, change_child, ended, removed, replaced}
 use Rattle.psg_grammar.specs.Sizes.{depth_of, longest_of, nodes_of, IsBig, IsDeep}
 use Rattle.psg_grammar.specs.Steps.{below_ending, below_hole, IsHeavy, IsWide, of_node}
-use Rattle.psg_grammar.proofs.PathLaws.{got_front, got_next}
+use Rattle.psg_grammar.proofs.PathLaws.{got_front, got_next, step}
 use Rattle.psg_cache.specs.Notes.{IsWithin}
 use Rattle.psg_cache.proofs.LongLists.{long_lists}
 use Rattle.psg_eval.proofs.Closing.{inside_relation}
 use Rattle.psg_eval.proofs.Passing.{step_passes}
-use Rattle.psg_regions.proofs.Depths.{step_child}
 use Rattle.psg_session.specs.declared.judging.Trial.{Trial}
 use Rattle.psg_session.specs.declared.judging.Trial.TheVariants.{Opens, Grows, Types, Closes, Loosens}
 use Rattle.psg_session.specs.Shrinking.{IsNoLarger, IsSizedBy, IsSmallFor}
@@ -191,7 +190,7 @@ changed_less : (g : Fragment → Fragment) (path : Path) (f node : Fragment) →
 changed_less g [] f node e h =
     subst (λ x. IsLess x (g x)) (sym (some_once f node (Some f) refl e)) h
 changed_less g (k ∷ path) f node e h =
-    let (t, at, further) = step_child path (slice_get (children_of f) k) node e in
+    let (t, at, further) = step (slice_get (children_of f) k) path node e in
     child_less (change_at g path) f k t at (changed_less g path t node further h)
 
 -- ---- the changes that add nothing

@@ -7,10 +7,10 @@ use Rattle.psg_grammar.specs.Paths.{node_at}
 use Rattle.psg_script.specs.declared.command.Where.{Where}
 use Rattle.psg_session.specs.declared.editor.Editor.{Editor}
 use Rattle.psg_session.specs.declared.editor.OpenedTree.{OpenedTree}
-use Rattle.psg_session.specs.declared.finding.Found.{Found}
+use Rattle.psg_session.specs.declared.finding.Target.{Target}
 use Rattle.psg_session.specs.declared.refusal.Refusal.{Refusal}
 use Rattle.psg_session.specs.declared.refusal.Refusal.TheVariants.{NoNode, NothingOpened}
-use Rattle.psg_session.specs.Outcomes.{IsFound, IsNotFound}
+use Rattle.psg_session.specs.Outcomes.{IsTarget, HasNoTarget}
 use Rattle.psg_session.specs.PlainState.{Opened, named_path}
 use Rattle.psg_session.specs.PlainStep.{AtNode, IsNoNode}
 use Rattle.psg_session.specs.Sessions.{opened_of, plain, state_of}
@@ -31,7 +31,7 @@ module _ (def : Definition) (e : Editor) where
 
   module _ (place : Where) where
     -- one of the first two tests holds
-    pub nowhere : {X : Type 0} (r : Refusal) → IsNotFound e place r
+    pub nowhere : {X : Type 0} (r : Refusal) → HasNoTarget e place r
         → (((state_of e).opened ≡ None) × (NothingOpened ≡ r))
         ⊎ ((((state_of e).opened ≡ None) → ⊥)
         × ((IsNoNode def (state_of e) place × (NoNode ≡ r)) ⊎ ((IsNoNode def (state_of e) place → ⊥) × X)))
@@ -39,7 +39,7 @@ module _ (def : Definition) (e : Editor) where
     nowhere r (inr (is, held, opened, none)) =
         inr (is_opened_by held opened, inl ((plain held, opened_plain held opened, none), sym is))
 
-    module _ (f : Found) (found : IsFound e place f) where
+    module _ (f : Target) (found : IsTarget e place f) where
       pub opened_is : (state_of e).opened ≡ Some (plain f.held.now)
       opened_is = opened_plain f.held.now found.held
 

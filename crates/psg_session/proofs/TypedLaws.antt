@@ -1,5 +1,5 @@
 -- A text is read as one tree, or has none.
-use Rattle.std.proofs.Common.{◌≡◌, inl, inr, ℕ, ◌+◌, ◌<◌, ◌≤◌, List, length, chars, Result, Ok, Err, IfErr, sym, subst, arith}
+use Rattle.std.proofs.Common.{◌≡◌, inl, inr, ℕ, ◌+◌, ◌<◌, ◌≤◌, List, length, chars, Ok, Err, sym, subst, arith}
 use Rattle.psg_grammar.specs.declared.types.Kind.{Kind}
 use Rattle.psg_grammar.specs.declared.types.Definition.{Definition}
 use Rattle.psg_grammar.specs.Fragments.{Fragment}
@@ -22,10 +22,6 @@ use Rattle.psg_parse.specs.declared.fault.ParseFault.{ParseFault}
 use Rattle.psg_parse.specs.declared.fault.ParseFault.TheVariants as parse_faults
 use Rattle.psg_session.specs.declared.refusal.Refusal.{Refusal}
 use Rattle.psg_session.specs.Typed.{HasNoTreeFor, HasRead, IsParseRefusal, IsTextAnswer, ReadsFor}
-
--- what is known of the error of a call that went wrong
-pub err_at : {X E : Type 0} (P : E → Type 0) (r : Result X E) (x : E) → r ≡ Err x → IfErr r P → P x
-err_at P r x e h = subst (λ q. IfErr q P) e h
 
 -- what is parsed for a text: a tree of the kind at level 0, with no brackets round it
 abbrev pub goal_of : Kind → Goal

@@ -21,13 +21,13 @@ use Rattle.psg_session.specs.declared.editor.Editor.{Editor}
 use Rattle.psg_session.specs.declared.editor.Outcome.{Outcome}
 use Rattle.psg_session.specs.declared.editor.Outcome.TheVariants.{Stays, Opens as OpensTree, Changes, Undoes, Redoes}
 use Rattle.psg_session.specs.declared.editor.Outcome.TheVariants.{Saves, Goes}
-use Rattle.psg_session.specs.declared.finding.Found.{Found}
+use Rattle.psg_session.specs.declared.finding.Target.{Target}
 use Rattle.psg_session.specs.declared.pasting.Source.{Source}
 use Rattle.psg_session.specs.Shelf.{saved_at}
 use Rattle.psg_session.specs.declared.judging.Trial.{Trial}
 use Rattle.psg_session.specs.declared.judging.Trial.TheVariants.{Opens, Grows, Types, Closes, Loosens}
 use Rattle.psg_session.specs.declared.changes.Listed.{Listed}
-use Rattle.psg_session.specs.declared.changes.Made.{Made}
+use Rattle.psg_session.specs.declared.changes.Proposal.{Proposal}
 use Rattle.psg_session.specs.declared.changes.Plan.{Plan}
 use Rattle.psg_session.specs.declared.changes.Plan.TheVariants.{RefusedBy, Makes as Plans}
 use Rattle.psg_session.specs.declared.refusal.Refusal.{Refusal}
@@ -170,14 +170,14 @@ later_in h = h.later
 -- ---- the node that a command names
 
 -- the node of the place in the opened fragment
-pub record IsFound (e : Editor) (place : Where) (f : Found) : Type 0 where
+pub record IsTarget (e : Editor) (place : Where) (f : Target) : Type 0 where
   pub held : e.opened ≡ Some f.held.now
   pub path : f.path.now ≡ named_path place e.cursor
   pub node : node_at (tree_in f.held.now.note) f.path.now ≡ Some f.node.now
 
 -- nothing is opened, or there is no node at the place
-abbrev pub IsNotFound : Editor → Where → Refusal → Type 0
-IsNotFound e place r =
+abbrev pub HasNoTarget : Editor → Where → Refusal → Type 0
+HasNoTarget e place r =
     ((r ≡ NothingOpened) × (e.opened ≡ None))
     ⊎ ((r ≡ NoNode) × (held : OpenedTree) × (e.opened ≡ Some held)
     × (node_at (tree_in held.note) (named_path place e.cursor) ≡ None))
@@ -185,7 +185,7 @@ IsNotFound e place r =
 -- the saved fragment of the name, and the node of the place
 pub record IsSource (e : Editor) (place : Where) (name : Name) (x : Source) : Type 0 where
   pub saved : saved_at e.saved name ≡ Some x.saved.now
-  pub found : IsFound e place x.found
+  pub found : IsTarget e place x.found
 
 -- nothing is opened, or no saved fragment has the name, or there is no node at the place
 abbrev pub IsNoSource : Editor → Where → Name → Refusal → Type 0
@@ -235,12 +235,12 @@ MustBeGood Loosens = ⊥
 -- ---- plans
 
 -- the plan of these three
-abbrev pub made_of : Trial → Edit → Path → Made
-made_of trial edit cursor = record { trial = trial; edit = edit; cursor = cursor }
+abbrev pub proposal_of : Trial → Edit → Path → Proposal
+proposal_of trial edit cursor = record { trial = trial; edit = edit; cursor = cursor }
 
 -- A change of the opened tree that is what the command makes, and nothing else; none of the command's tests holds but
 -- perhaps those of its tree. Where it adds nothing, the tree is no larger than the old one.
-pub record IsMade (def : Definition) (e : Editor) (command : Command) (m : Made) : Type 0 where
+pub record IsProposal (def : Definition) (e : Editor) (command : Command) (m : Proposal) : Type 0 where
   pub held : OpenedTree
   pub opened : e.opened ≡ Some held
   pub may : MayEdit def (tree_in held.note) m.edit
@@ -256,13 +256,13 @@ pub record IsMade (def : Definition) (e : Editor) (command : Command) (m : Made)
 -- the refusal of the first test that holds, or what the command makes
 abbrev pub IsPlan : Definition → Editor → Command → Plan → Type 0
 IsPlan def e command (RefusedBy r) = IsRefused def (IsGoodIn def) (state_of e) not_asked command r
-IsPlan def e command (Plans m) = IsMade def e command m
+IsPlan def e command (Plans m) = IsProposal def e command m
 
 -- The counter went up by no more than the planned change costs; where nothing was planned it stayed.
 abbrev pub Spends : Editor → Plan → ℕ → ℕ → Type 0
 Spends e plan from to =
     (to ≡ from)
-    ⊎ ((m : Made) × (plan ≡ Plans m) × (held : OpenedTree) × (e.opened ≡ Some held)
+    ⊎ ((m : Proposal) × (plan ≡ Plans m) × (held : OpenedTree) × (e.opened ≡ Some held)
     × (to ≤ from + cost_of m.edit (tree_in held.note)))
 
 -- where the counter is at the number `so_far`, the planned change may be made within the bound of the command

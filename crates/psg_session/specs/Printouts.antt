@@ -6,7 +6,7 @@ use Rattle.psg_script.specs.declared.command.Command.TheVariants.{Goto, Range, S
 use Rattle.psg_unparse.specs.Spots.{printed_of}
 use Rattle.psg_unparse.specs.declared.spans.Printed.{Printed}
 use Rattle.psg_cache.specs.Annotated.{tree_in}
-use Rattle.psg_session.specs.declared.changes.Made.{Made}
+use Rattle.psg_session.specs.declared.changes.Proposal.{Proposal}
 use Rattle.psg_session.specs.declared.changes.Plan.{Plan}
 use Rattle.psg_session.specs.declared.changes.Plan.TheVariants.{Makes}
 use Rattle.psg_session.specs.declared.editor.Editor.{Editor}
@@ -42,7 +42,7 @@ module _ (def : Definition) where
   -- no text is known of the planned tree, or it is that tree's
   pub data IsPlannedText (e : Editor) (plan : Plan) : Option Printed → Type 0 where
     unknown : IsPlannedText e plan None
-    known : (held : OpenedTree) (made : Made) → e.opened ≡ Some held → plan ≡ Makes made
+    known : (held : OpenedTree) (made : Proposal) → e.opened ≡ Some held → plan ≡ Makes made
         → IsPlannedText e plan (Some (printed_of def (edited made.edit (tree_in held.note))))
 
 -- a session that keeps no text, or that of its opened fragment

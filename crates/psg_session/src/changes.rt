@@ -6,7 +6,7 @@ ghost use Rattle.psg_grammar.specs.Paths.{ended, IsList};
 ghost use Rattle.psg_cache.specs.Notes.{IsFormed};
 ghost use Rattle.psg_script.specs.declared.command.Command.TheVariants as commands;
 ghost use Rattle.psg_session.specs.declared.edits.Edit.TheVariants as edits;
-ghost use Rattle.psg_session.specs.Outcomes.{made_of, IsFreshAnswer, IsListed, IsPlan};
+ghost use Rattle.psg_session.specs.Outcomes.{proposal_of, IsFreshAnswer, IsListed, IsPlan};
 ghost use Rattle.psg_session.specs.PlainStep.{MayReopen, end_of};
 ghost use Rattle.psg_session.specs.Sessions.{IsEditor};
 ghost use Rattle.psg_session.specs.Views.{IsLanguage};
@@ -26,9 +26,9 @@ use psg_terms::Txt;
 use psg_tree::{Path, Shape, Tree, set_unfinished};
 use std::alloc::{AllocError, Global};
 
-/// What a command makes of the opened fragment, and the path of the cursor then.
+/// A change of the opened fragment that a command proposes, whose tree is still to be tested.
 #[derive(Drop)]
-pub struct Made {
+pub struct Proposal {
     /// The tests that the new tree must pass.
     pub trial: Trial,
     /// The change of the opened tree.
@@ -43,7 +43,7 @@ pub enum Plan {
     /// The command is refused before any tree is made.
     RefusedBy(Refusal),
     /// The command makes this, whose tree is still to be tested.
-    Makes(Made),
+    Makes(Proposal),
 }
 
 /// Gives the phylum of the placeholder that the tree is, if it is one.
@@ -143,13 +143,18 @@ pub(crate) fn copied(alloc: Global, path: &Path) -> Result<Path, AllocError>
 }
 
 /// Plans the tree in place of the node at the path, to which the cursor goes.
-pub(crate) fn put(alloc: Global, trial: Trial, path: &Path, new: Tree) -> Result<Made, AllocError>
-    ensures { IfOk result (λ made. made ≡ made_of trial (edits.Put path.now new) path.now) }
+pub(crate) fn put(
+    alloc: Global,
+    trial: Trial,
+    path: &Path,
+    new: Tree,
+) -> Result<Proposal, AllocError>
+    ensures { IfOk result (λ made. made ≡ proposal_of trial (edits.Put path.now new) path.now) }
 {
     let at = copied(alloc, path)?;
     let cursor = copied(alloc, path)?;
     let edit = Edit::Put { at, new };
-    Ok(Made {
+    Ok(Proposal {
         trial,
         edit,
         cursor,
@@ -249,7 +254,7 @@ pub fn insert_element(
         new: fresh,
     };
     let trial = Trial::Grows;
-    Ok(Plan::Makes(Made {
+    Ok(Plan::Makes(Proposal {
         trial,
         edit,
         cursor,
@@ -319,7 +324,7 @@ pub fn remove_element(
     let cursor = copied(alloc, found.path)?;
     let edit = Edit::Take { at, place: number };
     let trial = Trial::Loosens;
-    Ok(Plan::Makes(Made {
+    Ok(Plan::Makes(Proposal {
         trial,
         edit,
         cursor,

@@ -6,7 +6,7 @@ ghost use Rattle.psg_session.specs.Formed.{IsFormedState};
 ghost use Rattle.psg_session.specs.Outcomes.{after, reply_in, IsChanging, IsFit, IsGoneOn, IsOutcome, IsPlan, IsStay};
 ghost use Rattle.psg_session.specs.Outcomes.{IsVersionOf, Spends};
 ghost use Rattle.psg_session.specs.Edits.{edited};
-ghost use Rattle.psg_session.specs.declared.changes.Made.{Made as PlainMade};
+ghost use Rattle.psg_session.specs.declared.changes.Proposal.{Proposal as PlainMade};
 ghost use Rattle.psg_session.specs.declared.changes.Plan.TheVariants.{Makes};
 ghost use Rattle.psg_session.specs.declared.editor.OpenedTree.{OpenedTree as PlainHeld};
 ghost use Rattle.psg_session.specs.PlainState.{not_asked};

@@ -1,6 +1,6 @@
 //! The node that a command names.
 ghost use Rattle.std.specs.Prelude.{◌≡◌, IfErr, IfOk};
-ghost use Rattle.psg_session.specs.Outcomes.{IsFound, IsNotFound};
+ghost use Rattle.psg_session.specs.Outcomes.{IsTarget, HasNoTarget};
 ghost use Rattle.psg_session.specs.PlainState.{named_path};
 
 use crate::editor::{Editor, OpenedTree};
@@ -8,9 +8,9 @@ use crate::refusal::Refusal;
 use psg_script::Where;
 use psg_tree::{Path, Tree, at};
 
-/// The opened fragment, the path of the place, and the node there.
+/// The node that a command names: the opened fragment, the path of the place, and the node there.
 #[derive(Clone, Copy)]
-pub struct Found<'a> {
+pub struct Target<'a> {
     /// The opened fragment.
     pub held: &'a OpenedTree,
     /// The path from its root to the node.
@@ -31,16 +31,16 @@ fn path_named<'a>(place: &'a Where, cursor: &'a Path) -> &'a Path
 
 /// Finds the node of the place. It is refused with `NothingOpened` where nothing is opened, and with `NoNode` where no
 /// node is there.
-pub fn find<'a>(editor: &'a Editor, place: &'a Where) -> Result<Found<'a>, Refusal>
-    ensures ok { IfOk result (IsFound editor.now place.now) }
-    ensures err { IfErr result (IsNotFound editor.now place.now) }
+pub fn find<'a>(editor: &'a Editor, place: &'a Where) -> Result<Target<'a>, Refusal>
+    ensures ok { IfOk result (IsTarget editor.now place.now) }
+    ensures err { IfErr result (HasNoTarget editor.now place.now) }
 {
     let Some(held) = &editor.opened else {
         return Err(Refusal::NothingOpened);
     };
     let path = path_named(place, &editor.cursor);
     match at(held.note.tree(), path) {
-        Some(node) => Ok(Found { held, path, node }),
+        Some(node) => Ok(Target { held, path, node }),
         None => Err(Refusal::NoNode),
     }
 }

@@ -21,7 +21,7 @@ ghost use Rattle.psg_session.specs.Views.{IsLanguage};
 
 use crate::changes::{as_list, hole_phylum};
 use crate::editor::{Editor, Outcome};
-use crate::finding::{Found, find};
+use crate::finding::{Target, find};
 use crate::gathering::names_in;
 use crate::questions::names_line;
 use crate::refusal::Refusal;
@@ -48,7 +48,7 @@ pub struct Site {
 fn hole_site(
     alloc: Global,
     definition: &Definition,
-    found: Found,
+    found: Target,
 ) -> Result<Option<Site>, AllocError>
     requires version { (kind : Kind) × IsVersion definition.now kind found.held.now.note }
     requires node { node_at (tree_in found.held.now.note) found.path.now ≡ Some found.node.now }
@@ -70,7 +70,7 @@ fn hole_site(
 fn element_site(
     alloc: Global,
     definition: &Definition,
-    found: Found,
+    found: Target,
     number: u32,
 ) -> Result<Option<Site>, AllocError>
     requires sound { IsSound definition.now }
@@ -100,7 +100,7 @@ fn element_site(
 fn site_of(
     alloc: Global,
     definition: &Definition,
-    found: Found,
+    found: Target,
     number: Option<u32>,
 ) -> Result<Option<Site>, AllocError>
     requires sound { IsSound definition.now }

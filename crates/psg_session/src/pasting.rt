@@ -8,10 +8,10 @@ ghost use Rattle.psg_session.specs.PlainStep.{IsEmptyPlace};
 ghost use Rattle.psg_session.specs.Sessions.{IsEditor};
 ghost use Rattle.psg_session.specs.Views.{IsLanguage};
 
-use crate::changes::{Made, Plan, as_list, copied, hole_phylum, kind_of, longer, put};
+use crate::changes::{Plan, Proposal, as_list, copied, hole_phylum, kind_of, longer, put};
 use crate::editor::Editor;
 use crate::edits::Edit;
-use crate::finding::{Found, find};
+use crate::finding::{Target, find};
 use crate::judging::Trial;
 use crate::refusal::Refusal;
 use crate::saved::saved_named;
@@ -29,7 +29,7 @@ pub struct Source<'a> {
     /// The saved fragment.
     pub saved: &'a SavedFragment,
     /// The node at which it is pasted.
-    pub found: Found<'a>,
+    pub found: Target<'a>,
 }
 
 /// Finds the saved fragment of the name and the node of the place. It is refused with `NothingOpened` where nothing is
@@ -170,7 +170,7 @@ fn paste_element(
         new,
     };
     let trial = Trial::Grows;
-    Ok(Plan::Makes(Made {
+    Ok(Plan::Makes(Proposal {
         trial,
         edit,
         cursor,

@@ -9,7 +9,7 @@ ghost use Rattle.psg_session.specs.Outcomes.{after, IsFit, IsVersionOf};
 ghost use Rattle.psg_session.specs.Edits.{edited};
 ghost use Rattle.psg_session.specs.Formed.{IsFormedState};
 ghost use Rattle.psg_session.specs.Views.{IsLanguage};
-ghost use Rattle.psg_session.specs.declared.changes.Made.{Made as PlainMade};
+ghost use Rattle.psg_session.specs.declared.changes.Proposal.{Proposal as PlainMade};
 ghost use Rattle.psg_session.specs.declared.changes.Plan.{Plan as PlainPlan};
 ghost use Rattle.psg_session.specs.declared.changes.Plan.TheVariants.{Makes};
 ghost use Rattle.psg_session.specs.declared.editor.OpenedTree.{OpenedTree as PlainHeld};

@@ -44,21 +44,25 @@ pub fn free(alloc: Global, language: &LanguageParts, editor: &Editor) -> Result<
 }
 
 /// The keys of a header that are not declared, with a space between two, or `none`.
-fn free_line(alloc: Global, def: &Definition, names: &[NameCol]) -> Result<String, AllocError>
-    ensures { IfOk result (λ text. string_bytes text ≡ names_line_of (names_without def.now names.now)) }
+fn free_line(
+    alloc: Global,
+    definition: &Definition,
+    names: &[NameCol],
+) -> Result<String, AllocError>
+    ensures { IfOk result (λ text. string_bytes text ≡ names_line_of (names_without definition.now names.now)) }
 {
-    let free = undeclared(alloc, def, names)?;
+    let free = undeclared(alloc, definition, names)?;
     let line = names_line(alloc, free.as_slice())?;
     Ok(line)
 }
 
 /// Returns the key of the column as it is printed: its name, and in version 2 before it the name of its space.
-fn key_label(alloc: Global, def: &Definition, column: &NameCol) -> Result<Txt, AllocError>
-    ensures { IfOk result (λ label. label ≡ key_text def.now (key_of column.now)) }
+fn key_label(alloc: Global, definition: &Definition, column: &NameCol) -> Result<Txt, AllocError>
+    ensures { IfOk result (λ label. label ≡ key_text definition.now (key_of column.now)) }
 {
-    if def.version == 2 {
+    if definition.version == 2 {
         let mut text = String::new(alloc);
-        push_space(&mut text, def.spaces.as_slice(), column.space)?;
+        push_space(&mut text, definition.spaces.as_slice(), column.space)?;
         text.push_str(":")?;
         text.push_str(column.name.as_str())?;
         let label = Txt::copy_of(alloc, text.as_str())?;
@@ -79,25 +83,29 @@ fn push_space(text: &mut String, spaces: &[Space], space: u32) -> Result<(), All
 }
 
 /// The keys of the columns that are not declared.
-fn undeclared(alloc: Global, def: &Definition, names: &[NameCol]) -> Result<Vec<Txt>, AllocError>
-    ensures { IfOk result (λ free. free.items ≡ names_without def.now names.now) }
+fn undeclared(
+    alloc: Global,
+    definition: &Definition,
+    names: &[NameCol],
+) -> Result<Vec<Txt>, AllocError>
+    ensures { IfOk result (λ free. free.items ≡ names_without definition.now names.now) }
 {
     let mut free = Vec::new(alloc);
     for column in names {
         if !column.declared {
-            free.push(key_label(alloc, def, column)?)?;
+            free.push(key_label(alloc, definition, column)?)?;
         }
     }
     Ok(free)
 }
 
 /// The keys of the columns.
-fn labels(alloc: Global, def: &Definition, names: &[NameCol]) -> Result<Vec<Txt>, AllocError>
-    ensures { IfOk result (λ labels. labels.items ≡ map (key_text def.now) (keys names.now)) }
+fn labels(alloc: Global, definition: &Definition, names: &[NameCol]) -> Result<Vec<Txt>, AllocError>
+    ensures { IfOk result (λ labels. labels.items ≡ map (key_text definition.now) (keys names.now)) }
 {
     let mut labels = Vec::new(alloc);
     for column in names {
-        labels.push(key_label(alloc, def, column)?)?;
+        labels.push(key_label(alloc, definition, column)?)?;
     }
     Ok(labels)
 }
@@ -143,14 +151,19 @@ pub fn own(
 }
 
 /// A line for each row of the summary, or `none`.
-fn rows_lines(alloc: Global, def: &Definition, summary: &Summary) -> Result<Vec<String>, AllocError>
-    requires { (row : List Plain) → IsIn row summary.now.rel → AreTerms def.now.signature row }
+fn rows_lines(
+    alloc: Global,
+    definition: &Definition,
+    summary: &Summary,
+) -> Result<Vec<String>, AllocError>
+    requires { (row : List Plain) → IsIn row summary.now.rel → AreTerms definition.now.signature row }
     ensures { IfOk result (λ lines. map string_bytes lines.items
-        ≡ rows_lines_of def.now.signature (map (key_text def.now) (keys summary.now.header.names)) summary.now.rel) }
+        ≡ rows_lines_of definition.now.signature (map (key_text definition.now) (keys summary.now.header.names))
+        summary.now.rel) }
 {
-    let labels = labels(alloc, def, summary.header().names.as_slice())?;
+    let labels = labels(alloc, definition, summary.header().names.as_slice())?;
     let names = labels.as_slice();
-    let signature = &def.signature;
+    let sig = &definition.signature;
     let rows = summary.rel().rows();
     let mut lines = Vec::new(alloc);
     if rows.is_empty() {
@@ -159,7 +172,7 @@ fn rows_lines(alloc: Global, def: &Definition, summary: &Summary) -> Result<Vec<
         return Ok(lines);
     }
     for row in rows {
-        let line = row_line(alloc, signature, names, row.terms())?;
+        let line = row_line(alloc, sig, names, row.terms())?;
         lines.push(line)?;
     }
     Ok(lines)
@@ -168,18 +181,18 @@ fn rows_lines(alloc: Global, def: &Definition, summary: &Summary) -> Result<Vec<
 /// Returns a row: the value, and after it each key with its entity.
 fn row_line(
     alloc: Global,
-    signature: &Signature,
+    sig: &Signature,
     names: &[Txt],
     row: &[Term],
 ) -> Result<String, AllocError>
-    requires { AreTerms signature.now row.now }
-    ensures { IfOk result (λ text. string_bytes text ≡ row_line_of signature.now names.now row.now) }
+    requires { AreTerms sig.now row.now }
+    ensures { IfOk result (λ text. string_bytes text ≡ row_line_of sig.now names.now row.now) }
 {
     let [value, entities @ ..] = row else {
         return Ok(String::new(alloc));
     };
-    let mut text = term_text(alloc, signature, value)?;
-    push_entities(alloc, &mut text, signature, names, entities)?;
+    let mut text = term_text(alloc, sig, value)?;
+    push_entities(alloc, &mut text, sig, names, entities)?;
     Ok(text)
 }
 
@@ -187,20 +200,20 @@ fn row_line(
 fn push_entities(
     alloc: Global,
     text: &mut String,
-    signature: &Signature,
+    sig: &Signature,
     names: &[Txt],
     entities: &[Term],
 ) -> Result<(), AllocError>
-    requires { AreTerms signature.now entities.now }
+    requires { AreTerms sig.now entities.now }
     ensures { IfOk result (λ _. string_bytes text.new
-        ≡ string_bytes text.old ++ entities_text signature.now names.now entities.now) }
+        ≡ string_bytes text.old ++ entities_text sig.now names.now entities.now) }
 {
     let mut rest = entities;
     for name in names {
         let [entity, more @ ..] = rest else {
             return Ok(());
         };
-        let value = term_text(alloc, signature, entity)?;
+        let value = term_text(alloc, sig, entity)?;
         push_entity(text, name.as_str(), value.as_str())?;
         rest = more;
     }

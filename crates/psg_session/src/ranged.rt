@@ -11,7 +11,7 @@ ghost use Rattle.psg_script.specs.declared.command.Command.TheVariants as comman
 ghost use Rattle.psg_session.specs.declared.edits.Edit.TheVariants as edits;
 ghost use Rattle.psg_session.specs.declared.judging.Trial.TheVariants.{Types};
 ghost use Rattle.psg_session.specs.Formed.{IsFormedState};
-ghost use Rattle.psg_session.specs.Outcomes.{made_of, IsOutcome, IsPlan, MaySpend};
+ghost use Rattle.psg_session.specs.Outcomes.{proposal_of, IsOutcome, IsPlan, MaySpend};
 ghost use Rattle.psg_session.specs.PlainState.{not_asked};
 ghost use Rattle.psg_session.specs.Printouts.{IsNextText, IsPrinted};
 ghost use Rattle.psg_session.specs.RangeAnswers.{IsRangeAnswer, IsRangeRefusal};
@@ -21,7 +21,7 @@ ghost use Rattle.psg_session.specs.Views.{IsLanguage};
 ghost use Rattle.psg_textedit.specs.Typing.{typing_of};
 ghost use Rattle.psg_unparse.specs.Spots.{printed_of};
 
-use crate::changes::{Made, Plan};
+use crate::changes::{Plan, Proposal};
 use crate::editor::{Editor, OpenedTree, Outcome, carry_out};
 use crate::edits::Edit;
 use crate::judging::Trial;
@@ -82,8 +82,8 @@ fn read_change<L: Ledger>(
 }
 
 /// Plans the tree of the change in place of its node; the cursor goes to the top.
-fn put_change(alloc: Global, change: Change) -> Result<Made, AllocError>
-    ensures { IfOk result (λ made. made ≡ made_of Types (edits.Put change.path change.tree) []) }
+fn put_change(alloc: Global, change: Change) -> Result<Proposal, AllocError>
+    ensures { IfOk result (λ made. made ≡ proposal_of Types (edits.Put change.path change.tree) []) }
 {
     let cursor = Path::of(alloc, &[])?;
     let edit = Edit::Put {
@@ -91,7 +91,7 @@ fn put_change(alloc: Global, change: Change) -> Result<Made, AllocError>
         new: change.tree,
     };
     let trial = Trial::Types;
-    Ok(Made {
+    Ok(Proposal {
         trial,
         edit,
         cursor,

@@ -26,22 +26,18 @@ use std::alloc::{AllocError, Global};
 use std::sync::ledger::Ledger;
 
 /// The term as the line of a row without names.
-fn term_line(alloc: Global, signature: &Signature, term: &Term) -> Result<String, AllocError>
-    requires { (s : ℕ) × HasSort signature.now term.now s }
-    ensures { IfOk result (λ text. string_bytes text ≡ row_line_of signature.now [] (term.now ∷ [])) }
+fn term_line(alloc: Global, sig: &Signature, term: &Term) -> Result<String, AllocError>
+    requires { (s : ℕ) × HasSort sig.now term.now s }
+    ensures { IfOk result (λ text. string_bytes text ≡ row_line_of sig.now [] (term.now ∷ [])) }
 {
-    let text = term_text(alloc, signature, term)?;
+    let text = term_text(alloc, sig, term)?;
     Ok(text)
 }
 
 /// The terms, each on a line, or `none`.
-fn terms_lines(
-    alloc: Global,
-    signature: &Signature,
-    terms: &[Term],
-) -> Result<Vec<String>, AllocError>
-    requires { (t : Plain) → IsIn t terms.now → (s : ℕ) × HasSort signature.now t s }
-    ensures { IfOk result (λ lines. map string_bytes lines.items ≡ rows_lines_of signature.now [] (rows_of terms.now)) }
+fn terms_lines(alloc: Global, sig: &Signature, terms: &[Term]) -> Result<Vec<String>, AllocError>
+    requires { (t : Plain) → IsIn t terms.now → (s : ℕ) × HasSort sig.now t s }
+    ensures { IfOk result (λ lines. map string_bytes lines.items ≡ rows_lines_of sig.now [] (rows_of terms.now)) }
 {
     let mut lines = Vec::new(alloc);
     if terms.is_empty() {
@@ -50,7 +46,7 @@ fn terms_lines(
         return Ok(lines);
     }
     for term in terms {
-        let line = term_line(alloc, signature, term)?;
+        let line = term_line(alloc, sig, term)?;
         lines.push(line)?;
     }
     Ok(lines)
@@ -59,15 +55,15 @@ fn terms_lines(
 /// The reply to a question whose answer was too wide.
 fn answer(
     alloc: Global,
-    signature: &Signature,
+    sig: &Signature,
     shown: Result<Vec<Term>, FocusFault>,
 ) -> Result<Reply, AllocError>
-    requires { IfOk shown (λ terms. (t : Plain) → IsIn t terms.items → (s : ℕ) × HasSort signature.now t s) }
-    ensures { IfOk result (IsRelated signature.now shown) }
+    requires { IfOk shown (λ terms. (t : Plain) → IsIn t terms.items → (s : ℕ) × HasSort sig.now t s) }
+    ensures { IfOk result (IsRelated sig.now shown) }
 {
     match shown {
         Ok(terms) => {
-            let lines = terms_lines(alloc, signature, terms.as_slice())?;
+            let lines = terms_lines(alloc, sig, terms.as_slice())?;
             Ok(Reply::Answered(lines))
         }
         Err(FocusFault::Wide) => Ok(Reply::Refused(Refusal::TooWide)),

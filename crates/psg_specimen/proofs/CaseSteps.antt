@@ -1,5 +1,7 @@
 -- Steps of the walks over arguments and cases.
 use Rattle.std.proofs.Common.{◌≡◌, inl, inr, ℕ, suc, ◌+◌, ◌-◌, ◌<◌, Bool, true, false, List, [], ◌∷◌, length, drop, get_or, slice_get, refl, sym, ap, ◌∙◌, subst, arith, true≢false}
+use Rattle.std.proofs.lemmas.Bool.{cases_eq}
+use Rattle.psg_terms.proofs.Lists.{slice_get_item, slice_get_once, drop_item_suc}
 use Rattle.std.specs.Prelude.{◌↔◌}
 use Rattle.psg_terms.specs.Terms.{Term}
 use Rattle.psg_terms.specs.Kept.{numbers_of}
@@ -10,8 +12,7 @@ use Rattle.psg_terms.specs.declared.canonical.Key.{Key}
 use Rattle.psg_grammar.specs.declared.types.Case.{Case}
 use Rattle.psg_completions.specs.Cases.{AreDifferent, IsOver}
 use Rattle.psg_specimen.specs.Variables.{AreMet, IsDifferent}
-use Rattle.psg_specimen.proofs.Firsts.{get_same, number_cases, read}
-use Rattle.psg_specimen.proofs.OverLaws.{AllOver, drop_at, one_fails, one_more}
+use Rattle.psg_specimen.proofs.OverLaws.{AllOver, one_fails, one_more}
 
 pub drop_all : {X : Type 0} (xs : List X) (n : ℕ) → n ≡ length xs → drop n xs ≡ []
 drop_all {X = X} [] n e = subst (λ k. drop {A = X} k [] ≡ []) (sym e) refl
@@ -33,7 +34,7 @@ module _ (sig : Signature) (terms : List Term) (sorts : List SortId) (done : ℕ
       let inside : p < length terms = omega (arith, lt) in
       let inside_too : p < length sorts = omega (arith, lt, len) in
       let later = subst (λ k. AreDifferent sig (drop k terms) (drop k (numbers_of sorts))) unfolding_place held in (
-        subst (λ k. AreMet new (drop k terms)) here (subst (AreMet new) (sym (drop_at terms p a inside is)) (grown (drop (suc p) terms) behind t)),
+        subst (λ k. AreMet new (drop k terms)) here (subst (AreMet new) (sym (drop_item_suc terms p a inside is)) (grown (drop (suc p) terms) behind t)),
         subst (λ k. AreDifferent sig (drop k terms) (drop k (numbers_of sorts))) here (one_more sig terms sorts p a s inside inside_too is iss ((test (drop (suc p) terms) behind).0 t) later),
       )
 
@@ -46,10 +47,10 @@ module _ (sig : Signature) (terms : List Term) (sorts : List SortId) (done : ℕ
 
 pub over_next : (sig : Signature) (cases : List Case) (cs : List ConId) (i : ℕ) (one : Case) (c : ConId) → i < length cases → i < length cs → one ≡ get_or cases i one → c ≡ get_or cs i c
     → IsOver sig c.0 one.term → AllOver sig cases cs i → AllOver sig cases cs (i + 1)
-over_next sig cases cs i one c lt ltt e ee o h m x d less at there = elim (number_cases m i) [
+over_next sig cases cs i one c lt ltt e ee o h m x d less at there = elim (cases_eq m i) [
   | inl same ↦ (
-      let x_is : one ≡ x = get_same cases i one x (read cases i one lt e) (ap (slice_get cases) (sym same) ∙ at) in
-      let d_is : c ≡ d = get_same cs i c d (read cs i c ltt ee) (ap (slice_get cs) (sym same) ∙ there) in
+      let x_is : one ≡ x = slice_get_once cases i one x (slice_get_item cases i one lt e) (ap (slice_get cases) (sym same) ∙ at) in
+      let d_is : c ≡ d = slice_get_once cs i c d (slice_get_item cs i c ltt ee) (ap (slice_get cs) (sym same) ∙ there) in
       subst (λ (y : Case). IsOver sig d.0 y.term) x_is (subst (λ (k : ConId). IsOver sig k.0 one.term) d_is o))
   | inr ne ↦ h m x d (omega (arith, less, ne)) at there
 ]

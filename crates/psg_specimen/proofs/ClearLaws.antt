@@ -3,6 +3,7 @@ use Rattle.std.proofs.Common.{◌≡◌, inl, inr, ℕ, zero, suc, ◌<◌, not,
 use Rattle.std.specs.Prelude.{◌↔◌}
 use Rattle.std.specs.List.{AllByRecursion}
 use Rattle.std.proofs.lemmas.Bool.{cases_Bool}
+use Rattle.psg_terms.proofs.Lists.{slice_get_item, slice_get_once}
 use Rattle.psg_terms.specs.Terms.{Term, variable, symbol, apply, applied}
 use Rattle.psg_terms.specs.Signature.{Signature, only_constructor}
 use Rattle.psg_terms.specs.Instances.{IsInstance}
@@ -13,7 +14,7 @@ use Rattle.psg_grammar.specs.declared.types.DeclareRow.{DeclareRow}
 use Rattle.psg_grammar.specs.declared.types.Definition.{Definition}
 use Rattle.psg_completions.specs.Elements.{IsAbsent, IsClear}
 use Rattle.psg_specimen.specs.Clear.{IsClearBy, IsClearDeclare, IsRest}
-use Rattle.psg_specimen.proofs.Firsts.{At, get_same, read}
+use Rattle.psg_covering.proofs.Firsts.{At}
 use Rattle.psg_specimen.proofs.VariableLaws.{same_variable}
 
 -- ---- variables that do not occur
@@ -119,7 +120,7 @@ module _ (def : Definition) (list : ListKind) (value : Term) where
   clear_at rows e i row lt is by = record {
     number = i;
     row = row;
-    chosen = ap (λ l. slice_get l i) (sym e) ∙ read rows i row lt is;
+    chosen = ap (λ l. slice_get l i) (sym e) ∙ slice_get_item rows i row lt is;
     element = by.element;
     rest = by.rest;
     columns = by.columns;
@@ -140,7 +141,7 @@ module _ (def : Definition) (list : ListKind) (value : Term) where
 
 pub of_list : (def : Definition) (d : DeclareRow) (list : ListKind) → slice_get def.lists d.list ≡ Some list → IsClear def list d.value ↔ IsClearDeclare def d
 of_list def d list at = (
-  λ h other there. subst (λ l. IsClear def l d.value) (get_same def.lists d.list list other at there) h,
+  λ h other there. subst (λ l. IsClear def l d.value) (slice_get_once def.lists d.list list other at there) h,
   λ h. h list at,
 )
 

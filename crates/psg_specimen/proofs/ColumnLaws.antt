@@ -1,10 +1,10 @@
 -- Columns by their numbers.
-use Rattle.std.proofs.Common.{◌≡◌, ℕ, zero, suc, ◌+◌, ◌<◌, List, [], ◌∷◌, ◌++◌, map, length, take, get_or, Option, Some, None, slice_get, refl, sym, ap, ap₂, ◌∙◌, subst, arith}
+use Rattle.std.proofs.Common.{◌≡◌, ℕ, zero, suc, ◌+◌, ◌<◌, List, [], ◌∷◌, ◌++◌, map, length, take, get_or, Option, Some, None, slice_get, refl, sym, ap, ◌∙◌, subst, arith}
+use Rattle.psg_terms.proofs.Lists.{take_item}
 use Rattle.psg_terms.specs.Terms.{Term}
-use Rattle.psg_terms.specs.Signature.{Signature, HaveSorts, HasSort}
+use Rattle.psg_terms.specs.Signature.{Signature}
 use Rattle.psg_terms.specs.Canonical.{IsWrittenOut, AreWrittenOut}
 use Rattle.psg_terms.specs.Instances.{substitute, Substitution}
-use Rattle.psg_terms.proofs.DeclareLaws.{take-next}
 use Rattle.psg_relation.specs.Choices.{pick, picked}
 use Rattle.psg_eval.specs.Walks.{run}
 use Rattle.psg_eval.proofs.Walking.{picks_append, picks_picked, picks_run}
@@ -20,7 +20,7 @@ picked_more row (m ∷ keep) k = ap (pick (slice_get row m)) (picked_more row ke
 -- one column more of those that are picked
 pub picked_next : {X : Type 0} (row : List X) (keep : List ℕ) (i k : ℕ) (now more : List X) → i < length keep → k ≡ get_or keep i k → more ≡ now ++ picked row (k ∷ []) → now ≡ picked row (take i keep) → more ≡ picked row (take (i + 1) keep)
 picked_next row keep i k now more lt e add h =
-    add ∙ ap (λ l. l ++ picked row (k ∷ [])) h ∙ sym (picked_more row (take i keep) k) ∙ ap (picked row) (sym (take-next keep i k lt e))
+    add ∙ ap (λ l. l ++ picked row (k ∷ [])) h ∙ sym (picked_more row (take i keep) k) ∙ ap (picked row) (sym (take_item keep i k lt e))
 
 pub picked_one : {X : Type 0} (row : List X) (k : ℕ) (x : X) → slice_get row k ≡ Some x → picked row (k ∷ []) ≡ x ∷ []
 picked_one row k x e = ap (λ o. pick o []) e
@@ -54,12 +54,6 @@ behind_picked row front back n k x e many at =
     (picks_append row (run 0 n) ((n + k) ∷ []) front (x ∷ []) (picks_run row [] front back 0 n e refl (sym many))
     (subst (λ r. slice_get r (n + k) ≡ Some x) (sym e) (subst (λ m. slice_get (front ++ back) (m + k) ≡ Some x) many (get_past front back k x at)), tt))
 
-pub sorts_snoc : (sig : Signature) (row : List Term) (ss : List ℕ) (t : Term) (s : ℕ) → HaveSorts sig row ss → HasSort sig t s → HaveSorts sig (row ++ t ∷ []) (ss ++ s ∷ [])
-sorts_snoc sig [] [] t s h p = (p, tt)
-sorts_snoc sig [] (r ∷ ss) t s h p = absurd h
-sorts_snoc sig (u ∷ row) [] t s h p = absurd h
-sorts_snoc sig (u ∷ row) (r ∷ ss) t s h p = (h.0, sorts_snoc sig row ss t s h.1 p)
-
 pub written_snoc : (sig : Signature) (row : List Term) (t : Term) → AreWrittenOut sig row → IsWrittenOut sig t → AreWrittenOut sig (row ++ t ∷ [])
 written_snoc sig [] t h p = (p, tt)
 written_snoc sig (u ∷ row) t h p = (h.0, written_snoc sig row t h.1 p)
@@ -67,16 +61,3 @@ written_snoc sig (u ∷ row) t h p = (h.0, written_snoc sig row t h.1 p)
 pub map_snoc : (f : Substitution) (row : List Term) (t : Term) → map (substitute f) (row ++ t ∷ []) ≡ map (substitute f) row ++ substitute f t ∷ []
 map_snoc f [] t = refl
 map_snoc f (u ∷ row) t = ap (λ l. substitute f u ∷ l) (map_snoc f row t)
-
--- two lists with one more element each
-pub snoc_same : {X : Type 0} (xs ys : List X) (x y : X) → xs ++ x ∷ [] ≡ ys ++ y ∷ [] → (xs ≡ ys) × (x ≡ y)
-snoc_same [] [] x y e = (refl, cc)
-snoc_same [] (z ∷ []) x y e = absurd (cc)
-snoc_same [] (z ∷ w ∷ ys) x y e = absurd (cc)
-snoc_same (z ∷ []) [] x y e = absurd (cc)
-snoc_same (z ∷ w ∷ xs) [] x y e = absurd (cc)
-snoc_same {X = X} (z ∷ xs) (w ∷ ys) x y e =
-    let heads : z ≡ w = cc in
-    let tails : xs ++ x ∷ [] ≡ ys ++ y ∷ [] = cc in
-    let both = snoc_same xs ys x y tails in
-    (ap₂ (λ a l. a ∷ l) heads both.0, both.1)

@@ -1,6 +1,8 @@
 -- Nil rows and the hole rows of their lists.
 use Rattle.std.proofs.Common.{◌≡◌, inl, inr, ℕ, ◌<◌, ◌^◌, [], ◌∷◌, length, Some, slice_get, refl, sym, ap, ◌∙◌, subst, arith}
 use Rattle.std.proofs.lemmas.Bool.{cases_lt}
+use Rattle.std.proofs.lemmas.Option.{slice_get_within}
+use Rattle.psg_terms.proofs.Lists.{each_at, slice_get_once}
 use Rattle.psg_terms.specs.Terms.{Term}
 use Rattle.psg_terms.specs.Signature.{HasSort}
 use Rattle.psg_terms.specs.Instances.{substitute, IsGroundInstance}
@@ -12,14 +14,14 @@ use Rattle.psg_grammar.specs.declared.types.ListKind.{ListKind}
 use Rattle.psg_grammar.specs.declared.types.HoleRow.{HoleRow}
 use Rattle.psg_grammar.specs.declared.types.Definition.{Definition}
 use Rattle.psg_grammar.specs.Sound.{IsSound, IsTermOf, HasKindSort}
-use Rattle.psg_grammar.proofs.SoundParts.{each_at, list_sound}
+use Rattle.psg_grammar.proofs.SoundParts.{list_sound}
 use Rattle.psg_completions.specs.Covered.{IsCoveredNil}
 use Rattle.psg_completions.specs.Places.{IsOfOneRow}
 use Rattle.psg_completions.proofs.RowValues.{hole_sound, of_one_row, one_sort}
 use Rattle.psg_specimen.specs.Refusal.{IsFirstOfTwo}
 use Rattle.psg_specimen.specs.Walks.{Finds}
 use Rattle.psg_specimen.specs.Wanted.{as_place}
-use Rattle.psg_specimen.proofs.Firsts.{At, get_inside, get_same}
+use Rattle.psg_covering.proofs.Firsts.{At}
 
 module _ (def : Definition) (sound : IsSound def) where
   -- the term is an instance of a hole row of the list
@@ -31,7 +33,7 @@ module _ (def : Definition) (sound : IsSound def) where
 
   nil_of : (l k : ℕ) (list : ListKind) → slice_get def.lists l ≡ Some list → At list.nil_rows (Serves l) k → IsCoveredNil def l k
   nil_of l k list at h other found row there =
-      let same : other ≡ list = get_same def.lists l other list found at in
+      let same : other ≡ list = slice_get_once def.lists l other list found at in
       let own = ap (λ (x : ListKind). slice_get x.nil_rows k) (sym same) ∙ there in
       let o = h row own in
       (o.number, λ f ground. of_one_row def sound (as_place (kinds.List l) row) f ground (list.sort.0, (list, at, refl), nil_term l k list row at own) o)
@@ -54,7 +56,7 @@ module _ (def : Definition) (sound : IsSound def) where
             let (f, ground, e) = instance in
             let value = holds f ground in
             let (g, grounded, is) = value.value in
-            let same_row : value.row ≡ one.row = get_same def.hole_rows r value.row one.row value.chosen one.chosen in
+            let same_row : value.row ≡ one.row = slice_get_once def.hole_rows r value.row one.row value.chosen one.chosen in
             subst (IsGroundInstance sig (one.row.term ∷ [])) (sym e) (g, grounded, ap (λ t. t ∷ []) (is ∙ ap (λ (x : HoleRow). substitute g x.term) same_row)));
       }
 
@@ -71,19 +73,19 @@ module _ (def : Definition) (sound : IsSound def) where
   )
 
   pub nil_none : ((m : ℕ) → m < length def.lists → (j : ℕ) → IsCoveredNil def m j) → (l k : ℕ) → IsCoveredNil def l k
-  nil_none before l k list at = before l (get_inside def.lists l list at) k list at
+  nil_none before l k list at = before l (slice_get_within def.lists l list at) k list at
 
   -- the numbers of the list and of the row are those of things that are there
   pub nil_list_in : (l k : ℕ) → (IsCoveredNil def l k → ⊥) → l < length def.lists
   nil_list_in l k fails = elim (cases_lt l (length def.lists)) [
     | inl lt ↦ lt
-    | inr le ↦ absurd (fails (λ list at. absurd (let lt = get_inside def.lists l list at in omega (arith, le, lt))))
+    | inr le ↦ absurd (fails (λ list at. absurd (let lt = slice_get_within def.lists l list at in omega (arith, le, lt))))
   ]
 
   pub nil_row_in : (l k : ℕ) → (IsCoveredNil def l k → ⊥) → k < 2 ^ 32
   nil_row_in l k fails = elim (cases_lt k (2 ^ 32)) [
     | inl lt ↦ lt
     | inr le ↦ absurd (fails (λ list at row there. absurd (
-        let lt = get_inside list.nil_rows k row there in
+        let lt = slice_get_within list.nil_rows k row there in
         let few = (list_sound def sound l list at).few_nils in omega (arith, le, lt, few))))
   ]

@@ -3,6 +3,8 @@ use Rattle.std.proofs.Common.{◌≡◌, ◌≢◌, ◌⊎◌, inl, inr, ℕ, ze
 use Rattle.std.specs.Prelude.{◌↔◌, IfSome, Vec}
 use Rattle.std.specs.List.{AllByRecursion}
 use Rattle.std.proofs.lemmas.Bool.{cases_Bool, cases_lt, and_parts}
+use Rattle.std.proofs.lemmas.Option.{slice_get_within, slice_get-get_or}
+use Rattle.psg_terms.proofs.Lists.{slice_get_some, slice_get_item, slice_get_once, each_in}
 use Rattle.psg_terms.specs.Terms.{Term, symbol, applied}
 use Rattle.psg_terms.specs.Marks.{con_numbers}
 use Rattle.psg_terms.specs.Relations.{IsIn, first, later}
@@ -26,7 +28,7 @@ use Rattle.psg_specimen.specs.Refusal.{IsFirst, IsFirstOfThree, IsFirstOfTwo}
 use Rattle.psg_specimen.specs.Tables.{AreSpaces}
 use Rattle.psg_specimen.specs.Walks.{Finds}
 use Rattle.psg_specimen.specs.declared.declarable.Given.{Given}
-use Rattle.psg_specimen.proofs.Firsts.{At, get_at, get_inside, get_same, read}
+use Rattle.psg_covering.proofs.Firsts.{At}
 use Rattle.psg_specimen.proofs.MarkLaws.{take_get, get_take}
 use Rattle.psg_specimen.proofs.OverLaws.{constructors_there}
 
@@ -48,7 +50,7 @@ pub given_next : (sig : Signature) (old new : Given → Bool) (rows : List Decla
     → ((k : Given) → (new k ≡ true) ↔ ((old k ≡ true) ⊎ IsGivenBy sig row k)) → ((k : Given) → (old k ≡ true) ↔ IsGiven sig (take i rows) k) → (k : Given) → (new k ≡ true) ↔ IsGiven sig (take (i + 1) rows) k
 given_next sig old new rows i row lt is step h k = (there, back) where
   at : slice_get rows i ≡ Some row
-  at = read rows i row lt is
+  at = slice_get_item rows i row lt is
 
   there : new k ≡ true → IsGiven sig (take (i + 1) rows) k
   there e = elim ((step k).0 e) [
@@ -63,7 +65,7 @@ given_next sig old new rows i row lt is step h k = (there, back) where
       (step k).1 (elim (cases_lt r i) [
         | inl below ↦ inl ((h k).1 (r, x, take_get rows i r x below own, of))
         | inr above ↦ (let same : r ≡ i = omega (arith, above, less) in
-            inr (subst (λ (d : DeclareRow). IsGivenBy sig d k) (get_same rows i x row (ap (slice_get rows) (sym same) ∙ own) at) of))
+            inr (subst (λ (d : DeclareRow). IsGivenBy sig d k) (slice_get_once rows i x row (ap (slice_get rows) (sym same) ∙ own) at) of))
       ])
 
 pub given_none : (sig : Signature) (k : Given) → (false ≡ true) ↔ IsGiven sig [] k
@@ -111,7 +113,7 @@ module _ (sig : Signature) (row : DeclareRow) where
   pub none_large : (made : ℕ) (args : List Term) → row.term ≡ applied (symbol made) args → length sig.symbols ≤ made → (d : ℕ) → IsOver sig d row.term → ⊥
   none_large made args e le d o = absurd (
       let same = same_constructor made d args o.arguments (sym e ∙ o.term_is) in
-      let lt = get_inside sig.symbols d o.made o.found in
+      let lt = slice_get_within sig.symbols d o.made o.found in
       omega (arith, same, lt, le))
 
 -- ---- the constructors of a sort rise
@@ -139,11 +141,6 @@ rising_from n s (x ∷ symbols) = let rest = rising_from (n + 1) s symbols in ri
 pub constructors_rise : (sig : Signature) (s : ℕ) → Rising (constructors_of sig s)
 constructors_rise sig s = (rising_from 0 s sig.symbols).1
 
-all_in : (P : ℕ → Type 0) (xs : List ℕ) (x : ℕ) → AllByRecursion P xs → IsIn x xs → P x
-all_in P [] x h p = elim p [ ]
-all_in P (y ∷ xs) x h first = h.0
-all_in P (y ∷ xs) x h (later p) = all_in P xs x h.1 p
-
 -- a number of the list is at a place, before the place of a greater one
 pub con_place : (cs : List ConId) (d : ℕ) → IsIn d (con_numbers cs) → (j : ℕ) × (k : ConId) × (slice_get cs j ≡ Some k) × (k.0 ≡ d)
 con_place [] d p = elim p [ ]
@@ -158,7 +155,7 @@ con_before (x ∷ cs) zero c d r at lt first = absurd (
 con_before (x ∷ cs) zero c d r at lt (later p) = absurd (
     let same : x ≡ c = (let f : ◌≡◌ {A = Option ConId} (Some x) (Some c) = at in cc) in
     let e : x.0 ≡ c.0 = ap (λ (k : ConId). k.0) same in
-    let more : x.0 < d = all_in (λ y. x.0 < y) (con_numbers cs) d r.0 p in omega (arith, lt, e, more))
+    let more : x.0 < d = each_in (λ y. x.0 < y) d (con_numbers cs) r.0 p in omega (arith, lt, e, more))
 con_before (x ∷ cs) (suc i) c d r at lt first = (0, x, omega arith, refl, refl)
 con_before (x ∷ cs) (suc i) c d r at lt (later p) = let (j, k, less, there, is) = con_before cs i c d r.1 at lt p in (suc j, k, omega (arith, less), there, is)
 
@@ -189,7 +186,7 @@ module _ (def : Definition) (has : Given → Bool) (given : AreGiven def has) (l
 
   module _ (space : Space) (at : slice_get def.spaces s ≡ Some space) (cs : List ConId) (all : con_numbers cs ≡ constructors_of def.signature space.sort.0) where
     own_space : (other : Space) → slice_get def.spaces s ≡ Some other → other ≡ space
-    own_space other there = get_same def.spaces s other space there at
+    own_space other there = slice_get_once def.spaces s other space there at
 
     member : (c : ℕ) (other : Space) → slice_get def.spaces s ≡ Some other → IsIn c (constructors_of def.signature other.sort.0) → IsIn c (con_numbers cs)
     member c other there p = subst (IsIn c) (sym all) (subst (λ (x : Space). IsIn c (constructors_of def.signature x.sort.0)) (own_space other there) p)
@@ -223,16 +220,16 @@ module _ (def : Definition) (has : Given → Bool) (given : AreGiven def has) (l
 
 module _ (def : Definition) (l : ℕ) (list : ListKind) (spaces : List ℕ) (own : AreSpaces def l spaces) where
   space_place : (s : ℕ) → Contains spaces s → (j : ℕ) × (slice_get spaces j ≡ Some s)
-  space_place s (k, lt, e) = (k, get_at spaces k s lt ∙ ap Some e)
+  space_place s (k, lt, e) = (k, slice_get-get_or spaces k s lt ∙ ap Some e)
 
   value : (i x : ℕ) → slice_get spaces i ≡ Some x → x ≡ get_or spaces i 0
-  value i x at = get_same spaces i x (get_or spaces i 0) at (get_at spaces i 0 (get_inside spaces i x at))
+  value i x at = slice_get_once spaces i x (get_or spaces i 0) at (slice_get-get_or spaces i 0 (slice_get_within spaces i x at))
 
   earlier : (i x j y : ℕ) → slice_get spaces i ≡ Some x → slice_get spaces j ≡ Some y → y < x → j < i
   earlier i x j y at there lt = elim (cases_lt j i) [
     | inl less ↦ less
     | inr le ↦ absurd (
-        let up = rising spaces own.increasing i j (omega (arith, le)) (get_inside spaces j y there) in
+        let up = rising spaces own.increasing i j (omega (arith, le)) (slice_get_within spaces j y there) in
         let e = value i x at in
         let f = value j y there in omega (arith, up, e, f, lt))
   ]
@@ -242,7 +239,7 @@ module _ (def : Definition) (l : ℕ) (list : ListKind) (spaces : List ℕ) (own
 
   pub list_first : (i s c : ℕ) → list.unfinished ≡ true → i < length spaces → s ≡ get_or spaces i s → IsFirst (IsDeclarableIn def l s) c → ((m : ℕ) → m < i → At spaces AllIn m) → IsFirstOfTwo (IsDeclarableOf def l list) s c
   list_first i s c unfinished lt is found before =
-      let at = read spaces i s lt is in (
+      let at = slice_get_item spaces i s lt is in (
         λ h. found.0 (h unfinished ((own.exact s).0 (i, lt, sym is))),
         λ t d b. elim b [
           | inl less ↦ (λ u declares. let (j, there) = space_place t ((own.exact t).1 declares) in before j (earlier i s j t at there less) t there d)
@@ -251,7 +248,7 @@ module _ (def : Definition) (l : ℕ) (list : ListKind) (spaces : List ℕ) (own
       )
 
   pub list_none : ((m : ℕ) → m < length spaces → At spaces AllIn m) → (s c : ℕ) → IsDeclarableOf def l list s c
-  list_none before s c u declares = let (j, there) = space_place s ((own.exact s).1 declares) in before j (get_inside spaces j s there) s there c
+  list_none before s c u declares = let (j, there) = space_place s ((own.exact s).1 declares) in before j (slice_get_within spaces j s there) s there c
 
 pub finished : (def : Definition) (l : ℕ) (list : ListKind) → list.unfinished ≡ false → (s c : ℕ) → IsDeclarableOf def l list s c
 finished def l list f s c u = absurd (true≢false (sym u ∙ f))
@@ -259,7 +256,7 @@ finished def l list f s c u = absurd (true≢false (sym u ∙ f))
 -- ---- the lists
 
 of_element : (def : Definition) (l s : ℕ) (list : ListKind) → slice_get def.lists l ≡ Some list → Declares def s (kinds.List l) → Declares def s (kinds.Phylum list.element)
-of_element def l s list at (by_list kind found d) = subst (λ (k : ListKind). Declares def s (kinds.Phylum k.element)) (get_same def.lists l kind list found at) d
+of_element def l s list at (by_list kind found d) = subst (λ (k : ListKind). Declares def s (kinds.Phylum k.element)) (slice_get_once def.lists l kind list found at) d
 
 pub list_spaces : (def : Definition) (l : ℕ) (list : ListKind) (spaces : List ℕ) → slice_get def.lists l ≡ Some list → AreSpacesOf def list.element spaces
     → ((space : ℕ) (kind : Kind) → (is_declaring def space kind ≡ true) ↔ Declares def space kind) → AreSpaces def l spaces
@@ -275,17 +272,12 @@ list_spaces def l list spaces at own search = record {
 abbrev pub AllOf : Definition → List ListKind → ℕ → Type 0
 AllOf def lists l = (list : ListKind) → slice_get lists l ≡ Some list → (s c : ℕ) → IsDeclarableOf def l list s c
 
-some_at : {X : Type 0} (xs : List X) (n : ℕ) → n < length xs → (x : X) × (slice_get xs n ≡ Some x)
-some_at [] n lt = absurd (omega (arith, lt))
-some_at (x ∷ xs) zero lt = (x, refl)
-some_at (x ∷ xs) (suc n) lt = some_at xs n (omega (arith, lt))
-
 -- the spaces that the table has for the list's elements
 pub table_spaces : (def : Definition) (l : ℕ) (list : ListKind) (table : List (Vec ℕ Global)) (spaces : List ℕ) → slice_get def.lists l ≡ Some list → list.element < length table
     → ((p : ℕ) → IfSome (slice_get table p) (λ v. AreSpacesOf def p v.items)) → ((v : Vec ℕ Global) → slice_get table list.element ≡ Some v → spaces ≡ v.items)
     → ((space : ℕ) (kind : Kind) → (is_declaring def space kind ≡ true) ↔ Declares def space kind) → AreSpaces def l spaces
 table_spaces def l list table spaces at lt exact is search =
-    let (v, there) = some_at table list.element lt in
+    let (v, there) = slice_get_some table list.element lt in
     list_spaces def l list spaces at (subst (AreSpacesOf def list.element) (sym (is v there)) (subst (λ o. IfSome o (λ x. AreSpacesOf def list.element x.items)) there (exact list.element))) search
 
 module _ (def : Definition) (lists : List ListKind) (own : lists ≡ def.lists) where
@@ -293,22 +285,22 @@ module _ (def : Definition) (lists : List ListKind) (own : lists ≡ def.lists) 
   to_declarable l s c h list at u d space there p = h list (ap (λ x. slice_get x l) own ∙ at) s c u d space there p
 
   pub lists_next : (i : ℕ) (list : ListKind) → i < length lists → list ≡ get_or lists i list → ((s c : ℕ) → IsDeclarableOf def i list s c) → AllOf def lists i
-  lists_next i list lt is h other at = subst (λ (k : ListKind). (s c : ℕ) → IsDeclarableOf def i k s c) (get_same lists i list other (read lists i list lt is) at) h
+  lists_next i list lt is h other at = subst (λ (k : ListKind). (s c : ℕ) → IsDeclarableOf def i k s c) (slice_get_once lists i list other (slice_get_item lists i list lt is) at) h
 
   pub lists_first : (i s c : ℕ) (list : ListKind) → i < length lists → list ≡ get_or lists i list → IsFirstOfTwo (IsDeclarableOf def i list) s c → ((m : ℕ) → m < i → AllOf def lists m) → IsFirstOfThree (IsDeclarable def) i s c
   lists_first i s c list lt is found before = (
-    λ h. found.0 (λ u d space there p. h list (ap (λ x. slice_get x i) (sym own) ∙ read lists i list lt is) u d space there p),
+    λ h. found.0 (λ u d space there p. h list (ap (λ x. slice_get x i) (sym own) ∙ slice_get_item lists i list lt is) u d space there p),
     λ m t d b. elim b [
       | inl less ↦ to_declarable m t d (before m less)
       | inr eq ↦ (λ other at u declares space there p.
-          let same = get_same lists i list other (read lists i list lt is) (ap (slice_get lists) (sym eq.0) ∙ ap (λ x. slice_get x m) own ∙ at) in
+          let same = slice_get_once lists i list other (slice_get_item lists i list lt is) (ap (slice_get lists) (sym eq.0) ∙ ap (λ x. slice_get x m) own ∙ at) in
           subst (λ k. HasDeclareRow def k t d) (sym eq.0)
           (found.1 t d eq.1 (ap (λ (k : ListKind). k.unfinished) same ∙ u) (subst (λ k. is_declaring def t (kinds.List k) ≡ true) eq.0 declares) space there p))
     ],
   )
 
   pub lists_none : ((m : ℕ) → m < length lists → AllOf def lists m) → (l s c : ℕ) → IsDeclarable def l s c
-  lists_none before l s c list at = to_declarable l s c (before l (get_inside lists l list (ap (λ x. slice_get x l) own ∙ at))) list at
+  lists_none before l s c list at = to_declarable l s c (before l (slice_get_within lists l list (ap (λ x. slice_get x l) own ∙ at))) list at
 
 -- ---- what is missing is there
 
@@ -316,23 +308,23 @@ module _ (def : Definition) (l s c : ℕ) (fails : IsDeclarable def l s c → �
   pub list_in : l < length def.lists
   list_in = elim (cases_lt l (length def.lists)) [
     | inl lt ↦ lt
-    | inr le ↦ absurd (fails (λ list at. absurd (let lt = get_inside def.lists l list at in omega (arith, le, lt))))
+    | inr le ↦ absurd (fails (λ list at. absurd (let lt = slice_get_within def.lists l list at in omega (arith, le, lt))))
   ]
 
   pub space_in : s < length def.spaces
   space_in = elim (cases_lt s (length def.spaces)) [
     | inl lt ↦ lt
-    | inr le ↦ absurd (fails (λ list at u d space there. absurd (let lt = get_inside def.spaces s space there in omega (arith, le, lt))))
+    | inr le ↦ absurd (fails (λ list at u d space there. absurd (let lt = slice_get_within def.spaces s space there in omega (arith, le, lt))))
   ]
 
   pub con_in_range : c < length def.signature.symbols
   con_in_range = elim (cases_lt c (length def.signature.symbols)) [
     | inl lt ↦ lt
     | inr le ↦ absurd (fails (λ list at u d space there p. absurd (
-        let lt : c < length def.signature.symbols = all_in (λ k. k < length def.signature.symbols) (constructors_of def.signature space.sort.0) c (constructors_there def.signature space.sort.0) p in omega (arith, le, lt))))
+        let lt : c < length def.signature.symbols = each_in (λ k. k < length def.signature.symbols) c (constructors_of def.signature space.sort.0) (constructors_there def.signature space.sort.0) p in omega (arith, le, lt))))
   ]
 
 -- the first constructor that is missing
 pub missing_at : (has : Given → Bool) (l s : ℕ) (cs : List ConId) (i : ℕ) (c : ConId) → i < length cs → c ≡ get_or cs i c → (HasCon has l s c → ⊥)
     → ((m : ℕ) → m < i → At cs (HasCon has l s) m) → FindsCon has l s cs (Some c.0)
-missing_at has l s cs i c lt is missing before = (i, c, read cs i c lt is, refl, missing, before)
+missing_at has l s cs i c lt is missing before = (i, c, slice_get_item cs i c lt is, refl, missing, before)

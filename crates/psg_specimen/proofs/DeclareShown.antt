@@ -2,6 +2,9 @@
 use Rattle.std.proofs.Common.{◌≡◌, ◌↔◌, inl, inr, ℕ, zero, suc, ◌+◌, true, false, cond, List, [], ◌∷◌, ◌++◌, map, Some, None, slice_get, refl, ap, ap₂, sym, ◌∙◌, subst, true≢false, bytes_eq}
 use Rattle.std.specs.Option.{option_map}
 use Rattle.std.proofs.lemmas.Option.{none-some, slice_get-map}
+use Rattle.std.proofs.lemmas.Bool.{cases_Bool, or_cases}
+use Rattle.std.proofs.lemmas.List.{same_from_push}
+use Rattle.psg_terms.proofs.SortTests.{have-push}
 use Rattle.psg_terms.specs.Names.{is_among}
 use Rattle.psg_terms.specs.Terms.{Term}
 use Rattle.psg_terms.specs.Signature.{HasSort, HaveSorts}
@@ -29,13 +32,13 @@ use Rattle.psg_completions.specs.General.{it, terms_at, Shows, IsGeneralCase, Is
 use Rattle.psg_relation.specs.Choices.{picked}
 use Rattle.psg_scope.specs.declared.header.NameCol.{NameCol}
 use Rattle.psg_scope.specs.Headers.{key_of, keys}
-use Rattle.psg_scope.proofs.KeyLists.{either, key_is, key_refl, in_order-among, or_cases}
-use Rattle.psg_eval.specs.declared.summary.Known.{Known}
+use Rattle.psg_scope.proofs.KeyLists.{key_is, key_refl, in_order-among}
+use Rattle.psg_eval.specs.declared.summary.SummaryParts.{SummaryParts}
 use Rattle.psg_eval.specs.Summaries.{AreKeySorts}
 use Rattle.psg_eval.specs.Walks.{run}
 use Rattle.psg_eval.proofs.Frames.{moved, holds_frame}
 use Rattle.psg_specimen.specs.Shown.{FindsKey, IsFirstTerm, IsRowShown, value_terms}
-use Rattle.psg_specimen.proofs.ColumnLaws.{behind_picked, map_snoc, snoc_same, sorts_snoc, written_snoc}
+use Rattle.psg_specimen.proofs.ColumnLaws.{behind_picked, map_snoc, written_snoc}
 use Rattle.psg_specimen.proofs.GeneralRows.{general_by_columns, IsPicked, usual_terms}
 use Rattle.psg_specimen.proofs.ShownLaws.{all_sorts, case_shown, front_many, front_sorts, HasPattern, many, place_shown, Possible, possible_shown, relation, seen_many, shown_possible, some_row, value_are, value_sorted, written}
 
@@ -76,11 +79,11 @@ module _ (def : Definition) where
 
   with_entities : (space : ℕ) (e : Term) (g : Entities) (sort : ℕ) → HasSpaceSort def space sort → IsGround e → HasSort def.signature e sort → AreEntities def g → AreEntities def (with_key (it space) e g)
   with_entities space e g sort has ground sorted eg = record {
-    ground = λ n. elim (either (bytes_eq (it space) n)) [
+    ground = λ n. elim (cases_Bool (bytes_eq (it space) n)) [
       | inl d ↦ subst (λ b. IsGround (cond b e (g n))) (sym d) ground
       | inr d ↦ subst (λ b. IsGround (cond b e (g n))) (sym d) (eg.ground n)
     ];
-    sorted = λ n s at. elim (either (bytes_eq (it space) n)) [
+    sorted = λ n s at. elim (cases_Bool (bytes_eq (it space) n)) [
       | inl d ↦
           let same : it space ≡ n = key_is (it space) n d in
           let there : slice_get def.spaces space ≡ Some s = subst (λ k. slice_get def.spaces (space_of k) ≡ Some s) (sym same) at in
@@ -91,7 +94,7 @@ module _ (def : Definition) where
   }
 
   with_same_on : (f : Fragment) (k : Key) (e : Term) (g : Entities) → (is_among (outer f) k ≡ true → ⊥) → SameOn (outer f) g (with_key k e g)
-  with_same_on f k e g absent n among = elim (either (bytes_eq k n)) [
+  with_same_on f k e g absent n among = elim (cases_Bool (bytes_eq k n)) [
     | inl d ↦ absurd (absent (subst (λ m. is_among (outer f) m ≡ true) (sym (key_is k n d)) among))
     | inr d ↦ sym (with_other k e g n d)
   ]
@@ -139,7 +142,7 @@ module _ (def : Definition) (sound : IsSound def) (d : DeclareRow) (row : IsDecl
       let two = any_entity def sound d row (no_key_alone def (tree_of d.specimen) alone (it d.space)) in
       (λ h. two.0 (one.0 h), λ g. one.1 (two.1 g))
 
-  module _ (s : Known) (h : HasPattern def sound kind d.specimen s) where
+  module _ (s : SummaryParts) (h : HasPattern def sound kind d.specimen s) where
     abbrev n : ℕ
     n = many def sound kind d.specimen s h
 
@@ -199,7 +202,7 @@ module _ (def : Definition) (sound : IsSound def) (d : DeclareRow) (row : IsDecl
       sorts_are : (general : List Term) → IsIn general s.rel → HaveSorts def.signature with_term (picked (all_sorts def sound kind d.specimen s h) keep)
       sorts_are general among =
           subst (HaveSorts def.signature with_term) (sym sorts_all)
-          (sorts_snoc def.signature terms (front_sorts def sound kind d.specimen s h) d.term sort_at.0 (value_sorted def sound kind d.specimen s h d.value row.element row.element_sort row.value.0 general among) entity_sorted)
+          (have-push def.signature terms (front_sorts def sound kind d.specimen s h) d.term sort_at.0 (value_sorted def sound kind d.specimen s h d.value row.element row.element_sort row.value.0 general among) entity_sorted)
 
       by_columns : (general : List Term) → IsIn general s.rel → IsRowShown s.rel keep with_term
           ↔ ((c : Choice (tree_of d.specimen)) × ((f : Substitution) → IsGrounding def.signature f → IsPicked def.signature sound.signature (all_sorts def sound kind d.specimen s h) P keep c (map (substitute f) with_term)))
@@ -219,7 +222,7 @@ module _ (def : Definition) (sound : IsSound def) (d : DeclareRow) (row : IsDecl
         shown : (c : Choice (tree_of d.specimen)) (f : Substitution) (full : List Term) (p : P c full) → map (substitute f) with_term ≡ picked full keep
             → (j : Shows def d.specimen c (substitute f d.value) (terms_at f d.specimen)) × (j.outside (it d.space) ≡ substitute f d.term)
         shown c f full p e =
-            let both = snoc_same (map (substitute f) terms) (p.value ∷ p.seen) (substitute f d.term) (p.outside (it d.space)) (sym (map_snoc f terms d.term) ∙ e ∙ possible_all c full p) in
+            let both = same_from_push (map (substitute f) terms) (p.value ∷ p.seen) (substitute f d.term) (p.outside (it d.space)) (sym (map_snoc f terms d.term) ∙ e ∙ possible_all c full p) in
             let (j, is) = possible_shown def sound kind d.specimen s h c f d.value full p both.0 in
             (j, ap (λ (g : Entities). g (it d.space)) is ∙ sym both.1)
 

@@ -1,9 +1,9 @@
 -- A phylum declares where the spaces in which it does are not none.
-use Rattle.std.proofs.Common.{◌≡◌, ◌↔◌, ℕ, suc, ◌==◌, Bool, false, not, List, [], ◌∷◌, length, IsTrue, Vec, vec_len, slice_get, get_or, Some, ◌<◌, refl, sym, ap, ◌∙◌, subst, arith}
+use Rattle.std.proofs.Common.{◌≡◌, ◌↔◌, ℕ, ◌==◌, Bool, not, List, [], ◌∷◌, length, IsTrue, Vec, vec_len, slice_get, get_or, Some, ◌<◌, refl, sym, ap, ◌∙◌, subst, arith}
 use Rattle.std.specs.declared.alloc.Global.{Global}
 use Rattle.std.proofs.lemmas.Bool.{true≢false}
 use Rattle.std.proofs.lemmas.Option.{slice_get_read}
-use Rattle.std.proofs.lemmas.Bool.Decides.{nat_tests}
+use Rattle.psg_terms.proofs.Lists.{suc_is_not_zero}
 use Rattle.psg_grammar.specs.declared.types.Kind.TheVariants as kinds
 use Rattle.psg_grammar.specs.declared.types.Definition.{Definition}
 use Rattle.psg_grammar.specs.DeclaringTables.{AreSpacesOf}
@@ -11,9 +11,6 @@ use Rattle.psg_grammar.specs.Sound.{IsSound}
 use Rattle.psg_grammar.proofs.DeclaringLaws.{search_exact}
 use Rattle.psg_eval.specs.SpaceTables.{AreDeclaringSpaces}
 use Rattle.psg_specimen.specs.Languages.{IsDeclaringPhylum}
-
-some_not_none : (n : ℕ) → (suc n == 0) ≡ false
-some_not_none n = grind (arith, nat_tests)
 
 pub declaring_exact : (def : Definition) → IsSound def → (p : ℕ) (spaces : List ℕ) → AreSpacesOf def p spaces
     → IsTrue (not (length spaces == 0)) ↔ IsDeclaringPhylum def (kinds.Phylum p)
@@ -24,7 +21,7 @@ declaring_exact def sound p [] are = (
 )
 declaring_exact def sound p (s ∷ rest) are = (
   (λ h. (s, (search_exact def sound s (kinds.Phylum p)).1 ((are.exact s).0 (0, omega arith, refl)))),
-  (λ h. ap not (some_not_none (length rest))),
+  (λ h. ap not (suc_is_not_zero (length rest))),
 )
 
 -- of a phylum whose spaces stand in the table of all

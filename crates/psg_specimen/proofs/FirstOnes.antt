@@ -1,6 +1,6 @@
 -- The first thing for which something fails is one.
 use Rattle.std.proofs.Common.{◌≡◌, ◌⊎◌, inl, inr, ℕ, ◌<◌, sym, ap, ap₂, ◌∙◌, subst, arith}
-use Rattle.std.proofs.lemmas.Bool.{cases_lt}
+use Rattle.std.proofs.lemmas.Bool.{cases_order}
 use Rattle.psg_grammar.specs.declared.types.Kind.{Kind}
 use Rattle.psg_grammar.specs.declared.types.Kind.TheVariants as kinds
 use Rattle.psg_grammar.specs.declared.types.Definition.{Definition}
@@ -15,19 +15,15 @@ use Rattle.psg_specimen.specs.declared.fault.Site.{Site}
 use Rattle.psg_specimen.specs.declared.fault.Site.TheVariants as sites
 use Rattle.psg_specimen.specs.declared.fault.AcceptFault.{AcceptFault}
 use Rattle.psg_specimen.specs.declared.fault.AcceptFault.TheVariants as faults
-use Rattle.psg_specimen.proofs.Firsts.{number_cases}
 use Rattle.psg_specimen.proofs.OneClass.{one_class}
 use Rattle.psg_specimen.proofs.Stages.{one_stage, stage}
 
-order : (n m : ℕ) → (n ≡ m) ⊎ ((n < m) ⊎ (m < n))
-order n m = elim (number_cases n m) [ inl e ↦ inl e | inr ne ↦ inr (elim (cases_lt n m) [ inl lt ↦ inl lt | inr le ↦ inr (omega (arith, le, ne)) ]) ]
-
 first_one : (H : ℕ → Type 0) (n m : ℕ) → IsFirst H n → IsFirst H m → n ≡ m
-first_one H n m f g = elim (order n m) [ inl e ↦ e | inr o ↦ elim o [ inl lt ↦ absurd (f.0 (g.1 n lt)) | inr lt ↦ absurd (g.0 (f.1 m lt)) ] ]
+first_one H n m f g = elim (cases_order n m) [ inl e ↦ e | inr o ↦ elim o [ inl lt ↦ absurd (f.0 (g.1 n lt)) | inr lt ↦ absurd (g.0 (f.1 m lt)) ] ]
 
 first_two : (H : ℕ → ℕ → Type 0) (n k m j : ℕ) → IsFirstOfTwo H n k → IsFirstOfTwo H m j → (n ≡ m) × (k ≡ j)
-first_two H n k m j f g = elim (order n m) [
-  | inl e ↦ (elim (order k j) [
+first_two H n k m j f g = elim (cases_order n m) [
+  | inl e ↦ (elim (cases_order k j) [
     | inl d ↦ (e, d)
     | inr o ↦ elim o [ inl lt ↦ absurd (f.0 (g.1 n k (inr (e, lt)))) | inr lt ↦ absurd (g.0 (f.1 m j (inr (sym e, lt)))) ]
   ])
@@ -35,9 +31,9 @@ first_two H n k m j f g = elim (order n m) [
 ]
 
 first_three : (H : ℕ → ℕ → ℕ → Type 0) (l s c m t d : ℕ) → IsFirstOfThree H l s c → IsFirstOfThree H m t d → (l ≡ m) × ((s ≡ t) × (c ≡ d))
-first_three H l s c m t d f g = elim (order l m) [
-  | inl e ↦ (elim (order s t) [
-    | inl q ↦ (elim (order c d) [
+first_three H l s c m t d f g = elim (cases_order l m) [
+  | inl e ↦ (elim (cases_order s t) [
+    | inl q ↦ (elim (cases_order c d) [
       | inl r ↦ (e, (q, r))
       | inr o ↦ elim o [ inl lt ↦ absurd (f.0 (g.1 l s c (inr (e, inr (q, lt))))) | inr lt ↦ absurd (g.0 (f.1 m t d (inr (sym e, inr (sym q, lt))))) ]
     ])
@@ -53,8 +49,8 @@ first_kind H (kinds.List l) (kinds.Phylum p) f g = absurd (g.0 (f.0 p))
 first_kind H (kinds.List l) (kinds.List k) f g = ap kinds.List (first_one (λ n. H (kinds.List n)) l k f.1 g.1)
 
 site_order : (s t : Site) → (s ≡ t) ⊎ (IsSiteBefore s t ⊎ IsSiteBefore t s)
-site_order (sites.Hole r c) (sites.Hole s d) = elim (order r s) [
-  | inl e ↦ (elim (order c d) [
+site_order (sites.Hole r c) (sites.Hole s d) = elim (cases_order r s) [
+  | inl e ↦ (elim (cases_order c d) [
     | inl q ↦ inl (ap₂ sites.Hole e q)
     | inr o ↦ inr (elim o [ inl lt ↦ inl (inr (e, lt)) | inr lt ↦ inr (inr (sym e, lt)) ])
   ])
@@ -62,7 +58,7 @@ site_order (sites.Hole r c) (sites.Hole s d) = elim (order r s) [
 ]
 site_order (sites.Hole r c) (sites.Declare k) = inr (inl tt)
 site_order (sites.Declare k) (sites.Hole r c) = inr (inr tt)
-site_order (sites.Declare k) (sites.Declare l) = elim (order k l) [ inl e ↦ inl (ap sites.Declare e) | inr o ↦ inr o ]
+site_order (sites.Declare k) (sites.Declare l) = elim (cases_order k l) [ inl e ↦ inl (ap sites.Declare e) | inr o ↦ inr o ]
 
 first_site : (H : Site → Type 0) (s t : Site) → IsFirstSite H s → IsFirstSite H t → s ≡ t
 first_site H s t f g = elim (site_order s t) [ inl e ↦ e | inr o ↦ elim o [ inl b ↦ absurd (f.0 (g.1 s b)) | inr b ↦ absurd (g.0 (f.1 t b)) ] ]

@@ -2,7 +2,7 @@
 use mathlib.Core.Former.{Count}
 use Rattle.std.proofs.Common.{◌≡◌, ℕ, ◌+◌, ◌<◌, ◌≤◌, List, [], ◌∷◌, ◌++◌, length, take, get_or, Option, refl, sym, ap, ◌∙◌, append-nil, append_assoc}
 use Rattle.std.proofs.lemmas.List.{take_all}
-use Rattle.psg_terms.proofs.DeclareLaws.{take-next}
+use Rattle.psg_terms.proofs.Lists.{take_item}
 use Rattle.psg_grammar.specs.declared.types.SpecimenHole.{SpecimenHole}
 use Rattle.psg_grammar.specs.declared.types.Specimen.{Specimen, Op, Op', List as ListOf, List', Row_of-Specimen, end_of-Specimen, more_of-Specimen, Row_of-SpecimenPart, end_of-SpecimenPart, more_of-SpecimenPart, items-the_row-SpecimenPart, items_hidden-the_row-SpecimenPart-0, items-the_row-Specimen, items_hidden-the_row-Specimen-1}
 use Rattle.psg_grammar.specs.declared.types.SpecimenPart.{SpecimenPart}
@@ -44,13 +44,13 @@ pub part_next : (before now after : List SpecimenHole) (ps : List SpecimenPart) 
     → after ≡ now ++ holes_of_part p → now ≡ before ++ part_places (take i ps) → after ≡ before ++ part_places (take (i + 1) ps)
 part_next before now after ps i p lt e a h =
     a ∙ ap (λ l. l ++ holes_of_part p) h ∙ append_assoc before (part_places (take i ps)) (holes_of_part p)
-    ∙ ap (λ l. before ++ l) (sym (ap part_places (take-next ps i p lt e) ∙ parts_snoc (take i ps) p))
+    ∙ ap (λ l. before ++ l) (sym (ap part_places (take_item ps i p lt e) ∙ parts_snoc (take i ps) p))
 
 pub element_next : (before now after : List SpecimenHole) (ss : List Specimen) (i : ℕ) (s : Specimen) → i < length ss → s ≡ get_or ss i s
     → after ≡ now ++ holes_of s → now ≡ before ++ element_places (take i ss) → after ≡ before ++ element_places (take (i + 1) ss)
 element_next before now after ss i s lt e a h =
     a ∙ ap (λ l. l ++ holes_of s) h ∙ append_assoc before (element_places (take i ss)) (holes_of s)
-    ∙ ap (λ l. before ++ l) (sym (ap element_places (take-next ss i s lt e) ∙ elements_snoc (take i ss) s))
+    ∙ ap (λ l. before ++ l) (sym (ap element_places (take_item ss i s lt e) ∙ elements_snoc (take i ss) s))
 
 pub op_end : (before now : List SpecimenHole) (o : ℕ) (kept ps : List SpecimenPart) (i : ℕ) (s : Specimen) → s ≡ Op o kept → ps ≡ kept → length ps ≤ i
     → now ≡ before ++ part_places (take i ps) → now ≡ before ++ holes_of s

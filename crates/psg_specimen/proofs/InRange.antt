@@ -1,18 +1,19 @@
 -- The first thing for which something fails is there.
 use Rattle.std.proofs.Common.{◌≡◌, inl, inr, ℕ, ◌<◌, ◌≤◌, List, [], ◌∷◌, length, Some, slice_get, arith}
 use Rattle.std.proofs.lemmas.Bool.{cases_lt}
+use Rattle.std.proofs.lemmas.Option.{slice_get_within}
 use Rattle.psg_grammar.specs.declared.types.Kind.{Kind}
 use Rattle.psg_grammar.specs.declared.types.Item.{Item}
 use Rattle.psg_grammar.specs.declared.types.Item.TheVariants as items
 use Rattle.psg_grammar.specs.declared.types.Operator.{Operator}
 use Rattle.psg_grammar.specs.declared.types.Definition.{Definition}
 use Rattle.psg_specimen.specs.Conditions.{IsQuiet, IsQuietSlot, slot_kinds}
-use Rattle.psg_specimen.proofs.Firsts.{At, get_inside}
+use Rattle.psg_covering.proofs.Firsts.{At}
 
 pub inside : {X : Type 0} (xs : List X) (P : X → Type 0) (n : ℕ) → (At xs P n → ⊥) → n < length xs
 inside xs P n fails = elim (cases_lt n (length xs)) [
   | inl lt ↦ lt
-  | inr le ↦ absurd (fails (λ x at. absurd (let lt = get_inside xs n x at in omega (arith, le, lt))))
+  | inr le ↦ absurd (fails (λ x at. absurd (let lt = slice_get_within xs n x at in omega (arith, le, lt))))
 ]
 
 few_slots : (xs : List Item) → length (slot_kinds xs) ≤ length xs
@@ -38,7 +39,7 @@ module _ (def : Definition) where
   loud_slot o k m short fails = elim (cases_lt k m) [
     | inl lt ↦ lt
     | inr le ↦ absurd (fails (λ op at kind there. absurd (
-        let lt = get_inside (slot_kinds op.items) k kind there in
+        let lt = slice_get_within (slot_kinds op.items) k kind there in
         let few = few_slots op.items in
         let most = short o op at in omega (arith, le, lt, few, most))))
   ]

@@ -4,6 +4,7 @@ use Rattle.std.specs.Prelude.{◌↔◌, codes, count_by}
 use Rattle.std.specs.List.{AllByRecursion}
 use Rattle.std.proofs.lemmas.Bool.{and_parts}
 use Rattle.std.proofs.lemmas.List.Recursion.{is_count_by}
+use Rattle.std.specs.Cmp.{both_ways}
 use Rattle.psg_terms.proofs.DeclareLaws.{bytes_eq-same, bytes_eq-refl}
 use Rattle.psg_grammar.specs.declared.types.Item.{Item}
 use Rattle.psg_grammar.specs.declared.types.Item.TheVariants as items
@@ -17,7 +18,7 @@ use Rattle.psg_completions.specs.General.{it}
 use Rattle.psg_specimen.specs.declared.its.Spot.{Spot}
 use Rattle.psg_specimen.specs.Declares.{KeepsIt}
 use Rattle.psg_specimen.specs.Its.{declare_in, declares_there, its_in, its_inside, one_it, spot_by, spot_or}
-use Rattle.psg_specimen.proofs.Firsts.{At}
+use Rattle.psg_covering.proofs.Firsts.{At}
 
 tally_append : (p : Key → Bool) (xs ys : List Key) → tally p (xs ++ ys) ≡ tally p xs + tally p ys
 tally_append p [] ys = omega arith
@@ -30,15 +31,9 @@ declare_append : (s : ℕ) (xs ys : List Spot) → declare_in s (xs ++ ys) ≡ d
 declare_append s [] ys = omega arith
 declare_append s (x ∷ xs) ys = let d : declare_in s (xs ++ ys) ≡ declare_in s xs + declare_in s ys = declare_append s xs ys in omega (arith, d)
 
-bools : (a b : Bool) → (a ≡ true → b ≡ true) → (b ≡ true → a ≡ true) → a ≡ b
-bools true true there back = refl
-bools false false there back = refl
-bools true false there back = absurd (true≢false (sym (there refl)))
-bools false true there back = absurd (true≢false (sym (back refl)))
-
 -- two keys are equal where their spaces and names are
 keys_by : (t s : ℕ) (n m : List ℕ) → bytes_eq (t ∷ n) (s ∷ m) ≡ ((t == s) && bytes_eq n m)
-keys_by t s n m = bools (bytes_eq (t ∷ n) (s ∷ m)) ((t == s) && bytes_eq n m) (
+keys_by t s n m = both_ways (bytes_eq (t ∷ n) (s ∷ m)) ((t == s) && bytes_eq n m) (
     λ h. let e = bytes_eq-same (t ∷ n) (s ∷ m) h in
     ap₂ (λ a b. a && b) (eq-eqb t s (ap space_of e)) (subst (λ k. bytes_eq n k ≡ true) (ap name_in e) (bytes_eq-refl n))
     ) (

@@ -3,7 +3,7 @@ use mathlib.Core.Former.{Count}
 use Rattle.std.proofs.Common.{◌≡◌, ℕ, zero, suc, ◌+◌, ◌<◌, ◌≤◌, ◌&&◌, not, Bool, true, false, List, [], ◌∷◌, ◌++◌, length, take, get_or, Option, Some, None, slice_get, refl, sym, ap, ap₂, ◌∙◌, arith, append-nil, append_assoc}
 use Rattle.std.specs.Prelude.{option_and_then}
 use Rattle.std.proofs.lemmas.List.{take_all}
-use Rattle.psg_terms.proofs.DeclareLaws.{take-next}
+use Rattle.psg_terms.proofs.Lists.{take_item}
 use Rattle.psg_grammar.specs.declared.types.Item.{Item}
 use Rattle.psg_grammar.specs.declared.types.Item.TheVariants as items
 use Rattle.psg_grammar.specs.declared.types.SpecimenHole.{SpecimenHole}
@@ -42,7 +42,7 @@ spots_snoc [] x = append-nil (item_spot x)
 spots_snoc (y ∷ xs) x = ap (λ l. item_spot y ++ l) (spots_snoc xs x) ∙ sym (append_assoc (item_spot y) (part_spots xs) (item_spot x))
 
 pub spots_more : (xs : List Item) (i : ℕ) (x : Item) → i < length xs → x ≡ get_or xs i x → part_spots (take i xs) ++ item_spot x ≡ part_spots (take (i + 1) xs)
-spots_more xs i x lt e = sym (ap part_spots (take-next xs i x lt e) ∙ spots_snoc (take i xs) x)
+spots_more xs i x lt e = sym (ap part_spots (take_item xs i x lt e) ∙ spots_snoc (take i xs) x)
 
 module _ (def : Definition) where
   -- ---- the tree of an operator's parts
@@ -146,7 +146,7 @@ module _ (def : Definition) where
   part_next b spots before now after ps i x p lt e xe a h =
       a ∙ ap (λ l. l ++ its_of_part def b x p) h ∙ append_assoc before (its_of_parts def b spots 0 (take i ps)) (its_of_part def b x p)
       ∙ ap (λ l. before ++ l) (ap (λ z. its_of_parts def b spots 0 (take i ps) ++ its_of_part def b z p) (xe ∙ ap (spot_in spots) (let k = long ps i lt in let n : i ≡ 0 + length (take i ps) = omega (arith, k) in n))
-      ∙ sym (ap (its_of_parts def b spots 0) (take-next ps i p lt e) ∙ parts_snoc b spots 0 (take i ps) p))
+      ∙ sym (ap (its_of_parts def b spots 0) (take_item ps i p lt e) ∙ parts_snoc b spots 0 (take i ps) p))
 
   elements_snoc : (b : Bool) (ss : List Specimen) (s : Specimen) → its_of_elements def b (ss ++ s ∷ []) ≡ its_of_elements def b ss ++ its_in def b (tree_of s)
   elements_snoc b [] s = append-nil (its_in def b (tree_of s))
@@ -156,7 +156,7 @@ module _ (def : Definition) where
       → after ≡ now ++ its_in def b (tree_of s) → now ≡ before ++ its_of_elements def b (take i ss) → after ≡ before ++ its_of_elements def b (take (i + 1) ss)
   element_next b before now after ss i s lt e a h =
       a ∙ ap (λ l. l ++ its_in def b (tree_of s)) h ∙ append_assoc before (its_of_elements def b (take i ss)) (its_in def b (tree_of s))
-      ∙ ap (λ l. before ++ l) (sym (ap (its_of_elements def b) (take-next ss i s lt e) ∙ elements_snoc b (take i ss) s))
+      ∙ ap (λ l. before ++ l) (sym (ap (its_of_elements def b) (take_item ss i s lt e) ∙ elements_snoc b (take i ss) s))
 
   pub op_end : (inside r : Bool) (spots before now : List Spot) (o : ℕ) (kept ps : List SpecimenPart) (i : ℕ) (s : Specimen) → s ≡ Op o kept → ps ≡ kept → length ps ≤ i
       → r ≡ region inside o → spots ≡ spots_of (items_of (operator_at def o)) → now ≡ before ++ its_of_parts def r spots 0 (take i ps) → now ≡ before ++ its_in def inside (tree_of s)

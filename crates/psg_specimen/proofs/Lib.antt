@@ -20,7 +20,6 @@ pub mod PlaceLaws
 pub mod InstanceLaws
 pub mod ItLaws
 pub mod ItCounts
-pub mod Gets
 pub mod ClearLaws
 pub mod DeclarableLaws
 pub mod CoverLaws

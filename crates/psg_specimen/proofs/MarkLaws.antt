@@ -3,6 +3,7 @@ use Rattle.std.proofs.Common.{◌≡◌, ◌≢◌, ◌⊎◌, inl, inr, ℕ, ze
 use Rattle.std.specs.Prelude.{◌↔◌}
 use Rattle.std.specs.Bool.{beq}
 use Rattle.std.proofs.lemmas.Bool.{cases_Bool, and_parts}
+use Rattle.psg_terms.proofs.Lists.{slice_get_item, slice_get_once, beq-refl, beq_same}
 use Rattle.psg_grammar.specs.declared.types.Kind.{Kind}
 use Rattle.psg_grammar.specs.declared.types.Kind.TheVariants as kinds
 use Rattle.psg_grammar.specs.declared.types.HoleRow.{HoleRow}
@@ -12,25 +13,14 @@ use Rattle.psg_specimen.specs.Conditions.{HasRow}
 use Rattle.psg_specimen.specs.Refusal.{IsFirst, IsFirstKind}
 use Rattle.psg_specimen.specs.declared.forms.Mark.{Mark}
 use Rattle.psg_specimen.specs.Tables.{same_mark, mark_of, IsRowOf}
-use Rattle.psg_specimen.proofs.Firsts.{get_same, read}
-
-bools_same : (a b : Bool) → beq a b ≡ true → a ≡ b
-bools_same true true e = refl
-bools_same false false e = refl
-bools_same true false e = sym e
-bools_same false true e = e
-
-bool_itself : (a : Bool) → beq a a ≡ true
-bool_itself true = refl
-bool_itself false = refl
 
 pub marks_same : (a b : Mark) → same_mark a b ≡ true → a ≡ b
 marks_same a b e =
     let both = and_parts (beq a.is_list b.is_list) (a.number == b.number) e in
-    ap₂ (λ l n. record { is_list = l; number = n }) (bools_same a.is_list b.is_list both.0) (eqb-true a.number b.number both.1)
+    ap₂ (λ l n. record { is_list = l; number = n }) (beq_same a.is_list b.is_list both.0) (eqb-true a.number b.number both.1)
 
 pub mark_itself : (a : Mark) → same_mark a a ≡ true
-mark_itself a = ap₂ (λ x y. x && y) (bool_itself a.is_list) (eq-eqb a.number a.number refl)
+mark_itself a = ap₂ (λ x y. x && y) (beq-refl a.is_list) (eq-eqb a.number a.number refl)
 
 pub take_get : {X : Type 0} (xs : List X) (i n : ℕ) (x : X) → n < i → slice_get xs n ≡ Some x → slice_get (take i xs) n ≡ Some x
 take_get {X = X} [] i n x lt e = absurd (let f : ◌≡◌ {A = Option X} None (Some x) = e in cc)
@@ -50,7 +40,7 @@ pub marks_next : (old new : Mark → Bool) (rows : List HoleRow) (i : ℕ) (row 
     → ((j : Mark) → new j ≡ cond (same_mark k j) true (old j)) → ((j : Mark) → (old j ≡ true) ↔ IsRowOf (take i rows) j) → (j : Mark) → (new j ≡ true) ↔ IsRowOf (take (i + 1) rows) j
 marks_next old new rows i row k lt is same step h j = (there, back) where
   at : slice_get rows i ≡ Some row
-  at = read rows i row lt is
+  at = slice_get_item rows i row lt is
 
   there : new j ≡ true → IsRowOf (take (i + 1) rows) j
   there e = elim (cases_Bool (same_mark k j)) [
@@ -62,7 +52,7 @@ marks_next old new rows i row k lt is same step h j = (there, back) where
 
   old_row : (r : ℕ) (x : HoleRow) → r < i + 1 → slice_get rows r ≡ Some x → mark_of x.kind ≡ j → (same_mark k j ≡ true) ⊎ (old j ≡ true)
   old_row r x less found of = elim (cases_Bool (r == i)) [
-    | inl e ↦ inl (let one : row ≡ x = get_same rows i row x at (ap (slice_get rows) (sym (eqb-true r i e)) ∙ found) in
+    | inl e ↦ inl (let one : row ≡ x = slice_get_once rows i row x at (ap (slice_get rows) (sym (eqb-true r i e)) ∙ found) in
         subst (λ m. same_mark k m ≡ true) (same ∙ ap (λ (y : HoleRow). mark_of y.kind) one ∙ of) (mark_itself k))
     | inr e ↦ inr ((h j).1 (r, x, take_get rows i r x (smaller (λ q. true≢false (sym (eq-eqb r i q) ∙ e))) found, of))
   ] where

@@ -1,7 +1,7 @@
 -- A definition has one refusal by the grammar class.
-use Rattle.std.proofs.Common.{◌≡◌, ◌⊎◌, inl, inr, ℕ, zero, suc, ◌<◌, List, ap, sym, ◌∙◌, subst, arith}
+use Rattle.std.proofs.Common.{◌≡◌, inl, inr, ℕ, zero, suc, ◌<◌, List, ap, sym, ◌∙◌, subst, arith}
 use Rattle.std.specs.Prelude.{string_bytes}
-use Rattle.std.proofs.lemmas.Bool.{cases_lt}
+use Rattle.std.proofs.lemmas.Bool.{cases_order, cases_eq}
 use Rattle.psg_grammar.specs.declared.types.Definition.{Definition}
 use Rattle.psg_class.specs.declared.fault.ClassFault.{ClassFault}
 use Rattle.psg_class.specs.declared.fault.ClassFault.TheVariants as classes
@@ -9,14 +9,10 @@ use Rattle.psg_class.specs.Terminals.{Terminal}
 use Rattle.psg_class.specs.Class.{NoFirst, BadForm, NoBracket, MixedLevel, SameFirst, SameLed, LedFollows, ListEnd, Never, NeverAny, Holds1, Holds2, Holds3, Holds4, Holds5, Holds6, Holds7}
 use Rattle.psg_class.specs.Refusal.{IsFirst, IsFirstTerminal, IsFirstToken, FailsSome, MixesSome, IsRefusal, terminal_text}
 use Rattle.psg_specimen.specs.OneRefusal.{IsSameClass}
-use Rattle.psg_specimen.proofs.Firsts.{number_cases}
 use Rattle.psg_specimen.proofs.OneTerminal.{IsKnown, of_same_first, of_same_led, of_led_follows, of_list_end, one_terminal}
 
-order : (n m : ℕ) → (n ≡ m) ⊎ ((n < m) ⊎ (m < n))
-order n m = elim (number_cases n m) [ inl e ↦ inl e | inr ne ↦ inr (elim (cases_lt n m) [ inl lt ↦ inl lt | inr le ↦ inr (omega (arith, le, ne)) ]) ]
-
 first_one : (Fails : ℕ → Type 0) (n m : ℕ) → IsFirst Fails n → IsFirst Fails m → n ≡ m
-first_one Fails n m f g = elim (order n m) [ inl e ↦ e | inr o ↦ elim o [ inl lt ↦ absurd (g.1 n lt f.0) | inr lt ↦ absurd (f.1 m lt g.0) ] ]
+first_one Fails n m f g = elim (cases_order n m) [ inl e ↦ e | inr o ↦ elim o [ inl lt ↦ absurd (g.1 n lt f.0) | inr lt ↦ absurd (f.1 m lt g.0) ] ]
 
 -- the number of the condition that fails
 abbrev place : ClassFault → ℕ
@@ -48,7 +44,7 @@ module _ (def : Definition) where
 
   earlier : (n m : ℕ) → Before n → m < n → Condition m
   earlier zero m h lt = absurd (omega (arith, lt))
-  earlier (suc n) m h lt = elim (number_cases m n) [ inl e ↦ subst Condition (sym e) h.1 | inr ne ↦ earlier n m h.0 (omega (arith, lt, ne)) ]
+  earlier (suc n) m h lt = elim (cases_eq m n) [ inl e ↦ subst Condition (sym e) h.1 | inr ne ↦ earlier n m h.0 (omega (arith, lt, ne)) ]
 
   before1 : Holds1 def → Before 1
   before1 h = (tt, h)
@@ -97,7 +93,7 @@ module _ (def : Definition) where
   refuted classes.Memory h never = h
 
   one_place : (f g : ClassFault) → IsRefusal def f → IsRefusal def g → place f ≡ place g
-  one_place f g h k = elim (order (place f) (place g)) [
+  one_place f g h k = elim (cases_order (place f) (place g)) [
     | inl e ↦ e
     | inr o ↦ elim o [
       | inl lt ↦ absurd (refuted f h (earlier (place g) (place f) (passed g k) lt))

@@ -1,5 +1,6 @@
 -- Laws of constructors over different variables, and of cases for constructors.
 use Rattle.std.proofs.Common.{◌≡◌, ◌≢◌, inl, inr, ℕ, zero, suc, ◌+◌, ◌<◌, ◌==◌, true, false, cond, List, [], ◌∷◌, length, drop, get_or, Option, Some, slice_get, refl, sym, ap, ◌∙◌, subst, arith}
+use Rattle.psg_terms.proofs.Lists.{drop_item_suc}
 use Rattle.std.specs.List.{AllByRecursion}
 use Rattle.psg_terms.specs.Terms.{Term, variable, symbol, apply, applied}
 use Rattle.psg_terms.specs.Kept.{numbers_of}
@@ -12,11 +13,6 @@ use Rattle.psg_grammar.specs.declared.types.Case.{Case}
 use Rattle.psg_grammar.specs.declared.types.HoleRow.{HoleRow}
 use Rattle.psg_completions.specs.Cases.{AreCases, AreDifferent, CasesFor, IsOver}
 use Rattle.psg_specimen.specs.Variables.{IsDifferent, IsWhole}
-
-pub drop_at : {X : Type 0} (xs : List X) (i : ℕ) (x : X) → i < length xs → x ≡ get_or xs i x → drop i xs ≡ x ∷ drop (suc i) xs
-drop_at [] i x lt e = absurd (omega (arith, lt))
-drop_at (y ∷ xs) zero x lt e = ap (λ z. z ∷ xs) (sym e)
-drop_at (y ∷ xs) (suc i) x lt e = drop_at xs i x (omega (arith, lt)) e
 
 drop_number : (xs : List SortId) (i : ℕ) (x : SortId) → i < length xs → x ≡ get_or xs i x → drop i (numbers_of xs) ≡ x.0 ∷ drop (suc i) (numbers_of xs)
 drop_number [] i x lt e = absurd (omega (arith, lt))
@@ -46,7 +42,7 @@ module _ (sig : Signature) where
 
   module _ (args : List Term) (sorts : List SortId) (i : ℕ) (a : Term) (s : SortId) (lt : i < length args) (ltt : i < length sorts) (is : a ≡ get_or args i a) (iss : s ≡ get_or sorts i s) where
     pub front : drop i args ≡ a ∷ drop (suc i) args
-    front = drop_at args i a lt is
+    front = drop_item_suc args i a lt is
 
     pub one_more : IsDifferent sig a s.0 (drop (suc i) args) → AreDifferent sig (drop (suc i) args) (drop (suc i) (numbers_of sorts)) → AreDifferent sig (drop i args) (drop i (numbers_of sorts))
     one_more d h = subst (λ l. AreDifferent sig l (drop i (numbers_of sorts))) (sym front)

@@ -5,7 +5,7 @@ use Rattle.psg_terms.specs.Terms.{Term, variable, symbol, apply, applied}
 use Rattle.psg_terms.specs.Weight.{symbols_of}
 use Rattle.psg_completions.specs.Places.{IsPart}
 use Rattle.psg_specimen.specs.Parts.{IsAmong}
-use Rattle.psg_specimen.proofs.Firsts.{At}
+use Rattle.psg_covering.proofs.Firsts.{At}
 
 positive : (t : Term) → 1 ≤ symbols_of t
 positive (variable s n) = omega arith

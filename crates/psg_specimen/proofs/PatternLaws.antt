@@ -2,7 +2,6 @@
 use Rattle.std.proofs.Common.{◌≡◌, inl, inr, ℕ, zero, suc, ◌+◌, ◌<◌, ◌≤◌, true, false, List, [], ◌∷◌, ◌++◌, length, take, drop, get_or, Option, Some, None, slice_get, refl, sym, ap, ◌∙◌, subst, arith, append_assoc, append-nil, length-append}
 use Rattle.std.specs.List.{AllByRecursion}
 use Rattle.psg_terms.specs.Names.{Name as Word}
-use Rattle.psg_terms.proofs.DeclareLaws.{take-next}
 use Rattle.psg_grammar.specs.declared.types.Kind.{Kind}
 use Rattle.psg_grammar.specs.declared.types.Kind.TheVariants as kinds
 use Rattle.psg_grammar.specs.declared.types.Item.{Item}
@@ -18,7 +17,7 @@ use Rattle.psg_grammar.specs.Lookups.{part_items}
 use Rattle.psg_grammar.specs.Sound.{IsSound, IsItem, HasKindSort}
 use Rattle.psg_grammar.specs.Specimens.{tree_of, part_of, end_tree}
 use Rattle.psg_grammar.proofs.SoundParts.{operator_sound, list_sound}
-use Rattle.psg_eval.specs.declared.summary.Known.{Known}
+use Rattle.psg_eval.specs.declared.summary.SummaryParts.{SummaryParts}
 use Rattle.psg_eval.specs.declared.summary.EvalFault.{EvalFault}
 use Rattle.psg_eval.specs.declared.summary.EvalFault.TheVariants as faults
 use Rattle.psg_eval.specs.Patterns.{IsChildOf, AreChildrenOf, SuitsKind, SuitKinds, TakesChildrenAt, TakesCellOf}
@@ -26,6 +25,7 @@ use Rattle.psg_grammar.specs.Steps.{steps_of}
 use Rattle.std.specs.Prelude.{Ok, Err}
 use Rattle.std.proofs.lemmas.Option.{slice_get_within}
 use Rattle.std.proofs.lemmas.List.{take_all}
+use Rattle.psg_terms.proofs.Lists.{take_item}
 use Rattle.psg_eval.specs.Summaries.{Answers, IsSummary, are_names, slot_kinds}
 use Rattle.psg_eval.specs.Trees.{HasParts, IsNode, own_names}
 use Rattle.psg_specimen.specs.Patterns.{parts_on, cells_on, part_names, AddsPart, AreLight, ArePatternsOf, IsLight, IsLightBelow, IsListFor, IsListPattern, IsPartFault, IsPatternFor, IsPatternOf, IsSomeTree, IsTreeOf, IsUsual, IsWideBelow, IsWideList, IsWideTree, SuitsElement, SuitsRest}
@@ -48,7 +48,7 @@ names_snoc (q ∷ ps) p =
 
 pub names_next : (ps : List SpecimenPart) (i : ℕ) (p : SpecimenPart) (before after : List Word) → i < length ps → p ≡ get_or ps i p → after ≡ before ++ part_names (p ∷ []) → before ≡ part_names (take i ps) → after ≡ part_names (take (i + 1) ps)
 names_next ps i p before after lt e add h =
-    add ∙ ap (λ l. l ++ part_names (p ∷ [])) h ∙ sym (names_snoc (take i ps) p) ∙ ap part_names (sym (take-next ps i p lt e))
+    add ∙ ap (λ l. l ++ part_names (p ∷ [])) h ∙ sym (names_snoc (take i ps) p) ∙ ap part_names (sym (take_item ps i p lt e))
 
 own_part : (p : SpecimenPart) (f : Fragment) → own_names (part_of p f) ≡ own_names f ++ part_names (p ∷ [])
 own_part (Sub s) f = sym (append-nil (own_names f))
@@ -167,7 +167,7 @@ module _ (def : Definition) where
   kind_once (observed f) more kind other places left h is = absurd h.0
 
   -- a child that fits suits the kind
-  suits : (t : Fragment) (c : Option Known) (k : Kind) → IsTreeOf def k t → ((s : ℕ) × HasKindSort def k s) → IsChildOf def t c → IsUsual def c → SuitsKind def c k
+  suits : (t : Fragment) (c : Option SummaryParts) (k : Kind) → IsTreeOf def k t → ((s : ℕ) × HasKindSort def k s) → IsChildOf def t c → IsUsual def c → SuitsKind def c k
   suits t (Some s) k (places, left, h) sort child usual = (kind_once t [] k s.kind places left h child.kind, usual)
   suits t None k h sort child usual = sort
 
@@ -280,7 +280,7 @@ module _ (def : Definition) where
   has_items anything more kind places left s h = absurd s
   has_items (observed f) more kind places left s h = absurd s
 
-  suit_kinds : (ts : List Fragment) (ks : List Kind) (cs : List (Option Known)) → AreTrees ts ks → AllByRecursion (λ k. (s : ℕ) × HasKindSort def k s) ks → AreChildrenOf def ts cs → AllByRecursion (IsUsual def) cs → SuitKinds def cs ks
+  suit_kinds : (ts : List Fragment) (ks : List Kind) (cs : List (Option SummaryParts)) → AreTrees ts ks → AllByRecursion (λ k. (s : ℕ) × HasKindSort def k s) ks → AreChildrenOf def ts cs → AllByRecursion (IsUsual def) cs → SuitKinds def cs ks
   suit_kinds [] [] [] h sorts are usual = tt
   suit_kinds [] [] (c ∷ cs) h sorts are usual = absurd are
   suit_kinds [] (k ∷ ks) cs h sorts are usual = absurd h
@@ -291,7 +291,7 @@ module _ (def : Definition) where
   -- ---- the parts of an operator
 
   -- the patterns of the children of an operator with some of its parts
-  pub record IsGrown (f : Fragment) (cs : List (Option Known)) : Type 0 where
+  pub record IsGrown (f : Fragment) (cs : List (Option SummaryParts)) : Type 0 where
     pub children : AreChildrenOf def (children_of f) cs
     pub usual : AllByRecursion (IsUsual def) cs
     pub light : IsLightBelow def f
@@ -299,17 +299,17 @@ module _ (def : Definition) where
   pub grown_none : (o : ℕ) → IsGrown (operator o) []
   grown_none o = record { children = tt; usual = tt; light = light_operator def o }
 
-  children_snoc : (ts : List Fragment) (cs : List (Option Known)) (t : Fragment) (c : Option Known) → AreChildrenOf def ts cs → IsChildOf def t c → AreChildrenOf def (ts ++ t ∷ []) (cs ++ c ∷ [])
+  children_snoc : (ts : List Fragment) (cs : List (Option SummaryParts)) (t : Fragment) (c : Option SummaryParts) → AreChildrenOf def ts cs → IsChildOf def t c → AreChildrenOf def (ts ++ t ∷ []) (cs ++ c ∷ [])
   children_snoc [] [] t c h i = (i, tt)
   children_snoc [] (d ∷ cs) t c h i = absurd h
   children_snoc (u ∷ ts) [] t c h i = absurd h
   children_snoc (u ∷ ts) (d ∷ cs) t c h i = (h.0, children_snoc ts cs t c h.1 i)
 
-  usual_snoc : (cs : List (Option Known)) (c : Option Known) → AllByRecursion (IsUsual def) cs → IsUsual def c → AllByRecursion (IsUsual def) (cs ++ c ∷ [])
+  usual_snoc : (cs : List (Option SummaryParts)) (c : Option SummaryParts) → AllByRecursion (IsUsual def) cs → IsUsual def c → AllByRecursion (IsUsual def) (cs ++ c ∷ [])
   usual_snoc [] c h i = (i, tt)
   usual_snoc (d ∷ cs) c h i = (h.0, usual_snoc cs c h.1 i)
 
-  grown_part : (p : SpecimenPart) (f : Fragment) (before after : List (Option Known)) → AddsPart def p before after → IsGrown f before → IsGrown (part_of p f) after
+  grown_part : (p : SpecimenPart) (f : Fragment) (before after : List (Option SummaryParts)) → AddsPart def p before after → IsGrown f before → IsGrown (part_of p f) after
   grown_part (Sub s) f before after (c, e, own) h = subst (IsGrown (with_child f (tree_of s))) (sym e) (record {
     children = children_snoc (children_of f) before (tree_of s) c h.children own.child;
     usual = usual_snoc before c h.usual own.usual;
@@ -319,10 +319,10 @@ module _ (def : Definition) where
   grown_part (Number n) f before after e h = record { children = subst (AreChildrenOf def (children_of f)) (sym e) h.children; usual = subst (AllByRecursion (IsUsual def)) (sym e) h.usual; light = h.light }
   grown_part (Text n) f before after e h = record { children = subst (AreChildrenOf def (children_of f)) (sym e) h.children; usual = subst (AllByRecursion (IsUsual def)) (sym e) h.usual; light = h.light }
 
-  pub grown_next : (f : Fragment) (ps : List SpecimenPart) (i : ℕ) (p : SpecimenPart) (before after : List (Option Known)) → i < length ps → p ≡ get_or ps i p
+  pub grown_next : (f : Fragment) (ps : List SpecimenPart) (i : ℕ) (p : SpecimenPart) (before after : List (Option SummaryParts)) → i < length ps → p ≡ get_or ps i p
       → AddsPart def p before after → IsGrown (parts_on f (take i ps)) before → IsGrown (parts_on f (take (i + 1) ps)) after
   grown_next f ps i p before after lt e add h =
-      subst (λ g. IsGrown g after) (sym (ap (parts_on f) (take-next ps i p lt e) ∙ parts_snoc f (take i ps) p)) (grown_part p (parts_on f (take i ps)) before after add h)
+      subst (λ g. IsGrown g after) (sym (ap (parts_on f) (take_item ps i p lt e) ∙ parts_snoc f (take i ps) p)) (grown_part p (parts_on f (take i ps)) before after add h)
 
   wide_at : (ps : List SpecimenPart) (f : Fragment) (i : ℕ) (p : SpecimenPart) → i < length ps → p ≡ get_or ps i p → ((g : Fragment) → IsWideBelow def (part_of p g)) → IsWideBelow def (parts_on f ps)
   wide_at [] f i p lt e h = absurd (omega (arith, lt))
@@ -343,7 +343,7 @@ module _ (def : Definition) where
   part_fault o kept ps i p faults.Memory same lt e h = tt
 
   -- what an operator takes
-  pub takes : (sound : IsSound def) (o : ℕ) (ps : List SpecimenPart) (names : List Word) (cs : List (Option Known)) → IsSomeTree def (tree_of (Op o ps)) → names ≡ part_names ps → IsGrown (parts_on (operator o) ps) cs → TakesChildrenAt def o names cs
+  pub takes : (sound : IsSound def) (o : ℕ) (ps : List SpecimenPart) (names : List Word) (cs : List (Option SummaryParts)) → IsSomeTree def (tree_of (Op o ps)) → names ≡ part_names ps → IsGrown (parts_on (operator o) ps) cs → TakesChildrenAt def o names cs
   takes sound o ps names cs (kind, (places, left, h)) e grown =
       let f = parts_on (operator o) ps in
       let w = has_items f [] kind places left (spine_parts (operator o) ps tt) (subst (λ g. Fits def g [] kind places left) (op_tree o ps) h) in
@@ -367,7 +367,7 @@ module _ (def : Definition) where
     own = own_parts (operator o) ps ∙ sym e;
   }
 
-  pub op_done : (o : ℕ) (kept ps : List SpecimenPart) (spec : Specimen) (names : List Word) (cs : List (Option Known)) (s : Known) → spec ≡ Op o kept → ps ≡ kept → IsSomeTree def (tree_of spec) → names ≡ part_names ps
+  pub op_done : (o : ℕ) (kept ps : List SpecimenPart) (spec : Specimen) (names : List Word) (cs : List (Option SummaryParts)) (s : SummaryParts) → spec ≡ Op o kept → ps ≡ kept → IsSomeTree def (tree_of spec) → names ≡ part_names ps
       → IsGrown (parts_on (operator o) ps) cs → ((f : Fragment) → IsNode def o names f → AreChildrenOf def (children_of f) cs → Answers def f (Ok s)) → IsSummary def s → IsPatternOf def (tree_of spec) (Some s)
   op_done o kept ps spec names cs s is same tree e grown answer usual =
       let here : IsSomeTree def (tree_of (Op o ps)) = subst (λ xs. IsSomeTree def (tree_of (Op o xs))) (sym same) (subst (λ x. IsSomeTree def (tree_of x)) is tree) in
@@ -380,7 +380,7 @@ module _ (def : Definition) where
         light = light_spine def f (spine_parts (operator o) ps tt) grown.light got.1;
       })
 
-  pub op_fault : (o : ℕ) (kept ps : List SpecimenPart) (spec : Specimen) (names : List Word) (cs : List (Option Known)) (fault : EvalFault) → spec ≡ Op o kept → ps ≡ kept → IsSomeTree def (tree_of spec) → names ≡ part_names ps
+  pub op_fault : (o : ℕ) (kept ps : List SpecimenPart) (spec : Specimen) (names : List Word) (cs : List (Option SummaryParts)) (fault : EvalFault) → spec ≡ Op o kept → ps ≡ kept → IsSomeTree def (tree_of spec) → names ≡ part_names ps
       → IsGrown (parts_on (operator o) ps) cs → ((f : Fragment) → IsNode def o names f → AreChildrenOf def (children_of f) cs → Answers def f (Err fault)) → IsPatternFor def (tree_of spec) (Err fault)
   op_fault o kept ps spec names cs (faults.Wide step) is same tree e grown answer =
       let here : IsSomeTree def (tree_of (Op o ps)) = subst (λ xs. IsSomeTree def (tree_of (Op o xs))) (sym same) (subst (λ x. IsSomeTree def (tree_of x)) is tree) in
@@ -391,16 +391,16 @@ module _ (def : Definition) where
 
   -- ---- the elements of a list
 
-  patterns_snoc : (ss : List Specimen) (cs : List (Option Known)) (s : Specimen) (c : Option Known) → ArePatternsOf def ss cs → IsPatternOf def (tree_of s) c → ArePatternsOf def (ss ++ s ∷ []) (cs ++ c ∷ [])
+  patterns_snoc : (ss : List Specimen) (cs : List (Option SummaryParts)) (s : Specimen) (c : Option SummaryParts) → ArePatternsOf def ss cs → IsPatternOf def (tree_of s) c → ArePatternsOf def (ss ++ s ∷ []) (cs ++ c ∷ [])
   patterns_snoc [] [] s c h i = (i, tt)
   patterns_snoc [] (d ∷ cs) s c h i = absurd h
   patterns_snoc (t ∷ ss) [] s c h i = absurd h
   patterns_snoc (t ∷ ss) (d ∷ cs) s c h i = (h.0, patterns_snoc ss cs s c h.1 i)
 
-  pub patterns_next : (ss : List Specimen) (i : ℕ) (s : Specimen) (before after : List (Option Known)) (c : Option Known) → i < length ss → s ≡ get_or ss i s → IsPatternOf def (tree_of s) c → after ≡ before ++ c ∷ []
+  pub patterns_next : (ss : List Specimen) (i : ℕ) (s : Specimen) (before after : List (Option SummaryParts)) (c : Option SummaryParts) → i < length ss → s ≡ get_or ss i s → IsPatternOf def (tree_of s) c → after ≡ before ++ c ∷ []
       → ArePatternsOf def (take i ss) before → ArePatternsOf def (take (i + 1) ss) after
   patterns_next ss i s before after c lt e own add h =
-      subst (λ xs. ArePatternsOf def xs after) (sym (take-next ss i s lt e)) (subst (ArePatternsOf def (take i ss ++ s ∷ [])) (sym add) (patterns_snoc (take i ss) before s c h own))
+      subst (λ xs. ArePatternsOf def xs after) (sym (take_item ss i s lt e)) (subst (ArePatternsOf def (take i ss ++ s ∷ [])) (sym add) (patterns_snoc (take i ss) before s c h own))
 
   suffix : (l : ℕ) (rest : Option SpecimenHole) (ss : List Specimen) → IsSuffix def (cells_on l (end_tree l rest) ss)
   suffix l None [] = tt
@@ -442,11 +442,11 @@ module _ (def : Definition) where
   list_fault l kept es rest spec (faults.Wide step) is same h = list_wide l kept es rest spec is same h
   list_fault l kept es rest spec faults.Memory is same h = tt
 
-  usual_rest : (l : ℕ) (c : Option Known) → SuitsRest def l c → IsUsual def c
+  usual_rest : (l : ℕ) (c : Option SummaryParts) → SuitsRest def l c → IsUsual def c
   usual_rest l (Some s) h = h.1
   usual_rest l None h = tt
 
-  pub list_done : (l : ℕ) (kept es : List Specimen) (rest : Option SpecimenHole) (spec : Specimen) (c : Option Known) → spec ≡ ListOf l kept rest → es ≡ kept → IsListFor def (cells_on l (end_tree l rest) es) (Ok c) → SuitsRest def l c → IsPatternOf def (tree_of spec) c
+  pub list_done : (l : ℕ) (kept es : List Specimen) (rest : Option SpecimenHole) (spec : Specimen) (c : Option SummaryParts) → spec ≡ ListOf l kept rest → es ≡ kept → IsListFor def (cells_on l (end_tree l rest) es) (Ok c) → SuitsRest def l c → IsPatternOf def (tree_of spec) c
   list_done l kept es rest spec c is same h fits =
       subst (λ x. IsPatternOf def x c) (sym (whole_list l kept es rest spec is same)) (record {
         child = h.child;
@@ -462,7 +462,7 @@ module _ (def : Definition) where
   end_there l kept rest spec is tree none =
       there_by l kept (subst (λ r. IsSomeTree def (cells_on l (end_tree l r) kept)) none (subst (IsSomeTree def) (whole_list l kept kept rest spec is refl) tree))
 
-  suit_by : (sound : IsSound def) (l : ℕ) (e : Fragment) (ss : List Specimen) (cs : List (Option Known)) → IsSomeTree def (cells_on l e ss) → ArePatternsOf def ss cs → AllByRecursion (SuitsElement def l) cs
+  suit_by : (sound : IsSound def) (l : ℕ) (e : Fragment) (ss : List Specimen) (cs : List (Option SummaryParts)) → IsSomeTree def (cells_on l e ss) → ArePatternsOf def ss cs → AllByRecursion (SuitsElement def l) cs
   suit_by sound l e [] [] tree h = tt
   suit_by sound l e [] (c ∷ cs) tree h = absurd h
   suit_by sound l e (s ∷ ss) [] tree h = absurd h
@@ -470,28 +470,28 @@ module _ (def : Definition) where
       let whole = list_sound def sound l k at in
       ((k, at, suits (tree_of s) c (kinds.Phylum k.element) (places, mid, he) (whole.element, whole.element_sort) h.0.child h.0.usual), suit_by sound l e ss cs (kinds.List l, (mid, left, hr)) h.1)
 
-  pub suit_elements : (sound : IsSound def) (l : ℕ) (kept es : List Specimen) (rest : Option SpecimenHole) (spec : Specimen) (cs : List (Option Known)) → spec ≡ ListOf l kept rest → es ≡ kept → IsSomeTree def (tree_of spec) → ArePatternsOf def es cs → AllByRecursion (SuitsElement def l) cs
+  pub suit_elements : (sound : IsSound def) (l : ℕ) (kept es : List Specimen) (rest : Option SpecimenHole) (spec : Specimen) (cs : List (Option SummaryParts)) → spec ≡ ListOf l kept rest → es ≡ kept → IsSomeTree def (tree_of spec) → ArePatternsOf def es cs → AllByRecursion (SuitsElement def l) cs
   suit_elements sound l kept es rest spec cs is same tree h = suit_by sound l (end_tree l rest) es cs (subst (IsSomeTree def) (whole_list l kept es rest spec is same) tree) h
 
   -- ---- a list from its end
 
-  pub takes_cell : (l : ℕ) (c behind : Option Known) → SuitsElement def l c → SuitsRest def l behind → TakesCellOf def l c behind
+  pub takes_cell : (l : ℕ) (c behind : Option SummaryParts) → SuitsElement def l c → SuitsRest def l behind → TakesCellOf def l c behind
   takes_cell l c (Some s) (list, at, fits) h = record { list = list; found = at; element_fits = fits; rest_fits = h }
   takes_cell l c None (list, at, fits) h = record { list = list; found = at; element_fits = fits; rest_fits = (list.sort.0, (list, at, refl)) }
 
-  record IsAt (ss : List Specimen) (n : ℕ) (c : Option Known) : Type 0 where
+  record IsAt (ss : List Specimen) (n : ℕ) (c : Option SummaryParts) : Type 0 where
     specimen : Specimen
     split : drop n ss ≡ specimen ∷ drop (suc n) ss
     own : IsPatternOf def (tree_of specimen) c
 
-  at_place : (ss : List Specimen) (cs : List (Option Known)) (n : ℕ) (c : Option Known) → ArePatternsOf def ss cs → n < length cs → c ≡ get_or cs n c → IsAt ss n c
+  at_place : (ss : List Specimen) (cs : List (Option SummaryParts)) (n : ℕ) (c : Option SummaryParts) → ArePatternsOf def ss cs → n < length cs → c ≡ get_or cs n c → IsAt ss n c
   at_place [] [] n c h lt e = absurd (omega (arith, lt))
   at_place [] (d ∷ cs) n c h lt e = absurd h
   at_place (s ∷ ss) [] n c h lt e = absurd h
   at_place (s ∷ ss) (d ∷ cs) zero c h lt e = record { specimen = s; split = refl; own = subst (IsPatternOf def (tree_of s)) (sym e) h.0 }
   at_place (s ∷ ss) (d ∷ cs) (suc n) c h lt e = let a = at_place ss cs n c h.1 (omega (arith, lt)) e in record { specimen = a.specimen; split = a.split; own = a.own }
 
-  patterns_many : (ss : List Specimen) (cs : List (Option Known)) → ArePatternsOf def ss cs → length ss ≡ length cs
+  patterns_many : (ss : List Specimen) (cs : List (Option SummaryParts)) → ArePatternsOf def ss cs → length ss ≡ length cs
   patterns_many [] [] h = refl
   patterns_many [] (c ∷ cs) h = absurd h
   patterns_many (s ∷ ss) [] h = absurd h
@@ -504,13 +504,13 @@ module _ (def : Definition) where
   drop_whole (suc n) (x ∷ xs) e = drop_whole n xs (omega (arith, e))
 
   -- the pattern is that of the list from the place on
-  abbrev pub IsFrom : ℕ → List (Option Known) → Option Known → ℕ → Option Known → Type 0
+  abbrev pub IsFrom : ℕ → List (Option SummaryParts) → Option SummaryParts → ℕ → Option SummaryParts → Type 0
   IsFrom l elements end n behind = (ss : List Specimen) (e : Fragment) → ArePatternsOf def ss elements → IsListPattern def e end → IsListPattern def (cells_on l e (drop n ss)) behind
 
-  pub from_end : (l : ℕ) (elements : List (Option Known)) (end : Option Known) (n : ℕ) → n ≡ length elements → IsFrom l elements end n end
+  pub from_end : (l : ℕ) (elements : List (Option SummaryParts)) (end : Option SummaryParts) (n : ℕ) → n ≡ length elements → IsFrom l elements end n end
   from_end l elements end n e ss f h own = subst (λ xs. IsListPattern def (cells_on l f xs) end) (sym (drop_whole n ss (patterns_many ss elements h ∙ sym e))) own
 
-  pub from_next : (l : ℕ) (elements : List (Option Known)) (end : Option Known) (n m : ℕ) (c behind : Option Known) (s : Known) → m ≡ suc n → n < length elements → c ≡ get_or elements n c
+  pub from_next : (l : ℕ) (elements : List (Option SummaryParts)) (end : Option SummaryParts) (n m : ℕ) (c behind : Option SummaryParts) (s : SummaryParts) → m ≡ suc n → n < length elements → c ≡ get_or elements n c
       → ((e r : Fragment) → IsChildOf def e c → IsChildOf def r behind → Answers def (cell l e r) (Ok s)) → IsFrom l elements end m behind → IsFrom l elements end n (Some s)
   from_next l elements end n m c behind s step lt e answer h ss f are own =
       let a = at_place ss elements n c are lt e in
@@ -521,7 +521,7 @@ module _ (def : Definition) where
         light = light_cell def l (tree_of a.specimen) (cells_on l f (drop (suc n) ss)) a.own.light r.light got.1;
       })
 
-  pub from_fault : (l : ℕ) (elements : List (Option Known)) (end : Option Known) (n m : ℕ) (c behind : Option Known) (fault : EvalFault) → m ≡ suc n → n < length elements → c ≡ get_or elements n c
+  pub from_fault : (l : ℕ) (elements : List (Option SummaryParts)) (end : Option SummaryParts) (n m : ℕ) (c behind : Option SummaryParts) (fault : EvalFault) → m ≡ suc n → n < length elements → c ≡ get_or elements n c
       → ((e r : Fragment) → IsChildOf def e c → IsChildOf def r behind → Answers def (cell l e r) (Err fault)) → IsFrom l elements end m behind
       → (ss : List Specimen) (e : Fragment) → ArePatternsOf def ss elements → IsListPattern def e end → IsListFor def (cells_on l e ss) (Err fault)
   from_fault l elements end n m c behind (faults.Wide k) step lt e answer h ss f are own =
@@ -531,7 +531,7 @@ module _ (def : Definition) where
       wide_behind l f n ss (subst (λ xs. IsWideList def (cells_on l f xs)) (sym a.split) (wide_cell def l k (tree_of a.specimen) (cells_on l f (drop (suc n) ss)) got))
   from_fault l elements end n m c behind faults.Memory step lt e answer h ss f are own = tt
 
-  pub suits_at : (l : ℕ) (cs : List (Option Known)) (n : ℕ) (c : Option Known) → AllByRecursion (SuitsElement def l) cs → n < length cs → c ≡ get_or cs n c → SuitsElement def l c
+  pub suits_at : (l : ℕ) (cs : List (Option SummaryParts)) (n : ℕ) (c : Option SummaryParts) → AllByRecursion (SuitsElement def l) cs → n < length cs → c ≡ get_or cs n c → SuitsElement def l c
   suits_at l [] n c h lt e = absurd (omega (arith, lt))
   suits_at l (d ∷ cs) zero c h lt e = subst (SuitsElement def l) (sym e) h.0
   suits_at l (d ∷ cs) (suc n) c h lt e = suits_at l cs n c h.1 (omega (arith, lt)) e
@@ -549,7 +549,7 @@ module _ (def : Definition) where
   end_wide l rest (faults.Wide k) none h = subst (λ r. IsWideList def (end_tree l r)) (sym none) (wide_end def l k h)
   end_wide l rest faults.Memory none h = tt
 
-  pub end_done : (l : ℕ) (rest : Option SpecimenHole) (s : Known) → rest ≡ None → Answers def (ending l false) (Ok s) → IsListPattern def (end_tree l rest) (Some s)
+  pub end_done : (l : ℕ) (rest : Option SpecimenHole) (s : SummaryParts) → rest ≡ None → Answers def (ending l false) (Ok s) → IsListPattern def (end_tree l rest) (Some s)
   end_done l rest s none h = subst (λ r. IsListPattern def (end_tree l r) (Some s)) (sym none) (record { child = h.0; light = light_end def l h.1 })
 
   -- a list that goes on at a hole place
@@ -558,10 +558,10 @@ module _ (def : Definition) where
 
   -- ---- after the last part and the last element
 
-  pub grown_all : (o : ℕ) (kept ps : List SpecimenPart) (i : ℕ) (before after : List (Option Known)) → ps ≡ kept → length ps ≤ i → after ≡ before → IsGrown (parts_on (operator o) (take i ps)) before → IsGrown (parts_on (operator o) kept) after
+  pub grown_all : (o : ℕ) (kept ps : List SpecimenPart) (i : ℕ) (before after : List (Option SummaryParts)) → ps ≡ kept → length ps ≤ i → after ≡ before → IsGrown (parts_on (operator o) (take i ps)) before → IsGrown (parts_on (operator o) kept) after
   grown_all o kept ps i before after same le e h =
       subst (IsGrown (parts_on (operator o) kept)) (sym e) (subst (λ xs. IsGrown (parts_on (operator o) xs) before) (take_all i ps le ∙ same) h)
 
-  pub patterns_all : (kept es : List Specimen) (i : ℕ) (before after : List (Option Known)) → es ≡ kept → length es ≤ i → after ≡ before → ArePatternsOf def (take i es) before → ArePatternsOf def kept after
+  pub patterns_all : (kept es : List Specimen) (i : ℕ) (before after : List (Option SummaryParts)) → es ≡ kept → length es ≤ i → after ≡ before → ArePatternsOf def (take i es) before → ArePatternsOf def kept after
   patterns_all kept es i before after same le e h =
       subst (ArePatternsOf def kept) (sym e) (subst (λ xs. ArePatternsOf def xs before) (take_all i es le ∙ same) h)

@@ -1,19 +1,19 @@
 -- The first hole place by its hole row and case, or by its declare row.
 use Rattle.std.proofs.Common.{◌≡◌, inl, inr, ℕ, ◌<◌, ◌^◌, length, Some, slice_get, refl, arith}
 use Rattle.std.proofs.lemmas.Bool.{cases_lt}
+use Rattle.std.proofs.lemmas.Option.{slice_get_within}
+use Rattle.psg_terms.proofs.Lists.{each_at}
 use Rattle.psg_grammar.specs.declared.types.Case.{Case}
 use Rattle.psg_grammar.specs.declared.types.HoleRow.{HoleRow}
 use Rattle.psg_grammar.specs.declared.types.DeclareRow.{DeclareRow}
 use Rattle.psg_grammar.specs.declared.types.Definition.{Definition}
 use Rattle.psg_grammar.specs.Sound.{IsSound, IsHoleRow}
-use Rattle.psg_grammar.proofs.SoundParts.{each_at}
 use Rattle.psg_specimen.specs.Refusal.{IsFirstOfThree, IsFirstOfTwo, IsFirstPlace, IsSiteBefore}
 use Rattle.psg_specimen.specs.Wanted.{IsWantedPlace, Wants}
 use Rattle.psg_specimen.specs.declared.fault.Site.{Site}
 use Rattle.psg_specimen.specs.declared.fault.Site.TheVariants as sites
 use Rattle.psg_specimen.specs.declared.places.Wanted.{Wanted}
 use Rattle.psg_specimen.specs.declared.places.Wanted.TheVariants as wanted
-use Rattle.psg_specimen.proofs.Firsts.{get_inside}
 use Rattle.psg_specimen.proofs.InRange.{inside}
 
 module _ (def : Definition) where
@@ -73,7 +73,7 @@ module _ (def : Definition) where
   case_in sound w r c h fails = elim (cases_lt c (2 ^ 32)) [
     | inl lt ↦ lt
     | inr le ↦ absurd (fails (λ row at one there. absurd (
-        let lt = get_inside row.cases c one there in
+        let lt = slice_get_within row.cases c one there in
         let few = (each_at (IsHoleRow def) def.hole_rows sound.hole_rows r row at).few_cases in omega (arith, le, lt, few))))
   ]
 

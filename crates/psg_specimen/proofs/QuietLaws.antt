@@ -4,6 +4,7 @@ use Rattle.std.specs.Prelude.{◌↔◌, IfSome}
 use Rattle.std.specs.List.{AllByRecursion}
 use Rattle.std.specs.declared.alloc.Global.{Global}
 use Rattle.std.proofs.lemmas.Bool.{cases_Bool}
+use Rattle.psg_terms.proofs.Lists.{slice_get_item, slice_get_once}
 use Rattle.psg_grammar.specs.declared.types.Kind.{Kind}
 use Rattle.psg_grammar.specs.declared.types.Kind.TheVariants as kinds
 use Rattle.psg_grammar.specs.declared.types.Item.{Item}
@@ -17,7 +18,7 @@ use Rattle.psg_specimen.specs.Conditions.{IsQuiet, IsQuietSlot, slot_kinds}
 use Rattle.psg_specimen.specs.Refusal.{IsFirstOfTwo}
 use Rattle.psg_specimen.specs.Tables.{AreTables, AreKinds}
 use Rattle.psg_specimen.specs.Walks.{Finds}
-use Rattle.psg_specimen.proofs.Firsts.{At, get_same, read}
+use Rattle.psg_covering.proofs.Firsts.{At}
 
 pub quiet_by : (def : Definition) (p : ℕ) (xs : List ℕ) → ((s : ℕ) → Contains xs s ↔ (is_declaring def s (kinds.Phylum p) ≡ true))
     → (xs ≡ [] → IsQuiet def (kinds.Phylum p)) × (IsQuiet def (kinds.Phylum p) → xs ≡ [])
@@ -71,12 +72,12 @@ module _ (def : Definition) where
   pub loud_first : (ops : List Operator) → ops ≡ def.operators → (i : ℕ) (op : Operator) → i < length ops → op ≡ get_or ops i op → (slots : List Kind) → slots ≡ slot_kinds op.items → (slot : ℕ)
       → Finds (At slots (IsQuiet def)) (Some slot) → ((m : ℕ) → m < i → At ops AllQuiet m) → IsFirstOfTwo (IsQuietSlot def) i slot
   loud_first ops e i op lt is slots same slot (loud, before) h =
-      let at : slice_get def.operators i ≡ Some op = ap (λ l. slice_get l i) (sym e) ∙ read ops i op lt is in (
+      let at : slice_get def.operators i ≡ Some op = ap (λ l. slice_get l i) (sym e) ∙ slice_get_item ops i op lt is in (
         λ q. loud (λ kind there. q op at kind (ap (λ l. slice_get l slot) (sym same) ∙ there)),
         λ m j b. elim b [
           | inl less ↦ (λ o there kind k. h m less o (ap (λ l. slice_get l m) e ∙ there) j kind k)
           | inr eq ↦ (λ o there kind k.
-              let one : op ≡ o = get_same def.operators i op o at (ap (slice_get def.operators) (sym eq.0) ∙ there) in
+              let one : op ≡ o = slice_get_once def.operators i op o at (ap (slice_get def.operators) (sym eq.0) ∙ there) in
               before j eq.1 kind (ap (λ l. slice_get l j) same ∙ ap (λ (q : Operator). slice_get (slot_kinds q.items) j) one ∙ k))
         ],
       )

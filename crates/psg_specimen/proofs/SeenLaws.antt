@@ -1,5 +1,6 @@
 -- The values at the hole places of a tree: how many there are, and of which sorts.
 use Rattle.std.proofs.Common.{◌≡◌, inl, inr, ℕ, suc, ◌+◌, true, false, List, [], ◌∷◌, ◌++◌, length, Some, slice_get, refl, ap, sym, ◌∙◌, subst, append_assoc, arith}
+use Rattle.psg_terms.proofs.Lists.{each_at}
 use Rattle.psg_terms.specs.Terms.{Term}
 use Rattle.psg_terms.specs.Signature.{HasSort, HaveSorts}
 use Rattle.psg_terms.proofs.OneRelation.{takes_once}
@@ -17,7 +18,7 @@ use Rattle.psg_grammar.specs.Legal.{Entities}
 use Rattle.psg_grammar.specs.Open.{Choice, Holds, IsOfOperatorRow, IsOfCellRow}
 use Rattle.psg_grammar.specs.Placed.{FitsPlaces}
 use Rattle.psg_grammar.specs.Sound.{IsSound, IsRow, HasKindSort, AreColumns}
-use Rattle.psg_grammar.proofs.SoundParts.{each_at, operator_sound, list_sound}
+use Rattle.psg_grammar.proofs.SoundParts.{operator_sound, list_sound}
 use Rattle.psg_completions.proofs.RowValues.{one_sort}
 use Rattle.psg_eval.specs.Trees.{seen_in}
 

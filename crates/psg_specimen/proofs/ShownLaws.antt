@@ -27,7 +27,7 @@ use Rattle.psg_grammar.specs.Specimens.{tree_of, holes_of}
 use Rattle.psg_completions.specs.General.{term_at, terms_at, Shows, IsGeneralCase}
 use Rattle.psg_completions.proofs.RowValues.{one_sort}
 use Rattle.psg_relation.specs.Choices.{picked}
-use Rattle.psg_eval.specs.declared.summary.Known.{Known}
+use Rattle.psg_eval.specs.declared.summary.SummaryParts.{SummaryParts}
 use Rattle.psg_eval.specs.Summaries.{IsSummary, IsSummaryOf}
 use Rattle.psg_eval.specs.Walks.{run}
 use Rattle.psg_eval.proofs.Uniqueness.{with_sorts}
@@ -58,12 +58,12 @@ module _ (def : Definition) (sound : IsSound def) where
   not_place f k kind h e = subst (λ x. IsOfKind def x k) e h
 
   -- what is known of a specimen and its pattern
-  pub record HasPattern (kind : Kind) (specimen : Specimen) (s : Known) : Type 0 where
+  pub record HasPattern (kind : Kind) (specimen : Specimen) (s : SummaryParts) : Type 0 where
     pub whole : IsSpecimen def kind specimen
     pub of : IsSummaryOf def (tree_of specimen) s
     pub usual : IsSummary def s
 
-  module _ (kind : Kind) (specimen : Specimen) (s : Known) (h : HasPattern kind specimen s) where
+  module _ (kind : Kind) (specimen : Specimen) (s : SummaryParts) (h : HasPattern kind specimen s) where
     abbrev pub many : ℕ
     many = length (holes_of specimen) + 1
 

@@ -1,6 +1,6 @@
 -- The order of the conditions: where one fails, all before it hold.
 use Rattle.std.proofs.Common.{◌≡◌, inl, inr, ℕ, zero, suc, ◌<◌, sym, subst, arith}
-use Rattle.std.proofs.lemmas.Bool.{cases_lt}
+use Rattle.std.proofs.lemmas.Bool.{cases_lt, cases_eq}
 use Rattle.psg_grammar.specs.declared.types.Kind.{Kind}
 use Rattle.psg_grammar.specs.declared.types.Kind.TheVariants as kinds
 use Rattle.psg_grammar.specs.declared.types.Definition.{Definition}
@@ -21,7 +21,6 @@ use Rattle.psg_specimen.specs.declared.fault.Site.{Site}
 use Rattle.psg_specimen.specs.declared.fault.Site.TheVariants as sites
 use Rattle.psg_specimen.specs.declared.fault.AcceptFault.{AcceptFault}
 use Rattle.psg_specimen.specs.declared.fault.AcceptFault.TheVariants as faults
-use Rattle.psg_specimen.proofs.Firsts.{number_cases}
 
 -- the number of the condition that fails
 abbrev pub stage : AcceptFault → ℕ
@@ -67,7 +66,7 @@ module _ (def : Definition) where
 
   earlier : (n m : ℕ) → Before n → m < n → Condition m
   earlier zero m h lt = absurd (omega (arith, lt))
-  earlier (suc n) m h lt = elim (number_cases m n) [ inl e ↦ subst Condition (sym e) h.1 | inr ne ↦ earlier n m h.0 (omega (arith, lt, ne)) ]
+  earlier (suc n) m h lt = elim (cases_eq m n) [ inl e ↦ subst Condition (sym e) h.1 | inr ne ↦ earlier n m h.0 (omega (arith, lt, ne)) ]
 
   before1 : IsClass def → Before 1
   before1 k = (tt, k)
@@ -183,7 +182,7 @@ module _ (def : Definition) where
 
   -- two refusals are of one condition
   pub one_stage : (f g : AcceptFault) → IsRefusal def f → IsRefusal def g → stage f ≡ stage g
-  one_stage f g h k = elim (number_cases (stage f) (stage g)) [
+  one_stage f g h k = elim (cases_eq (stage f) (stage g)) [
     | inl e ↦ e
     | inr ne ↦ elim (cases_lt (stage f) (stage g)) [
       | inl lt ↦ absurd (refuted f h (earlier (stage g) (stage f) (passed g k) lt))

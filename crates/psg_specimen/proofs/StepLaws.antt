@@ -1,6 +1,7 @@
 -- No step of a tree passes the limit where none of its children and none of its own does, and one does where one of these does.
 use Rattle.std.proofs.Common.{◌≡◌, ◌⊎◌, inl, inr, ℕ, zero, suc, ◌+◌, ◌≤◌, false, List, [], ◌∷◌, ◌++◌, length, refl, subst, arith}
-use Rattle.psg_terms.specs.Relations.{IsIn, first, later}
+use Rattle.psg_terms.proofs.Lists.{in_either, in_left, in_right}
+use Rattle.psg_terms.specs.Relations.{first, later}
 use Rattle.psg_grammar.specs.declared.types.SpecimenPart.{SpecimenPart, Sub, Name, Number, Text}
 use Rattle.psg_grammar.specs.declared.types.Definition.{Definition}
 use Rattle.psg_grammar.specs.Fragments.{Fragment, hole, ending, cell, operator, with_child, with_name, with_number, with_text, anything, observed, children_of}
@@ -9,20 +10,6 @@ use Rattle.psg_grammar.specs.Specimens.{tree_of, part_of}
 use Rattle.psg_grammar.specs.Steps.{Place, PassesAt, last_step, steps_up_to, own_steps, list_steps, steps_of, steps_below}
 use Rattle.psg_eval.specs.Summaries.{IsFirstPassing, StaysWithin}
 use Rattle.psg_specimen.specs.Patterns.{parts_on, AreLight, HasWide, IsLight, IsWideTree, IsLightBelow, IsWideBelow, IsLightList, IsWideList}
-
-in_either : {X : Type 0} (x : X) (xs ys : List X) → IsIn x (xs ++ ys) → IsIn x xs ⊎ IsIn x ys
-in_either x [] ys h = inr h
-in_either x (y ∷ xs) ys first = inl first
-in_either x (y ∷ xs) ys (later h) = elim (in_either x xs ys h) [ inl a ↦ inl (later a) | inr b ↦ inr b ]
-
-in_left : {X : Type 0} (x : X) (xs ys : List X) → IsIn x xs → IsIn x (xs ++ ys)
-in_left x [] ys h = elim h [ ]
-in_left x (y ∷ xs) ys first = first
-in_left x (y ∷ xs) ys (later h) = later (in_left x xs ys h)
-
-in_right : {X : Type 0} (x : X) (xs ys : List X) → IsIn x ys → IsIn x (xs ++ ys)
-in_right x [] ys h = h
-in_right x (y ∷ xs) ys h = later (in_right x xs ys h)
 
 -- an operator with parts
 abbrev pub IsSpine : Fragment → Type 0

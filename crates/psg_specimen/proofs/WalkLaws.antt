@@ -2,6 +2,8 @@
 use Rattle.std.proofs.Common.{◌≡◌, ◌↔◌, ◌⊎◌, inl, inr, ℕ, ◌+◌, ◌<◌, ◌≤◌, ◌^◌, Bool, true, false, cond, List, [], length, get_or, Option, Some, None, slice_get, refl, sym, ap, ◌∙◌, subst, arith, true≢false}
 use Rattle.std.specs.Prelude.{IsTrue, MatchOption, Err}
 use Rattle.std.proofs.lemmas.Bool.{cases_lt}
+use Rattle.std.proofs.lemmas.Option.{slice_get_within}
+use Rattle.psg_terms.proofs.Lists.{each_at, slice_get_item, slice_get_once}
 use Rattle.psg_grammar.specs.declared.types.Case.{Case}
 use Rattle.psg_grammar.specs.declared.types.HoleRow.{HoleRow}
 use Rattle.psg_grammar.specs.declared.types.DeclareRow.{DeclareRow}
@@ -9,9 +11,8 @@ use Rattle.psg_grammar.specs.declared.types.Specimen.{Specimen}
 use Rattle.psg_grammar.specs.declared.types.Definition.{Definition}
 use Rattle.psg_grammar.specs.Sound.{IsSound, IsHoleRow, IsCase}
 use Rattle.psg_grammar.specs.Specimens.{tree_of}
-use Rattle.psg_grammar.proofs.SoundParts.{each_at}
 use Rattle.psg_completions.specs.General.{IsGeneralCase, IsGeneralDeclare}
-use Rattle.psg_eval.specs.declared.summary.Known.{Known}
+use Rattle.psg_eval.specs.declared.summary.SummaryParts.{SummaryParts}
 use Rattle.psg_eval.specs.declared.summary.EvalFault.TheVariants as faults
 use Rattle.psg_specimen.specs.Conditions.{IsNarrow}
 use Rattle.psg_specimen.specs.Patterns.{IsPatternFor, IsPatternOf}
@@ -21,7 +22,6 @@ use Rattle.psg_specimen.specs.declared.fault.Site.{Site}
 use Rattle.psg_specimen.specs.declared.fault.Site.TheVariants as sites
 use Rattle.psg_specimen.specs.declared.unshown.Flaw.{Flaw}
 use Rattle.psg_specimen.specs.declared.unshown.Flaw.TheVariants as flaws
-use Rattle.psg_specimen.proofs.Firsts.{get_inside, get_same, read}
 
 flaw_same : (N M G H : Type 0) → (N → M) → (M → N) → (G → H) → (H → G) → (flaw : Option Flaw) → HasFlaw N G flaw → HasFlaw M H flaw
 flaw_same N M G H f g p q None h = (f h.0, p h.1)
@@ -37,7 +37,7 @@ less_or_same : (m n : ℕ) → m < n + 1 → (m < n) ⊎ (m ≡ n)
 less_or_same m n lt = elim (cases_lt m n) [ inl a ↦ inl a | inr b ↦ inr (omega (arith, lt, b)) ]
 
 module _ (def : Definition) where
-  pub narrow_of : (s : Specimen) (c : Option Known) → IsPatternOf def (tree_of s) c → IsNarrow def s
+  pub narrow_of : (s : Specimen) (c : Option SummaryParts) → IsPatternOf def (tree_of s) c → IsNarrow def s
   narrow_of s c h w = h.light [] w.0 w.1 w.2
 
   pub wide_of : (s : Specimen) (step : ℕ) → IsPatternFor def (tree_of s) (Err (faults.Wide step)) → IsNarrow def s → ⊥
@@ -97,9 +97,9 @@ module _ (def : Definition) where
   module _ (r : ℕ) (whole : HoleRow) (at : slice_get def.hole_rows r ≡ Some whole) where
     to_case : (P : Case → Type 0) (c : ℕ) (one : Case) → slice_get whole.cases c ≡ Some one → P one → CaseAt def r c P
     to_case P c one there p row at' other there' =
-        let same : row ≡ whole = get_same def.hole_rows r row whole at' at in
+        let same : row ≡ whole = slice_get_once def.hole_rows r row whole at' at in
         let here : slice_get whole.cases c ≡ Some other = subst (λ (x : HoleRow). slice_get x.cases c ≡ Some other) same there' in
-        subst P (get_same whole.cases c one other there here) p
+        subst P (slice_get_once whole.cases c one other there here) p
 
     flaw_at : (c : ℕ) (one : Case) (flaw : Option Flaw) → slice_get whole.cases c ≡ Some one → HasFlaw (IsNarrow def one.specimen) (IsGeneralCase def one) flaw → HasFlaw (IsNarrowAt def (sites.Hole r c)) (IsGeneralAt def (sites.Hole r c)) flaw
     flaw_at c one flaw there h =
@@ -109,20 +109,20 @@ module _ (def : Definition) where
     pub case_next : (cases : List Case) (i : ℕ) (one : Case) (site : Site) (weak : Option Site) (flaw : Option Flaw) → whole.cases ≡ cases → i < length cases → one ≡ get_or cases i one → site ≡ sites.Hole r i
         → HasFlaw (IsNarrow def one.specimen) (IsGeneralCase def one) flaw → (flaw ≡ Some flaws.Large → ⊥) → IsUpTo def (Some (sites.Hole r i)) weak → IsUpTo def (Some (sites.Hole r (i + 1))) (noted weak flaw site)
     case_next cases i one site weak flaw same lt e is h n up =
-        let there : slice_get whole.cases i ≡ Some one = subst (λ xs. slice_get xs i ≡ Some one) (sym same) (read cases i one lt e) in
+        let there : slice_get whole.cases i ≡ Some one = subst (λ xs. slice_get xs i ≡ Some one) (sym same) (slice_get_item cases i one lt e) in
         subst (λ s. IsUpTo def (Some (sites.Hole r (i + 1))) (noted weak flaw s)) (sym is)
         (up_next (sites.Hole r i) (Some (sites.Hole r (i + 1))) weak flaw (hole_next r i) (flaw_at i one flaw there h) n up)
 
     pub case_large : (cases : List Case) (i : ℕ) (one : Case) (site : Site) (weak : Option Site) (flaw : Option Flaw) → whole.cases ≡ cases → i < length cases → one ≡ get_or cases i one → site ≡ sites.Hole r i
         → HasFlaw (IsNarrow def one.specimen) (IsGeneralCase def one) flaw → flaw ≡ Some flaws.Large → IsUpTo def (Some (sites.Hole r i)) weak → IsFirstSite (IsNarrowAt def) site
     case_large cases i one site weak flaw same lt e is h large up =
-        let there : slice_get whole.cases i ≡ Some one = subst (λ xs. slice_get xs i ≡ Some one) (sym same) (read cases i one lt e) in
+        let there : slice_get whole.cases i ≡ Some one = subst (λ xs. slice_get xs i ≡ Some one) (sym same) (slice_get_item cases i one lt e) in
         subst (IsFirstSite (IsNarrowAt def)) (sym is) (first_large (sites.Hole r i) weak flaw (flaw_at i one flaw there h) large up)
 
     no_case : (P : Case → Type 0) (d : ℕ) → length whole.cases ≤ d → CaseAt def r d P
     no_case P d le row at' one there =
-        let same : row ≡ whole = get_same def.hole_rows r row whole at' at in
-        let lt = get_inside whole.cases d one (subst (λ (x : HoleRow). slice_get x.cases d ≡ Some one) same there) in
+        let same : row ≡ whole = slice_get_once def.hole_rows r row whole at' at in
+        let lt = slice_get_within whole.cases d one (subst (λ (x : HoleRow). slice_get x.cases d ≡ Some one) same there) in
         absurd (omega (arith, le, lt))
 
     pub cases_done : (cases : List Case) (n : ℕ) (weak : Option Site) → whole.cases ≡ cases → length cases ≤ n → IsUpTo def (Some (sites.Hole r n)) weak → IsUpTo def (Some (sites.Hole (r + 1) 0)) weak
@@ -147,7 +147,7 @@ module _ (def : Definition) where
   pub some_case : IsSound def → (r : ℕ) (whole : HoleRow) → slice_get def.hole_rows r ≡ Some whole → (cases : List Case) (i : ℕ) (one : Case) → whole.cases ≡ cases → i < length cases → one ≡ get_or cases i one → IsSomeCase def one
   some_case sound r whole at cases i one same lt e =
       let h = each_at (IsHoleRow def) def.hole_rows sound.hole_rows r whole at in
-      let there : slice_get whole.cases i ≡ Some one = subst (λ xs. slice_get xs i ≡ Some one) (sym same) (read cases i one lt e) in
+      let there : slice_get whole.cases i ≡ Some one = subst (λ xs. slice_get xs i ≡ Some one) (sym same) (slice_get_item cases i one lt e) in
       (whole.kind, h.sort, h.kind_sort, each_at (IsCase def whole.kind h.sort) whole.cases h.each_case i one there)
 
   pub few_cases : IsSound def → (r : ℕ) (whole : HoleRow) → slice_get def.hole_rows r ≡ Some whole → (cases : List Case) → whole.cases ≡ cases → length cases < 2 ^ 32
@@ -163,7 +163,7 @@ module _ (def : Definition) where
     none (sites.Declare k) h = h
 
   no_row : (P : Case → Type 0) (s d : ℕ) → length def.hole_rows ≤ s → CaseAt def s d P
-  no_row P s d le row at one there = let lt = get_inside def.hole_rows s row at in absurd (omega (arith, le, lt))
+  no_row P s d le row at one there = let lt = slice_get_within def.hole_rows s row at in absurd (omega (arith, le, lt))
 
   pub rows_done : (n : ℕ) (weak : Option Site) → length def.hole_rows ≤ n → IsUpTo def (Some (sites.Hole n 0)) weak → IsUpTo def (Some (sites.Declare 0)) weak
   rows_done n weak le up = up_skip (sites.Hole n 0) (Some (sites.Declare 0)) weak skip up where
@@ -181,7 +181,7 @@ module _ (def : Definition) where
   declare_next k (sites.Declare j) lt = elim (less_or_same j k lt) [ inl a ↦ inl a | inr e ↦ inr (ap sites.Declare e) ]
 
   to_declare : (P : DeclareRow → Type 0) (k : ℕ) (d : DeclareRow) → slice_get def.declare_rows k ≡ Some d → P d → DeclareAt def k P
-  to_declare P k d at p other there = subst P (get_same def.declare_rows k d other at there) p
+  to_declare P k d at p other there = subst P (slice_get_once def.declare_rows k d other at there) p
 
   declare_flaw : (k : ℕ) (d : DeclareRow) (flaw : Option Flaw) → slice_get def.declare_rows k ≡ Some d → HasFlaw (IsNarrow def d.specimen) (IsGeneralDeclare def d) flaw → HasFlaw (IsNarrowAt def (sites.Declare k)) (IsGeneralAt def (sites.Declare k)) flaw
   declare_flaw k d flaw at h =
@@ -191,20 +191,20 @@ module _ (def : Definition) where
   pub next_declare : (rows : List DeclareRow) (k : ℕ) (d : DeclareRow) (site : Site) (weak : Option Site) (flaw : Option Flaw) → rows ≡ def.declare_rows → k < length rows → d ≡ get_or rows k d → site ≡ sites.Declare k
       → HasFlaw (IsNarrow def d.specimen) (IsGeneralDeclare def d) flaw → (flaw ≡ Some flaws.Large → ⊥) → IsUpTo def (Some (sites.Declare k)) weak → IsUpTo def (Some (sites.Declare (k + 1))) (noted weak flaw site)
   next_declare rows k d site weak flaw same lt e is h n up =
-      let at : slice_get def.declare_rows k ≡ Some d = subst (λ xs. slice_get xs k ≡ Some d) same (read rows k d lt e) in
+      let at : slice_get def.declare_rows k ≡ Some d = subst (λ xs. slice_get xs k ≡ Some d) same (slice_get_item rows k d lt e) in
       subst (λ s. IsUpTo def (Some (sites.Declare (k + 1))) (noted weak flaw s)) (sym is)
       (up_next (sites.Declare k) (Some (sites.Declare (k + 1))) weak flaw (declare_next k) (declare_flaw k d flaw at h) n up)
 
   pub large_declare : (rows : List DeclareRow) (k : ℕ) (d : DeclareRow) (site : Site) (weak : Option Site) (flaw : Option Flaw) → rows ≡ def.declare_rows → k < length rows → d ≡ get_or rows k d → site ≡ sites.Declare k
       → HasFlaw (IsNarrow def d.specimen) (IsGeneralDeclare def d) flaw → flaw ≡ Some flaws.Large → IsUpTo def (Some (sites.Declare k)) weak → IsFirstSite (IsNarrowAt def) site
   large_declare rows k d site weak flaw same lt e is h large up =
-      let at : slice_get def.declare_rows k ≡ Some d = subst (λ xs. slice_get xs k ≡ Some d) same (read rows k d lt e) in
+      let at : slice_get def.declare_rows k ≡ Some d = subst (λ xs. slice_get xs k ≡ Some d) same (slice_get_item rows k d lt e) in
       subst (IsFirstSite (IsNarrowAt def)) (sym is) (first_large (sites.Declare k) weak flaw (declare_flaw k d flaw at h) large up)
 
   pub all_done : (n : ℕ) (weak : Option Site) → length def.declare_rows ≤ n → IsUpTo def (Some (sites.Declare n)) weak → IsUpTo def None weak
   all_done n weak le up = up_skip (sites.Declare n) None weak skip up where
     none : (P : DeclareRow → Type 0) (j : ℕ) → length def.declare_rows ≤ j → DeclareAt def j P
-    none P j m d at = let lt = get_inside def.declare_rows j d at in absurd (omega (arith, m, lt))
+    none P j m d at = let lt = slice_get_within def.declare_rows j d at in absurd (omega (arith, m, lt))
 
     skip : (t : Site) → Unit {0} → IsSiteBefore t (sites.Declare n) ⊎ (IsNarrowAt def t × IsGeneralAt def t)
     skip (sites.Hole s d) h = inl tt

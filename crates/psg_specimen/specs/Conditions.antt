@@ -1,6 +1,6 @@
 -- The conditions of acceptance after the grammar class, in the order in which they are tested, each by what holds. So
 -- an accepted definition has the rows that cover and the choices that show.
-use Rattle.std.specs.Prelude.{ℕ, ◌≡◌, true, false, List, [], ◌∷◌, slice_get, Some}
+use Rattle.std.specs.Prelude.{ℕ, ◌≡◌, true, List, [], ◌∷◌, slice_get, Some}
 use Rattle.std.specs.List.{AllByRecursion}
 use Rattle.psg_terms.specs.Terms.{Term}
 use Rattle.psg_grammar.specs.declared.types.Kind.{Kind}
@@ -11,7 +11,7 @@ use Rattle.psg_grammar.specs.declared.types.Operator.{Operator}
 use Rattle.psg_grammar.specs.declared.types.HoleRow.{HoleRow}
 use Rattle.psg_grammar.specs.declared.types.Specimen.{Specimen}
 use Rattle.psg_grammar.specs.declared.types.Definition.{Definition}
-use Rattle.psg_grammar.specs.Declaring.{is_declaring}
+use Rattle.psg_grammar.specs.Declaring.{HasHoles}
 use Rattle.psg_grammar.specs.Kinds.{HasKind}
 use Rattle.psg_grammar.specs.Specimens.{tree_of}
 use Rattle.psg_grammar.specs.Steps.{IsWide}
@@ -45,7 +45,7 @@ module _ (def : Definition) where
 
   -- a list may declare, and a phylum in no space
   abbrev pub IsQuiet : Kind → Type 0
-  IsQuiet (kinds.Phylum p) = (s : ℕ) → is_declaring def s (kinds.Phylum p) ≡ false
+  IsQuiet (kinds.Phylum p) = HasHoles def (kinds.Phylum p)
   IsQuiet (kinds.List l) = Unit {0}
 
   abbrev pub IsQuietSlot : ℕ → ℕ → Type 0

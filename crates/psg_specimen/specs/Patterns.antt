@@ -13,7 +13,7 @@ use Rattle.psg_grammar.specs.Paths.{Path}
 use Rattle.psg_grammar.specs.Placed.{FitsPlaces}
 use Rattle.psg_grammar.specs.Specimens.{tree_of, part_of}
 use Rattle.psg_grammar.specs.Steps.{Place, PassesAt, list_steps, steps_of, steps_below}
-use Rattle.psg_eval.specs.declared.summary.Known.{Known}
+use Rattle.psg_eval.specs.declared.summary.SummaryParts.{SummaryParts}
 use Rattle.psg_eval.specs.declared.summary.EvalFault.{EvalFault}
 use Rattle.psg_eval.specs.declared.summary.EvalFault.TheVariants as faults
 use Rattle.psg_eval.specs.Patterns.{IsChildOf, SuitsKind}
@@ -80,24 +80,24 @@ module _ (def : Definition) where
   -- ---- patterns: what is known of a tree by its steps, or that it is a place alone
 
   -- what every pattern is, whatever its tree
-  abbrev pub IsUsual : Option Known → Type 0
+  abbrev pub IsUsual : Option SummaryParts → Type 0
   IsUsual (Some s) = IsSummary def s
   IsUsual None = Unit {0}
 
   -- the pattern is that of the tree, and no step of the tree passes the limit
-  pub record IsPatternOf (f : Fragment) (c : Option Known) : Type 0 where
+  pub record IsPatternOf (f : Fragment) (c : Option SummaryParts) : Type 0 where
     pub child : IsChildOf def f c
     pub usual : IsUsual c
     pub light : IsLight f
 
   -- the tree's pattern; or some step of the tree passes the limit; or out of memory
-  abbrev pub IsPatternFor : Fragment → Result (Option Known) EvalFault → Type 0
+  abbrev pub IsPatternFor : Fragment → Result (Option SummaryParts) EvalFault → Type 0
   IsPatternFor f (Ok c) = IsPatternOf f c
   IsPatternFor f (Err (faults.Wide step)) = IsWideTree f
   IsPatternFor f (Err faults.Memory) = Unit {0}
 
   -- the patterns of these specimens, in order
-  abbrev pub ArePatternsOf : List Specimen → List (Option Known) → Type 0
+  abbrev pub ArePatternsOf : List Specimen → List (Option SummaryParts) → Type 0
   ArePatternsOf [] [] = Unit {0}
   ArePatternsOf [] (c ∷ cs) = ⊥
   ArePatternsOf (s ∷ ss) [] = ⊥
@@ -106,8 +106,8 @@ module _ (def : Definition) where
   -- ---- the parts of an operator
 
   -- a specimen as a part adds its pattern to those of the children, and another part adds none
-  abbrev pub AddsPart : SpecimenPart → List (Option Known) → List (Option Known) → Type 0
-  AddsPart (Sub s) before after = (c : Option Known) × (after ≡ before ++ c ∷ []) × IsPatternOf (tree_of s) c
+  abbrev pub AddsPart : SpecimenPart → List (Option SummaryParts) → List (Option SummaryParts) → Type 0
+  AddsPart (Sub s) before after = (c : Option SummaryParts) × (after ≡ before ++ c ∷ []) × IsPatternOf (tree_of s) c
   AddsPart (Name n) before after = after ≡ before
   AddsPart (Number n) before after = after ≡ before
   AddsPart (Text t) before after = after ≡ before
@@ -123,22 +123,22 @@ module _ (def : Definition) where
   -- ---- lists
 
   -- the pattern is that of the list, or of its end
-  pub record IsListPattern (f : Fragment) (c : Option Known) : Type 0 where
+  pub record IsListPattern (f : Fragment) (c : Option SummaryParts) : Type 0 where
     pub child : IsChildOf def f c
     pub light : IsLightList f
 
-  abbrev pub IsListFor : Fragment → Result (Option Known) EvalFault → Type 0
+  abbrev pub IsListFor : Fragment → Result (Option SummaryParts) EvalFault → Type 0
   IsListFor f (Ok c) = IsListPattern f c
   IsListFor f (Err (faults.Wide step)) = IsWideList f
   IsListFor f (Err faults.Memory) = Unit {0}
 
   -- the child may be an element of the list, which is there
-  abbrev pub SuitsElement : ℕ → Option Known → Type 0
+  abbrev pub SuitsElement : ℕ → Option SummaryParts → Type 0
   SuitsElement l c = (list : ListKind) × (slice_get def.lists l ≡ Some list)
       × SuitsKind def c (kinds.Phylum list.element)
 
   -- the child may be what follows an element of the list
-  abbrev pub SuitsRest : ℕ → Option Known → Type 0
+  abbrev pub SuitsRest : ℕ → Option SummaryParts → Type 0
   SuitsRest l (Some s) = (s.kind ≡ kinds.List l) × IsSummary def s
   SuitsRest l None = Unit {0}
 

@@ -1,10 +1,10 @@
 //! Whether the term of a hole place is an instance of a hole row.
-ghost use Rattle.std.specs.Prelude.{◌≡◌, ◌↔◌, ◌∷◌, [], IfOk, IsTrue, false};
+ghost use Rattle.std.specs.Prelude.{◌↔◌, ◌∷◌, [], IfOk, IsTrue, false};
 ghost use Rattle.psg_terms.specs.Instances.{IsInstance};
 ghost use Rattle.psg_completions.specs.Places.{IsOfOneRow};
 ghost use Rattle.psg_specimen.specs.Wanted.{IsOfRow};
 
-use psg_grammar::{Definition, HoleRow, Kind, SpecimenHole};
+use psg_grammar::{Definition, HoleRow, SpecimenHole, same_kind};
 use psg_terms::matching::is_instance;
 use psg_terms::{Node, Term};
 use std::alloc::{AllocError, Global};
@@ -38,21 +38,6 @@ fn is_of_row(alloc: Global, place: &SpecimenHole, row: &HoleRow) -> Result<bool,
     }
     let instance = is_made_of(alloc, &place.term, &row.term)?;
     Ok(instance)
-}
-
-fn same_kind(a: Kind, b: Kind) -> bool
-    ensures { IsTrue result ↔ (a ≡ b) }
-{
-    match a {
-        Kind::Phylum(number) => match b {
-            Kind::Phylum(other) => number == other,
-            Kind::List(_) => false,
-        },
-        Kind::List(number) => match b {
-            Kind::List(other) => number == other,
-            Kind::Phylum(_) => false,
-        },
-    }
 }
 
 /// Tests whether the special term is an instance of the general one. Two terms of different constructors cost nothing.

@@ -1,19 +1,18 @@
 //! An accepted definition with what an editor makes of it once.
-ghost use Rattle.std.specs.Prelude.{◌≡◌, ◌++◌, ◌↔◌, IfOk, IsTrue, OnOk};
+ghost use Rattle.std.specs.Prelude.{◌≡◌, ◌↔◌, IfOk, IsTrue};
 ghost use Rattle.std.specs.List.{AllByRecursion};
 ghost use Rattle.psg_grammar.specs.Sound.{IsSound};
-ghost use Rattle.psg_grammar.specs.WellFormed.{fixed_words as fixed_words_of, separators, words_in};
+ghost use Rattle.psg_grammar.specs.WellFormed.{fixed_words as fixed_words_of};
 ghost use Rattle.psg_grammar.specs.Kinds.{HasKind};
 ghost use Rattle.psg_lexis.specs.Tokens.{IsFixedWord};
 ghost use Rattle.psg_parse.specs.Tables.{IsParseTable};
-ghost use Rattle.psg_specimen.specs.Languages.{IsDeclaringPhylum, IsLanguage, IsMadeOf};
+ghost use Rattle.psg_specimen.specs.Languages.{IsDeclaringPhylum, IsLanguage, AreLanguageTables};
 ghost use Rattle.psg_specimen.specs.Refusal.{IsAccepted};
 
 use psg_eval::Tables;
-use psg_grammar::{Definition, Item, Kind, ListKind};
+use psg_grammar::{Definition, Kind};
 use psg_lexis::Lexis;
-use psg_parse::ParseTable;
-use psg_terms::Txt;
+use psg_parse::{ParseTable, fixed_words};
 use std::alloc::{AllocError, Global};
 use std::marker::Model;
 
@@ -33,9 +32,16 @@ pub struct LanguageParts {
 
 /// The language of an accepted definition. Contracts see it as the definition. `accept` alone makes one, so that what
 /// it keeps belongs to the definition.
-#[derive(Drop)]
 pub struct Language {
     parts: LanguageParts,
+}
+
+// written out, so that it is proved once, and not anew in each crate where such a value is let go
+impl Drop for Language {
+    fn drop(self) {
+        let Language { parts } = self;
+        let _ = parts;
+    }
 }
 
 impl Model for Language {
@@ -52,9 +58,9 @@ impl Model for Language {
     ghost invariant = { λ l. IsLanguage l.parts };
 }
 
-/// What is made of a definition once: what evaluations look up, the fixed words, and what the parser looks up.
+/// The tables of a definition: what evaluations look up, the fixed words, and what the parser looks up.
 #[derive(Drop)]
-pub struct Made {
+pub struct LanguageTables {
     /// What evaluations look up, and for each phylum the spaces in which it declares.
     pub tables: Tables,
     /// The fixed words.
@@ -63,18 +69,18 @@ pub struct Made {
     pub table: ParseTable,
 }
 
-impl Made {
+impl LanguageTables {
     /// Walks the definition once for its words and once for the parser's table, and makes the evaluator's tables. It
     /// fails where memory runs out.
-    pub fn of(alloc: Global, definition: &Definition) -> Result<Made, AllocError>
+    pub fn of(alloc: Global, definition: &Definition) -> Result<LanguageTables, AllocError>
         requires { IsSound definition.now }
-        ensures { IfOk result (IsMadeOf definition.now) }
+        ensures { IfOk result (AreLanguageTables definition.now) }
     {
         let words = fixed_words(alloc, definition)?;
         let lexis = Lexis::new(alloc, words.as_slice())?;
         let tables = Tables::of(alloc, definition)?;
         let table = ParseTable::of(alloc, definition)?;
-        Ok(Made {
+        Ok(LanguageTables {
             tables,
             lexis,
             table,
@@ -144,38 +150,4 @@ impl LanguageParts {
             Kind::List(_) => false,
         }
     }
-}
-
-/// Returns the words of the operators in order, and then the separators of the lists.
-fn fixed_words(alloc: Global, definition: &Definition) -> Result<Vec<Txt>, AllocError>
-    ensures { IfOk result (λ found. found.items ≡ fixed_words_of definition.now) }
-{
-    let mut words = Vec::new(alloc);
-    for operator in definition.operators.as_slice() {
-        push_words(&mut words, operator.items.as_slice())?;
-    }
-    push_separators(&mut words, definition.lists.as_slice())?;
-    Ok(words)
-}
-
-/// Puts the separators of the lists after the words that are there.
-fn push_separators(words: &mut Vec<Txt>, lists: &[ListKind]) -> Result<(), AllocError>
-    ensures { OnOk result (words.new.items ≡ words.old.items ++ separators lists.now) }
-{
-    for list in lists {
-        words.push(list.separator.share()?)?;
-    }
-    Ok(())
-}
-
-/// Puts the words among the items after those that are there.
-fn push_words(words: &mut Vec<Txt>, items: &[Item]) -> Result<(), AllocError>
-    ensures { OnOk result (words.new.items ≡ words.old.items ++ words_in items.now) }
-{
-    for item in items {
-        if let Item::Word(word) = item {
-            words.push(word.share()?)?;
-        }
-    }
-    Ok(())
 }

@@ -12,7 +12,7 @@ use Rattle.psg_grammar.specs.Fragments.{anything, cell, children_of, ending, Fra
 use Rattle.psg_grammar.specs.Lookups.{part_items}
 use Rattle.psg_grammar.specs.Sound.{IsSound}
 use Rattle.psg_grammar.specs.WellFormed.{Fits, IsPlain}
-use Rattle.psg_eval.specs.declared.summary.Known.{Known}
+use Rattle.psg_eval.specs.declared.summary.SummaryParts.{SummaryParts}
 use Rattle.psg_eval.specs.Stages.{kinds_of}
 use Rattle.psg_eval.specs.Summaries.{AllSummaries, are_names, IsSummary, IsSummaryOf, slot_kinds}
 use Rattle.psg_eval.specs.Trees.{HasParts, own_names, seen_in}
@@ -89,12 +89,12 @@ module _ (def : Definition) where
     kind_is : kind ≡ kinds.Phylum op.phylum
     parts : HasParts def f more
     names : length (are_names def done) ≡ length (own_names f)
-    summaries : List Known
+    summaries : List SummaryParts
     are : AllSummaries def (children_of f) summaries
     usual : AllByRecursion (IsSummary def) summaries
     slots : kinds_of summaries ≡ slot_kinds def done
 
-  all-push : (fs : List Fragment) (ss : List Known) (f : Fragment) (s : Known) → AllSummaries def fs ss
+  all-push : (fs : List Fragment) (ss : List SummaryParts) (f : Fragment) (s : SummaryParts) → AllSummaries def fs ss
       → IsSummaryOf def f s
       → AllSummaries def (fs ++ f ∷ []) (ss ++ s ∷ [])
   all-push [] [] f s h is = (is, tt)
@@ -102,7 +102,7 @@ module _ (def : Definition) where
   all-push (g ∷ fs) [] f s h is = absurd h
   all-push (g ∷ fs) (r ∷ ss) f s h is = (h.0, all-push fs ss f s h.1 is)
 
-  usual-push : (ss : List Known) (s : Known) → AllByRecursion (IsSummary def) ss → IsSummary def s
+  usual-push : (ss : List SummaryParts) (s : SummaryParts) → AllByRecursion (IsSummary def) ss → IsSummary def s
       → AllByRecursion (IsSummary def) (ss ++ s ∷ [])
   usual-push [] s h is = (is, tt)
   usual-push (r ∷ ss) s h is = (h.0, usual-push ss s h.1 is)
@@ -124,7 +124,7 @@ module _ (def : Definition) where
       summaries = h.summaries ++ told.known ∷ [];
       are = all-push (children_of f) h.summaries t told.known h.are told.of;
       usual = usual-push h.summaries told.known h.usual told.usual;
-      slots = map-append (λ (s : Known). s.kind) h.summaries (told.known ∷ [])
+      slots = map-append (λ (s : SummaryParts). s.kind) h.summaries (told.known ∷ [])
           ∙ ap₂ (λ xs x. xs ++ x ∷ []) h.slots told.kind_is ∙ sym (slots-append def h.done (items.Slot k ∷ []));
     }
 

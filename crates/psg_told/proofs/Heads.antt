@@ -1,26 +1,19 @@
 -- Headers of parts made one, and of what passes outward: there are such headers.
-use Rattle.std.proofs.Common.{◌≡◌, inl, inr, ℕ, suc, ◌<◌, ◌==◌, ◌||◌, ◌&&◌, Bool, true, false, cond, List, [], ◌∷◌, ◌++◌, map, Some, slice_get, refl, sym, ◌∙◌, ap, subst, true≢false, arith}
+use Rattle.std.proofs.Common.{◌≡◌, inl, inr, ℕ, suc, ◌<◌, ◌==◌, ◌||◌, ◌&&◌, Bool, true, false, cond, List, [], ◌∷◌, ◌++◌, map, Some, slice_get, refl, sym, ◌∙◌, ap, subst, arith}
 use Rattle.std.specs.List.{AllByRecursion}
-use Rattle.std.proofs.lemmas.Bool.{cases_order}
-use Rattle.std.proofs.lemmas.Bool.Decides.{eqb_tells}
+use Rattle.std.proofs.lemmas.Bool.{cases_order, or_cases, eqb-true}
+use Rattle.std.proofs.Math.Bool.{or_assoc, or_self_left}
 use Rattle.psg_grammar.specs.Keys.{Key, outward}
 use Rattle.psg_scope.specs.Headers.{AreAscending, ArePlaces, has_space, IsHeader, IsOrdered, IsUnion, PassesOutward, key_of, keys}
 use Rattle.psg_scope.specs.Merging.{merge, clashes}
 use Rattle.psg_scope.specs.declared.header.Header.{Header}
 use Rattle.psg_scope.specs.declared.header.NameCol.{NameCol}
 use Rattle.psg_scope.proofs.HeaderLaws.{closed, joined, kept-rising, kept-undeclared, kept_cols, outward_keys, union_keys}
-use Rattle.psg_scope.proofs.KeyLists.{or-assoc, or-swap, or_cases}
+use Rattle.psg_scope.proofs.KeyLists.{or-swap}
 use Rattle.psg_scope.proofs.MergeLaws.{clashes-common, merge-declared, merge-rising}
 use Rattle.psg_scope.proofs.SpaceLaws.{all-has, all-of}
 
 -- ---- spaces
-
-space_is : (s t : ℕ) → (s == t) ≡ true → s ≡ t
-space_is s t e = elim (eqb_tells s t) [ inl h ↦ h.1 | inr h ↦ absurd (true≢false (sym e ∙ h.0)) ]
-
-twice : (a b : Bool) → (a || b) ≡ (a || (a || b))
-twice true b = refl
-twice false b = refl
 
 above_all : (x y : ℕ) (ys : List ℕ) → x < y → AllByRecursion (λ t. y < t) ys → AllByRecursion (λ t. x < t) ys
 above_all x y [] l h = tt
@@ -34,7 +27,7 @@ put_space x (y ∷ ys) up = elim (cases_order x y) [
   | inl same ↦ (
     y ∷ ys,
     up,
-    λ s. twice (y == s) (has_space ys s) ∙ ap (λ z. (z == s) || ((y == s) || has_space ys s)) (sym same),
+    λ s. sym (or_self_left (y == s) (has_space ys s)) ∙ ap (λ z. (z == s) || ((y == s) || has_space ys s)) (sym same),
   )
   | inr order ↦ elim order [
     | inl less ↦ (x ∷ y ∷ ys, ((less, above_all x y ys less up.0), up), λ s. refl)
@@ -43,7 +36,7 @@ put_space x (y ∷ ys) up = elim (cases_order x y) [
           y ∷ zs,
           (
             all-of (λ t. y < t) zs (λ t e. elim (or_cases (x == t) (has_space ys t) (sym (has t) ∙ e)) [
-              | inl here ↦ subst (λ z. y < z) (space_is x t here) more
+              | inl here ↦ subst (λ z. y < z) (eqb-true x t here) more
               | inr there ↦ all-has (λ z. y < z) ys t up.0 there
             ]),
             rise,
@@ -61,7 +54,7 @@ some_union (x ∷ xs) ys up =
     let (all, rises, are) = put_space x zs rise in (
       all,
       rises,
-      λ s. are s ∙ ap (λ b. (x == s) || b) (has s) ∙ sym (or-assoc (x == s) (has_space xs s)
+      λ s. are s ∙ ap (λ b. (x == s) || b) (has s) ∙ sym (or_assoc (x == s) (has_space xs s)
           (has_space ys s)),
     )
 
@@ -71,12 +64,12 @@ pub some_filtered : (test : ℕ → Bool) (xs : List ℕ)
 some_filtered test [] = ([], tt, λ s. refl)
 some_filtered test (x ∷ xs) = by (test x) refl (some_filtered test xs) where
   taken : (s : ℕ) (b h : Bool) → test x ≡ true → (x == s) ≡ b → (b || (h && test s)) ≡ ((b || h) && test s)
-  taken s true h t e = sym (ap test (sym (space_is x s e)) ∙ t)
+  taken s true h t e = sym (ap test (sym (eqb-true x s e)) ∙ t)
   taken s false h t e = refl
 
   left : (s : ℕ) (b h : Bool) → test x ≡ false → (x == s) ≡ b → (h && test s) ≡ ((b || h) && test s)
   left s true true t e = refl
-  left s true false t e = sym (ap test (sym (space_is x s e)) ∙ t)
+  left s true false t e = sym (ap test (sym (eqb-true x s e)) ∙ t)
   left s false h t e = refl
 
   by : (b : Bool) → test x ≡ b

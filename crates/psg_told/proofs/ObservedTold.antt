@@ -1,6 +1,6 @@
 -- The summary of a tree whose value is observed.
 use Rattle.std.proofs.Common.{◌≡◌, ◌↔◌, ℕ, ◌+◌, List, [], ◌∷◌, ◌++◌, length, slice_get, refl, sym, ◌∙◌, ap, subst, append-nil, length-append, arith}
-use Rattle.std.proofs.lemmas.List.{length-map}
+use Rattle.std.proofs.lemmas.List.{length-map, nil_from_length}
 use Rattle.psg_terms.specs.Relations.{IsRelation}
 use Rattle.psg_terms.specs.Signature.{HaveSorts}
 use Rattle.psg_terms.specs.Terms.{Term}
@@ -12,7 +12,7 @@ use Rattle.psg_relation.specs.Choices.{all_picked, IsProjected, picked}
 use Rattle.psg_relation.proofs.Columns.{all_sorted, projected}
 use Rattle.psg_relation.proofs.Existing.{relation_exists}
 use Rattle.psg_scope.specs.Headers.{key_of}
-use Rattle.psg_eval.specs.declared.summary.Known.{Known}
+use Rattle.psg_eval.specs.declared.summary.SummaryParts.{SummaryParts}
 use Rattle.psg_eval.specs.Reporting.{Twice}
 use Rattle.psg_eval.specs.Trees.{seen_in}
 use Rattle.psg_eval.specs.Walks.{run}
@@ -54,15 +54,11 @@ twice_same n p x w = (
       ∙ sym (picks_picked p (twice n) (cut.value ∷ p) (twice_picks p cut.value cut.others n cut.row_is w))),
 )
 
-none_of : {X : Type 0} (xs : List X) → length xs ≡ 0 → xs ≡ []
-none_of [] h = refl
-none_of (x ∷ xs) h = absurd (omega (arith, h))
-
 module _ (def : Definition) (sound : IsSound def) where
   pub observed_told : (f : Fragment) (kind : Kind) → Told def sound f kind → seen_in f ≡ 0
       → Told def sound (observed f) kind
   observed_told f kind told bare =
-      let s : Known = told.known in
+      let s : SummaryParts = told.known in
       let usual = told.usual in
       let n : ℕ = length s.header.names in
       let seen = told.of.seen in
@@ -110,7 +106,7 @@ module _ (def : Definition) (sound : IsSound def) where
           keys_sorted = usual.keys_sorted;
           sorted = λ row i.
               subst (λ z. HaveSorts def.signature row z)
-              (sorts ∙ ap (λ l. usual.sort ∷ (usual.sort ∷ l) ++ usual.key_sorts) (none_of usual.seen none))
+              (sorts ∙ ap (λ l. usual.sort ∷ (usual.sort ∷ l) ++ usual.key_sorts) (nil_from_length usual.seen none))
               ((r.shapes row i).sorted);
         };
       }

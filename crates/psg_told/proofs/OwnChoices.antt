@@ -1,6 +1,8 @@
 -- The rows of an operator in which positions with one key agree are the own rows of its nodes.
-use Rattle.std.proofs.Common.{◌≡◌, ℕ, ◌<◌, ◌≤◌, suc, zero, false, List, [], ◌∷◌, ◌++◌, map, length, All, refl, ap, sym, ◌∙◌, subst, Option, Some, slice_get, arith}
+use Rattle.std.proofs.Common.{◌≡◌, ℕ, ◌<◌, suc, zero, false, List, [], ◌∷◌, ◌++◌, map, length, All, refl, ap, sym, ◌∙◌, subst, Option, Some, slice_get, arith}
 use Rattle.std.proofs.lemmas.List.{length-map}
+use Rattle.psg_eval.proofs.OwnSelect.{slot_few, slot_count}
+use Rattle.psg_terms.proofs.Lists.{each_at}
 use Rattle.psg_terms.specs.Names.{Name}
 use Rattle.psg_terms.specs.Terms.{Term}
 use Rattle.psg_terms.specs.Signature.{HaveSorts}
@@ -9,12 +11,10 @@ use Rattle.psg_terms.specs.Relations.{IsIn, first, later, IsRelation}
 use Rattle.psg_grammar.specs.Keys.{Key, in_order}
 use Rattle.psg_grammar.specs.Sound.{AreColumns, IsOperator, IsRow}
 use Rattle.psg_grammar.specs.declared.types.Definition.{Definition}
-use Rattle.psg_grammar.specs.declared.types.Item.{Item}
 use Rattle.psg_grammar.specs.declared.types.Item.TheVariants as items
 use Rattle.psg_grammar.specs.declared.types.Kind.TheVariants as kinds
 use Rattle.psg_grammar.specs.declared.types.Operator.{Operator}
 use Rattle.psg_grammar.specs.declared.types.Row.{Row}
-use Rattle.psg_grammar.proofs.SoundParts.{each_at}
 use Rattle.psg_unify.specs.Pairs.{Pair as Columns, AgreeOn, AreOfEqualSort}
 use Rattle.psg_relation.specs.Choices.{AllHaveSorts, AllWithin, IsSelected, picked}
 use Rattle.psg_relation.proofs.Relating.{carried}
@@ -62,20 +62,6 @@ at_row : (rows : List Row) (r : ℕ) (w : Row) → slice_get rows r ≡ Some w �
 at_row [] r w e = absurd (cc)
 at_row (v ∷ rows) zero w e = let d : v ≡ w = cc in subst (λ z. IsIn (whole_row z) (map whole_row (v ∷ rows))) d first
 at_row (v ∷ rows) (suc r) w e = later (at_row rows r w e)
-
-slot_count : (def : Definition) (xs : List Item) (n : ℕ) → length (slot_columns n xs) ≡ length (slot_kinds def xs)
-slot_count def [] n = refl
-slot_count def (items.Slot k ∷ xs) n = ap suc (slot_count def xs (suc n))
-slot_count def (items.Refers k ∷ xs) n = slot_count def xs (suc n)
-slot_count def (items.Declares k ∷ xs) n = slot_count def xs (suc n)
-slot_count def (_ ∷ xs) n = slot_count def xs n
-
-pub slot_few : (xs : List Item) (n : ℕ) → length (slot_columns n xs) ≤ length xs
-slot_few [] n = omega arith
-slot_few (items.Slot k ∷ xs) n = omega (arith, slot_few xs (suc n))
-slot_few (items.Refers k ∷ xs) n = omega (arith, slot_few xs (suc n))
-slot_few (items.Declares k ∷ xs) n = omega (arith, slot_few xs (suc n))
-slot_few (_ ∷ xs) n = omega (arith, slot_few xs n)
 
 equal_sorts : (ls rs : List ℕ) (pairs : List Columns) → Matches ls rs pairs → AreOfEqualSort ls rs pairs
 equal_sorts ls rs [] h = tt

@@ -1,5 +1,6 @@
 -- The spaces in which a list may still declare names.
 use Rattle.std.proofs.Common.{◌≡◌, ◌⊎◌, inl, inr, ℕ, zero, suc, ◌==◌, ◌||◌, ◌&&◌, Bool, true, false, List, [], ◌∷◌, ◌++◌, Some, slice_get, refl, sym, ◌∙◌, subst, true≢false}
+use Rattle.std.proofs.lemmas.Bool.{or_right, or_left}
 use Rattle.psg_grammar.specs.Declaring.{AnyDeclares, by_list, by_operator, Declares, here, is_declaring, later, slot}
 use Rattle.psg_grammar.specs.declared.types.Item.{Item}
 use Rattle.psg_grammar.specs.declared.types.Item.TheVariants as items
@@ -10,7 +11,6 @@ use Rattle.psg_grammar.specs.declared.types.Definition.{Definition}
 use Rattle.psg_grammar.specs.Sound.{IsSound}
 use Rattle.psg_grammar.proofs.DeclaringLaws.{eqb_same, found_declares}
 use Rattle.psg_scope.specs.Headers.{has_space}
-use Rattle.psg_scope.proofs.KeyLists.{or_left, or_right}
 use Rattle.psg_eval.specs.Summaries.{AreSpacesOfList}
 use Rattle.psg_told.proofs.Heads.{some_filtered}
 

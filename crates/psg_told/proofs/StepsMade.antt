@@ -11,7 +11,7 @@ use Rattle.psg_relation.specs.Choices.{all_picked, AllHaveSorts, IsProjected, pi
 use Rattle.psg_relation.proofs.Columns.{all_sorted, projected}
 use Rattle.psg_relation.proofs.Existing.{relation_exists}
 use Rattle.psg_relation.proofs.Solving.{join_exists}
-use Rattle.psg_eval.specs.declared.summary.Known.{Known}
+use Rattle.psg_eval.specs.declared.summary.SummaryParts.{SummaryParts}
 use Rattle.psg_eval.specs.Outside.{IsClosed}
 use Rattle.psg_eval.specs.Own.{IsOwnStep, name_columns, slot_columns}
 use Rattle.psg_eval.specs.OwnRows.{positions, whole_row}
@@ -29,13 +29,13 @@ use Rattle.psg_told.proofs.Walked.{PlainKeys, some_keys, some_layout}
 module _ (def : Definition) (sound : IsSound def) where
   -- ---- one child more
 
-  pub record Added (kind : Kind) (more : List Kind) (p : Partial def) (s : Known) : Type 0 where
+  pub record Added (kind : Kind) (more : List Kind) (p : Partial def) (s : SummaryParts) : Type 0 where
     pub next : Partial def
     pub added : IsAdded def p s next.header next.rel
     pub partial : IsPartial def kind more next
     pub seen : next.seen ≡ p.seen + s.seen
 
-  pub some_added : (kind : Kind) (more : List Kind) (p : Partial def) (s : Known) → IsPartial def kind (s.kind ∷ more) p
+  pub some_added : (kind : Kind) (more : List Kind) (p : Partial def) (s : SummaryParts) → IsPartial def kind (s.kind ∷ more) p
       → IsSummary def s → Added kind more p s
   some_added kind more p s part sum = by (j.header.twice) refl where
     j : Joint p.header s.header

@@ -25,7 +25,7 @@ use Rattle.psg_relation.proofs.Existing.{relation_exists}
 use Rattle.psg_scope.specs.declared.header.Header.{Header}
 use Rattle.psg_scope.specs.Headers.{IsHeader, keys}
 use Rattle.psg_scope.proofs.HeaderLaws.{ordered-of}
-use Rattle.psg_eval.specs.declared.summary.Known.{Known}
+use Rattle.psg_eval.specs.declared.summary.SummaryParts.{SummaryParts}
 use Rattle.psg_eval.specs.OwnRows.{AreHoleRows, whole_row}
 use Rattle.psg_eval.specs.Partials.{IsAdded, IsPartial}
 use Rattle.psg_eval.specs.Stages.{IsInside, IsStep, kinds_of}
@@ -111,7 +111,7 @@ module _ (def : Definition) (sound : IsSound def) where
 
   -- the tree of the kind has a summary
   pub record Told (f : Fragment) (kind : Kind) : Type 0 where
-    pub known : Known
+    pub known : SummaryParts
     pub kind_is : known.kind ≡ kind
     pub of : IsSummaryOf def f known
     pub usual : IsSummary def known
@@ -215,13 +215,13 @@ module _ (def : Definition) (sound : IsSound def) where
 
   -- ---- operators
 
-  abbrev pub seen_by : List Known → ℕ
-  seen_by ss = sum_by (λ (s : Known). s.seen) ss
+  abbrev pub seen_by : List SummaryParts → ℕ
+  seen_by ss = sum_by (λ (s : SummaryParts). s.seen) ss
 
   module _ (f : Fragment) (parts : HasParts def f []) (kind : Kind) where
     -- one child more
     added_step : (n : ℕ) (t : Fragment) → slice_get (children_of f) n ≡ Some t
-        → (more : List Kind) (p : Partial def) (s : Known)
+        → (more : List Kind) (p : Partial def) (s : SummaryParts)
         → length (s.kind ∷ more) ≡ length (children_of f) - n → IsPartial def kind (s.kind ∷ more) p
         → IsSummaryOf def t s
         → IsStep def f n p.header p.rel → (h : Header) (rows : List (List Term)) → IsAdded def p s h rows
@@ -243,14 +243,14 @@ module _ (def : Definition) (sound : IsSound def) where
           next_ok def f parts t s n at summary p.header h p.rel step is.region p.seen sorts ss rows part.sorted width e
           rel
 
-    pub record Filled (begun : ℕ) (rest : List Known) : Type 0 where
+    pub record Filled (begun : ℕ) (rest : List SummaryParts) : Type 0 where
       pub next : Partial def
       pub step : IsStep def f (length (children_of f)) next.header next.rel
       pub partial : IsPartial def kind [] next
       pub seen : next.seen ≡ begun + seen_by rest
 
-    fill : (rest : List Known) (n : ℕ) (p : Partial def) → n + length rest ≡ length (children_of f)
-        → ((j : ℕ) (s : Known) → slice_get rest j ≡ Some s
+    fill : (rest : List SummaryParts) (n : ℕ) (p : Partial def) → n + length rest ≡ length (children_of f)
+        → ((j : ℕ) (s : SummaryParts) → slice_get rest j ≡ Some s
         → (t : Fragment) × (slice_get (children_of f) (n + j) ≡ Some t) × IsSummaryOf def t s)
         → AllByRecursion (IsSummary def) rest → IsPartial def kind (kinds_of rest) p → IsStep def f n p.header p.rel
         → Filled p.seen rest
@@ -266,7 +266,7 @@ module _ (def : Definition) (sound : IsSound def) where
         let (t, there, summary) = at 0 s refl in
         let here : slice_get (children_of f) n ≡ Some t = let e : n ≡ n + 0 = omega arith in ap (slice_get (children_of
         f)) e ∙ there in
-        let k = length-map rest (λ (x : Known). x.kind) in
+        let k = length-map rest (λ (x : SummaryParts). x.kind) in
         let many : length (s.kind ∷ kinds_of rest) ≡ length (children_of f) - n = omega (arith, total, k) in
         let a = some_added def sound kind (kinds_of rest) p s part usual.0 in
         let next_step = added_step n t here (kinds_of rest) p s many part summary step a.next.header a.next.rel a.added
@@ -277,7 +277,7 @@ module _ (def : Definition) (sound : IsSound def) where
         (u, ap (slice_get (children_of f)) q ∙ d, is)) usual.1 a.partial next_step in
         let seen_a = a.seen in
         let seen_b = whole.seen in
-        let cons = sum_by-cons (λ (x : Known). x.seen) s rest in
+        let cons = sum_by-cons (λ (x : SummaryParts). x.seen) s rest in
         record {
           next = whole.next;
           step = whole.step;
@@ -291,7 +291,7 @@ module _ (def : Definition) (sound : IsSound def) where
 
   -- an operator with these names and children
   pub operator_told : (o : ℕ) (op : Operator) → slice_get def.operators o ≡ Some op → (names : List Name) (f : Fragment)
-      → IsNode def o names f → length (are_names def op.items) ≡ length names → (ss : List Known)
+      → IsNode def o names f → length (are_names def op.items) ≡ length names → (ss : List SummaryParts)
       → AllSummaries def (children_of f) ss → AllByRecursion (IsSummary def) ss → kinds_of ss ≡ slot_kinds def op.items
       → Told f (kinds.Phylum op.phylum)
   operator_told o op found names f node fits ss sums usual slots =

@@ -1,14 +1,14 @@
 -- A constructor and many free cells behind it, bound to it one after the other.
 use Rattle.std.proofs.Common.{◌≡◌, ◌≢◌, inl, inr, ℕ, ◌+◌, ◌<◌, ◌==◌, Some, List, [], ◌∷◌, ◌++◌, length, slice_get, All, ap, sym, ◌∙◌, subst, arith, length-append}
-use Rattle.std.proofs.lemmas.Bool.{eqb-true, eqb-false}
-use Rattle.std.proofs.lemmas.List.Elements.{All-append}
+use Rattle.std.proofs.lemmas.Bool.{eqb-true, eqb-false, cases_Bool}
+use Rattle.std.proofs.lemmas.List.Elements.{All-append, All-weaker}
 use Rattle.psg_pool.specs.declared.cells.CellId.{CellId}
 use Rattle.psg_pool.specs.declared.cells.Binding.{Binding}
 use Rattle.psg_pool.specs.Cells.{Put, free, constructor}
 use Rattle.psg_pool.specs.Bindings.{Kept, IsFree, IsSound, Leads}
 use Rattle.psg_pool.specs.Marks.{Lengths}
-use Rattle.psg_pool.proofs.Places.{either, slice_get-append, slice_get-append_last}
-use Rattle.psg_pool.proofs.Soundness.{All-one, All-then}
+use Rattle.psg_pool.proofs.Places.{slice_get-append, slice_get-append_last}
+use Rattle.psg_pool.proofs.Soundness.{All-one}
 use Rattle.psg_pool.proofs.Laws.{not_bound, constructor_not_bound, leads_nowhere}
 
 -- a constructor, and so many free cells
@@ -27,7 +27,7 @@ row_more old new count row is = record { size = size; first = first; frees = fre
   first = subst (λ (l : List Put). slice_get l 0 ≡ Some (constructor 7 [])) (sym is) (slice_get-append old (free 9 ∷ []) 0 (constructor 7 []) row.first)
 
   frees : (i : ℕ) → 0 < i → i < length new → slice_get new i ≡ Some (free 9)
-  frees i above below = subst (λ (l : List Put). slice_get l i ≡ Some (free 9)) (sym is) (elim (either (i == length old)) [
+  frees i above below = subst (λ (l : List Put). slice_get l i ≡ Some (free 9)) (sym is) (elim (cases_Bool (i == length old)) [
     | inl t ↦ slice_get-append_last old (free 9) i (eqb-true i (length old) t)
     | inr f ↦
         let apart : i ≢ length old = eqb-false i (length old) f in
@@ -51,7 +51,7 @@ next_free kept mark bound many id are more is =
     let within : id.0 < length kept.cells = omega (arith, is, more, are.row.size) in (
       (9, are.row.frees id.0 above within),
       not_bound kept.bindings id
-          (All-then (λ b. b.bound.0 < bound + 1) (λ b. b.bound.0 ≢ id.0) kept.bindings (λ b h same. omega (arith, h, same, is)) are.below),
+          (All-weaker (λ b. b.bound.0 < bound + 1) (λ b. b.bound.0 ≢ id.0) (λ b h same. omega (arith, h, same, is)) kept.bindings are.below),
     )
 
 -- the constructor leads nowhere
@@ -69,7 +69,7 @@ one_bound old new mark bound many b are is cells bindings sound = record {
   row = subst (λ (l : List Put). IsRow l many) (sym cells) are.row;
   below = subst (λ (l : List Binding). All (λ (b : Binding). b.bound.0 < bound + 1 + 1) l) (sym bindings)
       (All-append (λ (b : Binding). b.bound.0 < bound + 1 + 1) old.bindings (b ∷ [])
-      (All-then (λ b. b.bound.0 < bound + 1) (λ b. b.bound.0 < bound + 1 + 1) old.bindings (λ b h. omega (arith, h)) are.below)
+      (All-weaker (λ b. b.bound.0 < bound + 1) (λ b. b.bound.0 < bound + 1 + 1) (λ b h. omega (arith, h)) old.bindings are.below)
       (All-one (λ (b : Binding). b.bound.0 < bound + 1 + 1) b (omega (arith, is))));
   sound = sound;
   cells = are.cells;

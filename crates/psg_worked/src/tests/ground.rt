@@ -45,16 +45,12 @@ pub(super) fn choices(
 }
 
 /// The terms whose arguments are among the terms.
-fn applied(
-    alloc: Global,
-    signature: &Signature,
-    terms: &[Ground],
-) -> Result<Vec<Ground>, AllocError> {
+fn applied(alloc: Global, sig: &Signature, terms: &[Ground]) -> Result<Vec<Ground>, AllocError> {
     let mut made = Vec::new(alloc);
-    for number in 0..signature.constructors() {
+    for number in 0..sig.constructors() {
         let con = ConId(number);
-        let sort = signature.sort_of(con);
-        let sorts = signature.constructor(con).args.as_slice();
+        let sort = sig.sort_of(con);
+        let sorts = sig.constructor(con).args.as_slice();
         for args in choices(alloc, sorts, terms)? {
             let term = Term::apply(alloc, con, args)?;
             made.push(Ground { sort, term })?;
@@ -66,12 +62,12 @@ fn applied(
 /// All terms without variables that are at most so deep, each once.
 pub(super) fn ground_terms(
     alloc: Global,
-    signature: &Signature,
+    sig: &Signature,
     depth: u32,
 ) -> Result<Vec<Ground>, AllocError> {
     let mut terms = Vec::new(alloc);
     for _ in 0..depth {
-        terms = applied(alloc, signature, terms.as_slice())?;
+        terms = applied(alloc, sig, terms.as_slice())?;
     }
     Ok(terms)
 }

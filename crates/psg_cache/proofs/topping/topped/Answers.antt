@@ -1,7 +1,7 @@
 use Rattle.std.proofs.Common.{◌∙◌, List, ap, map, sym, subst}
 use Rattle.std.specs.List.{AllByRecursion}
 use Rattle.psg_grammar.specs.Fragments.{children_of}
-use Rattle.psg_eval.specs.declared.summary.Known.{Known}
+use Rattle.psg_eval.specs.declared.summary.SummaryParts.{SummaryParts}
 use Rattle.psg_eval.specs.Summaries.{AreSummariesOf, IsSummary}
 use Rattle.psg_cache.specs.Annotated.{whole_in}
 use Rattle.psg_cache.specs.Walks.{IsTop}
@@ -30,5 +30,5 @@ returns-clause-ok g c =
     let wholes = c.as_slice-2.ensures.value ∙ c.in_ok-wholes.ensures ∙ ap (map whole_in) c.as_slice.ensures.value in
     let s = c.in_ok-suffixes.suffixes in
     made_noted def tree c.args.below.items s.whole s.rests c.in_ok-note.note c.requires.below
-    (subst (λ (ws : List Known). IsTop def tree ws s.whole s.rests) wholes c.in_ok-suffixes.ensures.ok)
+    (subst (λ (ws : List SummaryParts). IsTop def tree ws s.whole s.rests) wholes c.in_ok-suffixes.ensures.ok)
     c.in_ok-note.ensures

@@ -1,4 +1,5 @@
 use Rattle.std.proofs.Common.{rules, Err, ◌≡◌, ◌∷◌, [], ◌∙◌, false, map, get_or, refl, slice_get, Some, Option, sym, subst, ap, List, ℕ}
+use Rattle.psg_terms.proofs.Lists.{slice_get_item}
 use Rattle.psg_terms.specs.Terms.{Term}
 use Rattle.psg_terms.specs.Relations.{IsRelation}
 use Rattle.psg_terms.specs.Weight.{PassesLimit}
@@ -13,13 +14,13 @@ use Rattle.psg_eval.specs.Partials.{IsPartial, MatchStep}
 use Rattle.psg_eval.specs.Stages.{IsCellStart}
 use Rattle.psg_eval.proofs.CellRows.{cell_partial, cell_sorts, cell_sorted}
 use Rattle.psg_eval.proofs.Cells.{cell_first}
-use Rattle.psg_eval.proofs.LeafAnswers.{at_place, no_header}
+use Rattle.psg_eval.proofs.LeafAnswers.{no_header}
 use Rattle.psg_eval.proofs.PartialSorts.{step_fault}
 use Rattle.psg_eval.proofs.cell.cell_start.Goals as goal
 use Rattle.psg_eval.proofs.cell.cell_start.Goals.{After-as_slice-3}
 
 found : (c : After-as_slice-3) → slice_get c.args.definition.now.lists c.args.list ≡ Some c.index-as_slice-list.result
-found c = at_place c.args.definition.now.lists c.args.list c.index-as_slice-list.result c.requires.there
+found c = slice_get_item c.args.definition.now.lists c.args.list c.index-as_slice-list.result c.requires.there
     (subst (λ (ls : List ListKind). c.index-as_slice-list.result ≡ get_or ls c.args.list c.index-as_slice-list.result) c.as_slice.ensures c.index-as_slice-list.is)
 
 made : (c : After-as_slice-3) → c.as_slice-3.result.now ≡ map whole_row c.index-as_slice-list.result.cell_rows

@@ -1,6 +1,6 @@
 use Rattle.std.proofs.Common.{rules, ◌≡◌, ◌+◌, ◌∙◌, ap, length, refl, sym, subst, arith}
 use Rattle.std.specs.Prelude.{Err}
-use Rattle.psg_eval.specs.declared.summary.Known.{Known}
+use Rattle.psg_eval.specs.declared.summary.SummaryParts.{SummaryParts}
 use Rattle.psg_eval.specs.Climbing.{IsClimbed}
 use Rattle.psg_eval.specs.Frames.{CanClimb}
 use Rattle.psg_eval.specs.Summaries.{IsSummary}
@@ -13,10 +13,10 @@ loop-frame-init g c =
     let around = c.args.frames.now in
     let e = c.in_ok-whole.ensures in
     record {
-      climbs = subst (λ (w : Known). Climbs def around c.args.own.now w around) (sym e) (climb_first def around c.args.own.now);
+      climbs = subst (λ (w : SummaryParts). Climbs def around c.args.own.now w around) (sym e) (climb_first def around c.args.own.now);
       usual = subst (IsSummary def) (sym e) c.requires.own;
-      can = subst (λ (w : Known). CanClimb def around w.kind) (sym e) c.requires.frames;
-      seen = ap (λ (w : Known). w.seen) e;
+      can = subst (λ (w : SummaryParts). CanClimb def around w.kind) (sym e) c.requires.frames;
+      seen = ap (λ (w : SummaryParts). w.seen) e;
       nothing = λ n. (n, e);
       counted = refl;
     }

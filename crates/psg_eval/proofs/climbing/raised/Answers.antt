@@ -1,6 +1,6 @@
 use Rattle.std.proofs.Common.{rules, ◌≡◌, ◌+◌, ◌∙◌, sym, subst, arith}
 use Rattle.std.specs.Prelude.{Ok, Err}
-use Rattle.psg_eval.specs.ClimbSteps.{climb_steps_at}
+use Rattle.psg_grammar.specs.Steps.{steps_at}
 use Rattle.psg_eval.specs.Climbing.{IsReached}
 use Rattle.psg_eval.proofs.FrameLaws.{list_reached, list_rungs, list_takes, operator_frame, operator_rungs, operator_takes}
 use Rattle.psg_eval.proofs.climbing.raised.Goals as goal
@@ -27,7 +27,7 @@ returns-in_err-node-in-Op-clause-answer g c = λ u t path k at of.
     let d : c.from_residual.result ≡ Err fault = search rules in
     let (node, same, child, but) = operator_frame def c.args.frame.now c.in-Op.op c.in-Op.hot c.in-Op.names c.as_slice-words.result.now c.in-Op.children c.as_slice-below.result.now
     c.in-Op.is c.as_slice-words.ensures c.as_slice-below.ensures k u t at in
-    subst (IsReached def (climb_steps_at def path k u) u) (sym d) (c.in_err-node-in-Op.ensures.answer u t path k node same child but of)
+    subst (IsReached def (steps_at def path k u) u) (sym d) (c.in_err-node-in-Op.ensures.answer u t path k node same child but of)
 
 pub returns-in_ok-node-in-Op-clause-answer : goal.returns-in_ok-node-in-Op-clause-answer
 returns-in_ok-node-in-Op-clause-answer g c = λ u t path k at of.
@@ -79,7 +79,7 @@ returns-in_err-whole-in-Elem-clause-answer g c = λ u t path k at of.
     let def = c.args.definition.now in
     let fault = c.in_err-whole-in-Elem.field-0.0 in
     let d : c.from_residual-in_err-whole-in-Elem.result ≡ Err fault = search rules in
-    subst (IsReached def (climb_steps_at def path k u) u) (sym d)
+    subst (IsReached def (steps_at def path k u) u) (sym d)
     (list_reached def c.args.frame.now c.in-Elem.list c.in-Elem.before c.as_slice-front.result.now c.in-Elem.rest c.in-Elem.is c.as_slice-front.ensures
     c.args.own.now (Err fault) c.in_err-whole-in-Elem.ensures.answer u t path k at of)
 

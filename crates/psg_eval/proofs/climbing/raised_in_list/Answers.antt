@@ -1,6 +1,6 @@
 use Rattle.std.proofs.Common.{rules, ◌≡◌, ◌+◌, ◌∙◌, length, sym, subst, arith}
 use Rattle.std.specs.Prelude.{Err}
-use Rattle.psg_eval.specs.ClimbSteps.{climb_steps_at}
+use Rattle.psg_grammar.specs.Steps.{steps_at}
 use Rattle.psg_eval.specs.Climbing.{IsReached}
 use Rattle.psg_eval.proofs.CellClimb.{all_front, first_fault, next_fault, next_takes, rise_all, rise_first, rise_next}
 use Rattle.psg_eval.proofs.climbing.raised_in_list.Goals as goal
@@ -11,7 +11,7 @@ returns-in_err-first-clause-answer g c = λ u t path element of.
     let before = c.args.before.now in
     let fault = c.in_err-first.field-0.0 in
     let d : c.from_residual.result ≡ Err fault = search rules in
-    subst (IsReached def (climb_steps_at def path (length before) u) u) (sym d)
+    subst (IsReached def (steps_at def path (length before) u) u) (sym d)
     (first_fault def c.args.list before c.args.rest.now c.args.own.now fault c.in_err-first.ensures.answer u t path element of)
 
 pub loop-last-init : goal.loop-last-init
@@ -38,7 +38,7 @@ returns-in_err-next-clause-answer g c = λ u t path element of.
     let before = c.args.before.now in
     let fault = c.in_err-next.field-0.0 in
     let d : c.from_residual-in_err-next.result ≡ Err fault = search rules in
-    subst (IsReached def (climb_steps_at def path (length before) u) u) (sym d)
+    subst (IsReached def (steps_at def path (length before) u) u) (sym d)
     (next_fault def c.args.list before c.args.rest.now c.args.own.now c.loop-last.whole c.in-Some.last.now fault c.loop-last.left.now c.in-Some.front.now c.in-Some.ensures.cases.0
     c.loop-last.invariant.rises c.in_err-next.ensures.answer u t path element of)
 

@@ -1,15 +1,16 @@
 use Rattle.std.proofs.Common.{◌≡◌, ◌∷◌, [], ◌∙◌, false, map, get_or, slice_get, Some, sym, subst, ap, List, ℕ}
+use Rattle.psg_terms.proofs.Lists.{slice_get_item}
 use Rattle.psg_grammar.specs.declared.types.Kind.TheVariants as kinds
 use Rattle.psg_grammar.specs.declared.types.ListKind.{ListKind}
 use Rattle.psg_relation.specs.Choices.{AllHaveSorts}
 use Rattle.psg_scope.specs.declared.header.Header.{Header}
 use Rattle.psg_eval.specs.Leaves.{IsLeafOf}
-use Rattle.psg_eval.proofs.LeafAnswers.{at_place, closed_answers, closed_summary, nil_sorts}
+use Rattle.psg_eval.proofs.LeafAnswers.{closed_answers, closed_summary, nil_sorts}
 use Rattle.psg_eval.proofs.leaves.closed_end.Goals as goal
 use Rattle.psg_eval.proofs.leaves.closed_end.Goals.{After-as_slice-3}
 
 found : (c : After-as_slice-3) → slice_get c.args.definition.now.lists c.args.list ≡ Some c.index-as_slice-list.result
-found c = at_place c.args.definition.now.lists c.args.list c.index-as_slice-list.result c.requires.there
+found c = slice_get_item c.args.definition.now.lists c.args.list c.index-as_slice-list.result c.requires.there
     (subst (λ (ls : List ListKind). c.index-as_slice-list.result ≡ get_or ls c.args.list c.index-as_slice-list.result) c.as_slice.ensures c.index-as_slice-list.is)
 
 made : (c : After-as_slice-3) → c.as_slice-3.result.now ≡ map (λ t. t ∷ []) c.index-as_slice-list.result.nil_rows

@@ -1,6 +1,6 @@
 use Rattle.std.proofs.Common.{rules, Err, ◌≡◌, List, length, take, refl, sym, subst, arith}
 use Rattle.std.specs.Prelude.{sum_by}
-use Rattle.psg_eval.specs.declared.summary.Known.{Known}
+use Rattle.psg_eval.specs.declared.summary.SummaryParts.{SummaryParts}
 use Rattle.psg_grammar.specs.declared.types.Kind.TheVariants as kinds
 use Rattle.psg_grammar.specs.declared.types.Kind.{Kind}
 use Rattle.psg_eval.specs.declared.partial.Partial.{Partial}
@@ -59,5 +59,5 @@ returns-clause-partial c = c.in_ok-whole.ensures.partial (kinds.Phylum c.args.op
 pub returns-clause-seen : goal.returns-clause-seen
 returns-clause-seen c =
     let silent = numbered_if (λ (p : Partial). p.seen ≡ 0) c.first_step.result 0 c.in_ok-first.first c.in_ok-first.ensures c.first_step.ensures.seen in
-    let none : sum_by (λ (s : Known). s.seen) (take 0 c.args.children.now) ≡ 0 = refl in
+    let none : sum_by (λ (s : SummaryParts). s.seen) (take 0 c.args.children.now) ≡ 0 = refl in
     omega (arith, silent, c.in_ok-whole.ensures.seen, none)

@@ -2,7 +2,7 @@ use Rattle.std.proofs.Common.{rules, Err, ◌≡◌, List, length, take, refl, s
 use Rattle.std.specs.Prelude.{sum_by}
 use Rattle.psg_grammar.specs.declared.types.Kind.TheVariants as kinds
 use Rattle.psg_grammar.specs.declared.types.Kind.{Kind}
-use Rattle.psg_eval.specs.declared.summary.Known.{Known}
+use Rattle.psg_eval.specs.declared.summary.SummaryParts.{SummaryParts}
 use Rattle.psg_eval.specs.Partials.{IsPartial}
 use Rattle.psg_eval.specs.Stages.{kinds_of, MatchMade}
 use Rattle.psg_eval.specs.Starts.{IsOwnBegun}
@@ -53,5 +53,5 @@ returns-clause-partial c = c.in_ok-whole.ensures.partial (kinds.Phylum c.args.op
 
 pub returns-clause-seen : goal.returns-clause-seen
 returns-clause-seen c =
-    let none : sum_by (λ (s : Known). s.seen) (take 0 c.args.children.now) ≡ 0 = refl in
+    let none : sum_by (λ (s : SummaryParts). s.seen) (take 0 c.args.children.now) ≡ 0 = refl in
     omega (arith, none, (begun (goal.at.returns-clause-seen c).In_ok-first).seen, c.in_ok-whole.ensures.seen)

@@ -1,7 +1,7 @@
 use Rattle.std.proofs.Common.{rules, Ok, Err, ◌≡◌, ◌<◌, ◌^◌, ◌∙◌, length, sym, subst, ap, arith}
 use Rattle.std.proofs.lemmas.List.{length-map}
 use Rattle.psg_grammar.specs.declared.types.Kind.TheVariants as kinds
-use Rattle.psg_eval.specs.declared.summary.Known.{Known}
+use Rattle.psg_eval.specs.declared.summary.SummaryParts.{SummaryParts}
 use Rattle.psg_eval.specs.Summaries.{Answers, IsSummary}
 use Rattle.psg_eval.proofs.CellRows.{whole_summary}
 use Rattle.psg_eval.proofs.NodeSteps.{outer_answers, slot_count, whole_answer}
@@ -13,7 +13,7 @@ outer-requires-clause-room c =
     let items = c.args.operator.now.items in
     let a = slot_count c.args.definition.now items in
     let k = ap length c.requires.takes.kinds_fit in
-    let m = length-map c.args.children.now (λ (s : Known). s.kind) in
+    let m = length-map c.args.children.now (λ (s : SummaryParts). s.kind) in
     let few : length items < 2 ^ 32 = c.requires.operator.few_items in
     omega arith
 
@@ -37,7 +37,7 @@ pub returns-clause-answer : goal.returns-clause-answer
 returns-clause-answer c = λ o f found node all.
     let def = c.args.definition.now in
     let op = c.args.operator.now in
-    subst (λ (s : Known). Answers def f (Ok s)) (sym c.in_ok-summary.ensures)
+    subst (λ (s : SummaryParts). Answers def f (Ok s)) (sym c.in_ok-summary.ensures)
     (whole_answer def c.requires.sound o op found c.args.names.now f node c.args.children.now all c.in_ok-whole.whole c.in_ok-whole.ensures.seen (Ok c.in_ok-outside.outside) c.in_ok-outside.ensures.made (c.in_ok-whole.ensures.made o f found node all))
 
 pub returns-clause-summary : goal.returns-clause-summary
@@ -45,7 +45,7 @@ returns-clause-summary c = subst (IsSummary c.args.definition.now) (sym c.in_ok-
     (whole_summary c.args.definition.now (kinds.Phylum c.args.operator.now.phylum) c.in_ok-outside.outside c.in_ok-outside.ensures.partial)
 
 pub returns-clause-kind : goal.returns-clause-kind
-returns-clause-kind c = ap (λ (s : Known). s.kind) c.in_ok-summary.ensures
+returns-clause-kind c = ap (λ (s : SummaryParts). s.kind) c.in_ok-summary.ensures
 
 pub returns-clause-seen : goal.returns-clause-seen
-returns-clause-seen c = ap (λ (s : Known). s.seen) c.in_ok-summary.ensures ∙ c.in_ok-outside.ensures.seen ∙ c.in_ok-whole.ensures.seen
+returns-clause-seen c = ap (λ (s : SummaryParts). s.seen) c.in_ok-summary.ensures ∙ c.in_ok-outside.ensures.seen ∙ c.in_ok-whole.ensures.seen

@@ -1,6 +1,6 @@
 use Rattle.std.proofs.Common.{rules, Err, ◌≡◌, ◌+◌, length, drop, sym, subst, arith}
+use Rattle.psg_terms.proofs.Lists.{each_at}
 use Rattle.psg_grammar.specs.declared.types.Kind.{Kind}
-use Rattle.psg_grammar.proofs.SoundParts.{each_at}
 use Rattle.psg_eval.specs.declared.partial.Partial.{Partial}
 use Rattle.psg_eval.specs.Partials.{IsAdded, IsPartial}
 use Rattle.psg_eval.specs.Stages.{kinds_of, MatchMade}

@@ -1,20 +1,20 @@
 use Rattle.std.proofs.Common.{rules, Err, ◌≡◌, ◌+◌, length, drop, get_or, slice_get, Some, sym, subst, arith}
+use Rattle.psg_terms.proofs.Lists.{slice_get_item}
 use Rattle.psg_eval.specs.declared.partial.Partial.{Partial}
-use Rattle.psg_eval.specs.declared.summary.Known.{Known}
+use Rattle.psg_eval.specs.declared.summary.SummaryParts.{SummaryParts}
 use Rattle.psg_eval.specs.Partials.{IsAdded}
 use Rattle.psg_eval.specs.Stages.{kinds_of, IsMade, MatchMade}
 use Rattle.psg_eval.proofs.CellRows.{next_step}
-use Rattle.psg_eval.proofs.LeafAnswers.{at_place}
 use Rattle.psg_eval.proofs.NodeSteps.{all_gone, child_made, child_wide, now_partial, seen_all, seen_more}
 use Rattle.psg_eval.proofs.Numbers.{numbered_fault, numbered_if, numbered_step}
 use Rattle.psg_eval.proofs.node.with_children.Goals as goal
 use Rattle.psg_eval.proofs.node.with_children.Goals.{After-known-child}
 
 is : (c : After-known-child) → c.known-child.result.now ≡ get_or c.args.children.now c.loop-i.i c.known-child.result.now
-is c = subst (λ (s : Known). s ≡ get_or c.args.children.now c.loop-i.i s) (sym c.known-child.ensures) c.index-children-i.is
+is c = subst (λ (s : SummaryParts). s ≡ get_or c.args.children.now c.loop-i.i s) (sym c.known-child.ensures) c.index-children-i.is
 
 at : (c : After-known-child) → slice_get c.args.children.now c.loop-i.i ≡ Some c.known-child.result.now
-at c = at_place c.args.children.now c.loop-i.i c.known-child.result.now c.loop-i-test.true (is c)
+at c = slice_get_item c.args.children.now c.loop-i.i c.known-child.result.now c.loop-i-test.true (is c)
 
 pub with_child-requires-clause-partial : goal.with_child-requires-clause-partial
 with_child-requires-clause-partial c =

@@ -1,8 +1,9 @@
 use Rattle.std.proofs.Common.{◌+◌, true, false, refl, sym, subst}
+use Rattle.std.proofs.lemmas.List.{drop_all}
+use Rattle.psg_terms.proofs.Lists.{drop_item}
 use Rattle.psg_grammar.specs.declared.types.Item.TheVariants as items
 use Rattle.psg_eval.specs.declared.own.Places.{Places}
-use Rattle.psg_eval.proofs.ItemSteps.{IsFoundUpTo, found_all, found_none, found_name, found_other, found_slot, is_other, item_at, name_at, name_there, settled}
-use Rattle.psg_eval.proofs.WalkSteps.{drop_end}
+use Rattle.psg_eval.proofs.ItemSteps.{IsFoundUpTo, found_all, found_none, found_name, found_other, found_slot, is_other, item_at, name_there, settled}
 use Rattle.psg_eval.proofs.own.item_places.Goals as goal
 use Rattle.psg_eval.proofs.own.item_places.Goals.{in-Slot+in_ok-push-in-Slot, in-Refers+in_ok-add_name-in-Refers, in-Declares+in_ok-add_name-in-Declares, in_default}
 
@@ -34,7 +35,7 @@ loop-item-preserved c =
           let added = w.in_ok-add_name-in-Refers.ensures in
           subst (λ (p : Places). IsFoundUpTo xs names (i + 1) c.match-item.column c.match-item.next p.positions.items p.names.items p.slots.items) (sym w.found-is)
           (settled xs names (i + 1) (column + 1) (next + 1) c.match-item.column c.match-item.next new.positions.items new.names.items new.slots.items w.column-is w.next-is
-          (found_name xs names i column next found.positions.items found.names.items found.slots.items f w.in-Refers.space false (items.Refers w.in-Refers.space) (refl, refl) here name.result (name_at names next name.result there name.is)
+          (found_name xs names i column next found.positions.items found.names.items found.slots.items f w.in-Refers.space false (items.Refers w.in-Refers.space) (refl, refl) here name.result (drop_item names next name.result there name.is)
           (record { space = w.in-Refers.space; name = name.result; declared = false }) refl new.positions.items new.names.items new.slots.items added.positions added.names added.slots))
       | in-Declares+in_ok-add_name-in-Declares w ↦
           let here = item_at xs i c.item-item.result (items.Declares w.in-Declares.space) c.loop-item-test.true c.item-item.is w.in-Declares.is in
@@ -44,7 +45,7 @@ loop-item-preserved c =
           let added = w.in_ok-add_name-in-Declares.ensures in
           subst (λ (p : Places). IsFoundUpTo xs names (i + 1) c.match-item.column c.match-item.next p.positions.items p.names.items p.slots.items) (sym w.found-is)
           (settled xs names (i + 1) (column + 1) (next + 1) c.match-item.column c.match-item.next new.positions.items new.names.items new.slots.items w.column-is w.next-is
-          (found_name xs names i column next found.positions.items found.names.items found.slots.items f w.in-Declares.space true (items.Declares w.in-Declares.space) (refl, refl) here name.result (name_at names next name.result there name.is)
+          (found_name xs names i column next found.positions.items found.names.items found.slots.items f w.in-Declares.space true (items.Declares w.in-Declares.space) (refl, refl) here name.result (drop_item names next name.result there name.is)
           (record { space = w.in-Declares.space; name = name.result; declared = true }) refl new.positions.items new.names.items new.slots.items added.positions added.names added.slots))
       | in_default w ↦
           let other = is_other c.item-item.result w.in_default.not-Slot w.in_default.not-Refers w.in_default.not-Declares in
@@ -57,5 +58,5 @@ pub returns : goal.returns
 returns c =
     let found = c.loop-item.found in
     let all = found_all c.args.items.now c.args.names.now c.loop-item.item-index c.loop-item.column c.loop-item.next found.positions.items found.names.items found.slots.items c.loop-item.invariant
-    (drop_end c.args.items.now c.loop-item.item-index c.loop-item-test.false) in
+    (drop_all c.loop-item.item-index c.args.items.now c.loop-item-test.false) in
     record { positions = all.0; names = all.1; slots = all.2 }

@@ -1,10 +1,11 @@
 use Rattle.std.proofs.Common.{◌≡◌, ◌++◌, ◌∷◌, length, map, ℕ, List, refl, sym, subst, ap, ap₂, ◌∙◌}
+use Rattle.std.proofs.lemmas.Result.{IfOk-weaker}
 use Rattle.psg_terms.specs.Names.{Name}
 use Rattle.psg_terms.specs.Terms.{Term}
 use Rattle.psg_terms.specs.Relations.{IsRelation}
 use Rattle.psg_grammar.specs.declared.types.Kind.TheVariants.{Phylum}
 use Rattle.psg_relation.specs.Choices.{AllHaveSorts, AllWithin, HasWide, IsSelected, picked}
-use Rattle.psg_relation.proofs.Making.{err_map, ok_map}
+use Rattle.psg_relation.proofs.Making.{err_map}
 use Rattle.psg_unify.specs.Pairs.{Pair as Columns, AreOfEqualSort}
 use Rattle.psg_eval.specs.Own.{AreOwn}
 use Rattle.psg_eval.specs.OwnRows.{OwnRow, whole_row}
@@ -70,7 +71,7 @@ returns-clause-sorted c =
     let rows = c.as_slice-3.result.now in
     let pairs = c.as_slice-4.result.now in
     let keep = c.as_slice-5.result.now in
-    ok_map c.select.result (λ rel. (ss : List ℕ) → AllHaveSorts def.signature rows ss → IsRelation def.signature (picked ss keep) (IsSelected def.signature rows pairs keep) rel)
+    IfOk-weaker c.select.result (λ rel. (ss : List ℕ) → AllHaveSorts def.signature rows ss → IsRelation def.signature (picked ss keep) (IsSelected def.signature rows pairs keep) rel)
     (λ rel. (names : List Name) → AreOwn def op names slots own → IsPartial def (Phylum op.phylum) (slot_kinds def op.items) (record { header = own.header; seen = 0; wanted = length slots; rel = rel }))
     (λ rel made names are.
     let ss = row_sorts def op names slots own c.requires.operator are in
@@ -89,7 +90,7 @@ returns-clause-rows c =
     let rows = c.as_slice-3.result.now in
     let pairs = c.as_slice-4.result.now in
     let keep = c.as_slice-5.result.now in
-    ok_map c.select.result (λ rel. (ss : List ℕ) → AllHaveSorts def.signature rows ss → IsRelation def.signature (picked ss keep) (IsSelected def.signature rows pairs keep) rel)
+    IfOk-weaker c.select.result (λ rel. (ss : List ℕ) → AllHaveSorts def.signature rows ss → IsRelation def.signature (picked ss keep) (IsSelected def.signature rows pairs keep) rel)
     (λ rel. (names : List Name) → AreOwn def op names slots own → (ss : List ℕ) × IsRelation def.signature ss (OwnRow def.signature op names) rel)
     (λ rel made names are.
     let ss = row_sorts def op names slots own c.requires.operator are in

@@ -1,4 +1,4 @@
-use Rattle.std.proofs.Common.{◌≡◌, ◌+◌, ◌-◌, ◌∷◌, ◌++◌, length, slice_index_or, refl, sym, ◌∙◌, ap, ap₂, arith}
+use Rattle.std.proofs.Common.{◌≡◌, ◌+◌, ◌-◌, ◌∷◌, ◌++◌, [], length, slice_index_or, refl, sym, ◌∙◌, ap, ap₂, arith}
 use Rattle.std.proofs.lemmas.List.{length-map}
 use Rattle.psg_scope.specs.Headers.{keys, key_of}
 use Rattle.psg_eval.specs.Walks.{run}
@@ -38,11 +38,15 @@ returns c =
     let m = child.seen in
     let a = length c.as_slice-lefts.result.now in
     let b = length c.as_slice-rights.result.now in
-    let keep : c.extend_from_slice.new.self.items ≡ run 0 (1 + s) ++ run (1 + s + before.wanted + a + 1) m ++ run (1 + s + 1) (before.wanted - 1) ++ c.in_ok-placed.placed.columns.items =
-    c.in_ok-extend_from_slice.ensures.items
-    ∙ ap₂ (λ x y. x ++ y) (c.in_ok-push_run-2.ensures ∙ ap (λ x. x ++ run (1 + s + 1) (before.wanted - 1)) (c.in_ok-push_run.ensures ∙ ap (λ x. x ++ run (1 + s + before.wanted + a + 1) m) c.in_ok-keep.ensures)) c.as_slice-3.ensures.value in
-    let pairs : c.extend_from_slice-2.new.self.items ≡ (1 + s, 0) ∷ c.in_ok-placed.placed.pairs.items =
-    c.in_ok-extend_from_slice-2.ensures.items ∙ ap₂ (λ x y. x ++ y) c.in_ok-pairs.ensures.items c.as_slice-4.ensures.value in
+    let P = c.in_ok-placed.placed in
+    let none = c.in_ok-keep.ensures.items in
+    let one = c.in_ok-push_run.ensures ∙ ap (λ x. x ++ run 0 (1 + s)) none in
+    let two = c.in_ok-push_run-2.ensures ∙ ap (λ x. x ++ run (1 + s + before.wanted + a + 1) m) one in
+    let three = c.in_ok-push_run-3.ensures ∙ ap (λ x. x ++ run (1 + s + 1) (before.wanted - 1)) two in
+    let keep : c.extend_from_slice.new.self.items ≡ run 0 (1 + s) ++ run (1 + s + before.wanted + a + 1) m ++ run (1 + s + 1) (before.wanted - 1) ++ P.columns.items =
+    c.in_ok-extend_from_slice.ensures.items ∙ ap₂ (λ x y. x ++ y) three c.as_slice-columns.ensures.value in
+    let pairs : c.extend_from_slice-2.new.self.items ≡ (1 + s, 0) ∷ P.pairs.items =
+    c.in_ok-extend_from_slice-2.ensures.items ∙ ap₂ (λ x y. x ++ y) (c.in_ok-push.ensures.items ∙ ap (λ x. x ++ (1 + s, 0) ∷ []) c.in_ok-pairs.ensures.items) c.as_slice-shared.ensures.value in
     layout_of before.seen before.wanted child.seen K L (keys c.args.joined.now.header.names) s m a b c.as_slice.result.now c.as_slice-2.result.now
     c.extend_from_slice.new.self.items c.in_ok-placed.placed.pairs.items c.extend_from_slice-2.new.self.items c.in_ok-placed.placed.columns.items
     refl refl (ap length c.as_slice-lefts.ensures ∙ sym (length-map before.header.names key_of))

@@ -1,8 +1,9 @@
 use Rattle.std.proofs.Common.{◌≡◌, ◌+◌, ◌∷◌, ◌++◌, ℕ, List, sym, subst, refl}
+use Rattle.std.proofs.lemmas.Result.{IfOk-weaker}
 use Rattle.psg_terms.specs.Relations.{IsGlued, IsRelation}
 use Rattle.psg_grammar.specs.declared.types.Kind.{Kind}
 use Rattle.psg_relation.specs.Choices.{AllHaveSorts, Agrees, HasWide, picked}
-use Rattle.psg_relation.proofs.Making.{err_map, ok_map}
+use Rattle.psg_relation.proofs.Making.{err_map}
 use Rattle.psg_scope.specs.Headers.{keys}
 use Rattle.psg_eval.specs.Glues.{NextGlue}
 use Rattle.psg_eval.specs.Partials.{IsPartial}
@@ -38,7 +39,7 @@ returns-clause-sorted c =
     let pairs = c.as_slice.result.now in
     let keep = c.as_slice-2.result.now in
     let l = the_layout (goal.at.returns-clause-sorted c).After-as_slice-2 in
-    ok_map c.join.result (λ rel. (ls rs : List ℕ) → AllHaveSorts def.signature before.rel ls → AllHaveSorts def.signature child.rel rs
+    IfOk-weaker c.join.result (λ rel. (ls rs : List ℕ) → AllHaveSorts def.signature before.rel ls → AllHaveSorts def.signature child.rel rs
     → IsRelation def.signature (picked (ls ++ rs) keep) (IsGlued def.signature (Agrees pairs keep) before.rel child.rel) rel)
     (λ rel. (kind : Kind) (kinds : List Kind) → IsPartial def kind (child.kind ∷ kinds) before → (more : ℕ) → more + 1 ≡ before.wanted
     → IsPartial def kind kinds (record { header = h; seen = before.seen + child.seen; wanted = more; rel = rel }))
@@ -63,7 +64,7 @@ returns-clause-rows c =
     let (kind, kinds, part) = c.requires.partial in
     let ls = left_sorts def kind kinds before child h pairs keep part c.requires.child l in
     let rs = right_sorts def kind kinds before child h pairs keep part c.requires.child l in
-    ok_map c.join.result (λ rel. (ls rs : List ℕ) → AllHaveSorts def.signature before.rel ls → AllHaveSorts def.signature child.rel rs
+    IfOk-weaker c.join.result (λ rel. (ls rs : List ℕ) → AllHaveSorts def.signature before.rel ls → AllHaveSorts def.signature child.rel rs
     → IsRelation def.signature (picked (ls ++ rs) keep) (IsGlued def.signature (Agrees pairs keep) before.rel child.rel) rel)
     (λ rel. (ss : List ℕ) × IsRelation def.signature ss (IsGlued def.signature (NextGlue before.seen (keys before.header.names) (keys child.header.names) (keys h.names)) before.rel child.rel) rel)
     (λ rel made.

@@ -1,6 +1,6 @@
 use Rattle.std.proofs.Common.{◌≡◌, ◌+◌, ◌∷◌, ◌∙◌, Some, List, sym, subst, ap}
+use Rattle.std.proofs.lemmas.Result.{IfOk-weaker}
 use Rattle.psg_grammar.specs.declared.types.Kind.{Kind}
-use Rattle.psg_relation.proofs.Making.{ok_map}
 use Rattle.psg_eval.specs.declared.partial.Partial.{Partial}
 use Rattle.psg_eval.specs.Partials.{IsPartial}
 use Rattle.psg_eval.specs.Patterns.{MatchPart, SuitsKind, seen_of}
@@ -35,7 +35,7 @@ pub returns-in-Some-clause-partial : goal.returns-in-Some-clause-partial
 returns-in-Some-clause-partial c =
     let def = c.args.definition.now in
     let e = some (goal.at.returns-in-Some-clause-partial c).After-known in
-    ok_map c.with_known.result (λ (p : Partial). (kind : Kind) (kinds : List Kind) → IsPartial def kind (c.known.result.now.kind ∷ kinds) c.args.before → IsPartial def kind kinds p)
+    IfOk-weaker c.with_known.result (λ (p : Partial). (kind : Kind) (kinds : List Kind) → IsPartial def kind (c.known.result.now.kind ∷ kinds) c.args.before → IsPartial def kind kinds p)
     (λ (p : Partial). (kind k : Kind) (kinds : List Kind) → SuitsKind def c.args.child.now k → IsPartial def kind (k ∷ kinds) c.args.before → IsPartial def kind kinds p)
     (λ p next kind k kinds suits part. next kind kinds (known_partial def c.args.child.now c.known.result.now e kind k kinds c.args.before suits part))
     c.with_known.ensures.partial
@@ -43,7 +43,7 @@ returns-in-Some-clause-partial c =
 pub returns-in-Some-clause-seen : goal.returns-in-Some-clause-seen
 returns-in-Some-clause-seen c =
     let e = some (goal.at.returns-in-Some-clause-seen c).After-known in
-    ok_map c.with_known.result (λ (p : Partial). p.seen ≡ c.args.before.seen + c.known.result.now.seen) (λ (p : Partial). p.seen ≡ c.args.before.seen + seen_of c.args.child.now)
+    IfOk-weaker c.with_known.result (λ (p : Partial). p.seen ≡ c.args.before.seen + c.known.result.now.seen) (λ (p : Partial). p.seen ≡ c.args.before.seen + seen_of c.args.child.now)
     (λ p h. h ∙ ap (λ o. c.args.before.seen + seen_of o) (sym e))
     c.with_known.ensures.seen
 

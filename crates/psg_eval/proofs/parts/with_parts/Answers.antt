@@ -1,17 +1,17 @@
 use Rattle.std.proofs.Common.{rules, Err, ◌≡◌, ◌+◌, ◌∷◌, length, drop, slice_get, Some, List, sym, subst, ap, ◌∙◌, arith}
+use Rattle.psg_terms.proofs.Lists.{slice_get_item}
 use Rattle.psg_grammar.specs.declared.types.Kind.{Kind}
 use Rattle.psg_eval.specs.declared.partial.Partial.{Partial}
 use Rattle.psg_eval.specs.Partials.{IsPartial}
 use Rattle.psg_eval.specs.Patterns.{SuitsKind, seen_of}
 use Rattle.psg_eval.specs.Stages.{IsMade, MatchMade}
-use Rattle.psg_eval.proofs.LeafAnswers.{at_place}
 use Rattle.psg_eval.proofs.Numbers.{numbered_if}
 use Rattle.psg_eval.proofs.PatternSteps.{next_fault, next_made, now_suits, numbered_part, put_all, put_none, put_seen, put_seen_all}
 use Rattle.psg_eval.proofs.parts.with_parts.Goals as goal
 use Rattle.psg_eval.proofs.parts.with_parts.Goals.{After-index-children-i}
 
 at : (c : After-index-children-i) → slice_get c.args.children.now c.loop-i.i ≡ Some c.index-children-i.result
-at c = at_place c.args.children.now c.loop-i.i c.index-children-i.result c.loop-i-test.true c.index-children-i.is
+at c = slice_get_item c.args.children.now c.loop-i.i c.index-children-i.result c.loop-i-test.true c.index-children-i.is
 
 pub loop-i-init : goal.loop-i-init
 loop-i-init c = (put_none c.args.definition.now c.args.children.now c.args.first, omega arith)

@@ -1,7 +1,7 @@
 use Rattle.std.proofs.Common.{rules, Ok, Err, ◌≡◌, ◌∙◌, sym, subst, ap}
 use Rattle.psg_grammar.specs.Fragments.{cell}
 use Rattle.psg_grammar.specs.declared.types.Kind.TheVariants as kinds
-use Rattle.psg_eval.specs.declared.summary.Known.{Known}
+use Rattle.psg_eval.specs.declared.summary.SummaryParts.{SummaryParts}
 use Rattle.psg_eval.specs.Summaries.{Answers, IsSummary}
 use Rattle.psg_eval.proofs.CellRows.{whole_summary}
 use Rattle.psg_eval.proofs.Numbers.{fault_answers}
@@ -23,7 +23,7 @@ returns-in_err-whole-clause-answer c = λ e r one two.
 pub returns-clause-answer : goal.returns-clause-answer
 returns-clause-answer c = λ e r one two.
     let def = c.args.definition.now in
-    subst (λ (s : Known). Answers def (cell c.args.list e r) (Ok s)) (sym (is (goal.at.returns-clause-answer c).After-new))
+    subst (λ (s : SummaryParts). Answers def (cell c.args.list e r) (Ok s)) (sym (is (goal.at.returns-clause-answer c).After-new))
     (cell_parts_answer def c.requires.sound c.args.list e r c.args.element.now c.args.rest.now one two c.in_ok-whole.whole c.in_ok-whole.ensures.seen (c.in_ok-whole.ensures.made e r one two))
 
 pub returns-clause-pattern : goal.returns-clause-pattern
@@ -31,7 +31,7 @@ returns-clause-pattern c = subst (IsSummary c.args.definition.now) (sym (is (goa
     (whole_summary c.args.definition.now (kinds.List c.args.list) c.in_ok-whole.whole c.in_ok-whole.ensures.partial)
 
 pub returns-clause-kind : goal.returns-clause-kind
-returns-clause-kind c = ap (λ (s : Known). s.kind) (is (goal.at.returns-clause-kind c).After-new)
+returns-clause-kind c = ap (λ (s : SummaryParts). s.kind) (is (goal.at.returns-clause-kind c).After-new)
 
 pub returns-clause-seen : goal.returns-clause-seen
-returns-clause-seen c = ap (λ (s : Known). s.seen) (is (goal.at.returns-clause-seen c).After-new) ∙ c.in_ok-whole.ensures.seen
+returns-clause-seen c = ap (λ (s : SummaryParts). s.seen) (is (goal.at.returns-clause-seen c).After-new) ∙ c.in_ok-whole.ensures.seen

@@ -1,11 +1,12 @@
 use Rattle.std.proofs.Common.{rules, Ok, Err, ◌≡◌, ◌∙◌, List, Some, get_or, slice_get, sym, subst, ap}
+use Rattle.psg_terms.proofs.Lists.{slice_get_once}
 use Rattle.psg_grammar.specs.declared.types.Kind.TheVariants as kinds
 use Rattle.psg_grammar.specs.declared.types.Operator.{Operator}
 use Rattle.psg_grammar.proofs.SoundParts.{operator_sound}
-use Rattle.psg_eval.specs.declared.summary.Known.{Known}
+use Rattle.psg_eval.specs.declared.summary.SummaryParts.{SummaryParts}
 use Rattle.psg_eval.specs.Patterns.{TakesChildren}
 use Rattle.psg_eval.specs.Summaries.{Answers, IsSummary}
-use Rattle.psg_eval.proofs.NodeSteps.{place_there, same_there}
+use Rattle.psg_eval.proofs.NodeSteps.{place_there}
 use Rattle.psg_eval.proofs.patterning.pattern_op.Goals as goal
 use Rattle.psg_eval.proofs.patterning.pattern_op.Goals.{After-index-as_slice-op}
 
@@ -24,7 +25,7 @@ node_with-requires-clause-takes c =
     let def = c.args.definition.now in
     let read = c.index-as_slice-op.result in
     subst (λ (o : Operator). TakesChildren def o c.args.names.now c.args.children.now)
-    (same_there def.operators c.args.op c.requires.takes.0 read c.requires.takes.1 (there (goal.at.node_with-requires-clause-takes c).After-index-as_slice-op)) c.requires.takes.2
+    (slice_get_once def.operators c.args.op c.requires.takes.0 read c.requires.takes.1 (there (goal.at.node_with-requires-clause-takes c).After-index-as_slice-op)) c.requires.takes.2
 
 pub returns-in_err-summary-clause-answer : goal.returns-in_err-summary-clause-answer
 returns-in_err-summary-clause-answer c = λ f node all.
@@ -35,7 +36,7 @@ returns-in_err-summary-clause-answer c = λ f node all.
 
 pub returns-clause-answer : goal.returns-clause-answer
 returns-clause-answer c = λ f node all.
-    subst (λ (s : Known). Answers c.args.definition.now f (Ok s)) (sym c.new.ensures)
+    subst (λ (s : SummaryParts). Answers c.args.definition.now f (Ok s)) (sym c.new.ensures)
     (c.in_ok-summary.ensures.answer c.args.op f (there (goal.at.returns-clause-answer c).After-index-as_slice-op) node all)
 
 pub returns-clause-pattern : goal.returns-clause-pattern
@@ -45,8 +46,8 @@ pub returns-clause-kind : goal.returns-clause-kind
 returns-clause-kind c = λ o at.
     let def = c.args.definition.now in
     let read = c.index-as_slice-op.result in
-    ap (λ (s : Known). s.kind) c.new.ensures ∙ c.in_ok-summary.ensures.kind
-    ∙ ap (λ (x : Operator). kinds.Phylum x.phylum) (same_there def.operators c.args.op read o (there (goal.at.returns-clause-kind c).After-index-as_slice-op) at)
+    ap (λ (s : SummaryParts). s.kind) c.new.ensures ∙ c.in_ok-summary.ensures.kind
+    ∙ ap (λ (x : Operator). kinds.Phylum x.phylum) (slice_get_once def.operators c.args.op read o (there (goal.at.returns-clause-kind c).After-index-as_slice-op) at)
 
 pub returns-clause-seen : goal.returns-clause-seen
-returns-clause-seen c = ap (λ (s : Known). s.seen) c.new.ensures ∙ c.in_ok-summary.ensures.seen
+returns-clause-seen c = ap (λ (s : SummaryParts). s.seen) c.new.ensures ∙ c.in_ok-summary.ensures.seen

@@ -1,9 +1,13 @@
 use Rattle.std.proofs.Common.{◌≡◌, length, ◌+◌, sym, subst, ◌∙◌, ap, arith}
 use Rattle.std.proofs.lemmas.List.{length-map}
 use Rattle.psg_scope.specs.Headers.{ArePlaces, key_of}
-use Rattle.psg_eval.proofs.WalkSteps.{IsPlacedUpTo, all_placed, both_placed, left_placed, right_placed}
+use Rattle.psg_eval.proofs.WalkSteps.{IsPlacedUpTo, none_placed, all_placed, both_placed, left_placed, right_placed}
 use Rattle.psg_eval.proofs.placing.key_columns.Goals as goal
 use Rattle.psg_eval.proofs.placing.key_columns.Goals.{then-on_left+then-on_right+in_ok-add_both, else-on_left+then-on_left-2+in_ok-add_left, else-on_left+else-on_left-2+then-on_right-2+in_ok-add_right}
+
+pub loop-place-init : goal.loop-place-init
+loop-place-init c =
+    none_placed c.args.joined.now.header.names c.as_slice-lefts.result.now c.as_slice-rights.result.now c.args.left.now c.args.right.now c.args.offset _ _ c.in_ok-with_capacity.ensures.items c.in_ok-with_capacity-2.ensures.items
 
 pub loop-place-preserved : goal.loop-place-preserved
 loop-place-preserved c =

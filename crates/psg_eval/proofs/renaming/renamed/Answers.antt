@@ -3,7 +3,7 @@ use Rattle.psg_terms.specs.Relations.{IsRelation}
 use Rattle.psg_columns.specs.Fewer.{KeptOnce}
 use Rattle.psg_relation.specs.Choices.{AllHaveSorts, AllWithin, IsProjected, picked}
 use Rattle.psg_scope.specs.Headers.{keys}
-use Rattle.psg_eval.specs.declared.summary.Known.{Known}
+use Rattle.psg_eval.specs.declared.summary.SummaryParts.{SummaryParts}
 use Rattle.psg_eval.specs.Renamed.{IsRenamed}
 use Rattle.psg_eval.specs.Summaries.{IsSummary}
 use Rattle.psg_eval.proofs.MovedColumns.{columns_once, columns_within, is_renamed, lefts_many, renamed_usual, rights_many, union_of, walk_of}
@@ -83,7 +83,7 @@ kept_rows-requires-clause-within c =
     let h = c.in_ok-joined.joined.header in
     let pairs = c.in_ok-placed.placed.pairs.items in
     let columns = c.in_ok-placed.placed.columns.items in
-    let silent : k.seen ≡ 0 = ap (λ (x : Known). x.seen) c.known-known.ensures ∙ c.requires.silent in
+    let silent : k.seen ≡ 0 = ap (λ (x : SummaryParts). x.seen) c.known-known.ensures ∙ c.requires.silent in
     let w = walk_of from to k lefts rights parts.moved parts.others a b made.moved made.others (keys h.names) pairs columns
     (c.in_ok-placed.ensures (keys parts.moved.names) (keys parts.others.names) c.in_ok-joined.ensures.left c.in_ok-joined.ensures.right) in
     let kept : c.as_slice-2.result.now ≡ 0 ∷ columns = c.as_slice-2.ensures.value ∙ c.in_ok-keep.ensures ∙ ap (λ l. 0 ∷ l) c.as_slice.ensures.value in
@@ -105,7 +105,7 @@ kept_rows-requires-clause-once c =
     let h = c.in_ok-joined.joined.header in
     let pairs = c.in_ok-placed.placed.pairs.items in
     let columns = c.in_ok-placed.placed.columns.items in
-    let silent : k.seen ≡ 0 = ap (λ (x : Known). x.seen) c.known-known.ensures ∙ c.requires.silent in
+    let silent : k.seen ≡ 0 = ap (λ (x : SummaryParts). x.seen) c.known-known.ensures ∙ c.requires.silent in
     let w = walk_of from to k lefts rights parts.moved parts.others a b made.moved made.others (keys h.names) pairs columns
     (c.in_ok-placed.ensures (keys parts.moved.names) (keys parts.others.names) c.in_ok-joined.ensures.left c.in_ok-joined.ensures.right) in
     let kept : c.as_slice-2.result.now ≡ 0 ∷ columns = c.as_slice-2.ensures.value ∙ c.in_ok-keep.ensures ∙ ap (λ l. 0 ∷ l) c.as_slice.ensures.value in
@@ -127,7 +127,7 @@ returns-clause-renamed c =
     let h = c.in_ok-joined.joined.header in
     let pairs = c.in_ok-placed.placed.pairs.items in
     let columns = c.in_ok-placed.placed.columns.items in
-    let silent : k.seen ≡ 0 = ap (λ (x : Known). x.seen) c.known-known.ensures ∙ c.requires.silent in
+    let silent : k.seen ≡ 0 = ap (λ (x : SummaryParts). x.seen) c.known-known.ensures ∙ c.requires.silent in
     let w = walk_of from to k lefts rights parts.moved parts.others a b made.moved made.others (keys h.names) pairs columns
     (c.in_ok-placed.ensures (keys parts.moved.names) (keys parts.others.names) c.in_ok-joined.ensures.left c.in_ok-joined.ensures.right) in
     let kept : c.as_slice-2.result.now ≡ 0 ∷ columns = c.as_slice-2.ensures.value ∙ c.in_ok-keep.ensures ∙ ap (λ l. 0 ∷ l) c.as_slice.ensures.value in
@@ -137,8 +137,8 @@ returns-clause-renamed c =
     let new = c.in_ok-made.made in
     let is = c.in_ok-made.ensures in
     let union = union_of from to k lefts rights parts.moved parts.others a b made.moved made.others h c.in_ok-joined.ensures.union in
-    subst (λ (x : Known). IsRenamed def from to x new) c.known-known.ensures
-    (is_renamed def k from to sum silent h pairs columns w union c.in_ok-joined.ensures.ordered rows all new (ap (λ (x : Known). x.kind) is) (ap (λ (x : Known). x.header) is) (ap (λ (x : Known). x.seen) is) (ap (λ (x : Known). x.rel) is))
+    subst (λ (x : SummaryParts). IsRenamed def from to x new) c.known-known.ensures
+    (is_renamed def k from to sum silent h pairs columns w union c.in_ok-joined.ensures.ordered rows all new (ap (λ (x : SummaryParts). x.kind) is) (ap (λ (x : SummaryParts). x.header) is) (ap (λ (x : SummaryParts). x.seen) is) (ap (λ (x : SummaryParts). x.rel) is))
 
 pub returns-clause-summary : goal.returns-clause-summary
 returns-clause-summary c =
@@ -156,7 +156,7 @@ returns-clause-summary c =
     let h = c.in_ok-joined.joined.header in
     let pairs = c.in_ok-placed.placed.pairs.items in
     let columns = c.in_ok-placed.placed.columns.items in
-    let silent : k.seen ≡ 0 = ap (λ (x : Known). x.seen) c.known-known.ensures ∙ c.requires.silent in
+    let silent : k.seen ≡ 0 = ap (λ (x : SummaryParts). x.seen) c.known-known.ensures ∙ c.requires.silent in
     let w = walk_of from to k lefts rights parts.moved parts.others a b made.moved made.others (keys h.names) pairs columns
     (c.in_ok-placed.ensures (keys parts.moved.names) (keys parts.others.names) c.in_ok-joined.ensures.left c.in_ok-joined.ensures.right) in
     let kept : c.as_slice-2.result.now ≡ 0 ∷ columns = c.as_slice-2.ensures.value ∙ c.in_ok-keep.ensures ∙ ap (λ l. 0 ∷ l) c.as_slice.ensures.value in
@@ -165,4 +165,4 @@ returns-clause-summary c =
     let all : Made (0 ∷ columns) = subst Made kept c.in_ok-rel.ensures in
     let new = c.in_ok-made.made in
     let is = c.in_ok-made.ensures in
-    renamed_usual def k from to sum silent h pairs columns w c.in_ok-joined.ensures.ordered rows all new (ap (λ (x : Known). x.kind) is) (ap (λ (x : Known). x.header) is) (ap (λ (x : Known). x.seen) is) (ap (λ (x : Known). x.rel) is)
+    renamed_usual def k from to sum silent h pairs columns w c.in_ok-joined.ensures.ordered rows all new (ap (λ (x : SummaryParts). x.kind) is) (ap (λ (x : SummaryParts). x.header) is) (ap (λ (x : SummaryParts). x.seen) is) (ap (λ (x : SummaryParts). x.rel) is)

@@ -5,7 +5,7 @@ use Rattle.psg_terms.specs.Terms.{Term}
 use Rattle.psg_relation.specs.Choices.{AllWithin}
 use Rattle.psg_scope.specs.declared.header.Header.{Header}
 use Rattle.psg_scope.specs.declared.header.NameCol.{NameCol}
-use Rattle.psg_eval.specs.declared.summary.Known.{Known}
+use Rattle.psg_eval.specs.declared.summary.SummaryParts.{SummaryParts}
 use Rattle.psg_eval.specs.Climbing.{IsObserved}
 use Rattle.psg_eval.specs.Summaries.{IsSummary}
 use Rattle.psg_eval.specs.Walks.{run}
@@ -35,7 +35,7 @@ returns-in-Ok-clause-answer g c = λ t is.
     ∙ ap (λ (ns : List NameCol). 0 ∷ run 0 (1 + length ns)) (c.as_slice-names.ensures ∙ ap (λ (h : Header). h.names) c.header-old.ensures) in
     let e : c.in_ok-made-in-Ok.made ≡ reported def s c.requires.summary c.requires.silent made =
     c.in_ok-made-in-Ok.ensures ∙ ap₂ (λ k (h : Header). record { kind = k; header = h; seen = 1; rel = made }) c.kind.ensures (c.in_ok-header.ensures ∙ c.header-old.ensures) in
-    subst (λ (z : Known). IsObserved def t (Ok z)) (sym e)
+    subst (λ (z : SummaryParts). IsObserved def t (Ok z)) (sym e)
     (observed_ok def s c.requires.summary c.requires.silent t is made
     (made_rel def s c.requires.summary c.requires.silent c.rel.result.now c.as_slice-columns.result.now c.rel.ensures cols made c.in-Ok.ensures.relation) c.in-Ok.ensures.within)
 
@@ -54,10 +54,10 @@ returns-in-Ok-clause-summary g c =
     (made_rel def s c.requires.summary c.requires.silent c.rel.result.now c.as_slice-columns.result.now c.rel.ensures cols made c.in-Ok.ensures.relation))
 
 pub returns-in-Ok-clause-kind : goal.returns-in-Ok-clause-kind
-returns-in-Ok-clause-kind g c = ap (λ (z : Known). z.kind) c.in_ok-made-in-Ok.ensures ∙ c.kind.ensures
+returns-in-Ok-clause-kind g c = ap (λ (z : SummaryParts). z.kind) c.in_ok-made-in-Ok.ensures ∙ c.kind.ensures
 
 pub returns-in-Ok-clause-seen : goal.returns-in-Ok-clause-seen
-returns-in-Ok-clause-seen g c = ap (λ (z : Known). z.seen) c.in_ok-made-in-Ok.ensures
+returns-in-Ok-clause-seen g c = ap (λ (z : SummaryParts). z.seen) c.in_ok-made-in-Ok.ensures
 
 pub returns-clause-answer : goal.returns-clause-answer
 returns-clause-answer g c = λ t is.

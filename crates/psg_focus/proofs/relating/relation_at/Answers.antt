@@ -3,7 +3,7 @@ use Rattle.std.specs.Prelude.{Ok, Err}
 use Rattle.psg_terms.specs.Terms.{Term}
 use Rattle.psg_terms.proofs.OneRelation.{sorts_length}
 use Rattle.psg_relation.specs.Choices.{AllHaveSorts}
-use Rattle.psg_eval.specs.declared.summary.Known.{Known}
+use Rattle.psg_eval.specs.declared.summary.SummaryParts.{SummaryParts}
 use Rattle.psg_eval.specs.Frames.{CanClimb}
 use Rattle.psg_eval.specs.Summaries.{IsSummary}
 use Rattle.psg_focus.specs.Shown.{IsShown}
@@ -26,7 +26,7 @@ climb-climbed-requires-clause-own g c =
 pub climb-climbed-requires-clause-frames : goal.climb-climbed-requires-clause-frames
 climb-climbed-requires-clause-frames g c =
     subst (CanClimb c.args.definition.now c.args.frames.now)
-    (sym (asked_if c.with_report-noted.result c.in_ok-seen.seen (λ (s : Known). s.kind ≡ c.args.own.now.kind) c.with_report-noted.ensures.kind c.in_ok-seen.ensures))
+    (sym (asked_if c.with_report-noted.result c.in_ok-seen.seen (λ (s : SummaryParts). s.kind ≡ c.args.own.now.kind) c.with_report-noted.ensures.kind c.in_ok-seen.ensures))
     c.requires.frames
 
 pub returns-in_err-whole-clause-shown : goal.returns-in_err-whole-clause-shown
@@ -44,8 +44,8 @@ reported_column-requires-clause-summary g c =
 
 pub reported_column-requires-clause-reported : goal.reported_column-requires-clause-reported
 reported_column-requires-clause-reported g c =
-    asked_if c.climb-climbed.result c.in_ok-whole.whole (λ (s : Known). s.seen ≡ c.in_ok-seen.seen.seen) c.climb-climbed.ensures.seen c.in_ok-whole.ensures
-    ∙ asked_if c.with_report-noted.result c.in_ok-seen.seen (λ (s : Known). s.seen ≡ 1) c.with_report-noted.ensures.seen c.in_ok-seen.ensures
+    asked_if c.climb-climbed.result c.in_ok-whole.whole (λ (s : SummaryParts). s.seen ≡ c.in_ok-seen.seen.seen) c.climb-climbed.ensures.seen c.in_ok-whole.ensures
+    ∙ asked_if c.with_report-noted.result c.in_ok-seen.seen (λ (s : SummaryParts). s.seen ≡ 1) c.with_report-noted.ensures.seen c.in_ok-seen.ensures
 
 pub only_terms-requires : goal.only_terms-requires
 only_terms-requires g c = λ row i.

@@ -1,5 +1,5 @@
-use Rattle.psg_menu.proofs.BlankLaws.{at_place}
+use Rattle.std.proofs.lemmas.Option.{slice_get-get_or}
 use Rattle.psg_menu.proofs.blanks.kind_at.Goals as goal
 
 pub returns : goal.returns
-returns c = at_place c.args.kinds.now c.args.place _ c.requires
+returns c = slice_get-get_or c.args.kinds.now c.args.place _ c.requires

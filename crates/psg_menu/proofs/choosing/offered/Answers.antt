@@ -1,4 +1,5 @@
 use Rattle.std.proofs.Common.{rules, ◌≡◌, ◌∙◌, Bool, List, length, ap, sym, subst, arith}
+use Rattle.psg_eval.proofs.StartLaws.{names_in_count}
 use Rattle.std.specs.Prelude.{Result, Ok, Err, count_by}
 use Rattle.std.specs.List.{AllByRecursion}
 use Rattle.psg_grammar.specs.declared.types.Operator.{Operator}
@@ -9,7 +10,6 @@ use Rattle.psg_eval.specs.declared.question.FocusFault.{FocusFault}
 use Rattle.psg_eval.specs.Summaries.{are_names, slot_kinds}
 use Rattle.psg_menu.specs.Trials.{AreBlanks, IsBlanksAnswer, IsOffered, IsTried}
 use Rattle.psg_menu.proofs.MenuLaws.{offered_blanks, offered_fault, offered_good, op_slots, op_ticks_are, read_op}
-use Rattle.psg_menu.proofs.WordLaws.{positions}
 use Rattle.psg_menu.proofs.choosing.offered.Goals as goal
 
 pub new_trees-requires-clause-kinds : goal.new_trees-requires-clause-kinds
@@ -33,7 +33,7 @@ returns-in_err-below-clause-offered g c =
     let kinds : c.as_slice-slots.result.now ≡ slot_kinds def o.items =
     c.as_slice-slots.ensures.value ∙ c.in_ok-kinds.ensures ∙ ap (slot_kinds def) (c.as_slice-items.ensures ∙ ap (λ (x : Operator). x.items) same) in
     let many : length (are_names def o.items) ≡ length c.in_ok-words.words.items =
-    positions def o.items ∙ ap (λ (x : Operator). count_by is_name_position x.items) (sym same) ∙ sym c.name_positions-count.ensures ∙ sym c.in_ok-words.ensures.many in
+    names_in_count def o.items ∙ ap (λ (x : Operator). count_by is_name_position x.items) (sym same) ∙ sym c.name_positions-count.ensures ∙ sym c.in_ok-words.ensures.many in
     let fault = c.in_err-below.field-0.0 in
     let d : c.from_residual-in_err-below.result ≡ Err fault = search rules in
     subst (IsOffered def around c.args.menu.used.now c.args.op) (sym d)
@@ -60,7 +60,7 @@ tried-requires-clause-operator g c =
     let kinds : c.as_slice-slots.result.now ≡ slot_kinds def o.items =
     c.as_slice-slots.ensures.value ∙ c.in_ok-kinds.ensures ∙ ap (slot_kinds def) (c.as_slice-items.ensures ∙ ap (λ (x : Operator). x.items) same) in
     let many : length (are_names def o.items) ≡ length c.in_ok-words.words.items =
-    positions def o.items ∙ ap (λ (x : Operator). count_by is_name_position x.items) (sym same) ∙ sym c.name_positions-count.ensures ∙ sym c.in_ok-words.ensures.many in (
+    names_in_count def o.items ∙ ap (λ (x : Operator). count_by is_name_position x.items) (sym same) ∙ sym c.name_positions-count.ensures ∙ sym c.in_ok-words.ensures.many in (
       o,
       found,
       many ∙ ap length (sym c.as_slice-names.ensures.value),
@@ -77,7 +77,7 @@ returns-in_err-good-clause-offered g c =
     let read = c.index-as_slice-op.result in
     let same = read_op def c.as_slice.result.now c.args.op o read found c.as_slice.ensures c.index-as_slice-op.is in
     let many : length (are_names def o.items) ≡ length c.in_ok-words.words.items =
-    positions def o.items ∙ ap (λ (x : Operator). count_by is_name_position x.items) (sym same) ∙ sym c.name_positions-count.ensures ∙ sym c.in_ok-words.ensures.many in
+    names_in_count def o.items ∙ ap (λ (x : Operator). count_by is_name_position x.items) (sym same) ∙ sym c.name_positions-count.ensures ∙ sym c.in_ok-words.ensures.many in
     let names : c.as_slice-names.result.now ≡ c.in_ok-words.words.items = c.as_slice-names.ensures.value in
     let tried : (r : Result Bool FocusFault) → IsTried def around c.args.op c.as_slice-names.result.now r → IsTried def around c.args.op c.in_ok-words.words.items r =
     λ r. subst (λ ns. IsTried def around c.args.op ns r) names in
@@ -105,7 +105,7 @@ returns-clause-offered g c =
     let read = c.index-as_slice-op.result in
     let same = read_op def c.as_slice.result.now c.args.op o read found c.as_slice.ensures c.index-as_slice-op.is in
     let many : length (are_names def o.items) ≡ length c.in_ok-words.words.items =
-    positions def o.items ∙ ap (λ (x : Operator). count_by is_name_position x.items) (sym same) ∙ sym c.name_positions-count.ensures ∙ sym c.in_ok-words.ensures.many in
+    names_in_count def o.items ∙ ap (λ (x : Operator). count_by is_name_position x.items) (sym same) ∙ sym c.name_positions-count.ensures ∙ sym c.in_ok-words.ensures.many in
     let names : c.as_slice-names.result.now ≡ c.in_ok-words.words.items = c.as_slice-names.ensures.value in
     let tried : (r : Result Bool FocusFault) → IsTried def around c.args.op c.as_slice-names.result.now r → IsTried def around c.args.op c.in_ok-words.words.items r =
     λ r. subst (λ ns. IsTried def around c.args.op ns r) names in

@@ -1,6 +1,6 @@
 use Rattle.std.proofs.Common.{rules, ◌≡◌, ◌∙◌, sym, subst}
 use Rattle.std.specs.Prelude.{Err, sum_by}
-use Rattle.psg_eval.specs.declared.summary.Known.{Known}
+use Rattle.psg_eval.specs.declared.summary.SummaryParts.{SummaryParts}
 use Rattle.psg_menu.specs.Trials.{IsTried}
 use Rattle.psg_menu.proofs.NewTrees.{new_takes}
 use Rattle.psg_menu.proofs.TrialLaws.{asked_if, silent_below, tried_above, tried_fault, tried_good}
@@ -22,7 +22,7 @@ returns-in_err-own-clause-tried g c =
 pub judged_once-requires-clause-silent : goal.judged_once-requires-clause-silent
 judged_once-requires-clause-silent g c =
     let (o, found, many, blanks, can) = c.requires.operator in
-    asked_if c.eval_op-made.result c.in_ok-own.own (λ (s : Known). s.seen ≡ sum_by (λ (x : Known). x.seen) c.args.below.now) c.eval_op-made.ensures.seen c.in_ok-own.ensures
+    asked_if c.eval_op-made.result c.in_ok-own.own (λ (s : SummaryParts). s.seen ≡ sum_by (λ (x : SummaryParts). x.seen) c.args.below.now) c.eval_op-made.ensures.seen c.in_ok-own.ensures
     ∙ silent_below c.args.definition.now c.args.frames.now c.args.op o found c.args.names.now c.args.below.now blanks
 
 pub returns-in_err-good-clause-tried : goal.returns-in_err-good-clause-tried

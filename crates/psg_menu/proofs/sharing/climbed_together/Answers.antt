@@ -1,9 +1,10 @@
 use Rattle.std.proofs.Common.{rules, ◌≡◌, ◌+◌, length, sym, subst, arith}
+use Rattle.std.proofs.Math.Nat.{mul-add}
 use Rattle.std.specs.Prelude.{Err}
 use Rattle.psg_eval.specs.Frames.{rungs, rungs_in}
 use Rattle.psg_eval.proofs.FrameLaws.{rungs_next}
 use Rattle.psg_menu.specs.Sharing.{IsLevelAnswer, rises_of}
-use Rattle.psg_menu.proofs.Climbing.{all_climbed, climbing_frame, first_climbing, frame_fault, frame_next, times_same, times_sum}
+use Rattle.psg_menu.proofs.Climbing.{all_climbed, climbing_frame, first_climbing, frame_fault, frame_next, times_same}
 use Rattle.psg_menu.proofs.sharing.climbed_together.Goals as goal
 
 pub loop-frame-init : goal.loop-frame-init
@@ -52,7 +53,7 @@ loop-frame-preserved g c =
     let left = c.loop-frame.left.now in
     let split = c.in-Some.ensures.cases.0 in
     let sum = times_same (length candidates) (rungs left) (rungs_in frame + rungs more) (rungs_next frame left more split) in
-    let parts = times_sum (length candidates) (rungs_in frame) (rungs more) in
+    let parts = mul-add (length candidates) (rungs_in frame) (rungs more) in
     record {
       level = λ o below kind apart can usual reach within.
           let h = c.loop-frame.invariant.level o below kind apart can usual reach within in
@@ -69,7 +70,7 @@ returns-in_err-next-clause-ticks g c =
     let left = c.loop-frame.left.now in
     let many = length c.args.candidates.now in
     let sum = times_same many (rungs left) (rungs_in frame + rungs more) (rungs_next frame left more c.in-Some.ensures.cases.0) in
-    let parts = times_sum many (rungs_in frame) (rungs more) in
+    let parts = mul-add many (rungs_in frame) (rungs more) in
     omega (arith, sum, parts, c.over_frame.ensures.ticks, c.loop-frame.invariant.counted)
 
 pub returns-clause-level : goal.returns-clause-level

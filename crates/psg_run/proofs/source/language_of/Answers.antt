@@ -1,13 +1,12 @@
 use Rattle.std.proofs.Common.{sym, ◌∙◌, subst}
 use Rattle.psg_defread.specs.Reading.{IsReadAs}
-use Rattle.psg_run.proofs.FixedWordLaws.{words_fixed}
 use Rattle.psg_run.proofs.source.language_of.Goals as goal
 
 pub returns-in-Err-clause-err : goal.returns-in-Err-clause-err
 returns-in-Err-clause-err g c = c.end_fault.ensures c.args.text.now c.in-Err.ensures.err
 
 pub accept-requires-clause-words : goal.accept-requires-clause-words
-accept-requires-clause-words g c = words_fixed c.in-Ok.definition c.in-Ok.ensures.words
+accept-requires-clause-words g c = c.in-Ok.ensures.words
 
 pub returns-in-Err-accept-clause-err : goal.returns-in-Err-accept-clause-err
 returns-in-Err-accept-clause-err g c =

@@ -1,5 +1,5 @@
 use Rattle.std.proofs.Common.{true, true≢false, sym, subst, ◌∙◌}
-use Rattle.psg_session.specs.Outcomes.{IsMade}
+use Rattle.psg_session.specs.Outcomes.{IsProposal}
 use Rattle.psg_script.specs.declared.command.Command.TheVariants.{Close}
 use Rattle.psg_session.proofs.ChangeLaws.{end_is_list, found_formed}
 use Rattle.psg_session.proofs.ChangeClose.{close_nowhere, close_refused, close_made}
@@ -30,6 +30,6 @@ pub returns : goal.returns
 returns c =
     let def = c.args.language.now.definition in
     let found = c.in-Ok.found in
-    subst (IsMade def c.args.editor.now (Close c.args.place.now)) (sym c.in_ok-made.ensures)
+    subst (IsProposal def c.args.editor.now (Close c.args.place.now)) (sym c.in_ok-made.ensures)
     (close_made def c.args.editor.now c.args.place.now found c.in-Ok.ensures.ok c.requires.editor
     (c.is_unfinished.ensures.0 c.if-not-is_unfinished.false) c.in_ok-new.new c.in_ok-new.ensures)

@@ -1,6 +1,6 @@
 use Rattle.std.proofs.Common.{sym, subst, true≢false, ◌∙◌}
 use Rattle.psg_script.specs.declared.command.Command.TheVariants.{Cut}
-use Rattle.psg_session.specs.Outcomes.{IsMade}
+use Rattle.psg_session.specs.Outcomes.{IsProposal}
 use Rattle.psg_session.proofs.ChangeLaws.{found_formed, kind_there}
 use Rattle.psg_session.proofs.ChangeCut.{cut_nowhere, cut_declares, cut_made}
 use Rattle.psg_session.proofs.changes.cut.Goals as goal
@@ -41,7 +41,7 @@ returns c =
     let there = kind_there def c.requires.language.sound found.node.now c.kind_of-kind.result
     (found_formed def c.args.editor.now c.args.place.now found c.requires.editor c.in-Ok.ensures.ok)
     c.kind_of-kind.ensures in
-    subst (IsMade def c.args.editor.now (Cut c.args.place.now)) (sym c.in_ok-made.ensures)
+    subst (IsProposal def c.args.editor.now (Cut c.args.place.now)) (sym c.in_ok-made.ensures)
     (cut_made def c.args.editor.now c.args.place.now found c.in-Ok.ensures.ok c.kind_of-kind.result
     c.kind_of-kind.ensures c.requires.editor there
     (λ h. true≢false (sym (c.is_declaring.ensures.1 h) ∙ c.if-is_declaring.false)) c.in_ok-new.new c.in_ok-new.ensures)

@@ -1,9 +1,10 @@
 use Rattle.std.proofs.Common.{◌<◌, inl, inr, List, map, Vec, Global, Some, length, get_or, refl, sym, ap, subst, ◌∙◌}
+use Rattle.psg_terms.proofs.Lists.{IfSome_at}
 use Rattle.psg_grammar.specs.declared.types.Operator.{Operator}
 use Rattle.psg_grammar.specs.Insertion.{Leaf as PlainLeaf, fresh_operator}
 use Rattle.psg_session.specs.declared.leaves.Leaf.{Leaf}
 use Rattle.psg_session.specs.Views.{plain_leaf}
-use Rattle.psg_session.proofs.LeafLaws.{some_in, none_in}
+use Rattle.psg_session.proofs.LeafLaws.{none_in}
 use Rattle.psg_session.proofs.ChangeLaws.{operator_there}
 use Rattle.psg_session.proofs.StepLaws.{some_once}
 use Rattle.psg_session.proofs.Shapes.{read_at}
@@ -75,7 +76,7 @@ returns c =
     ∙ ap Some c.index-as_slice-op.is in
     let leaves = map plain_leaf c.in-Some-2.leaves.items in
     let gives = subst (λ t. GivesLeaves def c.in-Some.op t leaves) c.as_str-2.ensures
-    (some_in (λ (v : Vec Leaf Global). GivesLeaves def c.in-Some.op c.as_str-2.result.now (map plain_leaf v.items))
+    (IfSome_at (λ (v : Vec Leaf Global). GivesLeaves def c.in-Some.op c.as_str-2.result.now (map plain_leaf v.items))
     c.in_ok-leaves.field-0 c.in-Some-2.leaves c.in-Some-2.is c.in_ok-leaves.ensures.some) in (
       c.in-Some.op,
       leaves,

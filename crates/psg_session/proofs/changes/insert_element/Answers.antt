@@ -3,7 +3,7 @@ use Rattle.psg_grammar.specs.Paths.{Path}
 use Rattle.psg_script.specs.declared.command.Command.TheVariants.{Insert}
 use Rattle.psg_session.specs.declared.edits.Edit.TheVariants.{Add}
 use Rattle.psg_session.specs.declared.judging.Trial.TheVariants.{Grows}
-use Rattle.psg_session.specs.Outcomes.{IsFreshAnswer, IsMade, made_of}
+use Rattle.psg_session.specs.Outcomes.{IsFreshAnswer, IsProposal, proposal_of}
 use Rattle.psg_session.proofs.ChangeLaws.{found_formed}
 use Rattle.psg_session.proofs.ChangeInsert.{insert_nowhere, insert_no_list, insert_behind, insert_refused, insert_made}
 use Rattle.psg_session.proofs.NewTrees.{quiet_slots}
@@ -48,10 +48,10 @@ returns c =
     let command = Insert c.args.place.now c.args.number c.args.name.now c.args.arguments.now in
     let (o, leaves, named, of, gives, is_fresh) =
     subst (IsFreshAnswer def p c.args.name.now c.args.arguments.now) c.in-Ok-2.is c.in_ok-fresh.ensures in
-    subst (λ (at : Path). IsMade def c.args.editor.now command
-    (made_of Grows (Add at c.args.number c.in-Ok-2.fresh) c.in_ok-cursor.cursor)) (sym c.in_ok-at.ensures)
-    (subst (λ (cursor : Path). IsMade def c.args.editor.now command
-    (made_of Grows (Add found.path.now c.args.number c.in-Ok-2.fresh) cursor)) (sym c.in_ok-cursor.ensures)
+    subst (λ (at : Path). IsProposal def c.args.editor.now command
+    (proposal_of Grows (Add at c.args.number c.in-Ok-2.fresh) c.in_ok-cursor.cursor)) (sym c.in_ok-at.ensures)
+    (subst (λ (cursor : Path). IsProposal def c.args.editor.now command
+    (proposal_of Grows (Add found.path.now c.args.number c.in-Ok-2.fresh) cursor)) (sym c.in_ok-cursor.ensures)
     (insert_made def c.args.editor.now c.args.place.now c.args.number c.args.name.now c.args.arguments.now found
     c.in-Ok.ensures.ok c.in-Some.list c.in-Some.ensures.some c.requires.language.sound c.if-list-number.false
     o leaves named of gives (quiet_slots def c.requires.language.accepted) c.in-Ok-2.fresh is_fresh))

@@ -1,6 +1,6 @@
 use Rattle.std.proofs.Common.{sym, subst}
 use Rattle.psg_script.specs.declared.command.Command.TheVariants.{Refine}
-use Rattle.psg_session.specs.Outcomes.{IsFreshAnswer, IsMade}
+use Rattle.psg_session.specs.Outcomes.{IsFreshAnswer, IsProposal}
 use Rattle.psg_session.proofs.ChangeRefine.{refine_nowhere, refine_no_hole, refine_refused, refine_made}
 use Rattle.psg_session.proofs.NewTrees.{quiet_slots}
 use Rattle.psg_session.proofs.changes.refine.Goals as goal
@@ -31,7 +31,7 @@ returns c =
     let (o, leaves, named, of, gives, is_fresh) =
     subst (IsFreshAnswer def c.in-Some.phylum c.args.name.now c.args.arguments.now) c.in-Ok-2.is
     c.in_ok-fresh.ensures in
-    subst (IsMade def c.args.editor.now (Refine c.args.place.now c.args.name.now c.args.arguments.now))
+    subst (IsProposal def c.args.editor.now (Refine c.args.place.now c.args.name.now c.args.arguments.now))
     (sym c.in_ok-made.ensures)
     (refine_made def c.args.editor.now c.args.place.now c.args.name.now c.args.arguments.now found c.in-Ok.ensures.ok
     c.requires.language.sound c.in-Some.phylum c.in-Some.ensures.some o leaves named of gives

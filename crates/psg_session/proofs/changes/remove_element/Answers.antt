@@ -3,7 +3,7 @@ use Rattle.psg_grammar.specs.Paths.{Path}
 use Rattle.psg_script.specs.declared.command.Command.TheVariants.{Remove}
 use Rattle.psg_session.specs.declared.edits.Edit.TheVariants.{Take}
 use Rattle.psg_session.specs.declared.judging.Trial.TheVariants.{Loosens}
-use Rattle.psg_session.specs.Outcomes.{IsMade, made_of}
+use Rattle.psg_session.specs.Outcomes.{IsProposal, proposal_of}
 use Rattle.psg_session.proofs.ChangeLaws.{found_formed}
 use Rattle.psg_session.proofs.ChangeRemove.{remove_nowhere, remove_no_list, remove_behind, remove_made}
 use Rattle.psg_session.proofs.changes.remove_element.Goals as goal
@@ -33,9 +33,9 @@ pub returns : goal.returns
 returns c =
     let def = c.args.language.now.definition in
     let found = c.in-Ok.found in
-    subst (λ (p : Path). IsMade def c.args.editor.now (Remove c.args.place.now c.args.number)
-    (made_of Loosens (Take p c.args.number) c.in_ok-cursor.cursor)) (sym c.in_ok-at.ensures)
-    (subst (λ (p : Path). IsMade def c.args.editor.now (Remove c.args.place.now c.args.number)
-    (made_of Loosens (Take found.path.now c.args.number) p)) (sym c.in_ok-cursor.ensures)
+    subst (λ (p : Path). IsProposal def c.args.editor.now (Remove c.args.place.now c.args.number)
+    (proposal_of Loosens (Take p c.args.number) c.in_ok-cursor.cursor)) (sym c.in_ok-at.ensures)
+    (subst (λ (p : Path). IsProposal def c.args.editor.now (Remove c.args.place.now c.args.number)
+    (proposal_of Loosens (Take found.path.now c.args.number) p)) (sym c.in_ok-cursor.ensures)
     (remove_made def c.args.editor.now c.args.place.now c.args.number found c.in-Ok.ensures.ok c.in-Some.list
     c.in-Some.ensures.some c.if-list-number.false))

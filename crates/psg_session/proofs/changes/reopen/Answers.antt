@@ -1,5 +1,5 @@
 use Rattle.std.proofs.Common.{false, true≢false, sym, subst, ◌∙◌}
-use Rattle.psg_session.specs.Outcomes.{IsMade}
+use Rattle.psg_session.specs.Outcomes.{IsProposal}
 use Rattle.psg_script.specs.declared.command.Command.TheVariants.{Reopen}
 use Rattle.psg_session.proofs.ChangeLaws.{end_is_list, found_formed}
 use Rattle.psg_session.proofs.ChangeReopen.{reopen_nowhere, reopen_refused, reopen_made}
@@ -30,6 +30,6 @@ pub returns : goal.returns
 returns c =
     let def = c.args.language.now.definition in
     let found = c.in-Ok.found in
-    subst (IsMade def c.args.editor.now (Reopen c.args.place.now)) (sym c.in_ok-made.ensures)
+    subst (IsProposal def c.args.editor.now (Reopen c.args.place.now)) (sym c.in_ok-made.ensures)
     (reopen_made def c.args.editor.now c.args.place.now found c.in-Ok.ensures.ok c.requires.editor
     (c.may_reopen.ensures.0 c.if-not-may_reopen.false) c.in_ok-new.new c.in_ok-new.ensures)

@@ -1,9 +1,9 @@
 use Rattle.std.proofs.Common.{◌∙◌, Ok, inr, ap₂, refl, subst}
-use Rattle.psg_session.specs.declared.changes.Made.{Made}
+use Rattle.psg_session.specs.declared.changes.Proposal.{Proposal}
 use Rattle.psg_session.specs.declared.editor.OpenedTree.{OpenedTree}
 use Rattle.psg_session.proofs.Printouts.{one_made}
 use Rattle.psg_session.proofs.StepLaws.{some_once}
-use Rattle.psg_session.specs.Outcomes.{IsJudged, IsMade, IsPlan}
+use Rattle.psg_session.specs.Outcomes.{IsJudged, IsProposal, IsPlan}
 use Rattle.psg_session.specs.Edits.{edited}
 use Rattle.psg_session.specs.Sessions.{state_of}
 use Rattle.psg_cache.specs.Annotated.{tree_in}
@@ -23,7 +23,7 @@ returns-in-RefusedBy-clause-ticks g c = λ command plan.
 
 pub returns-in_default-clause-outcome : goal.returns-in_default-clause-outcome
 returns-in_default-clause-outcome g c = λ command plan.
-    let made : IsMade c.args.language.now.definition c.args.editor.now command c.in-Makes.made =
+    let made : IsProposal c.args.language.now.definition c.args.editor.now command c.in-Makes.made =
     subst (IsPlan c.args.language.now.definition c.args.editor.now command) c.in-Makes.is plan in
     absurd (c.in_default.not-Some made.held made.opened)
 
@@ -125,6 +125,6 @@ returns-clause-version g c = λ held made opened makes.
     (small_here def c.args.editor.now command c.in-Makes.made
     (subst (IsPlan def c.args.editor.now command) c.in-Makes.is plan) c.in-Some.held c.in-Some.is c.requires.editor)) in
     judged.0.tree
-    ∙ ap₂ (λ (h : OpenedTree) (m : Made). edited m.edit (tree_in h.note))
+    ∙ ap₂ (λ (h : OpenedTree) (m : Proposal). edited m.edit (tree_in h.note))
     (some_once c.in-Some.held held c.args.editor.now.opened c.in-Some.is opened)
     (one_made c.args.plan c.in-Makes.made made c.in-Makes.is makes)

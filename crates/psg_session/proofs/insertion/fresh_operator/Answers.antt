@@ -1,11 +1,12 @@
 use Rattle.std.proofs.Common.{◌+◌, drop, map, sym, ap, ◌∙◌}
 use Rattle.std.proofs.lemmas.List.{drop_all}
+use Rattle.psg_terms.proofs.Lists.{drop_item}
 use Rattle.psg_grammar.specs.Fragments.{operator}
 use Rattle.psg_grammar.specs.Lookups.{part_items, items_of}
 use Rattle.psg_grammar.specs.Insertion.{filled}
 use Rattle.psg_tree.specs.Shapes.{with_parts}
 use Rattle.psg_session.specs.Views.{plain_leaf}
-use Rattle.psg_session.proofs.Filling.{next_items, slot_there}
+use Rattle.psg_session.proofs.Filling.{slot_there}
 use Rattle.psg_session.proofs.Shapes.{read_at}
 use Rattle.psg_session.proofs.insertion.fresh_operator.Goals as goal
 
@@ -22,7 +23,7 @@ loop-item-preserved c =
     c.in_ok-at.ensures (operator c.args.op) (drop (c.loop-item.item-index + 1) c.as_slice-item-items.result.now)
     ∙ ap (λ xs. filled c.args.definition.now (with_parts (operator c.args.op) c.loop-item.parts.items) (part_items xs)
     (map plain_leaf (drop c.loop-item.at c.args.leaves.now)))
-    (sym (next_items c.as_slice-item-items.result.now c.loop-item.item-index c.item-item.result c.loop-item-test.true
+    (sym (drop_item c.as_slice-item-items.result.now c.loop-item.item-index c.item-item.result c.loop-item-test.true
     c.item-item.is))
     ∙ c.loop-item.invariant
 

@@ -1,6 +1,6 @@
 use Rattle.std.proofs.Common.{sym, ◌∙◌, subst}
+use Rattle.psg_terms.proofs.Lists.{got_some, got_none}
 use Rattle.psg_grammar.specs.Kinds.{HasSlotKind}
-use Rattle.psg_tree.proofs.FormLaws.{got_some, got_none}
 use Rattle.psg_session.proofs.Filling.{slot_filled, other_filled, none_filled, leaf_filled}
 use Rattle.psg_session.proofs.insertion.push_part.Goals as goal
 

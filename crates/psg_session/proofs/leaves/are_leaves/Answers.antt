@@ -1,16 +1,16 @@
 use Rattle.std.proofs.Common.{◌+◌, drop, map, sym, subst, true≢false}
 use Rattle.std.proofs.lemmas.List.{drop_all}
+use Rattle.psg_terms.proofs.Lists.{drop_item}
 use Rattle.psg_grammar.specs.Insertion.{AreLeaves}
 use Rattle.psg_grammar.specs.Lookups.{part_items}
 use Rattle.psg_session.specs.Views.{plain_leaf}
-use Rattle.psg_session.proofs.Filling.{next_items}
 use Rattle.psg_session.proofs.LeafLaws.{leaves_end}
 use Rattle.psg_session.proofs.leaves.are_leaves.Goals as goal
 
 pub returns-in-None : goal.returns-in-None
 returns-in-None c =
     let i = c.loop-item.invariant in
-    let d = next_items c.args.items.now c.loop-item.item-index c.item-item.result c.loop-item-test.true c.item-item.is
+    let d = drop_item c.args.items.now c.loop-item.item-index c.item-item.result c.loop-item-test.true c.item-item.is
     in (
       λ h. absurd (true≢false (sym h)),
       λ f. absurd (c.in-None.ensures (drop (c.loop-item.item-index + 1) c.args.items.now)
@@ -21,7 +21,7 @@ returns-in-None c =
 pub loop-item-preserved : goal.loop-item-preserved
 loop-item-preserved c =
     let i = c.loop-item.invariant in
-    let d = next_items c.args.items.now c.loop-item.item-index c.item-item.result c.loop-item-test.true
+    let d = drop_item c.args.items.now c.loop-item.item-index c.item-item.result c.loop-item-test.true
     c.item-item.is in
     let next = c.in-Some.ensures.1 (drop (c.loop-item.item-index + 1) c.args.items.now) in (
       c.in-Some.ensures.0,

@@ -1,5 +1,5 @@
 use Rattle.std.proofs.Common.{sym, ◌∙◌, true≢false}
-use Rattle.psg_tree.proofs.FormLaws.{got_some, got_none}
+use Rattle.psg_terms.proofs.Lists.{got_some, got_none}
 use Rattle.psg_session.proofs.LeafLaws.{word_at, none_taken, none_left, one_taken, one_refused}
 use Rattle.psg_session.proofs.leaves.next_leaf.Goals as goal
 

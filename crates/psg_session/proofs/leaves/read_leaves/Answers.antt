@@ -1,10 +1,11 @@
 use Rattle.std.proofs.Common.{◌≡◌, ◌∙◌, List, map, Some, Vec, Global, sym, ap, subst, true≢false}
+use Rattle.psg_terms.proofs.Lists.{IfSome_at}
 use Rattle.std.specs.List.{AllByRecursion}
 use Rattle.psg_grammar.specs.Insertion.{Leaf as PlainLeaf}
 use Rattle.psg_session.specs.declared.leaves.Leaf.{Leaf}
 use Rattle.psg_session.specs.Leaves.{given, HasWord}
 use Rattle.psg_session.specs.Views.{plain_leaf}
-use Rattle.psg_session.proofs.LeafLaws.{some_in, none_in}
+use Rattle.psg_session.proofs.LeafLaws.{none_in}
 use Rattle.psg_session.proofs.LeafReads.{own_leaves, without_leaves, gives, gives_no_other}
 use Rattle.psg_session.proofs.LeafWords.{are_words}
 use Rattle.psg_session.proofs.Shapes.{read_at}
@@ -22,7 +23,7 @@ pub are_leaves-requires-clause-words : goal.are_leaves-requires-clause-words
 are_leaves-requires-clause-words c =
     let e : map given c.in-Ok.tokens.items ≡ map Some (map plain_leaf c.in-Some.leaves.items) =
     ap (map given) (sym c.as_slice.ensures.value)
-    ∙ some_in (λ (v : Vec Leaf Global). map given c.as_slice.result.now ≡ map Some (map plain_leaf v.items))
+    ∙ IfSome_at (λ (v : Vec Leaf Global). map given c.as_slice.result.now ≡ map Some (map plain_leaf v.items))
     c.in_ok-leaves.field-0 c.in-Some.leaves c.in-Some.is c.in_ok-leaves.ensures.some in
     subst (λ ls. AllByRecursion HasWord (map plain_leaf ls)) (sym c.as_slice-4.ensures.value)
     (are_words c.args.language.now.lexis c.args.arguments.now c.in-Ok.tokens.items
@@ -32,7 +33,7 @@ pub returns-then-are_leaves-clause-some : goal.returns-then-are_leaves-clause-so
 returns-then-are_leaves-clause-some c =
     let e : map given c.in-Ok.tokens.items ≡ map Some (map plain_leaf c.in-Some.leaves.items) =
     ap (map given) (sym c.as_slice.ensures.value)
-    ∙ some_in (λ (v : Vec Leaf Global). map given c.as_slice.result.now ≡ map Some (map plain_leaf v.items))
+    ∙ IfSome_at (λ (v : Vec Leaf Global). map given c.as_slice.result.now ≡ map Some (map plain_leaf v.items))
     c.in_ok-leaves.field-0 c.in-Some.leaves c.in-Some.is c.in_ok-leaves.ensures.some in
     let def = c.args.language.now.definition in
     let found = read_at c.as_slice-2.result.now def.operators c.args.op c.index-as_slice-op.result
@@ -47,7 +48,7 @@ pub returns-clause-none : goal.returns-clause-none
 returns-clause-none c =
     let e : map given c.in-Ok.tokens.items ≡ map Some (map plain_leaf c.in-Some.leaves.items) =
     ap (map given) (sym c.as_slice.ensures.value)
-    ∙ some_in (λ (v : Vec Leaf Global). map given c.as_slice.result.now ≡ map Some (map plain_leaf v.items))
+    ∙ IfSome_at (λ (v : Vec Leaf Global). map given c.as_slice.result.now ≡ map Some (map plain_leaf v.items))
     c.in_ok-leaves.field-0 c.in-Some.leaves c.in-Some.is c.in_ok-leaves.ensures.some in
     let def = c.args.language.now.definition in
     let found = read_at c.as_slice-2.result.now def.operators c.args.op c.index-as_slice-op.result

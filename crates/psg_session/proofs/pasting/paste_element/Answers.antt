@@ -3,7 +3,7 @@ use Rattle.psg_grammar.specs.Paths.{Path}
 use Rattle.psg_script.specs.declared.command.Command.TheVariants.{Paste}
 use Rattle.psg_session.specs.declared.edits.Edit.TheVariants.{Add}
 use Rattle.psg_session.specs.declared.judging.Trial.TheVariants.{Grows}
-use Rattle.psg_session.specs.Outcomes.{IsMade, made_of}
+use Rattle.psg_session.specs.Outcomes.{IsProposal, proposal_of}
 use Rattle.psg_session.proofs.ChangeLaws.{found_formed}
 use Rattle.psg_session.proofs.ChangePaste.{paste_behind, paste_in_made, paste_no_list, paste_nowhere, paste_other_in}
 use Rattle.psg_session.proofs.pasting.paste_element.Goals as goal
@@ -40,10 +40,10 @@ returns c =
     let def = c.args.language.now.definition in
     let source = c.in-Ok.source in
     let command = Paste c.args.place.now (Some c.args.number) c.args.name.now in
-    subst (λ (at : Path). IsMade def c.args.editor.now command
-    (made_of Grows (Add at c.args.number c.in_ok-new.new) c.in_ok-cursor.cursor)) (sym c.in_ok-at.ensures)
-    (subst (λ (cursor : Path). IsMade def c.args.editor.now command
-    (made_of Grows (Add source.found.path.now c.args.number c.in_ok-new.new) cursor)) (sym c.in_ok-cursor.ensures)
+    subst (λ (at : Path). IsProposal def c.args.editor.now command
+    (proposal_of Grows (Add at c.args.number c.in_ok-new.new) c.in_ok-cursor.cursor)) (sym c.in_ok-at.ensures)
+    (subst (λ (cursor : Path). IsProposal def c.args.editor.now command
+    (proposal_of Grows (Add source.found.path.now c.args.number c.in_ok-new.new) cursor)) (sym c.in_ok-cursor.ensures)
     (paste_in_made def c.args.editor.now c.args.place.now c.args.name.now source c.in-Ok.ensures.ok c.args.number
     c.in-Some.list c.in-Some.ensures.some c.if-list-number.false c.requires.editor
     (c.is_kind.ensures.0 c.if-not-is_kind.false) c.in_ok-new.new c.in_ok-new.ensures))

@@ -2,7 +2,7 @@ use Rattle.std.proofs.Common.{None, sym, subst, ◌∙◌, true≢false}
 use Rattle.psg_grammar.specs.declared.types.Kind.{Kind}
 use Rattle.psg_grammar.specs.Kinds.{IsOfKind}
 use Rattle.psg_script.specs.declared.command.Command.TheVariants.{Paste}
-use Rattle.psg_session.specs.Outcomes.{IsMade}
+use Rattle.psg_session.specs.Outcomes.{IsProposal}
 use Rattle.psg_session.proofs.ChangeLaws.{found_formed}
 use Rattle.psg_session.proofs.ChangePaste.{paste_made, paste_no_hole, paste_nowhere, paste_other}
 use Rattle.psg_session.proofs.pasting.paste_here.Goals as goal
@@ -39,7 +39,7 @@ pub returns : goal.returns
 returns c =
     let def = c.args.language.now.definition in
     let source = c.in-Ok.source in
-    subst (IsMade def c.args.editor.now (Paste c.args.place.now None c.args.name.now)) (sym c.in_ok-made.ensures)
+    subst (IsProposal def c.args.editor.now (Paste c.args.place.now None c.args.name.now)) (sym c.in_ok-made.ensures)
     (paste_made def c.args.editor.now c.args.place.now c.args.name.now source c.in-Ok.ensures.ok
     (c.is_empty_place.ensures.0 c.if-not-is_empty_place.false) c.requires.editor
     (subst (λ (k : Kind). IsOfKind def source.found.node.now k)

@@ -3,7 +3,7 @@ use Rattle.std.specs.Prelude.{String, string_bytes}
 use Rattle.std.specs.declared.alloc.Global.{Global}
 use Rattle.psg_scope.specs.declared.header.NameCol.{NameCol}
 use Rattle.psg_scope.specs.declared.header.Header.{Header}
-use Rattle.psg_eval.specs.declared.summary.Known.{Known}
+use Rattle.psg_eval.specs.declared.summary.SummaryParts.{SummaryParts}
 use Rattle.psg_script.specs.declared.command.Command.TheVariants.{Free}
 use Rattle.psg_session.specs.Answers.{names_line}
 use Rattle.psg_session.specs.Replies.{answered}
@@ -26,7 +26,7 @@ returns c =
     let lines : c.push.new.self.items ≡ line ∷ [] =
     c.in_ok-push.ensures.items ∙ ap (λ (l : List (String Global)). l ++ line ∷ []) c.new-lines.ensures.items in
     let columns = c.as_slice.ensures ∙ ap (λ (h : Header). h.names)
-    (c.header.ensures ∙ ap (λ (k : Known). k.header) c.root.ensures) in
+    (c.header.ensures ∙ ap (λ (k : SummaryParts). k.header) c.root.ensures) in
     stayed c.args.language.now.definition c.args.editor.now Free (Answered c.push.new.self)
     (subst (λ l. Answers c.args.language.now.definition c.args.editor.now Free (answered l))
     (sym (ap (map string_bytes) lines))

@@ -8,5 +8,5 @@ pub row_line-requires : goal.row_line-requires
 row_line-requires c =
     let among = in-at c.row-item.result c.rows-rows.result.now c.loop-row.row-index c.loop-row-test.true
     c.row-item.is in
-    subst (AreTerms c.args.def.now.signature) (sym c.terms.ensures)
+    subst (AreTerms c.args.definition.now.signature) (sym c.terms.ensures)
     (c.requires c.row-item.result (subst (IsIn c.row-item.result) (c.rows-rows.ensures.rows ∙ c.rel.ensures) among))

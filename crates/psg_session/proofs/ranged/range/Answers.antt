@@ -4,7 +4,7 @@ use Rattle.psg_grammar.specs.Paths.{Path}
 use Rattle.psg_cache.specs.Annotated.{tree_in}
 use Rattle.psg_regions.specs.Regions.{IsReading}
 use Rattle.psg_script.specs.declared.command.Command.TheVariants.{Range}
-use Rattle.psg_session.specs.Outcomes.{IsMade}
+use Rattle.psg_session.specs.Outcomes.{IsProposal}
 use Rattle.psg_session.specs.RangeAnswers.{HasChange, IsRangeAnswer}
 use Rattle.psg_session.specs.Ranged.{replacing}
 use Rattle.psg_session.specs.Sessions.{plain}
@@ -61,7 +61,7 @@ returns-in_ok-made-in-Ok-clause-plan g c =
     c.as_str.ensures
     (subst (IsRangeAnswer def (replacing c.args.start c.args.end c.as_str.result.now) (plain c.in-Some.held)) c.in-Ok.is
     c.read_change-read.ensures.answer) in
-    subst (IsMade def c.args.editor.now (Range c.args.start c.args.end c.args.text.now)) (sym c.in_ok-made-in-Ok.ensures)
+    subst (IsProposal def c.args.editor.now (Range c.args.start c.args.end c.args.text.now)) (sym c.in_ok-made-in-Ok.ensures)
     (range_made def c.args.editor.now c.args.start c.args.end c.args.text.now c.in-Some.held c.in-Some.is
     c.requires.language.accepted.of_class c.in-Ok.change change)
 

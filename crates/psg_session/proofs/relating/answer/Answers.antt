@@ -14,11 +14,11 @@ use Rattle.psg_session.proofs.relating.answer.Goals as goal
 
 pub terms_lines-requires : goal.terms_lines-requires
 terms_lines-requires c = λ t i.
-    let h = subst (λ (r : Result (Vec Term Global) FocusFault). IfOk r (λ terms. (u : Term) → IsIn u terms.items → (s : _) × HasSort c.args.signature.now u s)) c.in-Ok.is c.requires in
+    let h = subst (λ (r : Result (Vec Term Global) FocusFault). IfOk r (λ terms. (u : Term) → IsIn u terms.items → (s : _) × HasSort c.args.sig.now u s)) c.in-Ok.is c.requires in
     h t (subst (IsIn t) c.as_slice.ensures.value i)
 
 pub returns-in_ok-lines-in-Ok : goal.returns-in_ok-lines-in-Ok
 returns-in_ok-lines-in-Ok c =
-    let sig = c.args.signature.now in
+    let sig = c.args.sig.now in
     subst (λ (r : Result (Vec Term Global) FocusFault). IsRelated sig r (Answered c.in_ok-lines-in-Ok.lines)) (sym c.in-Ok.is)
     (ap answered (c.in_ok-lines-in-Ok.ensures ∙ ap (λ (ts : List Term). rows_lines sig [] (rows_of ts)) c.as_slice.ensures.value))

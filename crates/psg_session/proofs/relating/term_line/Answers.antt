@@ -4,4 +4,4 @@ use Rattle.psg_terms.specs.Text.{term_text}
 use Rattle.psg_session.proofs.relating.term_line.Goals as goal
 
 pub returns : goal.returns
-returns c = c.in_ok-text.ensures ∙ sym (append-nil (term_text c.args.signature.now c.args.term.now))
+returns c = c.in_ok-text.ensures ∙ sym (append-nil (term_text c.args.sig.now c.args.term.now))

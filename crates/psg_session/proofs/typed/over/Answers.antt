@@ -1,6 +1,6 @@
 use Rattle.std.proofs.Common.{Err, Ok, refl, sym, subst}
 use Rattle.psg_script.specs.declared.command.Command.TheVariants.{Over}
-use Rattle.psg_session.specs.Outcomes.{IsMade}
+use Rattle.psg_session.specs.Outcomes.{IsProposal}
 use Rattle.psg_session.specs.Typed.{HasRead, HasTree, IsTextAnswer}
 use Rattle.psg_session.proofs.ChangeLaws.{found_formed}
 use Rattle.psg_session.proofs.ChangeOver.{made_spends, over_made, over_nowhere, over_refused, read_ticks, refused_spends, unread_ticks}
@@ -70,7 +70,7 @@ returns-clause-plan g c =
     let tree : HasTree def c.kind_of-kind.result c.args.text.now c.in-Ok-2.new =
     subst (λ t. IsTextAnswer def c.kind_of-kind.result t (Ok c.in-Ok-2.new)) c.as_str.ensures
     (subst (IsTextAnswer def c.kind_of-kind.result c.as_str.result.now) c.in-Ok-2.is c.in_ok-new.ensures.answer) in
-    subst (IsMade def c.args.editor.now (Over c.args.place.now c.args.text.now)) (sym c.in_ok-made.ensures)
+    subst (IsProposal def c.args.editor.now (Over c.args.place.now c.args.text.now)) (sym c.in_ok-made.ensures)
     (over_made def c.args.editor.now c.args.place.now c.args.text.now c.in-Ok.found c.in-Ok.ensures.ok
     c.kind_of-kind.result c.kind_of-kind.ensures c.requires.language.accepted.of_class c.in-Ok-2.new tree c.requires.editor)
 

@@ -1,11 +1,12 @@
 use Rattle.std.proofs.Common.{Global, Vec, inl, refl}
+use Rattle.std.proofs.lemmas.Result.{IfOk-at_ok, IfErr-at_err}
+use Rattle.psg_terms.proofs.Lists.{IfSome_at}
 use Rattle.psg_grammar.specs.WellFormed.{WellFormed}
 use Rattle.psg_class.specs.Texts.{HasNoTokens, TextTokens}
 use Rattle.psg_lexis.specs.declared.token.Spanned.{Spanned}
 use Rattle.psg_parse.specs.Answers.{IsFault, IsParsed}
-use Rattle.psg_session.proofs.ChangeLaws.{ok_at}
-use Rattle.psg_session.proofs.LeafLaws.{none_in, some_in}
-use Rattle.psg_session.proofs.TypedLaws.{err_at, goal_of, not_parsed, parsed_tree, ticks_read}
+use Rattle.psg_session.proofs.LeafLaws.{none_in}
+use Rattle.psg_session.proofs.TypedLaws.{goal_of, not_parsed, parsed_tree, ticks_read}
 use Rattle.psg_session.proofs.typed.read_tree.Goals as goal
 
 pub returns-in_default-clause-answer : goal.returns-in_default-clause-answer
@@ -22,18 +23,18 @@ pub returns-in-Ok-clause-answer : goal.returns-in-Ok-clause-answer
 returns-in-Ok-clause-answer g c =
     let def = c.args.language.now.definition in
     parsed_tree def c.args.kind c.args.text.now c.in-Some.tokens.items c.as_slice.result.now
-    (some_in (λ (v : Vec Spanned Global). TextTokens def c.args.text.now v.items) c.in_ok-tokens.field-0
+    (IfSome_at (λ (v : Vec Spanned Global). TextTokens def c.args.text.now v.items) c.in_ok-tokens.field-0
     c.in-Some.tokens c.in-Some.is c.in_ok-tokens.ensures.some) c.as_slice.ensures.value c.in-Ok.tree
-    (ok_at (IsParsed def (goal_of c.args.kind) c.as_slice.result.now) c.parse_with-parsed.result c.in-Ok.tree
+    (IfOk-at_ok (IsParsed def (goal_of c.args.kind) c.as_slice.result.now)
     c.in-Ok.is c.parse_with-parsed.ensures.tree)
-    (ok_at (λ f. WellFormed def f c.args.kind) c.parse_with-parsed.result c.in-Ok.tree c.in-Ok.is
+    (IfOk-at_ok (λ f. WellFormed def f c.args.kind) c.in-Ok.is
     c.parse_with-parsed.ensures.formed)
 
 pub returns-in-Ok-clause-read : goal.returns-in-Ok-clause-read
 returns-in-Ok-clause-read g c =
     let def = c.args.language.now.definition in
     ticks_read def c.args.kind c.args.text.now c.in-Some.tokens.items c.as_slice.result.now
-    (some_in (λ (v : Vec Spanned Global). TextTokens def c.args.text.now v.items) c.in_ok-tokens.field-0
+    (IfSome_at (λ (v : Vec Spanned Global). TextTokens def c.args.text.now v.items) c.in_ok-tokens.field-0
     c.in-Some.tokens c.in-Some.is c.in_ok-tokens.ensures.some) c.as_slice.ensures.value _ _
     c.parse_with-parsed.ensures.steps
 
@@ -41,17 +42,17 @@ pub returns-clause-answer : goal.returns-clause-answer
 returns-clause-answer g c =
     let def = c.args.language.now.definition in
     not_parsed def c.args.kind c.args.text.now c.in-Some.tokens.items c.as_slice.result.now
-    (some_in (λ (v : Vec Spanned Global). TextTokens def c.args.text.now v.items) c.in_ok-tokens.field-0
+    (IfSome_at (λ (v : Vec Spanned Global). TextTokens def c.args.text.now v.items) c.in_ok-tokens.field-0
     c.in-Some.tokens c.in-Some.is c.in_ok-tokens.ensures.some) c.as_slice.ensures.value c.in-Err.fault
     c.in_ok-refusal-in-Err.refusal
-    (err_at (IsFault def (goal_of c.args.kind) c.as_slice.result.now) c.parse_with-parsed.result c.in-Err.fault
+    (IfErr-at_err (IsFault def (goal_of c.args.kind) c.as_slice.result.now)
     c.in-Err.is c.parse_with-parsed.ensures.fault) c.in_ok-refusal-in-Err.ensures
 
 pub returns-clause-read : goal.returns-clause-read
 returns-clause-read g c =
     let def = c.args.language.now.definition in
     ticks_read def c.args.kind c.args.text.now c.in-Some.tokens.items c.as_slice.result.now
-    (some_in (λ (v : Vec Spanned Global). TextTokens def c.args.text.now v.items) c.in_ok-tokens.field-0
+    (IfSome_at (λ (v : Vec Spanned Global). TextTokens def c.args.text.now v.items) c.in_ok-tokens.field-0
     c.in-Some.tokens c.in-Some.is c.in_ok-tokens.ensures.some) c.as_slice.ensures.value _ _
     c.parse_with-parsed.ensures.steps
 
@@ -59,6 +60,6 @@ pub returns-in_err-refusal-in-Err-clause-read : goal.returns-in_err-refusal-in-E
 returns-in_err-refusal-in-Err-clause-read g c =
     let def = c.args.language.now.definition in
     ticks_read def c.args.kind c.args.text.now c.in-Some.tokens.items c.as_slice.result.now
-    (some_in (λ (v : Vec Spanned Global). TextTokens def c.args.text.now v.items) c.in_ok-tokens.field-0
+    (IfSome_at (λ (v : Vec Spanned Global). TextTokens def c.args.text.now v.items) c.in_ok-tokens.field-0
     c.in-Some.tokens c.in-Some.is c.in_ok-tokens.ensures.some) c.as_slice.ensures.value _ _
     c.parse_with-parsed.ensures.steps

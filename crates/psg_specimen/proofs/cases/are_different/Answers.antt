@@ -1,7 +1,7 @@
 use Rattle.std.proofs.Common.{◌<◌, ◌-◌, ◌≡◌, ℕ, length, drop, sym, ◌∙◌, subst, arith, true≢false}
+use Rattle.psg_terms.proofs.Lists.{get_or_fixed}
 use Rattle.psg_terms.specs.Kept.{numbers_of}
 use Rattle.psg_specimen.specs.Variables.{has_key}
-use Rattle.psg_specimen.proofs.Firsts.{fixed}
 use Rattle.psg_specimen.proofs.VariableLaws.{nothing_met}
 use Rattle.psg_specimen.proofs.OverLaws.{unequal, nothing_left, numbers_long}
 use Rattle.psg_specimen.proofs.CaseSteps.{different_step, different_fails, drop_all}
@@ -29,7 +29,7 @@ returns-then-not-branch c = (
   λ h. absurd (true≢false (sym h)),
   λ d. absurd (different_fails c.args.sig.now c.args.terms.now c.args.sorts.now c.loop-done.done c.index-terms-place.result _ c.loop-done-test.true c.if-terms-sorts.false
       c.index-terms-place.is
-      (fixed c.args.sorts.now (length c.args.terms.now - 1 - c.loop-done.done) _ (subst (λ n. length c.args.terms.now - 1 - c.loop-done.done < n) c.if-terms-sorts.false (inside (length c.args.terms.now) c.loop-done.done c.loop-done-test.true)))
+      (get_or_fixed c.args.sorts.now (length c.args.terms.now - 1 - c.loop-done.done) _ (subst (λ n. length c.args.terms.now - 1 - c.loop-done.done < n) c.if-terms-sorts.false (inside (length c.args.terms.now) c.loop-done.done c.loop-done-test.true)))
       (has_key c.loop-done.met) c.loop-done.invariant.0 c.in_ok-is_different.field-0 c.in_ok-is_different.ensures.test c.if-not-branch.true d),
 )
 
@@ -37,5 +37,5 @@ pub loop-done-preserved : goal.loop-done-preserved
 loop-done-preserved c =
     different_step c.args.sig.now c.args.terms.now c.args.sorts.now c.loop-done.done c.index-terms-place.result _ c.loop-done-test.true c.if-terms-sorts.false
     c.index-terms-place.is
-    (fixed c.args.sorts.now (length c.args.terms.now - 1 - c.loop-done.done) _ (subst (λ n. length c.args.terms.now - 1 - c.loop-done.done < n) c.if-terms-sorts.false (inside (length c.args.terms.now) c.loop-done.done c.loop-done-test.true)))
+    (get_or_fixed c.args.sorts.now (length c.args.terms.now - 1 - c.loop-done.done) _ (subst (λ n. length c.args.terms.now - 1 - c.loop-done.done < n) c.if-terms-sorts.false (inside (length c.args.terms.now) c.loop-done.done c.loop-done-test.true)))
     (has_key c.loop-done.met) c.loop-done.invariant.0 (has_key c.is_different.new.met) c.in_ok-is_different.field-0 c.loop-done.invariant.1 c.in_ok-is_different.ensures.test c.in_ok-is_different.ensures.met c.if-not-branch.false

@@ -3,7 +3,8 @@ use Rattle.std.specs.List.{AllByRecursion}
 use Rattle.psg_grammar.specs.Sound.{IsHoleRow}
 use Rattle.psg_completions.specs.Cases.{AreCases}
 use Rattle.psg_specimen.specs.Walks.{Finds}
-use Rattle.psg_specimen.proofs.Firsts.{At, more, fails, all, each}
+use Rattle.psg_covering.proofs.Firsts.{At, more, fails, all}
+use Rattle.psg_specimen.proofs.Firsts.{each}
 use Rattle.psg_specimen.proofs.cases.first_uncased.Goals as goal
 
 pub has_cases-requires : goal.has_cases-requires

@@ -7,7 +7,8 @@ use Rattle.psg_terms.specs.Sizes.{size, sizes}
 use Rattle.psg_terms.proofs.Nodes.{size-con}
 use Rattle.psg_terms.proofs.Weights.{sizes-at}
 use Rattle.psg_completions.specs.Elements.{IsAbsent}
-use Rattle.psg_specimen.proofs.Firsts.{more, all, each}
+use Rattle.psg_covering.proofs.Firsts.{more, all}
+use Rattle.psg_specimen.proofs.Firsts.{each}
 use Rattle.psg_specimen.proofs.ClearLaws.{absent_constructor, absent_variable, all_in}
 use Rattle.psg_specimen.proofs.clear.+absent.Goals as goal
 

@@ -1,6 +1,6 @@
 use Rattle.std.proofs.Common.{length, refl, sym, ◌∙◌, true≢false, arith}
 use Rattle.psg_specimen.specs.Clear.{IsClearBy}
-use Rattle.psg_specimen.proofs.Firsts.{more, all}
+use Rattle.psg_covering.proofs.Firsts.{more, all}
 use Rattle.psg_specimen.proofs.ClearLaws.{clear_at, none_clear}
 use Rattle.psg_specimen.proofs.clear.is_clear.Goals as goal
 

@@ -1,6 +1,6 @@
 use Rattle.std.proofs.Common.{ap, sym, ◌∙◌, refl, slice_get}
+use Rattle.psg_terms.proofs.Lists.{got_some, got_none}
 use Rattle.psg_specimen.proofs.ClearLaws.{of_list, of_no_list}
-use Rattle.psg_specimen.proofs.Gets.{got_some, got_none}
 use Rattle.psg_specimen.proofs.clear.is_clear_declare.Goals as goal
 
 pub returns-in_ok-found-in-Some : goal.returns-in_ok-found-in-Some

@@ -3,7 +3,7 @@ use Rattle.std.specs.Prelude.{◌↔◌, IsTrue}
 use Rattle.psg_grammar.specs.declared.types.Kind.TheVariants as kinds
 use Rattle.psg_completions.specs.Places.{IsOfOneRow}
 use Rattle.psg_specimen.specs.Wanted.{as_place}
-use Rattle.psg_specimen.proofs.Firsts.{more, fails, all}
+use Rattle.psg_covering.proofs.Firsts.{more, fails, all}
 use Rattle.psg_specimen.proofs.covering.first_bare.Goals as goal
 
 pub loop-number-preserved : goal.loop-number-preserved

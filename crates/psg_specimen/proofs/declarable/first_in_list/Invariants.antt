@@ -1,6 +1,6 @@
 use Rattle.std.proofs.Common.{ℕ, ◌<◌}
 use Rattle.psg_specimen.specs.Given.{IsDeclarableIn}
-use Rattle.psg_specimen.proofs.Firsts.{At}
+use Rattle.psg_covering.proofs.Firsts.{At}
 use Rattle.psg_specimen.proofs.declarable.first_in_list.Given as goal
 
 abbrev pub invariant-loop-space : goal.invariant-loop-space

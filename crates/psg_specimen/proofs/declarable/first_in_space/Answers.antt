@@ -1,8 +1,7 @@
 use Rattle.std.proofs.Common.{◌<◌, length, slice_get, sym, ap, ◌∙◌}
+use Rattle.psg_terms.proofs.Lists.{each_at, got_some, got_none}
 use Rattle.psg_grammar.specs.declared.types.Space.{Space}
-use Rattle.psg_grammar.proofs.SoundParts.{each_at}
 use Rattle.psg_specimen.specs.Given.{has_given}
-use Rattle.psg_specimen.proofs.Gets.{got_some, got_none}
 use Rattle.psg_specimen.proofs.DeclarableLaws.{space_found, no_space}
 use Rattle.psg_specimen.proofs.declarable.first_in_space.Goals as goal
 

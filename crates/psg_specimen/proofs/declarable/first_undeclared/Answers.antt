@@ -1,18 +1,19 @@
 use Rattle.std.proofs.Common.{◌≡◌, ℕ, true, length, slice_get, sym, ap, ◌∙◌, subst, arith}
+use Rattle.psg_terms.proofs.Lists.{slice_get_item}
 use Rattle.std.specs.Prelude.{◌↔◌, IfSome, Vec}
 use Rattle.std.specs.declared.alloc.Global.{Global}
 use Rattle.psg_grammar.specs.DeclaringTables.{AreSpacesOf}
 use Rattle.psg_grammar.proofs.SoundParts.{elements_in}
 use Rattle.psg_specimen.specs.Given.{has_given, IsGiven}
 use Rattle.psg_specimen.specs.declared.declarable.Given.{Given}
-use Rattle.psg_specimen.proofs.Firsts.{next, read}
+use Rattle.psg_covering.proofs.Firsts.{next}
 use Rattle.psg_specimen.proofs.DeclarableLaws.{AllOf, lists_first, lists_next, lists_none, table_spaces}
 use Rattle.psg_specimen.proofs.declarable.first_undeclared.Goals as goal
 
 pub spaces_of-own-requires : goal.spaces_of-own-requires
 spaces_of-own-requires c =
     let list = c.index-lists-number.result in
-    let at = ap (λ l. slice_get l c.loop-number.number) (sym c.as_slice-lists.ensures) ∙ read c.as_slice-lists.result.now c.loop-number.number list c.loop-number-test.true c.index-lists-number.is in
+    let at = ap (λ l. slice_get l c.loop-number.number) (sym c.as_slice-lists.ensures) ∙ slice_get_item c.as_slice-lists.result.now c.loop-number.number list c.loop-number-test.true c.index-lists-number.is in
     let h = elements_in c.args.definition.now c.requires c.loop-number.number list at in
     let e = ap length c.as_slice-table.ensures.value in
     let n = sym c.in_ok-spaces.spaces.ok.0 ∙ c.in_ok-spaces.ensures.one_each in omega (arith, h, e, n)
@@ -31,7 +32,7 @@ pub first_in_list-requires-clause-spaces : goal.first_in_list-requires-clause-sp
 first_in_list-requires-clause-spaces c =
     let def = c.args.definition.now in
     let list = c.index-lists-number.result in
-    let at = ap (λ l. slice_get l c.loop-number.number) (sym c.as_slice-lists.ensures) ∙ read c.as_slice-lists.result.now c.loop-number.number list c.loop-number-test.true c.index-lists-number.is in
+    let at = ap (λ l. slice_get l c.loop-number.number) (sym c.as_slice-lists.ensures) ∙ slice_get_item c.as_slice-lists.result.now c.loop-number.number list c.loop-number-test.true c.index-lists-number.is in
     let h = elements_in def c.requires c.loop-number.number list at in
     let e = ap length c.as_slice-table.ensures.value in
     let n = sym c.in_ok-spaces.spaces.ok.0 ∙ c.in_ok-spaces.ensures.one_each in

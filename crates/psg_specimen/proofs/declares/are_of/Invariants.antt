@@ -1,6 +1,6 @@
 use Rattle.std.proofs.Common.{◌≡◌, ℕ, ◌<◌}
 use Rattle.psg_specimen.specs.declared.its.Spot.{Spot}
-use Rattle.psg_specimen.proofs.Firsts.{At}
+use Rattle.psg_covering.proofs.Firsts.{At}
 use Rattle.psg_specimen.proofs.declares.are_of.Given as goal
 
 abbrev pub invariant-loop-place : goal.invariant-loop-place

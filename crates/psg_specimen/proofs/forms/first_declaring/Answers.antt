@@ -1,8 +1,9 @@
 use Rattle.std.proofs.Common.{ℕ, ◌≡◌, List, length, slice_get, refl, sym, ap, subst, ◌∙◌, arith}
+use Rattle.psg_terms.proofs.Lists.{slice_get_item}
 use Rattle.psg_grammar.proofs.SoundParts.{items_in}
 use Rattle.psg_specimen.specs.Conditions.{IsQuiet, slot_kinds}
 use Rattle.psg_specimen.specs.Tables.{AreKinds, AreTables}
-use Rattle.psg_specimen.proofs.Firsts.{At, more, all, read}
+use Rattle.psg_covering.proofs.Firsts.{At, more, all}
 use Rattle.psg_specimen.proofs.QuietLaws.{AllQuiet, kinds_there, loud_first, quiet_slots, tables_of}
 use Rattle.psg_grammar.specs.declared.types.Kind.{Kind}
 use Rattle.psg_grammar.specs.declared.types.Operator.{Operator}
@@ -18,7 +19,7 @@ first_loud-requires-clause-kinds c =
     let def = c.args.definition.now in
     let ops = c.as_slice-operators.result.now in
     let op = c.index-operators-number.result in
-    let at = ap (λ l. slice_get l c.loop-number.number) (sym c.as_slice-operators.ensures) ∙ read ops c.loop-number.number op c.loop-number-test.true c.index-operators-number.is in
+    let at = ap (λ l. slice_get l c.loop-number.number) (sym c.as_slice-operators.ensures) ∙ slice_get_item ops c.loop-number.number op c.loop-number-test.true c.index-operators-number.is in
     subst (AreKinds def) (sym (c.as_slice-in-loop-number-2.ensures.value ∙ c.in_ok-slots.ensures ∙ ap slot_kinds c.as_slice.ensures ∙ ap (λ (o : Operator). slot_kinds o.items) (sym c.index-operators-number.is))) (kinds_there def op.items (items_in def c.requires c.loop-number.number op at))
 
 pub loop-number-preserved : goal.loop-number-preserved

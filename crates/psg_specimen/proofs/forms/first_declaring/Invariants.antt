@@ -1,5 +1,5 @@
 use Rattle.std.proofs.Common.{ℕ, ◌<◌}
-use Rattle.psg_specimen.proofs.Firsts.{At}
+use Rattle.psg_covering.proofs.Firsts.{At}
 use Rattle.psg_specimen.proofs.QuietLaws.{AllQuiet}
 use Rattle.psg_specimen.proofs.forms.first_declaring.Given as goal
 

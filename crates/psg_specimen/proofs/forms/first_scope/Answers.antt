@@ -1,7 +1,7 @@
 use Rattle.std.proofs.Common.{Some, None, length, refl, sym, ◌∙◌, subst, true≢false, arith}
 use Rattle.psg_specimen.specs.Conditions.{IsBare}
 use Rattle.psg_specimen.specs.Walks.{Finds}
-use Rattle.psg_specimen.proofs.Firsts.{At, more, fails, all}
+use Rattle.psg_covering.proofs.Firsts.{At, more, fails, all}
 use Rattle.psg_specimen.proofs.forms.first_scope.Goals as goal
 
 pub loop-number-preserved : goal.loop-number-preserved

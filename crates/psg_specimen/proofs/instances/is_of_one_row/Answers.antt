@@ -1,6 +1,6 @@
 use Rattle.std.proofs.Common.{length, refl, sym, ◌∙◌, true≢false, arith}
 use Rattle.psg_specimen.specs.Wanted.{IsOfRow}
-use Rattle.psg_specimen.proofs.Firsts.{more, all}
+use Rattle.psg_covering.proofs.Firsts.{more, all}
 use Rattle.psg_specimen.proofs.InstanceLaws.{row_serves, none_serves}
 use Rattle.psg_specimen.proofs.instances.is_of_one_row.Goals as goal
 

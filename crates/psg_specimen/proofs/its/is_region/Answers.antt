@@ -1,11 +1,8 @@
-use Rattle.std.proofs.Common.{◌≡◌, ◌&&◌, not, Bool, true, false, refl, ap, sym, ◌∙◌, slice_get}
+use Rattle.std.proofs.Common.{◌&&◌, not, ap, sym, ◌∙◌, slice_get}
+use Rattle.std.proofs.Math.Bool.{and-true}
+use Rattle.psg_terms.proofs.Lists.{got_some, got_none}
 use Rattle.psg_grammar.specs.Lookups.{scopes}
-use Rattle.psg_specimen.proofs.Gets.{got_some, got_none}
 use Rattle.psg_specimen.proofs.its.is_region.Goals as goal
-
-always : (b : Bool) → b ≡ (b && not false)
-always true = refl
-always false = refl
 
 pub returns-then-inside : goal.returns-then-inside
 returns-then-inside c =
@@ -18,4 +15,4 @@ returns-else-inside c = c.if-inside.false ∙ sym (ap (λ b. b && not (scopes (s
 pub returns-in-None : goal.returns-in-None
 returns-in-None c =
     let at = ap (λ l. slice_get l c.args.op) (sym c.as_slice.ensures) ∙ got_none c.as_slice.result.now c.args.op c.get.result c.get.ensures.lookup c.in-None.is in
-    always c.args.inside ∙ sym (ap (λ o. c.args.inside && not (scopes o)) at)
+    sym (and-true c.args.inside) ∙ sym (ap (λ o. c.args.inside && not (scopes o)) at)

@@ -1,6 +1,6 @@
 use Rattle.std.proofs.Common.{ap, sym, ◌∙◌}
+use Rattle.psg_terms.proofs.Lists.{got_some, got_none}
 use Rattle.psg_specimen.specs.Its.{there_or}
-use Rattle.psg_specimen.proofs.Gets.{got_some, got_none}
 use Rattle.psg_specimen.proofs.its.spot_at.Goals as goal
 
 pub returns-in-Some : goal.returns-in-Some

@@ -1,7 +1,7 @@
 use Rattle.std.proofs.Common.{ap, sym, ◌∙◌, slice_get}
+use Rattle.psg_terms.proofs.Lists.{got_some, got_none}
 use Rattle.psg_grammar.specs.Lookups.{items_of}
 use Rattle.psg_specimen.specs.Its.{part_spots, spots_of}
-use Rattle.psg_specimen.proofs.Gets.{got_some, got_none}
 use Rattle.psg_specimen.proofs.ItLaws.{spots_of_parts}
 use Rattle.psg_specimen.proofs.its.spots.Goals as goal
 

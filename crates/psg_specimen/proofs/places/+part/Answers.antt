@@ -7,7 +7,7 @@ use Rattle.psg_terms.proofs.Nodes.{size-con}
 use Rattle.psg_terms.proofs.Weights.{sizes-at}
 use Rattle.psg_completions.specs.Places.{IsPart}
 use Rattle.psg_specimen.specs.Parts.{IsAmong}
-use Rattle.psg_specimen.proofs.Firsts.{more, all}
+use Rattle.psg_covering.proofs.Firsts.{more, all}
 use Rattle.psg_specimen.proofs.PartLaws.{among_at, among_none, part_of_constructor, too_small}
 use Rattle.psg_specimen.proofs.places.+part.Goals as goal
 

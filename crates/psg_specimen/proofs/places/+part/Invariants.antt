@@ -1,7 +1,7 @@
 use Rattle.std.proofs.Common.{◌≡◌, ◌⊎◌, ◌<◌, ◌+◌, ◌*◌, ℕ}
 use Rattle.psg_terms.specs.Sizes.{size, sizes}
 use Rattle.psg_completions.specs.Places.{IsPart}
-use Rattle.psg_specimen.proofs.Firsts.{At}
+use Rattle.psg_covering.proofs.Firsts.{At}
 use Rattle.psg_specimen.proofs.places.+part.Given as goal
 
 abbrev pub decreases-is_part : goal.decreases-is_part

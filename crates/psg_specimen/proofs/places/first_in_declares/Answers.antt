@@ -2,7 +2,7 @@ use Rattle.std.proofs.Common.{ℕ, subst, arith}
 use Rattle.psg_grammar.specs.declared.types.DeclareRow.{DeclareRow}
 use Rattle.psg_specimen.specs.Wanted.{IsWantedPlace}
 use Rattle.psg_specimen.specs.Walks.{Finds}
-use Rattle.psg_specimen.proofs.Firsts.{more}
+use Rattle.psg_covering.proofs.Firsts.{more}
 use Rattle.psg_specimen.proofs.Pairs.{pair_first, pair_none}
 use Rattle.psg_specimen.proofs.places.first_in_declares.Goals as goal
 

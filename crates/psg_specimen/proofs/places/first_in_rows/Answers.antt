@@ -5,7 +5,7 @@ use Rattle.psg_grammar.specs.declared.types.Definition.{Definition}
 use Rattle.psg_specimen.specs.Wanted.{IsWantedPlace}
 use Rattle.psg_specimen.specs.Walks.{FindsTwo}
 use Rattle.psg_specimen.specs.declared.places.Wanted.{Wanted}
-use Rattle.psg_specimen.proofs.Firsts.{more}
+use Rattle.psg_covering.proofs.Firsts.{more}
 use Rattle.psg_specimen.proofs.Triples.{triple_first, triple_none}
 use Rattle.psg_specimen.proofs.places.first_in_rows.Goals as goal
 

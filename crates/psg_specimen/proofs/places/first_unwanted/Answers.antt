@@ -1,5 +1,5 @@
 use Rattle.psg_specimen.specs.Wanted.{IsWanted}
-use Rattle.psg_specimen.proofs.Firsts.{more}
+use Rattle.psg_covering.proofs.Firsts.{more}
 use Rattle.psg_specimen.proofs.places.first_unwanted.Goals as goal
 
 pub loop-number-preserved : goal.loop-number-preserved

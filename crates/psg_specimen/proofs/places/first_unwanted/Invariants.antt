@@ -1,6 +1,6 @@
 use Rattle.std.proofs.Common.{ℕ, ◌<◌}
 use Rattle.psg_specimen.specs.Wanted.{IsWanted}
-use Rattle.psg_specimen.proofs.Firsts.{At}
+use Rattle.psg_covering.proofs.Firsts.{At}
 use Rattle.psg_specimen.proofs.places.first_unwanted.Given as goal
 
 abbrev pub invariant-loop-number : goal.invariant-loop-number

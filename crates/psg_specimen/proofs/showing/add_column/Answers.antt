@@ -1,6 +1,6 @@
 use Rattle.std.proofs.Common.{◌++◌, ◌∙◌, append-nil, sym, ap}
+use Rattle.psg_terms.proofs.Lists.{got_none}
 use Rattle.psg_specimen.proofs.ColumnLaws.{picked_none}
-use Rattle.psg_specimen.proofs.Gets.{got_none}
 use Rattle.psg_specimen.proofs.showing.add_column.Goals as goal
 
 pub returns-in_default : goal.returns-in_default

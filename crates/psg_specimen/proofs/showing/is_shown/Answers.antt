@@ -3,7 +3,7 @@ use Rattle.psg_terms.specs.Terms.{Term}
 use Rattle.psg_terms.specs.Instances.{IsInstance}
 use Rattle.psg_relation.specs.Choices.{picked}
 use Rattle.psg_specimen.proofs.CaseShown.{no_row_shown, row_shown}
-use Rattle.psg_specimen.proofs.Firsts.{all, more}
+use Rattle.psg_covering.proofs.Firsts.{all, more}
 use Rattle.psg_specimen.proofs.showing.is_shown.Goals as goal
 
 pub returns-then-branch : goal.returns-then-branch
