@@ -12,6 +12,7 @@ pub mod Indexing
 pub mod Pairing
 pub mod Filling
 pub mod Unsolved
+pub mod Parted
 pub mod NarrowPlans
 pub mod NarrowJoin
 pub mod Existing
@@ -21,3 +22,5 @@ mod CaseColumns
 pub mod Passing
 pub mod Selected
 pub mod HeldJoins
+pub mod Sources
+pub mod FewerLaws

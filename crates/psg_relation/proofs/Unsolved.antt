@@ -14,7 +14,7 @@ use Rattle.psg_terms.proofs.SoundChoices.{choices}
 use Rattle.psg_terms.proofs.Variables.{same_variable-true, same_variable-refl}
 use Rattle.psg_unify.specs.Pairs.{Pair, AgreeOn, AreOfEqualSort, AreJoinable, IsAgreeing}
 use Rattle.psg_unify.specs.Columns.{picked, Joins}
-use Rattle.psg_unify.proofs.Theorem.{Setting, left_same, right_same, solution, sorts-append}
+use Rattle.psg_unify.proofs.Theorem.{sorts-append}
 use Rattle.psg_relation.specs.Heavy.{highest_in}
 use Rattle.psg_relation.specs.Joining.{IsJoinOf}
 use Rattle.psg_relation.specs.Settling.{AreSettled}
@@ -67,25 +67,6 @@ module _ (sig : Signature) (left right : List Term) (pairs : List Pair) (settled
         → (highest_in left ≡ 0) ⊎ (highest_in right ≡ 0) → IsGroundInstance sig (left ++ right) full
     back l r f gf el g gg er e (inl closed) = (g, gg, e ∙ ap₂ (λ x y. x ++ y) (el ∙ row-closed f left closed ∙ sym (row-closed g left closed)) er ∙ sym (map-append (substitute g) left right))
     back l r f gf el g gg er e (inr closed) = (f, gf, e ∙ ap₂ (λ x y. x ++ y) el (er ∙ row-closed g right closed ∙ sym (row-closed f right closed)) ∙ sym (map-append (substitute f) left right))
-
-  -- rows whose variables have numbers apart
-  module _ (lefts rights : List Term) (s : Setting sig left right pairs lefts rights) where
-    pub apart_exact : (full : List Term) → IsGroundInstance sig (lefts ++ rights) full ↔ IsAgreeing sig left right pairs full
-    apart_exact full = (to, λ a. let (f, gf, agree, e) = solution sig left right pairs lefts rights s full a in (f, gf, e)) where
-      to : IsGroundInstance sig (lefts ++ rights) full → IsAgreeing sig left right pairs full
-      to (h, gh, e) =
-          let one = (left_same sig left right pairs lefts rights s s.joinable.left_sorts s.joinable.left_sorted).1 (map (substitute h) lefts) (h, gh, refl) in
-          let other = (right_same sig left right pairs lefts rights s s.joinable.right_sorts s.joinable.right_sorted).1 (map (substitute h) rights) (h, gh, refl) in (
-            map (substitute h) lefts,
-            map (substitute h) rights,
-            one,
-            other,
-            subst (λ x. AgreeOn pairs x (map (substitute h) rights)) (sym one.2) (subst (AgreeOn pairs (map (substitute one.0) left)) (sym other.2) (settled one.0 other.0)),
-            e ∙ map-append (substitute h) lefts rights,
-          )
-
-    pub apart_sorts : (ls rs : List ℕ) → HaveSorts sig left ls → HaveSorts sig right rs → HaveSorts sig (lefts ++ rights) (ls ++ rs)
-    apart_sorts ls rs hl hr = sorts-append sig lefts rights ls rs (left_same sig left right pairs lefts rights s ls hl).2 (right_same sig left right pairs lefts rights s rs hr).2
 
 -- the kept columns, with canonical numbers
 pub kept_join : (sig : Signature) (pairs : List Pair) (keep : List ℕ) (left right joined row : List Term) → IsCanonical sig row → HasSameInstances sig row (picked joined keep)

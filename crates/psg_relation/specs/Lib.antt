@@ -11,3 +11,4 @@ pub mod Settling
 pub mod Forcing
 pub mod Narrowing
 pub mod Rejoining
+pub mod Fewer

@@ -12,8 +12,8 @@ ghost use Rattle.psg_relation.specs.Settling.{AreSettled, IsAnyValue};
 
 use crate::row::RelRow;
 use crate::weighing::row_above;
-use psg_terms::canonical::{canonical, renumbered};
-use psg_terms::{Node, Signature, Term};
+use psg_terms::canonical::canonical;
+use psg_terms::{Node, Signature, Term, raise_all};
 use std::alloc::{AllocError, Global};
 
 /// Returns the column of this number, of the left columns and the right ones after them.
@@ -102,7 +102,52 @@ fn are_both_open(left: &[Term], right: &[Term]) -> bool
     true
 }
 
-/// Returns the kept columns of two rows whose variables get numbers apart.
+/// Returns the kept columns of two rows, where the left row's variables get numbers above those of the right row.
+fn left_raised(
+    alloc: Global,
+    sig: &Signature,
+    left: &[Term],
+    right: &[Term],
+    pairs: &[(usize, usize)],
+    keep: &[usize],
+) -> Result<RelRow, AllocError>
+    requires joinable { AreJoinable sig.now left.now right.now pairs.now }
+    requires settled { AreSettled left.now right.now pairs.now true }
+    requires keep { All (λ k. k < length left.now + length right.now) keep.now }
+    ensures { IfOk result (λ row. IsJoinOf sig.now pairs.now keep.now left.now right.now row) }
+{
+    let _ = pairs;
+    let above = row_above(right);
+    let moved = raise_all(alloc, above as usize, left)?;
+    let columns = columns_of(alloc, moved.as_slice(), right, keep)?;
+    let row = finished(alloc, sig, columns)?;
+    Ok(row)
+}
+
+/// Returns the kept columns of two rows, where the right row's variables get numbers above those of the left row.
+fn right_raised(
+    alloc: Global,
+    sig: &Signature,
+    left: &[Term],
+    right: &[Term],
+    pairs: &[(usize, usize)],
+    keep: &[usize],
+) -> Result<RelRow, AllocError>
+    requires joinable { AreJoinable sig.now left.now right.now pairs.now }
+    requires settled { AreSettled left.now right.now pairs.now true }
+    requires keep { All (λ k. k < length left.now + length right.now) keep.now }
+    ensures { IfOk result (λ row. IsJoinOf sig.now pairs.now keep.now left.now right.now row) }
+{
+    let _ = pairs;
+    let above = row_above(left);
+    let moved = raise_all(alloc, above as usize, right)?;
+    let columns = columns_of(alloc, left, moved.as_slice(), keep)?;
+    let row = finished(alloc, sig, columns)?;
+    Ok(row)
+}
+
+/// Returns the kept columns of two rows whose variables get numbers apart: those of the row with fewer columns are
+/// raised.
 fn apart(
     alloc: Global,
     sig: &Signature,
@@ -116,14 +161,11 @@ fn apart(
     requires keep { All (λ k. k < length left.now + length right.now) keep.now }
     ensures { IfOk result (λ row. IsJoinOf sig.now pairs.now keep.now left.now right.now row) }
 {
-    sig.sound();
-    let _ = pairs;
-    let first = renumbered(alloc, sig, 0, left)?;
-    let second = renumbered(alloc, sig, first.1, right)?;
-    let one = first.0.as_slice();
-    let other = second.0.as_slice();
-    let columns = columns_of(alloc, one, other, keep)?;
-    let row = finished(alloc, sig, columns)?;
+    if left.len() < right.len() {
+        let row = left_raised(alloc, sig, left, right, pairs, keep)?;
+        return Ok(row);
+    }
+    let row = right_raised(alloc, sig, left, right, pairs, keep)?;
     Ok(row)
 }
 

@@ -17,6 +17,7 @@
 #![tactic(auto)]
 
 mod beside;
+pub mod column_laws;
 mod crossing;
 mod forcing;
 mod heads;

@@ -230,7 +230,7 @@ fn are_meeting_held(
 
 /// Says whether each join of one row with the others is an instance of one of the rows that are kept. Where there are
 /// pairs, it is tried with those that it can meet by the heads of the first pair's columns.
-fn are_row_held(
+fn are_joins_of_row_held(
     alloc: Global,
     sig: &Signature,
     pool: &mut JoinPool,
@@ -291,7 +291,7 @@ fn are_pairs_held(
     let index = heads_of(alloc, right, column)?;
     let mut pool = JoinPool::new(alloc);
     for one in left {
-        let held = are_row_held(
+        let held = are_joins_of_row_held(
             alloc,
             sig,
             &mut pool,

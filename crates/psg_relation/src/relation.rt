@@ -80,7 +80,8 @@ impl Rel {
     ///
     /// It writes each row out once, writes the text of each row that is not too large once to sort by it, and then
     /// compares each row with those of the most general ones so far that have its constructor, or a variable, at the
-    /// head of one column: that one by whose heads the fewest rows meet. A row with a variable there is compared with
+    /// head of one column: the first one of fewer than sixteen rows, and else one by whose heads the fewest pairs of
+    /// rows are compared. A row with a variable there, and a row that has an instance among them, may be compared with
     /// all of them. A row that is alone needs no text and no comparison.
     pub fn of(alloc: Global, sig: &Signature, rows: &[RelRow]) -> Result<Rel, RelFault>
         requires { (sorts : List ℕ) × AllHaveSorts sig.now rows.now sorts }

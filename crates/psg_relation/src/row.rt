@@ -1,7 +1,7 @@
 //! Rows of terms.
 ghost use Rattle.std.specs.Prelude.{◌≡◌, ◌↔◌, IfOk, IsTrue};
 
-use crate::weighing::{row_above, row_depth, row_weight};
+use crate::weighing::measured;
 use psg_terms::matching::same_all;
 use psg_terms::{Seq, Term};
 use std::alloc::{AllocError, Global};
@@ -42,14 +42,12 @@ impl RelRow {
     pub fn new(terms: Vec<Term>) -> RelRow
         ensures { result ≡ terms.items }
     {
-        let symbols = row_weight(terms.as_slice());
-        let depth = row_depth(terms.as_slice());
-        let above = row_above(terms.as_slice());
+        let measures = measured(terms.as_slice());
         RelRow {
             kept: Seq::of(terms),
-            symbols,
-            depth,
-            above,
+            symbols: measures.symbols,
+            depth: measures.depth,
+            above: measures.above,
         }
     }
 

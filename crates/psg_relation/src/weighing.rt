@@ -1,7 +1,7 @@
 //! The weight and the depth of rows, without writing them out, and whether they have variables.
 ghost use Rattle.std.specs.Prelude.{◌≡◌, ◌↔◌, ◌-◌, ◌^◌, min, sum_by, IsTrue};
 ghost use Rattle.psg_terms.specs.Weight.{symbols_of, weight_of};
-ghost use Rattle.psg_relation.specs.Heavy.{deepest_in, deepest_of, highest_in, IsHeavy};
+ghost use Rattle.psg_relation.specs.Heavy.{deepest_of, highest_in, IsHeavy, IsMeasured};
 ghost use Rattle.psg_relation.specs.Sifted.{AreGround};
 
 use crate::row::RelRow;
@@ -24,17 +24,6 @@ pub fn row_weight(row: &[Term]) -> u64
     weight
 }
 
-/// Returns how deep the deepest term of the row is, or `u64::MAX` if it is deeper, and 0 where the row has none.
-pub fn row_depth(row: &[Term]) -> u64
-    ensures { result ≡ min (deepest_in row.now) (2 ^ 64 - 1) }
-{
-    let mut depth = 0u64;
-    for term in row {
-        depth = depth.max(term.depth());
-    }
-    depth
-}
-
 /// Returns one more than the greatest number of a variable of the row's terms, and 0 where they have none.
 pub fn row_above(row: &[Term]) -> u64
     ensures { result ≡ highest_in row.now }
@@ -44,6 +33,34 @@ pub fn row_above(row: &[Term]) -> u64
         above = above.max(term.above());
     }
     above
+}
+
+/// The measures of a row: how many variables and constructors it has and how deep it is, both at most `u64::MAX`, and
+/// one above the greatest number of its variables.
+#[derive(Clone, Copy)]
+pub struct Measures {
+    pub symbols: u64,
+    pub depth: u64,
+    pub above: u64,
+}
+
+/// Returns the measures of the row. It reads each term once, in one step.
+pub fn measured(row: &[Term]) -> Measures
+    ensures { IsMeasured row.now result.symbols result.depth result.above }
+{
+    let mut weight = 0u64;
+    let mut depth = 0u64;
+    let mut above = 0u64;
+    for term in row {
+        weight = weight.saturating_add(term.symbols());
+        depth = depth.max(term.depth());
+        above = above.max(term.above());
+    }
+    Measures {
+        symbols: weight,
+        depth,
+        above,
+    }
 }
 
 /// Returns how many variables and constructors the rows have, or `u64::MAX` if there are more.

@@ -12,6 +12,7 @@ pub mod Sound
 pub mod Sizes
 pub mod Matching
 pub mod Renaming
+pub mod Places
 pub mod Text
 pub mod Clear
 pub mod Relations

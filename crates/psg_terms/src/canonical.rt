@@ -1,13 +1,14 @@
 //! Rows with new numbers for their variables.
-ghost use Rattle.std.specs.Prelude.{◌≡◌, ◌+◌, ◌<◌, ◌^◌, ◌∷◌, [], length, false, true, IfOk, IfSome, IsOk, IsTrue};
+ghost use Rattle.std.specs.Prelude.{◌≡◌, ◌+◌, ◌<◌, ◌^◌, ◌∷◌, [], false, true, IfOk, IfSome, IsOk, IsTrue};
 ghost use Rattle.std.specs.Prelude.{MatchOption, List, ℕ};
-ghost use Rattle.psg_terms.specs.Terms.{Term as Plain};
+ghost use Rattle.psg_terms.specs.Terms.{Term as Plain, variable};
 ghost use Rattle.psg_terms.specs.Canonical.{Variable, is_noted, noted, IsCanonical};
 ghost use Rattle.psg_terms.specs.Instances.{HasSameInstances};
 ghost use Rattle.psg_terms.specs.Signature.{HaveSorts, AreTerms};
 ghost use Rattle.psg_terms.specs.Renaming.{keys, place, numbered_from, GoesOn, Renumbered};
 
-use crate::raising::raise_all;
+use crate::counting::uncountable;
+use crate::known::Known;
 use crate::sorts::{Signature, SortId};
 use crate::term::{Node, Term};
 use indexmap::IndexSet;
@@ -40,17 +41,34 @@ pub fn note(known: &mut IndexSet<Key>, sort: SortId, number: u32) -> Result<usiz
     Ok(added.0)
 }
 
-/// Returns the term with numbers from base + 1 on for its variables. Where it has none, it is shared.
+/// Returns the variable with another number. Where it is the same number, the variable is shared.
+fn with_number(
+    alloc: Global,
+    term: &Term,
+    sort: SortId,
+    number: u32,
+    fresh: u32,
+) -> Result<Term, AllocError>
+    requires { term.now ≡ variable sort.0 number }
+    ensures { IfOk result (λ t. t ≡ variable sort.0 fresh) }
+{
+    if number == fresh {
+        let copy = term.share()?;
+        return Ok(copy);
+    }
+    let copy = Term::var(alloc, sort, fresh)?;
+    Ok(copy)
+}
+
+/// Returns the term with numbers from 1 on for its variables. Where it has none, it is shared.
 #[cycle(renumber)]
 fn renumber(
     alloc: Global,
     sig: &Signature,
-    base: usize,
-    known: &mut IndexSet<Key>,
+    known: &mut Known,
     term: &Term,
 ) -> Result<Term, AllocError>
-    ensures { IfOk result (λ t. Renumbered sig.now base (keys known.old.keys) (keys known.new.keys) (term.now ∷ [])
-        (t ∷ [])) }
+    ensures { IfOk result (λ t. Renumbered sig.now 0 known.old known.new (term.now ∷ []) (t ∷ [])) }
 {
     if term.above() == 0 {
         let copy = term.share()?;
@@ -63,14 +81,14 @@ fn renumber(
                 Ok(copy)
             }
             None => {
-                let place = note(known, *sort, *number)?;
-                let fresh = number_of(base, place)?;
-                let copy = Term::var(alloc, *sort, fresh)?;
+                let place = known.note(*sort, *number)?;
+                let fresh = number_of(0, place)?;
+                let copy = with_number(alloc, term, *sort, *number, fresh)?;
                 Ok(copy)
             }
         },
         Node::Con { con, args } => {
-            let parts = renumber_all(alloc, sig, base, known, args.as_slice())?;
+            let parts = renumber_all(alloc, sig, known, args.as_slice())?;
             let copy = Term::apply(alloc, *con, parts)?;
             Ok(copy)
         }
@@ -82,31 +100,36 @@ fn renumber(
 fn renumber_all(
     alloc: Global,
     sig: &Signature,
-    base: usize,
-    known: &mut IndexSet<Key>,
+    known: &mut Known,
     row: &[Term],
 ) -> Result<Vec<Term>, AllocError>
-    ensures { IfOk result (λ v. Renumbered sig.now base (keys known.old.keys) (keys known.new.keys) row.now v.items) }
+    ensures { IfOk result (λ v. Renumbered sig.now 0 known.old known.new row.now v.items) }
 {
     let mut copies = Vec::with_capacity(alloc, row.len())?;
     for i in 0..row.len() {
-        let copy = renumber(alloc, sig, base, known, &row[i])?;
+        let copy = renumber(alloc, sig, known, &row[i])?;
         copies.push(copy)?;
     }
     Ok(copies)
 }
 
-/// Returns the number of a place. Where it does not fit into 32 bits, there are too many variables, and the call
+/// Returns the number of a place. Exactly where it does not fit into 32 bits, there are too many variables, and the call
 /// fails as if out of memory.
 pub fn number_of(base: usize, place: usize) -> Result<u32, AllocError>
     ensures number { IfOk result (λ n. n ≡ base + place + 1) }
     ensures fits { base + place + 1 < 2 ^ 32 → IsOk result }
 {
-    if base < 0xffff_ffff && place < 0xffff_ffff - base {
-        Ok((base + place + 1) as u32)
-    } else {
-        Err(AllocError)
+    if base >= 0xffff_ffff {
+        return Err(uncountable(base));
     }
+    if place >= 0xffff_ffff {
+        return Err(uncountable(place));
+    }
+    let sum = base + place;
+    if sum >= 0xffff_ffff {
+        return Err(uncountable(sum));
+    }
+    Ok((sum + 1) as u32)
 }
 
 /// Says whether the variable goes on a numbering from 1: it is the next one, which is known afterwards, or a known one.
@@ -187,58 +210,13 @@ fn as_it_is(alloc: Global, sig: &Signature, row: &[Term]) -> Result<Option<Vec<T
     Ok(Some(copies))
 }
 
-/// Returns the row with its variables numbered from base + 1 on by first occurrence and one-constant sorts written out,
-/// and how many variables it has. Of a row that is canonical it only raises the numbers, without a table.
-pub fn renumbered(
-    alloc: Global,
-    sig: &Signature,
-    base: usize,
-    row: &[Term],
-) -> Result<(Vec<Term>, usize), AllocError>
-    ensures { IfOk result (λ r. (known : List Variable) × (r.1 ≡ length known)
-        × Renumbered sig.now base [] known row.now r.0.items) }
+/// Returns the row renumbered by a table of its variables.
+fn numbered_anew(alloc: Global, sig: &Signature, row: &[Term]) -> Result<Vec<Term>, AllocError>
+    ensures { IfOk result (λ r. (known : List Variable) × Renumbered sig.now 0 [] known row.now r.items) }
 {
-    if let Some(higher) = raised_row(alloc, sig, base, row)? {
-        return Ok(higher);
-    }
-    let made = numbered_anew(alloc, sig, base, row)?;
-    Ok(made)
-}
-
-/// Returns the row with the base added to the numbers of its variables, and how many variables it has, where the row is
-/// canonical.
-fn raised_row(
-    alloc: Global,
-    sig: &Signature,
-    base: usize,
-    row: &[Term],
-) -> Result<Option<(Vec<Term>, usize)>, AllocError>
-    ensures { IfOk result (λ o. IfSome o (λ r. (known : List Variable) × (r.1 ≡ length known)
-        × Renumbered sig.now base [] known row.now r.0.items)) }
-{
-    let mut known = Vec::new(alloc);
-    if !are_numbered(sig, &mut known, row)? {
-        return Ok(None);
-    }
-    let copies = raise_all(alloc, base, row)?;
-    let count = known.len();
-    Ok(Some((copies, count)))
-}
-
-/// Returns the row renumbered by a table of its variables, and how many variables it has.
-fn numbered_anew(
-    alloc: Global,
-    sig: &Signature,
-    base: usize,
-    row: &[Term],
-) -> Result<(Vec<Term>, usize), AllocError>
-    ensures { IfOk result (λ r. (known : List Variable) × (r.1 ≡ length known)
-        × Renumbered sig.now base [] known row.now r.0.items) }
-{
-    let mut known = IndexSet::new(alloc);
-    let copies = renumber_all(alloc, sig, base, &mut known, row)?;
-    let count = known.len();
-    Ok((copies, count))
+    let mut known = Known::of(alloc, row)?;
+    let copies = renumber_all(alloc, sig, &mut known, row)?;
+    Ok(copies)
 }
 
 /// Returns the row with its variables numbered from 1 by first occurrence and one-constant sorts written out, in two
@@ -258,6 +236,6 @@ pub fn canonical(alloc: Global, sig: &Signature, row: &[Term]) -> Result<Vec<Ter
     if let Some(given) = as_it_is(alloc, sig, row)? {
         return Ok(given);
     }
-    let (copies, _count) = numbered_anew(alloc, sig, 0, row)?;
+    let copies = numbered_anew(alloc, sig, row)?;
     Ok(copies)
 }

@@ -14,8 +14,10 @@
 #![tactic(auto)]
 
 pub mod canonical;
+mod counting;
 pub mod declare;
 mod ground;
+mod known;
 pub mod laws;
 pub mod matching;
 mod raising;
@@ -27,7 +29,9 @@ pub mod term;
 pub mod text;
 pub mod words;
 
+pub use counting::{Room, too_many_symbols, uncountable};
 pub use declare::{ConDecl, SigFault, SortDecl};
+pub use raising::raise_all;
 pub use seq::{Seq, Txt};
 pub use sorting::{has_sort, have_sorts};
 pub use sorts::{ConId, Constructor, Declared, Signature, SortId};

@@ -8,6 +8,7 @@ ghost use Rattle.psg_terms.specs.Sound.{IsSound};
 ghost use Rattle.psg_terms.specs.Matching.{lookup, Matched, Unmatched};
 
 use crate::canonical::Key;
+use crate::counting::{COMPARED, too_many_symbols};
 use crate::sorts::SortId;
 use crate::term::{Node, Term};
 use std::alloc::{AllocError, Global};
@@ -73,10 +74,6 @@ pub fn bind(
     Ok(())
 }
 
-/// How many variables and constructors terms have at most that are compared. A part that is shared is read as often as
-/// it occurs, so without a bound a comparison of small terms with much sharing would not end.
-const COMPARED: u64 = 0x10_0000;
-
 /// Says whether two terms are equal. Two equally large terms of more than 2^20 variables and constructors are not
 /// compared, and the call fails as if out of memory.
 fn alike(a: &Term, b: &Term) -> Result<bool, AllocError>
@@ -88,7 +85,7 @@ fn alike(a: &Term, b: &Term) -> Result<bool, AllocError>
         return Ok(false);
     }
     if size > COMPARED {
-        return Err(AllocError);
+        return Err(too_many_symbols(size));
     }
     Ok(same(a, b))
 }

@@ -1,8 +1,9 @@
 //! Terms whose variables' numbers are raised.
-ghost use Rattle.std.specs.Prelude.{◌≡◌, ◌+◌, IfOk, IsTrue, map};
+ghost use Rattle.std.specs.Prelude.{◌≡◌, ◌+◌, ◌<◌, ◌^◌, IfOk, IsOk, IsTrue, map};
 ghost use Rattle.psg_terms.specs.Instances.{substitute};
 ghost use Rattle.psg_terms.specs.Renaming.{raised};
 
+use crate::counting::uncountable;
 use crate::term::{Node, Term};
 use std::alloc::{AllocError, Global};
 
@@ -16,15 +17,20 @@ fn stays(base: usize, term: &Term) -> bool
     term.above() == 0
 }
 
-/// Returns the sum, which is the number of a variable. It fails as if out of memory where that is above 2^32 - 2.
+/// Returns the sum, which is the number of a variable. It fails as if out of memory exactly where that is above
+/// 2^32 - 2.
 fn raised_number(base: usize, number: u32) -> Result<u32, AllocError>
-    ensures { IfOk result (λ n. n ≡ base + number) }
+    ensures sum { IfOk result (λ n. n ≡ base + number) }
+    ensures fits { base + number + 1 < 2 ^ 32 → IsOk result }
 {
-    if base < 0xffff_ffff && (number as usize) < 0xffff_ffff - base {
-        Ok((base + number as usize) as u32)
-    } else {
-        Err(AllocError)
+    if base >= 0xffff_ffff {
+        return Err(uncountable(base));
     }
+    let sum = base + number as usize;
+    if sum >= 0xffff_ffff {
+        return Err(uncountable(sum));
+    }
+    Ok(sum as u32)
 }
 
 /// Returns the term with the base added to the number of each variable. A part that stays as it is is shared.
@@ -50,9 +56,10 @@ fn raise(alloc: Global, base: usize, term: &Term) -> Result<Term, AllocError>
     }
 }
 
-/// Returns the row with the base added to the number of each variable.
+/// Returns the row with the base added to the number of each variable. A part that stays as it is is shared, so a walk
+/// takes one step for a part without variables. It fails as if out of memory where such a sum is above 2^32 - 2.
 #[cycle(raise)]
-pub(crate) fn raise_all(alloc: Global, base: usize, row: &[Term]) -> Result<Vec<Term>, AllocError>
+pub fn raise_all(alloc: Global, base: usize, row: &[Term]) -> Result<Vec<Term>, AllocError>
     ensures { IfOk result (λ v. v.items ≡ map (substitute (raised base)) row.now) }
 {
     let mut copies = Vec::with_capacity(alloc, row.len())?;

@@ -8,12 +8,17 @@ use Rattle.psg_terms.specs.Instances.{Substitution, substitute}
 use Rattle.psg_terms.proofs.Applied.{applied-substitute}
 use Rattle.psg_terms.proofs.Nodes.{same_constructor}
 use Rattle.psg_unify.specs.Pairs.{Pair, AgreeOn, IsAgreeing}
-use Rattle.psg_unify.specs.Clashing.{IsHeadOf, AreNeverEqual, NeverAgree}
+use Rattle.psg_unify.specs.Clashing.{IsHeadOf, HaveClash, AreNeverEqual, NeverAgree}
 
 pub heads_differ : (a b : Term) (c d : ℕ) → IsHeadOf a c → IsHeadOf b d → (c ≡ d → ⊥) → AreNeverEqual a b
 heads_differ a b c d (xs, ea) (ys, eb) ne = λ f g e.
     ne (same_constructor c d (map (substitute f) xs) (map (substitute g) ys)
     (sym (applied-substitute f (symbol c) xs) ∙ sym (ap (substitute f) ea) ∙ e ∙ ap (substitute g) eb ∙ applied-substitute g (symbol d) ys))
+
+-- terms that clash have no other heads
+pub heads_clash : (a b : Term) (c d : ℕ) → IsHeadOf a c → IsHeadOf b d → HaveClash a b → c ≡ d → ⊥
+heads_clash a b c d (xs, ea) (ys, eb) (k, l, (us, eu), (vs, ev), ne) = λ e.
+    ne (same_constructor k c us xs (sym eu ∙ ea) ∙ e ∙ same_constructor d l ys vs (sym eb ∙ ev))
 
 same_some : {X : Type 0} (x y : X) → ◌≡◌ {A = Option X} (Some x) (Some y) → x ≡ y
 same_some x y e = cc

@@ -21,13 +21,10 @@ use Rattle.psg_pool.specs.Cells.{Put, IsAmong, arguments_of}
 use Rattle.psg_pool.specs.Bindings.{Kept, IsSound, Holds}
 use Rattle.psg_unify.specs.declared.covering.Facing.{Facing}
 use Rattle.psg_unify.specs.declared.covering.Matching.{Matching}
-use Rattle.psg_unify.specs.Fitting.{Falls}
-use Rattle.psg_unify.specs.Circles.{HasCircle, FallsFrom}
-use Rattle.psg_unify.specs.Reading.{Reading, IsReading}
+use Rattle.psg_unify.specs.Reading.{Reading}
 use Rattle.psg_unify.specs.Numbering.{IsClearReading, IsNumbered, StaysNumbered}
 use Rattle.psg_unify.specs.Covering.{FirstCells, first_cell, facing, facings, AreMet, IsFit, StaysFit, FitsNone, CanMatch, weigh}
-use Rattle.psg_unify.proofs.Rounds.{edge_there, has_arguments, no_circle, take_next}
-use Rattle.psg_unify.proofs.Chains.{bound_there}
+use Rattle.psg_unify.proofs.Rounds.{edge_there}
 
 -- lists of terms and cells
 pub met_append : (f : Substitution) (read : Reading) (xs ys : List Facing) → AreMet f read (xs ++ ys) ↔ (AreMet f read xs × AreMet f read ys)
@@ -405,20 +402,3 @@ module _ (kept : Kept) where
     ];
     left = subst (λ v. All (λ (p : Facing). IsAmong kept.cells p.cell) v.items) (sym e) c.left;
   }
-
--- cells that fall from the first one on fall
-pub all_fall : (kept : Kept) → IsSound kept → (height : CellId → ℕ) → FallsFrom kept 0 height → Falls kept height
-all_fall kept sound height f = record {
-  bound = λ id to t. (f id (omega arith) (bound_there kept sound id to t) to (inl t)).1;
-  con = λ id. members (λ a. height a < height id) (arguments_of kept.cells id) (λ a i. (f id (omega arith) (has_arguments kept id a i) a (inr i)).1);
-}
-
--- where cells lead back to themselves they read as nothing
-pub reads_nothing : (kept : Kept) → IsSound kept → HasCircle kept → (read : Reading) → IsReading kept read → ⊥
-reads_nothing kept sound circle read r = no_circle kept sound read r.con_cell r.bound_cell circle
-
--- how far cells were found there
-pub there_next : (cells : List Put) (ids : List CellId) (k : ℕ) (id : CellId) → slice_get ids k ≡ Some id → IsAmong cells id → All (IsAmong cells) (take k ids) → All (IsAmong cells) (take (k + 1) ids)
-there_next cells ids k id at l h =
-    subst (All (IsAmong cells)) (sym (take_next ids k id at))
-    (All-append (IsAmong cells) (take k ids) (id ∷ []) h (All-cons (IsAmong cells) id [] l (All-nil (IsAmong cells))))

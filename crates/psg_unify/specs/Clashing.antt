@@ -8,6 +8,10 @@ use Rattle.psg_unify.specs.Pairs.{Pair}
 abbrev pub IsHeadOf : Term → ℕ → Type 0
 IsHeadOf t c = (args : List Term) × (t ≡ applied (symbol c) args)
 
+-- both terms have constructors at their heads, and these are different
+abbrev pub HaveClash : Term → Term → Type 0
+HaveClash a b = (c : ℕ) × (d : ℕ) × IsHeadOf a c × IsHeadOf b d × (c ≡ d → ⊥)
+
 -- no values of the variables of both terms make them equal
 abbrev pub AreNeverEqual : Term → Term → Type 0
 AreNeverEqual a b = (f g : Substitution) → substitute f a ≡ substitute g b → ⊥

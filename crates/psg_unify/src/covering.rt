@@ -15,7 +15,6 @@ ghost use Rattle.psg_unify.specs.Reading.{Reading, IsReading};
 ghost use Rattle.psg_unify.specs.Numbering.{IsClearReading};
 ghost use Rattle.psg_unify.specs.Covering.{first_cell, facing, facings, StaysFit, FitsNone, CanMatch, weigh};
 
-use crate::circles::is_falling;
 use crate::forms::Numbers;
 use crate::numbering::read_alike;
 use psg_pool::{Cell, CellId, Pool};
@@ -291,9 +290,14 @@ fn is_matched(
     Ok(matched)
 }
 
-/// Says whether each ground instance of what the cells read as is one of the general row, as `covers` does, for cells
-/// that are the pool's and do not lead back to themselves.
-pub fn is_covered(
+/// Says whether each ground instance of what the cells read as is one of the general row. Where the variables of
+/// one-constant sorts are written out, this is whether it is an instance of that row. The cells are the pool's, and no
+/// cell of the pool leads back to itself: such a cell reads as nothing.
+///
+/// The general row is read once, place by place, along the cells. A variable that is met again has its two cells
+/// compared by numbers, which are equal exactly where the cells read as one term: each cell to which they lead is
+/// numbered once, however large the term is when it is written out. `AllocError` is returned when memory runs out.
+pub(crate) fn covers(
     alloc: Global,
     sig: &Signature,
     pool: &Pool,
@@ -309,48 +313,4 @@ pub fn is_covered(
     sig.sound();
     let matched = is_matched(alloc, sig, pool, cells, general)?;
     Ok(matched)
-}
-
-/// Says whether all cells are cells of the pool.
-fn are_there(pool: &Pool, cells: &[CellId]) -> bool
-    ensures { IsTrue result ↔ All (IsAmong pool.now.cells) cells.now }
-{
-    let count = pool.count();
-    for k in 0..cells.len() {
-        let id = cells[k];
-        if id.0 >= count {
-            return false;
-        }
-    }
-    true
-}
-
-/// Says whether each ground instance of what the cells read as is one of the general row. Where the variables of
-/// one-constant sorts are written out, this is whether it is an instance of that row.
-///
-/// The general row is read once, place by place, along the cells. A variable that is met again has its two cells
-/// compared by numbers, which are equal exactly where the cells read as one term: each cell to which they lead is
-/// numbered once, however large the term is when it is written out. Before that, one walk over the pool looks for
-/// circles. `AllocError` is returned when memory runs out, and where a cell is not one of the pool's.
-pub fn covers(
-    alloc: Global,
-    sig: &Signature,
-    pool: &Pool,
-    cells: &[CellId],
-    general: &[Term],
-) -> Result<bool, AllocError>
-    ensures { IfOk result (λ b. (read : Reading) → IsReading pool.now read → (sorts : List ℕ)
-        → HaveSorts sig.now (map read cells.now) sorts → HaveSorts sig.now general.now sorts
-        → IsTrue b ↔ AllGroundInstancesIn sig.now (map read cells.now) general.now) }
-{
-    let _mark = pool.mark();
-    if !are_there(pool, cells) {
-        return Err(AllocError);
-    }
-    // Cells that lead back to themselves read as nothing.
-    if !is_falling(alloc, pool, 0)? {
-        return Ok(false);
-    }
-    let covered = is_covered(alloc, sig, pool, cells, general)?;
-    Ok(covered)
 }

@@ -1,15 +1,16 @@
 //! Pairs of columns that have different constructors at their heads.
-ghost use Rattle.std.specs.Prelude.{IfSome, IsTrue, List};
+ghost use Rattle.std.specs.Prelude.{◌↔◌, IfSome, IfNone, IsTrue, List, ℕ};
 ghost use Rattle.psg_terms.specs.Terms.{Term as Plain};
 ghost use Rattle.psg_terms.specs.Signature.{Signature as Sig};
-ghost use Rattle.psg_unify.specs.Clashing.{IsHeadOf, AreNeverEqual, NeverAgree};
+ghost use Rattle.psg_unify.specs.Clashing.{IsHeadOf, HaveClash, AreNeverEqual, NeverAgree};
 ghost use Rattle.psg_unify.specs.Pairs.{IsAgreeing};
 
 use psg_terms::{Node, Term};
 
 /// Returns the constructor at the head of a term, or `None` for a variable.
 fn head_of(term: &Term) -> Option<u32>
-    ensures { IfSome result (IsHeadOf term.now) }
+    ensures some { IfSome result (IsHeadOf term.now) }
+    ensures none { IfNone result ((c : ℕ) → IsHeadOf term.now c → ⊥) }
 {
     match term.node() {
         Node::Var { .. } => None,
@@ -20,7 +21,8 @@ fn head_of(term: &Term) -> Option<u32>
 /// Says whether the terms have different constructors at their heads. Then no values of their variables make them
 /// equal. It takes one step.
 pub fn is_clash(a: &Term, b: &Term) -> bool
-    ensures { IsTrue result → AreNeverEqual a.now b.now }
+    ensures says { IsTrue result ↔ HaveClash a.now b.now }
+    ensures never { IsTrue result → AreNeverEqual a.now b.now }
 {
     match head_of(a) {
         Some(first) => match head_of(b) {

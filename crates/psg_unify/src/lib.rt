@@ -9,9 +9,9 @@
 //! binds free cells and joins classes of equal constructor cells, so nothing is copied; then one walk looks for
 //! circles, and another one writes the row, each cell once.
 //!
-//! A row that is too large to be written out is kept as an `UnwrittenRow`, and `covers` says of cells in a pool whether
-//! their row is an instance of another one. Both number cells by what they read as, one number for equal terms, so
-//! that no term is written out to be compared.
+//! A row that is too large to be written out is kept as an `UnwrittenRow`, which says whether it is an instance of
+//! another row. Cells are numbered by what they read as, one number for equal terms, so no term is written out to be
+//! compared.
 //!
 //! What always holds:
 //! - A pool fits the signature: its cells have sorts, and none leads back to itself. So each cell reads as one term.
@@ -35,7 +35,6 @@ mod solving;
 mod unwritten;
 mod walking;
 
-pub use covering::covers;
 pub use heads::is_clash;
 pub use join::{JoinPool, join_in, join_rows, join_rows_in};
 pub use reading::read_row;

@@ -1,6 +1,6 @@
 //! Rows read out of a pool, with canonical numbers.
 ghost use Rattle.std.specs.Prelude.{◌≡◌, ◌<◌, ◌+◌, ◌∷◌, ◌↔◌, [], All, IfOk, IfSome, IfNone, OnOk, IsTrue, List};
-ghost use Rattle.std.specs.Prelude.{Some, ℕ, set, slice_get, length, map, reverse};
+ghost use Rattle.std.specs.Prelude.{◌^◌, IsOk, Some, ℕ, set, slice_get, length, map, reverse};
 ghost use Rattle.psg_terms.specs.Terms.{Term as Plain};
 ghost use Rattle.psg_terms.specs.Canonical.{Variable, IsCanonical};
 ghost use Rattle.psg_terms.specs.Instances.{HasSameInstances};
@@ -23,7 +23,7 @@ use crate::walking::{Item, push_arguments, push_cells};
 use indexmap::IndexSet;
 use psg_pool::{Cell, CellId, Pool};
 use psg_terms::canonical::{Key, note, number_of};
-use psg_terms::{ConId, Signature, SortId, Term};
+use psg_terms::{ConId, Signature, SortId, Term, uncountable};
 use std::alloc::{AllocError, Global};
 
 /// Returns as many empty places as this.
@@ -111,12 +111,14 @@ fn written_row(
     Ok(terms)
 }
 
-/// Returns the number of the variable that an open cell reads as.
+/// Returns the number of the variable that an open cell reads as. It fails as if out of memory exactly where that is
+/// above 2^32 - 1.
 fn number_at(id: CellId) -> Result<u32, AllocError>
-    ensures { IfOk result (λ n. n ≡ id.0 + 1) }
+    ensures number { IfOk result (λ n. n ≡ id.0 + 1) }
+    ensures fits { id.0 + 1 < 2 ^ 32 → IsOk result }
 {
     if id.0 >= 0xffff_ffff {
-        return Err(AllocError);
+        return Err(uncountable(id.0));
     }
     Ok((id.0 + 1) as u32)
 }

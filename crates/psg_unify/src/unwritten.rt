@@ -8,7 +8,7 @@ ghost use Rattle.psg_unify.specs.Pairs.{Pair, AreJoinable, IsAgreeing};
 ghost use Rattle.psg_unify.specs.Columns.{picked, Joins};
 ghost use Rattle.psg_unify.specs.Circles.{HasCircle};
 
-use crate::covering::is_covered;
+use crate::covering::covers;
 use crate::join::picked_cells;
 use crate::regions::solve_in;
 use psg_pool::{CellId, Pool};
@@ -70,7 +70,7 @@ impl UnwrittenRow {
             → IsTrue b
             ↔ ((x : List Plain) → Joins sig.now pairs keep left right x → IsGroundInstance sig.now general.now x)) }
     {
-        let instance = is_covered(alloc, sig, &self.pool, self.cells.as_slice(), general)?;
+        let instance = covers(alloc, sig, &self.pool, self.cells.as_slice(), general)?;
         Ok(instance)
     }
 }

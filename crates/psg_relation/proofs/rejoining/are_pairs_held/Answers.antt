@@ -8,14 +8,14 @@ use Rattle.psg_relation.proofs.rejoining.are_pairs_held.Goals as goal
 pub loop-one-init : goal.loop-one-init
 loop-one-init c = λ p h. elim h [ ]
 
-pub are_row_held-requires-clause-compare : goal.are_row_held-requires-clause-compare
-are_row_held-requires-clause-compare c = λ p h.
+pub are_joins_of_row_held-requires-clause-compare : goal.are_joins_of_row_held-requires-clause-compare
+are_joins_of_row_held-requires-clause-compare c = λ p h.
     let t = c.terms.result.now in
     let e : t ≡ get_or c.args.left.now c.loop-one.one-index t = subst (λ r. r ≡ get_or c.args.left.now c.loop-one.one-index r) (sym c.terms.ensures) c.one-item.is in
     c.requires.compare p (in_pairs_of c.args.sig.now c.args.pairs.now c.args.keep.now t c.args.left.now c.args.right.now c.loop-one.one-index c.loop-one-test.true e p h)
 
-pub are_row_held-requires-clause-others : goal.are_row_held-requires-clause-others
-are_row_held-requires-clause-others c = λ first e.
+pub are_joins_of_row_held-requires-clause-others : goal.are_joins_of_row_held-requires-clause-others
+are_joins_of_row_held-requires-clause-others c = λ first e.
     let right = c.args.right.now in
     subst (λ column. IsIndexed right column (length right) c.in_ok-index.index.free.items (places_at c.in_ok-index.index.places)) (c.first_right-column.ensures first e) c.in_ok-index.ensures
 
