@@ -29,7 +29,7 @@ parts_of_test true true c e = absurd (true≢false (sym e))
 parts_of_test false b c e = absurd (true≢false (sym e))
 
 module _ (def : Definition) (f : Fragment) where
-  abbrev inside_keys : List Key
+  abbrev pub inside_keys : List Key
   inside_keys = in_order (names_inside def f)
 
   abbrev passing_keys : List Key
@@ -70,7 +70,7 @@ module _ (def : Definition) (f : Fragment) where
           columns_are = cut.cut_is ∙ ap (λ l. l ++ map cut.entity (names_of def f)) split.0 ∙ ap (λ l. (p.value ∷ p.seen) ++ l) same;
         }
 
-    inward_from : (c : Choice f) (x : List Term) → IsPossible def f c x → CutOf (IsPossibleInside def f) (CloseGlue inside_keys (names_of def f)) c x
+    pub inward_from : (c : Choice f) (x : List Term) → IsPossible def f c x → CutOf (IsPossibleInside def f) (CloseGlue inside_keys (names_of def f)) c x
     inward_from c x it =
         let j = it.judged in
         let agree : AgreeOpen (λ s. unfinished_inside def s f) (declared_inside def f) it.outside j.inner =

@@ -70,7 +70,7 @@ module _ (def : Definition) (o : ℕ) (op : Operator) (found : slice_get def.ope
   abbrev own_keys : List Key
   own_keys = keys (positions op.items names)
 
-  first_is : first_children 0 f ≡ bare f
+  pub first_is : first_children 0 f ≡ bare f
   first_is = first_bare def f [] node.parts
 
   bare_keys : names_inside def (bare f) ≡ own_keys
@@ -146,7 +146,7 @@ module _ (def : Definition) (o : ℕ) (op : Operator) (found : slice_get def.ope
               (ap (λ l. map it.entity (in_order l)) (sym bare_keys) ∙ map_same it.entity g (in_order ks) (λ n i. on n (sym (in_order-among ks n whole) ∙ i)));
         }
 
-    own_of_possible : (r : ℕ) (x : List Term) → IsPossibleInside def (bare f) (choice_of f r) x → OwnRow def.signature op names r x
+    pub own_of_possible : (r : ℕ) (x : List Term) → IsPossibleInside def (bare f) (choice_of f r) x → OwnRow def.signature op names r x
     own_of_possible r x it =
         let w = holds_weave def o op found f [] node.top node.parts it.inside (choice_of f r) [] it.value it.seen [] it.holds in
         let row : IsOfOperatorRow def o r it.value (w.own ++ []) = subst (λ k. IsOfOperatorRow def o k it.value (w.own ++ [])) (row-choice f r) w.row in

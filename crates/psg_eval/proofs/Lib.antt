@@ -48,3 +48,6 @@ pub mod MovedColumns
 pub mod MovedOrder
 pub mod SpaceReads
 pub mod StartLaws
+pub mod StepLists
+pub mod PlaceLists
+pub mod WorkLaws

@@ -12,7 +12,7 @@ use Rattle.psg_terms.proofs.OneRelation.{sorts_length}
 use Rattle.psg_grammar.specs.declared.types.Definition.{Definition}
 use Rattle.psg_grammar.specs.Keys.{Key}
 use Rattle.psg_grammar.specs.Sound.{HasKindSort}
-use Rattle.psg_columns.specs.Fewer.{FewerColumns, KeptOnce}
+use Rattle.psg_relation.specs.Fewer.{FewerColumns, KeptOnce}
 use Rattle.psg_relation.specs.Choices.{AllHaveSorts, AllWithin, HasWide, IsProjected, MayBeWide, picked}
 use Rattle.psg_relation.specs.declared.relation.RelFault.{RelFault}
 use Rattle.psg_relation.specs.declared.relation.RelFault.TheVariants.{Wide}

@@ -1,5 +1,5 @@
 -- The answers for trees without children.
-use Rattle.std.specs.Prelude.{ℕ, ◌≡◌, List, Result, Ok, Err}
+use Rattle.std.specs.Prelude.{ℕ, ◌≡◌, ◌+◌, ◌≤◌, ◌^◌, List, Result, Ok, Err}
 use Rattle.psg_terms.specs.Terms.{Term}
 use Rattle.psg_terms.specs.Signature.{Signature}
 use Rattle.psg_terms.specs.Relations.{IsRelation}
@@ -13,11 +13,13 @@ use Rattle.psg_eval.specs.declared.summary.SummaryParts.{SummaryParts}
 use Rattle.psg_eval.specs.declared.summary.EvalFault.{EvalFault}
 use Rattle.psg_eval.specs.declared.summary.EvalFault.TheVariants as faults
 
--- the fault of a relation as one of the step
+-- The fault of a relation as one of the step. One that is too large is so at its step, unless 32 bits do not hold the
+-- number of that.
 abbrev pub IsFaultAt : RelFault → ℕ → EvalFault → Type 0
 IsFaultAt rel.Wide n (faults.Wide step) = step ≡ n
+IsFaultAt rel.Wide n faults.Memory = 2 ^ 32 ≤ n + 1
 IsFaultAt rel.Memory n (faults.Wide step) = ⊥
-IsFaultAt fault n faults.Memory = Unit {0}
+IsFaultAt rel.Memory n faults.Memory = Unit {0}
 
 -- the summary has this kind and header and the relation of the rows, within the limit; or that relation is the wide one
 -- of step 0

@@ -16,3 +16,5 @@ pub mod Patterns
 pub mod SpaceTables
 pub mod Renamed
 pub mod Starts
+pub mod StepRows
+pub mod Work

@@ -1,6 +1,9 @@
 -- The columns of keys, where the keys of two lists are made one list.
-use Rattle.std.specs.Prelude.{ℕ, zero, suc, ◌≡◌, ◌+◌, ◌-◌, List, [], ◌∷◌, ◌++◌, length}
+use Rattle.std.specs.Prelude.{ℕ, zero, suc, ◌≡◌, ◌<◌, ◌≤◌, ◌⊎◌, ◌+◌, ◌-◌, List, [], ◌∷◌, ◌++◌, length}
+use Rattle.std.specs.List.{AllByRecursion}
+use Rattle.psg_terms.specs.Relations.{IsIn}
 use Rattle.psg_grammar.specs.Keys.{Key}
+use Rattle.psg_scope.specs.Headers.{AreAscending}
 use Rattle.psg_unify.specs.Pairs.{Pair as Columns}
 use Rattle.psg_eval.specs.declared.placing.Placed.{Placed}
 
@@ -21,6 +24,14 @@ pub data IsWalk (offset : ℕ) : (A B : List ℕ) (K L M : List Key) (pairs : Li
   walk_both : {A B : List ℕ} {K L M : List Key} {pairs : List Columns} {keep : List ℕ} (a b : ℕ) (k : Key)
       → IsWalk offset A B K L M pairs keep
       → IsWalk offset (a ∷ A) (b ∷ B) (k ∷ K) (k ∷ L) (k ∷ M) ((a, b) ∷ pairs) (a ∷ keep)
+
+-- Two ascending lists of places have each place from the first number on and below the second one, and no other.
+pub record FillPlaces (from count : ℕ) (lefts rights : List ℕ) : Type 0 where
+  pub lefts_rise : AreAscending lefts
+  pub rights_rise : AreAscending rights
+  pub lefts_within : AllByRecursion (λ p. (from ≤ p) × (p < count)) lefts
+  pub rights_within : AllByRecursion (λ p. (from ≤ p) × (p < count)) rights
+  pub each : (p : ℕ) → from ≤ p → p < count → IsIn p lefts ⊎ IsIn p rights
 
 -- one more key
 pub record GrowsBy (old new : Placed) (pairs : List Columns) (column left right : ℕ) : Type 0 where

@@ -1,5 +1,5 @@
 //! A node with its first children, and one child more.
-ghost use Rattle.std.specs.Prelude.{◌≡◌, ◌+◌, ◌<◌, ◌∷◌, ◌-◌, ◌^◌, ℕ, List, IfOk, IfErr, OnOk, ◌++◌};
+ghost use Rattle.std.specs.Prelude.{◌≡◌, ◌+◌, ◌<◌, ◌∷◌, ◌-◌, ◌^◌, ℕ, List, IfOk, IfErr, IsOk, OnOk, length, ◌++◌};
 ghost use Rattle.psg_terms.specs.Relations.{IsGlued, IsRelation};
 ghost use Rattle.psg_terms.specs.Weight.{PassesLimit};
 ghost use Rattle.psg_grammar.specs.declared.types.Definition.{Definition as Language};
@@ -10,13 +10,14 @@ ghost use Rattle.psg_eval.specs.Glues.{NextGlue};
 ghost use Rattle.psg_eval.specs.Partials.{IsAdded, IsPartial, MatchStep};
 ghost use Rattle.psg_eval.specs.Stages.{IsNumbered};
 ghost use Rattle.psg_eval.specs.Summaries.{IsSummary};
-ghost use Rattle.psg_eval.specs.Walks.{IsLayout, run};
+ghost use Rattle.psg_eval.specs.Walks.{FillPlaces, IsLayout, run};
 
 use crate::placing::key_columns;
 use crate::summary::{EvalFault, Summary, SummaryParts, at_step};
 use psg_grammar::{Definition, Kind};
 use psg_relation::{Rel, RelFault};
 use psg_scope::{Header, Joined};
+use psg_terms::uncountable;
 use std::alloc::{AllocError, Global};
 
 /// What is known of a node with its first children.
@@ -40,14 +41,17 @@ pub(crate) struct Layout {
     pub(crate) keep: Vec<usize>,
 }
 
-/// Returns how many values are seen on both sides. `AllocError` is returned where 32 bits do not hold the number.
+/// Returns how many values are seen on both sides. It fails as if out of memory exactly where 32 bits do not hold the
+/// number.
 fn both_seen(one: u32, two: u32) -> Result<u32, AllocError>
-    ensures { IfOk result (λ n. n ≡ one + two) }
+    ensures sum { IfOk result (λ n. n ≡ one + two) }
+    ensures fits { one + two < 2 ^ 32 → IsOk result }
 {
-    match one.checked_add(two) {
-        Some(sum) => Ok(sum),
-        None => Err(AllocError),
+    let sum = one as usize + two as usize;
+    if sum > 0xffff_ffff {
+        return Err(uncountable(sum));
     }
+    Ok(sum as u32)
 }
 
 /// Adds `count` numbers, from `from` on.
@@ -75,7 +79,8 @@ pub(crate) fn numbers(alloc: Global, from: usize, count: usize) -> Result<Vec<us
     Ok(made)
 }
 
-/// Returns how many columns are kept: so many of the node and of the child, and those of the keys.
+/// Returns how many columns are kept: these numbers of columns of the node and of the child, and the columns of the
+/// keys.
 fn kept_count(of_node: usize, of_child: usize, keys: &[usize]) -> usize {
     keys.len().saturating_add(of_node).saturating_add(of_child)
 }
@@ -90,6 +95,7 @@ fn child_layout(
     requires some { 0 < before.now.wanted }
     requires left { ArePlaces joined.now.header.names joined.now.left (keys before.now.header.names) }
     requires right { ArePlaces joined.now.header.names joined.now.right (keys child.now.header.names) }
+    requires all { FillPlaces 0 (length joined.now.header.names) joined.now.left joined.now.right }
     ensures { IfOk result (λ l. IsLayout before.now.seen before.now.wanted child.now.seen (keys before.now.header.names)
         (keys child.now.header.names)
         (keys joined.now.header.names) l.pairs.items l.keep.items) }
@@ -131,6 +137,7 @@ fn joined_rows(
     requires ordered { IsOrdered joined.now.header }
     requires left { ArePlaces joined.now.header.names joined.now.left (keys before.now.header.names) }
     requires right { ArePlaces joined.now.header.names joined.now.right (keys child.now.header.names) }
+    requires all { FillPlaces 0 (length joined.now.header.names) joined.now.left joined.now.right }
     ensures sorted { IfOk result (λ rel. (kind : PlainKind) (kinds : List PlainKind)
         → IsPartial definition.now kind (child.now.kind ∷ kinds) before.now
         → (more : ℕ) → more + 1 ≡ before.now.wanted
@@ -211,11 +218,13 @@ pub(crate) fn summary_of(alloc: Global, kind: Kind, whole: Partial) -> Result<Su
 }
 
 /// Returns the node with a place as its next child. A place may have any value, so the first wanted value is now the
-/// last that is seen, and the rows are the same.
+/// last that is seen, and the rows are the same. It takes no memory, and fails as if out of memory exactly where 32 bits
+/// do not hold the number of seen values.
 pub(crate) fn with_place(before: Partial) -> Result<Partial, AllocError>
     requires { 0 < before.wanted }
-    ensures { IfOk result (λ p.
+    ensures partial { IfOk result (λ p.
         p ≡ record { header = before.header; seen = before.seen + 1; wanted = before.wanted - 1; rel = before.rel }) }
+    ensures fits { before.seen + 1 < 2 ^ 32 → IsOk result }
 {
     let seen = both_seen(before.seen, 1)?;
     Ok(Partial {

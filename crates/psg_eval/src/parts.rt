@@ -1,5 +1,6 @@
 //! Nodes and cells some of whose children may be places with any value.
-ghost use Rattle.std.specs.Prelude.{◌≡◌, ◌+◌, ◌≤◌, ◌∷◌, [], ℕ, List, length, slice_get, Some, IfOk, sum_by};
+ghost use Rattle.std.specs.Prelude.{◌≡◌, ◌+◌, ◌-◌, ◌^◌, ◌≤◌, ◌∷◌, [], ℕ, List, length, slice_get, min, Some, IfOk};
+ghost use Rattle.std.specs.Prelude.{OnOk, sum_by};
 ghost use Rattle.psg_grammar.specs.Fragments.{Fragment, cell as a_cell, children_of};
 ghost use Rattle.psg_grammar.specs.Sound.{IsOperator, IsSound};
 ghost use Rattle.psg_grammar.specs.declared.types.Kind.{Kind as PlainKind};
@@ -10,6 +11,7 @@ ghost use Rattle.psg_eval.specs.Patterns.{SuitsKind, TakesCellOf, TakesChildren,
 ghost use Rattle.psg_eval.specs.Stages.{IsMade, MatchMade};
 ghost use Rattle.psg_eval.specs.Summaries.{Answers, IsSummary};
 ghost use Rattle.psg_eval.specs.Trees.{HasParts, IsNode};
+ghost use Rattle.psg_eval.specs.Work.{AreJoined, IsCellWork, IsNodeWork, IsWholeWork, join_work, part_work, rows_work};
 
 use crate::cell::cell_start;
 use crate::node::outer;
@@ -19,22 +21,13 @@ use crate::pattern::Pattern;
 use crate::summary::{EvalFault, Summary, SummaryParts};
 use psg_grammar::{Definition, Kind, Operator};
 use psg_relation::{Rel, RelFault};
-use psg_terms::Txt;
-use std::alloc::{AllocError, Global};
+use psg_terms::{Room, Txt};
+use std::alloc::Global;
 
-/// Takes `work` from the room. Where less is left, nothing is taken, and the call fails as where memory runs out.
-fn spend(room: &mut u64, work: u64) -> Result<(), AllocError>
-    ensures { room.new ≤ room.old }
+/// Returns the work of a join, or `u64::MAX` if it is more.
+fn join_work(left: &Rel, right: &Rel) -> u64
+    ensures { result ≡ min (join_work left.now right.now) (2 ^ 64 - 1) }
 {
-    if work > *room {
-        return Err(AllocError);
-    }
-    *room -= work;
-    Ok(())
-}
-
-/// Returns a bound on the work of a join: the weight of each side times the rows of the other.
-fn join_work(left: &Rel, right: &Rel) -> u64 {
     let lefts = left.weight().saturating_mul(right.rows().len() as u64);
     let rights = right.weight().saturating_mul(left.rows().len() as u64);
     lefts.saturating_add(rights)
@@ -43,8 +36,11 @@ fn join_work(left: &Rel, right: &Rel) -> u64 {
 /// How much a term of the definition's own rows counts, where a comparison of two symbols counts 1.
 const TERM_WORK: u64 = 8;
 
-/// Returns the work of making a relation of `rows` rows of the definition, with `terms` terms each.
-fn rows_work(rows: usize, terms: usize) -> u64 {
+/// Returns the work of making a relation of `rows` rows of the definition, with `terms` terms each, or `u64::MAX` if it
+/// is more.
+fn rows_work(rows: usize, terms: usize) -> u64
+    ensures { result ≡ min (rows_work rows terms) (2 ^ 64 - 1) }
+{
     TERM_WORK
         .saturating_mul(rows as u64)
         .saturating_mul(terms as u64)
@@ -56,7 +52,7 @@ fn with_known(
     definition: &Definition,
     before: &Partial,
     child: &SummaryParts,
-    room: &mut u64,
+    room: &mut Room,
 ) -> Result<Partial, RelFault>
     requires partial { (kind : PlainKind) × (kinds : List PlainKind)
         × IsPartial definition.now kind (child.now.kind ∷ kinds) before.now }
@@ -66,9 +62,10 @@ fn with_known(
         → IsPartial definition.now kind (child.now.kind ∷ kinds) before.now
         → IsPartial definition.now kind kinds p) }
     ensures seen { IfOk result (λ p. p.seen ≡ before.now.seen + child.now.seen) }
-    ensures room { room.new ≤ room.old }
+    ensures work { OnOk result (room.old.left ≡ room.new.left + part_work before.now.rel (Some child.now)) }
+    ensures room { room.new.left ≤ room.old.left }
 {
-    spend(room, join_work(&before.rel, &child.rel))?;
+    room.spend(join_work(&before.rel, &child.rel))?;
     with_child(alloc, definition, before, child)
 }
 
@@ -78,7 +75,7 @@ fn with_part(
     definition: &Definition,
     before: Partial,
     child: &Option<Pattern>,
-    room: &mut u64,
+    room: &mut Room,
 ) -> Result<Partial, RelFault>
     requires { (kind : PlainKind) × (k : PlainKind) × (kinds : List PlainKind) × SuitsKind definition.now child.now k
         × IsPartial definition.now kind (k ∷ kinds) before }
@@ -87,7 +84,8 @@ fn with_part(
         → SuitsKind definition.now child.now k → IsPartial definition.now kind (k ∷ kinds) before
         → IsPartial definition.now kind kinds p) }
     ensures seen { IfOk result (λ p. p.seen ≡ before.seen + seen_of child.now) }
-    ensures room { room.new ≤ room.old }
+    ensures work { OnOk result (room.old.left ≡ room.new.left + part_work before.rel child.now) }
+    ensures room { room.new.left ≤ room.old.left }
 {
     match child {
         Some(pattern) => with_known(alloc, definition, &before, pattern.known(), room),
@@ -104,7 +102,7 @@ fn with_parts(
     definition: &Definition,
     first: Partial,
     children: &[Option<Pattern>],
-    room: &mut u64,
+    room: &mut Room,
 ) -> Result<Partial, EvalFault>
     requires sound { IsSound definition.now }
     requires partial { (kind : PlainKind) × (kinds : List PlainKind) × SuitKinds definition.now children.now kinds
@@ -116,7 +114,9 @@ fn with_parts(
         → SuitKinds definition.now children.now kinds → IsPartial definition.now kind kinds first
         → IsPartial definition.now kind [] p) }
     ensures seen { IfOk result (λ p. p.seen ≡ first.seen + sum_by seen_of children.now) }
-    ensures room { room.new ≤ room.old }
+    ensures work { IfOk result (λ p. (work : ℕ) × AreJoined definition.now first children.now p work
+        × (room.old.left ≡ room.new.left + work)) }
+    ensures room { room.new.left ≤ room.old.left }
 {
     let mut partial = first;
     for i in 0..children.len() {
@@ -136,7 +136,7 @@ fn all_parts(
     operator: &Operator,
     names: &[Txt],
     children: &[Option<Pattern>],
-    room: &mut u64,
+    room: &mut Room,
 ) -> Result<Partial, EvalFault>
     requires sound { IsSound definition.now }
     requires operator { IsOperator definition.now operator.now }
@@ -147,11 +147,14 @@ fn all_parts(
         → MatchMade definition.now f (length children.now) result }
     ensures partial { IfOk result (IsPartial definition.now (OfPhylum operator.now.phylum) []) }
     ensures seen { IfOk result (λ p. p.seen ≡ sum_by seen_of children.now) }
-    ensures room { room.new ≤ room.old }
+    ensures work { IfOk result (λ p. (work : ℕ)
+        × IsWholeWork definition.now operator.now names.now children.now p work
+        × (room.old.left ≡ room.new.left + work)) }
+    ensures room { room.new.left ≤ room.old.left }
 {
     let rows = operator.rows.as_slice().len();
     let items = operator.items.as_slice().len();
-    spend(room, rows_work(rows, items.saturating_add(1)))?;
+    room.spend(rows_work(rows, items.saturating_add(1)))?;
     let first = numbered(first_step(alloc, definition, operator, names), 0)?;
     let whole = with_parts(alloc, definition, first, children, room)?;
     Ok(whole)
@@ -164,7 +167,7 @@ pub(crate) fn node_with(
     operator: &Operator,
     names: &[Txt],
     children: &[Option<Pattern>],
-    room: &mut u64,
+    room: &mut Room,
 ) -> Result<Summary, EvalFault>
     requires sound { IsSound definition.now }
     requires operator { IsOperator definition.now operator.now }
@@ -175,10 +178,12 @@ pub(crate) fn node_with(
     ensures summary { IfOk result (IsSummary definition.now) }
     ensures kind { IfOk result (λ s. s.kind ≡ OfPhylum operator.now.phylum) }
     ensures seen { IfOk result (λ s. s.seen ≡ sum_by seen_of children.now) }
-    ensures room { room.new ≤ room.old }
+    ensures work { OnOk result ((work : ℕ) × IsNodeWork definition.now operator.now names.now children.now work
+        × (room.old.left ≡ room.new.left + work)) }
+    ensures room { room.new.left ≤ room.old.left }
 {
     let whole = all_parts(alloc, definition, operator, names, children, room)?;
-    spend(room, whole.rel.weight())?;
+    room.spend(whole.rel.weight())?;
     let outside = outer(alloc, definition, operator, children.len(), whole)?;
     let summary = summary_of(alloc, Kind::Phylum(operator.phylum), outside)?;
     Ok(summary)
@@ -191,7 +196,7 @@ pub(crate) fn cell_with(
     list: u32,
     element: &Option<Pattern>,
     rest: &Option<Pattern>,
-    room: &mut u64,
+    room: &mut Room,
 ) -> Result<Partial, EvalFault>
     requires sound { IsSound definition.now }
     requires takes { TakesCellOf definition.now list element.now rest.now }
@@ -199,13 +204,15 @@ pub(crate) fn cell_with(
         → MatchMade definition.now (a_cell list e r) 2 result }
     ensures partial { IfOk result (IsPartial definition.now (OfList list) []) }
     ensures seen { IfOk result (λ p. p.seen ≡ seen_of element.now + seen_of rest.now) }
-    ensures room { room.new ≤ room.old }
+    ensures work { OnOk result ((work : ℕ) × IsCellWork definition.now list element.now rest.now work
+        × (room.old.left ≡ room.new.left + work)) }
+    ensures room { room.new.left ≤ room.old.left }
 {
     let rows = definition.lists.as_slice()[list as usize]
         .cell_rows
         .as_slice()
         .len();
-    spend(room, rows_work(rows, 3))?;
+    room.spend(rows_work(rows, 3))?;
     let first = numbered(cell_start(alloc, definition, list), 0)?;
     let begun = numbered(with_part(alloc, definition, first, element, room), 1)?;
     let whole = numbered(with_part(alloc, definition, begun, rest, room), 2)?;

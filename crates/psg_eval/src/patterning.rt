@@ -1,5 +1,5 @@
 //! Patterns of nodes, cells and ends. They are of trees in the definition itself, so they count no step.
-ghost use Rattle.std.specs.Prelude.{◌≡◌, ◌+◌, ◌<◌, ◌≤◌, false, length, slice_get, Some, IfOk, sum_by};
+ghost use Rattle.std.specs.Prelude.{◌≡◌, ◌+◌, ◌<◌, ◌≤◌, ℕ, false, length, slice_get, Some, IfOk, OnOk, sum_by};
 ghost use Rattle.psg_grammar.specs.Fragments.{Fragment, cell, ending, children_of};
 ghost use Rattle.psg_grammar.specs.Sound.{IsSound};
 ghost use Rattle.psg_grammar.specs.declared.types.Kind.TheVariants.{List as OfList, Phylum as OfPhylum};
@@ -7,6 +7,7 @@ ghost use Rattle.psg_grammar.specs.declared.types.Operator.{Operator};
 ghost use Rattle.psg_eval.specs.Patterns.{AreChildrenOf, IsChildOf, TakesCellOf, TakesChildrenAt, seen_of};
 ghost use Rattle.psg_eval.specs.Summaries.{Answers, IsSummary};
 ghost use Rattle.psg_eval.specs.Trees.{IsNode};
+ghost use Rattle.psg_eval.specs.Work.{IsCellWork, IsNodeWork};
 
 use crate::leaves::closed_end;
 use crate::partial::summary_of;
@@ -14,7 +15,7 @@ use crate::parts::{cell_with, node_with};
 use crate::pattern::Pattern;
 use crate::summary::EvalFault;
 use psg_grammar::{Definition, Kind};
-use psg_terms::Txt;
+use psg_terms::{Room, Txt};
 use std::alloc::Global;
 
 /// Returns the pattern of an operator's node, from its names and its children, of which `None` is a place with any
@@ -30,7 +31,7 @@ pub fn pattern_op(
     op: u32,
     names: &[Txt],
     children: &[Option<Pattern>],
-    room: &mut u64,
+    room: &mut Room,
 ) -> Result<Pattern, EvalFault>
     requires sound { IsSound definition.now }
     requires takes { TakesChildrenAt definition.now op names.now children.now }
@@ -41,7 +42,11 @@ pub fn pattern_op(
     ensures kind { IfOk result (λ s. (o : Operator) → slice_get definition.now.operators op ≡ Some o
         → s.kind ≡ OfPhylum o.phylum) }
     ensures seen { IfOk result (λ s. s.seen ≡ sum_by seen_of children.now) }
-    ensures room { room.new ≤ room.old }
+    // what is taken from the room is the work of the steps, exactly
+    ensures work { OnOk result ((o : Operator) → slice_get definition.now.operators op ≡ Some o
+        → (work : ℕ) × IsNodeWork definition.now o names.now children.now work
+        × (room.old.left ≡ room.new.left + work)) }
+    ensures room { room.new.left ≤ room.old.left }
 {
     let operator = &definition.operators.as_slice()[op as usize];
     let summary = node_with(alloc, definition, operator, names, children, room)?;
@@ -58,7 +63,7 @@ pub fn pattern_cell(
     list: u32,
     element: &Option<Pattern>,
     rest: &Option<Pattern>,
-    room: &mut u64,
+    room: &mut Room,
 ) -> Result<Pattern, EvalFault>
     requires sound { IsSound definition.now }
     requires takes { TakesCellOf definition.now list element.now rest.now }
@@ -67,7 +72,9 @@ pub fn pattern_cell(
     ensures pattern { IfOk result (IsSummary definition.now) }
     ensures kind { IfOk result (λ s. s.kind ≡ OfList list) }
     ensures seen { IfOk result (λ s. s.seen ≡ seen_of element.now + seen_of rest.now) }
-    ensures room { room.new ≤ room.old }
+    ensures work { OnOk result ((work : ℕ) × IsCellWork definition.now list element.now rest.now work
+        × (room.old.left ≡ room.new.left + work)) }
+    ensures room { room.new.left ≤ room.old.left }
 {
     let whole = cell_with(alloc, definition, list, element, rest, room)?;
     let summary = summary_of(alloc, Kind::List(list), whole)?;

@@ -3,7 +3,7 @@ ghost use Rattle.std.specs.Prelude.{◌≡◌, ◌+◌, ◌<◌, ◌∷◌, ◌+
 ghost use Rattle.std.specs.Prelude.{IfOk, IsTrue, OnOk, length, slice_get, slice_index};
 ghost use Rattle.psg_grammar.specs.Keys.{Key};
 ghost use Rattle.psg_scope.specs.Headers.{ArePlaces, keys};
-ghost use Rattle.psg_eval.specs.Walks.{GrowsBy, IsWalk, run};
+ghost use Rattle.psg_eval.specs.Walks.{FillPlaces, GrowsBy, IsWalk};
 
 use psg_scope::Joined;
 use std::alloc::{AllocError, Global};
@@ -80,10 +80,7 @@ fn is_next(places: &[usize], number: usize, place: usize) -> bool
 
 /// Returns the columns of the joined keys in a left row with a right one after it, and pairs of a left and a right
 /// column, one for each key that both sides have. The left row has `offset` columns, and `left` and `right` are the
-/// columns of both sides' keys in their own rows. It looks at each key once.
-///
-/// `AllocError` is returned when memory runs out. It would also be returned where a joined key were of neither side,
-/// which `join` rules out.
+/// columns of both sides' keys in their own rows. It looks at each key once. It fails where memory runs out.
 pub(crate) fn key_columns(
     alloc: Global,
     joined: &Joined,
@@ -94,6 +91,8 @@ pub(crate) fn key_columns(
     requires lefts { length left.now ≡ length joined.now.left }
     requires rights { length right.now ≡ length joined.now.right }
     requires room { All (λ b. offset + b < 2 ^ 64) right.now }
+    // each joined key is of a side
+    requires all { FillPlaces 0 (length joined.now.header.names) joined.now.left joined.now.right }
     ensures { IfOk result (λ p. (K L : List Key) → ArePlaces joined.now.header.names joined.now.left K
         → ArePlaces joined.now.header.names joined.now.right L
         → IsWalk offset left.now right.now K L (keys joined.now.header.names) p.pairs.items p.columns.items) }
@@ -109,18 +108,17 @@ pub(crate) fn key_columns(
     for place in 0..joined.header.names.as_slice().len() {
         let on_left = is_next(lefts, made.lefts, place);
         let on_right = is_next(rights, made.rights, place);
-        if on_left && on_right {
-            made.add_both(left, right)?;
-        } else if on_left {
-            made.add_left(left)?;
+        if on_left {
+            if on_right {
+                made.add_both(left, right)?;
+            } else {
+                made.add_left(left)?;
+            }
         } else if on_right {
             made.add_right(right, offset)?;
         } else {
-            return Err(AllocError);
+            unreachable!();
         }
-    }
-    if made.lefts < lefts.len() || made.rights < rights.len() {
-        return Err(AllocError);
     }
     Ok(made)
 }

@@ -3,18 +3,18 @@ ghost use Rattle.std.specs.Prelude.{◌≡◌, ◌∷◌, ◌++◌, [], ℕ, Lis
 ghost use Rattle.psg_terms.specs.Relations.{IsRelation};
 ghost use Rattle.psg_grammar.specs.Keys.{Key};
 ghost use Rattle.psg_grammar.specs.Sound.{IsSound};
-ghost use Rattle.psg_columns.specs.Fewer.{KeptOnce};
+ghost use Rattle.psg_relation.specs.Fewer.{KeptOnce};
 ghost use Rattle.psg_relation.specs.Choices.{AllHaveSorts, AllWithin, IsProjected, picked};
 ghost use Rattle.psg_scope.specs.Headers.{ArePlaces, keys};
 ghost use Rattle.psg_eval.specs.Renamed.{GrowsBy, IsRenamed, is_name_of, moved_header, moved_names};
 ghost use Rattle.psg_eval.specs.Renamed.{moved_places, other_header, other_names, other_places};
 ghost use Rattle.psg_eval.specs.Summaries.{IsSummary};
-ghost use Rattle.psg_eval.specs.Walks.{IsWalk};
+ghost use Rattle.psg_eval.specs.Walks.{FillPlaces, IsWalk};
 
 use crate::placing::{Placed, key_columns};
 use crate::summary::{Summary, SummaryParts};
-use psg_columns::laws::fewer_columns;
 use psg_grammar::Definition;
+use psg_relation::column_laws::fewer_columns;
 use psg_relation::{Rel, RelFault, project};
 use psg_scope::{Header, Joined, NameCol, Names, join};
 use psg_terms::{Seq, Txt};
@@ -141,6 +141,7 @@ fn joined_columns(
 ) -> Result<Placed, AllocError>
     requires lefts { length moved.now ≡ length joined.now.left }
     requires rights { length others.now ≡ length joined.now.right }
+    requires all { FillPlaces 0 (length joined.now.header.names) joined.now.left joined.now.right }
     ensures { IfOk result (λ p. (K L : List Key) → ArePlaces joined.now.header.names joined.now.left K
         → ArePlaces joined.now.header.names joined.now.right L
         → IsWalk 0 moved.now others.now K L (keys joined.now.header.names) p.pairs.items p.columns.items) }

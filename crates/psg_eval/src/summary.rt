@@ -1,10 +1,12 @@
 //! Summaries of trees.
 ghost use Rattle.std.specs.Prelude.{◌≡◌, ◌↔◌, ◌<◌, IfOk, IsTrue};
+ghost use Rattle.psg_relation.specs.declared.relation.RelFault.TheVariants.{Wide};
 ghost use Rattle.psg_eval.specs.Leaves.{IsFaultAt};
 
 use psg_grammar::Kind;
 use psg_relation::{Rel, RelFault};
 use psg_scope::Header;
+use psg_terms::uncountable;
 use std::alloc::{AllocError, AllocFailed, Global};
 use std::marker::Model;
 use std::rc::Rc;
@@ -24,7 +26,9 @@ pub struct SummaryParts {
     pub rel: Rel,
 }
 
-/// The kind, header and relation of a tree, shared by its owners. Only the calls of this crate make one.
+/// The kind, header and relation of a tree, shared by its owners. Only the calls of this crate make one. Each call that
+/// evaluates a node or repeats a value counts a tick; `renaming::renamed` makes one of another summary, evaluates nothing
+/// and counts none.
 pub struct Summary {
     shared: Rc<SummaryParts>,
 }
@@ -154,15 +158,23 @@ impl<T: Drop> From<AllocFailed<T>> for EvalFault {
     }
 }
 
-/// Returns the fault of a step's relation. It is `Memory` where 32 bits do not hold the number of the step.
+/// Returns the fault of a step whose relation is too large. It is `Memory` only where 32 bits do not hold the number of
+/// the step.
+fn wide_at(step: usize) -> EvalFault
+    ensures { IsFaultAt Wide step result }
+{
+    if step > 0xffff_ffff {
+        return EvalFault::from(uncountable(step));
+    }
+    EvalFault::Wide { step: step as u32 }
+}
+
+/// Returns the fault of a step's relation.
 pub(crate) fn at_step(fault: RelFault, step: usize) -> EvalFault
     ensures { IsFaultAt fault step result }
 {
     match fault {
-        RelFault::Wide => match u32::try_from(step) {
-            Ok(step) => EvalFault::Wide { step },
-            Err(_) => EvalFault::Memory,
-        },
+        RelFault::Wide => wide_at(step),
         RelFault::Memory => EvalFault::Memory,
     }
 }

@@ -13,7 +13,7 @@ use Rattle.psg_grammar.specs.Fragments.{Fragment}
 use Rattle.psg_grammar.specs.Open.{Choice}
 use Rattle.psg_grammar.specs.Regions.{names_of}
 use Rattle.psg_grammar.specs.Relations.{IsPossible, IsSeen, IsSeenRelationOf}
-use Rattle.psg_columns.specs.Fewer.{FewerColumns, KeptOnce}
+use Rattle.psg_relation.specs.Fewer.{FewerColumns, KeptOnce}
 use Rattle.psg_relation.specs.Choices.{AllHaveSorts, AllWithin, HasWide, IsProjected, MayBeWide, picked}
 use Rattle.psg_relation.specs.declared.relation.RelFault.{RelFault}
 use Rattle.psg_relation.specs.declared.relation.RelFault.TheVariants.{Wide}

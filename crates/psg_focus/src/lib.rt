@@ -2,7 +2,7 @@
 //!
 //! ```text
 //! let frames = note.frames(alloc, &path)?;
-//! let terms = relation_at(alloc, &definition, frames.as_slice(), own, &mut steps)?;
+//! let terms = relation_at(alloc, &definition, &tables, frames.as_slice(), own, &mut steps)?;
 //! ```
 //!
 //! The values that a node still may have are not those of its own relation: what is around it may rule some out. So the

@@ -12,13 +12,14 @@ ghost use Rattle.psg_grammar.specs.Sound.{IsSound};
 ghost use Rattle.psg_grammar.specs.WellFormed.{WellFormed};
 ghost use Rattle.psg_completions.specs.Conditions.{HasTrueRows};
 ghost use Rattle.psg_eval.specs.Frames.{CanClimb, IsSilent, StandFor, rungs};
+ghost use Rattle.psg_eval.specs.Starts.{AreTables};
 ghost use Rattle.psg_eval.specs.Summaries.{IsSummary, IsSummaryOf};
 ghost use Rattle.psg_relation.specs.Choices.{AllHaveSorts};
 ghost use Rattle.psg_focus.specs.Shown.{IsOfSome, IsShown, rows_of};
 
-use psg_columns::laws::fewer_columns;
-use psg_eval::{FocusFault, Frame, Summary, asked, climb, with_report};
+use psg_eval::{FocusFault, Frame, Summary, Tables, asked, with_report};
 use psg_grammar::Definition;
+use psg_relation::column_laws::fewer_columns;
 use psg_relation::{Rel, RelFault, RelRow, project};
 use psg_terms::{Steps, Term};
 use std::alloc::{AllocError, Global};
@@ -79,7 +80,7 @@ fn only_terms(alloc: Global, rows: &[RelRow]) -> Result<Vec<Term>, AllocError>
 }
 
 /// Gives the values that the node still may have where the frames are those of its place in a fragment, as most general
-/// terms in the order of their texts. `own` is the node's summary.
+/// terms in the order of their texts. `own` is the node's summary, and `tables` are those of the definition.
 ///
 /// It takes one tick, and those of a climb through the frames. `Wide` is returned exactly where the node's relation
 /// with its value once more passes the limit, or a step of a node above it does, with that value as one more column.
@@ -87,11 +88,13 @@ fn only_terms(alloc: Global, rows: &[RelRow]) -> Result<Vec<Term>, AllocError>
 pub fn relation_at<L: Ledger>(
     alloc: Global,
     definition: &Definition,
+    tables: &Tables,
     frames: &[Frame],
     own: &Summary,
     steps: &mut Steps<L>,
 ) -> Result<Vec<Term>, FocusFault>
     requires sound { IsSound definition.now }
+    requires tables { AreTables definition.now tables.now }
     requires own { IsSummary definition.now own.now }
     requires silent { IsSilent own.now }
     requires frames { CanClimb definition.now frames.now own.now.kind }
@@ -108,7 +111,7 @@ pub fn relation_at<L: Ledger>(
 {
     let noted = with_report(alloc, definition, own, steps);
     let seen = asked(noted)?;
-    let climbed = climb(alloc, definition, frames, &seen, steps);
+    let climbed = tables.climb(alloc, definition, frames, &seen, steps);
     let whole = asked(climbed)?;
     let rel = reported_column(alloc, definition, &whole)?;
     let rows = rel.rows();

@@ -10,7 +10,7 @@ use Rattle.psg_grammar.specs.Keys.{Key}
 use Rattle.psg_grammar.proofs.NamePlaces.{once}
 use Rattle.psg_scope.proofs.KeyLists.{key_is, key_refl}
 use Rattle.psg_relation.specs.Choices.{pick, picked}
-use Rattle.psg_columns.specs.Fewer.{KeptOnce}
+use Rattle.psg_relation.specs.Fewer.{KeptOnce}
 
 -- where the key stands in the list
 abbrev pub index_of : List Key → Key → ℕ

@@ -10,7 +10,7 @@ use Rattle.psg_grammar.specs.Legal.{Entities, AreEntities}
 use Rattle.psg_grammar.specs.Open.{Choice, Holds, Judged}
 use Rattle.psg_grammar.specs.Relations.{IsPossible, IsPossibleInside}
 use Rattle.psg_grammar.specs.Sound.{IsSound}
-use Rattle.psg_columns.specs.Fewer.{FewerColumns}
+use Rattle.psg_relation.specs.Fewer.{FewerColumns}
 use Rattle.psg_renaming.proofs.Permuting.{Permutation}
 use Rattle.psg_renaming.proofs.Turned.{turned, new_key, old_key, undo_key, twice_new, passing_of, names_new, distinct_new, distinct_old}
 use Rattle.psg_renaming.proofs.Judged.{choice_to, choice_from, to_from, AreOld, old_entities, new_entities, holds_to, holds_from, judged_to, judged_from}

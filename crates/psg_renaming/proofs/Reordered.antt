@@ -17,7 +17,7 @@ use Rattle.psg_relation.specs.Heavy.{deepest_of}
 use Rattle.psg_relation.proofs.Columns.{all_sorted, projected}
 use Rattle.psg_relation.proofs.Existing.{relation_exists}
 use Rattle.psg_relation.proofs.Weights.{some_pass, passes_by, within_by}
-use Rattle.psg_columns.specs.Fewer.{FewerColumns}
+use Rattle.psg_relation.specs.Fewer.{FewerColumns}
 use Rattle.psg_renaming.proofs.Picking.{AreAmong, places, shifted, taken, taken_once, taken_within}
 
 -- rows pass the limit or not

@@ -8,7 +8,7 @@ use Rattle.psg_grammar.specs.Fragments.{Fragment, hole, ending, cell, operator, 
 use Rattle.psg_grammar.specs.Relations.{IsPossibleInside}
 use Rattle.psg_grammar.specs.Sound.{IsSound}
 use Rattle.psg_grammar.specs.Steps.{first_children, children_count, last_step, adding, closing, PassesAt, Place, steps_up_to, own_steps, list_steps, steps_of, steps_below, IsWide}
-use Rattle.psg_columns.specs.Fewer.{FewerColumns}
+use Rattle.psg_relation.specs.Fewer.{FewerColumns}
 use Rattle.psg_renaming.proofs.Permuting.{Permutation}
 use Rattle.psg_renaming.proofs.Turned.{turned, same_scope}
 use Rattle.psg_renaming.proofs.Relating.{inside_to, inside_from, whole_to, whole_from}

@@ -20,7 +20,7 @@ pub record IsInside (long short : List NameCol) (places : List ℕ) : Type 0 whe
   pub at : ArePlaces long places (keys short)
   pub uses : AreUses short
 
--- two lists were made one
+-- the whole has the keys of both lists, and the places of each list's keys
 pub record IsWhole (left right : List NameCol) (whole : Whole) : Type 0 where
   pub names : whole.names ≡ merge left right
   pub clash : whole.clashes ≡ clashes left right

@@ -24,9 +24,10 @@ pub struct Joined {
 /// Makes the header of a region that has the positions of two: its keys are those of both, in order and each once, and
 /// a key that one of them declares is declared. It declares a key twice where one of them does or both declare one key.
 ///
-/// Where one header has all keys of the other, and the other one declares none, its list of keys is shared: this takes,
-/// for each key of the other one, the logarithm of its keys. Else it copies each key once, and shares the names. In both
-/// cases it makes a place for each key of each header.
+/// Where one header has all keys of the other one, and the other one declares none, the joined header shares the first
+/// one's list of keys. Each key of the other one is then looked for: by binary search where the first one has at least
+/// eight times as many keys, else by one walk over both. Else each key is copied once, and the names are shared. A place
+/// is made for each key of each header.
 pub fn join(alloc: Global, left: &Header, right: &Header) -> Result<Joined, AllocError>
     requires left { IsOrdered left.now }
     requires right { IsOrdered right.now }

@@ -6,7 +6,7 @@ use std::alloc::{AllocError, Global};
 use std::marker::Model;
 use std::rc::Rc;
 
-/// The keys of a header, shared by its owners. A clause sees them as a list. No keys take no memory.
+/// The keys of a header, shared by its owners. A clause sees them as a list. A list without keys takes no memory.
 #[derive(Drop)]
 pub struct Names {
     shared: Option<Rc<Vec<NameCol>>>,

@@ -19,15 +19,39 @@ pub(crate) struct Whole {
     pub(crate) clashes: bool,
 }
 
-/// Returns the place of the key in the list, if the key is there and is only used.
-fn used_at(cols: &[NameCol], key: &NameCol) -> Option<usize>
+/// Returns the place of the first key that is not below the key, which is at `from` or after it. It looks at the keys
+/// one by one.
+fn walked(cols: &[NameCol], from: usize, key: &NameCol) -> usize {
+    for place in from..cols.len() {
+        match cols[place].order(key) {
+            Ordering::Less => {}
+            Ordering::Equal => return place,
+            Ordering::Greater => return place,
+        }
+    }
+    cols.len()
+}
+
+/// Returns the only place where the list can have the key: it is at `from` or after it. It is found by a walk from
+/// there, or by binary search where the list is far longer than that of which the key is.
+fn only_place(cols: &[NameCol], from: usize, far_longer: bool, key: &NameCol) -> usize
+    requires { AreRising (keys cols.now) }
+{
+    if far_longer {
+        return below(cols, key);
+    }
+    walked(cols, from, key)
+}
+
+/// Returns the place of the key in the list, if the key is there, at `from` or after it, and is only used.
+fn used_at(cols: &[NameCol], from: usize, far_longer: bool, key: &NameCol) -> Option<usize>
     requires { AreRising (keys cols.now) }
     ensures { IfSome result (λ place. IsUsedAt cols.now key.now place) }
 {
     if key.declared {
         return None;
     }
-    let place = below(cols, key);
+    let place = only_place(cols, from, far_longer, key);
     if place >= cols.len() {
         return None;
     }
@@ -39,7 +63,8 @@ fn used_at(cols: &[NameCol], key: &NameCol) -> Option<usize>
 }
 
 /// Returns the places of the keys of a short list in a long one, if each of them is there and is only used. It asks for
-/// memory after it found the first key.
+/// memory after it found the first key. Each key is looked for by binary search where the long list has at least eight
+/// times as many keys, else all by one walk over both lists.
 fn places_in(
     alloc: Global,
     short: &[NameCol],
@@ -51,14 +76,17 @@ fn places_in(
     if short.len() > long.len() {
         return Ok(None);
     }
+    let far_longer = long.len() / 8 >= short.len();
     let mut places = Vec::new(alloc);
+    let mut from = 0;
     for i in 0..short.len() {
         let key = &short[i];
-        let Some(place) = used_at(long, key) else {
+        let Some(place) = used_at(long, from, far_longer, key) else {
             return Ok(None);
         };
         places.reserve_exact(short.len() - i)?;
         places.push(place)?;
+        from = place;
     }
     Ok(Some(places))
 }
@@ -74,7 +102,7 @@ fn own_places(alloc: Global, cols: &[NameCol]) -> Result<Vec<usize>, AllocError>
     Ok(places)
 }
 
-/// Returns the left list once more, if it has all keys of the right one and those are only used there.
+/// Returns the left list once more, if it has all keys of the right one and the right one declares none.
 fn left_alone(alloc: Global, left: &Names, right: &Names) -> Result<Option<Whole>, AllocError>
     requires left { AreRising (keys left.now) }
     requires right { AreRising (keys right.now) }
@@ -95,7 +123,7 @@ fn left_alone(alloc: Global, left: &Names, right: &Names) -> Result<Option<Whole
     }))
 }
 
-/// Returns the right list once more, if it has all keys of the left one and those are only used there.
+/// Returns the right list once more, if it has all keys of the left one and the left one declares none.
 fn right_alone(alloc: Global, left: &Names, right: &Names) -> Result<Option<Whole>, AllocError>
     requires left { AreRising (keys left.now) }
     requires right { AreRising (keys right.now) }

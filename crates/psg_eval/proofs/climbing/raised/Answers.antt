@@ -5,18 +5,18 @@ use Rattle.psg_eval.specs.Climbing.{IsReached}
 use Rattle.psg_eval.proofs.FrameLaws.{list_reached, list_rungs, list_takes, operator_frame, operator_rungs, operator_takes}
 use Rattle.psg_eval.proofs.climbing.raised.Goals as goal
 
-pub raised_operator-requires-clause-hot : goal.raised_operator-requires-clause-hot
-raised_operator-requires-clause-hot g c =
+pub operator_raised-requires-clause-hot : goal.operator_raised-requires-clause-hot
+operator_raised-requires-clause-hot g c =
     (operator_takes c.args.definition.now c.args.frame.now c.in-Op.op c.in-Op.hot c.in-Op.names c.as_slice-words.result.now c.in-Op.children c.as_slice-below.result.now
     c.in-Op.is c.as_slice-words.ensures c.as_slice-below.ensures c.args.own.now c.requires.takes.0 c.requires.takes.1).0
 
-pub raised_operator-requires-clause-silent : goal.raised_operator-requires-clause-silent
-raised_operator-requires-clause-silent g c =
+pub operator_raised-requires-clause-silent : goal.operator_raised-requires-clause-silent
+operator_raised-requires-clause-silent g c =
     (operator_takes c.args.definition.now c.args.frame.now c.in-Op.op c.in-Op.hot c.in-Op.names c.as_slice-words.result.now c.in-Op.children c.as_slice-below.result.now
     c.in-Op.is c.as_slice-words.ensures c.as_slice-below.ensures c.args.own.now c.requires.takes.0 c.requires.takes.1).1
 
-pub raised_operator-requires-clause-takes : goal.raised_operator-requires-clause-takes
-raised_operator-requires-clause-takes g c =
+pub operator_raised-requires-clause-takes : goal.operator_raised-requires-clause-takes
+operator_raised-requires-clause-takes g c =
     (operator_takes c.args.definition.now c.args.frame.now c.in-Op.op c.in-Op.hot c.in-Op.names c.as_slice-words.result.now c.in-Op.children c.as_slice-below.result.now
     c.in-Op.is c.as_slice-words.ensures c.as_slice-below.ensures c.args.own.now c.requires.takes.0 c.requires.takes.1).2
 
@@ -51,13 +51,13 @@ pub returns-in_ok-node-in-Op-clause-most : goal.returns-in_ok-node-in-Op-clause-
 returns-in_ok-node-in-Op-clause-most g c =
     let once = operator_rungs c.args.definition.now c.args.frame.now c.in-Op.op c.in-Op.hot c.in-Op.names c.as_slice-words.result.now c.in-Op.children c.as_slice-below.result.now
     c.in-Op.is c.as_slice-words.ensures c.as_slice-below.ensures in
-    omega (arith, once, c.raised_operator.ensures.most)
+    omega (arith, once, c.operator_raised.ensures.most)
 
 pub returns-in_err-node-in-Op-clause-most : goal.returns-in_err-node-in-Op-clause-most
 returns-in_err-node-in-Op-clause-most g c =
     let once = operator_rungs c.args.definition.now c.args.frame.now c.in-Op.op c.in-Op.hot c.in-Op.names c.as_slice-words.result.now c.in-Op.children c.as_slice-below.result.now
     c.in-Op.is c.as_slice-words.ensures c.as_slice-below.ensures in
-    omega (arith, once, c.raised_operator.ensures.most)
+    omega (arith, once, c.operator_raised.ensures.most)
 
 pub raised_in_list-requires-clause-takes : goal.raised_in_list-requires-clause-takes
 raised_in_list-requires-clause-takes g c =

@@ -22,11 +22,11 @@ loop-last-init g c =
       kind = c.in_ok-first.ensures.kind;
       seen = omega (arith, c.in_ok-first.ensures.seen, c.requires.silent);
       takes = c.requires.before;
-      counted = omega (arith, c.eval_cell.ensures.ticks);
+      counted = omega (arith, c.cell_from.ensures.ticks);
     }
 
-pub eval_cell-requires-in-Some-clause-takes : goal.eval_cell-requires-in-Some-clause-takes
-eval_cell-requires-in-Some-clause-takes g c =
+pub cell_from-requires-in-Some-clause-takes : goal.cell_from-requires-in-Some-clause-takes
+cell_from-requires-in-Some-clause-takes g c =
     let def = c.args.definition.now in
     next_takes def c.args.list c.args.own.now c.args.rest.now c.loop-last.whole c.in-Some.last.now c.requires.takes
     (all_front def c.args.list c.args.own.now.kind c.loop-last.left.now c.in-Some.front.now c.in-Some.last.now c.in-Some.ensures.cases.0 c.loop-last.invariant.takes).1
@@ -56,7 +56,7 @@ loop-last-preserved g c =
       kind = c.in_ok-next.ensures.kind;
       seen = omega (arith, c.in_ok-next.ensures.seen, each.1.silent, inv.seen);
       takes = each.0;
-      counted = omega (arith, fewer, c.eval_cell-in-Some.ensures.ticks, inv.counted);
+      counted = omega (arith, fewer, c.cell_from-in-Some.ensures.ticks, inv.counted);
     }
 
 pub returns-clause-answer : goal.returns-clause-answer
@@ -75,4 +75,4 @@ returns-clause-most g c = omega (arith, c.loop-last.invariant.counted)
 pub returns-in_err-next-clause-most : goal.returns-in_err-next-clause-most
 returns-in_err-next-clause-most g c =
     let fewer = c.in-Some.ensures.cases.1 in
-    omega (arith, fewer, c.eval_cell-in-Some.ensures.ticks, c.loop-last.invariant.counted)
+    omega (arith, fewer, c.cell_from-in-Some.ensures.ticks, c.loop-last.invariant.counted)

@@ -4,6 +4,7 @@ use Rattle.psg_scope.specs.Headers.{keys, key_of}
 use Rattle.psg_scope.proofs.HeaderLaws.{of_halves}
 use Rattle.psg_eval.specs.Walks.{IsWalk}
 use Rattle.psg_eval.proofs.Halves.{own_few, own_halves, own_many}
+use Rattle.psg_eval.proofs.PlaceLists.{all_places}
 use Rattle.psg_eval.proofs.WalkSteps.{places_many}
 use Rattle.psg_eval.proofs.own.+own_keys.Goals as goal
 
@@ -24,6 +25,13 @@ key_columns-requires-clause-rights t c =
     let right = c.in_ok-right.right in
     ap length c.as_slice-rights.ensures.value ∙ own_many c.in_ok-right.ensures.columns
     ∙ sym (places_many (keys c.in_ok-joined.joined.header.names) c.in_ok-joined.joined.right (keys right.header.names) c.in_ok-joined.ensures.right)
+
+pub key_columns-requires-clause-all : goal.key_columns-requires-clause-all
+key_columns-requires-clause-all t c =
+    let joined = c.in_ok-joined.joined in
+    let made = c.in_ok-joined.ensures in
+    all_places c.in_ok-left.left.header c.in_ok-right.right.header joined.header joined.left joined.right made.ordered made.union made.left made.right
+    c.in_ok-left.ensures.ordered c.in_ok-right.ensures.ordered
 
 pub returns-clause-header : goal.returns-clause-header
 returns-clause-header t c = of_halves _ _ _ _ c.split_at.ensures.by_index.0 (c.in_ok-joined.ensures.region _ _ _ _ _ _ c.in_ok-left.ensures.header c.in_ok-right.ensures.header)

@@ -10,8 +10,16 @@ use Rattle.psg_scope.specs.declared.header.Header.{Header}
 use Rattle.psg_eval.specs.Glues.{NextGlue}
 use Rattle.psg_eval.specs.Partials.{IsAdded, IsPartial, MatchStep}
 use Rattle.psg_eval.proofs.PartialSorts.{empty_partial, none_light, step_fault}
+use Rattle.psg_eval.proofs.PlaceLists.{all_places}
 use Rattle.psg_eval.proofs.partial.with_child.Goals as goal
 use Rattle.psg_eval.proofs.partial.with_child.Goals.{then-joined, else-joined+in_ok-rel}
+
+pub joined_rows-requires-clause-all : goal.joined_rows-requires-clause-all
+joined_rows-requires-clause-all c =
+    let joined = c.in_ok-joined.joined in
+    let made = c.in_ok-joined.ensures in
+    all_places c.args.before.now.header c.args.child.now.header joined.header joined.left joined.right made.ordered made.union made.left made.right
+    c.requires.partial.2.header c.requires.child.header
 
 pub returns-in_err-rel-clause-step : goal.returns-in_err-rel-clause-step
 returns-in_err-rel-clause-step c =
@@ -73,10 +81,10 @@ returns-clause-partial c = λ kind kinds part.
       | then-joined w ↦
           empty_partial c.args.definition.now kind kinds c.args.before.now c.args.child.now c.in_ok-joined.joined.header part c.requires.child c.in_ok-joined.ensures.ordered
           c.in_ok-joined.ensures.union (wanted - 1) e
-          (record { header = c.in_ok-joined.joined.header; seen = c.in_ok-seen.seen; wanted = wanted - 1; rel = c.if-joined.rel }) refl c.in_ok-seen.ensures refl (w.rel-is ∙ w.empty-rel.ensures)
+          (record { header = c.in_ok-joined.joined.header; seen = c.in_ok-seen.seen; wanted = wanted - 1; rel = c.if-joined.rel }) refl c.in_ok-seen.ensures.sum refl (w.rel-is ∙ w.empty-rel.ensures)
       | else-joined+in_ok-rel w ↦
           let known = w.in_ok-rel.ensures.sorted kind kinds part (wanted - 1) e in
-          subst (λ n. IsPartial c.args.definition.now kind kinds (record { header = c.in_ok-joined.joined.header; seen = n; wanted = wanted - 1; rel = c.if-joined.rel })) (sym c.in_ok-seen.ensures)
+          subst (λ n. IsPartial c.args.definition.now kind kinds (record { header = c.in_ok-joined.joined.header; seen = n; wanted = wanted - 1; rel = c.if-joined.rel })) (sym c.in_ok-seen.ensures.sum)
           (subst (λ (r : Rel). IsPartial c.args.definition.now kind kinds (record { header = c.in_ok-joined.joined.header; seen = c.args.before.now.seen + c.args.child.now.seen; wanted = wanted - 1; rel = r }))
           (sym w.rel-is) known)
     ]

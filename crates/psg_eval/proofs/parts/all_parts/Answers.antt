@@ -1,10 +1,11 @@
-use Rattle.std.proofs.Common.{rules, Err, ◌≡◌, length, sym, subst, arith}
+use Rattle.std.proofs.Common.{rules, Err, ◌≡◌, ◌+◌, ◌-◌, ◌<◌, ◌^◌, ◌∙◌, min, length, sym, subst, ap, ap₂, arith}
 use Rattle.psg_grammar.specs.declared.types.Kind.TheVariants as kinds
 use Rattle.psg_eval.specs.declared.partial.Partial.{Partial}
 use Rattle.psg_eval.specs.Own.{IsOwnStep}
 use Rattle.psg_eval.specs.Partials.{IsPartial}
 use Rattle.psg_eval.specs.Stages.{MatchMade}
 use Rattle.psg_eval.specs.Summaries.{slot_kinds}
+use Rattle.psg_eval.specs.Work.{rows_work}
 use Rattle.psg_eval.proofs.NodeSteps.{own_made, own_wide}
 use Rattle.psg_eval.proofs.Numbers.{numbered_fault, numbered_if, numbered_step}
 use Rattle.psg_eval.proofs.parts.all_parts.Goals as goal
@@ -62,3 +63,19 @@ pub returns-clause-seen : goal.returns-clause-seen
 returns-clause-seen c =
     let none = numbered_if (λ (p : Partial). p.seen ≡ 0) c.first_step.result 0 c.in_ok-first.first c.in_ok-first.ensures c.first_step.ensures.seen in
     omega (arith, none, c.in_ok-whole.ensures.seen)
+
+pub returns-clause-work : goal.returns-clause-work
+returns-clause-work c =
+    let op = c.args.operator.now in
+    let first = c.in_ok-first.first in
+    let start = numbered_step (IsOwnStep c.args.definition.now op c.args.names.now) c.first_step.result 0 first c.in_ok-first.ensures c.first_step.ensures.step in
+    let (joins, joined, spent) = c.in_ok-whole.ensures.work in
+    let rows = ap length c.as_slice-rows.ensures in
+    let items = ap length c.as_slice-items.ensures in
+    let few : length op.items < 2 ^ 32 = c.requires.operator.few_items in
+    let terms : c.saturating_add.result ≡ length op.items + 1 = omega (arith, items, few, c.saturating_add.ensures) in
+    let own = c.rows_work.ensures ∙ ap₂ (λ r t. min (rows_work r t) (2 ^ 64 - 1)) rows terms in (
+      c.rows_work.result + joins,
+      record { first = first; own = start.0; joins = joins; joined = joined; all = ap (λ n. n + joins) own },
+      omega (arith, spent, c.in_ok-spend.ensures.taken),
+    )

@@ -1,4 +1,5 @@
-use Rattle.std.proofs.Common.{rules, Err, ◌≡◌, ◌+◌, ◌∷◌, [], slice_get, Some, List, sym, subst, arith}
+use Rattle.std.proofs.Common.{rules, Err, ◌≡◌, ◌+◌, ◌-◌, ◌^◌, ◌∙◌, ◌∷◌, [], min, length, get_or, slice_get, Some, List, sym, subst, ap, arith}
+use Rattle.psg_terms.proofs.Lists.{slice_get_once}
 use Rattle.std.proofs.lemmas.Option.{slice_get_within}
 use Rattle.psg_grammar.specs.Fragments.{Fragment, cell}
 use Rattle.psg_grammar.specs.declared.types.Kind.{Kind}
@@ -8,6 +9,9 @@ use Rattle.psg_eval.specs.declared.partial.Partial.{Partial}
 use Rattle.psg_eval.specs.Partials.{IsPartial}
 use Rattle.psg_eval.specs.Patterns.{IsChildOf, SuitsKind, seen_of}
 use Rattle.psg_eval.specs.Stages.{IsCellStart, IsMade, MatchMade}
+use Rattle.psg_eval.specs.Work.{part_work, rows_work}
+use Rattle.psg_eval.proofs.NodeSteps.{place_there}
+use Rattle.psg_eval.proofs.WorkLaws.{joined_two, numbered_on}
 use Rattle.psg_eval.proofs.Numbers.{numbered_fault, numbered_if, numbered_step}
 use Rattle.psg_eval.proofs.PatternSteps.{begin_made, begin_wide, element_fault, element_part, numbered_part, rest_fault, rest_part}
 use Rattle.psg_eval.proofs.parts.cell_with.Goals as goal
@@ -121,3 +125,28 @@ returns-clause-seen c =
     let b = numbered_if (λ (p : Partial). p.seen ≡ c.in_ok-first.first.seen + seen_of c.args.element.now) c.with_part.result 1 c.in_ok-begun.begun c.in_ok-begun.ensures c.with_part.ensures.seen in
     let d = numbered_if (λ (p : Partial). p.seen ≡ c.in_ok-begun.begun.seen + seen_of c.args.rest.now) c.with_part-2.result 2 c.in_ok-whole.whole c.in_ok-whole.ensures c.with_part-2.ensures.seen in
     omega (arith, a, b, d)
+
+pub returns-clause-work : goal.returns-clause-work
+returns-clause-work c =
+    let def = c.args.definition.now in
+    let l = c.args.list in
+    let first = c.in_ok-first.first in
+    let begun = c.in_ok-begun.begun in
+    let whole = c.in_ok-whole.whole in
+    let takes = c.requires.takes in
+    let start = numbered_step (IsCellStart def l) c.cell_start.result 0 first c.in_ok-first.ensures c.cell_start.ensures.step in
+    let one = numbered_on (c.spend.new.self.left ≡ c.with_part.new.room.left + part_work first.rel c.args.element.now) c.with_part.result 1 begun c.in_ok-begun.ensures c.with_part.ensures.work in
+    let two = numbered_on (c.with_part.new.room.left ≡ c.with_part-2.new.room.left + part_work begun.rel c.args.rest.now) c.with_part-2.result 2 whole c.in_ok-whole.ensures c.with_part-2.ensures.work in
+    let joins = part_work first.rel c.args.element.now + part_work begun.rel c.args.rest.now in
+    let joined = joined_two def first begun whole c.args.element.now c.args.rest.now
+    (numbered_part def first c.args.element.now c.with_part.result 1 begun c.in_ok-begun.ensures c.with_part.ensures.step)
+    (numbered_part def begun c.args.rest.now c.with_part-2.result 2 whole c.in_ok-whole.ensures c.with_part-2.ensures.step) in
+    let read = c.index-as_slice-list.result in
+    let there = place_there def.lists l takes.list read takes.found (subst (λ (ls : List ListKind). read ≡ get_or ls l read) c.as_slice.ensures c.index-as_slice-list.is) in
+    let same = slice_get_once def.lists l read takes.list there takes.found in
+    let rows = ap length (c.as_slice-rows.ensures ∙ ap (λ (x : ListKind). x.cell_rows) (sym c.index-as_slice-list.is ∙ same)) in
+    let own = c.rows_work.ensures ∙ ap (λ r. min (rows_work r 3) (2 ^ 64 - 1)) rows in (
+      c.rows_work.result + joins,
+      record { list = takes.list; found = takes.found; first = first; begun = start.0; whole = whole; joins = joins; joined = joined; all = ap (λ n. n + joins) own },
+      omega (arith, c.in_ok-spend.ensures.taken, one, two),
+    )

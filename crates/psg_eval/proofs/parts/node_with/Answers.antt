@@ -1,4 +1,5 @@
-use Rattle.std.proofs.Common.{rules, Ok, Err, ◌≡◌, ◌<◌, ◌^◌, ◌∙◌, length, sym, subst, ap, arith}
+use Rattle.std.proofs.Common.{rules, Ok, Err, ◌≡◌, ◌+◌, ◌<◌, ◌^◌, ◌∙◌, length, refl, sym, subst, ap, arith}
+use Rattle.psg_terms.specs.Weight.{weight_of}
 use Rattle.psg_grammar.specs.declared.types.Kind.TheVariants as kinds
 use Rattle.psg_eval.specs.declared.summary.SummaryParts.{SummaryParts}
 use Rattle.psg_eval.specs.Summaries.{Answers, IsSummary, slot_kinds}
@@ -48,3 +49,11 @@ returns-clause-kind c = ap (λ (s : SummaryParts). s.kind) c.in_ok-summary.ensur
 
 pub returns-clause-seen : goal.returns-clause-seen
 returns-clause-seen c = ap (λ (s : SummaryParts). s.seen) c.in_ok-summary.ensures ∙ c.in_ok-outside.ensures.seen ∙ c.in_ok-whole.ensures.seen
+
+pub returns-clause-work : goal.returns-clause-work
+returns-clause-work c =
+    let (before, whole, spent) = c.in_ok-whole.ensures.work in (
+      before + weight_of c.in_ok-whole.whole.rel,
+      (c.in_ok-whole.whole, before, whole, refl),
+      omega (arith, spent, c.in_ok-spend.ensures.taken, c.weight.ensures.weight),
+    )

@@ -49,4 +49,4 @@ returns-in-Some-clause-seen c =
 
 pub returns-in_ok-next-in-None-clause-partial : goal.returns-in_ok-next-in-None-clause-partial
 returns-in_ok-next-in-None-clause-partial c = λ kind k kinds suits part.
-    place_partial c.args.definition.now kind k kinds c.args.before part c.in_ok-next-in-None.next c.in_ok-next-in-None.ensures
+    place_partial c.args.definition.now kind k kinds c.args.before part c.in_ok-next-in-None.next c.in_ok-next-in-None.ensures.partial

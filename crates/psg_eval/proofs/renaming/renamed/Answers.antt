@@ -1,6 +1,6 @@
 use Rattle.std.proofs.Common.{◌≡◌, ◌∷◌, ◌++◌, List, ℕ, ap, sym, ◌∙◌, subst}
 use Rattle.psg_terms.specs.Relations.{IsRelation}
-use Rattle.psg_columns.specs.Fewer.{KeptOnce}
+use Rattle.psg_relation.specs.Fewer.{KeptOnce}
 use Rattle.psg_relation.specs.Choices.{AllHaveSorts, AllWithin, IsProjected, picked}
 use Rattle.psg_scope.specs.Headers.{keys}
 use Rattle.psg_eval.specs.declared.summary.SummaryParts.{SummaryParts}
@@ -8,6 +8,7 @@ use Rattle.psg_eval.specs.Renamed.{IsRenamed}
 use Rattle.psg_eval.specs.Summaries.{IsSummary}
 use Rattle.psg_eval.proofs.MovedColumns.{columns_once, columns_within, is_renamed, lefts_many, renamed_usual, rights_many, union_of, walk_of}
 use Rattle.psg_eval.proofs.MovedOrder.{moved_ordered, other_ordered}
+use Rattle.psg_eval.proofs.PlaceLists.{all_places}
 use Rattle.psg_eval.proofs.renaming.renamed.Goals as goal
 
 pub join-requires-clause-left : goal.join-requires-clause-left
@@ -42,6 +43,18 @@ joined_columns-requires-clause-lefts c =
     let lefts = c.as_slice-moved.result.now in
     let rights = c.as_slice-others.result.now in
     lefts_many from to k lefts rights parts.moved parts.others a b made.moved made.others c.in_ok-joined.joined.header.names c.in_ok-joined.joined.left c.in_ok-joined.ensures.left
+
+pub joined_columns-requires-clause-all : goal.joined_columns-requires-clause-all
+joined_columns-requires-clause-all c =
+    let def = c.args.definition.now in
+    let k = c.known-known.result.now in
+    let sum : IsSummary def k = subst (IsSummary def) (sym c.known-known.ensures) c.requires.summary in
+    let parts = c.in_ok-parts.parts in
+    let joined = c.in_ok-joined.joined in
+    let made = c.in_ok-joined.ensures in
+    all_places parts.moved parts.others joined.header joined.left joined.right made.ordered made.union made.left made.right
+    (moved_ordered c.args.from.now c.args.to.now k.header parts.moved c.in_ok-parts.ensures.moved sum.header)
+    (other_ordered c.args.from.now c.args.to.now k.header parts.others c.in_ok-parts.ensures.others sum.header)
 
 pub joined_columns-requires-clause-rights : goal.joined_columns-requires-clause-rights
 joined_columns-requires-clause-rights c =

@@ -2,7 +2,7 @@ use Rattle.std.proofs.Common.{◌≡◌, ◌+◌, [], length}
 use Rattle.psg_eval.specs.Frames.{CanClimb, rungs}
 use Rattle.psg_eval.specs.Summaries.{IsSummary}
 use Rattle.psg_eval.proofs.FrameLaws.{Climbs}
-use Rattle.psg_eval.proofs.climbing.climb.Given as goal
+use Rattle.psg_eval.proofs.climbing.climb_from.Given as goal
 
 -- the node that the frames left are around is known
 abbrev pub invariant-loop-frame : goal.invariant-loop-frame
