@@ -4,3 +4,4 @@ pub mod Fronts
 pub mod Index
 pub mod Pairs
 pub mod Rows
+pub mod Work

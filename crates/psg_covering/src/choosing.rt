@@ -14,22 +14,13 @@ use crate::covers::has_cover;
 use crate::front::Front;
 use crate::index::{Index, rows_meeting};
 use crate::numbers::row_at;
-use crate::room::Room;
+use crate::room::{choice_work, kept_work, row_work};
 use psg_grammar::{Definition, HoleRow, Kind};
 use psg_relation::RelRow;
 use psg_relation::joining::with_join;
-use psg_terms::Term;
+use psg_terms::{Room, Term};
 use std::alloc::{AllocError, Global};
 use std::slice;
-
-/// What a join takes beside the symbols that it reads and makes.
-const ONE_JOIN: u64 = 128;
-
-/// What a join takes for each symbol that it reads or makes.
-const JOINED: u64 = 8;
-
-/// What a row that is kept takes for each of its symbols.
-const KEPT: u64 = 256;
 
 /// Answers the rows that the rows of a front become where a hole row is chosen for the next slot, in each way.
 pub(crate) fn next_front(
@@ -130,8 +121,7 @@ fn add_choice(
         (IsCoveredFor definition.now kind ks row.now hole.now)) }
 {
     let _ = slot;
-    room.spend(ONE_JOIN)?;
-    room.spend_each(row.symbols().saturating_add(hole.term.symbols()), JOINED)?;
+    room.spend(choice_work(row, &hole.term))?;
     if let Some(made) = chosen(alloc, definition, slot, row.terms(), hole)? {
         add_row(alloc, definition, index, room, kind, made, next)?;
     }
@@ -212,11 +202,11 @@ pub(crate) fn add_row(
         → Adds definition.now kind ks front.old.rows.items front.new.rows.items
         (IsCovered definition.now kind ks row)) }
 {
-    room.spend_each(row.symbols(), JOINED)?;
+    room.spend(row_work(&row))?;
     if has_head_cover(alloc, definition, index, room, kind, row.terms())? {
         return Ok(());
     }
-    room.spend_each(row.symbols(), KEPT)?;
+    room.spend(kept_work(&row))?;
     front.put(alloc, &definition.signature, row)?;
     Ok(())
 }

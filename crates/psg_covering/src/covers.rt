@@ -6,15 +6,12 @@ ghost use Rattle.psg_covering.specs.Index.{IsIndex};
 
 use crate::index::{Index, rows_meeting};
 use crate::numbers::row_at;
-use crate::room::Room;
+use crate::room::test_work;
 use psg_grammar::{Definition, HoleRow, Kind};
 use psg_terms::matching::is_instance;
-use psg_terms::{Node, Term};
+use psg_terms::{Node, Room, Term};
 use std::alloc::{AllocError, Global};
 use std::slice;
-
-/// What a test whether a term is an instance takes for itself, and for each symbol.
-const TEST: u64 = 8;
 
 /// Tests whether the term is an instance of a hole row of the kind. It goes over the hole rows that begin as the term
 /// does, up to one that serves.
@@ -50,12 +47,11 @@ fn is_made_of(
 ) -> Result<bool, AllocError>
     ensures { IfOk result (λ b. IsTrue b ↔ IsInstance (term.now ∷ []) (row.now.term ∷ [])) }
 {
-    let symbols = row.term.symbols();
-    room.spend(symbols)?;
+    room.spend(row.term.symbols())?;
     if differs(term, &row.term) {
         return Ok(false);
     }
-    room.spend_each(symbols.saturating_add(1), TEST)?;
+    room.spend(test_work(&row.term))?;
     let instance = is_instance(alloc, slice::from_ref(term), slice::from_ref(&row.term))?;
     Ok(instance)
 }

@@ -7,9 +7,9 @@ ghost use Rattle.psg_covering.specs.Fronts.{AreRowsOf};
 ghost use Rattle.psg_covering.specs.Index.{AreMet, Begins, Collects, IsIndex, IsPut, Puts, key_of, kind_key, next_key};
 
 use crate::numbers::{note_row, row_of};
-use crate::room::Room;
+use crate::room::spend_look;
 use psg_grammar::{Definition, HoleRow, Kind};
-use psg_terms::{Node, Term};
+use psg_terms::{Node, Room, Term};
 use std::alloc::{AllocError, Global};
 use std::collections::HashMap;
 
@@ -22,15 +22,14 @@ const KEPT: u64 = 0x100_0000_0000;
 /// How many constructors are distinguished.
 const WIDTH: u64 = 0x10_0000;
 
-/// What to look up a term takes.
-const LOOK: u64 = 16;
-
 /// The numbers of hole rows by keys. A key is made of a kind and of constructors with which a term begins. A hole row
 /// is found under the key of each number of constructors with which its term begins, and among those that end there
 /// under the key of all of them.
 #[derive(Drop)]
 pub(crate) struct Index {
+    /// By the key of so many constructors: the hole rows whose terms begin with these, and may go on.
     pub(crate) passing: HashMap<u64, Vec<usize>>,
+    /// By the key of so many constructors: the hole rows whose terms begin with these and no more that are looked at.
     pub(crate) ending: HashMap<u64, Vec<usize>>,
 }
 
@@ -47,6 +46,7 @@ impl Index {
         Ok(index)
     }
 
+    /// Answers the index of no hole rows.
     fn new(alloc: Global) -> Index
         ensures passing { (k : ℕ) → places_at result.passing k ≡ [] }
         ensures ending { (k : ℕ) → places_at result.ending k ≡ [] }
@@ -98,8 +98,7 @@ fn collect(
     requires { (r : ℕ) → IsIn r places.now → r < length definition.now.hole_rows }
     ensures { OnOk result (Collects definition.now kind places.now numbers.old.items numbers.new.items) }
 {
-    room.spend(LOOK)?;
-    room.spend(places.len() as u64)?;
+    spend_look(room, places.len())?;
     let rows = definition.hole_rows.as_slice();
     for i in 0..places.len() {
         let place = places[i];

@@ -1,7 +1,7 @@
 //! Whether hole rows have the values of the rows of operators and lists.
 //!
 //! ```text
-//! let mut room = Room::new();
+//! let mut room = search_room();
 //! let row = first_uncovered_row(alloc, &definition, &mut room)?; // an operator and its row, by number
 //! let cell = first_uncovered_cell(alloc, &definition, &mut room)?; // a list and its cell row
 //! ```
@@ -25,5 +25,5 @@ mod searching;
 mod slots;
 mod uncovered;
 
-pub use room::Room;
+pub use room::search_room;
 pub use uncovered::{first_uncovered_cell, first_uncovered_row};

@@ -7,9 +7,9 @@ ghost use Rattle.psg_covering.specs.Index.{IsIndex};
 use crate::choosing::{add_row, next_front};
 use crate::front::Front;
 use crate::index::Index;
-use crate::room::Room;
 use psg_grammar::{Definition, Kind};
 use psg_relation::RelRow;
+use psg_terms::Room;
 use std::alloc::{AllocError, Global};
 
 /// Tests whether for each choice of hole rows for the slots, whose columns are after the head of the row, the values

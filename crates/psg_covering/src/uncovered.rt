@@ -8,12 +8,11 @@ ghost use Rattle.psg_covering.specs.Pairs.{Finds, FindsPair};
 ghost use Rattle.psg_covering.specs.Rows.{IsCellCovered, IsCellOfList, IsRowCovered, IsRowOfOperator};
 
 use crate::index::Index;
-use crate::room::Room;
 use crate::searching::is_covered;
 use crate::slots::{slot_kinds, slot_row};
 use psg_grammar::{Definition, Kind, ListKind, Operator, Row};
 use psg_relation::RelRow;
-use psg_terms::Term;
+use psg_terms::{Room, Term};
 use std::alloc::{AllocError, Global};
 
 /// Answers the first row of an operator that has values of no hole row: the operator and the row by their numbers, in

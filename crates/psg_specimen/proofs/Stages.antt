@@ -15,7 +15,7 @@ use Rattle.psg_completions.specs.Places.{IsSmallerPlace, IsOpenPlace}
 use Rattle.psg_completions.specs.General.{IsGeneralCase, IsGeneralDeclare}
 use Rattle.psg_completions.specs.Elements.{IsDeclarable, IsClearRow}
 use Rattle.psg_specimen.specs.Declares.{IsDeclaration}
-use Rattle.psg_specimen.specs.Conditions.{EachBounded, IsBareScope, IsNarrow, IsQuietSlot, HasRow, Met1, Met2, Met3, Met4, Met5, Met6, Met7, Met8, Met9, Met10, Met11, Met12, Met13, IsMet}
+use Rattle.psg_specimen.specs.Conditions.{EachBounded, IsBareScope, IsNarrow, IsQuietSlot, HasRow, MetUpToScopes, MetUpToSlots, MetUpToHoleRows, MetUpToRows, MetUpToNils, MetUpToCells, MetUpToCases, MetUpToSmaller, MetUpToPlaces, MetUpToNarrow, MetUpToShown, MetUpToDeclares, MetUpToDeclarable, IsMet}
 use Rattle.psg_specimen.specs.Refusal.{IsAccepted, IsRefusal, IsFirstKind, IsSmallerAt, IsOpenAt, IsNarrowAt, IsGeneralAt}
 use Rattle.psg_specimen.specs.declared.fault.Site.{Site}
 use Rattle.psg_specimen.specs.declared.fault.Site.TheVariants as sites
@@ -71,43 +71,43 @@ module _ (def : Definition) where
   before1 : IsClass def → Before 1
   before1 k = (tt, k)
 
-  before2 : IsClass def → Met1 def → Before 2
+  before2 : IsClass def → MetUpToScopes def → Before 2
   before2 k m = (before1 k, m)
 
-  before3 : IsClass def → Met2 def → Before 3
+  before3 : IsClass def → MetUpToSlots def → Before 3
   before3 k m = (before2 k m.0, m.1)
 
-  before4 : IsClass def → Met3 def → Before 4
+  before4 : IsClass def → MetUpToHoleRows def → Before 4
   before4 k m = (before3 k m.0, m.1)
 
-  before5 : IsClass def → Met4 def → Before 5
+  before5 : IsClass def → MetUpToRows def → Before 5
   before5 k m = (before4 k m.0, m.1)
 
-  before6 : IsClass def → Met5 def → Before 6
+  before6 : IsClass def → MetUpToNils def → Before 6
   before6 k m = (before5 k m.0, m.1)
 
-  before7 : IsClass def → Met6 def → Before 7
+  before7 : IsClass def → MetUpToCells def → Before 7
   before7 k m = (before6 k m.0, m.1)
 
-  before8 : IsClass def → Met7 def → Before 8
+  before8 : IsClass def → MetUpToCases def → Before 8
   before8 k m = (before7 k m.0, m.1)
 
-  before9 : IsClass def → Met8 def → Before 9
+  before9 : IsClass def → MetUpToSmaller def → Before 9
   before9 k m = (before8 k m.0, m.1)
 
-  before10 : IsClass def → Met9 def → Before 10
+  before10 : IsClass def → MetUpToPlaces def → Before 10
   before10 k m = (before9 k m.0, m.1)
 
-  before11 : IsClass def → Met10 def → Before 11
+  before11 : IsClass def → MetUpToNarrow def → Before 11
   before11 k m = (before10 k m.0, m.1)
 
-  before12 : IsClass def → Met11 def → Before 12
+  before12 : IsClass def → MetUpToShown def → Before 12
   before12 k (met, each, declares) = (before11 k met, (each, declares))
 
-  before13 : IsClass def → Met12 def → Before 13
+  before13 : IsClass def → MetUpToDeclares def → Before 13
   before13 k m = (before12 k m.0, m.1)
 
-  before14 : IsClass def → Met13 def → Before 14
+  before14 : IsClass def → MetUpToDeclarable def → Before 14
   before14 k m = (before13 k m.0, m.1)
 
   before15 : IsClass def → IsMet def → Before 15

@@ -2,13 +2,13 @@
 use Rattle.std.proofs.Common.{ℕ}
 use Rattle.psg_grammar.specs.declared.types.Definition.{Definition}
 use Rattle.psg_completions.specs.Conditions.{HasTrueRows}
-use Rattle.psg_specimen.specs.Conditions.{IsMet, IsQuietSlot, Met10, Met2}
+use Rattle.psg_specimen.specs.Conditions.{IsMet, IsQuietSlot, MetUpToNarrow, MetUpToSlots}
 
 module _ (def : Definition) (met : IsMet def) where
-  first_ten : Met10 def
+  first_ten : MetUpToNarrow def
   first_ten = met.0.0.0.0
 
-  first_two : Met2 def
+  first_two : MetUpToSlots def
   first_two = first_ten.0.0.0.0.0.0.0.0
 
   pub quiet_slots : (o k : ℕ) → IsQuietSlot def o k

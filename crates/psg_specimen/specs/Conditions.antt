@@ -65,47 +65,48 @@ module _ (def : Definition) where
   abbrev pub EachBounded : (Specimen → Term → Type 0) → Type 0
   EachBounded P = EachCase def (λ r c row one. P one.specimen one.term) × EachDeclare def (λ k d. P d.specimen d.term)
 
-  -- ---- the conditions up to one hold: of Met3, the first three
+  -- ---- the conditions up to the named one hold: up to hole rows, the first three
 
-  abbrev pub Met1 : Type 0
-  Met1 = (o : ℕ) → IsBareScope o
+  abbrev pub MetUpToScopes : Type 0
+  MetUpToScopes = (o : ℕ) → IsBareScope o
 
-  abbrev pub Met2 : Type 0
-  Met2 = Met1 × ((o k : ℕ) → IsQuietSlot o k)
+  abbrev pub MetUpToSlots : Type 0
+  MetUpToSlots = MetUpToScopes × ((o k : ℕ) → IsQuietSlot o k)
 
-  abbrev pub Met3 : Type 0
-  Met3 = Met2 × ((kind : Kind) → HasRow kind)
+  abbrev pub MetUpToHoleRows : Type 0
+  MetUpToHoleRows = MetUpToSlots × ((kind : Kind) → HasRow kind)
 
-  abbrev pub Met4 : Type 0
-  Met4 = Met3 × ((o k : ℕ) → IsCoveredRow def o k)
+  abbrev pub MetUpToRows : Type 0
+  MetUpToRows = MetUpToHoleRows × ((o k : ℕ) → IsCoveredRow def o k)
 
-  abbrev pub Met5 : Type 0
-  Met5 = Met4 × ((l k : ℕ) → IsCoveredNil def l k)
+  abbrev pub MetUpToNils : Type 0
+  MetUpToNils = MetUpToRows × ((l k : ℕ) → IsCoveredNil def l k)
 
-  abbrev pub Met6 : Type 0
-  Met6 = Met5 × ((l k : ℕ) → IsCoveredCell def l k)
+  abbrev pub MetUpToCells : Type 0
+  MetUpToCells = MetUpToNils × ((l k : ℕ) → IsCoveredCell def l k)
 
-  abbrev pub Met7 : Type 0
-  Met7 = Met6 × ((r : ℕ) → HasCases def r)
+  abbrev pub MetUpToCases : Type 0
+  MetUpToCases = MetUpToCells × ((r : ℕ) → HasCases def r)
 
-  abbrev pub Met8 : Type 0
-  Met8 = Met7 × EachBounded (λ specimen bound. (h : ℕ) → IsSmallerPlace specimen bound h)
+  abbrev pub MetUpToSmaller : Type 0
+  MetUpToSmaller = MetUpToCases × EachBounded (λ specimen bound. (h : ℕ) → IsSmallerPlace specimen bound h)
 
-  abbrev pub Met9 : Type 0
-  Met9 = Met8 × EachBounded (λ specimen bound. (h : ℕ) → IsOpenPlace def specimen h)
+  abbrev pub MetUpToPlaces : Type 0
+  MetUpToPlaces = MetUpToSmaller × EachBounded (λ specimen bound. (h : ℕ) → IsOpenPlace def specimen h)
 
-  abbrev pub Met10 : Type 0
-  Met10 = Met9 × EachBounded (λ specimen bound. IsNarrow specimen)
+  abbrev pub MetUpToNarrow : Type 0
+  MetUpToNarrow = MetUpToPlaces × EachBounded (λ specimen bound. IsNarrow specimen)
 
-  abbrev pub Met11 : Type 0
-  Met11 = Met10 × EachCase def (λ r c row one. IsGeneralCase def one) × EachDeclare def (λ k d. IsGeneralDeclare def d)
+  abbrev pub MetUpToShown : Type 0
+  MetUpToShown = MetUpToNarrow × EachCase def (λ r c row one. IsGeneralCase def one)
+      × EachDeclare def (λ k d. IsGeneralDeclare def d)
 
-  abbrev pub Met12 : Type 0
-  Met12 = Met11 × ((k : ℕ) → IsDeclaration def k)
+  abbrev pub MetUpToDeclares : Type 0
+  MetUpToDeclares = MetUpToShown × ((k : ℕ) → IsDeclaration def k)
 
-  abbrev pub Met13 : Type 0
-  Met13 = Met12 × ((l s c : ℕ) → IsDeclarable def l s c)
+  abbrev pub MetUpToDeclarable : Type 0
+  MetUpToDeclarable = MetUpToDeclares × ((l s c : ℕ) → IsDeclarable def l s c)
 
   -- all hold
   abbrev pub IsMet : Type 0
-  IsMet = Met13 × ((k : ℕ) → IsClearRow def k)
+  IsMet = MetUpToDeclarable × ((k : ℕ) → IsClearRow def k)

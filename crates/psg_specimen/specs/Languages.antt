@@ -12,18 +12,11 @@ pub use Rattle.psg_eval.specs.Starts.{AreTables}
 use Rattle.psg_parse.specs.Tables.{IsParseTable}
 use Rattle.psg_specimen.specs.Refusal.{IsAccepted}
 use Rattle.psg_specimen.specs.declared.language.LanguageParts.{LanguageParts}
-use Rattle.psg_specimen.specs.declared.language.LanguageTables.{LanguageTables}
 
 -- a phylum that declares names; a placeholder of it would not say which
 abbrev pub IsDeclaringPhylum : Definition → Kind → Type 0
 IsDeclaringPhylum def (kinds.Phylum p) = (space : ℕ) × (is_declaring def space (kinds.Phylum p) ≡ true)
 IsDeclaringPhylum def (kinds.List l) = ⊥
-
--- the tables are those of the definition
-pub record AreLanguageTables (def : Definition) (m : LanguageTables) : Type 0 where
-  pub tables : AreTables def m.tables
-  pub words : m.lexis ≡ fixed_words def
-  pub table : IsParseTable def m.table
 
 -- a sound and accepted definition, each of whose fixed words is one token, with what is made of it
 pub record IsLanguage (l : LanguageParts) : Type 0 where

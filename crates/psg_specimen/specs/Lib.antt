@@ -14,3 +14,4 @@ pub mod Wanted
 pub mod Languages
 pub mod Patterns
 pub mod Shown
+pub mod Work

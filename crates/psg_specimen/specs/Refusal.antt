@@ -15,8 +15,10 @@ use Rattle.psg_completions.specs.Places.{IsSmallerPlace, IsOpenPlace}
 use Rattle.psg_completions.specs.General.{IsGeneralCase, IsGeneralDeclare}
 use Rattle.psg_completions.specs.Elements.{IsDeclarable, IsClearRow}
 use Rattle.psg_specimen.specs.Declares.{IsDeclaration}
-use Rattle.psg_specimen.specs.Conditions.{IsBareScope, IsQuietSlot, HasRow, IsNarrow, Met1, Met2, Met3, Met4, Met5}
-use Rattle.psg_specimen.specs.Conditions.{Met6, Met7, Met8, Met9, Met10, Met11, Met12, Met13, IsMet}
+use Rattle.psg_specimen.specs.Conditions.{IsBareScope, IsQuietSlot, HasRow, IsNarrow, MetUpToScopes, MetUpToSlots}
+use Rattle.psg_specimen.specs.Conditions.{MetUpToHoleRows, MetUpToRows, MetUpToNils, MetUpToCells, MetUpToCases}
+use Rattle.psg_specimen.specs.Conditions.{MetUpToSmaller, MetUpToPlaces, MetUpToNarrow, MetUpToShown, MetUpToDeclares}
+use Rattle.psg_specimen.specs.Conditions.{MetUpToDeclarable, IsMet}
 use Rattle.psg_specimen.specs.declared.fault.Site.{Site}
 use Rattle.psg_specimen.specs.declared.fault.Site.TheVariants as sites
 use Rattle.psg_specimen.specs.declared.fault.AcceptFault.{AcceptFault}
@@ -102,19 +104,19 @@ module _ (def : Definition) where
   abbrev pub IsRefusal : AcceptFault → Type 0
   IsRefusal (faults.Class f) = IsClassRefusal def f
   IsRefusal (faults.Scope o) = IsClass def × IsFirst (IsBareScope def) o
-  IsRefusal (faults.Declaring o k) = After (Met1 def) (IsFirstOfTwo (IsQuietSlot def) o k)
-  IsRefusal (faults.NoRow kind) = After (Met2 def) (IsFirstKind (HasRow def) kind)
-  IsRefusal (faults.UncoveredOp o k) = After (Met3 def) (IsFirstOfTwo (IsCoveredRow def) o k)
-  IsRefusal (faults.UncoveredNil l k) = After (Met4 def) (IsFirstOfTwo (IsCoveredNil def) l k)
-  IsRefusal (faults.UncoveredCell l k) = After (Met5 def) (IsFirstOfTwo (IsCoveredCell def) l k)
-  IsRefusal (faults.Cases r) = After (Met6 def) (IsFirst (HasCases def) r)
-  IsRefusal (faults.NotSmaller s h) = After (Met7 def) (IsFirstPlace IsSmallerAt s h)
-  IsRefusal (faults.OpenHole s h) = After (Met8 def) (IsFirstPlace IsOpenAt s h)
-  IsRefusal (faults.Large s) = After (Met9 def) (IsFirstSite IsNarrowAt s)
-  IsRefusal (faults.Weak s) = After (Met10 def) (IsFirstSite IsGeneralAt s)
-  IsRefusal (faults.NotIt k) = After (Met11 def) (IsFirst (IsDeclaration def) k)
-  IsRefusal (faults.NoDeclare l s c) = After (Met12 def) (IsFirstOfThree (IsDeclarable def) l s c.0)
-  IsRefusal (faults.NotClear k) = After (Met13 def) (IsFirst (IsClearRow def) k)
+  IsRefusal (faults.Declaring o k) = After (MetUpToScopes def) (IsFirstOfTwo (IsQuietSlot def) o k)
+  IsRefusal (faults.NoRow kind) = After (MetUpToSlots def) (IsFirstKind (HasRow def) kind)
+  IsRefusal (faults.UncoveredOp o k) = After (MetUpToHoleRows def) (IsFirstOfTwo (IsCoveredRow def) o k)
+  IsRefusal (faults.UncoveredNil l k) = After (MetUpToRows def) (IsFirstOfTwo (IsCoveredNil def) l k)
+  IsRefusal (faults.UncoveredCell l k) = After (MetUpToNils def) (IsFirstOfTwo (IsCoveredCell def) l k)
+  IsRefusal (faults.Cases r) = After (MetUpToCells def) (IsFirst (HasCases def) r)
+  IsRefusal (faults.NotSmaller s h) = After (MetUpToCases def) (IsFirstPlace IsSmallerAt s h)
+  IsRefusal (faults.OpenHole s h) = After (MetUpToSmaller def) (IsFirstPlace IsOpenAt s h)
+  IsRefusal (faults.Large s) = After (MetUpToPlaces def) (IsFirstSite IsNarrowAt s)
+  IsRefusal (faults.Weak s) = After (MetUpToNarrow def) (IsFirstSite IsGeneralAt s)
+  IsRefusal (faults.NotIt k) = After (MetUpToShown def) (IsFirst (IsDeclaration def) k)
+  IsRefusal (faults.NoDeclare l s c) = After (MetUpToDeclares def) (IsFirstOfThree (IsDeclarable def) l s c.0)
+  IsRefusal (faults.NotClear k) = After (MetUpToDeclarable def) (IsFirst (IsClearRow def) k)
   IsRefusal faults.Memory = ⊥
 
   -- the numbers that are written as names are those of things of the definition

@@ -14,7 +14,7 @@ use crate::accepting::{
     check_beginning, check_coverage, check_elements, check_places, check_specimens,
 };
 use crate::fault::{AcceptFault, Refused};
-use crate::language::{Language, LanguageParts, LanguageTables};
+use crate::language::{Language, LanguageParts, tables_of};
 use crate::laws::promises;
 use psg_grammar::Definition;
 use std::alloc::Global;
@@ -56,12 +56,12 @@ pub fn accept(alloc: Global, definition: Definition) -> Result<Language, Refused
         return Err(Refused { definition, fault });
     }
     promises(&definition);
-    match LanguageTables::of(alloc, &definition) {
-        Ok(made) => Ok(Language::of(LanguageParts {
+    match tables_of(alloc, &definition) {
+        Ok((tables, lexis, table)) => Ok(Language::of(LanguageParts {
             definition,
-            tables: made.tables,
-            lexis: made.lexis,
-            table: made.table,
+            tables,
+            lexis,
+            table,
         })),
         Err(_) => Err(Refused {
             definition,

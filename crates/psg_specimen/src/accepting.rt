@@ -4,7 +4,9 @@ ghost use Rattle.std.specs.Prelude.{◌≡◌, ◌↔◌, IfErr, IsTrue, OnOk};
 ghost use Rattle.psg_class.specs.declared.fault.ClassFault.TheVariants as classes;
 ghost use Rattle.psg_class.specs.Class.{IsClass};
 ghost use Rattle.psg_grammar.specs.Sound.{IsSound};
-ghost use Rattle.psg_specimen.specs.Conditions.{IsMet, Met11, Met12, Met13, Met3, Met4, Met5, Met6, Met7, Met8, Met9};
+ghost use Rattle.psg_specimen.specs.Conditions.{IsMet, MetUpToCases, MetUpToCells, MetUpToDeclarable, MetUpToDeclares};
+ghost use Rattle.psg_specimen.specs.Conditions.{MetUpToHoleRows, MetUpToNils, MetUpToPlaces, MetUpToRows, MetUpToShown};
+ghost use Rattle.psg_specimen.specs.Conditions.{MetUpToSmaller};
 ghost use Rattle.psg_specimen.specs.Refusal.{Refuses};
 
 use crate::cases::first_uncased;
@@ -17,16 +19,16 @@ use crate::forms::{first_declaring, first_scope, first_without_row};
 use crate::places::{Wanted, first_place};
 use crate::unshown::{Walk, first_unshown};
 use psg_class::{ClassFault, class_check};
-use psg_covering::{Room, first_uncovered_cell, first_uncovered_row};
+use psg_covering::{first_uncovered_cell, first_uncovered_row, search_room};
 use psg_grammar::Definition;
-use psg_terms::ConId;
+use psg_terms::{ConId, Room};
 use std::alloc::Global;
 
 /// Tests the grammar class, and then scopes, the slots of declaring phyla, and that each kind has a hole row.
 pub(crate) fn check_beginning(alloc: Global, definition: &Definition) -> Result<(), AcceptFault>
     requires { IsSound definition.now }
     ensures class { OnOk result (IsClass definition.now) }
-    ensures met { OnOk result (Met3 definition.now) }
+    ensures met { OnOk result (MetUpToHoleRows definition.now) }
     ensures refusal { IfErr result (Refuses definition.now) }
 {
     check_class(alloc, definition)?;
@@ -38,11 +40,11 @@ pub(crate) fn check_beginning(alloc: Global, definition: &Definition) -> Result<
 pub(crate) fn check_coverage(alloc: Global, definition: &Definition) -> Result<(), AcceptFault>
     requires sound { IsSound definition.now }
     requires class { IsClass definition.now }
-    requires before { Met3 definition.now }
-    ensures met { OnOk result (Met6 definition.now) }
+    requires before { MetUpToHoleRows definition.now }
+    ensures met { OnOk result (MetUpToCells definition.now) }
     ensures refusal { IfErr result (Refuses definition.now) }
 {
-    let mut room = Room::new();
+    let mut room = search_room();
     check_rows(alloc, definition, &mut room)?;
     check_nils(alloc, definition)?;
     check_cells(alloc, definition, &mut room)?;
@@ -53,8 +55,8 @@ pub(crate) fn check_coverage(alloc: Global, definition: &Definition) -> Result<(
 pub(crate) fn check_places(alloc: Global, definition: &Definition) -> Result<(), AcceptFault>
     requires sound { IsSound definition.now }
     requires class { IsClass definition.now }
-    requires before { Met6 definition.now }
-    ensures met { OnOk result (Met9 definition.now) }
+    requires before { MetUpToCells definition.now }
+    ensures met { OnOk result (MetUpToPlaces definition.now) }
     ensures refusal { IfErr result (Refuses definition.now) }
 {
     check_cases(alloc, definition)?;
@@ -67,8 +69,8 @@ pub(crate) fn check_places(alloc: Global, definition: &Definition) -> Result<(),
 pub(crate) fn check_specimens(alloc: Global, definition: &Definition) -> Result<(), AcceptFault>
     requires sound { IsSound definition.now }
     requires class { IsClass definition.now }
-    requires before { Met9 definition.now }
-    ensures met { OnOk result (Met11 definition.now) }
+    requires before { MetUpToPlaces definition.now }
+    ensures met { OnOk result (MetUpToShown definition.now) }
     ensures refusal { IfErr result (Refuses definition.now) }
 {
     match first_unshown(alloc, definition)? {
@@ -83,7 +85,7 @@ pub(crate) fn check_specimens(alloc: Global, definition: &Definition) -> Result<
 pub(crate) fn check_elements(alloc: Global, definition: &Definition) -> Result<(), AcceptFault>
     requires sound { IsSound definition.now }
     requires class { IsClass definition.now }
-    requires before { Met11 definition.now }
+    requires before { MetUpToShown definition.now }
     ensures met { OnOk result (IsMet definition.now) }
     ensures refusal { IfErr result (Refuses definition.now) }
 {
@@ -127,7 +129,7 @@ fn is_memory(fault: &ClassFault) -> bool
 pub(crate) fn check_forms(alloc: Global, definition: &Definition) -> Result<(), AcceptFault>
     requires sound { IsSound definition.now }
     requires class { IsClass definition.now }
-    ensures met { OnOk result (Met3 definition.now) }
+    ensures met { OnOk result (MetUpToHoleRows definition.now) }
     ensures refusal { IfErr result (Refuses definition.now) }
 {
     if let Some(operator) = first_scope(definition) {
@@ -150,8 +152,8 @@ pub(crate) fn check_rows(
 ) -> Result<(), AcceptFault>
     requires sound { IsSound definition.now }
     requires class { IsClass definition.now }
-    requires before { Met3 definition.now }
-    ensures met { OnOk result (Met4 definition.now) }
+    requires before { MetUpToHoleRows definition.now }
+    ensures met { OnOk result (MetUpToRows definition.now) }
     ensures refusal { IfErr result (Refuses definition.now) }
 {
     if let Some((operator, row)) = first_uncovered_row(alloc, definition, room)? {
@@ -168,8 +170,8 @@ pub(crate) fn check_cells(
 ) -> Result<(), AcceptFault>
     requires sound { IsSound definition.now }
     requires class { IsClass definition.now }
-    requires before { Met5 definition.now }
-    ensures met { OnOk result (Met6 definition.now) }
+    requires before { MetUpToNils definition.now }
+    ensures met { OnOk result (MetUpToCells definition.now) }
     ensures refusal { IfErr result (Refuses definition.now) }
 {
     if let Some((list, row)) = first_uncovered_cell(alloc, definition, room)? {
@@ -182,8 +184,8 @@ pub(crate) fn check_cells(
 pub(crate) fn check_nils(alloc: Global, definition: &Definition) -> Result<(), AcceptFault>
     requires sound { IsSound definition.now }
     requires class { IsClass definition.now }
-    requires before { Met4 definition.now }
-    ensures met { OnOk result (Met5 definition.now) }
+    requires before { MetUpToRows definition.now }
+    ensures met { OnOk result (MetUpToNils definition.now) }
     ensures refusal { IfErr result (Refuses definition.now) }
 {
     if let Some((list, row)) = first_uncovered_nil(alloc, definition)? {
@@ -196,8 +198,8 @@ pub(crate) fn check_nils(alloc: Global, definition: &Definition) -> Result<(), A
 pub(crate) fn check_cases(alloc: Global, definition: &Definition) -> Result<(), AcceptFault>
     requires sound { IsSound definition.now }
     requires class { IsClass definition.now }
-    requires before { Met6 definition.now }
-    ensures met { OnOk result (Met7 definition.now) }
+    requires before { MetUpToCells definition.now }
+    ensures met { OnOk result (MetUpToCases definition.now) }
     ensures refusal { IfErr result (Refuses definition.now) }
 {
     if let Some(row) = first_uncased(alloc, definition)? {
@@ -210,8 +212,8 @@ pub(crate) fn check_cases(alloc: Global, definition: &Definition) -> Result<(), 
 pub(crate) fn check_smaller(alloc: Global, definition: &Definition) -> Result<(), AcceptFault>
     requires sound { IsSound definition.now }
     requires class { IsClass definition.now }
-    requires before { Met7 definition.now }
-    ensures met { OnOk result (Met8 definition.now) }
+    requires before { MetUpToCases definition.now }
+    ensures met { OnOk result (MetUpToSmaller definition.now) }
     ensures refusal { IfErr result (Refuses definition.now) }
 {
     if let Some((site, place)) = first_place(alloc, definition, Wanted::Smaller)? {
@@ -224,8 +226,8 @@ pub(crate) fn check_smaller(alloc: Global, definition: &Definition) -> Result<()
 pub(crate) fn check_instances(alloc: Global, definition: &Definition) -> Result<(), AcceptFault>
     requires sound { IsSound definition.now }
     requires class { IsClass definition.now }
-    requires before { Met8 definition.now }
-    ensures met { OnOk result (Met9 definition.now) }
+    requires before { MetUpToSmaller definition.now }
+    ensures met { OnOk result (MetUpToPlaces definition.now) }
     ensures refusal { IfErr result (Refuses definition.now) }
 {
     if let Some((site, place)) = first_place(alloc, definition, Wanted::OfOneRow)? {
@@ -238,8 +240,8 @@ pub(crate) fn check_instances(alloc: Global, definition: &Definition) -> Result<
 pub(crate) fn check_declares(alloc: Global, definition: &Definition) -> Result<(), AcceptFault>
     requires sound { IsSound definition.now }
     requires class { IsClass definition.now }
-    requires before { Met11 definition.now }
-    ensures met { OnOk result (Met12 definition.now) }
+    requires before { MetUpToShown definition.now }
+    ensures met { OnOk result (MetUpToDeclares definition.now) }
     ensures refusal { IfErr result (Refuses definition.now) }
 {
     if let Some(row) = first_astray(alloc, definition)? {
@@ -252,8 +254,8 @@ pub(crate) fn check_declares(alloc: Global, definition: &Definition) -> Result<(
 pub(crate) fn check_declarable(alloc: Global, definition: &Definition) -> Result<(), AcceptFault>
     requires sound { IsSound definition.now }
     requires class { IsClass definition.now }
-    requires before { Met12 definition.now }
-    ensures met { OnOk result (Met13 definition.now) }
+    requires before { MetUpToDeclares definition.now }
+    ensures met { OnOk result (MetUpToDeclarable definition.now) }
     ensures refusal { IfErr result (Refuses definition.now) }
 {
     if let Some((list, (space, con))) = first_undeclared(alloc, definition)? {
@@ -266,7 +268,7 @@ pub(crate) fn check_declarable(alloc: Global, definition: &Definition) -> Result
 pub(crate) fn check_clear(alloc: Global, definition: &Definition) -> Result<(), AcceptFault>
     requires sound { IsSound definition.now }
     requires class { IsClass definition.now }
-    requires before { Met13 definition.now }
+    requires before { MetUpToDeclarable definition.now }
     ensures met { OnOk result (IsMet definition.now) }
     ensures refusal { IfErr result (Refuses definition.now) }
 {

@@ -6,7 +6,7 @@ ghost use Rattle.psg_grammar.specs.WellFormed.{fixed_words as fixed_words_of};
 ghost use Rattle.psg_grammar.specs.Kinds.{HasKind};
 ghost use Rattle.psg_lexis.specs.Tokens.{IsFixedWord};
 ghost use Rattle.psg_parse.specs.Tables.{IsParseTable};
-ghost use Rattle.psg_specimen.specs.Languages.{IsDeclaringPhylum, IsLanguage, AreLanguageTables};
+ghost use Rattle.psg_specimen.specs.Languages.{AreTables, IsDeclaringPhylum, IsLanguage};
 ghost use Rattle.psg_specimen.specs.Refusal.{IsAccepted};
 
 use psg_eval::Tables;
@@ -58,34 +58,24 @@ impl Model for Language {
     ghost invariant = { λ l. IsLanguage l.parts };
 }
 
-/// The tables of a definition: what evaluations look up, the fixed words, and what the parser looks up.
-#[derive(Drop)]
-pub struct LanguageTables {
-    /// What evaluations look up, and for each phylum the spaces in which it declares.
-    pub tables: Tables,
-    /// The fixed words.
-    pub lexis: Lexis,
-    /// What the parser looks up.
-    pub table: ParseTable,
-}
-
-impl LanguageTables {
-    /// Walks the definition once for its words and once for the parser's table, and makes the evaluator's tables. It
-    /// fails where memory runs out.
-    pub fn of(alloc: Global, definition: &Definition) -> Result<LanguageTables, AllocError>
-        requires { IsSound definition.now }
-        ensures { IfOk result (AreLanguageTables definition.now) }
-    {
-        let words = fixed_words(alloc, definition)?;
-        let lexis = Lexis::new(alloc, words.as_slice())?;
-        let tables = Tables::of(alloc, definition)?;
-        let table = ParseTable::of(alloc, definition)?;
-        Ok(LanguageTables {
-            tables,
-            lexis,
-            table,
-        })
-    }
+/// Makes what is looked up of a definition: what evaluations look up, the fixed words, and what the parser looks up.
+///
+/// It walks the definition once for its words and once for the parser's table, and makes the evaluator's tables. It
+/// fails where memory runs out.
+pub(crate) fn tables_of(
+    alloc: Global,
+    definition: &Definition,
+) -> Result<(Tables, Lexis, ParseTable), AllocError>
+    requires { IsSound definition.now }
+    ensures tables { IfOk result (λ made. AreTables definition.now made.0) }
+    ensures words { IfOk result (λ made. made.1 ≡ fixed_words_of definition.now) }
+    ensures table { IfOk result (λ made. IsParseTable definition.now made.2) }
+{
+    let words = fixed_words(alloc, definition)?;
+    let lexis = Lexis::new(alloc, words.as_slice())?;
+    let tables = Tables::of(alloc, definition)?;
+    let table = ParseTable::of(alloc, definition)?;
+    Ok((tables, lexis, table))
 }
 
 impl Language {

@@ -20,10 +20,10 @@ ghost use Rattle.psg_specimen.specs.Patterns.{
   part_names,
 };
 
-use crate::room::{end_work, spend};
+use crate::room::end_work;
 use psg_eval::{EvalFault, Pattern, pattern_cell, pattern_end, pattern_op};
 use psg_grammar::{Definition, Specimen, SpecimenHole, SpecimenPart};
-use psg_terms::Txt;
+use psg_terms::{Room, Txt};
 use std::alloc::{AllocError, Global};
 
 /// Returns the pattern of a specimen, or `None` where it is a hole place alone.
@@ -36,7 +36,7 @@ pub(crate) fn pattern_of(
     alloc: Global,
     definition: &Definition,
     specimen: &Specimen,
-    room: &mut u64,
+    room: &mut Room,
 ) -> Result<Option<Pattern>, EvalFault>
     requires sound { IsSound definition.now }
     requires tree { IsSomeTree definition.now (tree_of specimen.now) }
@@ -84,7 +84,7 @@ fn add_part(
     definition: &Definition,
     part: &SpecimenPart,
     children: &mut Vec<Option<Pattern>>,
-    room: &mut u64,
+    room: &mut Room,
 ) -> Result<(), EvalFault>
     requires sound { IsSound definition.now }
     requires tree { IsTreePart definition.now part.now }
@@ -134,7 +134,7 @@ fn end_pattern(
     definition: &Definition,
     list: u32,
     rest: &Option<SpecimenHole>,
-    room: &mut u64,
+    room: &mut Room,
 ) -> Result<Option<Pattern>, EvalFault>
     requires sound { IsSound definition.now }
     requires there { rest.now ≡ None → list < length definition.now.lists }
@@ -144,7 +144,7 @@ fn end_pattern(
     match rest {
         Some(_) => Ok(None),
         None => {
-            spend(room, end_work(definition, list))?;
+            room.spend(end_work(definition, list))?;
             let end = pattern_end(alloc, definition, list)?;
             Ok(Some(end))
         }
@@ -158,7 +158,7 @@ fn list_pattern(
     list: u32,
     elements: &[Option<Pattern>],
     end: Option<Pattern>,
-    room: &mut u64,
+    room: &mut Room,
 ) -> Result<Option<Pattern>, EvalFault>
     requires sound { IsSound definition.now }
     requires elements { AllByRecursion (SuitsElement definition.now list) elements.now }

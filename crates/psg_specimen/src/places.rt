@@ -1,5 +1,5 @@
 //! The hole places of specimens: what is wanted of each, and the first one of a definition of which it is not so.
-ghost use Rattle.std.specs.Prelude.{◌≡◌, ◌⊎◌, ◌↔◌, ◌<◌, ◌^◌, IfOk, IsTrue, Some, length, slice_get};
+ghost use Rattle.std.specs.Prelude.{◌≡◌, ◌⊎◌, ◌↔◌, ◌<◌, ◌^◌, IfOk, IsOk, IsTrue, Some, length, slice_get};
 ghost use Rattle.psg_grammar.specs.declared.types.Case.{Case as PlainCase};
 ghost use Rattle.psg_grammar.specs.declared.types.DeclareRow.{DeclareRow as PlainRow};
 ghost use Rattle.psg_grammar.specs.declared.types.HoleRow.{HoleRow as PlainHole};
@@ -15,7 +15,7 @@ use crate::holes::add_places;
 use crate::instances::is_of_one_row;
 use psg_grammar::{Case, DeclareRow, Definition, HoleRow, Specimen, SpecimenHole};
 use psg_terms::matching::same;
-use psg_terms::{Node, Term};
+use psg_terms::{Node, Term, uncountable};
 use std::alloc::{AllocError, Global};
 
 /// What is wanted of the term of a hole place.
@@ -62,11 +62,13 @@ fn in_declare(row: u32) -> Site
     Site::Declare { row }
 }
 
+/// Returns the number of a place. Exactly where it does not fit into 32 bits, the call fails as if out of memory.
 fn number_of(place: usize) -> Result<u32, AllocError>
-    ensures { IfOk result (λ n. n ≡ place) }
+    ensures number { IfOk result (λ n. n ≡ place) }
+    ensures fits { place < 2 ^ 32 → IsOk result }
 {
     if place >= 0x1_0000_0000 {
-        return Err(AllocError);
+        return Err(uncountable(place));
     }
     Ok(place as u32)
 }

@@ -1,5 +1,6 @@
 //! Whether a specimen shows all values of its case or of its declare row.
-ghost use Rattle.std.specs.Prelude.{◌≡◌, ◌+◌, ◌++◌, ◌∷◌, ◌↔◌, [], IfOk, IsTrue, OnOk, Some, length};
+ghost use Rattle.std.specs.Prelude.{◌≡◌, ◌+◌, ◌-◌, ◌^◌, ◌<◌, ◌++◌, ◌∷◌, ◌↔◌, [], IfOk, IfSome, IsTrue, OnOk, Some};
+ghost use Rattle.std.specs.Prelude.{length, min};
 ghost use Rattle.psg_grammar.specs.declared.types.Definition.{Definition as Language};
 ghost use Rattle.psg_grammar.specs.Sound.{IsDeclareRow, IsSound};
 ghost use Rattle.psg_grammar.specs.Specimens.{holes_of, tree_of};
@@ -9,15 +10,16 @@ ghost use Rattle.psg_scope.specs.Headers.{key_of};
 ghost use Rattle.psg_eval.specs.Walks.{run};
 ghost use Rattle.psg_specimen.specs.Patterns.{IsPatternOf};
 ghost use Rattle.psg_specimen.specs.Shown.{FindsKey, IsFirstTerm, IsRowShown, IsSomeCase, value_terms};
+ghost use Rattle.psg_specimen.specs.Work.{shown_work};
 
 use crate::holes::add_places;
-use crate::room::{shown_work, spend};
+use crate::room::shown_work;
 use psg_eval::Pattern;
 use psg_grammar::{Case, DeclareRow, SpecimenHole};
 use psg_relation::Rel;
 use psg_scope::NameCol;
-use psg_terms::Term;
 use psg_terms::matching::{is_instance, same};
+use psg_terms::{Room, Term};
 use std::alloc::{AllocError, Global};
 
 /// Tests whether the specimen of a case shows all values of the case, by the specimen's pattern: the term of the case
@@ -27,7 +29,7 @@ pub(crate) fn shows_case(
     alloc: Global,
     one: &Case,
     pattern: &Option<Pattern>,
-    room: &mut u64,
+    room: &mut Room,
 ) -> Result<bool, AllocError>
     ensures { IfOk result (λ b. (def : Language) → IsSound def → IsSomeCase def one.now
         → IsPatternOf def (tree_of one.now.specimen) pattern.now → IsTrue b ↔ IsGeneralCase def one.now) }
@@ -49,7 +51,7 @@ pub(crate) fn shows_declare(
     alloc: Global,
     row: &DeclareRow,
     pattern: &Option<Pattern>,
-    room: &mut u64,
+    room: &mut Room,
 ) -> Result<bool, AllocError>
     ensures { IfOk result (λ b. (def : Language) → IsSound def → IsDeclareRow def row.now
         → IsPatternOf def (tree_of row.now.specimen) pattern.now → IsTrue b ↔ IsGeneralDeclare def row.now) }
@@ -70,7 +72,7 @@ fn shows_element(
     row: &DeclareRow,
     places: &[SpecimenHole],
     pattern: &Pattern,
-    room: &mut u64,
+    room: &mut Room,
 ) -> Result<bool, AllocError>
     ensures { IfOk result (λ b. (def : Language) → IsSound def → IsDeclareRow def row.now
         → places.now ≡ holes_of row.now.specimen
@@ -95,7 +97,7 @@ fn shows_values(
     value: &Term,
     places: &[SpecimenHole],
     rel: &Rel,
-    room: &mut u64,
+    room: &mut Room,
 ) -> Result<bool, AllocError>
     ensures { IfOk result (λ b. IsTrue b ↔ IsRowShown rel.now (run 0 (length places.now + 1))
         (value_terms value.now places.now)) }
@@ -114,29 +116,19 @@ fn shows_entity(
     places: &[SpecimenHole],
     place: usize,
     rel: &Rel,
-    room: &mut u64,
+    room: &mut Room,
 ) -> Result<bool, AllocError>
+    requires { place < 2 ^ 63 }
     ensures { IfOk result (λ b. IsTrue b ↔ IsRowShown rel.now
         (run 0 (length places.now + 1) ++ (length places.now + 1 + place) ∷ [])
         (value_terms row.now.value places.now ++ row.now.term ∷ [])) }
 {
     let mut terms = terms_of(alloc, &row.value, places)?;
     let mut keep = columns(alloc, terms.len())?;
-    let column = sum(terms.len(), place)?;
-    keep.push(column)?;
+    keep.push(terms.len() + place)?;
     terms.push(row.term.share()?)?;
     let shown = is_shown(alloc, rel, terms.as_slice(), keep.as_slice(), room)?;
     Ok(shown)
-}
-
-/// `AllocError` is returned where the sum is too large.
-fn sum(one: usize, two: usize) -> Result<usize, AllocError>
-    ensures { IfOk result (λ n. n ≡ one + two) }
-{
-    match one.checked_add(two) {
-        Some(sum) => Ok(sum),
-        None => Err(AllocError),
-    }
 }
 
 /// Says whether the first of the places has this term.
@@ -174,7 +166,8 @@ fn columns(alloc: Global, count: usize) -> Result<Vec<usize>, AllocError>
 
 /// Returns the place of the key `it` of this space, if it is among the keys.
 fn it_place(names: &[NameCol], space: u32) -> Option<usize>
-    ensures { FindsKey (it space) names.now result }
+    ensures found { FindsKey (it space) names.now result }
+    ensures few { IfSome result (λ place. place < 2 ^ 63) }
 {
     for number in 0..names.len() {
         if is_it(&names[number], space) {
@@ -196,11 +189,12 @@ fn is_shown(
     rel: &Rel,
     terms: &[Term],
     keep: &[usize],
-    room: &mut u64,
+    room: &mut Room,
 ) -> Result<bool, AllocError>
-    ensures { IfOk result (λ b. IsTrue b ↔ IsRowShown rel.now keep.now terms.now) }
+    ensures shown { IfOk result (λ b. IsTrue b ↔ IsRowShown rel.now keep.now terms.now) }
+    ensures work { OnOk result (room.old.left ≡ room.new.left + min (shown_work rel.now terms.now) (2 ^ 64 - 1)) }
 {
-    spend(room, shown_work(rel, terms))?;
+    room.spend(shown_work(rel, terms))?;
     let rows = rel.rows();
     for number in 0..rows.len() {
         let general = columns_of(alloc, rows[number].terms(), keep)?;

@@ -10,10 +10,11 @@ ghost use Rattle.psg_specimen.specs.Shown.{HasFlaw, IsSomeCase, IsUpTo, IsWalk, 
 
 use crate::fault::Site;
 use crate::patterns::pattern_of;
-use crate::room::ROOM;
+use crate::room::specimen_room;
 use crate::showing::{shows_case, shows_declare};
 use psg_eval::EvalFault;
 use psg_grammar::{Case, DeclareRow, Definition};
+use psg_terms::Room;
 use std::alloc::{AllocError, Global};
 
 /// What is wrong with a specimen.
@@ -40,7 +41,7 @@ pub(crate) fn first_unshown(alloc: Global, definition: &Definition) -> Result<Wa
     requires { IsSound definition.now }
     ensures { IfOk result (IsWalk definition.now None) }
 {
-    let mut room = ROOM;
+    let mut room = specimen_room();
     match in_rows(alloc, definition, &mut room)? {
         Walk::Large(site) => Ok(Walk::Large(site)),
         Walk::Weak(weak) => {
@@ -51,7 +52,7 @@ pub(crate) fn first_unshown(alloc: Global, definition: &Definition) -> Result<Wa
 }
 
 /// Goes over the cases of all hole rows.
-fn in_rows(alloc: Global, definition: &Definition, room: &mut u64) -> Result<Walk, AllocError>
+fn in_rows(alloc: Global, definition: &Definition, room: &mut Room) -> Result<Walk, AllocError>
     requires { IsSound definition.now }
     ensures { IfOk result (IsWalk definition.now (Some (sites.Declare 0))) }
 {
@@ -74,7 +75,7 @@ fn in_cases(
     row: u32,
     cases: &[Case],
     weak: Option<Site>,
-    room: &mut u64,
+    room: &mut Room,
 ) -> Result<Walk, AllocError>
     requires sound { IsSound definition.now }
     requires row { (whole : PlainHole) × (slice_get definition.now.hole_rows row ≡ Some whole)
@@ -99,7 +100,7 @@ fn in_declares(
     alloc: Global,
     definition: &Definition,
     weak: Option<Site>,
-    room: &mut u64,
+    room: &mut Room,
 ) -> Result<Walk, AllocError>
     requires sound { IsSound definition.now }
     requires before { IsUpTo definition.now (Some (sites.Declare 0)) weak }
@@ -122,7 +123,7 @@ fn flaw_of_case(
     alloc: Global,
     definition: &Definition,
     one: &Case,
-    room: &mut u64,
+    room: &mut Room,
 ) -> Result<Option<Flaw>, AllocError>
     requires sound { IsSound definition.now }
     requires case { IsSomeCase definition.now one.now }
@@ -142,7 +143,7 @@ fn flaw_of_declare(
     alloc: Global,
     definition: &Definition,
     row: &DeclareRow,
-    room: &mut u64,
+    room: &mut Room,
 ) -> Result<Option<Flaw>, AllocError>
     requires sound { IsSound definition.now }
     requires row { IsDeclareRow definition.now row.now }

@@ -41,7 +41,7 @@ returns-in-Some c =
     let w = c.args.wanted in
     let first = rows_found def w c.as_slice-rows.result.now _ (Some (c.in-Some.row, (c.in-Some.case, c.in-Some.place))) c.as_slice-rows.ensures c.in-Some.is c.in_ok-row.ensures in
     subst (λ s. IsFirstPlace (Wants def w) s c.in_ok-number.number) (sym c.in_case.ensures)
-    (subst (λ n. IsFirstPlace (Wants def w) (sites.Hole c.in-Some.row c.in-Some.case) n) (sym c.in_ok-number.ensures) (first_case def w c.in-Some.row c.in-Some.case c.in-Some.place first))
+    (subst (λ n. IsFirstPlace (Wants def w) (sites.Hole c.in-Some.row c.in-Some.case) n) (sym c.in_ok-number.ensures.number) (first_case def w c.in-Some.row c.in-Some.case c.in-Some.place first))
 
 pub overflow_cast-row-in-Some-2 : goal.overflow_cast-row-in-Some-2
 overflow_cast-row-in-Some-2 c =
@@ -56,7 +56,7 @@ returns-in-Some-2 c =
     let cases = rows_found def w c.as_slice-rows.result.now _ None c.as_slice-rows.ensures c.in_default.is c.in_ok-row.ensures in
     let first = declares_found def w c.as_slice-declares.result.now _ (Some (c.in-Some-2.row, c.in-Some-2.place)) c.as_slice-declares.ensures c.in-Some-2.is c.in_ok-row-2.ensures in
     subst (λ s. IsFirstPlace (Wants def w) s c.in_ok-number-2.number) (sym c.in_declare.ensures)
-    (subst (λ n. IsFirstPlace (Wants def w) (sites.Declare c.in-Some-2.row) n) (sym c.in_ok-number-2.ensures) (first_declare def w cases c.in-Some-2.row c.in-Some-2.place first))
+    (subst (λ n. IsFirstPlace (Wants def w) (sites.Declare c.in-Some-2.row) n) (sym c.in_ok-number-2.ensures.number) (first_declare def w cases c.in-Some-2.row c.in-Some-2.place first))
 
 pub returns : goal.returns
 returns c =
