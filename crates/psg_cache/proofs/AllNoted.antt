@@ -50,28 +50,27 @@ module _ (def : Definition) where
 
   suffix_known : (f : Fragment) → IsReal f → IsList f → (below : List SummaryParts) (s : SummaryParts) (rests : List SummaryParts)
       → AllSummaries def (children_of f) below → AreOfSuffixes def f below s rests
-      → (k : ℕ) (r : Fragment) (t : SummaryParts) → suffix_of f k ≡ Some r → slice_get (s ∷ rests) k ≡ Some t → IsSummaryOf def r t
-  suffix_known (ending l u) real list below s rests are h zero r t suffix at =
+      → (k : ℕ) (r : Fragment) → suffix_of f k ≡ Some r
+      → (t : SummaryParts) × (slice_get (s ∷ rests) k ≡ Some t) × IsSummaryOf def r t
+  suffix_known (ending l u) real list below s rests are h zero r suffix =
       let one : ending l u ≡ r = cc in
-      let two : s ≡ t = cc in
-      subst (λ x. IsSummaryOf def x t) one (subst (IsSummaryOf def (ending l u)) two (list_known def (ending l u) real list below s rests are h).0)
-  suffix_known (ending l u) real list below s rests are h (suc k) r t suffix at = absurd (none-some r suffix)
-  suffix_known (cell l e f) real list below s rests are h zero r t suffix at =
+      (s, refl, subst (λ x. IsSummaryOf def x s) one (list_known def (ending l u) real list below s rests are h).0)
+  suffix_known (ending l u) real list below s rests are h (suc k) r suffix = absurd (none-some r suffix)
+  suffix_known (cell l e f) real list below s rests are h zero r suffix =
       let one : cell l e f ≡ r = cc in
-      let two : s ≡ t = cc in
-      subst (λ x. IsSummaryOf def x t) one (subst (IsSummaryOf def (cell l e f)) two (list_known def (cell l e f) real list below s rests are h).0)
-  suffix_known (cell l e f) real list [] s rests are h (suc k) r t suffix at = absurd are
-  suffix_known (cell l e f) real list (b ∷ bs) s [] are h (suc k) r t suffix at = absurd h
-  suffix_known (cell l e f) real list (b ∷ bs) s (x ∷ xs) are h (suc k) r t suffix at =
-      suffix_known f real.1 real.2 bs x xs are.1 h.1 k r t suffix at
-  suffix_known (hole p) real list below s rests are h k r t suffix at = absurd list
-  suffix_known (operator o) real list below s rests are h k r t suffix at = absurd list
-  suffix_known (with_child f c) real list below s rests are h k r t suffix at = absurd list
-  suffix_known (with_name f n) real list below s rests are h k r t suffix at = absurd list
-  suffix_known (with_number f n) real list below s rests are h k r t suffix at = absurd list
-  suffix_known (with_text f n) real list below s rests are h k r t suffix at = absurd list
-  suffix_known anything real list below s rests are h k r t suffix at = absurd list
-  suffix_known (observed f) real list below s rests are h k r t suffix at = absurd list
+      (s, refl, subst (λ x. IsSummaryOf def x s) one (list_known def (cell l e f) real list below s rests are h).0)
+  suffix_known (cell l e f) real list [] s rests are h (suc k) r suffix = absurd are
+  suffix_known (cell l e f) real list (b ∷ bs) s [] are h (suc k) r suffix = absurd h
+  suffix_known (cell l e f) real list (b ∷ bs) s (x ∷ xs) are h (suc k) r suffix =
+      suffix_known f real.1 real.2 bs x xs are.1 h.1 k r suffix
+  suffix_known (hole p) real list below s rests are h k r suffix = absurd list
+  suffix_known (operator o) real list below s rests are h k r suffix = absurd list
+  suffix_known (with_child f c) real list below s rests are h k r suffix = absurd list
+  suffix_known (with_name f n) real list below s rests are h k r suffix = absurd list
+  suffix_known (with_number f n) real list below s rests are h k r suffix = absurd list
+  suffix_known (with_text f n) real list below s rests are h k r suffix = absurd list
+  suffix_known anything real list below s rests are h k r suffix = absurd list
+  suffix_known (observed f) real list below s rests are h k r suffix = absurd list
 
   pub all_noted : (f : Fragment) (n : Annotated) → IsNoteOf def f n → HasAllSummaries def f n
   all_noted f n note =
@@ -84,13 +83,13 @@ module _ (def : Definition) where
             let (m, is, tree) = some_tree (note_at n path) node there in
             let h = both.1 m is in
             (m, is, tree, subst (λ x. IsSummaryOf def x (whole_in m)) tree (noted_known def m h.0 h.1).0);
-        suffixes = λ path m k suffix s is at here.
+        suffixes = λ path m k suffix is at.
             let h = (noted_at def path n note.noted formed).1 m is in
             let parts = noted_parts def m h.0 in
             let below = below_known def (tree_in m) (below_in m) h.1 parts.0.children parts.1 in
             let list = suffix_list (tree_in m) k suffix at in
             suffix_known (tree_in m) (real def (tree_in m) h.1) list (map whole_in (below_in m)) (whole_in m) (rests_in m) below.1
-            (answered_list (tree_in m) list (map whole_in (below_in m)) (whole_in m) (rests_in m) parts.0.answered) k suffix s at here;
+            (answered_list (tree_in m) list (map whole_in (below_in m)) (whole_in m) (rests_in m) parts.0.answered) k suffix at;
       }
 
 -- ---- the summary at a path

@@ -76,7 +76,7 @@ wholes_before : (k : ℕ) (ns ms : List Annotated) → take k ns ≡ take k ms
 wholes_before k ns ms e = take-map whole_in k ns ∙ ap (map whole_in) e ∙ sym (take-map whole_in k ms)
 
 module _ (def : Definition) where
-  own_notes : (n : Annotated) → IsNoted def n → AreNotesOf def (children_of (tree_in n)) (below_in n)
+  pub own_notes : (n : Annotated) → IsNoted def n → AreNotesOf def (children_of (tree_in n)) (below_in n)
   own_notes n h = let parts = noted_parts def n h in (parts.0.children, parts.1)
 
   pub below_length : (n : Annotated) → IsNoted def n → length (below_in n) ≡ length (children_of (tree_in n))

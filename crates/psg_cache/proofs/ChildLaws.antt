@@ -12,7 +12,7 @@ use Rattle.psg_tree.specs.Shapes.{height}
 use Rattle.psg_cache.specs.Notes.{IsFormed}
 use Rattle.psg_cache.proofs.Each.{each_at, each_push}
 
-lower : (g : Fragment) (n : ℕ) → height g ≤ n → AllByRecursion (λ c. height c + 1 ≤ n) (children_of g)
+pub lower : (g : Fragment) (n : ℕ) → height g ≤ n → AllByRecursion (λ c. height c + 1 ≤ n) (children_of g)
 lower (hole p) n h = tt
 lower (ending l u) n h = tt
 lower (cell l e r) n h = (omega (arith, h), lower r n (omega (arith, h)))

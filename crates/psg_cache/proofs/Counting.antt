@@ -85,6 +85,13 @@ together_front [] (suc i) = omega arith
 together_front (c ∷ cs) (suc i) =
     omega (arith, together_front cs i, sum_by-cons work_of c (take i cs), sum_by-cons work_of c cs)
 
+pub together_upto : (cs : List Fragment) (i j : ℕ) → i ≤ j → together (take i cs) ≤ together (take j cs)
+together_upto cs zero j small = omega arith
+together_upto [] (suc i) j small = omega arith
+together_upto (c ∷ cs) (suc i) zero small = absurd (omega (arith, small))
+together_upto (c ∷ cs) (suc i) (suc j) small =
+    omega (arith, together_upto cs i j (omega (arith, small)), sum_by-cons work_of c (take i cs), sum_by-cons work_of c (take j cs))
+
 -- before a child no more than all are counted
 pub within_children : (f : Fragment) (children : List Fragment) (i : ℕ) (start before : ℕ) → children ≡ children_of f
     → before ≡ start + together (take i children) → before ≤ start + work_of f

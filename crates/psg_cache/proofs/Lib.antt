@@ -32,6 +32,8 @@ mod Cases
 pub mod PairLaws
 pub mod AlikeLaws
 pub mod RenoteLaws
+pub mod WorkLaws
+pub mod SpreadLaws
 pub mod JoinLaws
 pub mod ExchangeLaws
 pub mod FrameParts

@@ -183,21 +183,6 @@ pairs_front [] ds (suc i) a = absurd (omega (arith, a))
 pairs_front (c ∷ cs) [] (suc i) a = omega arith
 pairs_front (c ∷ cs) (d ∷ ds) (suc i) a = let h = pairs_front cs ds i (omega (arith, a)) in omega (arith, h)
 
--- the first ones in pairs, and then the new ones without a partner
-pub pairs_rest : (cs ds : List Fragment) (m : ℕ) → m ≤ length ds → (m ≡ length cs) ⊎ (m ≡ length ds)
-    → m ≤ length cs → pairs (take m cs) (take m ds) + together ds ≤ pairs cs ds + together (take m ds)
-pairs_rest [] ds zero a b c = omega arith
-pairs_rest (x ∷ cs) [] zero a b c = omega arith
-pairs_rest (x ∷ cs) (y ∷ ds) zero a b c =
-    absurd (elim b [ inl e ↦ (omega (arith, e)) | inr e ↦ (omega (arith, e)) ])
-pairs_rest [] ds (suc m) a b c = absurd (omega (arith, c))
-pairs_rest (x ∷ cs) [] (suc m) a b c = absurd (omega (arith, a))
-pairs_rest (x ∷ cs) (y ∷ ds) (suc m) a b c =
-    let less : (m ≡ length cs) ⊎ (m ≡ length ds) =
-    elim b [ inl e ↦ inl (omega (arith, e)) | inr e ↦ inr (omega (arith, e)) ] in
-    let h = pairs_rest cs ds m (omega (arith, a)) less (omega (arith, c)) in
-    omega (arith, h, sum_by-cons work_of y ds, sum_by-cons work_of y (take m ds))
-
 -- ---- parts of one operator are of the same kinds
 
 -- the kinds of the parts: subtrees, names, numbers, texts
@@ -514,6 +499,14 @@ lists_paired f g h =
 
 -- what two trees differ in at the top, and each pair of children, is no more than the whole difference
 module _ (def : Definition) where
+  -- trees of one operator have as many children
+  pub operators_long : (f g : Fragment) → IsFormed def f → IsFormed def g → (o : ℕ) → top_operator f ≡ Some o
+      → top_operator g ≡ Some o → length (children_of f) ≡ length (children_of g)
+  operators_long f g (i, (hf, pf)) (j, (hg, pg)) o one two =
+      let sf = spine_of f o (real def f (i, (hf, pf))) one in
+      let sg = spine_of g o (real def g (j, (hg, pg))) two in
+      (pairs_parts f g sf sg (same_sorts def f g i j hf hg sf sg o one two)).0
+
   below_most : (f g : Fragment) → IsFormed def f → IsFormed def g → is_paired f g ≡ true
       → pairs (children_of f) (children_of g) ≤ diff_below f g
   below_most f g (i, (hf, pf)) (j, (hg, pg)) paired =

@@ -20,7 +20,7 @@ use Rattle.psg_cache.specs.Renoting.{IsKeptOr, IsRenoted}
 use Rattle.psg_cache.specs.Walks.{AreNotesOf, top_evaluations}
 use Rattle.psg_cache.proofs.ChangeLaws.{own_trees}
 use Rattle.psg_cache.proofs.Counting.{together}
-use Rattle.psg_cache.proofs.PairLaws.{agree_long, last_reaches, lists_paired, pairs, pairs_front, pairs_next, pairs_rest, same_both, same_false, spine_of, whole_most}
+use Rattle.psg_cache.proofs.PairLaws.{agree_long, last_reaches, lists_paired, pairs, pairs_front, pairs_next, same_both, same_false, spine_of, whole_most}
 use Rattle.psg_cache.proofs.RealTrees.{IsReal, IsSpine}
 use Rattle.psg_cache.proofs.SpliceLaws.{spine_once}
 
@@ -67,7 +67,7 @@ behind_next notes below longer i last now old note (Some m) alike small at more 
       drop_all now longer (omega (arith, same, count)) ∙ sym (drop_all now (take (i + 1) notes) (omega (arith, same, front))),
     )
 
-got_tree : (ns : List Annotated) (k : ℕ) (n : Annotated) → k < length ns → n ≡ get_or ns k n
+pub got_tree : (ns : List Annotated) (k : ℕ) (n : Annotated) → k < length ns → n ≡ get_or ns k n
     → slice_get (map tree_in ns) k ≡ Some (tree_in n)
 got_tree [] k n small at = absurd (omega (arith, small))
 got_tree (m ∷ ns) zero n small at = ap (λ x. Some (tree_in x)) (sym at)
@@ -91,23 +91,11 @@ apart_next def notes cs ds i last now old note new (Some m) alike small there at
     ) in
     subst (λ k. DifferBefore k cs ds) (sym (told ∙ ap (λ b. cond b last (i + 1)) kept.1 ∙ next)) it
 
-no_more : {X : Type 0} (xs ys : List X) → length (xs ++ ys) ≡ length xs → ys ≡ []
+pub no_more : {X : Type 0} (xs ys : List X) → length (xs ++ ys) ≡ length xs → ys ≡ []
 no_more xs [] e = refl
 no_more xs (y ∷ ys) e =
     let n : length (xs ++ y ∷ ys) ≡ length xs + length (y ∷ ys) = length-append xs (y ∷ ys) in
     absurd (omega (arith, e, n))
-
--- behind the last one that differs the children are the old ones, where there are as many
-pub all_behind : (notes first below rest : List Annotated) (many last : ℕ) → length first ≡ many
-    → drop last first ≡ drop last (take many notes) → below ≡ first ++ rest
-    → (many ≡ length notes) ⊎ (many ≡ length below) → length notes ≡ length below → drop last below ≡ drop last notes
-all_behind notes first below rest many last count front grown either long =
-    let all : many ≡ length notes = elim either [ inl e ↦ e | inr e ↦ omega (arith, e, long) ] in
-    let size : length (first ++ rest) ≡ length first =
-    (let a = ap length grown in omega (arith, a, long, all, count)) in
-    let none : rest ≡ [] = no_more first rest size in
-    let here : below ≡ first = grown ∙ ap (λ ys. first ++ ys) none ∙ append-nil first in
-    ap (drop last) here ∙ front ∙ ap (drop last) (take_all many notes (omega (arith, all)))
 
 pub apart_differ : (last : ℕ) (cs ds : List Fragment) → 0 < last → DifferBefore last cs ds → cs ≡ ds → ⊥
 apart_differ zero cs ds some h same = omega (arith, some)
@@ -136,7 +124,7 @@ pub alike_told : (old new : Fragment) (tops many alike : Bool) → TellsAlike to
 alike_told old new true many alike told count both holds = (told, count.0 (sym both ∙ holds))
 alike_told old new false many alike told count both holds = absurd (false≢true (sym both ∙ holds))
 
-top_cost : (old new : Fragment) → (old ≡ new → ⊥)
+pub top_cost : (old new : Fragment) → (old ≡ new → ⊥)
     → diff_top old new ≡ cond (same_some (top_operator old) (top_operator new)) 1 (diff_cells old new)
 top_cost old new never =
     ap (λ b. cond b 0 (cond (same_some (top_operator old) (top_operator new)) 1 (diff_cells old new)))
@@ -144,7 +132,7 @@ top_cost old new never =
 
 -- ---- what a top takes
 
-list_evaluations : (f : Fragment) → IsReal f → IsList f → top_evaluations f ≡ length (children_of f) + 1
+pub list_evaluations : (f : Fragment) → IsReal f → IsList f → top_evaluations f ≡ length (children_of f) + 1
 list_evaluations (ending l u) is list = refl
 list_evaluations (cell l e r) is list = let h = list_evaluations r is.1 is.2 in omega (arith, h)
 list_evaluations (hole p) is list = absurd list
@@ -169,7 +157,7 @@ node_evaluations anything is = absurd is
 node_evaluations (observed f) is = absurd is
 
 -- an operator is evaluated once, also where its children are known
-once_most : (old new : Fragment) → IsReal new → (o : ℕ) → top_operator new ≡ Some o → top_evaluations new ≡ 1
+pub once_most : (old new : Fragment) → IsReal new → (o : ℕ) → top_operator new ≡ Some o → top_evaluations new ≡ 1
 once_most old new is o top = node_evaluations new (spine_of new o is top)
 
 -- what is made whole at the top is counted whole there
@@ -195,7 +183,7 @@ unlike_most old new is paired h =
           omega (arith, cost, all, put, cells)
     ]
 
-remade_list : (f : Fragment) → IsList f → (n : ℕ) → remade_ticks f n ≡ n
+pub remade_list : (f : Fragment) → IsList f → (n : ℕ) → remade_ticks f n ≡ n
 remade_list (ending l u) is n = refl
 remade_list (cell l e r) is n = refl
 remade_list (hole p) is n = absurd is
@@ -240,7 +228,7 @@ remade_apart old new last front paired alike long never apart small =
 
 -- ---- pairs
 
-map_read : (ns : List Annotated) (k : ℕ) (n : Annotated) → n ≡ get_or ns k n
+pub map_read : (ns : List Annotated) (k : ℕ) (n : Annotated) → n ≡ get_or ns k n
     → tree_in n ≡ get_or (map tree_in ns) k (tree_in n)
 map_read [] k n at = refl
 map_read (m ∷ ns) zero n at = ap tree_in at
@@ -281,16 +269,17 @@ wholes_before left ns ms x y some within e a b same h =
 
 module _ (def : Definition) where
   -- the children behind the last changed summary are as the old ones are
-  pub alike_kept : (old : Annotated) (new : Fragment) (below : List Annotated) (front : ℕ) → IsNoted def old
+  pub alike_kept : (old : Annotated) (new : Fragment) (below : List Annotated) (first front : ℕ) → IsNoted def old
       → IsFormed def (tree_in old) → AreAlike (tree_in old) new → length (below_in old) ≡ length below
       → front ≤ length below → drop front (map whole_in below) ≡ drop front (map whole_in (below_in old))
-      → IsKept def old 0 front front new below
-  alike_kept old new below front noted formed alike many small same = record {
+      → first ≤ front → take first (map whole_in below) ≡ take first (map whole_in (below_in old))
+      → IsKept def old first front front new below
+  alike_kept old new below first front noted formed alike many small same few firsts = record {
     noted = noted;
     formed_old = formed;
     kept = same;
-    first = refl;
-    fewer = (omega arith, omega arith);
+    first = firsts;
+    fewer = (few, few);
     within = (omega (arith, many, small), small);
     lists = alike.lists;
     nodes = λ o top none. (none, (alike.nodes o top).0, (alike.nodes o top).1);
@@ -326,7 +315,7 @@ module _ (def : Definition) where
   module _ (old : Annotated) (new : Fragment) (notes : List Annotated) (inner : List Fragment) (noted : IsNoted def old)
       (formed_old : IsFormed def (tree_in old)) (formed : IsFormed def new) (paired : is_paired (tree_in old) new ≡ true)
       (are_notes : notes ≡ below_in old) (are : inner ≡ children_of new) where
-    same_pairs : pairs (map tree_in notes) inner ≡ pairs (children_of (tree_in old)) (children_of new)
+    pub same_pairs : pairs (map tree_in notes) inner ≡ pairs (children_of (tree_in old)) (children_of new)
     same_pairs = ap₂ (λ x y. pairs x y) (trees_old old notes noted are_notes) are
 
     -- the first ones are within the whole difference
@@ -337,15 +326,3 @@ module _ (def : Definition) where
         let front = pairs_front (map tree_in notes) inner i (omega (arith, small, long)) in
         let whole = whole_most def (tree_in old) new formed_old formed paired in
         omega (arith, front, whole, same_pairs)
-
-    -- and so are all of them, those without a partner, and the top
-    pub all_least : (many : ℕ) → many ≤ length notes → many ≤ length inner → (many ≡ length notes) ⊎ (many ≡ length inner)
-        → pairs (take many (map tree_in notes)) (take many inner) + together inner + diff_top (tree_in old) new
-        ≤ diff_of (tree_in old) new + together (take many inner)
-    all_least many small within either =
-        let long : length (map tree_in notes) ≡ length notes = length-map notes tree_in in
-        let which : (many ≡ length (map tree_in notes)) ⊎ (many ≡ length inner) =
-        elim either [ inl e ↦ inl (e ∙ sym long) | inr e ↦ inr e ] in
-        let rest = pairs_rest (map tree_in notes) inner many within which (omega (arith, small, long)) in
-        let whole = whole_most def (tree_in old) new formed_old formed paired in
-        omega (arith, rest, whole, same_pairs)

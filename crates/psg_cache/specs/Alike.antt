@@ -1,6 +1,6 @@
 -- When two trees are alike besides their children.
-use Rattle.std.specs.Prelude.{ℕ, zero, suc, ◌≡◌, ◌≤◌, ◌||◌, Bool, true, false, cond, List}
-use Rattle.std.specs.Prelude.{[], ◌∷◌, drop, length, slice_get, Option, Some, None}
+use Rattle.std.specs.Prelude.{ℕ, zero, suc, ◌≡◌, ◌≤◌, ◌+◌, ◌-◌, ◌||◌, Bool, true, false, cond, List}
+use Rattle.std.specs.Prelude.{[], ◌∷◌, drop, length, map, slice_get, take, Option, Some, None}
 use Rattle.psg_grammar.specs.Fragments.{Fragment, hole, children_of, top_operator}
 use Rattle.psg_grammar.specs.Same.{same_tree}
 use Rattle.psg_tree.specs.Shapes.{list_of}
@@ -64,9 +64,21 @@ DifferBefore zero cs ds = Unit {0}
 DifferBefore (suc k) cs ds =
     (c : Fragment) × (d : Fragment) × (slice_get cs k ≡ Some c) × (slice_get ds k ≡ Some d) × (c ≡ d → ⊥)
 
--- The first children differ up to this number and no further: the notes after it are the old ones, where there are as
--- many.
-pub record IsLast (old : Annotated) (new : Fragment) (below : List Annotated) (last : ℕ) : Type 0 where
+-- so many of the last children are the same
+pub record IsBack (old : Annotated) (new : Fragment) (back : ℕ) : Type 0 where
+  pub old_within : back ≤ length (below_in old)
+  pub new_within : back ≤ length (children_of new)
+  pub same : drop (length (below_in old) - back) (map tree_in (below_in old))
+      ≡ drop (length (children_of new) - back) (children_of new)
+
+-- What a tree's notes have in common with those of an old one: the first ones, as many as `first` says, and the last
+-- ones, as many as `back` says, are the old ones. Where there are as many as before, so are those from `last` on, and a
+-- child before `last` differs.
+pub record IsSpread (old : Annotated) (new : Fragment) (below : List Annotated) (first last back : ℕ) : Type 0 where
   pub within : last ≤ length below
   pub behind : length (below_in old) ≡ length below → drop last below ≡ drop last (below_in old)
   pub apart : DifferBefore last (children_of (tree_in old)) (children_of new)
+  pub old_few : first + back ≤ length (below_in old)
+  pub new_few : first + back ≤ length below
+  pub front : take first below ≡ take first (below_in old)
+  pub tail : drop (length below - back) below ≡ drop (length (below_in old) - back) (below_in old)

@@ -14,9 +14,10 @@ suffix_of (cell l e r) (suc k) = suffix_of r k
 suffix_of (ending l u) zero = Some (ending l u)
 suffix_of f k = None
 
+-- each node has a note with its summary, and each suffix of a list that is a node has a summary
 pub record HasAllSummaries (def : Definition) (f : Fragment) (n : Annotated) : Type 0 where
   pub nodes : (path : Path) (node : Fragment) → node_at f path ≡ Some node
       → (m : Annotated) × (note_at n path ≡ Some m) × (tree_in m ≡ node) × IsSummaryOf def node (whole_in m)
-  pub suffixes : (path : Path) (m : Annotated) (k : ℕ) (suffix : Fragment) (s : SummaryParts) → note_at n path ≡ Some m
-      → suffix_of (tree_in m) k ≡ Some suffix → slice_get (whole_in m ∷ rests_in m) k ≡ Some s
-      → IsSummaryOf def suffix s
+  pub suffixes : (path : Path) (m : Annotated) (k : ℕ) (suffix : Fragment) → note_at n path ≡ Some m
+      → suffix_of (tree_in m) k ≡ Some suffix
+      → (s : SummaryParts) × (slice_get (whole_in m ∷ rests_in m) k ≡ Some s) × IsSummaryOf def suffix s

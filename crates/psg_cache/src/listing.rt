@@ -89,15 +89,30 @@ fn is_due(made: &[Summary], behind: &Summary, olds: &[Summary], was: &Summary, p
     !new.same(old)
 }
 
+/// Puts the new summaries after the first old ones, as many as `number` says. All of them are moved.
+fn following(
+    olds: Vec<Summary>,
+    number: usize,
+    news: Vec<Summary>,
+) -> Result<Vec<Summary>, AllocError>
+    ensures { IfOk result (λ all. all.items ≡ take number olds.items ++ news.items) }
+{
+    let mut all = olds;
+    let mut rest = news;
+    all.truncate(number);
+    all.append(&mut rest)?;
+    Ok(all)
+}
+
 /// Returns the summaries of the suffixes that begin with these elements, in front of a suffix: of the cells from the
 /// last to the first. `olds` has those of an old list with the same first elements, in front of `was`: from a suffix on
-/// that is the old one, they are shared.
+/// that is the old one, they are kept.
 pub(crate) fn cells<L: Ledger>(
     alloc: Global,
     language: Language,
     list: u32,
     elements: &[Summary],
-    olds: &[Summary],
+    olds: Vec<Summary>,
     was: &Summary,
     behind: &Summary,
     path: &[u32],
@@ -105,12 +120,12 @@ pub(crate) fn cells<L: Ledger>(
 ) -> Result<Vec<Summary>, NoteFault>
     requires language { IsKnown language }
     requires takes { TakesCells language.definition.now list elements.now behind.now }
-    requires olds { (k : ℕ) × AreOfCells language.definition.now list (take k elements.now) was.now olds.now }
-    requires old_usual { AllByRecursion (IsSummary language.definition.now) olds.now }
+    requires olds { (k : ℕ) × AreOfCells language.definition.now list (take k elements.now) was.now olds.items }
+    requires old_usual { AllByRecursion (IsSummary language.definition.now) olds.items }
     ensures ok { IfOk result
         (λ news. AreOfCells language.entry.definition.now list elements.now behind.now news.items) }
     ensures usual { IfOk result (λ news. AllByRecursion (IsSummary language.entry.definition.now) news.items) }
-    ensures ticks { IfOk result (λ _. olds.now ≡ [] → steps.new ≡ steps.old + length elements.now) }
+    ensures ticks { IfOk result (λ _. olds.items ≡ [] → steps.new ≡ steps.old + length elements.now) }
     ensures bounded { steps.new ≤ steps.old + length elements.now }
     ensures err { IfErr result
         (IsCellsFault language.entry.definition.now path.now list elements.now behind.now) }
@@ -119,7 +134,8 @@ pub(crate) fn cells<L: Ledger>(
     let tables = language.tables;
     let mut made = Vec::new(alloc);
     let mut left = elements.len();
-    'turn: while is_due(made.as_slice(), behind, olds, was, left) {
+    let before = olds.as_slice();
+    'turn: while is_due(made.as_slice(), behind, before, was, left) {
         left -= 1;
         let latter = made.as_slice();
         let rest = latest(latter, behind);
@@ -128,10 +144,7 @@ pub(crate) fn cells<L: Ledger>(
         made.push(cell)?;
     }
     made.reverse();
-    let mut all = Vec::with_capacity(alloc, elements.len())?;
-    push_shared(&mut all, &olds[..left])?;
-    let turned = made.as_slice();
-    push_shared(&mut all, turned)?;
+    let all = following(olds, left, made)?;
     Ok(all)
 }
 
@@ -152,27 +165,21 @@ pub(crate) fn suffixes_before(
     Ok(found)
 }
 
-/// Cuts the summaries into the first one and those after it.
-fn split(alloc: Global, all: &[Summary]) -> Result<Suffixes, AllocError>
-    ensures { IfOk result (λ s. s.whole ∷ s.rests ≡ all.now) }
+/// Cuts the summaries, of which there are some, into the first one and those after it. It moves all of them.
+fn split(all: Vec<Summary>) -> Suffixes
+    requires some { 0 < length all.items }
+    ensures { result.whole ∷ result.rests ≡ all.items }
 {
-    match all {
-        [] => Err(AllocError),
-        [first, others @ ..] => {
-            let mut rests = Vec::with_capacity(alloc, others.len())?;
-            push_shared(&mut rests, others)?;
-            let whole = first.share()?;
-            Ok(Suffixes {
-                whole,
-                rests: Seq::of(rests),
-            })
-        }
+    let mut rests = all;
+    let whole = rests.remove(0);
+    Suffixes {
+        whole,
+        rests: Seq::of(rests),
     }
 }
 
 /// Joins the summaries of all suffixes: the new ones, a kept one, and those after it.
 pub(crate) fn joined(
-    alloc: Global,
     news: Vec<Summary>,
     kept: &Summary,
     rests: &[Summary],
@@ -182,7 +189,7 @@ pub(crate) fn joined(
     let mut all = news;
     all.push(kept.share()?)?;
     push_shared(&mut all, rests)?;
-    let suffixes = split(alloc, all.as_slice())?;
+    let suffixes = split(all);
     Ok(suffixes)
 }
 
@@ -209,10 +216,9 @@ pub(crate) fn top_list<L: Ledger>(
     let ended = tables.eval_end(alloc, definition, list, unfinished, steps);
     let end = answered(alloc, path, ended)?;
     let none = Vec::new(alloc);
-    let olds = none.as_slice();
     let news = cells(
-        alloc, language, list, elements, olds, &end, &end, path, steps,
+        alloc, language, list, elements, none, &end, &end, path, steps,
     )?;
-    let all = joined(alloc, news, &end, olds)?;
+    let all = joined(news, &end, &[])?;
     Ok(all)
 }

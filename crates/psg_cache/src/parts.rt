@@ -1,12 +1,12 @@
 //! The parts of trees and of paths.
-ghost use Rattle.std.specs.Prelude.{◌≡◌, ◌<◌, ◌++◌, ◌∷◌, [], length, IfOk, Some, slice_get};
+ghost use Rattle.std.specs.Prelude.{◌≡◌, ◌<◌, ◌^◌, ◌++◌, ◌∷◌, [], length, IfOk, IsOk, Some, slice_get};
 ghost use Rattle.psg_grammar.specs.Fragments.{children_of};
 ghost use Rattle.psg_tree.specs.Shapes.{subtrees};
 ghost use Rattle.psg_cache.specs.Walks.{names_in};
 
 use psg_eval::Tables;
 use psg_grammar::Definition;
-use psg_terms::Txt;
+use psg_terms::{Txt, uncountable};
 use psg_tree::{Part, Shape, Tree, child_at};
 use std::alloc::{AllocError, Global};
 
@@ -73,14 +73,16 @@ pub(crate) fn children(alloc: Global, tree: &Tree) -> Result<Vec<Tree>, AllocErr
     }
 }
 
-/// Returns the step to the child of the number. A path has no step for a number that 32 bits do not hold.
+/// Returns the step to the child of the number. Exactly for a number that 32 bits do not hold a path has no step, and the
+/// call fails as if out of memory.
 pub(crate) fn step_of(number: usize) -> Result<u32, AllocError>
-    ensures { IfOk result (λ step. step ≡ number) }
+    ensures step { IfOk result (λ step. step ≡ number) }
+    ensures fits { number < 2 ^ 32 → IsOk result }
 {
     if number < 0x1_0000_0000 {
         Ok(number as u32)
     } else {
-        Err(AllocError)
+        Err(uncountable(number))
     }
 }
 

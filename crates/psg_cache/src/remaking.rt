@@ -19,7 +19,7 @@ use std::alloc::{AllocError, Global};
 use std::sync::ledger::Ledger;
 
 /// Adds one more owner of each of the notes.
-fn push_notes(made: &mut Vec<Note>, notes: &[Note]) -> Result<(), AllocError>
+pub(crate) fn push_notes(made: &mut Vec<Note>, notes: &[Note]) -> Result<(), AllocError>
     ensures { OnOk result (made.new.items ≡ made.old.items ++ notes.now) }
 {
     for note in notes {
@@ -74,25 +74,15 @@ fn relisted<L: Ledger>(
     ensures err { IfErr result
         (IsStepFault language.entry.definition.now (top_steps language.entry.definition.now path.now made.now)) }
 {
-    let wholes = wholes_of(alloc, below.as_slice())?;
-    let all = wholes.as_slice();
+    let news = below.as_slice();
+    let wholes = wholes_of(alloc, &news[..front])?;
+    let first = wholes.as_slice();
     let kept = old.suffix(behind);
     let rests = old.rests_behind(behind);
     let was = old.suffix(same);
     let olds = suffixes_before(alloc, old, same)?;
-    let before = olds.as_slice();
-    let news = cells(
-        alloc,
-        language,
-        list,
-        &all[..front],
-        before,
-        was,
-        kept,
-        path,
-        steps,
-    )?;
-    let suffixes = joined(alloc, news, kept, rests)?;
+    let made_cells = cells(alloc, language, list, first, olds, was, kept, path, steps)?;
+    let suffixes = joined(made_cells, kept, rests)?;
     let note = made_of(alloc, made, suffixes, below)?;
     Ok(note)
 }

@@ -5,18 +5,20 @@ ghost use Rattle.std.specs.Prelude.{IfErr, IfOk, IsTrue, OnOk};
 ghost use Rattle.psg_grammar.specs.Fragments.{children_of, hole, operator, top_operator};
 ghost use Rattle.psg_grammar.specs.Steps.{steps_of};
 ghost use Rattle.psg_grammar.specs.Work.{work_of};
-ghost use Rattle.psg_cache.specs.Alike.{AreOwnAlike, IsLast, IsPartAlike, TellsAlike, diff_top, hole_number, is_paired};
-ghost use Rattle.psg_cache.specs.Annotated.{Annotated, tree_in, whole_in};
+ghost use Rattle.psg_cache.specs.Alike.{AreOwnAlike, AreUnlike, IsPartAlike, IsSpread, TellsAlike};
+ghost use Rattle.psg_cache.specs.Alike.{diff_top, hole_number, is_paired};
+ghost use Rattle.psg_cache.specs.Annotated.{Annotated, below_in, tree_in, whole_in};
 ghost use Rattle.psg_cache.specs.Diff.{diff_of, list_number, same_some};
-ghost use Rattle.psg_cache.specs.Noted.{IsNoted};
+ghost use Rattle.psg_cache.specs.Noted.{IsNoted, IsNotedAs};
 ghost use Rattle.psg_cache.specs.Notes.{IsFormed};
 ghost use Rattle.psg_cache.specs.Renoting.{IsKeptOr, IsRenoted};
 ghost use Rattle.psg_cache.specs.Walks.{AreNotesOf, IsKnown, IsStepFault, top_steps};
 ghost use Rattle.psg_tree.specs.Shapes.{list_of, with_parts};
 
 use crate::note::{Note, NoteFault};
+use crate::pairing::common_back;
 use crate::parts::{Language, children, longer, step_of};
-use crate::remaking::remade;
+use crate::remaking::{push_notes, remade};
 use crate::topping::topped;
 use crate::walking::walk;
 use psg_terms::Steps;
@@ -219,7 +221,7 @@ fn list_alike(number: u32, own: &[Tree], ends: bool, new: &Tree) -> bool
 
 /// Says whether the trees are alike besides their children: placeholders of one phylum, an operator with equal names,
 /// numbers and texts, or lists of one kind that end alike. It reads the names and texts once.
-fn tops_alike(old: &Tree, new: &Tree) -> bool
+pub(crate) fn tops_alike(old: &Tree, new: &Tree) -> bool
     ensures { TellsAlike result old.now new.now }
 {
     match old.shape() {
@@ -295,20 +297,33 @@ fn reached(last: usize, next: usize, equal: bool) -> usize
 }
 
 /// Returns the lesser number.
-fn lesser(one: usize, two: usize) -> usize
+pub(crate) fn lesser(one: usize, two: usize) -> usize
     ensures within { (result ≤ one) × (result ≤ two) }
     ensures one_of_both { (result ≡ one) ⊎ (result ≡ two) }
 {
     if one < two { one } else { two }
 }
 
-/// Walks the children of the tree after the first ones, as many as `first` says, whose notes there are.
+/// Returns how many first children are the old ones, with one more at the place that is the old one or not.
+fn led(first: usize, place: usize, next: usize, equal: bool) -> usize
+    ensures { (result ≡ first) ⊎ ((result ≡ next) × (first ≡ place) × (equal ≡ true)) }
+{
+    if equal {
+        if first == place {
+            return next;
+        }
+    }
+    first
+}
+
+/// Walks the children of the tree from the number `first` up to `end`. There are the notes of those before them.
 fn walk_others<L: Ledger>(
     alloc: Global,
     language: Language,
     tree: &Tree,
     inner: &[Tree],
     first: usize,
+    end: usize,
     below: &mut Vec<Note>,
     path: &[u32],
     steps: &mut Steps<L>,
@@ -316,15 +331,16 @@ fn walk_others<L: Ledger>(
     requires language { IsKnown language }
     requires formed { IsFormed language.definition.now tree.now }
     requires inner { inner.now ≡ children_of tree.now }
-    requires within { first ≤ length inner.now }
+    requires within { (first ≤ end) × (end ≤ length inner.now) }
     requires first { AreNotesOf language.definition.now (take first inner.now) below.old.items }
-    ensures ok { OnOk result (AreNotesOf language.entry.definition.now (children_of tree.now) below.new.items) }
+    ensures ok { OnOk result (AreNotesOf language.entry.definition.now (take end inner.now) below.new.items) }
     ensures more { OnOk result ((rest : List Annotated) × (below.new.items ≡ below.old.items ++ rest)) }
-    ensures bounded { steps.new + sum_by work_of (take first inner.now) ≤ steps.old + sum_by work_of inner.now }
+    ensures bounded { steps.new + sum_by work_of (take first inner.now)
+        ≤ steps.old + sum_by work_of (take end inner.now) }
     ensures err { IfErr result
         (IsStepFault language.entry.definition.now (steps_of language.entry.definition.now path.now tree.now)) }
 {
-    for i in first..inner.len() {
+    for i in first..end {
         let step = step_of(i)?;
         let place = longer(alloc, path, step)?;
         let note = walk(alloc, language, &inner[i], place.as_slice(), steps)?;
@@ -333,8 +349,53 @@ fn walk_others<L: Ledger>(
     Ok(())
 }
 
+/// Returns the note of a tree whose top is not like the old one's, or that has another number of children. Where the
+/// tops are alike, it is a list that got longer or shorter, whose last suffixes are the old ones.
+fn unlike<L: Ledger>(
+    alloc: Global,
+    language: Language,
+    old: &Note,
+    new: &Tree,
+    below: Vec<Note>,
+    tops: bool,
+    first: usize,
+    last: usize,
+    back: usize,
+    path: &[u32],
+    steps: &mut Steps<L>,
+) -> Result<Note, NoteFault>
+    requires language { IsKnown language }
+    requires noted { IsNoted language.definition.now old.now }
+    requires formed_old { IsFormed language.definition.now (tree_in old.now) }
+    requires formed { IsFormed language.definition.now new.now }
+    requires paired { is_paired (tree_in old.now) new.now ≡ true }
+    requires below { AreNotesOf language.definition.now (children_of new.now) below.items }
+    requires spread { IsSpread old.now new.now below.items first last back }
+    requires told { TellsAlike tops (tree_in old.now) new.now }
+    requires apart { AreUnlike (tree_in old.now) new.now }
+    requires counts { IsTrue tops → length (below_in old.now) ≡ length below.items → ⊥ }
+    ensures ok { IfOk result (IsNotedAs language.entry.definition.now new.now) }
+    ensures bounded { steps.new ≤ steps.old + diff_top (tree_in old.now) new.now }
+    ensures err { IfErr result
+        (IsStepFault language.entry.definition.now (top_steps language.entry.definition.now path.now new.now)) }
+{
+    if !tops {
+        let whole = topped(alloc, language, new, below, path, steps)?;
+        return Ok(whole);
+    }
+    let olds = old.below();
+    let news = below.as_slice();
+    let behind = olds.len() - back;
+    let front = news.len() - back;
+    let note = remade(
+        alloc, language, old, first, behind, front, below, new, path, steps,
+    )?;
+    Ok(note)
+}
+
 /// Returns the note of a tree from those of its children, beside the note of an old one; nothing where the trees are
-/// equal. The children differ up to `last` and no further. Where the tops are alike, only the summaries are made again
+/// equal. The first children and the last ones are the old ones, as many as `first` and `back` say; where there are as
+/// many as before, they differ up to `last` and no further. Where the tops are alike, only the summaries are made again
 /// that a child with another summary changes.
 fn rejoined<L: Ledger>(
     alloc: Global,
@@ -342,7 +403,9 @@ fn rejoined<L: Ledger>(
     old: &Note,
     new: &Tree,
     below: Vec<Note>,
+    first: usize,
     last: usize,
+    back: usize,
     path: &[u32],
     steps: &mut Steps<L>,
 ) -> Result<Option<Note>, NoteFault>
@@ -352,7 +415,7 @@ fn rejoined<L: Ledger>(
     requires formed { IsFormed language.definition.now new.now }
     requires paired { is_paired (tree_in old.now) new.now ≡ true }
     requires below { AreNotesOf language.definition.now (children_of new.now) below.items }
-    requires last { IsLast old.now new.now below.items last }
+    requires spread { IsSpread old.now new.now below.items first last back }
     ensures ok { IfOk result (IsRenoted language.entry.definition.now (tree_in old.now) new.now) }
     ensures bounded { steps.new ≤ steps.old + diff_top (tree_in old.now) new.now }
     ensures err { IfErr result
@@ -364,22 +427,26 @@ fn rejoined<L: Ledger>(
     let tops = tops_alike(old.tree(), new);
     let alike = both(tops, many);
     if !alike {
-        let note = topped(alloc, language, new, below, path, steps)?;
+        let note = unlike(
+            alloc, language, old, new, below, tops, first, last, back, path, steps,
+        )?;
         return Ok(Some(note));
     }
     if last == 0 {
         return Ok(None);
     }
     let front = settled(olds, news, last);
+    let same = lesser(first, front);
     let all = remade(
-        alloc, language, old, 0, front, front, below, new, path, steps,
+        alloc, language, old, same, front, front, below, new, path, steps,
     )?;
     Ok(Some(all))
 }
 
 /// Returns the note of the new tree, or nothing where it is equal to that of the old note. Both are read once, place by
 /// place: equal subtrees at the same places share the old notes, and so do summaries that the changes below leave as
-/// they were.
+/// they were. Where a list got longer or shorter, the last elements that both have in common are found first, and share
+/// the old notes: so the elements of such a list are read once more.
 pub(crate) fn renoted<L: Ledger>(
     alloc: Global,
     language: Language,
@@ -404,8 +471,12 @@ pub(crate) fn renoted<L: Ledger>(
     let notes = old.below();
     let all = children(alloc, new)?;
     let inner = all.as_slice();
-    let many = lesser(notes.len(), inner.len());
+    let back = common_back(alloc, language, old, new, inner)?;
+    let shorter = lesser(notes.len(), inner.len());
+    let many = shorter - back;
+    let end = inner.len() - back;
     let mut below = Vec::new(alloc);
+    let mut first = 0;
     let mut last = 0;
     for i in 0..many {
         let step = step_of(i)?;
@@ -413,10 +484,17 @@ pub(crate) fn renoted<L: Ledger>(
         let before = &notes[i];
         let made = renoted(alloc, language, before, &inner[i], place.as_slice(), steps)?;
         let child = kept_or(before, made)?;
+        first = led(first, i, i + 1, child.equal);
         last = reached(last, i + 1, child.equal);
         below.push(child.note)?;
     }
-    walk_others(alloc, language, new, inner, many, &mut below, path, steps)?;
-    let note = rejoined(alloc, language, old, new, below, last, path, steps)?;
+    walk_others(
+        alloc, language, new, inner, many, end, &mut below, path, steps,
+    )?;
+    let kept = notes.len() - back;
+    push_notes(&mut below, &notes[kept..])?;
+    let note = rejoined(
+        alloc, language, old, new, below, first, last, back, path, steps,
+    )?;
     Ok(note)
 }

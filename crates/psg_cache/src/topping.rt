@@ -1,5 +1,5 @@
 //! The note of a tree from the notes of its children.
-ghost use Rattle.std.specs.Prelude.{◌≡◌, ◌+◌, ◌≤◌, ◌∷◌, [], map, IfErr, IfOk};
+ghost use Rattle.std.specs.Prelude.{◌≡◌, ◌+◌, ◌<◌, ◌≤◌, ◌^◌, ◌∷◌, [], map, IfErr, IfOk, IsOk};
 ghost use Rattle.std.specs.List.{AllByRecursion};
 ghost use Rattle.psg_grammar.specs.Fragments.{children_of};
 ghost use Rattle.psg_eval.specs.Summaries.{AreSummariesOf, IsSummary};
@@ -12,7 +12,7 @@ use crate::listing::{Suffixes, answered, top_list};
 use crate::note::{Note, NoteFault, NoteNode};
 use crate::parts::{Language, names_of};
 use psg_eval::Summary;
-use psg_terms::{Seq, Steps};
+use psg_terms::{Seq, Steps, uncountable};
 use psg_tree::{Shape, Tree};
 use std::alloc::{AllocError, Global};
 use std::sync::ledger::Ledger;
@@ -86,19 +86,28 @@ pub(crate) fn wholes_of(alloc: Global, notes: &[Note]) -> Result<Vec<Summary>, A
     Ok(found)
 }
 
-/// Adds both. It fails, as where memory runs out, if the sum does not fit in 64 bits.
+/// Returns the greater number.
+fn greater(left: u64, right: u64) -> u64
+    ensures { (left ≤ result) × (right ≤ result) }
+{
+    if left < right { right } else { left }
+}
+
+/// Adds both. Exactly where 64 bits do not hold the sum, the call fails as if out of memory.
 fn plus(left: u64, right: u64) -> Result<u64, AllocError>
-    ensures { IfOk result (λ sum. sum ≡ left + right) }
+    ensures sum { IfOk result (λ sum. sum ≡ left + right) }
+    ensures fits { left + right < 2 ^ 64 → IsOk result }
 {
     match left.checked_add(right) {
         Some(sum) => Ok(sum),
-        None => Err(AllocError),
+        None => Err(uncountable(greater(left, right) as usize)),
     }
 }
 
-/// Returns how much the relations in the notes' trees weigh together.
+/// Returns how much the relations in the notes' trees weigh together. It fails exactly where 64 bits do not hold that.
 fn weight_below(notes: &[Note]) -> Result<u64, AllocError>
-    ensures { IfOk result (λ sum. sum ≡ summed weight_in notes.now) }
+    ensures sum { IfOk result (λ sum. sum ≡ summed weight_in notes.now) }
+    ensures fits { summed weight_in notes.now < 2 ^ 64 → IsOk result }
 {
     let mut sum = 0;
     for note in notes {
@@ -107,9 +116,10 @@ fn weight_below(notes: &[Note]) -> Result<u64, AllocError>
     Ok(sum)
 }
 
-/// Returns how much the relations of the summaries weigh together.
+/// Returns how much the relations of the summaries weigh together. It fails exactly where 64 bits do not hold that.
 fn weight_beside(summaries: &[Summary]) -> Result<u64, AllocError>
-    ensures { IfOk result (λ sum. sum ≡ summed own_weight summaries.now) }
+    ensures sum { IfOk result (λ sum. sum ≡ summed own_weight summaries.now) }
+    ensures fits { summed own_weight summaries.now < 2 ^ 64 → IsOk result }
 {
     let mut sum = 0;
     for summary in summaries {
@@ -118,10 +128,13 @@ fn weight_beside(summaries: &[Summary]) -> Result<u64, AllocError>
     Ok(sum)
 }
 
-/// Returns how much all relations in a tree weigh together, from its summaries and the notes of its children.
+/// Returns how much all relations in a tree weigh together, from its summaries and the notes of its children. It fails
+/// exactly where 64 bits do not hold that.
 fn weight_over(suffixes: &Suffixes, below: &[Note]) -> Result<u64, AllocError>
-    ensures { IfOk result (λ sum. sum
+    ensures sum { IfOk result (λ sum. sum
         ≡ summed weight_in below.now + summed own_weight (suffixes.now.whole ∷ suffixes.now.rests)) }
+    ensures fits { summed weight_in below.now + summed own_weight (suffixes.now.whole ∷ suffixes.now.rests) < 2 ^ 64
+        → IsOk result }
 {
     let inside = weight_below(below)?;
     let behind = weight_beside(suffixes.rests.as_slice())?;

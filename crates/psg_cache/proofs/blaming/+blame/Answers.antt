@@ -14,7 +14,7 @@ pub loop-i-preserved : goal.loop-i-preserved
 loop-i-preserved t c =
     blamed_more c.args.path.now c.as_slice.result.now c.below-below.result.now c.loop-i.i c.in_ok-step.step
     c.index-below-i.result c.args.found.now.items c.loop-i.found.items c.blame.new.found.items c.loop-i-test.true
-    c.index-below-i.is c.in_ok-step.ensures (c.as_slice.ensures.value ∙ c.in_ok-place.ensures) c.loop-i.invariant
+    c.index-below-i.is c.in_ok-step.ensures.step (c.as_slice.ensures.value ∙ c.in_ok-place.ensures) c.loop-i.invariant
     c.in_ok-blame.ensures
 
 pub returns-in_ok-push : goal.returns-in_ok-push

@@ -1,4 +1,4 @@
-use Rattle.std.proofs.Common.{◌≡◌, ◌⊎◌, ◌-◌, ◌++◌, ◌∙◌, ap, ap₂, drop, length, take, subst, arith}
+use Rattle.std.proofs.Common.{◌≡◌, ◌≤◌, ◌⊎◌, ◌-◌, ◌++◌, ◌∙◌, ap, drop, length, take, subst, arith}
 use Rattle.std.specs.Prelude.{reverse}
 use Rattle.psg_cache.specs.Renoting.{first_or, IsCellsFault}
 use Rattle.psg_cache.proofs.CellLaws.{cell_answers, cell_fault, cell_takes, cells_more, cells_none, latest_is, suffixes_more, suffixes_none, usual_suffixes, kept_cells, kept_usual}
@@ -73,37 +73,36 @@ turn-preserved g c =
 
 pub returns-clause-ok : goal.returns-clause-ok
 returns-clause-ok g c =
-    let olds = c.args.olds.now in
+    let olds = c.args.olds.items in
     let made = c.turn.made.items in
     let left = c.turn.left in
     let behind = c.args.behind.now in
     let was = c.args.was.now in
+    let before = c.as_slice-before.ensures.value in
     let done = c.is_due.ensures.done c.turn-test.false in
     let slice = c.as_slice.ensures.value in
+    let small : left ≤ length olds = subst (λ os. left ≤ length os) before done.0 in
     let stops : (left ≡ 0) ⊎ (first_or behind (reverse made) ≡ first_or was (drop left olds)) =
-    subst (λ m. (left ≡ 0) ⊎ (first_or behind (reverse m) ≡ first_or was (drop left olds))) slice done.1 in
+    subst (λ os. (left ≡ 0) ⊎ (first_or behind (reverse made) ≡ first_or was (drop left os))) before
+    (subst (λ m. (left ≡ 0) ⊎ (first_or behind (reverse m) ≡ first_or was (drop left c.as_slice-before.result.now))) slice
+    done.1) in
     kept_cells c.args.language.definition.now c.args.list c.args.elements.now behind was c.requires.olds.0 left olds made _
-    c.requires.olds.1 done.0 stops
-    (c.in_ok-push_shared-2.ensures
-    ∙ ap₂ (λ a b. a ++ b) (c.in_ok-push_shared.ensures ∙ ap (λ x. x ++ take left olds) c.in_ok-all.ensures.items)
-    (c.as_slice-turned.ensures.value ∙ c.reverse.ensures.items))
+    c.requires.olds.1 small stops (c.in_ok-all.ensures ∙ ap (λ xs. take left olds ++ xs) c.reverse.ensures.items)
     c.turn.invariant.made
 
 pub returns-clause-usual : goal.returns-clause-usual
 returns-clause-usual g c =
     let def = c.args.language.definition.now in
-    let olds = c.args.olds.now in
+    let olds = c.args.olds.items in
     let made = c.turn.made.items in
     let left = c.turn.left in
     kept_usual def left olds made _ c.requires.old_usual
     (usual_suffixes def c.args.list (reverse made) c.turn.invariant.suffixes)
-    (c.in_ok-push_shared-2.ensures
-    ∙ ap₂ (λ a b. a ++ b) (c.in_ok-push_shared.ensures ∙ ap (λ x. x ++ take left olds) c.in_ok-all.ensures.items)
-    (c.as_slice-turned.ensures.value ∙ c.reverse.ensures.items))
+    (c.in_ok-all.ensures ∙ ap (λ xs. take left olds ++ xs) c.reverse.ensures.items)
 
 pub returns-clause-ticks : goal.returns-clause-ticks
 returns-clause-ticks g c = λ none.
-    let n = ap length none in
+    let n = ap length (c.as_slice-before.ensures.value ∙ none) in
     let done = c.is_due.ensures.done c.turn-test.false in
     let small = done.0 in
     omega (arith, n, small, c.turn.invariant.counted)

@@ -1,4 +1,4 @@
-use Rattle.std.proofs.Common.{◌∙◌, [], sym, subst, arith}
+use Rattle.std.proofs.Common.{[], refl, sym, subst, arith}
 use Rattle.std.specs.List.{AllByRecursion}
 use Rattle.psg_eval.specs.Summaries.{IsSummary}
 use Rattle.psg_cache.specs.Renoting.{AreOfCells}
@@ -36,23 +36,21 @@ returns-in_err-news-clause-err g c =
 pub returns-clause-ok : goal.returns-clause-ok
 returns-clause-ok g c =
     list_topped c.args.language.definition.now c.args.list c.args.unfinished c.args.elements.now
-    c.eval_end-ended.result c.in_ok-end.end c.in_ok-news.news.items _ _ c.as_slice-olds.result.now
+    c.eval_end-ended.result c.in_ok-end.end c.in_ok-news.news.items _ _ []
     c.eval_end-ended.ensures.answer c.eval_end-ended.ensures.summary c.in_ok-end.ensures.ok
-    c.in_ok-news.ensures.ok c.in_ok-news.ensures.usual (c.as_slice-olds.ensures.value ∙ c.new-none.ensures.items)
-    c.in_ok-all.ensures
+    c.in_ok-news.ensures.ok c.in_ok-news.ensures.usual refl c.in_ok-all.ensures
 
 pub cells-requires-clause-olds : goal.cells-requires-clause-olds
 cells-requires-clause-olds g c =
-    let none = c.as_slice-olds.ensures.value ∙ c.new-none.ensures.items in
+    let none = c.new-none.ensures.items in
     (0, subst (AreOfCells c.args.language.definition.now c.args.list [] c.in_ok-end.end) (sym none) tt)
 
 pub cells-requires-clause-old_usual : goal.cells-requires-clause-old_usual
 cells-requires-clause-old_usual g c =
-    let none = c.as_slice-olds.ensures.value ∙ c.new-none.ensures.items in
+    let none = c.new-none.ensures.items in
     subst (AllByRecursion (IsSummary c.args.language.definition.now)) (sym none) tt
 
 pub returns-clause-ticks : goal.returns-clause-ticks
 returns-clause-ticks g c =
-    let none = c.as_slice-olds.ensures.value ∙ c.new-none.ensures.items in
-    let made = c.in_ok-news.ensures.ticks none in
+    let made = c.in_ok-news.ensures.ticks c.new-none.ensures.items in
     omega (arith, made, c.eval_end-ended.ensures.ticks)

@@ -1,5 +1,5 @@
-use Rattle.std.proofs.Common.{◌≡◌, ◌⊎◌, inl, inr, ◌+◌, ◌≤◌, ◌<◌, ap, sym, subst, ◌∙◌, get_or, length, map, drop, take, true, arith}
-use Rattle.std.proofs.lemmas.List.{length-map}
+use Rattle.std.proofs.Common.{◌≡◌, inl, inr, ◌+◌, ◌-◌, ◌≤◌, ◌<◌, ap, sym, subst, ◌∙◌, get_or, length, map, drop, refl, take, true, arith}
+use Rattle.std.proofs.lemmas.List.{length-map, length-take-le}
 use Rattle.psg_grammar.specs.Fragments.{children_of}
 use Rattle.psg_grammar.specs.Steps.{steps_of}
 use Rattle.psg_tree.specs.Shapes.{height}
@@ -11,7 +11,8 @@ use Rattle.psg_cache.proofs.ChildLaws.{child_formed}
 use Rattle.psg_cache.proofs.Counting.{together}
 use Rattle.psg_cache.proofs.PairLaws.{pairs}
 use Rattle.psg_cache.proofs.Passing.{passed}
-use Rattle.psg_cache.proofs.RenoteLaws.{all_behind, all_least, apart_next, behind_next, first_many, front_least, pair_next, put_noted}
+use Rattle.psg_cache.proofs.RenoteLaws.{apart_next, behind_next, first_many, front_least, pair_next, put_noted}
+use Rattle.psg_cache.proofs.SpreadLaws.{led_next, notes_back, pushed_rest, spread_all, spread_least}
 use Rattle.psg_cache.proofs.WalkLaws.{notes-none, notes_more, top_fault, walked_fault}
 use Rattle.psg_cache.proofs.renoting.+renoted.Goals as goal
 
@@ -20,6 +21,7 @@ loop-i-init g t c = record {
   walked = notes-none c.args.language.definition.now c.new-below.result.items c.new-below.ensures.items;
   counted = omega arith;
   small = omega arith;
+  led = (omega arith, refl);
   within = omega arith;
   behind = c.new-below.ensures.items;
   apart = tt;
@@ -32,7 +34,7 @@ renoted-requires g t c κs within =
     let old = c.args.old.now in
     let i = c.loop-i.i in
     let are : c.as_slice-inner.result.now ≡ children_of tree = c.as_slice-inner.ensures.value ∙ c.in_ok-all.ensures in
-    let less = c.lesser-many.ensures.within in
+    let less = c.lesser-shorter.ensures.within in
     let there : i < length c.as_slice-inner.result.now = omega (arith, less.1, c.loop-i-test.true) in
     let h = child_formed def tree c.requires.formed c.as_slice-inner.result.now are i c.index-inner-i.result there
     c.index-inner-i.is in
@@ -62,7 +64,7 @@ loop-i-preserved g t c =
     let i = c.loop-i.i in
     let child = c.index-inner-i.result in
     let before = c.index-notes-i.result in
-    let less = c.lesser-many.ensures.within in
+    let less = c.lesser-shorter.ensures.within in
     let are = c.as_slice-inner.ensures.value ∙ c.in_ok-all.ensures in
     let there : i < length inner = omega (arith, less.1, c.loop-i-test.true) in
     let mine : i < length notes = omega (arith, less.0, c.loop-i-test.true) in
@@ -80,7 +82,11 @@ loop-i-preserved g t c =
     c.loop-i.invariant.within c.reached-last.ensures c.in_ok-child.ensures c.loop-i.invariant.behind in
     let trees : map tree_in notes ≡ children_of (tree_in c.args.old.now) =
     ap (map tree_in) c.below-notes.ensures ∙ own_trees def c.args.old.now c.requires.noted in
+    let lead = led_next notes c.loop-i.below.items c.push.new.self.items i c.loop-i.first c.led-first.result before
+    c.in_ok-child.child.note made c.in_ok-child.child.equal mine c.index-notes-i.is c.in_ok-push.ensures.items many
+    c.loop-i.invariant.led.0 c.led-first.ensures c.in_ok-child.ensures c.loop-i.invariant.led.1 in
     record {
+      led = lead;
       walked =
           notes_more def inner i child c.loop-i.below.items c.push.new.self.items c.in_ok-child.child.note there
           c.index-inner-i.is c.in_ok-push.ensures.items c.loop-i.invariant.walked note;
@@ -100,13 +106,13 @@ returns-in_err-made-clause-err g t c =
     let path = c.args.path.now in
     let tree = c.args.new.now in
     let i = c.loop-i.i in
-    let less = c.lesser-many.ensures.within in
+    let less = c.lesser-shorter.ensures.within in
     let there : i < length c.as_slice-inner.result.now = omega (arith, less.1, c.loop-i-test.true) in
     let are : c.as_slice-inner.result.now ≡ children_of tree = c.as_slice-inner.ensures.value ∙ c.in_ok-all.ensures in
     passed (IsStepFault def (steps_of def path tree)) _ c.in_err-made.field-0.0 c.from_residual-in_err-made.ensures.1
     (walked_fault def path c.in_ok-place.place.items tree c.requires.formed c.as_slice-inner.result.now i
     c.in_ok-step.step c.index-inner-i.result c.loop-i.below.items c.in_err-made.field-0.0 are there
-    c.index-inner-i.is c.in_ok-step.ensures c.in_ok-place.ensures c.loop-i.invariant.walked
+    c.index-inner-i.is c.in_ok-step.ensures.step c.in_ok-place.ensures c.loop-i.invariant.walked
     (subst (λ q. IsStepFault def (steps_of def q c.index-inner-i.result) c.in_err-made.field-0.0)
     c.as_slice.ensures.value c.in_err-made.ensures.err))
 
@@ -116,7 +122,7 @@ returns-in_err-step-clause-bounded g t c =
     let are = c.as_slice-inner.ensures.value ∙ c.in_ok-all.ensures in
     let inner = c.as_slice-inner.result.now in
     let notes = c.below-notes.result.now in
-    let less = c.lesser-many.ensures.within in
+    let less = c.lesser-shorter.ensures.within in
     let paired = (subst (λ t. is_paired t c.args.new.now ≡ true) c.tree.ensures (sym c.are_paired.ensures ∙ c.if-not-are_paired.false)) in
     let small : c.loop-i.i ≤ length notes = omega (arith, less.0, c.loop-i-test.true) in
     let most = front_least def c.args.old.now c.args.new.now notes inner c.requires.noted c.requires.formed_old c.requires.formed
@@ -129,7 +135,7 @@ returns-in_err-place-clause-bounded g t c =
     let are = c.as_slice-inner.ensures.value ∙ c.in_ok-all.ensures in
     let inner = c.as_slice-inner.result.now in
     let notes = c.below-notes.result.now in
-    let less = c.lesser-many.ensures.within in
+    let less = c.lesser-shorter.ensures.within in
     let paired = (subst (λ t. is_paired t c.args.new.now ≡ true) c.tree.ensures (sym c.are_paired.ensures ∙ c.if-not-are_paired.false)) in
     let small : c.loop-i.i ≤ length notes = omega (arith, less.0, c.loop-i-test.true) in
     let most = front_least def c.args.old.now c.args.new.now notes inner c.requires.noted c.requires.formed_old c.requires.formed
@@ -142,7 +148,7 @@ returns-in_err-made-clause-bounded g t c =
     let are = c.as_slice-inner.ensures.value ∙ c.in_ok-all.ensures in
     let inner = c.as_slice-inner.result.now in
     let notes = c.below-notes.result.now in
-    let less = c.lesser-many.ensures.within in
+    let less = c.lesser-shorter.ensures.within in
     let paired = (subst (λ t. is_paired t c.args.new.now ≡ true) c.tree.ensures (sym c.are_paired.ensures ∙ c.if-not-are_paired.false)) in
     let there : c.loop-i.i < length inner = omega (arith, less.1, c.loop-i-test.true) in
     let mine : c.loop-i.i < length notes = omega (arith, less.0, c.loop-i-test.true) in
@@ -159,7 +165,7 @@ returns-in_err-child-clause-bounded g t c =
     let are = c.as_slice-inner.ensures.value ∙ c.in_ok-all.ensures in
     let inner = c.as_slice-inner.result.now in
     let notes = c.below-notes.result.now in
-    let less = c.lesser-many.ensures.within in
+    let less = c.lesser-shorter.ensures.within in
     let paired = (subst (λ t. is_paired t c.args.new.now ≡ true) c.tree.ensures (sym c.are_paired.ensures ∙ c.if-not-are_paired.false)) in
     let there : c.loop-i.i < length inner = omega (arith, less.1, c.loop-i-test.true) in
     let mine : c.loop-i.i < length notes = omega (arith, less.0, c.loop-i-test.true) in
@@ -176,7 +182,7 @@ returns-in_err-push-clause-bounded g t c =
     let are = c.as_slice-inner.ensures.value ∙ c.in_ok-all.ensures in
     let inner = c.as_slice-inner.result.now in
     let notes = c.below-notes.result.now in
-    let less = c.lesser-many.ensures.within in
+    let less = c.lesser-shorter.ensures.within in
     let paired = (subst (λ t. is_paired t c.args.new.now ≡ true) c.tree.ensures (sym c.are_paired.ensures ∙ c.if-not-are_paired.false)) in
     let there : c.loop-i.i < length inner = omega (arith, less.1, c.loop-i-test.true) in
     let mine : c.loop-i.i < length notes = omega (arith, less.0, c.loop-i-test.true) in
@@ -187,17 +193,21 @@ returns-in_err-push-clause-bounded g t c =
     paired c.below-notes.ensures are (c.loop-i.i + 1) small in
     omega (arith, most, more, c.loop-i.invariant.counted, c.renoted.ensures.bounded)
 
+pub common_back-requires-clause-inner : goal.common_back-requires-clause-inner
+common_back-requires-clause-inner g t c = c.as_slice-inner.ensures.value ∙ c.in_ok-all.ensures
+
 pub walk_others-requires-clause-inner : goal.walk_others-requires-clause-inner
 walk_others-requires-clause-inner g t c = c.as_slice-inner.ensures.value ∙ c.in_ok-all.ensures
 
 pub walk_others-requires-clause-within : goal.walk_others-requires-clause-within
-walk_others-requires-clause-within g t c = let less = c.lesser-many.ensures.within in less.1
+walk_others-requires-clause-within g t c =
+    let less = c.lesser-shorter.ensures.within in (omega (arith, less.1), omega arith)
 
 pub walk_others-requires-clause-first : goal.walk_others-requires-clause-first
 walk_others-requires-clause-first g t c =
     let small = c.loop-i.invariant.small in
-    let end : c.loop-i.i ≡ c.lesser-many.result = omega (arith, small, c.loop-i-test.false) in
-    subst (λ k. AreNotesOf c.args.language.definition.now (take k c.as_slice-inner.result.now) c.loop-i.below.items) end
+    let reached : c.loop-i.i ≡ c.lesser-shorter.result - c.in_ok-back.back = omega (arith, small, c.loop-i-test.false) in
+    subst (λ k. AreNotesOf c.args.language.definition.now (take k c.as_slice-inner.result.now) c.loop-i.below.items) reached
     c.loop-i.invariant.walked
 
 pub returns-in_err-walk_others-clause-bounded : goal.returns-in_err-walk_others-clause-bounded
@@ -206,15 +216,36 @@ returns-in_err-walk_others-clause-bounded g t c =
     let are = c.as_slice-inner.ensures.value ∙ c.in_ok-all.ensures in
     let inner = c.as_slice-inner.result.now in
     let notes = c.below-notes.result.now in
-    let less = c.lesser-many.ensures.within in
+    let less = c.lesser-shorter.ensures.within in
+    let shorter = c.lesser-shorter.result in
+    let back = c.in_ok-back.back in
     let paired = (subst (λ t. is_paired t c.args.new.now ≡ true) c.tree.ensures (sym c.are_paired.ensures ∙ c.if-not-are_paired.false)) in
     let small = c.loop-i.invariant.small in
-    let end : c.loop-i.i ≡ c.lesser-many.result = omega (arith, small, c.loop-i-test.false) in
-    let done = ap (λ k. together (take k inner)) end in
-    let pairs_end = ap (λ k. pairs (take k (map tree_in notes)) (take k inner)) end in
-    let most = all_least def c.args.old.now c.args.new.now notes inner c.requires.noted c.requires.formed_old
-    c.requires.formed paired c.below-notes.ensures are c.lesser-many.result less.0 less.1
-    c.lesser-many.ensures.one_of_both in
+    let reached : c.loop-i.i ≡ shorter - back = omega (arith, small, c.loop-i-test.false) in
+    let done = ap (λ k. together (take k inner)) reached in
+    let pairs_end = ap (λ k. pairs (take k (map tree_in notes)) (take k inner)) reached in
+    let most = spread_least def c.args.old.now c.args.new.now notes inner c.requires.noted c.below-notes.ensures are
+    c.requires.formed_old c.requires.formed paired shorter back less.0 less.1 c.lesser-shorter.ensures.one_of_both
+    c.in_ok-back.ensures in
+    omega (arith, most, done, pairs_end, c.loop-i.invariant.counted, c.walk_others.ensures.bounded)
+
+pub returns-in_err-push_notes-clause-bounded : goal.returns-in_err-push_notes-clause-bounded
+returns-in_err-push_notes-clause-bounded g t c =
+    let def = c.args.language.definition.now in
+    let are = c.as_slice-inner.ensures.value ∙ c.in_ok-all.ensures in
+    let inner = c.as_slice-inner.result.now in
+    let notes = c.below-notes.result.now in
+    let less = c.lesser-shorter.ensures.within in
+    let shorter = c.lesser-shorter.result in
+    let back = c.in_ok-back.back in
+    let paired = (subst (λ t. is_paired t c.args.new.now ≡ true) c.tree.ensures (sym c.are_paired.ensures ∙ c.if-not-are_paired.false)) in
+    let small = c.loop-i.invariant.small in
+    let reached : c.loop-i.i ≡ shorter - back = omega (arith, small, c.loop-i-test.false) in
+    let done = ap (λ k. together (take k inner)) reached in
+    let pairs_end = ap (λ k. pairs (take k (map tree_in notes)) (take k inner)) reached in
+    let most = spread_least def c.args.old.now c.args.new.now notes inner c.requires.noted c.below-notes.ensures are
+    c.requires.formed_old c.requires.formed paired shorter back less.0 less.1 c.lesser-shorter.ensures.one_of_both
+    c.in_ok-back.ensures in
     omega (arith, most, done, pairs_end, c.loop-i.invariant.counted, c.walk_others.ensures.bounded)
 
 pub returns-in_err-note-clause-bounded : goal.returns-in_err-note-clause-bounded
@@ -223,15 +254,17 @@ returns-in_err-note-clause-bounded g t c =
     let are = c.as_slice-inner.ensures.value ∙ c.in_ok-all.ensures in
     let inner = c.as_slice-inner.result.now in
     let notes = c.below-notes.result.now in
-    let less = c.lesser-many.ensures.within in
+    let less = c.lesser-shorter.ensures.within in
+    let shorter = c.lesser-shorter.result in
+    let back = c.in_ok-back.back in
     let paired = (subst (λ t. is_paired t c.args.new.now ≡ true) c.tree.ensures (sym c.are_paired.ensures ∙ c.if-not-are_paired.false)) in
     let small = c.loop-i.invariant.small in
-    let end : c.loop-i.i ≡ c.lesser-many.result = omega (arith, small, c.loop-i-test.false) in
-    let done = ap (λ k. together (take k inner)) end in
-    let pairs_end = ap (λ k. pairs (take k (map tree_in notes)) (take k inner)) end in
-    let most = all_least def c.args.old.now c.args.new.now notes inner c.requires.noted c.requires.formed_old
-    c.requires.formed paired c.below-notes.ensures are c.lesser-many.result less.0 less.1
-    c.lesser-many.ensures.one_of_both in
+    let reached : c.loop-i.i ≡ shorter - back = omega (arith, small, c.loop-i-test.false) in
+    let done = ap (λ k. together (take k inner)) reached in
+    let pairs_end = ap (λ k. pairs (take k (map tree_in notes)) (take k inner)) reached in
+    let most = spread_least def c.args.old.now c.args.new.now notes inner c.requires.noted c.below-notes.ensures are
+    c.requires.formed_old c.requires.formed paired shorter back less.0 less.1 c.lesser-shorter.ensures.one_of_both
+    c.in_ok-back.ensures in
     omega (arith, most, done, pairs_end, c.loop-i.invariant.counted, c.walk_others.ensures.bounded, c.rejoined.ensures.bounded)
 
 pub returns-clause-bounded : goal.returns-clause-bounded
@@ -240,54 +273,99 @@ returns-clause-bounded g t c =
     let are = c.as_slice-inner.ensures.value ∙ c.in_ok-all.ensures in
     let inner = c.as_slice-inner.result.now in
     let notes = c.below-notes.result.now in
-    let less = c.lesser-many.ensures.within in
+    let less = c.lesser-shorter.ensures.within in
+    let shorter = c.lesser-shorter.result in
+    let back = c.in_ok-back.back in
     let paired = (subst (λ t. is_paired t c.args.new.now ≡ true) c.tree.ensures (sym c.are_paired.ensures ∙ c.if-not-are_paired.false)) in
     let small = c.loop-i.invariant.small in
-    let end : c.loop-i.i ≡ c.lesser-many.result = omega (arith, small, c.loop-i-test.false) in
-    let done = ap (λ k. together (take k inner)) end in
-    let pairs_end = ap (λ k. pairs (take k (map tree_in notes)) (take k inner)) end in
-    let most = all_least def c.args.old.now c.args.new.now notes inner c.requires.noted c.requires.formed_old
-    c.requires.formed paired c.below-notes.ensures are c.lesser-many.result less.0 less.1
-    c.lesser-many.ensures.one_of_both in
+    let reached : c.loop-i.i ≡ shorter - back = omega (arith, small, c.loop-i-test.false) in
+    let done = ap (λ k. together (take k inner)) reached in
+    let pairs_end = ap (λ k. pairs (take k (map tree_in notes)) (take k inner)) reached in
+    let most = spread_least def c.args.old.now c.args.new.now notes inner c.requires.noted c.below-notes.ensures are
+    c.requires.formed_old c.requires.formed paired shorter back less.0 less.1 c.lesser-shorter.ensures.one_of_both
+    c.in_ok-back.ensures in
     omega (arith, most, done, pairs_end, c.loop-i.invariant.counted, c.walk_others.ensures.bounded, c.rejoined.ensures.bounded)
 
 pub rejoined-requires-clause-paired : goal.rejoined-requires-clause-paired
 rejoined-requires-clause-paired g t c = (subst (λ t. is_paired t c.args.new.now ≡ true) c.tree.ensures (sym c.are_paired.ensures ∙ c.if-not-are_paired.false))
 
-pub rejoined-requires-clause-last : goal.rejoined-requires-clause-last
-rejoined-requires-clause-last g t c =
+pub rejoined-requires-clause-below : goal.rejoined-requires-clause-below
+rejoined-requires-clause-below g t c =
     let def = c.args.language.definition.now in
     let are = c.as_slice-inner.ensures.value ∙ c.in_ok-all.ensures in
     let inner = c.as_slice-inner.result.now in
     let notes = c.below-notes.result.now in
-    let less = c.lesser-many.ensures.within in
-    let paired = (subst (λ t. is_paired t c.args.new.now ≡ true) c.tree.ensures (sym c.are_paired.ensures ∙ c.if-not-are_paired.false)) in
-    let n = first_many def inner c.loop-i.i c.lesser-many.result c.loop-i.below.items c.loop-i.invariant.walked
-    c.loop-i.invariant.small (omega (arith, c.loop-i-test.false)) less.1 in
+    let less = c.lesser-shorter.ensures.within in
+    let shorter = c.lesser-shorter.result in
+    let back = c.in_ok-back.back in
+    notes_back def c.args.old.now c.args.new.now notes inner c.requires.noted c.below-notes.ensures are
+    c.walk_others.new.below.items c.push_notes.new.made.items back c.in_ok-back.ensures c.in_ok-walk_others.ensures.ok
+    (pushed_rest (length notes - back) notes c.walk_others.new.below.items c.push_notes.new.made.items c.in_ok-push_notes.ensures)
+
+pub rejoined-requires-clause-spread : goal.rejoined-requires-clause-spread
+rejoined-requires-clause-spread g t c =
+    let def = c.args.language.definition.now in
+    let are = c.as_slice-inner.ensures.value ∙ c.in_ok-all.ensures in
+    let inner = c.as_slice-inner.result.now in
+    let notes = c.below-notes.result.now in
+    let less = c.lesser-shorter.ensures.within in
+    let shorter = c.lesser-shorter.result in
+    let back = c.in_ok-back.back in
     let small = c.loop-i.invariant.small in
-    let end : c.loop-i.i ≡ c.lesser-many.result = omega (arith, small, c.loop-i-test.false) in
-    let here : c.loop-i.i ≡ length c.loop-i.below.items = omega (arith, n, end) in
-    let grown = c.in_ok-walk_others.ensures.more in
-    let below = c.walk_others.new.below.items in
-    let count : length below ≡ length inner =
-    sym (length-map below tree_in) ∙ ap length c.in_ok-walk_others.ensures.ok.0 ∙ sym (ap length are) in
-    let longer = ap length grown.1 in
-    let either : (c.lesser-many.result ≡ length notes) ⊎ (c.lesser-many.result ≡ length below) =
-    elim c.lesser-many.ensures.one_of_both [ inl e ↦ inl e | inr e ↦ inr (e ∙ sym count) ] in
-    let front = c.loop-i.invariant.behind ∙ ap (λ k. drop c.loop-i.last (take k notes)) end in
-    record {
-      within = (let w = c.loop-i.invariant.within in omega (arith, w, count, end, less.1));
-      behind = λ long.
-          all_behind notes c.loop-i.below.items below grown.0 c.lesser-many.result c.loop-i.last n front grown.1 either
-          (ap length c.below-notes.ensures ∙ long) ∙ ap (drop c.loop-i.last) c.below-notes.ensures;
-      apart = subst (DifferBefore c.loop-i.last (children_of (tree_in c.args.old.now))) are c.loop-i.invariant.apart;
-    }
+    let reached : c.loop-i.i ≡ shorter - back = omega (arith, small, c.loop-i-test.false) in
+    let count : length c.loop-i.below.items ≡ shorter - back =
+    first_many def inner c.loop-i.i (shorter - back) c.loop-i.below.items c.loop-i.invariant.walked small
+    (omega (arith, c.loop-i-test.false)) (omega (arith, less.1)) in
+    let walked = c.walk_others.new.below.items in
+    let long : length walked ≡ length inner - back =
+    sym (length-map walked tree_in) ∙ ap length c.in_ok-walk_others.ensures.ok.0
+    ∙ length-take-le (length inner - back) inner (omega arith) in
+    let lead = c.loop-i.invariant.led in
+    let far = c.loop-i.invariant.within in
+    spread_all c.args.old.now c.args.new.now notes c.loop-i.below.items walked c.push_notes.new.made.items inner shorter
+    c.loop-i.first c.loop-i.last back c.below-notes.ensures are less.0 less.1 c.lesser-shorter.ensures.one_of_both
+    c.in_ok-back.ensures count long c.in_ok-walk_others.ensures.more (pushed_rest (length notes - back) notes c.walk_others.new.below.items c.push_notes.new.made.items c.in_ok-push_notes.ensures)
+    (omega (arith, lead.0, reached)) lead.1 (omega (arith, far, reached))
+    (c.loop-i.invariant.behind ∙ ap (λ k. drop c.loop-i.last (take k notes)) reached)
+    (subst (DifferBefore c.loop-i.last (children_of (tree_in c.args.old.now))) are c.loop-i.invariant.apart)
 
 pub returns-in_err-note-clause-err : goal.returns-in_err-note-clause-err
 returns-in_err-note-clause-err g t c =
-    let def = c.args.language.definition.now in
     let path = c.args.path.now in
     let tree = c.args.new.now in
+    let def = c.args.language.definition.now in
+    let are = c.as_slice-inner.ensures.value ∙ c.in_ok-all.ensures in
+    let inner = c.as_slice-inner.result.now in
+    let notes = c.below-notes.result.now in
+    let less = c.lesser-shorter.ensures.within in
+    let shorter = c.lesser-shorter.result in
+    let back = c.in_ok-back.back in
+    let whole = notes_back def c.args.old.now c.args.new.now notes inner c.requires.noted c.below-notes.ensures are
+    c.walk_others.new.below.items c.push_notes.new.made.items back c.in_ok-back.ensures c.in_ok-walk_others.ensures.ok
+    (pushed_rest (length notes - back) notes c.walk_others.new.below.items c.push_notes.new.made.items c.in_ok-push_notes.ensures) in
     passed (IsStepFault def (steps_of def path tree)) _ c.in_err-note.field-0.0 c.from_residual-in_err-note.ensures.1
-    (top_fault def path tree c.requires.formed c.walk_others.new.below.items c.in_err-note.field-0.0
-    c.in_ok-walk_others.ensures.ok c.in_err-note.ensures.err)
+    (top_fault def path tree c.requires.formed c.push_notes.new.made.items c.in_err-note.field-0.0 whole
+    c.in_err-note.ensures.err)
+
+pub overflow_sub-many : goal.overflow_sub-many
+overflow_sub-many g t c =
+    let old_within = c.in_ok-back.ensures.old_within in
+    let new_within = c.in_ok-back.ensures.new_within in
+    let many = ap length c.below-notes.ensures in
+    let count = ap length (c.as_slice-inner.ensures.value ∙ c.in_ok-all.ensures) in
+    elim c.lesser-shorter.ensures.one_of_both [
+      | inl e ↦ (omega (arith, e, old_within, many))
+      | inr e ↦ (omega (arith, e, new_within, count))
+    ]
+
+pub overflow_sub-end : goal.overflow_sub-end
+overflow_sub-end g t c =
+    let new_within = c.in_ok-back.ensures.new_within in
+    let count = ap length (c.as_slice-inner.ensures.value ∙ c.in_ok-all.ensures) in
+    omega (arith, new_within, count)
+
+pub overflow_sub-kept : goal.overflow_sub-kept
+overflow_sub-kept g t c =
+    let old_within = c.in_ok-back.ensures.old_within in
+    let many = ap length c.below-notes.ensures in
+    omega (arith, old_within, many)

@@ -14,6 +14,7 @@ invariant-loop-i g l =
       walked : AreNotesOf l.language.definition.now (take l.i l.inner) l.below.items;
       counted : l.steps ≤ l.fn.steps + pairs (take l.i (map tree_in l.notes)) (take l.i l.inner);
       small : l.i ≤ l.many;
+      led : (l.first ≤ l.i) × (take l.first l.below.items ≡ take l.first l.notes);
       within : l.last ≤ l.i;
       behind : drop l.last l.below.items ≡ drop l.last (take l.i l.notes);
       apart : DifferBefore l.last (children_of (tree_in l.old)) l.inner;

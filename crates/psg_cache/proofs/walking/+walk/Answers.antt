@@ -46,7 +46,7 @@ returns-in_err-note-clause-err g t c =
     passed (IsStepFault def (steps_of def path tree)) _ c.in_err-note.field-0.0 c.from_residual-in_err-note.ensures.1
     (walked_fault def path c.in_ok-place.place.items tree c.requires.formed c.as_slice-inner.result.now
     c.loop-i.i c.in_ok-step.step c.index-inner-i.result c.loop-i.below.items c.in_err-note.field-0.0 are
-    c.loop-i-test.true c.index-inner-i.is c.in_ok-step.ensures c.in_ok-place.ensures c.loop-i.invariant.walked
+    c.loop-i-test.true c.index-inner-i.is c.in_ok-step.ensures.step c.in_ok-place.ensures c.loop-i.invariant.walked
     (subst (λ q. IsStepFault def (steps_of def q c.index-inner-i.result) c.in_err-note.field-0.0)
     c.as_slice.ensures.value c.in_err-note.ensures.err))
 
