@@ -13,7 +13,7 @@ use Rattle.psg_eval.specs.declared.question.FocusFault.{FocusFault}
 use Rattle.psg_eval.specs.declared.question.FocusFault.TheVariants as questions
 use Rattle.psg_eval.specs.declared.summary.SummaryParts.{SummaryParts}
 use Rattle.psg_eval.specs.Frames.{CanClimb, TakesBefore}
-use Rattle.psg_menu.specs.declared.sharing.Entry.{Entry}
+use Rattle.psg_menu.specs.declared.entries.Entry.{Entry}
 use Rattle.psg_menu.specs.declared.sharing.Level.{Level}
 use Rattle.psg_eval.proofs.FrameLaws.{list_takes, operator_takes}
 use Rattle.psg_menu.specs.Sharing.{Rise, of_node, of_first, of_before, rises_in, rises_of, AreApart, ArePlaced, CanRaise, CanRise, IsLevel, IsLevelAnswer, IsUsual, IsWithin, Reaches}

@@ -7,23 +7,21 @@ use Rattle.std.specs.Prelude.{Result, Ok, Err}
 use Rattle.psg_terms.specs.Names.{Name}
 use Rattle.psg_terms.specs.Relations.{IsIn, first, later}
 use Rattle.psg_grammar.specs.declared.types.Kind.{Kind}
-use Rattle.psg_grammar.specs.declared.types.Kind.TheVariants as kinds
 use Rattle.psg_grammar.specs.declared.types.Definition.{Definition}
 use Rattle.psg_grammar.specs.Fragments.{Fragment}
 use Rattle.psg_grammar.specs.Sound.{IsSound}
 use Rattle.psg_grammar.proofs.SoundParts.{phylum_in}
 use Rattle.psg_scope.specs.declared.header.NameCol.{NameCol}
 use Rattle.psg_scope.specs.declared.header.Header.{Header}
-use Rattle.psg_columns.specs.Fewer.{FewerColumns}
-use Rattle.psg_columns.proofs.FewerLaws.{fewer}
-use Rattle.psg_eval.specs.declared.frame.Frame.TheVariants as frames
+use Rattle.psg_relation.specs.Fewer.{FewerColumns}
+use Rattle.psg_relation.proofs.FewerLaws.{fewer}
 use Rattle.psg_eval.specs.declared.question.FocusFault.{FocusFault}
 use Rattle.psg_eval.specs.declared.question.FocusFault.TheVariants as questions
 use Rattle.psg_eval.specs.declared.summary.EvalFault.{EvalFault}
 use Rattle.psg_eval.specs.declared.summary.EvalFault.TheVariants as faults
 use Rattle.psg_eval.specs.declared.summary.SummaryParts.{SummaryParts}
 use Rattle.psg_eval.specs.Renamed.{IsRenamed}
-use Rattle.psg_menu.specs.declared.sharing.Entry.{Entry}
+use Rattle.psg_menu.specs.declared.entries.Entry.{Entry}
 use Rattle.psg_menu.specs.declared.sharing.Level.{Level}
 use Rattle.psg_menu.specs.Sharing.{Rise, of_node, of_first, of_before, has_key, meets, AreApart, ArePlaced, CanRise, GoesOn, straight, parting, IsLevel, IsLevelAnswer, IsNamed, IsPlacedAt, IsRaised, IsRaisedFrom, IsUsual, Leads, OwnFails, StandsAs}
 use Rattle.psg_menu.proofs.FormedTrials.{empty, empty_usual}

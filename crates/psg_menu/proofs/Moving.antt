@@ -1,5 +1,5 @@
 -- How a candidate's summary goes on over a rung.
-use Rattle.std.proofs.Common.{◌≡◌, ℕ, zero, suc, ◌+◌, ◌<◌, Bool, true, false, List, [], ◌∷◌, ◌++◌, get_or, length, Option, Some, slice_get, refl, ap, sym, ◌∙◌, subst, arith}
+use Rattle.std.proofs.Common.{◌≡◌, ℕ, zero, suc, ◌<◌, Bool, true, false, List, [], ◌∷◌, ◌++◌, get_or, length, Option, Some, slice_get, refl, ap, sym, ◌∙◌, subst, arith}
 use Rattle.psg_terms.proofs.Lists.{each_in}
 use Rattle.std.specs.List.{AllByRecursion}
 use Rattle.std.specs.Prelude.{IfOk, Result, Ok, Err}
@@ -14,8 +14,8 @@ use Rattle.psg_eval.specs.declared.summary.EvalFault.TheVariants as faults
 use Rattle.psg_eval.specs.declared.summary.SummaryParts.{SummaryParts}
 use Rattle.psg_eval.specs.Questions.{IsAsked}
 use Rattle.psg_eval.specs.Renamed.{IsRenamed}
-use Rattle.psg_menu.specs.declared.sharing.Entry.{Entry}
-use Rattle.psg_menu.specs.declared.sharing.Move.{Move}
+use Rattle.psg_menu.specs.declared.entries.Entry.{Entry}
+use Rattle.psg_menu.specs.declared.entries.Move.{Move}
 use Rattle.psg_scope.specs.declared.header.Header.{Header}
 use Rattle.psg_eval.specs.Summaries.{IsSummary}
 use Rattle.psg_menu.specs.Sharing.{Rise, CanRise, GoesOn, straight, parting, IsMove, IsPut, IsRaised, IsRaisedFrom, IsUsual, TakesRise, has_key, meets}
@@ -40,12 +40,14 @@ entry_at P (z ∷ xs) zero y h l d = subst P (sym d) h.0
 entry_at P (z ∷ xs) (suc i) y h l d = entry_at P xs i y h.1 (omega (arith, l)) d
 
 -- the move that was read
-pub move_found : (moves : List Move) (i from : ℕ) (d : Move) → i < length moves → (get_or moves i d).from ≡ from → (m : Move) × IsIn m moves × (m.from ≡ from) × (m.to ≡ (get_or moves i d).to)
-move_found [] i from d l e = absurd (omega (arith, l))
-move_found (m ∷ moves) zero from d l e = (m, first, e, refl)
-move_found (m ∷ moves) (suc i) from d l e =
-    let (x, there, a, b) = move_found moves i from d (omega (arith, l)) e in
-    (x, later there, a, b)
+pub move_got : (moves ms : List Move) (i from : ℕ) (d : Move) → ms ≡ moves → i < length ms → (get_or ms i d).from ≡ from → (m : Move) × IsIn m moves × (m.from ≡ from) × (m.to ≡ (get_or ms i d).to)
+move_got moves ms i from d same l e = subst (λ xs. (m : Move) × IsIn m xs × (m.from ≡ from) × (m.to ≡ (get_or ms i d).to)) same (found ms i l e) where
+  found : (xs : List Move) (k : ℕ) → k < length xs → (get_or xs k d).from ≡ from → (m : Move) × IsIn m xs × (m.from ≡ from) × (m.to ≡ (get_or xs k d).to)
+  found [] k l e = absurd (omega (arith, l))
+  found (m ∷ xs) zero l e = (m, first, e, refl)
+  found (m ∷ xs) (suc k) l e =
+      let (x, there, a, b) = found xs k (omega (arith, l)) e in
+      (x, later there, a, b)
 
 -- no key has the name
 pub key_free : (h : Header) (own : SummaryParts) (n : Name) (b : Bool) → h ≡ own.header → b ≡ has_key h n → b ≡ false → has_key own.header n ≡ false

@@ -18,7 +18,7 @@ use Rattle.psg_eval.specs.Climbing.{IsReached}
 use Rattle.psg_eval.specs.Frames.{AllSummariesBut}
 use Rattle.psg_eval.specs.Summaries.{Answers, IsSummaryOf}
 use Rattle.psg_eval.specs.Trees.{IsNode}
-use Rattle.psg_menu.specs.declared.sharing.Entry.{Entry}
+use Rattle.psg_menu.specs.declared.entries.Entry.{Entry}
 use Rattle.psg_menu.specs.Sharing.{Rise, of_node, of_first, of_before, IsRaised, IsRaisedTo, TakesRise}
 use Rattle.psg_menu.proofs.WideTrees.{own_from, own_to}
 use Rattle.psg_menu.proofs.Ways.{node_steps}

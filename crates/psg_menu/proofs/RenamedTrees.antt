@@ -18,7 +18,7 @@ use Rattle.psg_scope.specs.declared.header.NameCol.{NameCol}
 use Rattle.psg_scope.specs.Headers.{AreRising, IsKey, declare_one, is_declared, keep_if, key_of, keys}
 use Rattle.psg_scope.proofs.HeaderLaws.{header-among, header-rising, keys-whole, whole-append}
 use Rattle.psg_scope.proofs.KeyLists.{below-among, in_order-among, in_order-rising, in_order-whole, key_is, key_refl, less-differs, or-swap, rising-same}
-use Rattle.psg_columns.specs.Fewer.{FewerColumns}
+use Rattle.psg_relation.specs.Fewer.{FewerColumns}
 use Rattle.psg_unify.specs.Pairs.{Pair as Columns}
 use Rattle.psg_eval.specs.declared.summary.SummaryParts.{SummaryParts}
 use Rattle.psg_eval.specs.Renamed.{IsRenamed, moved_names, moved_places, other_names, other_places}

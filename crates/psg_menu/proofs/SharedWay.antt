@@ -1,5 +1,5 @@
 -- From the way of the name that stands for all candidates to that of a candidate.
-use Rattle.std.proofs.Common.{◌≡◌, ◌↔◌, inl, inr, ℕ, zero, suc, ◌+◌, ◌≤◌, Bool, true, false, List, [], ◌∷◌, ◌++◌, map, bytes_eq, option_map, slice_get, refl, ap, ap₂, sym, ◌∙◌, subst, true≢false, IsTrue}
+use Rattle.std.proofs.Common.{◌≡◌, ◌↔◌, inl, inr, ℕ, zero, suc, ◌≤◌, Bool, true, false, List, [], ◌∷◌, ◌++◌, map, bytes_eq, option_map, slice_get, refl, ap, ap₂, sym, ◌∙◌, subst, true≢false, IsTrue}
 use Rattle.std.proofs.lemmas.Option.{slice_get-map}
 use Rattle.std.proofs.lemmas.List.{map-append}
 use Rattle.std.proofs.lemmas.Bool.{false_from_ne_true, or_cases, or_parts}
@@ -18,7 +18,7 @@ use Rattle.psg_scope.specs.declared.header.NameCol.{NameCol}
 use Rattle.psg_scope.specs.declared.header.Header.{Header}
 use Rattle.psg_scope.specs.Headers.{key_of, keys}
 use Rattle.psg_scope.proofs.KeyLists.{key_is, key_refl}
-use Rattle.psg_columns.specs.Fewer.{FewerColumns}
+use Rattle.psg_relation.specs.Fewer.{FewerColumns}
 use Rattle.psg_eval.specs.declared.summary.EvalFault.TheVariants as faults
 use Rattle.psg_eval.specs.declared.summary.SummaryParts.{SummaryParts}
 use Rattle.psg_eval.specs.Frames.{AllSummariesBut}
@@ -90,7 +90,7 @@ module _ (def : Definition) (sound : IsSound def) (fewer : FewerColumns def.sign
   empty : p.to [] ≡ []
   empty = swap_other n star [] some_n some_star
 
-  -- the name is or_parts
+  -- the name is neither of the two
   name_stays : (m : Name) → bytes_eq m n ≡ false → bytes_eq m star ≡ false → p.to m ≡ m
   name_stays m a b = swap_other n star m (turn m n a) (turn m star b) where
     turn : (x y : Name) → bytes_eq x y ≡ false → bytes_eq y x ≡ false

@@ -19,20 +19,19 @@ use Rattle.psg_grammar.specs.Steps.{PassesAt, last_step}
 use Rattle.psg_grammar.specs.WellFormed.{IsName}
 use Rattle.psg_scope.specs.declared.header.NameCol.{NameCol}
 use Rattle.psg_scope.specs.Headers.{keys}
-use Rattle.psg_columns.specs.Fewer.{FewerColumns}
-use Rattle.psg_columns.proofs.FewerLaws.{fewer}
+use Rattle.psg_relation.specs.Fewer.{FewerColumns}
+use Rattle.psg_relation.proofs.FewerLaws.{fewer}
 use Rattle.psg_eval.specs.declared.frame.Frame.{Frame}
 use Rattle.psg_eval.specs.declared.question.FocusFault.{FocusFault}
 use Rattle.psg_eval.specs.declared.question.FocusFault.TheVariants as questions
 use Rattle.psg_eval.specs.declared.summary.EvalFault.{EvalFault}
-use Rattle.psg_eval.specs.declared.summary.EvalFault.TheVariants as faults
 use Rattle.psg_eval.specs.declared.summary.SummaryParts.{SummaryParts}
 use Rattle.psg_eval.specs.Frames.{StandAt}
 use Rattle.psg_eval.specs.Questions.{IsAsked}
 use Rattle.psg_eval.specs.Summaries.{Answers, AreSummariesOf, IsSummary, IsSummaryOf, StaysWithin, are_names, slot_kinds}
 use Rattle.psg_eval.specs.Trees.{IsNode}
 use Rattle.psg_renaming.proofs.Law.{no_word}
-use Rattle.psg_menu.specs.declared.sharing.Entry.{Entry}
+use Rattle.psg_menu.specs.declared.entries.Entry.{Entry}
 use Rattle.psg_menu.specs.declared.sharing.Level.{Level}
 use Rattle.psg_menu.specs.Answers.{IsNamesAnswer}
 use Rattle.psg_menu.specs.Sharing.{AreApart, FailsOn, IsLevel, IsLevelAnswer, IsNamed, IsUsual, IsWholeAnswer, IsWithin, Reaches, rises_of}

@@ -16,7 +16,7 @@ use Rattle.psg_scope.specs.declared.header.NameCol.{NameCol}
 use Rattle.psg_scope.specs.Headers.{IsKey, is_declared, key_of, keys}
 use Rattle.psg_scope.proofs.HeaderLaws.{header-among}
 use Rattle.psg_scope.proofs.KeyLists.{key_refl}
-use Rattle.psg_columns.specs.Fewer.{FewerColumns}
+use Rattle.psg_relation.specs.Fewer.{FewerColumns}
 use Rattle.psg_eval.specs.declared.summary.SummaryParts.{SummaryParts}
 use Rattle.psg_eval.specs.Summaries.{IsHeaderOf, IsSummaryOf}
 use Rattle.psg_eval.specs.Trees.{seen_in}

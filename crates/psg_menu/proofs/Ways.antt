@@ -1,5 +1,5 @@
 -- The evaluations of a climb, one by one: what frames say of them, and which of their steps pass the limit.
-use Rattle.std.proofs.Common.{◌≡◌, ◌↔◌, inl, inr, ℕ, zero, suc, ◌+◌, Bool, List, [], ◌∷◌, ◌++◌, map, length, slice_get, Some, refl, ap, ap₂, sym, subst, append_assoc, IsTrue}
+use Rattle.std.proofs.Common.{◌≡◌, ◌↔◌, inl, inr, ℕ, zero, suc, Bool, List, [], ◌∷◌, ◌++◌, map, length, slice_get, Some, refl, ap, ap₂, sym, subst, append_assoc, IsTrue}
 use Rattle.std.proofs.lemmas.List.{append-nil}
 use Rattle.std.specs.Prelude.{Ok, Err}
 use Rattle.psg_terms.specs.Names.{Name}

@@ -80,8 +80,6 @@ separators_push (l ∷ xs) x = ap (λ ns. l.separator ∷ ns) (separators_push x
 pub one_operator : (m : ℕ) (o : Operator) → AreBounded m (words_in o.items) → AreBounded m (operator_words (o ∷ []))
 one_operator m o h = bounded_both m (words_in o.items) [] h tt
 
--- ---- name names_in_count
-
 -- ---- runs
 
 run_length : (n : ℕ) → length (run n) ≡ n

@@ -7,9 +7,9 @@ use Rattle.psg_terms.specs.Relations.{IsIn}
 use Rattle.psg_grammar.specs.declared.types.Kind.{Kind}
 use Rattle.psg_grammar.specs.declared.types.Kind.TheVariants as kinds
 use Rattle.psg_grammar.specs.Steps.{PassesAt, last_step}
-use Rattle.psg_menu.specs.declared.sharing.Entry.{Entry}
+use Rattle.psg_menu.specs.declared.entries.Entry.{Entry}
 use Rattle.psg_menu.specs.declared.sharing.Level.{Level}
-use Rattle.psg_menu.specs.declared.sharing.Move.{Move}
+use Rattle.psg_menu.specs.declared.entries.Move.{Move}
 use Rattle.psg_menu.specs.declared.sharing.Rung.{Rung}
 use Rattle.psg_menu.specs.declared.sharing.Rung.TheVariants as rungs
 use Rattle.psg_grammar.specs.declared.types.Definition.{Definition}

@@ -5,11 +5,11 @@ ghost use Rattle.psg_grammar.specs.Fragments.{ending};
 ghost use Rattle.psg_grammar.specs.Insertion.{blank, may_be_unfinished};
 ghost use Rattle.psg_grammar.specs.Kinds.{HasKind};
 ghost use Rattle.psg_grammar.specs.Sound.{IsSound};
-ghost use Rattle.psg_eval.specs.SpaceTables.{AreDeclaringSpaces};
+ghost use Rattle.psg_eval.specs.Starts.{AreTables};
 ghost use Rattle.psg_eval.specs.Summaries.{Answers, IsSummary, slot_kinds};
 ghost use Rattle.psg_menu.specs.Trials.{IsBlanksAnswer};
 
-use psg_eval::{EvalFault, FocusFault, Summary, asked, eval_end, eval_hole};
+use psg_eval::{EvalFault, FocusFault, Summary, Tables, asked};
 use psg_grammar::{Definition, Item, Kind};
 use psg_terms::Steps;
 use std::alloc::{AllocError, Global};
@@ -19,12 +19,12 @@ use std::sync::ledger::Ledger;
 fn new_list<L: Ledger>(
     alloc: Global,
     definition: &Definition,
-    spaces: &[Vec<u32>],
+    tables: &Tables,
     list: u32,
     steps: &mut Steps<L>,
 ) -> Result<Summary, EvalFault>
     requires sound { IsSound definition.now }
-    requires spaces { AreDeclaringSpaces definition.now spaces.now }
+    requires tables { AreTables definition.now tables.now }
     requires list { list < length definition.now.lists }
     ensures answer { Answers definition.now
         (ending list (may_be_unfinished (slice_get definition.now.lists list))) result }
@@ -32,28 +32,27 @@ fn new_list<L: Ledger>(
     ensures ticks { steps.new ≡ steps.old + 1 }
 {
     let kind = &definition.lists.as_slice()[list as usize];
-    let own = spaces[kind.element as usize].as_slice();
-    eval_end(alloc, definition, own, list, kind.unfinished, steps)
+    tables.eval_end(alloc, definition, list, kind.unfinished, steps)
 }
 
 /// Returns the summary of a new tree of the kind: a placeholder, or an empty list.
 fn new_tree<L: Ledger>(
     alloc: Global,
     definition: &Definition,
-    spaces: &[Vec<u32>],
+    tables: &Tables,
     kind: Kind,
     steps: &mut Steps<L>,
 ) -> Result<Summary, EvalFault>
     requires sound { IsSound definition.now }
-    requires spaces { AreDeclaringSpaces definition.now spaces.now }
+    requires tables { AreTables definition.now tables.now }
     requires kind { HasKind definition.now kind }
     ensures answer { Answers definition.now (blank definition.now kind) result }
     ensures summary { IfOk result (IsSummary definition.now) }
     ensures ticks { steps.new ≡ steps.old + 1 }
 {
     match kind {
-        Kind::Phylum(phylum) => eval_hole(alloc, definition, phylum, steps),
-        Kind::List(list) => new_list(alloc, definition, spaces, list, steps),
+        Kind::Phylum(phylum) => tables.eval_hole(alloc, definition, phylum, steps),
+        Kind::List(list) => new_list(alloc, definition, tables, list, steps),
     }
 }
 
@@ -87,12 +86,12 @@ fn kind_at(kinds: &[Kind], place: usize) -> Kind
 pub(crate) fn new_trees<L: Ledger>(
     alloc: Global,
     definition: &Definition,
-    spaces: &[Vec<u32>],
+    tables: &Tables,
     kinds: &[Kind],
     steps: &mut Steps<L>,
 ) -> Result<Vec<Summary>, FocusFault>
     requires sound { IsSound definition.now }
-    requires spaces { AreDeclaringSpaces definition.now spaces.now }
+    requires tables { AreTables definition.now tables.now }
     requires kinds { AllByRecursion (HasKind definition.now) kinds.now }
     ensures blanks { IsBlanksAnswer definition.now kinds.now result }
     ensures ticks { steps.new ≤ steps.old + length kinds.now }
@@ -100,7 +99,7 @@ pub(crate) fn new_trees<L: Ledger>(
     let mut made = Vec::new(alloc);
     for place in 0..kinds.len() {
         let kind = kind_at(kinds, place);
-        let answer = new_tree(alloc, definition, spaces, kind, steps);
+        let answer = new_tree(alloc, definition, tables, kind, steps);
         let summary = asked(answer)?;
         made.push(summary)?;
     }

@@ -12,17 +12,17 @@ ghost use Rattle.psg_grammar.specs.Sound.{IsSound};
 ghost use Rattle.psg_grammar.specs.WellFormed.{WellFormed};
 ghost use Rattle.psg_eval.specs.Frames.{CanClimb, StandAt};
 ghost use Rattle.psg_menu.specs.Answers.{IsChosenAnswer, IsMenuAnswer, menu_ticks, op_ticks};
-ghost use Rattle.psg_eval.specs.SpaceTables.{AreDeclaringSpaces};
+ghost use Rattle.psg_eval.specs.Starts.{AreTables};
 ghost use Rattle.psg_grammar.specs.WellFormed.{fixed_words};
 ghost use Rattle.psg_grammar.specs.declared.types.Operator.{Operator};
 ghost use Rattle.psg_menu.specs.Trials.{IsClass, IsOffered};
 ghost use Rattle.psg_menu.specs.Menus.{AreUsed, HasQuietSlots, operators_of};
 
 use crate::blanks::{kinds_of_slots, new_trees};
-use crate::judging::{Class, tried};
+use crate::judging::{Classes, tried};
 use crate::words::{longest, new_words};
-use psg_eval::{FocusFault, Frame};
-use psg_grammar::{Definition, declaring, name_positions};
+use psg_eval::{FocusFault, Frame, Tables};
+use psg_grammar::{Definition, name_positions};
 use psg_renaming::laws;
 use psg_terms::{Steps, Txt};
 use std::alloc::{AllocError, Global};
@@ -49,9 +49,8 @@ fn of_phylum(alloc: Global, definition: &Definition, phylum: u32) -> Result<Vec<
 #[derive(Clone, Copy)]
 struct Menu<'a> {
     definition: &'a Definition,
+    tables: &'a Tables,
     frames: &'a [Frame],
-    /// For each phylum the spaces in which it declares.
-    spaces: &'a [Vec<u32>],
     used: &'a [Txt],
     /// No name of `used` is longer, and no fixed word.
     longest: usize,
@@ -62,19 +61,19 @@ fn offered<L: Ledger>(
     alloc: Global,
     menu: Menu,
     op: u32,
-    classes: &mut Vec<Class>,
+    classes: &mut Classes,
     steps: &mut Steps<L>,
 ) -> Result<bool, FocusFault>
     requires sound { IsSound menu.definition.now }
-    requires spaces { AreDeclaringSpaces menu.definition.now menu.spaces.now }
+    requires tables { AreTables menu.definition.now menu.tables.now }
     requires used { AllByRecursion (λ n. length n ≤ menu.longest) menu.used.now }
     requires fixed { AllByRecursion (λ n. length n ≤ menu.longest) (fixed_words menu.definition.now) }
     requires operator { (o : Operator) × (slice_get menu.definition.now.operators op ≡ Some o)
         × CanClimb menu.definition.now menu.frames.now (OfPhylum o.phylum) }
-    requires classes { AllByRecursion (IsClass menu.definition.now menu.frames.now) classes.old.items }
+    requires classes { AllByRecursion (IsClass menu.definition.now menu.frames.now) classes.old.all.items }
     ensures offered { IsOffered menu.entry.definition.now menu.entry.frames.now menu.entry.used.now op result }
     ensures classes { IfOk result
-        (λ _. AllByRecursion (IsClass menu.entry.definition.now menu.entry.frames.now) classes.new.items) }
+        (λ _. AllByRecursion (IsClass menu.entry.definition.now menu.entry.frames.now) classes.new.all.items) }
     ensures ticks { steps.new ≤ steps.old + op_ticks menu.entry.definition.now menu.entry.frames.now op }
 {
     let definition = menu.definition;
@@ -85,12 +84,13 @@ fn offered<L: Ledger>(
     let words = new_words(alloc, definition, menu.used, menu.longest, count)?;
     laws::new_names(definition);
     let slots = kinds.as_slice();
-    let below = new_trees(alloc, definition, menu.spaces, slots, steps)?;
+    let below = new_trees(alloc, definition, menu.tables, slots, steps)?;
     let names = words.as_slice();
     let blanks = below.as_slice();
     let good = tried(
         alloc,
         definition,
+        menu.tables,
         menu.frames,
         op,
         names,
@@ -109,7 +109,7 @@ fn chosen<L: Ledger>(
     steps: &mut Steps<L>,
 ) -> Result<Vec<u32>, FocusFault>
     requires sound { IsSound menu.definition.now }
-    requires spaces { AreDeclaringSpaces menu.definition.now menu.spaces.now }
+    requires tables { AreTables menu.definition.now menu.tables.now }
     requires used { AllByRecursion (λ n. length n ≤ menu.longest) menu.used.now }
     requires fixed { AllByRecursion (λ n. length n ≤ menu.longest) (fixed_words menu.definition.now) }
     requires operators { AllByRecursion (λ op. (o : Operator) × (slice_get menu.definition.now.operators op ≡ Some o)
@@ -119,7 +119,7 @@ fn chosen<L: Ledger>(
         → IsChosenAnswer menu.entry.definition.now (IsOpen menu.entry.definition.now) f path k ops.now result }
     ensures ticks { steps.new ≤ steps.old + menu_ticks menu.entry.definition.now ops.now menu.entry.frames.now }
 {
-    let mut classes = Vec::new(alloc);
+    let mut classes = Classes::new(alloc);
     let mut found = Vec::new(alloc);
     for place in 0..ops.len() {
         let op = ops[place];
@@ -142,12 +142,14 @@ fn chosen<L: Ledger>(
 pub fn operators<L: Ledger>(
     alloc: Global,
     definition: &Definition,
+    tables: &Tables,
     frames: &[Frame],
     phylum: u32,
     used: &[Txt],
     steps: &mut Steps<L>,
 ) -> Result<Vec<u32>, FocusFault>
     requires sound { IsSound definition.now }
+    requires tables { AreTables definition.now tables.now }
     requires phylum { phylum < length definition.now.phyla }
     requires frames { CanClimb definition.now frames.now (OfPhylum phylum) }
     ensures open { (f : Fragment) (path : Path) (k : Option ℕ) → StandAt definition.now frames.now path k f
@@ -159,13 +161,11 @@ pub fn operators<L: Ledger>(
         → IsMenuAnswer definition.now (IsCompletable definition.now) f path k phylum result }
     ensures ticks { steps.new ≤ steps.old + menu_ticks definition.now (operators_of definition.now phylum) frames.now }
 {
-    let table = declaring(alloc, definition)?;
-    let spaces = table.as_slice();
     let bound = longest(definition, used);
     let menu = Menu {
         definition,
+        tables,
         frames,
-        spaces,
         used,
         longest: bound,
     };

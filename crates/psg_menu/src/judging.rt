@@ -1,5 +1,6 @@
 //! Whether a fragment is open with a tree of a known summary at a place.
-ghost use Rattle.std.specs.Prelude.{◌≡◌, ◌+◌, ◌≤◌, ◌<◌, ℕ, Option, Some, length, slice_get, IfOk, IfSome};
+ghost use Rattle.std.specs.Prelude.{◌≡◌, ◌+◌, ◌≤◌, ◌<◌, ◌∷◌, ◌++◌, [], ℕ, Option, Some, length};
+ghost use Rattle.std.specs.Prelude.{slice_get, IfOk, IfSome, OnOk};
 ghost use Rattle.std.specs.List.{AllByRecursion};
 ghost use Rattle.psg_terms.specs.Relations.{IsIn};
 ghost use Rattle.psg_grammar.specs.declared.types.Kind.TheVariants.{Phylum as OfPhylum};
@@ -7,13 +8,15 @@ ghost use Rattle.psg_grammar.specs.declared.types.Operator.{Operator};
 ghost use Rattle.psg_grammar.specs.Sound.{IsSound};
 ghost use Rattle.psg_grammar.specs.WellFormed.{IsName};
 ghost use Rattle.psg_eval.specs.Frames.{CanClimb, IsSilent, rungs};
+ghost use Rattle.psg_eval.specs.Starts.{AreTables};
 ghost use Rattle.psg_eval.specs.Summaries.{IsSummary, are_names, slot_kinds};
 ghost use Rattle.psg_menu.specs.Trials.{AreBlanks, IsClass, IsJudged, IsTried};
 
-use psg_eval::{FocusFault, Frame, Summary, asked, climb, eval_op};
+use crate::alike::{Alike, number_of};
+use psg_eval::{FocusFault, Frame, Summary, Tables, asked, climb};
 use psg_grammar::Definition;
 use psg_terms::{Steps, Txt};
-use std::alloc::Global;
+use std::alloc::{AllocError, Global};
 use std::sync::ledger::Ledger;
 
 /// A summary of a tree at the place, and whether the whole fragment is open with it.
@@ -44,11 +47,51 @@ fn judged<L: Ledger>(
     Ok(good)
 }
 
-/// Returns what is known of the summary, if one of the classes has it.
-fn known(classes: &[Class], own: &Summary) -> Option<bool>
+/// The classes that were judged, and by a number of each its place.
+#[derive(Drop)]
+pub(crate) struct Classes {
+    pub(crate) all: Vec<Class>,
+    alike: Alike,
+}
+
+impl Classes {
+    /// Returns no classes.
+    pub(crate) fn new(alloc: Global) -> Classes
+        ensures { result.all.items ≡ [] }
+    {
+        Classes {
+            all: Vec::new(alloc),
+            alike: Alike::new(alloc),
+        }
+    }
+
+    /// Adds a class, with the number of its summary.
+    fn add(
+        &mut self,
+        alloc: Global,
+        number: u64,
+        own: Summary,
+        good: bool,
+    ) -> Result<(), AllocError>
+        ensures { OnOk result (self.new.all.items ≡ self.old.all.items ++ record { own = own; good = good } ∷ []) }
+    {
+        let place = self.all.len();
+        self.alike.note(alloc, number, place)?;
+        self.all.push(Class { own, good })?;
+        Ok(())
+    }
+}
+
+/// Returns what is known of the summary, if one of the classes at the places has it.
+fn known(classes: &[Class], places: &[usize], own: &Summary) -> Option<bool>
     ensures { IfSome result (λ good. (c : Class) × IsIn c classes.now × (c.own ≡ own.now) × (c.good ≡ good)) }
 {
-    for class in classes {
+    for i in 0..places.len() {
+        let place = places[i];
+        if place >= classes.len() {
+            continue;
+        }
+        let class = &classes[place];
         if class.own.same(own) {
             return Some(class.good);
         }
@@ -62,23 +105,25 @@ fn judged_once<L: Ledger>(
     definition: &Definition,
     frames: &[Frame],
     own: Summary,
-    classes: &mut Vec<Class>,
+    classes: &mut Classes,
     steps: &mut Steps<L>,
 ) -> Result<bool, FocusFault>
     requires sound { IsSound definition.now }
     requires own { IsSummary definition.now own }
     requires silent { IsSilent own }
     requires frames { CanClimb definition.now frames.now own.kind }
-    requires classes { AllByRecursion (IsClass definition.now frames.now) classes.old.items }
+    requires classes { AllByRecursion (IsClass definition.now frames.now) classes.old.all.items }
     ensures judged { IsJudged definition.now frames.now own result }
-    ensures classes { IfOk result (λ _. AllByRecursion (IsClass definition.now frames.now) classes.new.items) }
+    ensures classes { IfOk result (λ _. AllByRecursion (IsClass definition.now frames.now) classes.new.all.items) }
     ensures ticks { steps.new ≤ steps.old + rungs frames.now }
 {
-    if let Some(good) = known(classes.as_slice(), &own) {
+    let number = number_of(&own);
+    let places = classes.alike.places(number);
+    if let Some(good) = known(classes.all.as_slice(), places, &own) {
         return Ok(good);
     }
     let good = judged(alloc, definition, frames, &own, steps)?;
-    classes.push(Class { own, good })?;
+    classes.add(alloc, number, own, good)?;
     Ok(good)
 }
 
@@ -87,24 +132,26 @@ fn judged_once<L: Ledger>(
 pub(crate) fn tried<L: Ledger>(
     alloc: Global,
     definition: &Definition,
+    tables: &Tables,
     frames: &[Frame],
     op: u32,
     names: &[Txt],
     below: &[Summary],
-    classes: &mut Vec<Class>,
+    classes: &mut Classes,
     steps: &mut Steps<L>,
 ) -> Result<bool, FocusFault>
     requires sound { IsSound definition.now }
+    requires tables { AreTables definition.now tables.now }
     requires operator { (o : Operator) × (slice_get definition.now.operators op ≡ Some o)
         × (length (are_names definition.now o.items) ≡ length names.now)
         × AreBlanks definition.now (slot_kinds definition.now o.items) below.now
         × CanClimb definition.now frames.now (OfPhylum o.phylum) }
-    requires classes { AllByRecursion (IsClass definition.now frames.now) classes.old.items }
+    requires classes { AllByRecursion (IsClass definition.now frames.now) classes.old.all.items }
     ensures tried { IsTried definition.now frames.now op names.now result }
-    ensures classes { IfOk result (λ _. AllByRecursion (IsClass definition.now frames.now) classes.new.items) }
+    ensures classes { IfOk result (λ _. AllByRecursion (IsClass definition.now frames.now) classes.new.all.items) }
     ensures ticks { steps.new ≤ steps.old + (1 + rungs frames.now) }
 {
-    let made = eval_op(alloc, definition, op, names, below, steps);
+    let made = tables.eval_op(alloc, definition, op, names, below, steps);
     let own = asked(made)?;
     let good = judged_once(alloc, definition, frames, own, classes, steps)?;
     Ok(good)

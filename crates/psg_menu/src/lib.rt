@@ -9,8 +9,10 @@
 //! language, of whose fragments all are well-formed, that is where it has a legal completion with new names.
 #![tactic(auto)]
 
+mod alike;
 mod blanks;
 pub mod choosing;
+mod entries;
 mod judging;
 pub mod naming;
 mod sharing;

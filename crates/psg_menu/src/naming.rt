@@ -12,19 +12,21 @@ ghost use Rattle.psg_grammar.specs.Paths.{Path};
 ghost use Rattle.psg_grammar.specs.Sound.{IsSound};
 ghost use Rattle.psg_grammar.specs.WellFormed.{IsName, WellFormed};
 ghost use Rattle.psg_eval.specs.Frames.{CanClimb, StandAt, rungs};
+ghost use Rattle.psg_eval.specs.Starts.{AreTables};
 ghost use Rattle.psg_grammar.specs.declared.types.Operator.{Operator};
 ghost use Rattle.psg_eval.specs.Summaries.{are_names, slot_kinds};
-ghost use Rattle.psg_menu.specs.declared.sharing.Entry.{Entry as OneEntry};
+ghost use Rattle.psg_menu.specs.declared.entries.Entry.{Entry as OneEntry};
 ghost use Rattle.psg_menu.specs.Sharing.{IsWholeAnswer, rises_of};
 ghost use Rattle.psg_menu.specs.Trials.{AreBlanks};
 ghost use Rattle.psg_menu.specs.Answers.{HasOneName, IsNamesAnswer, names_ticks};
 ghost use Rattle.psg_menu.specs.Menus.{HasQuietSlots};
 
 use crate::blanks::{kinds_of_slots, new_trees};
-use crate::sharing::{Entry, Level, climbed_together};
+use crate::entries::Entry;
+use crate::sharing::{Level, climbed_together};
 use crate::words::{longest, new_words};
-use psg_eval::{FocusFault, Frame, Summary, asked, eval_op};
-use psg_grammar::{Definition, declaring};
+use psg_eval::{FocusFault, Frame, Summary, Tables, asked};
+use psg_grammar::Definition;
 use psg_terms::{Steps, Txt};
 use std::alloc::Global;
 use std::sync::ledger::Ledger;
@@ -34,6 +36,7 @@ use std::sync::ledger::Ledger;
 fn climbed<L: Ledger>(
     alloc: Global,
     definition: &Definition,
+    tables: &Tables,
     frames: &[Frame],
     op: u32,
     candidates: &[Txt],
@@ -41,6 +44,7 @@ fn climbed<L: Ledger>(
     steps: &mut Steps<L>,
 ) -> Result<Level, FocusFault>
     requires sound { IsSound definition.now }
+    requires tables { AreTables definition.now tables.now }
     requires operator { (o : Operator) × (slice_get definition.now.operators op ≡ Some o)
         × (length (are_names definition.now o.items) ≡ 1)
         × AreBlanks definition.now (slot_kinds definition.now o.items) below.now
@@ -54,9 +58,11 @@ fn climbed<L: Ledger>(
     let words = new_words(alloc, definition, candidates, bound, 1)?;
     let names = words.as_slice();
     let star = &names[0];
-    let made = eval_op(alloc, definition, op, names, below, steps);
+    let made = tables.eval_op(alloc, definition, op, names, below, steps);
     let own = asked(made)?;
-    let level = climbed_together(alloc, definition, frames, star, candidates, own, steps)?;
+    let level = climbed_together(
+        alloc, definition, tables, frames, star, candidates, own, steps,
+    )?;
     Ok(level)
 }
 
@@ -75,6 +81,7 @@ fn is_open(entries: &[Entry], place: usize) -> bool
 fn nameable<L: Ledger>(
     alloc: Global,
     definition: &Definition,
+    tables: &Tables,
     frames: &[Frame],
     op: u32,
     candidates: &[Txt],
@@ -82,6 +89,7 @@ fn nameable<L: Ledger>(
     steps: &mut Steps<L>,
 ) -> Result<Vec<Txt>, FocusFault>
     requires sound { IsSound definition.now }
+    requires tables { AreTables definition.now tables.now }
     requires operator { (o : Operator) × (slice_get definition.now.operators op ≡ Some o)
         × (length (are_names definition.now o.items) ≡ 1)
         × AreBlanks definition.now (slot_kinds definition.now o.items) below.now
@@ -95,7 +103,9 @@ fn nameable<L: Ledger>(
     if candidates.is_empty() {
         return Ok(found);
     }
-    let level = climbed(alloc, definition, frames, op, candidates, below, steps)?;
+    let level = climbed(
+        alloc, definition, tables, frames, op, candidates, below, steps,
+    )?;
     let entries = level.entries.as_slice();
     let places = level.places.as_slice();
     for place in 0..candidates.len() {
@@ -121,12 +131,14 @@ fn nameable<L: Ledger>(
 pub fn names<L: Ledger>(
     alloc: Global,
     definition: &Definition,
+    tables: &Tables,
     frames: &[Frame],
     op: u32,
     candidates: &[Txt],
     steps: &mut Steps<L>,
 ) -> Result<Vec<Txt>, FocusFault>
     requires sound { IsSound definition.now }
+    requires tables { AreTables definition.now tables.now }
     requires one { (p : ℕ) × HasOneName definition.now op p × CanClimb definition.now frames.now (OfPhylum p) }
     requires names { AllByRecursion (IsName definition.now) candidates.now }
     ensures open { (f : Fragment) (path : Path) (k : Option ℕ) → StandAt definition.now frames.now path k f
@@ -140,14 +152,14 @@ pub fn names<L: Ledger>(
     if candidates.is_empty() {
         return Ok(Vec::new(alloc));
     }
-    let table = declaring(alloc, definition)?;
-    let spaces = table.as_slice();
     let operator = &definition.operators.as_slice()[op as usize];
     let items = operator.items.as_slice();
     let kinds = kinds_of_slots(alloc, definition, items)?;
     let slots = kinds.as_slice();
-    let below = new_trees(alloc, definition, spaces, slots, steps)?;
+    let below = new_trees(alloc, definition, tables, slots, steps)?;
     let blanks = below.as_slice();
-    let found = nameable(alloc, definition, frames, op, candidates, blanks, steps)?;
+    let found = nameable(
+        alloc, definition, tables, frames, op, candidates, blanks, steps,
+    )?;
     Ok(found)
 }

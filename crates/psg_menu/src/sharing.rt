@@ -11,15 +11,17 @@ ghost use Rattle.psg_grammar.specs.declared.types.Kind.TheVariants.{List as OfLi
 ghost use Rattle.psg_eval.specs.declared.frame.Frame.TheVariants.{Elem as InList};
 ghost use Rattle.psg_eval.specs.declared.summary.SummaryParts.{SummaryParts};
 ghost use Rattle.psg_eval.specs.Frames.{CanClimb, rungs, rungs_in};
+ghost use Rattle.psg_eval.specs.Starts.{AreTables};
 ghost use Rattle.psg_eval.specs.Summaries.{IsSummary};
 ghost use Rattle.psg_menu.specs.Sharing.{AreApart, CanRaise, CanRise, IsLevel, IsLevelAnswer, IsMove};
 ghost use Rattle.psg_menu.specs.Sharing.{IsPut, IsRaised, IsRaisedFrom, IsUsual, IsWithin};
 ghost use Rattle.psg_menu.specs.Sharing.{Reaches, Rise, TakesRise, has_key, meets, rise_of};
 ghost use Rattle.psg_menu.specs.Sharing.{rises_in, rises_of, some_has_key};
 
+use crate::entries::{Entries, Entry, Moves};
 use psg_eval::climbing::raised_operator;
 use psg_eval::renaming::renamed;
-use psg_eval::{EvalFault, FocusFault, Frame, Summary, asked, eval_cell};
+use psg_eval::{EvalFault, FocusFault, Frame, Summary, Tables, asked};
 use psg_grammar::Definition;
 use psg_scope::Header;
 use psg_terms::{Steps, Txt};
@@ -126,11 +128,13 @@ fn meets(rung: Rung, name: &Txt) -> bool
 fn raise<L: Ledger>(
     alloc: Global,
     definition: &Definition,
+    tables: &Tables,
     rung: Rung,
     own: &Summary,
     steps: &mut Steps<L>,
 ) -> Result<Summary, EvalFault>
     requires sound { IsSound definition.now }
+    requires tables { AreTables definition.now tables.now }
     requires takes { (above : PlainKind) × TakesRise definition.now (rise_of rung) own.now above }
     ensures answer { IsRaised definition.now (rise_of rung.entry) own.now result }
     ensures summary { IfOk result (IsSummary definition.now) }
@@ -146,77 +150,18 @@ fn raise<L: Ledger>(
             children,
             hot,
         } => raised_operator(alloc, definition, op, names, children, hot, own, steps),
-        Rung::First { list, rest } => eval_cell(alloc, definition, list, own, rest, steps),
-        Rung::Before { list, element } => eval_cell(alloc, definition, list, element, own, steps),
+        Rung::First { list, rest } => tables.eval_cell(alloc, definition, list, own, rest, steps),
+        Rung::Before { list, element } => tables.eval_cell(
+            alloc, definition, list, element, own, steps,
+        ),
     }
-}
-
-/// A summary that some candidates have at a node of the way: each its own, or, where it is shared, each under its own
-/// name in place of the proxy.
-#[derive(Drop)]
-pub(crate) struct Entry {
-    pub(crate) own: Summary,
-    pub(crate) shared: bool,
-}
-
-/// The place of a summary below a rung, and that of the one above it.
-#[derive(Drop)]
-struct Move {
-    from: usize,
-    to: usize,
-}
-
-/// Where the summary at the place went, if it was raised.
-fn moved(moves: &[Move], from: usize) -> Option<usize>
-    ensures { IfSome result (λ to. (m : Move) × IsIn m moves.now × (m.from ≡ from) × (m.to ≡ to)) }
-{
-    for one in moves {
-        if one.from == from {
-            return Some(one.to);
-        }
-    }
-    None
-}
-
-/// The place of an equal entry.
-fn found(entries: &[Entry], own: &Summary, shared: bool) -> Option<usize>
-    ensures { IfSome result (λ place. slice_get entries.now place ≡ Some (record { own = own.now; shared = shared })) }
-{
-    for place in 0..entries.len() {
-        let entry = &entries[place];
-        if entry.shared != shared {
-            continue;
-        }
-        if entry.own.same(own) {
-            return Some(place);
-        }
-    }
-    None
-}
-
-/// The place of the entry, which is put at the end if there is none like it.
-fn put(entries: &mut Vec<Entry>, own: Summary, shared: bool) -> Result<usize, AllocError>
-    ensures place { IfOk result
-        (λ place. slice_get entries.new.items place ≡ Some (record { own = own; shared = shared })) }
-    ensures others { IfOk result (λ _. (k : ℕ) (e : Entry) → slice_get entries.old.items k ≡ Some e
-        → slice_get entries.new.items k ≡ Some e) }
-    ensures usual { (definition : Language) (kind : PlainKind)
-        → IfOk result (λ _. AllByRecursion (λ (e : Entry). IsUsual definition kind e.own) entries.old.items
-        → IsUsual definition kind own
-        → AllByRecursion (λ (e : Entry). IsUsual definition kind e.own) entries.new.items) }
-{
-    if let Some(place) = found(entries.as_slice(), &own, shared) {
-        return Ok(place);
-    }
-    let place = entries.len();
-    entries.push(Entry { own, shared })?;
-    Ok(place)
 }
 
 /// What does not change from one candidate to the next.
 #[derive(Clone, Copy)]
 struct Way<'a> {
     definition: &'a Definition,
+    tables: &'a Tables,
     /// The proxy, a name for all candidates.
     star: &'a Txt,
     rung: Rung<'a>,
@@ -247,24 +192,25 @@ fn raised_entry<L: Ledger>(
     way: Way,
     own: &Summary,
     shared: bool,
-    above: &mut Vec<Entry>,
+    above: &mut Entries,
     steps: &mut Steps<L>,
 ) -> Result<usize, FocusFault>
     requires sound { IsSound way.definition.now }
+    requires tables { AreTables way.definition.now way.tables.now }
     requires usual { (kind up : PlainKind) × CanRise way.definition.now (rise_of way.rung) kind up
         × IsUsual way.definition.now kind own.now }
-    ensures raised { IsPut way.entry.definition.now (rise_of way.entry.rung) own.now shared above.new.items result }
-    ensures others { IfOk result (λ _. (k : ℕ) (e : Entry) → slice_get above.old.items k ≡ Some e
-        → slice_get above.new.items k ≡ Some e) }
+    ensures raised { IsPut way.entry.definition.now (rise_of way.entry.rung) own.now shared above.new.all.items result }
+    ensures others { IfOk result (λ _. (k : ℕ) (e : Entry) → slice_get above.old.all.items k ≡ Some e
+        → slice_get above.new.all.items k ≡ Some e) }
     ensures usual { (kind up : PlainKind) → CanRise way.entry.definition.now (rise_of way.entry.rung) kind up
         → IsUsual way.entry.definition.now kind own.now
-        → AllByRecursion (λ (e : Entry). IsUsual way.entry.definition.now up e.own) above.old.items
-        → IfOk result (λ _. AllByRecursion (λ (e : Entry). IsUsual way.entry.definition.now up e.own) above.new.items) }
+        → AllByRecursion (λ (e : Entry). IsUsual way.entry.definition.now up e.own) above.old.all.items
+        → IfOk result (λ _. AllByRecursion (λ (e : Entry). IsUsual way.entry.definition.now up e.own) above.new.all.items) }
     ensures ticks { steps.new ≤ steps.old + 1 }
 {
-    let made = raise(alloc, way.definition, way.rung, own, steps);
+    let made = raise(alloc, way.definition, way.tables, way.rung, own, steps);
     let next = asked(made)?;
-    let to = put(above, next, shared)?;
+    let to = above.put(alloc, next, shared)?;
     Ok(to)
 }
 
@@ -275,28 +221,29 @@ fn raised_from<L: Ledger>(
     name: &Txt,
     below: &[Entry],
     place: usize,
-    above: &mut Vec<Entry>,
-    moves: &mut Vec<Move>,
+    above: &mut Entries,
+    moves: &mut Moves,
     steps: &mut Steps<L>,
 ) -> Result<usize, FocusFault>
     requires sound { IsSound way.definition.now }
+    requires tables { AreTables way.definition.now way.tables.now }
     requires place { place < length below.now }
     requires usual { (kind up : PlainKind) × CanRise way.definition.now (rise_of way.rung) kind up
         × AllByRecursion (λ (e : Entry). IsUsual way.definition.now kind e.own) below.now }
     requires met { way.met ≡ meets (rise_of way.rung) way.star.now }
     requires moves { AllByRecursion
-        (IsMove way.definition.now (rise_of way.rung) below.now above.old.items) moves.old.items }
+        (IsMove way.definition.now (rise_of way.rung) below.now above.old.all.items) moves.old.all.items }
     ensures raised { (old : Entry) → slice_get below.now place ≡ Some old
         → IsRaisedFrom way.entry.definition.now
-        (rise_of way.entry.rung) way.entry.star.now name.now old above.new.items result }
-    ensures others { IfOk result (λ _. (k : ℕ) (e : Entry) → slice_get above.old.items k ≡ Some e
-        → slice_get above.new.items k ≡ Some e) }
+        (rise_of way.entry.rung) way.entry.star.now name.now old above.new.all.items result }
+    ensures others { IfOk result (λ _. (k : ℕ) (e : Entry) → slice_get above.old.all.items k ≡ Some e
+        → slice_get above.new.all.items k ≡ Some e) }
     ensures usual { (kind up : PlainKind) → CanRise way.entry.definition.now (rise_of way.entry.rung) kind up
         → AllByRecursion (λ (e : Entry). IsUsual way.entry.definition.now kind e.own) below.now
-        → AllByRecursion (λ (e : Entry). IsUsual way.entry.definition.now up e.own) above.old.items
-        → IfOk result (λ _. AllByRecursion (λ (e : Entry). IsUsual way.entry.definition.now up e.own) above.new.items) }
+        → AllByRecursion (λ (e : Entry). IsUsual way.entry.definition.now up e.own) above.old.all.items
+        → IfOk result (λ _. AllByRecursion (λ (e : Entry). IsUsual way.entry.definition.now up e.own) above.new.all.items) }
     ensures moves { IfOk result (λ _. AllByRecursion
-        (IsMove way.entry.definition.now (rise_of way.entry.rung) below.now above.new.items) moves.new.items) }
+        (IsMove way.entry.definition.now (rise_of way.entry.rung) below.now above.new.all.items) moves.new.all.items) }
     ensures ticks { steps.new ≤ steps.old + 1 }
 {
     let old = &below[place];
@@ -310,11 +257,11 @@ fn raised_from<L: Ledger>(
         let apart = raised_entry(alloc, way, &own, false, above, steps)?;
         return Ok(apart);
     }
-    if let Some(before) = moved(moves.as_slice(), place) {
+    if let Some(before) = moves.found(place) {
         return Ok(before);
     }
     let to = raised_entry(alloc, way, &old.own, old.shared, above, steps)?;
-    moves.push(Move { from: place, to })?;
+    moves.add(place, to)?;
     Ok(to)
 }
 
@@ -334,6 +281,7 @@ fn next_level<L: Ledger>(
     steps: &mut Steps<L>,
 ) -> Result<Level, FocusFault>
     requires sound { IsSound way.definition.now }
+    requires tables { AreTables way.definition.now way.tables.now }
     requires met { way.met ≡ meets (rise_of way.rung) way.star.now }
     requires level { (o : ℕ) × (below : List SummaryParts) × (done : List Rise) × (kind up : PlainKind)
         × AreApart below way.star.now candidates.now
@@ -349,8 +297,8 @@ fn next_level<L: Ledger>(
 {
     let below = level.entries.as_slice();
     let old = level.places.as_slice();
-    let mut entries = Vec::new(alloc);
-    let mut moves = Vec::new(alloc);
+    let mut entries = Entries::new(alloc);
+    let mut moves = Moves::new(alloc, below.len())?;
     let mut places = Vec::with_capacity(alloc, candidates.len())?;
     for i in 0..candidates.len() {
         let name = &candidates[i];
@@ -367,13 +315,17 @@ fn next_level<L: Ledger>(
         )?;
         places.push(to)?;
     }
-    Ok(Level { entries, places })
+    Ok(Level {
+        entries: entries.all,
+        places,
+    })
 }
 
 /// The level above one rung.
 fn over_rung<L: Ledger>(
     alloc: Global,
     definition: &Definition,
+    tables: &Tables,
     star: &Txt,
     candidates: &[Txt],
     rung: Rung,
@@ -381,6 +333,7 @@ fn over_rung<L: Ledger>(
     steps: &mut Steps<L>,
 ) -> Result<Level, FocusFault>
     requires sound { IsSound definition.now }
+    requires tables { AreTables definition.now tables.now }
     requires level { (o : ℕ) × (below : List SummaryParts) × (done : List Rise) × (kind up : PlainKind)
         × AreApart below star.now candidates.now
         × CanRise definition.now (rise_of rung) kind up
@@ -395,6 +348,7 @@ fn over_rung<L: Ledger>(
     let met = meets(rung, star);
     let way = Way {
         definition,
+        tables,
         star,
         rung,
         met,
@@ -406,6 +360,7 @@ fn over_rung<L: Ledger>(
 fn over_list<L: Ledger>(
     alloc: Global,
     definition: &Definition,
+    tables: &Tables,
     star: &Txt,
     candidates: &[Txt],
     list: u32,
@@ -415,6 +370,7 @@ fn over_list<L: Ledger>(
     steps: &mut Steps<L>,
 ) -> Result<Level, FocusFault>
     requires sound { IsSound definition.now }
+    requires tables { AreTables definition.now tables.now }
     requires level { (o : ℕ) × (below : List SummaryParts) × (done : List Rise) × (kind : PlainKind)
         × AreApart below star.now candidates.now
         × CanRaise definition.now (InList list before.now rest.now) kind (OfList list)
@@ -428,12 +384,16 @@ fn over_list<L: Ledger>(
     ensures ticks { steps.new ≤ steps.old + length candidates.now * (length before.now + 1) }
 {
     let rung = Rung::First { list, rest };
-    let first = over_rung(alloc, definition, star, candidates, rung, level, steps)?;
+    let first = over_rung(
+        alloc, definition, tables, star, candidates, rung, level, steps,
+    )?;
     let mut whole = first;
     let mut left = before;
     while let Some((element, front)) = left.split_last() {
         let rung = Rung::Before { list, element };
-        let next = over_rung(alloc, definition, star, candidates, rung, &whole, steps)?;
+        let next = over_rung(
+            alloc, definition, tables, star, candidates, rung, &whole, steps,
+        )?;
         whole = next;
         left = front;
     }
@@ -444,6 +404,7 @@ fn over_list<L: Ledger>(
 fn over_frame<L: Ledger>(
     alloc: Global,
     definition: &Definition,
+    tables: &Tables,
     star: &Txt,
     candidates: &[Txt],
     frame: &Frame,
@@ -451,6 +412,7 @@ fn over_frame<L: Ledger>(
     steps: &mut Steps<L>,
 ) -> Result<Level, FocusFault>
     requires sound { IsSound definition.now }
+    requires tables { AreTables definition.now tables.now }
     requires level { (o : ℕ) × (below : List SummaryParts) × (done : List Rise) × (kind up : PlainKind)
         × AreApart below star.now candidates.now
         × CanRaise definition.now frame.now kind up
@@ -475,12 +437,14 @@ fn over_frame<L: Ledger>(
                 children: children.as_slice(),
                 hot: *hot,
             };
-            over_rung(alloc, definition, star, candidates, rung, level, steps)
+            over_rung(
+                alloc, definition, tables, star, candidates, rung, level, steps,
+            )
         }
         Frame::Elem { list, before, rest } => {
             let front = before.as_slice();
             over_list(
-                alloc, definition, star, candidates, *list, front, rest, level, steps,
+                alloc, definition, tables, star, candidates, *list, front, rest, level, steps,
             )
         }
     }
@@ -506,6 +470,7 @@ fn first_level(alloc: Global, own: Summary, count: usize) -> Result<Level, Alloc
 pub(crate) fn climbed_together<L: Ledger>(
     alloc: Global,
     definition: &Definition,
+    tables: &Tables,
     frames: &[Frame],
     star: &Txt,
     candidates: &[Txt],
@@ -513,6 +478,7 @@ pub(crate) fn climbed_together<L: Ledger>(
     steps: &mut Steps<L>,
 ) -> Result<Level, FocusFault>
     requires sound { IsSound definition.now }
+    requires tables { AreTables definition.now tables.now }
     requires own { (o : ℕ) × (below : List SummaryParts) × (kind : PlainKind) × AreApart below star.now candidates.now
         × CanClimb definition.now frames.now kind
         × IsUsual definition.now kind own × Reaches definition.now o below star.now [] own
@@ -529,7 +495,9 @@ pub(crate) fn climbed_together<L: Ledger>(
     let mut whole = first;
     let mut left = frames;
     while let Some((frame, more)) = left.split_first() {
-        let next = over_frame(alloc, definition, star, candidates, frame, &whole, steps)?;
+        let next = over_frame(
+            alloc, definition, tables, star, candidates, frame, &whole, steps,
+        )?;
         whole = next;
         left = more;
     }

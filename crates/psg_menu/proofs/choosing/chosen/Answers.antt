@@ -13,7 +13,7 @@ loop-place-init g c =
     let def = c.args.menu.definition.now in
     record {
       chooses = chooses_none def c.args.menu.frames.now c.args.menu.used.now c.args.ops.now c.new-found.result.items c.new-found.ensures.items;
-      classes = subst (AllByRecursion (IsClass def c.args.menu.frames.now)) (sym c.new-classes.ensures.items) tt;
+      classes = subst (AllByRecursion (IsClass def c.args.menu.frames.now)) (sym c.new-classes.ensures) tt;
       counted = omega arith;
     }
 

@@ -2,17 +2,11 @@ use Rattle.std.proofs.Common.{rules, ◌≡◌, ◌∙◌, List, ℕ, sym, subst
 use Rattle.std.specs.Prelude.{Ok, Err}
 use Rattle.std.specs.List.{AllByRecursion}
 use Rattle.psg_grammar.specs.Open.{IsOpen}
-use Rattle.psg_eval.specs.SpaceTables.{AreDeclaringSpaces}
 use Rattle.psg_menu.specs.Answers.{IsChosenAnswer, IsMenuAnswer}
 use Rattle.psg_grammar.specs.Legal.{IsCompletable}
 use Rattle.psg_menu.proofs.FormedTrials.{completable_menu}
-use Rattle.psg_menu.proofs.MenuLaws.{CanStand, all_climb, menu_answer, table_are}
+use Rattle.psg_menu.proofs.MenuLaws.{CanStand, all_climb, menu_answer}
 use Rattle.psg_menu.proofs.choosing.operators.Goals as goal
-
-pub chosen-requires-clause-spaces : goal.chosen-requires-clause-spaces
-chosen-requires-clause-spaces g c =
-    let def = c.args.definition.now in
-    subst (AreDeclaringSpaces def) (sym c.as_slice-spaces.ensures.value) (table_are def c.in_ok-table.table.items (sym c.in_ok-table.table.ok.0 ∙ c.in_ok-table.ensures.one_each) c.in_ok-table.ensures.exact)
 
 pub chosen-requires-clause-operators : goal.chosen-requires-clause-operators
 chosen-requires-clause-operators g c =

@@ -3,7 +3,7 @@ use Rattle.std.specs.Prelude.{Ok, Err}
 use Rattle.psg_terms.specs.Names.{Name}
 use Rattle.psg_grammar.specs.Open.{IsOpen}
 use Rattle.psg_eval.specs.Frames.{rungs}
-use Rattle.psg_menu.specs.declared.sharing.Entry.{Entry}
+use Rattle.psg_menu.specs.declared.entries.Entry.{Entry}
 use Rattle.psg_menu.specs.Answers.{IsNamesAnswer}
 use Rattle.psg_menu.specs.Sharing.{rises_of}
 use Rattle.psg_menu.specs.Trials.{IsTried}

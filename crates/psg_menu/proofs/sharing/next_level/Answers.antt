@@ -2,7 +2,7 @@ use Rattle.std.proofs.Common.{rules, ◌≡◌, ◌<◌, ◌∷◌, ℕ, List, g
 use Rattle.std.specs.Prelude.{Ok, Err}
 use Rattle.std.specs.List.{AllByRecursion}
 use Rattle.psg_terms.specs.Names.{Name}
-use Rattle.psg_menu.specs.declared.sharing.Entry.{Entry}
+use Rattle.psg_menu.specs.declared.entries.Entry.{Entry}
 use Rattle.psg_menu.specs.Sharing.{IsLevelAnswer, IsMove, IsUsual, rise_of}
 use Rattle.psg_menu.proofs.Levels.{all_so_far, more_so_far, none_so_far, place_within, placed_length, said_fault, said_of}
 use Rattle.psg_menu.proofs.sharing.next_level.Goals as goal
@@ -12,8 +12,8 @@ loop-i-init g c =
     let def = c.args.way.definition.now in
     let rise = rise_of c.args.way.rung in
     record {
-      level = none_so_far def rise c.args.way.star.now c.args.candidates.now c.args.level.now c.new-entries.result.items c.in_ok-places.places.items c.new-entries.ensures.items c.in_ok-places.ensures.items;
-      moves = subst (AllByRecursion (IsMove def rise c.args.level.now.entries.items c.new-entries.result.items)) (sym c.new-moves.ensures.items) tt;
+      level = none_so_far def rise c.args.way.star.now c.args.candidates.now c.args.level.now c.new-entries.result.all.items c.in_ok-places.places.items c.new-entries.ensures c.in_ok-places.ensures.items;
+      moves = subst (AllByRecursion (IsMove def rise c.args.level.now.entries.items c.new-entries.result.all.items)) (sym c.in_ok-moves.ensures) tt;
       counted = omega arith;
     }
 
@@ -47,7 +47,7 @@ raised_from-requires-clause-usual g c =
 pub raised_from-requires-clause-moves : goal.raised_from-requires-clause-moves
 raised_from-requires-clause-moves g c =
     let def = c.args.way.definition.now in
-    subst (λ (es : List Entry). AllByRecursion (IsMove def (rise_of c.args.way.rung) es c.loop-i.entries.items) c.loop-i.moves.items) (sym c.as_slice-below.ensures.value) c.loop-i.invariant.moves
+    subst (λ (es : List Entry). AllByRecursion (IsMove def (rise_of c.args.way.rung) es c.loop-i.entries.all.items) c.loop-i.moves.all.items) (sym c.as_slice-below.ensures.value) c.loop-i.invariant.moves
 
 pub returns-in_err-to-clause-level : goal.returns-in_err-to-clause-level
 returns-in_err-to-clause-level g c = λ o below done kind up apart can is.
@@ -61,8 +61,8 @@ returns-in_err-to-clause-level g c = λ o below done kind up apart can is.
     let fault = c.in_err-to.field-0.0 in
     let d : c.from_residual-in_err-to.result ≡ Err fault = search rules in
     subst (IsLevelAnswer def o below star candidates (rise ∷ done) up) (sym d)
-    (said_fault def c.requires.sound rise star candidates level c.loop-i.i n within c.index-candidates-i.is c.raised_from.new.above.items fault
-    (said_of def rise star candidates level c.loop-i.i n c.raised_from.new.above.items (Err fault) c.as_slice-below.result.now c.as_slice-old.result.now c.as_slice-below.ensures.value c.as_slice-old.ensures.value
+    (said_fault def c.requires.sound rise star candidates level c.loop-i.i n within c.index-candidates-i.is c.raised_from.new.above.all.items fault
+    (said_of def rise star candidates level c.loop-i.i n c.raised_from.new.above.all.items (Err fault) c.as_slice-below.result.now c.as_slice-old.result.now c.as_slice-below.ensures.value c.as_slice-old.ensures.value
     c.in_err-to.ensures.raised) o below done kind up apart can is)
 
 pub returns-in_err-to-clause-ticks : goal.returns-in_err-to-clause-ticks
@@ -88,19 +88,19 @@ loop-i-preserved g c =
     let whole = c.as_slice-below.ensures.value in
     record {
       level =
-          more_so_far def c.requires.sound rise star candidates level c.loop-i.i n within c.index-candidates-i.is c.loop-i.entries.items c.raised_from.new.above.items c.loop-i.places.items c.push.new.self.items c.in_ok-to.to
+          more_so_far def c.requires.sound rise star candidates level c.loop-i.i n within c.index-candidates-i.is c.loop-i.entries.all.items c.raised_from.new.above.all.items c.loop-i.places.items c.push.new.self.items c.in_ok-to.to
           c.loop-i.invariant.level c.in_ok-to.ensures.others
           (λ kind up can all. c.in_ok-to.ensures.usual kind up can (subst (AllByRecursion (λ (e : Entry). IsUsual def kind e.own)) (sym whole) all))
-          (said_of def rise star candidates level c.loop-i.i n c.raised_from.new.above.items (Ok c.in_ok-to.to) below c.as_slice-old.result.now whole c.as_slice-old.ensures.value c.in_ok-to.ensures.raised)
+          (said_of def rise star candidates level c.loop-i.i n c.raised_from.new.above.all.items (Ok c.in_ok-to.to) below c.as_slice-old.result.now whole c.as_slice-old.ensures.value c.in_ok-to.ensures.raised)
           c.in_ok-push.ensures.items;
-      moves = subst (λ (es : List Entry). AllByRecursion (IsMove def rise es c.raised_from.new.above.items) c.raised_from.new.moves.items) whole c.in_ok-to.ensures.moves;
+      moves = subst (λ (es : List Entry). AllByRecursion (IsMove def rise es c.raised_from.new.above.all.items) c.raised_from.new.moves.all.items) whole c.in_ok-to.ensures.moves;
       counted = omega (arith, c.raised_from.ensures.ticks, c.loop-i.invariant.counted);
     }
 
 pub returns-clause-level : goal.returns-clause-level
 returns-clause-level g c = λ o below done kind up apart can is.
     let end : c.loop-i.i ≡ length c.args.candidates.now = search rules in
-    all_so_far c.args.way.definition.now c.requires.sound (rise_of c.args.way.rung) c.args.way.star.now c.args.candidates.now c.args.level.now (record { entries = c.loop-i.entries; places = c.loop-i.places }) c.loop-i.i end
+    all_so_far c.args.way.definition.now c.requires.sound (rise_of c.args.way.rung) c.args.way.star.now c.args.candidates.now c.args.level.now (record { entries = c.loop-i.entries.all; places = c.loop-i.places }) c.loop-i.i end
     c.loop-i.invariant.level o below done kind up apart can is
 
 pub returns-clause-ticks : goal.returns-clause-ticks

@@ -4,7 +4,7 @@ use Rattle.psg_menu.proofs.sharing.raised_entry.Goals as goal
 
 pub returns-clause-raised : goal.returns-clause-raised
 returns-clause-raised g c =
-    put_ok c.args.way.definition.now (rise_of c.args.way.rung) c.args.own.now c.in_ok-next.next c.args.shared c.put.new.entries.items c.in_ok-to.to c.raise-made.result c.raise-made.ensures.answer
+    put_ok c.args.way.definition.now (rise_of c.args.way.rung) c.args.own.now c.in_ok-next.next c.args.shared c.put.new.self.all.items c.in_ok-to.to c.raise-made.result c.raise-made.ensures.answer
     c.in_ok-next.ensures c.in_ok-to.ensures.place
 
 pub returns-clause-usual : goal.returns-clause-usual

@@ -1,9 +1,7 @@
-use Rattle.std.proofs.Common.{rules, ◌≡◌, List, sym, subst}
+use Rattle.std.proofs.Common.{rules, ◌≡◌, sym, subst}
 use Rattle.std.specs.Prelude.{Ok, Err}
-use Rattle.std.specs.List.{AllByRecursion}
-use Rattle.psg_menu.specs.declared.sharing.Entry.{Entry}
-use Rattle.psg_menu.specs.declared.sharing.Move.{Move}
-use Rattle.psg_menu.specs.Sharing.{IsMove, IsRaisedFrom, IsUsual, rise_of}
+use Rattle.psg_menu.specs.declared.entries.Entry.{Entry}
+use Rattle.psg_menu.specs.Sharing.{IsRaisedFrom, IsUsual, rise_of}
 use Rattle.psg_menu.proofs.Moving.{entry_at, entry_got, key_free, move_at, moves_grow, moves_more, new_move, part_at, renamed_usual, straight_at}
 use Rattle.psg_menu.proofs.sharing.raised_from.Goals as goal
 
@@ -23,7 +21,7 @@ returns-in_err-apart-clause-raised g c = λ old here.
     let n = c.args.name.now in
     let below = c.args.below.now in
     let e : Entry = c.index-below-place.result in
-    let above = c.raised_entry.new.above.items in
+    let above = c.raised_entry.new.above.all.items in
     let fault = c.in_err-apart.field-0.0 in
     let d : c.from_residual-in_err-apart.result ≡ Err fault = search rules in
     subst (IsRaisedFrom def rise star n old above) (sym d)
@@ -38,7 +36,7 @@ returns-then-parts-clause-raised g c =
     let n = c.args.name.now in
     let below = c.args.below.now in
     let e : Entry = c.index-below-place.result in
-    part_at def rise star n below c.args.place e c.index-below-place.is c.in_ok-own.own c.raised_entry.new.above.items (Ok c.in_ok-apart.apart) (c.parts.ensures.parts c.if-parts.true)
+    part_at def rise star n below c.args.place e c.index-below-place.is c.in_ok-own.own c.raised_entry.new.above.all.items (Ok c.in_ok-apart.apart) (c.parts.ensures.parts c.if-parts.true)
     (key_free c.header.result.now e.own n c.has_key.result c.header.ensures c.has_key.ensures c.if-has_key.false) c.in_ok-own.ensures.renamed c.in_ok-apart.ensures.raised
 
 pub returns-then-parts-clause-usual : goal.returns-then-parts-clause-usual
@@ -51,7 +49,7 @@ returns-then-parts-clause-usual g c = λ kind up can usual all.
 
 pub returns-then-parts-clause-moves : goal.returns-then-parts-clause-moves
 returns-then-parts-clause-moves g c =
-    moves_grow c.args.way.definition.now (rise_of c.args.way.rung) c.args.below.now c.args.above.now.items c.raised_entry.new.above.items c.args.moves.now.items c.in_ok-apart.ensures.others
+    moves_grow c.args.way.definition.now (rise_of c.args.way.rung) c.args.below.now c.args.above.now.all.items c.raised_entry.new.above.all.items c.args.moves.now.all.items c.in_ok-apart.ensures.others
     c.requires.moves
 
 pub returns-in-Some-clause-raised : goal.returns-in-Some-clause-raised
@@ -62,9 +60,9 @@ returns-in-Some-clause-raised g c =
     let n = c.args.name.now in
     let below = c.args.below.now in
     let e : Entry = c.index-below-place.result in
-    let above = c.args.above.now.items in
-    move_at def rise star n below c.args.place e c.index-below-place.is above c.as_slice.result.now c.in-Some.before c.requires.place
-    (subst (λ (ms : List Move). AllByRecursion (IsMove def rise below above) ms) (sym c.as_slice.ensures.value) c.requires.moves) c.in-Some.ensures (c.parts.ensures.shares c.if-parts.false)
+    let above = c.args.above.now.all.items in
+    move_at def rise star n below c.args.place e c.index-below-place.is above c.args.moves.now.all.items c.in-Some.before c.requires.place
+    c.requires.moves c.in-Some.ensures (c.parts.ensures.shares c.if-parts.false)
 
 pub raised_entry-requires-2-clause-usual : goal.raised_entry-requires-2-clause-usual
 raised_entry-requires-2-clause-usual g c =
@@ -80,7 +78,7 @@ returns-in_err-to-clause-raised g c = λ old here.
     let n = c.args.name.now in
     let below = c.args.below.now in
     let e : Entry = c.index-below-place.result in
-    let above = c.raised_entry-2.new.above.items in
+    let above = c.raised_entry-2.new.above.all.items in
     let fault = c.in_err-to.field-0.0 in
     let d : c.from_residual-in_err-to.result ≡ Err fault = search rules in
     subst (IsRaisedFrom def rise star n old above) (sym d)
@@ -94,7 +92,7 @@ returns-clause-raised g c =
     let n = c.args.name.now in
     let below = c.args.below.now in
     let e : Entry = c.index-below-place.result in
-    straight_at def rise star n below c.args.place e c.index-below-place.is c.raised_entry-2.new.above.items (Ok c.in_ok-to.to) (c.parts.ensures.shares c.if-parts.false) c.in_ok-to.ensures.raised
+    straight_at def rise star n below c.args.place e c.index-below-place.is c.raised_entry-2.new.above.all.items (Ok c.in_ok-to.to) (c.parts.ensures.shares c.if-parts.false) c.in_ok-to.ensures.raised
 
 pub returns-clause-usual : goal.returns-clause-usual
 returns-clause-usual g c = λ kind up can usual all.
@@ -107,8 +105,8 @@ returns-clause-moves g c =
     let def = c.args.way.definition.now in
     let rise = rise_of c.args.way.rung in
     let below = c.args.below.now in
-    let above = c.raised_entry-2.new.above.items in
+    let above = c.raised_entry-2.new.above.all.items in
     let e : Entry = c.index-below-place.result in
-    moves_more def rise below above c.args.moves.now.items c.push.new.self.items (record { from = c.args.place; to = c.in_ok-to.to })
-    (moves_grow def rise below c.args.above.now.items above c.args.moves.now.items c.in_ok-to.ensures.others c.requires.moves) c.in_ok-push.ensures.items
+    moves_more def rise below above c.args.moves.now.all.items c.add.new.self.all.items (record { from = c.args.place; to = c.in_ok-to.to })
+    (moves_grow def rise below c.args.above.now.all.items above c.args.moves.now.all.items c.in_ok-to.ensures.others c.requires.moves) c.in_ok-add.ensures
     (new_move def rise below above c.args.place c.in_ok-to.to e (entry_got below c.args.place e c.requires.place c.index-below-place.is) c.in_ok-to.ensures.raised)
