@@ -17,7 +17,10 @@ pub mod SlotLaws
 pub mod Drafts
 pub mod FormCells
 pub mod Tables
+pub mod ChainLaws
 pub mod Closing
+pub mod LargeLaws
+pub mod SetCellLaws
 pub mod ClassFacts
 pub mod LevelLaws
 pub mod Beginnings

@@ -9,10 +9,10 @@ use Rattle.psg_class.specs.Failing.{cells_from, bracket_cell, bracket_cells}
 use Rattle.psg_class.specs.declared.grid.Cell.{Cell}
 use Rattle.psg_class.specs.declared.shape.Shape.{Shape}
 
-at_self : (r c : ℕ) → is_at r c (cell_of r c) ≡ true
+pub at_self : (r c : ℕ) → is_at r c (cell_of r c) ≡ true
 at_self r c = and_from (r == r) (c == c) (eq-eqb r r refl) (eq-eqb c c refl)
 
-at_is : (r c : ℕ) (x : Cell) → is_at r c x ≡ true → (x.row ≡ r) × (x.column ≡ c)
+pub at_is : (r c : ℕ) (x : Cell) → is_at r c x ≡ true → (x.row ≡ r) × (x.column ≡ c)
 at_is r c x h = (eqb-true x.row r (and_parts _ _ h).0, eqb-true x.column c (and_parts (x.row == r) (x.column == c) h).1)
 
 once_append : (r c : ℕ) (xs ys : List Cell) → once r c (xs ++ ys) ≡ true → (once r c xs ≡ true) ⊎ (once r c ys ≡ true)

@@ -1,5 +1,5 @@
 -- Tables of rows and columns of truth values, and what follows from one along links between rows.
-use Rattle.std.specs.Prelude.{ℕ, ◌≡◌, ◌+◌, ◌*◌, ◌<◌, ◌==◌, ◌&&◌, ◌||◌, Bool, true}
+use Rattle.std.specs.Prelude.{ℕ, zero, suc, ◌≡◌, ◌⊎◌, ◌↔◌, ◌+◌, ◌*◌, ◌<◌, ◌==◌, ◌&&◌, ◌||◌, Bool, true}
 use Rattle.std.specs.Prelude.{false, cond, List, [], ◌∷◌, length, Contains}
 use Rattle.std.specs.List.{list_any, AllByRecursion}
 use Rattle.std.proofs.Common.{get_or}
@@ -66,6 +66,28 @@ pub record IsStep (links : List Link) (old new : Grid) (more : Bool) : Type 0 wh
   pub fewer : more ≡ true → unset new.cells.items < unset old.cells.items
   pub same : more ≡ false → new ≡ old
 
+-- ---- links by the rows that they begin in
+
+-- the row in which the link at a place begins
+abbrev pub begins_in : List Link → ℕ → ℕ
+begins_in links place = (get_or links place (record { to = 0; from = 0 })).from
+
+-- the places below a bound of the links that begin in the row, the last one first
+abbrev pub places_from : List Link → ℕ → ℕ → List ℕ
+places_from links row zero = []
+places_from links row (suc place) =
+    cond (begins_in links place == row) (place ∷ places_from links row place) (places_from links row place)
+
+-- The numbers lead from a place to these places in their order, and after the last one to the stop.
+abbrev pub LeadTo : List ℕ → ℕ → ℕ → List ℕ → Type 0
+LeadTo next stop place [] = place ≡ stop
+LeadTo next stop place (first ∷ rest) = (place ≡ first) × LeadTo next stop (get_or next first 0) rest
+
+-- Each row leads to all links that begin in it and to no others, and a place that is no link's ends its way.
+abbrev pub AreChains : List Link → List ℕ → List ℕ → Type 0
+AreChains links first next = (row : ℕ) → row < length first
+    → LeadTo next (length links) (get_or first row 0) (places_from links row (length links))
+
 -- ---- tables of given cells
 
 abbrev pub is_at : ℕ → ℕ → Cell → Bool
@@ -79,6 +101,16 @@ once row column cells = list_any (is_at row column) cells
 abbrev pub twice : ℕ → ℕ → List Cell → Bool
 twice row column [] = false
 twice row column (x ∷ xs) = (is_at row column x && once row column xs) || twice row column xs
+
+-- the list has the cells of the table that are set, and no others
+abbrev pub AreSetCells : Grid → List Cell → Type 0
+AreSetCells g cells = (row column : ℕ) → (once row column cells ≡ true)
+    ↔ (IsCell g row column × (is_set g row column ≡ true))
+
+-- beside those that were there the list has the set cells of the row that are in columns below a bound
+pub record HasSetBelow (g : Grid) (row bound : ℕ) (old new : List Cell) : Type 0 where
+  pub exact : (r c : ℕ) → (once r c new ≡ true)
+      ↔ ((once r c old ≡ true) ⊎ ((r ≡ row) × (c < bound) × (is_set g r c ≡ true)))
 
 -- each cell is one of a table of this size
 abbrev pub AreInside : ℕ → ℕ → List Cell → Type 0

@@ -35,12 +35,8 @@ impl Sets {
     {
         let phyla = definition.phyla.as_slice();
         let lists = definition.lists.as_slice();
-        let Some(width) = vocabulary.width() else {
-            return Err(AllocError);
-        };
-        let Some(rows) = Rows::of(phyla.len(), lists.len()) else {
-            return Err(AllocError);
-        };
+        let width = vocabulary.width()?;
+        let rows = Rows::of(phyla.len(), lists.len());
         let holes = hole_flags(alloc, definition)?;
         let separators = separator_numbers(alloc, vocabulary, lists)?;
         let numbers = Numbers {

@@ -122,9 +122,7 @@ fn same_first(
     let phyla = definition.phyla.as_slice();
     let opening = vocabulary.known("(");
     let cells = lead_cells(alloc, shapes, phyla, opening)?;
-    let Some(width) = vocabulary.width() else {
-        return Err(AllocError);
-    };
+    let width = vocabulary.width()?;
     let twice = repeated(alloc, phyla.len(), width, cells.as_slice())?;
     Ok(first_failing(vocabulary, &twice))
 }
@@ -142,9 +140,7 @@ fn same_led(
 {
     let phyla = definition.phyla.as_slice();
     let cells = led_cells(alloc, shapes)?;
-    let Some(width) = vocabulary.width() else {
-        return Err(AllocError);
-    };
+    let width = vocabulary.width()?;
     let twice = repeated(alloc, phyla.len(), width, cells.as_slice())?;
     Ok(first_failing(vocabulary, &twice))
 }

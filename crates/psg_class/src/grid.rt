@@ -1,16 +1,17 @@
 //! Tables of truth values, and their closure along links between rows.
 ghost use Rattle.std.specs.Prelude.{◌≡◌, ◌||◌, ◌&&◌, ◌≢◌, ◌+◌, ◌*◌, ◌<◌, ◌≤◌, ◌⊎◌, ◌↔◌};
-ghost use Rattle.std.specs.Prelude.{IfOk, List, Contains, not, true, false, ℕ};
+ghost use Rattle.std.specs.Prelude.{IfOk, OnOk, List, Contains, get_or, length, not, true, false, ℕ};
 ghost use Rattle.std.specs.Bool.{OnTrue, OnFalse};
-ghost use Rattle.psg_class.specs.Grids.{AreInside, AreLinks, Derives, once, twice, Follows, is_at, IsCell};
-ghost use Rattle.psg_class.specs.Grids.{IsGrid, is_set, IsSameSize, IsStep, IsTable, unset};
+ghost use Rattle.psg_class.specs.Grids.{AreChains, AreInside, AreLinks, AreSetCells, begins_in, Derives, once, twice, Follows, is_at, IsCell};
+ghost use Rattle.psg_class.specs.Grids.{HasSetBelow, IsGrid, is_set, IsSameSize, IsStep, IsTable, unset};
 ghost use Rattle.psg_class.specs.declared.grid.Link.{Link as Linked};
 
+use psg_terms::{Room, uncountable};
 use std::alloc::{AllocError, Global};
 
 /// The number of cells that a table may have at most, 2^30. A cell takes a byte, and each is read a few times: a table
 /// of this size is filled within seconds. A definition of 1 MB can have phyla for a table ten times as large.
-const MOST_CELLS: usize = 0x4000_0000;
+const MOST_CELLS: u64 = 0x4000_0000;
 
 /// A table, with its rows one after the other.
 #[derive(Drop)]
@@ -36,6 +37,7 @@ pub(crate) struct Cell {
 
 impl Grid {
     /// A table in which nothing is set. It is out of memory where it would have more than 2^30 cells.
+    #[tactic(auto, using(crate::proofs::LargeLaws::large_product))]
     pub(crate) fn new(alloc: Global, height: usize, width: usize) -> Result<Grid, AllocError>
         ensures height { IfOk result (λ g. g.height ≡ height) }
         ensures width { IfOk result (λ g. g.width ≡ width) }
@@ -43,11 +45,10 @@ impl Grid {
         ensures empty { IfOk result (λ g. (row column : ℕ) → is_set g row column ≡ false) }
     {
         let Some(size) = height.checked_mul(width) else {
-            return Err(AllocError);
+            return Err(uncountable(height.max(width)));
         };
-        if size > MOST_CELLS {
-            return Err(AllocError);
-        }
+        let mut room = Room::of(MOST_CELLS);
+        room.spend(size as u64)?;
         Ok(Grid {
             height,
             width,
@@ -166,17 +167,18 @@ struct Chains {
 }
 
 /// Returns the chains of the links. Takes memory for a number a row and a number a link.
-fn chained(alloc: Global, height: usize, links: &[Link]) -> Result<Chains, AllocError> {
-    let mut first = vec![in alloc; usize::MAX; height]?;
+fn chained(alloc: Global, height: usize, links: &[Link]) -> Result<Chains, AllocError>
+    requires { (place : ℕ) → place < length links.now → begins_in links.now place < height }
+    ensures one_each { IfOk result (λ c. length c.first.items ≡ height) }
+    ensures each_next { IfOk result (λ c. length c.next.items ≡ length links.now) }
+    ensures chains { IfOk result (λ c. AreChains links.now c.first.items c.next.items) }
+{
+    let mut first = vec![in alloc; links.len(); height]?;
     let mut next = Vec::with_capacity(alloc, links.len())?;
-    for (place, link) in links.iter().enumerate() {
-        match first.get_mut(link.from) {
-            Some(entry) => {
-                next.push(*entry)?;
-                *entry = place;
-            }
-            None => next.push(usize::MAX)?,
-        }
+    for place in 0..links.len() {
+        let from = links[place].from;
+        next.push(first[from])?;
+        first[from] = place;
     }
     Ok(Chains { first, next })
 }
@@ -184,16 +186,28 @@ fn chained(alloc: Global, height: usize, links: &[Link]) -> Result<Chains, Alloc
 /// Returns the cells that are set.
 fn set_cells(alloc: Global, grid: &Grid) -> Result<Vec<Cell>, AllocError>
     requires { IsGrid grid.now }
+    ensures { IfOk result (λ v. AreSetCells grid.now v.items) }
 {
     let mut cells = Vec::new(alloc);
     for row in 0..grid.height {
-        for column in 0..grid.width {
-            if grid.has(row, column) {
-                cells.push(Cell { row, column })?;
-            }
-        }
+        add_row(grid, row, &mut cells)?;
     }
     Ok(cells)
+}
+
+/// Adds the cells of the row that are set.
+#[tactic(auto, using(crate::proofs::SetCellLaws::set_below, crate::proofs::SetCellLaws::unset_below))]
+fn add_row(grid: &Grid, row: usize, cells: &mut Vec<Cell>) -> Result<(), AllocError>
+    requires grid { IsGrid grid.now }
+    requires row { row < grid.now.height }
+    ensures { OnOk result (HasSetBelow grid.now row grid.now.width cells.old.items cells.new.items) }
+{
+    for column in 0..grid.width {
+        if grid.has(row, column) {
+            cells.push(Cell { row, column })?;
+        }
+    }
+    Ok(())
 }
 
 /// Passes each set cell on along the links, and so each cell that is set by that; whether it set a cell.
@@ -248,7 +262,9 @@ fn pass_on(
 }
 
 /// Returns the place of the first link that begins in the row.
-fn chained_first(chains: &Chains, row: usize) -> usize {
+fn chained_first(chains: &Chains, row: usize) -> usize
+    ensures { row < length chains.now.first.items → result ≡ get_or chains.now.first.items row 0 }
+{
     match chains.first.get(row) {
         Some(place) => *place,
         None => usize::MAX,
@@ -256,7 +272,9 @@ fn chained_first(chains: &Chains, row: usize) -> usize {
 }
 
 /// Returns the place of the link after the one at the place.
-fn chained_next(chains: &Chains, place: usize) -> usize {
+fn chained_next(chains: &Chains, place: usize) -> usize
+    ensures { place < length chains.now.next.items → result ≡ get_or chains.now.next.items place 0 }
+{
     match chains.next.get(place) {
         Some(behind) => *behind,
         None => usize::MAX,

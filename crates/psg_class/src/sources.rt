@@ -1,6 +1,6 @@
 //! What begins each kind and what can follow it: the terminals that are given at once, and the rows from which the
 //! others follow.
-ghost use Rattle.std.specs.Prelude.{◌≡◌, ◌<◌, ◌&&◌, ◌+◌, ◌≤◌, ◌↔◌, IfOk, IfSome};
+ghost use Rattle.std.specs.Prelude.{◌≡◌, ◌<◌, ◌&&◌, ◌+◌, ◌^◌, ◌≤◌, ◌↔◌, IfOk};
 ghost use Rattle.std.specs.Prelude.{OnOk, Some, slice_get, length, true, ℕ};
 ghost use Rattle.psg_class.specs.declared.shape.Part.TheVariants as parts;
 ghost use Rattle.psg_class.specs.Grids.{IsCell, IsTable, is_set};
@@ -35,17 +35,18 @@ pub(crate) struct Draft {
 }
 
 impl Rows {
-    pub(crate) fn of(phyla: usize, lists: usize) -> Option<Rows>
-        ensures rows { IfSome result IsRows }
-        ensures sizes { IfSome result (AreRows phyla lists) }
+    pub(crate) fn of(phyla: usize, lists: usize) -> Rows
+        requires phyla { phyla < 2 ^ 32 }
+        requires lists { lists < 2 ^ 32 }
+        ensures rows { IsRows result }
+        ensures sizes { AreRows phyla lists result }
     {
-        let kinds = phyla.checked_add(lists)?;
-        let height = kinds.checked_add(kinds)?.checked_add(phyla)?;
-        Some(Rows {
+        let kinds = phyla + lists;
+        Rows {
             phyla,
             kinds,
-            height,
-        })
+            height: kinds + kinds + phyla,
+        }
     }
 
     fn kind(&self, kind: Kind) -> usize

@@ -1,12 +1,12 @@
 //! The terminals of a definition, by number.
-ghost use Rattle.std.specs.Prelude.{◌≡◌, ◌+◌, IfOk, IfSome, OnOk, Some, length, option_copied, string_bytes, true};
+ghost use Rattle.std.specs.Prelude.{◌≡◌, ◌+◌, ◌^◌, ◌<◌, IfOk, IsOk, OnOk, Some, length, option_copied, string_bytes, true};
 ghost use Rattle.psg_terms.specs.Names.{is_among};
 ghost use Rattle.psg_grammar.specs.WellFormed.{separators, operator_words, words_in};
 ghost use Rattle.psg_class.specs.Numbers.{Grown, HasWords, IsConsistent, is_number_before, IsVocabulary};
 ghost use Rattle.psg_class.specs.Numbers.{number_text, other_text, word_at, word_number};
 
 use psg_grammar::{Definition, Item, ListKind, Operator, Phylum};
-use psg_terms::Txt;
+use psg_terms::{Txt, uncountable};
 use std::alloc::{AllocError, Global};
 use std::collections::HashMap;
 
@@ -37,7 +37,7 @@ impl Vocabulary {
     {
         let phyla = definition.phyla.as_slice().len();
         let Some(base) = phyla.checked_add(4) else {
-            return Err(AllocError);
+            return Err(uncountable(phyla));
         };
         let mut vocabulary = Vocabulary {
             base,
@@ -87,6 +87,7 @@ impl Vocabulary {
     }
 
     /// Gives the word the next number, if it has none.
+    #[tactic(auto, using(crate::proofs::LargeLaws::large_sum))]
     fn add(&mut self, alloc: Global, word: &Txt) -> Result<(), AllocError>
         requires { IsConsistent self.old }
         ensures grown { OnOk result (Grown self.old self.new) }
@@ -98,7 +99,7 @@ impl Vocabulary {
         let key = String::from_str(alloc, word.as_str())?;
         let count = self.words.as_slice().len();
         let Some(number) = self.base.checked_add(count) else {
-            return Err(AllocError);
+            return Err(uncountable(self.base.max(count)));
         };
         self.numbers.insert(key, number)?;
         self.words.push(word.share()?)?;
@@ -125,12 +126,17 @@ impl Vocabulary {
         }
     }
 
-    /// Returns how many terminals there are, or `None` where they are too many to count.
-    pub(crate) fn width(&self) -> Option<usize>
-        ensures { IfSome result (λ n. n ≡ self.now.base + length self.now.words.items) }
+    /// Returns how many terminals there are. It fails as if out of memory where 64 bits do not hold their number.
+    #[tactic(auto, using(crate::proofs::LargeLaws::large_sum))]
+    pub(crate) fn width(&self) -> Result<usize, AllocError>
+        ensures sum { IfOk result (λ n. n ≡ self.now.base + length self.now.words.items) }
+        ensures fits { self.now.base + length self.now.words.items < 2 ^ 64 → IsOk result }
     {
         let words = self.words.as_slice().len();
-        self.base.checked_add(words)
+        match self.base.checked_add(words) {
+            Some(width) => Ok(width),
+            None => Err(uncountable(self.base.max(words))),
+        }
     }
 
     /// Says whether the terminal of `number` is before that of `other` in the order in which they are named: fixed

@@ -9,9 +9,13 @@ pub mod Finds
 pub mod Holes
 pub mod Grown
 pub mod Leading
+pub mod Onwards
+pub mod Moving
 pub mod ListSteps
 pub mod WorkLaws
 pub mod Tabled
 pub mod HoleTables
 pub mod Taken
+pub mod Endings
+pub mod Fronts
 pub mod CaseReads

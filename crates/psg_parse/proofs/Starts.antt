@@ -8,12 +8,12 @@ use Rattle.psg_grammar.specs.Fragments.{Fragment, hole, operator}
 use Rattle.psg_grammar.specs.Levels.{level_number}
 use Rattle.psg_class.specs.Terminals.{Token, terminal_of}
 use Rattle.psg_class.specs.Places.{solid}
-use Rattle.psg_class.specs.Follow.{Leads, First}
+use Rattle.psg_class.specs.Follow.{Leads}
 use Rattle.psg_class.specs.Class.{IsClass}
 use Rattle.psg_class.proofs.ClassFacts.{facts}
 use Rattle.psg_class.specs.Runs.{start, grow, parts}
 use Rattle.psg_class.specs.Machine.{Frame, then_grow, then_close, Completes, taken}
-use Rattle.psg_class.proofs.Machine.{step_hole, step_bracket, step_leading, step_no_start, step_low, step_item}
+use Rattle.psg_class.proofs.Machine.{step_hole, step_bracket, step_leading, step_low, step_item}
 use Rattle.psg_parse.specs.Tables.{OpensHole, OpensBracket}
 use Rattle.psg_parse.proofs.Opens.{hole_token}
 
@@ -24,9 +24,6 @@ module _ (def : Definition) (k : IsClass def) (p m : ℕ) (st : List Frame) (t :
 
   pub starts_bracket : OpensBracket def p (terminal_of def t) → Completes def (start p m) st (t ∷ ts) F D ↔ Completes def (start p 0) (then_close ∷ then_grow p m None ∷ st) ts F D
   starts_bracket h = step_bracket def (facts def k) F D p m st t ts h.phylum h.found h.bracketed h.is
-
-  pub starts_nothing : (First def p (terminal_of def t) → ⊥) → Completes def (start p m) st (t ∷ ts) F D → ⊥
-  starts_nothing h = step_no_start def (facts def k) F D p m st (t ∷ ts) (λ terminal e f. h (subst (First def p) (let x : Some (terminal_of def t) ≡ Some terminal = e in let y : terminal ≡ terminal_of def t = cc in y) f))
 
   pub starts_low : (op : ℕ) (l : Leads def p op (terminal_of def t)) (o : Operator) → l.o ≡ o → level_number o.level < m → Completes def (start p m) st (t ∷ ts) F D → ⊥
   starts_low op l o same h = step_low def (facts def k) F D p m st t ts op l (subst (λ x. level_number x.level < m) (sym same) h)

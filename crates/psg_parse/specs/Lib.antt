@@ -2,7 +2,9 @@ pub mod Seen
 pub mod Lookups
 pub mod Standing
 pub mod Answers
+pub mod Onward
 pub mod States
+pub mod Stops
 pub mod Tables
 pub mod Work
 pub mod Within

@@ -1,13 +1,16 @@
 -- What is left to do in a state of the parser. The program's frames hold no tree past the limits, so each represents a
 -- plain frame, which has one.
-use Rattle.std.specs.Prelude.{ℕ, ◌≡◌, ◌↔◌, false, List, [], ◌∷◌}
+use Rattle.std.specs.Prelude.{ℕ, ◌≡◌, ◌↔◌, false, List, [], ◌∷◌, ◌++◌}
 use Rattle.psg_grammar.specs.declared.types.Definition.{Definition}
 use Rattle.psg_grammar.specs.Fragments.{Fragment}
 use Rattle.psg_lexis.specs.declared.token.Token.{Token}
 use Rattle.psg_class.specs.Places.{solid}
-use Rattle.psg_class.specs.Runs.{Task, start, grow, parts, list}
+use Rattle.psg_class.specs.Terminals.{next_terminal}
+use Rattle.psg_class.specs.Runs.{start, grow, parts, list}
 use Rattle.psg_class.specs.Machine.{Frame as Plain, then_grow, then_parts, then_close, then_list, Ends, Completes}
 use Rattle.psg_class.specs.Texts.{tokens_of}
+use Rattle.psg_parse.specs.Onward.{IsEndable, CanEndState, MayLeave}
+pub use Rattle.psg_parse.specs.Onward.{Aim, running, giving}
 use Rattle.psg_parse.specs.Standing.{IsTree, IsPartly, AreElements}
 use Rattle.psg_grammar.specs.declared.types.Kind.{Kind}
 use Rattle.psg_grammar.specs.declared.types.Kind.TheVariants as kinds
@@ -22,11 +25,6 @@ use Rattle.psg_parse.specs.declared.state.Step.{Step}
 use Rattle.psg_parse.specs.declared.state.Step.TheVariants as steps
 
 -- ---- plain states
-
--- a task to be run, or a finished tree with its nesting
-pub data Aim : Type 0 where
-  running : (task : Task) → Aim
-  giving : (f : Fragment) (nesting : ℕ) → Aim
 
 -- the trees, with their nesting, that may be the result from here on
 abbrev pub LeftBy : Definition → Aim → List Plain → List Token → Fragment → ℕ → Type 0
@@ -72,22 +70,46 @@ pub record IsState (s : State) (aim : Aim) (st : List Plain) : Type 0 where
 abbrev pub Same : (Fragment → ℕ → Type 0) → (Fragment → ℕ → Type 0) → Type 0
 Same Before After = (F : Fragment) (D : ℕ) → Before F D ↔ After F D
 
--- the state leaves the same results
-pub record GoesOn (def : Definition) (Before : Fragment → ℕ → Type 0) (s : State) : Type 0 where
+-- the parser sees the same at the next token, or the end at both
+abbrev pub SeesSame : Definition → List Token → List Token → Type 0
+SeesSame def ts us = next_terminal def us ≡ next_terminal def ts
+
+-- From one state to another one these tokens are taken, and the next token may have been looked at. Whatever is there in
+-- place of the tokens after the next one, the same trees are left; and whatever ends the later state ends the earlier one
+-- too.
+pub record Moves (def : Definition) (aim : Aim) (st : List Plain) (taken rest : List Token) (to : Aim)
+    (on : List Plain) : Type 0 where
+  pub same : (us : List Token) → SeesSame def rest us → Same (LeftBy def aim st (taken ++ us)) (LeftBy def to on us)
+  pub back : (us : List Token) (F : Fragment) (D : ℕ) → MayLeave def to on us F D → MayLeave def aim st (taken ++ us) F D
+  pub ends : IsEndable def → CanEndState def aim st → CanEndState def to on
+
+-- from these tokens on, the state leads to that one
+pub record GoesOn (def : Definition) (from : Aim) (below : List Plain) (ts : List Token) (s : State) : Type 0 where
   pub aim : Aim
   pub st : List Plain
   pub stands : IsState s aim st
-  pub same : Same Before (LeftBy def aim st (tokens_of s.rest.now))
+  pub taken : List Token
+  pub are : ts ≡ taken ++ tokens_of s.rest.now
+  pub moves : Moves def from below taken (tokens_of s.rest.now) aim st
 
--- the result of a step leaves the same trees
-abbrev pub Leads : Definition → (Fragment → ℕ → Type 0) → Step → Type 0
-Leads def Before (steps.Go s) = GoesOn def Before s
-Leads def Before (steps.Done tree) = (f : Fragment) × (n : ℕ) × IsTree tree f n × Same Before (λ F D. (F ≡ f) × (D ≡ n))
-Leads def Before steps.NoTree = (F : Fragment) (D : ℕ) → Before F D → ⊥
+-- The result of a step leaves the same trees. Where there is no tree, there is none whatever is there in place of the
+-- tokens after the next one.
+abbrev pub Leads : Definition → Aim → List Plain → List Token → Step → Type 0
+Leads def from below ts (steps.Go s) = GoesOn def from below ts s
+Leads def from below ts (steps.Done tree) =
+    (f : Fragment) × (n : ℕ) × IsTree tree f n × Same (LeftBy def from below ts) (λ F D. (F ≡ f) × (D ≡ n))
+Leads def from below ts steps.NoTree =
+    (us : List Token) → SeesSame def ts us → (F : Fragment) (D : ℕ) → LeftBy def from below us F D → ⊥
 
 -- a step from a state of the aim, at these tokens
 abbrev pub Steps : Definition → Aim → List Plain → List Token → Step → Type 0
-Steps def aim st ts step = Leads def (LeftBy def aim st ts) step
+Steps def aim st ts step = Leads def aim st ts step
+
+-- the same of a step that is not the last one
+abbrev pub Goes : Definition → Aim → List Plain → List Token → Step → Type 0
+Goes def aim st ts (steps.Go s) = GoesOn def aim st ts s
+Goes def aim st ts (steps.Done tree) = ⊥
+Goes def aim st ts steps.NoTree = ⊥
 
 -- ---- the beginning
 

@@ -26,6 +26,7 @@ mod grows;
 mod lists;
 mod lookup;
 mod parser;
+pub mod reaching;
 mod seen;
 mod standing;
 mod state;
@@ -34,4 +35,5 @@ mod tables;
 
 pub use fault::{Goal, ParseFault};
 pub use parser::{parse, parse_with};
+pub use reaching::{Front, reach};
 pub use tables::{ParseTable, fixed_words};

@@ -8,7 +8,7 @@ ghost use Rattle.psg_class.specs.Machine.{behind_all, Frame as Plain, then_list}
 ghost use Rattle.psg_class.specs.Runs.{list as listing, start as starting};
 ghost use Rattle.psg_class.specs.Texts.{tokens_of};
 ghost use Rattle.psg_parse.specs.Standing.{AreElements};
-ghost use Rattle.psg_parse.specs.States.{giving, IsStack, running, Steps};
+ghost use Rattle.psg_parse.specs.States.{giving, Goes, IsStack, running, Steps};
 ghost use Rattle.psg_parse.specs.Tables.{IsParseTable};
 ghost use Rattle.psg_parse.specs.Work.{Falls, stack_work};
 
@@ -34,7 +34,7 @@ pub(crate) fn finish<'a>(
 ) -> Result<Step<'a>, AllocError>
     ensures leads { IfOk result (λ s. (st : List Plain) (before : List Fragment) (n : ℕ)
         → IsStack stack.entry.items st → AreElements listed before n
-        → Steps definition.now (giving (behind_all list before (ending list unfinished)) n) st (tokens_of rest.now) s) }
+        → Goes definition.now (giving (behind_all list before (ending list unfinished)) n) st (tokens_of rest.now) s) }
     ensures falls { IfOk result (Falls (length rest.now) (1 + stack_work stack.entry.items)) }
 {
     let tree = listed.finish(alloc, list, unfinished)?;
@@ -56,7 +56,7 @@ pub(crate) fn go_on<'a>(
 ) -> Result<Step<'a>, AllocError>
     ensures leads { IfOk result (λ s. (st : List Plain) (before : List Fragment) (n : ℕ)
         → IsStack stack.entry.items st → AreElements listed before n
-        → Steps definition.now (running (starting element 0)) (then_list list before n ∷ st) (tokens_of rest.now) s) }
+        → Goes definition.now (running (starting element 0)) (then_list list before n ∷ st) (tokens_of rest.now) s) }
     ensures falls { IfOk result (Falls (length rest.now) (2 + stack_work stack.entry.items)) }
 {
     let mut stack = stack;

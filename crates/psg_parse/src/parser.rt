@@ -94,7 +94,7 @@ pub fn parse_with<L: Ledger>(
 }
 
 /// Returns the state at the beginning of the tokens.
-fn begin<'a>(alloc: Global, goal: Goal, tokens: &'a [Spanned]) -> State<'a>
+pub(crate) fn begin<'a>(alloc: Global, goal: Goal, tokens: &'a [Spanned]) -> State<'a>
     ensures { IsBegun goal tokens.now result }
 {
     let mode = match goal.kind {

@@ -1,6 +1,10 @@
 use Rattle.std.proofs.Common.{◌<◌, subst, sym}
+use Rattle.std.proofs.lemmas.List.Elements.{Contains-get_or}
 use Rattle.psg_class.proofs.Closing.{joined}
 use Rattle.psg_class.proofs.grid.spread.Goals as goal
+
+pub chained-requires : goal.chained-requires
+chained-requires c = λ place lt. (c.requires.links _ (Contains-get_or c.args.links.now place (record { to = 0; from = 0 }) lt)).1
 
 pub pass_on-requires-clause-links : goal.pass_on-requires-clause-links
 pass_on-requires-clause-links c = λ l among.

@@ -1,17 +1,16 @@
-use Rattle.std.proofs.Common.{◌≡◌, ◌↔◌, ◌∷◌, max, Some, true, false, slice_get, sym, ap, ◌∙◌, subst, true≢false, ◌+◌, length, arith, ◌<◌}
+use Rattle.std.proofs.Common.{◌≡◌, [], ◌∷◌, max, Some, true, false, slice_get, refl, sym, ap, ◌∙◌, true≢false, ◌+◌, length, arith, ◌<◌}
 use Rattle.std.proofs.lemmas.Result.{IfOk-weaker}
 use Rattle.psg_terms.proofs.Lists.{got_some}
-use Rattle.psg_grammar.specs.Fragments.{ending, cell}
-use Rattle.psg_class.specs.Terminals.{dots, fixed, a_more, terminal_of}
-use Rattle.psg_class.proofs.ClassFacts.{facts}
+use Rattle.psg_grammar.specs.Fragments.{ending}
+use Rattle.psg_class.specs.Terminals.{fixed, a_more, terminal_of}
 use Rattle.psg_class.specs.Runs.{start}
-use Rattle.psg_class.specs.Machine.{Completes, Ends, then_list, behind_all}
-use Rattle.psg_class.proofs.Machine.{step_last, step_dots, step_next}
+use Rattle.psg_class.specs.Machine.{then_list, behind_all}
 use Rattle.psg_class.specs.Texts.{tokens_of}
-use Rattle.psg_parse.specs.States.{giving, running, LeftBy}
+use Rattle.psg_parse.specs.States.{giving, running}
 use Rattle.psg_parse.proofs.Leading.{leads_via}
 use Rattle.psg_parse.proofs.Stacks.{nothing_next, other_next}
 use Rattle.psg_parse.proofs.ListSteps.{more_token}
+use Rattle.psg_parse.proofs.Moving.{moves_last, moves_dots, moves_next}
 use Rattle.psg_parse.specs.Work.{stack_work}
 use Rattle.psg_parse.proofs.WorkLaws.{falls_later, shorter}
 use Rattle.psg_parse.proofs.lists.tail.Goals as goal
@@ -23,8 +22,9 @@ returns-in_default-split_first-clause-leads c =
     let kind = c.in-Some.kind.now in
     let found : slice_get c.args.definition.now.lists c.args.list ≡ Some c.in-Some.kind.now =
     ap (λ xs. slice_get xs c.args.list) (sym c.as_slice.ensures) ∙ got_some c.as_slice.result.now l c.get.result c.in-Some.kind c.get.ensures.lookup c.in-Some.is in
-    IfOk-weaker c.finish.result _ _ (λ s k st before e d n h x. leads_via def (LeftBy def (giving e n) (then_list l before d ∷ st) (tokens_of c.args.rest.now)) (LeftBy def (giving (behind_all l (e ∷ before) (ending l false)) (max d n)) st (tokens_of c.args.rest.now))
-    (λ F D. step_last def (facts def c.requires.class) F D l kind found before d st e n (tokens_of c.args.rest.now) (nothing_next def c.args.rest.now (fixed kind.separator) c.in_default-split_first.ensures.cases)) s
+    let all = tokens_of c.args.rest.now in
+    IfOk-weaker c.finish.result _ _ (λ s k st before e d n h x. leads_via def (giving e n) (then_list l before d ∷ st) all [] all (giving (behind_all l (e ∷ before) (ending l false)) (max d n)) st refl
+    (moves_last def c.requires.class l kind found st before d e n all (nothing_next def c.args.rest.now (fixed kind.separator) c.in_default-split_first.ensures.cases)) s
     (k st (e ∷ before) (max d n) h x)) c.finish.ensures.leads
 
 pub returns-then-not-is_fixed-clause-leads : goal.returns-then-not-is_fixed-clause-leads
@@ -34,8 +34,9 @@ returns-then-not-is_fixed-clause-leads c =
     let kind = c.in-Some.kind.now in
     let found : slice_get c.args.definition.now.lists c.args.list ≡ Some c.in-Some.kind.now =
     ap (λ xs. slice_get xs c.args.list) (sym c.as_slice.ensures) ∙ got_some c.as_slice.result.now l c.get.result c.in-Some.kind c.get.ensures.lookup c.in-Some.is in
-    IfOk-weaker c.finish-then-not-is_fixed.result _ _ (λ s k st before e d n h x. leads_via def (LeftBy def (giving e n) (then_list l before d ∷ st) (tokens_of c.args.rest.now)) (LeftBy def (giving (behind_all l (e ∷ before) (ending l false)) (max d n)) st (tokens_of c.args.rest.now))
-    (λ F D. step_last def (facts def c.requires.class) F D l kind found before d st e n (tokens_of c.args.rest.now) (other_next def c.args.rest.now c.in-Some-split_first.spanned.now c.in-Some-split_first.others.now (fixed kind.separator) c.in-Some-split_first.ensures.cases.0 (λ y. true≢false (sym (c.is_fixed.ensures.1 (c.see-seen.ensures ∙ y ∙ ap (λ w. fixed w) (sym c.as_str.ensures))) ∙ c.if-not-is_fixed.true)))) s
+    let all = tokens_of c.args.rest.now in
+    IfOk-weaker c.finish-then-not-is_fixed.result _ _ (λ s k st before e d n h x. leads_via def (giving e n) (then_list l before d ∷ st) all [] all (giving (behind_all l (e ∷ before) (ending l false)) (max d n)) st refl
+    (moves_last def c.requires.class l kind found st before d e n all (other_next def c.args.rest.now c.in-Some-split_first.spanned.now c.in-Some-split_first.others.now (fixed kind.separator) c.in-Some-split_first.ensures.cases.0 (λ y. true≢false (sym (c.is_fixed.ensures.1 (c.see-seen.ensures ∙ y ∙ ap (λ w. fixed w) (sym c.as_str.ensures))) ∙ c.if-not-is_fixed.true)))) s
     (k st (e ∷ before) (max d n) h x)) c.finish-then-not-is_fixed.ensures.leads
 
 pub returns-then-not-kind-clause-leads : goal.returns-then-not-kind-clause-leads
@@ -49,9 +50,8 @@ returns-then-not-kind-clause-leads c =
     let others = tokens_of c.in-Some-split_first.others.now in
     let ts : tokens_of c.args.rest.now ≡ c.in-Some-split_first.spanned.now.token ∷ tokens_of c.in-Some-split_first.others.now = ap tokens_of c.in-Some-split_first.ensures.cases.0 in
     let is : terminal_of c.args.definition.now c.in-Some-split_first.spanned.now.token ≡ fixed c.in-Some.kind.now.separator = sym c.see-seen.ensures ∙ c.is_fixed.ensures.0 c.if-not-is_fixed.false ∙ ap (λ w. fixed w) c.as_str.ensures in
-    IfOk-weaker c.go_on.result _ _ (λ s k st before e d n h x. leads_via def (LeftBy def (giving e n) (then_list l before d ∷ st) (tokens_of c.args.rest.now)) (LeftBy def (running (start kind.element 0)) (then_list l (e ∷ before) (max d n) ∷ st) others)
-    (λ F D. subst (λ z. Ends def (then_list l before d ∷ st) e n z F D ↔ Completes def (start kind.element 0) (then_list l (e ∷ before) (max d n) ∷ st) others F D) (sym ts)
-    (step_next def (facts def c.requires.class) F D l kind found before d st e n t others is (λ u y. true≢false (sym u ∙ c.if-not-kind.true)))) s
+    IfOk-weaker c.go_on.result _ _ (λ s k st before e d n h x. leads_via def (giving e n) (then_list l before d ∷ st) (tokens_of c.args.rest.now) (t ∷ []) others (running (start kind.element 0)) (then_list l (e ∷ before) (max d n) ∷ st) ts
+    (moves_next def c.requires.class l kind found st before d e n t is others (λ u y. true≢false (sym u ∙ c.if-not-kind.true))) s
     (k st (e ∷ before) (max d n) h x)) c.go_on.ensures.leads
 
 pub returns-in_default-split_first-2-clause-leads : goal.returns-in_default-split_first-2-clause-leads
@@ -65,9 +65,8 @@ returns-in_default-split_first-2-clause-leads c =
     let others = tokens_of c.in-Some-split_first.others.now in
     let ts : tokens_of c.args.rest.now ≡ c.in-Some-split_first.spanned.now.token ∷ tokens_of c.in-Some-split_first.others.now = ap tokens_of c.in-Some-split_first.ensures.cases.0 in
     let is : terminal_of c.args.definition.now c.in-Some-split_first.spanned.now.token ≡ fixed c.in-Some.kind.now.separator = sym c.see-seen.ensures ∙ c.is_fixed.ensures.0 c.if-not-is_fixed.false ∙ ap (λ w. fixed w) c.as_str.ensures in
-    IfOk-weaker c.go_on-in_default-split_first-2.result _ _ (λ s k st before e d n h x. leads_via def (LeftBy def (giving e n) (then_list l before d ∷ st) (tokens_of c.args.rest.now)) (LeftBy def (running (start kind.element 0)) (then_list l (e ∷ before) (max d n) ∷ st) others)
-    (λ F D. subst (λ z. Ends def (then_list l before d ∷ st) e n z F D ↔ Completes def (start kind.element 0) (then_list l (e ∷ before) (max d n) ∷ st) others F D) (sym ts)
-    (step_next def (facts def c.requires.class) F D l kind found before d st e n t others is (λ u y. nothing_next def c.in-Some-split_first.others.now a_more c.in_default-split_first-2.ensures.cases y))) s
+    IfOk-weaker c.go_on-in_default-split_first-2.result _ _ (λ s k st before e d n h x. leads_via def (giving e n) (then_list l before d ∷ st) (tokens_of c.args.rest.now) (t ∷ []) others (running (start kind.element 0)) (then_list l (e ∷ before) (max d n) ∷ st) ts
+    (moves_next def c.requires.class l kind found st before d e n t is others (λ u y. nothing_next def c.in-Some-split_first.others.now a_more c.in_default-split_first-2.ensures.cases y)) s
     (k st (e ∷ before) (max d n) h x)) c.go_on-in_default-split_first-2.ensures.leads
 
 pub returns-then-not-is_more-clause-leads : goal.returns-then-not-is_more-clause-leads
@@ -81,9 +80,8 @@ returns-then-not-is_more-clause-leads c =
     let others = tokens_of c.in-Some-split_first.others.now in
     let ts : tokens_of c.args.rest.now ≡ c.in-Some-split_first.spanned.now.token ∷ tokens_of c.in-Some-split_first.others.now = ap tokens_of c.in-Some-split_first.ensures.cases.0 in
     let is : terminal_of c.args.definition.now c.in-Some-split_first.spanned.now.token ≡ fixed c.in-Some.kind.now.separator = sym c.see-seen.ensures ∙ c.is_fixed.ensures.0 c.if-not-is_fixed.false ∙ ap (λ w. fixed w) c.as_str.ensures in
-    IfOk-weaker c.go_on-then-not-is_more.result _ _ (λ s k st before e d n h x. leads_via def (LeftBy def (giving e n) (then_list l before d ∷ st) (tokens_of c.args.rest.now)) (LeftBy def (running (start kind.element 0)) (then_list l (e ∷ before) (max d n) ∷ st) others)
-    (λ F D. subst (λ z. Ends def (then_list l before d ∷ st) e n z F D ↔ Completes def (start kind.element 0) (then_list l (e ∷ before) (max d n) ∷ st) others F D) (sym ts)
-    (step_next def (facts def c.requires.class) F D l kind found before d st e n t others is (λ u y. other_next def c.in-Some-split_first.others.now c.in-Some-split_first-2.second.now c.in-Some-split_first-2.behind.now a_more c.in-Some-split_first-2.ensures.cases.0 (λ z. true≢false (sym (c.is_more.ensures.1 (more_token def c.in-Some-split_first-2.second.now.token z)) ∙ c.if-not-is_more.true)) y))) s
+    IfOk-weaker c.go_on-then-not-is_more.result _ _ (λ s k st before e d n h x. leads_via def (giving e n) (then_list l before d ∷ st) (tokens_of c.args.rest.now) (t ∷ []) others (running (start kind.element 0)) (then_list l (e ∷ before) (max d n) ∷ st) ts
+    (moves_next def c.requires.class l kind found st before d e n t is others (λ u y. other_next def c.in-Some-split_first.others.now c.in-Some-split_first-2.second.now c.in-Some-split_first-2.behind.now a_more c.in-Some-split_first-2.ensures.cases.0 (λ z. true≢false (sym (c.is_more.ensures.1 (more_token def c.in-Some-split_first-2.second.now.token z)) ∙ c.if-not-is_more.true)) y)) s
     (k st (e ∷ before) (max d n) h x)) c.go_on-then-not-is_more.ensures.leads
 
 pub returns-clause-leads : goal.returns-clause-leads
@@ -97,11 +95,12 @@ returns-clause-leads c =
     let others = tokens_of c.in-Some-split_first.others.now in
     let ts : tokens_of c.args.rest.now ≡ c.in-Some-split_first.spanned.now.token ∷ tokens_of c.in-Some-split_first.others.now = ap tokens_of c.in-Some-split_first.ensures.cases.0 in
     let is : terminal_of c.args.definition.now c.in-Some-split_first.spanned.now.token ≡ fixed c.in-Some.kind.now.separator = sym c.see-seen.ensures ∙ c.is_fixed.ensures.0 c.if-not-is_fixed.false ∙ ap (λ w. fixed w) c.as_str.ensures in
+    let u = c.in-Some-split_first-2.second.now.token in
     let behind = tokens_of c.in-Some-split_first-2.behind.now in
-    let more : tokens_of c.in-Some-split_first.others.now ≡ dots ∷ tokens_of c.in-Some-split_first-2.behind.now = ap tokens_of c.in-Some-split_first-2.ensures.cases.0 ∙ ap (λ y. y ∷ tokens_of c.in-Some-split_first-2.behind.now) (c.is_more.ensures.0 c.if-not-is_more.false) in
-    IfOk-weaker c.finish-2.result _ _ (λ s k st before e d n h x. leads_via def (LeftBy def (giving e n) (then_list l before d ∷ st) (tokens_of c.args.rest.now)) (LeftBy def (giving (behind_all l (e ∷ before) (ending l true)) (max d n)) st behind)
-    (λ F D. subst (λ z. Ends def (then_list l before d ∷ st) e n z F D ↔ Ends def st (behind_all l before (cell l e (ending l true))) (max d n) behind F D) (sym (ts ∙ ap (λ y. t ∷ y) more))
-    (step_dots def (facts def c.requires.class) F D l kind found c.if-not-kind.false before d st e n t behind is)) s
+    let all : tokens_of c.args.rest.now ≡ c.in-Some-split_first.spanned.now.token ∷ c.in-Some-split_first-2.second.now.token ∷ tokens_of c.in-Some-split_first-2.behind.now =
+    ts ∙ ap (λ y. c.in-Some-split_first.spanned.now.token ∷ tokens_of y) c.in-Some-split_first-2.ensures.cases.0 in
+    IfOk-weaker c.finish-2.result _ _ (λ s k st before e d n h x. leads_via def (giving e n) (then_list l before d ∷ st) (tokens_of c.args.rest.now) (t ∷ u ∷ []) behind (giving (behind_all l (e ∷ before) (ending l true)) (max d n)) st all
+    (moves_dots def c.requires.class l kind found st before d e n t u is (c.is_more.ensures.0 c.if-not-is_more.false) c.if-not-kind.false behind) s
     (k st (e ∷ before) (max d n) h x)) c.finish-2.ensures.leads
 
 pub returns-in_default-split_first-clause-falls : goal.returns-in_default-split_first-clause-falls

@@ -1,11 +1,10 @@
 use Rattle.std.proofs.Common.{◌≡◌, ◌+◌, length}
-use Rattle.psg_parse.specs.Answers.{Reads}
-use Rattle.psg_parse.specs.States.{GoesOn}
+use Rattle.psg_parse.proofs.Taken.{Got}
 use Rattle.psg_parse.proofs.parser.parse_with.Given as goal
 
 abbrev pub invariant-tokens : goal.invariant-tokens
 invariant-tokens g l = record {
-  goes : GoesOn l.definition (Reads l.definition l.goal l.tokens) l.state;
+  goes : Got l.definition l.goal l.tokens l.state;
   ticks : l.steps + length l.state.rest.now ≡ l.fn.steps + length l.tokens;
 }
 

@@ -1,17 +1,16 @@
-use Rattle.std.proofs.Common.{◌≡◌, ◌↔◌, ◌∷◌, ℕ, List, Some, false, refl, sym, ap, ◌∙◌, subst, true≢false, inl, inr, arith, ◌+◌, ◌*◌, ◌<◌, length}
+use Rattle.std.proofs.Common.{◌≡◌, [], ◌∷◌, Some, false, refl, sym, ap, ◌∙◌, subst, true≢false, inl, inr, arith, ◌+◌, ◌*◌, ◌<◌, length}
 use Rattle.psg_grammar.specs.declared.types.Item.TheVariants as items
-use Rattle.psg_grammar.specs.Fragments.{Fragment}
 use Rattle.psg_class.specs.Places.{solid}
-use Rattle.psg_class.specs.Terminals.{Token, next_terminal}
 use Rattle.psg_class.specs.Runs.{parts as reading, start, list}
-use Rattle.psg_class.specs.Machine.{Completes, then_parts, taken}
+use Rattle.psg_class.specs.Machine.{then_parts, taken}
 use Rattle.psg_class.specs.Texts.{tokens_of}
-use Rattle.psg_parse.specs.States.{GoesOn, IsStack, giving, running, LeftBy}
+use Rattle.psg_parse.specs.States.{GoesOn, IsStack, giving, running}
 use Rattle.psg_parse.specs.declared.state.Frame.TheVariants as frames
 use Rattle.psg_parse.specs.declared.state.Mode.{Mode}
 use Rattle.psg_parse.specs.declared.state.Step.TheVariants as steps
 use Rattle.psg_parse.proofs.Stacks.{pushed}
-use Rattle.psg_parse.proofs.Items.{items_end, items_slot, items_list, items_token, items_mismatch}
+use Rattle.psg_parse.proofs.Items.{items_mismatch}
+use Rattle.psg_parse.proofs.Moving.{moves_end, moves_slot, moves_list, moves_token, next_there, no_next}
 use Rattle.psg_parse.specs.Work.{Falls, stack_work}
 use Rattle.psg_parse.proofs.WorkLaws.{pushed_work, shorter}
 use Rattle.psg_parse.proofs.steps.parts.Goals as goal
@@ -22,7 +21,9 @@ returns-in_default-clause-leads c st f n h x = record {
   aim = giving f n;
   st = st;
   stands = record { mode = (f, n, c.in_ok-tree.ensures f n x, refl); stack = h };
-  same = λ F D. items_end c.args.definition.now c.requires.class c.args.operator.now f n st c.without_marks.result.now c.args.more.now c.without_marks.ensures.same F D c.in_default.ensures.cases (tokens_of c.args.rest.now);
+  taken = [];
+  are = refl;
+  moves = moves_end c.args.definition.now c.requires.class c.args.operator.now f n st c.without_marks.result.now c.args.more.now c.without_marks.ensures.same c.in_default.ensures.cases (tokens_of c.args.rest.now);
 }
 
 pub returns-in-Slot-clause-leads : goal.returns-in-Slot-clause-leads
@@ -31,48 +32,54 @@ returns-in-Slot-clause-leads c st f n h x =
     let plain = then_parts c.args.operator.now f n (solid c.in-Some.behind.now) in
     let stack : IsStack c.push.new.self.items (plain ∷ st) =
     subst (λ s. IsStack s (plain ∷ st)) (sym c.in_ok-push.ensures.items) (pushed c.args.stack.items st (frames.Parts c.args.operator c.args.built c.in-Some.behind) plain (f, n, x, refl) h) in
-    let goes = λ (m : Mode). GoesOn def (LeftBy def (running (reading c.args.operator.now false f n (solid c.args.more.now))) st (tokens_of c.args.rest.now)) (record { mode = m; stack = c.push.new.self; rest = c.args.rest }) in
+    let goes = λ (m : Mode). GoesOn def (running (reading c.args.operator.now false f n (solid c.args.more.now))) st (tokens_of c.args.rest.now) (record { mode = m; stack = c.push.new.self; rest = c.args.rest }) in
     elim c.match-kind.branch [
       | in-Phylum w ↦ subst goes (sym w.mode-is) (record {
         aim = running (start w.in-Phylum.phylum w.slot_least.result);
         st = plain ∷ st;
         stands = record { mode = refl; stack = stack };
-        same = λ F D. items_slot def c.requires.class c.args.operator.now f n st c.without_marks.result.now c.args.more.now c.without_marks.ensures.same F D c.without_marks.ensures.bare w.in-Phylum.phylum c.in-Some.behind.now
+        taken = [];
+        are = refl;
+        moves = moves_slot def c.requires.class c.args.operator.now f n st c.without_marks.result.now c.args.more.now c.without_marks.ensures.same c.without_marks.ensures.bare w.in-Phylum.phylum c.in-Some.behind.now
             (c.in-Some.ensures.cases.0 ∙ ap (λ y. y ∷ c.in-Some.behind.now) (c.in-Slot.is ∙ ap items.Slot w.in-Phylum.is)) w.slot_least.result w.slot_least.ensures (tokens_of c.args.rest.now);
       })
       | in-List w ↦ subst goes (sym w.mode-is) (record {
         aim = running (list w.in-List.list);
         st = plain ∷ st;
         stands = record { mode = refl; stack = stack };
-        same = λ F D. items_list def c.requires.class c.args.operator.now f n st c.without_marks.result.now c.args.more.now c.without_marks.ensures.same F D c.without_marks.ensures.bare w.in-List.list c.in-Some.behind.now
+        taken = [];
+        are = refl;
+        moves = moves_list def c.requires.class c.args.operator.now f n st c.without_marks.result.now c.args.more.now c.without_marks.ensures.same c.without_marks.ensures.bare w.in-List.list c.in-Some.behind.now
             (c.in-Some.ensures.cases.0 ∙ ap (λ y. y ∷ c.in-Some.behind.now) (c.in-Slot.is ∙ ap items.Slot w.in-List.is)) (tokens_of c.args.rest.now);
       })
     ]
 
-pub returns-then-not-takes-clause-leads : goal.returns-then-not-takes-clause-leads
-returns-then-not-takes-clause-leads c st f n h x F D y =
+pub returns-in_default-split_first-clause-leads : goal.returns-in_default-split_first-clause-leads
+returns-in_default-split_first-clause-leads c st f n h x us e F D y =
     let def = c.args.definition.now in
-    let ts : tokens_of c.args.rest.now ≡ c.in-Some-split_first.spanned.now.token ∷ tokens_of c.in-Some-split_first.others.now = ap tokens_of c.in-Some-split_first.ensures.cases.0 in
     items_mismatch def c.requires.class c.args.operator.now f n st c.without_marks.result.now c.args.more.now c.without_marks.ensures.same F D c.without_marks.ensures.bare c.in-Some.item.now c.in-Some.behind.now c.in-Some.ensures.cases.0
-    c.in_default-item.not-Slot (tokens_of c.args.rest.now)
-    (λ t e m. true≢false (sym (c.takes.ensures.1 (e ∙ sym m ∙ ap (next_terminal def) ts ∙ ap Some (sym c.see.ensures))) ∙ c.if-not-takes.true)) y
+    c.in_default-item.not-Slot us (λ t i m. no_next def c.args.rest.now c.in_default-split_first.ensures.cases us e t m) y
+
+pub returns-then-not-takes-clause-leads : goal.returns-then-not-takes-clause-leads
+returns-then-not-takes-clause-leads c st f n h x us e F D y =
+    let def = c.args.definition.now in
+    items_mismatch def c.requires.class c.args.operator.now f n st c.without_marks.result.now c.args.more.now c.without_marks.ensures.same F D c.without_marks.ensures.bare c.in-Some.item.now c.in-Some.behind.now c.in-Some.ensures.cases.0
+    c.in_default-item.not-Slot us
+    (λ t i m. true≢false (sym (c.takes.ensures.1 (i ∙ sym m ∙ next_there def c.args.rest.now c.in-Some-split_first.spanned.now c.in-Some-split_first.others.now c.in-Some-split_first.ensures.cases.0 us e ∙ ap Some (sym c.see.ensures))) ∙ c.if-not-takes.true)) y
 
 pub returns-clause-leads : goal.returns-clause-leads
 returns-clause-leads c st f n h x =
     let def = c.args.definition.now in
     let token = c.in-Some-split_first.spanned.now.token in
-    let others = tokens_of c.in-Some-split_first.others.now in
     let made = taken c.in-Some.item.now c.in-Some-split_first.spanned.now.token f in
-    let ts : tokens_of c.args.rest.now ≡ c.in-Some-split_first.spanned.now.token ∷ tokens_of c.in-Some-split_first.others.now = ap tokens_of c.in-Some-split_first.ensures.cases.0 in
-    let before = λ (F : Fragment) (D : ℕ) (ts : List Token). Completes c.args.definition.now (reading c.args.operator.now false f n (solid c.args.more.now)) st ts F D in
-    let after = λ (F : Fragment) (D : ℕ). Completes c.args.definition.now (reading c.args.operator.now false (taken c.in-Some.item.now c.in-Some-split_first.spanned.now.token f) n (solid c.in-Some.behind.now)) st (tokens_of c.in-Some-split_first.others.now) F D in
     record {
       aim = running (reading c.args.operator.now false made n (solid c.in-Some.behind.now));
       st = st;
       stands = record { mode = (made, n, c.in_ok-built.ensures f n x, refl); stack = h };
-      same = λ F D. subst (λ z. before F D z ↔ after F D) (sym ts)
-          (items_token def c.requires.class c.args.operator.now f n st c.without_marks.result.now c.args.more.now c.without_marks.ensures.same F D c.without_marks.ensures.bare c.in-Some.item.now c.in-Some.behind.now c.in-Some.ensures.cases.0
-          token (c.takes.ensures.0 c.if-not-takes.false ∙ ap Some c.see.ensures) others);
+      taken = c.in-Some-split_first.spanned.now.token ∷ [];
+      are = ap tokens_of c.in-Some-split_first.ensures.cases.0;
+      moves = moves_token def c.requires.class c.args.operator.now f n st c.without_marks.result.now c.args.more.now c.without_marks.ensures.same c.without_marks.ensures.bare c.in-Some.item.now c.in-Some.behind.now c.in-Some.ensures.cases.0
+          token (c.takes.ensures.0 c.if-not-takes.false ∙ ap Some c.see.ensures) (tokens_of c.in-Some-split_first.others.now);
     }
 
 pub returns-in_default-clause-falls : goal.returns-in_default-clause-falls
