@@ -34,13 +34,13 @@ use Rattle.psg_grammar.proofs.SoundParts.{list_sound, phylum_in}
 use Rattle.psg_class.specs.Class.{IsClass}
 use Rattle.psg_class.specs.Texts.{ReadsAs}
 use Rattle.psg_class.proofs.ClassFacts.{facts}
-use Rattle.psg_reads_back.specs.Rows.{Piece, token, mark, row}
-use Rattle.psg_reads_back.specs.Layout.{is_line, is_tight, is_space, gap, gap_after, glues_first, laid, last_in, marks_behind, open_behind, text_of}
-use Rattle.psg_reads_back.proofs.Lexing.{RowTokens, no_pieces, a_mark, a_token}
-use Rattle.psg_reads_back.proofs.Claims.{WholeBack}
-use Rattle.psg_reads_back.proofs.FixedTokens.{has_tokens}
-use Rattle.psg_reads_back.proofs.Printed.{printed_reads_back}
-use Rattle.psg_reads_back.proofs.Trees.{claim}
+use Rattle.psg_unparse.specs.Rows.{Piece, token, mark, row}
+use Rattle.psg_unparse.specs.Layout.{is_line, is_tight, is_space, gap, gap_after, glues_first, laid, last_in, marks_behind, open_behind, text_of}
+use Rattle.psg_unparse.proofs.Lexing.{RowTokens, no_pieces, a_mark, a_token}
+use Rattle.psg_unparse.proofs.Claims.{WholeBack}
+use Rattle.psg_unparse.proofs.FixedTokens.{has_tokens}
+use Rattle.psg_unparse.proofs.PrintedTree.{printed_reads_back}
+use Rattle.psg_unparse.proofs.Trees.{claim}
 use Rattle.psg_script.specs.Forms.{IsName}
 use Rattle.psg_library.specs.declared.fragment.SavedFragment.{SavedFragment}
 use Rattle.psg_library.specs.Heads.{head_of, first_line, text_in, IsHead}

@@ -10,7 +10,7 @@ use Rattle.psg_grammar.specs.Sizes.{depth_of}
 use Rattle.psg_grammar.specs.WellFormed.{WellFormed}
 use Rattle.psg_lexis.specs.declared.token.Spanned.{Spanned}
 use Rattle.psg_class.specs.Texts.{TextTokens, ReadsAs, HasNoTokens, HasNoTree}
-use Rattle.psg_reads_back.specs.Layout.{text_of}
+use Rattle.psg_unparse.specs.Layout.{text_of}
 use Rattle.psg_script.specs.Forms.{IsName}
 use Rattle.psg_library.specs.declared.fragment.SavedFragment.{SavedFragment}
 use Rattle.psg_library.specs.declared.fragment.KeptFault.{KeptFault}

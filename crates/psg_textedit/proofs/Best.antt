@@ -1,8 +1,12 @@
 -- The first of the deepest spans so far.
-use Rattle.std.proofs.Common.{◌≡◌, ◌⊎◌, inl, inr, ℕ, zero, suc, ◌+◌, ◌<◌, ◌≤◌, List, [], ◌∷◌, length, Some, slice_get, refl, ap, sym, ◌∙◌, subst, arith}
+use Rattle.std.proofs.Common.{◌≡◌, ◌⊎◌, inl, inr, ℕ, zero, suc, ◌+◌, ◌<◌, ◌≤◌, List, [], ◌∷◌, length, Some, get_or, slice_get, refl, ap, sym, ◌∙◌, subst, arith}
+use Rattle.std.proofs.lemmas.Option.{slice_get_within}
+use Rattle.psg_terms.proofs.Lists.{slice_get_item, slice_get_once}
+use Rattle.psg_grammar.specs.Paths.{Path}
+use Rattle.psg_unparse.specs.Splicing.{IsPlaceOf}
 use Rattle.psg_unparse.specs.declared.spans.Span.{Span}
-use Rattle.psg_regions.specs.Regions.{Typing, Encloses}
-use Rattle.psg_textedit.specs.Typing.{IsBest}
+use Rattle.psg_textedit.specs.Regions.{Typing, Encloses}
+use Rattle.psg_textedit.specs.Typing.{IsBest, IsSpanAt}
 
 earlier : (k n : ℕ) → k < n + 1 → (k < n) ⊎ (k ≡ n)
 earlier zero zero h = inr refl
@@ -66,3 +70,12 @@ pub some_first : (spans : List Span) (e : Typing) → 0 < length spans
     → ((s : Span) → slice_get spans 0 ≡ Some s → Encloses e s) → IsBest spans e 1 0
 some_first [] e some around = absurd (omega (arith, some))
 some_first (s ∷ spans) e some around = best_first (s ∷ spans) e s refl (around s refl)
+
+-- the span at the place of a path is the path's
+pub span_placed : (spans : List Span) (path : Path) (place : ℕ) → IsPlaceOf spans path place → (s : Span)
+    → s ≡ get_or spans place s → IsSpanAt spans path s
+span_placed spans path place there s is =
+    let lt : place < length spans = slice_get_within spans place there.span there.found in
+    let got : slice_get spans place ≡ Some s = slice_get_item spans place s lt is in
+    let one : s ≡ there.span = slice_get_once spans place s there.span got there.found in
+    (place, got, ap (λ (x : Span). x.path) one ∙ there.path_is)

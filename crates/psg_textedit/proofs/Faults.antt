@@ -6,7 +6,7 @@ use Rattle.psg_grammar.specs.WellFormed.{fixed_words}
 use Rattle.psg_lexis.specs.declared.token.Spanned.{Spanned}
 use Rattle.psg_lexis.proofs.Laws.{no_fault_with_tokens}
 use Rattle.psg_class.specs.Texts.{HasNoTokens, TextTokens}
-use Rattle.psg_regions.specs.Regions.{Typing, edited, IsInside}
+use Rattle.psg_textedit.specs.Regions.{Typing, edited, IsInside}
 use Rattle.psg_textedit.specs.Lines.{AreLines, lines_with}
 use Rattle.psg_textedit.proofs.Whole.{lines_have}
 

@@ -16,8 +16,8 @@ use Rattle.psg_lexis.proofs.Cutting.{IsCut, cut}
 use Rattle.psg_lexis.proofs.Joining.{IsApart}
 use Rattle.psg_lexis.proofs.Starts.{start_goes_on}
 use Rattle.psg_lexis.proofs.Walk.{blank-small}
-use Rattle.psg_reads_back.proofs.Borders.{starts_within}
-use Rattle.psg_reads_back.proofs.Lexing.{gap_apart}
+use Rattle.psg_unparse.proofs.Borders.{starts_within}
+use Rattle.psg_unparse.proofs.Lexing.{gap_apart}
 
 -- ---- sizes
 

@@ -6,9 +6,9 @@ use Rattle.psg_grammar.specs.WellFormed.{fixed_words}
 use Rattle.psg_lexis.specs.declared.token.Spanned.{Spanned}
 use Rattle.psg_class.specs.Only.{IsValue}
 use Rattle.psg_class.specs.Texts.{TextTokens, tokens_of}
-use Rattle.psg_reads_back.specs.Layout.{text_of}
-use Rattle.psg_regions.specs.Regions.{new_text}
-use Rattle.psg_regions.proofs.Typed.{text_utf8}
+use Rattle.psg_unparse.specs.Layout.{text_of}
+use Rattle.psg_textedit.specs.Regions.{new_text}
+use Rattle.psg_textedit.proofs.TypedNode.{text_utf8}
 use Rattle.std.proofs.lemmas.Str.{IsUtf8-append, IsUtf8-drop, IsUtf8-take}
 use Rattle.std.proofs.Common.{◌++◌, take, drop}
 use Rattle.psg_textedit.specs.declared.nodes.Job.{Job}

@@ -9,3 +9,17 @@ pub mod Roots
 pub mod Ways
 pub mod NodeReads
 pub mod Best
+mod LineCuts
+pub mod Holes
+pub mod RowsOnce
+pub mod Parts
+pub mod Spots
+pub mod Fills
+pub mod Seams
+pub mod Cuts
+pub mod TypedNode
+pub mod Depths
+pub mod Readings
+pub mod Surrounded
+pub mod FirstTokens
+pub mod Nested

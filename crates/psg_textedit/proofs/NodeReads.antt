@@ -1,10 +1,10 @@
 -- What the new region of a node is read as, and what the node is by that, clean or not.
-use Rattle.std.proofs.Common.{◌≡◌, inl, inr, ℕ, ◌+◌, ◌-◌, ◌≤◌, List, ◌++◌, length, length-append, None, ap, sym, ◌∙◌, subst, arith}
+use Rattle.std.proofs.Common.{◌≡◌, inl, inr, ℕ, ◌+◌, ◌-◌, ◌≤◌, List, ◌++◌, length, length-append, None, slice_get, ap, sym, ◌∙◌, subst, arith}
 use Rattle.std.specs.Str.{chars, IsCharBoundary}
 use Rattle.std.specs.Prelude.{Option, IfNone}
 use Rattle.std.specs.List.{AllByRecursion}
 use Rattle.std.proofs.lemmas.Option.{none-some}
-use Rattle.psg_terms.proofs.Lists.{each_at}
+use Rattle.psg_terms.proofs.Lists.{each_at, slice_get-map_some}
 use Rattle.psg_grammar.specs.declared.types.Kind.{Kind}
 use Rattle.psg_grammar.specs.declared.types.Definition.{Definition}
 use Rattle.psg_grammar.specs.declared.limits.TheConstants.{MOST_BRACKETS}
@@ -19,25 +19,28 @@ use Rattle.psg_class.specs.Texts.{HasNoTokens, ReadsAs, TextTokens, tokens_of}
 use Rattle.psg_class.specs.Yields.{Yields}
 use Rattle.psg_class.proofs.ClassFacts.{facts}
 use Rattle.psg_parse.specs.declared.fault.Goal.{Goal}
-use Rattle.psg_reads_back.specs.Layout.{text_of}
-use Rattle.psg_reads_back.specs.Spots.{Placed, placed_in, IsPlacedAt}
-use Rattle.psg_reads_back.proofs.FixedTokens.{has_tokens as tokens_known}
-use Rattle.psg_unparse.specs.Spots.{printed_of, span_of}
+use Rattle.psg_unparse.specs.Layout.{text_of}
+use Rattle.psg_unparse.specs.Spots.{Placed, placed_in, IsPlacedAt}
+use Rattle.psg_unparse.proofs.FixedTokens.{has_tokens as tokens_known}
+use Rattle.psg_unparse.specs.Listing.{AreInOrder}
+use Rattle.psg_unparse.specs.Splicing.{IsPlaceOf}
+use Rattle.psg_unparse.specs.Spans.{printed_of, span_of}
 use Rattle.psg_unparse.specs.declared.spans.Printed.{Printed}
 use Rattle.psg_unparse.specs.declared.spans.Span.{Span}
-use Rattle.psg_regions.specs.Regions.{CountsText, has_tokens, has_none, Encloses, IsInside, new_text, region, region_of}
-use Rattle.psg_regions.specs.Surroundings.{Surrounds}
-use Rattle.psg_regions.proofs.Fills.{Filled}
-use Rattle.psg_regions.proofs.Surrounded.{IsSame, surrounded, surrounded_once}
-use Rattle.psg_regions.proofs.Typed.{HasBorders, all_filled, cut_at, has_borders, new_length, one_kind}
+use Rattle.psg_unparse.proofs.SplicePlaces.{spans_in_order}
+use Rattle.psg_textedit.specs.Regions.{CountsText, has_tokens, has_none, Encloses, IsInside, new_text, region, region_of}
+use Rattle.psg_textedit.specs.Surroundings.{Surrounds}
+use Rattle.psg_textedit.proofs.Fills.{Filled}
+use Rattle.psg_textedit.proofs.Surrounded.{IsSame, surrounded, surrounded_once}
+use Rattle.psg_textedit.proofs.TypedNode.{HasBorders, all_filled, cut_at, has_borders, new_length, one_kind}
 use Rattle.psg_textedit.specs.declared.nodes.Job.{Job}
 use Rattle.psg_textedit.specs.declared.reading.Reading.{Reading}
 use Rattle.psg_textedit.specs.declared.reading.Reading.TheVariants.{Clean, Deep, Unclean}
 use Rattle.psg_textedit.specs.Jobs.{IsJob, IsHere, IsPathAnswer, language_of, tree_in, typing_in}
 use Rattle.psg_textedit.specs.Lines.{lines_with}
-use Rattle.psg_textedit.specs.Typing.{AreApart, HasNoSpan, HasRead, IsNodeAnswer, IsParsedAs, IsSpanAt, MayRead}
+use Rattle.psg_textedit.specs.Typing.{AreApart, HasRead, IsNodeAnswer, IsParsedAs, IsSpanAt, MayRead}
 use Rattle.psg_textedit.proofs.JobTokens.{all_tokens, all_are, job_old, job_whole}
-use Rattle.psg_textedit.proofs.Roots.{got_mapped, has_span}
+use Rattle.psg_textedit.proofs.Roots.{got_mapped}
 use Rattle.psg_textedit.proofs.Ways.{way_low}
 use Rattle.psg_textedit.proofs.Widening.{listed, one_place}
 
@@ -114,8 +117,23 @@ module _ (j : Job) (ok : IsJob j) (path : Path) (here : IsHere j path) where
       let one : q ≡ here.0 = one_place j ok path q here.0 (k, got, ap (λ (s : Span). s.path) same ∙ at) here.1 in
       sym same ∙ ap (span_of (language_of j)) one
 
-  pub no_span : HasNoSpan (printed_of (language_of j) (tree_in j)).spans path → ⊥
-  no_span none = has_span (language_of j) (tree_in j) path here.0 here.1 none
+  -- the node has a span, and spans are in order
+  module _ (spans : List Span) (s : spans ≡ j.printed.now.spans) where
+    pub has_span : (place : ℕ) × IsPlaceOf spans path place
+    has_span = (
+      here.1.0,
+      record {
+        span = span_of (language_of j) here.0;
+        found =
+            ap (λ xs. slice_get xs here.1.0) (s ∙ ap (λ (p : Printed). p.spans) ok.printed)
+            ∙ slice_get-map_some (span_of (language_of j)) (placed_in (language_of j) (tree_in j)) here.1.0 here.0 here.1.1;
+        path_is = here.1.2;
+      },
+    )
+
+    pub in_order : AreInOrder spans
+    in_order =
+        subst AreInOrder (sym s) (spans_in_order (language_of j) (tree_in j) j.kind ok.formed j.printed.now ok.printed)
 
   pub no_node : node_at (tree_in j) path ≡ None → ⊥
   no_node e = none-some here.0.node (sym e ∙ (listed j ok).nodes path here.0 here.1)

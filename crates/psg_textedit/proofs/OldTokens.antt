@@ -14,17 +14,17 @@ use Rattle.psg_lexis.specs.declared.token.Spanned.{Spanned}
 use Rattle.psg_lexis.proofs.Laws.{only_tokens}
 use Rattle.psg_class.specs.Class.{IsClass}
 use Rattle.psg_class.proofs.ClassFacts.{facts}
-use Rattle.psg_reads_back.specs.Rows.{row, operator_of}
-use Rattle.psg_reads_back.specs.Layout.{laid, lead, text_of}
-use Rattle.psg_reads_back.specs.Spots.{Placed, IsPlacedAt}
-use Rattle.psg_reads_back.proofs.Borders.{lead_longer, row_sides, Sides}
-use Rattle.psg_reads_back.proofs.FixedTokens.{has_tokens}
-use Rattle.psg_reads_back.proofs.Lexing.{laid_tokens, Lexed, RowTokens}
-use Rattle.psg_reads_back.proofs.SlotSteps.{below_zero}
-use Rattle.psg_reads_back.proofs.Trees.{claim}
-use Rattle.psg_unparse.specs.Spots.{span_of}
-use Rattle.psg_regions.proofs.Parts.{old_in}
-use Rattle.psg_regions.proofs.Typed.{cut_at}
+use Rattle.psg_unparse.specs.Rows.{row, operator_of}
+use Rattle.psg_unparse.specs.Layout.{laid, lead, text_of}
+use Rattle.psg_unparse.specs.Spots.{Placed, IsPlacedAt}
+use Rattle.psg_unparse.proofs.Borders.{lead_longer, row_sides, Sides}
+use Rattle.psg_unparse.proofs.FixedTokens.{has_tokens}
+use Rattle.psg_unparse.proofs.Lexing.{laid_tokens, Lexed, RowTokens}
+use Rattle.psg_unparse.proofs.SlotSteps.{below_zero}
+use Rattle.psg_unparse.proofs.Trees.{claim}
+use Rattle.psg_unparse.specs.Spans.{span_of}
+use Rattle.psg_textedit.proofs.Parts.{old_in}
+use Rattle.psg_textedit.proofs.TypedNode.{cut_at}
 use Rattle.psg_textedit.proofs.Feeds.{all_both, beside_end, beside_start}
 
 module _ (def : Definition) (sound : IsSound def) (words : AllByRecursion IsFixedWord (fixed_words def)) (class : IsClass def) (f : Fragment) (kind : Kind) (printable : IsPrintable f) (formed : WellFormed def f kind) where

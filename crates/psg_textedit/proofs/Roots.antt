@@ -9,23 +9,23 @@ use Rattle.psg_grammar.specs.Fragments.{Fragment}
 use Rattle.psg_grammar.specs.Paths.{Path}
 use Rattle.psg_grammar.specs.WellFormed.{WellFormed, fixed_words}
 use Rattle.psg_lexis.specs.Tokens.{bytes_of, HasTokens, IsBeside}
-use Rattle.psg_reads_back.specs.Layout.{gap_after, last_in, lead, text_of}
-use Rattle.psg_reads_back.specs.Rows.{Piece, token, mark, row}
-use Rattle.psg_reads_back.specs.Spots.{Placed, placed_in, IsPlacedAt, top_spot}
-use Rattle.psg_reads_back.proofs.Borders.{starts_within}
-use Rattle.psg_reads_back.proofs.Rows.{last_in-append}
-use Rattle.psg_unparse.specs.Spots.{printed_of, span_of}
+use Rattle.psg_unparse.specs.Layout.{gap_after, last_in, lead, text_of}
+use Rattle.psg_unparse.specs.Rows.{Piece, token, mark, row}
+use Rattle.psg_unparse.specs.Spots.{Placed, placed_in, IsPlacedAt, top_spot}
+use Rattle.psg_unparse.proofs.Borders.{starts_within}
+use Rattle.psg_unparse.proofs.Rows.{last_in-append}
+use Rattle.psg_unparse.specs.Spans.{printed_of, span_of}
 use Rattle.psg_unparse.specs.declared.spans.Span.{Span}
 use Rattle.psg_unparse.proofs.Listed.{placed-top, proper}
-use Rattle.psg_regions.specs.Regions.{Typing, Encloses, IsInnermost, IsInside, IsReading, has_no_place, reads, IsUnclean, Widens, new_text, region_of}
-use Rattle.psg_regions.proofs.Readings.{innermost_once}
-use Rattle.psg_regions.proofs.Fills.{fits_kind}
-use Rattle.psg_regions.proofs.Cuts.{size_of}
-use Rattle.psg_regions.proofs.Typed.{cut_at, new_seam}
+use Rattle.psg_textedit.specs.Regions.{Typing, Encloses, IsInnermost, IsInside, IsReading, has_no_place, reads, IsUnclean, Widens, new_text, region_of}
+use Rattle.psg_textedit.proofs.Readings.{innermost_once}
+use Rattle.psg_textedit.proofs.Fills.{fits_kind}
+use Rattle.psg_textedit.proofs.Cuts.{size_of}
+use Rattle.psg_textedit.proofs.TypedNode.{cut_at, new_seam}
 use Rattle.psg_textedit.specs.declared.change.TextFault.TheVariants as faults
 use Rattle.psg_textedit.specs.declared.nodes.Job.{Job}
 use Rattle.psg_textedit.specs.Jobs.{IsJob, IsHere, language_of, tree_in, typing_in}
-use Rattle.psg_textedit.specs.Typing.{HasNoSpan, IsBest, IsTextFault}
+use Rattle.psg_textedit.specs.Typing.{IsBest, IsTextFault}
 use Rattle.psg_textedit.proofs.Feeds.{beside_end, beside_start, ends_within}
 use Rattle.psg_textedit.proofs.JobTokens.{all_tokens, all_are, new_utf8}
 use Rattle.psg_textedit.proofs.Widening.{not_outside, one_place}
@@ -108,9 +108,6 @@ module _ (def : Definition) (f : Fragment) where
     deepest = λ k other got around. b.deepest k other (slice_get_within (printed_of def f).spans k other got) got around;
     first = b.first;
   }
-
-  pub has_span : (path : Path) (p : Placed) → IsPlacedAt def f path p → HasNoSpan (printed_of def f).spans path → ⊥
-  has_span path p at none = none at.0 (span_of def p) (mapped_got (span_of def) (placed_in def f) at.0 p at.1) at.2
 
 -- ---- the reading that begins at the best span
 

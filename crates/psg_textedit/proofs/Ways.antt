@@ -21,12 +21,12 @@ use Rattle.psg_grammar.specs.Sizes.{depth_of}
 use Rattle.psg_tree.specs.declared.tree.Part.{Part}
 use Rattle.psg_tree.specs.declared.tree.Part.TheVariants.{Sub, Name, Number, Text}
 use Rattle.psg_tree.specs.Shapes.{with_parts, list_of, tree_of}
-use Rattle.psg_reads_back.specs.Rows.{from_part, behind_first, items_in, left, wanted, wanted_of, operator_of}
+use Rattle.psg_unparse.specs.Rows.{from_part, behind_first, items_in, left, wanted, wanted_of, operator_of}
 use Rattle.psg_unparse.specs.Walking.{count_of, level_wanted}
 use Rattle.psg_unparse.proofs.Printing.{wanted-of}
-use Rattle.psg_regions.specs.Surroundings.{wanted_in, inner_level, is_in_brackets, more_around, Surrounds, at_top, in_child}
-use Rattle.psg_regions.proofs.Spots.{one_or_none}
-use Rattle.psg_regions.proofs.Depths.{child_low}
+use Rattle.psg_textedit.specs.Surroundings.{wanted_in, inner_level, is_in_brackets, more_around, Surrounds, at_top, in_child}
+use Rattle.psg_textedit.proofs.Spots.{one_or_none}
+use Rattle.psg_textedit.proofs.Depths.{child_low}
 use Rattle.psg_textedit.specs.Places.{wanted_among}
 
 abbrev IsOperator : Fragment → Type 0

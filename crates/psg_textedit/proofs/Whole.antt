@@ -1,5 +1,5 @@
 -- The tokens of a whole text in which bytes are replaced: those of the lines in front, of the new lines, and of the lines behind.
-use Rattle.std.proofs.Common.{◌≡◌, ◌⊎◌, inl, inr, ℕ, zero, suc, ◌+◌, ◌-◌, ◌≤◌, List, [], ◌∷◌, ◌++◌, length, length-append, take, drop, refl, ap, sym, ◌∙◌, subst, append_assoc, arith}
+use Rattle.std.proofs.Common.{◌≡◌, inl, inr, ℕ, zero, suc, ◌+◌, ◌-◌, ◌≤◌, List, [], ◌∷◌, ◌++◌, length, length-append, take, drop, refl, ap, sym, ◌∙◌, subst, append_assoc, arith}
 use Rattle.std.specs.Str.{chars, IsUtf8}
 use Rattle.std.specs.List.{AllByRecursion}
 use Rattle.std.proofs.lemmas.Str.{chars-append, chars-nil, IsUtf8-append, IsUtf8-between}
@@ -8,12 +8,12 @@ use Rattle.psg_lexis.specs.Tokens.{bytes_of, HasTokens, IsBeside}
 use Rattle.psg_lexis.specs.declared.token.Spanned.{Spanned}
 use Rattle.psg_lexis.proofs.Cutting.{IsCut}
 use Rattle.psg_lexis.proofs.Joining.{joined_tokens}
-use Rattle.psg_reads_back.specs.Nodes.{part_of}
-use Rattle.psg_reads_back.proofs.Borders.{starts_within}
-use Rattle.psg_reads_back.proofs.Lexing.{chars_gap}
-use Rattle.psg_regions.specs.Regions.{Typing, edited, IsInside}
-use Rattle.psg_regions.proofs.Cuts.{all_last, size_of}
-use Rattle.psg_textedit.specs.Lines.{AreLines, BeginsLine, lines_with}
+use Rattle.psg_unparse.specs.Nodes.{part_of}
+use Rattle.psg_unparse.proofs.Borders.{starts_within}
+use Rattle.psg_unparse.proofs.Lexing.{chars_gap}
+use Rattle.psg_textedit.specs.Regions.{Typing, edited, IsInside}
+use Rattle.psg_textedit.proofs.Cuts.{all_last, size_of}
+use Rattle.psg_textedit.specs.Lines.{AreLines, BeginsLine, IsLastLine, lines_with}
 use Rattle.psg_textedit.proofs.Feeds.{all_both, all_first, beside_end, beside_start, border_apart, border_cut, ends_within, IsFeedBorder, moved_by, MovedBy}
 
 -- ---- lists
@@ -41,10 +41,10 @@ joined a p m q b =
 
 -- ---- borders of lines
 
-first_border : (front before rest : List ℕ) → (front ≡ []) ⊎ ((x : List ℕ) × (before ≡ 10 ∷ x))
+first_border : (front before rest : List ℕ) → IsLastLine front before
     → IsFeedBorder (chars front) (chars (before ++ rest))
-first_border front before rest (inl e) = inl (ap chars e ∙ chars-nil)
-first_border front before rest (inr (x, e)) =
+first_border front before rest (inl (e, one)) = inl (ap chars e ∙ chars-nil)
+first_border front before rest (inr (x, e, one)) =
     inr (inr (chars (x ++ rest), ap (λ y. chars (y ++ rest)) e ∙ chars_gap 10 (x ++ rest) (inr refl)))
 
 last_border : (own : List ℕ) (back : List ℕ) → BeginsLine back → IsFeedBorder (chars own) (chars back)

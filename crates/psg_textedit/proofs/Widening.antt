@@ -13,17 +13,17 @@ use Rattle.psg_class.specs.Only.{IsValue}
 use Rattle.psg_class.specs.Texts.{TextTokens, tokens_of}
 use Rattle.psg_class.proofs.ClassFacts.{facts}
 use Rattle.psg_class.proofs.FormedLaws.{yields_are_trees}
-use Rattle.psg_reads_back.specs.Layout.{text_of}
-use Rattle.psg_reads_back.specs.Spots.{Placed, IsPlacedAt}
+use Rattle.psg_unparse.specs.Layout.{text_of}
+use Rattle.psg_unparse.specs.Spots.{Placed, IsPlacedAt}
 use Rattle.psg_unparse.specs.Listing.{IsListing}
-use Rattle.psg_unparse.specs.Spots.{span_of}
+use Rattle.psg_unparse.specs.Spans.{span_of}
 use Rattle.psg_unparse.proofs.Listed.{listing}
-use Rattle.psg_regions.specs.Regions.{Typing, CountsText, Encloses, IsClean, IsInside, IsOutside, IsTyped, IsUnclean, Widens, stops, gives_up, widens, new_text, region_of}
-use Rattle.psg_regions.specs.Laws.{IsReplacedIn}
-use Rattle.psg_regions.proofs.Depths.{deep, depth_of_change}
-use Rattle.psg_regions.proofs.Nested.{nested}
-use Rattle.psg_regions.proofs.Readings.{counts_once, nil_snoc, placed_once, snoc_once}
-use Rattle.psg_regions.proofs.Typed.{typed}
+use Rattle.psg_textedit.specs.Regions.{Typing, CountsText, Encloses, IsClean, IsInside, IsOutside, IsTyped, IsUnclean, Widens, stops, gives_up, widens, new_text, region_of}
+use Rattle.psg_textedit.specs.Laws.{IsReplacedIn}
+use Rattle.psg_textedit.proofs.Depths.{deep, depth_of_change}
+use Rattle.psg_textedit.proofs.Nested.{nested}
+use Rattle.psg_textedit.proofs.Readings.{counts_once, nil_snoc, placed_once, snoc_once}
+use Rattle.psg_textedit.proofs.TypedNode.{typed}
 use Rattle.psg_textedit.specs.declared.change.TextFault.{TextFault}
 use Rattle.psg_textedit.specs.declared.change.TextFault.TheVariants as faults
 use Rattle.psg_textedit.specs.declared.nodes.Job.{Job}

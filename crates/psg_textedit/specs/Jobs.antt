@@ -9,10 +9,10 @@ use Rattle.psg_grammar.specs.Printable.{IsPrintable}
 use Rattle.psg_grammar.specs.Sizes.{depth_of}
 use Rattle.psg_grammar.specs.WellFormed.{WellFormed}
 use Rattle.psg_class.specs.Texts.{TextTokens}
-use Rattle.psg_reads_back.specs.Layout.{text_of}
-use Rattle.psg_reads_back.specs.Spots.{Placed, IsPlacedAt}
-use Rattle.psg_unparse.specs.Spots.{span_of, printed_of}
-use Rattle.psg_regions.specs.Regions.{Typing, Encloses, IsInside, IsClean, IsUnclean}
+use Rattle.psg_unparse.specs.Layout.{text_of}
+use Rattle.psg_unparse.specs.Spots.{Placed, IsPlacedAt}
+use Rattle.psg_unparse.specs.Spans.{span_of, printed_of}
+use Rattle.psg_textedit.specs.Regions.{Typing, Encloses, IsInside, IsClean, IsUnclean}
 use Rattle.psg_textedit.specs.declared.nodes.Job.{Job}
 use Rattle.psg_textedit.specs.declared.reading.Reading.{Reading}
 use Rattle.psg_textedit.specs.declared.reading.Reading.TheVariants.{Clean, Deep, Unclean}

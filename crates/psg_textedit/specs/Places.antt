@@ -4,7 +4,7 @@ use Rattle.psg_grammar.specs.declared.types.Item.{Item}
 use Rattle.psg_grammar.specs.declared.types.Operator.{Operator}
 use Rattle.psg_tree.specs.declared.tree.Part.{Part}
 use Rattle.psg_tree.specs.declared.tree.Part.TheVariants.{Sub, Name, Number, Text}
-use Rattle.psg_reads_back.specs.Rows.{wanted_of, from_part, behind_first}
+use Rattle.psg_unparse.specs.Rows.{wanted_of, from_part, behind_first}
 
 -- the least level of the subtree of the number among the parts; 0 where there is none
 abbrev pub wanted_among : Option Operator → List Item → List Part → ℕ → ℕ

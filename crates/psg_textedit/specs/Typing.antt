@@ -18,9 +18,9 @@ use Rattle.psg_parse.specs.Tables.{IsParseTable}
 use Rattle.psg_parse.specs.declared.fault.Goal.{Goal}
 use Rattle.psg_parse.specs.declared.fault.ParseFault.TheVariants as parse_faults
 use Rattle.psg_parse.specs.declared.fault.ParseFault.{ParseFault}
-use Rattle.psg_reads_back.specs.Layout.{text_of}
+use Rattle.psg_unparse.specs.Layout.{text_of}
 use Rattle.psg_unparse.specs.declared.spans.Span.{Span}
-use Rattle.psg_regions.specs.Regions.{Typing, CountsText, Encloses, HasDeepTree, IsOutside, new_text}
+use Rattle.psg_textedit.specs.Regions.{Typing, CountsText, Encloses, HasDeepTree, IsOutside, new_text}
 use Rattle.psg_textedit.specs.declared.change.Reader.{Reader}
 use Rattle.psg_textedit.specs.declared.change.TextFault.{TextFault}
 use Rattle.psg_textedit.specs.declared.change.TextFault.TheVariants as faults
@@ -69,10 +69,6 @@ pub record IsBest (spans : List Span) (e : Typing) (limit best : ℕ) : Type 0 w
       → length other.path ≤ length span.path
   pub first : (k : ℕ) (other : Span) → k < best → slice_get spans k ≡ Some other → Encloses e other
       → length other.path < length span.path
-
--- no span is of the path
-abbrev pub HasNoSpan : List Span → Path → Type 0
-HasNoSpan spans path = (k : ℕ) (span : Span) → slice_get spans k ≡ Some span → span.path ≡ path → ⊥
 
 -- the span is listed, and it is of the path
 abbrev pub IsSpanAt : List Span → Path → Span → Type 0

@@ -10,6 +10,7 @@ pub mod change;
 mod nodes;
 mod places;
 mod reading;
+pub mod region_laws;
 mod spans;
 mod texts;
 pub mod typing;

@@ -1,7 +1,7 @@
 //! A node of a printed tree, read again with its bytes replaced.
 ghost use Rattle.std.specs.Prelude.{◌≡◌, ◌-◌, ◌≤◌, length, IfOk};
-ghost use Rattle.psg_reads_back.specs.Spots.{IsPlacedAt, Placed};
-ghost use Rattle.psg_regions.specs.Regions.{region_of, Encloses};
+ghost use Rattle.psg_unparse.specs.Spots.{IsPlacedAt, Placed};
+ghost use Rattle.psg_textedit.specs.Regions.{region_of, Encloses};
 ghost use Rattle.psg_textedit.specs.Typing.{HasRead, MayRead};
 ghost use Rattle.psg_textedit.specs.Jobs.{IsHere, IsJob, IsPathAnswer, language_of, tree_in, typing_in};
 
@@ -73,11 +73,9 @@ pub(crate) fn read_node<L: Ledger>(
         → MayRead (language_of job.now) (region_of (language_of job.now) (tree_in job.now) (typing_in job.now) p)
         steps.old steps.new }
 {
-    // each node has a span and a place, so these two answers are not given
     let spans = job.printed.spans.as_slice();
-    let Some(span) = span_at(spans, path) else {
-        return Ok(Reading::Unclean);
-    };
+    let span = span_at(spans, path);
+    // each node has a place, so this answer is not given
     let Some(place) = place_of(job.reader.definition, job.tree, path) else {
         return Ok(Reading::Unclean);
     };

@@ -8,9 +8,9 @@ ghost use Rattle.psg_grammar.specs.Sizes.{depth_of};
 ghost use Rattle.psg_grammar.specs.Sound.{IsSound};
 ghost use Rattle.psg_grammar.specs.declared.types.Kind.{Kind as PlainKind};
 ghost use Rattle.psg_grammar.specs.declared.limits.TheConstants.{MOST_DEPTH};
-ghost use Rattle.psg_reads_back.specs.Rows as rows;
+ghost use Rattle.psg_unparse.specs.Rows as rows;
 ghost use Rattle.psg_unparse.specs.Walking.{count_of};
-ghost use Rattle.psg_regions.specs.Surroundings.{Surrounds, inner_level, more_around, wanted_in};
+ghost use Rattle.psg_textedit.specs.Surroundings.{Surrounds, inner_level, more_around, wanted_in};
 ghost use Rattle.psg_textedit.specs.Places.{wanted_among as wanted_among_parts};
 
 use psg_grammar::{Definition, Item, Kind, is_part};

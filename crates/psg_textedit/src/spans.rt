@@ -1,15 +1,16 @@
 //! The nodes around bytes of a printed tree.
-ghost use Rattle.std.specs.Prelude.{◌≡◌, ◌<◌, ◌+◌, false, length, slice_get, Some, IsTrue, MatchOption};
-ghost use Rattle.std.specs.Bool.{Decides};
+ghost use Rattle.std.specs.Prelude.{◌≡◌, ◌<◌, ◌+◌, ℕ, false, length, slice_get, Some, IsTrue};
 ghost use Rattle.std.specs.List.{AllByRecursion};
 ghost use Rattle.psg_lexis.specs.Tokens.{IsBeside};
+ghost use Rattle.psg_unparse.specs.Listing.{AreInOrder};
+ghost use Rattle.psg_unparse.specs.Splicing.{IsPlaceOf};
 ghost use Rattle.psg_unparse.specs.declared.spans.Span.{Span as PlainSpan};
-ghost use Rattle.psg_regions.specs.Regions.{Encloses};
-ghost use Rattle.psg_textedit.specs.Typing.{typing_of, HasNoSpan, IsBest, IsSpanAt};
+ghost use Rattle.psg_textedit.specs.Regions.{Encloses};
+ghost use Rattle.psg_textedit.specs.Typing.{typing_of, IsBest, IsSpanAt};
 
 use crate::change::Typed;
 use psg_lexis::Spanned;
-use psg_unparse::Span;
+use psg_unparse::{Span, place_of};
 
 /// Says whether the bytes are in the span.
 fn encloses(span: &Span, typed: &Typed<'_>) -> bool
@@ -51,24 +52,15 @@ fn better(spans: &[Span], typed: &Typed<'_>, best: usize, next: usize) -> usize
     next
 }
 
-/// Finds the first span of the node at the path.
-pub(crate) fn span_at<'a>(spans: &'a [Span], path: &[u32]) -> Option<&'a Span>
-    ensures { MatchOption result (HasNoSpan spans.now path.now)
-        (λ span. IsSpanAt spans.now path.now span.now) }
+/// Returns the span of the node at the path, among all spans of a tree. It looks at few of them: twice as many spans
+/// cost one more look.
+pub(crate) fn span_at<'a>(spans: &'a [Span], path: &[u32]) -> &'a Span
+    requires order { AreInOrder spans.now }
+    requires there { (place : ℕ) × IsPlaceOf spans.now path.now place }
+    ensures { IsSpanAt spans.now path.now result.now }
 {
-    for span in spans {
-        if are_same(span.path.steps(), path) {
-            return Some(span);
-        }
-    }
-    None
-}
-
-/// Says whether the steps are the same.
-fn are_same(steps: &[u32], others: &[u32]) -> bool
-    ensures { Decides result (steps.now ≡ others.now) }
-{
-    steps == others
+    let place = place_of(spans, path);
+    &spans[place]
 }
 
 /// Says whether the token is not across the border.

@@ -1,9 +1,10 @@
 //! Texts in which bytes are replaced.
-ghost use Rattle.std.specs.Prelude.{◌≡◌, ◌++◌, ◌∷◌, ◌⊎◌, [], ℕ, List, false, IfOk, IsTrue, IsUtf8, string_bytes};
+ghost use Rattle.std.specs.Prelude.{◌≡◌, ◌++◌, false, IfOk, IsTrue, IsUtf8, string_bytes};
 ghost use Rattle.std.specs.Str.{IsCharBoundary};
-ghost use Rattle.psg_regions.specs.Regions.{edited as edited_text, region as region_text};
-ghost use Rattle.psg_regions.specs.Regions.{Encloses, IsInside, IsOutside};
-ghost use Rattle.psg_textedit.specs.Lines.{lines_with, AreLines, BeginsLine};
+ghost use Rattle.psg_unparse.specs.Splicing.{IsOneLine};
+ghost use Rattle.psg_textedit.specs.Regions.{edited as edited_text, region as region_text};
+ghost use Rattle.psg_textedit.specs.Regions.{Encloses, IsInside, IsOutside};
+ghost use Rattle.psg_textedit.specs.Lines.{lines_with, AreLines, BeginsLine, IsLastLine};
 ghost use Rattle.psg_textedit.specs.Typing.{typing_of};
 
 use crate::change::Typed;
@@ -48,12 +49,12 @@ fn joined(alloc: Global, before: &str, new: &str, behind: &str) -> Result<String
 /// Cuts the text in front of its last line feed; where it has none, the first part is empty.
 fn cut_at_last(text: &str) -> (&str, &str)
     ensures whole { text.now ≡ result.0.now ++ result.1.now }
-    ensures line { (result.0.now ≡ []) ⊎ ((rest : List ℕ) × (result.1.now ≡ 10 ∷ rest)) }
+    ensures line { IsLastLine result.0.now result.1.now }
     ensures front { IsUtf8 result.0.now }
     ensures back { IsUtf8 result.1.now }
 {
     match text.rfind('\n') {
-        Some(place) => text.split_at(place),
+        Some(last) => text.split_at(last),
         None => ("", text),
     }
 }
@@ -62,10 +63,11 @@ fn cut_at_last(text: &str) -> (&str, &str)
 fn cut_at_first(text: &str) -> (&str, &str)
     ensures whole { text.now ≡ result.0.now ++ result.1.now }
     ensures line { BeginsLine result.1.now }
+    ensures one { IsOneLine result.0.now }
     ensures front { IsUtf8 result.0.now }
 {
     match text.find('\n') {
-        Some(place) => text.split_at(place),
+        Some(first) => text.split_at(first),
         None => (text, ""),
     }
 }

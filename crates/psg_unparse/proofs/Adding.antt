@@ -13,11 +13,11 @@ use Rattle.std.specs.Cmp.{both_ways, first_so, second_so}
 use Rattle.psg_grammar.specs.declared.types.Item.{Item}
 use Rattle.psg_grammar.specs.declared.types.Item.TheVariants as items
 use Rattle.psg_unparse.specs.declared.layout.Writer.{Writer}
-use Rattle.psg_reads_back.specs.Rows.{Piece, token, mark}
-use Rattle.psg_reads_back.specs.Layout.{is_line, is_tight, is_space, glues, glues_first, last_char, last_in, marks_behind, open_behind, gap_after, gap, laid}
+use Rattle.psg_unparse.specs.Rows.{Piece, token, mark}
+use Rattle.psg_unparse.specs.Layout.{is_line, is_tight, is_space, glues, glues_first, last_char, last_in, marks_behind, open_behind, gap_after, gap, laid}
 use Rattle.psg_unparse.specs.Plain.{has_token, keeps_plain, plain_in, head_in}
 use Rattle.psg_unparse.specs.Writing.{head_with, IsWritten, first_in, Adds, glues_with, gap_behind, gap_in, IsBegun, ended_by}
-use Rattle.psg_reads_back.proofs.Rows.{laid-append, last_in-append}
+use Rattle.psg_unparse.proofs.Rows.{laid-append, last_in-append}
 
 -- ---- rows
 

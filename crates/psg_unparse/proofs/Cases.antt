@@ -8,9 +8,9 @@ use Rattle.psg_grammar.specs.Fragments.{Fragment, hole, ending, cell, operator, 
 use Rattle.psg_grammar.specs.declared.types.Item.TheVariants as items
 use Rattle.psg_grammar.specs.declared.types.Level.TheVariants as levels
 use Rattle.psg_grammar.specs.declared.types.Definition.{Definition}
-use Rattle.psg_reads_back.specs.Layout.{text_of}
-use Rattle.psg_unparse.specs.Spots.{span_of}
-use Rattle.psg_reads_back.specs.Spots.{Placed, placed_in}
+use Rattle.psg_unparse.specs.Layout.{text_of}
+use Rattle.psg_unparse.specs.Spans.{span_of}
+use Rattle.psg_unparse.specs.Spots.{Placed, placed_in}
 use Rattle.psg_unparse.specs.declared.spans.Span.{Span}
 use Rattle.psg_unparse.proofs.Mini.{mini, op_of, both, ref, num, plus, eq, block, call, assign, proc, var}
 

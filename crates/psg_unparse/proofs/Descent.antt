@@ -1,23 +1,22 @@
 -- A tree with another node at a path: what is in front of the node, the node's own, and what is after it.
-use Rattle.std.proofs.Common.{◌≡◌, inl, inr, ◌⊎◌, ℕ, zero, suc, ◌+◌, ◌<◌, ◌==◌, ◌&&◌, Bool, true, false, cond, List, [], ◌∷◌, ◌++◌, length, map, Option, Some, None, slice_get, refl, ap, ap₂, sym, subst, ◌∙◌, append_assoc, append-nil, length-append, arith}
+use Rattle.std.proofs.Common.{◌≡◌, inl, inr, ℕ, zero, suc, ◌+◌, ◌<◌, ◌&&◌, true, false, cond, List, [], ◌∷◌, ◌++◌, length, map, Option, Some, None, slice_get, refl, ap, ap₂, sym, subst, ◌∙◌, append_assoc, append-nil, length-append, arith}
 use Rattle.std.specs.Prelude.{decimal}
 use Rattle.std.proofs.lemmas.Bool.Decides.{eqb_tells}
 use Rattle.std.proofs.lemmas.List.{map-append}
 use Rattle.std.proofs.lemmas.Option.{slice_get_within}
 use Rattle.psg_grammar.specs.declared.types.Operator.{Operator}
-use Rattle.psg_grammar.specs.declared.types.Item.{Item}
 use Rattle.psg_grammar.specs.declared.types.Definition.{Definition}
 use Rattle.psg_grammar.specs.Fragments.{Fragment, hole, ending, cell, operator, with_child, with_name, with_number, with_text, anything, observed, children_of}
 use Rattle.psg_grammar.specs.Paths.{Path, node_at, change_child, change_at, replaced}
 use Rattle.psg_tree.specs.AbstractText.{quoted}
-use Rattle.psg_reads_back.specs.Rows.{Piece, token, row, left, wanted, wanted_of, operator_of, is_bracketed, is_below_level, opening, closing, from_part, behind_first, words, words_behind, between}
-use Rattle.psg_reads_back.specs.Layout.{laid, lead}
+use Rattle.psg_unparse.specs.Rows.{token, row, left, wanted, wanted_of, operator_of, is_bracketed, is_below_level, opening, closing, from_part, behind_first, words, words_behind, between}
+use Rattle.psg_unparse.specs.Layout.{laid, lead}
 use Rattle.psg_unparse.specs.declared.spans.Span.{Span}
 use Rattle.psg_unparse.specs.Plain.{level_in, level_of}
 use Rattle.psg_unparse.specs.Splicing.{FitsInPlace, leads_along, moved, stretched, shifted}
 use Rattle.psg_unparse.specs.Walking.{span_at, spans_below, spans_from}
 use Rattle.psg_unparse.proofs.Listed.{IsSpine, IsProper, Counts, no-spine, get-split, into}
-use Rattle.psg_unparse.proofs.States.{Pieces, State, state_of, lead_is}
+use Rattle.psg_unparse.proofs.States.{Pieces, state_of, lead_is}
 use Rattle.psg_unparse.proofs.Swaps.{same_span, Later, later_more, shifted_below, shifted_from, size_u, size_v, front_swap, later_node}
 
 -- ---- steps along a path

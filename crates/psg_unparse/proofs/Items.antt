@@ -15,7 +15,7 @@ use Rattle.psg_tree.specs.declared.tree.Shape.{Shape}
 use Rattle.psg_tree.specs.declared.tree.Shape.TheVariants.{Op, List as ListOf, Hole}
 use Rattle.psg_tree.specs.Shapes.{with_part, with_parts, list_of, tree_of}
 use Rattle.psg_unparse.specs.declared.layout.Writer.{Writer}
-use Rattle.psg_reads_back.specs.Rows.{words, from_part, behind_first, operator_of, between, separating}
+use Rattle.psg_unparse.specs.Rows.{words, from_part, behind_first, operator_of, between, separating}
 use Rattle.psg_unparse.specs.Writing.{Adds, piece}
 use Rattle.psg_unparse.proofs.Adding.{adds-nothing, adds-then}
 

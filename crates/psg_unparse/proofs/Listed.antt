@@ -2,7 +2,7 @@
 use Rattle.std.proofs.Common.{◌≡◌, inl, inr, ◌⊎◌, ℕ, zero, suc, ◌+◌, ◌<◌, List, [], ◌∷◌, ◌++◌, length, Option, Some, None, slice_get, refl, ap, sym, subst, ◌∙◌, append_assoc, append-nil, arith}
 use Rattle.std.specs.Prelude.{decimal, option_and_then}
 use Rattle.std.specs.List.{AllByRecursion}
-use Rattle.std.proofs.lemmas.List.{append_cancel_left}
+use Rattle.std.proofs.lemmas.Bool.{cases_lt}
 use Rattle.std.proofs.lemmas.Option.{slice_get_within}
 use Rattle.psg_terms.proofs.Lists.{slice_get-front, slice_get-end}
 use Rattle.psg_grammar.specs.declared.types.Definition.{Definition}
@@ -14,8 +14,9 @@ use Rattle.psg_grammar.specs.Fragments.{Fragment, hole, ending, cell, operator, 
 use Rattle.psg_grammar.specs.Paths.{Path, node_at, IsList}
 use Rattle.psg_grammar.specs.WellFormed.{Fits, IsPlain, WellFormed}
 use Rattle.psg_tree.specs.AbstractText.{quoted}
-use Rattle.psg_reads_back.specs.Spots.{Spot, Placed, top_spot, element_spot, rest_spot, child_spot, front_spot, leaf_spot, placed_from, placed_below, placed_in}
-use Rattle.psg_unparse.specs.Listing.{IsListing}
+use Rattle.psg_unparse.specs.Spots.{Spot, Placed, top_spot, element_spot, rest_spot, child_spot, front_spot, leaf_spot, placed_from, placed_below, placed_in}
+use Rattle.psg_unparse.specs.Listing.{IsEarlier, IsListing}
+use Rattle.psg_unparse.proofs.Earlier.{earlier_on, never_itself, parted}
 
 -- ---- operators take parts, and lists go on with lists
 
@@ -116,12 +117,6 @@ get-split (x ∷ xs) t zero u e = inl e
 get-split (x ∷ xs) t (suc k) u e = elim (get-split xs t k u e) [ inl h ↦ inl h | inr h ↦ inr (let s : suc k ≡ length (x ∷ xs) = omega (arith, h.0) in s, h.1) ]
 
 -- ---- paths
-
-path-step : (path : Path) (m k : ℕ) (q r : Path) → path ++ m ∷ q ≡ path ++ k ∷ r → m ≡ k
-path-step path m k q r e = let f : m ∷ q ≡ k ∷ r = append_cancel_left path (m ∷ q) (k ∷ r) e in cc
-
-pub path-longer : (path : Path) (m : ℕ) (q : Path) → path ≡ path ++ m ∷ q → ⊥
-path-longer path m q e = let f : [] ≡ m ∷ q = append_cancel_left path [] (m ∷ q) (append-nil path ∙ e) in absurd (cc)
 
 -- the node is at a path below this one
 record IsAt (f : Fragment) (path : Path) (p : Placed) : Type 0 where
@@ -229,31 +224,39 @@ module _ (def : Definition) where
   below s n anything h c = absurd h
   below s n (observed f) h c = absurd h
 
--- ---- each once
+-- ---- in order
 
-abbrev IsApart : Placed → Placed → Type 0
-IsApart p q = p.spot.path ≡ q.spot.path → ⊥
+abbrev IsBefore : Placed → Placed → Type 0
+IsBefore p q = IsEarlier p.spot.path q.spot.path
 
-abbrev IsOnce : List Placed → Type 0
-IsOnce [] = Unit {0}
-IsOnce (p ∷ ps) = AllByRecursion (IsApart p) ps × IsOnce ps
+abbrev IsInOrder : List Placed → Type 0
+IsInOrder [] = Unit {0}
+IsInOrder (p ∷ ps) = AllByRecursion (IsBefore p) ps × IsInOrder ps
 
-once-append : (xs ys : List Placed) → IsOnce xs → IsOnce ys → AllByRecursion (λ p. AllByRecursion (IsApart p) ys) xs → IsOnce (xs ++ ys)
-once-append [] ys a b c = b
-once-append (x ∷ xs) ys a b c = (each-append (IsApart x) xs ys a.0 c.0, once-append xs ys a.1 b c.1)
+order-append : (xs ys : List Placed) → IsInOrder xs → IsInOrder ys → AllByRecursion (λ p. AllByRecursion (IsBefore p) ys) xs → IsInOrder (xs ++ ys)
+order-append [] ys a b c = b
+order-append (x ∷ xs) ys a b c = (each-append (IsBefore x) xs ys a.0 c.0, order-append xs ys a.1 b c.1)
 
-each-apart : (A B : Placed → Type 0) → ((p q : Placed) → A p → B q → IsApart p q) → (xs ys : List Placed) → AllByRecursion A xs → AllByRecursion B ys
-    → AllByRecursion (λ p. AllByRecursion (IsApart p) ys) xs
-each-apart A B g xs ys a b = each-as A (λ p. AllByRecursion (IsApart p) ys) (λ p x. each-as B (IsApart p) (λ q y. g p q x y) ys b) xs a
+each-before : (A B : Placed → Type 0) → ((p q : Placed) → A p → B q → IsBefore p q) → (xs ys : List Placed) → AllByRecursion A xs → AllByRecursion B ys
+    → AllByRecursion (λ p. AllByRecursion (IsBefore p) ys) xs
+each-before A B g xs ys a b = each-as A (λ p. AllByRecursion (IsBefore p) ys) (λ p x. each-as B (IsBefore p) (λ q y. g p q x y) ys b) xs a
 
-once-same : (xs : List Placed) → IsOnce xs → (j k : ℕ) (p q : Placed) → slice_get xs j ≡ Some p → slice_get xs k ≡ Some q → p.spot.path ≡ q.spot.path → j ≡ k
-once-same [] o j k p q e f h = absurd (cc)
-once-same (x ∷ xs) o zero zero p q e f h = refl
-once-same (x ∷ xs) o zero (suc k) p q e f h =
-    let same : x ≡ p = cc in absurd (each-at (IsApart x) xs k q o.0 f (ap (λ (z : Placed). z.spot.path) same ∙ h))
-once-same (x ∷ xs) o (suc j) zero p q e f h =
-    let same : x ≡ q = cc in absurd (each-at (IsApart x) xs j p o.0 e (ap (λ (z : Placed). z.spot.path) same ∙ sym h))
-once-same (x ∷ xs) o (suc j) (suc k) p q e f h = ap suc (once-same xs o.1 j k p q e f h)
+order-at : (xs : List Placed) → IsInOrder xs → (j k : ℕ) (p q : Placed) → j < k → slice_get xs j ≡ Some p → slice_get xs k ≡ Some q → IsBefore p q
+order-at [] o j k p q lt e f = absurd (cc)
+order-at (x ∷ xs) o j zero p q lt e f = absurd (omega (arith, lt))
+order-at (x ∷ xs) o zero (suc k) p q lt e f =
+    let same : x ≡ p = cc in subst (λ y. IsBefore y q) same (each-at (IsBefore x) xs k q o.0 f)
+order-at (x ∷ xs) o (suc j) (suc k) p q lt e f = order-at xs o.1 j k p q (omega (arith, lt)) e f
+
+-- two places with one path are one
+once-same : (xs : List Placed) → IsInOrder xs → (j k : ℕ) (p q : Placed) → slice_get xs j ≡ Some p → slice_get xs k ≡ Some q → p.spot.path ≡ q.spot.path → j ≡ k
+once-same xs o j k p q e f h = elim (cases_lt j k) [
+  | inl lt ↦ absurd (never_itself q.spot.path (subst (λ x. IsEarlier x q.spot.path) h (order-at xs o j k p q lt e f)))
+  | inr ge ↦ elim (cases_lt k j) [
+    | inl lt ↦ absurd (never_itself q.spot.path (subst (IsEarlier q.spot.path) h (order-at xs o k j q p lt f e)))
+    | inr le ↦ omega (arith, ge, le)
+  ]
+]
 
 -- ---- each listed
 
@@ -281,10 +284,11 @@ into None q t h = absurd (cc)
 into (Some u) q t h = (u, (refl, h))
 
 module _ (def : Definition) where
-  once-top : (s : Spot) (f : Fragment) → IsProper f → IsOnce (placed_below def s 0 f) → IsOnce (placed_from def s f)
-  once-top s f h o =
-      subst IsOnce (placed-top def s f h) (
-        each-as (IsBelow 0 (children_of f) s.path) (IsApart (record { spot = s; node = f })) (λ q b e. path-longer s.path b.number b.rest (e ∙ b.path_is))
+  order-top : (s : Spot) (f : Fragment) → IsProper f → IsInOrder (placed_below def s 0 f) → IsInOrder (placed_from def s f)
+  order-top s f h o =
+      subst IsInOrder (placed-top def s f h) (
+        each-as (IsBelow 0 (children_of f) s.path) (IsBefore (record { spot = s; node = f }))
+            (λ q b. subst (IsEarlier s.path) (sym b.path_is) (earlier_on s.path b.number b.rest))
             (placed_below def s 0 f) (below def s 0 f h (λ _. refl)),
         o,
       )
@@ -292,36 +296,36 @@ module _ (def : Definition) where
   all-at : (s : Spot) (f : Fragment) → IsProper f → AllByRecursion (IsAt f s.path) (placed_from def s f)
   all-at s f h = at-top def s f h (below def s 0 f h (λ _. refl))
 
-  once : (s : Spot) (n : ℕ) (f : Fragment) → IsProper f → Counts def n f → IsOnce (placed_below def s n f)
-  once s n (hole p) h c = tt
-  once s n (ending l u) h c = tt
-  once s n (cell l e r) h c =
-      once-append (placed_from def (element_spot def s n l r) e) (placed_below def (rest_spot def s l e r) (n + 1) r)
-      (once-top (element_spot def s n l r) e h.0 (once (element_spot def s n l r) 0 e h.0 (λ _. refl)))
-      (once (rest_spot def s l e r) (n + 1) r h.1.0 (no-spine def r (n + 1) h.1.1))
-      (each-apart (IsAt e (s.path ++ n ∷ [])) (IsBelow (n + 1) (children_of r) s.path)
-      (λ p q a b w.
-      let z : n ≡ b.number = path-step s.path n b.number a.rest b.rest (sym (append_assoc s.path (n ∷ []) a.rest) ∙ sym a.path_is ∙ w ∙ b.path_is) in
-      absurd (omega (arith, z, b.sum)))
+  in_order : (s : Spot) (n : ℕ) (f : Fragment) → IsProper f → Counts def n f → IsInOrder (placed_below def s n f)
+  in_order s n (hole p) h c = tt
+  in_order s n (ending l u) h c = tt
+  in_order s n (cell l e r) h c =
+      order-append (placed_from def (element_spot def s n l r) e) (placed_below def (rest_spot def s l e r) (n + 1) r)
+      (order-top (element_spot def s n l r) e h.0 (in_order (element_spot def s n l r) 0 e h.0 (λ _. refl)))
+      (in_order (rest_spot def s l e r) (n + 1) r h.1.0 (no-spine def r (n + 1) h.1.1))
+      (each-before (IsAt e (s.path ++ n ∷ [])) (IsBelow (n + 1) (children_of r) s.path)
+      (λ p q a b.
+      parted s.path n b.number a.rest b.rest p.spot.path q.spot.path (a.path_is ∙ append_assoc s.path (n ∷ []) a.rest) b.path_is
+      (omega (arith, b.sum)))
       (placed_from def (element_spot def s n l r) e) (placed_below def (rest_spot def s l e r) (n + 1) r)
       (all-at (element_spot def s n l r) e h.0) (below def (rest_spot def s l e r) (n + 1) r h.1.0 (no-spine def r (n + 1) h.1.1)))
-  once s n (operator o) h c = tt
-  once s n (with_child f t) h c =
-      once-append (placed_below def (front_spot def s f t) n f) (placed_from def (child_spot def s f t) t)
-      (once (front_spot def s f t) n f h.0 (λ _. c tt))
-      (once-top (child_spot def s f t) t h.1.0 (once (child_spot def s f t) 0 t h.1.0 (λ _. refl)))
-      (each-apart (IsBelow n (children_of f) s.path) (IsAt t (s.path ++ length (children_of f) ∷ []))
-      (λ p q b a w.
-      let z : b.number ≡ length (children_of f) = path-step s.path b.number (length (children_of f)) b.rest a.rest (sym b.path_is ∙ w ∙ a.path_is ∙ append_assoc s.path (length (children_of f) ∷ []) a.rest) in
+  in_order s n (operator o) h c = tt
+  in_order s n (with_child f t) h c =
+      order-append (placed_below def (front_spot def s f t) n f) (placed_from def (child_spot def s f t) t)
+      (in_order (front_spot def s f t) n f h.0 (λ _. c tt))
+      (order-top (child_spot def s f t) t h.1.0 (in_order (child_spot def s f t) 0 t h.1.0 (λ _. refl)))
+      (each-before (IsBelow n (children_of f) s.path) (IsAt t (s.path ++ length (children_of f) ∷ []))
+      (λ p q b a.
       let y : b.child < length (children_of f) = slice_get_within (children_of f) b.child b.tree b.got in
-      absurd (omega (arith, z, y, b.sum, c tt)))
+      parted s.path b.number (length (children_of f)) b.rest a.rest p.spot.path q.spot.path b.path_is
+      (a.path_is ∙ append_assoc s.path (length (children_of f) ∷ []) a.rest) (omega (arith, y, b.sum, c tt)))
       (placed_below def (front_spot def s f t) n f) (placed_from def (child_spot def s f t) t)
       (below def (front_spot def s f t) n f h.0 (λ _. c tt)) (all-at (child_spot def s f t) t h.1.0))
-  once s n (with_name f x) h c = once (leaf_spot def s f x) n f h.0 (λ _. c tt)
-  once s n (with_number f x) h c = once (leaf_spot def s f (decimal x)) n f h.0 (λ _. c tt)
-  once s n (with_text f x) h c = once (leaf_spot def s f (quoted x)) n f h.0 (λ _. c tt)
-  once s n anything h c = absurd h
-  once s n (observed f) h c = absurd h
+  in_order s n (with_name f x) h c = in_order (leaf_spot def s f x) n f h.0 (λ _. c tt)
+  in_order s n (with_number f x) h c = in_order (leaf_spot def s f (decimal x)) n f h.0 (λ _. c tt)
+  in_order s n (with_text f x) h c = in_order (leaf_spot def s f (quoted x)) n f h.0 (λ _. c tt)
+  in_order s n anything h c = absurd h
+  in_order s n (observed f) h c = absurd h
 
   -- what is below the node is listed
   abbrev IsReached : Spot → ℕ → Fragment → Type 0
@@ -373,7 +377,8 @@ proper_listing def f p = record {
       let a : IsAt f [] q = each-at (IsAt f []) (placed_in def f) l.0 q (all-at def top_spot f p) l.1 in
       ap (node_at f) (sym l.2 ∙ a.path_is) ∙ a.node;
   all = λ path t e. among-got path t (placed_in def f) (reach-top def top_spot f p (reach def top_spot 0 f p (λ _. refl)) path t e);
-  once = once-same (placed_in def f) (once-top def top_spot f p (once def top_spot 0 f p (λ _. refl)));
+  once = once-same (placed_in def f) (order-top def top_spot f p (in_order def top_spot 0 f p (λ _. refl)));
+  order = order-at (placed_in def f) (order-top def top_spot f p (in_order def top_spot 0 f p (λ _. refl)));
 }
 
 pub listing : (def : Definition) (f : Fragment) (kind : Kind) → WellFormed def f kind → IsListing def f

@@ -19,13 +19,13 @@ use Rattle.psg_tree.proofs.Texts.{with_parts-push}
 use Rattle.psg_unparse.specs.declared.layout.Writer.{Writer}
 use Rattle.psg_unparse.specs.declared.nodes.Printer.{Printer}
 use Rattle.psg_unparse.specs.declared.spans.Span.{Span}
-use Rattle.psg_reads_back.specs.Rows.{Piece, token, mark, row, words, words_behind, from_part, behind_first, items_in, left, wanted, wanted_of, is_bracketed, opening, closing, between}
-use Rattle.psg_reads_back.specs.Layout.{laid, lead, text_of}
-use Rattle.psg_unparse.specs.Spots.{span_of}
-use Rattle.psg_reads_back.specs.Spots.{Spot, top_spot, element_spot, rest_spot, child_spot, front_spot, leaf_spot, placed_from, placed_below, placed_in}
+use Rattle.psg_unparse.specs.Rows.{Piece, token, mark, row, words, words_behind, from_part, behind_first, items_in, left, wanted, wanted_of, is_bracketed, opening, closing, between}
+use Rattle.psg_unparse.specs.Layout.{laid, lead}
+use Rattle.psg_unparse.specs.Spans.{span_of}
+use Rattle.psg_unparse.specs.Spots.{Spot, top_spot, element_spot, rest_spot, child_spot, front_spot, leaf_spot, placed_from, placed_below}
 use Rattle.psg_unparse.specs.Writing.{IsWritten, Adds, first_in}
 use Rattle.psg_unparse.specs.Walking.{Prints, IsWhole, IsOpened, IsClosed, count_of, level_wanted, ending_row, part_row, part_spans, span_at, spans_below, spans_from}
-use Rattle.psg_reads_back.proofs.Rows.{laid-append}
+use Rattle.psg_unparse.proofs.Rows.{laid-append}
 use Rattle.psg_unparse.proofs.Items.{operator-parts, short-from, short-behind}
 use Rattle.psg_unparse.proofs.Adding.{adds-then}
 

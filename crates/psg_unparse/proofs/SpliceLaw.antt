@@ -1,5 +1,5 @@
 -- The text of a tree with another node is the old text, in which the node's own text is replaced.
-use Rattle.std.proofs.Common.{◌≡◌, ℕ, zero, suc, ◌+◌, ◌-◌, ◌<◌, true, List, [], ◌∷◌, ◌++◌, length, map, take, drop, Option, Some, None, slice_get, refl, ap, ap₂, sym, subst, ◌∙◌, append_assoc, append-nil, length-append, arith}
+use Rattle.std.proofs.Common.{◌≡◌, ℕ, zero, suc, ◌+◌, ◌-◌, ◌<◌, true, List, [], ◌∷◌, ◌++◌, length, map, take, drop, Some, None, slice_get, refl, ap, ap₂, sym, subst, ◌∙◌, append_assoc, length-append, arith}
 use Rattle.std.proofs.Math.Seq.{take-append_seam, drop-append_seam}
 use Rattle.psg_terms.proofs.Lists.{slice_get-middle}
 use Rattle.std.specs.List.{AllByRecursion}
@@ -8,25 +8,24 @@ use Rattle.psg_grammar.specs.declared.types.Definition.{Definition}
 use Rattle.psg_grammar.specs.Fragments.{Fragment}
 use Rattle.psg_grammar.specs.Paths.{Path, node_at, replaced}
 use Rattle.psg_grammar.specs.WellFormed.{WellFormed}
-use Rattle.psg_reads_back.specs.Rows.{row}
-use Rattle.psg_reads_back.specs.Layout.{laid, lead, text_of}
-use Rattle.psg_reads_back.specs.Spots.{Placed, top_spot, placed_in}
-use Rattle.psg_reads_back.proofs.Rows.{laid-append}
+use Rattle.psg_unparse.specs.Rows.{row}
+use Rattle.psg_unparse.specs.Layout.{laid, lead, text_of}
+use Rattle.psg_unparse.specs.Spots.{top_spot, placed_in}
+use Rattle.psg_unparse.proofs.Rows.{laid-append}
 use Rattle.psg_unparse.specs.declared.spans.Span.{Span}
 use Rattle.psg_unparse.specs.declared.spans.Printed.{Printed}
-use Rattle.psg_unparse.specs.Listing.{IsListing}
-use Rattle.psg_unparse.specs.Plain.{IsPlain, plain_in}
+use Rattle.psg_unparse.specs.Plain.{plain_in}
 use Rattle.psg_unparse.specs.Splicing.{FitsInPlace, IsSplicedAt, stretched, shifted, set_in, spliced_in, spliced_spans, spliced_text}
-use Rattle.psg_unparse.specs.Spots.{span_of, printed_of}
+use Rattle.psg_unparse.specs.Spans.{span_of, printed_of}
 use Rattle.psg_unparse.specs.Walking.{span_at, spans_below, spans_from}
 use Rattle.psg_unparse.proofs.Printing.{map_from}
 use Rattle.psg_unparse.proofs.Listed.{proper, listing}
-use Rattle.psg_unparse.proofs.States.{Pieces, State, state_of, start, lay, front, laid_is, lead_is, like_lay, plain_lay}
-use Rattle.psg_unparse.proofs.Swaps.{Later, size_u, size_v, same_front, size_of_u, later_node, set_from, count_below, whole_length}
-use Rattle.psg_unparse.proofs.Descent.{Cut, NodeCut, down}
+use Rattle.psg_unparse.proofs.States.{Pieces, State, state_of, front, laid_is, lead_is, like_lay, plain_lay}
+use Rattle.psg_unparse.proofs.Swaps.{same_front, size_of_u, later_node, set_from, count_below, whole_length}
+use Rattle.psg_unparse.proofs.Descent.{Cut, down}
 
 -- what is at a place of a list by a function is from what is at that place
-map_got : {X Y : Type 0} (g : X → Y) (xs : List X) (k : ℕ) (y : Y) → slice_get (map g xs) k ≡ Some y → (x : X) × (slice_get xs k ≡ Some x) × (g x ≡ y)
+pub map_got : {X Y : Type 0} (g : X → Y) (xs : List X) (k : ℕ) (y : Y) → slice_get (map g xs) k ≡ Some y → (x : X) × (slice_get xs k ≡ Some x) × (g x ≡ y)
 map_got g [] k y e = absurd (cc)
 map_got g (x ∷ xs) zero y e = (x, refl, (let s : Some (g x) ≡ Some y = e in cc))
 map_got g (x ∷ xs) (suc k) y e = map_got g xs k y e
@@ -139,3 +138,18 @@ module _ (def : Definition) (f : Fragment) (kind : Kind) (h : WellFormed def f k
       let all : printed_of def (replaced path v f) ≡ spliced_in (length cut.ahead) (length (printed_of def u).spans) own (printed_of def v) (printed_of def f) =
       ap₂ made text_is new_spans in
       all ∙ ap₂ (λ x y. spliced_in x (length (printed_of def u).spans) y (printed_of def v) (printed_of def f)) (sym p) (sym n)
+
+  -- the bytes of the span are the text of the old node
+  pub own_text : (place : ℕ) (node : Span) → slice_get (printed_of def f).spans place ≡ Some node → node.path ≡ path
+      → take (node.end - node.start) (drop node.start (text_of def f)) ≡ text_of def u
+  own_text place node got e =
+      let n : node ≡ own = node_is place node got (place_is place node got e) in
+      let ahead : List ℕ = laid [] cut.pre ++ front (state_of cut.pre) (row def u) in
+      let rest : List ℕ = laid (cut.pre ++ row def u) cut.post in
+      let old : text_of def f ≡ ahead ++ (laid [] (row def u) ++ rest) =
+      ap (laid []) cut.row_old ∙ cut_text cut.pre (row def u) cut.post fit.old_plain.marks in
+      let dropped : drop own.start (text_of def f) ≡ laid [] (row def u) ++ rest =
+      ap₂ drop start_is old ∙ drop-append_seam ahead (laid [] (row def u) ++ rest) in
+      let taken : take (own.end - own.start) (drop own.start (text_of def f)) ≡ laid [] (row def u) =
+      ap₂ take size_is dropped ∙ take-append_seam (laid [] (row def u)) rest in
+      subst (λ (s : Span). take (s.end - s.start) (drop s.start (text_of def f)) ≡ laid [] (row def u)) (sym n) taken

@@ -1,5 +1,5 @@
 -- Facts for the functions that splice a text.
-use Rattle.std.proofs.Common.{◌≡◌, ◌↔◌, inl, inr, ℕ, zero, suc, ◌+◌, ◌<◌, ◌==◌, ◌&&◌, ◌||◌, Bool, true, false, List, [], ◌∷◌, ◌++◌, length, take, drop, Option, Some, None, slice_get, refl, ap, ap₂, sym, subst, ◌∙◌, arith}
+use Rattle.std.proofs.Common.{◌≡◌, inl, inr, ℕ, suc, ◌<◌, ◌==◌, ◌&&◌, ◌||◌, Bool, true, false, List, [], ◌∷◌, ◌++◌, length, drop, Option, Some, None, slice_get, refl, ap, ap₂, sym, subst, ◌∙◌, arith}
 use Rattle.std.specs.List.{AllByRecursion}
 use Rattle.std.proofs.lemmas.Bool.{false≢true, and_parts}
 use Rattle.std.proofs.lemmas.Bool.Decides.{eqb_tells}
@@ -9,15 +9,13 @@ use Rattle.psg_terms.specs.Words.{goes_on_word}
 use Rattle.psg_lexis.specs.Classes.{is_symbol}
 use Rattle.psg_grammar.specs.declared.types.Definition.{Definition}
 use Rattle.psg_grammar.specs.Fragments.{Fragment}
-use Rattle.psg_grammar.specs.Paths.{Path, node_at}
-use Rattle.psg_reads_back.specs.Rows.{row}
-use Rattle.psg_reads_back.specs.Layout.{glues, last_in}
+use Rattle.psg_grammar.specs.Paths.{Path}
+use Rattle.psg_unparse.specs.Rows.{row}
+use Rattle.psg_unparse.specs.Layout.{glues, last_in}
 use Rattle.psg_unparse.specs.declared.spans.Span.{Span}
 use Rattle.psg_unparse.specs.declared.spans.Printed.{Printed}
 use Rattle.psg_unparse.specs.Plain.{AreAlike, IsPlainText, head_in, level_of}
-use Rattle.psg_unparse.specs.Splicing.{FitsInPlace, IsPlaceOf, IsSplicing, leads_along, spliced_in, spliced_spans, spliced_text}
-use Rattle.psg_unparse.specs.Spots.{printed_of}
-use Rattle.psg_unparse.proofs.SpliceLaw.{spliced_at}
+use Rattle.psg_unparse.specs.Splicing.{FitsInPlace, IsFitting, leads_along}
 
 -- ---- characters
 
@@ -78,16 +76,29 @@ fits_when def u v p q a b c d x y levels heads lasts begun = record {
   begun = subst (λ (z : Printed). AllByRecursion (λ (s : Span). 0 < s.end) z.spans) y.printed_is begun;
 }
 
-pub splice_made : (def : Definition) (f : Fragment) (path : Path) (u v : Fragment) (p q before made : Printed) (a b c d : Option ℕ) (place : ℕ) (node : Span)
-    → node_at f path ≡ Some u → FitsInPlace def u v → IsPlainText def u p a b → IsPlainText def v q c d → IsPlaceOf before.spans path place
-    → Some node ≡ slice_get before.spans place → made.text ≡ take node.start before.text ++ (q.text ++ drop node.end before.text)
-    → made.spans ≡ spliced_spans place (length p.spans) node q before.spans → IsSplicing def f path v before made
-splice_made def f path u v p q before made a b c d place node at fit x y is_place got text spans kind h is =
-    let record_of : List ℕ → List Span → Printed = λ t s. record { text = t; spans = s } in
-    let same : is_place.span ≡ node = (let z : Some is_place.span ≡ Some node = sym is_place.found ∙ sym got in cc) in
-    let node_path : node.path ≡ path = ap (λ (s : Span). s.path) (sym same) ∙ is_place.path_is in
-    let there : slice_get before.spans place ≡ Some node = sym got in
-    let whole : made ≡ spliced_in place (length p.spans) node q before = ap₂ record_of text spans in
-    let law = spliced_at def f kind h path u v at fit place node (ap (λ (z : Printed). slice_get z.spans place) (sym is) ∙ there) node_path in
-    whole ∙ ap (λ (z : Printed). spliced_in place (length z.spans) node q before) x.printed_is
-    ∙ ap₂ (λ y z. spliced_in place (length (printed_of def u).spans) node y z) y.printed_is is ∙ sym law
+-- the new tree does not fit where one of the two has no plain row, or the levels, the characters or the spans hinder it
+pub unlike_levels : (def : Definition) (u v : Fragment) → (level_of def u ≡ level_of def v → ⊥) → FitsInPlace def u v → ⊥
+unlike_levels def u v never fit = never fit.levels
+
+pub unlike_heads : (def : Definition) (u v : Fragment) (p q : Printed) (a b c d : Option ℕ) → IsPlainText def u p a b → IsPlainText def v q c d
+    → (AreAlike a c → ⊥) → FitsInPlace def u v → ⊥
+unlike_heads def u v p q a b c d x y never fit =
+    never (subst (λ z. AreAlike z c) (sym x.first_is) (subst (AreAlike (head_in (row def u))) (sym y.first_is) fit.heads))
+
+pub unlike_lasts : (def : Definition) (u v : Fragment) (p q : Printed) (a b c d : Option ℕ) → IsPlainText def u p a b → IsPlainText def v q c d
+    → (AreAlike b d → ⊥) → FitsInPlace def u v → ⊥
+unlike_lasts def u v p q a b c d x y never fit =
+    never (subst (λ z. AreAlike z d) (sym x.last_is) (subst (AreAlike (last_in None (row def u))) (sym y.last_is) fit.lasts))
+
+pub not_begun : (def : Definition) (u v : Fragment) (q : Printed) (c d : Option ℕ) (ss : List Span) → IsPlainText def v q c d → ss ≡ q.spans
+    → (AllByRecursion (λ (s : Span). 0 < s.end) ss → ⊥) → FitsInPlace def u v → ⊥
+not_begun def u v q c d ss y same never fit =
+    never (subst (AllByRecursion (λ (s : Span). 0 < s.end)) (ap (λ (z : Printed). z.spans) (sym y.printed_is) ∙ sym same) fit.begun)
+
+pub fitting_made : (def : Definition) (u v : Fragment) (p q : Printed) (a b c d : Option ℕ) (count : ℕ) → FitsInPlace def u v → IsPlainText def u p a b
+    → IsPlainText def v q c d → count ≡ length p.spans → IsFitting def u v count q
+fitting_made def u v p q a b c d count fit x y n = record {
+  fits = fit;
+  count_is = n ∙ ap (λ (z : Printed). length z.spans) x.printed_is;
+  printed_is = y.printed_is;
+}

@@ -1,5 +1,5 @@
 -- What the text of a row depends on of the row before it.
-use Rattle.std.proofs.Common.{◌≡◌, ℕ, ◌+◌, ◌-◌, ◌*◌, Bool, true, false, cond, ◌||◌, ◌&&◌, not, List, [], ◌∷◌, ◌++◌, length, replicate, Option, Some, None, slice_get, refl, ap, ap₂, sym, subst, ◌∙◌, append_assoc, append-nil, length-append, arith}
+use Rattle.std.proofs.Common.{◌≡◌, ℕ, ◌+◌, ◌*◌, Bool, true, false, cond, ◌||◌, ◌&&◌, not, List, [], ◌∷◌, ◌++◌, length, replicate, Option, Some, None, slice_get, refl, ap, ap₂, sym, subst, ◌∙◌, append_assoc, append-nil, length-append, arith}
 use Rattle.std.proofs.lemmas.Bool.{false≢true, and_parts, or_from}
 use Rattle.std.proofs.lemmas.List.Folds.{list_any-append}
 use Rattle.std.proofs.Math.Bool.{or-false}
@@ -9,11 +9,11 @@ use Rattle.psg_terms.specs.Words.{goes_on_word}
 use Rattle.psg_lexis.specs.Classes.{is_symbol}
 use Rattle.psg_grammar.specs.declared.types.Item.{Item}
 use Rattle.psg_grammar.specs.declared.types.Item.TheVariants as items
-use Rattle.psg_reads_back.specs.Rows.{Piece, token, mark}
-use Rattle.psg_reads_back.specs.Layout.{is_line, is_tight, is_space, glues, glues_first, last_char, last_in, marks_behind, open_behind, gap_after, gap, laid, lead}
-use Rattle.psg_reads_back.proofs.Rows.{last_in-append}
+use Rattle.psg_unparse.specs.Rows.{Piece, token, mark}
+use Rattle.psg_unparse.specs.Layout.{is_line, is_tight, is_space, glues_first, last_char, last_in, marks_behind, open_behind, gap_after, laid, lead}
+use Rattle.psg_unparse.proofs.Rows.{last_in-append}
 use Rattle.psg_unparse.specs.Writing.{glues_with}
-use Rattle.psg_unparse.specs.Plain.{has_token, keeps_plain, plain_in, head_in, AreAlike}
+use Rattle.psg_unparse.specs.Plain.{keeps_plain, plain_in, head_in, AreAlike}
 use Rattle.psg_unparse.proofs.Adding.{marks_behind-append, open_behind-append, plain_in-append, glues_with-first}
 
 abbrev pub Pieces : Type 0

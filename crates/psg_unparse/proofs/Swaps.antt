@@ -1,5 +1,5 @@
 -- What is written after two rows that fit in each other's place, and the spans there.
-use Rattle.std.proofs.Common.{◌≡◌, inl, inr, ℕ, suc, ◌+◌, ◌-◌, ◌<◌, ◌≤◌, Bool, true, false, cond, ◌&&◌, List, [], ◌∷◌, ◌++◌, length, map, Option, Some, None, refl, ap, ap₂, sym, subst, ◌∙◌, append_assoc, append-nil, length-append, arith}
+use Rattle.std.proofs.Common.{◌≡◌, ℕ, suc, ◌+◌, ◌<◌, ◌≤◌, Bool, true, List, [], ◌∷◌, ◌++◌, length, map, Option, Some, None, refl, ap, ap₂, sym, subst, ◌∙◌, append_assoc, append-nil, length-append, arith}
 use Rattle.std.specs.List.{AllByRecursion}
 use Rattle.std.proofs.lemmas.Bool.{and_parts}
 use Rattle.std.proofs.lemmas.List.{map-append}
@@ -8,15 +8,15 @@ use Rattle.psg_grammar.specs.Fragments.{Fragment, hole, ending, cell, operator, 
 use Rattle.psg_grammar.specs.Paths.{Path}
 use Rattle.psg_tree.specs.AbstractText.{quoted}
 use Rattle.std.specs.Prelude.{decimal}
-use Rattle.psg_reads_back.specs.Rows.{Piece, token, mark, row, is_bracketed, opening, closing, words_behind, between}
-use Rattle.psg_reads_back.specs.Layout.{laid, lead, last_in}
-use Rattle.psg_reads_back.proofs.Rows.{laid-append}
+use Rattle.psg_unparse.specs.Rows.{token, mark, row, is_bracketed, opening, closing, words_behind, between}
+use Rattle.psg_unparse.specs.Layout.{laid, lead, last_in}
+use Rattle.psg_unparse.proofs.Rows.{laid-append}
 use Rattle.psg_unparse.specs.declared.spans.Span.{Span}
-use Rattle.psg_unparse.specs.Plain.{IsPlain, plain_in, head_in}
+use Rattle.psg_unparse.specs.Plain.{plain_in}
 use Rattle.psg_unparse.specs.Splicing.{FitsInPlace, moved, shifted, set_in}
 use Rattle.psg_unparse.specs.Walking.{span_at, spans_below, spans_from}
 use Rattle.psg_unparse.proofs.Adding.{plain_in-append}
-use Rattle.psg_unparse.proofs.States.{Pieces, State, state_of, start, after, run, lay, front, runs, laid_is, lead_is, IsLike, Like, like_run, like_lay, like_front, plain_lay, no_front, offset, front_more, no_text, heads_alike, lasts_like, IsAfter, after_plain}
+use Rattle.psg_unparse.proofs.States.{Pieces, State, state_of, start, after, run, lay, front, runs, laid_is, lead_is, IsLike, Like, like_run, like_lay, like_front, plain_lay, offset, front_more, no_text, heads_alike, lasts_like, IsAfter, after_plain}
 
 pub same_span : {p q : Path} {s t e d : ℕ} → p ≡ q → s ≡ t → e ≡ d
     → ◌≡◌ {A = Span} (record { path = p; start = s; end = e }) (record { path = q; start = t; end = d })

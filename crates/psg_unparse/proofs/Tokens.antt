@@ -3,8 +3,8 @@ use Rattle.std.proofs.Common.{◌≡◌, ℕ, ◌+◌, ◌<◌, List, [], ◌∷
 use Rattle.std.specs.Str.{chars}
 use Rattle.std.proofs.Math.Seq.{take-append_seam, drop-append_seam}
 use Rattle.std.proofs.lemmas.Str.{encodes-append, encodes-chars, encodes_same, chars-append, chars_past_char, IsUtf8-drop, IsUtf8-take, IsCharBoundary-before_ascii}
-use Rattle.psg_reads_back.specs.Layout.{last_char}
-use Rattle.psg_reads_back.proofs.Rows.{last_char-snoc}
+use Rattle.psg_unparse.specs.Layout.{last_char}
+use Rattle.psg_unparse.proofs.Rows.{last_char-snoc}
 
 -- the last character comes off the text
 pub last_off : (text front : List ℕ) (c : ℕ) → IsUtf8 text → IsUtf8 front → text ≡ front ++ encode_utf8 c → chars text ≡ chars front ++ c ∷ []

@@ -1,6 +1,13 @@
-pub mod Spots
+pub mod Spans
 pub mod Writing
 pub mod Walking
 pub mod Listing
 pub mod Plain
 pub mod Splicing
+pub mod Places
+pub mod Rows
+pub mod Layout
+pub mod Back
+pub mod Spots
+pub mod Nodes
+pub mod Spaced

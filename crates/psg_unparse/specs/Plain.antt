@@ -10,9 +10,9 @@ use Rattle.psg_grammar.specs.declared.types.Operator.{Operator}
 use Rattle.psg_grammar.specs.declared.types.Definition.{Definition}
 use Rattle.psg_grammar.specs.Fragments.{Fragment}
 use Rattle.psg_grammar.specs.Levels.{level_number}
-use Rattle.psg_reads_back.specs.Rows.{Piece, token, mark, row, operator_of}
-use Rattle.psg_reads_back.specs.Layout.{is_line, is_tight, is_space, last_char, last_in, marks_behind}
-use Rattle.psg_unparse.specs.Spots.{printed_of}
+use Rattle.psg_unparse.specs.Rows.{Piece, token, mark, row, operator_of}
+use Rattle.psg_unparse.specs.Layout.{is_line, is_tight, is_space, last_char, last_in, marks_behind}
+use Rattle.psg_unparse.specs.Spans.{printed_of}
 use Rattle.psg_unparse.specs.declared.spans.Printed.{Printed}
 
 -- there is a token in the row so far, of which this is the last character

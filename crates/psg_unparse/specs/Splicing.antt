@@ -1,15 +1,16 @@
 -- The text of a tree in which a node is replaced, from the text of the tree before.
-use Rattle.std.specs.Prelude.{ℕ, ◌≡◌, ◌<◌, ◌+◌, ◌-◌, ◌==◌, ◌&&◌, Bool, true, false, cond, List, [], ◌∷◌, ◌++◌}
-use Rattle.std.specs.Prelude.{length, map, take, drop, Some, None, slice_get}
+use Rattle.std.specs.Prelude.{ℕ, ◌≡◌, ◌<◌, ◌+◌, ◌-◌, ◌^◌, ◌==◌, ◌&&◌, Bool, true, false, cond, List, [], ◌∷◌, ◌++◌}
+use Rattle.std.specs.Prelude.{All, length, map, take, drop, Some, None, slice_get}
 use Rattle.std.specs.List.{AllByRecursion}
+use Rattle.std.specs.Str.{IsCharBoundary}
 use Rattle.psg_grammar.specs.declared.types.Kind.{Kind}
 use Rattle.psg_grammar.specs.declared.types.Definition.{Definition}
 use Rattle.psg_grammar.specs.Fragments.{Fragment}
 use Rattle.psg_grammar.specs.Paths.{Path, node_at, replaced}
 use Rattle.psg_grammar.specs.WellFormed.{WellFormed}
-use Rattle.psg_reads_back.specs.Rows.{row}
-use Rattle.psg_reads_back.specs.Layout.{last_in}
-use Rattle.psg_unparse.specs.Spots.{printed_of}
+use Rattle.psg_unparse.specs.Rows.{row}
+use Rattle.psg_unparse.specs.Layout.{last_in, text_of}
+use Rattle.psg_unparse.specs.Spans.{printed_of}
 use Rattle.psg_unparse.specs.Plain.{IsPlain, AreAlike, head_in, level_of}
 use Rattle.psg_unparse.specs.declared.spans.Span.{Span}
 use Rattle.psg_unparse.specs.declared.spans.Printed.{Printed}
@@ -19,6 +20,18 @@ pub record IsPlaceOf (spans : List Span) (path : Path) (place : ℕ) : Type 0 wh
   pub span : Span
   pub found : slice_get spans place ≡ Some span
   pub path_is : span.path ≡ path
+
+-- both places of the span are below those that a text of this machine may have
+abbrev pub IsSmall : Span → Type 0
+IsSmall s = (s.start < 2 ^ 63) × (s.end < 2 ^ 63)
+
+-- the text has no line feed
+abbrev pub IsOneLine : List ℕ → Type 0
+IsOneLine text = All (λ b. b ≡ 10 → ⊥) text
+
+-- no span begins or ends inside a character
+abbrev pub CutsNone : Printed → Type 0
+CutsNone p = (k : ℕ) (s : Span) → slice_get p.spans k ≡ Some s → IsCharBoundary p.text s.start × IsCharBoundary p.text s.end
 
 -- the steps are the first ones of the path
 abbrev pub leads_along : Path → Path → Bool
@@ -85,7 +98,20 @@ module _ (def : Definition) where
       (f : Fragment) (kind : Kind) → WellFormed def f kind → (path : Path) (old new : Fragment)
       → node_at f path ≡ Some old → FitsInPlace old new → IsSplicedAt f path old new
 
-  -- these are the text and the spans of the tree with another node at the path, if those before are the tree's
-  abbrev pub IsSplicing : Fragment → Path → Fragment → Printed → Printed → Type 0
-  IsSplicing f path new before made =
-      (kind : Kind) → WellFormed def f kind → before ≡ printed_of def f → made ≡ printed_of def (replaced path new f)
+  -- this is printed of the new node by itself, which fits in the old one's place, and of the old one so many spans
+  pub record IsFitting (old new : Fragment) (count : ℕ) (printed : Printed) : Type 0 where
+    pub fits : FitsInPlace old new
+    pub count_is : count ≡ length (printed_of def old).spans
+    pub printed_is : printed ≡ printed_of def new
+
+  -- There is a node at the path, which is written on one line, and the new one fits in its place.
+  pub record IsSpliceable (f : Fragment) (path : Path) (new : Fragment) : Type 0 where
+    pub old : Fragment
+    pub there : node_at f path ≡ Some old
+    pub line : IsOneLine (text_of def old)
+    pub fits : FitsInPlace old new
+
+  -- the new node may be put so, and these are the text and the spans of the tree with it
+  pub record IsSplicing (f : Fragment) (path : Path) (new : Fragment) (made : Printed) : Type 0 where
+    pub may : IsSpliceable f path new
+    pub printed_is : made ≡ printed_of def (replaced path new f)

@@ -11,10 +11,10 @@ use Rattle.psg_grammar.specs.Paths.{Path}
 use Rattle.psg_tree.specs.declared.tree.Part.{Part}
 use Rattle.psg_tree.specs.declared.tree.Part.TheVariants.{Sub, Name, Number, Text}
 use Rattle.psg_tree.specs.AbstractText.{quoted}
-use Rattle.psg_reads_back.specs.Rows.{Piece, token, row, opening, closing, is_bracketed}
-use Rattle.psg_reads_back.specs.Rows.{is_below_level, operator_of, between}
-use Rattle.psg_reads_back.specs.Layout.{laid, lead}
-use Rattle.psg_unparse.specs.Spots.{printed_of}
+use Rattle.psg_unparse.specs.Rows.{Piece, token, row, opening, closing, is_bracketed}
+use Rattle.psg_unparse.specs.Rows.{is_below_level, operator_of, between}
+use Rattle.psg_unparse.specs.Layout.{laid, lead}
+use Rattle.psg_unparse.specs.Spans.{printed_of}
 use Rattle.psg_unparse.specs.Writing.{IsWritten, Adds}
 use Rattle.psg_unparse.specs.declared.nodes.Printer.{Printer}
 use Rattle.psg_unparse.specs.declared.spans.Span.{Span}

@@ -5,9 +5,9 @@ use Rattle.std.specs.List.{list_any}
 use Rattle.std.specs.Option.{option_or}
 use Rattle.psg_grammar.specs.declared.types.Item.{Item}
 use Rattle.psg_grammar.specs.declared.types.Item.TheVariants as items
-use Rattle.psg_reads_back.specs.Rows.{Piece, token, mark}
-use Rattle.psg_reads_back.specs.Layout.{is_line, is_tight, is_space, glues, last_in}
-use Rattle.psg_reads_back.specs.Layout.{marks_behind, open_behind, gap, laid}
+use Rattle.psg_unparse.specs.Rows.{Piece, token, mark}
+use Rattle.psg_unparse.specs.Layout.{is_line, is_tight, is_space, glues, last_in}
+use Rattle.psg_unparse.specs.Layout.{marks_behind, open_behind, gap, laid}
 use Rattle.psg_unparse.specs.Plain.{head_in, plain_in}
 use Rattle.psg_unparse.specs.declared.layout.Writer.{Writer}
 

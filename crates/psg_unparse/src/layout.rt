@@ -1,11 +1,11 @@
 //! Laying out tokens and marks: the gap in front of a token depends on what is written before it.
-ghost use Rattle.std.specs.Prelude.{◌≡◌, ◌++◌, ◌*◌, ◌&&◌, not, true, cond, ◌∷◌, [], Some, replicate, slice_get};
+ghost use Rattle.std.specs.Prelude.{◌≡◌, ◌++◌, ◌*◌, ◌&&◌, not, true, false, cond, ◌∷◌, [], Some, replicate, slice_get};
 ghost use Rattle.std.specs.Prelude.{IfNone, IfSome, IsTrue, List, OnOk, chars, decimal, string_bytes};
 ghost use Rattle.psg_grammar.specs.declared.types.Item.TheVariants as items;
 ghost use Rattle.psg_tree.specs.AbstractText as text;
-ghost use Rattle.psg_reads_back.specs.Rows as rows;
-ghost use Rattle.psg_reads_back.specs.Rows.{Piece};
-ghost use Rattle.psg_reads_back.specs.Layout.{last_char};
+ghost use Rattle.psg_unparse.specs.Rows as rows;
+ghost use Rattle.psg_unparse.specs.Rows.{Piece};
+ghost use Rattle.psg_unparse.specs.Layout.{last_char};
 ghost use Rattle.psg_unparse.specs.Writing.{Adds, IsBegun, IsWritten, ended_by, gap_behind, gap_in, glues_with};
 ghost use Rattle.psg_unparse.specs.Writing.{head_with, piece};
 ghost use Rattle.psg_unparse.specs.Plain.{has_token, IsPlain};
@@ -13,6 +13,7 @@ ghost use Rattle.psg_unparse.specs.Plain.{has_token, IsPlain};
 use itoa::Buffer;
 use psg_grammar::Item;
 use psg_lexis::glues;
+use psg_terms::uncountable;
 use psg_tree::write_quoted;
 use std::alloc::{AllocError, Global};
 
@@ -61,10 +62,15 @@ impl Writer {
 
     /// Says whether the row that was written begins and ends with a token, and has no mark that puts a line or changes
     /// a level.
+    #[tactic(auto, using(crate::proofs::PlainRows::not_line, crate::proofs::PlainRows::not_tight, crate::proofs::PlainRows::not_space))]
     pub(crate) fn is_plain(&self) -> bool
-        ensures { IsTrue result → (row : List Piece) → IsWritten self.now row → IsPlain row }
+        ensures yes { IsTrue result → (row : List Piece) → IsWritten self.now row → IsPlain row }
+        ensures no { result ≡ false → (row : List Piece) → IsWritten self.now row → IsPlain row → ⊥ }
     {
-        if self.line || self.tight {
+        if self.line {
+            return false;
+        }
+        if self.tight {
             return false;
         }
         if self.space {
@@ -102,7 +108,7 @@ impl Writer {
         ensures { OnOk result (Adds (rows.mark items.In ∷ []) self.old self.new) }
     {
         let Some(levels) = self.levels.checked_add(1) else {
-            return Err(AllocError);
+            return Err(uncountable(self.levels));
         };
         self.plain = false;
         self.levels = levels;

@@ -1,29 +1,29 @@
 //! The walk over a tree that writes it.
 ghost use Rattle.std.specs.Prelude.{◌≡◌, ◌+◌, ◌<◌, ◌==◌, ◌&&◌, not, [], ◌∷◌, ◌++◌, length, slice_get, Some};
-ghost use Rattle.std.specs.Prelude.{IfOk, IfSome, OnOk};
+ghost use Rattle.std.specs.Prelude.{IfOk, MatchOption, OnOk};
 ghost use Rattle.std.specs.List.{AllByRecursion};
 ghost use Rattle.psg_grammar.specs.Fragments.{operator as plain_operator};
 ghost use Rattle.psg_grammar.specs.Lookups.{operator_at};
 ghost use Rattle.psg_grammar.specs.Sound.{IsSound};
 ghost use Rattle.psg_tree.specs.AbstractText as text;
 ghost use Rattle.psg_tree.specs.Shapes.{list_of, with_parts};
-ghost use Rattle.psg_reads_back.specs.Rows.{between, closing, from_part, items_in, opening, words};
-ghost use Rattle.psg_reads_back.specs.Rows as rows;
+ghost use Rattle.psg_unparse.specs.Rows.{between, closing, from_part, items_in, opening, row, words};
+ghost use Rattle.psg_unparse.specs.Rows as rows;
 ghost use Rattle.psg_grammar.specs.WellFormed.{fixed_words};
 ghost use Rattle.psg_lexis.specs.Tokens.{IsFixedWord};
 ghost use Rattle.psg_class.specs.Class.{IsClass};
-ghost use Rattle.psg_reads_back.specs.Back.{ReadsBackIfPrintable};
-ghost use Rattle.psg_reads_back.specs.Nodes.{NodesReadBackIfPrintable};
-ghost use Rattle.psg_unparse.specs.Spots.{printed_of};
+ghost use Rattle.psg_unparse.specs.Back.{ReadsBackIfPrintable};
+ghost use Rattle.psg_unparse.specs.Nodes.{NodesReadBackIfPrintable};
+ghost use Rattle.psg_unparse.specs.Spans.{printed_of};
 ghost use Rattle.psg_unparse.specs.Walking.{IsOpened, IsClosed, PrintsBelow, PrintsPart, PrintsTree};
 ghost use Rattle.psg_unparse.specs.Walking.{count_of, IsWhole, ending_row, is_below, level_wanted};
-ghost use Rattle.psg_unparse.specs.Plain.{IsPlainText};
+ghost use Rattle.psg_unparse.specs.Plain.{IsPlain, IsPlainText};
 ghost use Rattle.psg_unparse.specs.Writing.{Adds};
 
 use crate::layout::Writer;
 use crate::spans::{Printed, Span};
 use psg_grammar::{Definition, Item, ListKind, is_part, least_level, op_level};
-use psg_terms::{Seq, Txt};
+use psg_terms::{Seq, Txt, uncountable};
 use psg_tree::{Part, Path, Shape, Tree, nodes, phylum_name};
 use std::alloc::{AllocError, Global};
 
@@ -250,7 +250,7 @@ fn number_after(number: u32) -> Result<u32, AllocError>
     ensures { IfOk result (λ next. next ≡ number + 1) }
 {
     let Some(next) = number.checked_add(1) else {
-        return Err(AllocError);
+        return Err(uncountable(number as usize));
     };
     Ok(next)
 }
@@ -445,7 +445,7 @@ pub(crate) fn print_plain(
     tree: &Tree,
 ) -> Result<Option<PlainText>, AllocError>
     requires { IsSound definition.now }
-    ensures { IfOk result (λ found. IfSome found
+    ensures { IfOk result (λ found. MatchOption found (IsPlain (row definition.now tree.now) → ⊥)
         (λ made. IsPlainText definition.now tree.now made.printed made.first made.last)) }
 {
     let Printer { writer, spans, .. } = print_whole(alloc, definition, tree)?;

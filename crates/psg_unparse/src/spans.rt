@@ -1,4 +1,9 @@
-//! What printing a tree gives.
+//! What printing a tree gives, and where a node is among the spans.
+ghost use Rattle.std.specs.Prelude.{◌≤◌, ◌<◌, ℕ, length};
+ghost use Rattle.std.specs.Bool.{Decides};
+ghost use Rattle.psg_unparse.specs.Listing.{AreInOrder, IsEarlier};
+ghost use Rattle.psg_unparse.specs.Places.{Halves};
+ghost use Rattle.psg_unparse.specs.Splicing.{IsPlaceOf};
 
 use psg_terms::{Seq, Txt};
 use psg_tree::Path;
@@ -21,4 +26,43 @@ pub struct Printed {
     pub text: Txt,
     /// The spans of all nodes: a node before its children, and children in order.
     pub spans: Seq<Span>,
+}
+
+/// Says whether a node with these steps is listed before the node at the path.
+fn is_earlier(steps: &[u32], path: &[u32]) -> bool
+    ensures { Decides result (IsEarlier steps.now path.now) }
+{
+    steps < path
+}
+
+/// Halves the places from `low` up to `high`, among which is that of the path.
+fn halved(spans: &[Span], path: &[u32], low: usize, high: usize) -> (usize, usize)
+    requires order { AreInOrder spans.now }
+    requires some { low < high }
+    requires within { high ≤ length spans.now }
+    ensures { Halves spans.now path.now low high result.0 result.1 }
+{
+    let middle = low + (high - low) / 2;
+    if is_earlier(spans[middle].path.steps(), path) {
+        (middle + 1, high)
+    } else {
+        (low, middle)
+    }
+}
+
+/// Returns the place of the span with the path, among all spans of a tree: they are in the order of their paths. It
+/// looks at few spans: twice as many spans cost one more look.
+pub fn place_of(spans: &[Span], path: &[u32]) -> usize
+    requires order { AreInOrder spans.now }
+    requires there { (place : ℕ) × IsPlaceOf spans.now path.now place }
+    ensures { IsPlaceOf spans.now path.now result }
+{
+    let mut low = 0;
+    let mut high = spans.len();
+    'halving: while low < high {
+        let (least, most) = halved(spans, path, low, high);
+        low = least;
+        high = most;
+    }
+    low
 }

@@ -1,5 +1,5 @@
 use Rattle.std.proofs.Common.{◌≡◌, length}
-use Rattle.psg_reads_back.specs.Rows.{from_part}
+use Rattle.psg_unparse.specs.Rows.{from_part}
 use Rattle.psg_textedit.proofs.places.from_part.Given as goal
 
 abbrev pub invariant-loop-item : goal.invariant-loop-item

@@ -1,6 +1,6 @@
 use Rattle.std.proofs.Common.{take, sym, ap, ◌∙◌, subst, arith, take_all}
 use Rattle.std.specs.Option.{option_copied}
-use Rattle.psg_regions.specs.Surroundings.{Surrounds, at_top}
+use Rattle.psg_textedit.specs.Surroundings.{Surrounds, at_top}
 use Rattle.psg_textedit.proofs.Ways.{way_kept, way_lost, way_low}
 use Rattle.psg_textedit.proofs.places.place_of.Goals as goal
 

@@ -1,5 +1,5 @@
 use Rattle.std.proofs.Common.{take}
-use Rattle.psg_regions.specs.Surroundings.{Surrounds}
+use Rattle.psg_textedit.specs.Surroundings.{Surrounds}
 use Rattle.psg_textedit.proofs.places.place_of.Given as goal
 
 abbrev pub invariant-loop-step : goal.invariant-loop-step

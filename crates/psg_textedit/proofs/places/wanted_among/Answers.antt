@@ -1,7 +1,7 @@
 use Rattle.std.proofs.Common.{ap, ◌∙◌, ◌+◌, ◌-◌, drop, arith, length}
 use Rattle.psg_terms.proofs.Lists.{drop_item}
 use Rattle.psg_grammar.specs.Lookups.{operator_at}
-use Rattle.psg_reads_back.specs.Rows.{from_part, behind_first}
+use Rattle.psg_unparse.specs.Rows.{from_part, behind_first}
 use Rattle.psg_unparse.proofs.Items.{short-behind, short-from}
 use Rattle.psg_textedit.specs.Places.{wanted_among}
 use Rattle.psg_textedit.proofs.Ways.{wanted_later}

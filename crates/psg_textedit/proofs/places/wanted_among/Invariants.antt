@@ -1,6 +1,6 @@
 use Rattle.std.proofs.Common.{◌≡◌, ◌≤◌, drop, length}
 use Rattle.psg_grammar.specs.Lookups.{operator_at}
-use Rattle.psg_reads_back.specs.Rows.{from_part, items_in}
+use Rattle.psg_unparse.specs.Rows.{from_part, items_in}
 use Rattle.psg_textedit.specs.Places.{wanted_among}
 use Rattle.psg_textedit.proofs.places.wanted_among.Given as goal
 

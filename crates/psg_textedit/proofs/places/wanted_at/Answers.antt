@@ -1,8 +1,8 @@
 use Rattle.std.proofs.Common.{sym, ap, ◌∙◌}
 use Rattle.psg_grammar.specs.Lookups.{operator_at}
-use Rattle.psg_reads_back.specs.Rows.{from_part, items_in}
+use Rattle.psg_unparse.specs.Rows.{from_part, items_in}
 use Rattle.psg_tree.specs.Shapes.{tree_of}
-use Rattle.psg_regions.specs.Surroundings.{wanted_in}
+use Rattle.psg_textedit.specs.Surroundings.{wanted_in}
 use Rattle.psg_textedit.specs.Places.{wanted_among}
 use Rattle.psg_textedit.proofs.Ways.{wanted_parts, wanted_list}
 use Rattle.psg_textedit.proofs.places.wanted_at.Goals as goal

@@ -4,11 +4,11 @@ use Rattle.std.proofs.lemmas.Result.{err_from_is_err_and}
 use Rattle.psg_terms.proofs.Lists.{IfSome_at, slice_get_item}
 use Rattle.psg_class.specs.Texts.{HasNoTokens, TextTokens}
 use Rattle.psg_lexis.specs.declared.token.Spanned.{Spanned}
-use Rattle.psg_reads_back.specs.Layout.{text_of}
+use Rattle.psg_unparse.specs.Layout.{text_of}
 use Rattle.psg_unparse.specs.declared.spans.Printed.{Printed}
 use Rattle.psg_unparse.specs.declared.spans.Span.{Span}
-use Rattle.psg_regions.specs.Regions.{edited, IsInside, IsOutside}
-use Rattle.psg_regions.proofs.Typed.{text_utf8}
+use Rattle.psg_textedit.specs.Regions.{edited, IsInside, IsOutside}
+use Rattle.psg_textedit.proofs.TypedNode.{text_utf8}
 use Rattle.psg_textedit.specs.Lines.{AreLines, lines_with}
 use Rattle.psg_textedit.specs.Typing.{definition_of, typing_of}
 use Rattle.psg_textedit.proofs.Faults.{spoilt}

@@ -2,7 +2,7 @@ use Rattle.std.proofs.Common.{ℕ, Some, subst}
 use Rattle.std.proofs.lemmas.Result.{err_from_is_err_and}
 use Rattle.psg_grammar.specs.Paths.{replaced}
 use Rattle.psg_grammar.specs.WellFormed.{WellFormed}
-use Rattle.psg_regions.specs.Regions.{IsTyped, Widens}
+use Rattle.psg_textedit.specs.Regions.{IsTyped, Widens}
 use Rattle.psg_textedit.specs.Jobs.{IsPathAnswer, language_of, tree_in, typing_in}
 use Rattle.psg_textedit.specs.Typing.{IsForNode}
 use Rattle.psg_textedit.proofs.Roots.{no_tree_at}

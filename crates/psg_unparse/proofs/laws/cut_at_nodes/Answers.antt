@@ -1,4 +1,4 @@
-use Rattle.psg_reads_back.proofs.Rows.{cut_in}
+use Rattle.psg_unparse.proofs.Rows.{cut_in}
 use Rattle.psg_unparse.proofs.laws.cut_at_nodes.Goals as goal
 
 pub returns : goal.returns

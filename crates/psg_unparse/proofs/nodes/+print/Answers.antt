@@ -3,7 +3,7 @@ use Rattle.std.proofs.lemmas.List.{take_more}
 use Rattle.psg_grammar.specs.Fragments.{operator}
 use Rattle.psg_tree.specs.Shapes.{height, with_parts, list_of}
 use Rattle.psg_tree.proofs.Heights.{part_in, op_height, list_height, height-list_of}
-use Rattle.psg_reads_back.specs.Rows.{words, from_part}
+use Rattle.psg_unparse.specs.Rows.{words, from_part}
 use Rattle.psg_unparse.specs.Writing.{Adds}
 use Rattle.psg_unparse.proofs.Printing.{AreParts, parts-init, parts-next, elements-init, elements-next, elements-end, node_printed}
 use Rattle.psg_unparse.proofs.nodes.+print.Goals as goal

@@ -1,5 +1,5 @@
 use Rattle.std.proofs.Common.{ap, ◌∙◌}
-use Rattle.psg_reads_back.specs.Rows.{is_below_level}
+use Rattle.psg_unparse.specs.Rows.{is_below_level}
 use Rattle.psg_unparse.proofs.Items.{operator-node, operator-list, operator-hole}
 use Rattle.psg_unparse.proofs.nodes.is_below.Goals as goal
 

@@ -1,8 +1,8 @@
 use Rattle.std.proofs.Common.{ℕ, List, ap₂, ◌∙◌}
 use Rattle.psg_unparse.specs.declared.spans.Span.{Span}
 use Rattle.psg_unparse.specs.declared.spans.Printed.{Printed}
-use Rattle.psg_reads_back.proofs.Printed.{printed_reads_back}
-use Rattle.psg_reads_back.proofs.Nodes.{nodes_read_back}
+use Rattle.psg_unparse.proofs.PrintedTree.{printed_reads_back}
+use Rattle.psg_unparse.proofs.NodesBack.{nodes_read_back}
 use Rattle.psg_unparse.proofs.nodes.unparse.Goals as goal
 
 pub returns : goal.returns

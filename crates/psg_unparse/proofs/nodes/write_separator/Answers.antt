@@ -1,6 +1,6 @@
 use Rattle.std.proofs.Common.{sym, ap, ◌∙◌, subst, slice_get}
 use Rattle.psg_terms.proofs.Lists.{got_some, got_none}
-use Rattle.psg_reads_back.specs.Rows.{separating}
+use Rattle.psg_unparse.specs.Rows.{separating}
 use Rattle.psg_unparse.specs.Writing.{Adds}
 use Rattle.psg_unparse.proofs.Adding.{adds-nothing}
 use Rattle.psg_unparse.proofs.nodes.write_separator.Goals as goal

@@ -1,6 +1,6 @@
 use Rattle.std.proofs.Common.{[], ◌∷◌, subst, sym, cond}
 use Rattle.psg_grammar.specs.declared.types.Item.TheVariants as items
-use Rattle.psg_reads_back.specs.Rows.{token, mark}
+use Rattle.psg_unparse.specs.Rows.{token, mark}
 use Rattle.psg_unparse.specs.Writing.{Adds}
 use Rattle.psg_unparse.proofs.Adding.{adds-then}
 use Rattle.psg_unparse.proofs.nodes.write_separator_of.Goals as goal

@@ -1,5 +1,0 @@
-use Rattle.psg_reads_back.proofs.Printed.{printed_reads_back}
-use Rattle.psg_reads_back.proofs.laws.reads_back.Goals as goal
-
-pub returns : goal.returns
-returns c = printed_reads_back c.args._definition.now c.requires.sound c.requires.words c.requires.class

@@ -1,5 +1,0 @@
-use Rattle.psg_regions.proofs.Typed.{typed}
-use Rattle.psg_regions.proofs.laws.clean_is_typed.Goals as goal
-
-pub returns : goal.returns
-returns c = typed c.args._definition.now c.requires.sound c.requires.words c.requires.class

@@ -1,5 +1,0 @@
-use Rattle.psg_regions.proofs.Depths.{depth_of_change}
-use Rattle.psg_regions.proofs.laws.depth_of_change.Goals as goal
-
-pub returns : goal.returns
-returns c = depth_of_change c.args._definition.now

@@ -1,3 +1,0 @@
-pub mod Regions
-pub mod Surroundings
-pub mod Laws
