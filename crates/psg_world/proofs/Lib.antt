@@ -1,3 +1,4 @@
 pub mod InputLaws
+pub mod PieceLaws
 pub mod PlaceLaws
 pub mod SinkLaws

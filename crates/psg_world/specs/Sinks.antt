@@ -7,6 +7,10 @@ use Rattle.psg_world.specs.declared.world.WriteStop.{WriteStop}
 abbrev pub raised : ℕ → ℕ
 raised count = min (count + 1) (2 ^ 64 - 1)
 
+-- So many more, as far as a `u64` counts.
+abbrev pub raised_by : ℕ → ℕ → ℕ
+raised_by count more = min (count + more) (2 ^ 64 - 1)
+
 -- The count is greater than before, or is at its last value, where it can't be greater. Asking for a
 -- greater count alone would refuse every sink that keeps its count in a `u64`.
 abbrev pub HasRisen : ℕ → ℕ → Type 0

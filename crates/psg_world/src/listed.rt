@@ -44,10 +44,7 @@ impl MemInput {
         Self {
             lines,
             failing,
-            tally: Tally {
-                given: 0,
-                missed: Vec::new(alloc),
-            },
+            tally: Tally::new(alloc),
         }
     }
 }

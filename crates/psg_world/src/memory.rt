@@ -39,7 +39,7 @@ impl Model for MemFiles {
 }
 
 impl MemFiles {
-    /// Files that hold `held`, of two files of one name the first one. Reads and writes are
+    /// Files that hold `held`, of two files of one name the first one. Reads, writes and replacements are
     /// numbered together, from 1; `failing` has the numbers of those that are to fail. Takes no
     /// memory; `alloc` keeps what the files keep later.
     pub fn new(alloc: Global, held: Vec<(String, Vec<u8>)>, failing: Vec<u64>) -> Self
@@ -62,6 +62,27 @@ impl MemFiles {
         ensures { option_copied result ≡ map.get self.now.held name.now }
     {
         self.store.get(name)
+    }
+
+    // Makes the bytes the whole of the file, or fails where the call's number says so.
+    fn put(&mut self, name: &str, bytes: &[u8]) -> Result<(), WriteStop>
+        ensures replaces { OnOk result (self.new.held ≡ map.insert self.old.held name.now bytes.now) }
+        ensures others { AgreesOutside name.now self.old.held self.new.held }
+        ensures keeps { OnErr result (self.new.held ≡ self.old.held) }
+        ensures entries { self.new.faults ≡ entries_after_write self.old.faults name.now result }
+        ensures numbers { self.new.failing ≡ self.old.failing }
+        ensures counted { self.new.calls ≡ raised self.old.calls }
+        ensures written { OnOk result (is_due self.old.failing self.old.calls ≡ false) }
+        ensures failed { IsErrOf result WriteStop.Failed
+            → IsTrue (is_due self.old.failing self.old.calls) }
+    {
+        if self.calls.next_fails() {
+            let fault = Fault::writing(self.alloc, name)?;
+            self.faults.push(fault)?;
+            return Err(WriteStop::Failed);
+        }
+        self.store.set(self.alloc, name, bytes)?;
+        Ok(())
     }
 }
 
@@ -106,13 +127,23 @@ impl Files for MemFiles {
         ensures failed { IsErrOf result WriteStop.Failed
             → IsTrue (is_due self.old.failing self.old.calls) }
     {
-        if self.calls.next_fails() {
-            let fault = Fault::writing(self.alloc, name)?;
-            self.faults.push(fault)?;
-            return Err(WriteStop::Failed);
-        }
-        self.store.set(self.alloc, name, bytes)?;
-        Ok(())
+        self.put(name, bytes)
+    }
+
+    /// Fails exactly where the call's number is among those that are to fail, unless memory runs out. A walk over the
+    /// files and over the numbers.
+    fn replace(&mut self, _alloc: Global, name: &str, bytes: &[u8]) -> Result<(), WriteStop>
+        ensures replaces { OnOk result (self.new.held ≡ map.insert self.old.held name.now bytes.now) }
+        ensures others { AgreesOutside name.now self.old.held self.new.held }
+        ensures keeps { OnErr result (self.new.held ≡ self.old.held) }
+        ensures entries { self.new.faults ≡ entries_after_write self.old.faults name.now result }
+        ensures numbers { self.new.failing ≡ self.old.failing }
+        ensures counted { self.new.calls ≡ raised self.old.calls }
+        ensures written { OnOk result (is_due self.old.failing self.old.calls ≡ false) }
+        ensures failed { IsErrOf result WriteStop.Failed
+            → IsTrue (is_due self.old.failing self.old.calls) }
+    {
+        self.put(name, bytes)
     }
 }
 

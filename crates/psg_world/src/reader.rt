@@ -26,10 +26,7 @@ impl<S: Read + Drop> ReaderInput<S> {
     {
         Self {
             source,
-            tally: Tally {
-                given: 0,
-                missed: Vec::new(alloc),
-            },
+            tally: Tally::new(alloc),
         }
     }
 }

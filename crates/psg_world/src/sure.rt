@@ -77,6 +77,17 @@ impl Files for SureFiles {
         self.store.set(self.alloc, name, bytes)?;
         Ok(())
     }
+
+    /// The only error is that of running out of memory. A walk over the files.
+    fn replace(&mut self, _alloc: Global, name: &str, bytes: &[u8]) -> Result<(), WriteStop>
+        ensures replaces { OnOk result (self.new ≡ map.insert self.old name.now bytes.now) }
+        ensures others { AgreesOutside name.now self.old self.new }
+        ensures keeps { OnErr result (self.new ≡ self.old) }
+        ensures sure { IsOkUnless result WriteStop.Memory }
+    {
+        self.store.set(self.alloc, name, bytes)?;
+        Ok(())
+    }
 }
 
 /// A sink in memory that fails no put.

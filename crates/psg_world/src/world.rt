@@ -1,5 +1,5 @@
 // The traits by which a program sees files and its output.
-ghost use Rattle.std.specs.Prelude.{◌≡◌, ◌+◌, ◌<◌, ◌≤◌, ℕ, List, Option, length, vec_len, IfOk, OnOk, IfSome, IsErrOf};
+ghost use Rattle.std.specs.Prelude.{◌≡◌, ◌+◌, ◌<◌, ◌≤◌, ℕ, List, Option, length, vec_len, IfOk, OnOk, OnErr, IfSome, IsErrOf};
 ghost use Rattle.std.specs.Option.{option_map};
 ghost use Rattle.std.specs.FinMap as map;
 ghost use Rattle.psg_world.specs.declared.world.ReadStop.TheVariants as read_stops;
@@ -91,6 +91,14 @@ pub trait Files {
         ensures replaces { OnOk result (holds self.new
             ≡ option_map (λ held. map.insert held name.now bytes.now) (holds self.old)) }
         ensures others { OthersStand name.now (holds self.old) (holds self.new) }
+        ensures entries { faults self.new ≡ entries_after_write (faults self.old) name.now result };
+
+    /// Makes `bytes` the whole of the file `name`, all or nothing: after an `Err` each file has what it had. `Failed`
+    /// adds an entry to the faults, that of a write of this name, `Memory` adds none.
+    fn replace(&mut self, alloc: Global, name: &str, bytes: &[u8]) -> Result<(), WriteStop>
+        ensures replaces { OnOk result (holds self.new
+            ≡ option_map (λ held. map.insert held name.now bytes.now) (holds self.old)) }
+        ensures keeps { OnErr result (holds self.new ≡ holds self.old) }
         ensures entries { faults self.new ≡ entries_after_write (faults self.old) name.now result };
 }
 
