@@ -306,3 +306,6 @@ spelled line old text o e h = record {
   form = h;
   written = subst (IsWritten (parts_of line)) (sym (e h ∙ ap (λ x. x ++ spaced (parts_of line)) o)) (written-spaced (parts_of line));
 }
+
+pub as_parts : (line : Line) (old text : List ℕ) → old ≡ [] → (HasForm line → text ≡ old ++ spaced (parts_of line)) → HasForm line → text ≡ spaced (parts_of line)
+as_parts line old text o e h = e h ∙ ap (λ x. x ++ spaced (parts_of line)) o

@@ -352,7 +352,8 @@ fn write_line(out: &mut String, line: &Line) -> Result<(), AllocError>
 /// Returns the text of the line, without a line feed: its parts in order with one space between two of them. A line
 /// that was read is spelled by it, and no other line is.
 pub fn line_text(alloc: Global, line: &Line) -> Result<String, AllocError>
-    ensures { IfOk result (λ text. HasForm line.now → SpellsLine (string_bytes text) line.now) }
+    ensures spelled { IfOk result (λ text. HasForm line.now → SpellsLine (string_bytes text) line.now) }
+    ensures text { IfOk result (λ text. HasForm line.now → string_bytes text ≡ spaced (parts_of line.now)) }
 {
     let mut out = String::new(alloc);
     write_line(&mut out, line)?;

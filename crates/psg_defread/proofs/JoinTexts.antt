@@ -22,6 +22,7 @@ use Rattle.std.specs.Str.Lines.{lines as texts_of, lines_of_parts, strip_carriag
 use Rattle.std.proofs.lemmas.List.Splits.{slice_split_at}
 use Rattle.psg_terms.proofs.Lists.{take_item}
 use Rattle.psg_deflines.specs.Versions.{IsVersion, is_of}
+use Rattle.psg_defread.specs.DefinitionText.{fed, head_text, line_text}
 use Rattle.psg_deflines.specs.Entries.{IsSkipped, HasPlace, AreEntries, AreSpelled, HasHead, written}
 use Rattle.psg_deflines.specs.declared.lines.Line.TheVariants as lines
 
@@ -169,14 +170,6 @@ line-clear t line h = written-clear (parts_of line) t (line-parts line h.form) h
 
 -- ---- texts with line feeds
 
-abbrev pub fed : List (List ℕ) → List ℕ
-fed [] = []
-fed (t ∷ ts) = t ++ 10 ∷ fed ts
-
--- the first line of a version, with one space
-abbrev pub head_text : ℕ → List ℕ
-head_text version = codes "psg " ++ (48 + version) ∷ []
-
 fed-snoc : (ts : List (List ℕ)) (t : List ℕ) → fed (ts ++ t ∷ []) ≡ fed ts ++ (t ++ 10 ∷ [])
 fed-snoc [] t = refl
 fed-snoc (u ∷ ts) t = ap (λ l. u ++ 10 ∷ l) (fed-snoc ts t) ∙ sym (append_assoc u (10 ∷ fed ts) (t ++ 10 ∷ []))
@@ -236,24 +229,53 @@ texts-snoc [] (u ∷ ts) line t h k = absurd h
 texts-snoc (l ∷ ls) [] line t h k = absurd h
 texts-snoc (l ∷ ls) (u ∷ ts) line t h k = (h.0, texts-snoc ls ts line t h.1 k)
 
+-- each text is its line's, with one space between two parts, where the line has its form
+abbrev pub AreSame : List Line → List (List ℕ) → Type 0
+AreSame [] [] = Unit {0}
+AreSame [] (t ∷ ts) = ⊥
+AreSame (line ∷ ls) [] = ⊥
+AreSame (line ∷ ls) (t ∷ ts) = (HasForm line → t ≡ line_text line) × AreSame ls ts
+
+same-snoc : (ls : List Line) (ts : List (List ℕ)) (line : Line) (t : List ℕ) → AreSame ls ts
+    → (HasForm line → t ≡ line_text line) → AreSame (ls ++ line ∷ []) (ts ++ t ∷ [])
+same-snoc [] [] line t h k = (k, tt)
+same-snoc [] (u ∷ ts) line t h k = absurd h
+same-snoc (l ∷ ls) [] line t h k = absurd h
+same-snoc (l ∷ ls) (u ∷ ts) line t h k = (h.0, same-snoc ls ts line t h.1 k)
+
+same-texts : (ls : List Line) (ts : List (List ℕ)) → AreSame ls ts → AllByRecursion HasForm ls → ts ≡ map line_text ls
+same-texts [] [] h f = refl
+same-texts [] (t ∷ ts) h f = absurd h
+same-texts (l ∷ ls) [] h f = absurd h
+same-texts (l ∷ ls) (t ∷ ts) h f = ap₂ (λ x xs. x ∷ xs) (h.0 f.0) (same-texts ls ts h.1 f.1)
+
 -- the text is the head and then the texts of the lines
 pub record IsLaid (version : ℕ) (ls : List Line) (text : List ℕ) : Type 0 where
   pub texts : List (List ℕ)
   pub whole : text ≡ fed (head_text version ∷ texts)
   pub each : AreTexts ls texts
+  pub same : AreSame ls texts
 
 pub laid-start : (version : ℕ) (text : List ℕ) → text ≡ codes "psg " ++ (48 + version) ∷ 10 ∷ [] → IsLaid version [] text
-laid-start version text e = record { texts = []; whole = e; each = tt }
+laid-start version text e = record { texts = []; whole = e; each = tt; same = tt }
 
 pub laid-next : (version : ℕ) (ls : List Line) (i : ℕ) (line : Line) (own before after : List ℕ) → i < length ls
-    → line ≡ get_or ls i line → (HasForm line → SpellsLine own line) → after ≡ before ++ (own ++ 10 ∷ [])
-    → IsLaid version (take i ls) before → IsLaid version (take (i + 1) ls) after
-laid-next version ls i line own before after h e is a b = record {
+    → line ≡ get_or ls i line → (HasForm line → SpellsLine own line) → (HasForm line → own ≡ line_text line)
+    → after ≡ before ++ (own ++ 10 ∷ []) → IsLaid version (take i ls) before → IsLaid version (take (i + 1) ls) after
+laid-next version ls i line own before after h e is so a b = record {
   texts = b.texts ++ own ∷ [];
   whole = a ∙ ap (λ x. x ++ (own ++ 10 ∷ [])) b.whole ∙ sym (fed-snoc (head_text version ∷ b.texts) own);
   each = subst (λ l. AreTexts l (b.texts ++ own ∷ [])) (sym (take_item ls i line h e))
       (texts-snoc (take i ls) b.texts line own b.each is);
+  same = subst (λ l. AreSame l (b.texts ++ own ∷ [])) (sym (take_item ls i line h e))
+      (same-snoc (take i ls) b.texts line own b.same so);
 }
+
+-- where all lines have their forms, the text is the head and the lines' texts
+pub laid-text : (version : ℕ) (ls : List Line) (text : List ℕ) → IsLaid version ls text → AllByRecursion HasForm ls
+    → text ≡ fed (head_text version ∷ map line_text ls)
+laid-text version ls text laid forms =
+    laid.whole ∙ ap (λ ts. fed (head_text version ∷ ts)) (same-texts ls laid.texts laid.same forms)
 
 texts-clear : (ls : List Line) (ts : List (List ℕ)) → AreTexts ls ts → AllByRecursion HasForm ls
     → AllByRecursion AreClear ts

@@ -1,5 +1,5 @@
 -- The text of a definition that was read is read as it, and has the layout.
-use Rattle.std.proofs.Common.{ℕ, Some, ◌<◌, ◌^◌, List, length, map, sym, subst}
+use Rattle.std.proofs.Common.{◌≡◌, ℕ, Some, ◌<◌, ◌^◌, List, length, map, sym, subst}
 use Rattle.std.specs.Prelude.{IsUtf8}
 use Rattle.std.specs.Str.Lines.{lines as texts_of}
 use Rattle.psg_grammar.specs.declared.types.Definition.{Definition}
@@ -11,7 +11,8 @@ use Rattle.psg_defread.specs.WrittenLines.{lines_of}
 use Rattle.psg_defread.specs.Layout.{HasLayout}
 use Rattle.psg_defread.proofs.WasRead.{WasRead}
 use Rattle.psg_defread.proofs.NumberLines.{spelled_numbered, written-short}
-use Rattle.psg_defread.proofs.JoinTexts.{IsLaid, laid-spelled, written-some}
+use Rattle.psg_defread.specs.DefinitionText.{text_of}
+use Rattle.psg_defread.proofs.JoinTexts.{IsLaid, laid-spelled, laid-text, written-some}
 use Rattle.psg_defread.proofs.JoinFaults.{SpellOnce, text-faultless, text-plain}
 use Rattle.psg_defread.proofs.FormLayout.{written_ranked, written_cases, written_places}
 use Rattle.psg_defread.proofs.FormVariables.{written_variables}
@@ -70,3 +71,8 @@ layout once text def sound short laid bytes h =
       cases = written_cases def;
       variables = written_variables def read (written-short read.version text (lines_of def) spells short);
     }
+
+pub text-is : SpellOnce → (text : List ℕ) (def : Definition) → IsSound def → IsLaid def.version (lines_of def) text
+    → (bytes : List ℕ) → IsReadAs bytes def → text ≡ text_of def
+text-is once text def sound laid bytes h =
+    laid-text def.version (lines_of def) text laid (written_forms def (was-read once bytes def sound h))

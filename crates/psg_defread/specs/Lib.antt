@@ -1,5 +1,6 @@
 pub mod Refusals
 pub mod Reading
 pub mod WrittenLines
+pub mod DefinitionText
 pub mod Layout
 pub mod ConstructorAt

@@ -5,6 +5,7 @@ ghost use Rattle.psg_grammar.specs.Sound.{IsSound};
 ghost use Rattle.psg_deflines.specs.Forms.{HasForm, SpellsLine};
 ghost use Rattle.psg_defread.specs.Reading.{IsReadAs};
 ghost use Rattle.psg_defread.specs.Layout.{HasLayout};
+ghost use Rattle.psg_defread.specs.DefinitionText.{line_text as written_line, text_of};
 
 use crate::lines::definition_lines;
 use psg_deflines::laws::one_line;
@@ -15,6 +16,7 @@ use std::alloc::{AllocError, Global};
 /// Puts the text of a line and a line feed after what there is.
 fn push_line(alloc: Global, text: &mut String, line: &Line) -> Result<(), AllocError>
     ensures { OnOk result ((own : List ℕ) × (HasForm line.now → SpellsLine own line.now)
+        × (HasForm line.now → own ≡ written_line line.now)
         × (string_bytes text.new ≡ string_bytes text.old ++ (own ++ 10 ∷ []))) }
 {
     let own = line_text(alloc, line)?;
@@ -31,9 +33,9 @@ fn head(version: u32) -> &'static str
 }
 
 /// Writes the definition as a text: version, sorts, spaces, phyla, lists, operators each with its rows, nil rows, cell
-/// rows, hole rows each with its cases on lines of their own, declare rows; variables are written by their numbers. A
-/// definition that was read from a text is what this text spells, without a fault. It takes time linear in the text,
-/// and calls itself as deep as terms and specimens are nested.
+/// rows, hole rows each with its cases on lines of their own, declare rows; variables are written by their numbers, and
+/// one space is between two parts of a line. A definition that was read from a text is what this text spells, without a
+/// fault. It takes time linear in the text, and calls itself as deep as terms and specimens are nested.
 pub fn definition_text(alloc: Global, definition: &Definition) -> Result<String, AllocError>
     requires { IsSound definition.now }
     ensures inverse { IfOk result
@@ -41,6 +43,8 @@ pub fn definition_text(alloc: Global, definition: &Definition) -> Result<String,
     ensures layout { IfOk result
         (λ text. (bytes : List ℕ) → IsReadAs bytes definition.now
         → HasLayout definition.now.version (string_bytes text)) }
+    ensures text { IfOk result
+        (λ text. (bytes : List ℕ) → IsReadAs bytes definition.now → string_bytes text ≡ text_of definition.now) }
 {
     let written = definition_lines(alloc, definition)?;
     let lines = written.as_slice();

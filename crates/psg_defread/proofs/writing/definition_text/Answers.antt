@@ -6,7 +6,7 @@ use Rattle.std.proofs.Common.{subst, string_bytes, ◌<◌, ◌^◌, length, ◌
 use Rattle.std.proofs.lemmas.List.{take_all}
 use Rattle.std.proofs.lemmas.Str.{IsUtf8-string_bytes}
 use Rattle.psg_defread.proofs.JoinTexts.{IsLaid, laid-start, laid-next}
-use Rattle.psg_defread.proofs.JoinWhole.{read-again, layout}
+use Rattle.psg_defread.proofs.JoinWhole.{read-again, layout, text-is}
 use Rattle.psg_defread.proofs.writing.definition_text.Goals as goal
 
 version-is : (version : ℕ) (spaces : List Space) → AreSpaceNames version spaces → IsVersion version
@@ -22,7 +22,7 @@ pub loop-i-preserved : goal.loop-i-preserved
 loop-i-preserved c =
     let own = c.in_ok-push_line.ensures in
     laid-next c.args.definition.now.version c.as_slice-lines.result.now c.loop-i.i c.index-lines-i.result own.0 (string_bytes c.loop-i.text)
-    (string_bytes c.push_line.new.text) c.loop-i-test.true c.index-lines-i.is own.1 own.2 c.loop-i.invariant
+    (string_bytes c.push_line.new.text) c.loop-i-test.true c.index-lines-i.is own.1 own.2 own.3 c.loop-i.invariant
 
 pub returns-clause-inverse : goal.returns-clause-inverse
 returns-clause-inverse c =
@@ -43,3 +43,11 @@ returns-clause-layout c =
     let short : length text < 2 ^ 63 =
     omega (arith, c.loop-i.text.bytes.ok.0, c.loop-i.text.bytes.ok.1, c.loop-i.text.bytes.small) in
     layout c.one_line.ensures text c.args.definition.now c.requires short laid
+
+pub returns-clause-text : goal.returns-clause-text
+returns-clause-text c =
+    let text = string_bytes c.loop-i.text in
+    let all = take_all c.loop-i.i c.as_slice-lines.result.now (omega (arith, c.loop-i-test.false)) in
+    let laid = subst (λ ls. IsLaid c.args.definition.now.version ls text) (all ∙ c.as_slice-lines.ensures.value ∙ c.in_ok-written.ensures)
+    c.loop-i.invariant in
+    text-is c.one_line.ensures text c.args.definition.now c.requires laid
