@@ -88,6 +88,10 @@ note_in p q same session held opened =
     subst (λ (x : Parts). (old : Opened) × ((state_of x.editor).opened ≡ Some old)
     × IsNoteOf x.language old.tree held.note) same (note_here p session held opened)
 
+-- the trees of the parts that the session keeps are of their kinds and printable
+pub formed_in : (p q : Parts) → p ≡ q → IsSession p → IsFormedState q.language (state_of q.editor)
+formed_in p q same session = subst (λ (x : Parts). IsFormedState x.language (state_of x.editor)) same session.formed
+
 -- what was applied to the parts that the session keeps
 pub applied_in : (p q : Parts) → p ≡ q → IsSession p → IsSound p.language → IsAccepted p.language → (command : Command) → HasText command
     → (before after_it : Outside) (from to : ℕ)

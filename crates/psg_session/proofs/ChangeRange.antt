@@ -12,8 +12,8 @@ use Rattle.psg_cache.specs.Annotated.{tree_in}
 use Rattle.psg_cache.specs.Diff.{diff_of}
 use Rattle.psg_class.specs.Class.{IsClass}
 use Rattle.psg_class.specs.Texts.{HasNoTokens, HasNoTree}
-use Rattle.psg_reads_back.specs.Layout.{text_of}
-use Rattle.psg_regions.specs.Regions.{Typing, IsOutside, IsReading}
+use Rattle.psg_unparse.specs.Layout.{text_of}
+use Rattle.psg_textedit.specs.Regions.{Typing, IsOutside, IsReading}
 use Rattle.psg_script.specs.declared.command.Command.TheVariants.{Range}
 use Rattle.psg_textedit.specs.declared.change.Change.{Change}
 use Rattle.psg_textedit.specs.declared.change.TextFault.{TextFault}

@@ -60,3 +60,16 @@ pub mod NameOrder
 pub mod Offers
 pub mod NextSteps
 pub mod Printouts
+pub mod Heads
+pub mod Lexed
+pub mod Walked
+pub mod Selection
+pub mod Parts
+pub mod OwnChoices
+pub mod StepsMade
+pub mod Spaces
+pub mod TreesTold
+pub mod ObservedTold
+pub mod SlotItems
+pub mod AllTold
+pub mod ShownTold

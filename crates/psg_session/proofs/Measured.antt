@@ -7,7 +7,7 @@ use Rattle.psg_grammar.specs.Legal.{IsCompletable}
 use Rattle.psg_grammar.specs.Marks.{Mark, IsMarkBy}
 use Rattle.psg_grammar.specs.Sizes.{nodes_of}
 use Rattle.psg_grammar.specs.Steps.{HasWeights}
-use Rattle.psg_reads_back.specs.Layout.{text_of}
+use Rattle.psg_unparse.specs.Layout.{text_of}
 use Rattle.psg_cache.specs.Annotated.{Annotated, tree_in, weight_in}
 use Rattle.psg_cache.specs.Blames.{culprits_in}
 use Rattle.psg_cache.specs.Notes.{IsNoteOf, mark_by}

@@ -31,13 +31,13 @@ use Rattle.psg_lexis.specs.Tokens.{IsFixedWord}
 use Rattle.psg_lexis.specs.declared.token.Spanned.{Spanned}
 use Rattle.psg_menu.specs.Menus.{in_byte_order, IsChoosable, IsNameable, operators_of}
 use Rattle.psg_menu.proofs.MenuLaws.{op_there}
-use Rattle.psg_reads_back.specs.Layout.{text_of}
-use Rattle.psg_reads_back.specs.Spots.{Placed, placed_in}
+use Rattle.psg_unparse.specs.Layout.{text_of}
+use Rattle.psg_unparse.specs.Spots.{Placed, placed_in}
 use Rattle.psg_renaming.specs.Occurring.{occurring}
 use Rattle.psg_screen.specs.Window.{window_of}
 use Rattle.psg_unparse.specs.Listing.{IsListing}
 use Rattle.psg_unparse.proofs.Listed.{listing as formed_listing}
-use Rattle.psg_unparse.specs.Spots.{span_of}
+use Rattle.psg_unparse.specs.Spans.{span_of}
 use Rattle.psg_library.specs.Keeping.{bytes_of}
 use Rattle.psg_library.specs.declared.fragment.SavedFragment.{SavedFragment as Saved}
 use Rattle.psg_script.specs.declared.command.Where.{Where}
@@ -61,8 +61,8 @@ use Rattle.psg_session.proofs.ChangeLaws.{kind_there}
 use Rattle.psg_session.proofs.FormedSteps.{node_of_kind}
 use Rattle.psg_session.proofs.MenuLaws.{chosen_in}
 use Rattle.psg_session.proofs.RangeTexts.{new_utf8}
-use Rattle.psg_told.proofs.Lexed.{lexed}
-use Rattle.psg_told.proofs.ShownTold.{some_relations, some_shown}
+use Rattle.psg_session.proofs.Lexed.{lexed}
+use Rattle.psg_session.proofs.ShownTold.{some_relations, some_shown}
 
 -- ---- tests, lists and options
 

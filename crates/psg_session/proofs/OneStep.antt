@@ -20,10 +20,10 @@ use Rattle.psg_class.specs.Class.{IsClass}
 use Rattle.psg_cache.proofs.FormedTrees.{kind_once as node_kind_once}
 use Rattle.psg_script.specs.declared.command.Command.{Command}
 use Rattle.psg_script.specs.declared.command.Command.TheVariants.{Own, Free, Undo, Redo, Save, Keep, Fetch, Goto, Screen, Relation, Menu, Names}
-use Rattle.psg_reads_back.specs.Layout.{text_of}
+use Rattle.psg_unparse.specs.Layout.{text_of}
 use Rattle.psg_screen.specs.Window.{window_of}
-use Rattle.psg_unparse.specs.Spots.{span_of}
-use Rattle.psg_reads_back.specs.Spots.{Placed}
+use Rattle.psg_unparse.specs.Spans.{span_of}
+use Rattle.psg_unparse.specs.Spots.{Placed}
 use Rattle.psg_session.specs.Answers.{key_text, free_names, names_line, rows_lines}
 use Rattle.psg_session.specs.Printing.{goto_line, lines_in, view_of, what_is, IsWrittenAt}
 use Rattle.psg_session.proofs.PrintLaws.{written_once}
@@ -43,7 +43,7 @@ use Rattle.psg_session.proofs.MenuLaws.{chosen_once, offered_once, suggested_onc
 use Rattle.psg_session.proofs.RowLines.{relation_lines, shown_lines}
 use Rattle.psg_session.proofs.TypedLaws.{one_tree, read_once}
 use Rattle.psg_session.specs.Ranged.{ReadsWith, replacing, text_with}
-use Rattle.psg_regions.specs.Regions.{Typing}
+use Rattle.psg_textedit.specs.Regions.{Typing}
 use Rattle.psg_session.specs.Typed.{ReadsFor}
 
 -- ---- marks

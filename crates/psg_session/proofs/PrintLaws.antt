@@ -15,8 +15,8 @@ use Rattle.psg_tree.specs.declared.tree.Part.TheVariants.{Sub, Name as PartName,
 use Rattle.psg_tree.specs.declared.tree.Shape.{Shape}
 use Rattle.psg_tree.specs.declared.tree.Shape.TheVariants.{Op, List as ListOf, Hole}
 use Rattle.psg_tree.specs.Shapes.{with_part, with_parts, list_of, tree_of}
-use Rattle.psg_reads_back.specs.Spots.{Placed, placed_in}
-use Rattle.psg_unparse.specs.Spots.{span_of}
+use Rattle.psg_unparse.specs.Spots.{Placed, placed_in}
+use Rattle.psg_unparse.specs.Spans.{span_of}
 use Rattle.psg_unparse.specs.declared.spans.Span.{Span}
 use Rattle.psg_session.specs.Marked.{path_text}
 use Rattle.psg_session.specs.Printing.{goto_line, lines_in, node_words, what_is, HasNoSpan, IsFirstSpan, IsWrittenAt}

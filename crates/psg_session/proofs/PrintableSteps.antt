@@ -14,7 +14,7 @@ use Rattle.psg_class.proofs.FormedLaws.{yields_are_trees}
 use Rattle.psg_library.specs.declared.fragment.SavedFragment.{SavedFragment as Saved}
 use Rattle.psg_library.specs.Heads.{text_in}
 use Rattle.psg_library.specs.Keeping.{IsKept}
-use Rattle.psg_regions.specs.Regions.{Typing}
+use Rattle.psg_textedit.specs.Regions.{Typing}
 use Rattle.psg_script.specs.declared.command.Command.{Command}
 use Rattle.psg_session.specs.Formed.{HasText, IsPrintableState}
 use Rattle.psg_session.specs.PlainState.{State, Opened, most_versions, named_path}

@@ -5,7 +5,7 @@ use Rattle.psg_grammar.specs.declared.types.Definition.{Definition}
 use Rattle.psg_cache.specs.Annotated.{tree_in}
 use Rattle.psg_script.specs.declared.command.Command.{Command}
 use Rattle.psg_script.specs.declared.command.Command.TheVariants.{New, Goto, Refine, Insert, Cut, Remove, Close, Reopen, Over, Range, Show, Screen, Relation, Own, Menu, Names, Free, Undo, Redo, Save, Paste, Keep, Fetch}
-use Rattle.psg_unparse.specs.Spots.{printed_of}
+use Rattle.psg_unparse.specs.Spans.{printed_of}
 use Rattle.psg_unparse.specs.declared.spans.Printed.{Printed}
 use Rattle.psg_session.specs.declared.editor.Editor.{Editor}
 use Rattle.psg_session.specs.declared.editor.OpenedTree.{OpenedTree}
@@ -17,9 +17,8 @@ use Rattle.psg_session.specs.declared.changes.Plan.TheVariants.{Makes}
 use Rattle.psg_session.specs.declared.editor.Outcome.TheVariants.{Changes}
 use Rattle.psg_session.specs.declared.replies.Mark.{Mark}
 use Rattle.psg_grammar.specs.Fragments.{Fragment}
-use Rattle.psg_grammar.specs.WellFormed.{WellFormed}
-use Rattle.std.specs.Prelude.{IfSome}
-use Rattle.psg_unparse.specs.Splicing.{IsSplicing}
+use Rattle.std.specs.Prelude.{MatchOption}
+use Rattle.psg_unparse.specs.Splicing.{IsSpliceable, IsSplicing}
 use Rattle.psg_session.specs.declared.edits.Edit.{Edit}
 use Rattle.psg_session.specs.declared.edits.Edit.TheVariants.{Put}
 use Rattle.psg_session.specs.Edits.{edited}
@@ -96,14 +95,13 @@ nothing_planned def e plan = unknown
 
 -- what is spliced is the text of the planned tree
 pub planned_by : (def : Definition) (e : Editor) (plan : Plan) (held : OpenedTree) (made : Proposal) (place : List ℕ)
-    (new : Fragment) (before : Printed) (q : Option Printed)
-    → e.opened ≡ Some held → plan ≡ Makes made → made.edit ≡ Put place new
-    → WellFormed def (tree_in held.note) held.kind → before ≡ printed_of def (tree_in held.note)
-    → IfSome q (IsSplicing def (tree_in held.note) place new before) → IsPlannedText def e plan q
-planned_by def e plan held made place new before None opened makes put formed is h = unknown
-planned_by def e plan held made place new before (Some p) opened makes put formed is h =
+    (new : Fragment) (q : Option Printed) → e.opened ≡ Some held → plan ≡ Makes made → made.edit ≡ Put place new
+    → MatchOption q (IsSpliceable def (tree_in held.note) place new → ⊥) (IsSplicing def (tree_in held.note) place new)
+    → IsPlannedText def e plan q
+planned_by def e plan held made place new None opened makes put h = unknown
+planned_by def e plan held made place new (Some p) opened makes put h =
     let same : p ≡ printed_of def (edited made.edit (tree_in held.note)) =
-    h held.kind formed is ∙ ap (λ (x : Edit). printed_of def (edited x (tree_in held.note))) (sym put) in
+    h.printed_is ∙ ap (λ (x : Edit). printed_of def (edited x (tree_in held.note))) (sym put) in
     subst (λ (x : Printed). IsPlannedText def e plan (Some x)) (sym same) (known held made opened makes)
 
 -- nothing is known of the next text

@@ -13,9 +13,9 @@ use Rattle.psg_grammar.specs.Sound.{IsSound}
 use Rattle.psg_grammar.specs.WellFormed.{fixed_words, WellFormed}
 use Rattle.psg_class.specs.Class.{IsClass}
 use Rattle.psg_lexis.specs.Tokens.{IsFixedWord}
-use Rattle.psg_reads_back.specs.Layout.{text_of}
-use Rattle.psg_regions.specs.Regions.{Typing, IsInside, IsOutside, new_text}
-use Rattle.psg_regions.proofs.Typed.{text_utf8}
+use Rattle.psg_unparse.specs.Layout.{text_of}
+use Rattle.psg_textedit.specs.Regions.{Typing, IsInside, IsOutside, new_text}
+use Rattle.psg_textedit.proofs.TypedNode.{text_utf8}
 use Rattle.psg_textedit.specs.Typing.{IsTextFault}
 use Rattle.psg_textedit.specs.declared.change.TextFault.{TextFault}
 use Rattle.psg_session.specs.PlainState.{Opened}

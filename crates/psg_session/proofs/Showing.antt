@@ -11,14 +11,14 @@ use Rattle.psg_grammar.specs.Paths.{Path, node_at}
 use Rattle.psg_cache.specs.Annotated.{tree_in}
 use Rattle.psg_cache.specs.Blames.{culprits_in}
 use Rattle.psg_cache.specs.Notes.{mark_by}
-use Rattle.psg_reads_back.specs.Layout.{text_of}
-use Rattle.psg_reads_back.specs.Spots.{Placed}
+use Rattle.psg_unparse.specs.Layout.{text_of}
+use Rattle.psg_unparse.specs.Spots.{Placed}
 use Rattle.psg_script.specs.declared.command.Where.{Where}
 use Rattle.psg_script.specs.declared.command.Command.TheVariants.{Goto, Show, Screen}
 use Rattle.psg_screen.specs.Window.{window_of}
 use Rattle.psg_screen.specs.declared.View.{View}
 use Rattle.psg_unparse.specs.Listing.{IsListing}
-use Rattle.psg_unparse.specs.Spots.{printed_of, span_of}
+use Rattle.psg_unparse.specs.Spans.{printed_of, span_of}
 use Rattle.psg_unparse.specs.declared.spans.Printed.{Printed}
 use Rattle.psg_unparse.specs.declared.spans.Span.{Span}
 use Rattle.psg_session.specs.declared.editor.Editor.{Editor}

@@ -5,7 +5,7 @@ use Rattle.psg_grammar.specs.Fragments.{Fragment}
 use Rattle.psg_grammar.specs.Marks.{Mark, IsMarkBy}
 use Rattle.psg_grammar.specs.Sizes.{nodes_of}
 use Rattle.psg_grammar.specs.Steps.{HasWeights}
-use Rattle.psg_reads_back.specs.Layout.{text_of}
+use Rattle.psg_unparse.specs.Layout.{text_of}
 use Rattle.psg_session.specs.declared.measuring.Extent.{Extent}
 use Rattle.psg_session.specs.Views.{mark_of}
 

@@ -5,7 +5,7 @@ use Rattle.psg_grammar.specs.Fragments.{Fragment}
 use Rattle.psg_grammar.specs.Legal.{IsCompletable}
 use Rattle.psg_grammar.specs.Open.{IsOpen}
 use Rattle.psg_script.specs.declared.command.Command.{Command}
-use Rattle.psg_reads_back.specs.Back.{ReadsBack}
+use Rattle.psg_unparse.specs.Back.{ReadsBack}
 use Rattle.psg_session.specs.PlainState.{State, Answer, Opened}
 use Rattle.psg_session.specs.Formed.{HasText, IsFormedState}
 use Rattle.psg_session.specs.PlainStep.{Steps}

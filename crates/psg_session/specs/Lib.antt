@@ -31,3 +31,4 @@ pub mod Relating
 pub mod Extents
 pub mod Offering
 pub mod Gathered
+pub mod Told

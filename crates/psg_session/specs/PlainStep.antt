@@ -19,12 +19,12 @@ use Rattle.psg_grammar.specs.Relations.{IsRelationOf, IsShownRelation}
 use Rattle.psg_grammar.specs.Sizes.{IsBig, IsDeep}
 use Rattle.psg_grammar.specs.Steps.{IsWide, IsHeavy, IsWideAt}
 use Rattle.psg_grammar.specs.Marks.{Mark, IsMarkBy}
-use Rattle.psg_reads_back.specs.Layout.{text_of}
-use Rattle.psg_reads_back.specs.Spots.{Placed}
+use Rattle.psg_unparse.specs.Layout.{text_of}
+use Rattle.psg_unparse.specs.Spots.{Placed}
 use Rattle.psg_library.specs.Keeping.{IsKept}
 use Rattle.psg_screen.specs.Window.{window_of}
-use Rattle.psg_unparse.specs.Spots.{span_of}
-use Rattle.psg_regions.specs.Regions.{IsOutside}
+use Rattle.psg_unparse.specs.Spans.{span_of}
+use Rattle.psg_textedit.specs.Regions.{IsOutside}
 use Rattle.psg_class.specs.Texts.{HasNoTokens, HasNoTree}
 use Rattle.psg_renaming.specs.Occurring.{occurring}
 use Rattle.psg_menu.specs.Menus.{in_byte_order, IsMenu, IsNameMenu, HasWideTrial, HasWideNaming}

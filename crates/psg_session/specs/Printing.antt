@@ -7,7 +7,7 @@ use Rattle.psg_grammar.specs.Fragments.{Fragment, hole, ending, cell, operator, 
 use Rattle.psg_grammar.specs.Fragments.{with_text, anything, observed}
 use Rattle.psg_grammar.specs.Paths.{Path}
 use Rattle.psg_tree.specs.AbstractText.{operator_name}
-use Rattle.psg_reads_back.specs.Spots.{Placed, placed_in}
+use Rattle.psg_unparse.specs.Spots.{Placed, placed_in}
 use Rattle.psg_screen.specs.declared.View.{View}
 use Rattle.psg_unparse.specs.declared.spans.Span.{Span}
 use Rattle.psg_session.specs.Marked.{path_text}

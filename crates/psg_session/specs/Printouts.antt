@@ -3,7 +3,7 @@ use Rattle.std.specs.Prelude.{◌≡◌, ◌⊎◌, Option, None, Some, option_m
 use Rattle.psg_grammar.specs.declared.types.Definition.{Definition}
 use Rattle.psg_script.specs.declared.command.Command.{Command}
 use Rattle.psg_script.specs.declared.command.Command.TheVariants.{Goto, Range, Screen, Show}
-use Rattle.psg_unparse.specs.Spots.{printed_of}
+use Rattle.psg_unparse.specs.Spans.{printed_of}
 use Rattle.psg_unparse.specs.declared.spans.Printed.{Printed}
 use Rattle.psg_cache.specs.Annotated.{tree_in}
 use Rattle.psg_session.specs.declared.changes.Proposal.{Proposal}

@@ -1,8 +1,8 @@
 -- What is answered where bytes of the printed text are replaced.
 use Rattle.std.specs.Prelude.{◌≡◌, Result, Ok, Err, IsUtf8}
 use Rattle.psg_grammar.specs.declared.types.Definition.{Definition}
-use Rattle.psg_reads_back.specs.Layout.{text_of}
-use Rattle.psg_regions.specs.Regions.{Typing, IsOutside, IsTyped}
+use Rattle.psg_unparse.specs.Layout.{text_of}
+use Rattle.psg_textedit.specs.Regions.{Typing, IsOutside, IsTyped}
 use Rattle.psg_textedit.specs.Typing.{IsForNode, IsTextFault}
 use Rattle.psg_textedit.specs.declared.change.Change.{Change}
 use Rattle.psg_textedit.specs.declared.change.TextFault.{TextFault}

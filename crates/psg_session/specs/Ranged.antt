@@ -3,7 +3,7 @@ use Rattle.std.specs.Prelude.{ℕ, ◌≡◌, ◌<◌, List, Some, IsUtf8}
 use Rattle.psg_grammar.specs.declared.types.Definition.{Definition}
 use Rattle.psg_grammar.specs.Fragments.{Fragment}
 use Rattle.psg_class.specs.Texts.{ReadsAs}
-use Rattle.psg_regions.specs.Regions.{Typing, new_text}
+use Rattle.psg_textedit.specs.Regions.{Typing, new_text}
 use Rattle.psg_session.specs.PlainState.{Opened, State}
 use Rattle.psg_session.specs.Typed.{most_brackets}
 

@@ -15,7 +15,7 @@ use Rattle.psg_renaming.specs.Occurring.{occurring}
 use Rattle.psg_menu.specs.Menus.{in_byte_order, operators_of}
 use Rattle.psg_menu.specs.Answers.{slots_of}
 use Rattle.psg_lexis.specs.declared.token.Spanned.{Spanned}
-use Rattle.psg_regions.specs.Regions.{IsReading}
+use Rattle.psg_textedit.specs.Regions.{IsReading}
 use Rattle.psg_script.specs.declared.command.Where.{Where}
 use Rattle.psg_script.specs.declared.command.Command.{Command}
 use Rattle.psg_script.specs.declared.command.Command.TheVariants.{New, Goto, Refine, Insert, Cut, Remove, Close, Reopen}

@@ -36,6 +36,7 @@ mod relating;
 pub mod replies;
 pub mod saved;
 pub mod session;
+pub mod told_laws;
 mod typed;
 mod versions;
 

@@ -233,6 +233,7 @@ pub fn menu<L: Ledger>(
     let ops = operators(
         alloc,
         definition,
+        &language.tables,
         around,
         site.phylum,
         used.as_slice(),
@@ -295,7 +296,15 @@ pub fn suggest<L: Ledger>(
     };
     let candidates = names_in(alloc, found.held.note.tree())?;
     let around = site.around.as_slice();
-    let kept = names(alloc, definition, around, op, candidates.as_slice(), steps);
+    let kept = names(
+        alloc,
+        definition,
+        &language.tables,
+        around,
+        op,
+        candidates.as_slice(),
+        steps,
+    );
     let reply = suggested(alloc, kept)?;
     Ok(Outcome::Stays(reply))
 }

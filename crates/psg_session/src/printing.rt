@@ -6,7 +6,7 @@ ghost use Rattle.psg_grammar.specs.declared.types.Kind.{Kind as PlainKind};
 ghost use Rattle.psg_grammar.specs.Kinds.{kind_name_of, IsOfKind};
 ghost use Rattle.psg_grammar.specs.Sound.{IsSound};
 ghost use Rattle.psg_cache.specs.Notes.{IsFormed};
-ghost use Rattle.psg_reads_back.specs.Layout.{text_of};
+ghost use Rattle.psg_unparse.specs.Layout.{text_of};
 ghost use Rattle.psg_tree.specs.AbstractText.{operator_name as operator_name_of};
 ghost use Rattle.psg_script.specs.declared.command.Command.TheVariants as commands;
 ghost use Rattle.psg_session.specs.Outcomes.{IsOutcome};

@@ -6,7 +6,7 @@ ghost use Rattle.psg_grammar.specs.Printable.{IsPrintable};
 ghost use Rattle.psg_grammar.specs.Sizes.{depth_of};
 ghost use Rattle.psg_grammar.specs.WellFormed.{WellFormed};
 ghost use Rattle.psg_grammar.specs.declared.limits.TheConstants.{MOST_DEPTH};
-ghost use Rattle.psg_regions.specs.Regions.{IsReading};
+ghost use Rattle.psg_textedit.specs.Regions.{IsReading};
 ghost use Rattle.psg_script.specs.declared.command.Command.TheVariants as commands;
 ghost use Rattle.psg_session.specs.declared.edits.Edit.TheVariants as edits;
 ghost use Rattle.psg_session.specs.declared.judging.Trial.TheVariants.{Types};
@@ -19,7 +19,7 @@ ghost use Rattle.psg_session.specs.Sessions.{opened_of, plain, state_of, IsEdito
 ghost use Rattle.psg_session.specs.Ticks.{HasTicked};
 ghost use Rattle.psg_session.specs.Views.{IsLanguage};
 ghost use Rattle.psg_textedit.specs.Typing.{typing_of};
-ghost use Rattle.psg_unparse.specs.Spots.{printed_of};
+ghost use Rattle.psg_unparse.specs.Spans.{printed_of};
 
 use crate::changes::{Plan, Proposal};
 use crate::editor::{Editor, OpenedTree, Outcome, carry_out};

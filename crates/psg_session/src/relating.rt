@@ -103,7 +103,7 @@ pub fn relation<L: Ledger>(
     };
     let definition = &language.definition;
     let around = frames.as_slice();
-    let shown = relation_at(alloc, definition, around, summary, steps);
+    let shown = relation_at(alloc, definition, &language.tables, around, summary, steps);
     let reply = answer(alloc, &definition.signature, shown)?;
     Ok(Outcome::Stays(reply))
 }

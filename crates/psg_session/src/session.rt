@@ -169,10 +169,12 @@ impl Session {
         Ok(reply)
     }
 
-    /// Gives the note of the opened fragment; `None` where nothing is opened.
+    /// Gives the note of the opened fragment; `None` where nothing is opened. The opened tree is of its kind and can be
+    /// printed so that it reads back.
     pub fn note(&self) -> Option<&Note>
-        ensures { MatchOption result (self.now.editor.opened ≡ None) (λ note. (old : Opened)
+        ensures noted { MatchOption result (self.now.editor.opened ≡ None) (λ note. (old : Opened)
             × ((state_of self.now.editor).opened ≡ Some old) × IsNoteOf self.now.language old.tree note.now) }
+        ensures formed { IsFormedState self.now.language (state_of self.now.editor) }
     {
         match &self.parts.editor.opened {
             Some(held) => Some(&held.note),
@@ -203,9 +205,11 @@ impl Session {
         &self.parts.editor.cursor
     }
 
-    /// Gives the language that `new` was given.
+    /// Gives the language that `new` was given. All trees of the session are of its kinds and can be printed so that
+    /// they read back.
     pub fn language(&self) -> &Language
-        ensures { result.now ≡ self.now.language }
+        ensures same { result.now ≡ self.now.language }
+        ensures formed { IsFormedState self.now.language (state_of self.now.editor) }
     {
         &self.parts.language
     }

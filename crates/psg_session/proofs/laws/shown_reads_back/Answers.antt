@@ -1,4 +1,4 @@
-use Rattle.psg_reads_back.proofs.Printed.{printed_reads_back}
+use Rattle.psg_unparse.proofs.PrintedTree.{printed_reads_back}
 use Rattle.psg_session.proofs.laws.shown_reads_back.Goals as goal
 
 pub returns : goal.returns

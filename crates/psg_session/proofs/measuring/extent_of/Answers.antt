@@ -1,6 +1,6 @@
 use Rattle.std.proofs.Common.{length, ap, ◌∙◌}
 use Rattle.psg_grammar.specs.Sizes.{nodes_of}
-use Rattle.psg_reads_back.specs.Layout.{text_of}
+use Rattle.psg_unparse.specs.Layout.{text_of}
 use Rattle.psg_cache.specs.Annotated.{tree_in}
 use Rattle.psg_session.specs.Views.{mark_of}
 use Rattle.psg_session.proofs.Measured.{extent_is, few_nodes}

@@ -2,7 +2,7 @@ use Rattle.std.proofs.Common.{◌≤◌, ◌+◌, ℕ, Option, Err, Ok, refl, sy
 use Rattle.std.specs.Option.{option_copied}
 use Rattle.psg_grammar.specs.Paths.{Path}
 use Rattle.psg_cache.specs.Annotated.{tree_in}
-use Rattle.psg_regions.specs.Regions.{IsReading}
+use Rattle.psg_textedit.specs.Regions.{IsReading}
 use Rattle.psg_script.specs.declared.command.Command.TheVariants.{Range}
 use Rattle.psg_session.specs.Outcomes.{IsProposal}
 use Rattle.psg_session.specs.RangeAnswers.{HasChange, IsRangeAnswer}

@@ -6,9 +6,9 @@ use Rattle.psg_grammar.specs.Printable.{IsPrintable}
 use Rattle.psg_grammar.specs.Sizes.{depth_of}
 use Rattle.psg_grammar.specs.WellFormed.{WellFormed}
 use Rattle.psg_grammar.specs.declared.limits.TheConstants.{MOST_DEPTH}
-use Rattle.psg_regions.specs.Regions.{IsReading, IsTyped}
+use Rattle.psg_textedit.specs.Regions.{IsReading, IsTyped}
 use Rattle.psg_textedit.specs.Typing.{IsForNode, typing_of}
-use Rattle.psg_unparse.specs.Spots.{printed_of}
+use Rattle.psg_unparse.specs.Spans.{printed_of}
 use Rattle.psg_session.specs.Sessions.{plain}
 use Rattle.psg_session.proofs.RangeTexts.{new_utf8, no_change}
 use Rattle.psg_session.proofs.ranged.read_change.Goals as goal

@@ -22,6 +22,9 @@ returns-in_default-framed-clause-outcome g c =
     absurd (own_some c.args.language.now.definition c.args.editor.now c.args.place.now c.requires.editor f c.in-Ok.ensures.ok
     (no_frames f.held.now.note f.path.now c.in_ok-framed.framed c.in_default-framed.is c.in_ok-framed.ensures))
 
+pub relation_at-shown-requires-clause-tables : goal.relation_at-shown-requires-clause-tables
+relation_at-shown-requires-clause-tables g c = c.requires.language.tables
+
 pub relation_at-shown-requires-clause-own : goal.relation_at-shown-requires-clause-own
 relation_at-shown-requires-clause-own g c =
     let f = c.in-Ok.found in

@@ -41,9 +41,9 @@ use Rattle.psg_eval.proofs.Nodes.{as_many, child_at, node_kind, node_seen}
 use Rattle.psg_eval.proofs.PartialSorts.{key_sorts_many, kind_sorts_many}
 use Rattle.psg_eval.proofs.RegionSteps.{count_is}
 use Rattle.psg_eval.proofs.Stepping.{close_ok, closed_whole, first_ok, first_twice, next_ok, next_twice, open_ok, whole_inside}
-use Rattle.psg_told.proofs.Parts.{Partial}
-use Rattle.psg_told.proofs.Spaces.{some_spaces}
-use Rattle.psg_told.proofs.StepsMade.{Begun, some_added, some_begun, some_closed}
+use Rattle.psg_session.proofs.Parts.{Partial}
+use Rattle.psg_session.proofs.Spaces.{some_spaces}
+use Rattle.psg_session.proofs.StepsMade.{Begun, some_added, some_begun, some_closed}
 
 kind_or : (a b : Kind) → (a ≡ b) ⊎ (a ≡ b → ⊥)
 kind_or (kinds.Phylum p) (kinds.Phylum q) = elim (eqb_tells p q) [

@@ -12,7 +12,7 @@ use Rattle.psg_grammar.specs.Sound.{IsSound}
 use Rattle.psg_grammar.proofs.DeclaringLaws.{eqb_same, found_declares}
 use Rattle.psg_scope.specs.Headers.{has_space}
 use Rattle.psg_eval.specs.Summaries.{AreSpacesOfList}
-use Rattle.psg_told.proofs.Heads.{some_filtered}
+use Rattle.psg_session.proofs.Heads.{some_filtered}
 
 -- the spaces in which the items, and the items of operators, declare
 abbrev item_spaces : List Item → List ℕ

@@ -20,11 +20,11 @@ use Rattle.psg_eval.specs.Summaries.{are_names, IsSummary, slot_kinds}
 use Rattle.psg_eval.proofs.ItemSteps.{columns_many, names_counted}
 use Rattle.psg_eval.proofs.OutsideRows.{closed_partial, closed_rows, columns, own_sorted as all_sorts, own_sorts}
 use Rattle.psg_eval.proofs.PartialSorts.{as_next, empty_partial, left_sorted, left_sorts, may_join, next_partial, right_sorted, right_sorts}
-use Rattle.psg_told.proofs.Heads.{Joint, some_joint, some_outer}
-use Rattle.psg_told.proofs.Parts.{Partial}
-use Rattle.psg_told.proofs.OwnChoices.{AreOwn, kept, own_equal, own_partial, own_sorted, own_within, row_sorts, selected_relation}
-use Rattle.psg_told.proofs.Selection.{some_selection}
-use Rattle.psg_told.proofs.Walked.{PlainKeys, some_keys, some_layout}
+use Rattle.psg_session.proofs.Heads.{Joint, some_joint, some_outer}
+use Rattle.psg_session.proofs.Parts.{Partial}
+use Rattle.psg_session.proofs.OwnChoices.{AreOwn, kept, own_equal, own_partial, own_sorted, own_within, row_sorts, selected_relation}
+use Rattle.psg_session.proofs.Selection.{some_selection}
+use Rattle.psg_session.proofs.Walked.{PlainKeys, some_keys, some_layout}
 
 module _ (def : Definition) (sound : IsSound def) where
   -- ---- one child more

@@ -1,5 +1,5 @@
-use Rattle.psg_told.proofs.ShownTold.{some_relations, some_shown}
-use Rattle.psg_told.proofs.laws.some_rows.Goals as goal
+use Rattle.psg_session.proofs.ShownTold.{some_relations, some_shown}
+use Rattle.psg_session.proofs.told_laws.some_rows.Goals as goal
 
 pub returns-clause-own : goal.returns-clause-own
 returns-clause-own c = some_relations c.args.definition.now c.requires

@@ -1,6 +1,6 @@
 use Rattle.psg_grammar.specs.WellFormed.{fixed_words}
-use Rattle.psg_told.proofs.Lexed.{lexed}
-use Rattle.psg_told.proofs.laws.some_tokens.Goals as goal
+use Rattle.psg_session.proofs.Lexed.{lexed}
+use Rattle.psg_session.proofs.told_laws.some_tokens.Goals as goal
 
 pub returns : goal.returns
 returns c = lexed (fixed_words c.args.definition.now)

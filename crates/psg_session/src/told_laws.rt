@@ -1,7 +1,7 @@
 //! What is never missing.
 ghost use Rattle.psg_grammar.specs.Sound.{IsSound};
 ghost use Rattle.psg_grammar.specs.WellFormed.{fixed_words};
-ghost use Rattle.psg_told.specs.Told.{HasRelations, HasShownRelations, HasTokensOrFault};
+ghost use Rattle.psg_session.specs.Told.{HasRelations, HasShownRelations, HasTokensOrFault};
 
 use psg_grammar::Definition;
 

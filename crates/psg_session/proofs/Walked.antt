@@ -14,7 +14,7 @@ use Rattle.psg_scope.proofs.KeyOrder.{key_exact}
 use Rattle.psg_eval.specs.Own.{IsOwn, own_none, own_one, own_two}
 use Rattle.psg_eval.specs.Walks.{IsLayout, IsWalk, run, walk_both, walk_left, walk_none, walk_right}
 use Rattle.psg_eval.proofs.Walking.{run-length}
-use Rattle.psg_told.proofs.Heads.{some_joint}
+use Rattle.psg_session.proofs.Heads.{some_joint}
 
 -- ---- two lists made one
 

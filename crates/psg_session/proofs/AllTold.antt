@@ -16,9 +16,9 @@ use Rattle.psg_eval.specs.declared.summary.SummaryParts.{SummaryParts}
 use Rattle.psg_eval.specs.Stages.{kinds_of}
 use Rattle.psg_eval.specs.Summaries.{AllSummaries, are_names, IsSummary, IsSummaryOf, slot_kinds}
 use Rattle.psg_eval.specs.Trees.{HasParts, own_names, seen_in}
-use Rattle.psg_told.proofs.ObservedTold.{observed_told}
-use Rattle.psg_told.proofs.SlotItems.{names-append, names-parts, slots-append, slots-parts}
-use Rattle.psg_told.proofs.TreesTold.{cell_told, end_told, hole_told, operator_told, Told}
+use Rattle.psg_session.proofs.ObservedTold.{observed_told}
+use Rattle.psg_session.proofs.SlotItems.{names-append, names-parts, slots-append, slots-parts}
+use Rattle.psg_session.proofs.TreesTold.{cell_told, end_told, hole_told, operator_told, Told}
 
 -- an operator with some of its parts
 abbrev IsSpine : Fragment → Type 0

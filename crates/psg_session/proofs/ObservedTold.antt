@@ -20,7 +20,7 @@ use Rattle.psg_eval.proofs.Gluing.{cut_same}
 use Rattle.psg_eval.proofs.PartialSorts.{key_sorts_many}
 use Rattle.psg_eval.proofs.ReportedRows.{reported_relation}
 use Rattle.psg_eval.proofs.Walking.{Picks, picks_picked, picks_run}
-use Rattle.psg_told.proofs.TreesTold.{Told}
+use Rattle.psg_session.proofs.TreesTold.{Told}
 
 -- the first column twice, of rows with so many more columns
 abbrev twice : ℕ → List ℕ

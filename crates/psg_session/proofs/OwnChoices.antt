@@ -29,7 +29,7 @@ use Rattle.psg_eval.proofs.OwnColumns.{own_back, own_pairs, own_to, picks_many}
 use Rattle.psg_eval.proofs.OwnPlaces.{SortsPlaced, items_columns, sorts_placed, terms_placed}
 use Rattle.psg_eval.proofs.PartialSorts.{IsKeySort, key_sort_same, sorts_along}
 use Rattle.psg_terms.proofs.OneRelation.{sorts_length}
-use Rattle.psg_told.proofs.Parts.{Partial}
+use Rattle.psg_session.proofs.Parts.{Partial}
 use Rattle.psg_eval.proofs.Walking.{Along, IsEntity, IsThere, Matches, Picks, along_any, along_length, along_map, entities, map_along, matches_agree, picks_append, picks_picked, picks_within}
 
 -- the keys of an operator's positions, with columns and pairs of columns

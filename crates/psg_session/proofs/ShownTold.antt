@@ -18,8 +18,8 @@ use Rattle.psg_relation.proofs.Columns.{all_sorted, projected}
 use Rattle.psg_relation.proofs.Existing.{relation_exists}
 use Rattle.psg_eval.specs.Trees.{seen_in}
 use Rattle.psg_focus.proofs.SeenRows.{seen_relation, whole_sorts}
-use Rattle.psg_told.specs.Told.{HasRelations, HasShownRelations}
-use Rattle.psg_told.proofs.AllTold.{IsSimple, plain_simple, silent, tree_told}
+use Rattle.psg_session.specs.Told.{HasRelations, HasShownRelations}
+use Rattle.psg_session.proofs.AllTold.{IsSimple, plain_simple, silent, tree_told}
 
 before_end : {X : Type 0} (xs : List X) (x y : X) (k : ℕ) → slice_get (xs ++ x ∷ []) k ≡ Some y → (length xs ≡ k → ⊥)
     → slice_get xs k ≡ Some y
