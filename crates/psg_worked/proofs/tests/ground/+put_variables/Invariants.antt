@@ -1,4 +1,0 @@
-use Rattle.psg_worked.proofs.tests.ground.+put_variables.Given as goal
-
-abbrev pub decreases-put_variables : goal.decreases-put_variables
-decreases-put_variables l = l.deep

@@ -1,8 +1,0 @@
-use Rattle.std.proofs.Common.{◌+◌, ◌*◌}
-use Rattle.psg_worked.proofs.tests.slow.+values.Given as goal
-
-abbrev pub decreases-has_value : goal.decreases-has_value
-decreases-has_value l = 2 * l.deep
-
-abbrev pub decreases-have_values : goal.decreases-have_values
-decreases-have_values l = 2 * l.deep + 1

@@ -1,7 +1,0 @@
-//! Scripts of calls, and what they answer.
-mod copying;
-mod files;
-mod machine;
-mod pools;
-mod sinks;
-mod versions;

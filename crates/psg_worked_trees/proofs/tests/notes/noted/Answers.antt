@@ -1,5 +1,0 @@
-use Rattle.psg_worked_trees.proofs.tests.notes.noted.Goals as goal
-
-pub counted-requires-clause-formed : goal.counted-requires-clause-formed
-counted-requires-clause-formed c =
-    (c.args.kind, c.well_formed-formed.ensures.0 c.if-not-formed.false)
