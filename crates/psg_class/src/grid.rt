@@ -6,7 +6,7 @@ ghost use Rattle.psg_class.specs.Grids.{AreChains, AreInside, AreLinks, AreSetCe
 ghost use Rattle.psg_class.specs.Grids.{HasSetBelow, IsGrid, is_set, IsSameSize, IsStep, IsTable, unset};
 ghost use Rattle.psg_class.specs.declared.grid.Link.{Link as Linked};
 
-use psg_terms::{Room, uncountable};
+use psg_terms::{too_many_cells, uncountable};
 use std::alloc::{AllocError, Global};
 
 /// The number of cells that a table may have at most, 2^30. A cell takes a byte, and each is read a few times: a table
@@ -47,8 +47,9 @@ impl Grid {
         let Some(size) = height.checked_mul(width) else {
             return Err(uncountable(height.max(width)));
         };
-        let mut room = Room::of(MOST_CELLS);
-        room.spend(size as u64)?;
+        if MOST_CELLS < size as u64 {
+            return Err(too_many_cells(size as u64));
+        }
         Ok(Grid {
             height,
             width,

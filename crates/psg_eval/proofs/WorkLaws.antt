@@ -7,7 +7,7 @@ use Rattle.psg_grammar.specs.declared.types.Definition.{Definition}
 use Rattle.psg_relation.specs.declared.relation.RelFault.{RelFault}
 use Rattle.psg_eval.specs.declared.partial.Partial.{Partial}
 use Rattle.psg_eval.specs.declared.summary.SummaryParts.{SummaryParts}
-use Rattle.psg_eval.specs.Patterns.{MatchPart}
+use Rattle.psg_eval.specs.Patterns.{MatchPart, seen_of}
 use Rattle.psg_eval.specs.Stages.{IsNumbered}
 use Rattle.psg_eval.specs.Work.{AreJoined, part_work}
 
@@ -34,15 +34,16 @@ numbered_on P (Ok p) n q e h = h
 numbered_on P (Err f) n q e h = absurd e
 
 -- one child more
-pub joined_end : (def : Definition) (first last next : Partial) (children : List (Option SummaryParts)) (work : ℕ) (child : Option SummaryParts) → AreJoined def first children last work → MatchPart def last child (Ok next)
+pub joined_end : (def : Definition) (first last next : Partial) (children : List (Option SummaryParts)) (work : ℕ) (child : Option SummaryParts) → AreJoined def first children last work → MatchPart def last child (Ok next) → next.seen ≡ last.seen + seen_of child
     → AreJoined def first (children ++ child ∷ []) next (work + part_work last.rel child)
-joined_end def first last next [] work child (e, z) h =
+joined_end def first last next [] work child (e, z) h s =
     let d = ap (λ (p : Partial). part_work p.rel child) e in
-    (next, 0, subst (λ (p : Partial). MatchPart def p child (Ok next)) e h, (refl, refl), omega (arith, z, d))
-joined_end def first last next (other ∷ more) work child (step, others, h, rest, e) is =
-    (step, others + part_work last.rel child, h, joined_end def step last next more others child rest is, omega (arith, e))
+    let n = ap (λ (p : Partial). p.seen + seen_of child) e in
+    (next, 0, subst (λ (p : Partial). MatchPart def p child (Ok next)) e h, s ∙ n, (refl, refl), omega (arith, z, d))
+joined_end def first last next (other ∷ more) work child (step, others, h, n, rest, e) is s =
+    (step, others + part_work last.rel child, h, n, joined_end def step last next more others child rest is s, omega (arith, e))
 
 -- two children
-pub joined_two : (def : Definition) (first begun whole : Partial) (one two : Option SummaryParts) → MatchPart def first one (Ok begun) → MatchPart def begun two (Ok whole)
+pub joined_two : (def : Definition) (first begun whole : Partial) (one two : Option SummaryParts) → MatchPart def first one (Ok begun) → begun.seen ≡ first.seen + seen_of one → MatchPart def begun two (Ok whole) → whole.seen ≡ begun.seen + seen_of two
     → AreJoined def first (one ∷ two ∷ []) whole (part_work first.rel one + part_work begun.rel two)
-joined_two def first begun whole one two a b = (begun, part_work begun.rel two, a, (whole, 0, b, (refl, refl), omega arith), refl)
+joined_two def first begun whole one two a m b n = (begun, part_work begun.rel two, a, m, (whole, 0, b, n, (refl, refl), omega arith), refl)

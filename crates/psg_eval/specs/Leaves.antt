@@ -14,7 +14,7 @@ use Rattle.psg_eval.specs.declared.summary.EvalFault.{EvalFault}
 use Rattle.psg_eval.specs.declared.summary.EvalFault.TheVariants as faults
 
 -- The fault of a relation as one of the step. One that is too large is so at its step, unless 32 bits do not hold the
--- number of that.
+-- number after that of the step.
 abbrev pub IsFaultAt : RelFault → ℕ → EvalFault → Type 0
 IsFaultAt rel.Wide n (faults.Wide step) = step ≡ n
 IsFaultAt rel.Wide n faults.Memory = 2 ^ 32 ≤ n + 1

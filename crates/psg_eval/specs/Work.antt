@@ -11,7 +11,7 @@ use Rattle.psg_grammar.specs.declared.types.Operator.{Operator}
 use Rattle.psg_eval.specs.declared.partial.Partial.{Partial}
 use Rattle.psg_eval.specs.declared.summary.SummaryParts.{SummaryParts}
 use Rattle.psg_eval.specs.Own.{IsOwnStep}
-use Rattle.psg_eval.specs.Patterns.{MatchPart}
+use Rattle.psg_eval.specs.Patterns.{MatchPart, seen_of}
 use Rattle.psg_eval.specs.Stages.{IsCellStart}
 
 -- In a join each row of one side meets each row of the other: the symbols of each side are read once for each row of
@@ -29,17 +29,20 @@ part_work rows (Some s) = min (join_work rows s.rel) (2 ^ 64 - 1)
 part_work rows None = 0
 
 module _ (def : Definition) where
-  -- `last` is the node `first` with these children, one after the other, and to add them takes this work together
+  -- `last` is the node `first` with these children, one after the other, and to add them takes this work together.
+  -- How many values are seen is said too, since where a row is cut, and so which rows are joined, depends on it.
   abbrev pub AreJoined : Partial → List (Option SummaryParts) → Partial → ℕ → Type 0
   AreJoined first [] last work = (last ≡ first) × (work ≡ 0)
   AreJoined first (child ∷ more) last work = (next : Partial) × (others : ℕ) × MatchPart def first child (Ok next)
-      × AreJoined next more last others × (work ≡ part_work first.rel child + others)
+      × (next.seen ≡ first.seen + seen_of child) × AreJoined next more last others
+      × (work ≡ part_work first.rel child + others)
 
   -- the operator's own rows are made, each with a head and a term for each item, and the children are added
   pub record IsWholeWork (op : Operator) (names : List Name) (children : List (Option SummaryParts)) (whole : Partial)
       (work : ℕ) : Type 0 where
     pub first : Partial
     pub own : IsOwnStep def op names first.header first.rel
+    pub none_seen : first.seen ≡ 0
     pub joins : ℕ
     pub joined : AreJoined first children whole joins
     pub all : work ≡ min (rows_work (length op.rows) (length op.items + 1)) (2 ^ 64 - 1) + joins
@@ -55,6 +58,7 @@ module _ (def : Definition) where
     pub found : slice_get def.lists l ≡ Some list
     pub first : Partial
     pub begun : IsCellStart def l first.header first.rel
+    pub none_seen : first.seen ≡ 0
     pub whole : Partial
     pub joins : ℕ
     pub joined : AreJoined first (element ∷ rest ∷ []) whole joins

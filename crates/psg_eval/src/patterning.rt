@@ -22,9 +22,9 @@ use std::alloc::Global;
 /// value.
 ///
 /// Its steps are those of `eval_op`, and `Wide` names the first whose relation passes the limit. A place adds a value
-/// and makes no step larger. Before each step `room` falls by what the step's work counts: 8 for each term of the
-/// operator's own rows, for a join the weight of each side times the rows of the other, and at the end the weight of
-/// the rows. Where less room is left, the answer is `Memory`.
+/// and makes no step larger. Before each step `room` falls by what the step's work counts: 8 for the head and for each
+/// item, marks too, of each of the operator's own rows; for a join the weight of each side times the rows of the other;
+/// and at the end the weight of the rows. Where less room is left, the answer is `Memory`.
 pub fn pattern_op(
     alloc: Global,
     definition: &Definition,

@@ -26,8 +26,8 @@ pub struct Joined {
 ///
 /// Where one header has all keys of the other one, and the other one declares none, the joined header shares the first
 /// one's list of keys. Each key of the other one is then looked for: by binary search where the first one has at least
-/// eight times as many keys, else by one walk over both. Else each key is copied once, and the names are shared. A place
-/// is made for each key of each header.
+/// eight times as many keys, else by one walk over both. In all other cases each key is copied once, and the names are
+/// shared. A place is made for each key of each header.
 pub fn join(alloc: Global, left: &Header, right: &Header) -> Result<Joined, AllocError>
     requires left { IsOrdered left.now }
     requires right { IsOrdered right.now }

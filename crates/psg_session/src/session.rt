@@ -169,8 +169,8 @@ impl Session {
         Ok(reply)
     }
 
-    /// Gives the note of the opened fragment; `None` where nothing is opened. The opened tree is of its kind and can be
-    /// printed so that it reads back.
+    /// Gives the note of the opened fragment; `None` where nothing is opened. The opened tree is of its kind and is
+    /// printable, so it reads back.
     pub fn note(&self) -> Option<&Note>
         ensures noted { MatchOption result (self.now.editor.opened ≡ None) (λ note. (old : Opened)
             × ((state_of self.now.editor).opened ≡ Some old) × IsNoteOf self.now.language old.tree note.now) }

@@ -1,5 +1,6 @@
 //! The answers of out of memory that no request for memory causes: a number that 32 bits do not hold, terms that are
-//! too large to be compared, and work past a bound. No other code of the house makes such an error.
+//! too large to be compared, a table with too many cells, and work past a bound. No other code of the house makes such
+//! an error.
 ghost use Rattle.std.specs.Prelude.{◌≡◌, ◌+◌, ◌<◌, ◌≤◌, ◌^◌, ◌↔◌, IsOk, OnErr, OnOk};
 
 use std::alloc::AllocError;
@@ -22,6 +23,14 @@ pub fn too_many_symbols(symbols: u64) -> AllocError
     requires large { 2 ^ 20 < symbols }
 {
     let _ = symbols;
+    AllocError
+}
+
+/// Returns the error of a call that would have to make a table of this number of cells.
+pub fn too_many_cells(cells: u64) -> AllocError
+    requires large { 2 ^ 30 < cells }
+{
+    let _ = cells;
     AllocError
 }
 

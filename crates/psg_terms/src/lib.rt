@@ -29,7 +29,7 @@ pub mod term;
 pub mod text;
 pub mod words;
 
-pub use counting::{Room, too_many_symbols, uncountable};
+pub use counting::{Room, too_many_cells, too_many_symbols, uncountable};
 pub use declare::{ConDecl, SigFault, SortDecl};
 pub use raising::raise_all;
 pub use seq::{Seq, Txt};

@@ -21,7 +21,7 @@ pub record IsPlaceOf (spans : List Span) (path : Path) (place : ℕ) : Type 0 wh
   pub found : slice_get spans place ≡ Some span
   pub path_is : span.path ≡ path
 
--- both places of the span are below those that a text of this machine may have
+-- both places of the span are below 2^63, as those of each text of this machine are
 abbrev pub IsSmall : Span → Type 0
 IsSmall s = (s.start < 2 ^ 63) × (s.end < 2 ^ 63)
 

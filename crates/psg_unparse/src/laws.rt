@@ -13,8 +13,8 @@ pub fn cut_at_nodes(_definition: &Definition)
     ensures { (fragment : Fragment) → IsCutAtEach _definition.now fragment }
 {}
 
-/// States that in a well-formed tree each path leads to the node that is listed for it, and each node is listed once.
-/// The call has no cost.
+/// States that in a well-formed tree each path leads to the node that is listed for it, and each node is listed once,
+/// in the order of the paths. The call has no cost.
 pub fn listed_once(_definition: &Definition)
     ensures { (fragment : Fragment) (kind : Kind) → WellFormed _definition.now fragment kind
         → IsListing _definition.now fragment }

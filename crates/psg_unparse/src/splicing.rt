@@ -473,8 +473,8 @@ fn print_fitting(
 /// these show what the new text is: where the old node and the new one each are written on one line, begin and end with
 /// tokens that run together with the same ones, and have one level. Else it returns none, also where there is no node.
 ///
-/// It prints the old node, if that has no line feed, and the new one by themselves, and takes time linear in the spans
-/// and in the text.
+/// `printed` is what is printed of the tree, and none of its spans cuts a character. It prints the old node, if that
+/// has no line feed, and the new one by themselves, and takes time linear in the spans and in the text.
 pub fn spliced(
     alloc: Global,
     definition: &Definition,

@@ -1,5 +1,5 @@
 -- What an input that comes by pieces has still to give, how many bytes it gave, and which reads of it failed.
-use Rattle.std.specs.Prelude.{ℕ, ◌≡◌, ◌+◌, List, [], ◌∷◌, ◌++◌, length, take, drop, min, max, slice_get}
+use Rattle.std.specs.Prelude.{ℕ, ◌≡◌, ◌+◌, List, [], ◌∷◌, ◌++◌, length, min, max, slice_get}
 use Rattle.std.specs.Prelude.{Option, Some, None, Result, Ok, Err, Vec}
 use Rattle.std.specs.Io.KnownBytes.{Consumes, IsAtEnd}
 use Rattle.std.specs.declared.alloc.Global.{Global}
@@ -11,16 +11,6 @@ use Rattle.psg_world.specs.Sinks.{raised_by}
 -- said.
 abbrev pub IsPieceOf : Option (List ℕ) → Option (List ℕ) → List ℕ → Type 0
 IsPieceOf old new piece = Consumes old new piece × (piece ≡ [] → IsAtEnd new)
-
--- the bytes of the pieces, one piece after the other
-abbrev pub joined : List (List ℕ) → List ℕ
-joined [] = []
-joined (piece ∷ pieces) = piece ++ joined pieces
-
--- The pieces are the next of the bytes that are known. What a program is told by these words alone depends on the bytes
--- and not on where they were cut.
-abbrev pub HaveCome : Option (List ℕ) → Option (List ℕ) → List (List ℕ) → Type 0
-HaveCome old new pieces = Consumes old new (joined pieces)
 
 -- the bytes of a piece that is given are counted
 abbrev pub given_after_piece : ℕ → Result (Vec ℕ Global) ReadStop → ℕ

@@ -36,8 +36,8 @@
 //!
 //! What every implementation keeps:
 //!
-//! - A read or a write answers `Failed` exactly where it adds one entry, of its own kind and name, at the end of
-//!   `faults`. So no failed call of one name excuses another.
+//! - A read, a write or a replacement answers `Failed` exactly where it adds one entry, of its own kind and name, at
+//!   the end of `faults`; the entry of a replacement is that of a write. So no failed call of one name excuses another.
 //! - A read leaves `holds` as it was, a write all names but its own. What is known once is known from then on. A
 //!   replacement is all or nothing: after an `Err` it leaves `holds` as it was.
 //! - A put answers `Failed` only where the count rose in that call, and nothing is then taken. The count never falls;

@@ -70,12 +70,13 @@ returns-clause-work c =
     let first = c.in_ok-first.first in
     let start = numbered_step (IsOwnStep c.args.definition.now op c.args.names.now) c.first_step.result 0 first c.in_ok-first.ensures c.first_step.ensures.step in
     let (joins, joined, spent) = c.in_ok-whole.ensures.work in
+    let none = numbered_if (λ (p : Partial). p.seen ≡ 0) c.first_step.result 0 first c.in_ok-first.ensures c.first_step.ensures.seen in
     let rows = ap length c.as_slice-rows.ensures in
     let items = ap length c.as_slice-items.ensures in
     let few : length op.items < 2 ^ 32 = c.requires.operator.few_items in
     let terms : c.saturating_add.result ≡ length op.items + 1 = omega (arith, items, few, c.saturating_add.ensures) in
     let own = c.rows_work.ensures ∙ ap₂ (λ r t. min (rows_work r t) (2 ^ 64 - 1)) rows terms in (
       c.rows_work.result + joins,
-      record { first = first; own = start.0; joins = joins; joined = joined; all = ap (λ n. n + joins) own },
+      record { first = first; own = start.0; none_seen = none; joins = joins; joined = joined; all = ap (λ n. n + joins) own },
       omega (arith, spent, c.in_ok-spend.ensures.taken),
     )

@@ -137,16 +137,19 @@ returns-clause-work c =
     let start = numbered_step (IsCellStart def l) c.cell_start.result 0 first c.in_ok-first.ensures c.cell_start.ensures.step in
     let one = numbered_on (c.spend.new.self.left ≡ c.with_part.new.room.left + part_work first.rel c.args.element.now) c.with_part.result 1 begun c.in_ok-begun.ensures c.with_part.ensures.work in
     let two = numbered_on (c.with_part.new.room.left ≡ c.with_part-2.new.room.left + part_work begun.rel c.args.rest.now) c.with_part-2.result 2 whole c.in_ok-whole.ensures c.with_part-2.ensures.work in
+    let none = numbered_if (λ (p : Partial). p.seen ≡ 0) c.cell_start.result 0 first c.in_ok-first.ensures c.cell_start.ensures.seen in
     let joins = part_work first.rel c.args.element.now + part_work begun.rel c.args.rest.now in
     let joined = joined_two def first begun whole c.args.element.now c.args.rest.now
     (numbered_part def first c.args.element.now c.with_part.result 1 begun c.in_ok-begun.ensures c.with_part.ensures.step)
-    (numbered_part def begun c.args.rest.now c.with_part-2.result 2 whole c.in_ok-whole.ensures c.with_part-2.ensures.step) in
+    (numbered_if (λ (p : Partial). p.seen ≡ first.seen + seen_of c.args.element.now) c.with_part.result 1 begun c.in_ok-begun.ensures c.with_part.ensures.seen)
+    (numbered_part def begun c.args.rest.now c.with_part-2.result 2 whole c.in_ok-whole.ensures c.with_part-2.ensures.step)
+    (numbered_if (λ (p : Partial). p.seen ≡ begun.seen + seen_of c.args.rest.now) c.with_part-2.result 2 whole c.in_ok-whole.ensures c.with_part-2.ensures.seen) in
     let read = c.index-as_slice-list.result in
     let there = place_there def.lists l takes.list read takes.found (subst (λ (ls : List ListKind). read ≡ get_or ls l read) c.as_slice.ensures c.index-as_slice-list.is) in
     let same = slice_get_once def.lists l read takes.list there takes.found in
     let rows = ap length (c.as_slice-rows.ensures ∙ ap (λ (x : ListKind). x.cell_rows) (sym c.index-as_slice-list.is ∙ same)) in
     let own = c.rows_work.ensures ∙ ap (λ r. min (rows_work r 3) (2 ^ 64 - 1)) rows in (
       c.rows_work.result + joins,
-      record { list = takes.list; found = takes.found; first = first; begun = start.0; whole = whole; joins = joins; joined = joined; all = ap (λ n. n + joins) own },
+      record { list = takes.list; found = takes.found; first = first; begun = start.0; none_seen = none; whole = whole; joins = joins; joined = joined; all = ap (λ n. n + joins) own },
       omega (arith, c.in_ok-spend.ensures.taken, one, two),
     )
