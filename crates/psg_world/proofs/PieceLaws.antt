@@ -4,13 +4,13 @@ use Rattle.std.specs.Io.KnownBytes.{Consumes}
 use Rattle.psg_world.specs.Pieces.{IsPieceOf}
 
 -- the bytes of the pieces, one piece after the other
-pub joined : List (List ℕ) → List ℕ
+abbrev pub joined : List (List ℕ) → List ℕ
 joined [] = []
 joined (piece ∷ pieces) = piece ++ joined pieces
 
 -- The pieces are the next of the bytes that are known. What a program is told by these words alone depends on the bytes
 -- and not on where they were cut.
-pub HaveCome : Option (List ℕ) → Option (List ℕ) → List (List ℕ) → Type 0
+abbrev pub HaveCome : Option (List ℕ) → Option (List ℕ) → List (List ℕ) → Type 0
 HaveCome old new pieces = Consumes old new (joined pieces)
 
 joined_more : (pieces : List (List ℕ)) (piece : List ℕ) → joined (pieces ++ piece ∷ []) ≡ joined pieces ++ piece
