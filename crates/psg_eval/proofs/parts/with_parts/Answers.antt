@@ -66,7 +66,7 @@ loop-i-preserved c =
             work + part_work now.rel child,
             subst (λ xs. AreJoined def c.args.first xs next (work + part_work now.rel child)) (sym (take_item children i child c.loop-i-test.true c.index-children-i.is))
                 (joined_end def c.args.first now next (take i children) work child joined (numbered_part def now child c.with_part.result (i + 1) next c.in_ok-next.ensures c.with_part.ensures.step)
-                    (numbered_if (λ (p : Partial). p.seen ≡ now.seen + seen_of child) c.with_part.result (i + 1) next c.in_ok-next.ensures c.with_part.ensures.seen)),
+                (numbered_if (λ (p : Partial). p.seen ≡ now.seen + seen_of child) c.with_part.result (i + 1) next c.in_ok-next.ensures c.with_part.ensures.seen)),
             omega (arith, spent, more),
           ),
     )
