@@ -15,7 +15,7 @@ use Rattle.psg_parse.specs.declared.state.Step.{Step}
 use Rattle.psg_parse.specs.declared.state.Step.TheVariants as steps
 use Rattle.psg_parse.specs.Onward.{Aim, IsEndable}
 use Rattle.psg_parse.specs.States.{IsState, SeesSame, Steps}
-use Rattle.psg_parse.specs.Stops.{Begins, IsStop, MayEnd}
+use Rattle.psg_parse.specs.Stops.{Begins, IsStop, MayEnd, StopsAt}
 use Rattle.psg_parse.proofs.Endings.{begun_ends, begun_yields, state_end}
 use Rattle.psg_parse.proofs.Taken.{Got, GivesOnly, no_tree, no_tree_after, tokens_length}
 
@@ -57,6 +57,15 @@ module _ (def : Definition) (goal : Goal) (ts : List Spanned) (c : IsClass def) 
       let seen : next_terminal def (tokens_of s.rest.now) ≡ Some (terminal_of def t) = head_seen def (tokens_of s.rest.now) t (sym (next_is g.taken (tokens_of s.rest.now)) ∙ e) in
       none (u ∷ b.more) (ap Some same ∙ sym seen) b.tree b.nesting (subst (Yields def b.tree goal.kind goal.least b.nesting) (append_assoc g.taken (u ∷ []) b.more) b.yields)
 
+  -- no tree goes on with the token after what was taken
+  pub stops_at : (s : State) (g : Got def goal ts s) (step : Step) → step ≡ steps.NoTree → ((aim : Aim) (st : List Plain) → IsState s aim st → Steps def aim st (tokens_of s.rest.now) step)
+      → (k : ℕ) → k + length s.rest.now ≡ length ts → StopsAt def goal.kind goal.least (tokens_of ts) k
+  stops_at s g step is h k e =
+      let there : k ≡ length g.taken = counted s g k e in
+      let here : StopsAt def goal.kind goal.least (g.taken ++ tokens_of s.rest.now) (length g.taken) =
+      λ t u x y z. stops_there s g (no_tree_after def goal ts c s g step is h) t u x y (subst (λ w. Begins def goal.kind goal.least (w ++ u ∷ [])) (front_is g.taken (tokens_of s.rest.now)) z) in
+      subst (λ z. StopsAt def goal.kind goal.least z k) (sym g.are) (subst (StopsAt def goal.kind goal.least (g.taken ++ tokens_of s.rest.now)) (sym there) here)
+
   -- the stop at what was taken
   pub stop_is : (s : State) (g : Got def goal ts s) (step : Step) → step ≡ steps.NoTree → ((aim : Aim) (st : List Plain) → IsState s aim st → Steps def aim st (tokens_of s.rest.now) step)
       → (k : ℕ) → k + length s.rest.now ≡ length ts → IsEndable def → Begins def goal.kind goal.least [] → IsStop def goal.kind goal.least (tokens_of ts) k
@@ -65,9 +74,17 @@ module _ (def : Definition) (goal : Goal) (ts : List Spanned) (c : IsClass def) 
       let whole : IsStop def goal.kind goal.least (g.taken ++ tokens_of s.rest.now) (length g.taken) = record {
         inside = (let a : length (g.taken ++ tokens_of s.rest.now) ≡ length g.taken + length (tokens_of s.rest.now) = joined_length g.taken (tokens_of s.rest.now) in omega (arith, a));
         front = subst (Begins def goal.kind goal.least) (sym (front_is g.taken (tokens_of s.rest.now))) (got_begins s g all b);
-        stops = λ t u x y z. stops_there s g (no_tree_after def goal ts c s g step is h) t u x y (subst (λ w. Begins def goal.kind goal.least (w ++ u ∷ [])) (front_is g.taken (tokens_of s.rest.now)) z);
+        stops = subst (StopsAt def goal.kind goal.least (g.taken ++ tokens_of s.rest.now)) there (subst (λ z. StopsAt def goal.kind goal.least z k) g.are (stops_at s g step is h k e));
       } in
       subst (λ z. IsStop def goal.kind goal.least z k) (sym g.are) (subst (IsStop def goal.kind goal.least (g.taken ++ tokens_of s.rest.now)) (sym there) whole)
+
+  -- there is no token after all
+  past : (xs : List Token) (t : Token) → slice_get xs (length xs) ≡ Some t → ⊥
+  past [] t e = let x : None ≡ Some t = e in cc
+  past (x ∷ xs) t e = past xs t e
+
+  pub whole_stops : StopsAt def goal.kind goal.least (tokens_of ts) (length ts)
+  whole_stops t u e x b = past (tokens_of ts) t (subst (λ k. slice_get (tokens_of ts) k ≡ Some t) (sym (tokens_length ts)) e)
 
   -- the end of a whole tree is its stop
   pub whole_is : (tree : Grown) → GivesOnly def goal ts tree → IsStop def goal.kind goal.least (tokens_of ts) (length ts)
@@ -81,10 +98,6 @@ module _ (def : Definition) (goal : Goal) (ts : List Spanned) (c : IsClass def) 
         take_whole : (xs : List Token) → take (length xs) xs ≡ xs
         take_whole [] = refl
         take_whole (x ∷ xs) = ap (λ z. x ∷ z) (take_whole xs)
-
-        past : (xs : List Token) (t : Token) → slice_get xs (length xs) ≡ Some t → ⊥
-        past [] t e = let x : None ≡ Some t = e in cc
-        past (x ∷ xs) t e = past xs t e
 
   pub ends_whole : (tree : Grown) → GivesOnly def goal ts tree → (true ≡ true) ↔ MayEnd def goal.kind goal.least (tokens_of ts)
   ends_whole tree (f, n, is, same) = (λ e. (f, n, (same f n).1 (refl, refl)), λ y. refl)

@@ -18,10 +18,14 @@ module _ (def : Definition) (kind : Kind) (level : ℕ) where
   abbrev pub MayEnd : List Token → Type 0
   MayEnd ts = (tree : Fragment) × (nesting : ℕ) × Yields def tree kind level nesting ts
 
-  -- The first k begin a tree. With the next one, or with any other token that the grammar sees as that, they do not; or
-  -- there is no next one.
+  -- With the token k, or with any other token that the grammar sees as that, the first k begin no tree; or there is no
+  -- token k.
+  abbrev pub StopsAt : List Token → ℕ → Type 0
+  StopsAt ts k = (t u : Token) → slice_get ts k ≡ Some t → terminal_of def u ≡ terminal_of def t
+      → Begins (take k ts ++ u ∷ []) → ⊥
+
+  -- the first k begin a tree, and with the next one they do not
   pub record IsStop (ts : List Token) (k : ℕ) : Type 0 where
     pub inside : k ≤ length ts
     pub front : Begins (take k ts)
-    pub stops : (t u : Token) → slice_get ts k ≡ Some t → terminal_of def u ≡ terminal_of def t
-        → Begins (take k ts ++ u ∷ []) → ⊥
+    pub stops : StopsAt ts k

@@ -5,6 +5,8 @@
 //! let tree = parse(alloc, &definition, goal, tokens.as_slice(), &mut steps)?;
 //! ```
 //!
+//! Where there is no tree, `reach` says how many of the first tokens begin one.
+//!
 //! What it looks up of a definition is a `ParseTable`; `parse_with` takes one that was made before, `parse` makes its
 //! own.
 //!
@@ -28,6 +30,7 @@ mod lookup;
 mod parser;
 pub mod reaching;
 mod seen;
+mod spelling;
 mod standing;
 mod state;
 mod steps;
@@ -36,4 +39,5 @@ mod tables;
 pub use fault::{Goal, ParseFault};
 pub use parser::{parse, parse_with};
 pub use reaching::{Front, reach};
+pub use spelling::word_token;
 pub use tables::{ParseTable, fixed_words};

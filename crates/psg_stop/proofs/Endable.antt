@@ -12,18 +12,18 @@ use Rattle.psg_grammar.specs.declared.types.Phylum.{Phylum}
 use Rattle.psg_grammar.specs.declared.types.ListKind.{ListKind}
 use Rattle.psg_grammar.specs.declared.types.Definition.{Definition}
 use Rattle.psg_grammar.specs.Declaring.{any_item, any_operator, declares_within}
-use Rattle.psg_grammar.specs.Fragments.{hole, operator}
+use Rattle.psg_grammar.specs.Fragments.{ending, hole, operator}
 use Rattle.psg_grammar.specs.Sound.{IsItem}
 use Rattle.psg_grammar.specs.WellFormed.{words_in}
 use Rattle.psg_completions.proofs.LongNames.{fresh}
 use Rattle.psg_class.specs.Places.{solid}
 use Rattle.psg_class.specs.Terminals.{a_name, placeholder, word}
-use Rattle.psg_class.specs.Yields.{of_hole, of_operator}
+use Rattle.psg_class.specs.Yields.{of_hole, of_operator, no_elements}
 use Rattle.psg_unparse.proofs.FixedTokens.{has_tokens}
 use Rattle.psg_unparse.proofs.WordTokens.{FixedToken, name_terminal}
 use Rattle.psg_parse.specs.Onward.{CanEndItems, HasToken, HasTree, IsEndable}
 use Rattle.psg_parse.proofs.Endings.{items_end}
-use Rattle.psg_stop.specs.Accepted.{CanEnd}
+use Rattle.psg_stop.specs.Accepted.{CanEnd, HasTrees}
 
 module _ (def : Definition) where
   a_free_name : HasToken def a_name
@@ -87,3 +87,10 @@ module _ (def : Definition) (can : CanEnd def) where
 
   pub endable_by : IsEndable def
   endable_by = record { items = own_items; trees = has_tree; elements = has_elements; name = a_free_name def }
+
+  pub trees_by : HasTrees def
+  trees_by = record {
+    phyla = λ p phylum found. (let h = has_tree p phylum found in record { more = h.own; tree = h.tree; nesting = h.nesting; yields = h.yields });
+    holes = λ p phylum found holes level. record { more = placeholder phylum.name ∷ []; tree = hole p; nesting = 0; yields = of_hole phylum found holes };
+    lists = λ l list found level. record { more = []; tree = ending l false; nesting = 0; yields = no_elements list found };
+  }

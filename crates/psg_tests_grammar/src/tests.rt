@@ -3,4 +3,5 @@ mod classes;
 mod languages;
 mod limits;
 mod reference;
+mod stops;
 mod texts;
