@@ -21,7 +21,7 @@ use Rattle.psg_session.proofs.SlotItems.{names-append, names-parts, slots-append
 use Rattle.psg_session.proofs.TreesTold.{cell_told, end_told, hole_told, operator_told, Told}
 
 -- an operator with some of its parts
-abbrev IsSpine : Fragment → Type 0
+abbrev pub IsSpine : Fragment → Type 0
 IsSpine (operator o) = Unit {0}
 IsSpine (with_child f t) = IsSpine f
 IsSpine (with_name f n) = IsSpine f
@@ -79,20 +79,20 @@ module _ (def : Definition) where
 
   -- ---- the parts of an operator
 
-  record Spine (f : Fragment) (more : List Item) (kind : Kind) : Type 0 where
-    number : ℕ
-    top : top_operator f ≡ Some number
-    op : Operator
-    found : slice_get def.operators number ≡ Some op
-    done : List Item
-    all : part_items op.items ≡ done ++ more
-    kind_is : kind ≡ kinds.Phylum op.phylum
-    parts : HasParts def f more
-    names : length (are_names def done) ≡ length (own_names f)
-    summaries : List SummaryParts
-    are : AllSummaries def (children_of f) summaries
-    usual : AllByRecursion (IsSummary def) summaries
-    slots : kinds_of summaries ≡ slot_kinds def done
+  pub record Spine (f : Fragment) (more : List Item) (kind : Kind) : Type 0 where
+    pub number : ℕ
+    pub top : top_operator f ≡ Some number
+    pub op : Operator
+    pub found : slice_get def.operators number ≡ Some op
+    pub done : List Item
+    pub all : part_items op.items ≡ done ++ more
+    pub kind_is : kind ≡ kinds.Phylum op.phylum
+    pub parts : HasParts def f more
+    pub names : length (are_names def done) ≡ length (own_names f)
+    pub summaries : List SummaryParts
+    pub are : AllSummaries def (children_of f) summaries
+    pub usual : AllByRecursion (IsSummary def) summaries
+    pub slots : kinds_of summaries ≡ slot_kinds def done
 
   all-push : (fs : List Fragment) (ss : List SummaryParts) (f : Fragment) (s : SummaryParts) → AllSummaries def fs ss
       → IsSummaryOf def f s
@@ -178,7 +178,7 @@ module _ (def : Definition) where
     by_spine f is spine = record { told = λ kind h. spine_told f kind (spine [] kind is h); spine = spine }
 
     -- what a part follows is an operator
-    spine_of : (f : Fragment) (i : Item) (more : List Item) (kind : Kind) → Fits def f (i ∷ more) kind → IsSpine f
+    pub spine_of : (f : Fragment) (i : Item) (more : List Item) (kind : Kind) → Fits def f (i ∷ more) kind → IsSpine f
     spine_of (hole p) i more kind h = absurd (let e : i ∷ more ≡ [] = h.0 in cc)
     spine_of (ending l u) i more kind h = absurd (let e : i ∷ more ≡ [] = h.0 in cc)
     spine_of (cell l e r) i more kind h = absurd (let d : i ∷ more ≡ [] = h.0 in cc)
@@ -297,3 +297,7 @@ module _ (def : Definition) where
 
     pub tree_told : (f : Fragment) (kind : Kind) → Fits def f [] kind → IsSimple f → Told def sound f kind
     tree_told f kind h simple = let both = all_told f simple in both.told kind h
+
+    -- an operator with all its parts
+    pub whole_spine : (f : Fragment) (kind : Kind) → IsSpine f → IsSimple f → Fits def f [] kind → Spine f [] kind
+    whole_spine f kind is simple h = let both = all_told f simple in both.spine [] kind is h

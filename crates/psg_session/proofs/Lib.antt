@@ -61,7 +61,6 @@ pub mod Offers
 pub mod NextSteps
 pub mod Printouts
 pub mod Heads
-pub mod Lexed
 pub mod Walked
 pub mod Selection
 pub mod Parts
@@ -73,3 +72,5 @@ pub mod ObservedTold
 pub mod SlotItems
 pub mod AllTold
 pub mod ShownTold
+pub mod StepsTold
+pub mod WeightsTold

@@ -61,7 +61,7 @@ use Rattle.psg_session.proofs.ChangeLaws.{kind_there}
 use Rattle.psg_session.proofs.FormedSteps.{node_of_kind}
 use Rattle.psg_session.proofs.MenuLaws.{chosen_in}
 use Rattle.psg_session.proofs.RangeTexts.{new_utf8}
-use Rattle.psg_session.proofs.Lexed.{lexed}
+use Rattle.psg_textedit.proofs.Lexed.{lexed}
 use Rattle.psg_session.proofs.ShownTold.{some_relations, some_shown}
 
 -- ---- tests, lists and options

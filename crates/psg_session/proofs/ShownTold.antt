@@ -30,10 +30,10 @@ before_end (z ∷ xs) x y (suc k) e other = before_end xs x y k e (λ d. other (
 
 module _ (def : Definition) where
   -- the tree stays of its kind, and one value is observed in it
-  record Watched (f : Fragment) (more : List Item) (kind : Kind) : Type 0 where
-    fits : Fits def f more kind
-    simple : IsSimple f
-    one : seen_in f ≡ 1
+  pub record Watched (f : Fragment) (more : List Item) (kind : Kind) : Type 0 where
+    pub fits : Fits def f more kind
+    pub simple : IsSimple f
+    pub one : seen_in f ≡ 1
 
   -- where this is so of a child, it is of the tree
   module _ (g : Fragment → Fragment) where
@@ -112,7 +112,7 @@ module _ (def : Definition) where
     changed anything more kind hf p k c at h = absurd hf
     changed (observed f) more kind hf p k c at h = absurd p
 
-  watched : (path : Path) (f : Fragment) (kind : Kind) (node : Fragment) → Fits def f [] kind → IsPlain f
+  pub watched : (path : Path) (f : Fragment) (kind : Kind) (node : Fragment) → Fits def f [] kind → IsPlain f
       → node_at f path ≡ Some node → Watched (observe path f) [] kind
   watched [] f kind node h plain at =
       let bare = silent def f [] kind h plain in

@@ -64,7 +64,7 @@ module _ (def : Definition) (s : State) where
       × (n ≤ length ts + diff_of old.tree tree)))
 
   -- Whatever the reading of the change is: no more than the tokens that it reads; or than these and what the tree that
-  -- is made differs by from the old one. There is at most one reading.
+  -- is made differs by from the old one. There is exactly one reading, by two laws of psg_textedit.
   abbrev pub OfRanged : ℕ → ℕ → List ℕ → Opened → ℕ → Type 0
   OfRanged start end text old n =
       (found : Option Path) (read : ℕ) → IsReading def old.tree (replacing start end text) found read

@@ -20,6 +20,8 @@ pub mod Cuts
 pub mod TypedNode
 pub mod Depths
 pub mod Readings
+pub mod Lexed
+pub mod SomeReading
 pub mod Surrounded
 pub mod FirstTokens
 pub mod Nested

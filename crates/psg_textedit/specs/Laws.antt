@@ -35,6 +35,17 @@ module _ (def : Definition) (f : Fragment) where
       (kind : Kind) → WellFormed def f kind → (e : Typing) (a b : Option Path) (m n : ℕ) → IsReading def f e a m
       → IsReading def f e b n → (a ≡ b) × (m ≡ n)
 
+  -- the change has a reading
+  pub record HasReading (e : Typing) : Type 0 where
+    pub found : Option Path
+    pub read : ℕ
+    pub is : IsReading def f e found read
+
+  -- That a change has none is refuted. The logic here is constructive, and says so in place of "there is one": no text
+  -- is parsed to tell whether a node is clean. By excluded middle both are the same.
+  abbrev pub SomeReading : Type 0
+  SomeReading = (kind : Kind) → WellFormed def f kind → (e : Typing) → (HasReading e → ⊥) → ⊥
+
   -- a tree is as deep as what is in place of a node, or as what is elsewhere
   abbrev pub DepthOfChange : Type 0
   DepthOfChange =

@@ -6,6 +6,7 @@ ghost use Rattle.psg_grammar.specs.WellFormed.{fixed_words};
 ghost use Rattle.psg_grammar.specs.Fragments.{Fragment};
 ghost use Rattle.psg_class.specs.Class.{IsClass};
 ghost use Rattle.psg_textedit.specs.Laws.{CleanIsTyped, DepthOfChange, IsNested, IsSurrounded, ReadingIsOne};
+ghost use Rattle.psg_textedit.specs.Laws.{SomeReading};
 
 use psg_grammar::Definition;
 
@@ -21,6 +22,12 @@ pub fn clean_is_typed(_definition: &Definition)
 /// States that a change has one reading: the path that is found and the tokens that are read. The call has no cost.
 pub fn one_reading(_definition: &Definition)
     ensures { (f : Fragment) → ReadingIsOne _definition.now f }
+{}
+
+/// States that a change of a well-formed tree has a reading, whatever the change is: that it has none is refuted. The
+/// call has no cost.
+pub fn some_reading(_definition: &Definition)
+    ensures { (f : Fragment) → SomeReading _definition.now f }
 {}
 
 /// States that a tree within a limit of depth stays within it exactly where what is put at a path does. The call has no

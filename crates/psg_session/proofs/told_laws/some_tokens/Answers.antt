@@ -1,5 +1,5 @@
 use Rattle.psg_grammar.specs.WellFormed.{fixed_words}
-use Rattle.psg_session.proofs.Lexed.{lexed}
+use Rattle.psg_textedit.proofs.Lexed.{lexed}
 use Rattle.psg_session.proofs.told_laws.some_tokens.Goals as goal
 
 pub returns : goal.returns

@@ -6,7 +6,7 @@ use Rattle.std.proofs.lemmas.Bool.Decides.{eqb_tells}
 use Rattle.unicode_width.specs.Width.{char_width}
 use Rattle.psg_terms.specs.Names.{Name, is_among}
 use Rattle.psg_terms.specs.Words.{goes_on_word, IsWord, starts_word}
-use Rattle.psg_scope.proofs.KeyLists.{key_is, key_refl}
+use Rattle.psg_terms.proofs.DeclareLaws.{bytes_eq-refl, bytes_eq-same}
 use Rattle.psg_lexis.specs.Classes.{All, begins_by, Chars, EndsBy, IsLongest, is_blank, is_digit, is_escape, is_solo, is_symbol}
 use Rattle.psg_lexis.specs.Tokens.{Begins, blank, bytes_of, dots, escaped, HasTokens, hole, is_content, IsToken, more, next, nothing, number, quoted, solo, symbol, text, value_of, word}
 use Rattle.psg_lexis.specs.Faults.{HasFault, here, IsFault, IsInside, is_closed, large_hole, large_number, large_text, large_word, later, no_escape, no_hole, no_number, no_symbol, no_token, no_width, unended}
@@ -129,12 +129,12 @@ module _ (fixed : List Name) where
       let longest : IsLongest is_symbol (c ∷ r.run) r.rest = record { begins = t; all = (t, r.all); ends = r.ends } in
       elim (cases_Bool (bytes_eq (c ∷ r.run) dots)) [
         | inl same ↦
-            let is : c ∷ r.run ≡ dots = key_is (c ∷ r.run) dots same in
+            let is : c ∷ r.run ≡ dots = bytes_eq-same (c ∷ r.run) dots same in
             token_at (c ∷ cs) c r.run r.rest at tokens.More e (subst (λ xs. IsToken fixed xs r.rest tokens.More)
             (sym is) (more r.rest r.ends))
         | inr other ↦
             let differs : (c ∷ r.run) ≢ dots =
-            λ is. true≢false (sym (subst (λ xs. bytes_eq xs dots ≡ true) (sym is) (key_refl dots)) ∙ other) in
+            λ is. true≢false (sym (subst (λ xs. bytes_eq xs dots ≡ true) (sym is) (bytes_eq-refl dots)) ∙ other) in
             elim (cases_Bool (is_among fixed (encode_utf8_all (c ∷ r.run)))) [
               | inl among ↦ token_at (c ∷ cs) c r.run r.rest at (tokens.Symbol (encode_utf8_all (c ∷ r.run))) e
                   (symbol (c ∷ r.run) r.rest longest among differs)
